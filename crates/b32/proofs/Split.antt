@@ -1,0 +1,105 @@
+-- The words of a line, one after another.
+use Rattle.std.proofs.Common.{◌≡◌, ◌≢◌, ℕ, ◌<◌, Bool, true, false, ◌||◌, List, [], ◌∷◌, ◌++◌, length, get_or, eqb, cond, sym, ap, ◌∙◌, refl, arith, Option, Some, None, is_some, MatchOption, Bor, codes}
+use Rattle.std.proofs.lemmas.Bool.{ne_eqb}
+use Rattle.std.proofs.lemmas.List.Elements.{All-from_get_or}
+use Rattle.std.proofs.lemmas.List.Splits.{slice_split_none, slice_split_at, length-slice_split}
+use Rattle.std.proofs.lemmas.Str.Pattern.{IsSplitOnceResult, split_parts}
+use Rattle.b32.specs.Words.{words, is_empty, has_empty_word}
+use Rattle.b32.specs.Request.{checksum_of, encode_request, request_of_words, request_of}
+
+-- a text with no space is one word
+no_space : (bs : List ℕ) → ((i : ℕ) → i < length bs → get_or bs i 0 ≢ 32) → words bs ≡ bs ∷ []
+no_space bs h =
+    slice_split_none (λ b. eqb b 32) bs
+    (All-from_get_or (λ b. eqb b 32 ≡ false) bs 0 (λ i l. ne_eqb (get_or bs i 0) 32 (h i l)))
+
+-- a word ends at the first space
+at_space : (bs front back : List ℕ) → bs ≡ front ++ (32 ∷ back) → ((i : ℕ) → i < length front → get_or front i 0 ≢ 32) → words bs ≡ front ∷ words back
+at_space bs front back e h =
+    ap words e
+    ∙ slice_split_at (λ b. eqb b 32) front 32 back
+    (All-from_get_or (λ b. eqb b 32 ≡ false) front 0 (λ i l. ne_eqb (get_or front i 0) 32 (h i l))) refl
+
+-- the words of a text, by what `split_once` answers
+pub words-split_once : (bs : List ℕ) (r : Option (Bor (List ℕ) × Bor (List ℕ))) → IsSplitOnceResult 32 bs r
+    → MatchOption r (words bs ≡ bs ∷ []) (λ x. words bs ≡ x.0.now ∷ words x.1.now)
+words-split_once bs r h = cases r (split_parts 32 bs r h (omega arith)) where
+  cases : (s : Option (Bor (List ℕ) × Bor (List ℕ)))
+      → MatchOption s ((i : ℕ) → i < length bs → get_or bs i 0 ≢ 32) (λ x. (bs ≡ x.0.now ++ (32 ∷ x.1.now)) × ((i : ℕ) → i < length x.0.now → get_or x.0.now i 0 ≢ 32))
+      → MatchOption s (words bs ≡ bs ∷ []) (λ x. words bs ≡ x.0.now ∷ words x.1.now)
+  cases None p = no_space bs p
+  cases (Some x) p = at_space bs x.0.now x.1.now p.0 p.1
+
+-- there is at least one word
+pub words-some : (bs : List ℕ) → words bs ≡ [] → ⊥
+words-some bs e = omega (arith, length-slice_split (λ b. eqb b 32) bs, ap length e)
+
+-- more than one word where only an empty first one was taken
+pub first-empty : (all : List (List ℕ)) (w a b : List ℕ) (rest more : List (List ℕ)) → all ≡ w ∷ more → w ≡ [] → all ≡ a ∷ b ∷ rest → a ≡ []
+first-empty all w a b rest more e n h = cc
+
+-- no bytes
+pub length-zero : (bs : List ℕ) → length bs ≡ 0 → bs ≡ []
+length-zero [] e = refl
+length-zero (b ∷ bs) e = absurd (omega arith)
+
+-- a text that is not split is one word
+pub only-word : (bs : List ℕ) (r : Option (Bor (List ℕ) × Bor (List ℕ))) → MatchOption r (words bs ≡ bs ∷ []) (λ x. words bs ≡ x.0.now ∷ words x.1.now)
+    → is_some r ≡ false → words bs ≡ bs ∷ []
+only-word bs None h e = h
+only-word bs (Some x) h e = cc
+
+-- a text that is split is no single word
+pub several-words : (bs word : List ℕ) (r : Option (Bor (List ℕ) × Bor (List ℕ))) → MatchOption r (words bs ≡ bs ∷ []) (λ x. words bs ≡ x.0.now ∷ words x.1.now)
+    → is_some r ≡ true → words bs ≡ word ∷ [] → ⊥
+several-words bs word None h e one = cc
+several-words bs word (Some x) h e one = words-some x.1.now (let more : x.0.now ∷ words x.1.now ≡ word ∷ [] = sym h ∙ one in cc)
+
+-- an empty text is one empty word
+pub empty-word : (bs word : List ℕ) → length bs ≡ 0 → words bs ≡ word ∷ [] → word ≡ []
+empty-word [] word e one = cc
+empty-word (b ∷ bs) word e one = absurd (omega arith)
+
+-- ---- no request
+
+-- a line of these words
+line-of : (line : List ℕ) (all : List (List ℕ)) → words line ≡ all → request_of_words all ≡ None → request_of line ≡ None
+line-of line all e none =
+    elim (has_empty_word line) as (λ b. cond b None (request_of_words (words line)) ≡ None) [
+      | true ↦ refl
+      | false ↦ ap request_of_words e ∙ none
+    ]
+
+-- where a word is empty
+line-empty : (line : List ℕ) → has_empty_word line ≡ true → request_of line ≡ None
+line-empty line e = ap (λ b. cond b None (request_of_words (words line))) e
+
+-- `encode` with no checksum
+no-checksum : (checksum hrp : List ℕ) (more : List (List ℕ)) → checksum_of checksum ≡ None → encode_request (checksum ∷ hrp ∷ more) ≡ None
+no-checksum checksum hrp [] e = refl
+no-checksum checksum hrp (hex ∷ []) e = rw e
+no-checksum checksum hrp (hex ∷ x ∷ more) e = refl
+
+-- a line of `encode` with no checksum
+pub encode-no-checksum : (line checksum hrp : List ℕ) (more : List (List ℕ)) → words line ≡ codes "encode" ∷ checksum ∷ hrp ∷ more → checksum_of checksum ≡ None → request_of line ≡ None
+encode-no-checksum line checksum hrp more e none = line-of line _ e (no-checksum checksum hrp more none)
+
+-- a line of `encode` with no last word, or an empty one
+pub encode-no-hex : (line checksum hrp : List ℕ) (last : List (List ℕ)) → words line ≡ codes "encode" ∷ checksum ∷ hrp ∷ last → ((word : List ℕ) → last ≡ word ∷ [] → word ≡ [])
+    → request_of line ≡ None
+encode-no-hex line checksum hrp [] e empty = line-of line _ e refl
+encode-no-hex line checksum hrp (x ∷ y ∷ more) e empty = line-of line _ e refl
+encode-no-hex line checksum hrp (x ∷ []) e empty =
+    let none : x ≡ [] = empty x refl in
+    line-empty line (rw (e, none) (or-last (is_empty checksum) (is_empty hrp)))
+  where
+    or-last : (a b : Bool) → a || (b || true) ≡ true
+    or-last true b = refl
+    or-last false true = refl
+    or-last false false = refl
+
+-- a line of `decode` with no last word, or an empty one
+pub decode-no-text : (line : List ℕ) (last : List (List ℕ)) → words line ≡ codes "decode" ∷ last → ((word : List ℕ) → last ≡ word ∷ [] → word ≡ []) → request_of line ≡ None
+decode-no-text line [] e empty = line-of line _ e refl
+decode-no-text line (x ∷ y ∷ more) e empty = line-of line _ e refl
+decode-no-text line (x ∷ []) e empty = let none : x ≡ [] = empty x refl in line-empty line (rw (e, none) refl)

@@ -1,0 +1,46 @@
+use Rattle.std.proofs.Common.{ℕ, List, [], ◌∷◌, ◌++◌, length, refl, ap, ◌∙◌, arith, inl, codes, length-append}
+use Rattle.std.proofs.lemmas.List.{length-map}
+use Rattle.std.specs.Char.{to_ascii_lowercase}
+use Rattle.bech32_core.specs.HrpBytes.{hrp_bytes}
+use Rattle.bech32_core.specs.Hrp.{lowered}
+use Rattle.b32.specs.Hex.{hex_of}
+use Rattle.b32.proofs.Pieces.{three-pieces, four-pieces}
+use Rattle.b32.proofs.Sizes.{decoded-sizes, decode-reply-size, length-hex_of}
+use Rattle.b32.proofs.decode.decode.Goals as goal
+
+pub append-requires-3 : goal.append-requires-3
+append-requires-3 g c =
+    let hrp = hrp_bytes c.in_ok-hrp.hrp in
+    let bytes = c.in_ok-hrp.bytes.items in
+    let (part, size) = decoded-sizes c.args.text.now hrp bytes c.in_ok-hrp.ensures.value in
+    let hex = c.as_bytes-2.ensures.value ∙ c.in_ok-hex.ensures ∙ ap hex_of c.as_slice.ensures.value in
+    let part_is = c.append_lowered.ensures.items ∙ ap (λ (t : List ℕ). c.append.new.out.items ++ lowered t) c.as_bytes.ensures in
+    let front = three-pieces c.args.out.now.items (codes "ok ") (lowered hrp) (32 ∷ []) _ _ _ c.append.ensures.items part_is c.append-2.ensures.items in
+    omega (
+      arith,
+      part,
+      size,
+      ap length hex,
+      length-hex_of bytes,
+      ap length front,
+      length-append c.args.out.now.items (codes "ok " ++ (lowered hrp ++ 32 ∷ [])),
+      length-append (lowered hrp) (32 ∷ []),
+      length-map hrp to_ascii_lowercase,
+      c.append-2.new.out.ok.0,
+      c.args.out.now.ok.0,
+    )
+
+pub returns-clause-ok : goal.returns-clause-ok
+returns-clause-ok g c =
+    let hrp = hrp_bytes c.in_ok-hrp.hrp in
+    let bytes = c.in_ok-hrp.bytes.items in
+    let is = c.in_ok-hrp.ensures.value in
+    let hex = c.as_bytes-2.ensures.value ∙ c.in_ok-hex.ensures ∙ ap hex_of c.as_slice.ensures.value in
+    let part_is = c.append_lowered.ensures.items ∙ ap (λ (t : List ℕ). c.append.new.out.items ++ lowered t) c.as_bytes.ensures in
+    let last_is = c.append-3.ensures.items ∙ ap (λ (t : List ℕ). c.append-2.new.out.items ++ t) hex in
+    record {
+      said = codes "ok " ++ (lowered hrp ++ (32 ∷ hex_of bytes));
+      says = inl (record { hrp = hrp; bytes = bytes; is_decoded = is; spelling = refl });
+      size = decode-reply-size c.args.text.now hrp bytes is;
+      added = four-pieces c.args.out.now.items (codes "ok ") (lowered hrp) (32 ∷ []) (hex_of bytes) _ _ _ _ c.append.ensures.items part_is c.append-2.ensures.items last_is;
+    }

@@ -1,0 +1,65 @@
+-- The numbers of refusals.
+use Rattle.std.specs.Prelude.{ℕ}
+use Rattle.bech32_core.specs.declared.hrp.Error.{Error as HrpError}
+use Rattle.bech32_core.specs.declared.hrp.Error.TheVariants.{Empty, TooLong as HrpTooLong, NonAsciiChar, InvalidAsciiByte, MixedCase as HrpMixedCase}
+use Rattle.bech32.specs.declared.primitives.decode.error.CharError.{CharError}
+use Rattle.bech32.specs.declared.primitives.decode.error.CharError.TheVariants.{InvalidChar, MixedCase, MissingSeparator, NothingAfterSeparator}
+use Rattle.bech32.specs.declared.primitives.decode.error.UncheckedHrpstringError.{UncheckedHrpstringError}
+use Rattle.bech32.specs.declared.primitives.decode.error.UncheckedHrpstringError.TheVariants.{Char, Hrp}
+use Rattle.bech32.specs.declared.primitives.decode.error.ChecksumError.{ChecksumError}
+use Rattle.bech32.specs.declared.primitives.decode.error.ChecksumError.TheVariants.{CodeLength, InvalidLength, InvalidResidue}
+use Rattle.bech32.specs.declared.error.DecodeError.{DecodeError}
+use Rattle.bech32.specs.declared.error.DecodeError.TheVariants.{Parse, Checksum, Memory as DecodeMemory}
+use Rattle.bech32.specs.declared.error.EncodeError.{EncodeError}
+use Rattle.bech32.specs.declared.error.EncodeError.TheVariants.{TooLong, Fmt, Memory as EncodeMemory}
+use Rattle.b32.specs.declared.refusal.Refusal.{Refusal}
+use Rattle.b32.specs.declared.refusal.Refusal.TheVariants.{LineTooLong, NotUtf8, NoRequest, BadHex, Hrp as HrpRefused, Encode, Decode, Memory}
+
+-- of a human-readable part that is refused
+abbrev pub number_of_hrp_error : HrpError → ℕ
+number_of_hrp_error Empty = 11
+number_of_hrp_error (HrpTooLong n) = 12
+number_of_hrp_error (NonAsciiChar c) = 13
+number_of_hrp_error (InvalidAsciiByte b) = 14
+number_of_hrp_error HrpMixedCase = 15
+
+-- of characters that are refused
+abbrev pub number_of_char_error : CharError → ℕ
+number_of_char_error (InvalidChar c) = 21
+number_of_char_error MixedCase = 22
+number_of_char_error MissingSeparator = 23
+number_of_char_error NothingAfterSeparator = 24
+
+-- of a text that is not in the grammar
+abbrev pub number_of_text_error : UncheckedHrpstringError → ℕ
+number_of_text_error (Char e) = number_of_char_error e
+number_of_text_error (Hrp e) = number_of_hrp_error e
+
+-- of a text that a checksum refuses
+abbrev pub number_of_checksum_error : ChecksumError → ℕ
+number_of_checksum_error (CodeLength e) = 31
+number_of_checksum_error InvalidLength = 32
+number_of_checksum_error (InvalidResidue e) = 33
+
+-- of a text that is not decoded
+abbrev pub number_of_decode_error : DecodeError → ℕ
+number_of_decode_error (Parse e) = number_of_text_error e
+number_of_decode_error (Checksum e) = number_of_checksum_error e
+number_of_decode_error DecodeMemory = 91
+
+-- of a text that is not written
+abbrev pub number_of_encode_error : EncodeError → ℕ
+number_of_encode_error (TooLong e) = 51
+number_of_encode_error (Fmt e) = 54
+number_of_encode_error EncodeMemory = 91
+
+-- of any refusal
+abbrev pub number_of : Refusal → ℕ
+number_of LineTooLong = 1
+number_of NotUtf8 = 2
+number_of NoRequest = 3
+number_of BadHex = 5
+number_of (HrpRefused e) = number_of_hrp_error e
+number_of (Encode e) = number_of_encode_error e
+number_of (Decode e) = number_of_decode_error e
+number_of Memory = 91

@@ -1,0 +1,41 @@
+-- What is written for lines.
+use Rattle.std.specs.Prelude.{◌≡◌, ◌⊎◌, ℕ, List, [], ◌∷◌, ◌++◌, Option}
+use Rattle.std.specs.Io.KnownBytes.{Appends, Consumes, IsAtEnd}
+use Rattle.b32.specs.Lines.{lines_of, ended_lines}
+use Rattle.b32.specs.Reply.{IsReply}
+
+-- a reply to each line in turn, each ended by the byte 10
+abbrev pub IsOutput : List (List ℕ) → List ℕ → Type 0
+IsOutput [] out = out ≡ []
+IsOutput (line ∷ lines) out = (said : List ℕ) × (rest : List ℕ) × IsReply line said × (out ≡ said ++ 10 ∷ rest) × IsOutput lines rest
+
+-- a beginning of such an output
+abbrev pub IsBeginning : List (List ℕ) → List ℕ → Type 0
+IsBeginning lines out = (more : List ℕ) × IsOutput lines (out ++ more)
+
+-- Bytes left a source and others went out to a sink, where those are known: what was left and what is, what went out before and after.
+module _ (source source' sink sink' : Option (List ℕ)) where
+  -- the source is at its end, and each line was answered
+  pub record IsAnswered : Type 0 where
+    pub read : List ℕ
+    pub written : List ℕ
+    pub consumed : Consumes source source' read
+    pub end : IsAtEnd source'
+    pub appended : Appends sink sink' written
+    pub output : IsOutput (lines_of read) written
+
+  -- each line that has ended was answered
+  pub record IsAnsweredSoFar : Type 0 where
+    pub read : List ℕ
+    pub written : List ℕ
+    pub consumed : Consumes source source' read
+    pub appended : Appends sink sink' written
+    pub output : IsOutput (ended_lines read) written
+
+  -- a beginning of the answers went out
+  pub record IsCutShort : Type 0 where
+    pub read : List ℕ
+    pub written : List ℕ
+    pub consumed : Consumes source source' read
+    pub appended : Appends sink sink' written
+    pub beginning : IsBeginning (ended_lines read) written ⊎ (IsAtEnd source' × IsBeginning (lines_of read) written)

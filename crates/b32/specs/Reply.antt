@@ -1,0 +1,85 @@
+-- What may be said of a line.
+use Rattle.std.specs.Prelude.{◌≡◌, ◌≤◌, ◌⊎◌, ℕ, List, ◌∷◌, ◌++◌, length, nat_lt, codes, MatchOption, MatchBool}
+use Rattle.std.specs.Fmt.{decimal}
+use Rattle.std.specs.Str.{is_utf8}
+use Rattle.bech32_core.specs.Bits.{to_fes}
+use Rattle.bech32_core.specs.Code.{Code}
+use Rattle.bech32_core.specs.Hrp.{lowered, hrp_refusal}
+use Rattle.bech32.specs.Acceptance.{IsDecoded}
+use Rattle.bech32.specs.Encoded.{IsEncodedText, encoded_length_of}
+use Rattle.bech32.specs.Refusals.{IsDecodeRefusal, IsEncodeRefusal}
+use Rattle.bech32.specs.declared.error.DecodeError.{DecodeError}
+use Rattle.bech32.specs.declared.error.EncodeError.{EncodeError}
+use Rattle.b32.specs.Hex.{bytes_of, hex_of}
+use Rattle.b32.specs.Numbers.{number_of_hrp_error, number_of_decode_error, number_of_encode_error}
+use Rattle.b32.specs.Request.{Request, Encode, Decode, code_of_name, request_of}
+
+-- a refusal with this number
+abbrev pub err : ℕ → List ℕ
+err number = codes "err " ++ decimal number
+
+-- the text of a human-readable part and bytes is said
+pub record SaysText (code : Code) (hrp bytes said : List ℕ) : Type 0 where
+  pub text : List ℕ
+  pub is_text : IsEncodedText code hrp (to_fes bytes) text
+  pub fits : encoded_length_of code hrp (to_fes bytes) ≤ code.code_length
+  pub spelling : said ≡ codes "ok " ++ text
+
+-- it is said why they have no text
+pub record SaysNoText (code : Code) (hrp bytes said : List ℕ) : Type 0 where
+  pub error : EncodeError
+  pub is_refusal : IsEncodeRefusal code hrp (to_fes bytes) error
+  pub spelling : said ≡ err (number_of_encode_error error)
+
+-- the answer to `encode`: bad hex is refused, then a bad human-readable part
+abbrev pub IsEncodeAnswer : Code → List ℕ → List ℕ → List ℕ → Type 0
+IsEncodeAnswer code hrp hex said =
+    MatchOption (bytes_of hex)
+    (said ≡ err 5)
+    (λ bytes. MatchOption (hrp_refusal hrp)
+    (SaysText code hrp bytes said ⊎ SaysNoText code hrp bytes said)
+    (λ error. said ≡ err (number_of_hrp_error error)))
+
+-- the human-readable part of a text is said, in lower case, and its bytes
+pub record SaysBytes (text said : List ℕ) : Type 0 where
+  pub hrp : List ℕ
+  pub bytes : List ℕ
+  pub is_decoded : IsDecoded text hrp bytes
+  pub spelling : said ≡ codes "ok " ++ (lowered hrp ++ (32 ∷ hex_of bytes))
+
+-- it is said why a text is not decoded
+pub record SaysNoBytes (text said : List ℕ) : Type 0 where
+  pub error : DecodeError
+  pub is_refusal : IsDecodeRefusal text error
+  pub spelling : said ≡ err (number_of_decode_error error)
+
+-- the answer to `decode`
+abbrev pub IsDecodeAnswer : List ℕ → List ℕ → Type 0
+IsDecodeAnswer text said = SaysBytes text said ⊎ SaysNoBytes text said
+
+-- the answer to a request
+abbrev pub IsAnswer : Request → List ℕ → Type 0
+IsAnswer (Encode checksum hrp hex) said = IsEncodeAnswer (code_of_name checksum) hrp hex said
+IsAnswer (Decode text) said = IsDecodeAnswer text said
+
+-- an answer, or that there is no memory for it
+abbrev pub OrNoMemory : (List ℕ → Type 0) → List ℕ → Type 0
+OrNoMemory Says said = Says said ⊎ (said ≡ err 91)
+
+-- what is said is added to bytes, and leaves room for a newline
+pub record Adds (Says : List ℕ → Type 0) (old new : List ℕ) : Type 0 where
+  pub said : List ℕ
+  pub says : Says said
+  pub size : length said ≤ 2047
+  pub added : new ≡ old ++ said
+
+-- what may be said of a line: it is too long, no text or no request, in this order, or it is answered
+abbrev pub IsReply : List ℕ → List ℕ → Type 0
+IsReply line said =
+    MatchBool (nat_lt 4096 (length line))
+    (said ≡ err 1)
+    (MatchBool (is_utf8 line)
+    (MatchOption (request_of line)
+    (said ≡ err 3)
+    (λ request. OrNoMemory (IsAnswer request) said))
+    (said ≡ err 2))

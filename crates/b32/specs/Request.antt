@@ -1,0 +1,55 @@
+-- What a line asks for: its first word names a command, the others are its arguments.
+use Rattle.std.specs.Prelude.{ℕ, if◌then◌else◌, List, [], ◌∷◌, codes, Option, Some, None}
+use Rattle.std.specs.Str.{bytes_eq}
+use Rattle.bech32_core.specs.Code.{Code, bech32, bech32m}
+use Rattle.b32.specs.declared.command.ChecksumName.{ChecksumName}
+use Rattle.b32.specs.declared.command.ChecksumName.TheVariants.{Bech32, Bech32m}
+use Rattle.b32.specs.declared.command.Command.{Command}
+use Rattle.b32.specs.declared.command.Command.TheVariants.{Encode as EncodeCommand, Decode as DecodeCommand}
+use Rattle.b32.specs.Words.{words, has_empty_word}
+
+-- the text of bytes, or the bytes of a text; each argument as its word
+pub data Request : Type 0 where
+  Encode : (checksum : ChecksumName) (hrp hex : List ℕ) → Request
+  Decode : (text : List ℕ) → Request
+
+-- the checksum of a word
+abbrev pub checksum_of : List ℕ → Option ChecksumName
+checksum_of word = if bytes_eq word (codes "bech32") then Some Bech32 else (if bytes_eq word (codes "bech32m") then Some Bech32m else None)
+
+-- what a checksum's name stands for
+abbrev pub code_of_name : ChecksumName → Code
+code_of_name Bech32 = bech32
+code_of_name Bech32m = bech32m
+
+-- the text of bytes by the checksum of a word, if it is one
+abbrev pub encode_under : Option ChecksumName → List ℕ → List ℕ → Option Request
+encode_under None hrp hex = None
+encode_under (Some checksum) hrp hex = Some (Encode checksum hrp hex)
+
+-- `encode CHECKSUM HRP HEX`
+abbrev pub encode_request : List (List ℕ) → Option Request
+encode_request (checksum ∷ hrp ∷ hex ∷ []) = encode_under (checksum_of checksum) hrp hex
+encode_request _ = None
+
+-- `decode TEXT`
+abbrev pub decode_request : List (List ℕ) → Option Request
+decode_request (text ∷ []) = Some (Decode text)
+decode_request _ = None
+
+-- what words ask for
+abbrev pub request_of_words : List (List ℕ) → Option Request
+request_of_words [] = None
+request_of_words (name ∷ arguments) =
+    if bytes_eq name (codes "encode") then encode_request arguments
+    else (if bytes_eq name (codes "decode") then decode_request arguments
+    else None)
+
+-- what a line asks for, which has no empty word
+abbrev pub request_of : List ℕ → Option Request
+request_of line = if has_empty_word line then None else request_of_words (words line)
+
+-- what a command asks for
+abbrev pub request_of_command : Command → Request
+request_of_command (EncodeCommand checksum hrp hex) = Encode checksum hrp.now hex.now
+request_of_command (DecodeCommand text) = Decode text.now

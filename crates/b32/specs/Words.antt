@@ -1,0 +1,16 @@
+-- The words of a line: they are separated by exactly one space.
+use Rattle.std.specs.Prelude.{ℕ, Bool, true, false, ◌==◌, List, [], ◌∷◌}
+use Rattle.std.specs.List.{slice_split, list_any}
+
+-- what stands before, between and behind the spaces
+abbrev pub words : List ℕ → List (List ℕ)
+words line = slice_split (λ b. b == 32) line
+
+-- whether a word has no byte
+abbrev pub is_empty : List ℕ → Bool
+is_empty [] = true
+is_empty (b ∷ bs) = false
+
+-- whether a line has an empty word
+abbrev pub has_empty_word : List ℕ → Bool
+has_empty_word line = list_any is_empty (words line)

@@ -1,0 +1,92 @@
+//! Reads a line as a command with its arguments.
+
+ghost use Rattle.std.specs.Prelude.{◌≡◌, ◌≢◌, ℕ, List, [], ◌∷◌, MatchOption, Some, None};
+ghost use Rattle.b32.specs.Words.{words};
+ghost use Rattle.b32.specs.Request.{checksum_of, request_of, request_of_command};
+
+/// The checksum that a command names.
+#[derive(Clone, Copy, Debug, PartialEq, Eq)]
+pub enum ChecksumName {
+    /// `bech32` (BIP-173).
+    Bech32,
+    /// `bech32m` (BIP-350).
+    Bech32m,
+}
+
+/// What a line asks for, each argument as its word.
+#[derive(Clone, Copy, Debug)]
+pub enum Command<'a> {
+    /// `encode CHECKSUM HRP HEX`: the text of bytes.
+    Encode {
+        checksum: ChecksumName,
+        hrp: &'a str,
+        hex: &'a str,
+    },
+    /// `decode TEXT`: the bytes of a text.
+    Decode {
+        text: &'a str,
+    },
+}
+
+/// The first word, and what stands behind the space after it.
+fn first_word(text: &str) -> Option<(&str, &str)>
+    ensures { MatchOption result
+        ((first second : List ℕ) (rest : List (List ℕ))
+        → words text.now ≡ first ∷ second ∷ rest → first ≡ [])
+        (λ r. (words text.now ≡ r.0.now ∷ words r.1.now) × (r.0.now ≢ [])) }
+{
+    let (word, rest) = text.split_once(' ')?;
+    if word.is_empty() {
+        return None;
+    }
+    Some((word, rest))
+}
+
+/// The text, where it is one word.
+fn only_word(text: &str) -> Option<&str>
+    ensures { MatchOption result
+        ((word : List ℕ) → words text.now ≡ word ∷ [] → word ≡ [])
+        (λ r. (words text.now ≡ r.now ∷ []) × (r.now ≢ [])) }
+{
+    if text.is_empty() || text.split_once(' ').is_some() {
+        return None;
+    }
+    Some(text)
+}
+
+/// The checksum of this name.
+fn checksum_named(word: &str) -> Option<ChecksumName>
+    ensures { result ≡ checksum_of word.now }
+{
+    match word {
+        "bech32" => Some(ChecksumName::Bech32),
+        "bech32m" => Some(ChecksumName::Bech32m),
+        _ => None,
+    }
+}
+
+impl<'a> Command<'a> {
+    /// Reads a line. Its words stand between single spaces, and none is empty.
+    pub fn parse(line: &'a str) -> Option<Command<'a>>
+        ensures { MatchOption result
+            (request_of line.now ≡ None)
+            (λ command. request_of line.now ≡ Some (request_of_command command)) }
+    {
+        let (name, arguments) = first_word(line)?;
+        match name {
+            "encode" => {
+                let (checksum, arguments) = first_word(arguments)?;
+                let (hrp, hex) = first_word(arguments)?;
+                Some(Command::Encode {
+                    checksum: checksum_named(checksum)?,
+                    hrp,
+                    hex: only_word(hex)?,
+                })
+            }
+            "decode" => Some(Command::Decode {
+                text: only_word(arguments)?,
+            }),
+            _ => None,
+        }
+    }
+}

@@ -1,0 +1,28 @@
+//! Answers `decode`.
+
+ghost use Rattle.std.specs.Prelude.{◌≡◌, ◌+◌, ◌≤◌, vec_len, vec_capacity, OnOk, OnErr, IfErr};
+ghost use Rattle.b32.specs.Numbers.{number_of};
+ghost use Rattle.b32.specs.Reply.{err, Adds, OrNoMemory, IsDecodeAnswer};
+
+use crate::append::{append, append_lowered};
+use crate::hex_word::word_of_bytes;
+use crate::refusal::Refusal;
+use bech32::decode_in;
+use std::alloc::Allocator;
+
+/// Adds the human-readable part and the bytes of a text, or leaves all as it was.
+pub fn decode<A: Allocator + Copy>(alloc: A, text: &str, out: &mut Vec<u8>) -> Result<(), Refusal>
+    requires { vec_len out.old + 2047 ≤ vec_capacity out.old }
+    ensures ok { OnOk result (Adds (IsDecodeAnswer text.now) out.old.items out.new.items) }
+    ensures err { IfErr result (λ e. OrNoMemory (IsDecodeAnswer text.now) (err (number_of e))) }
+    ensures same { OnErr result (out.new.items ≡ out.old.items) }
+    ensures capacity { vec_capacity out.old ≤ vec_capacity out.new }
+{
+    let (hrp, bytes) = decode_in(alloc, text)?;
+    let hex = word_of_bytes(alloc, bytes.as_slice())?;
+    append(out, b"ok ");
+    append_lowered(out, hrp.as_bytes());
+    append(out, b" ");
+    append(out, hex.as_bytes());
+    Ok(())
+}

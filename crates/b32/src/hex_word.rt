@@ -1,0 +1,34 @@
+//! Bytes as a word: `-` for no bytes, else a pair of hex digits for each.
+
+ghost use Rattle.std.specs.Prelude.{◌≡◌, ◌⊎◌, MatchResult, IfOk, Some, None, string_bytes};
+ghost use Rattle.b32.specs.Hex.{bytes_of, hex_of};
+
+use crate::refusal::Refusal;
+use hex::FromHexError;
+use std::alloc::{AllocError, Allocator};
+
+/// The bytes that a word stands for.
+pub fn bytes_of_word<A: Allocator>(alloc: A, word: &str) -> Result<Vec<u8, A>, Refusal>
+    ensures { MatchResult result
+        (λ bytes. bytes_of word.now ≡ Some bytes.items)
+        (λ e. (e ≡ Refusal.Memory) ⊎ ((e ≡ Refusal.BadHex) × (bytes_of word.now ≡ None))) }
+{
+    if word == "-" {
+        return Ok(Vec::new(alloc));
+    }
+    match hex::decode(alloc, word) {
+        Ok(bytes) => Ok(bytes),
+        Err(FromHexError::OutOfMemory) => Err(Refusal::Memory),
+        Err(_) => Err(Refusal::BadHex),
+    }
+}
+
+/// The word for bytes, in lower case.
+pub fn word_of_bytes<A: Allocator>(alloc: A, bytes: &[u8]) -> Result<String<A>, AllocError>
+    ensures { IfOk result (λ word. string_bytes word ≡ hex_of bytes.now) }
+{
+    if bytes.is_empty() {
+        return String::from_str(alloc, "-");
+    }
+    hex::encode(alloc, bytes)
+}

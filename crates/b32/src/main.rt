@@ -1,0 +1,29 @@
+//! Answers each line of standard input.
+#![tactic(auto)]
+
+mod append;
+mod command;
+mod decode;
+mod encode;
+mod error;
+mod hex_word;
+mod refusal;
+mod reply;
+mod run;
+#[cfg(test)]
+mod vectors;
+
+use crate::run::run;
+use std::process::ExitCode;
+
+fn main(rt: HostRuntime) -> ExitCode {
+    let mut input = rt.stdin();
+    let mut output = rt.stdout();
+    match run(rt.alloc(), &mut input, &mut output) {
+        Ok(()) => ExitCode::SUCCESS,
+        Err(e) => {
+            let _ = eprintln!(rt; "{e}");
+            ExitCode::FAILURE
+        }
+    }
+}

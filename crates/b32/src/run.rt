@@ -1,0 +1,361 @@
+//! Answers the lines of a source, one after another.
+
+ghost use Rattle.std.specs.Prelude.{◌≡◌, ℕ, ◌≤◌, ◌<◌, false, true, List, [], ◌∷◌, ◌++◌, take};
+ghost use Rattle.std.specs.Prelude.{vec_len, vec_capacity, OnOk, OnErr, IsErrOf, IfOk};
+ghost use Rattle.std.specs.Io.KnownBytes.{Appends, Keeps};
+ghost use Rattle.b32.specs.Lines.{ended_from, rest_from, last_line};
+ghost use Rattle.b32.specs.Reply.{IsReply};
+ghost use Rattle.b32.specs.Output.{IsOutput, IsBeginning, IsAnswered, IsAnsweredSoFar, IsCutShort};
+
+use crate::error::RunError;
+use crate::reply::{REPLY_ROOM, reply};
+use bech32_core::device::{ByteSink, ByteSource, Watched, write_all};
+use std::alloc::{AllocError, Global};
+use std::io;
+
+// What is kept of a line: one byte more than it may have shows that it is too long.
+const KEPT: usize = 4097;
+
+/// What a run keeps between two reads.
+#[derive(Drop)]
+struct Lines {
+    line: Vec<u8>,
+    out: Vec<u8>,
+    ghost line_room: { vec_len line ≤ 4097 × 4097 ≤ vec_capacity line },
+    ghost out_room: { 2048 ≤ vec_capacity out },
+}
+
+impl Lines {
+    /// No bytes yet, and room for a line and its reply.
+    fn new(alloc: Global) -> Result<Lines, AllocError>
+        ensures { IfOk result (λ l. l.line.items ≡ []) }
+    {
+        let line = Vec::with_capacity(alloc, KEPT)?;
+        let out = Vec::with_capacity(alloc, REPLY_ROOM)?;
+        Ok(Lines { line, out })
+    }
+
+    /// Takes a byte that ends no line.
+    fn put(&mut self, b: u8)
+        ensures { (before : List ℕ) → self.old.line.items ≡ take 4097 before
+            → self.new.line.items ≡ take 4097 (before ++ b ∷ []) }
+    {
+        if self.line.len() < KEPT {
+            self.line.push(b).unwrap();
+        }
+    }
+
+    /// Writes the reply to the line, and makes ready for the next.
+    fn answer<K: ByteSink>(&mut self, alloc: Global, sink: &mut K) -> Result<(), RunError>
+        requires { K.has_failed sink.old ≡ false }
+        ensures ok { OnOk result ((before : List ℕ) → self.old.line.items ≡ take 4097 before
+            → (said : List ℕ) × IsReply before said
+            × Appends (K.contents sink.old) (K.contents sink.new) (said ++ 10 ∷ [])) }
+        ensures ok_mark { OnOk result (K.has_failed sink.new ≡ false) }
+        ensures next { OnOk result (self.new.line.items ≡ []) }
+        ensures err { OnErr result ((before : List ℕ) → self.old.line.items ≡ take 4097 before
+            → (said : List ℕ) × IsReply before said × (n : ℕ)
+            × Appends (K.contents sink.old) (K.contents sink.new) (take n (said ++ 10 ∷ []))) }
+        ensures err_mark { OnErr result (K.has_failed sink.new ≡ true) }
+        ensures only { OnErr result (result ≡ Err RunError.Write) }
+        ensures same { K.is_same sink.old sink.new }
+    {
+        self.out.clear();
+        reply(alloc, self.line.as_slice(), &mut self.out);
+        self.line.clear();
+        match write_all(sink, self.out.as_slice()) {
+            Ok(()) => Ok(()),
+            Err(_) => Err(RunError::Write),
+        }
+    }
+
+    /// Takes bytes, and answers each line that they end.
+    fn feed<K: ByteSink>(
+        &mut self,
+        alloc: Global,
+        bytes: &[u8],
+        sink: &mut K,
+    ) -> Result<(), RunError>
+        requires { K.has_failed sink.old ≡ false }
+        ensures ok { OnOk result ((before : List ℕ) → self.old.line.items ≡ take 4097 before
+            → (self.new.line.items ≡ take 4097 (rest_from before bytes.now))
+            × (out : List ℕ) × Appends (K.contents sink.old) (K.contents sink.new) out
+            × IsOutput (ended_from before bytes.now) out) }
+        ensures ok_mark { OnOk result (K.has_failed sink.new ≡ false) }
+        ensures err { OnErr result ((before : List ℕ) → self.old.line.items ≡ take 4097 before
+            → (out : List ℕ) × Appends (K.contents sink.old) (K.contents sink.new) out
+            × IsBeginning (ended_from before bytes.now) out) }
+        ensures err_mark { OnErr result (K.has_failed sink.new ≡ true) }
+        ensures only { OnErr result (result ≡ Err RunError.Write) }
+        ensures same { K.is_same sink.old sink.new }
+    {
+        for b in bytes {
+            if *b == b'\n' {
+                self.answer(alloc, sink)?;
+            } else {
+                self.put(*b);
+            }
+        }
+        Ok(())
+    }
+
+    /// Answers what is left at the end.
+    fn finish<K: ByteSink>(&mut self, alloc: Global, sink: &mut K) -> Result<(), RunError>
+        requires { K.has_failed sink.old ≡ false }
+        ensures ok { OnOk result ((before : List ℕ) → self.old.line.items ≡ take 4097 before
+            → (out : List ℕ) × Appends (K.contents sink.old) (K.contents sink.new) out
+            × IsOutput (last_line before) out) }
+        ensures ok_mark { OnOk result (K.has_failed sink.new ≡ false) }
+        ensures err { OnErr result ((before : List ℕ) → self.old.line.items ≡ take 4097 before
+            → (out : List ℕ) × Appends (K.contents sink.old) (K.contents sink.new) out
+            × ((xs : List (List ℕ)) (a : List ℕ) → IsOutput xs a
+            → IsBeginning (xs ++ last_line before) (a ++ out))) }
+        ensures err_mark { OnErr result (K.has_failed sink.new ≡ true) }
+        ensures only { OnErr result (result ≡ Err RunError.Write) }
+        ensures same { K.is_same sink.old sink.new }
+    {
+        if self.line.is_empty() {
+            return Ok(());
+        }
+        self.answer(alloc, sink)
+    }
+}
+
+/// Flushes the sink.
+fn flush<K: ByteSink>(sink: &mut K) -> Result<(), RunError>
+    requires { K.has_failed sink.old ≡ false }
+    ensures bytes { Keeps (K.contents sink.old) (K.contents sink.new) }
+    ensures done { OnOk result (K.is_flushed sink.new ≡ true) }
+    ensures ok_mark { OnOk result (K.has_failed sink.new ≡ false) }
+    ensures err_mark { OnErr result (K.has_failed sink.new ≡ true) }
+    ensures only { OnErr result (result ≡ Err RunError.Write) }
+    ensures same { K.is_same sink.old sink.new }
+{
+    match sink.flush() {
+        Ok(()) => Ok(()),
+        Err(_) => Err(RunError::Write),
+    }
+}
+
+/// Answers each line of a source: writes its reply and a newline. It makes its buffers first, and
+/// flushes the sink at its end.
+///
+/// # Errors
+///
+/// `Memory` where there is none for the buffers: nothing was read. `Read` where reading failed: the
+/// lines that ended before it were answered and flushed. `Write` where writing or flushing failed:
+/// a beginning of the replies went out.
+pub fn run_on<S: ByteSource, K: ByteSink>(
+    alloc: Global,
+    source: &mut S,
+    sink: &mut K,
+) -> Result<(), RunError>
+    requires source_unmarked { S.has_failed source.old ≡ false }
+    requires sink_unmarked { K.has_failed sink.old ≡ false }
+    ensures ok { OnOk result (IsAnswered (S.remaining source.old) (S.remaining source.new)
+        (K.contents sink.old) (K.contents sink.new)) }
+    ensures read { IsErrOf result RunError.Read
+        → IsAnsweredSoFar (S.remaining source.old) (S.remaining source.new)
+        (K.contents sink.old) (K.contents sink.new) }
+    ensures flushed { OnOk result (K.is_flushed sink.new ≡ true) }
+    ensures read_flushed { IsErrOf result RunError.Read → K.is_flushed sink.new ≡ true }
+    ensures read_mark { IsErrOf result RunError.Read → S.has_failed source.new ≡ true }
+    ensures write { IsErrOf result RunError.Write
+        → IsCutShort (S.remaining source.old) (S.remaining source.new)
+        (K.contents sink.old) (K.contents sink.new) }
+    ensures write_mark { IsErrOf result RunError.Write → K.has_failed sink.new ≡ true }
+    ensures memory { IsErrOf result RunError.Memory
+        → (source.new ≡ source.old) × (sink.new ≡ sink.old) }
+    ensures source_same { S.is_same source.old source.new }
+    ensures sink_same { K.is_same sink.old sink.new }
+{
+    let Ok(mut lines) = Lines::new(alloc) else {
+        return Err(RunError::Memory);
+    };
+    let mut buf = [0u8; 4096];
+    'reads: loop {
+        let Ok(n) = source.read(&mut buf) else {
+            flush(sink)?;
+            return Err(RunError::Read);
+        };
+        if n == 0 {
+            break 'reads;
+        }
+        lines.feed(alloc, &buf[..n], sink)?;
+    }
+    lines.finish(alloc, sink)?;
+    flush(sink)
+}
+
+/// Answers each line of a reader, as `run_on` does.
+///
+/// # Errors
+///
+/// Those of `run_on`.
+pub fn run<R: io::Read, W: io::Write>(
+    alloc: Global,
+    reader: &mut R,
+    writer: &mut W,
+) -> Result<(), RunError>
+    ensures ok { OnOk result (IsAnswered (R.remaining reader.old) (R.remaining reader.new)
+        (W.contents writer.old) (W.contents writer.new)) }
+    ensures read { IsErrOf result RunError.Read
+        → IsAnsweredSoFar (R.remaining reader.old) (R.remaining reader.new)
+        (W.contents writer.old) (W.contents writer.new) }
+    ensures write { IsErrOf result RunError.Write
+        → IsCutShort (R.remaining reader.old) (R.remaining reader.new)
+        (W.contents writer.old) (W.contents writer.new) }
+{
+    let mut source = Watched::new(reader);
+    let mut sink = Watched::new(writer);
+    run_on(alloc, &mut source, &mut sink)
+}
+
+#[cfg(test)]
+mod tests {
+    use super::*;
+    use std::test::Fail;
+
+    // Gives `left`, `step` bytes a call, and fails in place of the byte at `room`.
+    #[derive(Drop)]
+    struct Faulty<'a> {
+        left: &'a [u8],
+        room: usize,
+        step: usize,
+        ghost moves: { 0 < step },
+    }
+
+    impl<'a> io::Read for Faulty<'a> {
+        ghost use Rattle.std.specs.Prelude.{Some};
+
+        ghost remaining = { λ r. Some r.left.now };
+
+        fn read(&mut self, buf: &mut [u8]) -> io::Result<usize> {
+            let n = buf.len().min(self.step).min(self.left.len());
+            if n == 0 {
+                return Ok(0);
+            }
+            if self.room < n {
+                return Err(io::Error::from(io::ErrorKind::Other));
+            }
+            self.room -= n;
+            buf[..n].copy_from_slice(&self.left[..n]);
+            self.left = &self.left[n..];
+            Ok(n)
+        }
+    }
+
+    // Takes `step` bytes a call, and fails once `room` are taken; a flush fails where `stuck`.
+    #[derive(Drop)]
+    struct Narrow {
+        got: Vec<u8>,
+        room: usize,
+        step: usize,
+        stuck: bool,
+    }
+
+    impl io::Write for Narrow {
+        ghost use Rattle.std.specs.Prelude.{Some};
+
+        ghost contents = { λ w. Some w.got.items };
+
+        fn write(&mut self, buf: &[u8]) -> io::Result<usize> {
+            if self.got.len() >= self.room {
+                return Err(io::Error::from(io::ErrorKind::StorageFull));
+            }
+            let left = self.room - self.got.len();
+            let n = buf.len().min(self.step).min(left);
+            self.got.extend_from_slice(&buf[..n])?;
+            Ok(n)
+        }
+
+        fn flush(&mut self) -> io::Result<()> {
+            if self.stuck {
+                return Err(io::Error::from(io::ErrorKind::Other));
+            }
+            Ok(())
+        }
+    }
+
+    // Three lines, the last without its end.
+    const INPUT: &[u8] = b"x\n\ndecode";
+
+    #[test]
+    fn empty_input(rt: HostRuntime) -> Result<(), Fail> {
+        let mut input = b"".as_slice();
+        let mut out = Vec::new(rt.alloc());
+        assert_eq!(rt; run(rt.alloc(), &mut input, &mut out), Ok(()));
+        assert!(rt; out.is_empty());
+        Ok(())
+    }
+
+    #[test]
+    fn reads_that_fail(rt: HostRuntime) -> Result<(), Fail> {
+        for room in 0..12usize {
+            let mut reader = Faulty {
+                left: INPUT,
+                room,
+                step: 1,
+            };
+            let mut out = Vec::new(rt.alloc());
+            let outcome = run(rt.alloc(), &mut reader, &mut out);
+            let whole = room >= INPUT.len();
+            let want = if whole { Ok(()) } else { Err(RunError::Read) };
+            assert_eq!(rt; outcome, want, "room {room}");
+            let lines: &[u8] = match room {
+                0 | 1 => b"",
+                2 => b"err 3\n",
+                _ if whole => b"err 3\nerr 3\nerr 3\n",
+                _ => b"err 3\nerr 3\n",
+            };
+            assert!(rt; out.as_slice() == lines, "room {room}");
+        }
+        Ok(())
+    }
+
+    #[test]
+    fn writes_that_fail(rt: HostRuntime) -> Result<(), Fail> {
+        let whole = b"err 3\nerr 3\nerr 3\n";
+        for room in 0..20usize {
+            let mut reader = INPUT;
+            let mut writer = Narrow {
+                got: Vec::new(rt.alloc()),
+                room,
+                step: 4,
+                stuck: false,
+            };
+            let outcome = run(rt.alloc(), &mut reader, &mut writer);
+            let want = if room < 18 {
+                Err(RunError::Write)
+            } else {
+                Ok(())
+            };
+            assert_eq!(rt; outcome, want, "room {room}");
+            assert!(rt;
+                writer.got.as_slice() == &whole[..room.min(18)],
+                "room {room}"
+            );
+        }
+        Ok(())
+    }
+
+    #[test]
+    fn flushes_that_fail(rt: HostRuntime) -> Result<(), Fail> {
+        for room in [0, 3, 100] {
+            let mut reader = Faulty {
+                left: INPUT,
+                room,
+                step: 1,
+            };
+            let mut writer = Narrow {
+                got: Vec::new(rt.alloc()),
+                room: 100,
+                step: 100,
+                stuck: true,
+            };
+            let outcome = run(rt.alloc(), &mut reader, &mut writer);
+            assert_eq!(rt; outcome, Err(RunError::Write), "room {room}");
+        }
+        Ok(())
+    }
+}

@@ -1,0 +1,102 @@
+-- What a packed residue says of a text, by the law that ties a checksum's words to its code.
+use Rattle.std.proofs.Common.{◌≡◌, ◌≢◌, ◌<◌, ◌≤◌, ◌*◌, ◌/◌, ◌%◌, ◌^◌, ◌+◌, ℕ, zero, suc, List, ◌∷◌, length, refl, sym, ap, subst, ◌∙◌, arith, ⊎_elim}
+use Rattle.std.proofs.lemmas.Bool.{cases_lt}
+use Rattle.std.proofs.Math.Nat.{div-div-eq-div-mul}
+use Rattle.std.proofs.Math.Pow.{pow-add}
+use Rattle.bech32_gf.specs.Fe32 as fe32
+use Rattle.bech32_gf.specs.declared.gf32.Fe32.{Fe32}
+use Rattle.bech32_poly.specs.Polynomial.{coefficient}
+use Rattle.bech32_poly.specs.Remainder.{IsRemainder}
+use Rattle.bech32_core.specs.Code.{Code, code_of, IsResidueOf}
+use Rattle.bech32_core.specs.Packed.{digit_of, digits, tabulate}
+use Rattle.bech32_core.proofs.Digits.{length-tabulate}
+use Rattle.bech32.specs.Refusals.{IsResidueError}
+use Rattle.bech32.specs.declared.primitives.decode.error.InvalidResidueError.{InvalidResidueError}
+use Rattle.bech32.proofs.Coefficients.{digit_of-past}
+
+pub coefficient-below : (d : ℕ) (f : ℕ → Fe32) (n : ℕ) → n < d → coefficient fe32.ops (tabulate d f) n ≡ f n
+coefficient-below zero f n h = absurd (omega arith)
+coefficient-below (suc d) f zero h = refl
+coefficient-below (suc d) f (suc n) h = coefficient-below d (λ i. f (suc i)) n (omega arith)
+
+coefficient-past : (d : ℕ) (f : ℕ → Fe32) (n : ℕ) → d ≤ n → coefficient fe32.ops (tabulate d f) n ≡ fe32.zero
+coefficient-past zero f n h = refl
+coefficient-past (suc d) f zero h = absurd (omega arith)
+coefficient-past (suc d) f (suc n) h = coefficient-past d (λ i. f (suc i)) n (omega arith)
+
+-- the digits of a number, as coefficients
+pub coefficient-digits : (d number n : ℕ) → number < 2 ^ (5 * d) → coefficient fe32.ops (digits d number) n ≡ digit_of number n
+coefficient-digits d number n h =
+    ⊎_elim
+    (λ (below : n < d). coefficient-below d (digit_of number) n below)
+    (λ (above : d ≤ n). coefficient-past d (digit_of number) n above ∙ sym (digit_of-past d number n h above))
+    (cases_lt n d)
+
+digit_of-suc : (number i : ℕ) → digit_of number (suc i) ≡ digit_of (number / 32) i
+digit_of-suc number i =
+    let place : 5 * suc i ≡ 5 + 5 * i = omega arith in
+    let power : 2 ^ (5 * suc i) ≡ 32 * 2 ^ (5 * i) = ap (λ j. 2 ^ j) place ∙ pow-add 2 5 (5 * i) in
+    ap fe32.element (ap (λ j. number / j) power ∙ sym (div-div-eq-div-mul number 32 (2 ^ (5 * i))))
+
+tabulate-same : (d : ℕ) (f g : ℕ → Fe32) → ((i : ℕ) → f i ≡ g i) → tabulate d f ≡ tabulate d g
+tabulate-same zero f g h = refl
+tabulate-same (suc d) f g h =
+    ap (λ (x : Fe32). x ∷ tabulate d (λ i. f (suc i))) (h 0) ∙ ap (λ (xs : List Fe32). g 0 ∷ xs) (tabulate-same d (λ i. f (suc i)) (λ i. g (suc i)) (λ i. h (suc i)))
+
+digits-suc : (d number : ℕ) → digits (suc d) number ≡ digit_of number 0 ∷ digits d (number / 32)
+digits-suc d number = ap (λ (xs : List Fe32). digit_of number 0 ∷ xs) (tabulate-same d (λ i. digit_of number (suc i)) (digit_of (number / 32)) (digit_of-suc number))
+
+lowest : (a b : ℕ) → digit_of a 0 ≡ digit_of b 0 → a % 32 ≡ b % 32
+lowest a b e = let values : (digit_of a 0).value ≡ (digit_of b 0).value = ap (λ (x : Fe32). x.value) e in omega arith
+
+below-part : (d a : ℕ) → a < 2 ^ (5 * suc d) → a / 32 < 2 ^ (5 * d)
+below-part d a h =
+    let place : 5 * suc d ≡ 5 + 5 * d = omega arith in
+    let power : 2 ^ (5 * suc d) ≡ 32 * 2 ^ (5 * d) = ap (λ j. 2 ^ j) place ∙ pow-add 2 5 (5 * d) in
+    let bound : a < 32 * 2 ^ (5 * d) = rw power at h in
+    omega arith
+
+parts : (x y : Fe32) (xs ys : List Fe32) → x ∷ xs ≡ y ∷ ys → (x ≡ y) × (xs ≡ ys)
+parts x y xs ys e = (cc, cc)
+
+-- numbers of the same digits are the same
+pub digits-injective : (d a b : ℕ) → a < 2 ^ (5 * d) → b < 2 ^ (5 * d) → digits d a ≡ digits d b → a ≡ b
+digits-injective zero a b ha hb e = omega arith
+digits-injective (suc d) a b ha hb e =
+    let both = parts (digit_of a 0) (digit_of b 0) (digits d (a / 32)) (digits d (b / 32)) (sym (digits-suc d a) ∙ e ∙ digits-suc d b) in
+    let low : a % 32 ≡ b % 32 = lowest a b both.0 in
+    let high : a / 32 ≡ b / 32 = digits-injective d (a / 32) (b / 32) (below-part d a ha) (below-part d b hb) both.1 in
+    omega arith
+
+module _ {R : Type 0} (number : R → ℕ) (same_number : (x y : R) → number x ≡ number y → x ≡ y) (code : Code) (n d : ℕ) (words : List R) (target : R)
+    (law : code ≡ code_of number n d words target) where
+  pub length-generator : length code.generator ≡ d
+  length-generator = ap (λ (c : Code). length c.generator) law ∙ length-tabulate d _
+
+  pub code_length-is : code.code_length ≡ n
+  code_length-is = ap (λ (c : Code). c.code_length) law
+
+  target-is : code.target ≡ digits d (number target)
+  target-is = ap (λ (c : Code). c.target) law
+
+  -- where the residue is the target
+  pub leaves_target : (residue : R) (p : List Fe32) → residue ≡ target → IsResidueOf number code residue p
+      → IsRemainder fe32.ops code.generator p code.target
+  leaves_target residue p e h =
+      let same : digits (length code.generator) (number residue) ≡ code.target =
+      ap (λ k. digits k (number residue)) length-generator ∙ ap (λ (r : R). digits d (number r)) e ∙ sym target-is in
+      subst (IsRemainder fe32.ops code.generator p) same h
+
+  -- where it is not
+  pub residue_error : (residue : R) (p : List Fe32) (e : InvalidResidueError) → number residue < 2 ^ (5 * d) → number target < 2 ^ (5 * d)
+      → residue ≢ target → IsResidueOf number code residue p
+      → ((i : ℕ) → coefficient fe32.ops e.actual.digits i ≡ digit_of (number residue) i)
+      → ((i : ℕ) → coefficient fe32.ops e.target.digits i ≡ digit_of (number target) i)
+      → IsResidueError code p e
+  residue_error residue p e small small' ne h actual wanted = record {
+    remainder = digits d (number residue);
+    is_remainder = subst (λ k. IsRemainder fe32.ops code.generator p (digits k (number residue))) length-generator h;
+    not_target = λ same. ne (same_number residue target (digits-injective d (number residue) (number target) small small' (same ∙ target-is)));
+    actual = λ i. actual i ∙ sym (coefficient-digits d (number residue) i small);
+    target = λ i. wanted i ∙ sym (coefficient-digits d (number target) i small') ∙ ap (λ (xs : List Fe32). coefficient fe32.ops xs i) (sym target-is);
+  }

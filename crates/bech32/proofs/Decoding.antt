@@ -1,0 +1,76 @@
+-- What a text's parts and its checksum say of the text.
+use Rattle.std.proofs.Common.{◌≡◌, ◌<◌, ◌≤◌, ◌⊎◌, ◌∙◌, ℕ, List, None, Result, Ok, Err, length, refl, sym, ap, subst, arith, ⊎_elim, IfErr}
+use Rattle.std.specs.Result.{IsOkUnless}
+use Rattle.std.specs.Str.{IsUtf8}
+use Rattle.bech32_gf.specs.Fe32.{ops}
+use Rattle.bech32_gf.specs.Fe32Laws.{is_field}
+use Rattle.bech32_gf.specs.declared.gf32.Fe32.{Fe32}
+use Rattle.bech32_poly.specs.Polynomial.{IsSamePolynomial, coefficient}
+use Rattle.bech32_poly.specs.Remainder.{IsRemainder}
+use Rattle.bech32_poly.proofs.Remainder.{remainder_unique}
+use Rattle.bech32_core.specs.Code.{Code, bech32, bech32m}
+use Rattle.bech32.specs.Text.{IsText, text_refusal}
+use Rattle.bech32.specs.Acceptance.{IsAccepted, Accepts}
+use Rattle.bech32.specs.Refusals.{HasValidChecksum, IsChecksumRefusal, IsResidueError, IsRefusedByBoth, IsDecodeRefusal}
+use Rattle.bech32.specs.declared.error.DecodeError.{DecodeError}
+use Rattle.bech32.specs.declared.error.DecodeError.TheVariants.{Parse, Checksum, Memory}
+use Rattle.bech32.specs.declared.primitives.decode.error.ChecksumError.{ChecksumError}
+use Rattle.bech32.specs.declared.primitives.decode.error.ChecksumError.TheVariants.{CodeLength, InvalidLength, InvalidResidue}
+use Rattle.bech32.specs.declared.primitives.decode.error.InvalidResidueError.{InvalidResidueError}
+use Rattle.bech32.proofs.Coefficients.{same_row}
+use Rattle.bech32.proofs.Grammar.{only-from_IsText, text_refusal-none}
+
+pub accepted : (code : Code) (text hrp data_part : List ℕ) → IsText text hrp data_part → HasValidChecksum code (length text) hrp data_part → IsAccepted code text hrp data_part
+accepted code text hrp data_part is h = record { grammar = is; text_length = h.0; data_length = h.1; leaves_target = h.2 }
+
+-- a text that is accepted is so by the parts that it has
+pub valid-from_accepts : (code : Code) (text hrp data_part : List ℕ) → IsText text hrp data_part → Accepts code text → HasValidChecksum code (length text) hrp data_part
+valid-from_accepts code text hrp data_part is a =
+    let (h, d, yes_) = a in
+    let same = only-from_IsText text hrp data_part is h d yes_.grammar.split yes_.grammar.data_bytes in
+    subst (λ (x : List ℕ). HasValidChecksum code (length text) x data_part) same.0
+    (subst (λ (x : List ℕ). HasValidChecksum code (length text) h x) same.1 (yes_.text_length, yes_.data_length, yes_.leaves_target))
+
+-- there is one remainder
+pub one_remainder : (low p r s : List Fe32) → IsRemainder ops low p r → IsRemainder ops low p s → r ≡ s
+one_remainder low p r s a b = remainder_unique is_field low p r a ∙ sym (remainder_unique is_field low p s b)
+
+-- a checksum that refuses is not valid
+pub not_valid : (code : Code) (n : ℕ) (hrp data_part : List ℕ) (e : ChecksumError) → IsChecksumRefusal code n hrp data_part e → HasValidChecksum code n hrp data_part → ⊥
+not_valid code n hrp data_part (CodeLength e) r v = let a : code.code_length < n = r.0 in let b : n ≤ code.code_length = v.0 in absurd (omega arith)
+not_valid code n hrp data_part InvalidLength r v = let a : length data_part < length code.generator = r.1 in let b : length code.generator ≤ length data_part = v.1 in absurd (omega arith)
+not_valid code n hrp data_part (InvalidResidue e) r v = r.2.not_target (one_remainder code.generator _ _ _ r.2.is_remainder v.2)
+
+-- the polynomials of Bech32 and Bech32m differ in the target alone
+pub matches-from_valid : (p : List Fe32) (e : InvalidResidueError) → IsResidueError bech32m p e → IsRemainder ops bech32.generator p bech32.target
+    → IsSamePolynomial ops e.actual.digits bech32.target
+matches-from_valid p e r v n = r.actual n ∙ ap (λ (xs : List Fe32). coefficient ops xs n) (one_remainder bech32m.generator p _ _ r.is_remainder v)
+
+pub valid-from_matches : (p : List Fe32) (e : InvalidResidueError) → IsResidueError bech32m p e → IsSamePolynomial ops e.actual.digits bech32.target
+    → IsRemainder ops bech32.generator p bech32.target
+valid-from_matches p e r same =
+    let row : r.remainder ≡ bech32.target = same_row r.remainder bech32.target r.is_remainder.short (λ n. sym (r.actual n) ∙ same n) in
+    subst (IsRemainder ops bech32.generator p) row r.is_remainder
+
+pub refused_by_both : (text hrp data_part : List ℕ) (e : ChecksumError) → IsText text hrp data_part
+    → IsChecksumRefusal bech32m (length text) hrp data_part e → (HasValidChecksum bech32 (length text) hrp data_part → ⊥) → IsRefusedByBoth text e
+refused_by_both text hrp data_part e is refusal none = record {
+  hrp = hrp;
+  data_part = data_part;
+  grammar = is;
+  refusal = refusal;
+  not_bech32 = λ a. none (valid-from_accepts bech32 text hrp data_part is a);
+}
+
+-- what is accepted is decoded, want of memory aside
+pub decoded-from_refusal : {D : Type 0} (text : List ℕ) → IsUtf8 text → (r : Result D DecodeError) → IfErr r (λ e. IsDecodeRefusal text e)
+    → (Accepts bech32m text ⊎ Accepts bech32 text) → IsOkUnless r Memory
+decoded-from_refusal text u (Ok d) h a = tt
+decoded-from_refusal text u (Err (Parse e)) h a =
+    let none : text_refusal text ≡ None = text_refusal-none text u (⊎_elim (λ (x : Accepts bech32m text). (x.0, x.1, x.2.grammar)) (λ (x : Accepts bech32 text). (x.0, x.1, x.2.grammar)) a) in
+    absurd cc
+decoded-from_refusal text u (Err (Checksum e)) h a =
+    absurd (⊎_elim
+    (λ (x : Accepts bech32m text). not_valid bech32m (length text) h.hrp h.data_part e h.refusal (valid-from_accepts bech32m text h.hrp h.data_part h.grammar x))
+    (λ (x : Accepts bech32 text). h.not_bech32 x) a)
+decoded-from_refusal text u (Err Memory) h a = refl

@@ -1,0 +1,9 @@
+pub mod Letters
+pub mod Texts
+pub mod Grammar
+pub mod Outcomes
+pub mod Coefficients
+pub mod Checksums
+pub mod Decoding
+pub mod Pushed
+pub mod Encoding

@@ -1,0 +1,100 @@
+//! Why a text is not decoded or not written.
+
+use crate::primitives::decode::{ChecksumError, CodeLengthError, UncheckedHrpstringError};
+use std::alloc::AllocError;
+use std::fmt;
+use thiserror::Error;
+
+/// Why a text is not decoded.
+#[derive(Clone, Copy, Debug, PartialEq, Eq, Drop, Error)]
+pub enum DecodeError {
+    /// It is not in the grammar.
+    #[error("parsing failed: {0}")]
+    Parse(UncheckedHrpstringError),
+    /// Neither checksum accepts it; the error is that of Bech32m.
+    #[error("invalid checksum: {0}")]
+    Checksum(ChecksumError),
+    /// There is no memory for the data.
+    #[error("no memory")]
+    Memory,
+}
+
+/// Why a text is not written.
+#[derive(Clone, Copy, Debug, PartialEq, Eq, Drop, Error)]
+pub enum EncodeError {
+    /// It would be longer than the checksum's code.
+    #[error("encoding error: {0}")]
+    TooLong(CodeLengthError),
+    /// The formatter failed.
+    #[error("encode to formatter failed: {0}")]
+    Fmt(fmt::Error),
+    /// There is no memory for the text.
+    #[error("no memory")]
+    Memory,
+}
+
+impl From<UncheckedHrpstringError> for DecodeError {
+    ghost use Rattle.std.specs.Prelude.{◌≡◌};
+    ghost use Rattle.bech32.specs.declared.error.DecodeError.TheVariants.{Parse};
+
+    ghost from_gives = { λ e r. r ≡ Parse e };
+
+    fn from(e: UncheckedHrpstringError) -> Self {
+        Self::Parse(e)
+    }
+}
+
+impl From<ChecksumError> for DecodeError {
+    ghost use Rattle.std.specs.Prelude.{◌≡◌};
+    ghost use Rattle.bech32.specs.declared.error.DecodeError.TheVariants.{Checksum};
+
+    ghost from_gives = { λ e r. r ≡ Checksum e };
+
+    fn from(e: ChecksumError) -> Self {
+        Self::Checksum(e)
+    }
+}
+
+impl From<AllocError> for DecodeError {
+    ghost use Rattle.std.specs.Prelude.{◌≡◌};
+    ghost use Rattle.bech32.specs.declared.error.DecodeError.TheVariants.{Memory};
+
+    ghost from_gives = { λ e r. r ≡ Memory };
+
+    fn from(_e: AllocError) -> Self {
+        Self::Memory
+    }
+}
+
+impl From<CodeLengthError> for EncodeError {
+    ghost use Rattle.std.specs.Prelude.{◌≡◌};
+    ghost use Rattle.bech32.specs.declared.error.EncodeError.TheVariants.{TooLong};
+
+    ghost from_gives = { λ e r. r ≡ TooLong e };
+
+    fn from(e: CodeLengthError) -> Self {
+        Self::TooLong(e)
+    }
+}
+
+impl From<fmt::Error> for EncodeError {
+    ghost use Rattle.std.specs.Prelude.{◌≡◌};
+    ghost use Rattle.bech32.specs.declared.error.EncodeError.TheVariants.{Fmt};
+
+    ghost from_gives = { λ e r. r ≡ Fmt e };
+
+    fn from(e: fmt::Error) -> Self {
+        Self::Fmt(e)
+    }
+}
+
+impl From<AllocError> for EncodeError {
+    ghost use Rattle.std.specs.Prelude.{◌≡◌};
+    ghost use Rattle.bech32.specs.declared.error.EncodeError.TheVariants.{Memory};
+
+    ghost from_gives = { λ e r. r ≡ Memory };
+
+    fn from(_e: AllocError) -> Self {
+        Self::Memory
+    }
+}

@@ -1,0 +1,52 @@
+//! Remainders kept in place.
+
+ghost use Rattle.std.specs.Prelude.{◌≡◌, ◌<◌, ◌*◌, ◌^◌, ℕ, length};
+ghost use Rattle.bech32_gf.specs.Fe32.{ops};
+ghost use Rattle.bech32_poly.specs.Polynomial.{coefficient};
+ghost use Rattle.bech32_core.specs.Packed.{digit_of};
+
+use bech32_core::checksum::PackedFe32;
+use bech32_gf::gf32::Fe32;
+use std::fmt;
+
+// No checksum has a higher degree.
+const MAX_DEGREE: usize = 25;
+
+/// A remainder: its coefficients, the constant term first, with zeros behind them. Two are equal
+/// where their polynomials are.
+#[derive(Clone, Copy, Debug, PartialEq, Eq)]
+pub(crate) struct Residue {
+    digits: [Fe32; MAX_DEGREE],
+    ghost full: { length digits ≡ 25 },
+}
+
+impl Residue {
+    /// The remainder that a packed row of elements stands for.
+    pub(crate) fn new<R: PackedFe32>(packed: &R) -> Residue
+        requires { R.number packed.now < 2 ^ (5 * R.WIDTH) }
+        ensures { (n : ℕ) → coefficient ops result.digits n ≡ digit_of (R.number packed.now) n }
+    {
+        let mut digits = [Fe32::Q; MAX_DEGREE];
+        for i in 0..R::WIDTH {
+            digits[i] = Fe32::from_low_bits(packed.unpack(i));
+        }
+        Residue { digits }
+    }
+}
+
+/// Shows the characters of the coefficients, the highest first, and `q` for zero.
+impl fmt::Display for Residue {
+    fn fmt<W: fmt::Write>(&self, f: &mut fmt::Formatter<W>) -> fmt::Result {
+        let mut is_shown = false;
+        for digit in self.digits.iter().rev() {
+            if is_shown || *digit != Fe32::Q {
+                f.write_char(digit.to_char())?;
+                is_shown = true;
+            }
+        }
+        if !is_shown {
+            f.write_char('q')?;
+        }
+        Ok(())
+    }
+}

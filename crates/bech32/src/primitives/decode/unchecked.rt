@@ -1,0 +1,170 @@
+//! A text whose characters were tested, and its checksum not.
+
+ghost use Rattle.std.specs.Prelude.{◌≡◌, ◌↔◌, ◌<◌, ◌≤◌, ◌-◌, ◌*◌, ◌^◌, ℕ, true, List, length, take, ◌++◌, ◌∷◌, None, Some, MatchResult, MatchOption, IfOk, IsOk};
+ghost use Rattle.std.specs.Char.{IsScalar};
+ghost use Rattle.std.specs.List.{list_any};
+ghost use Rattle.bech32_gf.specs.Alphabet.{is_of_alphabet, is_data};
+ghost use Rattle.bech32_gf.specs.Fe32.{elements_of};
+ghost use Rattle.bech32_core.specs.Code.{IsResidueOf};
+ghost use Rattle.bech32_core.specs.Hrp.{is_lower, is_upper};
+ghost use Rattle.bech32_core.specs.HrpBytes.{hrp_bytes};
+ghost use Rattle.bech32_core.specs.TextPolynomial.{text_polynomial};
+ghost use Rattle.bech32.specs.Refusals.{HasValidChecksum, IsChecksumRefusal};
+ghost use Rattle.bech32.specs.Text.{IsText, IsInGrammar, invalid_character, split_at_last, text_refusal};
+
+use crate::primitives::decode::error::{
+    CharError, ChecksumError, CodeLengthError, InvalidResidueError, UncheckedHrpstringError,
+};
+use crate::primitives::decode::reader::AsciiToFe32Iter;
+use bech32_core::checksum::{Checksum, Engine};
+use bech32_core::hrp::Hrp;
+use bech32_gf::gf32::Fe32;
+
+/// A text in its parts: the human-readable part, and the data part with the checksum in it, which
+/// was not tested. It borrows the text.
+#[derive(Clone, Copy)]
+pub struct UncheckedHrpstring<'s> {
+    hrp: Hrp,
+    data_part_ascii: &'s [u8],
+    hrpstring_length: usize,
+    pub ghost of_alphabet: { is_data data_part_ascii.now ≡ true },
+}
+
+// Whether a lower-case letter stands in a text.
+fn has_lower(s: &str) -> bool
+    ensures { result ≡ list_any is_lower s.now }
+{
+    s.bytes().any(|b| 97 <= b && b <= 122)
+}
+
+// Whether an upper-case letter stands in a text.
+fn has_upper(s: &str) -> bool
+    ensures { result ≡ list_any is_upper s.now }
+{
+    s.bytes().any(|b| 65 <= b && b <= 90)
+}
+
+// Whether a character may stand in a data part.
+fn is_data_character(c: char) -> bool
+    ensures value { result ≡ is_of_alphabet c }
+    ensures scalar { IsScalar c }
+{
+    Fe32::from_char(c).is_ok()
+}
+
+// What stands before the last `1`, where all behind it is of the alphabet.
+fn before_separator(s: &str) -> Result<Option<&str>, CharError>
+    ensures { MatchResult result
+        (λ o. (invalid_character s.now ≡ None) × MatchOption o (split_at_last s.now ≡ None)
+        (λ front. (behind : List ℕ) × (s.now ≡ front.now ++ 49 ∷ behind) × (is_data behind ≡ true) × (split_at_last s.now ≡ Some (front.now, behind))))
+        (λ e. invalid_character s.now ≡ Some e) }
+{
+    let mut front = s.chars();
+    'behind: while let Some(c) = front.next_back() {
+        if c == '1' {
+            return Ok(Some(front.as_str()));
+        }
+        if !is_data_character(c) {
+            return Err(CharError::InvalidChar(c));
+        }
+    }
+    Ok(None)
+}
+
+// The remainder of a text's polynomial, packed.
+fn residue_of<Ck: Checksum>(hrp: Hrp, data_part: &[u8]) -> Ck::MidstateRepr
+    requires { is_data data_part.now ≡ true }
+    ensures residue { IsResidueOf Ck.MidstateRepr.number Ck.code result (text_polynomial (hrp_bytes hrp) (elements_of data_part.now)) }
+    ensures clear { Ck.MidstateRepr.number result < 2 ^ (5 * Ck.CHECKSUM_LENGTH) }
+{
+    let mut engine = Engine::<Ck>::new();
+    engine.input_hrp(hrp);
+    for fe in AsciiToFe32Iter::new(data_part) {
+        engine.input_fe(fe);
+    }
+    *engine.residue()
+}
+
+impl<'s> UncheckedHrpstring<'s> {
+    // A text in its parts, or its first fault.
+    fn read(s: &'s str) -> Result<Self, UncheckedHrpstringError>
+        ensures { MatchResult result
+            (λ u. (text_refusal s.now ≡ None) × (s.now ≡ hrp_bytes u.hrp ++ 49 ∷ u.data_part_ascii.now) × (u.hrpstring_length ≡ length s.now))
+            (λ e. text_refusal s.now ≡ Some e) }
+    {
+        let before = before_separator(s)?;
+        if has_lower(s) && has_upper(s) {
+            return Err(UncheckedHrpstringError::Char(CharError::MixedCase));
+        }
+        let Some(front) = before else {
+            return Err(UncheckedHrpstringError::Char(CharError::MissingSeparator));
+        };
+        let hrp = Hrp::parse(front)?;
+        Ok(UncheckedHrpstring {
+            hrp,
+            data_part_ascii: &s.as_bytes()[front.len() + 1..],
+            hrpstring_length: s.len(),
+        })
+    }
+
+    /// Reads a text, and does not test its checksum.
+    ///
+    /// # Errors
+    ///
+    /// The first fault of the text: a character that is not of the alphabet, letters of both cases,
+    /// no separator, a human-readable part that is none.
+    pub fn new(s: &'s str) -> Result<Self, UncheckedHrpstringError>
+        ensures parts { IfOk result (λ u. IsText s.now (hrp_bytes u.hrp) u.data_part_ascii.now × (u.hrpstring_length ≡ length s.now)) }
+        ensures only { IfOk result (λ u. (h : List ℕ) → (d : List ℕ) → IsText s.now h d → (h ≡ hrp_bytes u.hrp) × (d ≡ u.data_part_ascii.now)) }
+        ensures refused { MatchResult result (λ u. text_refusal s.now ≡ None) (λ e. text_refusal s.now ≡ Some e) }
+        ensures accepts { IsOk result ↔ IsInGrammar s.now }
+    {
+        Self::read(s)
+    }
+
+    /// The human-readable part.
+    pub fn hrp(&self) -> Hrp
+        ensures { result ≡ self.now.hrp }
+    {
+        self.hrp
+    }
+
+    /// Tests the checksum of the data part.
+    ///
+    /// # Errors
+    ///
+    /// The first of: the text is longer than the code; the data part is shorter than the checksum;
+    /// the polynomial of the text does not leave the target as remainder.
+    pub fn validate_checksum<Ck: Checksum>(&self) -> Result<(), ChecksumError>
+        ensures { MatchResult result
+            (λ _. HasValidChecksum Ck.code self.now.hrpstring_length (hrp_bytes self.now.hrp) self.now.data_part_ascii.now)
+            (λ e. IsChecksumRefusal Ck.code self.now.hrpstring_length (hrp_bytes self.now.hrp) self.now.data_part_ascii.now e) }
+    {
+        if self.hrpstring_length > Ck::CODE_LENGTH {
+            return Err(ChecksumError::CodeLength(CodeLengthError {
+                encoded_length: self.hrpstring_length,
+                code_length: Ck::CODE_LENGTH,
+            }));
+        }
+        if self.data_part_ascii.len() < Ck::CHECKSUM_LENGTH {
+            return Err(ChecksumError::InvalidLength);
+        }
+        let residue = residue_of::<Ck>(self.hrp, self.data_part_ascii);
+        if residue != Ck::TARGET_RESIDUE {
+            return Err(ChecksumError::InvalidResidue(InvalidResidueError::new(
+                &residue,
+                &Ck::TARGET_RESIDUE,
+            )));
+        }
+        Ok(())
+    }
+
+    /// The characters of the data part before its last `n`.
+    pub(crate) fn data_before(&self, n: usize) -> &'s [u8]
+        requires { n ≤ length self.now.data_part_ascii.now }
+        ensures value { result.now ≡ take (length self.now.data_part_ascii.now - n) self.now.data_part_ascii.now }
+        ensures of_alphabet { is_data result.now ≡ true }
+    {
+        &self.data_part_ascii[..self.data_part_ascii.len() - n]
+    }
+}

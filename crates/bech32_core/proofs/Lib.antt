@@ -1,0 +1,17 @@
+pub mod AdaptorWalks
+pub mod BitLists
+pub mod Digits
+pub mod HrpInput
+pub mod HrpParts
+pub mod HrpScan
+pub mod HrpTexts
+pub mod Input
+pub mod Known
+pub mod ListSources
+pub mod PartialProduct
+pub mod PlainCuts
+pub mod Residue
+pub mod RoundTrip
+pub mod Target
+pub mod U32
+pub mod Words

@@ -1,0 +1,12 @@
+pub mod Adaptor
+pub mod Bits
+pub mod BytesToFes
+pub mod Code
+pub mod CodeLaws
+pub mod FesToBytes
+pub mod Hrp
+pub mod HrpBytes
+pub mod Marks
+pub mod Packed
+pub mod PackedLaws
+pub mod TextPolynomial

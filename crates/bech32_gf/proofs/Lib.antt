@@ -1,0 +1,3 @@
+pub mod Logarithms
+pub mod Characters
+pub mod Doublings

@@ -1,0 +1,171 @@
+use super::*;
+use std::test::Fail;
+
+// The characters of the elements, in order of their values.
+const LOWER_CASE: &[u8; 32] = b"qpzry9x8gf2tvdw0s3jn54khce6mua7l";
+
+const UPPER_CASE: &[u8; 32] = b"QPZRY9X8GF2TVDW0S3JN54KHCE6MUA7L";
+
+// The constants, in order of their values.
+const ELEMENTS: [Fe32; 32] = [
+    Fe32::Q,
+    Fe32::P,
+    Fe32::Z,
+    Fe32::R,
+    Fe32::Y,
+    Fe32::_9,
+    Fe32::X,
+    Fe32::_8,
+    Fe32::G,
+    Fe32::F,
+    Fe32::_2,
+    Fe32::T,
+    Fe32::V,
+    Fe32::D,
+    Fe32::W,
+    Fe32::_0,
+    Fe32::S,
+    Fe32::_3,
+    Fe32::J,
+    Fe32::N,
+    Fe32::_5,
+    Fe32::_4,
+    Fe32::K,
+    Fe32::H,
+    Fe32::C,
+    Fe32::E,
+    Fe32::_6,
+    Fe32::M,
+    Fe32::U,
+    Fe32::A,
+    Fe32::_7,
+    Fe32::L,
+];
+
+// At place b of row a, the character of a times b. Made twice over and equal: by a reference model
+// written from the definitions alone, and by the Rust crate bech32 0.12.0.
+const PRODUCTS: [&[u8; 32]; 32] = [
+    b"qqqqqqqqqqqqqqqqqqqqqqqqqqqqqqqq",
+    b"qpzry9x8gf2tvdw0s3jn54khce6mua7l",
+    b"qzyxg2vwsj5kc6u7ftd0pr98emal3n4h",
+    b"qrx9v02fcm7a5hj3e6lu4knspz8ydwtg",
+    b"qygvs5cufdp9ea34jk67zx2wmlnht0r8",
+    b"q920537mpytw4sl6z8gdknuerxfvhjac",
+    b"qxv2c75jel4np8dtmah3r90fzywg6uks",
+    b"q8wfumj43klcd2rytv9zhse76a5nxpg0",
+    b"qgscfpe3j6z2mntrd9a4yv5ulh08k7xw",
+    b"qfjmdylk6ngph79va50xsezt8w4u2rc3",
+    b"q257pt4lzgkurfhayws6903mxvjc8dne",
+    b"qtka9wnc2puh0yej5lzf368v74grmsdx",
+    b"qvc5e4pdmhr0zw6kln8tx27jygusa39f",
+    b"qd6has82n7fywr5e0z4cjlg9u3xtpvmk",
+    b"qwuj3ldrt9he65xgkc2y8fm4anp0vzs7",
+    b"q07346tyrvajkeg8xfchnudz92m5slwp",
+    b"qsfejzmtday5l0kx62nrgcp3h87w94vu",
+    b"q3t6k8av95wlnzcf2mpsudhx07y4egjr",
+    b"qjdl6gh9a0sz842cnp7vfmykwur35xet",
+    b"qn0u7d3z4x6ftcyhrsvlawjpk9e2gm85",
+    b"q5p4zkrhys93xj8ngufa27tlvcdew60m",
+    b"q4rkxn9sve062lfucdmw7tag5phzj83y",
+    b"qk9n2u0e5z387gmdphyjtawc4rsxlf6v",
+    b"qh8swef7utmvj94z3xkplgc0d62ar5yn",
+    b"qcepmrz6l8x7yua9h0wkv54dgs3fnt2j",
+    b"qemzlxyahwv4g3n287u9cpr6sftj0k5d",
+    b"q6a8nfw504jguxpm7yredhs23tvkzcl9",
+    b"qmlyhvgn8ucrst05w432ezxafjkd79p6",
+    b"qu3dth6xk28mapvs9e5gwjlrn0z7cyf4",
+    b"qanw0jup7rds3vzl4gxm68f5tkc9yeh2",
+    b"q74trakgxcnd9mswvje8036y25lpfhuz",
+    b"qlhg8cs0w3exfk7purt5myvnjd9642za",
+];
+
+// The powers of the element 20, from 1 on.
+const POWERS_OF_20: &[u8; 31] = b"p529kt3uw8hlmecvxr470na6djfsgyz";
+
+#[test]
+fn constants_by_name_and_value(rt: HostRuntime) {
+    for (value, element) in (0u8..32).zip(ELEMENTS.iter()) {
+        assert_eq!(rt; element.to_u8(), value);
+        assert_eq!(rt; *element, Fe32::from_low_bits(value));
+    }
+}
+
+#[test]
+fn alphabet_in_both_cases(rt: HostRuntime) {
+    for (element, c) in ELEMENTS.iter().zip(LOWER_CASE.iter()) {
+        assert_eq!(rt; element.to_char(), *c as char);
+    }
+    for characters in [LOWER_CASE, UPPER_CASE] {
+        for (element, c) in ELEMENTS.iter().zip(characters.iter()) {
+            assert_eq!(rt; Fe32::from_char(*c as char), Ok(*element));
+        }
+    }
+}
+
+#[test]
+fn unchecked_characters(rt: HostRuntime) {
+    for c in LOWER_CASE.iter().chain(UPPER_CASE.iter()) {
+        let checked = Fe32::from_char(*c as char);
+        assert!(rt; checked.is_ok(), "at {c}");
+        assert_eq!(rt; Ok(Fe32::from_char_unchecked(*c)), checked, "at {c}");
+    }
+}
+
+#[test]
+fn low_bits(rt: HostRuntime) {
+    assert_eq!(rt; Fe32::from_low_bits(0xff), Fe32::L);
+    assert_eq!(rt; Fe32::from_low_bits(0x34), Fe32::_5);
+}
+
+#[test]
+fn other_characters(rt: HostRuntime) -> Result<(), Fail> {
+    for c in ['b', 'i', 'o', '1', 'B', ' ', '\u{7f}'] {
+        assert_eq!(rt; Fe32::from_char(c), Err(FromCharError::Invalid(c)));
+    }
+    for c in ['é', '\u{80}', 'ƀ', '💥'] {
+        assert_eq!(rt; Fe32::from_char(c), Err(FromCharError::NotAscii(c)));
+    }
+    assert_eq!(rt;
+        FromCharError::Invalid('b').to_string(rt.alloc())?.as_str(),
+        "tried to interpret a character as a GF32 element but it is not of the alphabet: b"
+    );
+    assert_eq!(rt;
+        FromCharError::NotAscii('é').to_string(rt.alloc())?.as_str(),
+        "tried to interpret a character as a GF32 element but it is not ASCII: é"
+    );
+    Ok(())
+}
+
+#[test]
+fn all_products(rt: HostRuntime) {
+    for (a, row) in ELEMENTS.iter().zip(PRODUCTS.iter()) {
+        for (b, c) in ELEMENTS.iter().zip(row.iter()) {
+            let product = *a * *b;
+            assert_eq!(rt; product.to_char(), *c as char, "{a:?} times {b:?}");
+            assert_eq!(rt; plain::product(*a, *b), product, "{a:?} times {b:?}");
+        }
+    }
+}
+
+#[test]
+fn powers_of_20(rt: HostRuntime) {
+    let mut power = Fe32::P;
+    for c in POWERS_OF_20.iter() {
+        assert_eq!(rt; power.to_char(), *c as char);
+        power *= Fe32::_5;
+    }
+    assert_eq!(rt; power, Fe32::P);
+}
+
+#[test]
+fn operators(rt: HostRuntime) {
+    assert_eq!(rt; Fe32::_5 + Fe32::F, Fe32::A);
+    assert_eq!(rt; Fe32::L + Fe32::L, Fe32::Q);
+    assert_eq!(rt; Fe32::S * Fe32::Z, Fe32::F);
+    let mut sum = Fe32::_5;
+    sum += Fe32::F;
+    assert_eq!(rt; sum, Fe32::A);
+    let mut product = Fe32::S;
+    product *= Fe32::Z;
+    assert_eq!(rt; product, Fe32::F);
+}

@@ -1,0 +1,5 @@
+pub mod Ring
+pub mod Lists
+pub mod Remainder
+pub mod Appended
+pub mod LongDivision

@@ -1,0 +1,4 @@
+//! Polynomials over the elements.
+#![tactic(auto)]
+
+pub mod polynomial;
