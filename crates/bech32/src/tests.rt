@@ -194,11 +194,24 @@ fn tells_why_a_text_is_not_read(rt: HostRuntime) -> Result<(), Fail> {
     ] {
         assert_eq!(rt; shown(alloc, &error)?.as_str(), message);
     }
-    let of_neither = residue_error("a12uel5q").ok_or("it is accepted")?;
-    assert_eq!(rt;
-        shown(alloc, &ChecksumError::InvalidResidue(of_neither))?.as_str(),
-        "checksum failed: residue 7 did not match target 4usv9r"
-    );
+    for (text, message) in [
+        (
+            "a12uel57",
+            "checksum failed: residue q did not match target 4usv9r",
+        ),
+        (
+            "a12uel5q",
+            "checksum failed: residue 7 did not match target 4usv9r",
+        ),
+        (
+            "a12uel47",
+            "checksum failed: residue pq did not match target 4usv9r",
+        ),
+    ] {
+        let error = residue_error(text).ok_or("it is accepted")?;
+        let refusal = ChecksumError::InvalidResidue(error);
+        assert_eq!(rt; shown(alloc, &refusal)?.as_str(), message);
+    }
     Ok(())
 }
 
