@@ -6,7 +6,8 @@ use Rattle.std.specs.Str.{IsUtf8, is_utf8}
 use Rattle.bech32_core.specs.Bits.{to_fes}
 use Rattle.bech32_core.specs.Code.{Code}
 use Rattle.bech32_core.specs.Hrp.{hrp_refusal}
-use Rattle.bech32.specs.Encoded.{IsEncodedText, encoded_length_of}
+use Rattle.bech32_core.specs.Encoded.{IsEncodedText}
+use Rattle.bech32.specs.Encoded.{encoded_length_of}
 use Rattle.b32.specs.Hex.{bytes_of}
 use Rattle.b32.specs.Request.{Request, request_of}
 use Rattle.b32.specs.Reply.{err, OrNoMemory, IsEncodeAnswer, IsAnswer, IsReply}

@@ -8,7 +8,8 @@ use Rattle.bech32_core.specs.Code.{Code, bech32, bech32m}
 use Rattle.bech32_core.specs.Hrp.{lowered}
 use Rattle.bech32.specs.Acceptance.{IsAccepted, IsDecoded}
 use Rattle.std.specs.Char.{to_ascii_lowercase}
-use Rattle.bech32.specs.Encoded.{IsEncodedText, encoded_length_of, char_of_element}
+use Rattle.bech32_core.specs.Encoded.{IsEncodedText, char_of_element}
+use Rattle.bech32.specs.Encoded.{encoded_length_of}
 use Rattle.b32.specs.Hex.{hex_of}
 
 -- ---- bits

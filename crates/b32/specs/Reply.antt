@@ -6,7 +6,8 @@ use Rattle.bech32_core.specs.Bits.{to_fes}
 use Rattle.bech32_core.specs.Code.{Code}
 use Rattle.bech32_core.specs.Hrp.{lowered, hrp_refusal}
 use Rattle.bech32.specs.Acceptance.{IsDecoded}
-use Rattle.bech32.specs.Encoded.{IsEncodedText, encoded_length_of}
+use Rattle.bech32_core.specs.Encoded.{IsEncodedText}
+use Rattle.bech32.specs.Encoded.{encoded_length_of}
 use Rattle.bech32.specs.Refusals.{IsDecodeRefusal, IsEncodeRefusal}
 use Rattle.bech32.specs.declared.error.DecodeError.{DecodeError}
 use Rattle.bech32.specs.declared.error.EncodeError.{EncodeError}

@@ -5,5 +5,4 @@ pub mod Outcomes
 pub mod Coefficients
 pub mod Checksums
 pub mod Decoding
-pub mod Pushed
 pub mod Encoding

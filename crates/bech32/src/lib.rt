@@ -8,22 +8,21 @@ ghost use Rattle.bech32_core.specs.Bits.{fes_count, to_bytes, to_fes};
 ghost use Rattle.bech32_core.specs.Code.{bech32, bech32m};
 ghost use Rattle.bech32_core.specs.HrpBytes.{hrp_bytes};
 ghost use Rattle.bech32.specs.Acceptance.{Accepts, IsDecoded};
-ghost use Rattle.bech32.specs.Encoded.{IsEncodedText, encoded_length_of};
+ghost use Rattle.bech32_core.specs.Encoded.{IsEncodedText};
+ghost use Rattle.bech32.specs.Encoded.{encoded_length_of};
 ghost use Rattle.bech32.specs.Refusals.{IsDecodeRefusal, IsEncodeRefusal, IsChecksumRefusal, HasValidChecksum};
 
 mod error;
 pub mod primitives;
-mod writing;
 
 use crate::primitives::decode::reader::AsciiToFe32Iter;
 use crate::primitives::decode::unchecked::UncheckedHrpstring;
 use crate::primitives::decode::{ChecksumError, CodeLengthError};
-use crate::writing::{push_data, push_hrp, push_packed};
-use bech32_core::checksum::Engine;
-pub use bech32_core::checksum::{Bech32, Bech32m, Checksum};
+pub use bech32_core::checksum::{Bech32, Bech32m, Checksum, NoChecksum};
 pub use bech32_core::hrp::Hrp;
-use bech32_core::iter::Fe32IterExt;
+pub use bech32_core::iter::{ByteIterExt, Fe32IterExt};
 pub use bech32_gf::gf32::Fe32;
+pub use bech32_gf::gf32_ext::{Fe1024, Fe32768};
 pub use error::{DecodeError, EncodeError};
 use std::alloc::{AllocError, Allocator, Global};
 
@@ -111,13 +110,10 @@ fn text_in<Ck: Checksum, A: Allocator>(
     ensures { IfOk result (λ s. IsEncodedText Ck.code (hrp_bytes hrp) (to_fes «data».now) (string_bytes s)) }
 {
     let mut text = String::with_capacity(alloc, capacity)?;
-    push_hrp(&mut text, &hrp)?;
-    text.push('1')?;
-    let mut engine = Engine::<Ck>::new();
-    engine.input_hrp(hrp);
-    push_data(&mut text, &mut engine, data)?;
-    engine.input_target_residue();
-    push_packed(&mut text, engine.residue(), Ck::CHECKSUM_LENGTH)?;
+    let elements = data.iter().copied().bytes_to_fes();
+    for c in elements.with_checksum::<Ck>(&hrp).chars() {
+        text.push(c)?;
+    }
     Ok(text)
 }
 

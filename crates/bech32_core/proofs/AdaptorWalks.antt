@@ -56,6 +56,15 @@ pulled_two steps s t u q r h k =
 pub pulled_none : {S A : Type 0} (steps : S → Option A → S → Type 0) (s : Fuse S) → PullsUntilEnd steps (fuse_done s) (fuse_source s) [] (fuse_done s) (fuse_source s)
 pulled_none steps s = until_none steps (fuse_done s) (fuse_source s)
 
+-- no call of it, or one, and then a state of the same source
+pub pulled_same : {S A : Type 0} (steps : S → Option A → S → Type 0) (s t : Fuse S) → t ≡ s → PullsUntilEnd steps (fuse_done s) (fuse_source s) [] (fuse_done t) (fuse_source t)
+pulled_same steps s t e = subst (λ u. PullsUntilEnd steps (fuse_done s) (fuse_source s) [] (fuse_done u) (fuse_source u)) (sym e) (pulled_none steps s)
+
+pub pulled_next_same : {S A : Type 0} (steps : S → Option A → S → Type 0) (s t u : Fuse S) (r : Option A) → fuse_steps steps s r t → u ≡ t
+    → PullsUntilEnd steps (fuse_done s) (fuse_source s) (option_to_list r) (fuse_done u) (fuse_source u)
+pulled_next_same steps s t u r h e =
+    subst (λ v. PullsUntilEnd steps (fuse_done s) (fuse_source s) (option_to_list r) (fuse_done v) (fuse_source v)) (sym e) (pulled_next steps s t r h)
+
 -- what may follow t, behind xs, may follow s
 rest_after : {S A : Type 0} (steps : S → Option A → S → Type 0) (a b : Bool) (s t : S) (xs rest : List A) → PullsUntilEnd steps a s xs b t → (b ≡ true → rest ≡ []) → a ≡ true → xs ++ rest ≡ []
 rest_after steps a b s t xs rest h k e =
@@ -147,3 +156,17 @@ module _ {S A U B : Type 0} (steps : S → Option A → S → Type 0) (source : 
   runs s from is fresh p _ at =
       let (xs, b, path, ends, gave) = behind s p.items p.whole fresh (subst (λ k. DrainsIf (Adapts steps source gives) (p.whole ≡ true) k p.items) at (took p)) in
       (run steps (fuse_source (source s)) xs b path, is, (ends, gave))
+
+-- a whole walk, and each run, where what is given of a whole list of items has a property
+module _ {S A U B : Type 0} (steps : S → Option A → S → Type 0) (source : U → Fuse S) (gives : U → List A → List B) (Holds : List A → List B → Type 0) where
+  pub walk_holds : (s : U) (from : S) → fuse_source (source s) ≡ from → fuse_done (source s) ≡ false → ((xs : List A) → Holds xs (gives s xs))
+      → (ys : List B) → Drains (Adapts steps source gives) s ys → (xs : List A) × Drains steps from xs × Holds xs ys
+  walk_holds s from is fresh holds ys d =
+      let (xs, taken, gave) = walk steps source gives s ys fresh d in
+      (xs, subst (λ k. Drains steps k xs) is taken, subst (Holds xs) (sym gave) (holds xs))
+
+  pub runs_hold : (s : U) (from : S) → fuse_source (source s) ≡ from → fuse_done (source s) ≡ false → ((xs : List A) → Holds xs (gives s xs))
+      → EachRunFrom (Adapts steps source gives) s (λ p. SomeRun steps from (λ q. (p.whole ≡ true → q.whole ≡ true) × (p.whole ≡ true → Holds q.items p.items)))
+  runs_hold s from is fresh holds p seen at =
+      let (q, start, (ends, gave)) = runs steps source gives s from is fresh p seen at in
+      (q, start, (ends, λ whole. subst (Holds q.items) (sym (gave whole)) (holds q.items)))

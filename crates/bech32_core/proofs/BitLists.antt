@@ -138,7 +138,7 @@ take-two c h f g b more l k m e =
     ∙ ap (λ (i : ℕ). b ∷ cut_in_eights (bits i g ++ more)) n
 
 -- fewer than eight bits give no byte
-few-bits : (c h : ℕ) → c < 8 → cut_in_eights (bits c h ++ []) ≡ []
+pub few-bits : (c h : ℕ) → c < 8 → cut_in_eights (bits c h ++ []) ≡ []
 few-bits zero h l = refl
 few-bits (suc zero) h l = refl
 few-bits (suc (suc zero)) h l = refl

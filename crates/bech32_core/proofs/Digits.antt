@@ -1,6 +1,6 @@
 -- Rows of digits.
-use Rattle.std.proofs.Common.{◌≡◌, ◌<◌, ◌+◌, ◌-◌, ◌*◌, ◌/◌, ◌%◌, ◌^◌, ℕ, zero, suc, length, get_or, refl, sym, ◌∙◌, ap, arith, bit_xor, mod-lt}
-use Rattle.std.proofs.lemmas.Nat.{xor_shr, xor_mod, field_of, div-mul-add}
+use Rattle.std.proofs.Common.{◌≡◌, ◌<◌, ◌+◌, ◌-◌, ◌*◌, ◌/◌, ◌%◌, ◌^◌, ℕ, zero, suc, length, get_or, refl, sym, ◌∙◌, ap, arith, mod-lt}
+use Rattle.std.proofs.lemmas.Nat.{field_of, div-mul-add}
 use Rattle.std.proofs.Math.Pow.{shr_mod, mod-mod-pow, pow-add, pow_pos}
 use Rattle.std.proofs.Math.Nat.{div-div-eq-div-mul}
 use Rattle.bech32_gf.specs.Fe32 as fe32
@@ -14,10 +14,6 @@ pub get_or-tabulate : {A : Type 0} → (n : ℕ) (f : ℕ → A) (k : ℕ) (d : 
 get_or-tabulate zero f k d h = absurd (omega arith)
 get_or-tabulate (suc n) f zero d h = refl
 get_or-tabulate (suc n) f (suc k) d h = get_or-tabulate n (λ i. f (suc i)) k d (omega arith)
-
-pub digit_of-xor : (a b n : ℕ) → digit_of (bit_xor a b) n ≡ fe32.add (digit_of a n) (digit_of b n)
-digit_of-xor a b n =
-    fe32.path _ _ (ap (λ w. w % 32) (xor_shr a b (5 * n)) ∙ xor_mod (a / 2 ^ (5 * n)) (b / 2 ^ (5 * n)) 5)
 
 pub shifted_lowest : (m e : ℕ) → e < 32 → (digit_of (m * 32 + e) 0).value ≡ e
 shifted_lowest m e h = omega arith

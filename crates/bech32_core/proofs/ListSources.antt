@@ -1,6 +1,6 @@
 -- Adaptors over a source that goes through a list: what is to come of them, and what they have given so far.
 use Rattle.std.proofs.Common.{◌≡◌, Bool, true, false, cond, List, [], ◌∷◌, ◌++◌, length, Option, Some, None, sym, ap, ◌∙◌, refl, true≢false, append-nil}
-use Rattle.std.specs.Iterator.{Yields}
+use Rattle.std.specs.Iterator.{Yields, Drains}
 use Rattle.std.specs.Iterator.Adapters.{fuse_source, fuse_done, copied_source, copied_steps}
 use Rattle.std.specs.Slice.Iter.{iter_rest, iter_steps}
 use Rattle.std.specs.declared.iter.Fuse.{Fuse}
@@ -28,6 +28,11 @@ module _ {S A : Type 0} (steps : S → Option A → S → Type 0) (rest : S → 
   yields-rest : (s : S) (xs : List A) (t : S) → Yields steps s xs t → rest s ≡ xs ++ rest t
   yields-rest s [] t e = ap rest e
   yields-rest s (x ∷ xs) t e = shows s (Some x) e.0 e.1 ∙ ap (λ l. x ∷ l) (yields-rest e.0 xs t e.2)
+
+  -- a whole walk gives what is left
+  pub drains-rest : (s : S) (xs : List A) → Drains steps s xs → rest s ≡ xs
+  drains-rest s xs (u, (t, path, last)) =
+      yields-rest s xs t path ∙ ap (λ l. xs ++ l) (shows t None u last) ∙ append-nil xs
 
   pulled-rest : (a b : Bool) (s t : S) (xs : List A) → PullsUntilEnd steps a s xs b t → cond a [] (rest s) ≡ xs ++ cond b [] (rest t)
   pulled-rest true true s t xs h = sym (append-nil xs ∙ h.0)

@@ -24,7 +24,7 @@ value-if true x y = refl
 value-if false x y = refl
 
 value-power : (n : ℕ) → (power fe32.ops fe32.generator n).value ≡ product_of 2 n
-unfolding product_of
+unfolding power product_of
 value-power zero = refl
 value-power (suc n) = ap (product 2) (value-power n)
 

@@ -15,7 +15,7 @@ use Rattle.bech32_core.proofs.Digits.{length-tabulate}
 -- a residue by the code of packed words is a remainder by the first word's digits
 module _ {R : Type 0} (number : R → ℕ) (code : Code) (code_length degree : ℕ) (words : List R) (target : R)
     (law : code ≡ code_of number code_length degree words target) where
-  same_size : length code.generator ≡ degree
+  pub same_size : length code.generator ≡ degree
   same_size = ap (λ (c : Code). length c.generator) law ∙ length-tabulate degree _
 
   pub remainder_of_residue : (r : R) (p : List Fe32) → IsResidueOf number code r p

@@ -23,13 +23,13 @@ five-back a b c d e p q r s t =
     cc
 
 -- the bits of the elements are the bits that were cut, and up to four zeros
-abbrev IsPadded : List ℕ → List ℕ → Type 0
+abbrev pub IsPadded : List ℕ → List ℕ → Type 0
 IsPadded more less = (k : ℕ) × (k < 5) × (more ≡ less ++ replicate k 0)
 
 abbrev five_bits : ℕ → List ℕ
 five_bits n = bits 5 (n % 32)
 
-fe_bits-cut : (bs : List ℕ) → AreBits bs → IsPadded (fe_bits (cut_in_fives bs)) bs
+pub fe_bits-cut : (bs : List ℕ) → AreBits bs → IsPadded (fe_bits (cut_in_fives bs)) bs
 fe_bits-cut [] h = (0, omega arith, refl)
 fe_bits-cut (a ∷ []) (p, _) = (4, omega arith, ap five_bits (omega arith) ∙ five-back a 0 0 0 0 p (lit< tt) (lit< tt) (lit< tt) (lit< tt))
 fe_bits-cut (a ∷ b ∷ []) (p, (q, _)) = (3, omega arith, ap five_bits (omega arith) ∙ five-back a b 0 0 0 p q (lit< tt) (lit< tt) (lit< tt))
@@ -67,17 +67,17 @@ to_bytes-to_fes bytes h =
 
 -- ---- lengths
 
-length-bits : (k n : ℕ) → length (bits k n) ≡ k
+pub length-bits : (k n : ℕ) → length (bits k n) ≡ k
 length-bits zero n = refl
 length-bits (suc k) n = ap suc (length-bits k n)
 
-length-byte_bits : (bytes : List ℕ) → length (byte_bits bytes) ≡ 8 * length bytes
+pub length-byte_bits : (bytes : List ℕ) → length (byte_bits bytes) ≡ 8 * length bytes
 length-byte_bits [] = refl
 length-byte_bits (b ∷ bytes) =
     let more : length (byte_bits bytes) ≡ 8 * length bytes = length-byte_bits bytes in
     omega arith
 
-length-fe_bits : (fes : List Fe32) → length (fe_bits fes) ≡ 5 * length fes
+pub length-fe_bits : (fes : List Fe32) → length (fe_bits fes) ≡ 5 * length fes
 length-fe_bits [] = refl
 length-fe_bits (x ∷ fes) =
     let more : length (fe_bits fes) ≡ 5 * length fes = length-fe_bits fes in
@@ -93,7 +93,7 @@ length-cut_in_fives (a ∷ b ∷ c ∷ d ∷ e ∷ rest) =
     let more : length (cut_in_fives rest) ≡ (length rest + 4) / 5 = length-cut_in_fives rest in
     omega arith
 
-length-cut_in_eights : (bs : List ℕ) → length (cut_in_eights bs) ≡ length bs / 8
+pub length-cut_in_eights : (bs : List ℕ) → length (cut_in_eights bs) ≡ length bs / 8
 length-cut_in_eights [] = refl
 length-cut_in_eights (a ∷ []) = refl
 length-cut_in_eights (a ∷ b ∷ []) = refl

@@ -13,6 +13,7 @@ module _ (R : Type 0) (number : R → ℕ) (words : List R) (target : R)
   pub word_digit : (i : ℕ) → i < length words → (n : ℕ)
       → digit_of (number (get_or words i target)) n
       ≡ fe32.mul (digit_of (number (get_or words 0 target)) n) (power fe32.ops fe32.generator i)
+  unfolding power
   word_digit zero h n = sym (is_field.mul_one (digit_of (number (get_or words 0 target)) n))
   word_digit (suc i) h n =
       let below : i < length words = omega arith in

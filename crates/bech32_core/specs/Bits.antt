@@ -1,5 +1,5 @@
 -- Regrouping of bits: bytes as elements and back, on whole lists of bits (BIP-173, Segwit address format).
-use Rattle.std.specs.Prelude.{ℕ, zero, suc, ◌+◌, ◌*◌, ◌/◌, List, [], ◌∷◌}
+use Rattle.std.specs.Prelude.{ℕ, zero, suc, ◌+◌, ◌*◌, ◌/◌, Bool, true, false, List, [], ◌∷◌, ◌++◌, replicate}
 use Rattle.std.specs.List.{flat_map}
 use Rattle.std.specs.Int.{bit_at}
 use Rattle.bech32_gf.specs.Fe32.{element}
@@ -33,6 +33,15 @@ cut_in_eights (a ∷ b ∷ c ∷ d ∷ e ∷ f ∷ g ∷ h ∷ rest) =
     (128 * a + 64 * b + 32 * c + 16 * d + 8 * e + 4 * f + 2 * g + h) ∷ cut_in_eights rest
 cut_in_eights _ = []
 
+-- bits cut in eights, with a last part filled with zeros: of seven zeros behind the bits it takes those that it lacks, and the others are dropped
+abbrev pub cut_in_eights_zeropad : List ℕ → List ℕ
+cut_in_eights_zeropad bs = cut_in_eights (bs ++ replicate 7 0)
+
+-- bits cut in eights, with a last part filled with zeros or dropped
+abbrev pub cut_bytes : Bool → List ℕ → List ℕ
+cut_bytes true bs = cut_in_eights_zeropad bs
+cut_bytes false bs = cut_in_eights bs
+
 -- the elements that stand for bytes: their bits in groups of five, padded with zeros (BIP-173, Segwit address format)
 abbrev pub to_fes : List ℕ → List Fe32
 to_fes bytes = cut_in_fives (byte_bits bytes)
@@ -41,6 +50,10 @@ to_fes bytes = cut_in_fives (byte_bits bytes)
 abbrev pub to_bytes : List Fe32 → List ℕ
 to_bytes fes = cut_in_eights (fe_bits fes)
 
+-- the same, where an incomplete group is filled with zeros
+abbrev pub to_bytes_zeropad : List Fe32 → List ℕ
+to_bytes_zeropad fes = cut_in_eights_zeropad (fe_bits fes)
+
 -- how many elements so many held bits and then n bytes give
 abbrev pub fes_count : ℕ → ℕ → ℕ
 fes_count held n = (8 * n + held + 4) / 5
@@ -48,3 +61,12 @@ fes_count held n = (8 * n + held + 4) / 5
 -- how many bytes so many held bits and then n elements give
 abbrev pub bytes_count : ℕ → ℕ → ℕ
 bytes_count held n = (5 * n + held) / 8
+
+-- the most bits that are added to a last part
+abbrev pub filling : Bool → ℕ
+filling true = 7
+filling false = 0
+
+-- the same, where a last part is filled or dropped
+abbrev pub count_bytes : Bool → ℕ → ℕ → ℕ
+count_bytes padded held n = (5 * n + held + filling padded) / 8

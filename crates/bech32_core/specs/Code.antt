@@ -1,5 +1,5 @@
 -- What a checksum is to those who read and write texts.
-use Rattle.std.specs.Prelude.{ℕ, List, [], ◌∷◌, map, length, slice_index_or}
+use Rattle.std.specs.Prelude.{ℕ, ◌-◌, ◌^◌, List, [], ◌∷◌, map, length, slice_index_or}
 use Rattle.bech32_gf.specs.Fe32 as fe32
 use Rattle.bech32_gf.specs.declared.gf32.Fe32.{Fe32}
 use Rattle.bech32_poly.specs.Remainder.{IsRemainder}
@@ -22,6 +22,10 @@ code_of number code_length degree words target = record {
 -- the packed residue is the remainder of p by the generator
 abbrev pub IsResidueOf : {R : Type 0} → (R → ℕ) → Code → R → List Fe32 → Type 0
 IsResidueOf number code residue p = IsRemainder fe32.ops code.generator p (digits (length code.generator) (number residue))
+
+-- no checksum: the generator 1 and the target 0, which have no coefficient below the degree 0; the code length is the greatest usize
+abbrev pub no_checksum : Code
+no_checksum = record { generator = []; target = []; code_length = 2 ^ 64 - 1 }
 
 -- Bech32 (BIP-173, Checksum): the generator x^6 + 29 x^5 + 22 x^4 + 20 x^3 + 21 x^2 + 29 x + 18 and the target 1; the code length is 1023
 abbrev pub bech32 : Code

@@ -1,8 +1,9 @@
--- The laws of a checksum's packed words, by a test.
-use Rattle.std.specs.Prelude.{◌≡◌, ◌<◌, ◌≤◌, ◌*◌, ◌/◌, ◌%◌, ◌^◌, ◌==◌, ◌↔◌, ℕ, zero, suc, List, [], ◌∷◌, Bool, true, Some, IsTrue, slice_get, nat_lt}
+-- The laws of packed rows, and of a checksum's packed words by a test.
+use Rattle.std.specs.Prelude.{◌≡◌, ◌<◌, ◌≤◌, ◌*◌, ◌/◌, ◌%◌, ◌^◌, ◌==◌, ◌↔◌, ℕ, zero, suc, List, [], ◌∷◌, Bool, true, Some, IsTrue, slice_get, nat_lt, bit_xor}
 use Rattle.std.proofs.Common.{refl, sym, ◌∙◌, ap, arith, ◌&&◌, ⊎_elim, subst, eq-eqb, lt_of_lt_of_le}
 use Rattle.std.proofs.lemmas.Bool.{eqb-true, ltb-true, cases_lt}
-use Rattle.std.proofs.Math.Nat.{div-eq_of_lt}
+use Rattle.std.proofs.lemmas.Nat.{xor_shr, xor_mod}
+use Rattle.std.proofs.Math.Nat.{div-eq_of_lt, zero-div}
 use Rattle.std.proofs.Math.Pow.{pow_mono}
 use Rattle.bech32_gf.specs.Below.{each_below, each_below-at, and_left, and_right}
 use Rattle.bech32_gf.specs.Gf32.{product}
@@ -72,3 +73,16 @@ shift d (x ∷ y ∷ words) h (suc i) w v e f n =
 
 pub number_eq : (x y : ℕ) → IsTrue (x == y) ↔ (x ≡ y)
 number_eq x y = (λ h. eqb-true x y h, λ e. eq-eqb x y e)
+
+-- xor adds the digits at each place
+pub xor_digits : (x y r : ℕ) → r ≡ bit_xor x y → (n : ℕ) → digit_of r n ≡ fe32.add (digit_of x n) (digit_of y n)
+xor_digits x y r h n =
+    ap (λ m. digit_of m n) h
+    ∙ fe32.path _ _ (ap (λ w. w % 32) (xor_shr x y (5 * n)) ∙ xor_mod (x / 2 ^ (5 * n)) (y / 2 ^ (5 * n)) 5)
+
+-- a row of zeros is its own product with the generator of the field
+pub zero_shift : (n : ℕ) → digit_of 0 n ≡ fe32.mul (digit_of 0 n) fe32.generator
+unfolding product
+zero_shift n =
+    let e : 0 / 2 ^ (5 * n) ≡ 0 = zero-div (2 ^ (5 * n)) in
+    fe32.path _ _ (rw e refl)

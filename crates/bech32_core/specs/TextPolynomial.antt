@@ -19,3 +19,14 @@ text_polynomial hrp elements = appended (fe32.one ∷ []) (hrp_elements hrp ++ e
 pub record IsChecksumOf (code : Code) (hrp : List ℕ) (elements checksum : List Fe32) : Type 0 where
   pub size : length checksum ≡ length code.generator
   pub leaves_target : IsRemainder fe32.ops code.generator (text_polynomial hrp (elements ++ checksum)) code.target
+
+-- put after elements with no human-readable part, the checksum makes the polynomial of a one and them leave the target
+pub record IsChecksumOfElements (code : Code) (elements checksum : List Fe32) : Type 0 where
+  pub size : length checksum ≡ length code.generator
+  pub leaves_target : IsRemainder fe32.ops code.generator (appended (fe32.one ∷ []) (elements ++ checksum)) code.target
+
+-- the elements, and behind them a checksum of theirs
+pub record EndsInChecksum (IsChecksum : List Fe32 → List Fe32 → Type 0) (elements given : List Fe32) : Type 0 where
+  pub checksum : List Fe32
+  pub is_checksum : IsChecksum elements checksum
+  pub given_is : given ≡ elements ++ checksum

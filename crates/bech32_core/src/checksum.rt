@@ -1,79 +1,41 @@
 //! Checksums of elements: the words that define one, and the engine that computes it.
 
-ghost use Rattle.std.specs.Prelude.{◌≡◌, ◌↔◌, ◌<◌, ◌≤◌, ◌+◌, ◌-◌, ◌*◌, ◌/◌, ◌%◌, ◌^◌, bit_xor, map, reverse, ℕ, List, Some, length, slice_get, suc, IsTrue, ◌∷◌, [], refl};
-ghost use Rattle.std.proofs.Common.{arith};
-ghost use Rattle.std.specs.Mem.{type_size};
+ghost use Rattle.std.specs.Prelude.{◌≡◌, ◌↔◌, ◌<◌, ◌≤◌, ◌*◌, ◌/◌, ◌^◌, map, reverse, ℕ, List, Some, IsTrue, length, slice_get, suc, ◌∷◌, []};
 ghost use Rattle.bech32_gf.specs.declared.gf32.Fe32.{Fe32 as Element};
 ghost use Rattle.bech32_gf.specs.Fe32 as fe32;
 ghost use Rattle.bech32_poly.specs.Polynomial.{appended};
 ghost use Rattle.bech32_core.specs.Hrp.{lowered};
 ghost use Rattle.bech32_core.specs.Packed.{digit_of};
-ghost use Rattle.bech32_core.specs.PackedLaws as packed;
-ghost use Rattle.bech32_core.specs.Code.{Code, code_of, IsResidueOf, bech32, bech32m};
-ghost use Rattle.bech32_core.specs.CodeLaws as codes;
+ghost use Rattle.bech32_core.specs.Code.{Code, code_of, IsResidueOf};
+ghost use Rattle.bech32_core.specs.Roots.{HasLawfulRoots};
 
+mod checksums;
+mod hrp_fes;
+mod packed;
+mod roots;
+
+pub use self::checksums::{Bech32, Bech32m, NoChecksum};
+pub use self::hrp_fes::HrpFe32Iter;
+pub use self::packed::{PackedFe32, PackedNull};
 use crate::hrp::Hrp;
+use bech32_gf::field::ExtensionField;
 use bech32_gf::gf32::Fe32;
 use std::alloc::AllocError;
-use std::ops::BitXor;
-
-/// An integer that packs a row of elements, five bits each, the one of x^0 lowest.
-pub trait PackedFe32: Copy + PartialEq + Eq + BitXor<Self, Output = Self> {
-    // The number whose digits to the base 32 are the row.
-    ghost number: { Self → ℕ };
-
-    ghost ONE: { Self };
-
-    ghost WIDTH: { ℕ };
-
-    /// The row of the constant polynomial 1.
-    const ONE: Self;
-
-    /// The number of elements that fit.
-    const WIDTH: usize;
-
-    /// The value of the element at place `n`, that is the coefficient of x^n.
-    fn unpack(&self, n: usize) -> u8
-        requires { n < WIDTH }
-        ensures value { result ≡ (digit_of (number self.now) n).value }
-        ensures below { result < 32 };
-
-    /// Multiplies the polynomial by x and adds `add` as its constant term. Takes its coefficient of
-    /// x^(degree - 1) out first, and returns that.
-    fn mul_by_x_then_add(&mut self, degree: usize, add: u8) -> u8
-        requires positive { 0 < WIDTH → 0 < degree }
-        requires within { degree ≤ WIDTH }
-        requires clear { number self.old < 2 ^ (5 * degree) }
-        requires in_field { add < 32 }
-        ensures highest { 0 < WIDTH → result ≡ number self.old / 2 ^ (5 * (degree - 1)) }
-        ensures others { 0 < WIDTH
-            → number self.new ≡ (number self.old % 2 ^ (5 * (degree - 1))) * 32 + add }
-        ensures empty { WIDTH ≡ 0 → result ≡ 0 };
-
-    // A value takes 16 bytes at most, and so has 25 elements at most.
-    ghost size_law: { type_size Self.row ≤ 16 };
-
-    ghost wide_law: { WIDTH ≤ 25 };
-
-    ghost one_law: { 0 < WIDTH → number ONE ≡ 1 };
-
-    ghost empty_law: { (x : Self) → WIDTH ≡ 0 → number x ≡ 0 };
-
-    ghost can_bitxor_law: { (x y : Self) → Self.can_bitxor x y };
-
-    ghost bitxor_law: { (x y r : Self) → Self.bitxor_gives x y r
-        → number r ≡ bit_xor (number x) (number y) };
-
-    ghost same_number_law: { (x y : Self) → number x ≡ number y → x ≡ y };
-
-    ghost eq_law: { (x y : Self) → IsTrue (Self.eq x y) ↔ (x ≡ y) };
-}
 
 /// A checksum: a code with a monic generator over the elements, and the remainder that right texts
 /// leave (BIP-173, Checksum).
 pub trait Checksum {
     /// An integer that can hold a remainder by the generator.
     type MidstateRepr: PackedFe32;
+
+    /// The field in which errors are located and their values found.
+    type CorrectionField: ExtensionField<BaseField = Fe32>;
+
+    ghost ROOT_GENERATOR: { Self.CorrectionField };
+
+    ghost ROOT_EXPONENTS_START: { ℕ };
+
+    ghost ROOT_EXPONENTS_END: { ℕ };
 
     ghost CODE_LENGTH: { ℕ };
 
@@ -86,6 +48,15 @@ pub trait Checksum {
     // The generator's lower coefficients, the target and the greatest length.
     ghost code: { Code };
 
+    /// The base whose powers are the roots of the generator that serve to find errors.
+    const ROOT_GENERATOR: Self::CorrectionField;
+
+    /// The exponent of the first of these roots.
+    const ROOT_EXPONENTS_START: usize;
+
+    /// The exponent of the last of them, which is one too.
+    const ROOT_EXPONENTS_END: usize;
+
     /// The greatest number of characters of a text for which the checksum is meant.
     const CODE_LENGTH: usize;
 
@@ -97,6 +68,27 @@ pub trait Checksum {
 
     /// The remainder of a right text, packed.
     const TARGET_RESIDUE: Self::MidstateRepr;
+
+    /// Whether the roots are lawful: the base is not zero, its order is the code length or more, the
+    /// first exponent is not above the last, which is less than the degree above it, and each power
+    /// of the base from the one to the other is a root of the generator. At degree 0 nothing is
+    /// asked of them.
+    ///
+    /// Whoever defines a checksum should call it in a test. That the words agree with one another
+    /// needs none: it is among the laws that each implementation proves.
+    final fn sanity_check() -> bool
+        ensures { IsTrue result ↔ HasLawfulRoots Self.CorrectionField.ops Self.CorrectionField.embed
+            code ROOT_GENERATOR ROOT_EXPONENTS_START ROOT_EXPONENTS_END }
+    {
+        if Self::CHECKSUM_LENGTH == 0 {
+            return true;
+        }
+        let (start, end) = (Self::ROOT_EXPONENTS_START, Self::ROOT_EXPONENTS_END);
+        if end < start || Self::CHECKSUM_LENGTH <= end - start {
+            return false;
+        }
+        roots::order_is_long_enough::<Self>() && roots::powers_are_roots::<Self>()
+    }
 
     ghost width_law: { CHECKSUM_LENGTH ≤ Self.MidstateRepr.WIDTH };
 
@@ -239,129 +231,6 @@ impl<Ck: Checksum> Engine<Ck> {
         self.input_fe(Fe32::Q);
         self.input_low_bits(hrp.as_bytes());
     }
-}
-
-impl PackedFe32 for u32 {
-    ghost number = { λ x. x };
-
-    ghost ONE = { 1 };
-
-    ghost WIDTH = { 6 };
-
-    const ONE: Self = 1;
-
-    const WIDTH: usize = 6;
-
-    #[inline]
-    fn unpack(&self, n: usize) -> u8 {
-        ((*self >> (n * 5)) & 0x1f) as u8
-    }
-
-    #[inline]
-    fn mul_by_x_then_add(&mut self, degree: usize, add: u8) -> u8 {
-        let highest = self.unpack(degree - 1);
-        *self = ((*self & ((1 << ((degree - 1) * 5)) - 1)) << 5) + u32::from(add);
-        highest
-    }
-
-    ghost size_law = { Prim.omega arith };
-
-    ghost wide_law = { Prim.omega arith };
-
-    ghost one_law = { λ _. refl };
-
-    ghost empty_law = { λ x h. Prim.cc };
-
-    ghost can_bitxor_law = { λ x y. tt };
-
-    ghost bitxor_law = { λ x y r h. h };
-
-    ghost same_number_law = { λ x y h. h };
-
-    ghost eq_law = { packed.number_eq };
-}
-
-// The generator of BIP-173, packed, and its products with 2, 4, 8 and 16.
-const WORDS: [u32; 5] = [0x3b6a57b2, 0x26508e6d, 0x1ea119fa, 0x3d4233dd, 0x2a1462b3];
-
-/// The checksum of BIP-173: degree 6, target 1.
-#[derive(Copy, Clone)]
-pub enum Bech32 {}
-
-impl Checksum for Bech32 {
-    type MidstateRepr = u32;
-
-    ghost CODE_LENGTH = { 1023 };
-
-    ghost CHECKSUM_LENGTH = { 6 };
-
-    ghost GENERATOR_SH = { codes.words };
-
-    ghost TARGET_RESIDUE = { 1 };
-
-    ghost code = { bech32 };
-
-    const CODE_LENGTH: usize = 1023;
-
-    const CHECKSUM_LENGTH: usize = 6;
-
-    const GENERATOR_SH: [u32; 5] = WORDS;
-
-    const TARGET_RESIDUE: u32 = 1;
-
-    ghost width_law = { Prim.omega arith };
-
-    ghost empty_law = { λ h. Prim.cc };
-
-    ghost five_law = { refl };
-
-    ghost shift_law = { packed.shift 6 codes.words codes.words_are_shifts };
-
-    ghost words_clear_law = { packed.clear 6 codes.words codes.words_are_shifts };
-
-    ghost target_clear_law = { Prim.omega arith };
-
-    ghost code_law = { codes.bech32_is_packed };
-}
-
-/// The checksum of BIP-350: that of BIP-173 with another target.
-#[derive(Copy, Clone)]
-pub enum Bech32m {}
-
-impl Checksum for Bech32m {
-    type MidstateRepr = u32;
-
-    ghost CODE_LENGTH = { 1023 };
-
-    ghost CHECKSUM_LENGTH = { 6 };
-
-    ghost GENERATOR_SH = { codes.words };
-
-    ghost TARGET_RESIDUE = { 0x2bc830a3 };
-
-    ghost code = { bech32m };
-
-    const CODE_LENGTH: usize = 1023;
-
-    const CHECKSUM_LENGTH: usize = 6;
-
-    const GENERATOR_SH: [u32; 5] = WORDS;
-
-    const TARGET_RESIDUE: u32 = 0x2bc830a3;
-
-    ghost width_law = { Prim.omega arith };
-
-    ghost empty_law = { λ h. Prim.cc };
-
-    ghost five_law = { refl };
-
-    ghost shift_law = { packed.shift 6 codes.words codes.words_are_shifts };
-
-    ghost words_clear_law = { packed.clear 6 codes.words codes.words_are_shifts };
-
-    ghost target_clear_law = { Prim.omega arith };
-
-    ghost code_law = { codes.bech32m_is_packed };
 }
 
 #[cfg(test)]

@@ -3,5 +3,6 @@
 
 pub mod checksum;
 pub mod device;
+pub mod encode;
 pub mod hrp;
 pub mod iter;

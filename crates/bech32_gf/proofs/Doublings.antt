@@ -1,65 +1,122 @@
--- The product by doublings, computed over all values.
-use Rattle.std.proofs.Common.{◌≡◌, ◌≢◌, ◌<◌, ◌≤◌, ◌+◌, ◌*◌, ◌-◌, ◌/◌, ◌^◌, ℕ, ◌==◌, if◌then◌else◌, bit_and, bit_xor, refl, arith, eq-eqb}
-use Rattle.std.proofs.lemmas.Bool.{eqb-true, ne_eqb}
-use Rattle.bech32_gf.specs.Gf32.{product, reduced, shifted_sum}
-use Rattle.bech32_gf.specs.Below.{each_below, each_below-at, each_below-at₂}
+-- Powers by squarings, and multiples by doublings.
+use Rattle.std.proofs.Common.{◌≡◌, ◌+◌, ◌/◌, ◌%◌, ◌≤◌, ◌-◌, ℕ, zero, suc, ℤ, pos, negsuc, true, false, ◌∷◌, refl, sym, ◌∙◌, ap, arith}
+use Rattle.std.specs.Prelude.{Option, Some, None, unsigned_abs}
+use Rattle.std.specs.Option.{SomeIff}
+use Rattle.std.proofs.Math.Dec.{leb-zero}
+use lib.Signed.{le_z}
+use Rattle.bech32_gf.specs.Field.{Ops, IsField, power, multiple, signed_power, signed_multiple}
+use Rattle.bech32_gf.specs.FieldLaws.{power-zero, power-one, power-suc, power-add, multiple-zero, multiple-suc, multiple_mod, one_mul, zero_add}
+use Rattle.bech32_gf.specs.Powers.{multiplied, powers_of, count_with_next}
 
--- the product with 2 of a value whose double has five bits
-pub product-two_low : (a : ℕ) → a * 2 < 32 → a * 2 ≡ product a 2
-unfolding product
-product-two_low a h = eqb-true _ _ (each_below-at 16 (λ a. a * 2 == product a 2) refl a (omega arith))
+module _ {F : Type 0} {o : Ops F} (l : IsField o) where
+  power-square : (x : F) (n : ℕ) → power o (o.mul x x) n ≡ power o x (n + n)
+  power-square x zero = power-zero l (o.mul x x) ∙ sym (power-zero l x)
+  power-square x (suc n) =
+      let e : suc n + suc n ≡ suc (suc (n + n)) = omega arith in
+      rw e
+      (power-suc l (o.mul x x) n ∙ ap (o.mul (o.mul x x)) (power-square x n) ∙ l.mul_assoc x x (power o x (n + n))
+      ∙ ap (o.mul x) (sym (power-suc l x (n + n))) ∙ sym (power-suc l x (suc (n + n))))
 
-from_16 : (m : ℕ) → m < 16 → bit_xor ((m + 16) * 2) 41 ≡ product (m + 16) 2
-unfolding product
-from_16 m h = eqb-true _ _ (each_below-at 16 (λ m. bit_xor ((m + 16) * 2) 41 == product (m + 16) 2) refl m h)
+  -- one step of a power by squarings, at an even and at an odd number
+  pub power_even : (x r : F) (n : ℕ) → n % 2 ≡ 0 → o.mul r (power o (o.mul x x) (n / 2)) ≡ o.mul r (power o x n)
+  power_even x r n even =
+      let e : n / 2 + n / 2 ≡ n = omega arith in ap (o.mul r) (power-square x (n / 2) ∙ ap (power o x) e)
 
--- and of one whose double has six
-pub product-two_high : (a : ℕ) → a < 32 → 32 ≤ a * 2 → bit_xor (a * 2) 41 ≡ product a 2
-product-two_high a ha h =
-    let e : (a - 16) + 16 ≡ a = omega arith in
-    rw e at (from_16 (a - 16) (omega arith))
+  pub power_odd : (x r : F) (n : ℕ) → n % 2 ≡ 1 → o.mul (o.mul r x) (power o (o.mul x x) (n / 2)) ≡ o.mul r (power o x n)
+  power_odd x r n odd =
+      let e : suc (n / 2 + n / 2) ≡ n = omega arith in
+      l.mul_assoc r x (power o (o.mul x x) (n / 2))
+      ∙ ap (λ w. o.mul r (o.mul x w)) (power-square x (n / 2))
+      ∙ ap (o.mul r) (sym (power-suc l x (n / 2 + n / 2)) ∙ ap (power o x) e)
 
--- a shifted by i, reduced
-unfoldable pub shifted : ℕ → ℕ → ℕ
-shifted a i = reduced 5 (a * 2 ^ i)
+  multiple-double : (x : F) (n : ℕ) → multiple o (o.add x x) n ≡ multiple o x (n + n)
+  multiple-double x zero = multiple-zero l (o.add x x) ∙ sym (multiple-zero l x)
+  multiple-double x (suc n) =
+      let e : suc n + suc n ≡ suc (suc (n + n)) = omega arith in
+      rw e
+      (multiple-suc l (o.add x x) n ∙ ap (o.add (o.add x x)) (multiple-double x n) ∙ l.add_assoc x x (multiple o x (n + n))
+      ∙ ap (o.add x) (sym (multiple-suc l x (n + n))) ∙ sym (multiple-suc l x (suc (n + n))))
 
--- the sum of a shifted by each set bit of b below i, reduced
-unfoldable pub partial : ℕ → ℕ → ℕ → ℕ
-partial i a b = reduced 4 (shifted_sum i a b)
+  -- one step of a multiple by doublings, at an even and at an odd number
+  pub multiple_even : (x s : F) (n : ℕ) → n % 2 ≡ 0 → o.add s (multiple o (o.add x x) (n / 2)) ≡ o.add s (multiple o x n)
+  multiple_even x s n even =
+      let e : n / 2 + n / 2 ≡ n = omega arith in ap (o.add s) (multiple-double x (n / 2) ∙ ap (multiple o x) e)
 
-pub shifted-none : (a : ℕ) → a < 32 → a ≡ shifted a 0
-unfolding shifted
-shifted-none a ha = eqb-true _ _ (each_below-at 32 (λ a. a == shifted a 0) refl a ha)
+  pub multiple_odd : (x s : F) (n : ℕ) → n % 2 ≡ 1 → o.add (o.add s x) (multiple o (o.add x x) (n / 2)) ≡ o.add s (multiple o x n)
+  multiple_odd x s n odd =
+      let e : suc (n / 2 + n / 2) ≡ n = omega arith in
+      l.add_assoc s x (multiple o (o.add x x) (n / 2))
+      ∙ ap (λ w. o.add s (o.add x w)) (multiple-double x (n / 2))
+      ∙ ap (o.add s) (sym (multiple-suc l x (n / 2 + n / 2)) ∙ ap (multiple o x) e)
 
-pub shifted-more : (a i : ℕ) → a < 32 → i < 5 → product (shifted a i) 2 ≡ shifted a (i + 1)
-unfolding product shifted
-shifted-more a i ha hi =
-    let at_i = each_below-at 5 (λ i. each_below 32 (λ a. product (shifted a i) 2 == shifted a (i + 1))) refl i hi in
-    eqb-true _ _ (each_below-at 32 (λ a. product (shifted a i) 2 == shifted a (i + 1)) at_i a ha)
+  -- a power is twice its half
+  pub power_half_even : (x y : F) (n : ℕ) → n % 2 ≡ 0 → o.mul (o.mul y (power o x (n / 2))) (power o x (n / 2)) ≡ o.mul y (power o x n)
+  power_half_even x y n even =
+      let e : n / 2 + n / 2 ≡ n = omega arith in
+      l.mul_assoc y (power o x (n / 2)) (power o x (n / 2))
+      ∙ ap (o.mul y) (sym (power-add l x (n / 2) (n / 2)) ∙ ap (power o x) e)
 
-pub partial-none : (a b : ℕ) → 0 ≡ partial 0 a b
-unfolding partial
-partial-none a b = refl
+  pub power_half_odd : (x y : F) (n : ℕ) → n % 2 ≡ 1 → o.mul (o.mul (o.mul y (power o x (n / 2))) (power o x (n / 2))) x ≡ o.mul y (power o x n)
+  power_half_odd x y n odd =
+      let e : (n / 2 + n / 2) + 1 ≡ n = omega arith in
+      ap (λ w. o.mul w x) (l.mul_assoc y (power o x (n / 2)) (power o x (n / 2)) ∙ ap (o.mul y) (sym (power-add l x (n / 2) (n / 2))))
+      ∙ l.mul_assoc y (power o x (n / 2 + n / 2)) x
+      ∙ ap (o.mul y) (ap (o.mul (power o x (n / 2 + n / 2))) (sym (power-one l x)) ∙ sym (power-add l x (n / 2 + n / 2) 1) ∙ ap (power o x) e)
 
--- the step at bit i
-abbrev next : ℕ → ℕ → ℕ → ℕ
-next i a b = if bit_and (b / 2 ^ i) 1 == 1 then bit_xor (partial i a b) (shifted a i) else partial i a b
+  pub power_next : (x : F) (n : ℕ) → o.mul (power o x n) x ≡ power o x (n + 1)
+  power_next x n = ap (o.mul (power o x n)) (sym (power-one l x)) ∙ sym (power-add l x n 1)
 
-partial-next : (i a b : ℕ) → i < 5 → a < 32 → b < 32 → next i a b ≡ partial (i + 1) a b
-unfolding shifted partial
-partial-next i a b hi ha hb =
-    let step = λ (i a b : ℕ). next i a b == partial (i + 1) a b in
-    let at_i = each_below-at 5 (λ i. each_below 32 (λ a. each_below 32 (step i a))) refl i hi in
-    eqb-true _ _ (each_below-at₂ 32 (step i) at_i a b ha hb)
+  -- powers by products, each with the one before
+  pub multiplied-powers : (x : F) (n count : ℕ) → multiplied o x (power o x n) count ≡ powers_of o x n count
+  multiplied-powers x n zero = refl
+  multiplied-powers x n (suc count) =
+      ap (λ ys. power o x n ∷ ys) (ap (λ y. multiplied o x y count) (power_next x n) ∙ multiplied-powers x (n + 1) count)
 
-pub partial-taken : (i a b : ℕ) → i < 5 → a < 32 → b < 32 → bit_and (b / 2 ^ i) 1 ≡ 1
-    → bit_xor (partial i a b) (shifted a i) ≡ partial (i + 1) a b
-partial-taken i a b hi ha hb set = rw (eq-eqb _ _ set) at (partial-next i a b hi ha hb)
+  -- the power by a signed number, from its size
 
-pub partial-left : (i a b : ℕ) → i < 5 → a < 32 → b < 32 → bit_and (b / 2 ^ i) 1 ≢ 1
-    → partial i a b ≡ partial (i + 1) a b
-partial-left i a b hi ha hb clear = rw (ne_eqb _ _ clear) at (partial-next i a b hi ha hb)
+  pub signed_power-from_size : (x : F) (z : ℤ) → le_z (pos 0) z ≡ true → power o x (unsigned_abs z) ≡ signed_power o x z
+  signed_power-from_size x (pos n) h = refl
+  signed_power-from_size x (negsuc n) h = cc
 
-pub partial-all : (i a b : ℕ) → 5 ≤ i → i ≤ 5 → partial i a b ≡ product a b
-unfolding partial product
-partial-all i a b low high = let e : i ≡ 5 = omega arith in rw e refl
+  pub signed_power-from_negative_size : (x : F) (z : ℤ) → le_z (pos 0) z ≡ false → power o (o.inv x) (unsigned_abs z) ≡ signed_power o x z
+  signed_power-from_negative_size x (pos n) h = let t = leb-zero n in cc
+  signed_power-from_negative_size x (negsuc n) h = refl
+
+  pub signed_multiple-from_size : (x : F) (z : ℤ) → le_z (pos 0) z ≡ true → multiple o x (unsigned_abs z) ≡ signed_multiple o x z
+  signed_multiple-from_size x (pos n) h = refl
+  signed_multiple-from_size x (negsuc n) h = cc
+
+  pub signed_multiple-from_negative_size : (x : F) (z : ℤ) → le_z (pos 0) z ≡ false → multiple o (o.neg x) (unsigned_abs z) ≡ signed_multiple o x z
+  signed_multiple-from_negative_size x (pos n) h = let t = leb-zero n in cc
+  signed_multiple-from_negative_size x (negsuc n) h = refl
+
+  -- where the loops begin
+
+  pub power_begins : (r first y : F) (n size : ℕ) → first ≡ o.one → n ≡ size → power o y size ≡ r → o.mul first (power o y n) ≡ r
+  power_begins r first y n size is_one same e =
+      ap (λ w. o.mul w (power o y n)) is_one ∙ one_mul l (power o y n) ∙ ap (power o y) same ∙ e
+
+  pub multiple_begins : (r first y : F) (n size p q : ℕ) → first ≡ o.zero → n ≡ size → q ≡ p → multiple o o.one p ≡ o.zero
+      → multiple o y size ≡ r → o.add first (multiple o y (n % q)) ≡ r
+  multiple_begins r first y n size p q is_zero same char none e =
+      ap (λ w. o.add w (multiple o y (n % q))) is_zero ∙ zero_add l (multiple o y (n % q))
+      ∙ ap (λ k. multiple o y (n % k)) char ∙ multiple_mod l y n p none ∙ ap (multiple o y) same ∙ e
+
+  -- where they end
+
+  pub power_ends : (r product y : F) (left : ℕ) → left ≤ 0 → o.mul product (power o y left) ≡ r → product ≡ r
+  power_ends r product y left none e =
+      let nothing : left ≡ 0 = omega arith in
+      sym (l.mul_one product) ∙ ap (o.mul product) (sym (power-zero l y) ∙ ap (power o y) (sym nothing)) ∙ e
+
+  pub multiple_ends : (r sum y : F) (left : ℕ) → left ≤ 0 → o.add sum (multiple o y left) ≡ r → sum ≡ r
+  multiple_ends r sum y left none e =
+      let nothing : left ≡ 0 = omega arith in
+      sym (l.add_zero sum) ∙ ap (o.add sum) (sym (multiple-zero l y) ∙ ap (multiple o y) (sym nothing)) ∙ e
+
+-- one fewer follows each item
+pub count_with_next-after : (more : ℕ) (after : Option ℕ) → SomeIff after (1 ≤ more) (more - 1) → count_with_next after ≡ more
+count_with_next-after zero None h = refl
+count_with_next-after zero (Some n) h = absurd (omega arith)
+count_with_next-after (suc more) None h = absurd (h (omega arith))
+count_with_next-after (suc more) (Some n) h = let e : n ≡ suc more - 1 = h.1 in omega arith

@@ -1,8 +1,8 @@
--- The product by logarithms, computed over all values.
-use Rattle.std.proofs.Common.{◌≡◌, ◌≢◌, ◌<◌, ◌+◌, ◌%◌, ℕ, zero, suc, ◌==◌, get_or, refl, arith}
+-- The product and the quotient by logarithms, computed over all values.
+use Rattle.std.proofs.Common.{◌≡◌, ◌≢◌, ◌<◌, ◌+◌, ◌-◌, ◌%◌, ℕ, zero, suc, ◌==◌, get_or, refl, arith}
 use Rattle.std.proofs.lemmas.Bool.{eqb-true, ltb-true}
 use Rattle.std.specs.Prelude.{nat_lt}
-use Rattle.bech32_gf.specs.Gf32.{product}
+use Rattle.bech32_gf.specs.Gf32.{product, product_of, inverse}
 use Rattle.bech32_gf.specs.Below.{each_below-at, each_below-at₂}
 use Rattle.bech32_gf.specs.declared.gf32.TheConstants.{LOG, POWERS}
 
@@ -30,3 +30,14 @@ zero-product b hb = eqb-true _ _ (each_below-at 32 (λ b. 0 == product 0 b) refl
 pub product-zero : (a : ℕ) → a < 32 → 0 ≡ product a 0
 unfolding product
 product-zero a ha = eqb-true _ _ (each_below-at 32 (λ a. 0 == product a 0) refl a ha)
+
+-- the quotient by logarithms
+abbrev by_log_difference : ℕ → ℕ → ℕ
+by_log_difference a b = get_or POWERS ((31 + get_or LOG a 0 - get_or LOG b 0) % 31) 0
+
+pub quotient_by_logs : (a b : ℕ) → a < 32 → b < 32 → a ≢ 0 → b ≢ 0 → by_log_difference a b ≡ product a (inverse b)
+unfolding product product_of inverse
+quotient_by_logs zero b ha hb na nb = absurd (omega arith)
+quotient_by_logs (suc m) zero ha hb na nb = absurd (omega arith)
+quotient_by_logs (suc m) (suc n) ha hb na nb =
+    eqb-true _ _ (each_below-at₂ 31 (λ m n. by_log_difference (suc m) (suc n) == product (suc m) (inverse (suc n))) refl m n (omega arith) (omega arith))

@@ -5,7 +5,13 @@ ghost use Rattle.std.specs.Prelude.{◌≡◌, ◌≢◌, ◌<◌, ◌≤◌, �
 ghost use Rattle.bech32_gf.specs.Gf32.{product};
 ghost use Rattle.bech32_gf.specs.Alphabet.{is_of_alphabet, value_of, char_of};
 
-use std::ops::{Add, AddAssign, Mul, MulAssign};
+mod alphabetical;
+mod conversions;
+mod fields;
+mod operators;
+
+pub use alphabetical::AlphaIter;
+pub use conversions::TryFromError;
 use thiserror::Error;
 
 pub mod plain;
@@ -245,54 +251,6 @@ impl Fe32 {
         Fe32 {
             value: product_by_logs(self.value, other.value),
         }
-    }
-}
-
-impl Add<Fe32> for Fe32 {
-    ghost use Rattle.std.specs.Prelude.{◌≡◌};
-    ghost use Rattle.bech32_gf.specs.Fe32.{add};
-
-    type Output = Fe32;
-
-    ghost add_gives = { λ x y r. r ≡ add x y };
-
-    fn add(self, rhs: Fe32) -> Fe32 {
-        self.sum_with(rhs)
-    }
-}
-
-impl AddAssign<Fe32> for Fe32 {
-    ghost use Rattle.std.specs.Prelude.{◌≡◌};
-    ghost use Rattle.bech32_gf.specs.Fe32.{add};
-
-    ghost add_assign_gives = { λ x y r. r ≡ add x y };
-
-    fn add_assign(&mut self, rhs: Fe32) {
-        *self = self.sum_with(rhs);
-    }
-}
-
-impl Mul<Fe32> for Fe32 {
-    ghost use Rattle.std.specs.Prelude.{◌≡◌};
-    ghost use Rattle.bech32_gf.specs.Fe32.{mul};
-
-    type Output = Fe32;
-
-    ghost mul_gives = { λ x y r. r ≡ mul x y };
-
-    fn mul(self, rhs: Fe32) -> Fe32 {
-        self.product_with(rhs)
-    }
-}
-
-impl MulAssign<Fe32> for Fe32 {
-    ghost use Rattle.std.specs.Prelude.{◌≡◌};
-    ghost use Rattle.bech32_gf.specs.Fe32.{mul};
-
-    ghost mul_assign_gives = { λ x y r. r ≡ mul x y };
-
-    fn mul_assign(&mut self, rhs: Fe32) {
-        *self = self.product_with(rhs);
     }
 }
 

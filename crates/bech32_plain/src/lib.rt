@@ -5,7 +5,7 @@
 ghost use Rattle.std.specs.Prelude.{◌↔◌, IfOk, IsTrue};
 ghost use Rattle.bech32_core.specs.HrpBytes.{hrp_bytes};
 ghost use Rattle.bech32.specs.Acceptance.{Accepts};
-ghost use Rattle.bech32.specs.Encoded.{IsEncodedText};
+ghost use Rattle.bech32_core.specs.Encoded.{IsEncodedText};
 ghost use Rattle.bech32_plain.specs.PlainChecksum.{code_of_name};
 
 mod checksum;

@@ -1,21 +1,30 @@
-use Rattle.std.proofs.Common.{◌∙◌, ◌++◌, ℕ, map, reverse, ap, arith, string_bytes}
-use Rattle.bech32_core.specs.HrpBytes.{hrp_bytes}
+use Rattle.std.proofs.Common.{◌∙◌, ◌++◌, ◌<◌, ap, option_to_list, subst, sym}
+use Rattle.std.specs.Prelude.{IfSome}
+use Rattle.std.specs.Iterator.{Drains}
+use Rattle.std.specs.Iterator.Adapters.{copied_steps}
+use Rattle.std.specs.Slice.Iter.{iter_rest, iter_steps}
+use Rattle.bech32_core.specs.Adaptor.{Adapts}
 use Rattle.bech32_core.specs.Bits.{to_fes}
-use Rattle.bech32_core.specs.Packed.{digits}
-use Rattle.bech32.specs.Encoded.{char_of_element}
-use Rattle.bech32.proofs.Encoding.{encoded, pushed_text}
+use Rattle.bech32_core.specs.BytesToFes.{fes_gives, fes_source}
+use Rattle.bech32_core.specs.Encoded.{text_from}
+use Rattle.bech32_core.specs.HrpBytes.{hrp_bytes}
+use Rattle.bech32_core.proofs.ListSources.{ShowsRest-copied, copied_rest, drains-rest}
+use Rattle.bech32.proofs.Encoding.{Drains-by_calls, IsEncodedText-same}
 use Rattle.bech32.proofs.text_in.Goals as goal
 
 pub returns : goal.returns
 returns g c =
-    let k = g.Ck.Checksum in
-    let r = g.Ck.MidstateRepr.PackedFe32 in
-    let same_number = g.met.Ck.MidstateRepr.PackedFe32.same_number_law in
-    let law = g.met.Ck.Checksum.code_law in
-    encoded r.number same_number k.code k.CODE_LENGTH k.CHECKSUM_LENGTH k.GENERATOR_SH k.TARGET_RESIDUE law (hrp_bytes c.args.hrp) (to_fes c.args.data.now)
-    c.input_target_residue.new.self.residue (string_bytes c.push_packed.new.text)
-    (c.input_target_residue.ensures _ (c.in_ok-push_data.ensures.residue _ (c.input_hrp.ensures _ c.new-engine.ensures)))
-    (pushed_text _ _ _ _ _ _ _ _ _ c.in_ok-text.ensures.bytes c.in_ok-push_hrp.ensures c.in_ok-push.ensures.bytes (c.push.ensures.ascii (omega arith)) c.in_ok-push_data.ensures.text
-    (c.in_ok-push_packed.ensures
-    ∙ ap (λ (n : ℕ). string_bytes c.push_data.new.text ++ map char_of_element (reverse (digits n (r.number c.residue.result.now)))) c.CHECKSUM_LENGTH.ensures
-    ∙ ap (λ (x : _). string_bytes c.push_data.new.text ++ map char_of_element (reverse (digits k.CHECKSUM_LENGTH (r.number x)))) c.residue.ensures))
+    let encoder = c.with_checksum.ensures in
+    let start = c.into_iter-c-iterator.ensures.into_iter_gives in
+    let read_steps = Adapts (copied_steps iter_steps) fes_source fes_gives in
+    let walk = Drains-by_calls start
+    (λ s r t. Adapts (Adapts read_steps (λ w. w.elements) (λ w xs. option_to_list w.version ++ xs))
+    (λ u. u.checksummed.elements)
+    (λ u xs. text_from g.Ck.MidstateRepr.PackedFe32.number g.Ck.Checksum.code u.hrp.now u.place u.checksummed.engine.residue u.checksummed.tail xs) s r t
+    × IfSome r (λ b. b < 128))
+    c.loop-c.yielded c.loop-c.yielded_by c.in-None.ensures.steps in
+    let (xs, taken, text) = c.chars-c-items.ensures.walk c.loop-c.yielded walk in
+    let (bytes, read, fes) = c.bytes_to_fes-elements.ensures.walk xs (subst (λ s. Drains (Adapts (copied_steps iter_steps) fes_source fes_gives) s xs) encoder.elements taken) in
+    let given = drains-rest (copied_steps iter_steps) copied_rest ShowsRest-copied c.copied.result bytes read in
+    let items = sym given ∙ ap iter_rest c.copied.ensures.source ∙ c.iter.ensures.rest in
+    IsEncodedText-same g.Ck.Checksum.code _ _ _ _ _ _ (ap hrp_bytes encoder.hrp) (ap (λ v. option_to_list v ++ xs) encoder.version ∙ fes ∙ ap to_fes items) (sym c.loop-c.invariant) text

@@ -5,7 +5,6 @@ use Rattle.std.proofs.lemmas.Nat.{xor_lt}
 use Rattle.bech32_gf.specs.Fe32 as fe32
 use Rattle.bech32_gf.specs.Fe32Laws.{is_field}
 use Rattle.bech32_core.specs.Packed.{digit_of}
-use Rattle.bech32_core.proofs.Digits.{digit_of-xor}
 use Rattle.bech32_core.proofs.Words.{word_digit}
 use Rattle.bech32_core.proofs.Residue.{remainder_of_residue, residue_of_remainder}
 use Rattle.bech32_core.proofs.Input.{added, kept, input_result, clear_after}
@@ -44,10 +43,11 @@ loop-i-preserved g c = elim c.if-xn-i-eq1.branch [
         clear = rw total (xor_lt (5 * g.Ck.Checksum.CHECKSUM_LENGTH) _ _ c.loop-i.invariant.clear (g.met.Ck.Checksum.words_clear_law i (get_or words i target) (slice_get-get_or words i target here)));
         digits = λ n.
             let first = digit_of (number (get_or words 0 target)) n in
-            ap (λ m. digit_of m n) total
-            ∙ (digit_of-xor (number c.loop-i.residue) (number (get_or words i target)) n
+            ap (λ x. digit_of (number x) n) w.residue-is
+            ∙ (g.met.Ck.MidstateRepr.PackedFe32.sum_law c.loop-i.residue read w.bitxor-residue.result w.bitxor-residue.ensures n
+            ∙ (ap (λ x. fe32.add (digit_of (number c.loop-i.residue) n) (digit_of (number x) n)) word
             ∙ (ap (λ x. fe32.add (digit_of (number c.loop-i.residue) n) x) (word_digit _ number words target g.met.Ck.Checksum.shift_law i here n)
-            ∙ added i c.mul_by_x_then_add-xn.result (digit_of (number c.mul_by_x_then_add-xn.new.self) n) (digit_of (number c.loop-i.residue) n) first w.if-xn-i-eq1.true (c.loop-i.invariant.digits n)));
+            ∙ added i c.mul_by_x_then_add-xn.result (digit_of (number c.mul_by_x_then_add-xn.new.self) n) (digit_of (number c.loop-i.residue) n) first w.if-xn-i-eq1.true (c.loop-i.invariant.digits n))));
       }
   | else-xn-i-eq1 w ↦ rw w.residue-is (record {
     clear = c.loop-i.invariant.clear;

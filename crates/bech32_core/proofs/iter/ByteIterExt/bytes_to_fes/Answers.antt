@@ -2,7 +2,11 @@ use Rattle.std.proofs.Common.{subst}
 use Rattle.std.specs.Iterator.{Drains}
 use Rattle.bech32_core.specs.BytesToFes.{fes_source, fes_gives}
 use Rattle.bech32_core.proofs.AdaptorWalks.{walk, runs}
+use Rattle.bech32_core.proofs.RoundTrip.{to_bytes-to_fes}
 use Rattle.bech32_core.proofs.iter.ByteIterExt.bytes_to_fes.Goals as goal
+
+pub returns-clause-back : goal.returns-clause-back
+returns-clause-back g c bytes h = to_bytes-to_fes bytes h
 
 pub returns-clause-walk : goal.returns-clause-walk
 returns-clause-walk g c fes d =

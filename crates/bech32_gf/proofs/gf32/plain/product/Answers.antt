@@ -1,7 +1,7 @@
 use Rattle.std.proofs.Common.{◌∙◌, ap}
 use Rattle.bech32_gf.specs.Fe32.{path, mul}
 use Rattle.bech32_gf.specs.declared.gf32.Fe32.{Fe32}
-use Rattle.bech32_gf.proofs.Doublings.{shifted-none, shifted-more, partial-none, partial-taken, partial-left, partial-all}
+use Rattle.bech32_gf.proofs.PlainProduct.{shifted-none, shifted-more, partial-none, partial-taken, partial-left, partial-all}
 use Rattle.bech32_gf.proofs.gf32.plain.product.Goals as goal
 use Rattle.bech32_gf.proofs.gf32.plain.product.Goals.{then-b-i-eq1, else-b-i-eq1}
 

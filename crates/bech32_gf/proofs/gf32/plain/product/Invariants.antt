@@ -1,5 +1,5 @@
 use Rattle.std.proofs.Common.{◌≡◌}
-use Rattle.bech32_gf.proofs.Doublings.{partial, shifted}
+use Rattle.bech32_gf.proofs.PlainProduct.{partial, shifted}
 use Rattle.bech32_gf.proofs.gf32.plain.product.Given as goal
 
 abbrev pub invariant-loop-i : goal.invariant-loop-i

@@ -1,0 +1,88 @@
+//! Rows on the checksum of codex32.
+//!
+//! The human-readable part, the elements, those of the checksum. `-` stands for nothing.
+
+// Made twice over and equal: by a reference model written from the definitions alone, and by the
+// Rust crate bech32 0.12.0.
+pub(super) const ROWS: &[u8] = b"\
+    ms\tzwzuh2yr248hkatd2xm2gn9a5y0fgyy5\thzha5nyumkhs9\n\
+    ms\ttfpp\tcu2e77uvfqz7d\n\
+    ms\tyx8hxe4rx3tlpf6r4v3ncmrsapytns\t5puxazwfmtvs7\n\
+    ms\ts9tuu7ut43md\tcld32fmvz6lxr\n\
+    ms\t-\tpg7d74n5v8xrz\n\
+    ms\tc85z72ng8fvxes5g9f8yqk9aqhmj7sqtg6l5s6st4nrm2k\tdr9ar4kry3qep\n\
+    ms\t2n99symkrp8wla55unn8nyasyj4jqdf7heqz\tdud8hesmq7xdl\n\
+    ms\tdykjpdtg3xckkhgl4swqwer5sxsvz7qz\ttr9seetfdffgy\n\
+    ms\t868w3k09v95h2ay07qt6047df8cjcsh3gdjzjtmc\tjnpwl5v2ppys8\n\
+    ms\tdvm2g3r07cw7ds5x93ng5y9xguc4c\tdrsumm79mqh08\n\
+    ms\tlal43szprre7v646m42k0fjzuqq5d2uc\tnhd680xwuc2ea\n\
+    ms\tk\tuv6484wmk03jp\n\
+    ms\t9s5ewlr6nr84vtk727enc7hm6kqn3rk6t6j3pkfmukha6u276hda\t6qwlssr6gmrhw\n\
+    ms\tvucryd45wd4tfa597l5zlsdn0v89mv64\tpchrzkx3rtt9y\n\
+    ms\tfcs44\t8nnarshrqvvsf\n\
+    ms\ta0kvsepn8522u6u7h5z86u3ed4g6qeps4u4vznx0mykrt6mrp6sgm0\tnmhshmux6ry2e\n\
+    ms\tt0vf589kd5jj67sayteauwapytg7rrc2\tykfhhkrnp4c07\n\
+    ms\th3\tpas57n6udy3cc\n\
+    ms\teycmkp5msdt7azgng\ttd2pwrxehf7er\n\
+    ms\tte646vtzsfsf0yrrjczn7yh0tph\tts998097n7pl3\n\
+    ms\t7\tttl88zevcgwlv\n\
+    ms\trdyx5sd5vv20azp2zf\t6v967uyy6fl3t\n\
+    ms\tnq5l\tqeasxlzfmmy0y\n\
+    ms\tkru6h5452pwq7f5vkg60sw9wu7v90p6s\tt45llcu66xf8v\n\
+    ms\t8t9y3\t8mm4d50005zsq\n\
+    ms\t78lcvp70963hjlkrezn9n7eugyf208gfjlx59\tengnfhy9fdzca\n\
+    ms\tda8qtmr6893a8zmkusenuryesm848l93\tx8dk33sks5c0g\n\
+    ms\tewc\t0xvu6f7jfky2u\n\
+    ms\t4wqcre\t2j7xnu5rfr7kj\n\
+    ms\tpgwej3trwcptns8gzku69wht6vk68899\thuua26s93hhda\n\
+    ms\ts34g\t4lnxp00lmjay0\n\
+    ms\t9t55cvz6v2pgx5p22kchj3zkfmle43u9g4p97jhg5n4r2nk3d5xe7x8\tqed9kgppc8fkr\n\
+    ms\tnxxxwqep3ns30yn7m6rcl4awu7l0tdy6\tsmlsnrqyujru7\n\
+    ms\tjg4nzp\tw3gz7sc82fr9p\n\
+    ms\tsh5xw2ulswkmz9eqg8a48xsha374he6\t8qq6gqakt6e8z\n\
+    ms\t4w76d\tqrk8870hd6ju2\n\
+    ms\t-\tpg7d74n5v8xrz\n\
+    ms\t0xppykkjgu0uzxl\ttwnp8wtwqg3x7\n\
+    ms\t6htlht8zhwa8ddjraslen0t\tlewwpdqyk6c7h\n\
+    ms\tyc7skr636racpvna2sg5x3tquv09l49w\tzzgy8ux4w5yl2\n\
+    ms\tuzhk35dpcjmz6n87skxqsugvyvwy06g73p34\tfu43e5qkuuwpk\n\
+    ms\tg\tgdgn8p605wm7d\n\
+    ms\tfsmtx2r43mkuv996azuw6fdfxvjwzh4f\te546wkg7srley\n\
+    ms\tlm7x\tqyewx06t778ut\n\
+    ms\tmawdnfavdga8zzcyjgn2s0t2hlf83jdhkpmyz9hxsue4wrwn08k\tg3mrcygp5fv3y\n\
+    ms\te5hx5qszf5latcfqnvft0apr68kp9ap9\t3rq89mxd9qek7\n\
+    ms\tz6\t0gjkl7h5kg0yu\n\
+    ms\tk5zfvvqr4jmrga\tnccdkqlae6dzt\n\
+    ms\t938fgkegqjdtc67ynaluuvstl6avv5qn\te6e2r5fwtfdly\n\
+    ms\t9sn\tkgketdq6fl45g\n\
+    ms\t90rdwcytgst5v37gx9c3plnnax9vgd6lljm5zfj6jedm\twv8ewty6gkprp\n\
+    ms\tchk5xp7svzaynzgd83wdm3egstt33d7knhy8hmu2v2cgeaees4u\tr08lqhz5h7gk9\n\
+    ms\tgk3re\trjtydah4xs4n5\n\
+    ms\tj24v4dch5wzwhp0q6tsarxgwfyhq2nnv8zvqc\tcvacfaztunath\n\
+    ms\tcan7klhrf5h8kl0f7nhx7aah2cfvuxvls63t80zz3wqyer68qrwu8hhc\t2qmm9w6m8pe8f\n\
+    ms\t67tmjn9hvlws5pxy78q0qlsdzncn65vc\t3pdmsl4c65mlp\n\
+    ms\t2enmtghtxe45d6wz7\t8n6ctcnsfzk70\n\
+    ms\tws0gnu2uv23xdch0ckv82p4rpsxm\tfffz8u4zsw6gc\n\
+    ms\t3ldjl58cmwwxcw5mxj5uw0qjtmfjvax4\ty73e97c6un50l\n\
+    ms\tr\tawhe8506jd92e\n\
+    ms\tvp6wvhxx88pw5t2fug\t3vf542nzez3ph\n\
+    ms\tx9rkmsx86exavzufkkvs0vfrelh7shyv\twhaudnlzd3zkt\n\
+    ms\th5pt78\t3ljmgeg4y3m90\n\
+    ms\tm0rrnn6kjvw2tn\tskegwp7y86au3\n\
+    ms\tkq3xttf3drct4g3kmesa4jwwtmq2dmy2\t5g06mje8svc5e\n\
+    ms\t-\tpg7d74n5v8xrz\n\
+    ms\t6c075rxzaagmj2vsv9kp3spp049x\teh5yl626vsywz\n\
+    ms\tmj5kfzgm6shh6a9nqmueye\tdwta8yk0t5439\n\
+    ms\tkz8k\t7z97l3q50exgr\n\
+    ms\tpnn6vwj362r52mrnher024spfynyj54yn9wnxv3tml\tk74uy5cvxzadt\n\
+    ms\t798jahx60lum3nvzwmzsy46pe3h05cqff3qggxp9fwwyw8dd4nn4xna39\teuk5kpscfu0at\n\
+    ms\trcwkr47t28ga7vjhzcznpn3ae0lmf9cz\tpaz3uqysm2u88\n\
+    ms\tpj30u6k8qvdw2frt\ta8qd2gwghax59\n\
+    ms\tms53dup5pcahfng7mg2y306nvqmfzudw584wjtcwcmkk272nxvkmrwm\t0dcphcpszeczd\n\
+    ms\tk44me2lvgh7sxg9klmhs0fv2j6s63tne\t9jfhl7h2vncwl\n\
+    ms\tw7vaxz\t3mnvaqzjhxyp9\n\
+    ms\t5zglt\trqyx9q4u0ymmp\n\
+    ms\t2cggzvfn2nck5aj0mfzq2z266nk2nla2\twfl3tucxrqnvh\n\
+    ms\t-\tpg7d74n5v8xrz\n\
+    ms\t3wh8whrw6ytxehp96xplnwlvdeu4r3wfelfuul2f0g9yuhazxnvwwceut\th5l2drz4k4tk4\n\
+";

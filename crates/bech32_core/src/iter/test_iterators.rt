@@ -1,0 +1,133 @@
+//! Iterators for tests of adaptors: of two items, of fewer items than they say, and of very many.
+
+ghost use Rattle.std.specs.Prelude.{◌≡◌, ◌+◌, ◌-◌, ◌<◌, ◌≤◌, IsSome, IsNone, IfSome};
+ghost use Rattle.std.specs.Iterator.{UpTo, at_most};
+ghost use Rattle.std.specs.Option.{ForSome};
+ghost use Rattle.std.specs.Iterator.SizeHint.{IsWithinCount};
+
+use std::iter::ExactSizeIterator;
+
+/// Gives two items, `None`, and then items again, if it is asked. Its size hint has the lower bound
+/// 0.
+#[derive(Drop)]
+pub(crate) struct TwoItems<T> {
+    item: T,
+    calls: u8,
+    upper: Option<usize>,
+    ghost upper_holds: { ForSome upper (λ n. 2 ≤ n) },
+}
+
+impl<T: Copy> TwoItems<T> {
+    /// Two items, with this upper bound.
+    pub(crate) fn new(item: T, upper: Option<usize>) -> Self
+        requires { ForSome upper (λ n. 2 ≤ n) }
+        ensures { result.calls ≡ 0 }
+    {
+        TwoItems {
+            item,
+            calls: 0,
+            upper,
+        }
+    }
+}
+
+impl<T: Copy> Iterator for TwoItems<T> {
+    type Item = T;
+
+    ghost can_next = { λ s. s.calls < 3 };
+
+    ghost next_gives = { λ s r t. (s.calls < 2 → IsSome r × (t.calls ≡ s.calls + 1)) × (2 ≤ s.calls → IsNone r) };
+
+    ghost remaining = { λ s. at_most (2 - s.calls) };
+
+    fn next(&mut self) -> Option<T> {
+        self.calls += 1;
+        if self.calls == 3 {
+            None
+        } else {
+            Some(self.item)
+        }
+    }
+
+    fn size_hint(&self) -> (usize, Option<usize>)
+        ensures lower { IsWithinCount result.0 (at_most (2 - self.now.calls)) }
+        ensures upper { IfSome result.1 (UpTo (at_most (2 - self.now.calls))) }
+    {
+        (0, self.upper)
+    }
+}
+
+/// Says that five items come, and gives two.
+#[derive(Drop)]
+pub(crate) struct TwoOfFive<T> {
+    item: T,
+    given: u8,
+    ghost few: { given ≤ 2 },
+}
+
+impl<T: Copy> TwoOfFive<T> {
+    /// Two items.
+    pub(crate) fn new(item: T) -> Self {
+        TwoOfFive { item, given: 0 }
+    }
+}
+
+impl<T: Copy> Iterator for TwoOfFive<T> {
+    type Item = T;
+
+    ghost remaining = { λ s. at_most (5 - s.given) };
+
+    fn next(&mut self) -> Option<T> {
+        if self.given == 2 {
+            return None;
+        }
+        self.given += 1;
+        Some(self.item)
+    }
+
+    fn size_hint(&self) -> (usize, Option<usize>)
+        ensures lower { IsWithinCount result.0 (at_most (5 - self.now.given)) }
+        ensures upper { IfSome result.1 (UpTo (at_most (5 - self.now.given))) }
+    {
+        let left = 5 - self.given as usize;
+        (left, Some(left))
+    }
+}
+
+/// Gives as many items as it says, up to 2^64 - 1.
+#[derive(Drop)]
+pub(crate) struct Many<T> {
+    item: T,
+    left: usize,
+}
+
+impl<T: Copy> Many<T> {
+    /// So many items.
+    pub(crate) fn new(item: T, left: usize) -> Self {
+        Many { item, left }
+    }
+}
+
+impl<T: Copy> Iterator for Many<T> {
+    type Item = T;
+
+    ghost remaining = { λ s. at_most s.left };
+
+    fn next(&mut self) -> Option<T> {
+        self.left = self.left.checked_sub(1)?;
+        Some(self.item)
+    }
+
+    fn size_hint(&self) -> (usize, Option<usize>)
+        ensures lower { IsWithinCount result.0 (at_most self.now.left) }
+        ensures upper { IfSome result.1 (UpTo (at_most self.now.left)) }
+    {
+        (self.left, Some(self.left))
+    }
+}
+
+impl<T: Copy> ExactSizeIterator for Many<T> {
+    fn len(&self) -> usize {
+        self.left
+    }
+}

@@ -1,0 +1,363 @@
+//! Fields, extension fields and the powers of their elements.
+//!
+//! The laws of a field are part of [`Field`]: what is proved over any `F: Field` holds of each of
+//! its implementations.
+
+ghost use Rattle.std.specs.Prelude.{◌≡◌, ◌≢◌, ◌↔◌, ◌+◌, ◌-◌, ◌<◌, ◌≤◌, ◌<ℤ◌, ℕ, pos, List, Some, Option, IsTrue, fold};
+ghost use Rattle.std.specs.Iterator.{YieldsFirst, item_count};
+ghost use Rattle.std.specs.Fmt.{WritesOnOk};
+ghost use Rattle.bech32_gf.specs.Field.{Ops, IsField, IsOrder, IsCharacteristic, ListsDivisors, IsPositiveI64, power, signed_power, signed_multiple};
+ghost use Rattle.bech32_gf.specs.Powers.{powers_of, left_of};
+
+use std::fmt;
+use std::hash::Hash;
+use std::iter::Sum;
+use std::ops::{Add, AddAssign, Div, DivAssign, Mul, MulAssign, Neg, Sub, SubAssign};
+
+/// A finite field, with its laws.
+pub trait Field: Copy
+    + PartialEq
+    + Eq
+    + Default
+    + Hash
+    + fmt::Debug
+    + fmt::Display
+    + Sum<Self>
+    + Add<Self, Output = Self>
+    + Sub<Self, Output = Self>
+    + AddAssign<Self>
+    + SubAssign<Self>
+    + Mul<Self, Output = Self>
+    + MulAssign<Self>
+    + Div<Self, Output = Self>
+    + DivAssign<Self>
+    + Neg<Output = Self> {
+    ghost ops: { Ops Self };
+
+    ghost ZERO: { Self };
+
+    ghost ONE: { Self };
+
+    ghost GENERATOR: { Self };
+
+    ghost CHARACTERISTIC: { ℕ };
+
+    ghost MULTIPLICATIVE_ORDER: { ℕ };
+
+    // The factors of the order, which no ghost member of their constant's name can hold.
+    ghost divisors: { List ℕ };
+
+    /// The neutral element of the sum.
+    const ZERO: Self;
+
+    /// The neutral element of the product.
+    const ONE: Self;
+
+    /// An element whose powers are all elements but [`ZERO`](Field::ZERO).
+    const GENERATOR: Self;
+
+    /// The least number from 1 on of ones whose sum is zero.
+    const CHARACTERISTIC: usize;
+
+    /// How many elements there are besides [`ZERO`](Field::ZERO).
+    const MULTIPLICATIVE_ORDER: usize;
+
+    /// All divisors of [`MULTIPLICATIVE_ORDER`](Field::MULTIPLICATIVE_ORDER), 1 and itself among
+    /// them, in rising order.
+    const MULTIPLICATIVE_ORDER_FACTORS: &'static [usize];
+
+    /// The element whose product with this one, which is not zero, is one.
+    fn multiplicative_inverse(self) -> Self
+        requires { self ≢ ops.zero }
+        ensures { result ≡ ops.inv self };
+
+    /// The divisors of the order: [`MULTIPLICATIVE_ORDER_FACTORS`](Field::MULTIPLICATIVE_ORDER_FACTORS).
+    fn order_factors() -> &'static [usize]
+        ensures { result.now ≡ divisors };
+
+    /// The sum of so many times this element, of its negative for a negative number.
+    fn muli(&self, n: i64) -> Self
+        ensures { result ≡ signed_multiple ops self.now n }
+    {
+        let mut base = if n >= 0 { *self } else { -*self };
+        let mut times = n.unsigned_abs() % Self::CHARACTERISTIC as u64;
+        let mut sum = Self::ZERO;
+        while times > 0 {
+            if times % 2 == 1 {
+                sum += base;
+            }
+            base = base + base;
+            times /= 2;
+        }
+        sum
+    }
+
+    /// The product of so many times this element, of its inverse for a negative number, for which
+    /// the element may not be zero. Power 0 is one, of zero too.
+    fn powi(&self, n: i64) -> Self
+        requires { n <ℤ pos 0 → self.now ≢ ops.zero }
+        ensures { result ≡ signed_power ops self.now n }
+    {
+        let mut base = if n >= 0 {
+            *self
+        } else {
+            self.multiplicative_inverse()
+        };
+        let mut exponent = n.unsigned_abs();
+        let mut product = Self::ONE;
+        while exponent > 0 {
+            if exponent % 2 == 1 {
+                product *= base;
+            }
+            base = base * base;
+            exponent /= 2;
+        }
+        product
+    }
+
+    /// All powers of this element, from power 0 on and without an end.
+    fn powers(self) -> Powers<Self>
+        ensures base { result.base ≡ self }
+        ensures next { result.next ≡ ops.one }
+    {
+        Powers {
+            base: self,
+            next: Self::ONE,
+        }
+    }
+
+    /// The powers of this element from one number to another, which is not below it, both included.
+    final fn powers_range(self, start: usize, end: usize) -> PowersRange<Self>
+        requires { start ≤ end }
+        ensures { left_of ops result ≡ powers_of ops self start (end - start + 1) }
+    {
+        let mut powers = self.powers();
+        powers.advance(start);
+        PowersRange {
+            powers,
+            more: Some(end - start),
+        }
+    }
+
+    ghost laws: { IsField ops };
+
+    ghost zero_law: { ZERO ≡ ops.zero };
+
+    ghost one_law: { ONE ≡ ops.one };
+
+    ghost default_law: { (x : Self) → Self.is_default x → x ≡ ops.zero };
+
+    ghost eq_law: { (x y : Self) → IsTrue (Self.eq x y) ↔ (x ≡ y) };
+
+    ghost can_add_law: { (x y : Self) → Self.can_add x y };
+
+    ghost add_law: { (x y r : Self) → Self.add_gives x y r → r ≡ ops.add x y };
+
+    ghost can_add_assign_law: { (x y : Self) → Self.can_add_assign x y };
+
+    ghost add_assign_law: { (x y r : Self) → Self.add_assign_gives x y r → r ≡ ops.add x y };
+
+    ghost can_sub_law: { (x y : Self) → Self.can_sub x y };
+
+    ghost sub_law: { (x y r : Self) → Self.sub_gives x y r → r ≡ ops.add x (ops.neg y) };
+
+    ghost can_sub_assign_law: { (x y : Self) → Self.can_sub_assign x y };
+
+    ghost sub_assign_law: { (x y r : Self) → Self.sub_assign_gives x y r → r ≡ ops.add x (ops.neg y) };
+
+    ghost can_mul_law: { (x y : Self) → Self.can_mul x y };
+
+    ghost mul_law: { (x y r : Self) → Self.mul_gives x y r → r ≡ ops.mul x y };
+
+    ghost can_mul_assign_law: { (x y : Self) → Self.can_mul_assign x y };
+
+    ghost mul_assign_law: { (x y r : Self) → Self.mul_assign_gives x y r → r ≡ ops.mul x y };
+
+    ghost can_div_law: { (x y : Self) → y ≢ ops.zero → Self.can_div x y };
+
+    ghost div_law: { (x y r : Self) → y ≢ ops.zero → Self.div_gives x y r → r ≡ ops.mul x (ops.inv y) };
+
+    ghost can_div_assign_law: { (x y : Self) → y ≢ ops.zero → Self.can_div_assign x y };
+
+    ghost div_assign_law: { (x y r : Self) → y ≢ ops.zero → Self.div_assign_gives x y r → r ≡ ops.mul x (ops.inv y) };
+
+    ghost can_neg_law: { (x : Self) → Self.can_neg x };
+
+    ghost neg_law: { (x r : Self) → Self.neg_gives x r → r ≡ ops.neg x };
+
+    ghost can_sum_law: { (xs : List Self) → Self.can_sum xs };
+
+    ghost sum_law: { (xs : List Self) (r : Self) → Self.sum_gives xs r → r ≡ fold ops.add ops.zero xs };
+
+    // A sum takes every item.
+    ghost sum_complete_law: { (r : Self) → Self.is_complete r };
+
+    ghost characteristic_law: { IsCharacteristic ops CHARACTERISTIC };
+
+    ghost order_law: { (x : Self) → x ≢ ops.zero → power ops x MULTIPLICATIVE_ORDER ≡ ops.one };
+
+    ghost generator_law: { IsOrder ops GENERATOR MULTIPLICATIVE_ORDER };
+
+    ghost divisors_law: { ListsDivisors MULTIPLICATIVE_ORDER divisors };
+
+    ghost fits_law: { IsPositiveI64 CHARACTERISTIC × IsPositiveI64 MULTIPLICATIVE_ORDER };
+}
+
+/// The order of an element. It has a trait of its own, implemented for every field, since names in a
+/// trait may not differ only in case, as its name and that of
+/// [`MULTIPLICATIVE_ORDER`](Field::MULTIPLICATIVE_ORDER) would.
+pub trait MultiplicativeOrder: Field {
+    /// The least number from 1 on whose power of this element, which is not zero, is one.
+    final fn multiplicative_order(&self) -> usize
+        requires { self.now ≢ Self.ops.zero }
+        ensures { IsOrder Self.ops self.now result }
+    {
+        for divisor in Self::order_factors() {
+            if self.powi(*divisor as i64) == Self::ONE {
+                return *divisor;
+            }
+        }
+        unreachable!()
+    }
+}
+
+impl<F: Field> MultiplicativeOrder for F {}
+
+/// A field that a base field with one more element makes.
+pub trait ExtensionField: Field + From<Self::BaseField> {
+    /// The field that is extended.
+    type BaseField: Field;
+
+    // The element that an element of the base field is here, and back where it is one.
+    ghost embed: { Self.BaseField → Self };
+
+    ghost retract: { Self → Option Self.BaseField };
+
+    ghost DEGREE: { ℕ };
+
+    ghost POLYNOMIAL: { Self };
+
+    ghost EXT_ELEM: { Self };
+
+    /// How many elements of the base field make one of this field.
+    const DEGREE: usize;
+
+    /// The power [`DEGREE`](ExtensionField::DEGREE) of [`EXT_ELEM`](ExtensionField::EXT_ELEM).
+    const POLYNOMIAL: Self;
+
+    /// The element that the base field is extended by.
+    const EXT_ELEM: Self;
+
+    /// The element of the base field that this element is, where it is one.
+    fn to_base(self) -> Option<Self::BaseField>
+        ensures { result ≡ retract self };
+
+    ghost from_law: { (x : Self.BaseField) (y : Self) → Self.from_gives x y → y ≡ embed x };
+
+    ghost retract_law: { (x : Self.BaseField) → retract (embed x) ≡ Some x };
+
+    ghost embed_retract_law: { (x : Self.BaseField) (y : Self) → retract y ≡ Some x → embed x ≡ y };
+
+    ghost embed_zero_law: { embed Self.BaseField.ops.zero ≡ Self.ops.zero };
+
+    ghost embed_one_law: { embed Self.BaseField.ops.one ≡ Self.ops.one };
+
+    ghost embed_add_law: { (x y : Self.BaseField) → embed (Self.BaseField.ops.add x y) ≡ Self.ops.add (embed x) (embed y) };
+
+    ghost embed_neg_law: { (x : Self.BaseField) → embed (Self.BaseField.ops.neg x) ≡ Self.ops.neg (embed x) };
+
+    ghost embed_mul_law: { (x y : Self.BaseField) → embed (Self.BaseField.ops.mul x y) ≡ Self.ops.mul (embed x) (embed y) };
+
+    ghost polynomial_law: { power Self.ops EXT_ELEM DEGREE ≡ POLYNOMIAL };
+}
+
+pub(crate) mod private {
+    /// Keeps [`Bech32Field`](super::Bech32Field) to the fields of this crate.
+    pub trait Sealed {}
+}
+
+/// A field over which bech32 checksums are corrected.
+pub trait Bech32Field: private::Sealed + Field {
+    // The Rust code of an element.
+    ghost rust_code: { Self → List ℕ };
+
+    /// The name of the type.
+    const NAME: &'static str;
+
+    /// Writes the element as Rust code.
+    ///
+    /// # Errors
+    ///
+    /// An error of the writer.
+    fn format_as_rust_code<W: fmt::Write>(&self, f: &mut fmt::Formatter<W>) -> fmt::Result
+        ensures writes { WritesOnOk W.write_str_gives f.old result (rust_code self.now) f.new };
+}
+
+/// The powers of an element from power 0 on, without an end.
+#[derive(Drop)]
+pub struct Powers<F: Field> {
+    base: F,
+    next: F,
+}
+
+impl<F: Field> Powers<F> {
+    // Passes over so many powers.
+    fn advance(&mut self, n: usize)
+        ensures base { self.new.base ≡ self.old.base }
+        ensures next { self.new.next ≡ F.ops.mul self.old.next (power F.ops self.old.base n) }
+    {
+        let half = self.base.powi((n / 2) as i64);
+        self.next *= half;
+        self.next *= half;
+        if n % 2 == 1 {
+            self.next *= self.base;
+        }
+    }
+
+    /// The power that stands so many places on; the next one is the one behind it.
+    pub fn nth(&mut self, n: usize) -> Option<F>
+        ensures item { result ≡ Some (F.ops.mul self.old.next (power F.ops self.old.base n)) }
+        ensures base { self.new.base ≡ self.old.base }
+        ensures next { self.new.next ≡ F.ops.mul self.old.next (power F.ops self.old.base (n + 1)) }
+    {
+        self.advance(n);
+        self.next()
+    }
+}
+
+impl<F: Field> Iterator for Powers<F> {
+    type Item = F;
+
+    ghost next_gives = { λ s r t. (r ≡ Some s.next) × (t.base ≡ s.base) × (t.next ≡ F.ops.mul s.next s.base) };
+
+    fn next(&mut self) -> Option<F> {
+        let item = self.next;
+        self.next *= self.base;
+        Some(item)
+    }
+}
+
+/// The powers of an element from one number to another, both included.
+#[derive(Drop)]
+pub struct PowersRange<F: Field> {
+    powers: Powers<F>,
+    // How many follow the next one; `None` where none is left.
+    more: Option<usize>,
+}
+
+impl<F: Field> Iterator for PowersRange<F> {
+    type Item = F;
+
+    ghost next_gives = { YieldsFirst (left_of F.ops) };
+
+    ghost remaining = { item_count (left_of F.ops) };
+
+    fn next(&mut self) -> Option<F> {
+        let more = self.more?;
+        self.more = more.checked_sub(1);
+        self.powers.next()
+    }
+}
+
+#[cfg(test)]
+pub(crate) mod tests;
