@@ -1,7 +1,7 @@
 //! Iterators that regroup bits: bytes as elements, and elements as bytes (BIP-173, Segwit address
 //! format).
 
-ghost use Rattle.std.specs.Prelude.{true, false, None, nat_lt, min, length, List, option_to_list, IfSome, SomeIff, IfOk, OnOk, OnErr, ◌≡◌, ◌++◌, ℕ, ◌+◌, ◌-◌, ◌*◌, ◌/◌, ◌%◌, ◌^◌, ◌<◌, ◌≤◌};
+ghost use Rattle.std.specs.Prelude.{true, false, None, nat_lt, min, length, List, option_to_list, IfSome, SomeIff, ◌≡◌, ℕ, ◌+◌, ◌-◌, ◌*◌, ◌/◌, ◌%◌, ◌^◌, ◌<◌, ◌≤◌};
 ghost use Rattle.std.specs.List.{list_all};
 ghost use Rattle.std.specs.Iterator.{size, Drains, UpTo};
 ghost use Rattle.std.specs.Iterator.SizeHint.{IsWithinCount};
@@ -21,7 +21,6 @@ use crate::encode::Encoder;
 use crate::hrp::Hrp;
 use bech32_gf::gf32::Fe32;
 pub use ending::Checksummed;
-use std::alloc::{AllocError, Global};
 use std::iter::{ExactSizeIterator, Fuse};
 
 // The element of the five bits that stand above so many lowest bits of a value.
@@ -360,44 +359,6 @@ pub trait Fe32IterExt: Iterator<Item = Fe32> {
 }
 
 impl<I: Iterator<Item = Fe32>> Fe32IterExt for I {}
-
-// The elements of a slice.
-fn fes_of(alloc: Global, bytes: &[u8]) -> Result<Vec<Fe32>, AllocError>
-    ensures { IfOk result (λ v. v.items ≡ to_fes bytes.now) }
-{
-    bytes.iter().copied().bytes_to_fes().collect(alloc)
-}
-
-// Appends the elements of a slice, one at a time, and where memory runs out some first ones of them.
-fn push_fes(bytes: &[u8], out: &mut Vec<Fe32>) -> Result<(), AllocError>
-    ensures ok { OnOk result (out.new.items ≡ out.old.items ++ to_fes bytes.now) }
-    ensures err { OnErr result ((first : List Fe32) × (others : List Fe32)
-        × (to_fes bytes.now ≡ first ++ others) × (out.new.items ≡ out.old.items ++ first)) }
-{
-    for fe in bytes.iter().copied().bytes_to_fes() {
-        out.push(fe)?;
-    }
-    Ok(())
-}
-
-// The bytes of elements.
-fn bytes_of(alloc: Global, fes: &[Fe32]) -> Result<Vec<u8>, AllocError>
-    ensures { IfOk result (λ v. v.items ≡ to_bytes fes.now) }
-{
-    fes.iter().copied().fes_to_bytes().collect(alloc)
-}
-
-// Bytes as elements and back.
-fn there_and_back(alloc: Global, bytes: &[u8]) -> Result<Vec<u8>, AllocError>
-    ensures { IfOk result (λ v. v.items ≡ bytes.now) }
-{
-    bytes
-        .iter()
-        .copied()
-        .bytes_to_fes()
-        .fes_to_bytes()
-        .collect(alloc)
-}
 
 #[cfg(test)]
 pub(crate) mod test_iterators;

@@ -1,5 +1,6 @@
-ghost use Rattle.std.specs.Prelude.{◌≡◌, ◌<◌, IfOk};
-ghost use Rattle.bech32_core.specs.Bits.{to_bytes_zeropad};
+ghost use Rattle.std.specs.Prelude.{List, IfOk, OnOk, OnErr, ◌≡◌, ◌++◌, ◌<◌};
+ghost use Rattle.bech32_gf.specs.declared.gf32.Fe32.{Fe32};
+ghost use Rattle.bech32_core.specs.Bits.{to_fes, to_bytes, to_bytes_zeropad};
 
 mod bits_rows;
 
@@ -7,8 +8,47 @@ use super::plain::{plain_to_bytes, plain_to_fes};
 use super::test_iterators::{Many, TwoItems, TwoOfFive};
 use super::*;
 use crate::checksum::{Bech32, Bech32m, NoChecksum};
+use std::alloc::{AllocError, Global};
 use std::iter;
 use std::test::Fail;
+
+// The elements of a slice.
+fn fes_of(alloc: Global, bytes: &[u8]) -> Result<Vec<Fe32>, AllocError>
+    ensures { IfOk result (λ v. v.items ≡ to_fes bytes.now) }
+{
+    bytes.iter().copied().bytes_to_fes().collect(alloc)
+}
+
+// Appends the elements of a slice, one at a time, and where memory runs out some first ones of them.
+fn push_fes(bytes: &[u8], out: &mut Vec<Fe32>) -> Result<(), AllocError>
+    ensures ok { OnOk result (out.new.items ≡ out.old.items ++ to_fes bytes.now) }
+    ensures err { OnErr result ((first : List Fe32) × (others : List Fe32)
+        × (to_fes bytes.now ≡ first ++ others) × (out.new.items ≡ out.old.items ++ first)) }
+{
+    for fe in bytes.iter().copied().bytes_to_fes() {
+        out.push(fe)?;
+    }
+    Ok(())
+}
+
+// The bytes of elements.
+fn bytes_of(alloc: Global, fes: &[Fe32]) -> Result<Vec<u8>, AllocError>
+    ensures { IfOk result (λ v. v.items ≡ to_bytes fes.now) }
+{
+    fes.iter().copied().fes_to_bytes().collect(alloc)
+}
+
+// Bytes as elements and back.
+fn there_and_back(alloc: Global, bytes: &[u8]) -> Result<Vec<u8>, AllocError>
+    ensures { IfOk result (λ v. v.items ≡ bytes.now) }
+{
+    bytes
+        .iter()
+        .copied()
+        .bytes_to_fes()
+        .fes_to_bytes()
+        .collect(alloc)
+}
 
 // The iterator gives these items, and then `None` however often it is asked.
 macro_rules! gives {

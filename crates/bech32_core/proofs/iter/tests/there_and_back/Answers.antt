@@ -1,7 +1,7 @@
 use Rattle.std.proofs.Common.{◌≡◌, rules}
 use Rattle.bech32_core.specs.Bits.{to_fes, to_bytes}
 use Rattle.bech32_core.proofs.RoundTrip.{to_bytes-to_fes, bytes-below}
-use Rattle.bech32_core.proofs.iter.there_and_back.Goals as goal
+use Rattle.bech32_core.proofs.iter.tests.there_and_back.Goals as goal
 
 pub returns : goal.returns
 returns c =
