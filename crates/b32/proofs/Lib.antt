@@ -4,3 +4,6 @@ pub mod Split
 pub mod Sizes
 pub mod Replies
 pub mod Pieces
+pub mod SegwitSplit
+pub mod VersionWords
+pub mod SegwitReplies

@@ -63,7 +63,7 @@ empty-word (b ∷ bs) word e one = absurd (omega arith)
 -- ---- no request
 
 -- a line of these words
-line-of : (line : List ℕ) (all : List (List ℕ)) → words line ≡ all → request_of_words all ≡ None → request_of line ≡ None
+pub line-of : (line : List ℕ) (all : List (List ℕ)) → words line ≡ all → request_of_words all ≡ None → request_of line ≡ None
 line-of line all e none =
     elim (has_empty_word line) as (λ b. cond b None (request_of_words (words line)) ≡ None) [
       | true ↦ refl
@@ -71,7 +71,7 @@ line-of line all e none =
     ]
 
 -- where a word is empty
-line-empty : (line : List ℕ) → has_empty_word line ≡ true → request_of line ≡ None
+pub line-empty : (line : List ℕ) → has_empty_word line ≡ true → request_of line ≡ None
 line-empty line e = ap (λ b. cond b None (request_of_words (words line))) e
 
 -- `encode` with no checksum

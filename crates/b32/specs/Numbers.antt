@@ -12,8 +12,17 @@ use Rattle.bech32.specs.declared.error.DecodeError.{DecodeError}
 use Rattle.bech32.specs.declared.error.DecodeError.TheVariants.{Parse, Checksum, Memory as DecodeMemory}
 use Rattle.bech32.specs.declared.error.EncodeError.{EncodeError}
 use Rattle.bech32.specs.declared.error.EncodeError.TheVariants.{TooLong, Fmt, Memory as EncodeMemory}
+use Rattle.bech32.specs.declared.primitives.decode.error.PaddingError.{PaddingError}
+use Rattle.bech32.specs.declared.primitives.decode.error.PaddingError.TheVariants.{TooMuch, NonZero}
+use Rattle.bech32.specs.declared.primitives.decode.error.SegwitHrpstringError.{SegwitHrpstringError}
+use Rattle.bech32.specs.declared.primitives.decode.error.SegwitHrpstringError.TheVariants.{Unchecked, NoData, TooLong as AddressTooLong, InvalidWitnessVersion, Padding, WitnessLength, Checksum as WrongChecksum, Memory as ProgramMemory}
+use Rattle.bech32.specs.declared.primitives.segwit.WitnessLengthError.{WitnessLengthError}
+use Rattle.bech32.specs.declared.primitives.segwit.WitnessLengthError.TheVariants.{TooShort, TooLong as ProgramTooLong, InvalidSegwitV0}
+use Rattle.bech32.specs.declared.segwit.error.DecodeError.{DecodeError as SegwitDecodeError}
+use Rattle.bech32.specs.declared.segwit.error.EncodeError.{EncodeError as SegwitEncodeError}
+use Rattle.bech32.specs.declared.segwit.error.EncodeError.TheVariants.{WitnessVersion, WitnessLength as NoProgramLength, TooLong as NoAddressLength, Fmt as AddressFmt, Memory as AddressMemory}
 use Rattle.b32.specs.declared.refusal.Refusal.{Refusal}
-use Rattle.b32.specs.declared.refusal.Refusal.TheVariants.{LineTooLong, NotUtf8, NoRequest, BadHex, Hrp as HrpRefused, Encode, Decode, Memory}
+use Rattle.b32.specs.declared.refusal.Refusal.TheVariants.{LineTooLong, NotUtf8, NoRequest, BadNumber, BadHex, Hrp as HrpRefused, Encode, Decode, SegwitEncode, SegwitDecode, Memory}
 
 -- of a human-readable part that is refused
 abbrev pub number_of_hrp_error : HrpError → ℕ
@@ -53,13 +62,50 @@ number_of_encode_error (TooLong e) = 51
 number_of_encode_error (Fmt e) = 54
 number_of_encode_error EncodeMemory = 91
 
+-- of bits behind a program that are refused
+abbrev pub number_of_padding_error : PaddingError → ℕ
+number_of_padding_error TooMuch = 44
+number_of_padding_error NonZero = 45
+
+-- of a program's length that is refused
+abbrev pub number_of_length_error : WitnessLengthError → ℕ
+number_of_length_error TooShort = 46
+number_of_length_error ProgramTooLong = 47
+number_of_length_error InvalidSegwitV0 = 48
+
+-- of a text that is no segwit address
+abbrev pub number_of_address_error : SegwitHrpstringError → ℕ
+number_of_address_error (Unchecked e) = number_of_text_error e
+number_of_address_error (AddressTooLong n) = 41
+number_of_address_error NoData = 42
+number_of_address_error (InvalidWitnessVersion v) = 43
+number_of_address_error (Padding e) = number_of_padding_error e
+number_of_address_error (WitnessLength e) = number_of_length_error e
+number_of_address_error (WrongChecksum e) = number_of_checksum_error e
+number_of_address_error ProgramMemory = 91
+
+-- of a segwit address that is not decoded
+abbrev pub number_of_segwit_decode_error : SegwitDecodeError → ℕ
+number_of_segwit_decode_error e = number_of_address_error e.0
+
+-- of a segwit address that is not written
+abbrev pub number_of_segwit_encode_error : SegwitEncodeError → ℕ
+number_of_segwit_encode_error (WitnessVersion e) = 52
+number_of_segwit_encode_error (NoProgramLength e) = number_of_length_error e
+number_of_segwit_encode_error (NoAddressLength e) = 53
+number_of_segwit_encode_error (AddressFmt e) = 54
+number_of_segwit_encode_error AddressMemory = 91
+
 -- of any refusal
 abbrev pub number_of : Refusal → ℕ
 number_of LineTooLong = 1
 number_of NotUtf8 = 2
 number_of NoRequest = 3
+number_of BadNumber = 4
 number_of BadHex = 5
 number_of (HrpRefused e) = number_of_hrp_error e
 number_of (Encode e) = number_of_encode_error e
 number_of (Decode e) = number_of_decode_error e
+number_of (SegwitEncode e) = number_of_segwit_encode_error e
+number_of (SegwitDecode e) = number_of_segwit_decode_error e
 number_of Memory = 91

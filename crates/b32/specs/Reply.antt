@@ -2,18 +2,24 @@
 use Rattle.std.specs.Prelude.{◌≡◌, ◌≤◌, ◌⊎◌, ℕ, List, ◌∷◌, ◌++◌, length, nat_lt, codes, MatchOption, MatchBool}
 use Rattle.std.specs.Fmt.{decimal}
 use Rattle.std.specs.Str.{is_utf8}
+use Rattle.bech32_gf.specs.declared.gf32.Fe32.{Fe32}
 use Rattle.bech32_core.specs.Bits.{to_fes}
 use Rattle.bech32_core.specs.Code.{Code}
-use Rattle.bech32_core.specs.Hrp.{lowered, hrp_refusal}
+use Rattle.bech32_core.specs.Hrp.{IsHrp, lowered, hrp_refusal}
 use Rattle.bech32.specs.Acceptance.{IsDecoded}
 use Rattle.bech32_core.specs.Encoded.{IsEncodedText}
 use Rattle.bech32.specs.Encoded.{encoded_length_of}
 use Rattle.bech32.specs.Refusals.{IsDecodeRefusal, IsEncodeRefusal}
+use Rattle.bech32.specs.Segwit.{IsLowerAddress, IsAddress, IsAddressText, IsSegwitRefusal}
+use Rattle.bech32.specs.SegwitEncoding.{IsSegwitEncodeRefusal}
 use Rattle.bech32.specs.declared.error.DecodeError.{DecodeError}
 use Rattle.bech32.specs.declared.error.EncodeError.{EncodeError}
+use Rattle.bech32.specs.declared.primitives.decode.error.SegwitHrpstringError.TheVariants.{Memory}
+use Rattle.bech32.specs.declared.segwit.error.DecodeError.{DecodeError as SegwitDecodeError}
+use Rattle.bech32.specs.declared.segwit.error.EncodeError.{EncodeError as SegwitEncodeError}
 use Rattle.b32.specs.Hex.{bytes_of, hex_of}
-use Rattle.b32.specs.Numbers.{number_of_hrp_error, number_of_decode_error, number_of_encode_error}
-use Rattle.b32.specs.Request.{Request, Encode, Decode, code_of_name, request_of}
+use Rattle.b32.specs.Numbers.{number_of_hrp_error, number_of_decode_error, number_of_encode_error, number_of_segwit_decode_error, number_of_segwit_encode_error}
+use Rattle.b32.specs.Request.{Request, Encode, Decode, SegwitEncode, SegwitDecode, code_of_name, request_of}
 
 -- a refusal with this number
 abbrev pub err : ℕ → List ℕ
@@ -58,10 +64,65 @@ pub record SaysNoBytes (text said : List ℕ) : Type 0 where
 abbrev pub IsDecodeAnswer : List ℕ → List ℕ → Type 0
 IsDecodeAnswer text said = SaysBytes text said ⊎ SaysNoBytes text said
 
+-- the word is the number of a version, in decimal
+abbrev pub IsVersionWord : List ℕ → Fe32 → Type 0
+IsVersionWord word version = word ≡ decimal version.value
+
+-- it is that of none
+abbrev pub IsNoVersion : List ℕ → Type 0
+IsNoVersion word = (version : Fe32) → IsVersionWord word version → ⊥
+
+-- the address of a human-readable part, a version and a program is said
+pub record SaysAddress (hrp : List ℕ) (version : Fe32) (program said : List ℕ) : Type 0 where
+  pub text : List ℕ
+  pub is_address : IsLowerAddress hrp version program text
+  pub spelling : said ≡ codes "ok " ++ text
+
+-- it is said why there is none
+pub record SaysNoAddress (hrp : List ℕ) (version : Fe32) (program said : List ℕ) : Type 0 where
+  pub error : SegwitEncodeError
+  pub is_refusal : IsSegwitEncodeRefusal hrp version program error
+  pub spelling : said ≡ err (number_of_segwit_encode_error error)
+
+-- the answer to `segwit-encode` with this version: bad hex is refused, then a bad human-readable part
+abbrev pub IsVersionedAnswer : List ℕ → Fe32 → List ℕ → List ℕ → Type 0
+IsVersionedAnswer hrp version hex said =
+    MatchOption (bytes_of hex)
+    (said ≡ err 5)
+    (λ program. MatchOption (hrp_refusal hrp)
+    (SaysAddress hrp version program said ⊎ SaysNoAddress hrp version program said)
+    (λ error. said ≡ err (number_of_hrp_error error)))
+
+-- and with any word: a bad number is refused first
+abbrev pub IsSegwitEncodeAnswer : List ℕ → List ℕ → List ℕ → List ℕ → Type 0
+IsSegwitEncodeAnswer hrp word hex said =
+    (IsNoVersion word × (said ≡ err 4)) ⊎ ((version : Fe32) × IsVersionWord word version × IsVersionedAnswer hrp version hex said)
+
+-- the human-readable part of an address is said, in lower case, its version and its program
+pub record SaysProgram (text said : List ℕ) : Type 0 where
+  pub hrp : List ℕ
+  pub version : Fe32
+  pub program : List ℕ
+  pub is_hrp : IsHrp hrp
+  pub is_address : IsAddress hrp version program text
+  pub spelling : said ≡ codes "ok " ++ (lowered hrp ++ (32 ∷ (decimal version.value ++ (32 ∷ hex_of program))))
+
+-- it is said why a text is no address
+pub record SaysNoProgram (text said : List ℕ) : Type 0 where
+  pub error : SegwitDecodeError
+  pub is_refusal : IsSegwitRefusal text error.0 ⊎ ((error.0 ≡ Memory) × IsAddressText text)
+  pub spelling : said ≡ err (number_of_segwit_decode_error error)
+
+-- the answer to `segwit-decode`
+abbrev pub IsSegwitDecodeAnswer : List ℕ → List ℕ → Type 0
+IsSegwitDecodeAnswer text said = SaysProgram text said ⊎ SaysNoProgram text said
+
 -- the answer to a request
 abbrev pub IsAnswer : Request → List ℕ → Type 0
 IsAnswer (Encode checksum hrp hex) said = IsEncodeAnswer (code_of_name checksum) hrp hex said
 IsAnswer (Decode text) said = IsDecodeAnswer text said
+IsAnswer (SegwitEncode hrp version hex) said = IsSegwitEncodeAnswer hrp version hex said
+IsAnswer (SegwitDecode text) said = IsSegwitDecodeAnswer text said
 
 -- an answer, or that there is no memory for it
 abbrev pub OrNoMemory : (List ℕ → Type 0) → List ℕ → Type 0

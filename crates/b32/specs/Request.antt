@@ -5,13 +5,15 @@ use Rattle.bech32_core.specs.Code.{Code, bech32, bech32m}
 use Rattle.b32.specs.declared.command.ChecksumName.{ChecksumName}
 use Rattle.b32.specs.declared.command.ChecksumName.TheVariants.{Bech32, Bech32m}
 use Rattle.b32.specs.declared.command.Command.{Command}
-use Rattle.b32.specs.declared.command.Command.TheVariants.{Encode as EncodeCommand, Decode as DecodeCommand}
+use Rattle.b32.specs.declared.command.Command.TheVariants.{Encode as EncodeCommand, Decode as DecodeCommand, SegwitEncode as SegwitEncodeCommand, SegwitDecode as SegwitDecodeCommand}
 use Rattle.b32.specs.Words.{words, has_empty_word}
 
--- the text of bytes, or the bytes of a text; each argument as its word
+-- the text of bytes, or the bytes of a text; the segwit address of a program, or the program of an address; each argument as its word
 pub data Request : Type 0 where
   Encode : (checksum : ChecksumName) (hrp hex : List ℕ) → Request
   Decode : (text : List ℕ) → Request
+  SegwitEncode : (hrp version hex : List ℕ) → Request
+  SegwitDecode : (text : List ℕ) → Request
 
 -- the checksum of a word
 abbrev pub checksum_of : List ℕ → Option ChecksumName
@@ -37,13 +39,25 @@ abbrev pub decode_request : List (List ℕ) → Option Request
 decode_request (text ∷ []) = Some (Decode text)
 decode_request _ = None
 
+-- `segwit-encode HRP VERSION HEX`
+abbrev pub segwit_encode_request : List (List ℕ) → Option Request
+segwit_encode_request (hrp ∷ version ∷ hex ∷ []) = Some (SegwitEncode hrp version hex)
+segwit_encode_request _ = None
+
+-- `segwit-decode TEXT`
+abbrev pub segwit_decode_request : List (List ℕ) → Option Request
+segwit_decode_request (text ∷ []) = Some (SegwitDecode text)
+segwit_decode_request _ = None
+
 -- what words ask for
 abbrev pub request_of_words : List (List ℕ) → Option Request
 request_of_words [] = None
 request_of_words (name ∷ arguments) =
     if bytes_eq name (codes "encode") then encode_request arguments
     else (if bytes_eq name (codes "decode") then decode_request arguments
-    else None)
+    else (if bytes_eq name (codes "segwit-encode") then segwit_encode_request arguments
+    else (if bytes_eq name (codes "segwit-decode") then segwit_decode_request arguments
+    else None)))
 
 -- what a line asks for, which has no empty word
 abbrev pub request_of : List ℕ → Option Request
@@ -53,3 +67,5 @@ request_of line = if has_empty_word line then None else request_of_words (words 
 abbrev pub request_of_command : Command → Request
 request_of_command (EncodeCommand checksum hrp hex) = Encode checksum hrp.now hex.now
 request_of_command (DecodeCommand text) = Decode text.now
+request_of_command (SegwitEncodeCommand hrp version hex) = SegwitEncode hrp.now version.now hex.now
+request_of_command (SegwitDecodeCommand text) = SegwitDecode text.now

@@ -26,6 +26,16 @@ pub enum Command<'a> {
     Decode {
         text: &'a str,
     },
+    /// `segwit-encode HRP VERSION HEX`: the segwit address of a program.
+    SegwitEncode {
+        hrp: &'a str,
+        version: &'a str,
+        hex: &'a str,
+    },
+    /// `segwit-decode TEXT`: the version and the program of a segwit address.
+    SegwitDecode {
+        text: &'a str,
+    },
 }
 
 /// The first word, and what stands behind the space after it.
@@ -84,6 +94,18 @@ impl<'a> Command<'a> {
                 })
             }
             "decode" => Some(Command::Decode {
+                text: only_word(arguments)?,
+            }),
+            "segwit-encode" => {
+                let (hrp, arguments) = first_word(arguments)?;
+                let (version, hex) = first_word(arguments)?;
+                Some(Command::SegwitEncode {
+                    hrp,
+                    version,
+                    hex: only_word(hex)?,
+                })
+            }
+            "segwit-decode" => Some(Command::SegwitDecode {
                 text: only_word(arguments)?,
             }),
             _ => None,

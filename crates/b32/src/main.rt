@@ -10,8 +10,11 @@ mod hex_word;
 mod refusal;
 mod reply;
 mod run;
+mod segwit_decode;
+mod segwit_encode;
 #[cfg(test)]
 mod vectors;
+mod version_word;
 
 use crate::run::run;
 use std::process::ExitCode;

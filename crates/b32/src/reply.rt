@@ -11,6 +11,8 @@ use crate::command::{ChecksumName, Command};
 use crate::decode::decode;
 use crate::encode::encode;
 use crate::refusal::Refusal;
+use crate::segwit_decode::segwit_decode;
+use crate::segwit_encode::segwit_encode;
 use bech32_core::checksum::{Bech32, Bech32m};
 use std::alloc::{Allocator, Global};
 
@@ -36,6 +38,8 @@ fn answer<A: Allocator + Copy>(alloc: A, command: Command, out: &mut Vec<u8>) ->
             ChecksumName::Bech32m => encode::<Bech32m, A>(alloc, hrp, hex, out),
         },
         Command::Decode { text } => decode(alloc, text, out),
+        Command::SegwitEncode { hrp, version, hex } => segwit_encode(alloc, hrp, version, hex, out),
+        Command::SegwitDecode { text } => segwit_decode(alloc, text, out),
     }
 }
 
@@ -117,7 +121,7 @@ mod tests {
             (b"decode  a12uel5l", b"err 3\n"),
             (b"decode a12uel5l ", b"err 3\n"),
             (b"Decode a12uel5l", b"err 3\n"),
-            (b"segwit-decode x", b"err 3\n"),
+            (b"segwit-Decode x", b"err 3\n"),
             (b"encode bech33 a -", b"err 3\n"),
             (b"encode bech32 a", b"err 3\n"),
             (b"encode bech32 a  -", b"err 3\n"),
@@ -197,6 +201,44 @@ mod tests {
     }
 
     #[test]
+    fn segwit_addresses(rt: HostRuntime) -> Result<(), Fail> {
+        let rows: [(&[u8], &[u8]); 18] = [
+            (b"segwit-encode bc 1", b"err 3\n"),
+            (b"segwit-encode bc 1 0000 -", b"err 3\n"),
+            (b"segwit-encode bc  0000", b"err 3\n"),
+            (b"segwit-decode", b"err 3\n"),
+            (b"segwit-decode a1 a1", b"err 3\n"),
+            (b"segwit-encode bc 32 0000", b"err 4\n"),
+            (b"segwit-encode bc 32 0", b"err 4\n"),
+            (b"segwit-encode aB 01 0000", b"err 4\n"),
+            (b"segwit-encode bc +1 0000", b"err 4\n"),
+            (b"segwit-encode aB 17 0", b"err 5\n"),
+            (b"segwit-encode aB 17 0000", b"err 15\n"),
+            (b"segwit-encode bc 17 0000", b"err 52\n"),
+            (b"segwit-encode bc 0 0000", b"err 48\n"),
+            (b"segwit-encode bc 1 00", b"err 46\n"),
+            (
+                b"segwit-encode bc 0 751E76E8199196D454941C45D1B3A323F1433BD6",
+                b"ok bc1qw508d6qejxtdg4y5r3zarvary0c5xw7kv8f3t4\n",
+            ),
+            (
+                b"segwit-decode BC1QW508D6QEJXTDG4Y5R3ZARVARY0C5XW7KV8F3T4",
+                b"ok bc 0 751e76e8199196d454941c45d1b3a323f1433bd6\n",
+            ),
+            (
+                b"segwit-decode anhrpthatistwentycha1pqyqszqgpqyqszqgpqyqszqgpqyqszqgpqyqszqgpqyqszqgpqyqszqgpqyqszqgqfrwjz",
+                b"err 41\n",
+            ),
+            (b"segwit-decode a1lqfn3a", b"err 43\n"),
+        ];
+        for (line, want) in rows {
+            let said = reply_to(rt.alloc(), line)?;
+            assert!(rt; said.as_slice() == want, "{line:?}");
+        }
+        Ok(())
+    }
+
+    #[test]
     fn long_texts(rt: HostRuntime) -> Result<(), Fail> {
         for (digits, size) in [(1268usize, 1027usize), (1270, 7)] {
             let mut line = Vec::from_slice(rt.alloc(), b"encode bech32 a ")?;
@@ -216,9 +258,11 @@ mod tests {
 
     #[test]
     fn each_request_refused(rt: HostRuntime) -> Result<(), Fail> {
-        let rows: [(&[u8], &[u8]); 2] = [
+        let rows: [(&[u8], &[u8]); 4] = [
             (b"encode bech32m a 880000", b"ok a13qqqq9qz88s\n"),
             (b"decode a13qqqq9qz88s", b"ok a 880000\n"),
+            (b"segwit-encode bc 16 751e", b"ok bc1sw50qgdz25j\n"),
+            (b"segwit-decode BC1SW50QGDZ25J", b"ok bc 16 751e\n"),
         ];
         for (line, want) in rows {
             let mut refused = 0u32;

@@ -4,6 +4,8 @@ mod decode_rows;
 mod encode_rows;
 mod more_decode_rows;
 mod other_rows;
+mod segwit_decode_rows;
+mod segwit_encode_rows;
 
 use crate::reply::{REPLY_ROOM, reply};
 use std::alloc::Global;
@@ -45,4 +47,14 @@ fn more_decode_lines(rt: HostRuntime) -> Result<(), Fail> {
 #[test]
 fn other_lines(rt: HostRuntime) -> Result<(), Fail> {
     replay(&rt, rt.alloc(), other_rows::ROWS)
+}
+
+#[test]
+fn segwit_encode_lines(rt: HostRuntime) -> Result<(), Fail> {
+    replay(&rt, rt.alloc(), segwit_encode_rows::ROWS)
+}
+
+#[test]
+fn segwit_decode_lines(rt: HostRuntime) -> Result<(), Fail> {
+    replay(&rt, rt.alloc(), segwit_decode_rows::ROWS)
 }

@@ -1,14 +1,16 @@
 -- The coefficients of a row of elements.
-use Rattle.std.proofs.Common.{◌≡◌, ◌<◌, ◌≤◌, ◌+◌, ◌*◌, ◌/◌, ◌^◌, ℕ, zero, suc, List, [], ◌∷◌, length, replicate, slice_set, refl, sym, ap, subst, ◌∙◌, arith, ⊎_elim}
-use Rattle.std.proofs.lemmas.Bool.{cases_lt}
+use Rattle.std.proofs.Common.{◌≡◌, ◌↔◌, ◌==◌, ◌&&◌, true, eq-eqb, ◌<◌, ◌≤◌, ◌+◌, ◌*◌, ◌/◌, ◌^◌, ℕ, zero, suc, List, [], ◌∷◌, length, replicate, slice_set, refl, sym, ap, subst, ◌∙◌, arith, ⊎_elim}
+use Rattle.std.proofs.lemmas.Bool.{cases_lt, eqb-true, and_parts, and_from}
 use Rattle.std.proofs.lemmas.List.{get_or-set_same, get_or-set_other}
 use Rattle.std.proofs.Math.Nat.{eq-or-lt_of_le, div-eq_of_lt}
 use Rattle.std.proofs.Common.{lt_of_lt_of_le}
 use Rattle.std.proofs.Math.Pow.{pow_mono}
 use Rattle.bech32_gf.specs.Fe32 as fe32
 use Rattle.bech32_gf.specs.declared.gf32.Fe32.{Fe32}
-use Rattle.bech32_poly.specs.Polynomial.{coefficient}
+use lib.Pointwise.{pointwise, pointwise_decides}
+use Rattle.bech32_poly.specs.Polynomial.{coefficient, IsSamePolynomial}
 use Rattle.bech32_core.specs.Packed.{digit_of}
+use Rattle.bech32.specs.declared.primitives.decode.error.InvalidResidueError.{InvalidResidueError}
 
 pub coefficient-replicate : (m n : ℕ) (e : 0 < 32) → coefficient fe32.ops (replicate m (record { value = 0; in_field = e })) n ≡ fe32.zero
 coefficient-replicate zero n e = refl
@@ -58,3 +60,20 @@ same_row (x ∷ xs) (y ∷ ys) e h =
     let head : x ≡ y = h 0 in
     let tail : xs ≡ ys = same_row xs ys (omega arith) (λ n. h (suc n)) in
     cc
+
+-- rows of one length are equal, element by element, where their polynomials are
+pub rows-decide : (xs ys : List Fe32) → length xs ≡ length ys → (pointwise (λ (x y : Fe32). x.value == y.value) xs ys ≡ true) ↔ IsSamePolynomial fe32.ops xs ys
+rows-decide xs ys e =
+    let test = pointwise_decides (λ (x y : Fe32). (λ h. fe32.path x y (eqb-true x.value y.value h), λ k. eq-eqb x.value y.value (ap (λ (z : Fe32). z.value) k))) xs ys in
+    (λ h n. ap (λ (l : List Fe32). coefficient fe32.ops l n) (test.0 h), λ same. test.1 (same_row xs ys e same))
+
+-- the same of the two rows of an error
+pub errors-decide : (x y : InvalidResidueError)
+    → (pointwise (λ (a b : Fe32). a.value == b.value) x.actual.digits y.actual.digits && pointwise (λ (a b : Fe32). a.value == b.value) x.target.digits y.target.digits) ≡ true
+    ↔ (IsSamePolynomial fe32.ops x.actual.digits y.actual.digits × IsSamePolynomial fe32.ops x.target.digits y.target.digits)
+errors-decide x y =
+    let a = rows-decide x.actual.digits y.actual.digits (x.actual.full ∙ sym y.actual.full) in
+    let t = rows-decide x.target.digits y.target.digits (x.target.full ∙ sym y.target.full) in (
+      λ h. let both = and_parts (pointwise (λ (c d : Fe32). c.value == d.value) x.actual.digits y.actual.digits) (pointwise (λ (c d : Fe32). c.value == d.value) x.target.digits y.target.digits) h in (a.0 both.0, t.0 both.1),
+      λ p. and_from (pointwise (λ (c d : Fe32). c.value == d.value) x.actual.digits y.actual.digits) (pointwise (λ (c d : Fe32). c.value == d.value) x.target.digits y.target.digits) (a.1 p.0) (t.1 p.1),
+    )

@@ -1,5 +1,7 @@
 -- The characters of a data part are ASCII, and the separator is none of them.
-use Rattle.std.proofs.Common.{◌≡◌, ℕ, Bool, true, false, List, [], ◌∷◌, ◌&&◌, refl, ap, ◌∙◌}
+use Rattle.std.proofs.Common.{◌≡◌, ℕ, Bool, true, false, List, [], ◌∷◌, ◌&&◌, refl, sym, ap, ◌∙◌, take, drop}
+use Rattle.std.proofs.lemmas.List.{take-append-drop}
+use Rattle.std.proofs.lemmas.List.Folds.{list_all-append}
 use Rattle.std.proofs.lemmas.Bool.{and_parts}
 use Rattle.std.specs.Str.{IsAscii}
 use Rattle.std.proofs.lemmas.Str.Ascii.{IsAscii-nil, IsAscii-cons}
@@ -18,3 +20,12 @@ IsAscii-from_data (b ∷ bs) h =
 
 pub is_data-more : (c : ℕ) (behind : List ℕ) → is_of_alphabet c ≡ true → is_data behind ≡ true → is_data (c ∷ behind) ≡ true
 is_data-more c behind p q = ap (λ (t : Bool). t && is_data behind) p ∙ q
+
+-- the front and the rest of a data part are of the alphabet
+pub is_data-take : (n : ℕ) (bytes : List ℕ) → is_data bytes ≡ true → is_data (take n bytes) ≡ true
+is_data-take n bytes h =
+    (and_parts (is_data (take n bytes)) (is_data (drop n bytes)) (sym (list_all-append is_of_alphabet (take n bytes) (drop n bytes)) ∙ ap is_data (take-append-drop n bytes) ∙ h)).0
+
+pub is_data-drop : (n : ℕ) (bytes : List ℕ) → is_data bytes ≡ true → is_data (drop n bytes) ≡ true
+is_data-drop n bytes h =
+    (and_parts (is_data (take n bytes)) (is_data (drop n bytes)) (sym (list_all-append is_of_alphabet (take n bytes) (drop n bytes)) ∙ ap is_data (take-append-drop n bytes) ∙ h)).1

@@ -1,11 +1,13 @@
 //! Encoding and decoding of bech32 texts (BIP-173 and BIP-350).
 #![tactic(auto)]
 
-ghost use Rattle.std.specs.Prelude.{◌≡◌, ◌≤◌, ◌⊎◌, ◌+◌, ◌-◌, ◌^◌, min, true, length, take, MatchResult, IfOk, IfErr, IsOk, IsOkUnless, string_bytes};
+ghost use Rattle.std.specs.Prelude.{◌≡◌, ◌++◌, ℕ, List, nat_lt, option_to_list, ◌<◌, ◌≤◌, ◌⊎◌, ◌+◌, ◌-◌, ◌^◌, min, true, length, take, MatchResult, IfOk, IfErr, IsOk, IsOkUnless, string_bytes};
+ghost use Rattle.std.specs.List.{list_all};
 ghost use Rattle.bech32_gf.specs.Alphabet.{is_data};
 ghost use Rattle.bech32_gf.specs.Fe32.{elements_of};
 ghost use Rattle.bech32_core.specs.Bits.{fes_count, to_bytes, to_fes};
 ghost use Rattle.bech32_core.specs.Code.{bech32, bech32m};
+ghost use Rattle.bech32_core.specs.Hrp.{IsHrp, lowered};
 ghost use Rattle.bech32_core.specs.HrpBytes.{hrp_bytes};
 ghost use Rattle.bech32.specs.Acceptance.{Accepts, IsDecoded};
 ghost use Rattle.bech32_core.specs.Encoded.{IsEncodedText};
@@ -14,11 +16,13 @@ ghost use Rattle.bech32.specs.Refusals.{IsDecodeRefusal, IsEncodeRefusal, IsChec
 
 mod error;
 pub mod primitives;
+pub mod segwit;
 
-use crate::primitives::decode::reader::AsciiToFe32Iter;
-use crate::primitives::decode::unchecked::UncheckedHrpstring;
-use crate::primitives::decode::{ChecksumError, CodeLengthError};
+use crate::primitives::decode::{
+    CheckedHrpstring, ChecksumError, CodeLengthError, UncheckedHrpstring,
+};
 pub use bech32_core::checksum::{Bech32, Bech32m, Checksum, NoChecksum};
+use bech32_core::encode::{CharIter, WitnessVersionIter};
 pub use bech32_core::hrp::Hrp;
 pub use bech32_core::iter::{ByteIterExt, Fe32IterExt};
 pub use bech32_gf::gf32::Fe32;
@@ -26,14 +30,14 @@ pub use bech32_gf::gf32_ext::{Fe1024, Fe32768};
 pub use error::{DecodeError, EncodeError};
 use std::alloc::{AllocError, Allocator, Global};
 
-// The bytes of the elements that characters of the alphabet stand for.
-fn bytes_in<A: Allocator>(alloc: A, characters: &[u8]) -> Result<Vec<u8, A>, AllocError>
-    requires { is_data characters.now ≡ true }
-    ensures { IfOk result (λ v. v.items ≡ to_bytes (elements_of characters.now)) }
+// The bytes of the data.
+fn bytes_in<A: Allocator>(
+    alloc: A,
+    checked: &CheckedHrpstring<'_>,
+) -> Result<Vec<u8, A>, AllocError>
+    ensures { IfOk result (λ v. v.items ≡ to_bytes (elements_of checked.now.ascii.now)) }
 {
-    AsciiToFe32Iter::new(characters)
-        .fes_to_bytes()
-        .collect(alloc)
+    checked.byte_iter().collect(alloc)
 }
 
 // Tests the checksum as Bech32m and as Bech32, in one pass: they differ in the target alone.
@@ -57,14 +61,16 @@ fn decoded_in<A: Allocator>(alloc: A, s: &str) -> Result<(Hrp, Vec<u8, A>), Deco
 {
     let unchecked = UncheckedHrpstring::new(s)?;
     validate_either(&unchecked)?;
-    let bytes = bytes_in(alloc, unchecked.data_before(Bech32m::CHECKSUM_LENGTH))?;
-    Ok((unchecked.hrp(), bytes))
+    let checked = unchecked.remove_checksum::<Bech32m>();
+    let bytes = bytes_in(alloc, &checked)?;
+    Ok((checked.hrp(), bytes))
 }
 
 /// Decodes a text that Bech32m or Bech32 accepts: its human-readable part, in the case of the text,
 /// and the bytes of its data, with memory from `alloc`.
 ///
-/// Bits behind the last whole byte are dropped and not tested.
+/// Bits behind the last whole byte are dropped and not tested. Of a text that [`encode_in`] writes by
+/// Bech32m or Bech32 it gives the human-readable part, in lower case, and the bytes.
 ///
 /// # Errors
 ///
@@ -74,6 +80,9 @@ pub fn decode_in<A: Allocator>(alloc: A, s: &str) -> Result<(Hrp, Vec<u8, A>), D
     ensures value { IfOk result (λ d. IsDecoded s.now (hrp_bytes d.0) d.1.items) }
     ensures accepts { (Accepts bech32m s.now ⊎ Accepts bech32 s.now) → IsOkUnless result DecodeError.Memory }
     ensures refused { IfErr result (λ e. IsDecodeRefusal s.now e) }
+    ensures back { (hrp : List ℕ) → (bytes : List ℕ) → IsHrp hrp → list_all (λ b. nat_lt b 256) bytes ≡ true
+        → IsEncodedText bech32m hrp (to_fes bytes) s.now ⊎ IsEncodedText bech32 hrp (to_fes bytes) s.now → length s.now ≤ 1023
+        → IsOkUnless result DecodeError.Memory × IfOk result (λ d. (hrp_bytes d.0 ≡ lowered hrp) × (d.1.items ≡ bytes)) }
 {
     decoded_in(alloc, s)
 }
@@ -83,6 +92,9 @@ pub fn decode(alloc: Global, s: &str) -> Result<(Hrp, Vec<u8>), DecodeError>
     ensures value { IfOk result (λ d. IsDecoded s.now (hrp_bytes d.0) d.1.items) }
     ensures accepts { (Accepts bech32m s.now ⊎ Accepts bech32 s.now) → IsOkUnless result DecodeError.Memory }
     ensures refused { IfErr result (λ e. IsDecodeRefusal s.now e) }
+    ensures back { (hrp : List ℕ) → (bytes : List ℕ) → IsHrp hrp → list_all (λ b. nat_lt b 256) bytes ≡ true
+        → IsEncodedText bech32m hrp (to_fes bytes) s.now ⊎ IsEncodedText bech32 hrp (to_fes bytes) s.now → length s.now ≤ 1023
+        → IsOkUnless result DecodeError.Memory × IfOk result (λ d. (hrp_bytes d.0 ≡ lowered hrp) × (d.1.items ≡ bytes)) }
 {
     decode_in(alloc, s)
 }
@@ -100,18 +112,45 @@ fn text_length<Ck: Checksum>(hrp: &Hrp, bytes: usize) -> usize
         .saturating_add(Ck::CHECKSUM_LENGTH)
 }
 
-// The text of a human-readable part and bytes, with room for `capacity` characters from the start.
-fn text_in<Ck: Checksum, A: Allocator>(
+/// The number of characters of the text that [`encode`] writes of a human-readable part and bytes.
+///
+/// Nothing else is tested.
+///
+/// # Errors
+///
+/// The length, exactly where it is above the code length of the checksum (`usize::MAX` where it is
+/// above that too).
+pub fn encoded_length<Ck: Checksum>(hrp: Hrp, data: &[u8]) -> Result<usize, CodeLengthError>
+    ensures { MatchResult result
+        (λ n. (n ≡ encoded_length_of Ck.code (hrp_bytes hrp) (to_fes «data».now)) × (n ≤ Ck.code.code_length))
+        (λ e. (Ck.code.code_length < encoded_length_of Ck.code (hrp_bytes hrp) (to_fes «data».now))
+        × (e.encoded_length ≡ encoded_length_of Ck.code (hrp_bytes hrp) (to_fes «data».now))
+        × (e.code_length ≡ Ck.code.code_length)) }
+{
+    let length = text_length::<Ck>(&hrp, data.len());
+    if length > Ck::CODE_LENGTH {
+        return Err(CodeLengthError {
+            encoded_length: length,
+            code_length: Ck::CODE_LENGTH,
+        });
+    }
+    Ok(length)
+}
+
+// The text of a human-readable part, a witness version where there is one, and bytes, with room for
+// `capacity` characters from the start.
+pub(crate) fn text_in<Ck: Checksum, A: Allocator>(
     alloc: A,
     hrp: Hrp,
+    version: Option<Fe32>,
     data: &[u8],
     capacity: usize,
 ) -> Result<String<A>, AllocError>
-    ensures { IfOk result (λ s. IsEncodedText Ck.code (hrp_bytes hrp) (to_fes «data».now) (string_bytes s)) }
+    ensures { IfOk result (λ s. IsEncodedText Ck.code (hrp_bytes hrp) (option_to_list version ++ to_fes «data».now) (string_bytes s)) }
 {
     let mut text = String::with_capacity(alloc, capacity)?;
-    let elements = data.iter().copied().bytes_to_fes();
-    for c in elements.with_checksum::<Ck>(&hrp).chars() {
+    let elements = WitnessVersionIter::new(version, data.iter().copied().bytes_to_fes());
+    for c in CharIter::<_, Ck>::new(&hrp, elements) {
         text.push(c)?;
     }
     Ok(text)
@@ -132,14 +171,8 @@ pub fn encode_in<Ck: Checksum, A: Allocator>(
     ensures fits { IsOk result → encoded_length_of Ck.code (hrp_bytes hrp) (to_fes «data».now) ≤ Ck.code.code_length }
     ensures refused { IfErr result (λ e. IsEncodeRefusal Ck.code (hrp_bytes hrp) (to_fes «data».now) e) }
 {
-    let length = text_length::<Ck>(&hrp, data.len());
-    if length > Ck::CODE_LENGTH {
-        return Err(EncodeError::TooLong(CodeLengthError {
-            encoded_length: length,
-            code_length: Ck::CODE_LENGTH,
-        }));
-    }
-    let text = text_in::<Ck, A>(alloc, hrp, data, length)?;
+    let length = encoded_length::<Ck>(hrp, data)?;
+    let text = text_in::<Ck, A>(alloc, hrp, None, data, length)?;
     Ok(text)
 }
 

@@ -1,6 +1,7 @@
 //! The parts that encoding and decoding are made of.
 
 pub mod decode;
+pub mod segwit;
 
 pub use bech32_core::checksum::{Bech32, Bech32m, NoChecksum};
 pub use bech32_core::{checksum, device, encode, hrp, iter};

@@ -1,4 +1,5 @@
 use super::*;
+use crate::primitives::decode::reader::AsciiToFe32Iter;
 use crate::primitives::decode::{CharError, InvalidResidueError, UncheckedHrpstringError};
 use crate::primitives::hrp;
 use linked_list_allocator::LocalHeap;
@@ -197,15 +198,19 @@ fn tells_why_a_text_is_not_read(rt: HostRuntime) -> Result<(), Fail> {
     for (text, message) in [
         (
             "a12uel57",
-            "checksum failed: residue q did not match target 4usv9r",
+            "checksum failed: residue q did not match target r9vsu4",
         ),
         (
             "a12uel5q",
-            "checksum failed: residue 7 did not match target 4usv9r",
+            "checksum failed: residue 7 did not match target r9vsu4",
         ),
         (
             "a12uel47",
-            "checksum failed: residue pq did not match target 4usv9r",
+            "checksum failed: residue qp did not match target r9vsu4",
+        ),
+        (
+            "a1qqqqqq",
+            "checksum failed: residue 75leu2 did not match target r9vsu4",
         ),
     ] {
         let error = residue_error(text).ok_or("it is accepted")?;
@@ -256,7 +261,7 @@ fn read_all<I: ExactSizeIterator<Item = Fe32>>(
 #[test]
 fn reads_elements(rt: HostRuntime) -> Result<(), Fail> {
     let unchecked = UncheckedHrpstring::new("A1QPZR")?;
-    let characters = unchecked.data_before(0);
+    let characters = unchecked.data_part_ascii();
     let (count, elements) = read_all(rt.alloc(), AsciiToFe32Iter::new(characters))?;
     assert_eq!(rt; count, 4);
     let wanted = [Fe32::Q, Fe32::P, Fe32::Z, Fe32::R];

@@ -1,6 +1,6 @@
 -- Adaptors that give a list of their own first, and then what an adaptor inside gives.
-use Rattle.std.proofs.Common.{◌≡◌, ◌<◌, ℕ, Bool, true, List, [], ◌∷◌, ◌++◌, map, Option, Some, None, MatchOption, option_to_list, sym, ap, subst, ◌∙◌, refl}
-use Rattle.std.specs.Prelude.{IfNone, IfSome, false}
+use Rattle.std.proofs.Common.{◌≡◌, Bool, true, List, [], ◌∷◌, ◌++◌, map, Option, Some, None, MatchOption, option_to_list, sym, ap, subst, ◌∙◌, refl}
+use Rattle.std.specs.Prelude.{IfNone, false}
 use Rattle.std.specs.Option.{option_map}
 use Rattle.std.specs.Iterator.{Yields, Drains, DrainsIf}
 use Rattle.std.specs.Iterator.Runs.{SomeRun, EachRunFrom}

@@ -1,5 +1,5 @@
 -- A human-readable part goes into an engine byte by byte.
-use Rattle.std.proofs.Common.{◌≡◌, ◌<◌, ◌+◌, ◌∙◌, ℕ, suc, List, [], ◌∷◌, ◌++◌, length, map, drop, get_or, sym, ap, add-one, refl}
+use Rattle.std.proofs.Common.{◌≡◌, ◌<◌, ◌+◌, ◌∙◌, ℕ, suc, List, ◌∷◌, length, map, drop, get_or, sym, ap, add-one}
 use Rattle.std.proofs.Math.Seq.{drop-cons}
 use Rattle.std.specs.Char.{to_ascii_lowercase}
 use Rattle.bech32_gf.specs.declared.gf32.Fe32.{Fe32}

@@ -3,7 +3,7 @@
 
 ghost use Rattle.std.specs.Prelude.{true, false, None, nat_lt, min, length, List, option_to_list, IfSome, SomeIff, ◌≡◌, ℕ, ◌+◌, ◌-◌, ◌*◌, ◌/◌, ◌%◌, ◌^◌, ◌<◌, ◌≤◌};
 ghost use Rattle.std.specs.List.{list_all};
-ghost use Rattle.std.specs.Iterator.{size, Drains, UpTo};
+ghost use Rattle.std.specs.Iterator.{size, Drains, MakesProgress, UpTo};
 ghost use Rattle.std.specs.Iterator.SizeHint.{IsWithinCount};
 ghost use Rattle.std.specs.Iterator.Runs.{EachRunFrom, SomeRun};
 ghost use Rattle.std.specs.Iterator.Adapters.{fuse_source, fuse_done};
@@ -230,7 +230,13 @@ impl<I: Iterator<Item = Fe32>> Iterator for FesToBytes<I> {
 
     // With up to four bits held, one or two elements complete a byte.
     #[inline]
-    fn next(&mut self) -> Option<u8> {
+    fn next(&mut self) -> Option<u8>
+        requires { fuse_can I.can_next (bytes_source self.old) }
+        ensures steps { Adapts I.next_gives bytes_source bytes_gives self.old result self.new }
+        ensures goes { MakesProgress (λ s. fuse_can I.can_next (bytes_source s)) (bytes_left I.remaining) self.old result self.new }
+        // Whether a last part is filled stays as it was.
+        ensures padded { self.new.padded ≡ self.old.padded }
+    {
         let Some(first) = self.fes.next() else {
             let last = last_byte(self.padded, self.held.to_u8() as u16, self.count);
             self.count = 0;
@@ -272,6 +278,7 @@ impl<I: Iterator<Item = Fe32>> FesToBytes<I> {
     fn new(fes: I, padded: bool) -> Self
         ensures source { fuse_source (bytes_source result) ≡ fes }
         ensures fresh { fuse_done (bytes_source result) ≡ false }
+        ensures padded { result.padded ≡ padded }
         ensures gives { (xs : List Fe32) → bytes_gives result xs ≡ cut_bytes padded (fe_bits xs) }
         ensures walk { (bytes : List ℕ) → Drains (Adapts I.next_gives bytes_source bytes_gives) result bytes
             → (xs : List Fe32) × Drains I.next_gives fes xs × (bytes ≡ cut_bytes padded (fe_bits xs)) }
@@ -314,6 +321,7 @@ pub trait Fe32IterExt: Iterator<Item = Fe32> {
         Self: Sized,
         ensures source { fuse_source (bytes_source result) ≡ self }
         ensures fresh { fuse_done (bytes_source result) ≡ false }
+        ensures padded { result.padded ≡ false }
         ensures gives { (fes : List Fe32) → bytes_gives result fes ≡ to_bytes fes }
         // A whole walk gives the bytes of what a whole walk of the elements gives.
         ensures walk { (bytes : List ℕ) → Drains (Adapts Self.next_gives bytes_source bytes_gives) result bytes
@@ -333,6 +341,7 @@ pub trait Fe32IterExt: Iterator<Item = Fe32> {
         Self: Sized,
         ensures source { fuse_source (bytes_source result) ≡ self }
         ensures fresh { fuse_done (bytes_source result) ≡ false }
+        ensures padded { result.padded ≡ true }
         ensures gives { (fes : List Fe32) → bytes_gives result fes ≡ to_bytes_zeropad fes }
         // A whole walk gives the bytes of what a whole walk of the elements gives.
         ensures walk { (bytes : List ℕ) → Drains (Adapts Self.next_gives bytes_source bytes_gives) result bytes

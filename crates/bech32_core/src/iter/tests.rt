@@ -63,6 +63,17 @@ macro_rules! gives {
     }};
 }
 
+// The same, without a loop.
+macro_rules! gives_each {
+    ($rt:expr, $iter:expr, $($item:expr),+) => {{
+        let mut iter = $iter;
+        $(assert_eq!($rt; iter.next(), Some($item));)+
+        assert_eq!($rt; iter.next(), None);
+        assert_eq!($rt; iter.next(), None);
+        assert_eq!($rt; iter.next(), None);
+    }};
+}
+
 #[test]
 fn one_byte(rt: HostRuntime) -> Result<(), Fail> {
     let mut fes = [0xabu8].iter().copied().bytes_to_fes();
@@ -148,31 +159,34 @@ fn elements_of_two_bytes(rt: HostRuntime) {
 
 #[test]
 fn bytes_of_two_elements(rt: HostRuntime) {
-    gives!(rt, TwoItems::new(Fe32::_4, None).fes_to_bytes(), [0xad]);
-    gives!(
+    gives_each!(rt, TwoItems::new(Fe32::_4, None).fes_to_bytes(), 0xad);
+    gives_each!(
         rt,
         TwoItems::new(Fe32::_4, Some(usize::MAX)).fes_to_bytes(),
-        [0xad]
+        0xad
     );
-    gives!(rt, TwoOfFive::new(Fe32::_4).fes_to_bytes(), [0xad]);
+    gives_each!(rt, TwoOfFive::new(Fe32::_4).fes_to_bytes(), 0xad);
 }
 
 #[test]
 fn filled_bytes_of_two_elements(rt: HostRuntime) {
-    gives!(
+    gives_each!(
         rt,
         TwoItems::new(Fe32::_4, None).fes_to_bytes_zeropad(),
-        [0xad, 0x40]
+        0xad,
+        0x40
     );
-    gives!(
+    gives_each!(
         rt,
         TwoItems::new(Fe32::_4, Some(usize::MAX)).fes_to_bytes_zeropad(),
-        [0xad, 0x40]
+        0xad,
+        0x40
     );
-    gives!(
+    gives_each!(
         rt,
         TwoOfFive::new(Fe32::_4).fes_to_bytes_zeropad(),
-        [0xad, 0x40]
+        0xad,
+        0x40
     );
 }
 

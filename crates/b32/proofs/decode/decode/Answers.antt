@@ -1,5 +1,6 @@
-use Rattle.std.proofs.Common.{ℕ, List, [], ◌∷◌, ◌++◌, length, refl, ap, ◌∙◌, arith, inl, codes, length-append}
+use Rattle.std.proofs.Common.{ℕ, List, [], ◌∷◌, ◌++◌, length, refl, ap, ◌∙◌, arith, inl, inr, codes, length-append}
 use Rattle.std.proofs.lemmas.List.{length-map}
+use Rattle.std.proofs.lemmas.Result.{err_from_is_err_and}
 use Rattle.std.specs.Char.{to_ascii_lowercase}
 use Rattle.bech32_core.specs.HrpBytes.{hrp_bytes}
 use Rattle.bech32_core.specs.Hrp.{lowered}
@@ -44,3 +45,8 @@ returns-clause-ok g c =
       size = decode-reply-size c.args.text.now hrp bytes is;
       added = four-pieces c.args.out.now.items (codes "ok ") (lowered hrp) (32 ∷ []) (hex_of bytes) _ _ _ _ c.append.ensures.items part_is c.append-2.ensures.items last_is;
     }
+
+pub returns-in_err-hrp-clause-err : goal.returns-in_err-hrp-clause-err
+returns-in_err-hrp-clause-err g c =
+    let p = err_from_is_err_and c.from_residual.result c.from_residual.ensures.1 in
+    rw p.1 (rw p.2 (inl (inr (record { error = c.in_err-hrp.field-0.0; is_refusal = c.in_err-hrp.ensures.refused; spelling = refl }))))

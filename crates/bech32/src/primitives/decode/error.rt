@@ -7,8 +7,10 @@ ghost use Rattle.bech32_core.specs.Code.{bech32};
 ghost use Rattle.bech32_core.specs.Packed.{digit_of};
 
 use crate::primitives::decode::residue::Residue;
+use crate::primitives::segwit::{MAX_STRING_LENGTH, WitnessLengthError};
 use bech32_core::checksum::{Bech32, Checksum, PackedFe32};
 use bech32_core::hrp;
+use bech32_gf::gf32::Fe32;
 use thiserror::Error;
 
 /// Why the characters of a text are refused.
@@ -72,15 +74,58 @@ pub struct CodeLengthError {
     pub code_length: usize,
 }
 
-/// The remainder that a text leaves is not its checksum's target.
-#[derive(Clone, Copy, Debug, PartialEq, Eq, Drop, Error)]
+/// The remainder that a text leaves is not its checksum's target. Two such errors are equal where
+/// their remainders are, and their targets.
+#[derive(Clone, Copy, Debug, Drop, Error)]
 #[error("residue {actual} did not match target {target}")]
 pub struct InvalidResidueError {
     actual: Residue,
     target: Residue,
 }
 
+impl PartialEq for InvalidResidueError {
+    ghost use Rattle.std.specs.Prelude.{◌==◌};
+    ghost use Rattle.std.specs.Cmp.Lexicographic.{pointwise};
+    ghost use Rattle.std.specs.Cmp.Rules.{comparing};
+    ghost use Rattle.std.specs.Ordering.{eq_of_both, on};
+    ghost use Rattle.std.proofs.Common.{rules};
+    ghost use Rattle.bech32.specs.ResidueRows.{actual_row, target_row, value_of_element};
+
+    ghost eq = { eq_of_both (on actual_row (pointwise (on value_of_element ◌==◌)))
+        (on target_row (pointwise (on value_of_element ◌==◌))) };
+
+    ghost laws = { Prim.search (comparing, rules) depth 12 };
+
+    fn eq(&self, other: &InvalidResidueError) -> bool
+        ensures value { result ≡ eq_of_both (on actual_row (pointwise (on value_of_element ◌==◌))) (on target_row (pointwise (on value_of_element ◌==◌))) self.now other.now }
+        // As polynomials.
+        ensures polynomials { IsTrue result ↔ (IsSamePolynomial ops self.now.actual.digits other.now.actual.digits
+            × IsSamePolynomial ops self.now.target.digits other.now.target.digits) }
+    {
+        self.is_same(other)
+    }
+}
+
+impl Eq for InvalidResidueError {
+    ghost use Rattle.std.specs.Cmp.Rules.{comparing};
+    ghost use Rattle.std.proofs.Common.{rules};
+
+    ghost laws = { Prim.search (comparing, rules) depth 12 };
+}
+
 impl InvalidResidueError {
+    ghost use Rattle.std.specs.Prelude.{◌==◌};
+    ghost use Rattle.std.specs.Cmp.Lexicographic.{pointwise};
+    ghost use Rattle.std.specs.Ordering.{eq_of_both, on};
+    ghost use Rattle.bech32.specs.ResidueRows.{actual_row, target_row, value_of_element};
+
+    // Whether another error has the same rows.
+    fn is_same(&self, other: &InvalidResidueError) -> bool
+        ensures { result ≡ eq_of_both (on actual_row (pointwise (on value_of_element ◌==◌))) (on target_row (pointwise (on value_of_element ◌==◌))) self.now other.now }
+    {
+        self.actual == other.actual && self.target == other.target
+    }
+
     // The error of a text that leaves `actual` in place of `target`.
     pub(crate) fn new<R: PackedFe32>(actual: &R, target: &R) -> Self
         requires actual_fits { R.number actual.now < 2 ^ (5 * R.WIDTH) }
@@ -115,4 +160,137 @@ pub enum ChecksumError {
     /// The data part is shorter than the checksum.
     #[error("the checksummed string is not a valid length")]
     InvalidLength,
+}
+
+/// Why a text is not one that a checksum accepts.
+#[derive(Clone, Copy, Debug, PartialEq, Eq, Drop, Error)]
+pub enum CheckedHrpstringError {
+    /// It is not in the grammar.
+    #[error("parse failed: {0}")]
+    Parse(UncheckedHrpstringError),
+    /// Its checksum.
+    #[error("invalid checksum: {0}")]
+    Checksum(ChecksumError),
+}
+
+impl From<UncheckedHrpstringError> for CheckedHrpstringError {
+    ghost use Rattle.std.specs.Prelude.{◌≡◌};
+    ghost use Rattle.bech32.specs.declared.primitives.decode.error.CheckedHrpstringError.TheVariants.{Parse};
+
+    ghost from_gives = { λ e r. r ≡ Parse e };
+
+    fn from(e: UncheckedHrpstringError) -> Self {
+        Self::Parse(e)
+    }
+}
+
+impl From<ChecksumError> for CheckedHrpstringError {
+    ghost use Rattle.std.specs.Prelude.{◌≡◌};
+    ghost use Rattle.bech32.specs.declared.primitives.decode.error.CheckedHrpstringError.TheVariants.{Checksum};
+
+    ghost from_gives = { λ e r. r ≡ Checksum e };
+
+    fn from(e: ChecksumError) -> Self {
+        Self::Checksum(e)
+    }
+}
+
+/// A segwit address would have more than 90 characters: how many.
+#[derive(Clone, Copy, Debug, PartialEq, Eq, Drop, Error)]
+#[error("encoded length {0} exceeds maximum (code length) {max}", max = MAX_STRING_LENGTH)]
+pub struct SegwitCodeLengthError(pub usize);
+
+impl From<CodeLengthError> for SegwitCodeLengthError {
+    ghost use Rattle.std.specs.Prelude.{◌≡◌};
+
+    ghost from_gives = { λ e r. r.0 ≡ e.encoded_length };
+
+    fn from(e: CodeLengthError) -> Self {
+        Self(e.encoded_length)
+    }
+}
+
+/// Why the bits behind the last whole byte of a witness program are refused (BIP-173, Segwit address
+/// format).
+#[derive(Clone, Copy, Debug, PartialEq, Eq, Drop, Error)]
+pub enum PaddingError {
+    /// There are more than four.
+    #[error("the data payload has too many bits of padding")]
+    TooMuch,
+    /// Not all of them are zero.
+    #[error("the data payload is padded with non-zero bits")]
+    NonZero,
+}
+
+/// Why a text is no segwit address.
+#[derive(Clone, Copy, Debug, PartialEq, Eq, Drop, Error)]
+pub enum SegwitHrpstringError {
+    /// It is not in the grammar.
+    #[error("parsing unchecked hrpstring failed: {0}")]
+    Unchecked(UncheckedHrpstringError),
+    /// The data part is empty, or nothing is left of it before the checksum.
+    #[error("no data found after removing the checksum")]
+    NoData,
+    /// It has more than 90 characters: how many.
+    #[error("encoded length {0} exceeds spec limit {max} chars", max = MAX_STRING_LENGTH)]
+    TooLong(usize),
+    /// The witness version is above 16.
+    #[error("invalid segwit witness version: {} (bech32 character: '{}')", .0.to_u8(), .0.to_char())]
+    InvalidWitnessVersion(Fe32),
+    /// The bits behind the last whole byte of the program.
+    #[error("invalid padding on the witness data: {0}")]
+    Padding(PaddingError),
+    /// The length of the program.
+    #[error("invalid witness length: {0}")]
+    WitnessLength(WitnessLengthError),
+    /// The checksum.
+    #[error("invalid checksum: {0}")]
+    Checksum(ChecksumError),
+    /// There is no memory for the program (given by [`crate::segwit::decode`] alone).
+    #[error("no memory")]
+    Memory,
+}
+
+impl From<UncheckedHrpstringError> for SegwitHrpstringError {
+    ghost use Rattle.std.specs.Prelude.{◌≡◌};
+    ghost use Rattle.bech32.specs.declared.primitives.decode.error.SegwitHrpstringError.TheVariants.{Unchecked};
+
+    ghost from_gives = { λ e r. r ≡ Unchecked e };
+
+    fn from(e: UncheckedHrpstringError) -> Self {
+        Self::Unchecked(e)
+    }
+}
+
+impl From<WitnessLengthError> for SegwitHrpstringError {
+    ghost use Rattle.std.specs.Prelude.{◌≡◌};
+    ghost use Rattle.bech32.specs.declared.primitives.decode.error.SegwitHrpstringError.TheVariants.{WitnessLength};
+
+    ghost from_gives = { λ e r. r ≡ WitnessLength e };
+
+    fn from(e: WitnessLengthError) -> Self {
+        Self::WitnessLength(e)
+    }
+}
+
+impl From<PaddingError> for SegwitHrpstringError {
+    ghost use Rattle.std.specs.Prelude.{◌≡◌};
+    ghost use Rattle.bech32.specs.declared.primitives.decode.error.SegwitHrpstringError.TheVariants.{Padding};
+
+    ghost from_gives = { λ e r. r ≡ Padding e };
+
+    fn from(e: PaddingError) -> Self {
+        Self::Padding(e)
+    }
+}
+
+impl From<ChecksumError> for SegwitHrpstringError {
+    ghost use Rattle.std.specs.Prelude.{◌≡◌};
+    ghost use Rattle.bech32.specs.declared.primitives.decode.error.SegwitHrpstringError.TheVariants.{Checksum};
+
+    ghost from_gives = { λ e r. r ≡ Checksum e };
+
+    fn from(e: ChecksumError) -> Self {
+        Self::Checksum(e)
+    }
 }

@@ -5,6 +5,7 @@ ghost use Rattle.bech32_gf.specs.Alphabet.{is_data};
 ghost use Rattle.bech32_gf.specs.Fe32.{elements_of};
 
 use bech32_gf::gf32::Fe32;
+use std::iter::FusedIterator;
 
 /// The elements of characters of the alphabet, in turn.
 #[derive(Drop)]
@@ -35,6 +36,7 @@ impl<'s> Iterator for AsciiToFe32Iter<'s> {
 
     ghost remaining = { item_count elements_left };
 
+    #[inline]
     fn next(&mut self) -> Option<Fe32> {
         let (first, rest) = self.rest.split_first()?;
         self.rest = rest;
@@ -51,3 +53,5 @@ impl<'s> ExactSizeIterator for AsciiToFe32Iter<'s> {
         self.rest.len()
     }
 }
+
+impl<'s> FusedIterator for AsciiToFe32Iter<'s> {}

@@ -34,18 +34,19 @@ impl Residue {
     }
 }
 
-/// Shows the characters of the coefficients, the highest first, and `q` for zero.
+/// Shows the characters of the coefficients, the constant term first, up to the highest that is not
+/// zero, and `q` for zero.
 impl fmt::Display for Residue {
     fn fmt<W: fmt::Write>(&self, f: &mut fmt::Formatter<W>) -> fmt::Result {
-        let mut is_shown = false;
-        for digit in self.digits.iter().rev() {
-            if is_shown || *digit != Fe32::Q {
-                f.write_char(digit.to_char())?;
-                is_shown = true;
-            }
-        }
-        if !is_shown {
-            f.write_char('q')?;
+        let zeros = self
+            .digits
+            .iter()
+            .rev()
+            .take_while(|digit| **digit == Fe32::Q)
+            .count();
+        let shown = MAX_DEGREE.saturating_sub(zeros).max(1);
+        for digit in self.digits.iter().take(shown) {
+            f.write_char(digit.to_char())?;
         }
         Ok(())
     }

@@ -1,6 +1,6 @@
 //! A text whose characters were tested, and its checksum not.
 
-ghost use Rattle.std.specs.Prelude.{◌≡◌, ◌↔◌, ◌<◌, ◌≤◌, ◌-◌, ◌*◌, ◌^◌, ℕ, true, List, length, take, ◌++◌, ◌∷◌, None, Some, MatchResult, MatchOption, IfOk, IsOk};
+ghost use Rattle.std.specs.Prelude.{◌≡◌, ◌↔◌, ◌<◌, ◌≤◌, ◌-◌, ◌*◌, ◌^◌, ℕ, true, List, length, drop, ◌++◌, ◌∷◌, None, Some, MatchResult, MatchOption, IfOk, IsOk, IsTrue};
 ghost use Rattle.std.specs.Char.{IsScalar};
 ghost use Rattle.std.specs.List.{list_any};
 ghost use Rattle.bech32_gf.specs.Alphabet.{is_of_alphabet, is_data};
@@ -10,19 +10,22 @@ ghost use Rattle.bech32_core.specs.Hrp.{is_lower, is_upper};
 ghost use Rattle.bech32_core.specs.HrpBytes.{hrp_bytes};
 ghost use Rattle.bech32_core.specs.TextPolynomial.{text_polynomial};
 ghost use Rattle.bech32.specs.Refusals.{HasValidChecksum, IsChecksumRefusal};
+ghost use Rattle.bech32.specs.Version.{version_of};
 ghost use Rattle.bech32.specs.Text.{IsText, IsInGrammar, invalid_character, split_at_last, text_refusal};
 
+use crate::primitives::decode::checked::CheckedHrpstring;
 use crate::primitives::decode::error::{
     CharError, ChecksumError, CodeLengthError, InvalidResidueError, UncheckedHrpstringError,
 };
 use crate::primitives::decode::reader::AsciiToFe32Iter;
+use crate::primitives::decode::version::version_in;
 use bech32_core::checksum::{Checksum, Engine};
 use bech32_core::hrp::Hrp;
 use bech32_gf::gf32::Fe32;
 
 /// A text in its parts: the human-readable part, and the data part with the checksum in it, which
 /// was not tested. It borrows the text.
-#[derive(Clone, Copy)]
+#[derive(Clone, Copy, Debug)]
 pub struct UncheckedHrpstring<'s> {
     hrp: Hrp,
     data_part_ascii: &'s [u8],
@@ -86,6 +89,8 @@ fn residue_of<Ck: Checksum>(hrp: Hrp, data_part: &[u8]) -> Ck::MidstateRepr
 }
 
 impl<'s> UncheckedHrpstring<'s> {
+    ghost use Rattle.bech32.specs.Checked.{IsWithoutChecksum};
+
     // A text in its parts, or its first fault.
     fn read(s: &'s str) -> Result<Self, UncheckedHrpstringError>
         ensures { MatchResult result
@@ -122,14 +127,47 @@ impl<'s> UncheckedHrpstring<'s> {
         Self::read(s)
     }
 
-    /// The human-readable part.
+    /// The human-readable part, in the case of the text.
+    #[inline]
     pub fn hrp(&self) -> Hrp
         ensures { result ≡ self.now.hrp }
     {
         self.hrp
     }
 
-    /// Tests the checksum of the data part.
+    /// The characters of the data part: all of the alphabet, in the case of the text, with those of
+    /// the checksum.
+    #[inline]
+    pub fn data_part_ascii(&self) -> &'s [u8]
+        ensures value { result.now ≡ self.now.data_part_ascii.now }
+        ensures of_alphabet { is_data result.now ≡ true }
+    {
+        self.data_part_ascii
+    }
+
+    /// The witness version: the first element of the data part, where it is at most 16 (BIP-173,
+    /// Segwit address format).
+    #[inline]
+    pub fn witness_version(&self) -> Option<Fe32>
+        ensures { result ≡ version_of (elements_of self.now.data_part_ascii.now) }
+    {
+        version_in(self.data_part_ascii)
+    }
+
+    /// Takes the witness version off the data part, where there is one.
+    ///
+    /// The length that is tested against a code length stays that of the whole text.
+    pub fn remove_witness_version(&mut self) -> Option<Fe32>
+        ensures version { result ≡ version_of (elements_of self.old.data_part_ascii.now) }
+        ensures rest { MatchOption result (self.new.data_part_ascii.now ≡ self.old.data_part_ascii.now) (λ _. self.new.data_part_ascii.now ≡ drop 1 self.old.data_part_ascii.now) }
+        ensures others { (self.new.hrp ≡ self.old.hrp) × (self.new.hrpstring_length ≡ self.old.hrpstring_length) }
+    {
+        let version = self.witness_version()?;
+        self.data_part_ascii = &self.data_part_ascii[1..];
+        Some(version)
+    }
+
+    /// Tests the checksum of the data part. A checksum of degree 0 asks nothing of it.
     ///
     /// # Errors
     ///
@@ -146,6 +184,9 @@ impl<'s> UncheckedHrpstring<'s> {
                 code_length: Ck::CODE_LENGTH,
             }));
         }
+        if Ck::CHECKSUM_LENGTH == 0 {
+            return Ok(());
+        }
         if self.data_part_ascii.len() < Ck::CHECKSUM_LENGTH {
             return Err(ChecksumError::InvalidLength);
         }
@@ -159,12 +200,42 @@ impl<'s> UncheckedHrpstring<'s> {
         Ok(())
     }
 
-    /// The characters of the data part before its last `n`.
-    pub(crate) fn data_before(&self, n: usize) -> &'s [u8]
-        requires { n ≤ length self.now.data_part_ascii.now }
-        ensures value { result.now ≡ take (length self.now.data_part_ascii.now - n) self.now.data_part_ascii.now }
-        ensures of_alphabet { is_data result.now ≡ true }
+    /// Whether the checksum of the data part is right: [`Self::validate_checksum`] is `Ok`.
+    pub fn has_valid_checksum<Ck: Checksum>(&self) -> bool
+        ensures { IsTrue result ↔ HasValidChecksum Ck.code self.now.hrpstring_length (hrp_bytes self.now.hrp) self.now.data_part_ascii.now }
     {
-        &self.data_part_ascii[..self.data_part_ascii.len() - n]
+        self.validate_checksum::<Ck>().is_ok()
+    }
+
+    /// Tests the checksum, and takes it off the data part.
+    ///
+    /// # Errors
+    ///
+    /// Those of [`Self::validate_checksum`].
+    pub fn validate_and_remove_checksum<Ck: Checksum>(
+        self,
+    ) -> Result<CheckedHrpstring<'s>, ChecksumError>
+        ensures { MatchResult result
+            (λ c. HasValidChecksum Ck.code self.entry.hrpstring_length (hrp_bytes self.entry.hrp) self.entry.data_part_ascii.now
+            × IsWithoutChecksum Ck.code self.entry c)
+            (λ e. IsChecksumRefusal Ck.code self.entry.hrpstring_length (hrp_bytes self.entry.hrp) self.entry.data_part_ascii.now e) }
+    {
+        self.validate_checksum::<Ck>()?;
+        Ok(self.remove_checksum::<Ck>())
+    }
+
+    /// Takes the checksum off the data part, and does not test it.
+    ///
+    /// The data part must have as many characters as the checksum at least.
+    pub fn remove_checksum<Ck: Checksum>(self) -> CheckedHrpstring<'s>
+        requires { length Ck.code.generator ≤ length self.data_part_ascii.now }
+        ensures { IsWithoutChecksum Ck.code self.entry result }
+    {
+        let end = self.data_part_ascii.len() - Ck::CHECKSUM_LENGTH;
+        CheckedHrpstring::of_parts(
+            self.hrp,
+            &self.data_part_ascii[..end],
+            self.hrpstring_length,
+        )
     }
 }

@@ -1,4 +1,4 @@
-use Rattle.std.proofs.Common.{◌≡◌, ◌∙◌, ◌-◌, ◌*◌, ◌%◌, ◌^◌, ◌<◌, ℕ, List, [], ◌∷◌, sym, ap, arith}
+use Rattle.std.proofs.Common.{◌∙◌, ◌-◌, ◌*◌, ◌%◌, ◌^◌, ◌<◌, ℕ, [], ◌∷◌, sym, ap, arith}
 use Rattle.std.proofs.lemmas.Nat.{and_mask}
 use Rattle.bech32_core.specs.Bits.{bits, cut_bytes}
 use Rattle.bech32_core.proofs.ByteCuts.{filled, dropped, unfilled}

@@ -1,4 +1,4 @@
-use Rattle.std.proofs.Common.{◌∙◌, ◌≡◌, ◌/◌, ◌∷◌, List, ℕ, map, ap, sym, subst, refl}
+use Rattle.std.proofs.Common.{◌∙◌, ◌/◌, ◌∷◌, List, ℕ, map, ap, sym, subst, refl}
 use Rattle.bech32_gf.specs.Fe32 as fe32
 use Rattle.bech32_gf.specs.declared.gf32.Fe32.{Fe32 as Element}
 use Rattle.bech32_poly.specs.Polynomial.{appended}
@@ -6,7 +6,6 @@ use Rattle.bech32_poly.proofs.Appended.{appended-append}
 use Rattle.bech32_core.specs.Code.{IsResidueOf}
 use Rattle.bech32_core.specs.Hrp.{lowered}
 use Rattle.bech32_core.specs.HrpBytes.{hrp_bytes}
-use Rattle.bech32_core.specs.TextPolynomial.{hrp_elements}
 use Rattle.bech32_core.proofs.checksum.Engine.input_hrp.Goals as goal
 
 pub returns : goal.returns

@@ -1,6 +1,4 @@
-use Rattle.std.proofs.Common.{◌≡◌, ◌-◌, ◌/◌, get_or, refl, arith, rules}
-use Rattle.std.specs.Char.{to_ascii_lowercase}
-use Rattle.bech32_gf.specs.Fe32 as fe32
+use Rattle.std.proofs.Common.{refl, arith}
 use Rattle.bech32_core.proofs.HrpPlaces.{high_at, zero_at, low_at, none_at}
 use Rattle.bech32_core.proofs.checksum.hrp_fes.element_at.Goals as goal
 

@@ -1,5 +1,4 @@
-use Rattle.std.proofs.Common.{◌≡◌, [], sym, Some, None, drop, arith}
-use Rattle.std.specs.Prelude.{slice_get}
+use Rattle.std.proofs.Common.{◌≡◌, [], sym, drop, arith}
 use Rattle.std.proofs.lemmas.Option.{slice_get_within}
 use Rattle.bech32_core.specs.TextPolynomial.{hrp_elements}
 use Rattle.bech32_core.proofs.HrpPlaces.{drop_of_some, drop_of_none, length-hrp_elements, fewer}

@@ -2,7 +2,7 @@ use Rattle.std.proofs.Common.{◌≡◌, ◌≢◌, ◌∙◌, ◌<◌, ◌≤�
 use mathlib.Core.Bool.{not}
 use Rattle.std.proofs.Common.{lt_of_lt_of_le}
 use Rattle.std.proofs.Math.Pow.{pow_mono}
-use Rattle.bech32.proofs.Checksums.{length-generator, code_length-is, leaves_target, residue_error}
+use Rattle.bech32.proofs.Checksums.{length-generator, code_length-is, leaves_target, leaves_target-degree_0, residue_error}
 use Rattle.bech32.proofs.primitives.decode.unchecked.UncheckedHrpstring.validate_checksum.Goals as goal
 
 -- what fits the degree fits the width
@@ -16,6 +16,20 @@ not_equal false e h = cc
 equal : (t : Bool) → false ≡ not t → t ≡ true
 equal true e = refl
 equal false e = absurd cc
+
+pub returns-then-CHECKSUM_LENGTH-eq0 : goal.returns-then-CHECKSUM_LENGTH-eq0
+returns-then-CHECKSUM_LENGTH-eq0 g c =
+    let k = g.Ck.Checksum in
+    let r = g.Ck.MidstateRepr.PackedFe32 in
+    let same_number = g.met.Ck.MidstateRepr.PackedFe32.same_number_law in
+    let degree = length-generator r.number same_number k.code k.CODE_LENGTH k.CHECKSUM_LENGTH k.GENERATOR_SH k.TARGET_RESIDUE g.met.Ck.Checksum.code_law in
+    let size = code_length-is r.number same_number k.code k.CODE_LENGTH k.CHECKSUM_LENGTH k.GENERATOR_SH k.TARGET_RESIDUE g.met.Ck.Checksum.code_law in
+    let a = c.CODE_LENGTH.ensures in
+    let none : k.CHECKSUM_LENGTH ≡ 0 = sym c.CHECKSUM_LENGTH.ensures ∙ c.if-CHECKSUM_LENGTH-eq0.true in (
+      omega arith,
+      omega arith,
+      leaves_target-degree_0 r.number same_number k.code k.CODE_LENGTH k.CHECKSUM_LENGTH k.GENERATOR_SH k.TARGET_RESIDUE g.met.Ck.Checksum.code_law none _,
+    )
 
 pub returns-then-self-CHECKSUM_LENGTH : goal.returns-then-self-CHECKSUM_LENGTH
 returns-then-self-CHECKSUM_LENGTH g c =

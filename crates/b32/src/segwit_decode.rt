@@ -1,0 +1,36 @@
+//! Answers `segwit-decode`.
+
+ghost use Rattle.std.specs.Prelude.{◌≡◌, ◌+◌, ◌≤◌, vec_len, vec_capacity, OnOk, OnErr, IfErr};
+ghost use Rattle.b32.specs.Numbers.{number_of};
+ghost use Rattle.b32.specs.Reply.{err, Adds, OrNoMemory, IsSegwitDecodeAnswer};
+
+use crate::append::{append, append_lowered, append_number};
+use crate::hex_word::word_of_bytes;
+use crate::refusal::Refusal;
+use bech32::segwit;
+use std::alloc::Allocator;
+
+/// Adds the human-readable part, the version and the program of a segwit address, or leaves all as
+/// it was.
+pub fn segwit_decode<A: Allocator + Copy>(
+    alloc: A,
+    text: &str,
+    out: &mut Vec<u8>,
+) -> Result<(), Refusal>
+    requires { vec_len out.old + 2047 ≤ vec_capacity out.old }
+    ensures ok { OnOk result (Adds (IsSegwitDecodeAnswer text.now) out.old.items out.new.items) }
+    ensures err { IfErr result
+        (λ e. OrNoMemory (IsSegwitDecodeAnswer text.now) (err (number_of e))) }
+    ensures same { OnErr result (out.new.items ≡ out.old.items) }
+    ensures capacity { vec_capacity out.old ≤ vec_capacity out.new }
+{
+    let (hrp, version, program) = segwit::decode_in(alloc, text)?;
+    let hex = word_of_bytes(alloc, program.as_slice())?;
+    append(out, b"ok ");
+    append_lowered(out, hrp.as_bytes());
+    append(out, b" ");
+    append_number(out, version.to_u8());
+    append(out, b" ");
+    append(out, hex.as_bytes());
+    Ok(())
+}
