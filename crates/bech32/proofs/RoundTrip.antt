@@ -65,7 +65,7 @@ grammar-from_decoded : (text hrp bytes : List ℕ) → (d : IsDecoded text hrp b
 grammar-from_decoded text hrp bytes d =
     ⊎_elim (λ (a : IsAccepted bech32m text hrp d.data_part). a.grammar) (λ (a : IsAccepted bech32 text hrp d.data_part). a.grammar) d.accepted
 
-decoded-from_encoded : (code : Code) → length code.generator ≡ 6 → (hrp bytes text part found : List ℕ) → IsHrp hrp → list_all (λ b. nat_lt b 256) bytes ≡ true
+pub decoded-from_encoded : (code : Code) → length code.generator ≡ 6 → (hrp bytes text part found : List ℕ) → IsHrp hrp → list_all (λ b. nat_lt b 256) bytes ≡ true
     → IsEncodedText code hrp (to_fes bytes) text → IsDecoded text part found → (part ≡ lowered hrp) × (found ≡ bytes)
 decoded-from_encoded code degree hrp bytes text part found is below e d =
     let all : List Fe32 = to_fes bytes ++ e.checksum in

@@ -22,7 +22,7 @@ use crate::primitives::decode::{
     CheckedHrpstring, ChecksumError, CodeLengthError, UncheckedHrpstring,
 };
 pub use bech32_core::checksum::{Bech32, Bech32m, Checksum, NoChecksum};
-use bech32_core::encode::{CharIter, WitnessVersionIter};
+use bech32_core::encode::put_text;
 pub use bech32_core::hrp::Hrp;
 pub use bech32_core::iter::{ByteIterExt, Fe32IterExt};
 pub use bech32_gf::gf32::Fe32;
@@ -137,23 +137,33 @@ pub fn encoded_length<Ck: Checksum>(hrp: Hrp, data: &[u8]) -> Result<usize, Code
     Ok(length)
 }
 
-// The text of a human-readable part, a witness version where there is one, and bytes, with room for
-// `capacity` characters from the start.
+// The number of characters of the text with a witness version, where there is one, or `usize::MAX`
+// where it does not fit.
+fn length_with_version<Ck: Checksum>(hrp: &Hrp, version: Option<Fe32>, bytes: usize) -> usize
+    ensures { result ≡ min (length (hrp_bytes hrp.now) + 1 + (length (option_to_list version) + fes_count 0 bytes) + Ck.CHECKSUM_LENGTH) (2 ^ 64 - 1) }
+{
+    let length = text_length::<Ck>(hrp, bytes);
+    match version {
+        Some(_) => length.saturating_add(1),
+        None => length,
+    }
+}
+
+// The text of a human-readable part, a witness version where there is one, and bytes.
 pub(crate) fn text_in<Ck: Checksum, A: Allocator>(
     alloc: A,
     hrp: Hrp,
     version: Option<Fe32>,
     data: &[u8],
-    capacity: usize,
 ) -> Result<String<A>, AllocError>
     ensures { IfOk result (λ s. IsEncodedText Ck.code (hrp_bytes hrp) (option_to_list version ++ to_fes «data».now) (string_bytes s)) }
 {
-    let mut text = String::with_capacity(alloc, capacity)?;
-    let elements = WitnessVersionIter::new(version, data.iter().copied().bytes_to_fes());
-    for c in CharIter::<_, Ck>::new(&hrp, elements) {
-        text.push(c)?;
-    }
-    Ok(text)
+    let length = length_with_version::<Ck>(&hrp, version, data.len());
+    let mut text = vec![in alloc; 0u8; length]?;
+    let elements = data.iter().copied().bytes_to_fes();
+    put_text::<_, Ck>(&hrp, version, elements, text.as_mut_slice());
+    // All of it is ASCII: what the call requires is proved.
+    Ok(unsafe { String::from_utf8_unchecked(text) })
 }
 
 /// Encodes bytes under a human-readable part, in lower case, with memory from `alloc`.
@@ -171,8 +181,8 @@ pub fn encode_in<Ck: Checksum, A: Allocator>(
     ensures fits { IsOk result → encoded_length_of Ck.code (hrp_bytes hrp) (to_fes «data».now) ≤ Ck.code.code_length }
     ensures refused { IfErr result (λ e. IsEncodeRefusal Ck.code (hrp_bytes hrp) (to_fes «data».now) e) }
 {
-    let length = encoded_length::<Ck>(hrp, data)?;
-    let text = text_in::<Ck, A>(alloc, hrp, None, data, length)?;
+    encoded_length::<Ck>(hrp, data)?;
+    let text = text_in::<Ck, A>(alloc, hrp, None, data)?;
     Ok(text)
 }
 

@@ -113,14 +113,13 @@ fn text_of_version_in<A: Allocator>(
     hrp: Hrp,
     version: Fe32,
     program: &[u8],
-    capacity: usize,
 ) -> Result<String<A>, AllocError>
     ensures { IfOk result (λ s. IsEncodedText (segwit_code version) (hrp_bytes hrp) (version ∷ to_fes «program».now) (string_bytes s)) }
 {
     if version == VERSION_0 {
-        text_in::<Bech32, A>(alloc, hrp, Some(version), program, capacity)
+        text_in::<Bech32, A>(alloc, hrp, Some(version), program)
     } else {
-        text_in::<Bech32m, A>(alloc, hrp, Some(version), program, capacity)
+        text_in::<Bech32m, A>(alloc, hrp, Some(version), program)
     }
 }
 
@@ -134,8 +133,8 @@ fn encoded_in<A: Allocator>(
     ensures text { IfOk result (λ s. IsLowerAddress (hrp_bytes hrp) version «program».now (string_bytes s)) }
     ensures refused { IfErr result (λ e. IsSegwitEncodeRefusal (hrp_bytes hrp) version «program».now e) }
 {
-    let length = lawful_length(hrp, version, program)?;
-    let text = text_of_version_in(alloc, hrp, version, program, length)?;
+    lawful_length(hrp, version, program)?;
+    let text = text_of_version_in(alloc, hrp, version, program)?;
     Ok(text)
 }
 

@@ -18,9 +18,11 @@ pub mod PackedRows
 pub mod PackedRuns
 pub mod PartialProduct
 pub mod PlainCuts
+pub mod Products
 pub mod Residue
 pub mod Roots
 pub mod RoundTrip
 pub mod Shifts
 pub mod Target
+pub mod TextPieces
 pub mod Words

@@ -1,5 +1,6 @@
 pub mod Adaptor
 pub mod Bits
+pub mod Buffers
 pub mod BytesToFes
 pub mod ChecksumElements
 pub mod Code

@@ -3,9 +3,9 @@
 ghost use Rattle.std.specs.Prelude.{◌≡◌, ◌↔◌, ◌<◌, ◌≤◌, ◌*◌, ◌/◌, ◌^◌, map, reverse, ℕ, List, Some, IsTrue, length, slice_get, suc, ◌∷◌, []};
 ghost use Rattle.bech32_gf.specs.declared.gf32.Fe32.{Fe32 as Element};
 ghost use Rattle.bech32_gf.specs.Fe32 as fe32;
-ghost use Rattle.bech32_poly.specs.Polynomial.{appended};
+ghost use Rattle.bech32_poly.specs.Polynomial.{appended, scale};
 ghost use Rattle.bech32_core.specs.Hrp.{lowered};
-ghost use Rattle.bech32_core.specs.Packed.{digit_of};
+ghost use Rattle.bech32_core.specs.Packed.{digit_of, digits};
 ghost use Rattle.bech32_core.specs.Code.{Code, code_of, IsResidueOf};
 ghost use Rattle.bech32_core.specs.Roots.{HasLawfulRoots};
 
@@ -68,6 +68,26 @@ pub trait Checksum {
 
     /// The remainder of a right text, packed.
     const TARGET_RESIDUE: Self::MidstateRepr;
+
+    /// The product of an element and the generator's lower coefficients, packed.
+    ///
+    /// The provided one sums the words. Whoever defines a checksum may read a table in its place.
+    #[inline]
+    fn generator_times(element: Fe32) -> Self::MidstateRepr
+        ensures product { digits CHECKSUM_LENGTH (Self.MidstateRepr.number result)
+            ≡ scale fe32.ops element code.generator }
+        ensures clear { Self.MidstateRepr.number result < 2 ^ (5 * CHECKSUM_LENGTH) }
+    {
+        let bits = element.to_u8();
+        // The row of zeros.
+        let mut sum = Self::MidstateRepr::ONE ^ Self::MidstateRepr::ONE;
+        for i in 0..5 {
+            if (bits >> i) % 2 == 1 {
+                sum = sum ^ Self::GENERATOR_SH[i];
+            }
+        }
+        sum
+    }
 
     /// Whether the roots are lawful: the base is not zero, its order is the code length or more, the
     /// first exponent is not above the last, which is less than the degree above it, and each power
@@ -171,18 +191,14 @@ impl<Ck: Checksum> Engine<Ck> {
     {
         let mut residue = self.residue;
         let xn = residue.mul_by_x_then_add(Ck::CHECKSUM_LENGTH, e.to_u8());
-        for i in 0..5 {
-            if (xn >> i) % 2 == 1 {
-                residue = residue ^ Ck::GENERATOR_SH[i];
-            }
-        }
-        self.residue = residue;
+        self.residue = residue ^ Ck::generator_times(Fe32::from_low_bits(xn));
     }
 
     /// Takes the elements of the target, the highest first.
     ///
     /// The remainder is then the checksum of what was given before: its elements, the highest
     /// first, put in the target's place, make the polynomial leave the target.
+    #[inline]
     pub fn input_target_residue(&mut self)
         ensures { (p : List Element)
             → IsResidueOf Ck.MidstateRepr.number Ck.code self.old.residue p

@@ -6,6 +6,7 @@ ghost use Rattle.std.specs.Iterator.Adapters.{fuse_source, fuse_done};
 ghost use Rattle.std.specs.Iterator.Runs.{EachRunFrom, SomeRun};
 ghost use Rattle.bech32_gf.specs.declared.gf32.Fe32.{Fe32 as Element};
 
+mod buffer;
 mod bytes;
 mod elements;
 mod texts;
@@ -14,6 +15,7 @@ mod version;
 use crate::checksum::Checksum;
 use crate::hrp::Hrp;
 use bech32_gf::gf32::Fe32;
+pub use buffer::put_text;
 pub use bytes::ByteIter;
 pub use elements::Fe32Iter;
 use std::marker::PhantomData;

@@ -1,30 +1,47 @@
-use Rattle.std.proofs.Common.{◌∙◌, ◌++◌, ◌<◌, ap, option_to_list, refl, sym}
-use Rattle.std.specs.Prelude.{IfSome}
+use Rattle.std.proofs.Common.{◌≡◌, ◌≢◌, ◌∙◌, ◌++◌, ◌-◌, ◌^◌, length, ap, drop, option_to_list, string_bytes, vec_items, refl, rules, arith, subst, sym}
+use Rattle.std.proofs.lemmas.Str.{IsUtf8-from_ascii}
 use Rattle.std.specs.Iterator.Adapters.{copied_steps}
 use Rattle.std.specs.Slice.Iter.{iter_rest, iter_steps}
-use Rattle.bech32_core.specs.Adaptor.{Adapts}
+use Rattle.std.specs.Str.{IsUtf8}
 use Rattle.bech32_core.specs.Bits.{to_fes}
-use Rattle.bech32_core.specs.BytesToFes.{fes_gives, fes_source}
-use Rattle.bech32_core.specs.Encoded.{text_from}
+use Rattle.bech32_core.specs.HrpBytes.{hrp_bytes}
 use Rattle.bech32_core.proofs.ListSources.{ShowsRest-copied, copied_rest, drains-rest}
-use Rattle.bech32.proofs.Encoding.{Drains-by_calls, IsEncodedText-same}
+use Rattle.bech32.proofs.Encoding.{IsEncodedText-same, IsAscii-encoded, text_fills}
 use Rattle.bech32.proofs.text_in.Goals as goal
+
+pub from_utf8_unchecked-requires : goal.from_utf8_unchecked-requires
+from_utf8_unchecked-requires g c =
+    let k = g.Ck.Checksum in
+    let hrp = hrp_bytes c.args.hrp in
+    let (fes, text, inside, is, put) = c.put_text.ensures in
+    let (bytes, read, are) = c.bytes_to_fes-elements.ensures.walk fes inside in
+    let given = drains-rest (copied_steps iter_steps) copied_rest ShowsRest-copied c.copied.result bytes read in
+    let items = sym given ∙ ap iter_rest c.copied.ensures.source ∙ c.iter.ensures.rest in
+    let room : length c.as_mut_slice.result.now ≡ c.in_ok-text.text.len = search rules in
+    let size : c.in_ok-text.text.len ≡ c.length_with_version-length.result = c.in_ok-text.ensures.len in
+    let small = c.in_ok-text.text.small in
+    let ok = c.in_ok-text.text.ok in
+    let less : c.in_ok-text.text.len ≢ 2 ^ 64 - 1 = λ e. omega arith in
+    let filled = text_fills g.Ck.MidstateRepr.PackedFe32.number g.met.Ck.MidstateRepr.PackedFe32.same_number_law k.code k.CODE_LENGTH k.CHECKSUM_LENGTH k.GENERATOR_SH k.TARGET_RESIDUE g.met.Ck.Checksum.code_law
+    hrp c.args.data.now c.args.version fes text c.as_mut_slice.result.now c.put_text.new.buffer (drop (length c.put_text.new.buffer) c.in_ok-text.text.items) c.put_text.result c.in_ok-text.text.len
+    (are ∙ ap to_fes items) is (size ∙ c.length_with_version-length.ensures) less room put in
+    subst IsUtf8 (sym filled) (IsUtf8-from_ascii text (IsAscii-encoded k.code hrp (option_to_list c.args.version ++ fes) text c.args.hrp.all_ascii is))
 
 pub returns : goal.returns
 returns g c =
-    let start = c.into_iter-c-iterator.ensures.into_iter_gives in
-    let walk =
-    Drains-by_calls start
-    (λ s r t. Adapts
-    (Adapts (Adapts (copied_steps iter_steps) fes_source fes_gives) (λ w. w.elements) (λ w xs. option_to_list w.version ++ xs))
-    (λ u. u.checksummed.elements)
-    (λ u xs. text_from g.Ck.MidstateRepr.PackedFe32.number g.Ck.Checksum.code u.hrp.now u.place u.checksummed.engine.residue u.checksummed.tail xs)
-    s r t × IfSome r (λ b. b < 128))
-    c.loop-c.yielded c.loop-c.yielded_by c.in-None.ensures.steps in
-    let (all, taken, text) = c.new-c-items.ensures.walk c.loop-c.yielded walk in
-    let (xs, inside, gave) = c.new-elements.ensures.walk all taken in
-    let (bytes, read, fes) = c.bytes_to_fes.ensures.walk xs inside in
+    let k = g.Ck.Checksum in
+    let hrp = hrp_bytes c.args.hrp in
+    let (fes, text, inside, is, put) = c.put_text.ensures in
+    let (bytes, read, are) = c.bytes_to_fes-elements.ensures.walk fes inside in
     let given = drains-rest (copied_steps iter_steps) copied_rest ShowsRest-copied c.copied.result bytes read in
     let items = sym given ∙ ap iter_rest c.copied.ensures.source ∙ c.iter.ensures.rest in
-    IsEncodedText-same g.Ck.Checksum.code _ _ _ _ _ _ refl
-    (gave ∙ ap (λ l. option_to_list c.args.version ++ l) (fes ∙ ap to_fes items)) (sym c.loop-c.invariant) text
+    let room : length c.as_mut_slice.result.now ≡ c.in_ok-text.text.len = search rules in
+    let size : c.in_ok-text.text.len ≡ c.length_with_version-length.result = c.in_ok-text.ensures.len in
+    let small = c.in_ok-text.text.small in
+    let ok = c.in_ok-text.text.ok in
+    let less : c.in_ok-text.text.len ≢ 2 ^ 64 - 1 = λ e. omega arith in
+    let filled = text_fills g.Ck.MidstateRepr.PackedFe32.number g.met.Ck.MidstateRepr.PackedFe32.same_number_law k.code k.CODE_LENGTH k.CHECKSUM_LENGTH k.GENERATOR_SH k.TARGET_RESIDUE g.met.Ck.Checksum.code_law
+    hrp c.args.data.now c.args.version fes text c.as_mut_slice.result.now c.put_text.new.buffer (drop (length c.put_text.new.buffer) c.in_ok-text.text.items) c.put_text.result c.in_ok-text.text.len
+    (are ∙ ap to_fes items) is (size ∙ c.length_with_version-length.ensures) less room put in
+    let held : string_bytes c.from_utf8_unchecked.result ≡ _ = ap vec_items c.from_utf8_unchecked.ensures.value in
+    IsEncodedText-same k.code hrp hrp _ _ text _ refl (ap (λ l. option_to_list c.args.version ++ l) (are ∙ ap to_fes items)) (sym (held ∙ filled)) is

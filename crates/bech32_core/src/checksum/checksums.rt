@@ -8,6 +8,9 @@ ghost use Rattle.bech32_core.specs.PackedLaws as packed;
 ghost use Rattle.bech32_core.specs.Code.{no_checksum, bech32, bech32m};
 ghost use Rattle.bech32_core.specs.CodeLaws as codes;
 
+mod products;
+
+use self::products::product_with;
 use crate::checksum::Checksum;
 use crate::checksum::packed::PackedNull;
 use bech32_gf::gf32::Fe32;
@@ -114,6 +117,11 @@ impl Checksum for Bech32 {
 
     const TARGET_RESIDUE: u32 = 1;
 
+    #[inline]
+    fn generator_times(element: Fe32) -> u32 {
+        product_with(element)
+    }
+
     ghost width_law = { Prim.omega arith };
 
     ghost empty_law = { λ h. Prim.cc };
@@ -167,6 +175,11 @@ impl Checksum for Bech32m {
     const GENERATOR_SH: [u32; 5] = WORDS;
 
     const TARGET_RESIDUE: u32 = 0x2bc830a3;
+
+    #[inline]
+    fn generator_times(element: Fe32) -> u32 {
+        product_with(element)
+    }
 
     ghost width_law = { Prim.omega arith };
 

@@ -1,12 +1,15 @@
 //! The bytes of texts.
 
-ghost use Rattle.std.specs.Prelude.{◌≡◌, ℕ, List, true, IfSome};
+ghost use Rattle.std.specs.Prelude.{◌≡◌, ◌+◌, ◌-◌, ℕ, List, true, length, IfSome};
 ghost use Rattle.std.specs.Iterator.{Drains, UpTo};
 ghost use Rattle.std.specs.Iterator.Runs.{EachRunFrom, SomeRun};
 ghost use Rattle.std.specs.Iterator.SizeHint.{IsWithinCount};
+ghost use Rattle.bech32_core.specs.SizeHints.{FollowsHint};
 
 use super::texts::CharIter;
+use super::version::WitnessVersionIter;
 use crate::checksum::Checksum;
+use crate::iter::Checksummed;
 use bech32_gf::gf32::Fe32;
 
 /// The characters of a text as bytes; all of them are ASCII.
@@ -49,6 +52,8 @@ impl<'hrp, I: Iterator<Item = Fe32>, Ck: Checksum> Iterator for ByteIter<'hrp, I
     fn size_hint(&self) -> (usize, Option<usize>)
         ensures lower { IsWithinCount result.0 (⟦<ByteIter<'hrp, I, Ck> as Iterator>⟧.remaining self.now) }
         ensures upper { IfSome result.1 (UpTo (⟦<ByteIter<'hrp, I, Ck> as Iterator>⟧.remaining self.now)) }
+        ensures rule { FollowsHint (λ n. n + (length self.now.chars.hrp.now + 1 - self.now.chars.place))
+            (⟦<Checksummed<WitnessVersionIter<I>, Ck> as Iterator>⟧.remaining self.now.chars.checksummed) result }
     {
         self.chars.size_hint()
     }

@@ -89,6 +89,33 @@ const PROGRAM: [u8; 20] = [
 ];
 
 #[test]
+fn text_of_a_witness_program_in_a_buffer(rt: HostRuntime) {
+    let hrp = part(&rt, "BC");
+    let mut buffer = [b'-'; 45];
+    let fes = PROGRAM.iter().copied().bytes_to_fes();
+    let count = put_text::<_, Bech32>(&hrp, Some(Fe32::Q), fes, &mut buffer);
+    assert_eq!(rt; count, 42);
+    let text = b"bc1qw508d6qejxtdg4y5r3zarvary0c5xw7kv8f3t4---";
+    assert_eq!(rt; buffer.as_slice(), text.as_slice());
+}
+
+// Into a buffer without room goes as much as fits, and behind a buffer with room nothing changes.
+#[test]
+fn text_in_buffers_of_each_size(rt: HostRuntime) {
+    let none: [Fe32; 0] = [];
+    let hrp = part(&rt, "A");
+    let text = b"a12uel5l";
+    for room in 0..11usize {
+        let mut buffer = [b'-'; 12];
+        let fes = none.iter().copied();
+        let count = put_text::<_, Bech32>(&hrp, None, fes, &mut buffer[..room]);
+        assert_eq!(rt; count, room.min(8));
+        assert_eq!(rt; &buffer[..count], &text[..count]);
+        assert!(rt; buffer.iter().skip(count).all(|b| *b == b'-'));
+    }
+}
+
+#[test]
 fn text_of_a_witness_program(rt: HostRuntime) {
     let hrp = part(&rt, "BC");
     let fes = PROGRAM.iter().copied().bytes_to_fes();

@@ -125,8 +125,7 @@ impl<I: Iterator<Item = Fe32>, Ck: Checksum> Checksummed<I, Ck> {
     }
 
     // Gives the next element of the checksum, where the elements have ended.
-    #[cold]
-    #[inline(never)]
+    #[inline]
     fn next_of_checksum(&mut self) -> Option<Fe32>
         requires { fuse_done self.old.elements ≡ true }
         ensures elements { self.new.elements ≡ self.old.elements }
@@ -146,6 +145,7 @@ impl<I: Iterator<Item = Fe32>, Ck: Checksum> Checksummed<I, Ck> {
     }
 
     // Gives the next element of the residue, of which so many are to come.
+    #[inline]
     fn next_of_residue(&mut self, left: usize) -> Option<Fe32>
         requires few { left ≤ Ck.CHECKSUM_LENGTH }
         requires ended { fuse_done self.old.elements ≡ true }

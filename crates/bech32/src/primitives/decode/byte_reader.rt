@@ -1,6 +1,6 @@
 //! Reads the bytes of a data part.
 
-ghost use Rattle.std.specs.Prelude.{◌≡◌, false, true};
+ghost use Rattle.std.specs.Prelude.{◌≡◌, false, true, length, Some, IfSome};
 ghost use Rattle.bech32_core.specs.Bits.{to_bytes};
 ghost use Rattle.bech32_gf.specs.Alphabet.{is_data};
 ghost use Rattle.bech32_gf.specs.Fe32.{elements_of};
@@ -34,7 +34,8 @@ impl<'s> ByteIter<'s> {
 impl<'s> Iterator for ByteIter<'s> {
     type Item = u8;
 
-    ghost use Rattle.std.specs.Iterator.{YieldsFirst, item_count};
+    ghost use Rattle.std.specs.Iterator.{UpTo, YieldsFirst, item_count};
+    ghost use Rattle.std.specs.Iterator.SizeHint.{IsWithinCount};
     ghost use Rattle.bech32.specs.Readers.{bytes_to_come};
 
     ghost next_gives = { YieldsFirst bytes_to_come };
@@ -46,7 +47,11 @@ impl<'s> Iterator for ByteIter<'s> {
         self.iter.next()
     }
 
-    fn size_hint(&self) -> (usize, Option<usize>) {
+    fn size_hint(&self) -> (usize, Option<usize>)
+        ensures lower { IsWithinCount result.0 (item_count bytes_to_come self.now) }
+        ensures upper { IfSome result.1 (UpTo (item_count bytes_to_come self.now)) }
+        ensures exact { result ≡ (length (bytes_to_come self.now), Some (length (bytes_to_come self.now))) }
+    {
         (self.len(), Some(self.len()))
     }
 }

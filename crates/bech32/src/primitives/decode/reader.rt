@@ -1,6 +1,6 @@
 //! Reads the elements of a data part.
 
-ghost use Rattle.std.specs.Prelude.{◌≡◌, true};
+ghost use Rattle.std.specs.Prelude.{◌≡◌, true, length, Some, IfSome};
 ghost use Rattle.bech32_gf.specs.Alphabet.{is_data};
 ghost use Rattle.bech32_gf.specs.Fe32.{elements_of};
 
@@ -29,7 +29,8 @@ impl<'s> AsciiToFe32Iter<'s> {
 impl<'s> Iterator for AsciiToFe32Iter<'s> {
     type Item = Fe32;
 
-    ghost use Rattle.std.specs.Iterator.{YieldsFirst, item_count};
+    ghost use Rattle.std.specs.Iterator.{UpTo, YieldsFirst, item_count};
+    ghost use Rattle.std.specs.Iterator.SizeHint.{IsWithinCount};
     ghost use Rattle.bech32.specs.Readers.{elements_left};
 
     ghost next_gives = { YieldsFirst elements_left };
@@ -43,7 +44,11 @@ impl<'s> Iterator for AsciiToFe32Iter<'s> {
         Some(Fe32::from_char_unchecked(*first))
     }
 
-    fn size_hint(&self) -> (usize, Option<usize>) {
+    fn size_hint(&self) -> (usize, Option<usize>)
+        ensures lower { IsWithinCount result.0 (item_count elements_left self.now) }
+        ensures upper { IfSome result.1 (UpTo (item_count elements_left self.now)) }
+        ensures exact { result ≡ (length (elements_left self.now), Some (length (elements_left self.now))) }
+    {
         (self.rest.len(), Some(self.rest.len()))
     }
 }

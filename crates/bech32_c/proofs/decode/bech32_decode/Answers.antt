@@ -1,0 +1,18 @@
+use Rattle.std.proofs.Common.{length, refl}
+use Rattle.bech32_c.proofs.Back.{no_back_fault, put-back}
+use Rattle.bech32_c.proofs.Decoding.{no_decode_fault}
+use Rattle.bech32_c.proofs.decode.bech32_decode.Goals as goal
+
+pub returns-in-Ok-clause-back : goal.returns-in-Ok-clause-back
+returns-in-Ok-clause-back c part found is below encoded short part_fits found_fits =
+    let put = put-back c.args.text.now part found is below encoded _ _ _ _ _ _ c.in-Ok.ensures.value in
+    (refl, put.0, put.1)
+
+pub returns-in-Err-clause-accepts : goal.returns-in-Err-clause-accepts
+returns-in-Err-clause-accepts c can =
+    absurd (no_decode_fault c.args.text.now (length c.args.hrp.now) (length c.args.bytes.now) c.in-Err.refusal can c.in-Err.ensures.refused)
+
+pub returns-in-Err-clause-back : goal.returns-in-Err-clause-back
+returns-in-Err-clause-back c part found is below encoded short part_fits found_fits =
+    absurd (no_back_fault c.args.text.now part found is below encoded (length c.args.hrp.now) (length c.args.bytes.now) c.in-Err.refusal short part_fits found_fits
+    c.in-Err.ensures.refused)

@@ -1,0 +1,16 @@
+use Rattle.std.proofs.Common.{length, refl}
+use Rattle.bech32_c.proofs.Addresses.{no_segwit_encode_fault, put-spelling, room-from_address}
+use Rattle.bech32_c.proofs.segwit.bech32_segwit_encode.Goals as goal
+
+pub returns-in-Ok-clause-spelling : goal.returns-in-Ok-clause-spelling
+returns-in-Ok-clause-spelling c h t same a is small fits =
+    (refl, put-spelling c.args.hrp.now c.args.version c.args.program.now _ _ _ h t same a c.in-Ok.ensures.value)
+
+pub returns-in-Err-clause-accepts : goal.returns-in-Err-clause-accepts
+returns-in-Err-clause-accepts c has_room =
+    absurd (no_segwit_encode_fault c.args.hrp.now c.args.version c.args.program.now (length c.args.text.now) c.in-Err.refusal has_room c.in-Err.ensures.refused)
+
+pub returns-in-Err-clause-spelling : goal.returns-in-Err-clause-spelling
+returns-in-Err-clause-spelling c h t same a is small fits =
+    let room = room-from_address c.args.hrp.now c.args.version c.args.program.now (length c.args.text.now) h t same a is small fits in
+    absurd (no_segwit_encode_fault c.args.hrp.now c.args.version c.args.program.now (length c.args.text.now) c.in-Err.refusal room c.in-Err.ensures.refused)

@@ -1,0 +1,63 @@
+//! The engine over a run of elements.
+
+ghost use Rattle.std.specs.Prelude.{◌≡◌, ◌≢◌, ◌≤◌, ℕ, All, MatchResult};
+ghost use Rattle.bech32_c.specs.Checksums.{ForChecksum, IsFaultBy};
+ghost use Rattle.bech32_c.specs.Engine.{IsRunResidue, IsRunFault};
+ghost use Rattle.bech32_c.specs.Faults.{IsNumberOf};
+
+use crate::checksum::{BECH32, BECH32M};
+use crate::input::element_of;
+use crate::refusal::Refusal;
+use bech32::{Bech32, Bech32m, Checksum};
+use bech32_core::checksum::Engine;
+
+// The remainder of the elements of values, packed.
+fn residue_of<Ck: Checksum>(values: &[u8]) -> Result<Ck::MidstateRepr, Refusal>
+    ensures { MatchResult result
+        (λ r. IsRunResidue Ck.MidstateRepr.number values.now r Ck.code)
+        (λ e. IsRunFault values.now Ck.code e) }
+{
+    let mut engine = Engine::<Ck>::new();
+    for value in values {
+        engine.input_fe(element_of(u32::from(*value))?);
+    }
+    Ok(*engine.residue())
+}
+
+// The same by the checksum of a number.
+fn residue_by(checksum: u32, values: &[u8]) -> Result<u32, Refusal>
+    ensures { MatchResult result
+        (λ r. ForChecksum checksum (IsRunResidue (λ (n : ℕ). n) values.now r))
+        (λ e. IsFaultBy checksum (IsRunFault values.now) e) }
+{
+    match checksum {
+        BECH32 => residue_of::<Bech32>(values),
+        BECH32M => residue_of::<Bech32m>(values),
+        _ => Err(Refusal::BadNumber),
+    }
+}
+
+/// Feeds elements, a byte from 0 to 31 each, to the engine of the checksum that a number stands for
+/// (1 is Bech32, 2 is Bech32m), and sets `residue` to the remainder that it then holds: of the
+/// polynomial 1 with the elements behind it, the first the highest. Its six coefficients are packed,
+/// five bits each, the constant term lowest. A right text leaves 1 by Bech32, and 0x2bc830a3 by
+/// Bech32m, where the elements of its human-readable part go in first.
+///
+/// # Errors
+///
+/// Answers 4 for another number for `checksum`, and for a byte above 31.
+#[unsafe(no_mangle)]
+pub extern "C" fn bech32_residue(checksum: u32, values: &[u8], residue: &mut u32) -> u32
+    ensures value { result ≡ 0 → ForChecksum checksum (IsRunResidue (λ (n : ℕ). n) values.now residue.new) }
+    ensures accepts { ForChecksum checksum (λ _. All (λ x. x ≤ 31) values.now) → result ≡ 0 }
+    ensures refused { result ≢ 0 → IsNumberOf (IsFaultBy checksum (IsRunFault values.now)) result }
+    ensures same { result ≢ 0 → residue.new ≡ residue.old }
+{
+    match residue_by(checksum, values) {
+        Ok(r) => {
+            *residue = r;
+            0
+        }
+        Err(refusal) => refusal.number(),
+    }
+}

@@ -1,0 +1,21 @@
+//! Bech32 for C programs: the calls of `bech32` over numbers and bytes, as `include/bech32.h`
+//! declares them.
+//!
+//! Each call answers 0, or the number of a refusal (`specs/Numbers.antt`). What it writes stands at
+//! the front of the caller's buffers; behind it nothing changes, and on a refusal nothing changes
+//! at all. No call takes memory.
+//!
+//! A `&[u8]` or a `&mut [u8]` is a pointer and then a length to C, and a `&mut` a pointer. None of
+//! these pointers may be null, and what one points to may not overlap with what a `&mut` does.
+#![tactic(auto)]
+
+mod buffer;
+mod checksum;
+pub mod decode;
+pub mod encode;
+pub mod engine;
+mod input;
+mod refusal;
+pub mod segwit;
+#[cfg(test)]
+mod tests;

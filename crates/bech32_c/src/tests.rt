@@ -1,0 +1,473 @@
+use crate::decode::{bech32_check, bech32_decode};
+use crate::encode::bech32_encode;
+use crate::engine::bech32_residue;
+use crate::segwit::{bech32_segwit_decode, bech32_segwit_encode};
+use std::alloc::Global;
+use std::process::Abort;
+use std::test::Fail;
+
+// What buffers and numbers hold before a call.
+const BEFORE: u8 = 0xee;
+
+const LENGTH_BEFORE: usize = 7777;
+
+// The program of the addresses of BIP-173, and some bytes that begin with ff.
+const PROGRAM: [u8; 20] = [
+    0x75, 0x1e, 0x76, 0xe8, 0x19, 0x91, 0x96, 0xd4, 0x54, 0x94, 0x1c, 0x45, 0xd1, 0xb3, 0xa3, 0x23,
+    0xf1, 0x43, 0x3b, 0xd6,
+];
+
+const BYTES: [u8; 20] = [
+    0xff, 0x1e, 0x76, 0xe8, 0x19, 0x91, 0x96, 0xd4, 0x54, 0x94, 0x1c, 0x45, 0xd1, 0xb3, 0xa3, 0x23,
+    0xf1, 0x43, 0x3b, 0xd6,
+];
+
+// The program of the addresses of version 1 in BIP-350.
+const TAPROOT: [u8; 32] = [
+    0x79, 0xbe, 0x66, 0x7e, 0xf9, 0xdc, 0xbb, 0xac, 0x55, 0xa0, 0x62, 0x95, 0xce, 0x87, 0x0b, 0x07,
+    0x02, 0x9b, 0xfc, 0xdb, 0x2d, 0xce, 0x28, 0xd9, 0x59, 0xf2, 0x81, 0x5b, 0x16, 0xf8, 0x17, 0x98,
+];
+
+// The bytes stand at the front of the buffer, and behind them it is as it was.
+fn holds(rt: &impl Abort, buffer: &[u8], count: usize, bytes: &[u8]) {
+    assert_eq!(rt; count, bytes.len());
+    assert!(rt; buffer.starts_with(bytes), "{bytes:?}");
+    assert!(rt;
+        buffer.iter().skip(count).all(|b| *b == BEFORE),
+        "{bytes:?}"
+    );
+}
+
+// The buffer and its length are as they were.
+fn is_untouched(rt: &impl Abort, buffer: &[u8], count: usize) {
+    assert_eq!(rt; count, LENGTH_BEFORE);
+    assert!(rt; buffer.iter().all(|b| *b == BEFORE));
+}
+
+// Encodes into a buffer with more room than the text, with as much, and with one byte less.
+fn encodes(
+    rt: &impl Abort,
+    alloc: Global,
+    checksum: u32,
+    hrp: &[u8],
+    bytes: &[u8],
+    want: &[u8],
+) -> Result<(), Fail> {
+    let mut count = LENGTH_BEFORE;
+    let mut buffer = [BEFORE; 64];
+    let number = bech32_encode(checksum, hrp, bytes, &mut buffer, &mut count);
+    assert_eq!(rt; number, 0, "{want:?}");
+    holds(rt, &buffer, count, want);
+
+    let mut exact = vec![in alloc; BEFORE; want.len()]?;
+    let number = bech32_encode(checksum, hrp, bytes, exact.as_mut_slice(), &mut count);
+    assert_eq!(rt; number, 0, "{want:?}");
+    holds(rt, exact.as_slice(), count, want);
+
+    let mut count = LENGTH_BEFORE;
+    let mut short = vec![in alloc; BEFORE; want.len().saturating_sub(1)]?;
+    let number = bech32_encode(checksum, hrp, bytes, short.as_mut_slice(), &mut count);
+    assert_eq!(rt; number, 92, "{want:?}");
+    is_untouched(rt, short.as_slice(), count);
+    Ok(())
+}
+
+#[test]
+fn encodes_known_texts(rt: HostRuntime) -> Result<(), Fail> {
+    let rows: [(u32, &[u8], &[u8], &[u8]); 5] = [
+        (1, b"a", b"", b"a12uel5l"),
+        (2, b"A", b"", b"a1lqfn3a"),
+        (2, b"a", b"\x88\0\0", b"a13qqqq9qz88s"),
+        (
+            1,
+            b"test",
+            &BYTES,
+            b"test1lu08d6qejxtdg4y5r3zarvary0c5xw7kw79nnx",
+        ),
+        (
+            2,
+            b"test",
+            &BYTES,
+            b"test1lu08d6qejxtdg4y5r3zarvary0c5xw7kmz4lky",
+        ),
+    ];
+    for (checksum, hrp, bytes, want) in rows {
+        encodes(&rt, rt.alloc(), checksum, hrp, bytes, want)?;
+    }
+    Ok(())
+}
+
+#[test]
+fn encodes_up_to_the_code_length(rt: HostRuntime) {
+    for (size, number, length) in [(634usize, 0, 1023), (635, 51, LENGTH_BEFORE)] {
+        let bytes = [0u8; 635];
+        let (bytes, _) = bytes.split_at(size.min(635));
+        let mut count = LENGTH_BEFORE;
+        let mut buffer = [BEFORE; 1100];
+        assert_eq!(rt;
+            bech32_encode(1, b"a", bytes, &mut buffer, &mut count),
+            number
+        );
+        assert_eq!(rt; count, length);
+    }
+}
+
+#[test]
+fn refuses_to_encode(rt: HostRuntime) {
+    let rows: [(u32, &[u8], u32); 9] = [
+        (0, b"", 4),
+        (3, b"\xff", 4),
+        (u32::MAX, b"a", 4),
+        (1, b"a\xff", 2),
+        (1, b"", 11),
+        (1, &[b'a'; 84], 12),
+        (2, b"\xc3\xa9", 13),
+        (1, b"a b", 14),
+        (2, b"aB", 15),
+    ];
+    for (checksum, hrp, want) in rows {
+        let mut count = LENGTH_BEFORE;
+        let mut buffer = [BEFORE; 128];
+        let number = bech32_encode(checksum, hrp, b"", &mut buffer, &mut count);
+        assert_eq!(rt; number, want);
+        is_untouched(&rt, &buffer, count);
+    }
+}
+
+// Decodes into buffers with more room than the parts, and with as much.
+fn decodes(
+    rt: &impl Abort,
+    alloc: Global,
+    text: &[u8],
+    part: &[u8],
+    found: &[u8],
+) -> Result<(), Fail> {
+    let (mut hrp_count, mut count) = (LENGTH_BEFORE, LENGTH_BEFORE);
+    let (mut hrp, mut bytes) = ([BEFORE; 83], [BEFORE; 634]);
+    let number = bech32_decode(text, &mut hrp, &mut hrp_count, &mut bytes, &mut count);
+    assert_eq!(rt; number, 0, "{text:?}");
+    holds(rt, &hrp, hrp_count, part);
+    holds(rt, &bytes, count, found);
+
+    let mut hrp = vec![in alloc; BEFORE; part.len()]?;
+    let mut bytes = vec![in alloc; BEFORE; found.len()]?;
+    let number = bech32_decode(
+        text,
+        hrp.as_mut_slice(),
+        &mut hrp_count,
+        bytes.as_mut_slice(),
+        &mut count,
+    );
+    assert_eq!(rt; number, 0, "{text:?}");
+    holds(rt, hrp.as_slice(), hrp_count, part);
+    holds(rt, bytes.as_slice(), count, found);
+    Ok(())
+}
+
+#[test]
+fn decodes_known_texts(rt: HostRuntime) -> Result<(), Fail> {
+    let rows: [(&[u8], u32, &[u8], &[u8]); 6] = [
+        (b"A12UEL5L", 1, b"A", b""),
+        (b"a1lqfn3a", 2, b"a", b""),
+        (b"?1v759aa", 2, b"?", b""),
+        (b"a13qqqq9qz88s", 2, b"a", b"\x88\0\0"),
+        (
+            b"test1lu08d6qejxtdg4y5r3zarvary0c5xw7kw79nnx",
+            1,
+            b"test",
+            &BYTES,
+        ),
+        (
+            b"test1lu08d6qejxtdg4y5r3zarvary0c5xw7kmz4lky",
+            2,
+            b"test",
+            &BYTES,
+        ),
+    ];
+    for (text, checksum, part, found) in rows {
+        decodes(&rt, rt.alloc(), text, part, found)?;
+
+        let (mut hrp_count, mut count) = (LENGTH_BEFORE, LENGTH_BEFORE);
+        let other = if checksum == 1 { 2 } else { 1 };
+        assert_eq!(rt; bech32_check(other, text, &mut hrp_count, &mut count), 33);
+        assert_eq!(rt; count, LENGTH_BEFORE);
+        assert_eq!(rt; bech32_check(checksum, text, &mut hrp_count, &mut count), 0);
+        assert_eq!(rt; hrp_count, part.len());
+        assert_eq!(rt;
+            Some(count),
+            text.len().checked_sub(part.len().saturating_add(7))
+        );
+    }
+    Ok(())
+}
+
+#[test]
+fn refuses_to_decode(rt: HostRuntime) {
+    let rows: [(&[u8], u32); 11] = [
+        (b"\xff", 2),
+        (b"1qqqqqq", 11),
+        (
+            b"an84characterslonghumanreadablepartthatcontainsthetheexcludedcharactersbioandnumber11d6pts4",
+            12,
+        ),
+        (b"\xc3\xa91qqqqqq", 13),
+        (b" 1nwldj5", 14),
+        (b"a12uel5l\r", 21),
+        (b"Q1q", 22),
+        (b"qpzry", 23),
+        (&[b'q'; 1024], 23),
+        (b"a1", 32),
+        (b"b12uel5l", 33),
+    ];
+    for (text, want) in rows {
+        let (mut hrp_count, mut count) = (LENGTH_BEFORE, LENGTH_BEFORE);
+        let (mut hrp, mut bytes) = ([BEFORE; 83], [BEFORE; 634]);
+        let number = bech32_decode(text, &mut hrp, &mut hrp_count, &mut bytes, &mut count);
+        assert_eq!(rt; number, want, "{text:?}");
+        is_untouched(&rt, &hrp, hrp_count);
+        is_untouched(&rt, &bytes, count);
+
+        for (checksum, want) in [(1, want), (2, want), (0, 4)] {
+            let number = bech32_check(checksum, text, &mut hrp_count, &mut count);
+            assert_eq!(rt; number, want, "{text:?}");
+        }
+        assert_eq!(rt; hrp_count, LENGTH_BEFORE);
+        assert_eq!(rt; count, LENGTH_BEFORE);
+    }
+}
+
+#[test]
+fn texts_above_the_code_length(rt: HostRuntime) {
+    let mut text = [b'q'; 1024];
+    text[1] = b'1';
+    let (mut hrp_count, mut count) = (LENGTH_BEFORE, LENGTH_BEFORE);
+    assert_eq!(rt; bech32_check(2, &text, &mut hrp_count, &mut count), 31);
+    assert_eq!(rt; hrp_count, LENGTH_BEFORE);
+    let (mut hrp, mut bytes) = ([BEFORE; 83], [BEFORE; 634]);
+    let number = bech32_decode(&text, &mut hrp, &mut hrp_count, &mut bytes, &mut count);
+    assert_eq!(rt; number, 31);
+    is_untouched(&rt, &hrp, hrp_count);
+    is_untouched(&rt, &bytes, count);
+}
+
+#[test]
+fn decodes_into_small_buffers(rt: HostRuntime) {
+    let text = b"test1lu08d6qejxtdg4y5r3zarvary0c5xw7kmz4lky";
+    for (hrp_room, room) in [(3usize, 20usize), (4, 19), (0, 0)] {
+        let (mut hrp_count, mut count) = (LENGTH_BEFORE, LENGTH_BEFORE);
+        let (mut hrp, mut bytes) = ([BEFORE; 4], [BEFORE; 20]);
+        let (hrp, _) = hrp.split_at_mut(hrp_room.min(4));
+        let (bytes, _) = bytes.split_at_mut(room.min(20));
+        let number = bech32_decode(text, hrp, &mut hrp_count, bytes, &mut count);
+        assert_eq!(rt; number, 92);
+        is_untouched(&rt, hrp, hrp_count);
+        is_untouched(&rt, bytes, count);
+    }
+}
+
+// Decodes an address and writes it again, in lower case, and not into a buffer that is too small.
+fn goes_around(
+    rt: &impl Abort,
+    alloc: Global,
+    text: &[u8],
+    part: &[u8],
+    version: u32,
+    want: &[u8],
+) -> Result<(), Fail> {
+    let mut found = u32::MAX;
+    let (mut hrp_count, mut count) = (LENGTH_BEFORE, LENGTH_BEFORE);
+    let (mut hrp, mut program) = ([BEFORE; 83], [BEFORE; 40]);
+    let number = bech32_segwit_decode(
+        text,
+        &mut hrp,
+        &mut hrp_count,
+        &mut found,
+        &mut program,
+        &mut count,
+    );
+    assert_eq!(rt; number, 0, "{text:?}");
+    holds(rt, &hrp, hrp_count, part);
+    assert_eq!(rt; found, version);
+    holds(rt, &program, count, want);
+
+    let mut lower = text.to_vec(alloc)?;
+    lower.as_mut_slice().make_ascii_lowercase();
+    let mut count = LENGTH_BEFORE;
+    let mut short = vec![in alloc; BEFORE; text.len().saturating_sub(1)]?;
+    let number = bech32_segwit_encode(part, version, want, short.as_mut_slice(), &mut count);
+    assert_eq!(rt; number, 92, "{text:?}");
+    is_untouched(rt, short.as_slice(), count);
+    let mut buffer = [BEFORE; 90];
+    let number = bech32_segwit_encode(part, version, want, &mut buffer, &mut count);
+    assert_eq!(rt; number, 0, "{text:?}");
+    holds(rt, &buffer, count, lower.as_slice());
+    Ok(())
+}
+
+#[test]
+fn known_addresses(rt: HostRuntime) -> Result<(), Fail> {
+    let rows: [(&[u8], &[u8], u32, &[u8]); 3] = [
+        (
+            b"BC1QW508D6QEJXTDG4Y5R3ZARVARY0C5XW7KV8F3T4",
+            b"BC",
+            0,
+            &PROGRAM,
+        ),
+        (
+            b"bc1p0xlxvlhemja6c4dqv22uapctqupfhlxm9h8z3k2e72q4k9hcz7vqzk5jj0",
+            b"bc",
+            1,
+            &TAPROOT,
+        ),
+        (b"BC1SW50QGDZ25J", b"BC", 16, b"\x75\x1e"),
+    ];
+    for (text, part, version, program) in rows {
+        goes_around(&rt, rt.alloc(), text, part, version, program)?;
+    }
+    Ok(())
+}
+
+#[test]
+fn refuses_addresses(rt: HostRuntime) {
+    // Of BIP-173 and BIP-350.
+    let rows: [(&[u8], u32); 15] = [
+        (b"\xff", 2),
+        (b"1pzry9x0s0muk", 11),
+        (
+            b"bc1p38j9r5y49hruaue7wxjce0updqjuyyx0kh56v8s25huc6995vvpql3jow4",
+            21,
+        ),
+        (
+            b"tb1p0xlxvlhemja6c4dqv22uapctqupfhlxm9h8z3k2e72q4k9hcz7vq47Zagq",
+            22,
+        ),
+        (b"pzry9x0s0muk", 23),
+        (
+            b"tb1q0xlxvlhemja6c4dqv22uapctqupfhlxm9h8z3k2e72q4k9hcz7vq24jc47",
+            33,
+        ),
+        (
+            b"anhrpthatistwentycha1pqyqszqgpqyqszqgpqyqszqgpqyqszqgpqyqszqgpqyqszqgpqyqszqgpqyqszqgqfrwjz",
+            41,
+        ),
+        (b"a1", 42),
+        (
+            b"BC130XLXVLHEMJA6C4DQV22UAPCTQUPFHLXM9H8Z3K2E72Q4K9HCZ7VQ7ZWS8R",
+            43,
+        ),
+        (
+            b"bc1p0xlxvlhemja6c4dqv22uapctqupfhlxm9h8z3k2e72q4k9hcz7v07qwwzcrf",
+            44,
+        ),
+        (
+            b"tb1p0xlxvlhemja6c4dqv22uapctqupfhlxm9h8z3k2e72q4k9hcz7vpggkg4j",
+            45,
+        ),
+        (b"bc1pw5dgrnzv", 46),
+        (
+            b"bc1p0xlxvlhemja6c4dqv22uapctqupfhlxm9h8z3k2e72q4k9hcz7v8n0nx0muaewav253zgeav",
+            47,
+        ),
+        (b"BC1QR508D6QEJXTDG4Y5R3ZARVARYV98GJ9P", 48),
+        (b"BC1SW50QGDZ25K", 33),
+    ];
+    for (text, want) in rows {
+        let mut version = u32::MAX;
+        let (mut hrp_count, mut count) = (LENGTH_BEFORE, LENGTH_BEFORE);
+        let (mut hrp, mut program) = ([BEFORE; 83], [BEFORE; 40]);
+        let number = bech32_segwit_decode(
+            text,
+            &mut hrp,
+            &mut hrp_count,
+            &mut version,
+            &mut program,
+            &mut count,
+        );
+        assert_eq!(rt; number, want, "{text:?}");
+        is_untouched(&rt, &hrp, hrp_count);
+        assert_eq!(rt; version, u32::MAX);
+        is_untouched(&rt, &program, count);
+    }
+}
+
+#[test]
+fn reads_addresses_into_small_buffers(rt: HostRuntime) {
+    let text = b"bc1qw508d6qejxtdg4y5r3zarvary0c5xw7kv8f3t4";
+    for (hrp_room, room, want) in [(2usize, 20usize, 0), (1, 20, 92), (2, 19, 92), (0, 0, 92)] {
+        let mut version = u32::MAX;
+        let (mut hrp_count, mut count) = (LENGTH_BEFORE, LENGTH_BEFORE);
+        let (mut hrp, mut program) = ([BEFORE; 2], [BEFORE; 20]);
+        let (hrp, _) = hrp.split_at_mut(hrp_room.min(2));
+        let (program, _) = program.split_at_mut(room.min(20));
+        let number = bech32_segwit_decode(
+            text,
+            hrp,
+            &mut hrp_count,
+            &mut version,
+            program,
+            &mut count,
+        );
+        assert_eq!(rt; number, want);
+        if number == 0 {
+            holds(&rt, hrp, hrp_count, b"bc");
+            holds(&rt, program, count, &PROGRAM);
+        } else {
+            is_untouched(&rt, hrp, hrp_count);
+            is_untouched(&rt, program, count);
+            assert_eq!(rt; version, u32::MAX);
+        }
+    }
+}
+
+#[test]
+fn refuses_to_write_addresses(rt: HostRuntime) {
+    let rows: [(&[u8], u32, usize, u32); 12] = [
+        (b"\xff", 32, 1, 4),
+        (b"bc", u32::MAX, 20, 4),
+        (b"\xff", 17, 1, 2),
+        (b"", 17, 1, 11),
+        (b"aB", 17, 1, 15),
+        (b"bc", 31, 1, 52),
+        (b"bc", 17, 41, 52),
+        (b"bc", 1, 1, 46),
+        (b"bc", 1, 41, 47),
+        (b"bc", 0, 21, 48),
+        (b"anhrpthatis19charsx", 1, 40, 53),
+        (b"bc", 1, 40, 0),
+    ];
+    for (hrp, version, size, want) in rows {
+        let bytes = [0u8; 41];
+        let (program, _) = bytes.split_at(size.min(41));
+        let mut count = LENGTH_BEFORE;
+        let mut buffer = [BEFORE; 90];
+        let number = bech32_segwit_encode(hrp, version, program, &mut buffer, &mut count);
+        assert_eq!(rt; number, want);
+        if number != 0 {
+            is_untouched(&rt, &buffer, count);
+        }
+    }
+}
+
+#[test]
+fn remainders_of_right_texts(rt: HostRuntime) {
+    // The elements of `a` as a human-readable part, and of what stands behind the separator of
+    // `a12uel5l` and of `a1lqfn3a`.
+    let rows: [(u32, &[u8], u32); 5] = [
+        (1, &[3, 0, 1, 10, 28, 25, 31, 20, 31], 1),
+        (2, &[3, 0, 1, 31, 0, 9, 19, 17, 29], 0x2bc830a3),
+        (2, &[3, 0, 1, 10, 28, 25, 31, 20, 31], 1),
+        (1, &[], 1),
+        (1, &[31], 63),
+    ];
+    for (checksum, values, want) in rows {
+        let mut residue = u32::MAX;
+        assert_eq!(rt; bech32_residue(checksum, values, &mut residue), 0);
+        assert_eq!(rt; residue, want);
+    }
+    let refused: [(u32, &[u8]); 4] = [(0, &[]), (3, &[1]), (1, &[0, 32]), (2, &[255, 1])];
+    for (checksum, values) in refused {
+        let mut residue = u32::MAX;
+        assert_eq!(rt; bech32_residue(checksum, values, &mut residue), 4);
+        assert_eq!(rt; residue, u32::MAX);
+    }
+}

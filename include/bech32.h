@@ -1,0 +1,143 @@
+/*
+ * Bech32 (BIP-173) and Bech32m (BIP-350): texts and segwit addresses, written and read.
+ *
+ * The library is proved: each function does what is said here of every input, ends, and reads and
+ * writes no memory but the caller's, within the lengths that are given. It takes no memory, keeps
+ * nothing between calls, and needs no start-up; it calls memcpy, memmove and memset alone. Any
+ * number of threads may call it.
+ *
+ * Each function answers BECH32_OK, or the number of a refusal (below). On a refusal it writes
+ * nothing: the buffers and the lengths stay as they were. Else what it writes stands at the front of
+ * the buffer, and the bytes behind it stay as they were. Nothing is ended by a zero byte.
+ *
+ * A buffer is a pointer and the number of bytes it has room for. No pointer may be null, not even
+ * that of an empty text or buffer, and nothing that a function writes to may overlap with anything
+ * else that it is given. These two, and that the lengths are true, are all that a caller owes.
+ *
+ * Lengths are in bytes, which are characters where the text is accepted or written.
+ */
+#ifndef BECH32_H
+#define BECH32_H
+
+#include <stddef.h>
+#include <stdint.h>
+
+#ifdef __cplusplus
+extern "C" {
+#endif
+
+/* Checksums. */
+#define BECH32_BECH32 1u  /* BIP-173 */
+#define BECH32_BECH32M 2u /* BIP-350 */
+
+/* The remainders of right texts, as bech32_residue gives them. */
+#define BECH32_TARGET 1u
+#define BECH32M_TARGET 0x2bc830a3u
+
+/* Sizes of buffers that are always large enough. */
+#define BECH32_MAX_TEXT 1023u           /* a text */
+#define BECH32_MAX_HRP 83u              /* a human-readable part */
+#define BECH32_MAX_BYTES 634u           /* the bytes of a text */
+#define BECH32_MAX_SEGWIT_TEXT 90u      /* a segwit address */
+#define BECH32_MAX_SEGWIT_PROGRAM 40u   /* a witness program */
+
+/* Answers. */
+#define BECH32_OK 0u
+#define BECH32_NOT_UTF8 2u              /* a text or a human-readable part is not UTF-8 */
+#define BECH32_BAD_NUMBER 4u            /* the number of no checksum, or an element above 31 */
+#define BECH32_HRP_EMPTY 11u            /* the human-readable part is empty */
+#define BECH32_HRP_TOO_LONG 12u         /* it has more than 83 bytes */
+#define BECH32_HRP_NOT_ASCII 13u        /* it has a character that is not ASCII */
+#define BECH32_HRP_INVALID 14u          /* it has a byte that is not from 33 to 126 */
+#define BECH32_HRP_MIXED_CASE 15u       /* it has letters of both cases */
+#define BECH32_INVALID_CHARACTER 21u    /* a character behind the separator may not stand there */
+#define BECH32_MIXED_CASE 22u           /* the text has letters of both cases */
+#define BECH32_NO_SEPARATOR 23u         /* the text has no separator, `1` */
+#define BECH32_TEXT_TOO_LONG 31u        /* the text has more than 1023 characters */
+#define BECH32_NO_CHECKSUM 32u          /* fewer than six characters stand behind the separator */
+#define BECH32_WRONG_CHECKSUM 33u       /* the checksum is wrong */
+#define BECH32_ADDRESS_TOO_LONG 41u     /* the text has more than 90 characters */
+#define BECH32_NO_DATA 42u              /* the address has no witness version */
+#define BECH32_BAD_VERSION 43u          /* its witness version is above 16 */
+#define BECH32_PADDING_TOO_LONG 44u     /* more than four bits stand behind the program's bytes */
+#define BECH32_PADDING_NOT_ZERO 45u     /* the bits there are not all zero */
+#define BECH32_PROGRAM_TOO_SHORT 46u    /* the program has less than 2 bytes */
+#define BECH32_PROGRAM_TOO_LONG 47u     /* it has more than 40 bytes */
+#define BECH32_PROGRAM_NOT_V0 48u       /* in version 0 it has neither 20 nor 32 bytes */
+#define BECH32_ENCODED_TOO_LONG 51u     /* the text would have more than 1023 characters */
+#define BECH32_ENCODED_BAD_VERSION 52u  /* the witness version is above 16 */
+#define BECH32_ENCODED_ADDRESS_TOO_LONG 53u /* the address would have more than 90 characters */
+#define BECH32_NO_ROOM 92u              /* a buffer is too small */
+
+/*
+ * Encodes bytes under a human-readable part by a checksum (BECH32_BECH32 or BECH32_BECH32M). The
+ * text, in lower case, is put into `text`, and *text_length is its length: that of the human-readable
+ * part, 7, and 8 for each 5 bytes, rounded up.
+ *
+ * Refusals, the first that applies: 4, 2, 11 to 15, 51, 92.
+ */
+uint32_t bech32_encode(uint32_t checksum, const uint8_t *hrp, size_t hrp_length,
+                       const uint8_t *bytes, size_t bytes_length, uint8_t *text,
+                       size_t text_room, size_t *text_length);
+
+/*
+ * Decodes a text that Bech32m or Bech32 accepts. Its human-readable part, in the case of the text,
+ * is put into `hrp`, and its bytes into `bytes`; *hrp_length and *bytes_length are their lengths. Bits
+ * behind the last whole byte are dropped.
+ *
+ * Refusals, the first that applies: 2; 21, 22, 23, 11 to 15; 31, 32, 33; 92.
+ */
+uint32_t bech32_decode(const uint8_t *text, size_t text_length, uint8_t *hrp, size_t hrp_room,
+                       size_t *hrp_length, uint8_t *bytes, size_t bytes_room,
+                       size_t *bytes_length);
+
+/*
+ * Tests whether a checksum (BECH32_BECH32 or BECH32_BECH32M) accepts a text. *hrp_length is then the
+ * length of the human-readable part, which the text begins with, and *data_length that of the data
+ * part behind the separator, without the six characters of the checksum.
+ *
+ * Refusals, the first that applies: 4; 2; 21, 22, 23, 11 to 15; 31, 32, 33.
+ */
+uint32_t bech32_check(uint32_t checksum, const uint8_t *text, size_t text_length,
+                      size_t *hrp_length, size_t *data_length);
+
+/*
+ * Encodes a segwit address of a witness version (0 to 16) and a program, in version 0 by Bech32 and
+ * else by Bech32m. It is put into `text`, in lower case, and *text_length is its length.
+ *
+ * Refusals, the first that applies: 4 (a version above 31), 2, 11 to 15, 52, 46, 47, 48, 53, 92.
+ */
+uint32_t bech32_segwit_encode(const uint8_t *hrp, size_t hrp_length, uint32_t version,
+                              const uint8_t *program, size_t program_length, uint8_t *text,
+                              size_t text_room, size_t *text_length);
+
+/*
+ * Decodes a segwit address. Its human-readable part, in the case of the text, is put into `hrp`, and
+ * its program into `program`; *hrp_length and *program_length are their lengths, and *version is the
+ * witness version. Any human-readable part is accepted: the caller compares it with the one of its
+ * network.
+ *
+ * Refusals, the first that applies: 2; 41; 21, 22, 23, 11 to 15; 42, 43; 32, 33; 42, 44 to 48; 92.
+ */
+uint32_t bech32_segwit_decode(const uint8_t *text, size_t text_length, uint8_t *hrp,
+                              size_t hrp_room, size_t *hrp_length, uint32_t *version,
+                              uint8_t *program, size_t program_room, size_t *program_length);
+
+/*
+ * Feeds elements, a byte from 0 to 31 each, to the engine of a checksum (BECH32_BECH32 or
+ * BECH32_BECH32M). *residue is then the remainder of the polynomial 1 with the elements behind it,
+ * the first the highest: six coefficients, five bits each, the constant term lowest. Where the
+ * elements are those of a right text, with those of its human-readable part before them (the high
+ * three bits of each byte in lower case, a zero, the low five bits of each), it is BECH32_TARGET or
+ * BECH32M_TARGET.
+ *
+ * Refusals: 4.
+ */
+uint32_t bech32_residue(uint32_t checksum, const uint8_t *elements, size_t elements_length,
+                        uint32_t *residue);
+
+#ifdef __cplusplus
+}
+#endif
+
+#endif
