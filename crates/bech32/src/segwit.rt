@@ -95,16 +95,16 @@ pub fn encoded_length(
     Ok(length)
 }
 
-// The length of the address, where there is one.
-fn lawful_length(hrp: Hrp, version: Fe32, program: &[u8]) -> Result<usize, EncodeError>
+// Tests that there is an address.
+fn validate(hrp: Hrp, version: Fe32, program: &[u8]) -> Result<(), EncodeError>
     ensures { MatchResult result
         (λ _. HasAddress (hrp_bytes hrp) version «program».now)
         (λ e. IsSegwitEncodeRefusal (hrp_bytes hrp) version «program».now e) }
 {
     validate_witness_version(version)?;
     validate_witness_program_length(program.len(), version)?;
-    let length = encoded_length(hrp, version, program)?;
-    Ok(length)
+    encoded_length(hrp, version, program)?;
+    Ok(())
 }
 
 // The text of a version and a program by the checksum of the version.
@@ -133,7 +133,7 @@ fn encoded_in<A: Allocator>(
     ensures text { IfOk result (λ s. IsLowerAddress (hrp_bytes hrp) version «program».now (string_bytes s)) }
     ensures refused { IfErr result (λ e. IsSegwitEncodeRefusal (hrp_bytes hrp) version «program».now e) }
 {
-    lawful_length(hrp, version, program)?;
+    validate(hrp, version, program)?;
     let text = text_of_version_in(alloc, hrp, version, program)?;
     Ok(text)
 }

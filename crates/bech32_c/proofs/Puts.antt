@@ -2,6 +2,7 @@
 use Rattle.std.proofs.Common.{◌≡◌, ◌≤◌, ℕ, List, Some, None, length, sym, ◌∙◌, subst}
 use Rattle.std.specs.Iterator.{YieldsFirst}
 use Rattle.bech32_core.proofs.ListSources.{ShowsRest, drains-rest}
+use Rattle.bech32_core.proofs.TextPieces.{put_whole}
 use Rattle.bech32_core.specs.Buffers.{IsPut}
 use Rattle.bech32_c.specs.Buffers.{IsFilled}
 
@@ -17,4 +18,4 @@ module _ {S : Type 0} (rest : S → List ℕ) where
   pub put-whole : (s : S) (bytes old new : List ℕ) (count : ℕ) → rest s ≡ bytes → length (rest s) ≤ length old → IsFilled (YieldsFirst rest) s old new count → IsPut bytes old new count
   put-whole s bytes old new count e room f =
       let given : rest s ≡ f.given = drains-rest (YieldsFirst rest) rest shows s f.given f.walk in
-      subst (λ (b : List ℕ). IsPut b old new count) (sym given ∙ e) (f.put (subst (λ (b : List ℕ). length b ≤ length old) given room))
+      subst (λ (b : List ℕ). IsPut b old new count) (sym given ∙ e) (put_whole f.given old new count f.put (subst (λ (b : List ℕ). length b ≤ length old) given room))

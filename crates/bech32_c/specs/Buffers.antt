@@ -1,10 +1,10 @@
 -- What an iterator gives, at the front of a caller's buffer.
-use Rattle.std.specs.Prelude.{◌≤◌, ℕ, List, length, Option}
+use Rattle.std.specs.Prelude.{ℕ, List, Option}
 use Rattle.std.specs.Iterator.{Drains}
-use Rattle.bech32_core.specs.Buffers.{IsPut}
+use Rattle.bech32_core.specs.Buffers.{IsPutAsFits}
 
--- a whole walk of an iterator gave these bytes, and they were put where the buffer has room for them
+-- a whole walk of an iterator gave these bytes, and as many of them were put as the buffer has room for
 pub record IsFilled {S : Type 0} (steps : S → Option ℕ → S → Type 0) (start : S) (old new : List ℕ) (count : ℕ) : Type 0 where
   pub given : List ℕ
   pub walk : Drains steps start given
-  pub put : length given ≤ length old → IsPut given old new count
+  pub put : IsPutAsFits given old new count

@@ -1,7 +1,7 @@
 -- Texts that are put into a buffer piece by piece.
-use Rattle.std.proofs.Common.{◌≡◌, ◌<◌, ◌≤◌, ◌-◌, ◌+◌, ◌++◌, ◌∙◌, ℕ, suc, List, [], ◌∷◌, length, take, drop, get_or, map, reverse, ap, sym, subst, refl, append_assoc, append-nil, arith}
+use Rattle.std.proofs.Common.{◌≡◌, ◌<◌, ◌≤◌, ◌-◌, ◌+◌, ◌++◌, ◌∙◌, ℕ, suc, List, [], ◌∷◌, length, min, take, drop, get_or, map, reverse, ap, sym, subst, refl, append_assoc, append-nil, arith}
 use Rattle.std.proofs.Math.Seq.{drop-cons}
-use Rattle.std.proofs.lemmas.List.{map-append, reverse-append, length-reverse, drop_all, take_more}
+use Rattle.std.proofs.lemmas.List.{map-append, reverse-append, length-append, length-drop, length-reverse, drop_all, take_all, take_more}
 use Rattle.std.specs.Char.{to_ascii_lowercase}
 use Rattle.bech32_gf.specs.Fe32 as fe32
 use Rattle.bech32_gf.specs.Fe32Laws.{is_field}
@@ -9,7 +9,7 @@ use Rattle.bech32_gf.specs.declared.gf32.Fe32.{Fe32}
 use Rattle.bech32_poly.specs.Polynomial.{appended}
 use Rattle.bech32_poly.specs.Remainder.{IsRemainder}
 use Rattle.bech32_poly.proofs.Appended.{appended-append, checksum_of_target}
-use Rattle.bech32_core.specs.Buffers.{IsPut, IsPutSoFar, PutsBehind}
+use Rattle.bech32_core.specs.Buffers.{IsPut, IsPutAsFits, PutsBehind}
 use Rattle.bech32_core.specs.Code.{Code, code_of, IsResidueOf}
 use Rattle.bech32_core.specs.Encoded.{char_of_element, spelled, text_front, IsEncodedText}
 use Rattle.bech32_core.specs.Hrp.{lowered}
@@ -21,20 +21,31 @@ use Rattle.bech32_core.proofs.Digits.{length-tabulate, get_or-tabulate}
 -- nothing more
 pub puts_none : (xs old : List ℕ) (count : ℕ) → xs ≡ [] → PutsBehind xs old count old count
 puts_none xs old count e front start h =
-    subst (λ (l : List ℕ). IsPutSoFar l start old count) (sym (ap (λ (l : List ℕ). front ++ l) e ∙ append-nil front)) h
+    subst (λ (l : List ℕ). IsPutAsFits l start old count) (sym (ap (λ (l : List ℕ). front ++ l) e ∙ append-nil front)) h
 
 -- one piece behind another
 pub puts_then : (xs ys zs old between new : List ℕ) (before count after : ℕ) → zs ≡ xs ++ ys
     → PutsBehind xs old before between count → PutsBehind ys between count new after → PutsBehind zs old before new after
 puts_then xs ys zs old between new before count after e first second front start h =
-    subst (λ (l : List ℕ). IsPutSoFar l start new after) (append_assoc front xs ys ∙ ap (λ (l : List ℕ). front ++ l) (sym e))
+    subst (λ (l : List ℕ). IsPutAsFits l start new after) (append_assoc front xs ys ∙ ap (λ (l : List ℕ). front ++ l) (sym e))
     (second (front ++ xs) start (first front start h))
 
--- all pieces, where there was room for them
-pub put_whole : (text old new : List ℕ) (count : ℕ) → PutsBehind text old 0 new count → length text ≤ length old → IsPut text old new count
-put_whole text old new count puts room =
-    let placed = puts [] old (λ _. (refl, refl)) room in
-    record { fits = room; buffer = placed.0; count_is = placed.1 }
+-- all pieces
+pub put_as_fits : (text old new : List ℕ) (count : ℕ) → PutsBehind text old 0 new count → IsPutAsFits text old new count
+put_as_fits text old new count puts =
+    puts [] old (record { buffer = sym (take_all (length old) old (omega arith)); count_is = omega arith })
+
+-- all bytes, where there was room for them
+pub put_whole : (text old new : List ℕ) (count : ℕ) → IsPutAsFits text old new count → length text ≤ length old → IsPut text old new count
+put_whole text old new count put room =
+    let behind : length (drop (length text) old) ≡ length old - length text = length-drop (length text) old in
+    let both : length (text ++ drop (length text) old) ≡ length text + length (drop (length text) old) = length-append text (drop (length text) old) in
+    let counted : count ≡ min (length text) (length old) = put.count_is in
+    record {
+      fits = room;
+      buffer = put.buffer ∙ take_all (length old) (text ++ drop (length text) old) (omega arith);
+      count_is = omega arith;
+    }
 
 -- one byte more of a human-readable part
 pub lowered_more : (bytes : List ℕ) (i b : ℕ) → i < length bytes → b ≡ to_ascii_lowercase (get_or bytes i 0)

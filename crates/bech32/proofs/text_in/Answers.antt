@@ -6,6 +6,7 @@ use Rattle.std.specs.Str.{IsUtf8}
 use Rattle.bech32_core.specs.Bits.{to_fes}
 use Rattle.bech32_core.specs.HrpBytes.{hrp_bytes}
 use Rattle.bech32_core.proofs.ListSources.{ShowsRest-copied, copied_rest, drains-rest}
+use Rattle.bech32_core.proofs.TextPieces.{put_whole}
 use Rattle.bech32.proofs.Encoding.{IsEncodedText-same, IsAscii-encoded, text_fills}
 use Rattle.bech32.proofs.text_in.Goals as goal
 
@@ -24,7 +25,7 @@ from_utf8_unchecked-requires g c =
     let less : c.in_ok-text.text.len ≢ 2 ^ 64 - 1 = λ e. omega arith in
     let filled = text_fills g.Ck.MidstateRepr.PackedFe32.number g.met.Ck.MidstateRepr.PackedFe32.same_number_law k.code k.CODE_LENGTH k.CHECKSUM_LENGTH k.GENERATOR_SH k.TARGET_RESIDUE g.met.Ck.Checksum.code_law
     hrp c.args.data.now c.args.version fes text c.as_mut_slice.result.now c.put_text.new.buffer (drop (length c.put_text.new.buffer) c.in_ok-text.text.items) c.put_text.result c.in_ok-text.text.len
-    (are ∙ ap to_fes items) is (size ∙ c.length_with_version-length.ensures) less room put in
+    (are ∙ ap to_fes items) is (size ∙ c.length_with_version-length.ensures) less room (put_whole text c.as_mut_slice.result.now c.put_text.new.buffer c.put_text.result put) in
     subst IsUtf8 (sym filled) (IsUtf8-from_ascii text (IsAscii-encoded k.code hrp (option_to_list c.args.version ++ fes) text c.args.hrp.all_ascii is))
 
 pub returns : goal.returns
@@ -42,6 +43,6 @@ returns g c =
     let less : c.in_ok-text.text.len ≢ 2 ^ 64 - 1 = λ e. omega arith in
     let filled = text_fills g.Ck.MidstateRepr.PackedFe32.number g.met.Ck.MidstateRepr.PackedFe32.same_number_law k.code k.CODE_LENGTH k.CHECKSUM_LENGTH k.GENERATOR_SH k.TARGET_RESIDUE g.met.Ck.Checksum.code_law
     hrp c.args.data.now c.args.version fes text c.as_mut_slice.result.now c.put_text.new.buffer (drop (length c.put_text.new.buffer) c.in_ok-text.text.items) c.put_text.result c.in_ok-text.text.len
-    (are ∙ ap to_fes items) is (size ∙ c.length_with_version-length.ensures) less room put in
+    (are ∙ ap to_fes items) is (size ∙ c.length_with_version-length.ensures) less room (put_whole text c.as_mut_slice.result.now c.put_text.new.buffer c.put_text.result put) in
     let held : string_bytes c.from_utf8_unchecked.result ≡ _ = ap vec_items c.from_utf8_unchecked.ensures.value in
     IsEncodedText-same k.code hrp hrp _ _ text _ refl (ap (λ l. option_to_list c.args.version ++ l) (are ∙ ap to_fes items)) (sym (held ∙ filled)) is

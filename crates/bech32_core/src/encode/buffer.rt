@@ -1,10 +1,10 @@
 //! Puts whole texts into buffers.
 
-ghost use Rattle.std.specs.Prelude.{◌≡◌, ◌≤◌, ◌++◌, ℕ, List, [], ◌∷◌, Option, map, reverse, length, option_to_list};
+ghost use Rattle.std.specs.Prelude.{◌≡◌, ◌≤◌, ◌++◌, ℕ, List, [], ◌∷◌, Option, map, reverse, option_to_list};
 ghost use Rattle.std.specs.Iterator.{Drains, IsFinite};
 ghost use Rattle.bech32_gf.specs.declared.gf32.Fe32.{Fe32 as Element};
 ghost use Rattle.bech32_poly.specs.Polynomial.{appended};
-ghost use Rattle.bech32_core.specs.Buffers.{IsPut, PutsBehind};
+ghost use Rattle.bech32_core.specs.Buffers.{IsPutAsFits, PutsBehind};
 ghost use Rattle.bech32_core.specs.Code.{IsResidueOf};
 ghost use Rattle.bech32_core.specs.Encoded.{char_of_element, text_front, IsEncodedText};
 ghost use Rattle.bech32_core.specs.HrpBytes.{hrp_bytes};
@@ -126,7 +126,7 @@ pub fn put_text<I: Iterator<Item = Fe32>, Ck: Checksum>(
     requires finite { IsFinite (I.remaining elements) }
     ensures { (fes : List Element) × (text : List ℕ) × Drains I.next_gives elements fes
         × IsEncodedText Ck.code (hrp_bytes hrp.now) (option_to_list version ++ fes) text
-        × (length text ≤ length buffer.old → IsPut text buffer.old buffer.new result) }
+        × IsPutAsFits text buffer.old buffer.new result }
 {
     let mut engine = Engine::<Ck>::new();
     engine.input_hrp(*hrp);

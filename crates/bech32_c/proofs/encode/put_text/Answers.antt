@@ -5,6 +5,7 @@ use Rattle.bech32_core.specs.Bits.{to_fes}
 use Rattle.bech32_core.specs.Encoded.{IsEncodedText}
 use Rattle.bech32_core.specs.HrpBytes.{hrp_bytes}
 use Rattle.bech32_core.proofs.ListSources.{ShowsRest-copied, copied_rest, drains-rest}
+use Rattle.bech32_core.proofs.TextPieces.{put_whole}
 use Rattle.bech32.proofs.Encoding.{IsEncodedText-same}
 use Rattle.bech32.proofs.Uniqueness.{length-encoded}
 use Rattle.bech32_c.proofs.encode.put_text.Goals as goal
@@ -22,4 +23,4 @@ returns g c =
     IsEncodedText-same code hrp hrp (option_to_list c.args.version ++ xs) elements written written refl (ap (λ l. option_to_list c.args.version ++ l) (are ∙ ap to_fes items)) refl text in
     let size = length-encoded code hrp elements written is in
     let room = c.requires in
-    (written, is, put (omega arith))
+    (written, is, put_whole written c.args.text.now c.put_text.new.buffer c.put_text.result put (omega arith))

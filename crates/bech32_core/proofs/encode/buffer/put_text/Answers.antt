@@ -3,7 +3,7 @@ use Rattle.bech32_gf.specs.Fe32 as fe32
 use Rattle.bech32_core.specs.Encoded.{char_of_element, text_front}
 use Rattle.bech32_core.specs.HrpBytes.{hrp_bytes}
 use Rattle.bech32_core.specs.Packed.{digits}
-use Rattle.bech32_core.proofs.TextPieces.{puts_then, put_whole, encoded_pieces}
+use Rattle.bech32_core.proofs.TextPieces.{puts_then, put_as_fits, encoded_pieces}
 use Rattle.bech32_core.proofs.encode.buffer.put_text.Goals as goal
 
 pub returns : goal.returns
@@ -22,7 +22,7 @@ returns g c =
       encoded_pieces number code g.Ck.Checksum.CODE_LENGTH g.Ck.Checksum.CHECKSUM_LENGTH g.Ck.Checksum.GENERATOR_SH g.Ck.Checksum.TARGET_RESIDUE g.met.Ck.Checksum.code_law
           hrp version fes c.input_target_residue.new.self.residue c.residue.result.now c.CHECKSUM_LENGTH.result c.residue.ensures c.CHECKSUM_LENGTH.ensures
           (c.input_target_residue.ensures _ (held _ (c.put_version-start.ensures.residue _ (c.input_hrp.ensures (fe32.one ∷ []) c.new-engine.ensures)))),
-      put_whole text c.args.buffer.now c.put_row.new.buffer c.put_row.result
+      put_as_fits text c.args.buffer.now c.put_row.new.buffer c.put_row.result
           (puts_then second _ text _ _ _ _ _ _ refl
           (puts_then first _ second _ _ _ _ _ _ refl
           (puts_then (text_front hrp) _ first _ _ _ _ _ _ refl c.put_front-front.ensures c.put_version-start.ensures.text) put)

@@ -2,12 +2,12 @@ use Rattle.std.proofs.Common.{◌∙◌, arith}
 use Rattle.std.proofs.lemmas.Result.{err_from_is_err_and}
 use Rattle.bech32_core.specs.HrpBytes.{hrp_bytes}
 use Rattle.bech32.proofs.SegwitEncoding.{address_exists, no_more_than_counted}
-use Rattle.bech32.proofs.segwit.lawful_length.Goals as goal
+use Rattle.bech32.proofs.segwit.validate.Goals as goal
 
-pub returns-in_err-length : goal.returns-in_err-length
-returns-in_err-length c =
-    let p = err_from_is_err_and c.from_residual-in_err-length.result c.from_residual-in_err-length.ensures.1 in
-    let over = c.in_err-length.ensures in
+pub returns-in_err-encoded_length : goal.returns-in_err-encoded_length
+returns-in_err-encoded_length c =
+    let p = err_from_is_err_and c.from_residual-in_err-encoded_length.result c.from_residual-in_err-encoded_length.ensures.1 in
+    let over = c.in_err-encoded_length.ensures in
     rw p.1 (rw p.2 (
       c.in_ok-validate_witness_version.ensures,
       c.in_ok-validate_witness_program_length.ensures,
@@ -17,5 +17,5 @@ returns-in_err-length c =
 
 pub returns : goal.returns
 returns c =
-    let length = c.in_ok-length.ensures in
+    let length = c.in_ok-encoded_length.ensures in
     address_exists (hrp_bytes c.args.hrp) c.args.version c.args.program.now c.in_ok-validate_witness_version.ensures c.in_ok-validate_witness_program_length.ensures (omega arith)
