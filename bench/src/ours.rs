@@ -188,11 +188,14 @@ fn answered<T>(answer: u32, value: T) -> Result<T, u32> {
 pub mod replies {
     use super::*;
 
+    fn written(answer: Result<usize, u32>, out: &Buffers) -> Reply {
+        answer.map(|n| vec![out.text[..n].to_vec()]).map_err(|_| ())
+    }
+
     pub fn encode(checksum: u32, hrp: &str, bytes: &[u8]) -> Reply {
         let mut out = Buffers::new();
-        super::encode(checksum, hrp, bytes, &mut out)
-            .map(|n| vec![out.text[..n].to_vec()])
-            .map_err(|_| ())
+        let answer = super::encode(checksum, hrp, bytes, &mut out);
+        written(answer, &out)
     }
 
     pub fn decode(text: &str) -> Reply {
@@ -213,9 +216,8 @@ pub mod replies {
 
     pub fn segwit_encode(hrp: &str, version: u32, program: &[u8]) -> Reply {
         let mut out = Buffers::new();
-        super::segwit_encode(hrp, version, program, &mut out)
-            .map(|n| vec![out.text[..n].to_vec()])
-            .map_err(|_| ())
+        let answer = super::segwit_encode(hrp, version, program, &mut out);
+        written(answer, &out)
     }
 
     pub fn segwit_decode(text: &str) -> Reply {

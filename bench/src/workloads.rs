@@ -57,36 +57,57 @@ fn encode(name: &'static str, checksum: u32, hrp: &'static str, bytes: Vec<u8>) 
     }
 }
 
-fn decode(name: &'static str, text: String) -> Operation {
+// An operation that reads a text.
+fn read(
+    name: &'static str,
+    text: String,
+    replies: [Reply; 2],
+    ours: impl Fn(&str, &mut Buffers) + 'static,
+    theirs: impl Fn(&str) + 'static,
+) -> Operation {
     let (mut out, ours_text) = (Buffers::new(), text.clone());
     Operation {
         name,
-        replies: [ours::replies::decode(&text), theirs::replies::decode(&text)],
+        replies,
         ours: Box::new(move || {
-            ours::decode(black_box(&ours_text), &mut out).unwrap();
+            ours(black_box(&ours_text), &mut out);
             black_box(&out.text);
         }),
-        theirs: Box::new(move || {
-            black_box(bech32::decode(black_box(&text)).unwrap());
-        }),
+        theirs: Box::new(move || theirs(black_box(&text))),
     }
 }
 
-fn check(name: &'static str, text: String) -> Operation {
-    let ours_text = text.clone();
-    Operation {
+fn decode(name: &'static str, text: String) -> Operation {
+    let replies = [ours::replies::decode(&text), theirs::replies::decode(&text)];
+    read(
         name,
-        replies: [
-            ours::replies::check(BECH32, &text),
-            theirs::replies::check(BECH32, &text),
-        ],
-        ours: Box::new(move || {
-            black_box(ours::check(BECH32, black_box(&ours_text)).unwrap());
-        }),
-        theirs: Box::new(move || {
-            black_box(CheckedHrpstring::new::<Bech32>(black_box(&text)).unwrap());
-        }),
-    }
+        text,
+        replies,
+        |text, out| {
+            black_box(ours::decode(text, out).unwrap());
+        },
+        |text| {
+            black_box(bech32::decode(text).unwrap());
+        },
+    )
+}
+
+fn check(name: &'static str, text: String) -> Operation {
+    let replies = [
+        ours::replies::check(BECH32, &text),
+        theirs::replies::check(BECH32, &text),
+    ];
+    read(
+        name,
+        text,
+        replies,
+        |text, _| {
+            black_box(ours::check(BECH32, text).unwrap());
+        },
+        |text| {
+            black_box(CheckedHrpstring::new::<Bech32>(text).unwrap());
+        },
+    )
 }
 
 fn segwit_encode(name: &'static str, version: Fe32, program: Vec<u8>) -> Operation {
@@ -111,21 +132,21 @@ fn segwit_encode(name: &'static str, version: Fe32, program: Vec<u8>) -> Operati
 }
 
 fn segwit_decode(name: &'static str, text: String) -> Operation {
-    let (mut out, ours_text) = (Buffers::new(), text.clone());
-    Operation {
+    let replies = [
+        ours::replies::segwit_decode(&text),
+        theirs::replies::segwit_decode(&text),
+    ];
+    read(
         name,
-        replies: [
-            ours::replies::segwit_decode(&text),
-            theirs::replies::segwit_decode(&text),
-        ],
-        ours: Box::new(move || {
-            ours::segwit_decode(black_box(&ours_text), &mut out).unwrap();
-            black_box(&out.text);
-        }),
-        theirs: Box::new(move || {
-            black_box(segwit::decode(black_box(&text)).unwrap());
-        }),
-    }
+        text,
+        replies,
+        |text, out| {
+            black_box(ours::segwit_decode(text, out).unwrap());
+        },
+        |text| {
+            black_box(segwit::decode(text).unwrap());
+        },
+    )
 }
 
 fn residue(name: &'static str) -> Operation {
