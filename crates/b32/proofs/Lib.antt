@@ -1,9 +1,9 @@
-pub mod Kept
 pub mod Joined
-pub mod Split
-pub mod Sizes
-pub mod Replies
+pub mod Kept
 pub mod Pieces
-pub mod SegwitSplit
-pub mod VersionWords
+pub mod Replies
 pub mod SegwitReplies
+pub mod SegwitSplit
+pub mod Sizes
+pub mod Split
+pub mod VersionWords

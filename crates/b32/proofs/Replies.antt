@@ -3,11 +3,11 @@ use Rattle.std.proofs.Common.{◌≡◌, ℕ, ◌≤◌, ◌<◌, inl, inr, Bool
 use Rattle.std.proofs.lemmas.Bool.{lt-ltb, le-ltb, false_from_ne_true}
 use Rattle.std.proofs.lemmas.Str.{is_utf8-from_IsUtf8, IsUtf8-from_is_utf8}
 use Rattle.std.specs.Str.{IsUtf8, is_utf8}
-use Rattle.bech32_core.specs.Bits.{to_fes}
-use Rattle.bech32_core.specs.Code.{Code}
-use Rattle.bech32_core.specs.Hrp.{hrp_refusal}
-use Rattle.bech32_core.specs.Encoded.{IsEncodedText}
-use Rattle.bech32.specs.Encoded.{encoded_length_of}
+use Rattle.bech32_bits.specs.Bits.{to_fes}
+use Rattle.bech32_checksum.specs.Code.{Code}
+use Rattle.bech32_hrp.specs.Hrp.{hrp_refusal}
+use Rattle.bech32_checksum.specs.Encoded.{IsEncodedText}
+use Rattle.bech32_encode.specs.TextLength.{encoded_length_of}
 use Rattle.b32.specs.Hex.{bytes_of}
 use Rattle.b32.specs.Request.{Request, request_of}
 use Rattle.b32.specs.Reply.{err, OrNoMemory, IsEncodeAnswer, IsAnswer, IsReply}

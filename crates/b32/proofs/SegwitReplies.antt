@@ -4,14 +4,14 @@ use Rattle.std.proofs.lemmas.List.{length-map}
 use Rattle.std.specs.Char.{to_ascii_lowercase}
 use Rattle.std.specs.Fmt.{decimal}
 use Rattle.bech32_gf.specs.declared.gf32.Fe32.{Fe32}
-use Rattle.bech32_core.specs.Bits.{to_fes}
-use Rattle.bech32_core.specs.Code.{bech32, bech32m}
-use Rattle.bech32_core.specs.Hrp.{lowered, hrp_refusal}
-use Rattle.bech32_core.specs.declared.hrp.Error.{Error as HrpError}
-use Rattle.bech32.specs.Segwit.{segwit_code, IsLowerAddress, IsAddress}
-use Rattle.bech32.specs.SegwitEncoding.{IsSegwitEncodeRefusal}
-use Rattle.bech32.specs.declared.segwit.error.EncodeError.{EncodeError}
-use Rattle.bech32.proofs.Uniqueness.{length-encoded}
+use Rattle.bech32_bits.specs.Bits.{to_fes}
+use Rattle.bech32_checksum.specs.Code.{bech32, bech32m}
+use Rattle.bech32_hrp.specs.Hrp.{lowered, hrp_refusal}
+use Rattle.bech32_hrp.specs.declared.Error.{Error as HrpError}
+use Rattle.bech32_decode.specs.Segwit.{segwit_code, IsLowerAddress, IsAddress}
+use Rattle.bech32_segwit.specs.SegwitEncoding.{IsSegwitEncodeRefusal}
+use Rattle.bech32_segwit.specs.declared.error.EncodeError.{EncodeError}
+use Rattle.bech32_checksum.proofs.Uniqueness.{length-encoded}
 use Rattle.b32.specs.Hex.{bytes_of, hex_of}
 use Rattle.b32.specs.Numbers.{number_of, number_of_hrp_error, number_of_segwit_encode_error}
 use Rattle.b32.specs.declared.refusal.Refusal.{Refusal}

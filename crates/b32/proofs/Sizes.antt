@@ -3,13 +3,13 @@ use Rattle.std.proofs.Common.{◌≡◌, ℕ, ◌+◌, ◌-◌, ◌*◌, ◌≤�
 use Rattle.std.proofs.lemmas.List.{length-map, length-take}
 use Rattle.hex.proofs.HexLemmas.{length-encode_with}
 use Rattle.hex.specs.Hex.{lower_digits}
-use Rattle.bech32_core.specs.Bits.{bits, cut_in_eights, fe_bits, to_bytes, to_fes}
-use Rattle.bech32_core.specs.Code.{Code, bech32, bech32m}
-use Rattle.bech32_core.specs.Hrp.{lowered}
-use Rattle.bech32.specs.Acceptance.{IsAccepted, IsDecoded}
+use Rattle.bech32_bits.specs.Bits.{bits, cut_in_eights, fe_bits, to_bytes, to_fes}
+use Rattle.bech32_checksum.specs.Code.{Code, bech32, bech32m}
+use Rattle.bech32_hrp.specs.Hrp.{lowered}
+use Rattle.bech32_decode.specs.Acceptance.{IsAccepted, IsDecoded}
 use Rattle.std.specs.Char.{to_ascii_lowercase}
-use Rattle.bech32_core.specs.Encoded.{IsEncodedText, char_of_element}
-use Rattle.bech32.specs.Encoded.{encoded_length_of}
+use Rattle.bech32_checksum.specs.Encoded.{IsEncodedText, char_of_element}
+use Rattle.bech32_encode.specs.TextLength.{encoded_length_of}
 use Rattle.b32.specs.Hex.{hex_of}
 
 -- ---- bits

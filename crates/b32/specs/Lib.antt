@@ -1,7 +1,7 @@
-pub mod Lines
-pub mod Words
 pub mod Hex
+pub mod Lines
 pub mod Numbers
-pub mod Request
-pub mod Reply
 pub mod Output
+pub mod Reply
+pub mod Request
+pub mod Words

@@ -1,26 +1,26 @@
 -- The numbers of refusals.
 use Rattle.std.specs.Prelude.{ℕ}
-use Rattle.bech32_core.specs.declared.hrp.Error.{Error as HrpError}
-use Rattle.bech32_core.specs.declared.hrp.Error.TheVariants.{Empty, TooLong as HrpTooLong, NonAsciiChar, InvalidAsciiByte, MixedCase as HrpMixedCase}
-use Rattle.bech32.specs.declared.primitives.decode.error.CharError.{CharError}
-use Rattle.bech32.specs.declared.primitives.decode.error.CharError.TheVariants.{InvalidChar, MixedCase, MissingSeparator, NothingAfterSeparator}
-use Rattle.bech32.specs.declared.primitives.decode.error.UncheckedHrpstringError.{UncheckedHrpstringError}
-use Rattle.bech32.specs.declared.primitives.decode.error.UncheckedHrpstringError.TheVariants.{Char, Hrp}
-use Rattle.bech32.specs.declared.primitives.decode.error.ChecksumError.{ChecksumError}
-use Rattle.bech32.specs.declared.primitives.decode.error.ChecksumError.TheVariants.{CodeLength, InvalidLength, InvalidResidue}
+use Rattle.bech32_hrp.specs.declared.Error.{Error as HrpError}
+use Rattle.bech32_hrp.specs.declared.Error.TheVariants.{Empty, TooLong as HrpTooLong, NonAsciiChar, InvalidAsciiByte, MixedCase as HrpMixedCase}
+use Rattle.bech32_decode.specs.declared.error.CharError.{CharError}
+use Rattle.bech32_decode.specs.declared.error.CharError.TheVariants.{InvalidChar, MixedCase, MissingSeparator, NothingAfterSeparator}
+use Rattle.bech32_decode.specs.declared.error.UncheckedHrpstringError.{UncheckedHrpstringError}
+use Rattle.bech32_decode.specs.declared.error.UncheckedHrpstringError.TheVariants.{Char, Hrp}
+use Rattle.bech32_decode.specs.declared.error.ChecksumError.{ChecksumError}
+use Rattle.bech32_decode.specs.declared.error.ChecksumError.TheVariants.{CodeLength, InvalidLength, InvalidResidue}
 use Rattle.bech32.specs.declared.error.DecodeError.{DecodeError}
 use Rattle.bech32.specs.declared.error.DecodeError.TheVariants.{Parse, Checksum, Memory as DecodeMemory}
 use Rattle.bech32.specs.declared.error.EncodeError.{EncodeError}
 use Rattle.bech32.specs.declared.error.EncodeError.TheVariants.{TooLong, Fmt, Memory as EncodeMemory}
-use Rattle.bech32.specs.declared.primitives.decode.error.PaddingError.{PaddingError}
-use Rattle.bech32.specs.declared.primitives.decode.error.PaddingError.TheVariants.{TooMuch, NonZero}
-use Rattle.bech32.specs.declared.primitives.decode.error.SegwitHrpstringError.{SegwitHrpstringError}
-use Rattle.bech32.specs.declared.primitives.decode.error.SegwitHrpstringError.TheVariants.{Unchecked, NoData, TooLong as AddressTooLong, InvalidWitnessVersion, Padding, WitnessLength, Checksum as WrongChecksum, Memory as ProgramMemory}
-use Rattle.bech32.specs.declared.primitives.segwit.WitnessLengthError.{WitnessLengthError}
-use Rattle.bech32.specs.declared.primitives.segwit.WitnessLengthError.TheVariants.{TooShort, TooLong as ProgramTooLong, InvalidSegwitV0}
-use Rattle.bech32.specs.declared.segwit.error.DecodeError.{DecodeError as SegwitDecodeError}
-use Rattle.bech32.specs.declared.segwit.error.EncodeError.{EncodeError as SegwitEncodeError}
-use Rattle.bech32.specs.declared.segwit.error.EncodeError.TheVariants.{WitnessVersion, WitnessLength as NoProgramLength, TooLong as NoAddressLength, Fmt as AddressFmt, Memory as AddressMemory}
+use Rattle.bech32_decode.specs.declared.error.PaddingError.{PaddingError}
+use Rattle.bech32_decode.specs.declared.error.PaddingError.TheVariants.{TooMuch, NonZero}
+use Rattle.bech32_decode.specs.declared.error.SegwitHrpstringError.{SegwitHrpstringError}
+use Rattle.bech32_decode.specs.declared.error.SegwitHrpstringError.TheVariants.{Unchecked, NoData, TooLong as AddressTooLong, InvalidWitnessVersion, Padding, WitnessLength, Checksum as WrongChecksum, Memory as ProgramMemory}
+use Rattle.bech32_decode.specs.declared.segwit.WitnessLengthError.{WitnessLengthError}
+use Rattle.bech32_decode.specs.declared.segwit.WitnessLengthError.TheVariants.{TooShort, TooLong as ProgramTooLong, InvalidSegwitV0}
+use Rattle.bech32_segwit.specs.declared.error.DecodeError.{DecodeError as SegwitDecodeError}
+use Rattle.bech32_segwit.specs.declared.error.EncodeError.{EncodeError as SegwitEncodeError}
+use Rattle.bech32_segwit.specs.declared.error.EncodeError.TheVariants.{WitnessVersion, WitnessLength as NoProgramLength, TooLong as NoAddressLength, Fmt as AddressFmt, Memory as AddressMemory}
 use Rattle.b32.specs.declared.refusal.Refusal.{Refusal}
 use Rattle.b32.specs.declared.refusal.Refusal.TheVariants.{LineTooLong, NotUtf8, NoRequest, BadNumber, BadHex, Hrp as HrpRefused, Encode, Decode, SegwitEncode, SegwitDecode, Memory}
 

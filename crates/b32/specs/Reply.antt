@@ -3,20 +3,20 @@ use Rattle.std.specs.Prelude.{◌≡◌, ◌≤◌, ◌⊎◌, ℕ, List, ◌∷
 use Rattle.std.specs.Fmt.{decimal}
 use Rattle.std.specs.Str.{is_utf8}
 use Rattle.bech32_gf.specs.declared.gf32.Fe32.{Fe32}
-use Rattle.bech32_core.specs.Bits.{to_fes}
-use Rattle.bech32_core.specs.Code.{Code}
-use Rattle.bech32_core.specs.Hrp.{IsHrp, lowered, hrp_refusal}
-use Rattle.bech32.specs.Acceptance.{IsDecoded}
-use Rattle.bech32_core.specs.Encoded.{IsEncodedText}
-use Rattle.bech32.specs.Encoded.{encoded_length_of}
+use Rattle.bech32_bits.specs.Bits.{to_fes}
+use Rattle.bech32_checksum.specs.Code.{Code}
+use Rattle.bech32_hrp.specs.Hrp.{IsHrp, lowered, hrp_refusal}
+use Rattle.bech32_decode.specs.Acceptance.{IsDecoded}
+use Rattle.bech32_checksum.specs.Encoded.{IsEncodedText}
+use Rattle.bech32_encode.specs.TextLength.{encoded_length_of}
 use Rattle.bech32.specs.Refusals.{IsDecodeRefusal, IsEncodeRefusal}
-use Rattle.bech32.specs.Segwit.{IsLowerAddress, IsAddress, IsAddressText, IsSegwitRefusal}
-use Rattle.bech32.specs.SegwitEncoding.{IsSegwitEncodeRefusal}
+use Rattle.bech32_decode.specs.Segwit.{IsLowerAddress, IsAddress, IsAddressText, IsSegwitRefusal}
+use Rattle.bech32_segwit.specs.SegwitEncoding.{IsSegwitEncodeRefusal}
 use Rattle.bech32.specs.declared.error.DecodeError.{DecodeError}
 use Rattle.bech32.specs.declared.error.EncodeError.{EncodeError}
-use Rattle.bech32.specs.declared.primitives.decode.error.SegwitHrpstringError.TheVariants.{Memory}
-use Rattle.bech32.specs.declared.segwit.error.DecodeError.{DecodeError as SegwitDecodeError}
-use Rattle.bech32.specs.declared.segwit.error.EncodeError.{EncodeError as SegwitEncodeError}
+use Rattle.bech32_decode.specs.declared.error.SegwitHrpstringError.TheVariants.{Memory}
+use Rattle.bech32_segwit.specs.declared.error.DecodeError.{DecodeError as SegwitDecodeError}
+use Rattle.bech32_segwit.specs.declared.error.EncodeError.{EncodeError as SegwitEncodeError}
 use Rattle.b32.specs.Hex.{bytes_of, hex_of}
 use Rattle.b32.specs.Numbers.{number_of_hrp_error, number_of_decode_error, number_of_encode_error, number_of_segwit_decode_error, number_of_segwit_encode_error}
 use Rattle.b32.specs.Request.{Request, Encode, Decode, SegwitEncode, SegwitDecode, code_of_name, request_of}

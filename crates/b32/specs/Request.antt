@@ -1,7 +1,7 @@
 -- What a line asks for: its first word names a command, the others are its arguments.
 use Rattle.std.specs.Prelude.{ℕ, if◌then◌else◌, List, [], ◌∷◌, codes, Option, Some, None}
 use Rattle.std.specs.Str.{bytes_eq}
-use Rattle.bech32_core.specs.Code.{Code, bech32, bech32m}
+use Rattle.bech32_checksum.specs.Code.{Code, bech32, bech32m}
 use Rattle.b32.specs.declared.command.ChecksumName.{ChecksumName}
 use Rattle.b32.specs.declared.command.ChecksumName.TheVariants.{Bech32, Bech32m}
 use Rattle.b32.specs.declared.command.Command.{Command}

@@ -2,7 +2,7 @@
 
 ghost use Rattle.std.specs.Prelude.{◌≡◌, ◌+◌, ◌<◌, ◌≤◌, ◌++◌, length, vec_len, vec_capacity};
 ghost use Rattle.std.specs.Fmt.{decimal};
-ghost use Rattle.bech32_core.specs.Hrp.{lowered};
+ghost use Rattle.bech32_hrp.specs.Hrp.{lowered};
 
 /// Adds bytes.
 pub fn append(out: &mut Vec<u8>, bytes: &[u8])

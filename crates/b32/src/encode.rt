@@ -7,9 +7,7 @@ ghost use Rattle.b32.specs.Reply.{err, Adds, OrNoMemory, IsEncodeAnswer};
 use crate::append::append;
 use crate::hex_word::bytes_of_word;
 use crate::refusal::Refusal;
-use bech32::encode_in;
-use bech32_core::checksum::Checksum;
-use bech32_core::hrp::Hrp;
+use bech32::{Checksum, Hrp, encode_in};
 use std::alloc::Allocator;
 
 /// Adds the text of bytes under a human-readable part, or leaves all as it was.

@@ -10,9 +10,9 @@ ghost use Rattle.b32.specs.Numbers.{number_of_address_error, number_of_segwit_en
 use bech32::primitives::decode::{
     CharError, ChecksumError, PaddingError, SegwitHrpstringError, UncheckedHrpstringError,
 };
+use bech32::primitives::hrp;
 use bech32::primitives::segwit::WitnessLengthError;
 use bech32::{DecodeError, EncodeError, segwit};
-use bech32_core::hrp;
 use std::alloc::AllocError;
 
 /// Why a line is refused.

@@ -13,7 +13,7 @@ use crate::encode::encode;
 use crate::refusal::Refusal;
 use crate::segwit_decode::segwit_decode;
 use crate::segwit_encode::segwit_encode;
-use bech32_core::checksum::{Bech32, Bech32m};
+use bech32::{Bech32, Bech32m};
 use std::alloc::{Allocator, Global};
 
 /// A line may have so many bytes.

@@ -9,7 +9,7 @@ ghost use Rattle.b32.specs.Output.{IsOutput, IsBeginning, IsAnswered, IsAnswered
 
 use crate::error::RunError;
 use crate::reply::{REPLY_ROOM, reply};
-use bech32_core::device::{ByteSink, ByteSource, Watched, write_all};
+use bech32::primitives::device::{ByteSink, ByteSource, Watched, write_all};
 use std::alloc::{AllocError, Global};
 use std::io;
 

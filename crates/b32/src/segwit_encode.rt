@@ -8,8 +8,7 @@ use crate::append::append;
 use crate::hex_word::bytes_of_word;
 use crate::refusal::Refusal;
 use crate::version_word::version_of_word;
-use bech32::segwit;
-use bech32_core::hrp::Hrp;
+use bech32::{Hrp, segwit};
 use std::alloc::Allocator;
 
 /// Adds the segwit address of a program, or leaves all as it was.

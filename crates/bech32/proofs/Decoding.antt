@@ -1,75 +1,15 @@
--- What a text's parts and its checksum say of the text.
-use Rattle.std.proofs.Common.{◌≡◌, ◌<◌, ◌≤◌, ◌⊎◌, ◌∙◌, ◌+◌, ◌-◌, ◌++◌, ◌↔◌, ℕ, List, None, Result, Ok, Err, length, length-append, take, refl, sym, ap, subst, arith, inl, inr, ⊎_elim, IfErr, IsOk, MatchResult}
-use Rattle.std.proofs.lemmas.List.{take_at}
+-- A text that is accepted is decoded.
+use Rattle.std.proofs.Common.{◌≡◌, ◌⊎◌, ℕ, List, None, Result, Ok, Err, length, refl, ⊎_elim, IfErr}
 use Rattle.std.specs.Result.{IsOkUnless}
 use Rattle.std.specs.Str.{IsUtf8}
-use Rattle.bech32_gf.specs.Fe32.{ops, elements_of}
-use Rattle.bech32_gf.specs.Fe32Laws.{is_field}
-use Rattle.bech32_gf.specs.declared.gf32.Fe32.{Fe32}
-use Rattle.bech32_poly.specs.Polynomial.{IsSamePolynomial, coefficient}
-use Rattle.bech32_poly.specs.Remainder.{IsRemainder}
-use Rattle.bech32_poly.proofs.Remainder.{remainder_unique}
-use Rattle.bech32_core.specs.Bits.{to_bytes}
-use Rattle.bech32_core.specs.Code.{Code, bech32, bech32m}
-use Rattle.bech32_core.specs.HrpBytes.{hrp_bytes}
-use Rattle.bech32.specs.Text.{IsText, text_refusal}
-use Rattle.bech32.specs.Acceptance.{IsAccepted, Accepts, IsDecoded}
-use Rattle.bech32.specs.BeforeChecksum.{IsBeforeChecksum}
-use Rattle.bech32.specs.Checked.{IsWithoutChecksum, IsAcceptedAs, IsCheckedRefusal}
-use Rattle.bech32.specs.Refusals.{HasValidChecksum, IsChecksumRefusal, IsResidueError, IsRefusedByBoth, IsDecodeRefusal}
+use Rattle.bech32_checksum.specs.Code.{bech32, bech32m}
+use Rattle.bech32_decode.specs.Text.{text_refusal}
+use Rattle.bech32_decode.specs.Acceptance.{Accepts}
+use Rattle.bech32_decode.proofs.Decoding.{valid-from_accepts, not_valid}
+use Rattle.bech32_decode.proofs.Grammar.{text_refusal-none}
+use Rattle.bech32.specs.Refusals.{IsDecodeRefusal}
 use Rattle.bech32.specs.declared.error.DecodeError.{DecodeError}
 use Rattle.bech32.specs.declared.error.DecodeError.TheVariants.{Parse, Checksum, Memory}
-use Rattle.bech32.specs.declared.primitives.decode.checked.CheckedHrpstring.{CheckedHrpstring}
-use Rattle.bech32.specs.declared.primitives.decode.unchecked.UncheckedHrpstring.{UncheckedHrpstring}
-use Rattle.bech32.specs.declared.primitives.decode.error.CheckedHrpstringError.{CheckedHrpstringError}
-use Rattle.bech32.specs.declared.primitives.decode.error.CheckedHrpstringError.TheVariants.{Parse as ParseFailed, Checksum as ChecksumFailed}
-use Rattle.bech32.specs.declared.primitives.decode.error.ChecksumError.{ChecksumError}
-use Rattle.bech32.specs.declared.primitives.decode.error.ChecksumError.TheVariants.{CodeLength, InvalidLength, InvalidResidue}
-use Rattle.bech32.specs.declared.primitives.decode.error.InvalidResidueError.{InvalidResidueError}
-use Rattle.bech32.proofs.Coefficients.{same_row}
-use Rattle.bech32.proofs.Grammar.{only-from_IsText, text_refusal-none}
-
-pub accepted : (code : Code) (text hrp data_part : List ℕ) → IsText text hrp data_part → HasValidChecksum code (length text) hrp data_part → IsAccepted code text hrp data_part
-accepted code text hrp data_part is h = record { grammar = is; text_length = h.0; data_length = h.1; leaves_target = h.2 }
-
--- a text that is accepted is so by the parts that it has
-pub valid-from_accepts : (code : Code) (text hrp data_part : List ℕ) → IsText text hrp data_part → Accepts code text → HasValidChecksum code (length text) hrp data_part
-valid-from_accepts code text hrp data_part is a =
-    let (h, d, yes_) = a in
-    let same = only-from_IsText text hrp data_part is h d yes_.grammar.split yes_.grammar.data_bytes in
-    subst (λ (x : List ℕ). HasValidChecksum code (length text) x data_part) same.0
-    (subst (λ (x : List ℕ). HasValidChecksum code (length text) h x) same.1 (yes_.text_length, yes_.data_length, yes_.leaves_target))
-
--- there is one remainder
-pub one_remainder : (low p r s : List Fe32) → IsRemainder ops low p r → IsRemainder ops low p s → r ≡ s
-one_remainder low p r s a b = remainder_unique is_field low p r a ∙ sym (remainder_unique is_field low p s b)
-
--- a checksum that refuses is not valid
-pub not_valid : (code : Code) (n : ℕ) (hrp data_part : List ℕ) (e : ChecksumError) → IsChecksumRefusal code n hrp data_part e → HasValidChecksum code n hrp data_part → ⊥
-not_valid code n hrp data_part (CodeLength e) r v = let a : code.code_length < n = r.0 in let b : n ≤ code.code_length = v.0 in absurd (omega arith)
-not_valid code n hrp data_part InvalidLength r v = let a : length data_part < length code.generator = r.1 in let b : length code.generator ≤ length data_part = v.1 in absurd (omega arith)
-not_valid code n hrp data_part (InvalidResidue e) r v = r.2.not_target (one_remainder code.generator _ _ _ r.2.is_remainder v.2)
-
--- the polynomials of Bech32 and Bech32m differ in the target alone
-pub matches-from_valid : (p : List Fe32) (e : InvalidResidueError) → IsResidueError bech32m p e → IsRemainder ops bech32.generator p bech32.target
-    → IsSamePolynomial ops e.actual.digits bech32.target
-matches-from_valid p e r v n = r.actual n ∙ ap (λ (xs : List Fe32). coefficient ops xs n) (one_remainder bech32m.generator p _ _ r.is_remainder v)
-
-pub valid-from_matches : (p : List Fe32) (e : InvalidResidueError) → IsResidueError bech32m p e → IsSamePolynomial ops e.actual.digits bech32.target
-    → IsRemainder ops bech32.generator p bech32.target
-valid-from_matches p e r same =
-    let row : r.remainder ≡ bech32.target = same_row r.remainder bech32.target r.is_remainder.short (λ n. sym (r.actual n) ∙ same n) in
-    subst (IsRemainder ops bech32.generator p) row r.is_remainder
-
-pub refused_by_both : (text hrp data_part : List ℕ) (e : ChecksumError) → IsText text hrp data_part
-    → IsChecksumRefusal bech32m (length text) hrp data_part e → (HasValidChecksum bech32 (length text) hrp data_part → ⊥) → IsRefusedByBoth text e
-refused_by_both text hrp data_part e is refusal none = record {
-  hrp = hrp;
-  data_part = data_part;
-  grammar = is;
-  refusal = refusal;
-  not_bech32 = λ a. none (valid-from_accepts bech32 text hrp data_part is a);
-}
 
 -- what is accepted is decoded, want of memory aside
 pub decoded-from_refusal : {D : Type 0} (text : List ℕ) → IsUtf8 text → (r : Result D DecodeError) → IfErr r (λ e. IsDecodeRefusal text e)
@@ -83,46 +23,3 @@ decoded-from_refusal text u (Err (Checksum e)) h a =
     (λ (x : Accepts bech32m text). not_valid bech32m (length text) h.hrp h.data_part e h.refusal (valid-from_accepts bech32m text h.hrp h.data_part h.grammar x))
     (λ (x : Accepts bech32 text). h.not_bech32 x) a)
 decoded-from_refusal text u (Err Memory) h a = refl
-
--- a checksum is right exactly where it is not refused
-pub valid-from_outcome : {U : Type 0} (code : Code) (n : ℕ) (hrp data_part : List ℕ) (r : Result U ChecksumError)
-    → MatchResult r (λ _. HasValidChecksum code n hrp data_part) (λ e. IsChecksumRefusal code n hrp data_part e) → IsOk r ↔ HasValidChecksum code n hrp data_part
-valid-from_outcome code n hrp data_part (Ok u) h = (λ _. h, λ _. refl)
-valid-from_outcome code n hrp data_part (Err e) h = (λ ok. absurd cc, λ v. absurd (not_valid code n hrp data_part e h v))
-
--- a text that is read is accepted, and no other is
-pub accepted-from_checked : (code : Code) (text : List ℕ) → IsUtf8 text → (r : Result CheckedHrpstring CheckedHrpstringError)
-    → MatchResult r (λ c. IsAcceptedAs code text c) (λ e. IsCheckedRefusal code text e) → IsOk r ↔ Accepts code text
-accepted-from_checked code text u (Ok c) h = (λ _. (hrp_bytes c.hrp, h.data_part, h.accepted), λ _. refl)
-accepted-from_checked code text u (Err (ParseFailed e)) h =
-    (λ ok. absurd cc, λ a. absurd (let none : text_refusal text ≡ None = text_refusal-none text u (a.0, a.1, a.2.grammar) in cc))
-accepted-from_checked code text u (Err (ChecksumFailed e)) h =
-    (λ ok. absurd cc, λ a. absurd (not_valid code (length text) h.hrp h.data_part e h.refusal (valid-from_accepts code text h.hrp h.data_part h.grammar a)))
-
--- the characters before the checksum
-pub before_checksum : (code : Code) (data_part characters : List ℕ) → IsBeforeChecksum code data_part characters
-    → characters ≡ take (length data_part - length code.generator) data_part
-before_checksum code data_part characters h =
-    let whole : length data_part ≡ length (characters ++ h.checksum) = ap length h.data_part_is in
-    let both : length (characters ++ h.checksum) ≡ length characters + length h.checksum = length-append characters h.checksum in
-    let size : length h.checksum ≡ length code.generator = h.size in
-    let at : length data_part - length code.generator ≡ length characters = omega arith in
-    sym (ap (λ (n : ℕ). take n data_part) at ∙ ap (take (length characters)) h.data_part_is ∙ take_at characters h.checksum (length characters) refl)
-
--- what is decoded
-pub decoded : (text : List ℕ) (u : UncheckedHrpstring) (c : CheckedHrpstring) (hrp bytes : List ℕ) → IsText text (hrp_bytes u.hrp) u.data_part_ascii.now → u.hrpstring_length ≡ length text
-    → (HasValidChecksum bech32m u.hrpstring_length (hrp_bytes u.hrp) u.data_part_ascii.now ⊎ HasValidChecksum bech32 u.hrpstring_length (hrp_bytes u.hrp) u.data_part_ascii.now)
-    → IsWithoutChecksum bech32m u c → hrp ≡ hrp_bytes c.hrp → bytes ≡ to_bytes (elements_of c.ascii.now) → IsDecoded text hrp bytes
-decoded text u c hrp bytes is n valid w e f =
-    let h = hrp_bytes u.hrp in
-    let d = u.data_part_ascii.now in
-    let same : hrp ≡ h = e ∙ ap hrp_bytes w.hrp in
-    record {
-      data_part = d;
-      accepted = subst (λ (x : List ℕ). IsAccepted bech32m text x d ⊎ IsAccepted bech32 text x d) (sym same)
-          (⊎_elim
-          (λ (v : HasValidChecksum bech32m u.hrpstring_length h d). inl (accepted bech32m text h d is (subst (λ (k : ℕ). HasValidChecksum bech32m k h d) n v)))
-          (λ (v : HasValidChecksum bech32 u.hrpstring_length h d). inr (accepted bech32 text h d is (subst (λ (k : ℕ). HasValidChecksum bech32 k h d) n v)))
-          valid);
-      bytes_are = f ∙ ap (λ (x : List ℕ). to_bytes (elements_of x)) (before_checksum bech32m d c.ascii.now w.characters);
-    }

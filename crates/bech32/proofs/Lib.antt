@@ -1,17 +1,2 @@
-pub mod Letters
-pub mod Texts
-pub mod Grammar
-pub mod Outcomes
-pub mod Coefficients
-pub mod Checksums
 pub mod Decoding
-pub mod Encoding
-pub mod ByteWalks
-pub mod Padding
-pub mod Spelling
-pub mod Addresses
-pub mod Versions
-pub mod Uniqueness
 pub mod RoundTrip
-pub mod SegwitEncoding
-pub mod SegwitDecoding

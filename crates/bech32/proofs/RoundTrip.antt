@@ -9,22 +9,22 @@ use Rattle.bech32_gf.specs.Fe32.{ops, element_of, elements_of}
 use Rattle.bech32_gf.specs.declared.gf32.Fe32.{Fe32}
 use Rattle.bech32_poly.specs.Polynomial.{appended}
 use Rattle.bech32_poly.specs.Remainder.{IsRemainder}
-use Rattle.bech32_core.specs.Bits.{to_bytes, to_fes}
-use Rattle.bech32_core.specs.Code.{Code, bech32, bech32m}
-use Rattle.bech32_core.specs.Encoded.{char_of_element, IsEncodedText}
-use Rattle.bech32_core.specs.Hrp.{IsHrp, lowered}
-use Rattle.bech32_core.specs.HrpBytes.{hrp_bytes}
-use Rattle.bech32_core.specs.TextPolynomial.{text_polynomial}
-use Rattle.bech32_core.specs.declared.hrp.Hrp.{Hrp}
-use Rattle.bech32_core.proofs.RoundTrip.{to_bytes-to_fes}
-use Rattle.bech32.specs.Acceptance.{IsAccepted, Accepts, IsDecoded}
-use Rattle.bech32.specs.Text.{IsText}
+use Rattle.bech32_bits.specs.Bits.{to_bytes, to_fes}
+use Rattle.bech32_checksum.specs.Code.{Code, bech32, bech32m}
+use Rattle.bech32_checksum.specs.Encoded.{char_of_element, IsEncodedText}
+use Rattle.bech32_hrp.specs.Hrp.{IsHrp, lowered}
+use Rattle.bech32_hrp.specs.HrpBytes.{hrp_bytes}
+use Rattle.bech32_checksum.specs.TextPolynomial.{text_polynomial}
+use Rattle.bech32_hrp.specs.declared.Hrp.{Hrp}
+use Rattle.bech32_bits.proofs.RoundTrip.{to_bytes-to_fes}
+use Rattle.bech32_decode.specs.Acceptance.{IsAccepted, Accepts, IsDecoded}
+use Rattle.bech32_decode.specs.Text.{IsText}
 use Rattle.bech32.specs.Refusals.{IsDecodeRefusal}
 use Rattle.bech32.specs.declared.error.DecodeError.{DecodeError}
 use Rattle.bech32.specs.declared.error.DecodeError.TheVariants.{Memory}
 use Rattle.bech32.proofs.Decoding.{decoded-from_refusal}
-use Rattle.bech32.proofs.Grammar.{only-from_IsText}
-use Rattle.bech32.proofs.Spelling.{IsSpelled, characters-elements, spelled-lower, spelled-text}
+use Rattle.bech32_decode.proofs.Grammar.{only-from_IsText}
+use Rattle.bech32_decode.proofs.Spelling.{IsSpelled, characters-elements, spelled-lower, spelled-text}
 
 -- a text that is spelled as an encoded one, in whichever case, is accepted
 pub accepted-from_spelled : (code : Code) (hrp : List ℕ) (fes : List Fe32) (text lower : List ℕ) → (e : IsEncodedText code hrp fes lower)

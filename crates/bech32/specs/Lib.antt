@@ -1,13 +1,1 @@
-pub mod Text
-pub mod Acceptance
 pub mod Refusals
-pub mod Encoded
-pub mod Readers
-pub mod Version
-pub mod Checked
-pub mod SegwitRules
-pub mod BeforeChecksum
-pub mod Segwit
-pub mod SegwitParts
-pub mod ResidueRows
-pub mod SegwitEncoding

@@ -1,6 +1,6 @@
 //! Why a text is not decoded or not written.
 
-use crate::primitives::decode::{ChecksumError, CodeLengthError, UncheckedHrpstringError};
+use bech32_decode::{ChecksumError, CodeLengthError, UncheckedHrpstringError};
 use std::alloc::AllocError;
 use std::fmt;
 use thiserror::Error;

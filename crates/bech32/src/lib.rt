@@ -1,32 +1,31 @@
 //! Encoding and decoding of bech32 texts (BIP-173 and BIP-350).
 #![tactic(auto)]
 
-ghost use Rattle.std.specs.Prelude.{◌≡◌, ◌++◌, ℕ, List, nat_lt, option_to_list, ◌<◌, ◌≤◌, ◌⊎◌, ◌+◌, ◌-◌, ◌^◌, min, true, length, take, MatchResult, IfOk, IfErr, IsOk, IsOkUnless, string_bytes};
+ghost use Rattle.std.specs.Prelude.{◌≡◌, ℕ, List, nat_lt, ◌<◌, ◌≤◌, ◌⊎◌, true, length, MatchResult, IfOk, IfErr, IsOk, IsOkUnless, string_bytes};
 ghost use Rattle.std.specs.List.{list_all};
-ghost use Rattle.bech32_gf.specs.Alphabet.{is_data};
 ghost use Rattle.bech32_gf.specs.Fe32.{elements_of};
-ghost use Rattle.bech32_core.specs.Bits.{fes_count, to_bytes, to_fes};
-ghost use Rattle.bech32_core.specs.Code.{bech32, bech32m};
-ghost use Rattle.bech32_core.specs.Hrp.{IsHrp, lowered};
-ghost use Rattle.bech32_core.specs.HrpBytes.{hrp_bytes};
-ghost use Rattle.bech32.specs.Acceptance.{Accepts, IsDecoded};
-ghost use Rattle.bech32_core.specs.Encoded.{IsEncodedText};
-ghost use Rattle.bech32.specs.Encoded.{encoded_length_of};
-ghost use Rattle.bech32.specs.Refusals.{IsDecodeRefusal, IsEncodeRefusal, IsChecksumRefusal, HasValidChecksum};
+ghost use Rattle.bech32_bits.specs.Bits.{to_bytes, to_fes};
+ghost use Rattle.bech32_checksum.specs.Code.{bech32, bech32m};
+ghost use Rattle.bech32_hrp.specs.Hrp.{IsHrp, lowered};
+ghost use Rattle.bech32_hrp.specs.HrpBytes.{hrp_bytes};
+ghost use Rattle.bech32_decode.specs.Acceptance.{Accepts, IsDecoded};
+ghost use Rattle.bech32_checksum.specs.Encoded.{IsEncodedText};
+ghost use Rattle.bech32_encode.specs.TextLength.{encoded_length_of};
+ghost use Rattle.bech32.specs.Refusals.{IsDecodeRefusal, IsEncodeRefusal};
 
 mod error;
+pub mod hrp;
 pub mod primitives;
-pub mod segwit;
 
-use crate::primitives::decode::{
-    CheckedHrpstring, ChecksumError, CodeLengthError, UncheckedHrpstring,
-};
-pub use bech32_core::checksum::{Bech32, Bech32m, Checksum, NoChecksum};
-use bech32_core::encode::put_text;
-pub use bech32_core::hrp::Hrp;
-pub use bech32_core::iter::{ByteIterExt, Fe32IterExt};
+pub use bech32_bits::ByteIterExt;
+pub use bech32_checksum::{Bech32, Bech32m, Checksum, NoChecksum};
+use bech32_decode::{CheckedHrpstring, CodeLengthError, UncheckedHrpstring, validate_either};
+pub use bech32_encode::Fe32IterExt;
+use bech32_encode::{text_in, text_length};
 pub use bech32_gf::gf32::Fe32;
-pub use bech32_gf::gf32_ext::{Fe1024, Fe32768};
+pub use bech32_gf_ext::{Fe1024, Fe32768};
+pub use bech32_hrp::Hrp;
+pub use bech32_segwit as segwit;
 pub use error::{DecodeError, EncodeError};
 use std::alloc::{AllocError, Allocator, Global};
 
@@ -38,20 +37,6 @@ fn bytes_in<A: Allocator>(
     ensures { IfOk result (λ v. v.items ≡ to_bytes (elements_of checked.now.ascii.now)) }
 {
     checked.byte_iter().collect(alloc)
-}
-
-// Tests the checksum as Bech32m and as Bech32, in one pass: they differ in the target alone.
-fn validate_either(unchecked: &UncheckedHrpstring<'_>) -> Result<(), ChecksumError>
-    ensures { MatchResult result
-        (λ _. HasValidChecksum bech32m unchecked.now.hrpstring_length (hrp_bytes unchecked.now.hrp) unchecked.now.data_part_ascii.now
-        ⊎ HasValidChecksum bech32 unchecked.now.hrpstring_length (hrp_bytes unchecked.now.hrp) unchecked.now.data_part_ascii.now)
-        (λ e. IsChecksumRefusal bech32m unchecked.now.hrpstring_length (hrp_bytes unchecked.now.hrp) unchecked.now.data_part_ascii.now e
-        × (HasValidChecksum bech32 unchecked.now.hrpstring_length (hrp_bytes unchecked.now.hrp) unchecked.now.data_part_ascii.now → ⊥)) }
-{
-    match unchecked.validate_checksum::<Bech32m>() {
-        Err(ChecksumError::InvalidResidue(e)) if e.matches_bech32_checksum() => Ok(()),
-        outcome => outcome,
-    }
 }
 
 // What a text is decoded to, or why it is not.
@@ -99,19 +84,6 @@ pub fn decode(alloc: Global, s: &str) -> Result<(Hrp, Vec<u8>), DecodeError>
     decode_in(alloc, s)
 }
 
-// The length of the text of a human-readable part and so many bytes, or `usize::MAX` where it does
-// not fit.
-fn text_length<Ck: Checksum>(hrp: &Hrp, bytes: usize) -> usize
-    ensures { result ≡ min (length (hrp_bytes hrp.now) + 1 + fes_count 0 bytes + Ck.CHECKSUM_LENGTH) (2 ^ 64 - 1) }
-{
-    let groups = (bytes / 5)
-        .saturating_mul(8)
-        .saturating_add((bytes % 5 * 8 + 4) / 5);
-    (hrp.len() + 1)
-        .saturating_add(groups)
-        .saturating_add(Ck::CHECKSUM_LENGTH)
-}
-
 /// The number of characters of the text that [`encode`] writes of a human-readable part and bytes.
 ///
 /// Nothing else is tested.
@@ -135,35 +107,6 @@ pub fn encoded_length<Ck: Checksum>(hrp: Hrp, data: &[u8]) -> Result<usize, Code
         });
     }
     Ok(length)
-}
-
-// The number of characters of the text with a witness version, where there is one, or `usize::MAX`
-// where it does not fit.
-fn length_with_version<Ck: Checksum>(hrp: &Hrp, version: Option<Fe32>, bytes: usize) -> usize
-    ensures { result ≡ min (length (hrp_bytes hrp.now) + 1 + (length (option_to_list version) + fes_count 0 bytes) + Ck.CHECKSUM_LENGTH) (2 ^ 64 - 1) }
-{
-    let length = text_length::<Ck>(hrp, bytes);
-    match version {
-        Some(_) => length.saturating_add(1),
-        None => length,
-    }
-}
-
-// The text of a human-readable part, a witness version where there is one, and bytes.
-pub(crate) fn text_in<Ck: Checksum, A: Allocator>(
-    alloc: A,
-    hrp: Hrp,
-    version: Option<Fe32>,
-    data: &[u8],
-) -> Result<String<A>, AllocError>
-    ensures { IfOk result (λ s. IsEncodedText Ck.code (hrp_bytes hrp) (option_to_list version ++ to_fes «data».now) (string_bytes s)) }
-{
-    let length = length_with_version::<Ck>(&hrp, version, data.len());
-    let mut text = vec![in alloc; 0u8; length]?;
-    let elements = data.iter().copied().bytes_to_fes();
-    put_text::<_, Ck>(&hrp, version, elements, text.as_mut_slice());
-    // All of it is ASCII: what the call requires is proved.
-    Ok(unsafe { String::from_utf8_unchecked(text) })
 }
 
 /// Encodes bytes under a human-readable part, in lower case, with memory from `alloc`.
@@ -194,6 +137,3 @@ pub fn encode<Ck: Checksum>(alloc: Global, hrp: Hrp, data: &[u8]) -> Result<Stri
 {
     encode_in::<Ck, Global>(alloc, hrp, data)
 }
-
-#[cfg(test)]
-mod tests;

@@ -4,21 +4,21 @@ use Rattle.std.proofs.lemmas.List.{length-map}
 use Rattle.std.specs.Char.{to_ascii_lowercase, to_ascii_uppercase}
 use Rattle.bech32_gf.specs.Fe32.{element, element_of, elements_of}
 use Rattle.bech32_gf.specs.declared.gf32.Fe32.{Fe32}
-use Rattle.bech32_core.specs.Bits.{to_fes, fes_count}
-use Rattle.bech32_core.specs.Encoded.{IsEncodedText}
-use Rattle.bech32_core.specs.Hrp.{IsHrp, lowered}
-use Rattle.bech32_core.proofs.RoundTrip.{length-to_fes}
-use Rattle.bech32.specs.Segwit.{segwit_code, IsAddress}
-use Rattle.bech32.specs.SegwitEncoding.{HasAddress, address_length, IsSegwitEncodeRefusal}
-use Rattle.bech32.specs.Text.{IsText}
-use Rattle.bech32.specs.declared.segwit.error.EncodeError.{EncodeError}
-use Rattle.bech32.specs.declared.segwit.error.EncodeError.TheVariants.{WitnessVersion, WitnessLength, TooLong as NoAddressLength, Memory}
-use Rattle.bech32.proofs.Addresses.{parts-from_address, not_refused, short}
-use Rattle.bech32.proofs.Grammar.{only-from_IsText}
-use Rattle.bech32.proofs.SegwitEncoding.{exists-from_outcome, spelling-from_outcome}
-use Rattle.bech32.proofs.Spelling.{IsSpelled, spelled-lower, spelled-raised}
-use Rattle.bech32.proofs.Uniqueness.{in_other_case, length-encoded}
-use Rattle.bech32_core.specs.Buffers.{IsPut}
+use Rattle.bech32_bits.specs.Bits.{to_fes, fes_count}
+use Rattle.bech32_checksum.specs.Encoded.{IsEncodedText}
+use Rattle.bech32_hrp.specs.Hrp.{IsHrp, lowered}
+use Rattle.bech32_bits.proofs.RoundTrip.{length-to_fes}
+use Rattle.bech32_decode.specs.Segwit.{segwit_code, IsAddress}
+use Rattle.bech32_segwit.specs.SegwitEncoding.{HasAddress, address_length, IsSegwitEncodeRefusal}
+use Rattle.bech32_decode.specs.Text.{IsText}
+use Rattle.bech32_segwit.specs.declared.error.EncodeError.{EncodeError}
+use Rattle.bech32_segwit.specs.declared.error.EncodeError.TheVariants.{WitnessVersion, WitnessLength, TooLong as NoAddressLength, Memory}
+use Rattle.bech32_decode.proofs.Addresses.{parts-from_address, not_refused, short}
+use Rattle.bech32_decode.proofs.Grammar.{only-from_IsText}
+use Rattle.bech32_segwit.proofs.SegwitEncoding.{exists-from_outcome, spelling-from_outcome}
+use Rattle.bech32_decode.proofs.Spelling.{IsSpelled, spelled-lower, spelled-raised}
+use Rattle.bech32_checksum.proofs.Uniqueness.{in_other_case, length-encoded}
+use Rattle.bech32_encode.specs.Buffers.{IsPut}
 use Rattle.bech32_c.specs.Segwit.{PutsAddress, HasRoomFor, IsAddressFault, IsSegwitEncodeFault, CanDecodeAddress, LacksRoomFor, IsSegwitDecodeFault}
 use Rattle.bech32_c.specs.declared.refusal.Refusal.{Refusal}
 use Rattle.bech32_c.specs.declared.refusal.Refusal.TheVariants.{NotUtf8, NoRoom, Version, ProgramLength, AddressTooLong, Address}

@@ -4,17 +4,17 @@ use Rattle.std.proofs.lemmas.List.{length-map}
 use Rattle.std.specs.Char.{to_ascii_lowercase}
 use Rattle.std.specs.List.{list_all}
 use Rattle.std.specs.Str.{IsUtf8}
-use Rattle.bech32_core.specs.Bits.{to_fes}
-use Rattle.bech32_core.specs.Code.{Code, bech32, bech32m}
-use Rattle.bech32_core.specs.Encoded.{char_of_element, spelled, IsEncodedText}
-use Rattle.bech32_core.specs.Hrp.{IsHrp, lowered}
-use Rattle.bech32.specs.Acceptance.{IsDecoded}
+use Rattle.bech32_bits.specs.Bits.{to_fes}
+use Rattle.bech32_checksum.specs.Code.{Code, bech32, bech32m}
+use Rattle.bech32_checksum.specs.Encoded.{char_of_element, spelled, IsEncodedText}
+use Rattle.bech32_hrp.specs.Hrp.{IsHrp, lowered}
+use Rattle.bech32_decode.specs.Acceptance.{IsDecoded}
 use Rattle.bech32.specs.Refusals.{IsDecodeRefusal}
 use Rattle.bech32.specs.declared.error.DecodeError.{DecodeError}
 use Rattle.bech32.specs.declared.error.DecodeError.TheVariants.{Parse, Checksum as NoChecksumAccepts, Memory}
 use Rattle.bech32.proofs.RoundTrip.{back-from_outcome, decoded-from_encoded}
-use Rattle.bech32.proofs.Spelling.{spelled-text}
-use Rattle.bech32_core.specs.Buffers.{IsPut}
+use Rattle.bech32_decode.proofs.Spelling.{spelled-text}
+use Rattle.bech32_encode.specs.Buffers.{IsPut}
 use Rattle.bech32_c.specs.Decode.{PutsDecoded, LacksRoom, IsDecodeFault}
 use Rattle.bech32_c.specs.declared.refusal.Refusal.{Refusal}
 use Rattle.bech32_c.specs.declared.refusal.Refusal.TheVariants.{NotUtf8, NoRoom, Text, Checksum}

@@ -1,6 +1,6 @@
 -- The checksum of a number, and calls that are refused by it.
 use Rattle.std.proofs.Common.{◌≡◌, ℕ, Option, Some, None, MatchOption}
-use Rattle.bech32_core.specs.Code.{Code}
+use Rattle.bech32_checksum.specs.Code.{Code}
 use Rattle.bech32_c.specs.Checksums.{code_of_number, ForChecksum, IsFaultBy}
 use Rattle.bech32_c.specs.declared.refusal.Refusal.{Refusal}
 use Rattle.bech32_c.specs.declared.refusal.Refusal.TheVariants.{BadNumber}

@@ -1,14 +1,14 @@
 -- Nothing is wrong with a text that a checksum accepts.
 use Rattle.std.proofs.Common.{◌≡◌, ◌+◌, ℕ, List, Err, length, length-append, ap, ◌∙◌, arith, IsOk}
 use Rattle.std.specs.Str.{IsUtf8}
-use Rattle.bech32_core.specs.Code.{Code}
-use Rattle.bech32_core.specs.HrpBytes.{hrp_bytes}
-use Rattle.bech32.specs.Acceptance.{Accepts}
-use Rattle.bech32.specs.Checked.{IsAcceptedAs, IsCheckedRefusal}
-use Rattle.bech32.specs.declared.primitives.decode.checked.CheckedHrpstring.{CheckedHrpstring}
-use Rattle.bech32.specs.declared.primitives.decode.error.CheckedHrpstringError.{CheckedHrpstringError}
-use Rattle.bech32.specs.declared.primitives.decode.error.CheckedHrpstringError.TheVariants.{Parse, Checksum as NotAccepted}
-use Rattle.bech32.proofs.Decoding.{accepted-from_checked}
+use Rattle.bech32_checksum.specs.Code.{Code}
+use Rattle.bech32_hrp.specs.HrpBytes.{hrp_bytes}
+use Rattle.bech32_decode.specs.Acceptance.{Accepts}
+use Rattle.bech32_decode.specs.Checked.{IsAcceptedAs, IsCheckedRefusal}
+use Rattle.bech32_decode.specs.declared.checked.CheckedHrpstring.{CheckedHrpstring}
+use Rattle.bech32_decode.specs.declared.error.CheckedHrpstringError.{CheckedHrpstringError}
+use Rattle.bech32_decode.specs.declared.error.CheckedHrpstringError.TheVariants.{Parse, Checksum as NotAccepted}
+use Rattle.bech32_decode.proofs.Decoding.{accepted-from_checked}
 use Rattle.bech32_c.specs.Check.{IsCheckedAs, IsCheckFault}
 use Rattle.bech32_c.specs.declared.refusal.Refusal.{Refusal}
 use Rattle.bech32_c.specs.declared.refusal.Refusal.TheVariants.{NotUtf8, Text, Checksum}

@@ -2,15 +2,15 @@
 use Rattle.std.proofs.Common.{◌≡◌, ◌≤◌, ◌<◌, ◌⊎◌, ◌-◌, ℕ, List, Err, length, take, inl, inr, ⊎_elim, sym, ap, ◌∙◌, arith}
 use Rattle.std.specs.Str.{IsUtf8}
 use Rattle.bech32_gf.specs.Fe32.{elements_of}
-use Rattle.bech32_core.specs.Bits.{to_bytes}
-use Rattle.bech32_core.specs.Code.{bech32, bech32m}
-use Rattle.bech32.specs.Acceptance.{Accepts, IsAccepted, IsDecoded}
+use Rattle.bech32_bits.specs.Bits.{to_bytes}
+use Rattle.bech32_checksum.specs.Code.{bech32, bech32m}
+use Rattle.bech32_decode.specs.Acceptance.{Accepts, IsAccepted, IsDecoded}
 use Rattle.bech32.specs.Refusals.{IsDecodeRefusal}
-use Rattle.bech32.specs.Text.{IsText}
+use Rattle.bech32_decode.specs.Text.{IsText}
 use Rattle.bech32.specs.declared.error.DecodeError.{DecodeError}
 use Rattle.bech32.specs.declared.error.DecodeError.TheVariants.{Parse, Checksum as NoChecksumAccepts, Memory}
 use Rattle.bech32.proofs.Decoding.{decoded-from_refusal}
-use Rattle.bech32.proofs.Grammar.{only-from_IsText}
+use Rattle.bech32_decode.proofs.Grammar.{only-from_IsText}
 use Rattle.bech32_c.specs.Decode.{CanDecode, LacksRoom, IsDecodeFault}
 use Rattle.bech32_c.specs.declared.refusal.Refusal.{Refusal}
 use Rattle.bech32_c.specs.declared.refusal.Refusal.TheVariants.{NotUtf8, NoRoom, Text, Checksum}

@@ -1,9 +1,9 @@
 -- Nothing is wrong where there is a text and room for it.
 use Rattle.std.proofs.Common.{◌≡◌, ◌<◌, ◌≤◌, ◌+◌, ◌-◌, ◌^◌, min, ℕ, List, length, inl, inr, arith}
 use Rattle.bech32_gf.specs.declared.gf32.Fe32.{Fe32}
-use Rattle.bech32_core.specs.Bits.{to_fes}
-use Rattle.bech32_core.specs.Code.{Code}
-use Rattle.bech32.specs.Encoded.{encoded_length_of}
+use Rattle.bech32_bits.specs.Bits.{to_fes}
+use Rattle.bech32_checksum.specs.Code.{Code}
+use Rattle.bech32_encode.specs.TextLength.{encoded_length_of}
 use Rattle.bech32_c.specs.Encode.{HasText, IsTextFault, IsEncodeFault}
 use Rattle.bech32_c.specs.declared.refusal.Refusal.{Refusal}
 use Rattle.bech32_c.specs.declared.refusal.Refusal.TheVariants.{TooLong, NoRoom}

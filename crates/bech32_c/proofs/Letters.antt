@@ -5,10 +5,10 @@ use Rattle.std.proofs.lemmas.Str.{IsUtf8-append, IsUtf8-from_ascii}
 use Rattle.std.proofs.lemmas.Str.Ascii.{IsAscii-nil, IsAscii-cons}
 use Rattle.std.specs.List.{list_all}
 use Rattle.std.specs.Str.{IsAscii, IsUtf8}
-use Rattle.bech32_core.specs.Hrp.{IsHrp, is_graphic}
-use Rattle.bech32_core.proofs.HrpTexts.{hrp_refusal-none}
-use Rattle.bech32.specs.Text.{IsText}
-use Rattle.bech32.proofs.Letters.{IsAscii-from_data}
+use Rattle.bech32_hrp.specs.Hrp.{IsHrp, is_graphic}
+use Rattle.bech32_hrp.proofs.HrpTexts.{hrp_refusal-none}
+use Rattle.bech32_decode.specs.Text.{IsText}
+use Rattle.bech32_decode.proofs.Letters.{IsAscii-from_data}
 use Rattle.bech32_c.specs.Faults.{IsPartFault}
 use Rattle.bech32_c.specs.declared.refusal.Refusal.{Refusal}
 use Rattle.bech32_c.specs.declared.refusal.Refusal.TheVariants.{NotUtf8, Hrp}

@@ -1,9 +1,9 @@
-pub mod Puts
-pub mod Letters
-pub mod ByNumber
-pub mod Encoding
-pub mod Decoding
-pub mod Back
-pub mod Checking
 pub mod Addresses
+pub mod Back
+pub mod ByNumber
+pub mod Checking
+pub mod Decoding
+pub mod Encoding
+pub mod Letters
+pub mod Puts
 pub mod Runs

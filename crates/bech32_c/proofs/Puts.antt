@@ -1,9 +1,9 @@
 -- What stands at the front of a buffer.
 use Rattle.std.proofs.Common.{◌≡◌, ◌≤◌, ℕ, List, Some, None, length, sym, ◌∙◌, subst}
 use Rattle.std.specs.Iterator.{YieldsFirst}
-use Rattle.bech32_core.proofs.ListSources.{ShowsRest, drains-rest}
-use Rattle.bech32_core.proofs.TextPieces.{put_whole}
-use Rattle.bech32_core.specs.Buffers.{IsPut}
+use Rattle.bech32_bits.proofs.ListSources.{ShowsRest, drains-rest}
+use Rattle.bech32_encode.proofs.TextPieces.{put_whole}
+use Rattle.bech32_encode.specs.Buffers.{IsPut}
 use Rattle.bech32_c.specs.Buffers.{IsFilled}
 
 pub put-same : (bytes bytes' old new : List ℕ) (count count' : ℕ) → bytes ≡ bytes' → count ≡ count' → IsPut bytes old new count → IsPut bytes' old new count'

@@ -1,11 +1,11 @@
 -- A text tested by a checksum: the lengths of its parts, or why it is not accepted.
 use Rattle.std.specs.Prelude.{◌≡◌, ◌+◌, ℕ, List, length}
 use Rattle.std.specs.Str.{IsUtf8}
-use Rattle.bech32_core.specs.Code.{Code}
-use Rattle.bech32.specs.Acceptance.{IsAccepted}
-use Rattle.bech32.specs.Checked.{IsCheckedRefusal}
-use Rattle.bech32.specs.declared.primitives.decode.error.CheckedHrpstringError.{CheckedHrpstringError}
-use Rattle.bech32.specs.declared.primitives.decode.error.CheckedHrpstringError.TheVariants.{Parse, Checksum as NotAccepted}
+use Rattle.bech32_checksum.specs.Code.{Code}
+use Rattle.bech32_decode.specs.Acceptance.{IsAccepted}
+use Rattle.bech32_decode.specs.Checked.{IsCheckedRefusal}
+use Rattle.bech32_decode.specs.declared.error.CheckedHrpstringError.{CheckedHrpstringError}
+use Rattle.bech32_decode.specs.declared.error.CheckedHrpstringError.TheVariants.{Parse, Checksum as NotAccepted}
 use Rattle.bech32_c.specs.declared.refusal.Refusal.{Refusal}
 use Rattle.bech32_c.specs.declared.refusal.Refusal.TheVariants.{NotUtf8, Text, Checksum}
 

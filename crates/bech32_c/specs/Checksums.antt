@@ -1,6 +1,6 @@
 -- The checksums that a number stands for.
 use Rattle.std.specs.Prelude.{◌≡◌, ◌==◌, ℕ, if◌then◌else◌, Option, Some, None, MatchOption}
-use Rattle.bech32_core.specs.Code.{Code, bech32, bech32m}
+use Rattle.bech32_checksum.specs.Code.{Code, bech32, bech32m}
 use Rattle.bech32_c.specs.declared.refusal.Refusal.{Refusal}
 use Rattle.bech32_c.specs.declared.refusal.Refusal.TheVariants.{BadNumber}
 

@@ -1,10 +1,10 @@
 -- Texts decoded into buffers, and why they are not.
 use Rattle.std.specs.Prelude.{◌<◌, ◌≤◌, ◌⊎◌, ℕ, List, length}
 use Rattle.std.specs.Str.{IsUtf8}
-use Rattle.bech32.specs.Acceptance.{IsDecoded}
+use Rattle.bech32_decode.specs.Acceptance.{IsDecoded}
 use Rattle.bech32.specs.Refusals.{IsDecodeRefusal}
 use Rattle.bech32.specs.declared.error.DecodeError.TheVariants.{Parse, Checksum as NoChecksumAccepts}
-use Rattle.bech32_core.specs.Buffers.{IsPut}
+use Rattle.bech32_encode.specs.Buffers.{IsPut}
 use Rattle.bech32_c.specs.declared.refusal.Refusal.{Refusal}
 use Rattle.bech32_c.specs.declared.refusal.Refusal.TheVariants.{NotUtf8, NoRoom, Text, Checksum}
 

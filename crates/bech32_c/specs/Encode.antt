@@ -1,13 +1,13 @@
 -- Texts put into a buffer, and why there is none.
 use Rattle.std.specs.Prelude.{◌<◌, ◌≤◌, ◌⊎◌, ℕ, List}
-use Rattle.bech32_core.specs.Bits.{to_fes}
-use Rattle.bech32_core.specs.Code.{Code}
-use Rattle.bech32_core.specs.Encoded.{IsEncodedText}
-use Rattle.bech32_core.specs.Hrp.{IsHrp}
-use Rattle.bech32.specs.Encoded.{encoded_length_of}
+use Rattle.bech32_bits.specs.Bits.{to_fes}
+use Rattle.bech32_checksum.specs.Code.{Code}
+use Rattle.bech32_checksum.specs.Encoded.{IsEncodedText}
+use Rattle.bech32_hrp.specs.Hrp.{IsHrp}
+use Rattle.bech32_encode.specs.TextLength.{encoded_length_of}
 use Rattle.bech32.specs.Refusals.{IsEncodeRefusal}
 use Rattle.bech32.specs.declared.error.EncodeError.TheVariants.{TooLong as TextTooLong}
-use Rattle.bech32_core.specs.Buffers.{IsPut}
+use Rattle.bech32_encode.specs.Buffers.{IsPut}
 use Rattle.bech32_c.specs.Faults.{IsPartFault}
 use Rattle.bech32_c.specs.declared.refusal.Refusal.{Refusal}
 use Rattle.bech32_c.specs.declared.refusal.Refusal.TheVariants.{TooLong, NoRoom}

@@ -1,7 +1,7 @@
 -- What is wrong with what a call is given.
 use Rattle.std.specs.Prelude.{◌≡◌, ℕ, List, Some}
 use Rattle.std.specs.Str.{IsUtf8}
-use Rattle.bech32_core.specs.Hrp.{hrp_refusal}
+use Rattle.bech32_hrp.specs.Hrp.{hrp_refusal}
 use Rattle.bech32_c.specs.Numbers.{number_of}
 use Rattle.bech32_c.specs.declared.refusal.Refusal.{Refusal}
 use Rattle.bech32_c.specs.declared.refusal.Refusal.TheVariants.{NotUtf8, Hrp}

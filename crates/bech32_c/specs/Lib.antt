@@ -1,9 +1,9 @@
-pub mod Numbers
-pub mod Faults
 pub mod Buffers
-pub mod Checksums
-pub mod Encode
-pub mod Decode
 pub mod Check
-pub mod Segwit
+pub mod Checksums
+pub mod Decode
+pub mod Encode
 pub mod Engine
+pub mod Faults
+pub mod Numbers
+pub mod Segwit

@@ -1,19 +1,19 @@
 -- The numbers of refusals: those of the program `b32`, and 92 for a buffer that is too small.
 use Rattle.std.specs.Prelude.{ℕ}
-use Rattle.bech32_core.specs.declared.hrp.Error.{Error as HrpError}
-use Rattle.bech32_core.specs.declared.hrp.Error.TheVariants.{Empty, TooLong as HrpTooLong, NonAsciiChar, InvalidAsciiByte, MixedCase as HrpMixedCase}
-use Rattle.bech32.specs.declared.primitives.decode.error.CharError.{CharError}
-use Rattle.bech32.specs.declared.primitives.decode.error.CharError.TheVariants.{InvalidChar, MixedCase, MissingSeparator, NothingAfterSeparator}
-use Rattle.bech32.specs.declared.primitives.decode.error.UncheckedHrpstringError.{UncheckedHrpstringError}
-use Rattle.bech32.specs.declared.primitives.decode.error.UncheckedHrpstringError.TheVariants.{Char, Hrp as TextHrp}
-use Rattle.bech32.specs.declared.primitives.decode.error.ChecksumError.{ChecksumError}
-use Rattle.bech32.specs.declared.primitives.decode.error.ChecksumError.TheVariants.{CodeLength, InvalidLength, InvalidResidue}
-use Rattle.bech32.specs.declared.primitives.decode.error.PaddingError.{PaddingError}
-use Rattle.bech32.specs.declared.primitives.decode.error.PaddingError.TheVariants.{TooMuch, NonZero}
-use Rattle.bech32.specs.declared.primitives.decode.error.SegwitHrpstringError.{SegwitHrpstringError}
-use Rattle.bech32.specs.declared.primitives.decode.error.SegwitHrpstringError.TheVariants.{Unchecked, NoData, TooLong as LongAddress, InvalidWitnessVersion, Padding, WitnessLength, Checksum as WrongChecksum, Memory}
-use Rattle.bech32.specs.declared.primitives.segwit.WitnessLengthError.{WitnessLengthError}
-use Rattle.bech32.specs.declared.primitives.segwit.WitnessLengthError.TheVariants.{TooShort, TooLong as LongProgram, InvalidSegwitV0}
+use Rattle.bech32_hrp.specs.declared.Error.{Error as HrpError}
+use Rattle.bech32_hrp.specs.declared.Error.TheVariants.{Empty, TooLong as HrpTooLong, NonAsciiChar, InvalidAsciiByte, MixedCase as HrpMixedCase}
+use Rattle.bech32_decode.specs.declared.error.CharError.{CharError}
+use Rattle.bech32_decode.specs.declared.error.CharError.TheVariants.{InvalidChar, MixedCase, MissingSeparator, NothingAfterSeparator}
+use Rattle.bech32_decode.specs.declared.error.UncheckedHrpstringError.{UncheckedHrpstringError}
+use Rattle.bech32_decode.specs.declared.error.UncheckedHrpstringError.TheVariants.{Char, Hrp as TextHrp}
+use Rattle.bech32_decode.specs.declared.error.ChecksumError.{ChecksumError}
+use Rattle.bech32_decode.specs.declared.error.ChecksumError.TheVariants.{CodeLength, InvalidLength, InvalidResidue}
+use Rattle.bech32_decode.specs.declared.error.PaddingError.{PaddingError}
+use Rattle.bech32_decode.specs.declared.error.PaddingError.TheVariants.{TooMuch, NonZero}
+use Rattle.bech32_decode.specs.declared.error.SegwitHrpstringError.{SegwitHrpstringError}
+use Rattle.bech32_decode.specs.declared.error.SegwitHrpstringError.TheVariants.{Unchecked, NoData, TooLong as LongAddress, InvalidWitnessVersion, Padding, WitnessLength, Checksum as WrongChecksum, Memory}
+use Rattle.bech32_decode.specs.declared.segwit.WitnessLengthError.{WitnessLengthError}
+use Rattle.bech32_decode.specs.declared.segwit.WitnessLengthError.TheVariants.{TooShort, TooLong as LongProgram, InvalidSegwitV0}
 use Rattle.bech32_c.specs.declared.refusal.Refusal.{Refusal}
 use Rattle.bech32_c.specs.declared.refusal.Refusal.TheVariants.{NotUtf8, BadNumber, NoRoom, Hrp, TooLong, Text, Checksum, Version, ProgramLength, AddressTooLong, Address}
 

@@ -3,11 +3,11 @@ use Rattle.std.specs.Prelude.{◌≡◌, ◌<◌, ◌≤◌, ◌⊎◌, ℕ, Lis
 use Rattle.std.specs.Str.{IsUtf8}
 use Rattle.bech32_gf.specs.Fe32.{element}
 use Rattle.bech32_gf.specs.declared.gf32.Fe32.{Fe32}
-use Rattle.bech32_core.specs.Hrp.{IsHrp, lowered}
-use Rattle.bech32.specs.Segwit.{IsLowerAddress, IsAddress, IsSegwitRefusal}
-use Rattle.bech32.specs.SegwitEncoding.{HasAddress, address_length, IsSegwitEncodeRefusal}
-use Rattle.bech32.specs.declared.segwit.error.EncodeError.TheVariants.{WitnessVersion, WitnessLength, TooLong as NoAddressLength}
-use Rattle.bech32_core.specs.Buffers.{IsPut}
+use Rattle.bech32_hrp.specs.Hrp.{IsHrp, lowered}
+use Rattle.bech32_decode.specs.Segwit.{IsLowerAddress, IsAddress, IsSegwitRefusal}
+use Rattle.bech32_segwit.specs.SegwitEncoding.{HasAddress, address_length, IsSegwitEncodeRefusal}
+use Rattle.bech32_segwit.specs.declared.error.EncodeError.TheVariants.{WitnessVersion, WitnessLength, TooLong as NoAddressLength}
+use Rattle.bech32_encode.specs.Buffers.{IsPut}
 use Rattle.bech32_c.specs.Faults.{IsPartFault}
 use Rattle.bech32_c.specs.declared.refusal.Refusal.{Refusal}
 use Rattle.bech32_c.specs.declared.refusal.Refusal.TheVariants.{NotUtf8, BadNumber, NoRoom, Version, ProgramLength, AddressTooLong, Address}

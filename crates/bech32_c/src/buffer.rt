@@ -2,7 +2,7 @@
 
 ghost use Rattle.std.specs.Prelude.{◌≤◌, length};
 ghost use Rattle.std.specs.Iterator.{IsFinite};
-ghost use Rattle.bech32_core.specs.Buffers.{IsPut};
+ghost use Rattle.bech32_encode.specs.Buffers.{IsPut};
 ghost use Rattle.bech32_c.specs.Buffers.{IsFilled};
 
 /// Puts bytes at the front of a buffer that has room for them.

@@ -3,14 +3,13 @@
 ghost use Rattle.std.specs.Prelude.{◌≡◌, ◌≢◌, ◌≤◌, ◌⊎◌, ℕ, List, length, nat_lt, true, MatchResult, IfOk, IfErr, OnErr};
 ghost use Rattle.std.specs.List.{list_all};
 ghost use Rattle.bech32_gf.specs.Fe32.{elements_of};
-ghost use Rattle.bech32_core.specs.Bits.{to_bytes, to_fes};
-ghost use Rattle.bech32_core.specs.Code.{bech32, bech32m};
-ghost use Rattle.bech32_core.specs.Encoded.{IsEncodedText};
-ghost use Rattle.bech32_core.specs.Hrp.{IsHrp, lowered};
-ghost use Rattle.bech32_core.specs.HrpBytes.{hrp_bytes};
-ghost use Rattle.bech32.specs.Acceptance.{Accepts, IsDecoded};
-ghost use Rattle.bech32.specs.Refusals.{HasValidChecksum, IsChecksumRefusal};
-ghost use Rattle.bech32_core.specs.Buffers.{IsPut};
+ghost use Rattle.bech32_bits.specs.Bits.{to_bytes, to_fes};
+ghost use Rattle.bech32_checksum.specs.Code.{bech32, bech32m};
+ghost use Rattle.bech32_checksum.specs.Encoded.{IsEncodedText};
+ghost use Rattle.bech32_hrp.specs.Hrp.{IsHrp, lowered};
+ghost use Rattle.bech32_hrp.specs.HrpBytes.{hrp_bytes};
+ghost use Rattle.bech32_decode.specs.Acceptance.{Accepts, IsDecoded};
+ghost use Rattle.bech32_encode.specs.Buffers.{IsPut};
 ghost use Rattle.bech32_c.specs.Check.{IsCheckedAs, IsCheckFault};
 ghost use Rattle.bech32_c.specs.Checksums.{ForChecksum, IsFaultBy};
 ghost use Rattle.bech32_c.specs.Decode.{PutsDecoded, CanDecode, IsReadFault, IsDecodeFault};
@@ -20,22 +19,8 @@ use crate::buffer::{fill, put};
 use crate::checksum::{BECH32, BECH32M};
 use crate::input::text_of;
 use crate::refusal::Refusal;
-use bech32::primitives::decode::{CheckedHrpstring, ChecksumError, UncheckedHrpstring};
+use bech32::primitives::decode::{CheckedHrpstring, UncheckedHrpstring, validate_either};
 use bech32::{Bech32, Bech32m, Checksum};
-
-// Tests the checksum as Bech32m and as Bech32, in one pass, as `bech32::decode` does.
-fn validate_either(unchecked: &UncheckedHrpstring<'_>) -> Result<(), ChecksumError>
-    ensures { MatchResult result
-        (λ _. HasValidChecksum bech32m unchecked.now.hrpstring_length (hrp_bytes unchecked.now.hrp) unchecked.now.data_part_ascii.now
-        ⊎ HasValidChecksum bech32 unchecked.now.hrpstring_length (hrp_bytes unchecked.now.hrp) unchecked.now.data_part_ascii.now)
-        (λ e. IsChecksumRefusal bech32m unchecked.now.hrpstring_length (hrp_bytes unchecked.now.hrp) unchecked.now.data_part_ascii.now e
-        × (HasValidChecksum bech32 unchecked.now.hrpstring_length (hrp_bytes unchecked.now.hrp) unchecked.now.data_part_ascii.now → ⊥)) }
-{
-    match unchecked.validate_checksum::<Bech32m>() {
-        Err(ChecksumError::InvalidResidue(e)) if e.matches_bech32_checksum() => Ok(()),
-        outcome => outcome,
-    }
-}
 
 // The parts of a text that Bech32m or Bech32 accepts.
 fn read(bytes: &[u8]) -> Result<CheckedHrpstring<'_>, Refusal>

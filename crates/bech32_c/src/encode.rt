@@ -1,10 +1,10 @@
 //! Encodes bytes.
 
 ghost use Rattle.std.specs.Prelude.{◌≡◌, ◌≢◌, ◌≤◌, ◌+◌, ◌++◌, ℕ, List, length, option_to_list, IfOk, IfErr, OnErr};
-ghost use Rattle.bech32_core.specs.Bits.{to_fes};
-ghost use Rattle.bech32_core.specs.Encoded.{IsEncodedText};
-ghost use Rattle.bech32_core.specs.HrpBytes.{hrp_bytes};
-ghost use Rattle.bech32_core.specs.Buffers.{IsPut};
+ghost use Rattle.bech32_bits.specs.Bits.{to_fes};
+ghost use Rattle.bech32_checksum.specs.Encoded.{IsEncodedText};
+ghost use Rattle.bech32_hrp.specs.HrpBytes.{hrp_bytes};
+ghost use Rattle.bech32_encode.specs.Buffers.{IsPut};
 ghost use Rattle.bech32_c.specs.Checksums.{ForChecksum, IsFaultBy};
 ghost use Rattle.bech32_c.specs.Encode.{PutsText, HasText, IsEncodeFault};
 ghost use Rattle.bech32_c.specs.Faults.{IsNumberOf};
@@ -12,8 +12,8 @@ ghost use Rattle.bech32_c.specs.Faults.{IsNumberOf};
 use crate::checksum::{BECH32, BECH32M};
 use crate::input::part_of;
 use crate::refusal::Refusal;
+use bech32::primitives::encode;
 use bech32::{Bech32, Bech32m, ByteIterExt, Checksum, Fe32, Hrp, encoded_length};
-use bech32_core::encode;
 
 /// Puts the text of a human-readable part, a witness version where there is one, and bytes into a
 /// buffer that has room for it, and answers its length.

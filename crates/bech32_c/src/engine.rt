@@ -8,8 +8,8 @@ ghost use Rattle.bech32_c.specs.Faults.{IsNumberOf};
 use crate::checksum::{BECH32, BECH32M};
 use crate::input::element_of;
 use crate::refusal::Refusal;
+use bech32::primitives::checksum::Engine;
 use bech32::{Bech32, Bech32m, Checksum};
-use bech32_core::checksum::Engine;
 
 // The remainder of the elements of values, packed.
 fn residue_of<Ck: Checksum>(values: &[u8]) -> Result<Ck::MidstateRepr, Refusal>

@@ -3,8 +3,8 @@
 ghost use Rattle.std.specs.Prelude.{◌≡◌, ◌≤◌, ◌<◌, MatchResult};
 ghost use Rattle.std.specs.Str.{IsUtf8};
 ghost use Rattle.bech32_gf.specs.Fe32.{element};
-ghost use Rattle.bech32_core.specs.Hrp.{IsHrp};
-ghost use Rattle.bech32_core.specs.HrpBytes.{hrp_bytes};
+ghost use Rattle.bech32_hrp.specs.Hrp.{IsHrp};
+ghost use Rattle.bech32_hrp.specs.HrpBytes.{hrp_bytes};
 ghost use Rattle.bech32_c.specs.Faults.{IsPartFault};
 
 use crate::refusal::Refusal;

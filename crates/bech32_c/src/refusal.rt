@@ -10,8 +10,8 @@ use bech32::primitives::decode::{
     CharError, CheckedHrpstringError, ChecksumError, CodeLengthError, PaddingError,
     SegwitCodeLengthError, SegwitHrpstringError, UncheckedHrpstringError,
 };
+use bech32::primitives::hrp;
 use bech32::primitives::segwit::{InvalidWitnessVersionError, WitnessLengthError};
-use bech32_core::hrp;
 
 /// Why a call writes nothing.
 #[derive(Clone, Copy)]

@@ -2,13 +2,13 @@
 
 ghost use Rattle.std.specs.Prelude.{◌≡◌, ◌≢◌, ◌≤◌, ◌∷◌, ℕ, List, length, MatchResult, IfOk, IfErr, OnErr};
 ghost use Rattle.bech32_gf.specs.Fe32.{element};
-ghost use Rattle.bech32_core.specs.Bits.{to_fes};
-ghost use Rattle.bech32_core.specs.Encoded.{IsEncodedText};
-ghost use Rattle.bech32_core.specs.Hrp.{IsHrp, lowered};
-ghost use Rattle.bech32_core.specs.HrpBytes.{hrp_bytes};
-ghost use Rattle.bech32.specs.Segwit.{segwit_code, IsAddress};
-ghost use Rattle.bech32.specs.SegwitEncoding.{HasAddress, address_length};
-ghost use Rattle.bech32_core.specs.Buffers.{IsPut};
+ghost use Rattle.bech32_bits.specs.Bits.{to_fes};
+ghost use Rattle.bech32_checksum.specs.Encoded.{IsEncodedText};
+ghost use Rattle.bech32_hrp.specs.Hrp.{IsHrp, lowered};
+ghost use Rattle.bech32_hrp.specs.HrpBytes.{hrp_bytes};
+ghost use Rattle.bech32_decode.specs.Segwit.{segwit_code, IsAddress};
+ghost use Rattle.bech32_segwit.specs.SegwitEncoding.{HasAddress, address_length};
+ghost use Rattle.bech32_encode.specs.Buffers.{IsPut};
 ghost use Rattle.bech32_c.specs.Faults.{IsNumberOf};
 ghost use Rattle.bech32_c.specs.Segwit.{PutsAddress, HasRoomFor, IsAddressFault, IsSegwitEncodeFault};
 ghost use Rattle.bech32_c.specs.Segwit.{PutsProgram, CanDecodeAddress, IsSegwitDecodeFault};

@@ -1,8 +1,13 @@
 //! What bech32 texts are made of: human-readable parts, checksums, groups of bits, and devices.
 #![tactic(auto)]
 
-pub mod checksum;
-pub mod device;
-pub mod encode;
-pub mod hrp;
-pub mod iter;
+pub use bech32_checksum as checksum;
+pub use bech32_device as device;
+pub use bech32_encode as encode;
+pub use bech32_hrp as hrp;
+
+/// Iterators that regroup bits, and add checksums.
+pub mod iter {
+    pub use bech32_bits::{ByteIterExt, BytesToFes, FesToBytes};
+    pub use bech32_encode::{Checksummed, Fe32IterExt};
+}

@@ -1,7 +1,5 @@
 pub mod Characters
 pub mod Doublings
-pub mod Orders
 pub mod Logarithms
+pub mod Orders
 pub mod PlainProduct
-pub mod Products
-pub mod Norms

@@ -271,8 +271,10 @@ pub trait ExtensionField: Field + From<Self::BaseField> {
     ghost polynomial_law: { power Self.ops EXT_ELEM DEGREE ≡ POLYNOMIAL };
 }
 
-pub(crate) mod private {
-    /// Keeps [`Bech32Field`](super::Bech32Field) to the fields of this crate.
+#[doc(hidden)]
+pub mod private {
+    /// Keeps [`Bech32Field`](super::Bech32Field) to the fields of this repository: the crate `bech32`
+    /// does not give this module on.
     pub trait Sealed {}
 }
 
@@ -358,6 +360,3 @@ impl<F: Field> Iterator for PowersRange<F> {
         self.powers.next()
     }
 }
-
-#[cfg(test)]
-pub(crate) mod tests;

@@ -253,6 +253,3 @@ impl Fe32 {
         }
     }
 }
-
-#[cfg(test)]
-mod tests;

@@ -1,6 +1,5 @@
-//! The finite fields of bech32 texts: elements, and the laws that their operations keep.
+//! The fields of bech32 texts: the laws that their operations keep, and the elements of GF(32).
 #![tactic(auto)]
 
 pub mod field;
 pub mod gf32;
-pub mod gf32_ext;

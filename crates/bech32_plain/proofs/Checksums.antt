@@ -7,8 +7,8 @@ use Rattle.bech32_gf.specs.declared.gf32.Fe32.{Fe32}
 use Rattle.bech32_poly.specs.Polynomial.{appended}
 use Rattle.bech32_poly.specs.Remainder.{IsRemainder}
 use Rattle.bech32_poly.proofs.Appended.{appended-append, checksum_of_target}
-use Rattle.bech32_core.specs.Code.{Code}
-use Rattle.bech32_core.specs.TextPolynomial.{IsChecksumOf, hrp_elements, text_polynomial}
+use Rattle.bech32_checksum.specs.Code.{Code}
+use Rattle.bech32_checksum.specs.TextPolynomial.{IsChecksumOf, hrp_elements, text_polynomial}
 use Rattle.bech32_plain.specs.PlainChecksum.{code_of_name}
 use Rattle.bech32_plain.specs.declared.checksum.PlainChecksum.{PlainChecksum}
 use Rattle.bech32_plain.specs.declared.checksum.PlainChecksum.TheVariants.{Bech32, Bech32m}

@@ -2,8 +2,8 @@
 use Rattle.std.proofs.Common.{◌≡◌, ◌+◌, ◌<◌, ◌≤◌, ◌∙◌, ℕ, List, [], ◌∷◌, ◌++◌, length, take, drop, sym, ap, subst, append_assoc, refl, arith, ⊎_elim}
 use Rattle.std.proofs.lemmas.Bool.{cases_lt}
 use Rattle.std.proofs.lemmas.List.{take_at, drop_at, length-append}
-use Rattle.bech32_core.specs.Code.{Code}
-use Rattle.bech32.specs.Acceptance.{IsAccepted}
+use Rattle.bech32_checksum.specs.Code.{Code}
+use Rattle.bech32_decode.specs.Acceptance.{IsAccepted}
 
 -- the parts of a text by the place of the separator
 front-is : (text front behind : List ℕ) → text ≡ front ++ 49 ∷ behind → front ≡ take (length front) text

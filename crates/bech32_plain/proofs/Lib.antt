@@ -1,2 +1,2 @@
-pub mod Cuts
 pub mod Checksums
+pub mod Cuts

@@ -1,5 +1,5 @@
 -- The checksums that the plain programs know by name.
-use Rattle.bech32_core.specs.Code.{Code, bech32, bech32m}
+use Rattle.bech32_checksum.specs.Code.{Code, bech32, bech32m}
 use Rattle.bech32_plain.specs.declared.checksum.PlainChecksum.{PlainChecksum}
 use Rattle.bech32_plain.specs.declared.checksum.PlainChecksum.TheVariants.{Bech32, Bech32m}
 

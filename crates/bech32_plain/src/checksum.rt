@@ -3,7 +3,7 @@
 ghost use Rattle.std.specs.Prelude.{◌≡◌, ◌↔◌, IfOk, IsTrue, map};
 ghost use Rattle.bech32_gf.specs.Fe32.{ops, element};
 ghost use Rattle.bech32_poly.specs.Remainder.{IsRemainder};
-ghost use Rattle.bech32_core.specs.TextPolynomial.{IsChecksumOf};
+ghost use Rattle.bech32_checksum.specs.TextPolynomial.{IsChecksumOf};
 ghost use Rattle.bech32_plain.specs.PlainChecksum.{code_of_name};
 
 use crate::polynomial::polynomial_of_text;

@@ -4,8 +4,8 @@ ghost use Rattle.std.specs.Prelude.{◌≡◌, ◌↔◌, ◌<◌, ◌+◌, ◌=
 ghost use Rattle.std.specs.List.{list_any, list_all};
 ghost use Rattle.bech32_gf.specs.Alphabet.{is_of_alphabet, is_data, alphabet, char_of};
 ghost use Rattle.bech32_gf.specs.Fe32.{element_of};
-ghost use Rattle.bech32_core.specs.Hrp.{is_lower, is_upper, is_graphic, is_mixed_case, IsHrp};
-ghost use Rattle.bech32.specs.Text.{IsText};
+ghost use Rattle.bech32_hrp.specs.Hrp.{is_lower, is_upper, is_graphic, is_mixed_case, IsHrp};
+ghost use Rattle.bech32_decode.specs.Text.{IsText};
 
 use bech32_gf::gf32::Fe32;
 

@@ -3,9 +3,9 @@
 #![tactic(auto)]
 
 ghost use Rattle.std.specs.Prelude.{◌↔◌, IfOk, IsTrue};
-ghost use Rattle.bech32_core.specs.HrpBytes.{hrp_bytes};
-ghost use Rattle.bech32.specs.Acceptance.{Accepts};
-ghost use Rattle.bech32_core.specs.Encoded.{IsEncodedText};
+ghost use Rattle.bech32_hrp.specs.HrpBytes.{hrp_bytes};
+ghost use Rattle.bech32_decode.specs.Acceptance.{Accepts};
+ghost use Rattle.bech32_checksum.specs.Encoded.{IsEncodedText};
 ghost use Rattle.bech32_plain.specs.PlainChecksum.{code_of_name};
 
 mod checksum;
@@ -14,8 +14,8 @@ mod polynomial;
 mod text;
 
 use crate::text::{accepts_at, spell};
-use bech32_core::hrp::Hrp;
 use bech32_gf::gf32::Fe32;
+use bech32_hrp::Hrp;
 pub use checksum::PlainChecksum;
 use std::alloc::{AllocError, Global};
 

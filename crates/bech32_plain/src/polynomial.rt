@@ -2,8 +2,8 @@
 
 ghost use Rattle.std.specs.Prelude.{◌≡◌, ◌/◌, IfOk, map};
 ghost use Rattle.bech32_gf.specs.Fe32.{element};
-ghost use Rattle.bech32_core.specs.Hrp.{lowered};
-ghost use Rattle.bech32_core.specs.TextPolynomial.{text_polynomial};
+ghost use Rattle.bech32_hrp.specs.Hrp.{lowered};
+ghost use Rattle.bech32_checksum.specs.TextPolynomial.{text_polynomial};
 
 use bech32_gf::gf32::Fe32;
 use std::alloc::{AllocError, Global};

@@ -1,6 +1,6 @@
 use super::*;
 use bech32::{Bech32, Bech32m, decode, encode};
-use bech32_core::iter::plain::plain_to_fes;
+use bech32_bits::plain::plain_to_fes;
 use std::test::Fail;
 
 // Texts in and out of the grammar, with right and wrong checksums.

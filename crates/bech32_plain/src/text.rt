@@ -2,8 +2,8 @@
 
 ghost use Rattle.std.specs.Prelude.{◌≡◌, ◌↔◌, ◌<◌, ◌+◌, IfOk, IsTrue, length, map, take, drop};
 ghost use Rattle.bech32_gf.specs.Fe32.{elements_of};
-ghost use Rattle.bech32.specs.Acceptance.{IsAccepted};
-ghost use Rattle.bech32_core.specs.Encoded.{spelled, char_of_element};
+ghost use Rattle.bech32_decode.specs.Acceptance.{IsAccepted};
+ghost use Rattle.bech32_checksum.specs.Encoded.{spelled, char_of_element};
 ghost use Rattle.bech32_plain.specs.PlainChecksum.{code_of_name};
 
 use crate::checksum::PlainChecksum;

@@ -1,5 +1,5 @@
-pub mod Ring
-pub mod Lists
-pub mod Remainder
 pub mod Appended
+pub mod Lists
 pub mod LongDivision
+pub mod Remainder
+pub mod Ring

@@ -1,6 +1,6 @@
 use Rattle.std.proofs.Common.{ap}
-use Rattle.bech32_core.specs.HrpBytes.{hrp_bytes}
-use Rattle.bech32.proofs.Decoding.{decoded}
+use Rattle.bech32_hrp.specs.HrpBytes.{hrp_bytes}
+use Rattle.bech32_decode.proofs.Decoding.{decoded}
 use Rattle.bech32.proofs.decoded_in.Goals as goal
 
 pub returns-clause-value : goal.returns-clause-value

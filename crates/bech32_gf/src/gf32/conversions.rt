@@ -183,6 +183,3 @@ impl fmt::Display for Fe32 {
         fmt::Display::fmt(&self.to_char(), f)
     }
 }
-
-#[cfg(test)]
-mod tests;

@@ -392,6 +392,3 @@ impl DivAssign<&Fe32> for Fe32 {
         *self = self.quotient_with(*rhs);
     }
 }
-
-#[cfg(test)]
-mod tests;

@@ -1,5 +1,5 @@
 use Rattle.std.proofs.Common.{◌≡◌, ◌+◌, ℕ, true, List, take, drop, sym, subst}
-use Rattle.bech32.specs.Acceptance.{IsAccepted}
+use Rattle.bech32_decode.specs.Acceptance.{IsAccepted}
 use Rattle.bech32_plain.specs.PlainChecksum.{code_of_name}
 use Rattle.bech32_plain.proofs.Cuts.{none_up_to}
 use Rattle.bech32_plain.proofs.accepts.Goals as goal

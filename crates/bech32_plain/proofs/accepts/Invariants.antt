@@ -1,5 +1,5 @@
 use Rattle.std.proofs.Common.{ℕ, List, length, ◌<◌}
-use Rattle.bech32.specs.Acceptance.{IsAccepted}
+use Rattle.bech32_decode.specs.Acceptance.{IsAccepted}
 use Rattle.bech32_plain.specs.PlainChecksum.{code_of_name}
 use Rattle.bech32_plain.proofs.accepts.Given as goal
 

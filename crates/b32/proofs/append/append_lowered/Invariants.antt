@@ -1,5 +1,5 @@
 use Rattle.std.proofs.Common.{◌≡◌, ◌+◌, ◌≤◌, ◌++◌, take, vec_len, vec_capacity}
-use Rattle.bech32_core.specs.Hrp.{lowered}
+use Rattle.bech32_hrp.specs.Hrp.{lowered}
 use Rattle.b32.proofs.append.append_lowered.Given as goal
 
 abbrev pub invariant-loop-b : goal.invariant-loop-b

@@ -2,8 +2,8 @@ use Rattle.std.proofs.Common.{ℕ, List, [], ◌∷◌, ◌++◌, length, refl, 
 use Rattle.std.proofs.lemmas.List.{length-map}
 use Rattle.std.proofs.lemmas.Result.{err_from_is_err_and}
 use Rattle.std.specs.Char.{to_ascii_lowercase}
-use Rattle.bech32_core.specs.HrpBytes.{hrp_bytes}
-use Rattle.bech32_core.specs.Hrp.{lowered}
+use Rattle.bech32_hrp.specs.HrpBytes.{hrp_bytes}
+use Rattle.bech32_hrp.specs.Hrp.{lowered}
 use Rattle.b32.specs.Hex.{hex_of}
 use Rattle.b32.proofs.Pieces.{three-pieces, four-pieces}
 use Rattle.b32.proofs.Sizes.{decoded-sizes, decode-reply-size, length-hex_of}

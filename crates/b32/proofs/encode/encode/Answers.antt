@@ -1,7 +1,7 @@
 use Rattle.std.proofs.Common.{ℕ, ◌≤◌, List, ◌++◌, length, refl, ap, ◌∙◌, arith, codes, length-append, string_bytes}
-use Rattle.bech32_core.specs.Bits.{to_fes}
-use Rattle.bech32_core.specs.Encoded.{IsEncodedText}
-use Rattle.bech32.specs.Encoded.{encoded_length_of}
+use Rattle.bech32_bits.specs.Bits.{to_fes}
+use Rattle.bech32_checksum.specs.Encoded.{IsEncodedText}
+use Rattle.bech32_encode.specs.TextLength.{encoded_length_of}
 use Rattle.b32.proofs.Pieces.{two-pieces}
 use Rattle.b32.proofs.Sizes.{encoded-size}
 use Rattle.b32.proofs.Replies.{encode-text}

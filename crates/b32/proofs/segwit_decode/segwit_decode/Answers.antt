@@ -2,8 +2,8 @@ use Rattle.std.proofs.Common.{ℕ, List, [], ◌∷◌, ◌++◌, length, refl, 
 use Rattle.std.proofs.lemmas.List.{length-map}
 use Rattle.std.specs.Char.{to_ascii_lowercase}
 use Rattle.std.specs.Fmt.{decimal}
-use Rattle.bech32_core.specs.Hrp.{lowered}
-use Rattle.bech32_core.specs.HrpBytes.{hrp_bytes}
+use Rattle.bech32_hrp.specs.Hrp.{lowered}
+use Rattle.bech32_hrp.specs.HrpBytes.{hrp_bytes}
 use Rattle.b32.specs.Hex.{hex_of}
 use Rattle.b32.proofs.Pieces.{three-pieces}
 use Rattle.b32.proofs.Sizes.{length-hex_of}

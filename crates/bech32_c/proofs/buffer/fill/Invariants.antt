@@ -1,4 +1,4 @@
-use Rattle.bech32_core.specs.Buffers.{IsPutAsFits}
+use Rattle.bech32_encode.specs.Buffers.{IsPutAsFits}
 use Rattle.bech32_c.proofs.buffer.fill.Given as goal
 
 abbrev pub invariant-loop-byte : goal.invariant-loop-byte

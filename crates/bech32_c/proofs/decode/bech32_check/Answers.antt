@@ -1,4 +1,4 @@
-use Rattle.bech32.specs.Acceptance.{Accepts}
+use Rattle.bech32_decode.specs.Acceptance.{Accepts}
 use Rattle.bech32_c.specs.Check.{IsCheckFault}
 use Rattle.bech32_c.proofs.ByNumber.{no_fault_by}
 use Rattle.bech32_c.proofs.Checking.{no_check_fault}

@@ -1,8 +1,8 @@
 use Rattle.std.proofs.Common.{◌∙◌, ap, arith, length, sym}
 use Rattle.bech32_gf.specs.Fe32.{elements_of}
-use Rattle.bech32_core.specs.Bits.{to_bytes}
-use Rattle.bech32_core.specs.HrpBytes.{hrp_bytes}
-use Rattle.bech32.specs.Readers.{bytes_to_come}
+use Rattle.bech32_bits.specs.Bits.{to_bytes}
+use Rattle.bech32_hrp.specs.HrpBytes.{hrp_bytes}
+use Rattle.bech32_decode.specs.Readers.{bytes_to_come}
 use Rattle.bech32_c.proofs.Puts.{put-same, put-whole}
 use Rattle.bech32_c.proofs.decode.decoded.Goals as goal
 

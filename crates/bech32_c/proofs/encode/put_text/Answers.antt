@@ -1,13 +1,13 @@
 use Rattle.std.proofs.Common.{◌++◌, ◌∙◌, ap, arith, option_to_list, refl, sym}
 use Rattle.std.specs.Iterator.Adapters.{copied_steps}
 use Rattle.std.specs.Slice.Iter.{iter_rest, iter_steps}
-use Rattle.bech32_core.specs.Bits.{to_fes}
-use Rattle.bech32_core.specs.Encoded.{IsEncodedText}
-use Rattle.bech32_core.specs.HrpBytes.{hrp_bytes}
-use Rattle.bech32_core.proofs.ListSources.{ShowsRest-copied, copied_rest, drains-rest}
-use Rattle.bech32_core.proofs.TextPieces.{put_whole}
-use Rattle.bech32.proofs.Encoding.{IsEncodedText-same}
-use Rattle.bech32.proofs.Uniqueness.{length-encoded}
+use Rattle.bech32_bits.specs.Bits.{to_fes}
+use Rattle.bech32_checksum.specs.Encoded.{IsEncodedText}
+use Rattle.bech32_hrp.specs.HrpBytes.{hrp_bytes}
+use Rattle.bech32_bits.proofs.ListSources.{ShowsRest-copied, copied_rest, drains-rest}
+use Rattle.bech32_encode.proofs.TextPieces.{put_whole}
+use Rattle.bech32_encode.proofs.Encoding.{IsEncodedText-same}
+use Rattle.bech32_checksum.proofs.Uniqueness.{length-encoded}
 use Rattle.bech32_c.proofs.encode.put_text.Goals as goal
 
 pub returns : goal.returns

@@ -1,6 +1,6 @@
 use Rattle.std.proofs.Common.{◌≤◌, ℕ, List, All, length, arith, sym, subst, take_all}
 use Rattle.bech32_gf.specs.declared.gf32.Fe32.{Fe32}
-use Rattle.bech32_core.specs.Code.{IsResidueOf}
+use Rattle.bech32_checksum.specs.Code.{IsResidueOf}
 use Rattle.bech32_c.specs.Engine.{run_polynomial}
 use Rattle.bech32_c.proofs.Runs.{run-more, elements-more}
 use Rattle.bech32_c.proofs.engine.residue_of.Goals as goal

@@ -1,5 +1,5 @@
 use Rattle.std.proofs.Common.{◌≤◌, All, take}
-use Rattle.bech32_core.specs.Code.{IsResidueOf}
+use Rattle.bech32_checksum.specs.Code.{IsResidueOf}
 use Rattle.bech32_c.specs.Engine.{run_polynomial}
 use Rattle.bech32_c.proofs.engine.residue_of.Given as goal
 

@@ -1,9 +1,9 @@
 use Rattle.std.proofs.Common.{ℕ, List, subst}
 use Rattle.bech32_gf.specs.Fe32.{element}
 use Rattle.bech32_gf.specs.declared.gf32.Fe32.{Fe32}
-use Rattle.bech32_core.specs.HrpBytes.{hrp_bytes}
-use Rattle.bech32.specs.Segwit.{IsLowerAddress}
-use Rattle.bech32.proofs.SegwitEncoding.{address-from_text}
+use Rattle.bech32_hrp.specs.HrpBytes.{hrp_bytes}
+use Rattle.bech32_decode.specs.Segwit.{IsLowerAddress}
+use Rattle.bech32_segwit.proofs.SegwitEncoding.{address-from_text}
 use Rattle.bech32_c.proofs.segwit.encoded.Goals as goal
 
 pub returns-clause-value : goal.returns-clause-value

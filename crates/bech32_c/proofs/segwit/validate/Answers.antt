@@ -1,7 +1,7 @@
 use Rattle.std.proofs.Common.{◌∙◌, arith}
 use Rattle.std.proofs.lemmas.Result.{err_from_is_err_and}
-use Rattle.bech32_core.specs.HrpBytes.{hrp_bytes}
-use Rattle.bech32.proofs.SegwitEncoding.{address_exists, no_more_than_counted}
+use Rattle.bech32_hrp.specs.HrpBytes.{hrp_bytes}
+use Rattle.bech32_segwit.proofs.SegwitEncoding.{address_exists, no_more_than_counted}
 use Rattle.bech32_c.proofs.segwit.validate.Goals as goal
 
 pub returns-in_err-count : goal.returns-in_err-count

@@ -2,7 +2,7 @@ use Rattle.std.proofs.Common.{◌≡◌, ◌∙◌, ◌++◌, List, ap, subst, s
 use Rattle.bech32_gf.specs.Fe32.{ops}
 use Rattle.bech32_gf.specs.declared.gf32.Fe32.{Fe32}
 use Rattle.bech32_poly.specs.Remainder.{IsRemainder}
-use Rattle.bech32_core.specs.TextPolynomial.{IsChecksumOf, text_polynomial}
+use Rattle.bech32_checksum.specs.TextPolynomial.{IsChecksumOf, text_polynomial}
 use Rattle.bech32_plain.specs.PlainChecksum.{code_of_name}
 use Rattle.bech32_plain.proofs.Checksums.{is_checksum}
 use Rattle.bech32_plain.proofs.checksum.PlainChecksum.checksum_of.Goals as goal

@@ -1,0 +1,20 @@
+-- What an iterator of elements over one of bytes gives.
+use Rattle.std.specs.Prelude.{ℕ, List, ◌++◌}
+use Rattle.std.specs.Iterator.{Count, count_map}
+use Rattle.std.specs.declared.iter.Fuse.{Fuse}
+use Rattle.bech32_bits.specs.Bits.{bits, byte_bits, cut_in_fives, fes_count}
+use Rattle.bech32_bits.specs.Adaptor.{fuse_left}
+use Rattle.bech32_bits.specs.declared.BytesToFes.{BytesToFes}
+use Rattle.bech32_gf.specs.declared.gf32.Fe32.{Fe32}
+
+-- the iterator of bytes inside
+abbrev pub fes_source : {I : Type 0} → BytesToFes I → Fuse I
+fes_source s = s.bytes
+
+-- the elements of the bits that are held, and then of those of the bytes that come
+abbrev pub fes_gives : {I : Type 0} → BytesToFes I → List ℕ → List Fe32
+fes_gives s bytes = cut_in_fives (bits s.count s.held ++ byte_bits bytes)
+
+-- how many elements are to come, from how many bytes are
+abbrev pub fes_left : {I : Type 0} → (I → Count) → BytesToFes I → Count
+fes_left left s = count_map (λ n. fes_count s.count n) (fuse_left left s.bytes)

@@ -1,0 +1,5 @@
+pub mod Adaptor
+pub mod Bits
+pub mod BytesToFes
+pub mod FesToBytes
+pub mod SizeHints

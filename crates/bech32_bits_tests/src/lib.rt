@@ -1,0 +1,5 @@
+//! Tests of `bech32_bits`.
+#![tactic(auto)]
+
+#[cfg(test)]
+mod bits;

@@ -1,0 +1,41 @@
+use Rattle.std.proofs.Common.{◌<◌, ◌*◌, ◌∙◌, ap, get_or}
+use Rattle.std.proofs.lemmas.Nat.{xor_lt}
+use Rattle.bech32_gf.specs.Fe32 as fe32
+use Rattle.bech32_poly.specs.Polynomial.{scale}
+use Rattle.bech32_checksum.specs.Code.{Code}
+use Rattle.bech32_checksum.proofs.Residue.{remainder_of_residue, residue_of_remainder}
+use Rattle.bech32_checksum.proofs.Input.{input_result, clear_after}
+use Rattle.bech32_checksum.proofs.Engine.input_fe.Goals as goal
+
+pub invariant_of-self : goal.invariant_of-self
+invariant_of-self g c = record {
+  clear =
+      let number = g.Ck.MidstateRepr.PackedFe32.number in
+      let small : c.to_u8.result < 32 = rw c.to_u8.ensures c.args.e.in_field in
+      let shifted = clear_after g.Ck.Checksum.CHECKSUM_LENGTH g.Ck.MidstateRepr.PackedFe32.WIDTH (number c.args.self.now.residue) (number c.mul_by_x_then_add-xn.new.self) c.to_u8.result
+      g.met.Ck.Checksum.packing_laws.empty (g.met.Ck.MidstateRepr.PackedFe32.empty_law c.mul_by_x_then_add-xn.new.self) (rw c.CHECKSUM_LENGTH.ensures at c.mul_by_x_then_add-xn.ensures.others)
+      g.met.Ck.Checksum.packing_laws.fits small in
+      rw (g.met.Ck.MidstateRepr.PackedFe32.bitxor_law _ _ _ c.bitxor-self.ensures)
+      (xor_lt (5 * g.Ck.Checksum.CHECKSUM_LENGTH) _ _ shifted c.generator_times.ensures.clear);
+}
+
+pub returns : goal.returns
+returns g c p h =
+    let number = g.Ck.MidstateRepr.PackedFe32.number in
+    let degree = g.Ck.Checksum.CHECKSUM_LENGTH in
+    let words = g.Ck.Checksum.GENERATOR_SH in
+    let target = g.Ck.Checksum.TARGET_RESIDUE in
+    residue_of_remainder number g.Ck.Checksum.code g.Ck.Checksum.CODE_LENGTH degree words target g.met.Ck.Checksum.code_law
+    c.bitxor-self.result _
+    (input_result p degree g.Ck.MidstateRepr.PackedFe32.WIDTH
+    (number c.args.self.now.residue)
+    (number c.mul_by_x_then_add-xn.new.self)
+    (number c.generator_times.result)
+    (number c.bitxor-self.result)
+    (number (get_or words 0 target))
+    c.mul_by_x_then_add-xn.result c.args.e
+    g.met.Ck.Checksum.packing_laws.fits (rw c.CHECKSUM_LENGTH.ensures at c.mul_by_x_then_add-xn.ensures.highest) (rw (c.CHECKSUM_LENGTH.ensures, c.to_u8.ensures) at c.mul_by_x_then_add-xn.ensures.others)
+    ((rw c.from_low_bits.ensures at c.generator_times.ensures.product)
+    ∙ ap (λ (k : Code). scale fe32.ops (fe32.element c.mul_by_x_then_add-xn.result) k.generator) g.met.Ck.Checksum.code_law)
+    (g.met.Ck.MidstateRepr.PackedFe32.sum_law _ _ _ c.bitxor-self.ensures)
+    (remainder_of_residue number g.Ck.Checksum.code g.Ck.Checksum.CODE_LENGTH degree words target g.met.Ck.Checksum.code_law c.args.self.now.residue p h))

@@ -1,0 +1,16 @@
+pub mod DigitRows
+pub mod Digits
+pub mod HrpInput
+pub mod HrpPlaces
+pub mod Input
+pub mod LawfulRoots
+pub mod PackedRows
+pub mod PackedRuns
+pub mod PartialProduct
+pub mod Products
+pub mod Residue
+pub mod RootTests
+pub mod Shifts
+pub mod Target
+pub mod Uniqueness
+pub mod Words

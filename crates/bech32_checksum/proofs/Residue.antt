@@ -1,0 +1,57 @@
+-- Residues of packed words.
+use Rattle.std.proofs.Common.{◌≡◌, ◌<◌, ◌≤◌, ◌*◌, ◌/◌, ◌^◌, ℕ, zero, suc, List, [], ◌∷◌, length, get_or, subst, refl, sym, ◌∙◌, ap, arith}
+use Rattle.std.proofs.Math.Nat.{div-eq_of_lt}
+use Rattle.std.proofs.Math.Pow.{pow-lt}
+use Rattle.bech32_gf.specs.Fe32 as fe32
+use Rattle.bech32_gf.specs.Fe32Laws.{is_field}
+use Rattle.bech32_gf.specs.declared.gf32.Fe32.{Fe32}
+use Rattle.bech32_poly.specs.Remainder.{IsRemainder}
+use Rattle.bech32_poly.proofs.Lists.{zeros, same_cons}
+use Rattle.bech32_poly.proofs.Remainder.{remainder_exists, remainder_of-short}
+use Rattle.bech32_checksum.specs.Packed.{digit_of, digits, tabulate}
+use Rattle.bech32_checksum.specs.Code.{Code, code_of, IsResidueOf}
+use Rattle.bech32_checksum.proofs.Digits.{length-tabulate}
+
+-- a residue by the code of packed words is a remainder by the first word's digits
+module _ {R : Type 0} (number : R → ℕ) (code : Code) (code_length degree : ℕ) (words : List R) (target : R)
+    (law : code ≡ code_of number code_length degree words target) where
+  pub same_size : length code.generator ≡ degree
+  same_size = ap (λ (c : Code). length c.generator) law ∙ length-tabulate degree _
+
+  pub remainder_of_residue : (r : R) (p : List Fe32) → IsResidueOf number code r p
+      → IsRemainder fe32.ops (digits degree (number (get_or words 0 target))) p (digits degree (number r))
+  remainder_of_residue r p h =
+      subst (λ (g : List Fe32). IsRemainder fe32.ops g p (digits degree (number r))) (ap (λ (c : Code). c.generator) law)
+      (subst (λ n. IsRemainder fe32.ops code.generator p (digits n (number r))) same_size h)
+
+  pub residue_of_remainder : (r : R) (p : List Fe32)
+      → IsRemainder fe32.ops (digits degree (number (get_or words 0 target))) p (digits degree (number r))
+      → IsResidueOf number code r p
+  residue_of_remainder r p h =
+      subst (λ n. IsRemainder fe32.ops code.generator p (digits n (number r))) (sym same_size)
+      (subst (λ (g : List Fe32). IsRemainder fe32.ops g p (digits degree (number r))) (sym (ap (λ (c : Code). c.generator) law)) h)
+
+zero_above : (n : ℕ) → digit_of 1 (suc n) ≡ fe32.zero
+zero_above n =
+    let above : 0 < 5 * suc n = omega arith in
+    let small : 1 < 2 ^ (5 * suc n) = pow-lt above in
+    let none : 1 / 2 ^ (5 * suc n) ≡ 0 = div-eq_of_lt small in
+    ap fe32.element none
+
+zeros_above : (c : ℕ) (f : ℕ → Fe32) → ((n : ℕ) → f n ≡ fe32.zero) → tabulate c f ≡ zeros fe32.ops c
+zeros_above zero f h = refl
+zeros_above (suc c) f h = same_cons _ _ _ _ (h 0) (zeros_above c (λ i. f (suc i)) (λ n. h (suc n)))
+
+-- an engine that was given nothing has the remainder of the polynomial 1
+pub one_is_residue : (d width n word : ℕ) → d ≤ width → (0 < width → n ≡ 1)
+    → IsRemainder fe32.ops (digits d word) (fe32.one ∷ []) (digits d n)
+one_is_residue zero width n word within one = remainder_exists is_field [] (fe32.one ∷ [])
+one_is_residue (suc c) width n word within one =
+    let low = digits (suc c) word in
+    let there : n ≡ 1 = one (omega arith) in
+    let size : length low ≡ suc c = length-tabulate (suc c) (digit_of word) in
+    subst (IsRemainder fe32.ops low (fe32.one ∷ []))
+    (remainder_of-short is_field low (fe32.one ∷ []) c (omega arith)
+    ∙ same_cons _ _ _ _ (fe32.path fe32.one (digit_of 1 0) refl) (sym (zeros_above c (λ i. digit_of 1 (suc i)) zero_above))
+    ∙ ap (digits (suc c)) (sym there))
+    (remainder_exists is_field low (fe32.one ∷ []))

@@ -1,0 +1,9 @@
+pub mod Code
+pub mod CodeLaws
+pub mod Encoded
+pub mod HrpFes
+pub mod Packed
+pub mod PackedLaws
+pub mod PackingLaws
+pub mod Roots
+pub mod TextPolynomial

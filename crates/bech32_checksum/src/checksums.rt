@@ -1,0 +1,178 @@
+//! The checksums of the standards, and the absence of one.
+
+ghost use Rattle.std.specs.Prelude.{◌∷◌, [], ◌^◌, ◌-◌, refl};
+ghost use Rattle.bech32_gf.specs.Fe32 as fe32;
+ghost use Rattle.bech32_gf_ext.specs.Fe1024 as fe1024;
+ghost use Rattle.bech32_checksum.specs.PackedLaws as packed;
+ghost use Rattle.bech32_checksum.specs.Code.{no_checksum, bech32, bech32m};
+ghost use Rattle.bech32_checksum.specs.CodeLaws as codes;
+
+mod products;
+
+use self::products::product_with;
+use crate::Checksum;
+use crate::packed::PackedNull;
+use bech32_gf::gf32::Fe32;
+use bech32_gf_ext::{Fe32Ext, Fe1024};
+
+/// No checksum: degree 0, and a text of any length.
+#[derive(Copy, Clone)]
+pub enum NoChecksum {}
+
+impl Checksum for NoChecksum {
+    type MidstateRepr = PackedNull;
+
+    type CorrectionField = Fe32;
+
+    ghost ROOT_GENERATOR = { fe32.one };
+
+    ghost ROOT_EXPONENTS_START = { 0 };
+
+    ghost ROOT_EXPONENTS_END = { 0 };
+
+    ghost CODE_LENGTH = { 2 ^ 64 - 1 };
+
+    ghost CHECKSUM_LENGTH = { 0 };
+
+    ghost GENERATOR_SH = { record {} ∷ record {} ∷ record {} ∷ record {} ∷ record {} ∷ [] };
+
+    ghost TARGET_RESIDUE = { record {} };
+
+    ghost code = { no_checksum };
+
+    const ROOT_GENERATOR: Fe32 = Fe32::P;
+
+    const ROOT_EXPONENTS_START: usize = 0;
+
+    const ROOT_EXPONENTS_END: usize = 0;
+
+    const CODE_LENGTH: usize = usize::MAX;
+
+    const CHECKSUM_LENGTH: usize = 0;
+
+    const GENERATOR_SH: [PackedNull; 5] = [PackedNull; 5];
+
+    const TARGET_RESIDUE: PackedNull = PackedNull;
+
+    ghost packing_laws = { packed.null_keeps _ _ refl };
+
+    ghost code_law = { refl };
+
+    ghost degree_law = { refl };
+
+    ghost code_length_law = { refl };
+}
+
+// The generator of BIP-173, packed, and its products with 2, 4, 8 and 16.
+const WORDS: [u32; 5] = [0x3b6a57b2, 0x26508e6d, 0x1ea119fa, 0x3d4233dd, 0x2a1462b3];
+
+// The powers 24 to 26 of 1 + 6 z, which has order 1023, are roots of that generator.
+const BASE: Fe1024 = Fe32Ext {
+    inner: [Fe32::P, Fe32::X],
+};
+
+/// The checksum of BIP-173: degree 6, target 1.
+#[derive(Copy, Clone)]
+pub enum Bech32 {}
+
+impl Checksum for Bech32 {
+    type MidstateRepr = u32;
+
+    type CorrectionField = Fe1024;
+
+    ghost ROOT_GENERATOR = { fe1024.pair fe32.one (fe32.element 6) };
+
+    ghost ROOT_EXPONENTS_START = { 24 };
+
+    ghost ROOT_EXPONENTS_END = { 26 };
+
+    ghost CODE_LENGTH = { 1023 };
+
+    ghost CHECKSUM_LENGTH = { 6 };
+
+    ghost GENERATOR_SH = { codes.words };
+
+    ghost TARGET_RESIDUE = { 1 };
+
+    ghost code = { bech32 };
+
+    const ROOT_GENERATOR: Fe1024 = BASE;
+
+    const ROOT_EXPONENTS_START: usize = 24;
+
+    const ROOT_EXPONENTS_END: usize = 26;
+
+    const CODE_LENGTH: usize = 1023;
+
+    const CHECKSUM_LENGTH: usize = 6;
+
+    const GENERATOR_SH: [u32; 5] = WORDS;
+
+    const TARGET_RESIDUE: u32 = 1;
+
+    #[inline]
+    fn generator_times(element: Fe32) -> u32 {
+        product_with(element)
+    }
+
+    ghost packing_laws = { codes.bech32_keeps };
+
+    ghost code_law = { codes.bech32_is_packed };
+
+    ghost degree_law = { refl };
+
+    ghost code_length_law = { refl };
+}
+
+/// The checksum of BIP-350: that of BIP-173 with another target.
+#[derive(Copy, Clone)]
+pub enum Bech32m {}
+
+impl Checksum for Bech32m {
+    type MidstateRepr = u32;
+
+    type CorrectionField = Fe1024;
+
+    ghost ROOT_GENERATOR = { fe1024.pair fe32.one (fe32.element 6) };
+
+    ghost ROOT_EXPONENTS_START = { 24 };
+
+    ghost ROOT_EXPONENTS_END = { 26 };
+
+    ghost CODE_LENGTH = { 1023 };
+
+    ghost CHECKSUM_LENGTH = { 6 };
+
+    ghost GENERATOR_SH = { codes.words };
+
+    ghost TARGET_RESIDUE = { 0x2bc830a3 };
+
+    ghost code = { bech32m };
+
+    const ROOT_GENERATOR: Fe1024 = BASE;
+
+    const ROOT_EXPONENTS_START: usize = 24;
+
+    const ROOT_EXPONENTS_END: usize = 26;
+
+    const CODE_LENGTH: usize = 1023;
+
+    const CHECKSUM_LENGTH: usize = 6;
+
+    const GENERATOR_SH: [u32; 5] = WORDS;
+
+    const TARGET_RESIDUE: u32 = 0x2bc830a3;
+
+    #[inline]
+    fn generator_times(element: Fe32) -> u32 {
+        product_with(element)
+    }
+
+    ghost packing_laws = { codes.bech32m_keeps };
+
+    ghost code_law = { codes.bech32m_is_packed };
+
+    ghost degree_law = { refl };
+
+    ghost code_length_law = { refl };
+}

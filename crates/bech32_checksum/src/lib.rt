@@ -1,0 +1,242 @@
+//! Checksums of elements: the words that define one, and the engine that computes it.
+#![tactic(auto)]
+
+ghost use Rattle.std.specs.Prelude.{◌≡◌, ◌↔◌, ◌<◌, ◌≤◌, ◌*◌, ◌/◌, ◌^◌, map, reverse, ℕ, List, Some, IsTrue, length, slice_get, suc, ◌∷◌, []};
+ghost use Rattle.bech32_gf.specs.declared.gf32.Fe32.{Fe32 as Element};
+ghost use Rattle.bech32_gf.specs.Fe32 as fe32;
+ghost use Rattle.bech32_poly.specs.Polynomial.{appended, scale};
+ghost use Rattle.bech32_hrp.specs.Hrp.{lowered};
+ghost use Rattle.bech32_checksum.specs.Packed.{digit_of, digits};
+ghost use Rattle.bech32_checksum.specs.Code.{Code, code_of, IsResidueOf};
+ghost use Rattle.bech32_checksum.specs.PackingLaws.{KeepsPackingLaws};
+ghost use Rattle.bech32_checksum.specs.Roots.{HasLawfulRoots};
+
+mod checksums;
+mod hrp_fes;
+mod packed;
+mod roots;
+
+pub use self::checksums::{Bech32, Bech32m, NoChecksum};
+pub use self::hrp_fes::HrpFe32Iter;
+pub use self::packed::{PackedFe32, PackedNull};
+use bech32_gf::field::ExtensionField;
+use bech32_gf::gf32::Fe32;
+use bech32_hrp::Hrp;
+use std::alloc::AllocError;
+
+/// A checksum: a code with a monic generator over the elements, and the remainder that right texts
+/// leave (BIP-173, Checksum).
+pub trait Checksum {
+    /// An integer that can hold a remainder by the generator.
+    type MidstateRepr: PackedFe32;
+
+    /// The field in which errors are located and their values found.
+    type CorrectionField: ExtensionField<BaseField = Fe32>;
+
+    ghost ROOT_GENERATOR: { Self.CorrectionField };
+
+    ghost ROOT_EXPONENTS_START: { ℕ };
+
+    ghost ROOT_EXPONENTS_END: { ℕ };
+
+    ghost CODE_LENGTH: { ℕ };
+
+    ghost CHECKSUM_LENGTH: { ℕ };
+
+    ghost GENERATOR_SH: { List Self.MidstateRepr };
+
+    ghost TARGET_RESIDUE: { Self.MidstateRepr };
+
+    // The generator's lower coefficients, the target and the greatest length.
+    ghost code: { Code };
+
+    /// The base whose powers are the roots of the generator that serve to find errors.
+    const ROOT_GENERATOR: Self::CorrectionField;
+
+    /// The exponent of the first of these roots.
+    const ROOT_EXPONENTS_START: usize;
+
+    /// The exponent of the last of them, which is one too.
+    const ROOT_EXPONENTS_END: usize;
+
+    /// The greatest number of characters of a text for which the checksum is meant.
+    const CODE_LENGTH: usize;
+
+    /// The degree of the generator, which is the number of characters of a checksum.
+    const CHECKSUM_LENGTH: usize;
+
+    /// The lower coefficients of the generator, packed, and their products with 2, 4, 8 and 16.
+    const GENERATOR_SH: [Self::MidstateRepr; 5];
+
+    /// The remainder of a right text, packed.
+    const TARGET_RESIDUE: Self::MidstateRepr;
+
+    /// The product of an element and the generator's lower coefficients, packed.
+    ///
+    /// The provided one sums the words. Whoever defines a checksum may read a table in its place.
+    #[inline]
+    fn generator_times(element: Fe32) -> Self::MidstateRepr
+        ensures product { digits CHECKSUM_LENGTH (Self.MidstateRepr.number result)
+            ≡ scale fe32.ops element code.generator }
+        ensures clear { Self.MidstateRepr.number result < 2 ^ (5 * CHECKSUM_LENGTH) }
+    {
+        let bits = element.to_u8();
+        // The row of zeros.
+        let mut sum = Self::MidstateRepr::ONE ^ Self::MidstateRepr::ONE;
+        for i in 0..5 {
+            if (bits >> i) % 2 == 1 {
+                sum = sum ^ Self::GENERATOR_SH[i];
+            }
+        }
+        sum
+    }
+
+    /// Whether the roots are lawful: the base is not zero, its order is the code length or more, the
+    /// first exponent is not above the last, which is less than the degree above it, and each power
+    /// of the base from the one to the other is a root of the generator. At degree 0 nothing is
+    /// asked of them.
+    ///
+    /// Whoever defines a checksum should call it in a test. That the words agree with one another
+    /// needs none: it is among the laws that each implementation proves.
+    final fn sanity_check() -> bool
+        ensures { IsTrue result ↔ HasLawfulRoots Self.CorrectionField.ops Self.CorrectionField.embed
+            code ROOT_GENERATOR ROOT_EXPONENTS_START ROOT_EXPONENTS_END }
+    {
+        if Self::CHECKSUM_LENGTH == 0 {
+            return true;
+        }
+        let (start, end) = (Self::ROOT_EXPONENTS_START, Self::ROOT_EXPONENTS_END);
+        if end < start || Self::CHECKSUM_LENGTH <= end - start {
+            return false;
+        }
+        roots::order_is_long_enough::<Self>() && roots::powers_are_roots::<Self>()
+    }
+
+    // The words keep the packing laws.
+    ghost packing_laws: { KeepsPackingLaws Self.MidstateRepr.number Self.MidstateRepr.WIDTH
+        CHECKSUM_LENGTH GENERATOR_SH TARGET_RESIDUE };
+
+    // The code is that of the words, and so has these sizes.
+    ghost code_law: { code
+        ≡ code_of Self.MidstateRepr.number CODE_LENGTH CHECKSUM_LENGTH GENERATOR_SH TARGET_RESIDUE };
+
+    ghost degree_law: { length code.generator ≡ CHECKSUM_LENGTH };
+
+    ghost code_length_law: { code.code_length ≡ CODE_LENGTH };
+}
+
+/// Computes the remainder of a polynomial whose coefficients come one after another, the highest
+/// first.
+///
+/// An engine starts at the polynomial 1: each text has a coefficient 1 above those of its
+/// characters (BIP-173, Checksum).
+#[derive(Drop)]
+#[derive_where(PartialEq, Eq)]
+pub struct Engine<Ck: Checksum> {
+    residue: Ck::MidstateRepr,
+    pub ghost clear: { Ck.MidstateRepr.number residue < 2 ^ (5 * Ck.CHECKSUM_LENGTH) },
+}
+
+impl<Ck: Checksum> Clone for Engine<Ck> {
+    ghost is_clone = { λ x y. y.residue ≡ x.residue };
+
+    fn clone(&self) -> Result<Self, AllocError> {
+        Ok(Engine {
+            residue: self.residue,
+        })
+    }
+}
+
+impl<Ck: Checksum> Default for Engine<Ck> {
+    ghost is_default = { λ x. IsResidueOf Ck.MidstateRepr.number Ck.code x.residue (fe32.one ∷ []) };
+
+    fn default() -> Self {
+        Self::new()
+    }
+}
+
+impl<Ck: Checksum> Engine<Ck> {
+    /// An engine that was given nothing.
+    #[inline]
+    pub fn new() -> Self
+        ensures { IsResidueOf Ck.MidstateRepr.number Ck.code result.residue (fe32.one ∷ []) }
+    {
+        Engine {
+            residue: Ck::MidstateRepr::ONE,
+        }
+    }
+
+    /// The remainder of what was given so far.
+    #[inline]
+    pub fn residue(&self) -> &Ck::MidstateRepr
+        ensures { result.now ≡ self.now.residue }
+    {
+        &self.residue
+    }
+
+    /// Takes the next element.
+    #[inline]
+    pub fn input_fe(&mut self, e: Fe32)
+        ensures { (p : List Element)
+            → IsResidueOf Ck.MidstateRepr.number Ck.code self.old.residue p
+            → IsResidueOf Ck.MidstateRepr.number Ck.code self.new.residue (e ∷ p) }
+    {
+        let mut residue = self.residue;
+        let xn = residue.mul_by_x_then_add(Ck::CHECKSUM_LENGTH, e.to_u8());
+        self.residue = residue ^ Ck::generator_times(Fe32::from_low_bits(xn));
+    }
+
+    /// Takes the elements of the target, the highest first.
+    ///
+    /// The remainder is then the checksum of what was given before: its elements, the highest
+    /// first, put in the target's place, make the polynomial leave the target.
+    #[inline]
+    pub fn input_target_residue(&mut self)
+        ensures { (p : List Element)
+            → IsResidueOf Ck.MidstateRepr.number Ck.code self.old.residue p
+            → IsResidueOf Ck.MidstateRepr.number Ck.code self.new.residue
+            (appended p (reverse Ck.code.target)) }
+    {
+        for i in 0..Ck::CHECKSUM_LENGTH {
+            let place = Ck::CHECKSUM_LENGTH - 1 - i;
+            self.input_fe(Fe32::from_low_bits(Ck::TARGET_RESIDUE.unpack(place)));
+        }
+    }
+
+    ghost use Rattle.bech32_checksum.specs.TextPolynomial.{hrp_elements};
+    ghost use Rattle.bech32_hrp.specs.HrpBytes.{hrp_bytes};
+
+    // Takes the highest three bits of each byte, in lower case.
+    fn input_high_bits(&mut self, bytes: &[u8])
+        ensures { (p : List Element)
+            → IsResidueOf Ck.MidstateRepr.number Ck.code self.old.residue p
+            → IsResidueOf Ck.MidstateRepr.number Ck.code self.new.residue (appended p (map (λ b. fe32.element (b / 32)) (lowered bytes.now))) }
+    {
+        for b in bytes {
+            self.input_fe(Fe32::from_low_bits(b.to_ascii_lowercase() / 32));
+        }
+    }
+
+    // Takes the lowest five bits of each byte, in lower case.
+    fn input_low_bits(&mut self, bytes: &[u8])
+        ensures { (p : List Element)
+            → IsResidueOf Ck.MidstateRepr.number Ck.code self.old.residue p
+            → IsResidueOf Ck.MidstateRepr.number Ck.code self.new.residue (appended p (map fe32.element (lowered bytes.now))) }
+    {
+        for b in bytes {
+            self.input_fe(Fe32::from_low_bits(b.to_ascii_lowercase()));
+        }
+    }
+
+    /// Takes the elements of a human-readable part: the high bits of each byte, a zero, the low
+    /// bits of each (BIP-173, Checksum). The case of its letters does not count.
+    pub fn input_hrp(&mut self, hrp: Hrp)
+        ensures { (p : List Element)
+            → IsResidueOf Ck.MidstateRepr.number Ck.code self.old.residue p
+            → IsResidueOf Ck.MidstateRepr.number Ck.code self.new.residue (appended p (hrp_elements (hrp_bytes hrp))) }
+    {
+        self.input_high_bits(hrp.as_bytes());
+        self.input_fe(Fe32::Q);
+        self.input_low_bits(hrp.as_bytes());
+    }
+}

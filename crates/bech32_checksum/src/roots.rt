@@ -1,0 +1,47 @@
+//! Whether the roots of a checksum are lawful.
+
+ghost use Rattle.std.specs.Prelude.{◌≡◌, ◌≢◌, ◌≤◌, ◌↔◌, ℕ, IsTrue};
+ghost use Rattle.bech32_gf.specs.Field.{IsOrder, power};
+ghost use Rattle.bech32_checksum.specs.Roots.{generator_at};
+
+use crate::{Checksum, PackedFe32};
+use bech32_gf::field::{Field, MultiplicativeOrder};
+use bech32_gf::gf32::Fe32;
+
+// The value of the generator at an element, by Horner's rule.
+fn generator_value<Ck: Checksum>(x: Ck::CorrectionField) -> Ck::CorrectionField
+    ensures { result ≡ generator_at Ck.CorrectionField.ops Ck.CorrectionField.embed Ck.code x }
+{
+    let word = Ck::GENERATOR_SH[0];
+    let mut value = Ck::CorrectionField::ONE;
+    for place in (0..Ck::CHECKSUM_LENGTH).rev() {
+        let coefficient = Fe32::from_low_bits(word.unpack(place));
+        value = Ck::CorrectionField::from(coefficient) + x * value;
+    }
+    value
+}
+
+/// Whether the base of the roots is not zero, and its order not below the code length.
+pub(super) fn order_is_long_enough<Ck: Checksum>() -> bool
+    ensures { IsTrue result ↔ ((Ck.ROOT_GENERATOR ≢ Ck.CorrectionField.ops.zero)
+        × ((order : ℕ) × IsOrder Ck.CorrectionField.ops Ck.ROOT_GENERATOR order × (Ck.CODE_LENGTH ≤ order))) }
+{
+    let base = Ck::ROOT_GENERATOR;
+    base != Ck::CorrectionField::ZERO && Ck::CODE_LENGTH <= base.multiplicative_order()
+}
+
+/// Whether each power of the base from the first exponent to the last is a root of the generator.
+pub(super) fn powers_are_roots<Ck: Checksum>() -> bool
+    requires { Ck.ROOT_EXPONENTS_START ≤ Ck.ROOT_EXPONENTS_END }
+    ensures { IsTrue result ↔ ((e : ℕ) → Ck.ROOT_EXPONENTS_START ≤ e → e ≤ Ck.ROOT_EXPONENTS_END
+        → generator_at Ck.CorrectionField.ops Ck.CorrectionField.embed Ck.code (power Ck.CorrectionField.ops Ck.ROOT_GENERATOR e)
+        ≡ Ck.CorrectionField.ops.zero) }
+{
+    let base = Ck::ROOT_GENERATOR;
+    for x in base.powers_range(Ck::ROOT_EXPONENTS_START, Ck::ROOT_EXPONENTS_END) {
+        if generator_value::<Ck>(x) != Ck::CorrectionField::ZERO {
+            return false;
+        }
+    }
+    true
+}

@@ -1,0 +1,11 @@
+//! Tests of `bech32_checksum`.
+#![tactic(auto)]
+
+#[cfg(test)]
+mod codex32_rows;
+#[cfg(test)]
+mod engine;
+#[cfg(test)]
+mod packed;
+#[cfg(test)]
+mod roots;

@@ -1,0 +1,256 @@
+//! Lawful roots, and roots with one thing wrong.
+
+ghost use Rattle.std.specs.Prelude.{◌≡◌, ◌<◌, ◌≤◌, ◌+◌, ◌-◌, IsTrue, refl};
+ghost use Rattle.std.proofs.Common.{arith};
+ghost use Rattle.bech32_gf.specs.Fe32 as fe32;
+ghost use Rattle.bech32_gf_ext.specs.Fe1024.{pair};
+ghost use Rattle.bech32_checksum.specs.Code.{bech32};
+ghost use Rattle.bech32_checksum.specs.CodeLaws as codes;
+ghost use Rattle.bech32_checksum.specs.PackedLaws as packed;
+ghost use Rattle.bech32_checksum.specs.Roots.{HasLawfulRoots};
+ghost use Rattle.bech32_checksum_tests.specs.TestWords.{words_1, words_1_keep, code_1, code_6};
+
+use super::{Bech32, Bech32m, Checksum, Degree8, Degree13, NoChecksum};
+use bech32_gf::gf32::Fe32;
+use bech32_gf_ext::{Fe32Ext, Fe1024};
+
+const WORDS: [u32; 5] = [0x3b6a57b2, 0x26508e6d, 0x1ea119fa, 0x3d4233dd, 0x2a1462b3];
+
+// Bech32 with other exponents, and for texts of another length.
+#[derive(Copy, Clone)]
+enum Altered<const FIRST: usize, const LAST: usize, const LONGEST: usize> {}
+
+impl<const FIRST: usize, const LAST: usize, const LONGEST: usize> Checksum
+    for Altered<FIRST, LAST, LONGEST> {
+    type MidstateRepr = u32;
+
+    type CorrectionField = Fe1024;
+
+    ghost ROOT_GENERATOR = { pair fe32.one (fe32.element 6) };
+
+    ghost ROOT_EXPONENTS_START = { FIRST };
+
+    ghost ROOT_EXPONENTS_END = { LAST };
+
+    ghost CODE_LENGTH = { LONGEST };
+
+    ghost CHECKSUM_LENGTH = { 6 };
+
+    ghost GENERATOR_SH = { codes.words };
+
+    ghost TARGET_RESIDUE = { 1 };
+
+    ghost code = { code_6 LONGEST };
+
+    const ROOT_GENERATOR: Fe1024 = Fe32Ext {
+        inner: [Fe32::P, Fe32::X],
+    };
+
+    const ROOT_EXPONENTS_START: usize = FIRST;
+
+    const ROOT_EXPONENTS_END: usize = LAST;
+
+    const CODE_LENGTH: usize = LONGEST;
+
+    const CHECKSUM_LENGTH: usize = 6;
+
+    const GENERATOR_SH: [u32; 5] = WORDS;
+
+    const TARGET_RESIDUE: u32 = 1;
+
+    ghost packing_laws = { codes.bech32_keeps };
+
+    ghost code_law = { refl };
+
+    ghost degree_law = { refl };
+
+    ghost code_length_law = { refl };
+}
+
+// Bech32 with a base of order 1.
+#[derive(Copy, Clone)]
+enum OtherBase {}
+
+impl Checksum for OtherBase {
+    type MidstateRepr = u32;
+
+    type CorrectionField = Fe1024;
+
+    ghost ROOT_GENERATOR = { pair fe32.one fe32.zero };
+
+    ghost ROOT_EXPONENTS_START = { 24 };
+
+    ghost ROOT_EXPONENTS_END = { 26 };
+
+    ghost CODE_LENGTH = { 1023 };
+
+    ghost CHECKSUM_LENGTH = { 6 };
+
+    ghost GENERATOR_SH = { codes.words };
+
+    ghost TARGET_RESIDUE = { 1 };
+
+    ghost code = { bech32 };
+
+    const ROOT_GENERATOR: Fe1024 = Fe32Ext {
+        inner: [Fe32::P, Fe32::Q],
+    };
+
+    const ROOT_EXPONENTS_START: usize = 24;
+
+    const ROOT_EXPONENTS_END: usize = 26;
+
+    const CODE_LENGTH: usize = 1023;
+
+    const CHECKSUM_LENGTH: usize = 6;
+
+    const GENERATOR_SH: [u32; 5] = WORDS;
+
+    const TARGET_RESIDUE: u32 = 1;
+
+    ghost packing_laws = { codes.bech32_keeps };
+
+    ghost code_law = { codes.bech32_is_packed };
+
+    ghost degree_law = { refl };
+
+    ghost code_length_law = { refl };
+}
+
+// The generator x + 1, for texts of one character: each power of the base 1 is a root.
+#[derive(Copy, Clone)]
+enum Degree1<const LAST: usize> {}
+
+impl<const LAST: usize> Checksum for Degree1<LAST> {
+    type MidstateRepr = u32;
+
+    type CorrectionField = Fe32;
+
+    ghost ROOT_GENERATOR = { fe32.one };
+
+    ghost ROOT_EXPONENTS_START = { 3 };
+
+    ghost ROOT_EXPONENTS_END = { LAST };
+
+    ghost CODE_LENGTH = { 1 };
+
+    ghost CHECKSUM_LENGTH = { 1 };
+
+    ghost GENERATOR_SH = { words_1 };
+
+    ghost TARGET_RESIDUE = { 1 };
+
+    ghost code = { code_1 };
+
+    const ROOT_GENERATOR: Fe32 = Fe32::P;
+
+    const ROOT_EXPONENTS_START: usize = 3;
+
+    const ROOT_EXPONENTS_END: usize = LAST;
+
+    const CODE_LENGTH: usize = 1;
+
+    const CHECKSUM_LENGTH: usize = 1;
+
+    const GENERATOR_SH: [u32; 5] = [1, 2, 4, 8, 16];
+
+    const TARGET_RESIDUE: u32 = 1;
+
+    ghost packing_laws = { words_1_keep };
+
+    ghost code_law = { refl };
+
+    ghost degree_law = { refl };
+
+    ghost code_length_law = { refl };
+}
+
+// How many roots stand in a row.
+fn roots_in_a_row<Ck: Checksum>() -> usize
+    requires positive { 0 < Ck.CHECKSUM_LENGTH }
+    requires lawful { HasLawfulRoots Ck.CorrectionField.ops Ck.CorrectionField.embed
+        Ck.code Ck.ROOT_GENERATOR Ck.ROOT_EXPONENTS_START Ck.ROOT_EXPONENTS_END }
+    ensures within { result ≤ Ck.CHECKSUM_LENGTH }
+    ensures value { result ≡ Ck.ROOT_EXPONENTS_END - Ck.ROOT_EXPONENTS_START + 1 }
+{
+    Ck::ROOT_EXPONENTS_END - Ck::ROOT_EXPONENTS_START + 1
+}
+
+// The same, where they are lawful.
+fn tested<Ck: Checksum>() -> Option<usize> {
+    if Ck::CHECKSUM_LENGTH > 0 && Ck::sanity_check() {
+        Some(roots_in_a_row::<Ck>())
+    } else {
+        None
+    }
+}
+
+// Of the standards it is proved.
+fn roots_of_bech32() -> usize
+    ensures { result ≡ 3 }
+{
+    roots_in_a_row::<Bech32>()
+}
+
+fn roots_of_bech32m() -> usize
+    ensures { result ≡ 3 }
+{
+    roots_in_a_row::<Bech32m>()
+}
+
+fn no_checksum_is_sane() -> bool
+    ensures { IsTrue result }
+{
+    NoChecksum::sanity_check()
+}
+
+fn bech32_is_sane() -> bool
+    ensures { IsTrue result }
+{
+    Bech32::sanity_check()
+}
+
+fn bech32m_is_sane() -> bool
+    ensures { IsTrue result }
+{
+    Bech32m::sanity_check()
+}
+
+#[test]
+fn lawful_roots(rt: HostRuntime) {
+    assert!(rt; no_checksum_is_sane());
+    assert!(rt; bech32_is_sane());
+    assert!(rt; bech32m_is_sane());
+    assert_eq!(rt; roots_of_bech32(), 3);
+    assert_eq!(rt; roots_of_bech32m(), 3);
+    assert_eq!(rt; tested::<NoChecksum>(), None);
+    assert_eq!(rt; tested::<Bech32>(), Some(3));
+    assert_eq!(rt; tested::<Bech32m>(), Some(3));
+    assert_eq!(rt; tested::<Degree8>(), Some(3));
+    assert_eq!(rt; tested::<Degree13>(), Some(8));
+    assert!(rt; Degree8::sanity_check());
+    assert!(rt; Degree13::sanity_check());
+    assert_eq!(rt;
+        (Bech32m::ROOT_EXPONENTS_START, Bech32m::ROOT_EXPONENTS_END),
+        (24, 26)
+    );
+    assert_eq!(rt; Bech32::ROOT_GENERATOR, Bech32m::ROOT_GENERATOR);
+}
+
+#[test]
+fn altered_roots(rt: HostRuntime) {
+    assert!(rt; Altered::<24, 26, 1023>::sanity_check());
+    assert!(rt; Altered::<24, 24, 1>::sanity_check());
+    // The same powers once more.
+    assert!(rt; Altered::<1047, 1049, 1023>::sanity_check());
+    assert!(rt; !Altered::<24, 26, 1024>::sanity_check());
+    assert!(rt; !Altered::<24, 27, 1023>::sanity_check());
+    assert!(rt; !Altered::<23, 26, 1023>::sanity_check());
+    assert!(rt; !Altered::<27, 27, 1023>::sanity_check());
+    assert!(rt; !Altered::<25, 24, 1023>::sanity_check());
+    assert!(rt; !Altered::<0, { usize::MAX }, 1023>::sanity_check());
+    assert!(rt; !OtherBase::sanity_check());
+    // As many roots as the degree, and one more.
+    assert!(rt; Degree1::<3>::sanity_check());
+    assert!(rt; !Degree1::<4>::sanity_check());
+}

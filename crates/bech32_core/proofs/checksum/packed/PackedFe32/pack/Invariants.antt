@@ -1,6 +1,0 @@
-use Rattle.std.proofs.Common.{◌≡◌}
-use Rattle.bech32_core.specs.Packed.{number_of_digits}
-use Rattle.bech32_core.proofs.checksum.packed.PackedFe32.pack.Given as goal
-
-abbrev pub invariant-loop-value : goal.invariant-loop-value
-invariant-loop-value g l = g.Self.PackedFe32.number l.row ≡ number_of_digits l.yielded

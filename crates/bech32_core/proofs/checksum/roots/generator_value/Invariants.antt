@@ -1,7 +1,0 @@
-use Rattle.std.proofs.Common.{◌≡◌}
-use Rattle.bech32_core.proofs.Roots.{value_from}
-use Rattle.bech32_core.proofs.checksum.roots.generator_value.Given as goal
-
-abbrev pub invariant-loop-place : goal.invariant-loop-place
-invariant-loop-place g l =
-    l.value ≡ value_from g.Ck.CorrectionField.Field.ops g.Ck.CorrectionField.ExtensionField.embed l.x l.place g.Ck.Checksum.code.generator

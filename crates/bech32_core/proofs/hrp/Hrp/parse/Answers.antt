@@ -1,5 +1,0 @@
-use Rattle.bech32_core.proofs.HrpTexts.{accepts-from_outcome}
-use Rattle.bech32_core.proofs.hrp.Hrp.parse.Goals as goal
-
-pub returns-clause-accepts : goal.returns-clause-accepts
-returns-clause-accepts c = accepts-from_outcome c.args.text.now c.utf8.text c.read.result c.read.ensures

@@ -1,6 +1,0 @@
-use Rattle.std.specs.Str.Iter.{chars_rest}
-use Rattle.bech32_core.proofs.HrpScan.{Scanned}
-use Rattle.bech32_core.proofs.hrp.check.Given as goal
-
-abbrev pub invariant-characters : goal.invariant-characters
-invariant-characters l = Scanned l.text (chars_rest l.c-iterator) l.has_lower l.has_upper

@@ -1,6 +1,0 @@
-use Rattle.std.proofs.Common.{◌≡◌, take}
-use Rattle.bech32_core.specs.Bits.{byte_bits}
-use Rattle.bech32_core.proofs.iter.plain.bits_of_bytes.Given as goal
-
-abbrev pub invariant-loop-byte : goal.invariant-loop-byte
-invariant-loop-byte l = l.all.items ≡ byte_bits (take l.byte-index l.bytes)

@@ -1,0 +1,12 @@
+pub mod Addresses
+pub mod ByteWalks
+pub mod Checksums
+pub mod Coefficients
+pub mod Decoding
+pub mod Grammar
+pub mod Letters
+pub mod Outcomes
+pub mod Padding
+pub mod Spelling
+pub mod Texts
+pub mod Versions

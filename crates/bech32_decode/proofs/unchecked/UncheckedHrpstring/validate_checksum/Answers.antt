@@ -1,0 +1,83 @@
+use Rattle.std.proofs.Common.{◌≡◌, ◌≢◌, ◌∙◌, ◌<◌, ◌≤◌, ◌*◌, ◌^◌, ℕ, Bool, true, false, sym, refl, arith}
+use mathlib.Core.Bool.{not}
+use Rattle.std.proofs.Common.{lt_of_lt_of_le}
+use Rattle.std.proofs.Math.Pow.{pow_mono}
+use Rattle.bech32_decode.proofs.Checksums.{length-generator, code_length-is, leaves_target, leaves_target-degree_0, residue_error}
+use Rattle.bech32_decode.proofs.unchecked.UncheckedHrpstring.validate_checksum.Goals as goal
+
+-- what fits the degree fits the width
+wider : (number d width : ℕ) → number < 2 ^ (5 * d) → d ≤ width → number < 2 ^ (5 * width)
+wider number d width h le = lt_of_lt_of_le h (pow_mono (omega arith))
+
+not_equal : (t : Bool) → true ≡ not t → t ≡ true → ⊥
+not_equal true e h = cc
+not_equal false e h = cc
+
+equal : (t : Bool) → false ≡ not t → t ≡ true
+equal true e = refl
+equal false e = absurd cc
+
+pub returns-then-CHECKSUM_LENGTH-eq0 : goal.returns-then-CHECKSUM_LENGTH-eq0
+returns-then-CHECKSUM_LENGTH-eq0 g c =
+    let k = g.Ck.Checksum in
+    let r = g.Ck.MidstateRepr.PackedFe32 in
+    let same_number = g.met.Ck.MidstateRepr.PackedFe32.same_number_law in
+    let degree = length-generator r.number same_number k.code k.CODE_LENGTH k.CHECKSUM_LENGTH k.GENERATOR_SH k.TARGET_RESIDUE g.met.Ck.Checksum.code_law in
+    let size = code_length-is r.number same_number k.code k.CODE_LENGTH k.CHECKSUM_LENGTH k.GENERATOR_SH k.TARGET_RESIDUE g.met.Ck.Checksum.code_law in
+    let a = c.CODE_LENGTH.ensures in
+    let none : k.CHECKSUM_LENGTH ≡ 0 = sym c.CHECKSUM_LENGTH.ensures ∙ c.if-CHECKSUM_LENGTH-eq0.true in (
+      omega arith,
+      omega arith,
+      leaves_target-degree_0 r.number same_number k.code k.CODE_LENGTH k.CHECKSUM_LENGTH k.GENERATOR_SH k.TARGET_RESIDUE g.met.Ck.Checksum.code_law none _,
+    )
+
+pub returns-then-self-CHECKSUM_LENGTH : goal.returns-then-self-CHECKSUM_LENGTH
+returns-then-self-CHECKSUM_LENGTH g c =
+    let k = g.Ck.Checksum in
+    let r = g.Ck.MidstateRepr.PackedFe32 in
+    let degree = length-generator r.number g.met.Ck.MidstateRepr.PackedFe32.same_number_law k.code k.CODE_LENGTH k.CHECKSUM_LENGTH k.GENERATOR_SH k.TARGET_RESIDUE g.met.Ck.Checksum.code_law in
+    let size = code_length-is r.number g.met.Ck.MidstateRepr.PackedFe32.same_number_law k.code k.CODE_LENGTH k.CHECKSUM_LENGTH k.GENERATOR_SH k.TARGET_RESIDUE g.met.Ck.Checksum.code_law in
+    let a = c.CODE_LENGTH.ensures in
+    let b = c.CHECKSUM_LENGTH.ensures in
+    (omega arith, omega arith)
+
+pub new-requires-clause-actual_fits : goal.new-requires-clause-actual_fits
+new-requires-clause-actual_fits g c = wider _ g.Ck.Checksum.CHECKSUM_LENGTH _ c.residue_of-residue.ensures.clear g.met.Ck.Checksum.packing_laws.fits
+
+pub new-requires-clause-target_fits : goal.new-requires-clause-target_fits
+new-requires-clause-target_fits g c =
+    rw c.TARGET_RESIDUE-then-ne.ensures (wider _ g.Ck.Checksum.CHECKSUM_LENGTH _ g.met.Ck.Checksum.packing_laws.target_clear g.met.Ck.Checksum.packing_laws.fits)
+
+pub returns-then-ne : goal.returns-then-ne
+returns-then-ne g c =
+    let k = g.Ck.Checksum in
+    let r = g.Ck.MidstateRepr.PackedFe32 in
+    let same_number = g.met.Ck.MidstateRepr.PackedFe32.same_number_law in
+    let degree = length-generator r.number same_number k.code k.CODE_LENGTH k.CHECKSUM_LENGTH k.GENERATOR_SH k.TARGET_RESIDUE g.met.Ck.Checksum.code_law in
+    let size = code_length-is r.number same_number k.code k.CODE_LENGTH k.CHECKSUM_LENGTH k.GENERATOR_SH k.TARGET_RESIDUE g.met.Ck.Checksum.code_law in
+    let a = c.CODE_LENGTH.ensures in
+    let b = c.CHECKSUM_LENGTH.ensures in
+    let differs : c.residue_of-residue.result ≢ k.TARGET_RESIDUE = λ e.
+    not_equal _ c.if-ne.ensures ((g.met.Ck.MidstateRepr.PackedFe32.eq_law c.residue_of-residue.result c.TARGET_RESIDUE.result).1 (e ∙ sym c.TARGET_RESIDUE.ensures)) in (
+      omega arith,
+      omega arith,
+      residue_error r.number same_number k.code k.CODE_LENGTH k.CHECKSUM_LENGTH k.GENERATOR_SH k.TARGET_RESIDUE g.met.Ck.Checksum.code_law
+          c.residue_of-residue.result _ c.new.result c.residue_of-residue.ensures.clear g.met.Ck.Checksum.packing_laws.target_clear differs c.residue_of-residue.ensures.residue
+          c.new.ensures.actual (rw c.TARGET_RESIDUE-then-ne.ensures at c.new.ensures.target),
+    )
+
+pub returns : goal.returns
+returns g c =
+    let k = g.Ck.Checksum in
+    let r = g.Ck.MidstateRepr.PackedFe32 in
+    let same_number = g.met.Ck.MidstateRepr.PackedFe32.same_number_law in
+    let degree = length-generator r.number same_number k.code k.CODE_LENGTH k.CHECKSUM_LENGTH k.GENERATOR_SH k.TARGET_RESIDUE g.met.Ck.Checksum.code_law in
+    let size = code_length-is r.number same_number k.code k.CODE_LENGTH k.CHECKSUM_LENGTH k.GENERATOR_SH k.TARGET_RESIDUE g.met.Ck.Checksum.code_law in
+    let a = c.CODE_LENGTH.ensures in
+    let b = c.CHECKSUM_LENGTH.ensures in
+    let same = (g.met.Ck.MidstateRepr.PackedFe32.eq_law c.residue_of-residue.result c.TARGET_RESIDUE.result).0 (equal _ c.if-ne.ensures) ∙ c.TARGET_RESIDUE.ensures in (
+      omega arith,
+      omega arith,
+      leaves_target r.number same_number k.code k.CODE_LENGTH k.CHECKSUM_LENGTH k.GENERATOR_SH k.TARGET_RESIDUE g.met.Ck.Checksum.code_law
+          c.residue_of-residue.result _ same c.residue_of-residue.ensures.residue,
+    )

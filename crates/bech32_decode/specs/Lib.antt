@@ -1,0 +1,11 @@
+pub mod Acceptance
+pub mod BeforeChecksum
+pub mod Checked
+pub mod Readers
+pub mod Refusals
+pub mod ResidueRows
+pub mod Segwit
+pub mod SegwitParts
+pub mod SegwitRules
+pub mod Text
+pub mod Version

@@ -1,0 +1,42 @@
+-- Why a checksum does not accept a text.
+use Rattle.std.specs.Prelude.{◌≡◌, ◌≢◌, ◌<◌, ◌≤◌, ◌⊎◌, ℕ, List, length, Some}
+use Rattle.bech32_gf.specs.Fe32.{ops, elements_of}
+use Rattle.bech32_gf.specs.declared.gf32.Fe32.{Fe32}
+use Rattle.bech32_poly.specs.Polynomial.{IsSamePolynomial}
+use Rattle.bech32_poly.specs.Remainder.{IsRemainder}
+use Rattle.bech32_checksum.specs.Code.{Code, bech32, bech32m}
+use Rattle.bech32_checksum.specs.TextPolynomial.{text_polynomial}
+use Rattle.bech32_decode.specs.Text.{IsText, text_refusal}
+use Rattle.bech32_decode.specs.Acceptance.{Accepts}
+use Rattle.bech32_decode.specs.declared.error.ChecksumError.{ChecksumError}
+use Rattle.bech32_decode.specs.declared.error.ChecksumError.TheVariants.{CodeLength, InvalidLength, InvalidResidue}
+use Rattle.bech32_decode.specs.declared.error.InvalidResidueError.{InvalidResidueError}
+
+-- a text of n bytes with these parts is not longer than the code, has room for the checksum, and its polynomial leaves the target
+abbrev pub HasValidChecksum : Code → ℕ → List ℕ → List ℕ → Type 0
+HasValidChecksum code n hrp data_part =
+    (n ≤ code.code_length) × (length code.generator ≤ length data_part)
+    × IsRemainder ops code.generator (text_polynomial hrp (elements_of data_part)) code.target
+
+-- the error carries the remainder that a polynomial leaves, which is not the target, and the target
+pub record IsResidueError (code : Code) (polynomial : List Fe32) (e : InvalidResidueError) : Type 0 where
+  pub remainder : List Fe32
+  pub is_remainder : IsRemainder ops code.generator polynomial remainder
+  pub not_target : remainder ≢ code.target
+  pub actual : IsSamePolynomial ops e.actual.digits remainder
+  pub target : IsSamePolynomial ops e.target.digits code.target
+
+-- why a checksum refuses a text of n bytes with these parts: the first of three faults
+abbrev pub IsChecksumRefusal : Code → ℕ → List ℕ → List ℕ → ChecksumError → Type 0
+IsChecksumRefusal code n hrp data_part (CodeLength e) = (code.code_length < n) × (e ≡ record { encoded_length = n; code_length = code.code_length })
+IsChecksumRefusal code n hrp data_part InvalidLength = (n ≤ code.code_length) × (length data_part < length code.generator)
+IsChecksumRefusal code n hrp data_part (InvalidResidue e) =
+    (n ≤ code.code_length) × (length code.generator ≤ length data_part) × IsResidueError code (text_polynomial hrp (elements_of data_part)) e
+
+-- Bech32m refuses the text by this error, and Bech32 does not accept it
+pub record IsRefusedByBoth (text : List ℕ) (e : ChecksumError) : Type 0 where
+  pub hrp : List ℕ
+  pub data_part : List ℕ
+  pub grammar : IsText text hrp data_part
+  pub refusal : IsChecksumRefusal bech32m (length text) hrp data_part e
+  pub not_bech32 : Accepts bech32 text → ⊥

@@ -1,0 +1,34 @@
+-- The rules of segwit addresses on versions, lengths and padding (BIP-173, Segwit address format).
+use Rattle.std.specs.Prelude.{◌≡◌, ◌≢◌, ◌<◌, ◌≤◌, ◌⊎◌, ◌*◌, ◌/◌, ℕ, List, length, drop, replicate}
+use Rattle.bech32_gf.specs.declared.gf32.Fe32.{Fe32}
+use Rattle.bech32_bits.specs.Bits.{fe_bits}
+use Rattle.bech32_decode.specs.declared.segwit.WitnessLengthError.{WitnessLengthError}
+use Rattle.bech32_decode.specs.declared.segwit.WitnessLengthError.TheVariants.{TooShort, TooLong, InvalidSegwitV0}
+use Rattle.bech32_decode.specs.declared.error.PaddingError.{PaddingError}
+use Rattle.bech32_decode.specs.declared.error.PaddingError.TheVariants.{TooMuch, NonZero}
+
+-- a program of this version may have n bytes
+pub record IsProgramLength (version : Fe32) (n : ℕ) : Type 0 where
+  pub not_short : 2 ≤ n
+  pub not_long : n ≤ 40
+  pub of_version_0 : version.value ≡ 0 → (n ≡ 20) ⊎ (n ≡ 32)
+
+-- why it may not: the first of three faults
+abbrev pub IsLengthRefusal : Fe32 → ℕ → WitnessLengthError → Type 0
+IsLengthRefusal version n TooShort = n < 2
+IsLengthRefusal version n TooLong = 40 < n
+IsLengthRefusal version n InvalidSegwitV0 = (version.value ≡ 0) × (2 ≤ n) × (n ≤ 40) × (n ≢ 20) × (n ≢ 32)
+
+-- the bits of elements behind those of whole bytes
+abbrev pub padding : List Fe32 → List ℕ
+padding fes = drop (8 * (length (fe_bits fes) / 8)) (fe_bits fes)
+
+-- at most four of them, all zero
+pub record IsPadded (fes : List Fe32) : Type 0 where
+  pub few : length (padding fes) ≤ 4
+  pub zeros : padding fes ≡ replicate (length (padding fes)) 0
+
+-- why they are not: the first of two faults
+abbrev pub IsPaddingRefusal : List Fe32 → PaddingError → Type 0
+IsPaddingRefusal fes TooMuch = 4 < length (padding fes)
+IsPaddingRefusal fes NonZero = (length (padding fes) ≤ 4) × (padding fes ≢ replicate (length (padding fes)) 0)

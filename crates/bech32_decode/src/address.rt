@@ -1,0 +1,156 @@
+//! A text that is a segwit address.
+
+ghost use Rattle.std.specs.Prelude.{◌≡◌, ◌↔◌, ◌⊎◌, codes, true, MatchResult, IfOk, IfErr, IsOk, IsTrue};
+ghost use Rattle.bech32_bits.specs.Bits.{to_bytes};
+ghost use Rattle.bech32_checksum.specs.Code.{bech32};
+ghost use Rattle.bech32_hrp.specs.HrpBytes.{hrp_bytes, lowered_bytes};
+ghost use Rattle.bech32_gf.specs.Alphabet.{is_data};
+ghost use Rattle.bech32_gf.specs.Fe32.{elements_of};
+ghost use Rattle.bech32_decode.specs.Readers.{bytes_to_come};
+ghost use Rattle.bech32_decode.specs.Segwit.{segwit_code, IsAddress, IsAddressText, IsAddressRefusal, IsSegwitRefusal};
+
+use crate::byte_reader::ByteIter;
+use crate::error::SegwitHrpstringError;
+use crate::segwit::{MAX_STRING_LENGTH, VERSION_0};
+use crate::unchecked::UncheckedHrpstring;
+use crate::version::first_version;
+use bech32_checksum::{Bech32, Bech32m, Checksum};
+use bech32_gf::gf32::Fe32;
+use bech32_hrp::Hrp;
+
+/// A segwit address in its parts: the human-readable part, the witness version, and the data part
+/// without version and checksum. It borrows the text.
+#[derive(Clone, Copy, Debug)]
+pub struct SegwitHrpstring<'s> {
+    hrp: Hrp,
+    witness_version: Fe32,
+    ascii: &'s [u8],
+    pub ghost of_alphabet: { is_data ascii.now ≡ true },
+}
+
+impl<'s> SegwitHrpstring<'s> {
+    ghost use Rattle.bech32_decode.specs.SegwitParts.{IsReadAs, IsReadBy, IsRefusedBy, IsWrongDataOf};
+
+    // An address of these parts.
+    #[inline]
+    pub(crate) fn of_parts(hrp: Hrp, witness_version: Fe32, ascii: &'s [u8]) -> Self
+        requires { is_data ascii.now ≡ true }
+        ensures hrp { result.hrp ≡ hrp }
+        ensures version { result.witness_version ≡ witness_version }
+        ensures characters { result.ascii.now ≡ ascii.now }
+    {
+        SegwitHrpstring {
+            hrp,
+            witness_version,
+            ascii,
+        }
+    }
+
+    // Tests the checksum, and what stands before it.
+    fn of_unchecked<Ck: Checksum>(
+        unchecked: UncheckedHrpstring<'s>,
+    ) -> Result<Self, SegwitHrpstringError>
+        ensures { MatchResult result
+            (λ a. IsReadBy Ck.code unchecked.entry a)
+            (λ e. IsRefusedBy Ck.code unchecked.entry e ⊎ IsWrongDataOf Ck.code unchecked.entry e) }
+    {
+        let checked = unchecked.validate_and_remove_checksum::<Ck>()?;
+        checked.validate_segwit()
+    }
+
+    // What `new` answers.
+    fn read(s: &'s str) -> Result<Self, SegwitHrpstringError>
+        ensures { MatchResult result (λ a. IsReadAs segwit_code s.now a) (λ e. IsSegwitRefusal s.now e) }
+    {
+        if s.len() > MAX_STRING_LENGTH {
+            return Err(SegwitHrpstringError::TooLong(s.len()));
+        }
+        let unchecked = UncheckedHrpstring::new(s)?;
+        let version = first_version(unchecked.data_part_ascii())?;
+        if version == VERSION_0 {
+            Self::of_unchecked::<Bech32>(unchecked)
+        } else {
+            Self::of_unchecked::<Bech32m>(unchecked)
+        }
+    }
+
+    /// Reads a segwit address: of version 0 by Bech32, of another version by Bech32m (BIP-350).
+    ///
+    /// The human-readable part may be any: [`Self::has_valid_hrp`] tests it.
+    ///
+    /// # Errors
+    ///
+    /// The first of: more than 90 characters; the text is not in the grammar (as
+    /// [`UncheckedHrpstring::new`]); no data part; a witness version above 16; its checksum (as
+    /// [`UncheckedHrpstring::validate_checksum`]); no data before the checksum; padding of more than
+    /// four bits; padding that is not zero; a program of less than 2 bytes, of more than 40, or of
+    /// neither 20 nor 32 in version 0.
+    pub fn new(s: &'s str) -> Result<Self, SegwitHrpstringError>
+        ensures parts { IfOk result (λ a. IsReadAs segwit_code s.now a) }
+        ensures address { IfOk result (λ a. IsAddress (hrp_bytes a.hrp) a.witness_version (to_bytes (elements_of a.ascii.now)) s.now) }
+        ensures accepts { IsOk result ↔ IsAddressText s.now }
+        ensures refused { IfErr result (λ e. IsSegwitRefusal s.now e) }
+    {
+        Self::read(s)
+    }
+
+    /// Reads a text as an address of the time before BIP-350: of each witness version by Bech32.
+    ///
+    /// # Errors
+    ///
+    /// The first of: the text is not in the grammar; no data part; a witness version above 16; the
+    /// checksum; no data before the checksum; more than 90 characters; padding of more than four
+    /// bits; padding that is not zero; a program of less than 2 bytes, of more than 40, or of neither
+    /// 20 nor 32 in version 0.
+    pub fn new_bech32(s: &'s str) -> Result<Self, SegwitHrpstringError>
+        ensures { MatchResult result
+            (λ a. IsReadAs (λ _. bech32) s.now a)
+            (λ e. IsAddressRefusal (λ _. bech32) s.now e) }
+    {
+        let unchecked = UncheckedHrpstring::new(s)?;
+        first_version(unchecked.data_part_ascii())?;
+        Self::of_unchecked::<Bech32>(unchecked)
+    }
+
+    /// Whether the human-readable part is `bc` or `tb`, in either case, as BIP-173 asks of segwit
+    /// addresses.
+    pub fn has_valid_hrp(&self) -> bool
+        ensures { IsTrue result ↔ ((lowered_bytes self.now.hrp ≡ codes "bc") ⊎ (lowered_bytes self.now.hrp ≡ codes "tb")) }
+    {
+        self.hrp().is_valid_segwit()
+    }
+
+    /// The human-readable part, in the case of the text.
+    #[inline]
+    pub fn hrp(&self) -> Hrp
+        ensures { result ≡ self.now.hrp }
+    {
+        self.hrp
+    }
+
+    /// The witness version.
+    #[inline]
+    pub fn witness_version(&self) -> Fe32
+        ensures { result ≡ self.now.witness_version }
+    {
+        self.witness_version
+    }
+
+    /// The characters of the data part between the witness version and the checksum: all of the
+    /// alphabet, in the case of the text.
+    #[inline]
+    pub fn data_part_ascii_no_witver_no_checksum(&self) -> &'s [u8]
+        ensures value { result.now ≡ self.now.ascii.now }
+        ensures of_alphabet { is_data result.now ≡ true }
+    {
+        self.ascii
+    }
+
+    /// The bytes of the program, in turn.
+    #[inline]
+    pub fn byte_iter(&self) -> ByteIter<'s>
+        ensures { bytes_to_come result ≡ to_bytes (elements_of self.now.ascii.now) }
+    {
+        ByteIter::new(self.ascii)
+    }
+}

@@ -1,0 +1,203 @@
+//! A text whose checksum was tested.
+
+ghost use Rattle.std.specs.Prelude.{◌≡◌, ◌↔◌, ◌≤◌, true, length, drop, MatchOption, MatchResult, IfOk, IfErr, IsOk};
+ghost use Rattle.bech32_bits.specs.Bits.{to_bytes};
+ghost use Rattle.bech32_gf.specs.Alphabet.{is_data};
+ghost use Rattle.bech32_gf.specs.Fe32.{elements_of};
+ghost use Rattle.bech32_decode.specs.Acceptance.{Accepts};
+ghost use Rattle.bech32_decode.specs.Readers.{bytes_to_come, elements_left};
+ghost use Rattle.bech32_decode.specs.Text.{IsInGrammar};
+ghost use Rattle.bech32_decode.specs.Version.{version_of};
+
+use crate::address::SegwitHrpstring;
+use crate::byte_reader::ByteIter;
+use crate::error::{CheckedHrpstringError, PaddingError, SegwitHrpstringError};
+use crate::reader::AsciiToFe32Iter;
+use crate::segwit::{self, MAX_STRING_LENGTH, WitnessLengthError};
+use crate::unchecked::UncheckedHrpstring;
+use crate::version::{first_version, version_in};
+use bech32_checksum::Checksum;
+use bech32_gf::gf32::Fe32;
+use bech32_hrp::Hrp;
+
+/// A text in its parts: the human-readable part, and the data part without its checksum. It borrows
+/// the text.
+#[derive(Clone, Copy, Debug)]
+pub struct CheckedHrpstring<'s> {
+    hrp: Hrp,
+    ascii: &'s [u8],
+    hrpstring_length: usize,
+    pub ghost of_alphabet: { is_data ascii.now ≡ true },
+}
+
+impl<'s> CheckedHrpstring<'s> {
+    ghost use Rattle.bech32_decode.specs.Checked.{IsAcceptedAs, IsCheckedRefusal};
+
+    // A text of these parts.
+    #[inline]
+    pub(crate) fn of_parts(hrp: Hrp, ascii: &'s [u8], hrpstring_length: usize) -> Self
+        requires { is_data ascii.now ≡ true }
+        ensures hrp { result.hrp ≡ hrp }
+        ensures characters { result.ascii.now ≡ ascii.now }
+        ensures text_length { result.hrpstring_length ≡ hrpstring_length }
+    {
+        CheckedHrpstring {
+            hrp,
+            ascii,
+            hrpstring_length,
+        }
+    }
+
+    // What `new` answers.
+    fn read<Ck: Checksum>(s: &'s str) -> Result<Self, CheckedHrpstringError>
+        ensures { MatchResult result (λ c. IsAcceptedAs Ck.code s.now c) (λ e. IsCheckedRefusal Ck.code s.now e) }
+    {
+        let unchecked = UncheckedHrpstring::new(s)?;
+        let checked = unchecked.validate_and_remove_checksum::<Ck>()?;
+        Ok(checked)
+    }
+
+    /// Reads a text that the checksum accepts.
+    ///
+    /// # Errors
+    ///
+    /// The first of: the text is not in the grammar (as [`UncheckedHrpstring::new`]); the checksum
+    /// refuses it (as [`UncheckedHrpstring::validate_checksum`]).
+    pub fn new<Ck: Checksum>(s: &'s str) -> Result<Self, CheckedHrpstringError>
+        ensures parts { IfOk result (λ c. IsAcceptedAs Ck.code s.now c) }
+        ensures accepts { IsOk result ↔ Accepts Ck.code s.now }
+        ensures refused { IfErr result (λ e. IsCheckedRefusal Ck.code s.now e) }
+        // At degree 0 grammar and length alone decide.
+        ensures no_checksum { Ck.CHECKSUM_LENGTH ≡ 0 → IsOk result ↔ (IsInGrammar s.now × (length s.now ≤ Ck.CODE_LENGTH)) }
+    {
+        Self::read::<Ck>(s)
+    }
+
+    /// The human-readable part, in the case of the text.
+    #[inline]
+    pub fn hrp(&self) -> Hrp
+        ensures { result ≡ self.now.hrp }
+    {
+        self.hrp
+    }
+
+    /// The characters of the data part before the checksum: all of the alphabet, in the case of the
+    /// text.
+    #[inline]
+    pub fn data_part_ascii_no_checksum(&self) -> &'s [u8]
+        ensures value { result.now ≡ self.now.ascii.now }
+        ensures of_alphabet { is_data result.now ≡ true }
+    {
+        self.ascii
+    }
+
+    /// The witness version: the first element of the data part, where it is at most 16 (BIP-173,
+    /// Segwit address format).
+    #[inline]
+    pub fn witness_version(&self) -> Option<Fe32>
+        ensures { result ≡ version_of (elements_of self.now.ascii.now) }
+    {
+        version_in(self.ascii)
+    }
+
+    /// Takes the witness version off the data part, where there is one.
+    ///
+    /// The length that the rules of segwit addresses test stays that of the whole text.
+    pub fn remove_witness_version(&mut self) -> Option<Fe32>
+        ensures version { result ≡ version_of (elements_of self.old.ascii.now) }
+        ensures rest { MatchOption result (self.new.ascii.now ≡ self.old.ascii.now) (λ _. self.new.ascii.now ≡ drop 1 self.old.ascii.now) }
+        ensures others { (self.new.hrp ≡ self.old.hrp) × (self.new.hrpstring_length ≡ self.old.hrpstring_length) }
+    {
+        let version = self.witness_version()?;
+        self.ascii = &self.ascii[1..];
+        Some(version)
+    }
+
+    /// The elements of the data part, in turn.
+    #[inline]
+    pub fn fe32_iter(&self) -> AsciiToFe32Iter<'s>
+        ensures { elements_left result ≡ elements_of self.now.ascii.now }
+    {
+        AsciiToFe32Iter::new(self.ascii)
+    }
+
+    /// The bytes of the data part, in turn, with a last part shorter than eight bits dropped
+    /// (BIP-173, Segwit address format).
+    #[inline]
+    pub fn byte_iter(&self) -> ByteIter<'s>
+        ensures { bytes_to_come result ≡ to_bytes (elements_of self.now.ascii.now) }
+    {
+        ByteIter::new(self.ascii)
+    }
+
+    ghost use Rattle.bech32_decode.specs.Segwit.{IsDataRefusal};
+    ghost use Rattle.bech32_decode.specs.SegwitParts.{IsSegwitOf};
+    ghost use Rattle.bech32_decode.specs.SegwitRules.{IsLengthRefusal, IsPadded, IsPaddingRefusal, IsProgramLength};
+
+    /// Tests the rules of segwit addresses, whatever checksum the text has, and takes the witness
+    /// version off (BIP-173, Segwit address format).
+    ///
+    /// # Errors
+    ///
+    /// The first of: no data; a text of more than 90 characters; a witness version above 16; padding
+    /// of more than four bits; padding that is not zero; a program of less than 2 bytes, of more than
+    /// 40, or of neither 20 nor 32 in version 0.
+    pub fn validate_segwit(self) -> Result<SegwitHrpstring<'s>, SegwitHrpstringError>
+        ensures { MatchResult result
+            (λ a. IsSegwitOf self.entry a)
+            (λ e. IsDataRefusal self.entry.hrpstring_length (elements_of self.entry.ascii.now) e) }
+    {
+        if self.ascii.is_empty() {
+            return Err(SegwitHrpstringError::NoData);
+        }
+        if self.hrpstring_length > MAX_STRING_LENGTH {
+            return Err(SegwitHrpstringError::TooLong(self.hrpstring_length));
+        }
+        let version = first_version(self.ascii)?;
+        let program = Self::of_parts(self.hrp, &self.ascii[1..], self.hrpstring_length);
+        program.validate_segwit_padding()?;
+        program.validate_witness_program_length(version)?;
+        Ok(SegwitHrpstring::of_parts(self.hrp, version, program.ascii))
+    }
+
+    /// Tests the padding: the bits of the data part behind its last whole byte (BIP-173, Segwit
+    /// address format). The witness version must have been taken off.
+    ///
+    /// # Errors
+    ///
+    /// The first of: more than four bits; bits that are not all zero.
+    pub fn validate_segwit_padding(&self) -> Result<(), PaddingError>
+        ensures { MatchResult result
+            (λ _. IsPadded (elements_of self.now.ascii.now))
+            (λ e. IsPaddingRefusal (elements_of self.now.ascii.now) e) }
+    {
+        let Some(last) = self.ascii.last() else {
+            return Ok(());
+        };
+        let count = self.ascii.len() % 8 * 5 % 8;
+        if count > 4 {
+            return Err(PaddingError::TooMuch);
+        }
+        if Fe32::from_char_unchecked(*last).to_u8() % (1 << count) != 0 {
+            return Err(PaddingError::NonZero);
+        }
+        Ok(())
+    }
+
+    /// Tests how many bytes the data part has, as the program of a witness version, which must have
+    /// been taken off.
+    ///
+    /// # Errors
+    ///
+    /// As [`segwit::validate_witness_program_length`].
+    pub fn validate_witness_program_length(
+        &self,
+        witness_version: Fe32,
+    ) -> Result<(), WitnessLengthError>
+        ensures { MatchResult result
+            (λ _. IsProgramLength witness_version (length (to_bytes (elements_of self.now.ascii.now))))
+            (λ e. IsLengthRefusal witness_version (length (to_bytes (elements_of self.now.ascii.now))) e) }
+    {
+        segwit::validate_witness_program_length(self.byte_iter().len(), witness_version)
+    }
+}

@@ -1,0 +1,53 @@
+//! Remainders kept in place.
+
+ghost use Rattle.std.specs.Prelude.{◌≡◌, ◌<◌, ◌*◌, ◌^◌, ℕ, length};
+ghost use Rattle.bech32_gf.specs.Fe32.{ops};
+ghost use Rattle.bech32_poly.specs.Polynomial.{coefficient};
+ghost use Rattle.bech32_checksum.specs.Packed.{digit_of};
+
+use bech32_checksum::PackedFe32;
+use bech32_gf::gf32::Fe32;
+use std::fmt;
+
+// No checksum has a higher degree.
+const MAX_DEGREE: usize = 25;
+
+/// A remainder: its coefficients, the constant term first, with zeros behind them. Two are equal
+/// where their polynomials are.
+#[derive(Clone, Copy, Debug, PartialEq, Eq)]
+pub(crate) struct Residue {
+    digits: [Fe32; MAX_DEGREE],
+    ghost full: { length digits ≡ 25 },
+}
+
+impl Residue {
+    /// The remainder that a packed row of elements stands for.
+    pub(crate) fn new<R: PackedFe32>(packed: &R) -> Residue
+        requires { R.number packed.now < 2 ^ (5 * R.WIDTH) }
+        ensures { (n : ℕ) → coefficient ops result.digits n ≡ digit_of (R.number packed.now) n }
+    {
+        let mut digits = [Fe32::Q; MAX_DEGREE];
+        for i in 0..R::WIDTH {
+            digits[i] = Fe32::from_low_bits(packed.unpack(i));
+        }
+        Residue { digits }
+    }
+}
+
+/// Shows the characters of the coefficients, the constant term first, up to the highest that is not
+/// zero, and `q` for zero.
+impl fmt::Display for Residue {
+    fn fmt<W: fmt::Write>(&self, f: &mut fmt::Formatter<W>) -> fmt::Result {
+        let zeros = self
+            .digits
+            .iter()
+            .rev()
+            .take_while(|digit| **digit == Fe32::Q)
+            .count();
+        let shown = MAX_DEGREE.saturating_sub(zeros).max(1);
+        for digit in self.digits.iter().take(shown) {
+            f.write_char(digit.to_char())?;
+        }
+        Ok(())
+    }
+}

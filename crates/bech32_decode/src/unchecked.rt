@@ -1,0 +1,241 @@
+//! A text whose characters were tested, and its checksum not.
+
+ghost use Rattle.std.specs.Prelude.{◌≡◌, ◌↔◌, ◌<◌, ◌≤◌, ◌-◌, ◌*◌, ◌^◌, ℕ, true, List, length, drop, ◌++◌, ◌∷◌, None, Some, MatchResult, MatchOption, IfOk, IsOk, IsTrue};
+ghost use Rattle.std.specs.Char.{IsScalar};
+ghost use Rattle.std.specs.List.{list_any};
+ghost use Rattle.bech32_gf.specs.Alphabet.{is_of_alphabet, is_data};
+ghost use Rattle.bech32_gf.specs.Fe32.{elements_of};
+ghost use Rattle.bech32_checksum.specs.Code.{IsResidueOf};
+ghost use Rattle.bech32_hrp.specs.Hrp.{is_lower, is_upper};
+ghost use Rattle.bech32_hrp.specs.HrpBytes.{hrp_bytes};
+ghost use Rattle.bech32_checksum.specs.TextPolynomial.{text_polynomial};
+ghost use Rattle.bech32_decode.specs.Refusals.{HasValidChecksum, IsChecksumRefusal};
+ghost use Rattle.bech32_decode.specs.Version.{version_of};
+ghost use Rattle.bech32_decode.specs.Text.{IsText, IsInGrammar, invalid_character, split_at_last, text_refusal};
+
+use crate::checked::CheckedHrpstring;
+use crate::error::{
+    CharError, ChecksumError, CodeLengthError, InvalidResidueError, UncheckedHrpstringError,
+};
+use crate::reader::AsciiToFe32Iter;
+use crate::version::version_in;
+use bech32_checksum::{Checksum, Engine};
+use bech32_gf::gf32::Fe32;
+use bech32_hrp::Hrp;
+
+/// A text in its parts: the human-readable part, and the data part with the checksum in it, which
+/// was not tested. It borrows the text.
+#[derive(Clone, Copy, Debug)]
+pub struct UncheckedHrpstring<'s> {
+    hrp: Hrp,
+    data_part_ascii: &'s [u8],
+    hrpstring_length: usize,
+    pub ghost of_alphabet: { is_data data_part_ascii.now ≡ true },
+}
+
+// Whether a lower-case letter stands in a text.
+fn has_lower(s: &str) -> bool
+    ensures { result ≡ list_any is_lower s.now }
+{
+    s.bytes().any(|b| 97 <= b && b <= 122)
+}
+
+// Whether an upper-case letter stands in a text.
+fn has_upper(s: &str) -> bool
+    ensures { result ≡ list_any is_upper s.now }
+{
+    s.bytes().any(|b| 65 <= b && b <= 90)
+}
+
+// Whether a character may stand in a data part.
+fn is_data_character(c: char) -> bool
+    ensures value { result ≡ is_of_alphabet c }
+    ensures scalar { IsScalar c }
+{
+    Fe32::from_char(c).is_ok()
+}
+
+// What stands before the last `1`, where all behind it is of the alphabet.
+fn before_separator(s: &str) -> Result<Option<&str>, CharError>
+    ensures { MatchResult result
+        (λ o. (invalid_character s.now ≡ None) × MatchOption o (split_at_last s.now ≡ None)
+        (λ front. (behind : List ℕ) × (s.now ≡ front.now ++ 49 ∷ behind) × (is_data behind ≡ true) × (split_at_last s.now ≡ Some (front.now, behind))))
+        (λ e. invalid_character s.now ≡ Some e) }
+{
+    let mut front = s.chars();
+    'behind: while let Some(c) = front.next_back() {
+        if c == '1' {
+            return Ok(Some(front.as_str()));
+        }
+        if !is_data_character(c) {
+            return Err(CharError::InvalidChar(c));
+        }
+    }
+    Ok(None)
+}
+
+// The remainder of a text's polynomial, packed.
+fn residue_of<Ck: Checksum>(hrp: Hrp, data_part: &[u8]) -> Ck::MidstateRepr
+    requires { is_data data_part.now ≡ true }
+    ensures residue { IsResidueOf Ck.MidstateRepr.number Ck.code result (text_polynomial (hrp_bytes hrp) (elements_of data_part.now)) }
+    ensures clear { Ck.MidstateRepr.number result < 2 ^ (5 * Ck.CHECKSUM_LENGTH) }
+{
+    let mut engine = Engine::<Ck>::new();
+    engine.input_hrp(hrp);
+    for fe in AsciiToFe32Iter::new(data_part) {
+        engine.input_fe(fe);
+    }
+    *engine.residue()
+}
+
+impl<'s> UncheckedHrpstring<'s> {
+    ghost use Rattle.bech32_decode.specs.Checked.{IsWithoutChecksum};
+
+    // A text in its parts, or its first fault.
+    fn read(s: &'s str) -> Result<Self, UncheckedHrpstringError>
+        ensures { MatchResult result
+            (λ u. (text_refusal s.now ≡ None) × (s.now ≡ hrp_bytes u.hrp ++ 49 ∷ u.data_part_ascii.now) × (u.hrpstring_length ≡ length s.now))
+            (λ e. text_refusal s.now ≡ Some e) }
+    {
+        let before = before_separator(s)?;
+        if has_lower(s) && has_upper(s) {
+            return Err(UncheckedHrpstringError::Char(CharError::MixedCase));
+        }
+        let Some(front) = before else {
+            return Err(UncheckedHrpstringError::Char(CharError::MissingSeparator));
+        };
+        let hrp = Hrp::parse(front)?;
+        Ok(UncheckedHrpstring {
+            hrp,
+            data_part_ascii: &s.as_bytes()[front.len() + 1..],
+            hrpstring_length: s.len(),
+        })
+    }
+
+    /// Reads a text, and does not test its checksum.
+    ///
+    /// # Errors
+    ///
+    /// The first fault of the text: a character that is not of the alphabet, letters of both cases,
+    /// no separator, a human-readable part that is none.
+    pub fn new(s: &'s str) -> Result<Self, UncheckedHrpstringError>
+        ensures parts { IfOk result (λ u. IsText s.now (hrp_bytes u.hrp) u.data_part_ascii.now × (u.hrpstring_length ≡ length s.now)) }
+        ensures only { IfOk result (λ u. (h : List ℕ) → (d : List ℕ) → IsText s.now h d → (h ≡ hrp_bytes u.hrp) × (d ≡ u.data_part_ascii.now)) }
+        ensures refused { MatchResult result (λ u. text_refusal s.now ≡ None) (λ e. text_refusal s.now ≡ Some e) }
+        ensures accepts { IsOk result ↔ IsInGrammar s.now }
+    {
+        Self::read(s)
+    }
+
+    /// The human-readable part, in the case of the text.
+    #[inline]
+    pub fn hrp(&self) -> Hrp
+        ensures { result ≡ self.now.hrp }
+    {
+        self.hrp
+    }
+
+    /// The characters of the data part: all of the alphabet, in the case of the text, with those of
+    /// the checksum.
+    #[inline]
+    pub fn data_part_ascii(&self) -> &'s [u8]
+        ensures value { result.now ≡ self.now.data_part_ascii.now }
+        ensures of_alphabet { is_data result.now ≡ true }
+    {
+        self.data_part_ascii
+    }
+
+    /// The witness version: the first element of the data part, where it is at most 16 (BIP-173,
+    /// Segwit address format).
+    #[inline]
+    pub fn witness_version(&self) -> Option<Fe32>
+        ensures { result ≡ version_of (elements_of self.now.data_part_ascii.now) }
+    {
+        version_in(self.data_part_ascii)
+    }
+
+    /// Takes the witness version off the data part, where there is one.
+    ///
+    /// The length that is tested against a code length stays that of the whole text.
+    pub fn remove_witness_version(&mut self) -> Option<Fe32>
+        ensures version { result ≡ version_of (elements_of self.old.data_part_ascii.now) }
+        ensures rest { MatchOption result (self.new.data_part_ascii.now ≡ self.old.data_part_ascii.now) (λ _. self.new.data_part_ascii.now ≡ drop 1 self.old.data_part_ascii.now) }
+        ensures others { (self.new.hrp ≡ self.old.hrp) × (self.new.hrpstring_length ≡ self.old.hrpstring_length) }
+    {
+        let version = self.witness_version()?;
+        self.data_part_ascii = &self.data_part_ascii[1..];
+        Some(version)
+    }
+
+    /// Tests the checksum of the data part. A checksum of degree 0 asks nothing of it.
+    ///
+    /// # Errors
+    ///
+    /// The first of: the text is longer than the code; the data part is shorter than the checksum;
+    /// the polynomial of the text does not leave the target as remainder.
+    pub fn validate_checksum<Ck: Checksum>(&self) -> Result<(), ChecksumError>
+        ensures { MatchResult result
+            (λ _. HasValidChecksum Ck.code self.now.hrpstring_length (hrp_bytes self.now.hrp) self.now.data_part_ascii.now)
+            (λ e. IsChecksumRefusal Ck.code self.now.hrpstring_length (hrp_bytes self.now.hrp) self.now.data_part_ascii.now e) }
+    {
+        if self.hrpstring_length > Ck::CODE_LENGTH {
+            return Err(ChecksumError::CodeLength(CodeLengthError {
+                encoded_length: self.hrpstring_length,
+                code_length: Ck::CODE_LENGTH,
+            }));
+        }
+        if Ck::CHECKSUM_LENGTH == 0 {
+            return Ok(());
+        }
+        if self.data_part_ascii.len() < Ck::CHECKSUM_LENGTH {
+            return Err(ChecksumError::InvalidLength);
+        }
+        let residue = residue_of::<Ck>(self.hrp, self.data_part_ascii);
+        if residue != Ck::TARGET_RESIDUE {
+            return Err(ChecksumError::InvalidResidue(InvalidResidueError::new(
+                &residue,
+                &Ck::TARGET_RESIDUE,
+            )));
+        }
+        Ok(())
+    }
+
+    /// Whether the checksum of the data part is right: [`Self::validate_checksum`] is `Ok`.
+    pub fn has_valid_checksum<Ck: Checksum>(&self) -> bool
+        ensures { IsTrue result ↔ HasValidChecksum Ck.code self.now.hrpstring_length (hrp_bytes self.now.hrp) self.now.data_part_ascii.now }
+    {
+        self.validate_checksum::<Ck>().is_ok()
+    }
+
+    /// Tests the checksum, and takes it off the data part.
+    ///
+    /// # Errors
+    ///
+    /// Those of [`Self::validate_checksum`].
+    pub fn validate_and_remove_checksum<Ck: Checksum>(
+        self,
+    ) -> Result<CheckedHrpstring<'s>, ChecksumError>
+        ensures { MatchResult result
+            (λ c. HasValidChecksum Ck.code self.entry.hrpstring_length (hrp_bytes self.entry.hrp) self.entry.data_part_ascii.now
+            × IsWithoutChecksum Ck.code self.entry c)
+            (λ e. IsChecksumRefusal Ck.code self.entry.hrpstring_length (hrp_bytes self.entry.hrp) self.entry.data_part_ascii.now e) }
+    {
+        self.validate_checksum::<Ck>()?;
+        Ok(self.remove_checksum::<Ck>())
+    }
+
+    /// Takes the checksum off the data part, and does not test it.
+    ///
+    /// The data part must have as many characters as the checksum at least.
+    pub fn remove_checksum<Ck: Checksum>(self) -> CheckedHrpstring<'s>
+        requires { length Ck.code.generator ≤ length self.data_part_ascii.now }
+        ensures { IsWithoutChecksum Ck.code self.entry result }
+    {
+        let end = self.data_part_ascii.len() - Ck::CHECKSUM_LENGTH;
+        CheckedHrpstring::of_parts(
+            self.hrp,
+            &self.data_part_ascii[..end],
+            self.hrpstring_length,
+        )
+    }
+}

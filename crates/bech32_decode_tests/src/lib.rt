@@ -1,0 +1,9 @@
+//! Tests of `bech32_decode`.
+#![tactic(auto)]
+
+#[cfg(test)]
+mod addresses;
+#[cfg(test)]
+mod readers;
+#[cfg(test)]
+mod rules;

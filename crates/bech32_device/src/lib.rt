@@ -1,0 +1,235 @@
+//! Readers and writers with a mark that says whether a call failed.
+#![tactic(auto)]
+
+ghost use Rattle.std.specs.Prelude.{◌≡◌, ℕ, ◌-◌, ◌^◌, ◌≤◌, ◌<◌, List, Bool, true, false, ◌||◌, is_err, length, take, Option, OnOk, OnErr, IfOk};
+ghost use Rattle.std.specs.Io.{ReadsAtMost, WritesAtMost};
+ghost use Rattle.std.specs.Io.KnownBytes.{Keeps, Appends, ReadConsumes, WriteAppends};
+ghost use Rattle.bech32_device.specs.Marks.{write_fails};
+
+use std::io;
+
+/// What bytes are read from, with a mark that says whether a call failed.
+///
+/// A call fails where it answers an error. A call that fails sets the mark, and no other call
+/// changes it: once set, it stays set.
+pub trait ByteSource {
+    // The bytes that reads will give from here on, where they are known.
+    ghost remaining: { Self → Option (List ℕ) };
+
+    // The mark: a call has failed.
+    ghost has_failed: { Self → Bool };
+
+    // Two states of one device. Without this nothing is known afterwards of a reader that the
+    // source borrows.
+    ghost is_same: { Self → Self → Type 0 };
+
+    // No more reads than this succeed, so that a loop over reads ends.
+    ghost reads_left: { Self → ℕ };
+
+    /// Reads into the front of `buf`, and answers how many bytes were read.
+    ///
+    /// `Ok(0)` says that the source is at its end, or that `buf` is empty.
+    ///
+    /// # Errors
+    ///
+    /// Where reading failed. No byte was read, and the mark is set.
+    fn read(&mut self, buf: &mut [u8]) -> io::Result<usize>
+        ensures bound { ReadsAtMost result buf.new }
+        ensures bytes { ReadConsumes (remaining self.old) (remaining self.new) result buf.new }
+        ensures mark { has_failed self.new ≡ (has_failed self.old || is_err result) }
+        ensures ends { OnOk result (reads_left self.new < reads_left self.old) }
+        ensures same { is_same self.old self.new };
+
+    /// Whether the mark is set.
+    fn failed(&self) -> bool
+        ensures { result ≡ has_failed self.now };
+
+    ghost reflexive: { (s : Self) → is_same s s };
+
+    ghost transitive: { (s t u : Self) → is_same s t → is_same t u → is_same s u };
+}
+
+/// What bytes are written to, with a mark that says whether a call failed.
+///
+/// A call fails where it answers an error; a `write` also where it answers `Ok(0)` for a slice
+/// that is not empty. A call that fails sets the mark, and no other call changes it: once set, it
+/// stays set.
+pub trait ByteSink {
+    // The bytes that went out, where they are known.
+    ghost contents: { Self → Option (List ℕ) };
+
+    // The mark: a call has failed.
+    ghost has_failed: { Self → Bool };
+
+    // Two states of one device. Without this nothing is known afterwards of a writer that the
+    // sink borrows.
+    ghost is_same: { Self → Self → Type 0 };
+
+    // The last flush succeeded, and no byte was taken since.
+    ghost is_flushed: { Self → Bool };
+
+    /// Writes the front of `buf`, and answers how many bytes were taken.
+    ///
+    /// `Ok(0)` for a `buf` that is not empty is a failure too, and sets the mark.
+    ///
+    /// # Errors
+    ///
+    /// Where writing failed. No byte was taken, and the mark is set.
+    fn write(&mut self, buf: &[u8]) -> io::Result<usize>
+        ensures bound { WritesAtMost result buf.now }
+        ensures bytes { WriteAppends (contents self.old) (contents self.new) result buf.now }
+        ensures mark { has_failed self.new
+            ≡ (has_failed self.old || write_fails result (length buf.now)) }
+        ensures unflushed { IfOk result (λ n. 0 < n → is_flushed self.new ≡ false) }
+        ensures same { is_same self.old self.new };
+
+    /// Hands on what was written.
+    ///
+    /// # Errors
+    ///
+    /// Where that failed. The mark is set.
+    fn flush(&mut self) -> io::Result<()>
+        ensures done { OnOk result (is_flushed self.new ≡ true) }
+        ensures bytes { Keeps (contents self.old) (contents self.new) }
+        ensures mark { has_failed self.new ≡ (has_failed self.old || is_err result) }
+        ensures same { is_same self.old self.new };
+
+    /// Whether the mark is set.
+    fn failed(&self) -> bool
+        ensures { result ≡ has_failed self.now };
+
+    ghost reflexive: { (s : Self) → is_same s s };
+
+    ghost transitive: { (s t u : Self) → is_same s t → is_same t u → is_same s u };
+}
+
+/// A reader or a writer with a mark that says whether a call failed.
+///
+/// The mark is unset at first, and set from the first failing call on. Over an [`io::Read`] this is
+/// a [`ByteSource`], and over an [`io::Write`] a [`ByteSink`].
+///
+/// Each read, write and flush asks the device once, but for one limit: after 2^64 - 1 reads, every
+/// further one fails with [`io::ErrorKind::Other`] and does not ask. So a loop over reads ends,
+/// even where the reader never does.
+#[derive(Drop)]
+pub struct Watched<'a, D> {
+    device: &'a mut D,
+    marked: bool,
+    flushed: bool,
+    reads_left: u64,
+}
+
+impl<'a, D> Watched<'a, D> {
+    /// Watches a device from now on: the mark is unset, whatever the device did before.
+    pub fn new(device: &'a mut D) -> Watched<'a, D>
+        ensures device { result.device.now ≡ device.old }
+        ensures unmarked { result.marked ≡ false }
+        ensures unflushed { result.flushed ≡ false }
+        ensures reads { result.reads_left ≡ 2 ^ 64 - 1 }
+        ensures same { result.device.ghost_name ≡ device.entry.ghost_name }
+    {
+        Watched {
+            device,
+            marked: false,
+            flushed: false,
+            reads_left: u64::MAX,
+        }
+    }
+}
+
+impl<'a, D: io::Read> ByteSource for Watched<'a, D> {
+    ghost use Rattle.std.specs.Prelude.{refl};
+    ghost use Rattle.std.proofs.Common.{◌∙◌};
+
+    ghost remaining = { λ w. D.remaining w.device.now };
+
+    ghost has_failed = { λ w. w.marked };
+
+    ghost is_same = { λ s t. s.device.ghost_name ≡ t.device.ghost_name };
+
+    ghost reads_left = { λ w. w.reads_left };
+
+    ghost reflexive = { λ s. refl };
+
+    ghost transitive = { λ s t u p q. p ∙ q };
+
+    fn read(&mut self, buf: &mut [u8]) -> io::Result<usize> {
+        if self.reads_left == 0 {
+            self.marked = true;
+            return Err(io::Error::from(io::ErrorKind::Other));
+        }
+        self.reads_left -= 1;
+        let outcome = self.device.read(buf);
+        self.marked |= outcome.is_err();
+        outcome
+    }
+
+    fn failed(&self) -> bool {
+        self.marked // set by a read
+    }
+}
+
+impl<'a, D: io::Write> ByteSink for Watched<'a, D> {
+    ghost use Rattle.std.specs.Prelude.{refl};
+    ghost use Rattle.std.proofs.Common.{◌∙◌};
+
+    ghost contents = { λ w. D.contents w.device.now };
+
+    ghost has_failed = { λ w. w.marked };
+
+    ghost is_same = { λ s t. s.device.ghost_name ≡ t.device.ghost_name };
+
+    ghost is_flushed = { λ w. w.flushed };
+
+    ghost reflexive = { λ s. refl };
+
+    ghost transitive = { λ s t u p q. p ∙ q };
+
+    fn write(&mut self, buf: &[u8]) -> io::Result<usize> {
+        self.flushed = false;
+        let outcome = self.device.write(buf);
+        self.marked |= match outcome {
+            Ok(n) => n == 0 && !buf.is_empty(),
+            Err(_) => true,
+        };
+        outcome
+    }
+
+    fn flush(&mut self) -> io::Result<()> {
+        let outcome = self.device.flush();
+        self.marked |= outcome.is_err();
+        self.flushed = outcome.is_ok();
+        outcome
+    }
+
+    fn failed(&self) -> bool {
+        self.marked // set by a write or a flush
+    }
+}
+
+/// Writes all of `bytes`, in as many writes as that takes.
+///
+/// # Errors
+///
+/// Where a write failed, and only there. The sink took a front of `bytes`, and its mark is set.
+/// The error is the sink's own, or [`io::ErrorKind::WriteZero`] where a write took nothing. No
+/// write is tried again, not even after [`io::ErrorKind::Interrupted`].
+pub fn write_all<K: ByteSink>(sink: &mut K, bytes: &[u8]) -> io::Result<()>
+    requires { K.has_failed sink.old ≡ false }
+    ensures ok { OnOk result (Appends (K.contents sink.old) (K.contents sink.new) bytes.now) }
+    ensures ok_mark { OnOk result (K.has_failed sink.new ≡ false) }
+    ensures err_mark { OnErr result (K.has_failed sink.new ≡ true) }
+    ensures beginning { OnErr result ((n : ℕ) × (n ≤ length bytes.now)
+        × Appends (K.contents sink.old) (K.contents sink.new) (take n bytes.now)) }
+    ensures same { K.is_same sink.old sink.new }
+{
+    let mut at = 0;
+    while at < bytes.len() {
+        let n = sink.write(&bytes[at..])?;
+        if n == 0 {
+            return Err(io::Error::from(io::ErrorKind::WriteZero));
+        }
+        at += n;
+    }
+    Ok(())
+}

@@ -1,0 +1,5 @@
+//! Tests of `bech32_device`.
+#![tactic(auto)]
+
+#[cfg(test)]
+mod device;

@@ -1,0 +1,23 @@
+use Rattle.std.proofs.Common.{List, subst}
+use Rattle.bech32_gf.specs.declared.gf32.Fe32.{Fe32 as Element}
+use Rattle.bech32_checksum.specs.Encoded.{IsEncodedElements}
+use Rattle.bech32_hrp.specs.HrpBytes.{hrp_bytes}
+use Rattle.bech32_encode.proofs.Encoder.fes.Goals as goal
+
+pub returns-clause-walk : goal.returns-clause-walk
+returns-clause-walk g c fes d =
+    let (all, taken, holds) = c.new-2.ensures.walk fes d in
+    let (xs, taken_inside, gave) = c.new.ensures.walk all taken in
+    (xs, taken_inside, subst (λ (l : List Element). IsEncodedElements g.Ck.Checksum.code (hrp_bytes c.args.self.hrp.now) l fes) gave holds)
+
+pub returns-clause-runs : goal.returns-clause-runs
+returns-clause-runs g c p seen at =
+    let (q, start, (ends, holds)) = c.new-2.ensures.runs p seen at in
+    let (r, start_inside, (ends_inside, gave)) = c.new.ensures.runs q q.seen start in (
+      r,
+      start_inside,
+      (
+        λ whole. ends_inside (ends whole),
+        λ whole. subst (λ (l : List Element). IsEncodedElements g.Ck.Checksum.code (hrp_bytes c.args.self.hrp.now) l p.items) (gave (ends whole)) (holds whole),
+      ),
+    )

@@ -1,0 +1,5 @@
+pub mod ChecksumEnds
+pub mod EncodedTexts
+pub mod Encoding
+pub mod FrontedWalks
+pub mod TextPieces

@@ -1,0 +1,16 @@
+use Rattle.std.proofs.Common.{List, map}
+use Rattle.bech32_gf.specs.declared.gf32.Fe32.{Fe32 as Element}
+use Rattle.bech32_poly.specs.Polynomial.{appended}
+use Rattle.bech32_encode.specs.Buffers.{PutsBehind}
+use Rattle.bech32_checksum.specs.Code.{IsResidueOf}
+use Rattle.bech32_checksum.specs.Encoded.{char_of_element}
+use Rattle.bech32_encode.proofs.buffer.put_elements.Given as goal
+
+abbrev pub invariant-loop-fe : goal.invariant-loop-fe
+invariant-loop-fe g l =
+    let number = g.Ck.MidstateRepr.PackedFe32.number in
+    let code = g.Ck.Checksum.code in
+    record {
+      text : PutsBehind (map char_of_element l.yielded) l.initial.buffer l.initial.count l.buffer l.count;
+      residue : (p : List Element) → IsResidueOf number code l.initial.engine.residue p → IsResidueOf number code l.engine.residue (appended p l.yielded);
+    }

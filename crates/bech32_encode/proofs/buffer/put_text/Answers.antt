@@ -1,0 +1,31 @@
+use Rattle.std.proofs.Common.{◌++◌, [], ◌∷◌, map, reverse, option_to_list, refl}
+use Rattle.bech32_gf.specs.Fe32 as fe32
+use Rattle.bech32_checksum.specs.Encoded.{char_of_element}
+use Rattle.bech32_encode.specs.TextFrom.{text_front}
+use Rattle.bech32_hrp.specs.HrpBytes.{hrp_bytes}
+use Rattle.bech32_checksum.specs.Packed.{digits}
+use Rattle.bech32_encode.proofs.TextPieces.{puts_then, put_as_fits, encoded_pieces}
+use Rattle.bech32_encode.proofs.buffer.put_text.Goals as goal
+
+pub returns : goal.returns
+returns g c =
+    let number = g.Ck.MidstateRepr.PackedFe32.number in
+    let code = g.Ck.Checksum.code in
+    let hrp = hrp_bytes c.args.hrp.now in
+    let version = option_to_list c.args.version in
+    let (fes, walk, put, held) = c.put_elements-end.ensures in
+    let first = text_front hrp ++ map char_of_element version in
+    let second = first ++ map char_of_element fes in
+    let text = second ++ map char_of_element (reverse (digits c.CHECKSUM_LENGTH.result (number c.residue.result.now))) in (
+      fes,
+      text,
+      walk,
+      encoded_pieces number code g.Ck.Checksum.CODE_LENGTH g.Ck.Checksum.CHECKSUM_LENGTH g.Ck.Checksum.GENERATOR_SH g.Ck.Checksum.TARGET_RESIDUE g.met.Ck.Checksum.code_law
+          hrp version fes c.input_target_residue.new.self.residue c.residue.result.now c.CHECKSUM_LENGTH.result c.residue.ensures c.CHECKSUM_LENGTH.ensures
+          (c.input_target_residue.ensures _ (held _ (c.put_version-start.ensures.residue _ (c.input_hrp.ensures (fe32.one ∷ []) c.new-engine.ensures)))),
+      put_as_fits text c.args.buffer.now c.put_row.new.buffer c.put_row.result
+          (puts_then second _ text _ _ _ _ _ _ refl
+          (puts_then first _ second _ _ _ _ _ _ refl
+          (puts_then (text_front hrp) _ first _ _ _ _ _ _ refl c.put_front-front.ensures c.put_version-start.ensures.text) put)
+          c.put_row.ensures),
+    )

@@ -1,0 +1,4 @@
+pub mod Buffers
+pub mod ChecksumElements
+pub mod TextFrom
+pub mod TextLength

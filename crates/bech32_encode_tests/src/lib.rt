@@ -1,0 +1,5 @@
+//! Tests of `bech32_encode`.
+#![tactic(auto)]
+
+#[cfg(test)]
+mod encode;

@@ -1,0 +1,61 @@
+-- The bytes of a human-readable part, in their row of 83.
+use Rattle.std.proofs.Common.{◌≡◌, ℕ, ◌+◌, ◌-◌, ◌≤◌, true, List, [], ◌∷◌, ◌++◌, length, take, drop, replicate, refl, sym, ap, ◌∙◌, arith, length-take}
+use Rattle.std.proofs.lemmas.Bool.{and_parts, and_from, ltb-true, lt-ltb}
+use Rattle.std.proofs.lemmas.List.{drop-replicate, drop_at, take_at, length-replicate, length-append, length-take-le, length-map}
+use Rattle.std.proofs.lemmas.Str.Ascii.{IsAscii-nil, IsAscii-cons, lowercase_ascii}
+use Rattle.std.specs.Char.{is_ascii, to_ascii_lowercase}
+use Rattle.std.specs.List.{list_all}
+use Rattle.std.specs.Str.{IsAscii}
+use Rattle.bech32_hrp.specs.declared.Hrp.{Hrp}
+use Rattle.bech32_hrp.specs.Hrp.{padded, lowered}
+use Rattle.bech32_hrp.specs.HrpBytes.{hrp_bytes, lowered_bytes}
+
+-- written over the front of 83 zeros
+pub padded-from_front : (bytes front : List ℕ) → front ≡ bytes → front ++ drop (length bytes) (replicate 83 0) ≡ padded bytes
+padded-from_front bytes front e = ap (λ (x : List ℕ). x ++ drop (length bytes) (replicate 83 0)) e ∙ ap (λ (x : List ℕ). bytes ++ x) (drop-replicate (length bytes) 83 0)
+
+pub length-padded : (bytes : List ℕ) → length bytes ≤ 83 → length (padded bytes) ≡ 83
+length-padded bytes l = length-append bytes (replicate (83 - length bytes) 0) ∙ ap (λ n. length bytes + n) (length-replicate (83 - length bytes) 0) ∙ omega arith
+
+pub length-buf : (h : Hrp) → length h.buf ≡ 83
+length-buf h = ap length h.zeros_behind ∙ length-padded (take h.size h.buf) (omega (arith, length-take {A = ℕ}, h.size_fits))
+
+pub length-hrp_bytes : (h : Hrp) → length (hrp_bytes h) ≡ h.size
+length-hrp_bytes h = length-take-le h.size h.buf (omega (arith, length-buf h, h.size_fits))
+
+-- the zeros
+pub drop-buf : (h : Hrp) → drop h.size h.buf ≡ replicate (83 - h.size) 0
+drop-buf h =
+    ap (drop h.size) h.zeros_behind
+    ∙ drop_at (hrp_bytes h) (replicate (83 - length (hrp_bytes h)) 0) h.size (length-hrp_bytes h)
+    ∙ ap (λ n. replicate (83 - n) 0) (length-hrp_bytes h)
+
+pub lowered-ascii : (bytes : List ℕ) → list_all is_ascii bytes ≡ true → list_all is_ascii (lowered bytes) ≡ true
+lowered-ascii [] h = refl
+lowered-ascii (b ∷ bs) h =
+    let parts = and_parts (is_ascii b) (list_all is_ascii bs) h in
+    and_from (is_ascii (to_ascii_lowercase b)) (list_all is_ascii (lowered bs))
+    (lt-ltb (to_ascii_lowercase b) 128 (lowercase_ascii b (ltb-true b 128 parts.0))) (lowered-ascii bs parts.1)
+
+pub IsAscii-from_list_all : (bytes : List ℕ) → list_all is_ascii bytes ≡ true → IsAscii bytes
+IsAscii-from_list_all [] h = IsAscii-nil
+IsAscii-from_list_all (b ∷ bs) h =
+    let parts = and_parts (is_ascii b) (list_all is_ascii bs) h in
+    IsAscii-cons b bs (ltb-true b 128 parts.0) (IsAscii-from_list_all bs parts.1)
+
+length-lowered : (bytes : List ℕ) → length (lowered bytes) ≡ length bytes
+length-lowered bytes = simp length-map
+
+-- the part in lower case, written over the bytes
+pub take-lower : (h : Hrp) (front : List ℕ) → front ≡ lowered_bytes h → take h.size (front ++ drop h.size h.buf) ≡ lowered_bytes h
+take-lower h front e =
+    take_at front (drop h.size h.buf) h.size (ap length e ∙ length-lowered (hrp_bytes h) ∙ length-hrp_bytes h) ∙ e
+
+pub padded-lower : (h : Hrp) (front : List ℕ) → front ≡ lowered_bytes h → front ++ drop h.size h.buf ≡ padded (take h.size (front ++ drop h.size h.buf))
+padded-lower h front e =
+    ap (λ (x : List ℕ). x ++ drop h.size h.buf) e
+    ∙ ap (λ (x : List ℕ). lowered_bytes h ++ x) (drop-buf h ∙ ap (λ n. replicate (83 - n) 0) (sym (length-lowered (hrp_bytes h) ∙ length-hrp_bytes h)))
+    ∙ sym (ap padded (take-lower h front e))
+
+pub ascii-lower : (h : Hrp) (front : List ℕ) → front ≡ lowered_bytes h → list_all is_ascii (take h.size (front ++ drop h.size h.buf)) ≡ true
+ascii-lower h front e = ap (list_all is_ascii) (take-lower h front e) ∙ lowered-ascii (hrp_bytes h) h.all_ascii

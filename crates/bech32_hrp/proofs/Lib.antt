@@ -1,0 +1,4 @@
+pub mod HrpParts
+pub mod HrpScan
+pub mod HrpTexts
+pub mod Lowered

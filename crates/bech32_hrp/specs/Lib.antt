@@ -1,0 +1,2 @@
+pub mod Hrp
+pub mod HrpBytes

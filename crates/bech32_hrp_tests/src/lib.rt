@@ -1,0 +1,5 @@
+//! Tests of `bech32_hrp`.
+#![tactic(auto)]
+
+#[cfg(test)]
+mod hrp;

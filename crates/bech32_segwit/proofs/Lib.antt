@@ -1,0 +1,2 @@
+pub mod SegwitDecoding
+pub mod SegwitEncoding

@@ -1,0 +1,21 @@
+use Rattle.std.proofs.Common.{◌∙◌, arith}
+use Rattle.std.proofs.lemmas.Result.{err_from_is_err_and}
+use Rattle.bech32_hrp.specs.HrpBytes.{hrp_bytes}
+use Rattle.bech32_segwit.proofs.SegwitEncoding.{address_exists, no_more_than_counted}
+use Rattle.bech32_segwit.proofs.validate.Goals as goal
+
+pub returns-in_err-encoded_length : goal.returns-in_err-encoded_length
+returns-in_err-encoded_length c =
+    let p = err_from_is_err_and c.from_residual-in_err-encoded_length.result c.from_residual-in_err-encoded_length.ensures.1 in
+    let over = c.in_err-encoded_length.ensures in
+    rw p.1 (rw p.2 (
+      c.in_ok-validate_witness_version.ensures,
+      c.in_ok-validate_witness_program_length.ensures,
+      over.0,
+      over.1 ∙ no_more_than_counted c.args.hrp c.args.program.now c.in_ok-validate_witness_program_length.ensures.not_long,
+    ))
+
+pub returns : goal.returns
+returns c =
+    let length = c.in_ok-encoded_length.ensures in
+    address_exists (hrp_bytes c.args.hrp) c.args.version c.args.program.now c.in_ok-validate_witness_version.ensures c.in_ok-validate_witness_program_length.ensures (omega arith)

@@ -1,0 +1,108 @@
+//! Why a segwit address is not read or not written.
+
+use bech32_decode::segwit::{InvalidWitnessVersionError, WitnessLengthError};
+use bech32_decode::{SegwitCodeLengthError, SegwitHrpstringError};
+use std::alloc::AllocError;
+use std::fmt;
+use thiserror::Error;
+
+/// Why a text is not decoded as a segwit address.
+#[derive(Clone, Copy, Debug, PartialEq, Eq, Drop, Error)]
+#[error("decoding segwit address failed: {0}")]
+pub struct DecodeError(pub SegwitHrpstringError);
+
+/// Why a segwit address is not written.
+#[derive(Clone, Copy, Debug, PartialEq, Eq, Drop, Error)]
+pub enum EncodeError {
+    /// The witness version is above 16.
+    #[error("witness version: {0}")]
+    WitnessVersion(InvalidWitnessVersionError),
+    /// The program is not of a lawful length.
+    #[error("witness length: {0}")]
+    WitnessLength(WitnessLengthError),
+    /// The address would have more than 90 characters.
+    #[error("encode error: {0}")]
+    TooLong(SegwitCodeLengthError),
+    /// The formatter failed (never given).
+    #[error("writing to formatter failed: {0}")]
+    Fmt(fmt::Error),
+    /// There is no memory for the address.
+    #[error("no memory")]
+    Memory,
+}
+
+impl From<SegwitHrpstringError> for DecodeError {
+    ghost use Rattle.std.specs.Prelude.{◌≡◌};
+
+    ghost from_gives = { λ e r. r.0 ≡ e };
+
+    fn from(e: SegwitHrpstringError) -> Self {
+        Self(e)
+    }
+}
+
+impl From<AllocError> for DecodeError {
+    ghost use Rattle.std.specs.Prelude.{◌≡◌};
+    ghost use Rattle.bech32_decode.specs.declared.error.SegwitHrpstringError.TheVariants.{Memory};
+
+    ghost from_gives = { λ e r. r.0 ≡ Memory };
+
+    fn from(_e: AllocError) -> Self {
+        Self(SegwitHrpstringError::Memory)
+    }
+}
+
+impl From<InvalidWitnessVersionError> for EncodeError {
+    ghost use Rattle.std.specs.Prelude.{◌≡◌};
+    ghost use Rattle.bech32_segwit.specs.declared.error.EncodeError.TheVariants.{WitnessVersion};
+
+    ghost from_gives = { λ e r. r ≡ WitnessVersion e };
+
+    fn from(e: InvalidWitnessVersionError) -> Self {
+        Self::WitnessVersion(e)
+    }
+}
+
+impl From<WitnessLengthError> for EncodeError {
+    ghost use Rattle.std.specs.Prelude.{◌≡◌};
+    ghost use Rattle.bech32_segwit.specs.declared.error.EncodeError.TheVariants.{WitnessLength};
+
+    ghost from_gives = { λ e r. r ≡ WitnessLength e };
+
+    fn from(e: WitnessLengthError) -> Self {
+        Self::WitnessLength(e)
+    }
+}
+
+impl From<SegwitCodeLengthError> for EncodeError {
+    ghost use Rattle.std.specs.Prelude.{◌≡◌};
+    ghost use Rattle.bech32_segwit.specs.declared.error.EncodeError.TheVariants.{TooLong};
+
+    ghost from_gives = { λ e r. r ≡ TooLong e };
+
+    fn from(e: SegwitCodeLengthError) -> Self {
+        Self::TooLong(e)
+    }
+}
+
+impl From<fmt::Error> for EncodeError {
+    ghost use Rattle.std.specs.Prelude.{◌≡◌};
+    ghost use Rattle.bech32_segwit.specs.declared.error.EncodeError.TheVariants.{Fmt};
+
+    ghost from_gives = { λ e r. r ≡ Fmt e };
+
+    fn from(e: fmt::Error) -> Self {
+        Self::Fmt(e)
+    }
+}
+
+impl From<AllocError> for EncodeError {
+    ghost use Rattle.std.specs.Prelude.{◌≡◌};
+    ghost use Rattle.bech32_segwit.specs.declared.error.EncodeError.TheVariants.{Memory};
+
+    ghost from_gives = { λ e r. r ≡ Memory };
+
+    fn from(_e: AllocError) -> Self {
+        Self::Memory
+    }
+}

@@ -1,0 +1,240 @@
+//! Encoding and decoding of segwit addresses (BIP-173, Segwit address format; BIP-350).
+#![tactic(auto)]
+
+ghost use Rattle.std.specs.Prelude.{◌≡◌, ◌<◌, ◌≤◌, ◌⊎◌, ◌-◌, ◌^◌, ℕ, List, ◌∷◌, min, length, MatchResult, IfOk, IfErr, IsOkUnless, string_bytes};
+ghost use Rattle.bech32_gf.specs.Fe32.{zero, one, elements_of};
+ghost use Rattle.bech32_bits.specs.Bits.{to_bytes, to_fes};
+ghost use Rattle.bech32_hrp.specs.Hrp.{IsHrp, lowered};
+ghost use Rattle.bech32_hrp.specs.HrpBytes.{hrp_bytes, lowered_bytes};
+ghost use Rattle.bech32_checksum.specs.Encoded.{IsEncodedText};
+ghost use Rattle.bech32_decode.specs.Segwit.{segwit_code, IsLowerAddress, IsAddress, IsAddressText, IsSegwitRefusal};
+ghost use Rattle.bech32_segwit.specs.SegwitEncoding.{HasAddress, address_length, IsSegwitEncodeRefusal};
+
+mod error;
+
+use bech32_checksum::{Bech32, Bech32m};
+use bech32_decode::segwit::{
+    MAX_STRING_LENGTH, validate_witness_program_length, validate_witness_version,
+};
+pub use bech32_decode::segwit::{VERSION_0, VERSION_1};
+use bech32_decode::{SegwitCodeLengthError, SegwitHrpstring, SegwitHrpstringError};
+use bech32_encode::{text_in, text_length};
+use bech32_gf::gf32::Fe32;
+use bech32_hrp::Hrp;
+pub use error::{DecodeError, EncodeError};
+use std::alloc::{AllocError, Allocator, Global};
+
+// The bytes of the program.
+fn program_in<A: Allocator>(
+    alloc: A,
+    address: &SegwitHrpstring<'_>,
+) -> Result<Vec<u8, A>, AllocError>
+    ensures { IfOk result (λ v. v.items ≡ to_bytes (elements_of address.now.ascii.now)) }
+{
+    address.byte_iter().collect(alloc)
+}
+
+// What a text is decoded to, or why it is not.
+fn decoded_in<A: Allocator>(alloc: A, s: &str) -> Result<(Hrp, Fe32, Vec<u8, A>), DecodeError>
+    ensures value { IfOk result (λ d. IsHrp (hrp_bytes d.0) × IsAddress (hrp_bytes d.0) d.1 d.2.items s.now) }
+    ensures refused { IfErr result (λ e. IsSegwitRefusal s.now e.0 ⊎ ((e.0 ≡ SegwitHrpstringError.Memory) × IsAddressText s.now)) }
+{
+    let address = SegwitHrpstring::new(s)?;
+    let program = program_in(alloc, &address)?;
+    Ok((address.hrp(), address.witness_version(), program))
+}
+
+/// Decodes a segwit address: its human-readable part, in the case of the text, its witness version
+/// and its program, with memory from `alloc`.
+///
+/// The address of these parts has one spelling in lower case, and one in upper case.
+///
+/// # Errors
+///
+/// Those of [`SegwitHrpstring::new`]; then [`SegwitHrpstringError::Memory`] where there is no memory
+/// for the program.
+pub fn decode_in<A: Allocator>(alloc: A, s: &str) -> Result<(Hrp, Fe32, Vec<u8, A>), DecodeError>
+    ensures value { IfOk result (λ d. IsHrp (hrp_bytes d.0) × IsAddress (hrp_bytes d.0) d.1 d.2.items s.now) }
+    ensures accepts { IsAddressText s.now → IfErr result (λ e. e.0 ≡ SegwitHrpstringError.Memory) }
+    ensures refused { IfErr result (λ e. IsSegwitRefusal s.now e.0 ⊎ ((e.0 ≡ SegwitHrpstringError.Memory) × IsAddressText s.now)) }
+    ensures spelling { IfOk result (λ d. (h : List ℕ) → (t : List ℕ) → lowered h ≡ lowered_bytes d.0 → IsAddress h d.1 d.2.items t → lowered t ≡ lowered s.now) }
+{
+    decoded_in(alloc, s)
+}
+
+/// Decodes as [`decode_in`] does, with memory of the global allocator.
+pub fn decode(alloc: Global, s: &str) -> Result<(Hrp, Fe32, Vec<u8>), DecodeError>
+    ensures value { IfOk result (λ d. IsHrp (hrp_bytes d.0) × IsAddress (hrp_bytes d.0) d.1 d.2.items s.now) }
+    ensures accepts { IsAddressText s.now → IfErr result (λ e. e.0 ≡ SegwitHrpstringError.Memory) }
+    ensures refused { IfErr result (λ e. IsSegwitRefusal s.now e.0 ⊎ ((e.0 ≡ SegwitHrpstringError.Memory) × IsAddressText s.now)) }
+    ensures spelling { IfOk result (λ d. (h : List ℕ) → (t : List ℕ) → lowered h ≡ lowered_bytes d.0 → IsAddress h d.1 d.2.items t → lowered t ≡ lowered s.now) }
+{
+    decode_in(alloc, s)
+}
+
+/// The number of characters of a segwit address. The witness version is one of them, whichever it is.
+///
+/// Nothing else is tested.
+///
+/// # Errors
+///
+/// The length, exactly where it is above 90 (`usize::MAX` where it is above that too).
+pub fn encoded_length(
+    hrp: Hrp,
+    _witness_version: Fe32,
+    witness_program: &[u8],
+) -> Result<usize, SegwitCodeLengthError>
+    ensures { MatchResult result
+        (λ n. (n ≡ address_length (hrp_bytes hrp) «witness_program».now) × (n ≤ 90))
+        (λ e. (90 < address_length (hrp_bytes hrp) «witness_program».now)
+        × (e.0 ≡ min (address_length (hrp_bytes hrp) «witness_program».now) (2 ^ 64 - 1))) }
+{
+    let length = text_length::<Bech32>(&hrp, witness_program.len()).saturating_add(1);
+    if length > MAX_STRING_LENGTH {
+        return Err(SegwitCodeLengthError(length));
+    }
+    Ok(length)
+}
+
+// Tests that there is an address.
+fn validate(hrp: Hrp, version: Fe32, program: &[u8]) -> Result<(), EncodeError>
+    ensures { MatchResult result
+        (λ _. HasAddress (hrp_bytes hrp) version «program».now)
+        (λ e. IsSegwitEncodeRefusal (hrp_bytes hrp) version «program».now e) }
+{
+    validate_witness_version(version)?;
+    validate_witness_program_length(program.len(), version)?;
+    encoded_length(hrp, version, program)?;
+    Ok(())
+}
+
+// The text of a version and a program by the checksum of the version.
+fn text_of_version_in<A: Allocator>(
+    alloc: A,
+    hrp: Hrp,
+    version: Fe32,
+    program: &[u8],
+) -> Result<String<A>, AllocError>
+    ensures { IfOk result (λ s. IsEncodedText (segwit_code version) (hrp_bytes hrp) (version ∷ to_fes «program».now) (string_bytes s)) }
+{
+    if version == VERSION_0 {
+        text_in::<Bech32, A>(alloc, hrp, Some(version), program)
+    } else {
+        text_in::<Bech32m, A>(alloc, hrp, Some(version), program)
+    }
+}
+
+// The address, or why there is none.
+fn encoded_in<A: Allocator>(
+    alloc: A,
+    hrp: Hrp,
+    version: Fe32,
+    program: &[u8],
+) -> Result<String<A>, EncodeError>
+    ensures text { IfOk result (λ s. IsLowerAddress (hrp_bytes hrp) version «program».now (string_bytes s)) }
+    ensures refused { IfErr result (λ e. IsSegwitEncodeRefusal (hrp_bytes hrp) version «program».now e) }
+{
+    validate(hrp, version, program)?;
+    let text = text_of_version_in(alloc, hrp, version, program)?;
+    Ok(text)
+}
+
+/// Encodes a segwit address, in lower case, with memory from `alloc`: of version 0 by Bech32, of
+/// another version by Bech32m (BIP-350).
+///
+/// Of what [`decode_in`] gives of a text it writes that text in lower case.
+///
+/// # Errors
+///
+/// The first of: a witness version above 16; a program of less than 2 bytes, of more than 40, or of
+/// neither 20 nor 32 in version 0; an address of more than 90 characters; no memory for it.
+pub fn encode_in<A: Allocator>(
+    alloc: A,
+    hrp: Hrp,
+    witness_version: Fe32,
+    witness_program: &[u8],
+) -> Result<String<A>, EncodeError>
+    ensures text { IfOk result (λ s. IsLowerAddress (hrp_bytes hrp) witness_version «witness_program».now (string_bytes s)) }
+    ensures exists { HasAddress (hrp_bytes hrp) witness_version «witness_program».now → IsOkUnless result EncodeError.Memory }
+    ensures refused { IfErr result (λ e. IsSegwitEncodeRefusal (hrp_bytes hrp) witness_version «witness_program».now e) }
+    ensures spelling { (h : List ℕ) → (t : List ℕ) → lowered h ≡ lowered_bytes hrp → IsAddress h witness_version «witness_program».now t
+        → IsOkUnless result EncodeError.Memory × IfOk result (λ s. string_bytes s ≡ lowered t) }
+{
+    encoded_in(alloc, hrp, witness_version, witness_program)
+}
+
+/// Encodes as [`encode_in`] does, with memory of the global allocator.
+pub fn encode(
+    alloc: Global,
+    hrp: Hrp,
+    witness_version: Fe32,
+    witness_program: &[u8],
+) -> Result<String, EncodeError>
+    ensures text { IfOk result (λ s. IsLowerAddress (hrp_bytes hrp) witness_version «witness_program».now (string_bytes s)) }
+    ensures exists { HasAddress (hrp_bytes hrp) witness_version «witness_program».now → IsOkUnless result EncodeError.Memory }
+    ensures refused { IfErr result (λ e. IsSegwitEncodeRefusal (hrp_bytes hrp) witness_version «witness_program».now e) }
+    ensures spelling { (h : List ℕ) → (t : List ℕ) → lowered h ≡ lowered_bytes hrp → IsAddress h witness_version «witness_program».now t
+        → IsOkUnless result EncodeError.Memory × IfOk result (λ s. string_bytes s ≡ lowered t) }
+{
+    encode_in(alloc, hrp, witness_version, witness_program)
+}
+
+/// Encodes an address of version 0, with memory from `alloc`.
+///
+/// # Errors
+///
+/// Those of [`encode_in`].
+pub fn encode_v0_in<A: Allocator>(
+    alloc: A,
+    hrp: Hrp,
+    witness_program: &[u8],
+) -> Result<String<A>, EncodeError>
+    ensures text { IfOk result (λ s. IsLowerAddress (hrp_bytes hrp) zero «witness_program».now (string_bytes s)) }
+    ensures exists { HasAddress (hrp_bytes hrp) zero «witness_program».now → IsOkUnless result EncodeError.Memory }
+    ensures refused { IfErr result (λ e. IsSegwitEncodeRefusal (hrp_bytes hrp) zero «witness_program».now e) }
+    ensures spelling { (h : List ℕ) → (t : List ℕ) → lowered h ≡ lowered_bytes hrp → IsAddress h zero «witness_program».now t
+        → IsOkUnless result EncodeError.Memory × IfOk result (λ s. string_bytes s ≡ lowered t) }
+{
+    encode_in(alloc, hrp, VERSION_0, witness_program)
+}
+
+/// Encodes as [`encode_v0_in`] does, with memory of the global allocator.
+pub fn encode_v0(alloc: Global, hrp: Hrp, witness_program: &[u8]) -> Result<String, EncodeError>
+    ensures text { IfOk result (λ s. IsLowerAddress (hrp_bytes hrp) zero «witness_program».now (string_bytes s)) }
+    ensures exists { HasAddress (hrp_bytes hrp) zero «witness_program».now → IsOkUnless result EncodeError.Memory }
+    ensures refused { IfErr result (λ e. IsSegwitEncodeRefusal (hrp_bytes hrp) zero «witness_program».now e) }
+    ensures spelling { (h : List ℕ) → (t : List ℕ) → lowered h ≡ lowered_bytes hrp → IsAddress h zero «witness_program».now t
+        → IsOkUnless result EncodeError.Memory × IfOk result (λ s. string_bytes s ≡ lowered t) }
+{
+    encode_v0_in(alloc, hrp, witness_program)
+}
+
+/// Encodes an address of version 1, with memory from `alloc`.
+///
+/// # Errors
+///
+/// Those of [`encode_in`].
+pub fn encode_v1_in<A: Allocator>(
+    alloc: A,
+    hrp: Hrp,
+    witness_program: &[u8],
+) -> Result<String<A>, EncodeError>
+    ensures text { IfOk result (λ s. IsLowerAddress (hrp_bytes hrp) one «witness_program».now (string_bytes s)) }
+    ensures exists { HasAddress (hrp_bytes hrp) one «witness_program».now → IsOkUnless result EncodeError.Memory }
+    ensures refused { IfErr result (λ e. IsSegwitEncodeRefusal (hrp_bytes hrp) one «witness_program».now e) }
+    ensures spelling { (h : List ℕ) → (t : List ℕ) → lowered h ≡ lowered_bytes hrp → IsAddress h one «witness_program».now t
+        → IsOkUnless result EncodeError.Memory × IfOk result (λ s. string_bytes s ≡ lowered t) }
+{
+    encode_in(alloc, hrp, VERSION_1, witness_program)
+}
+
+/// Encodes as [`encode_v1_in`] does, with memory of the global allocator.
+pub fn encode_v1(alloc: Global, hrp: Hrp, witness_program: &[u8]) -> Result<String, EncodeError>
+    ensures text { IfOk result (λ s. IsLowerAddress (hrp_bytes hrp) one «witness_program».now (string_bytes s)) }
+    ensures exists { HasAddress (hrp_bytes hrp) one «witness_program».now → IsOkUnless result EncodeError.Memory }
+    ensures refused { IfErr result (λ e. IsSegwitEncodeRefusal (hrp_bytes hrp) one «witness_program».now e) }
+    ensures spelling { (h : List ℕ) → (t : List ℕ) → lowered h ≡ lowered_bytes hrp → IsAddress h one «witness_program».now t
+        → IsOkUnless result EncodeError.Memory × IfOk result (λ s. string_bytes s ≡ lowered t) }
+{
+    encode_v1_in(alloc, hrp, witness_program)
+}

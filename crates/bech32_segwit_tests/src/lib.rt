@@ -1,0 +1,5 @@
+//! Tests of `bech32_segwit`.
+#![tactic(auto)]
+
+#[cfg(test)]
+mod segwit;

@@ -1,0 +1,6 @@
+//! What tests share: comparisons, iterators, and a field of their own.
+#![tactic(auto)]
+
+pub mod compare;
+pub mod iterators;
+pub mod seven;

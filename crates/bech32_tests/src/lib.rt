@@ -1,0 +1,5 @@
+//! Tests of `bech32`.
+#![tactic(auto)]
+
+#[cfg(test)]
+mod root;
