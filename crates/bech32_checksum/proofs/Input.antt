@@ -3,12 +3,13 @@ use Rattle.std.proofs.Common.{◌≡◌, ◌<◌, ◌≤◌, ◌+◌, ◌-◌, �
 use Rattle.std.proofs.Math.Pow.{pow-lt}
 use Rattle.bech32_gf.specs.declared.gf32.Fe32.{Fe32}
 use Rattle.bech32_gf.specs.Fe32 as fe32
-use Rattle.bech32_gf.specs.Fe32Laws.{is_field}
+use Rattle.bech32_gf.specs.laws.Fe32Laws.{is_field}
 use Rattle.bech32_gf.specs.Field.{Ops}
 use Rattle.bech32_poly.specs.Polynomial.{add, scale}
 use Rattle.bech32_poly.specs.Remainder.{IsRemainder}
 use Rattle.bech32_poly.proofs.Lists.{same_cons}
-use Rattle.bech32_poly.proofs.Remainder.{step, push, top, remainder_unique, remainder_exists}
+use Rattle.bech32_poly.proofs.Remainder.{remainder_unique, remainder_exists}
+use Rattle.bech32_poly.specs.Division.{step, push, top}
 use Rattle.bech32_checksum.specs.Packed.{digit_of, digits, tabulate}
 use Rattle.bech32_checksum.proofs.Digits.{shifted_lowest, shifted_higher, shifted-lt}
 

@@ -2,15 +2,15 @@
 use Rattle.std.proofs.Common.{◌≡◌, ◌≢◌, ◌≤◌, ℕ, true, false, [], ◌∷◌, refl, sym, ◌∙◌, ap, subst, arith}
 use Rattle.std.proofs.Math.Decide.{dec_lt}
 use Rattle.bech32_gf.specs.Field.{IsOrder, power}
-use Rattle.bech32_gf.specs.FieldLaws.{power-suc}
-use Rattle.bech32_gf.specs.Orders.{IsOrder-from_tests, differ, power_by_squares-power}
+use Rattle.bech32_gf.specs.laws.FieldLaws.{power-suc}
+use Rattle.bech32_gf.specs.laws.Orders.{IsOrder-from_tests, differ, power_by_squares-power}
 use Rattle.bech32_gf.specs.Gf32.{product}
 use Rattle.bech32_gf.specs.Fe32 as fe32
 use Rattle.bech32_gf_ext.specs.Fe32Ext.{path_of_values}
 use Rattle.bech32_gf_ext.specs.Fe1024 as fe1024
 use Rattle.bech32_gf_ext.specs.Fe1024.{pair, low, high, add, mul, embed, divisors}
-use Rattle.bech32_gf_ext.specs.Fe1024Laws.{is_field}
-use Rattle.bech32_gf_ext.specs.Fe1024Orders.{power-order, lists_divisors}
+use Rattle.bech32_gf_ext.specs.laws.Fe1024Laws.{is_field}
+use Rattle.bech32_gf_ext.specs.laws.Fe1024Orders.{power-order, lists_divisors}
 use Rattle.bech32_gf_ext.specs.declared.Fe32Ext.{Fe32Ext}
 use Rattle.bech32_checksum.specs.Code.{no_checksum, bech32, bech32m}
 use Rattle.bech32_checksum.specs.Roots.{HasLawfulRoots, generator_at}

@@ -3,12 +3,12 @@ use Rattle.std.proofs.Common.{◌≡◌, ◌≢◌, ◌<◌, ◌+◌, ◌*◌, �
 use Rattle.std.specs.Prelude.{if◌then◌else◌}
 use Rattle.std.proofs.lemmas.Bool.{eqb-true, false_from_ne_true}
 use Rattle.std.proofs.Math.Nat.{zero-div}
-use Rattle.bech32_gf.specs.Below.{each_below-at₂}
+use Rattle.bech32_gf.specs.laws.Below.{each_below-at₂}
 use Rattle.bech32_gf.specs.declared.gf32.Fe32.{Fe32}
 use Rattle.bech32_gf.specs.Gf32.{product, product_of}
 use Rattle.bech32_gf.specs.Field.{power}
 use Rattle.bech32_gf.specs.Fe32 as fe32
-use Rattle.bech32_gf.specs.Fe32Laws.{is_field}
+use Rattle.bech32_gf.specs.laws.Fe32Laws.{is_field}
 use Rattle.bech32_poly.specs.Polynomial.{scale}
 use Rattle.bech32_poly.proofs.Lists.{same_cons}
 use Rattle.bech32_checksum.specs.Packed.{digit_of, digits, tabulate}

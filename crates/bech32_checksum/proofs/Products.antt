@@ -2,7 +2,7 @@
 use Rattle.std.specs.Prelude.{nat_lt}
 use Rattle.std.proofs.Common.{◌≡◌, ◌<◌, ◌*◌, ◌/◌, ◌%◌, ◌^◌, ◌==◌, ℕ, zero, suc, get_or, refl, arith}
 use Rattle.std.proofs.lemmas.Bool.{eqb-true, ltb-true}
-use Rattle.bech32_gf.specs.Below.{each_below, each_below-at}
+use Rattle.bech32_gf.specs.laws.Below.{each_below, each_below-at}
 use Rattle.bech32_gf.specs.declared.gf32.Fe32.{Fe32}
 use Rattle.bech32_gf.specs.Gf32.{product}
 use Rattle.bech32_gf.specs.Fe32 as fe32

@@ -3,10 +3,11 @@ use Rattle.std.proofs.Common.{◌≡◌, ◌<◌, ◌≤◌, ◌*◌, ◌/◌, �
 use Rattle.std.proofs.Math.Nat.{div-eq_of_lt}
 use Rattle.std.proofs.Math.Pow.{pow-lt}
 use Rattle.bech32_gf.specs.Fe32 as fe32
-use Rattle.bech32_gf.specs.Fe32Laws.{is_field}
+use Rattle.bech32_gf.specs.laws.Fe32Laws.{is_field}
 use Rattle.bech32_gf.specs.declared.gf32.Fe32.{Fe32}
 use Rattle.bech32_poly.specs.Remainder.{IsRemainder}
-use Rattle.bech32_poly.proofs.Lists.{zeros, same_cons}
+use Rattle.bech32_poly.proofs.Lists.{same_cons}
+use Rattle.bech32_poly.specs.Division.{zeros}
 use Rattle.bech32_poly.proofs.Remainder.{remainder_exists, remainder_of-short}
 use Rattle.bech32_checksum.specs.Packed.{digit_of, digits, tabulate}
 use Rattle.bech32_checksum.specs.Code.{Code, code_of, IsResidueOf}

@@ -7,7 +7,7 @@ use Rattle.std.proofs.Math.Seq.{get_or-append_seam}
 use Rattle.std.proofs.lemmas.List.{length-append}
 use Rattle.std.proofs.lemmas.List.FromFn.{length-map-range_with_len, get_or-map-range_with_len}
 use Rattle.bech32_gf.specs.Field.{Ops, IsField, IsOrder, power, value_at}
-use Rattle.bech32_gf.specs.FieldLaws.{mul_zero}
+use Rattle.bech32_gf.specs.laws.FieldLaws.{mul_zero}
 use Rattle.bech32_gf.specs.Fe32 as fe32
 use Rattle.bech32_gf.specs.Powers.{powers_of, left_of}
 use Rattle.bech32_gf.specs.declared.field.PowersRange.{PowersRange}

@@ -5,12 +5,13 @@ use Rattle.std.proofs.lemmas.List.{map-append, length-map, length-reverse}
 use Rattle.std.specs.Char.{to_ascii_lowercase, to_ascii_uppercase}
 use Rattle.bech32_gf.specs.Alphabet.{char_of}
 use Rattle.bech32_gf.specs.Fe32 as fe32
-use Rattle.bech32_gf.specs.Fe32Laws.{is_field}
+use Rattle.bech32_gf.specs.laws.Fe32Laws.{is_field}
 use Rattle.bech32_gf.specs.declared.gf32.Fe32.{Fe32}
 use Rattle.bech32_poly.specs.Polynomial.{appended}
 use Rattle.bech32_poly.specs.Remainder.{IsRemainder}
 use Rattle.bech32_poly.proofs.Appended.{appended-append, checksum_of_target, checksum_unique}
-use Rattle.bech32_poly.proofs.Remainder.{remainder_of, remainder_exists}
+use Rattle.bech32_poly.proofs.Remainder.{remainder_exists}
+use Rattle.bech32_poly.specs.Division.{remainder_of}
 use Rattle.bech32_checksum.specs.Code.{Code}
 use Rattle.bech32_hrp.specs.Hrp.{lowered}
 use Rattle.bech32_checksum.specs.TextPolynomial.{hrp_elements, text_polynomial, IsChecksumOf}

@@ -4,7 +4,7 @@ use Rattle.std.specs.Prelude.{slice_get}
 use Rattle.std.proofs.lemmas.Option.{slice_get-get_or}
 use Rattle.bech32_gf.specs.Field.{power}
 use Rattle.bech32_gf.specs.Fe32 as fe32
-use Rattle.bech32_gf.specs.Fe32Laws.{is_field}
+use Rattle.bech32_gf.specs.laws.Fe32Laws.{is_field}
 use Rattle.bech32_checksum.specs.Packed.{digit_of}
 
 module _ (R : Type 0) (number : R → ℕ) (words : List R) (target : R)

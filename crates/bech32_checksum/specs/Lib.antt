@@ -1,9 +1,8 @@
 pub mod Code
-pub mod CodeLaws
 pub mod Encoded
 pub mod HrpFes
 pub mod Packed
-pub mod PackedLaws
 pub mod PackingLaws
 pub mod Roots
 pub mod TextPolynomial
+pub mod laws

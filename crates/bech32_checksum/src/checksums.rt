@@ -3,9 +3,9 @@
 ghost use Rattle.std.specs.Prelude.{◌∷◌, [], ◌^◌, ◌-◌, refl};
 ghost use Rattle.bech32_gf.specs.Fe32 as fe32;
 ghost use Rattle.bech32_gf_ext.specs.Fe1024 as fe1024;
-ghost use Rattle.bech32_checksum.specs.PackedLaws as packed;
+ghost use Rattle.bech32_checksum.specs.laws.PackedLaws as packed;
 ghost use Rattle.bech32_checksum.specs.Code.{no_checksum, bech32, bech32m};
-ghost use Rattle.bech32_checksum.specs.CodeLaws as codes;
+ghost use Rattle.bech32_checksum.specs.laws.CodeLaws as codes;
 
 mod products;
 

@@ -7,7 +7,7 @@ ghost use Rattle.std.specs.Iterator.{IsFinite};
 ghost use Rattle.std.specs.Iterator.Runs.{EachRunFrom, WholeRun, AllItems};
 ghost use Rattle.bech32_gf.specs.Fe32 as fe32;
 ghost use Rattle.bech32_checksum.specs.Packed.{digit_of, digits, number_of_digits};
-ghost use Rattle.bech32_checksum.specs.PackedLaws as packed;
+ghost use Rattle.bech32_checksum.specs.laws.PackedLaws as packed;
 
 mod in_u128;
 mod in_u32;

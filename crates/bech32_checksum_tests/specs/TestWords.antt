@@ -2,8 +2,8 @@
 use Rattle.std.specs.Prelude.{◌≡◌, ℕ, List, [], ◌∷◌, true, refl}
 use Rattle.bech32_gf.specs.Gf32.{product}
 use Rattle.bech32_checksum.specs.Code.{Code, code_of}
-use Rattle.bech32_checksum.specs.CodeLaws.{words}
-use Rattle.bech32_checksum.specs.PackedLaws.{keeps}
+use Rattle.bech32_checksum.specs.laws.CodeLaws.{words}
+use Rattle.bech32_checksum.specs.laws.PackedLaws.{keeps}
 use Rattle.bech32_checksum.specs.PackingLaws.{KeepsPackingLaws}
 
 -- a generator of degree 8, packed, and its products with 2, 4, 8 and 16

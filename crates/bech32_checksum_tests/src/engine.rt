@@ -6,7 +6,7 @@ ghost use Rattle.bech32_gf_ext.specs.Fe1024.{pair};
 ghost use Rattle.bech32_gf_ext.specs.Fe32768.{triple};
 ghost use Rattle.bech32_poly.specs.Polynomial.{appended};
 ghost use Rattle.bech32_checksum.specs.Code.{IsResidueOf};
-ghost use Rattle.bech32_checksum.specs.PackedLaws as packed;
+ghost use Rattle.bech32_checksum.specs.laws.PackedLaws as packed;
 ghost use Rattle.bech32_checksum_tests.specs.TestWords.{words_8, words_8_keep, code_8, words_13, words_13_keep, code_13};
 
 mod codex32_rows;

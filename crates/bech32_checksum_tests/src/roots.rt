@@ -5,8 +5,8 @@ ghost use Rattle.std.proofs.Common.{arith};
 ghost use Rattle.bech32_gf.specs.Fe32 as fe32;
 ghost use Rattle.bech32_gf_ext.specs.Fe1024.{pair};
 ghost use Rattle.bech32_checksum.specs.Code.{bech32};
-ghost use Rattle.bech32_checksum.specs.CodeLaws as codes;
-ghost use Rattle.bech32_checksum.specs.PackedLaws as packed;
+ghost use Rattle.bech32_checksum.specs.laws.CodeLaws as codes;
+ghost use Rattle.bech32_checksum.specs.laws.PackedLaws as packed;
 ghost use Rattle.bech32_checksum.specs.Roots.{HasLawfulRoots};
 ghost use Rattle.bech32_checksum_tests.specs.TestWords.{words_1, words_1_keep, code_1, code_6};
 

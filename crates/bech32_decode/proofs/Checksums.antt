@@ -5,11 +5,12 @@ use Rattle.std.proofs.lemmas.List.{nil_from_length}
 use Rattle.std.proofs.Math.Nat.{div-div-eq-div-mul}
 use Rattle.std.proofs.Math.Pow.{pow-add}
 use Rattle.bech32_gf.specs.Fe32 as fe32
-use Rattle.bech32_gf.specs.Fe32Laws.{is_field}
+use Rattle.bech32_gf.specs.laws.Fe32Laws.{is_field}
 use Rattle.bech32_gf.specs.declared.gf32.Fe32.{Fe32}
 use Rattle.bech32_poly.specs.Polynomial.{coefficient}
 use Rattle.bech32_poly.specs.Remainder.{IsRemainder}
-use Rattle.bech32_poly.proofs.Remainder.{remainder_of, remainder_exists}
+use Rattle.bech32_poly.proofs.Remainder.{remainder_exists}
+use Rattle.bech32_poly.specs.Division.{remainder_of}
 use Rattle.bech32_checksum.specs.Code.{Code, code_of, IsResidueOf}
 use Rattle.bech32_checksum.specs.Packed.{digit_of, digits, tabulate}
 use Rattle.bech32_checksum.proofs.Digits.{length-tabulate}

@@ -4,7 +4,7 @@ use Rattle.std.proofs.lemmas.List.{take_at}
 use Rattle.std.specs.Result.{IsOkUnless}
 use Rattle.std.specs.Str.{IsUtf8}
 use Rattle.bech32_gf.specs.Fe32.{ops, elements_of}
-use Rattle.bech32_gf.specs.Fe32Laws.{is_field}
+use Rattle.bech32_gf.specs.laws.Fe32Laws.{is_field}
 use Rattle.bech32_gf.specs.declared.gf32.Fe32.{Fe32}
 use Rattle.bech32_poly.specs.Polynomial.{IsSamePolynomial, coefficient}
 use Rattle.bech32_poly.specs.Remainder.{IsRemainder}

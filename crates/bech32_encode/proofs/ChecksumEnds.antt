@@ -4,12 +4,13 @@ use Rattle.std.proofs.lemmas.List.{reverse-append, length-reverse}
 use Rattle.std.proofs.Math.Nat.{mod-eq_of_lt}
 use Rattle.bech32_gf.specs.Field.{Ops}
 use Rattle.bech32_gf.specs.Fe32 as fe32
-use Rattle.bech32_gf.specs.Fe32Laws.{is_field}
+use Rattle.bech32_gf.specs.laws.Fe32Laws.{is_field}
 use Rattle.bech32_gf.specs.declared.gf32.Fe32.{Fe32}
 use Rattle.bech32_poly.specs.Polynomial.{appended}
 use Rattle.bech32_poly.specs.Remainder.{IsRemainder}
 use Rattle.bech32_poly.proofs.Appended.{appended-append, checksum_of_target}
-use Rattle.bech32_poly.proofs.Remainder.{step, remainder_of, remainder_of-itself, remainder_unique, remainder_exists, length-remainder_of}
+use Rattle.bech32_poly.proofs.Remainder.{remainder_of-itself, remainder_unique, remainder_exists, length-remainder_of}
+use Rattle.bech32_poly.specs.Division.{step, remainder_of}
 use Rattle.bech32_bits.specs.Adaptor.{then_gives}
 use Rattle.bech32_encode.specs.ChecksumElements.{checksum_of, then_checksum}
 use Rattle.bech32_checksum.specs.Code.{Code, code_of, IsResidueOf}

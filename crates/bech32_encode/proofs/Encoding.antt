@@ -10,7 +10,7 @@ use Rattle.std.specs.Prelude.{nat_lt}
 use Rattle.std.specs.Char.{is_ascii}
 use Rattle.std.specs.Str.{IsAscii}
 use Rattle.bech32_gf.specs.Alphabet.{char_of}
-use Rattle.bech32_gf.specs.Below.{each_below-at}
+use Rattle.bech32_gf.specs.laws.Below.{each_below-at}
 use Rattle.bech32_gf.specs.declared.gf32.Fe32.{Fe32}
 use Rattle.bech32_bits.specs.Bits.{to_fes, fes_count}
 use Rattle.bech32_checksum.specs.Code.{Code}

@@ -3,7 +3,7 @@ use Rattle.std.specs.Prelude.{ℕ, List, ◌++◌, reverse, length, Option, Some
 use Rattle.bech32_gf.specs.Fe32 as fe32
 use Rattle.bech32_gf.specs.declared.gf32.Fe32.{Fe32}
 use Rattle.bech32_poly.specs.Polynomial.{appended}
-use Rattle.bech32_poly.proofs.Remainder.{remainder_of}
+use Rattle.bech32_poly.specs.Division.{remainder_of}
 use Rattle.bech32_checksum.specs.Code.{Code}
 use Rattle.bech32_checksum.specs.Packed.{digits}
 

@@ -5,7 +5,7 @@ use Rattle.std.specs.Option.{SomeIff}
 use Rattle.std.proofs.Math.Dec.{leb-zero}
 use lib.Signed.{le_z}
 use Rattle.bech32_gf.specs.Field.{Ops, IsField, power, multiple, signed_power, signed_multiple}
-use Rattle.bech32_gf.specs.FieldLaws.{power-zero, power-one, power-suc, power-add, multiple-zero, multiple-suc, multiple_mod, one_mul, zero_add}
+use Rattle.bech32_gf.specs.laws.FieldLaws.{power-zero, power-one, power-suc, power-add, multiple-zero, multiple-suc, multiple_mod, one_mul, zero_add}
 use Rattle.bech32_gf.specs.Powers.{multiplied, powers_of, count_with_next}
 
 module _ {F : Type 0} {o : Ops F} (l : IsField o) where

@@ -3,7 +3,7 @@ use Rattle.std.proofs.Common.{◌≡◌, ◌≢◌, ◌<◌, ◌+◌, ◌-◌, �
 use Rattle.std.proofs.lemmas.Bool.{eqb-true, ltb-true}
 use Rattle.std.specs.Prelude.{nat_lt}
 use Rattle.bech32_gf.specs.Gf32.{product, product_of, inverse}
-use Rattle.bech32_gf.specs.Below.{each_below-at, each_below-at₂}
+use Rattle.bech32_gf.specs.laws.Below.{each_below-at, each_below-at₂}
 use Rattle.bech32_gf.specs.declared.gf32.TheConstants.{LOG, POWERS}
 
 -- the product by logarithms

@@ -4,7 +4,7 @@ use Rattle.std.specs.Prelude.{slice_index}
 use Rattle.std.proofs.lemmas.List.{get_or_default}
 use Rattle.std.proofs.lemmas.Nat.Gcd.{dvd_refl, le_of_dvd}
 use Rattle.bech32_gf.specs.Field.{ListsDivisors, IsPositiveI64}
-use Rattle.bech32_gf.specs.FieldLaws.{divides-from_place}
+use Rattle.bech32_gf.specs.laws.FieldLaws.{divides-from_place}
 
 -- each divisor fits an i64, where the number does
 pub divisor_fits : (n : ℕ) (divisors : List ℕ) → IsPositiveI64 n → ListsDivisors n divisors

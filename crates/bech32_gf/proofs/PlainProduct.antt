@@ -2,7 +2,7 @@
 use Rattle.std.proofs.Common.{◌≡◌, ◌≢◌, ◌<◌, ◌≤◌, ◌+◌, ◌*◌, ◌-◌, ◌/◌, ◌^◌, ℕ, ◌==◌, if◌then◌else◌, bit_and, bit_xor, refl, arith, eq-eqb}
 use Rattle.std.proofs.lemmas.Bool.{eqb-true, ne_eqb}
 use Rattle.bech32_gf.specs.Gf32.{product, reduced, shifted_sum}
-use Rattle.bech32_gf.specs.Below.{each_below, each_below-at, each_below-at₂}
+use Rattle.bech32_gf.specs.laws.Below.{each_below, each_below-at, each_below-at₂}
 
 -- the product with 2 of a value whose double has five bits
 pub product-two_low : (a : ℕ) → a * 2 < 32 → a * 2 ≡ product a 2

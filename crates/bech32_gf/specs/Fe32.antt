@@ -6,7 +6,7 @@ use Rattle.std.proofs.lemmas.Nat.{xor_lt}
 use mathlib.Core.HLevel.{is_prop→PathP}
 use Rattle.bech32_gf.specs.Field.{Ops}
 use Rattle.bech32_gf.specs.Gf32.{product, inverse}
-use Rattle.bech32_gf.specs.Gf32Laws.{product-lt, inverse-lt}
+use Rattle.bech32_gf.specs.laws.Gf32Laws.{product-lt, inverse-lt}
 use Rattle.bech32_gf.specs.Alphabet.{value_of, value_of-lt}
 use Rattle.bech32_gf.specs.declared.gf32.Fe32.{Fe32}
 

@@ -1,15 +1,9 @@
 pub mod Alphabet
 pub mod Alphabetical
-pub mod Below
-pub mod Divisors
 pub mod Fe32
-pub mod Fe32Laws
 pub mod Field
-pub mod FieldLaws
 pub mod Gf32
-pub mod Gf32Laws
-pub mod Orders
 pub mod Powers
-pub mod Ring
 pub mod RustCode
 pub mod TryFrom
+pub mod laws

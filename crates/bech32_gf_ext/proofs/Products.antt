@@ -1,8 +1,8 @@
 -- Products of pairs by three products, and of triples by six.
 use Rattle.std.proofs.Common.{◌≡◌, ◌∙◌}
 use Rattle.bech32_gf.specs.Field.{Ops, IsField}
-use Rattle.bech32_gf.specs.Ring.{ring}
-use Rattle.bech32_gf_ext.specs.CharacteristicTwo.{HasCharacteristicTwo, even_sums}
+use Rattle.bech32_gf.specs.laws.Ring.{ring}
+use Rattle.bech32_gf_ext.specs.laws.CharacteristicTwo.{HasCharacteristicTwo, even_sums}
 use Rattle.bech32_gf_ext.specs.Quadratic as quadratic
 use Rattle.bech32_gf_ext.specs.Cubic as cubic
 

@@ -1,8 +1,8 @@
 -- Triples a + b z + c z^2 over a field in which each element is its own negative, with z^3 = z + 1.
 use Rattle.std.specs.Prelude.{◌≡◌}
 use Rattle.bech32_gf.specs.Field.{Ops, IsField}
-use Rattle.bech32_gf.specs.Ring.{ring}
-use Rattle.bech32_gf_ext.specs.CharacteristicTwo.{HasCharacteristicTwo, even_sums}
+use Rattle.bech32_gf.specs.laws.Ring.{ring}
+use Rattle.bech32_gf_ext.specs.laws.CharacteristicTwo.{HasCharacteristicTwo, even_sums}
 
 module _ {F : Type 0} (o : Ops F) where
   -- the coefficients of z^1 to z^4 in the product of a + b z + c z^2 and d + e z + f z^2

@@ -1,14 +1,7 @@
-pub mod CharacteristicTwo
 pub mod Cubic
 pub mod ExtensionCode
 pub mod Fe1024
-pub mod Fe1024Laws
-pub mod Fe1024Orders
 pub mod Fe32768
-pub mod Fe32768Laws
-pub mod Fe32768Orders
 pub mod Fe32Ext
-pub mod Fe32ExtLaws
-pub mod Fe32Squares
-pub mod Nonzero
 pub mod Quadratic
+pub mod laws

@@ -1,8 +1,8 @@
 -- Pairs a + b z over a field in which each element is its own negative, with z^2 = z + 1.
 use Rattle.std.specs.Prelude.{◌≡◌}
 use Rattle.bech32_gf.specs.Field.{Ops, IsField}
-use Rattle.bech32_gf.specs.Ring.{ring}
-use Rattle.bech32_gf_ext.specs.CharacteristicTwo.{HasCharacteristicTwo, even_sums}
+use Rattle.bech32_gf.specs.laws.Ring.{ring}
+use Rattle.bech32_gf_ext.specs.laws.CharacteristicTwo.{HasCharacteristicTwo, even_sums}
 
 -- the places of the product of a + b z and c + d z, with z^2 replaced by z + 1
 module _ {F : Type 0} (o : Ops F) where

@@ -464,9 +464,9 @@ impl DivAssign<&Fe1024> for Fe1024 {
 impl Field for Fe1024 {
     ghost use Rattle.std.specs.Prelude.{refl};
     ghost use Rattle.bech32_gf_ext.specs.Fe1024 as elements;
-    ghost use Rattle.bech32_gf_ext.specs.Fe1024Laws as laws_of;
-    ghost use Rattle.bech32_gf_ext.specs.Fe1024Orders as orders_of;
-    ghost use Rattle.bech32_gf_ext.specs.Fe32ExtLaws.{eq_is_equal};
+    ghost use Rattle.bech32_gf_ext.specs.laws.Fe1024Laws as laws_of;
+    ghost use Rattle.bech32_gf_ext.specs.laws.Fe1024Orders as orders_of;
+    ghost use Rattle.bech32_gf_ext.specs.laws.Fe32ExtLaws.{eq_is_equal};
 
     ghost ops = { elements.ops };
 
@@ -574,7 +574,7 @@ impl Field for Fe1024 {
 impl ExtensionField for Fe1024 {
     ghost use Rattle.std.specs.Prelude.{refl};
     ghost use Rattle.bech32_gf_ext.specs.Fe1024 as elements;
-    ghost use Rattle.bech32_gf_ext.specs.Fe1024Laws as laws_of;
+    ghost use Rattle.bech32_gf_ext.specs.laws.Fe1024Laws as laws_of;
 
     type BaseField = Fe32;
 

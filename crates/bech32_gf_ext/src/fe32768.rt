@@ -491,9 +491,9 @@ impl DivAssign<&Fe32768> for Fe32768 {
 impl Field for Fe32768 {
     ghost use Rattle.std.specs.Prelude.{refl};
     ghost use Rattle.bech32_gf_ext.specs.Fe32768 as elements;
-    ghost use Rattle.bech32_gf_ext.specs.Fe32768Laws as laws_of;
-    ghost use Rattle.bech32_gf_ext.specs.Fe32768Orders as orders_of;
-    ghost use Rattle.bech32_gf_ext.specs.Fe32ExtLaws.{eq_is_equal};
+    ghost use Rattle.bech32_gf_ext.specs.laws.Fe32768Laws as laws_of;
+    ghost use Rattle.bech32_gf_ext.specs.laws.Fe32768Orders as orders_of;
+    ghost use Rattle.bech32_gf_ext.specs.laws.Fe32ExtLaws.{eq_is_equal};
 
     ghost ops = { elements.ops };
 
@@ -601,7 +601,7 @@ impl Field for Fe32768 {
 impl ExtensionField for Fe32768 {
     ghost use Rattle.std.specs.Prelude.{refl};
     ghost use Rattle.bech32_gf_ext.specs.Fe32768 as elements;
-    ghost use Rattle.bech32_gf_ext.specs.Fe32768Laws as laws_of;
+    ghost use Rattle.bech32_gf_ext.specs.laws.Fe32768Laws as laws_of;
 
     type BaseField = Fe32;
 

@@ -4,9 +4,11 @@ use Rattle.std.proofs.lemmas.List.{take_more, append_assoc, reverse-append, reve
 use Rattle.bech32_gf.specs.Field.{Ops, IsField}
 use Rattle.bech32_poly.specs.Polynomial.{add, appended}
 use Rattle.bech32_poly.specs.Remainder.{IsRemainder}
-use Rattle.bech32_poly.proofs.Ring as ring
-use Rattle.bech32_poly.proofs.Lists.{zeros, same_cons, add_assoc, add_comm, zeros-add}
-use Rattle.bech32_poly.proofs.Remainder.{remainder_of, length-remainder_of, remainder_of-add, remainder_of-itself, remainder_unique, remainder_exists}
+use Rattle.bech32_gf.specs.laws.Ring as ring
+use Rattle.bech32_poly.proofs.Lists.{same_cons, add_assoc, add_comm, zeros-add}
+use Rattle.bech32_poly.specs.Division.{zeros}
+use Rattle.bech32_poly.proofs.Remainder.{length-remainder_of, remainder_of-add, remainder_of-itself, remainder_unique, remainder_exists}
+use Rattle.bech32_poly.specs.Division.{remainder_of}
 
 pub appended-append : {F : Type 0} → (p xs ys : List F) → appended p (xs ++ ys) ≡ appended (appended p xs) ys
 appended-append p [] ys = refl

@@ -2,4 +2,3 @@ pub mod Appended
 pub mod Lists
 pub mod LongDivision
 pub mod Remainder
-pub mod Ring

@@ -2,11 +2,8 @@
 use Rattle.std.proofs.Common.{◌≡◌, ℕ, zero, suc, ◌≤◌, List, [], ◌∷◌, length, replicate, sym, ap, ◌∙◌, refl, arith}
 use Rattle.bech32_gf.specs.Field.{Ops, IsField}
 use Rattle.bech32_poly.specs.Polynomial.{coefficient, add, scale}
-use Rattle.bech32_poly.proofs.Ring.{ring}
-
--- n zeros
-abbrev pub zeros : {F : Type 0} → Ops F → ℕ → List F
-zeros o n = replicate n o.zero
+use Rattle.bech32_poly.specs.Division.{zeros}
+use Rattle.bech32_gf.specs.laws.Ring.{ring}
 
 -- equal heads and equal tails
 pub same_cons : {F : Type 0} → (a b : F) (p q : List F) → a ≡ b → p ≡ q → a ∷ p ≡ b ∷ q

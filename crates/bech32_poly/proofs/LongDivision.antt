@@ -3,9 +3,11 @@ use Rattle.std.proofs.Common.{◌≡◌, ℕ, zero, suc, ◌+◌, ◌<◌, ◌�
 use Rattle.bech32_gf.specs.Field.{Ops, IsField}
 use Rattle.bech32_poly.specs.Polynomial.{add, scale}
 use Rattle.bech32_poly.specs.Remainder.{IsRemainder, monic}
-use Rattle.bech32_poly.proofs.Ring.{ring}
-use Rattle.bech32_poly.proofs.Lists.{zeros, same_cons, scale-zeros, zeros-add}
-use Rattle.bech32_poly.proofs.Remainder.{step, remainder_of, length-remainder_of, put_back, step-zeros, remainder_of-add, remainder_of-scale, remainder_of-monic, remainder_of-short, remainder_exists}
+use Rattle.bech32_gf.specs.laws.Ring.{ring}
+use Rattle.bech32_poly.proofs.Lists.{same_cons, scale-zeros, zeros-add}
+use Rattle.bech32_poly.specs.Division.{zeros}
+use Rattle.bech32_poly.proofs.Remainder.{length-remainder_of, put_back, step-zeros, remainder_of-add, remainder_of-scale, remainder_of-monic, remainder_of-short, remainder_exists}
+use Rattle.bech32_poly.specs.Division.{step, remainder_of}
 
 module _ {F : Type 0} {o : Ops F} (l : IsField o) where
   -- a multiple of a shift of the divisor leaves nothing

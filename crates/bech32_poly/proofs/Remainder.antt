@@ -4,26 +4,9 @@ use Rattle.std.proofs.lemmas.List.{append-nil}
 use Rattle.bech32_gf.specs.Field.{Ops, IsField}
 use Rattle.bech32_poly.specs.Polynomial.{IsSamePolynomial, coefficient, add, scale, multiply}
 use Rattle.bech32_poly.specs.Remainder.{IsRemainder, monic}
-use Rattle.bech32_poly.proofs.Ring.{ring}
-use Rattle.bech32_poly.proofs.Lists.{zeros, same_cons, length-scale, length-add, length-zeros, coefficient-zeros, add_comm, add_assoc, add_left_comm, scale-add_elements, scale-add, scale-scale, zeros-add, scale-zeros, scale-zero, add-negative}
-
--- what falls out at the top where a is put in at the bottom, and what stays
-abbrev pub top : {F : Type 0} → F → List F → F
-top a [] = a
-top a (b ∷ r) = top b r
-
-abbrev pub push : {F : Type 0} → F → List F → List F
-push a [] = []
-push a (b ∷ r) = a ∷ push b r
-
--- one step of long division
-abbrev pub step : {F : Type 0} → Ops F → List F → List F → F → List F
-step o low r a = add o (push a r) (scale o (o.neg (top a r)) low)
-
--- the remainder of a polynomial by the monic one with these lower coefficients
-abbrev pub remainder_of : {F : Type 0} → Ops F → List F → List F → List F
-remainder_of o low [] = zeros o (length low)
-remainder_of o low (a ∷ p) = step o low (remainder_of o low p) a
+use Rattle.bech32_poly.specs.Division.{zeros, top, push, step, remainder_of}
+use Rattle.bech32_gf.specs.laws.Ring.{ring}
+use Rattle.bech32_poly.proofs.Lists.{same_cons, length-scale, length-add, length-zeros, coefficient-zeros, add_comm, add_assoc, add_left_comm, scale-add_elements, scale-add, scale-scale, zeros-add, scale-zeros, scale-zero, add-negative}
 
 module _ {F : Type 0} {o : Ops F} (l : IsField o) where
   neg_zero : o.neg o.zero ≡ o.zero

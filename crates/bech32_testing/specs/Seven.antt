@@ -4,10 +4,10 @@ use Rattle.std.specs.Coded.{le_prop}
 use Rattle.std.proofs.Common.{refl, sym, ap, ◌∙◌, arith, eq-eqb}
 use Rattle.std.proofs.lemmas.Bool.{eqb-true}
 use mathlib.Core.HLevel.{is_prop→PathP}
-use Rattle.bech32_gf.specs.Below.{each_below-at, each_below-at₂, each_below-at₃}
-use Rattle.bech32_gf.specs.Divisors.{ListsDivisors-from_tests}
+use Rattle.bech32_gf.specs.laws.Below.{each_below-at, each_below-at₂, each_below-at₃}
+use Rattle.bech32_gf.specs.laws.Divisors.{ListsDivisors-from_tests}
 use Rattle.bech32_gf.specs.Field.{Ops, IsField, power, multiple, IsOrder, IsCharacteristic, ListsDivisors, IsPositiveI64}
-use Rattle.bech32_gf.specs.FieldLaws.{IsOrder-from_divisors}
+use Rattle.bech32_gf.specs.laws.FieldLaws.{IsOrder-from_divisors}
 
 -- an integer modulo 7
 pub record Residue : Type 0 where

@@ -2,7 +2,7 @@
 
 ghost use Rattle.std.specs.Prelude.{refl};
 ghost use Rattle.std.proofs.Common.{arith};
-ghost use Rattle.bech32_checksum.specs.PackedLaws as packed;
+ghost use Rattle.bech32_checksum.specs.laws.PackedLaws as packed;
 
 use crate::packed::PackedFe32;
 

@@ -8,7 +8,7 @@ use std::fmt;
 impl Field for Fe32 {
     ghost use Rattle.std.specs.Prelude.{◌∷◌, [], refl};
     ghost use Rattle.bech32_gf.specs.Fe32 as fe32;
-    ghost use Rattle.bech32_gf.specs.Fe32Laws as laws_of;
+    ghost use Rattle.bech32_gf.specs.laws.Fe32Laws as laws_of;
 
     ghost ops = { fe32.ops };
 
@@ -110,8 +110,8 @@ impl Field for Fe32 {
 impl ExtensionField for Fe32 {
     ghost use Rattle.std.specs.Prelude.{Some, refl};
     ghost use Rattle.bech32_gf.specs.Fe32 as fe32;
-    ghost use Rattle.bech32_gf.specs.Fe32Laws as laws_of;
-    ghost use Rattle.bech32_gf.specs.FieldLaws.{power-one};
+    ghost use Rattle.bech32_gf.specs.laws.Fe32Laws as laws_of;
+    ghost use Rattle.bech32_gf.specs.laws.FieldLaws.{power-one};
 
     type BaseField = Fe32;
 

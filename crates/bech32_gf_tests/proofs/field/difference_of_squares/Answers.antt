@@ -1,6 +1,6 @@
 use Rattle.std.proofs.Common.{◌≡◌, ◌∙◌, ap}
 use Rattle.bech32_gf.specs.Field.{Ops, IsField}
-use Rattle.bech32_gf.specs.Ring.{ring}
+use Rattle.bech32_gf.specs.laws.Ring.{ring}
 use Rattle.bech32_gf_tests.proofs.field.difference_of_squares.Goals as goal
 
 squares : {F : Type 0} (o : Ops F) (l : IsField o) (x y : F)

@@ -1,11 +1,11 @@
 use Rattle.std.proofs.Common.{◌≡◌, ◌-◌, ◌<◌, ◌≤◌, ◌++◌, ◌∷◌, [], ℕ, List, length, replicate, take, subst, ap, arith, sym, refl, vec_len, ◌∙◌}
 use Rattle.std.proofs.lemmas.List.{take_all, length-append, with_items_is}
 use Rattle.bech32_gf.specs.Fe32 as fe32
-use Rattle.bech32_gf.specs.Fe32Laws.{is_field}
+use Rattle.bech32_gf.specs.laws.Fe32Laws.{is_field}
 use Rattle.bech32_gf.specs.declared.gf32.Fe32.{Fe32}
 use Rattle.bech32_poly.specs.Polynomial.{add, scale}
 use Rattle.bech32_poly.specs.Remainder.{IsRemainder}
-use Rattle.bech32_poly.proofs.Remainder.{remainder_of}
+use Rattle.bech32_poly.specs.Division.{remainder_of}
 use Rattle.bech32_poly.proofs.LongDivision.{remainder_of-taken_off, short_is_remainder}
 use Rattle.bech32_poly.proofs.polynomial.remainder.Goals as goal
 

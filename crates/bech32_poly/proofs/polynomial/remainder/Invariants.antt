@@ -1,6 +1,6 @@
 use Rattle.std.proofs.Common.{◌≡◌, vec_len}
 use Rattle.bech32_gf.specs.Fe32 as fe32
-use Rattle.bech32_poly.proofs.Remainder.{remainder_of}
+use Rattle.bech32_poly.specs.Division.{remainder_of}
 use Rattle.bech32_poly.proofs.polynomial.remainder.Given as goal
 
 abbrev pub invariant-loop-rest : goal.invariant-loop-rest

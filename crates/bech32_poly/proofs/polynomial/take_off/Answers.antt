@@ -1,5 +1,5 @@
 use Rattle.std.proofs.Common.{◌+◌, ◌-◌, ◌<◌, ℕ, length, arith, sym}
-use Rattle.bech32_gf.specs.Fe32Laws.{is_field}
+use Rattle.bech32_gf.specs.laws.Fe32Laws.{is_field}
 use Rattle.bech32_poly.proofs.LongDivision.{nothing_taken_off, place_written}
 use Rattle.bech32_poly.proofs.polynomial.take_off.Goals as goal
 

@@ -4,7 +4,7 @@ use Rattle.bech32_gf.specs.Fe32 as fe32
 use Rattle.bech32_gf.specs.declared.gf32.Fe32.{Fe32}
 use Rattle.bech32_poly.specs.Polynomial.{coefficient}
 use Rattle.bech32_checksum.specs.Code.{Code, bech32}
-use Rattle.bech32_checksum.specs.CodeLaws.{bech32_is_packed}
+use Rattle.bech32_checksum.specs.laws.CodeLaws.{bech32_is_packed}
 use lib.Pointwise.{pointwise_decides}
 use Rattle.bech32_checksum.proofs.DigitRows.{coefficient-digits}
 use Rattle.bech32_decode.proofs.Coefficients.{same_row}

@@ -1,6 +1,6 @@
 use Rattle.std.proofs.Common.{◌≡◌, suc, ◌-◌, ◌∙◌, ap, sym, add-one}
 use Rattle.bech32_gf.specs.Field.{Ops, power}
-use Rattle.bech32_gf.specs.FieldLaws.{one_mul}
+use Rattle.bech32_gf.specs.laws.FieldLaws.{one_mul}
 use Rattle.bech32_gf.specs.Powers.{multiplied, powers_of}
 use Rattle.bech32_gf.proofs.Doublings.{multiplied-powers}
 use Rattle.bech32_gf.proofs.field.Field.powers_range.Goals as goal

@@ -1,7 +1,7 @@
 use Rattle.std.proofs.Common.{◌≡◌, ◌<◌, ◌≤◌, ◌∙◌, sym, ap, subst, length, get_or, pos, w64, FitsSigned, to_z, below_more, arith, true, false}
 use Rattle.std.proofs.lemmas.Int.{to_z_pos, fits_signed_from_abs}
 use Rattle.bech32_gf.specs.Field.{Ops, power, signed_power, IsOrder}
-use Rattle.bech32_gf.specs.FieldLaws.{IsOrder-from_first}
+use Rattle.bech32_gf.specs.laws.FieldLaws.{IsOrder-from_first}
 use Rattle.bech32_gf.proofs.Orders.{divisor_fits, whole_listed}
 use Rattle.bech32_gf.proofs.field.MultiplicativeOrder.multiplicative_order.Goals as goal
 

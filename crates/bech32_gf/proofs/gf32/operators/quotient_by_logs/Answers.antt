@@ -1,6 +1,6 @@
 use Rattle.std.proofs.Common.{arith, get_or, ◌+◌, ◌-◌, ◌%◌}
 use Rattle.bech32_gf.specs.Gf32.{inverse}
-use Rattle.bech32_gf.specs.Gf32Laws.{inverse-lt}
+use Rattle.bech32_gf.specs.laws.Gf32Laws.{inverse-lt}
 use Rattle.bech32_gf.proofs.Logarithms.{quotient_by_logs as by_logs, LOG-lt, POWERS-lt, zero-product}
 use Rattle.bech32_gf.specs.declared.gf32.TheConstants.{LOG}
 use Rattle.bech32_gf.proofs.gf32.operators.quotient_by_logs.Goals as goal

@@ -1,6 +1,6 @@
 use Rattle.std.proofs.Common.{◌∙◌, lit<}
 use Rattle.bech32_gf.specs.Fe32.{path, mul, generator}
-use Rattle.bech32_gf.specs.Gf32Laws.{product-lt}
+use Rattle.bech32_gf.specs.laws.Gf32Laws.{product-lt}
 use Rattle.bech32_gf.proofs.PlainProduct.{product-two_low, product-two_high}
 use Rattle.bech32_gf.proofs.gf32.plain.doubled.Goals as goal
 use Rattle.bech32_gf.proofs.gf32.plain.doubled.Goals.{then-twice-lt32, else-twice-lt32}

@@ -1,7 +1,7 @@
 use Rattle.std.proofs.Common.{◌∙◌, sym}
 use Rattle.bech32_gf.specs.Fe32 as fe32
 use Rattle.bech32_gf_ext.specs.Fe1024.{inv}
-use Rattle.bech32_gf_ext.specs.Fe1024Laws.{same_parts, norm-not_zero}
+use Rattle.bech32_gf_ext.specs.laws.Fe1024Laws.{same_parts, norm-not_zero}
 use Rattle.bech32_gf_ext.proofs.fe1024.Fe1024.inverse.Goals as goal
 
 pub div-requires : goal.div-requires

@@ -1,9 +1,9 @@
 use Rattle.std.proofs.Common.{◌∙◌}
 use Rattle.bech32_gf.specs.Fe32 as fe32
-use Rattle.bech32_gf.specs.Fe32Laws as fe32_laws
-use Rattle.bech32_gf_ext.specs.Fe32Squares.{even}
+use Rattle.bech32_gf.specs.laws.Fe32Laws as fe32_laws
+use Rattle.bech32_gf_ext.specs.laws.Fe32Squares.{even}
 use Rattle.bech32_gf_ext.specs.Fe1024.{low, high, mul}
-use Rattle.bech32_gf_ext.specs.Fe1024Laws.{same_parts}
+use Rattle.bech32_gf_ext.specs.laws.Fe1024Laws.{same_parts}
 use Rattle.bech32_gf_ext.proofs.Products.{pair_by_three}
 use Rattle.bech32_gf_ext.proofs.fe1024.Fe1024.product_with.Goals as goal
 

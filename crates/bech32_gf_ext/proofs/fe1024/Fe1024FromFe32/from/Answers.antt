@@ -1,6 +1,6 @@
 use Rattle.std.proofs.Common.{◌∙◌, refl}
 use Rattle.bech32_gf.specs.Fe32 as fe32
-use Rattle.bech32_gf_ext.specs.Fe1024Laws.{same_parts}
+use Rattle.bech32_gf_ext.specs.laws.Fe1024Laws.{same_parts}
 use Rattle.bech32_gf_ext.proofs.fe1024.Fe1024FromFe32.from.Goals as goal
 
 pub returns : goal.returns

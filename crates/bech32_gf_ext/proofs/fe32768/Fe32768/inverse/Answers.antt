@@ -1,7 +1,7 @@
 use Rattle.std.proofs.Common.{◌≡◌, ◌∙◌, sym}
 use Rattle.bech32_gf.specs.Fe32 as fe32
 use Rattle.bech32_gf_ext.specs.Fe32768.{low, middle, high, norm, inv}
-use Rattle.bech32_gf_ext.specs.Fe32768Laws.{same_parts, norm-not_zero}
+use Rattle.bech32_gf_ext.specs.laws.Fe32768Laws.{same_parts, norm-not_zero}
 use Rattle.bech32_gf_ext.proofs.Norms.{norm_from_parts}
 use Rattle.bech32_gf_ext.proofs.fe32768.Fe32768.inverse.Goals as goal
 

@@ -1,7 +1,7 @@
 use Rattle.std.proofs.Common.{◌∙◌, List, sym, ap, subst, eq-eqb}
 use Rattle.std.proofs.lemmas.Bool.{eqb-true}
 use Rattle.bech32_gf.specs.Fe32 as fe32
-use Rattle.bech32_gf.specs.Fe32Laws.{is_field}
+use Rattle.bech32_gf.specs.laws.Fe32Laws.{is_field}
 use Rattle.bech32_gf.specs.declared.gf32.Fe32.{Fe32}
 use Rattle.bech32_poly.specs.Remainder.{IsRemainder}
 use Rattle.bech32_poly.proofs.Remainder.{remainder_unique}

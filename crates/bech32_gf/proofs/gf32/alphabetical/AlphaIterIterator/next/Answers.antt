@@ -2,7 +2,7 @@ use Rattle.std.proofs.Common.{◌<◌, ◌∷◌, ◌∙◌, ap, sym, suc, drop,
 use Rattle.std.proofs.Math.ListN.{get_or-map}
 use Rattle.bech32_gf.specs.Alphabet.{is_of_alphabet}
 use Rattle.bech32_gf.specs.Alphabetical.{alphabetical}
-use Rattle.bech32_gf.specs.Below.{each_below-at}
+use Rattle.bech32_gf.specs.laws.Below.{each_below-at}
 use Rattle.bech32_gf.specs.Fe32.{element_of}
 use Rattle.bech32_gf.specs.declared.gf32.alphabetical.TheConstants.{ALPHABETICAL}
 use Rattle.bech32_gf.proofs.gf32.alphabetical.AlphaIterIterator.next.Goals as goal

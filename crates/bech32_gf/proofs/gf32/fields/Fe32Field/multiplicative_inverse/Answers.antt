@@ -1,8 +1,8 @@
 use Rattle.std.proofs.Common.{◌∙◌, ap}
 use Rattle.bech32_gf.specs.declared.gf32.Fe32.{Fe32}
 use Rattle.bech32_gf.specs.Fe32.{inv, path}
-use Rattle.bech32_gf.specs.Fe32Laws.{is_field}
-use Rattle.bech32_gf.specs.FieldLaws.{one_mul}
+use Rattle.bech32_gf.specs.laws.Fe32Laws.{is_field}
+use Rattle.bech32_gf.specs.laws.FieldLaws.{one_mul}
 use Rattle.bech32_gf.proofs.gf32.fields.Fe32Field.multiplicative_inverse.Goals as goal
 
 pub returns : goal.returns

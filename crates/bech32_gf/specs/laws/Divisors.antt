@@ -9,7 +9,7 @@ use Rattle.std.proofs.lemmas.List.{get_or_default}
 use Rattle.std.proofs.lemmas.Map.Views.{Contains-from_any}
 use Rattle.std.proofs.lemmas.Nat.Gcd.{le_of_dvd, mod-eq-zero_of_dvd, dvd_of_mod-eq-zero}
 use Prim.Native.Nat.{◌∣◌}
-use Rattle.bech32_gf.specs.Below.{each_below, each_below-at₂}
+use Rattle.bech32_gf.specs.laws.Below.{each_below, each_below-at₂}
 use Rattle.bech32_gf.specs.Field.{ListsDivisors}
 
 -- whether each number of a list is below the next, and the first above a

@@ -5,10 +5,10 @@ use Rattle.std.proofs.lemmas.Bool.{eqb-true}
 use Rattle.std.proofs.lemmas.Nat.{xor_comm}
 use Rattle.std.specs.Int.Bits.{xor_assoc, xor_self, xor_zero_r}
 use Rattle.bech32_gf.specs.Field.{IsField, power, multiple, IsOrder, IsCharacteristic, ListsDivisors, IsPositiveI64}
-use Rattle.bech32_gf.specs.FieldLaws.{power-one, IsOrder-from_divisors}
-use Rattle.bech32_gf.specs.Divisors.{ListsDivisors-from_tests}
+use Rattle.bech32_gf.specs.laws.FieldLaws.{power-one, IsOrder-from_divisors}
+use Rattle.bech32_gf.specs.laws.Divisors.{ListsDivisors-from_tests}
 use Rattle.bech32_gf.specs.Gf32.{product, product_of}
-use Rattle.bech32_gf.specs.Gf32Laws.{product_comm, product_assoc, product-xor, product-one, product-inverse, product_of-order}
+use Rattle.bech32_gf.specs.laws.Gf32Laws.{product_comm, product_assoc, product-xor, product-one, product-inverse, product_of-order}
 use Rattle.bech32_gf.specs.Fe32 as fe32
 use Rattle.bech32_gf.specs.declared.gf32.Fe32.{Fe32}
 

@@ -5,7 +5,7 @@ use Rattle.std.proofs.lemmas.Bool.{eqb-true, ltb-true, cases_lt}
 use Rattle.std.proofs.lemmas.Nat.{xor_shr, xor_mod}
 use Rattle.std.proofs.Math.Nat.{div-eq_of_lt, zero-div}
 use Rattle.std.proofs.Math.Pow.{pow_mono}
-use Rattle.bech32_gf.specs.Below.{each_below, each_below-at, and_left, and_right}
+use Rattle.bech32_gf.specs.laws.Below.{each_below, each_below-at, and_left, and_right}
 use Rattle.bech32_gf.specs.Gf32.{product}
 use Rattle.bech32_gf.specs.Fe32 as fe32
 use Rattle.bech32_checksum.specs.Packed.{digit_of}

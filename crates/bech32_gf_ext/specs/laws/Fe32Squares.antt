@@ -3,10 +3,10 @@ use Rattle.std.specs.Prelude.{◌≡◌, ◌==◌}
 use Rattle.std.proofs.Common.{refl}
 use Rattle.std.proofs.lemmas.Bool.{eqb-true}
 use Rattle.bech32_gf.specs.Gf32.{product}
-use Rattle.bech32_gf.specs.Below.{each_below-at}
-use Rattle.bech32_gf_ext.specs.CharacteristicTwo.{HasCharacteristicTwo}
+use Rattle.bech32_gf.specs.laws.Below.{each_below-at}
+use Rattle.bech32_gf_ext.specs.laws.CharacteristicTwo.{HasCharacteristicTwo}
 use Rattle.bech32_gf.specs.Fe32 as fe32
-use Rattle.bech32_gf.specs.Fe32Laws as fe32_laws
+use Rattle.bech32_gf.specs.laws.Fe32Laws as fe32_laws
 use Rattle.bech32_gf.specs.declared.gf32.Fe32.{Fe32}
 
 pub even : HasCharacteristicTwo fe32.ops

@@ -1,7 +1,7 @@
 -- The norm of an element other than zero is not zero: computed over all pairs of values.
 use Rattle.std.specs.Prelude.{◌≡◌, ℕ, true, bit_xor, nat_lt, ◌+◌, ◌==◌, ◌||◌}
 use Rattle.std.proofs.Common.{refl}
-use Rattle.bech32_gf.specs.Below.{each_below}
+use Rattle.bech32_gf.specs.laws.Below.{each_below}
 use Rattle.bech32_gf.specs.Gf32.{product}
 
 -- the norm of a + b z, where z^2 = z + 1, on values

@@ -3,13 +3,13 @@ use Rattle.std.specs.Prelude.{◌≡◌, ◌≢◌, ◌<◌, ◌+◌, ◌==◌, 
 use Rattle.std.proofs.Common.{refl, ap, sym, ◌∙◌, arith, ⊎_elim}
 use Rattle.std.proofs.lemmas.Bool.{eqb-true, ltb-true, or_cases}
 use Rattle.bech32_gf.specs.Field.{IsField, IsCharacteristic, power}
-use Rattle.bech32_gf.specs.Below.{each_below-at₂}
-use Rattle.bech32_gf_ext.specs.CharacteristicTwo as even_field
-use Rattle.bech32_gf_ext.specs.Nonzero.{norm₂, norm₂-not_zero}
+use Rattle.bech32_gf.specs.laws.Below.{each_below-at₂}
+use Rattle.bech32_gf_ext.specs.laws.CharacteristicTwo as even_field
+use Rattle.bech32_gf_ext.specs.laws.Nonzero.{norm₂, norm₂-not_zero}
 use Rattle.bech32_gf_ext.specs.Quadratic as quadratic
 use Rattle.bech32_gf.specs.Fe32 as fe32
-use Rattle.bech32_gf.specs.Fe32Laws as fe32_laws
-use Rattle.bech32_gf_ext.specs.Fe32Squares.{even}
+use Rattle.bech32_gf.specs.laws.Fe32Laws as fe32_laws
+use Rattle.bech32_gf_ext.specs.laws.Fe32Squares.{even}
 use Rattle.bech32_gf_ext.specs.Fe32Ext.{path, path_of_values}
 use Rattle.bech32_gf_ext.specs.Fe1024 as fe1024
 use Rattle.bech32_gf_ext.specs.Fe1024.{pair, low, high, norm, embed, retract, add, mul, inv}

@@ -2,17 +2,17 @@
 use Rattle.std.specs.Prelude.{◌≡◌, ◌≢◌, true, false, [], ◌∷◌}
 use Rattle.std.proofs.Common.{refl, ap, sym, ◌∙◌, arith}
 use Rattle.bech32_gf.specs.Field.{power, IsOrder, ListsDivisors, IsPositiveI64}
-use Rattle.bech32_gf.specs.Orders.{IsOrder-from_tests, differ, power-map, power_by_squares-power}
-use Rattle.bech32_gf.specs.FieldLaws.{power-suc, power-mul}
-use Rattle.bech32_gf.specs.Divisors.{ListsDivisors-from_tests}
-use Rattle.bech32_gf_ext.specs.CharacteristicTwo as even_field
+use Rattle.bech32_gf.specs.laws.Orders.{IsOrder-from_tests, differ, power-map, power_by_squares-power}
+use Rattle.bech32_gf.specs.laws.FieldLaws.{power-suc, power-mul}
+use Rattle.bech32_gf.specs.laws.Divisors.{ListsDivisors-from_tests}
+use Rattle.bech32_gf_ext.specs.laws.CharacteristicTwo as even_field
 use Rattle.bech32_gf_ext.specs.Quadratic as quadratic
 use Rattle.bech32_gf.specs.Fe32 as fe32
-use Rattle.bech32_gf.specs.Fe32Laws as fe32_laws
-use Rattle.bech32_gf_ext.specs.Fe32Squares.{even, square, five_squares}
+use Rattle.bech32_gf.specs.laws.Fe32Laws as fe32_laws
+use Rattle.bech32_gf_ext.specs.laws.Fe32Squares.{even, square, five_squares}
 use Rattle.bech32_gf_ext.specs.Fe1024 as fe1024
 use Rattle.bech32_gf_ext.specs.Fe1024.{pair, low, high, norm, embed, mul, divisors}
-use Rattle.bech32_gf_ext.specs.Fe1024Laws.{parts, same_parts, norm-not_zero, is_field, embed-mul}
+use Rattle.bech32_gf_ext.specs.laws.Fe1024Laws.{parts, same_parts, norm-not_zero, is_field, embed-mul}
 use Rattle.bech32_gf.specs.Gf32.{product}
 use Rattle.bech32_gf.specs.declared.gf32.Fe32.{Fe32}
 use Rattle.bech32_gf_ext.specs.declared.Fe32Ext.{Fe32Ext}

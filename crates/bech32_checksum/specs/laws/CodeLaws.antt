@@ -4,7 +4,7 @@ use Rattle.bech32_gf.specs.Gf32.{product}
 use Rattle.bech32_gf.specs.Fe32 as fe32
 use Rattle.bech32_gf.specs.declared.gf32.Fe32.{Fe32}
 use Rattle.bech32_checksum.specs.Code.{Code, code_of, no_checksum, bech32, bech32m}
-use Rattle.bech32_checksum.specs.PackedLaws.{keeps}
+use Rattle.bech32_checksum.specs.laws.PackedLaws.{keeps}
 use Rattle.bech32_checksum.specs.PackingLaws.{KeepsPackingLaws}
 
 -- the generator, packed, and its products with 2, 4, 8 and 16

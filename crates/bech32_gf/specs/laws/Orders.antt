@@ -4,7 +4,7 @@ use Rattle.std.specs.List.{list_any, list_all, AllByRecursion}
 use Rattle.std.proofs.Common.{refl, sym, ap, ◌∙◌, arith, zero-add, ⊎_elim, eq-eqb}
 use Rattle.std.proofs.lemmas.Bool.{eqb-true, or_cases, and_parts}
 use Rattle.bech32_gf.specs.Field.{Ops, IsField, power, IsOrder, ListsDivisors}
-use Rattle.bech32_gf.specs.FieldLaws.{power-zero, power-suc, power-of_one, power-mul, IsOrder-from_divisors}
+use Rattle.bech32_gf.specs.laws.FieldLaws.{power-zero, power-suc, power-of_one, power-mul, IsOrder-from_divisors}
 
 module _ {F : Type 0} {o : Ops F} (l : IsField o) where
   power-at_multiple : (x : F) (d n : ℕ) → n % d ≡ 0 → power o x d ≡ o.one → power o x n ≡ o.one

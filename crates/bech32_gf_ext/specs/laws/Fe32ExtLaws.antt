@@ -2,7 +2,7 @@
 use Rattle.std.specs.Prelude.{◌≡◌, ◌↔◌, ◌==◌, ℕ, IsTrue}
 use Rattle.std.proofs.Common.{ap}
 use lib.Pointwise.{pointwise, pointwise_decides}
-use Rattle.bech32_gf.specs.Fe32Laws as fe32_laws
+use Rattle.bech32_gf.specs.laws.Fe32Laws as fe32_laws
 use Rattle.bech32_gf_ext.specs.Fe32Ext.{path}
 use Rattle.bech32_gf.specs.declared.gf32.Fe32.{Fe32}
 use Rattle.bech32_gf_ext.specs.declared.Fe32Ext.{Fe32Ext}

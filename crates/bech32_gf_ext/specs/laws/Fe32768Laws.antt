@@ -3,14 +3,14 @@ use Rattle.std.specs.Prelude.{◌≡◌, ◌≢◌, ◌<◌, ◌==◌, ◌&&◌,
 use Rattle.std.proofs.Common.{refl, ap, sym, ◌∙◌, arith}
 use Rattle.std.proofs.lemmas.Bool.{eqb-true, ltb-true, and_parts}
 use Rattle.bech32_gf.specs.Field.{IsField, IsCharacteristic, power}
-use Rattle.bech32_gf.specs.Below.{each_below-at, each_below-at₂}
-use Rattle.bech32_gf_ext.specs.CharacteristicTwo as even_field
-use Rattle.bech32_gf_ext.specs.Nonzero.{norm₃, norm₃-monic₂, norm₃-monic₁, norm₃-monic₀}
-use Rattle.bech32_gf.specs.Ring as ring
+use Rattle.bech32_gf.specs.laws.Below.{each_below-at, each_below-at₂}
+use Rattle.bech32_gf_ext.specs.laws.CharacteristicTwo as even_field
+use Rattle.bech32_gf_ext.specs.laws.Nonzero.{norm₃, norm₃-monic₂, norm₃-monic₁, norm₃-monic₀}
+use Rattle.bech32_gf.specs.laws.Ring as ring
 use Rattle.bech32_gf_ext.specs.Cubic as cubic
 use Rattle.bech32_gf.specs.Fe32 as fe32
-use Rattle.bech32_gf.specs.Fe32Laws as fe32_laws
-use Rattle.bech32_gf_ext.specs.Fe32Squares.{even}
+use Rattle.bech32_gf.specs.laws.Fe32Laws as fe32_laws
+use Rattle.bech32_gf_ext.specs.laws.Fe32Squares.{even}
 use Rattle.bech32_gf_ext.specs.Fe32Ext.{path, path_of_values}
 use Rattle.bech32_gf_ext.specs.Fe32768 as fe32768
 use Rattle.bech32_gf_ext.specs.Fe32768.{triple, low, middle, high, norm, embed, retract, add, mul, inv}

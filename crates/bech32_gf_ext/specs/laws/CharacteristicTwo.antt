@@ -2,7 +2,7 @@
 use Rattle.std.specs.Prelude.{◌≡◌, ◌<◌, ◌≤◌, ℕ, zero, suc}
 use Rattle.std.proofs.Common.{sym, ◌∙◌, ap, arith}
 use Rattle.bech32_gf.specs.Field.{Ops, IsField, IsCharacteristic, multiple}
-use Rattle.bech32_gf.specs.Ring as ring
+use Rattle.bech32_gf.specs.laws.Ring as ring
 
 -- each element is its own negative
 abbrev pub HasCharacteristicTwo : {F : Type 0} → Ops F → Type 0

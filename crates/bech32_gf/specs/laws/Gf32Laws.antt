@@ -3,7 +3,7 @@ use Rattle.std.proofs.Common.{◌≡◌, ◌≢◌, ◌<◌, ℕ, zero, suc, ◌
 use Rattle.std.proofs.lemmas.Bool.{eqb-true, ltb-true}
 use Rattle.std.specs.Prelude.{nat_lt}
 use Rattle.bech32_gf.specs.Gf32.{product, product_of, inverse}
-use Rattle.bech32_gf.specs.Below.{each_below-at, each_below-at₂, each_below-at₃}
+use Rattle.bech32_gf.specs.laws.Below.{each_below-at, each_below-at₂, each_below-at₃}
 
 pub product-lt : (a b : ℕ) → a < 32 → b < 32 → product a b < 32
 unfolding product

@@ -1,0 +1,3 @@
+-- What the laws of traits are proved by.
+pub mod CodeLaws
+pub mod PackedLaws
