@@ -1,17 +1,20 @@
 //! Readers and writers with a mark that says whether a call failed.
 #![tactic(auto)]
 
-ghost use Rattle.std.specs.Prelude.{◌≡◌, ℕ, ◌-◌, ◌^◌, ◌≤◌, ◌<◌, List, Bool, true, false, ◌||◌, is_err, length, take, Option, OnOk, OnErr, IfOk};
+ghost use Rattle.std.specs.Prelude.{◌≡◌, ℕ, ◌+◌, ◌-◌, ◌^◌, ◌≤◌, ◌<◌, List, Bool, true, false};
+ghost use Rattle.std.specs.Prelude.{is_err, length, take, Option, OnOk, OnErr, IfOk};
 ghost use Rattle.std.specs.Io.{ReadsAtMost, WritesAtMost};
 ghost use Rattle.std.specs.Io.KnownBytes.{Keeps, Appends, ReadConsumes, WriteAppends};
 ghost use Rattle.bech32_device.specs.Marks.{write_fails};
+ghost use Rattle.bech32_device.specs.Watched.{device_of, reference_of, is_marked, was_flushed};
+ghost use Rattle.bech32_device.specs.Watched.{flush_count, reads_to_come};
 
 use std::io;
 
 /// What bytes are read from, with a mark that says whether a call failed.
 ///
-/// A call fails where it answers an error. A call that fails sets the mark, and no other call
-/// changes it: once set, it stays set.
+/// A call fails where it answers an error. A call that fails sets the mark, and then the source is
+/// asked nothing more: a read is allowed only while the mark is unset.
 pub trait ByteSource {
     // The bytes that reads will give from here on, where they are known.
     ghost remaining: { Self → Option (List ℕ) };
@@ -34,9 +37,10 @@ pub trait ByteSource {
     ///
     /// Where reading failed. No byte was read, and the mark is set.
     fn read(&mut self, buf: &mut [u8]) -> io::Result<usize>
+        requires { has_failed self.old ≡ false }
         ensures bound { ReadsAtMost result buf.new }
         ensures bytes { ReadConsumes (remaining self.old) (remaining self.new) result buf.new }
-        ensures mark { has_failed self.new ≡ (has_failed self.old || is_err result) }
+        ensures mark { has_failed self.new ≡ is_err result }
         ensures ends { OnOk result (reads_left self.new < reads_left self.old) }
         ensures same { is_same self.old self.new };
 
@@ -52,8 +56,8 @@ pub trait ByteSource {
 /// What bytes are written to, with a mark that says whether a call failed.
 ///
 /// A call fails where it answers an error; a `write` also where it answers `Ok(0)` for a slice
-/// that is not empty. A call that fails sets the mark, and no other call changes it: once set, it
-/// stays set.
+/// that is not empty. A call that fails sets the mark, and then the sink is asked nothing more: a
+/// write or a flush is allowed only while the mark is unset.
 pub trait ByteSink {
     // The bytes that went out, where they are known.
     ghost contents: { Self → Option (List ℕ) };
@@ -68,6 +72,9 @@ pub trait ByteSink {
     // The last flush succeeded, and no byte was taken since.
     ghost is_flushed: { Self → Bool };
 
+    // How many flushes succeeded.
+    ghost flushes: { Self → ℕ };
+
     /// Writes the front of `buf`, and answers how many bytes were taken.
     ///
     /// `Ok(0)` for a `buf` that is not empty is a failure too, and sets the mark.
@@ -76,11 +83,12 @@ pub trait ByteSink {
     ///
     /// Where writing failed. No byte was taken, and the mark is set.
     fn write(&mut self, buf: &[u8]) -> io::Result<usize>
+        requires { has_failed self.old ≡ false }
         ensures bound { WritesAtMost result buf.now }
         ensures bytes { WriteAppends (contents self.old) (contents self.new) result buf.now }
-        ensures mark { has_failed self.new
-            ≡ (has_failed self.old || write_fails result (length buf.now)) }
+        ensures mark { has_failed self.new ≡ write_fails result (length buf.now) }
         ensures unflushed { IfOk result (λ n. 0 < n → is_flushed self.new ≡ false) }
+        ensures uncounted { flushes self.new ≡ flushes self.old }
         ensures same { is_same self.old self.new };
 
     /// Hands on what was written.
@@ -89,9 +97,12 @@ pub trait ByteSink {
     ///
     /// Where that failed. The mark is set.
     fn flush(&mut self) -> io::Result<()>
+        requires { has_failed self.old ≡ false }
         ensures done { OnOk result (is_flushed self.new ≡ true) }
+        ensures counted { OnOk result (flushes self.new ≡ flushes self.old + 1) }
+        ensures uncounted { OnErr result (flushes self.new ≡ flushes self.old) }
         ensures bytes { Keeps (contents self.old) (contents self.new) }
-        ensures mark { has_failed self.new ≡ (has_failed self.old || is_err result) }
+        ensures mark { has_failed self.new ≡ is_err result }
         ensures same { is_same self.old self.new };
 
     /// Whether the mark is set.
@@ -108,30 +119,34 @@ pub trait ByteSink {
 /// The mark is unset at first, and set from the first failing call on. Over an [`io::Read`] this is
 /// a [`ByteSource`], and over an [`io::Write`] a [`ByteSink`].
 ///
-/// Each read, write and flush asks the device once, but for one limit: after 2^64 - 1 reads, every
-/// further one fails with [`io::ErrorKind::Other`] and does not ask. So a loop over reads ends,
-/// even where the reader never does.
+/// Each read, write and flush asks the device once, but for one limit: after 2^64 - 1 reads the
+/// next read fails with [`io::ErrorKind::Other`] and does not ask, and so does a flush after
+/// 2^64 - 1 flushes. So a loop over reads ends, even where the reader never does, and flushes can
+/// be counted.
 #[derive(Drop)]
 pub struct Watched<'a, D> {
     device: &'a mut D,
     marked: bool,
     flushed: bool,
+    flushes: u64,
     reads_left: u64,
 }
 
 impl<'a, D> Watched<'a, D> {
     /// Watches a device from now on: the mark is unset, whatever the device did before.
     pub fn new(device: &'a mut D) -> Watched<'a, D>
-        ensures device { result.device.now ≡ device.old }
-        ensures unmarked { result.marked ≡ false }
-        ensures unflushed { result.flushed ≡ false }
-        ensures reads { result.reads_left ≡ 2 ^ 64 - 1 }
-        ensures same { result.device.ghost_name ≡ device.entry.ghost_name }
+        ensures device { device_of result ≡ device.old }
+        ensures unmarked { is_marked result ≡ false }
+        ensures unflushed { was_flushed result ≡ false }
+        ensures flushes { flush_count result ≡ 0 }
+        ensures reads { reads_to_come result ≡ 2 ^ 64 - 1 }
+        ensures same { reference_of result ≡ device.entry.ghost_name }
     {
         Watched {
             device,
             marked: false,
             flushed: false,
+            flushes: 0,
             reads_left: u64::MAX,
         }
     }
@@ -141,13 +156,13 @@ impl<'a, D: io::Read> ByteSource for Watched<'a, D> {
     ghost use Rattle.std.specs.Prelude.{refl};
     ghost use Rattle.std.proofs.Common.{◌∙◌};
 
-    ghost remaining = { λ w. D.remaining w.device.now };
+    ghost remaining = { λ w. D.remaining (device_of w) };
 
-    ghost has_failed = { λ w. w.marked };
+    ghost has_failed = { is_marked };
 
-    ghost is_same = { λ s t. s.device.ghost_name ≡ t.device.ghost_name };
+    ghost is_same = { λ s t. reference_of s ≡ reference_of t };
 
-    ghost reads_left = { λ w. w.reads_left };
+    ghost reads_left = { reads_to_come };
 
     ghost reflexive = { λ s. refl };
 
@@ -160,7 +175,7 @@ impl<'a, D: io::Read> ByteSource for Watched<'a, D> {
         }
         self.reads_left -= 1;
         let outcome = self.device.read(buf);
-        self.marked |= outcome.is_err();
+        self.marked = outcome.is_err();
         outcome
     }
 
@@ -173,13 +188,15 @@ impl<'a, D: io::Write> ByteSink for Watched<'a, D> {
     ghost use Rattle.std.specs.Prelude.{refl};
     ghost use Rattle.std.proofs.Common.{◌∙◌};
 
-    ghost contents = { λ w. D.contents w.device.now };
+    ghost contents = { λ w. D.contents (device_of w) };
 
-    ghost has_failed = { λ w. w.marked };
+    ghost has_failed = { is_marked };
 
-    ghost is_same = { λ s t. s.device.ghost_name ≡ t.device.ghost_name };
+    ghost is_same = { λ s t. reference_of s ≡ reference_of t };
 
-    ghost is_flushed = { λ w. w.flushed };
+    ghost is_flushed = { was_flushed };
+
+    ghost flushes = { flush_count };
 
     ghost reflexive = { λ s. refl };
 
@@ -188,7 +205,7 @@ impl<'a, D: io::Write> ByteSink for Watched<'a, D> {
     fn write(&mut self, buf: &[u8]) -> io::Result<usize> {
         self.flushed = false;
         let outcome = self.device.write(buf);
-        self.marked |= match outcome {
+        self.marked = match outcome {
             Ok(n) => n == 0 && !buf.is_empty(),
             Err(_) => true,
         };
@@ -196,9 +213,14 @@ impl<'a, D: io::Write> ByteSink for Watched<'a, D> {
     }
 
     fn flush(&mut self) -> io::Result<()> {
+        if self.flushes == u64::MAX {
+            self.marked = true;
+            return Err(io::Error::from(io::ErrorKind::Other));
+        }
         let outcome = self.device.flush();
-        self.marked |= outcome.is_err();
+        self.marked = outcome.is_err();
         self.flushed = outcome.is_ok();
+        self.flushes += u64::from(outcome.is_ok());
         outcome
     }
 
@@ -221,6 +243,7 @@ pub fn write_all<K: ByteSink>(sink: &mut K, bytes: &[u8]) -> io::Result<()>
     ensures err_mark { OnErr result (K.has_failed sink.new ≡ true) }
     ensures beginning { OnErr result ((n : ℕ) × (n ≤ length bytes.now)
         × Appends (K.contents sink.old) (K.contents sink.new) (take n bytes.now)) }
+    ensures uncounted { K.flushes sink.new ≡ K.flushes sink.old }
     ensures same { K.is_same sink.old sink.new }
 {
     let mut at = 0;
@@ -233,3 +256,6 @@ pub fn write_all<K: ByteSink>(sink: &mut K, bytes: &[u8]) -> io::Result<()>
     }
     Ok(())
 }
+
+#[cfg(test)]
+mod tests;

@@ -1,7 +1,9 @@
 ghost use Rattle.std.specs.Prelude.{ℕ, ◌≤◌, length, take, OnOk, OnErr};
 ghost use Rattle.std.specs.Io.KnownBytes.{Appends};
 
-use super::*;
+use bech32_device::{ByteSink, ByteSource, Watched, write_all};
+use bech32_testing::compare::{same, same_items};
+use std::io;
 use std::test::Fail;
 
 // Takes at most `step` bytes a call, and fails once `room` are taken.
@@ -92,22 +94,34 @@ impl<'a> io::Read for Hiccup<'a> {
     }
 }
 
-// What a read answers, `None` for an error, and the mark after it.
-fn read_once<S: ByteSource>(source: &mut S, buf: &mut [u8]) -> (Option<usize>, bool) {
-    let outcome = source.read(buf);
-    (outcome.ok(), source.failed())
+// What a call answered, `None` for an error, and the mark after it; or that the device had failed
+// before and was asked nothing more.
+type Answer<T> = Option<(Option<T>, bool)>;
+
+// A read of at most four bytes, and the first of them.
+fn read_once<S: ByteSource>(source: &mut S) -> (Answer<usize>, u8) {
+    let mut buf = [0u8; 4];
+    if source.failed() {
+        return (None, 0);
+    }
+    let outcome = source.read(&mut buf).ok();
+    (Some((outcome, source.failed())), buf[0])
 }
 
-// What a write answers, `None` for an error, and the mark after it.
-fn write_once<K: ByteSink>(sink: &mut K, buf: &[u8]) -> (Option<usize>, bool) {
-    let outcome = sink.write(buf);
-    (outcome.ok(), sink.failed())
+fn write_once<K: ByteSink>(sink: &mut K, buf: &[u8]) -> Answer<usize> {
+    if sink.failed() {
+        return None;
+    }
+    let outcome = sink.write(buf).ok();
+    Some((outcome, sink.failed()))
 }
 
-// Whether a flush succeeds, and the mark after it.
-fn flush_once<K: ByteSink>(sink: &mut K) -> (bool, bool) {
-    let outcome = sink.flush();
-    (outcome.is_ok(), sink.failed())
+fn flush_once<K: ByteSink>(sink: &mut K) -> Answer<()> {
+    if sink.failed() {
+        return None;
+    }
+    let outcome = sink.flush().ok();
+    Some((outcome, sink.failed()))
 }
 
 // What is proved of a sink is known of the writer that it watched.
@@ -121,7 +135,7 @@ fn write_to<W: io::Write>(writer: &mut W, bytes: &[u8]) -> io::Result<()>
 }
 
 #[test]
-fn write_all_to_a_writer_that_fails(rt: HostRuntime) -> Result<(), Fail> {
+fn write_all_to_a_writer_that_fails(rt: HostRuntime) {
     for room in 0..8usize {
         let mut writer = Narrow {
             got: Vec::new(rt.alloc()),
@@ -129,115 +143,133 @@ fn write_all_to_a_writer_that_fails(rt: HostRuntime) -> Result<(), Fail> {
             step: 3,
         };
         let mut sink = Watched::new(&mut writer);
-        assert!(rt; !sink.failed(), "room {room}");
+        let marked_at_first = sink.failed();
         let outcome = write_all(&mut sink, b"hello").map_err(|e| e.kind());
+        let marked = sink.failed();
         let want = if room < 5 {
             Err(io::ErrorKind::StorageFull)
         } else {
             Ok(())
         };
-        assert_eq!(rt; outcome, want, "room {room}");
-        assert_eq!(rt; sink.failed(), room < 5, "room {room}");
-        let front = &b"hello"[..room.min(5)];
-        assert!(rt; writer.got.as_slice() == front, "room {room}");
+        same(
+            &rt,
+            &(room, marked_at_first, outcome, marked),
+            &(room, false, want, room < 5),
+        );
+        same_items(&rt, &writer.got, &b"hello"[..room.min(5)]);
     }
+}
+
+#[test]
+fn write_all_to_a_vec(rt: HostRuntime) -> Result<(), Fail> {
     let mut bytes = Vec::new(rt.alloc());
     write_to(&mut bytes, b"hel")?;
     write_to(&mut bytes, b"lo")?;
-    assert!(rt; bytes.as_slice() == b"hello".as_slice());
+    same_items(&rt, &bytes, b"hello");
     Ok(())
 }
 
 #[test]
-fn write_that_fails_marks_for_good(rt: HostRuntime) -> Result<(), Fail> {
+fn write_that_fails_marks(rt: HostRuntime) {
     let mut writer = Narrow {
         got: Vec::new(rt.alloc()),
         room: 4,
         step: 3,
     };
     let mut sink = Watched::new(&mut writer);
-    assert_eq!(rt; write_once(&mut sink, b"hello"), (Some(3), false));
-    assert_eq!(rt; write_once(&mut sink, b"lo"), (Some(1), false));
-    assert_eq!(rt; write_once(&mut sink, b"o"), (None, true));
-    assert_eq!(rt; write_once(&mut sink, b"o"), (None, true));
-    assert_eq!(rt; flush_once(&mut sink), (true, true));
+    let writes = [
+        write_once(&mut sink, b"hello"),
+        write_once(&mut sink, b"lo"),
+        write_once(&mut sink, b"o"),
+        write_once(&mut sink, b"o"),
+    ];
+    let flush = flush_once(&mut sink);
     writer.room = 5;
-    let mut again = Watched::new(&mut writer);
-    assert_eq!(rt; write_once(&mut again, b"o"), (Some(1), false));
-    assert!(rt; writer.got.as_slice() == b"hello".as_slice());
-    Ok(())
+    let again = write_once(&mut Watched::new(&mut writer), b"o");
+    let want = [
+        Some((Some(3), false)),
+        Some((Some(1), false)),
+        Some((None, true)),
+        None,
+    ];
+    same_items(&rt, &writes, &want);
+    same(&rt, &(flush, again), &(None, Some((Some(1), false))));
+    same_items(&rt, &writer.got, b"hello");
 }
 
 #[test]
 fn write_that_takes_nothing_marks(rt: HostRuntime) {
     let mut writer = Full;
     let mut sink = Watched::new(&mut writer);
-    assert_eq!(rt; write_once(&mut sink, b""), (Some(0), false));
-    assert_eq!(rt; write_once(&mut sink, b"a"), (Some(0), true));
-    assert_eq!(rt; write_once(&mut sink, b""), (Some(0), true));
-    let mut sink = Watched::new(&mut writer);
-    assert!(rt; write_all(&mut sink, b"").is_ok());
-    assert!(rt; !sink.failed());
-    let outcome = write_all(&mut sink, b"a").map_err(|e| e.kind());
-    assert_eq!(rt; outcome, Err(io::ErrorKind::WriteZero));
-    assert!(rt; sink.failed());
+    let writes = [
+        write_once(&mut sink, b""),
+        write_once(&mut sink, b"a"),
+        write_once(&mut sink, b""),
+    ];
+    let mut of_nothing = Watched::new(&mut writer);
+    let nothing = (write_all(&mut of_nothing, b"").is_ok(), of_nothing.failed());
+    let mut of_a_byte = Watched::new(&mut writer);
+    let outcome = write_all(&mut of_a_byte, b"a").map_err(|e| e.kind());
+    let byte = (outcome, of_a_byte.failed());
+    same_items(
+        &rt,
+        &writes,
+        &[Some((Some(0), false)), Some((Some(0), true)), None],
+    );
+    same(
+        &rt,
+        &(nothing, byte),
+        &((true, false), (Err(io::ErrorKind::WriteZero), true)),
+    );
 }
 
 #[test]
-fn flush_that_fails_marks_for_good(rt: HostRuntime) {
+fn flush_that_fails_marks(rt: HostRuntime) {
     let mut writer = Clogged { flushes: 0 };
     let mut sink = Watched::new(&mut writer);
-    assert_eq!(rt; write_once(&mut sink, b"ab"), (Some(2), false));
-    assert_eq!(rt; flush_once(&mut sink), (false, true));
-    assert_eq!(rt; flush_once(&mut sink), (true, true));
-    assert_eq!(rt; write_once(&mut sink, b"c"), (Some(1), true));
-    assert_eq!(rt; writer.flushes, 2);
+    let first = (write_once(&mut sink, b"ab"), flush_once(&mut sink));
+    let then = (flush_once(&mut sink), write_once(&mut sink, b"c"));
+    let mut again = Watched::new(&mut writer);
+    let last = (flush_once(&mut again), write_once(&mut again, b"c"));
+    same(&rt, &first, &(Some((Some(2), false)), Some((None, true))));
+    same(&rt, &then, &(None, None));
+    same(
+        &rt,
+        &last,
+        &(Some((Some(()), false)), Some((Some(1), false))),
+    );
+    same(&rt, &writer.flushes, &2);
 }
 
 #[test]
-fn read_that_fails_marks_for_good(rt: HostRuntime) -> Result<(), Fail> {
+fn read_that_fails_marks(rt: HostRuntime) {
     let mut reader = Hiccup {
         left: b"abc",
         good: Some(1),
     };
     let mut source = Watched::new(&mut reader);
-    assert!(rt; !source.failed());
-    let mut got = Vec::new(rt.alloc());
-    for want in [
-        (Some(1), false),
-        (None, true),
-        (Some(1), true),
-        (Some(1), true),
-        (Some(0), true),
-    ] {
-        let mut buf = [0u8; 4];
-        let answer = read_once(&mut source, &mut buf);
-        assert_eq!(rt; answer, want);
-        if answer.0 == Some(1) {
-            got.push(buf[0])?;
-        }
-    }
-    assert!(rt; got.as_slice() == b"abc".as_slice());
-    assert!(rt; !Watched::new(&mut reader).failed());
-    Ok(())
-}
-
-#[test]
-fn reads_past_the_limit_fail(rt: HostRuntime) {
-    let mut reader = Hiccup {
-        left: b"abc",
-        good: None,
-    };
-    let mut source = Watched {
-        device: &mut reader,
-        marked: false,
-        flushed: false,
-        reads_left: 2,
-    };
-    let mut buf = [0u8; 4];
-    assert_eq!(rt; read_once(&mut source, &mut buf), (Some(1), false));
-    assert_eq!(rt; read_once(&mut source, &mut buf), (Some(1), false));
-    assert_eq!(rt; read_once(&mut source, &mut buf), (None, true));
-    assert_eq!(rt; read_once(&mut source, &mut buf), (None, true));
-    assert_eq!(rt; reader.left.len(), 1);
+    let marked_at_first = source.failed();
+    let reads = [
+        read_once(&mut source),
+        read_once(&mut source),
+        read_once(&mut source),
+    ];
+    let mut again = Watched::new(&mut reader);
+    let more = [
+        read_once(&mut again),
+        read_once(&mut again),
+        read_once(&mut again),
+    ];
+    let byte = |b: u8| (Some((Some(1), false)), b);
+    same(&rt, &marked_at_first, &false);
+    same_items(
+        &rt,
+        &reads,
+        &[byte(b'a'), (Some((None, true)), 0), (None, 0)],
+    );
+    same_items(
+        &rt,
+        &more,
+        &[byte(b'b'), byte(b'c'), (Some((Some(0), false)), 0)],
+    );
 }

@@ -7,6 +7,7 @@ invariant-loop-at g l = record {
   within : l.at ≤ length l.bytes;
   unmarked : g.K.ByteSink.has_failed l.sink ≡ false;
   written : Appends (g.K.ByteSink.contents l.initial.sink) (g.K.ByteSink.contents l.sink) (take l.at l.bytes);
+  uncounted : g.K.ByteSink.flushes l.sink ≡ g.K.ByteSink.flushes l.initial.sink;
   same : g.K.ByteSink.is_same l.initial.sink l.sink;
 }
 
