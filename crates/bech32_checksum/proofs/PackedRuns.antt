@@ -1,5 +1,5 @@
 -- Rows that are packed from runs of values.
-use Rattle.std.proofs.Common.{◌≡◌, ◌<◌, ◌≤◌, ◌+◌, ℕ, List, [], ◌∷◌, ◌++◌, map, reverse, length, Option, Some, None, MatchOption, sym, ◌∙◌, ap, subst, arith, ◌-◌, ◌*◌, ◌%◌, ◌^◌, lt_of_lt_of_le}
+use Rattle.std.proofs.Common.{◌≡◌, ◌<◌, ◌≤◌, ◌+◌, ℕ, List, [], ◌∷◌, ◌++◌, length, Option, Some, None, MatchOption, sym, ◌∙◌, ap, subst, arith, ◌-◌, ◌*◌, ◌%◌, ◌^◌, lt_of_lt_of_le}
 use Rattle.std.specs.List.{All}
 use Rattle.std.specs.Iterator.{Yields}
 use Rattle.std.specs.Iterator.Runs.{Run, EachRunFrom, WholeRun, AllItems}
@@ -9,8 +9,7 @@ use Rattle.std.proofs.lemmas.Option.{slice_get-get_or}
 use Rattle.std.proofs.lemmas.List.{length-append, get_or_append_left}
 use Rattle.std.proofs.Math.Nat.{mod-eq_of_lt}
 use Rattle.std.proofs.Math.Pow.{pow_mono}
-use Rattle.bech32_gf.specs.Fe32 as fe32
-use Rattle.bech32_checksum.specs.Packed.{digits, number_of_digits}
+use Rattle.bech32_checksum.specs.Packed.{digits, number_of_digits, Packs, HasDigits, pushed_digits}
 use Rattle.bech32_checksum.proofs.PackedRows.{number_of_digits-more, number_of_digits-lt, digits-number_of_digits}
 
 All-everywhere : (xs : List ℕ) (P : ℕ → Type 0) → Everywhere xs P → All P xs
@@ -40,13 +39,13 @@ module _ {S : Type 0} (steps : S → Option ℕ → S → Type 0) (width : ℕ) 
 
   -- at the end the row has the digits of all values
   pub packed_run : (row : ℕ) (u : S) → row ≡ number_of_digits xs → steps t None u
-      → WholeRun steps s (λ p. (row ≡ number_of_digits p.items) × (digits p.len row ≡ map fe32.element (reverse p.items)))
+      → WholeRun steps s (λ p. Packs p.items row)
   packed_run row u is step =
       let k = run_of_exit steps s xs t ran u step in
       let whole : row ≡ number_of_digits k.0.items = is ∙ ap number_of_digits (sym k.3.0) in
       let small = All-items k.0 (fits k.0 k.0.seen k.1).1 in
-      let elements = ap (λ n. digits n row) k.0.long ∙ (ap (digits (length k.0.items)) whole ∙ digits-number_of_digits k.0.items small) in
-      (k.0, k.1, k.2, (whole, elements))
+      let elements = ap (digits (length k.0.items)) whole ∙ digits-number_of_digits k.0.items small in
+      (k.0, k.1, k.2, record { number_is = whole; digits_are = elements })
 
 All-before : (xs : List ℕ) (x : ℕ) → All (λ v. v < 32) (xs ++ (x ∷ [])) → All (λ v. v < 32) xs
 All-before xs x h = λ k d below.
@@ -58,14 +57,14 @@ row-lt row width xs x is fit =
     let within : 5 * length xs ≤ 5 * (width - 1) = omega (arith, fit.0) in
     rw is (lt_of_lt_of_le (number_of_digits-lt xs (All-before xs x fit.1)) (pow_mono within))
 
-pub row-clear : (row width : ℕ) (xs : List ℕ) (x : ℕ) → row ≡ number_of_digits xs → FitsRow width xs x → row < 2 ^ (5 * width)
+pub row-clear : (row width : ℕ) (xs : List ℕ) (x : ℕ) → row ≡ number_of_digits xs → FitsRow width xs x → HasDigits width row
 row-clear row width xs x is fit =
     let wider : 5 * (width - 1) ≤ 5 * width = omega arith in
     lt_of_lt_of_le (row-lt row width xs x is fit) (pow_mono wider)
 
 -- the row with the next value in the lowest place
 pub row-more : (row after width : ℕ) (xs : List ℕ) (x : ℕ) → row ≡ number_of_digits xs → FitsRow width xs x
-    → (0 < width → after ≡ (row % 2 ^ (5 * (width - 1))) * 32 + x) → after ≡ number_of_digits (xs ++ (x ∷ []))
+    → (0 < width → after ≡ pushed_digits width row x) → after ≡ number_of_digits (xs ++ (x ∷ []))
 row-more row after width xs x is fit others =
     let some : 0 < width = omega (arith, fit.0) in
     let whole : row % 2 ^ (5 * (width - 1)) ≡ row = mod-eq_of_lt (row-lt row width xs x is fit) in

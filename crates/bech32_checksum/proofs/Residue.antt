@@ -1,5 +1,5 @@
--- Residues of packed words.
-use Rattle.std.proofs.Common.{◌≡◌, ◌<◌, ◌≤◌, ◌*◌, ◌/◌, ◌^◌, ℕ, zero, suc, List, [], ◌∷◌, length, get_or, subst, refl, sym, ◌∙◌, ap, arith}
+-- The size of a residue, and the residue of an engine that was given nothing.
+use Rattle.std.proofs.Common.{◌≡◌, ◌<◌, ◌≤◌, ◌*◌, ◌/◌, ◌^◌, ℕ, zero, suc, List, [], ◌∷◌, length, subst, refl, sym, ◌∙◌, ap, arith}
 use Rattle.std.proofs.Math.Nat.{div-eq_of_lt}
 use Rattle.std.proofs.Math.Pow.{pow-lt}
 use Rattle.bech32_gf.specs.Fe32 as fe32
@@ -10,27 +10,13 @@ use Rattle.bech32_poly.proofs.Lists.{same_cons}
 use Rattle.bech32_poly.specs.Division.{zeros}
 use Rattle.bech32_poly.proofs.Remainder.{remainder_exists, remainder_of-short}
 use Rattle.bech32_checksum.specs.Packed.{digit_of, digits, tabulate}
-use Rattle.bech32_checksum.specs.Code.{Code, code_of, IsResidueOf}
+use Rattle.bech32_checksum.specs.Code.{Code, code_of}
 use Rattle.bech32_checksum.proofs.Digits.{length-tabulate}
 
--- a residue by the code of packed words is a remainder by the first word's digits
-module _ {R : Type 0} (number : R → ℕ) (code : Code) (code_length degree : ℕ) (words : List R) (target : R)
-    (law : code ≡ code_of number code_length degree words target) where
-  pub same_size : length code.generator ≡ degree
-  same_size = ap (λ (c : Code). length c.generator) law ∙ length-tabulate degree _
-
-  pub remainder_of_residue : (r : R) (p : List Fe32) → IsResidueOf number code r p
-      → IsRemainder fe32.ops (digits degree (number (get_or words 0 target))) p (digits degree (number r))
-  remainder_of_residue r p h =
-      subst (λ (g : List Fe32). IsRemainder fe32.ops g p (digits degree (number r))) (ap (λ (c : Code). c.generator) law)
-      (subst (λ n. IsRemainder fe32.ops code.generator p (digits n (number r))) same_size h)
-
-  pub residue_of_remainder : (r : R) (p : List Fe32)
-      → IsRemainder fe32.ops (digits degree (number (get_or words 0 target))) p (digits degree (number r))
-      → IsResidueOf number code r p
-  residue_of_remainder r p h =
-      subst (λ n. IsRemainder fe32.ops code.generator p (digits n (number r))) (sym same_size)
-      (subst (λ (g : List Fe32). IsRemainder fe32.ops g p (digits degree (number r))) (sym (ap (λ (c : Code). c.generator) law)) h)
+-- the generator of the code of packed words has as many lower coefficients as the degree
+pub same_size : {R : Type 0} (number : R → ℕ) (code : Code) (code_length degree : ℕ) (words : List R) (target : R)
+    → code ≡ code_of number code_length degree words target → length code.generator ≡ degree
+same_size number code code_length degree words target law = ap (λ (c : Code). length c.generator) law ∙ length-tabulate degree _
 
 zero_above : (n : ℕ) → digit_of 1 (suc n) ≡ fe32.zero
 zero_above n =
@@ -44,13 +30,13 @@ zeros_above zero f h = refl
 zeros_above (suc c) f h = same_cons _ _ _ _ (h 0) (zeros_above c (λ i. f (suc i)) (λ n. h (suc n)))
 
 -- an engine that was given nothing has the remainder of the polynomial 1
-pub one_is_residue : (d width n word : ℕ) → d ≤ width → (0 < width → n ≡ 1)
-    → IsRemainder fe32.ops (digits d word) (fe32.one ∷ []) (digits d n)
-one_is_residue zero width n word within one = remainder_exists is_field [] (fe32.one ∷ [])
-one_is_residue (suc c) width n word within one =
-    let low = digits (suc c) word in
+pub one_is_residue : (low : List Fe32) (width n : ℕ) → length low ≤ width → (0 < width → n ≡ 1)
+    → IsRemainder fe32.ops low (fe32.one ∷ []) (digits (length low) n)
+one_is_residue [] width n within one = remainder_exists is_field [] (fe32.one ∷ [])
+one_is_residue (a ∷ rest) width n within one =
+    let low : List Fe32 = a ∷ rest in
+    let c : ℕ = length rest in
     let there : n ≡ 1 = one (omega arith) in
-    let size : length low ≡ suc c = length-tabulate (suc c) (digit_of word) in
     subst (IsRemainder fe32.ops low (fe32.one ∷ []))
     (remainder_of-short is_field low (fe32.one ∷ []) c (omega arith)
     ∙ same_cons _ _ _ _ (fe32.path fe32.one (digit_of 1 0) refl) (sym (zeros_above c (λ i. digit_of 1 (suc i)) zero_above))

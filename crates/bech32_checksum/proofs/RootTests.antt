@@ -6,17 +6,17 @@ use Rattle.std.proofs.Math.Nat.{mod-eq_of_lt}
 use Rattle.std.proofs.Math.Seq.{get_or-append_seam}
 use Rattle.std.proofs.lemmas.List.{length-append}
 use Rattle.std.proofs.lemmas.List.FromFn.{length-map-range_with_len, get_or-map-range_with_len}
-use Rattle.bech32_gf.specs.Field.{Ops, IsField, IsOrder, power, value_at}
+use Rattle.bech32_gf.specs.Field.{Ops, IsField, power, value_at}
 use Rattle.bech32_gf.specs.laws.FieldLaws.{mul_zero}
 use Rattle.bech32_gf.specs.Fe32 as fe32
 use Rattle.bech32_gf.specs.Powers.{powers_of, left_of}
 use Rattle.bech32_gf.specs.declared.field.PowersRange.{PowersRange}
 use Rattle.bech32_gf.specs.declared.gf32.Fe32.{Fe32}
 use Rattle.bech32_poly.specs.Remainder.{monic}
-use Rattle.bech32_checksum.specs.Packed.{digit_of}
-use Rattle.bech32_checksum.specs.Code.{Code, code_of}
-use Rattle.bech32_checksum.specs.Roots.{HasLawfulRoots, generator_at}
-use Rattle.bech32_checksum.proofs.Digits.{length-tabulate, get_or-tabulate}
+use Rattle.bech32_checksum.specs.Packed.{digit_of, digits}
+use Rattle.bech32_checksum.specs.Code.{Code}
+use Rattle.bech32_checksum.specs.Roots.{HasLawfulRoots, HasOrderFrom, PowersAreRoots}
+use Rattle.bech32_checksum.proofs.Digits.{get_or-tabulate}
 
 -- ---- Horner's rule: the value of the coefficients from one place on, out of that from the next place on
 
@@ -37,28 +37,20 @@ module _ {F : Type 0} (o : Ops F) (embed : Fe32 → F) (x : F) where
 
 -- ---- the coefficients of the generator are the digits of the first word
 
-module _ {R : Type 0} (number : R → ℕ) (code : Code) (code_length degree : ℕ) (words : List R) (target : R)
-    (law : code ≡ code_of number code_length degree words target) where
-  pub length-generator : length code.generator ≡ degree
-  length-generator = ap (λ (c : Code). length c.generator) law ∙ length-tabulate degree _
+-- the first of five words, as the array of them gives it
+pub first_word : {R : Type 0} (words read : List R) (target item : R) → length words ≡ 5 → read ≡ words → get_or read 0 item ≡ get_or words 0 target
+first_word words read target item five same = ap (λ ws. get_or ws 0 item) same ∙ any_default words item target five
+  where
+    any_default : {R : Type 0} (ws : List R) (d e : R) → length ws ≡ 5 → get_or ws 0 d ≡ get_or ws 0 e
+    any_default [] d e none = absurd (omega arith)
+    any_default (w ∷ ws) d e some = refl
 
-  pub is_code_length : code.code_length ≡ code_length
-  is_code_length = ap (λ (c : Code). c.code_length) law
-
-  -- `read` is the array of the words
-  pub coefficient_of_digit : (read : List R) (item : R) (i v : ℕ) → length words ≡ 5 → read ≡ words
-      → i < degree → v < 32 → v ≡ (digit_of (number (get_or read 0 item)) i).value
-      → get_or code.generator i fe32.zero ≡ fe32.element v
-  coefficient_of_digit read item i v five same below small value =
-      let first : get_or read 0 item ≡ get_or words 0 target = ap (λ (ws : List R). get_or ws 0 item) same ∙ any_default words item target five in
-      ap (λ (c : Code). get_or c.generator i fe32.zero) law
-      ∙ get_or-tabulate degree (digit_of (number (get_or words 0 target))) i fe32.zero below
-      ∙ ap (λ (w : R). digit_of (number w) i) (sym first)
-      ∙ fe32.path _ _ (sym value ∙ sym (mod-eq_of_lt small))
-    where
-      any_default : (ws : List R) (d e : R) → length ws ≡ 5 → get_or ws 0 d ≡ get_or ws 0 e
-      any_default [] d e none = absurd (omega arith)
-      any_default (w ∷ ws) d e some = refl
+pub coefficient_of_digit : (low : List Fe32) (degree word i v : ℕ) → low ≡ digits degree word
+    → i < degree → v < 32 → v ≡ (digit_of word i).value → get_or low i fe32.zero ≡ fe32.element v
+coefficient_of_digit low degree word i v is below small value =
+    ap (λ (xs : List Fe32). get_or xs i fe32.zero) is
+    ∙ get_or-tabulate degree (digit_of word) i fe32.zero below
+    ∙ fe32.path _ _ (sym value ∙ sym (mod-eq_of_lt small))
 
 -- ---- walks over powers
 
@@ -132,13 +124,6 @@ module _ {F : Type 0} (o : Ops F) (value : F → F) (base : F) (start end : ℕ)
 
 module _ {F : Type 0} (o : Ops F) (embed : Fe32 → F) (code : Code) (base : F) (start end degree code_length : ℕ)
     (size : length code.generator ≡ degree) (limit : code.code_length ≡ code_length) where
-  -- the base is not zero, and its order is not below the code length
-  abbrev pub IsLongEnough : Type 0
-  IsLongEnough = (base ≢ o.zero) × ((order : ℕ) × IsOrder o base order × (code_length ≤ order))
-
-  abbrev pub RootsOfGenerator : Type 0
-  RootsOfGenerator = AreRoots o (generator_at o embed code) base start end
-
   pub lawful_at_degree_0 : degree ≡ 0 → HasLawfulRoots o embed code base start end
   lawful_at_degree_0 none some = absurd (omega arith)
 
@@ -149,12 +134,12 @@ module _ {F : Type 0} (o : Ops F) (embed : Fe32 → F) (code : Code) (base : F) 
       let few : end - start < length code.generator = roots.few in
       omega arith
 
-  pub not_lawful_by_order : degree ≢ 0 → (IsLongEnough → ⊥) → HasLawfulRoots o embed code base start end → ⊥
+  pub not_lawful_by_order : degree ≢ 0 → (HasOrderFrom o base code_length → ⊥) → HasLawfulRoots o embed code base start end → ⊥
   not_lawful_by_order some short lawful =
       let roots = lawful (omega arith) in
       short (roots.not_zero, (roots.order, roots.is_order, subst (λ n. n ≤ roots.order) limit roots.long_enough))
 
-  pub lawful_by_roots : degree ≢ 0 → start ≤ end → end - start < degree → IsLongEnough → (RootsOfGenerator ↔ HasLawfulRoots o embed code base start end)
+  pub lawful_by_roots : degree ≢ 0 → start ≤ end → end - start < degree → HasOrderFrom o base code_length → (PowersAreRoots o embed code base start end ↔ HasLawfulRoots o embed code base start end)
   lawful_by_roots some ordered few long = (
     λ roots _. record {
       not_zero = long.0;

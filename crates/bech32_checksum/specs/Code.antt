@@ -5,13 +5,16 @@ use Rattle.bech32_gf.specs.declared.gf32.Fe32.{Fe32}
 use Rattle.bech32_poly.specs.Remainder.{IsRemainder}
 use Rattle.bech32_checksum.specs.Packed.{digits}
 
--- the lower coefficients of its monic generator, its target (both with the constant term first, one for each place below the degree), and the greatest length of a text
+-- The generator and the target of a checksum (BIP-173, Checksum), and how long a text may be. Of the generator, which
+-- is monic, these are the lower coefficients; they and the target's have the constant term first, one for each place
+-- below the degree. BIP-173 (Bech32) allows texts of at most 90 characters for Bech32. The general calls allow as many
+-- as the code length, 1,023, within which the roots still locate errors; so does the Rust crate.
 pub record Code : Type 0 where
   pub generator : List Fe32
   pub target : List Fe32
   pub code_length : ℕ
 
--- the code of packed words: the generator's lower coefficients are the digits of the first word
+-- the code of packed words (BIP-173, Checksum): the generator's lower coefficients are the digits of the first word
 abbrev pub code_of : {R : Type 0} → (R → ℕ) → ℕ → ℕ → List R → R → Code
 code_of number code_length degree words target = record {
   generator = digits degree (number (slice_index_or words 0 target));
@@ -19,15 +22,18 @@ code_of number code_length degree words target = record {
   code_length = code_length;
 }
 
--- the packed residue is the remainder of p by the generator
+-- the packed residue is the remainder of p by the generator (BIP-173, Checksum)
 abbrev pub IsResidueOf : {R : Type 0} → (R → ℕ) → Code → R → List Fe32 → Type 0
-IsResidueOf number code residue p = IsRemainder fe32.ops code.generator p (digits (length code.generator) (number residue))
+IsResidueOf number code residue p =
+    IsRemainder fe32.ops code.generator p (digits (length code.generator) (number residue))
 
--- no checksum: the generator 1 and the target 0, which have no coefficient below the degree 0; the code length is the greatest usize
+-- no checksum, which is in no standard: the generator 1 and the target 0, which have no coefficient below the degree 0;
+-- the code length is the greatest usize
 abbrev pub no_checksum : Code
 no_checksum = record { generator = []; target = []; code_length = 2 ^ 64 - 1 }
 
--- Bech32 (BIP-173, Checksum): the generator x^6 + 29 x^5 + 22 x^4 + 20 x^3 + 21 x^2 + 29 x + 18 and the target 1; the code length is 1023
+-- Bech32 (BIP-173, Checksum): the generator x^6 + 29 x^5 + 22 x^4 + 20 x^3 + 21 x^2 + 29 x + 18 and the target 1; the
+-- code length is 1023, where a Bech32 text of BIP-173 has at most 90 characters
 abbrev pub bech32 : Code
 bech32 = record {
   generator = map fe32.element (18 ∷ 29 ∷ 21 ∷ 20 ∷ 22 ∷ 29 ∷ []);

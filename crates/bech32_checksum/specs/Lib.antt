@@ -1,5 +1,6 @@
 pub mod Code
 pub mod Encoded
+pub mod Engine
 pub mod HrpFes
 pub mod Packed
 pub mod PackingLaws

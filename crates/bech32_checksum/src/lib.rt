@@ -1,13 +1,13 @@
 //! Checksums of elements: the words that define one, and the engine that computes it.
 #![tactic(auto)]
 
-ghost use Rattle.std.specs.Prelude.{◌≡◌, ◌↔◌, ◌<◌, ◌≤◌, ◌*◌, ◌/◌, ◌^◌, map, reverse, ℕ, List, Some, IsTrue, length, slice_get, suc, ◌∷◌, []};
+ghost use Rattle.std.specs.Prelude.{◌≡◌, ◌↔◌, ◌/◌, map, reverse, ℕ, List, IsTrue, length, ◌∷◌, [], ⊤};
 ghost use Rattle.bech32_gf.specs.declared.gf32.Fe32.{Fe32 as Element};
 ghost use Rattle.bech32_gf.specs.Fe32 as fe32;
 ghost use Rattle.bech32_poly.specs.Polynomial.{appended, scale};
 ghost use Rattle.bech32_hrp.specs.Hrp.{lowered};
-ghost use Rattle.bech32_checksum.specs.Packed.{digit_of, digits};
-ghost use Rattle.bech32_checksum.specs.Code.{Code, code_of, IsResidueOf};
+ghost use Rattle.bech32_checksum.specs.Packed.{HasDigits, IsRowOf};
+ghost use Rattle.bech32_checksum.specs.Code.{Code, code_of};
 ghost use Rattle.bech32_checksum.specs.PackingLaws.{KeepsPackingLaws};
 ghost use Rattle.bech32_checksum.specs.Roots.{HasLawfulRoots};
 
@@ -23,6 +23,7 @@ use bech32_gf::field::ExtensionField;
 use bech32_gf::gf32::Fe32;
 use bech32_hrp::Hrp;
 use std::alloc::AllocError;
+use std::fmt::Debug;
 
 /// A checksum: a code with a monic generator over the elements, and the remainder that right texts
 /// leave (BIP-173, Checksum).
@@ -76,9 +77,8 @@ pub trait Checksum {
     /// The provided one sums the words. Whoever defines a checksum may read a table in its place.
     #[inline]
     fn generator_times(element: Fe32) -> Self::MidstateRepr
-        ensures product { digits CHECKSUM_LENGTH (Self.MidstateRepr.number result)
-            ≡ scale fe32.ops element code.generator }
-        ensures clear { Self.MidstateRepr.number result < 2 ^ (5 * CHECKSUM_LENGTH) }
+        ensures { IsRowOf CHECKSUM_LENGTH (scale fe32.ops element code.generator)
+            (Self.MidstateRepr.number result) }
     {
         let bits = element.to_u8();
         // The row of zeros.
@@ -132,14 +132,19 @@ pub trait Checksum {
 /// characters (BIP-173, Checksum).
 #[derive(Drop)]
 #[derive_where(PartialEq, Eq)]
+#[derive_where(Debug; Ck::MidstateRepr: Debug)]
 pub struct Engine<Ck: Checksum> {
     residue: Ck::MidstateRepr,
-    pub ghost clear: { Ck.MidstateRepr.number residue < 2 ^ (5 * Ck.CHECKSUM_LENGTH) },
+    ghost clear: { HasDigits Ck.CHECKSUM_LENGTH (Ck.MidstateRepr.number residue) },
 }
 
+/// Never an error.
 impl<Ck: Checksum> Clone for Engine<Ck> {
-    ghost is_clone = { λ x y. y.residue ≡ x.residue };
+    ghost is_clone = { λ x y. y ≡ x };
 
+    ghost is_infallible = { λ _. ⊤ };
+
+    #[inline]
     fn clone(&self) -> Result<Self, AllocError> {
         Ok(Engine {
             residue: self.residue,
@@ -148,7 +153,9 @@ impl<Ck: Checksum> Clone for Engine<Ck> {
 }
 
 impl<Ck: Checksum> Default for Engine<Ck> {
-    ghost is_default = { λ x. IsResidueOf Ck.MidstateRepr.number Ck.code x.residue (fe32.one ∷ []) };
+    ghost use Rattle.bech32_checksum.specs.Engine.{Holds};
+
+    ghost is_default = { λ engine. Holds engine (fe32.one ∷ []) };
 
     fn default() -> Self {
         Self::new()
@@ -156,10 +163,14 @@ impl<Ck: Checksum> Default for Engine<Ck> {
 }
 
 impl<Ck: Checksum> Engine<Ck> {
+    ghost use Rattle.bech32_checksum.specs.Engine.{Holds, residue_of};
+    ghost use Rattle.bech32_checksum.specs.TextPolynomial.{hrp_elements};
+    ghost use Rattle.bech32_hrp.specs.HrpBytes.{hrp_bytes};
+
     /// An engine that was given nothing.
     #[inline]
     pub fn new() -> Self
-        ensures { IsResidueOf Ck.MidstateRepr.number Ck.code result.residue (fe32.one ∷ []) }
+        ensures { Holds result (fe32.one ∷ []) }
     {
         Engine {
             residue: Ck::MidstateRepr::ONE,
@@ -169,7 +180,7 @@ impl<Ck: Checksum> Engine<Ck> {
     /// The remainder of what was given so far.
     #[inline]
     pub fn residue(&self) -> &Ck::MidstateRepr
-        ensures { result.now ≡ self.now.residue }
+        ensures { result.now ≡ residue_of self.now }
     {
         &self.residue
     }
@@ -177,9 +188,7 @@ impl<Ck: Checksum> Engine<Ck> {
     /// Takes the next element.
     #[inline]
     pub fn input_fe(&mut self, e: Fe32)
-        ensures { (p : List Element)
-            → IsResidueOf Ck.MidstateRepr.number Ck.code self.old.residue p
-            → IsResidueOf Ck.MidstateRepr.number Ck.code self.new.residue (e ∷ p) }
+        ensures { (p : List Element) → Holds self.old p → Holds self.new (e ∷ p) }
     {
         let mut residue = self.residue;
         let xn = residue.mul_by_x_then_add(Ck::CHECKSUM_LENGTH, e.to_u8());
@@ -192,10 +201,7 @@ impl<Ck: Checksum> Engine<Ck> {
     /// first, put in the target's place, make the polynomial leave the target.
     #[inline]
     pub fn input_target_residue(&mut self)
-        ensures { (p : List Element)
-            → IsResidueOf Ck.MidstateRepr.number Ck.code self.old.residue p
-            → IsResidueOf Ck.MidstateRepr.number Ck.code self.new.residue
-            (appended p (reverse Ck.code.target)) }
+        ensures { (p : List Element) → Holds self.old p → Holds self.new (appended p (reverse Ck.code.target)) }
     {
         for i in 0..Ck::CHECKSUM_LENGTH {
             let place = Ck::CHECKSUM_LENGTH - 1 - i;
@@ -203,14 +209,10 @@ impl<Ck: Checksum> Engine<Ck> {
         }
     }
 
-    ghost use Rattle.bech32_checksum.specs.TextPolynomial.{hrp_elements};
-    ghost use Rattle.bech32_hrp.specs.HrpBytes.{hrp_bytes};
-
     // Takes the highest three bits of each byte, in lower case.
     fn input_high_bits(&mut self, bytes: &[u8])
-        ensures { (p : List Element)
-            → IsResidueOf Ck.MidstateRepr.number Ck.code self.old.residue p
-            → IsResidueOf Ck.MidstateRepr.number Ck.code self.new.residue (appended p (map (λ b. fe32.element (b / 32)) (lowered bytes.now))) }
+        ensures { (p : List Element) → Holds self.old p
+            → Holds self.new (appended p (map (λ b. fe32.element (b / 32)) (lowered bytes.now))) }
     {
         for b in bytes {
             self.input_fe(Fe32::from_low_bits(b.to_ascii_lowercase() / 32));
@@ -219,9 +221,8 @@ impl<Ck: Checksum> Engine<Ck> {
 
     // Takes the lowest five bits of each byte, in lower case.
     fn input_low_bits(&mut self, bytes: &[u8])
-        ensures { (p : List Element)
-            → IsResidueOf Ck.MidstateRepr.number Ck.code self.old.residue p
-            → IsResidueOf Ck.MidstateRepr.number Ck.code self.new.residue (appended p (map fe32.element (lowered bytes.now))) }
+        ensures { (p : List Element) → Holds self.old p
+            → Holds self.new (appended p (map fe32.element (lowered bytes.now))) }
     {
         for b in bytes {
             self.input_fe(Fe32::from_low_bits(b.to_ascii_lowercase()));
@@ -231,9 +232,8 @@ impl<Ck: Checksum> Engine<Ck> {
     /// Takes the elements of a human-readable part: the high bits of each byte, a zero, the low
     /// bits of each (BIP-173, Checksum). The case of its letters does not count.
     pub fn input_hrp(&mut self, hrp: Hrp)
-        ensures { (p : List Element)
-            → IsResidueOf Ck.MidstateRepr.number Ck.code self.old.residue p
-            → IsResidueOf Ck.MidstateRepr.number Ck.code self.new.residue (appended p (hrp_elements (hrp_bytes hrp))) }
+        ensures { (p : List Element) → Holds self.old p
+            → Holds self.new (appended p (hrp_elements (hrp_bytes hrp))) }
     {
         self.input_high_bits(hrp.as_bytes());
         self.input_fe(Fe32::Q);

@@ -1,12 +1,12 @@
 //! Rows of elements, packed into integers.
 
-ghost use Rattle.std.specs.Prelude.{◌≡◌, ◌↔◌, ◌<◌, ◌≤◌, ◌+◌, ◌-◌, ◌*◌, ◌/◌, ◌%◌, ◌^◌, bit_xor, map, reverse, ℕ, IsTrue, refl};
+ghost use Rattle.std.specs.Prelude.{◌≡◌, ◌↔◌, ◌<◌, ◌≤◌, bit_xor, ℕ, IsTrue, refl};
 ghost use Rattle.std.proofs.Common.{arith, rules};
 ghost use Rattle.std.specs.Mem.{type_size};
 ghost use Rattle.std.specs.Iterator.{IsFinite};
 ghost use Rattle.std.specs.Iterator.Runs.{EachRunFrom, WholeRun, AllItems};
 ghost use Rattle.bech32_gf.specs.Fe32 as fe32;
-ghost use Rattle.bech32_checksum.specs.Packed.{digit_of, digits, number_of_digits};
+ghost use Rattle.bech32_checksum.specs.Packed.{digit_of, HasDigits, Packs, highest_digit, pushed_digits};
 ghost use Rattle.bech32_checksum.specs.laws.PackedLaws as packed;
 
 mod in_u128;
@@ -37,9 +37,7 @@ pub trait PackedFe32: Copy + PartialEq + Eq + BitXor<Self, Output = Self> {
         requires finite { IsFinite (I.remaining iter) }
         requires fits { EachRunFrom I.next_gives iter (λ p.
             (p.len ≤ WIDTH) × AllItems p (λ value. value < 32)) }
-        ensures { 0 < WIDTH → WholeRun I.next_gives iter (λ p.
-            (number result ≡ number_of_digits p.items)
-            × (digits p.len (number result) ≡ map fe32.element (reverse p.items))) }
+        ensures { 0 < WIDTH → WholeRun I.next_gives iter (λ p. Packs p.items (number result)) }
     {
         // The row of zeros.
         let mut row = Self::ONE ^ Self::ONE;
@@ -60,11 +58,10 @@ pub trait PackedFe32: Copy + PartialEq + Eq + BitXor<Self, Output = Self> {
     fn mul_by_x_then_add(&mut self, degree: usize, add: u8) -> u8
         requires positive { 0 < WIDTH → 0 < degree }
         requires within { degree ≤ WIDTH }
-        requires clear { number self.old < 2 ^ (5 * degree) }
+        requires clear { HasDigits degree (number self.old) }
         requires in_field { add < 32 }
-        ensures highest { 0 < WIDTH → result ≡ number self.old / 2 ^ (5 * (degree - 1)) }
-        ensures others { 0 < WIDTH
-            → number self.new ≡ (number self.old % 2 ^ (5 * (degree - 1))) * 32 + add }
+        ensures highest { 0 < WIDTH → result ≡ highest_digit degree (number self.old) }
+        ensures others { 0 < WIDTH → number self.new ≡ pushed_digits degree (number self.old) add }
         ensures empty { WIDTH ≡ 0 → result ≡ 0 };
 
     // A value takes 16 bytes at most, and so has 25 elements at most.

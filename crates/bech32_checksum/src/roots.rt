@@ -1,8 +1,7 @@
 //! Whether the roots of a checksum are lawful.
 
-ghost use Rattle.std.specs.Prelude.{◌≡◌, ◌≢◌, ◌≤◌, ◌↔◌, ℕ, IsTrue};
-ghost use Rattle.bech32_gf.specs.Field.{IsOrder, power};
-ghost use Rattle.bech32_checksum.specs.Roots.{generator_at};
+ghost use Rattle.std.specs.Prelude.{◌≡◌, ◌≤◌, ◌↔◌, IsTrue};
+ghost use Rattle.bech32_checksum.specs.Roots.{generator_at, HasOrderFrom, PowersAreRoots};
 
 use crate::{Checksum, PackedFe32};
 use bech32_gf::field::{Field, MultiplicativeOrder};
@@ -23,8 +22,7 @@ fn generator_value<Ck: Checksum>(x: Ck::CorrectionField) -> Ck::CorrectionField
 
 /// Whether the base of the roots is not zero, and its order not below the code length.
 pub(super) fn order_is_long_enough<Ck: Checksum>() -> bool
-    ensures { IsTrue result ↔ ((Ck.ROOT_GENERATOR ≢ Ck.CorrectionField.ops.zero)
-        × ((order : ℕ) × IsOrder Ck.CorrectionField.ops Ck.ROOT_GENERATOR order × (Ck.CODE_LENGTH ≤ order))) }
+    ensures { IsTrue result ↔ HasOrderFrom Ck.CorrectionField.ops Ck.ROOT_GENERATOR Ck.CODE_LENGTH }
 {
     let base = Ck::ROOT_GENERATOR;
     base != Ck::CorrectionField::ZERO && Ck::CODE_LENGTH <= base.multiplicative_order()
@@ -33,9 +31,8 @@ pub(super) fn order_is_long_enough<Ck: Checksum>() -> bool
 /// Whether each power of the base from the first exponent to the last is a root of the generator.
 pub(super) fn powers_are_roots<Ck: Checksum>() -> bool
     requires { Ck.ROOT_EXPONENTS_START ≤ Ck.ROOT_EXPONENTS_END }
-    ensures { IsTrue result ↔ ((e : ℕ) → Ck.ROOT_EXPONENTS_START ≤ e → e ≤ Ck.ROOT_EXPONENTS_END
-        → generator_at Ck.CorrectionField.ops Ck.CorrectionField.embed Ck.code (power Ck.CorrectionField.ops Ck.ROOT_GENERATOR e)
-        ≡ Ck.CorrectionField.ops.zero) }
+    ensures { IsTrue result ↔ PowersAreRoots Ck.CorrectionField.ops Ck.CorrectionField.embed
+        Ck.code Ck.ROOT_GENERATOR Ck.ROOT_EXPONENTS_START Ck.ROOT_EXPONENTS_END }
 {
     let base = Ck::ROOT_GENERATOR;
     for x in base.powers_range(Ck::ROOT_EXPONENTS_START, Ck::ROOT_EXPONENTS_END) {

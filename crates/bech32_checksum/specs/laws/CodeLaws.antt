@@ -1,9 +1,9 @@
 -- The codes of the checksums are those of their packed words.
-use Rattle.std.specs.Prelude.{◌≡◌, ℕ, List, [], ◌∷◌, ◌-◌, ◌^◌, true, map, refl}
+use Rattle.std.specs.Prelude.{◌≡◌, ℕ, List, [], ◌∷◌, map, refl}
 use Rattle.bech32_gf.specs.Gf32.{product}
 use Rattle.bech32_gf.specs.Fe32 as fe32
 use Rattle.bech32_gf.specs.declared.gf32.Fe32.{Fe32}
-use Rattle.bech32_checksum.specs.Code.{Code, code_of, no_checksum, bech32, bech32m}
+use Rattle.bech32_checksum.specs.Code.{Code, code_of, bech32, bech32m}
 use Rattle.bech32_checksum.specs.laws.PackedLaws.{keeps}
 use Rattle.bech32_checksum.specs.PackingLaws.{KeepsPackingLaws}
 
@@ -40,7 +40,3 @@ bech32_is_packed = same_code _ _ (same_values _ _ refl) (same_values _ _ refl) r
 
 pub bech32m_is_packed : bech32m ≡ code_of (λ (x : ℕ). x) 1023 6 words 0x2bc830a3
 bech32m_is_packed = same_code _ _ (same_values _ _ refl) (same_values _ _ refl) refl
-
--- whatever the words are, a code of degree 0 has no coefficients
-pub no_checksum_is_packed : {R : Type 0} → (number : R → ℕ) (row : List R) (target : R) → no_checksum ≡ code_of number (2 ^ 64 - 1) 0 row target
-no_checksum_is_packed number row target = refl

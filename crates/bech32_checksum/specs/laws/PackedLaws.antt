@@ -25,7 +25,8 @@ abbrev pub are_shifts : ℕ → List ℕ → Bool
 are_shifts d [] = true
 are_shifts d (w ∷ words) = nat_lt w (2 ^ (5 * d)) && (next_is_shift d w words && are_shifts d words)
 
-pub clear : (d : ℕ) (words : List ℕ) → are_shifts d words ≡ true → (i w : ℕ) → slice_get words i ≡ Some w → w < 2 ^ (5 * d)
+clear : (d : ℕ) (words : List ℕ) → are_shifts d words ≡ true
+    → (i w : ℕ) → slice_get words i ≡ Some w → w < 2 ^ (5 * d)
 clear d [] h i w e = cc
 clear d (v ∷ words) h zero w e =
     let same : v ≡ w = cc in
@@ -59,7 +60,7 @@ first_shift d w v words h n =
     (ltb-true v (2 ^ (5 * d)) (and_left (nat_lt v (2 ^ (5 * d))) (is_shift d w v) next))
     (and_right (nat_lt v (2 ^ (5 * d))) (is_shift d w v) next)
 
-pub shift : (d : ℕ) (words : List ℕ) → are_shifts d words ≡ true
+shift : (d : ℕ) (words : List ℕ) → are_shifts d words ≡ true
     → (i w v : ℕ) → slice_get words i ≡ Some w → slice_get words (suc i) ≡ Some v
     → (n : ℕ) → digit_of v n ≡ fe32.mul (digit_of w n) fe32.generator
 shift d [] h i w v e f n = cc
@@ -113,7 +114,8 @@ keeps width d words target h =
     }
 
 -- rows that hold nothing do
-pub null_keeps : {R : Type 0} (words : List R) (target : R) → length words ≡ 5 → KeepsPackingLaws (λ (_ : R). 0) 0 0 words target
+pub null_keeps : {R : Type 0} (words : List R) (target : R) → length words ≡ 5
+    → KeepsPackingLaws (λ (_ : R). 0) 0 0 words target
 null_keeps words target five = record {
   fits = omega arith;
   empty = λ _. refl;

@@ -1,9 +1,8 @@
 //! The products of the generator of BIP-173.
 
-ghost use Rattle.std.specs.Prelude.{◌≡◌, ◌<◌, ◌*◌, ◌^◌};
 ghost use Rattle.bech32_poly.specs.Polynomial.{scale};
 ghost use Rattle.bech32_gf.specs.Fe32 as fe32;
-ghost use Rattle.bech32_checksum.specs.Packed.{digits};
+ghost use Rattle.bech32_checksum.specs.Packed.{IsRowOf};
 ghost use Rattle.bech32_checksum.specs.Code.{bech32};
 
 use bech32_gf::gf32::Fe32;
@@ -19,8 +18,7 @@ const PRODUCTS: [u32; 32] = [
 // The product of an element and the generator's lower coefficients, packed.
 #[inline]
 pub(crate) fn product_with(element: Fe32) -> u32
-    ensures product { digits 6 result ≡ scale fe32.ops element bech32.generator }
-    ensures clear { result < 2 ^ (5 * 6) }
+    ensures { IsRowOf 6 (scale fe32.ops element bech32.generator) result }
 {
     PRODUCTS[element.to_u8() as usize]
 }

@@ -58,13 +58,13 @@ loop-i-preserved g c = elim c.if-bits-i-eq1.branch [
   })
 ]
 
-pub returns-clause-product : goal.returns-clause-product
-returns-clause-product g c =
+pub returns : goal.returns
+returns g c =
     let five : c.loop-i.i ≡ 5 = omega arith in
-    scaled_word g.Self.Checksum.CHECKSUM_LENGTH (g.Self.MidstateRepr.PackedFe32.number c.loop-i.sum)
-    (g.Self.MidstateRepr.PackedFe32.number (get_or g.Self.Checksum.GENERATOR_SH 0 g.Self.Checksum.TARGET_RESIDUE)) c.args.element
-    (rw (five, c.to_u8-bits.ensures) at c.loop-i.invariant.digits)
-    ∙ ap (λ (k : Code). scale fe32.ops c.args.element k.generator) (sym g.met.Self.Checksum.code_law)
-
-pub returns-clause-clear : goal.returns-clause-clear
-returns-clause-clear g c = c.loop-i.invariant.clear
+    record {
+      elements_are = scaled_word g.Self.Checksum.CHECKSUM_LENGTH (g.Self.MidstateRepr.PackedFe32.number c.loop-i.sum)
+          (g.Self.MidstateRepr.PackedFe32.number (get_or g.Self.Checksum.GENERATOR_SH 0 g.Self.Checksum.TARGET_RESIDUE)) c.args.element
+          (rw (five, c.to_u8-bits.ensures) at c.loop-i.invariant.digits)
+          ∙ ap (λ (k : Code). scale fe32.ops c.args.element k.generator) (sym g.met.Self.Checksum.code_law);
+      clear = c.loop-i.invariant.clear;
+    }

@@ -1,5 +1,5 @@
 use Rattle.std.proofs.Common.{◌≡◌, ◌≢◌, ◌↔◌, ◌<◌, ◌≤◌, ◌-◌, ◌⊎◌, Bool, true, false, IsTrue, inl, inr, refl, arith}
-use Rattle.bech32_checksum.proofs.RootTests.{length-generator, is_code_length, not_lawful_by_exponents, not_lawful_by_order, lawful_by_roots}
+use Rattle.bech32_checksum.proofs.RootTests.{not_lawful_by_exponents, not_lawful_by_order, lawful_by_roots}
 use Rattle.bech32_checksum.proofs.Checksum.sanity_check.Goals as goal
 use Rattle.bech32_checksum.proofs.Checksum.sanity_check.Goals.{then-end-start-via-then-end-start, then-end-start-via-else-end-start+then-CHECKSUM_LENGTH-end}
 
@@ -10,13 +10,9 @@ false_where_not false is not = (λ h. absurd (let e : false ≡ true = h in cc),
 
 pub returns-then-end-start : goal.returns-then-end-start
 returns-then-end-start g c =
-    let number = g.Self.MidstateRepr.PackedFe32.number in
     let code = g.Self.Checksum.code in
     let degree = g.Self.Checksum.CHECKSUM_LENGTH in
     let code_length = g.Self.Checksum.CODE_LENGTH in
-    let words = g.Self.Checksum.GENERATOR_SH in
-    let target = g.Self.Checksum.TARGET_RESIDUE in
-    let law = g.met.Self.Checksum.code_law in
     let start = g.Self.Checksum.ROOT_EXPONENTS_START in
     let end = g.Self.Checksum.ROOT_EXPONENTS_END in
     let start_read : c.ROOT_EXPONENTS_START-start.result ≡ start = c.ROOT_EXPONENTS_START-start.ensures in
@@ -32,17 +28,13 @@ returns-then-end-start g c =
     let some : degree ≢ 0 = omega arith in
     false_where_not false refl
     (not_lawful_by_exponents g.Self.CorrectionField.Field.ops g.Self.CorrectionField.ExtensionField.embed code g.Self.Checksum.ROOT_GENERATOR start end degree code_length
-    (length-generator number code code_length degree words target law) (is_code_length number code code_length degree words target law) some wrong)
+    g.met.Self.Checksum.degree_law g.met.Self.Checksum.code_length_law some wrong)
 
 pub returns-then-order_is_long_enough : goal.returns-then-order_is_long_enough
 returns-then-order_is_long_enough g c =
-    let number = g.Self.MidstateRepr.PackedFe32.number in
     let code = g.Self.Checksum.code in
     let degree = g.Self.Checksum.CHECKSUM_LENGTH in
     let code_length = g.Self.Checksum.CODE_LENGTH in
-    let words = g.Self.Checksum.GENERATOR_SH in
-    let target = g.Self.Checksum.TARGET_RESIDUE in
-    let law = g.met.Self.Checksum.code_law in
     let start = g.Self.Checksum.ROOT_EXPONENTS_START in
     let end = g.Self.Checksum.ROOT_EXPONENTS_END in
     let start_read : c.ROOT_EXPONENTS_START-start.result ≡ start = c.ROOT_EXPONENTS_START-start.ensures in
@@ -54,19 +46,15 @@ returns-then-order_is_long_enough g c =
     let few : end - start < degree = omega arith in
     let same =
     lawful_by_roots g.Self.CorrectionField.Field.ops g.Self.CorrectionField.ExtensionField.embed code g.Self.Checksum.ROOT_GENERATOR start end degree code_length
-    (length-generator number code code_length degree words target law) (is_code_length number code code_length degree words target law)
+    g.met.Self.Checksum.degree_law g.met.Self.Checksum.code_length_law
     some ordered few (c.order_is_long_enough.ensures.0 c.if-order_is_long_enough.true) in
     (λ h. same.0 (c.powers_are_roots.ensures.0 h), λ lawful. c.powers_are_roots.ensures.1 (same.1 lawful))
 
 pub returns-else-order_is_long_enough : goal.returns-else-order_is_long_enough
 returns-else-order_is_long_enough g c =
-    let number = g.Self.MidstateRepr.PackedFe32.number in
     let code = g.Self.Checksum.code in
     let degree = g.Self.Checksum.CHECKSUM_LENGTH in
     let code_length = g.Self.Checksum.CODE_LENGTH in
-    let words = g.Self.Checksum.GENERATOR_SH in
-    let target = g.Self.Checksum.TARGET_RESIDUE in
-    let law = g.met.Self.Checksum.code_law in
     let start = g.Self.Checksum.ROOT_EXPONENTS_START in
     let end = g.Self.Checksum.ROOT_EXPONENTS_END in
     let degree_read : c.CHECKSUM_LENGTH.result ≡ degree = c.CHECKSUM_LENGTH.ensures in
@@ -74,5 +62,5 @@ returns-else-order_is_long_enough g c =
     let off : c.order_is_long_enough.result ≡ false = c.if-order_is_long_enough.false in
     false_where_not c.order_is_long_enough.result off
     (not_lawful_by_order g.Self.CorrectionField.Field.ops g.Self.CorrectionField.ExtensionField.embed code g.Self.Checksum.ROOT_GENERATOR start end degree code_length
-    (length-generator number code code_length degree words target law) (is_code_length number code code_length degree words target law)
+    g.met.Self.Checksum.degree_law g.met.Self.Checksum.code_length_law
     some (λ long. let on : c.order_is_long_enough.result ≡ true = c.order_is_long_enough.ensures.1 long in cc))

@@ -1,9 +1,5 @@
-use Rattle.std.proofs.Common.{◌<◌, ◌*◌, ◌∙◌, ap, get_or}
+use Rattle.std.proofs.Common.{◌<◌, ◌*◌}
 use Rattle.std.proofs.lemmas.Nat.{xor_lt}
-use Rattle.bech32_gf.specs.Fe32 as fe32
-use Rattle.bech32_poly.specs.Polynomial.{scale}
-use Rattle.bech32_checksum.specs.Code.{Code}
-use Rattle.bech32_checksum.proofs.Residue.{remainder_of_residue, residue_of_remainder}
 use Rattle.bech32_checksum.proofs.Input.{input_result, clear_after}
 use Rattle.bech32_checksum.proofs.Engine.input_fe.Goals as goal
 
@@ -22,20 +18,14 @@ invariant_of-self g c = record {
 pub returns : goal.returns
 returns g c p h =
     let number = g.Ck.MidstateRepr.PackedFe32.number in
-    let degree = g.Ck.Checksum.CHECKSUM_LENGTH in
-    let words = g.Ck.Checksum.GENERATOR_SH in
-    let target = g.Ck.Checksum.TARGET_RESIDUE in
-    residue_of_remainder number g.Ck.Checksum.code g.Ck.Checksum.CODE_LENGTH degree words target g.met.Ck.Checksum.code_law
-    c.bitxor-self.result _
-    (input_result p degree g.Ck.MidstateRepr.PackedFe32.WIDTH
+    input_result g.Ck.Checksum.code.generator p g.Ck.Checksum.CHECKSUM_LENGTH g.Ck.MidstateRepr.PackedFe32.WIDTH
     (number c.args.self.now.residue)
     (number c.mul_by_x_then_add-xn.new.self)
     (number c.generator_times.result)
     (number c.bitxor-self.result)
-    (number (get_or words 0 target))
     c.mul_by_x_then_add-xn.result c.args.e
-    g.met.Ck.Checksum.packing_laws.fits (rw c.CHECKSUM_LENGTH.ensures at c.mul_by_x_then_add-xn.ensures.highest) (rw (c.CHECKSUM_LENGTH.ensures, c.to_u8.ensures) at c.mul_by_x_then_add-xn.ensures.others)
-    ((rw c.from_low_bits.ensures at c.generator_times.ensures.product)
-    ∙ ap (λ (k : Code). scale fe32.ops (fe32.element c.mul_by_x_then_add-xn.result) k.generator) g.met.Ck.Checksum.code_law)
+    g.met.Ck.Checksum.degree_law g.met.Ck.Checksum.packing_laws.fits
+    (rw c.CHECKSUM_LENGTH.ensures at c.mul_by_x_then_add-xn.ensures.highest) (rw (c.CHECKSUM_LENGTH.ensures, c.to_u8.ensures) at c.mul_by_x_then_add-xn.ensures.others)
+    (rw c.from_low_bits.ensures at c.generator_times.ensures.elements_are)
     (g.met.Ck.MidstateRepr.PackedFe32.sum_law _ _ _ c.bitxor-self.ensures)
-    (remainder_of_residue number g.Ck.Checksum.code g.Ck.Checksum.CODE_LENGTH degree words target g.met.Ck.Checksum.code_law c.args.self.now.residue p h))
+    h

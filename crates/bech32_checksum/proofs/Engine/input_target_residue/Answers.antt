@@ -1,9 +1,9 @@
-use Rattle.std.proofs.Common.{◌≡◌, ◌<◌, ◌≤◌, ◌-◌, ◌∷◌, reverse, subst, sym, take}
+use Rattle.std.proofs.Common.{◌≡◌, ◌<◌, ◌≤◌, ◌-◌, ◌∷◌, ap, reverse, subst, sym, take}
 use Rattle.bech32_gf.specs.Fe32 as fe32
 use Rattle.bech32_gf.specs.declared.gf32.Fe32.{Fe32}
 use Rattle.bech32_poly.specs.Polynomial.{appended}
 use Rattle.bech32_checksum.specs.Packed.{digit_of}
-use Rattle.bech32_checksum.specs.Code.{IsResidueOf}
+use Rattle.bech32_checksum.specs.Code.{Code, IsResidueOf}
 use Rattle.bech32_checksum.proofs.Target.{appended_more, appended_all}
 use Rattle.bech32_checksum.proofs.Engine.input_target_residue.Goals as goal
 
@@ -21,7 +21,7 @@ loop-i-preserved g c p h =
     subst (λ (e : Fe32). IsResidueOf number code c.input_fe.new.self.residue (e ∷ before)) c.from_low_bits.ensures
     (c.input_fe.ensures before (c.loop-i.invariant p h)) in
     subst (IsResidueOf number code c.input_fe.new.self.residue)
-    (sym (appended_more number code g.Ck.Checksum.CODE_LENGTH degree g.Ck.Checksum.GENERATOR_SH target g.met.Ck.Checksum.code_law p c.loop-i.i c.unpack.result here c.unpack.ensures.below value))
+    (sym (appended_more code.target degree (number target) (ap (λ (k : Code). k.target) g.met.Ck.Checksum.code_law) p c.loop-i.i c.unpack.result here c.unpack.ensures.below value))
     after
 
 pub returns : goal.returns
@@ -31,5 +31,5 @@ returns g c p h =
     let degree = g.Ck.Checksum.CHECKSUM_LENGTH in
     let all : degree ≤ c.loop-i.i = rw c.CHECKSUM_LENGTH-i-end.ensures at c.loop-i-test.false in
     subst (IsResidueOf number code c.loop-i.self.residue)
-    (appended_all number code g.Ck.Checksum.CODE_LENGTH degree g.Ck.Checksum.GENERATOR_SH g.Ck.Checksum.TARGET_RESIDUE g.met.Ck.Checksum.code_law p c.loop-i.i all)
+    (appended_all code.target degree (number g.Ck.Checksum.TARGET_RESIDUE) (ap (λ (k : Code). k.target) g.met.Ck.Checksum.code_law) p c.loop-i.i all)
     (c.loop-i.invariant p h)

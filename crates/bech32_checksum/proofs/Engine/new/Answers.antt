@@ -1,5 +1,5 @@
 use Rattle.bech32_checksum.proofs.Input.{one_clear}
-use Rattle.bech32_checksum.proofs.Residue.{residue_of_remainder, one_is_residue}
+use Rattle.bech32_checksum.proofs.Residue.{one_is_residue}
 use Rattle.bech32_checksum.proofs.Engine.new.Goals as goal
 
 pub invariant_of-result : goal.invariant_of-result
@@ -10,6 +10,5 @@ invariant_of-result g c = record {
 
 pub returns : goal.returns
 returns g c = rw c.ONE.ensures
-    (residue_of_remainder g.Ck.MidstateRepr.PackedFe32.number g.Ck.Checksum.code g.Ck.Checksum.CODE_LENGTH g.Ck.Checksum.CHECKSUM_LENGTH g.Ck.Checksum.GENERATOR_SH g.Ck.Checksum.TARGET_RESIDUE g.met.Ck.Checksum.code_law
-    g.Ck.MidstateRepr.PackedFe32.ONE _
-    (one_is_residue g.Ck.Checksum.CHECKSUM_LENGTH g.Ck.MidstateRepr.PackedFe32.WIDTH _ _ g.met.Ck.Checksum.packing_laws.fits g.met.Ck.MidstateRepr.PackedFe32.one_law))
+    (one_is_residue g.Ck.Checksum.code.generator g.Ck.MidstateRepr.PackedFe32.WIDTH _
+    (rw g.met.Ck.Checksum.degree_law g.met.Ck.Checksum.packing_laws.fits) g.met.Ck.MidstateRepr.PackedFe32.one_law)

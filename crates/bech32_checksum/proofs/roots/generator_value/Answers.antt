@@ -1,6 +1,7 @@
 use Rattle.std.proofs.Common.{◌≡◌, ◌<◌, ◌-◌, ℕ, suc, length, get_or, sym, ◌∙◌, ap, arith}
 use Rattle.bech32_gf.specs.Fe32 as fe32
-use Rattle.bech32_checksum.proofs.RootTests.{value_from, value_from-degree, value_from-place, length-generator, coefficient_of_digit}
+use Rattle.bech32_checksum.specs.Code.{Code}
+use Rattle.bech32_checksum.proofs.RootTests.{value_from, value_from-degree, value_from-place, first_word, coefficient_of_digit}
 use Rattle.bech32_checksum.proofs.roots.generator_value.Goals as goal
 
 pub loop-place-init : goal.loop-place-init
@@ -9,11 +10,9 @@ loop-place-init g c =
     let embed = g.Ck.CorrectionField.ExtensionField.embed in
     let code = g.Ck.Checksum.code in
     let law = g.met.Ck.CorrectionField.Field in
-    let size = length-generator g.Ck.MidstateRepr.PackedFe32.number code g.Ck.Checksum.CODE_LENGTH g.Ck.Checksum.CHECKSUM_LENGTH
-    g.Ck.Checksum.GENERATOR_SH g.Ck.Checksum.TARGET_RESIDUE g.met.Ck.Checksum.code_law in
     c.ONE-value.ensures ∙ law.one_law
     ∙ sym (value_from-degree o embed c.args.x law.laws code.generator)
-    ∙ ap (λ n. value_from o embed c.args.x n code.generator) (size ∙ sym c.CHECKSUM_LENGTH-place.ensures)
+    ∙ ap (λ n. value_from o embed c.args.x n code.generator) (g.met.Ck.Checksum.degree_law ∙ sym c.CHECKSUM_LENGTH-place.ensures)
 
 pub loop-place-preserved : goal.loop-place-preserved
 loop-place-preserved g c =
@@ -23,20 +22,20 @@ loop-place-preserved g c =
     let degree = g.Ck.Checksum.CHECKSUM_LENGTH in
     let number = g.Ck.MidstateRepr.PackedFe32.number in
     let words = g.Ck.Checksum.GENERATOR_SH in
-    let target = g.Ck.Checksum.TARGET_RESIDUE in
     let law = g.met.Ck.CorrectionField.Field in
     let x = c.args.x in
     let place : ℕ = c.loop-place.place - 1 in
     let degree_read : c.CHECKSUM_LENGTH-place.result ≡ degree = c.CHECKSUM_LENGTH-place.ensures in
     let below : place < degree = omega arith in
     let next : c.loop-place.place ≡ suc place = omega arith in
-    let size : length code.generator ≡ degree =
-    length-generator number code g.Ck.Checksum.CODE_LENGTH degree words target g.met.Ck.Checksum.code_law in
+    let size : length code.generator ≡ degree = g.met.Ck.Checksum.degree_law in
+    let word = get_or words 0 g.Ck.Checksum.TARGET_RESIDUE in
+    let read : get_or c.GENERATOR_SH.result 0 c.index-GENERATOR_SH-0.result ≡ word =
+    first_word words _ _ _ g.met.Ck.Checksum.packing_laws.five c.GENERATOR_SH.ensures in
     let within : place < length code.generator = omega arith in
     let coefficient : get_or code.generator place fe32.zero ≡ fe32.element c.unpack.result =
-    coefficient_of_digit number code g.Ck.Checksum.CODE_LENGTH degree words target g.met.Ck.Checksum.code_law
-    c.GENERATOR_SH.result c.index-GENERATOR_SH-0.result place c.unpack.result
-    g.met.Ck.Checksum.packing_laws.five c.GENERATOR_SH.ensures below c.unpack.ensures.below c.unpack.ensures.value in
+    coefficient_of_digit code.generator degree (number word) place c.unpack.result
+    (ap (λ (k : Code). k.generator) g.met.Ck.Checksum.code_law) below c.unpack.ensures.below (rw read at c.unpack.ensures.value) in
     law.add_law _ _ _ c.add-value.ensures
     ∙ ap (λ y. o.add y c.mul.result)
     (g.met.Ck.CorrectionField.ExtensionField.from_law _ _ c.from.ensures ∙ ap embed (c.from_low_bits-coefficient.ensures ∙ sym coefficient))
