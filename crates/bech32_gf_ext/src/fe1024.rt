@@ -2,13 +2,12 @@
 
 ghost use Rattle.std.specs.Prelude.{◌≡◌, ◌≢◌};
 
+use crate::arithmetic::Arithmetic;
 use crate::{Fe32Ext, Fe1024, write_two};
 use bech32_gf::field::private::Sealed;
 use bech32_gf::field::{Bech32Field, ExtensionField, Field};
 use bech32_gf::gf32::Fe32;
 use std::fmt;
-use std::iter::Sum;
-use std::ops::{Add, AddAssign, Div, DivAssign, Mul, MulAssign, Neg, Sub, SubAssign};
 
 impl Fe1024 {
     ghost use Rattle.bech32_gf_ext.specs.Fe1024.{low, high, pair, add, mul, inv, zero, norm};
@@ -31,35 +30,6 @@ impl Fe1024 {
         (low_part, high_part)
     }
 
-    #[inline]
-    fn sum_with(self, other: Fe1024) -> Fe1024
-        ensures { result ≡ add self other }
-    {
-        let (a, b) = self.parts();
-        let (c, d) = other.parts();
-        Fe1024::from_parts(a + c, b + d)
-    }
-
-    #[inline]
-    fn difference_with(self, other: Fe1024) -> Fe1024
-        ensures { result ≡ add self other }
-    {
-        self.sum_with(other)
-    }
-
-    // Three products of parts in place of four.
-    #[inline]
-    fn product_with(self, other: Fe1024) -> Fe1024
-        ensures { result ≡ mul self other }
-    {
-        let (a, b) = self.parts();
-        let (c, d) = other.parts();
-        let constant = a * c;
-        let square = b * d;
-        let whole = (a + b) * (c + d);
-        Fe1024::from_parts(constant + square, whole + constant)
-    }
-
     // The product with the conjugate.
     #[inline]
     fn norm(self) -> Fe32
@@ -78,11 +48,42 @@ impl Fe1024 {
         let norm = self.norm();
         Fe1024::from_parts((a + b) / norm, b / norm)
     }
+}
 
-    fn quotient_with(self, other: Fe1024) -> Fe1024
-        requires { other ≢ zero }
-        ensures { result ≡ mul self (inv other) }
-    {
+impl Arithmetic for Fe1024 {
+    ghost use Rattle.bech32_gf_ext.specs.Fe1024.{add, mul, inv, zero};
+
+    ghost zero = { zero };
+
+    ghost sum = { add };
+
+    ghost product = { mul };
+
+    ghost quotient = { λ x y. mul x (inv y) };
+
+    fn zero_element() -> Fe1024 {
+        Fe1024::default()
+    }
+
+    #[inline]
+    fn sum_with(self, other: Fe1024) -> Fe1024 {
+        let (a, b) = self.parts();
+        let (c, d) = other.parts();
+        Fe1024::from_parts(a + c, b + d)
+    }
+
+    // Three products of parts in place of four.
+    #[inline]
+    fn product_with(self, other: Fe1024) -> Fe1024 {
+        let (a, b) = self.parts();
+        let (c, d) = other.parts();
+        let constant = a * c;
+        let square = b * d;
+        let whole = (a + b) * (c + d);
+        Fe1024::from_parts(constant + square, whole + constant)
+    }
+
+    fn quotient_with(self, other: Fe1024) -> Fe1024 {
         self.product_with(other.inverse())
     }
 }
@@ -118,346 +119,6 @@ impl TryFrom<Fe1024> for Fe32 {
         } else {
             Err(())
         }
-    }
-}
-
-/// The element itself, since its sum with itself is zero.
-impl Neg for Fe1024 {
-    type Output = Fe1024;
-
-    ghost neg_gives = { λ x r. r ≡ x };
-
-    #[inline]
-    fn neg(self) -> Fe1024 {
-        self
-    }
-}
-
-/// Zero plus each element in turn.
-impl Sum<Fe1024> for Fe1024 {
-    ghost use Rattle.std.specs.Prelude.{fold};
-    ghost use Rattle.bech32_gf_ext.specs.Fe1024.{add, zero};
-
-    ghost sum_gives = { λ xs r. r ≡ fold add zero xs };
-
-    fn sum<I: Iterator<Item = Fe1024>>(iter: I) -> Fe1024 {
-        let mut total = Fe1024::default();
-        for item in iter {
-            total += item;
-        }
-        total
-    }
-}
-
-/// The sum, place by place.
-impl Add<Fe1024> for Fe1024 {
-    ghost use Rattle.bech32_gf_ext.specs.Fe1024.{add};
-
-    type Output = Fe1024;
-
-    ghost add_gives = { λ x y r. r ≡ add x y };
-
-    #[inline]
-    fn add(self, rhs: Fe1024) -> Fe1024 {
-        self.sum_with(rhs)
-    }
-}
-
-impl Add<&Fe1024> for Fe1024 {
-    ghost use Rattle.bech32_gf_ext.specs.Fe1024.{add};
-
-    type Output = Fe1024;
-
-    ghost add_gives = { λ x y r. r ≡ add x y.now };
-
-    #[inline]
-    fn add(self, rhs: &Fe1024) -> Fe1024 {
-        self.sum_with(*rhs)
-    }
-}
-
-impl Add<Fe1024> for &Fe1024 {
-    ghost use Rattle.bech32_gf_ext.specs.Fe1024.{add};
-
-    type Output = Fe1024;
-
-    ghost add_gives = { λ x y r. r ≡ add x.now y };
-
-    #[inline]
-    fn add(self, rhs: Fe1024) -> Fe1024 {
-        (*self).sum_with(rhs)
-    }
-}
-
-impl Add<&Fe1024> for &Fe1024 {
-    ghost use Rattle.bech32_gf_ext.specs.Fe1024.{add};
-
-    type Output = Fe1024;
-
-    ghost add_gives = { λ x y r. r ≡ add x.now y.now };
-
-    #[inline]
-    fn add(self, rhs: &Fe1024) -> Fe1024 {
-        (*self).sum_with(*rhs)
-    }
-}
-
-impl AddAssign<Fe1024> for Fe1024 {
-    ghost use Rattle.bech32_gf_ext.specs.Fe1024.{add};
-
-    ghost add_assign_gives = { λ x y r. r ≡ add x y };
-
-    #[inline]
-    fn add_assign(&mut self, rhs: Fe1024) {
-        *self = self.sum_with(rhs);
-    }
-}
-
-impl AddAssign<&Fe1024> for Fe1024 {
-    ghost use Rattle.bech32_gf_ext.specs.Fe1024.{add};
-
-    ghost add_assign_gives = { λ x y r. r ≡ add x y.now };
-
-    #[inline]
-    fn add_assign(&mut self, rhs: &Fe1024) {
-        *self = self.sum_with(*rhs);
-    }
-}
-
-/// The difference, which is the sum: each element is its own negative.
-impl Sub<Fe1024> for Fe1024 {
-    ghost use Rattle.bech32_gf_ext.specs.Fe1024.{add};
-
-    type Output = Fe1024;
-
-    ghost sub_gives = { λ x y r. r ≡ add x y };
-
-    #[inline]
-    fn sub(self, rhs: Fe1024) -> Fe1024 {
-        self.difference_with(rhs)
-    }
-}
-
-impl Sub<&Fe1024> for Fe1024 {
-    ghost use Rattle.bech32_gf_ext.specs.Fe1024.{add};
-
-    type Output = Fe1024;
-
-    ghost sub_gives = { λ x y r. r ≡ add x y.now };
-
-    #[inline]
-    fn sub(self, rhs: &Fe1024) -> Fe1024 {
-        self.difference_with(*rhs)
-    }
-}
-
-impl Sub<Fe1024> for &Fe1024 {
-    ghost use Rattle.bech32_gf_ext.specs.Fe1024.{add};
-
-    type Output = Fe1024;
-
-    ghost sub_gives = { λ x y r. r ≡ add x.now y };
-
-    #[inline]
-    fn sub(self, rhs: Fe1024) -> Fe1024 {
-        (*self).difference_with(rhs)
-    }
-}
-
-impl Sub<&Fe1024> for &Fe1024 {
-    ghost use Rattle.bech32_gf_ext.specs.Fe1024.{add};
-
-    type Output = Fe1024;
-
-    ghost sub_gives = { λ x y r. r ≡ add x.now y.now };
-
-    #[inline]
-    fn sub(self, rhs: &Fe1024) -> Fe1024 {
-        (*self).difference_with(*rhs)
-    }
-}
-
-impl SubAssign<Fe1024> for Fe1024 {
-    ghost use Rattle.bech32_gf_ext.specs.Fe1024.{add};
-
-    ghost sub_assign_gives = { λ x y r. r ≡ add x y };
-
-    #[inline]
-    fn sub_assign(&mut self, rhs: Fe1024) {
-        *self = self.difference_with(rhs);
-    }
-}
-
-impl SubAssign<&Fe1024> for Fe1024 {
-    ghost use Rattle.bech32_gf_ext.specs.Fe1024.{add};
-
-    ghost sub_assign_gives = { λ x y r. r ≡ add x y.now };
-
-    #[inline]
-    fn sub_assign(&mut self, rhs: &Fe1024) {
-        *self = self.difference_with(*rhs);
-    }
-}
-
-/// The product of the polynomials in z, with z^2 replaced by z + 1.
-impl Mul<Fe1024> for Fe1024 {
-    ghost use Rattle.bech32_gf_ext.specs.Fe1024.{mul};
-
-    type Output = Fe1024;
-
-    ghost mul_gives = { λ x y r. r ≡ mul x y };
-
-    #[inline]
-    fn mul(self, rhs: Fe1024) -> Fe1024 {
-        self.product_with(rhs)
-    }
-}
-
-impl Mul<&Fe1024> for Fe1024 {
-    ghost use Rattle.bech32_gf_ext.specs.Fe1024.{mul};
-
-    type Output = Fe1024;
-
-    ghost mul_gives = { λ x y r. r ≡ mul x y.now };
-
-    #[inline]
-    fn mul(self, rhs: &Fe1024) -> Fe1024 {
-        self.product_with(*rhs)
-    }
-}
-
-impl Mul<Fe1024> for &Fe1024 {
-    ghost use Rattle.bech32_gf_ext.specs.Fe1024.{mul};
-
-    type Output = Fe1024;
-
-    ghost mul_gives = { λ x y r. r ≡ mul x.now y };
-
-    #[inline]
-    fn mul(self, rhs: Fe1024) -> Fe1024 {
-        (*self).product_with(rhs)
-    }
-}
-
-impl Mul<&Fe1024> for &Fe1024 {
-    ghost use Rattle.bech32_gf_ext.specs.Fe1024.{mul};
-
-    type Output = Fe1024;
-
-    ghost mul_gives = { λ x y r. r ≡ mul x.now y.now };
-
-    #[inline]
-    fn mul(self, rhs: &Fe1024) -> Fe1024 {
-        (*self).product_with(*rhs)
-    }
-}
-
-impl MulAssign<Fe1024> for Fe1024 {
-    ghost use Rattle.bech32_gf_ext.specs.Fe1024.{mul};
-
-    ghost mul_assign_gives = { λ x y r. r ≡ mul x y };
-
-    #[inline]
-    fn mul_assign(&mut self, rhs: Fe1024) {
-        *self = self.product_with(rhs);
-    }
-}
-
-impl MulAssign<&Fe1024> for Fe1024 {
-    ghost use Rattle.bech32_gf_ext.specs.Fe1024.{mul};
-
-    ghost mul_assign_gives = { λ x y r. r ≡ mul x y.now };
-
-    #[inline]
-    fn mul_assign(&mut self, rhs: &Fe1024) {
-        *self = self.product_with(*rhs);
-    }
-}
-
-/// The product with the inverse of the divisor, which is not zero.
-impl Div<Fe1024> for Fe1024 {
-    ghost use Rattle.bech32_gf_ext.specs.Fe1024.{inv, mul, zero};
-
-    type Output = Fe1024;
-
-    ghost can_div = { λ x y. y ≢ zero };
-
-    ghost div_gives = { λ x y r. r ≡ mul x (inv y) };
-
-    #[inline]
-    fn div(self, rhs: Fe1024) -> Fe1024 {
-        self.quotient_with(rhs)
-    }
-}
-
-impl Div<&Fe1024> for Fe1024 {
-    ghost use Rattle.bech32_gf_ext.specs.Fe1024.{inv, mul, zero};
-
-    type Output = Fe1024;
-
-    ghost can_div = { λ x y. y.now ≢ zero };
-
-    ghost div_gives = { λ x y r. r ≡ mul x (inv y.now) };
-
-    #[inline]
-    fn div(self, rhs: &Fe1024) -> Fe1024 {
-        self.quotient_with(*rhs)
-    }
-}
-
-impl Div<Fe1024> for &Fe1024 {
-    ghost use Rattle.bech32_gf_ext.specs.Fe1024.{inv, mul, zero};
-
-    type Output = Fe1024;
-
-    ghost can_div = { λ x y. y ≢ zero };
-
-    ghost div_gives = { λ x y r. r ≡ mul x.now (inv y) };
-
-    #[inline]
-    fn div(self, rhs: Fe1024) -> Fe1024 {
-        (*self).quotient_with(rhs)
-    }
-}
-
-impl Div<&Fe1024> for &Fe1024 {
-    ghost use Rattle.bech32_gf_ext.specs.Fe1024.{inv, mul, zero};
-
-    type Output = Fe1024;
-
-    ghost can_div = { λ x y. y.now ≢ zero };
-
-    ghost div_gives = { λ x y r. r ≡ mul x.now (inv y.now) };
-
-    #[inline]
-    fn div(self, rhs: &Fe1024) -> Fe1024 {
-        (*self).quotient_with(*rhs)
-    }
-}
-
-impl DivAssign<Fe1024> for Fe1024 {
-    ghost use Rattle.bech32_gf_ext.specs.Fe1024.{inv, mul, zero};
-
-    ghost can_div_assign = { λ x y. y ≢ zero };
-
-    ghost div_assign_gives = { λ x y r. r ≡ mul x (inv y) };
-
-    #[inline]
-    fn div_assign(&mut self, rhs: Fe1024) {
-        *self = self.quotient_with(rhs);
-    }
-}
-
-impl DivAssign<&Fe1024> for Fe1024 {
-    ghost use Rattle.bech32_gf_ext.specs.Fe1024.{inv, mul, zero};
-
-    ghost can_div_assign = { λ x y. y.now ≢ zero };
-
-    ghost div_assign_gives = { λ x y r. r ≡ mul x (inv y.now) };
-
-    #[inline]
-    fn div_assign(&mut self, rhs: &Fe1024) {
-        *self = self.quotient_with(*rhs);
     }
 }
 

@@ -2,13 +2,12 @@
 
 ghost use Rattle.std.specs.Prelude.{◌≡◌, ◌≢◌};
 
+use crate::arithmetic::Arithmetic;
 use crate::{Fe32Ext, Fe32768, write_two};
 use bech32_gf::field::private::Sealed;
 use bech32_gf::field::{Bech32Field, ExtensionField, Field};
 use bech32_gf::gf32::Fe32;
 use std::fmt;
-use std::iter::Sum;
-use std::ops::{Add, AddAssign, Div, DivAssign, Mul, MulAssign, Neg, Sub, SubAssign};
 
 impl Fe32768 {
     ghost use Rattle.bech32_gf_ext.specs.Fe32768.{low, middle, high, triple, add, mul, inv, zero};
@@ -32,41 +31,6 @@ impl Fe32768 {
     {
         let [low_part, middle_part, high_part] = self.inner;
         (low_part, middle_part, high_part)
-    }
-
-    #[inline]
-    fn sum_with(self, other: Fe32768) -> Fe32768
-        ensures { result ≡ add self other }
-    {
-        let (a, b, c) = self.parts();
-        let (d, e, f) = other.parts();
-        Fe32768::from_parts(a + d, b + e, c + f)
-    }
-
-    #[inline]
-    fn difference_with(self, other: Fe32768) -> Fe32768
-        ensures { result ≡ add self other }
-    {
-        self.sum_with(other)
-    }
-
-    // Six products of parts in place of nine.
-    #[inline]
-    fn product_with(self, other: Fe32768) -> Fe32768
-        ensures { result ≡ mul self other }
-    {
-        let (a, b, c) = self.parts();
-        let (d, e, f) = other.parts();
-        let constant = a * d;
-        let square = b * e;
-        let fourth = c * f;
-        let low_two = (a + b) * (d + e);
-        let ends = (a + c) * (d + f);
-        let high_two = (b + c) * (e + f);
-        let first = constant + square + fourth + high_two;
-        let second = constant + low_two + high_two;
-        let third = constant + square + ends;
-        Fe32768::from_parts(first, second, third)
     }
 
     // The product of the two conjugates.
@@ -105,11 +69,48 @@ impl Fe32768 {
         let norm = a * first + (b * third + c * second);
         Fe32768::from_quotients(first, second, third, norm)
     }
+}
 
-    fn quotient_with(self, other: Fe32768) -> Fe32768
-        requires { other ≢ zero }
-        ensures { result ≡ mul self (inv other) }
-    {
+impl Arithmetic for Fe32768 {
+    ghost use Rattle.bech32_gf_ext.specs.Fe32768.{add, mul, inv, zero};
+
+    ghost zero = { zero };
+
+    ghost sum = { add };
+
+    ghost product = { mul };
+
+    ghost quotient = { λ x y. mul x (inv y) };
+
+    fn zero_element() -> Fe32768 {
+        Fe32768::default()
+    }
+
+    #[inline]
+    fn sum_with(self, other: Fe32768) -> Fe32768 {
+        let (a, b, c) = self.parts();
+        let (d, e, f) = other.parts();
+        Fe32768::from_parts(a + d, b + e, c + f)
+    }
+
+    // Six products of parts in place of nine.
+    #[inline]
+    fn product_with(self, other: Fe32768) -> Fe32768 {
+        let (a, b, c) = self.parts();
+        let (d, e, f) = other.parts();
+        let constant = a * d;
+        let square = b * e;
+        let fourth = c * f;
+        let low_two = (a + b) * (d + e);
+        let ends = (a + c) * (d + f);
+        let high_two = (b + c) * (e + f);
+        let first = constant + square + fourth + high_two;
+        let second = constant + low_two + high_two;
+        let third = constant + square + ends;
+        Fe32768::from_parts(first, second, third)
+    }
+
+    fn quotient_with(self, other: Fe32768) -> Fe32768 {
         self.product_with(other.inverse())
     }
 }
@@ -145,346 +146,6 @@ impl TryFrom<Fe32768> for Fe32 {
         } else {
             Err(())
         }
-    }
-}
-
-/// The element itself, since its sum with itself is zero.
-impl Neg for Fe32768 {
-    type Output = Fe32768;
-
-    ghost neg_gives = { λ x r. r ≡ x };
-
-    #[inline]
-    fn neg(self) -> Fe32768 {
-        self
-    }
-}
-
-/// Zero plus each element in turn.
-impl Sum<Fe32768> for Fe32768 {
-    ghost use Rattle.std.specs.Prelude.{fold};
-    ghost use Rattle.bech32_gf_ext.specs.Fe32768.{add, zero};
-
-    ghost sum_gives = { λ xs r. r ≡ fold add zero xs };
-
-    fn sum<I: Iterator<Item = Fe32768>>(iter: I) -> Fe32768 {
-        let mut total = Fe32768::default();
-        for item in iter {
-            total += item;
-        }
-        total
-    }
-}
-
-/// The sum, place by place.
-impl Add<Fe32768> for Fe32768 {
-    ghost use Rattle.bech32_gf_ext.specs.Fe32768.{add};
-
-    type Output = Fe32768;
-
-    ghost add_gives = { λ x y r. r ≡ add x y };
-
-    #[inline]
-    fn add(self, rhs: Fe32768) -> Fe32768 {
-        self.sum_with(rhs)
-    }
-}
-
-impl Add<&Fe32768> for Fe32768 {
-    ghost use Rattle.bech32_gf_ext.specs.Fe32768.{add};
-
-    type Output = Fe32768;
-
-    ghost add_gives = { λ x y r. r ≡ add x y.now };
-
-    #[inline]
-    fn add(self, rhs: &Fe32768) -> Fe32768 {
-        self.sum_with(*rhs)
-    }
-}
-
-impl Add<Fe32768> for &Fe32768 {
-    ghost use Rattle.bech32_gf_ext.specs.Fe32768.{add};
-
-    type Output = Fe32768;
-
-    ghost add_gives = { λ x y r. r ≡ add x.now y };
-
-    #[inline]
-    fn add(self, rhs: Fe32768) -> Fe32768 {
-        (*self).sum_with(rhs)
-    }
-}
-
-impl Add<&Fe32768> for &Fe32768 {
-    ghost use Rattle.bech32_gf_ext.specs.Fe32768.{add};
-
-    type Output = Fe32768;
-
-    ghost add_gives = { λ x y r. r ≡ add x.now y.now };
-
-    #[inline]
-    fn add(self, rhs: &Fe32768) -> Fe32768 {
-        (*self).sum_with(*rhs)
-    }
-}
-
-impl AddAssign<Fe32768> for Fe32768 {
-    ghost use Rattle.bech32_gf_ext.specs.Fe32768.{add};
-
-    ghost add_assign_gives = { λ x y r. r ≡ add x y };
-
-    #[inline]
-    fn add_assign(&mut self, rhs: Fe32768) {
-        *self = self.sum_with(rhs);
-    }
-}
-
-impl AddAssign<&Fe32768> for Fe32768 {
-    ghost use Rattle.bech32_gf_ext.specs.Fe32768.{add};
-
-    ghost add_assign_gives = { λ x y r. r ≡ add x y.now };
-
-    #[inline]
-    fn add_assign(&mut self, rhs: &Fe32768) {
-        *self = self.sum_with(*rhs);
-    }
-}
-
-/// The difference, which is the sum: each element is its own negative.
-impl Sub<Fe32768> for Fe32768 {
-    ghost use Rattle.bech32_gf_ext.specs.Fe32768.{add};
-
-    type Output = Fe32768;
-
-    ghost sub_gives = { λ x y r. r ≡ add x y };
-
-    #[inline]
-    fn sub(self, rhs: Fe32768) -> Fe32768 {
-        self.difference_with(rhs)
-    }
-}
-
-impl Sub<&Fe32768> for Fe32768 {
-    ghost use Rattle.bech32_gf_ext.specs.Fe32768.{add};
-
-    type Output = Fe32768;
-
-    ghost sub_gives = { λ x y r. r ≡ add x y.now };
-
-    #[inline]
-    fn sub(self, rhs: &Fe32768) -> Fe32768 {
-        self.difference_with(*rhs)
-    }
-}
-
-impl Sub<Fe32768> for &Fe32768 {
-    ghost use Rattle.bech32_gf_ext.specs.Fe32768.{add};
-
-    type Output = Fe32768;
-
-    ghost sub_gives = { λ x y r. r ≡ add x.now y };
-
-    #[inline]
-    fn sub(self, rhs: Fe32768) -> Fe32768 {
-        (*self).difference_with(rhs)
-    }
-}
-
-impl Sub<&Fe32768> for &Fe32768 {
-    ghost use Rattle.bech32_gf_ext.specs.Fe32768.{add};
-
-    type Output = Fe32768;
-
-    ghost sub_gives = { λ x y r. r ≡ add x.now y.now };
-
-    #[inline]
-    fn sub(self, rhs: &Fe32768) -> Fe32768 {
-        (*self).difference_with(*rhs)
-    }
-}
-
-impl SubAssign<Fe32768> for Fe32768 {
-    ghost use Rattle.bech32_gf_ext.specs.Fe32768.{add};
-
-    ghost sub_assign_gives = { λ x y r. r ≡ add x y };
-
-    #[inline]
-    fn sub_assign(&mut self, rhs: Fe32768) {
-        *self = self.difference_with(rhs);
-    }
-}
-
-impl SubAssign<&Fe32768> for Fe32768 {
-    ghost use Rattle.bech32_gf_ext.specs.Fe32768.{add};
-
-    ghost sub_assign_gives = { λ x y r. r ≡ add x y.now };
-
-    #[inline]
-    fn sub_assign(&mut self, rhs: &Fe32768) {
-        *self = self.difference_with(*rhs);
-    }
-}
-
-/// The product of the polynomials in z, with z^3 replaced by z + 1.
-impl Mul<Fe32768> for Fe32768 {
-    ghost use Rattle.bech32_gf_ext.specs.Fe32768.{mul};
-
-    type Output = Fe32768;
-
-    ghost mul_gives = { λ x y r. r ≡ mul x y };
-
-    #[inline]
-    fn mul(self, rhs: Fe32768) -> Fe32768 {
-        self.product_with(rhs)
-    }
-}
-
-impl Mul<&Fe32768> for Fe32768 {
-    ghost use Rattle.bech32_gf_ext.specs.Fe32768.{mul};
-
-    type Output = Fe32768;
-
-    ghost mul_gives = { λ x y r. r ≡ mul x y.now };
-
-    #[inline]
-    fn mul(self, rhs: &Fe32768) -> Fe32768 {
-        self.product_with(*rhs)
-    }
-}
-
-impl Mul<Fe32768> for &Fe32768 {
-    ghost use Rattle.bech32_gf_ext.specs.Fe32768.{mul};
-
-    type Output = Fe32768;
-
-    ghost mul_gives = { λ x y r. r ≡ mul x.now y };
-
-    #[inline]
-    fn mul(self, rhs: Fe32768) -> Fe32768 {
-        (*self).product_with(rhs)
-    }
-}
-
-impl Mul<&Fe32768> for &Fe32768 {
-    ghost use Rattle.bech32_gf_ext.specs.Fe32768.{mul};
-
-    type Output = Fe32768;
-
-    ghost mul_gives = { λ x y r. r ≡ mul x.now y.now };
-
-    #[inline]
-    fn mul(self, rhs: &Fe32768) -> Fe32768 {
-        (*self).product_with(*rhs)
-    }
-}
-
-impl MulAssign<Fe32768> for Fe32768 {
-    ghost use Rattle.bech32_gf_ext.specs.Fe32768.{mul};
-
-    ghost mul_assign_gives = { λ x y r. r ≡ mul x y };
-
-    #[inline]
-    fn mul_assign(&mut self, rhs: Fe32768) {
-        *self = self.product_with(rhs);
-    }
-}
-
-impl MulAssign<&Fe32768> for Fe32768 {
-    ghost use Rattle.bech32_gf_ext.specs.Fe32768.{mul};
-
-    ghost mul_assign_gives = { λ x y r. r ≡ mul x y.now };
-
-    #[inline]
-    fn mul_assign(&mut self, rhs: &Fe32768) {
-        *self = self.product_with(*rhs);
-    }
-}
-
-/// The product with the inverse of the divisor, which is not zero.
-impl Div<Fe32768> for Fe32768 {
-    ghost use Rattle.bech32_gf_ext.specs.Fe32768.{inv, mul, zero};
-
-    type Output = Fe32768;
-
-    ghost can_div = { λ x y. y ≢ zero };
-
-    ghost div_gives = { λ x y r. r ≡ mul x (inv y) };
-
-    #[inline]
-    fn div(self, rhs: Fe32768) -> Fe32768 {
-        self.quotient_with(rhs)
-    }
-}
-
-impl Div<&Fe32768> for Fe32768 {
-    ghost use Rattle.bech32_gf_ext.specs.Fe32768.{inv, mul, zero};
-
-    type Output = Fe32768;
-
-    ghost can_div = { λ x y. y.now ≢ zero };
-
-    ghost div_gives = { λ x y r. r ≡ mul x (inv y.now) };
-
-    #[inline]
-    fn div(self, rhs: &Fe32768) -> Fe32768 {
-        self.quotient_with(*rhs)
-    }
-}
-
-impl Div<Fe32768> for &Fe32768 {
-    ghost use Rattle.bech32_gf_ext.specs.Fe32768.{inv, mul, zero};
-
-    type Output = Fe32768;
-
-    ghost can_div = { λ x y. y ≢ zero };
-
-    ghost div_gives = { λ x y r. r ≡ mul x.now (inv y) };
-
-    #[inline]
-    fn div(self, rhs: Fe32768) -> Fe32768 {
-        (*self).quotient_with(rhs)
-    }
-}
-
-impl Div<&Fe32768> for &Fe32768 {
-    ghost use Rattle.bech32_gf_ext.specs.Fe32768.{inv, mul, zero};
-
-    type Output = Fe32768;
-
-    ghost can_div = { λ x y. y.now ≢ zero };
-
-    ghost div_gives = { λ x y r. r ≡ mul x.now (inv y.now) };
-
-    #[inline]
-    fn div(self, rhs: &Fe32768) -> Fe32768 {
-        (*self).quotient_with(*rhs)
-    }
-}
-
-impl DivAssign<Fe32768> for Fe32768 {
-    ghost use Rattle.bech32_gf_ext.specs.Fe32768.{inv, mul, zero};
-
-    ghost can_div_assign = { λ x y. y ≢ zero };
-
-    ghost div_assign_gives = { λ x y r. r ≡ mul x (inv y) };
-
-    #[inline]
-    fn div_assign(&mut self, rhs: Fe32768) {
-        *self = self.quotient_with(rhs);
-    }
-}
-
-impl DivAssign<&Fe32768> for Fe32768 {
-    ghost use Rattle.bech32_gf_ext.specs.Fe32768.{inv, mul, zero};
-
-    ghost can_div_assign = { λ x y. y.now ≢ zero };
-
-    ghost div_assign_gives = { λ x y r. r ≡ mul x (inv y.now) };
-
-    #[inline]
-    fn div_assign(&mut self, rhs: &Fe32768) {
-        *self = self.quotient_with(*rhs);
     }
 }
 

@@ -5,6 +5,7 @@ ghost use Rattle.std.specs.Prelude.{◌≡◌, length};
 ghost use Rattle.std.specs.Fmt.{WritesOnOk};
 ghost use Rattle.bech32_gf.specs.RustCode.{two_code};
 
+mod arithmetic;
 mod fe1024;
 mod fe32768;
 

@@ -2,7 +2,7 @@ use Rattle.std.proofs.Common.{◌∙◌}
 use Rattle.bech32_gf.specs.Fe32 as fe32
 use Rattle.bech32_gf_ext.specs.Fe1024.{add}
 use Rattle.bech32_gf_ext.specs.laws.Fe1024Laws.{same_parts}
-use Rattle.bech32_gf_ext.proofs.fe1024.Fe1024.sum_with.Goals as goal
+use Rattle.bech32_gf_ext.proofs.fe1024.Fe1024Arithmetic.sum_with.Goals as goal
 
 pub returns : goal.returns
 unfolding add

@@ -2,7 +2,7 @@ use Rattle.std.proofs.Common.{◌∙◌}
 use Rattle.bech32_gf.specs.Fe32 as fe32
 use Rattle.bech32_gf_ext.specs.Fe32768.{add}
 use Rattle.bech32_gf_ext.specs.laws.Fe32768Laws.{same_parts}
-use Rattle.bech32_gf_ext.proofs.fe32768.Fe32768.sum_with.Goals as goal
+use Rattle.bech32_gf_ext.proofs.fe32768.Fe32768Arithmetic.sum_with.Goals as goal
 
 pub returns : goal.returns
 unfolding add

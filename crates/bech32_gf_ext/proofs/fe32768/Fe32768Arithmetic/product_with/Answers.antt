@@ -5,7 +5,7 @@ use Rattle.bech32_gf_ext.specs.laws.Fe32Squares.{even}
 use Rattle.bech32_gf_ext.specs.Fe32768.{low, middle, high, mul}
 use Rattle.bech32_gf_ext.specs.laws.Fe32768Laws.{same_parts}
 use Rattle.bech32_gf_ext.proofs.Products.{triple_by_six}
-use Rattle.bech32_gf_ext.proofs.fe32768.Fe32768.product_with.Goals as goal
+use Rattle.bech32_gf_ext.proofs.fe32768.Fe32768Arithmetic.product_with.Goals as goal
 
 pub returns : goal.returns
 unfolding mul

@@ -5,7 +5,7 @@ use Rattle.bech32_gf_ext.specs.laws.Fe32Squares.{even}
 use Rattle.bech32_gf_ext.specs.Fe1024.{low, high, mul}
 use Rattle.bech32_gf_ext.specs.laws.Fe1024Laws.{same_parts}
 use Rattle.bech32_gf_ext.proofs.Products.{pair_by_three}
-use Rattle.bech32_gf_ext.proofs.fe1024.Fe1024.product_with.Goals as goal
+use Rattle.bech32_gf_ext.proofs.fe1024.Fe1024Arithmetic.product_with.Goals as goal
 
 pub returns : goal.returns
 unfolding mul
