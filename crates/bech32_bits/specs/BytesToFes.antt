@@ -1,5 +1,5 @@
 -- What an iterator of elements over one of bytes gives.
-use Rattle.std.specs.Prelude.{ℕ, List, ◌++◌, Option}
+use Rattle.std.specs.Prelude.{◌≡◌, ℕ, List, ◌++◌, Option}
 use Rattle.std.specs.Iterator.{Count, count_map}
 use Rattle.std.specs.declared.iter.Fuse.{Fuse}
 use Rattle.bech32_bits.specs.Bits.{bits, byte_bits, cut_in_fives, fes_count}
@@ -14,6 +14,12 @@ fes_source s = s.bytes
 -- the elements of the bits that are held, and then of those of the bytes that come
 abbrev pub fes_gives : {I : Type 0} → BytesToFes I → List ℕ → List Fe32
 fes_gives s bytes = cut_in_fives (bits s.count s.held ++ byte_bits bytes)
+
+-- a clone holds the same bits, over a clone of the source
+pub record IsFesClone {I : Type 0} (is_clone : Fuse I → Fuse I → Type 0) (s t : BytesToFes I) : Type 0 where
+  pub source : is_clone (fes_source s) (fes_source t)
+  pub held : t.held ≡ s.held
+  pub count : t.count ≡ s.count
 
 -- what a call of `next` does
 abbrev pub fes_steps : {I : Type 0} → (I → Option ℕ → I → Type 0) → BytesToFes I → Option Fe32 → BytesToFes I → Type 0

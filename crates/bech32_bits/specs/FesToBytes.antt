@@ -1,5 +1,5 @@
 -- What an iterator of bytes over one of elements gives.
-use Rattle.std.specs.Prelude.{ℕ, Bool, List, ◌++◌, Option}
+use Rattle.std.specs.Prelude.{◌≡◌, ℕ, Bool, List, ◌++◌, Option}
 use Rattle.std.specs.Iterator.{Count, count_map}
 use Rattle.std.specs.declared.iter.Fuse.{Fuse}
 use Rattle.bech32_bits.specs.Bits.{bits, fe_bits, cut_bytes, count_bytes}
@@ -18,6 +18,13 @@ bytes_gives s fes = cut_bytes s.padded (bits s.count s.held.value ++ fe_bits fes
 -- a last part shorter than eight bits is filled, not dropped
 abbrev pub bytes_padded : {I : Type 0} → FesToBytes I → Bool
 bytes_padded s = s.padded
+
+-- a clone holds the same bits, over a clone of the source, and treats a last part alike
+pub record IsBytesClone {I : Type 0} (is_clone : Fuse I → Fuse I → Type 0) (s t : FesToBytes I) : Type 0 where
+  pub source : is_clone (bytes_source s) (bytes_source t)
+  pub held : t.held ≡ s.held
+  pub count : t.count ≡ s.count
+  pub padded : t.padded ≡ s.padded
 
 -- what a call of `next` does
 abbrev pub bytes_steps : {I : Type 0} → (I → Option Fe32 → I → Type 0) → FesToBytes I → Option ℕ → FesToBytes I → Type 0

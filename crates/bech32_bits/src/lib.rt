@@ -17,6 +17,7 @@ pub mod hints;
 pub mod plain;
 
 use bech32_gf::gf32::Fe32;
+use std::alloc::AllocError;
 use std::iter::{ExactSizeIterator, Fuse, FusedIterator};
 
 // The element of the five bits that stand above so many lowest bits of a value.
@@ -89,6 +90,22 @@ impl<I: Iterator<Item = u8>> Iterator for BytesToFes<I> {
 }
 
 impl<I: Iterator<Item = u8>> FusedIterator for BytesToFes<I> {}
+
+impl<I: Clone> Clone for BytesToFes<I> {
+    ghost use Rattle.bech32_bits.specs.BytesToFes.{fes_source, IsFesClone};
+
+    ghost is_clone = { IsFesClone ⟦<Fuse<I> as Clone>⟧.is_clone };
+
+    ghost is_infallible = { λ s. ⟦<Fuse<I> as Clone>⟧.is_infallible (fes_source s) };
+
+    fn clone(&self) -> Result<Self, AllocError> {
+        Ok(BytesToFes {
+            bytes: self.bytes.clone()?,
+            held: self.held,
+            count: self.count,
+        })
+    }
+}
 
 // How many elements so many held bits and then so many bytes give, where that fits.
 fn fes_len(bytes: usize, held: u8) -> Option<usize>
@@ -264,6 +281,23 @@ impl<I: Iterator<Item = Fe32>> Iterator for FesToBytes<I> {
 }
 
 impl<I: Iterator<Item = Fe32>> FusedIterator for FesToBytes<I> {}
+
+impl<I: Clone> Clone for FesToBytes<I> {
+    ghost use Rattle.bech32_bits.specs.FesToBytes.{bytes_source, IsBytesClone};
+
+    ghost is_clone = { IsBytesClone ⟦<Fuse<I> as Clone>⟧.is_clone };
+
+    ghost is_infallible = { λ s. ⟦<Fuse<I> as Clone>⟧.is_infallible (bytes_source s) };
+
+    fn clone(&self) -> Result<Self, AllocError> {
+        Ok(FesToBytes {
+            fes: self.fes.clone()?,
+            held: self.held,
+            count: self.count,
+            padded: self.padded,
+        })
+    }
+}
 
 impl<I: Iterator<Item = Fe32>> FesToBytes<I> {
     ghost use Rattle.bech32_bits.specs.Adaptor.{IsExactFused};
