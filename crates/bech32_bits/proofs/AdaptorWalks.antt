@@ -1,11 +1,18 @@
 -- The steps of an adaptor over a fused source, and its whole walk.
 use Rattle.std.proofs.Common.{◌≡◌, ℕ, Bool, true, false, List, [], ◌∷◌, ◌++◌, length, Option, Some, None, MatchBool, MatchOption, option_to_list, sym, ap, subst, ◌∙◌, refl, true≢false, append_assoc, append-nil}
+use Rattle.std.specs.Prelude.{IfNone}
 use Rattle.std.specs.Iterator.{Yields, Drains, DrainsIf, Count, size, count_unless}
 use Rattle.std.specs.Iterator.Runs.{SomeRun, EachRunFrom}
 use Rattle.std.proofs.iter.runs.Made.{run, took}
 use Rattle.std.specs.Iterator.Adapters.{fuse_source, fuse_done, fuse_steps}
 use Rattle.std.specs.declared.iter.Fuse.{Fuse}
-use Rattle.bech32_bits.specs.Adaptor.{PullsUntilEnd, Adapts, IsExact, IsExactFused, fuse_left}
+use Rattle.bech32_bits.specs.Adaptor.{PullsUntilEnd, Adapts, IsExact, IsExactFused, fuse_left, then_gives}
+use Rattle.bech32_bits.specs.Walks.{EachWalkGives, EachRunGives}
+
+-- what holds anyhow holds where there is no item
+pub at_none : {A : Type 0} → {P : Type 0} → (r : Option A) → P → IfNone r P
+at_none None h = h
+at_none (Some x) h = tt
 
 module _ {S A : Type 0} (steps : S → Option A → S → Type 0) where
   pub Yields-append : (s : S) (xs : List A) (t : S) (ys : List A) (u : S) → Yields steps s xs t → Yields steps t ys u → Yields steps s (xs ++ ys) u
@@ -127,6 +134,17 @@ module _ {S A U B : Type 0} (steps : S → Option A → S → Type 0) (source : 
       let (xs, t, took, is) = walk_from s ys d in
       ap length is ∙ each xs ∙ ap count (pulled-length steps left (fuse_done (source s)) (fuse_source (source s)) xs t took exact)
 
+nothing_from_none : {B : Type 0} → (r : Option B) (ys : List B) → [] ≡ then_gives r ys → r ≡ None
+nothing_from_none None ys e = refl
+nothing_from_none (Some y) ys e = absurd cc
+
+-- after `None` comes `None`: the source has ended, and is not asked
+pub none_again : {S A U B : Type 0} (steps : S → Option A → S → Type 0) (source : U → Fuse S) (gives : U → List A → List B) (s t u : U) (r : Option B)
+    → Adapts steps source gives s None t → Adapts steps source gives t r u → r ≡ None
+none_again steps source gives s t u r a b =
+    let z = until_ended steps (fuse_done (source t)) (fuse_done (source u)) (fuse_source (source t)) (fuse_source (source u)) b.taken b.pulled a.ended in
+    nothing_from_none r (gives u []) (sym a.nothing_left ∙ ap (gives t) (sym (append-nil b.taken ∙ z.0)) ∙ b.gave [] (λ _. refl))
+
 until_drains_if : {S A : Type 0} (steps : S → Option A → S → Type 0) (a b : Bool) (s t : S) (xs : List A) → PullsUntilEnd steps a s xs b t → a ≡ false → DrainsIf steps (b ≡ true) s xs
 until_drains_if steps true b s t xs h e = absurd (true≢false e)
 until_drains_if steps false true s t xs h e = (h.0, h.1, λ _. h.2)
@@ -160,13 +178,13 @@ module _ {S A U B : Type 0} (steps : S → Option A → S → Type 0) (source : 
 -- a whole walk, and each run, where what is given of a whole list of items has a property
 module _ {S A U B : Type 0} (steps : S → Option A → S → Type 0) (source : U → Fuse S) (gives : U → List A → List B) (Holds : List A → List B → Type 0) where
   pub walk_holds : (s : U) (from : S) → fuse_source (source s) ≡ from → fuse_done (source s) ≡ false → ((xs : List A) → Holds xs (gives s xs))
-      → (ys : List B) → Drains (Adapts steps source gives) s ys → (xs : List A) × Drains steps from xs × Holds xs ys
+      → EachWalkGives steps from (Adapts steps source gives) s Holds
   walk_holds s from is fresh holds ys d =
       let (xs, taken, gave) = walk steps source gives s ys fresh d in
       (xs, subst (λ k. Drains steps k xs) is taken, subst (Holds xs) (sym gave) (holds xs))
 
   pub runs_hold : (s : U) (from : S) → fuse_source (source s) ≡ from → fuse_done (source s) ≡ false → ((xs : List A) → Holds xs (gives s xs))
-      → EachRunFrom (Adapts steps source gives) s (λ p. SomeRun steps from (λ q. (p.whole ≡ true → q.whole ≡ true) × (p.whole ≡ true → Holds q.items p.items)))
+      → EachRunGives steps from (Adapts steps source gives) s Holds
   runs_hold s from is fresh holds p seen at =
       let (q, start, (ends, gave)) = runs steps source gives s from is fresh p seen at in
       (q, start, (ends, λ whole. subst (Holds q.items) (sym (gave whole)) (holds q.items)))

@@ -3,3 +3,4 @@ pub mod Bits
 pub mod BytesToFes
 pub mod FesToBytes
 pub mod SizeHints
+pub mod Walks

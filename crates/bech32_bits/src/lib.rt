@@ -6,18 +6,19 @@ ghost use Rattle.std.specs.Prelude.{true, false, None, nat_lt, min, length, List
 ghost use Rattle.std.specs.List.{list_all};
 ghost use Rattle.std.specs.Iterator.{size, Drains, MakesProgress, UpTo};
 ghost use Rattle.std.specs.Iterator.SizeHint.{IsWithinCount};
-ghost use Rattle.std.specs.Iterator.Runs.{EachRunFrom, SomeRun};
 ghost use Rattle.std.specs.Iterator.Adapters.{fuse_source, fuse_done};
 ghost use Rattle.bech32_gf.specs.Fe32.{element};
 ghost use Rattle.bech32_gf.specs.declared.gf32.Fe32.{Fe32};
 ghost use Rattle.bech32_bits.specs.SizeHints.{hint_map, FollowsHint};
+ghost use Rattle.bech32_bits.specs.Walks.{EachWalkGives, EachRunGives};
 ghost use Rattle.bech32_bits.specs.Bits.{bits, fe_bits, cut_bytes, to_fes, to_bytes, fes_count, count_bytes};
 
 pub mod hints;
 pub mod plain;
 
 use bech32_gf::gf32::Fe32;
-use std::iter::{ExactSizeIterator, Fuse};
+use std::alloc::AllocError;
+use std::iter::{ExactSizeIterator, Fuse, FusedIterator};
 
 // The element of the five bits that stand above so many lowest bits of a value.
 #[inline]
@@ -50,12 +51,12 @@ pub struct BytesToFes<I> {
 impl<I: Iterator<Item = u8>> Iterator for BytesToFes<I> {
     type Item = Fe32;
 
-    ghost use Rattle.bech32_bits.specs.Adaptor.{Adapts, fuse_can, fuse_left};
-    ghost use Rattle.bech32_bits.specs.BytesToFes.{fes_source, fes_gives, fes_left};
+    ghost use Rattle.bech32_bits.specs.Adaptor.{fuse_left};
+    ghost use Rattle.bech32_bits.specs.BytesToFes.{fes_source, fes_can, fes_steps, fes_from, fes_left};
 
-    ghost can_next = { λ s. fuse_can I.can_next (fes_source s) };
+    ghost can_next = { fes_can I.can_next };
 
-    ghost next_gives = { Adapts I.next_gives fes_source fes_gives };
+    ghost next_gives = { fes_steps I.next_gives };
 
     ghost remaining = { fes_left I.remaining };
 
@@ -82,10 +83,27 @@ impl<I: Iterator<Item = u8>> Iterator for BytesToFes<I> {
     fn size_hint(&self) -> (usize, Option<usize>)
         ensures lower { IsWithinCount result.0 (fes_left I.remaining self.now) }
         ensures upper { IfSome result.1 (UpTo (fes_left I.remaining self.now)) }
-        ensures rule { FollowsHint (fes_count self.now.count)
-            (fuse_left I.remaining (fes_source self.now)) result }
+        ensures rule { FollowsHint (fes_from self.now) (fuse_left I.remaining (fes_source self.now)) result }
     {
         fes_hint(self.bytes.size_hint(), self.count)
+    }
+}
+
+impl<I: Iterator<Item = u8>> FusedIterator for BytesToFes<I> {}
+
+impl<I: Clone> Clone for BytesToFes<I> {
+    ghost use Rattle.bech32_bits.specs.BytesToFes.{fes_source, IsFesClone};
+
+    ghost is_clone = { IsFesClone ⟦<Fuse<I> as Clone>⟧.is_clone };
+
+    ghost is_infallible = { λ s. ⟦<Fuse<I> as Clone>⟧.is_infallible (fes_source s) };
+
+    fn clone(&self) -> Result<Self, AllocError> {
+        Ok(BytesToFes {
+            bytes: self.bytes.clone()?,
+            held: self.held,
+            count: self.count,
+        })
     }
 }
 
@@ -112,8 +130,8 @@ fn fes_hint(bytes: (usize, Option<usize>), held: u8) -> (usize, Option<usize>)
 }
 
 impl<I: Iterator<Item = u8>> BytesToFes<I> {
-    ghost use Rattle.bech32_bits.specs.Adaptor.{Adapts, IsExactFused};
-    ghost use Rattle.bech32_bits.specs.BytesToFes.{fes_source, fes_gives, fes_left};
+    ghost use Rattle.bech32_bits.specs.Adaptor.{IsExactFused};
+    ghost use Rattle.bech32_bits.specs.BytesToFes.{fes_source, fes_steps, fes_left};
 
     /// How many elements are to come, or `usize::MAX` where that does not fit.
     pub fn len(&self) -> usize
@@ -122,7 +140,7 @@ impl<I: Iterator<Item = u8>> BytesToFes<I> {
         ensures left { result ≡ min (size (fes_left I.remaining self.now)) (2 ^ 64 - 1) }
         // Where the bytes to come are as many as they are said to be, so are the elements.
         ensures exact { IsExactFused I.next_gives I.remaining (fes_source self.now)
-            → (fes : List Fe32) → Drains (Adapts I.next_gives fes_source fes_gives) self.now fes
+            → (fes : List Fe32) → Drains (fes_steps I.next_gives) self.now fes
             → result ≡ min (length fes) (2 ^ 64 - 1) }
     {
         fes_len(self.bytes.len(), self.count).unwrap_or(usize::MAX)
@@ -131,8 +149,7 @@ impl<I: Iterator<Item = u8>> BytesToFes<I> {
 
 /// Adaptors of iterators of bytes.
 pub trait ByteIterExt: Iterator<Item = u8> {
-    ghost use Rattle.bech32_bits.specs.Adaptor.{Adapts};
-    ghost use Rattle.bech32_bits.specs.BytesToFes.{fes_source, fes_gives};
+    ghost use Rattle.bech32_bits.specs.BytesToFes.{fes_source, fes_gives, fes_steps};
 
     /// The elements of the bytes, with zero bits added at the end where five do not divide their
     /// number (BIP-173, Segwit address format).
@@ -144,14 +161,13 @@ pub trait ByteIterExt: Iterator<Item = u8> {
         ensures fresh { fuse_done (fes_source result) ≡ false }
         ensures gives { (bytes : List ℕ) → fes_gives result bytes ≡ to_fes bytes }
         // As bytes again, they are the bytes.
-        ensures back { (bytes : List ℕ) → list_all (λ b. nat_lt b 256) bytes ≡ true → to_bytes (fes_gives result bytes) ≡ bytes }
+        ensures back { (bytes : List ℕ) → list_all (λ b. nat_lt b 256) bytes ≡ true
+            → to_bytes (fes_gives result bytes) ≡ bytes }
         // A whole walk gives the elements of what a whole walk of the bytes gives.
-        ensures walk { (fes : List Fe32) → Drains (Adapts Self.next_gives fes_source fes_gives) result fes
-            → (bytes : List ℕ) × Drains Self.next_gives self bytes × (fes ≡ to_fes bytes) }
-        // The same, as chains of iterators follow it.
-        ensures runs { EachRunFrom (Adapts Self.next_gives fes_source fes_gives) result (λ p.
-            SomeRun Self.next_gives self (λ q.
-            (p.whole ≡ true → q.whole ≡ true) × (p.whole ≡ true → p.items ≡ to_fes q.items))) }
+        ensures walk { EachWalkGives Self.next_gives self (fes_steps Self.next_gives) result
+            (λ bytes fes. fes ≡ to_fes bytes) }
+        ensures runs { EachRunGives Self.next_gives self (fes_steps Self.next_gives) result
+            (λ bytes fes. fes ≡ to_fes bytes) }
     {
         BytesToFes {
             bytes: self.fuse(),
@@ -215,23 +231,23 @@ pub struct FesToBytes<I> {
 impl<I: Iterator<Item = Fe32>> Iterator for FesToBytes<I> {
     type Item = u8;
 
-    ghost use Rattle.bech32_bits.specs.Adaptor.{Adapts, fuse_can, fuse_left};
-    ghost use Rattle.bech32_bits.specs.FesToBytes.{bytes_source, bytes_gives, bytes_left};
+    ghost use Rattle.bech32_bits.specs.Adaptor.{fuse_left};
+    ghost use Rattle.bech32_bits.specs.FesToBytes.{bytes_source, bytes_padded, bytes_can, bytes_steps, bytes_from, bytes_left};
 
-    ghost can_next = { λ s. fuse_can I.can_next (bytes_source s) };
+    ghost can_next = { bytes_can I.can_next };
 
-    ghost next_gives = { Adapts I.next_gives bytes_source bytes_gives };
+    ghost next_gives = { bytes_steps I.next_gives };
 
     ghost remaining = { bytes_left I.remaining };
 
     // With up to four bits held, one or two elements complete a byte.
     #[inline]
     fn next(&mut self) -> Option<u8>
-        requires { fuse_can I.can_next (bytes_source self.old) }
-        ensures steps { Adapts I.next_gives bytes_source bytes_gives self.old result self.new }
-        ensures goes { MakesProgress (λ s. fuse_can I.can_next (bytes_source s)) (bytes_left I.remaining) self.old result self.new }
+        requires { bytes_can I.can_next self.old }
+        ensures steps { bytes_steps I.next_gives self.old result self.new }
+        ensures goes { MakesProgress (bytes_can I.can_next) (bytes_left I.remaining) self.old result self.new }
         // Whether a last part is filled stays as it was.
-        ensures padded { self.new.padded ≡ self.old.padded }
+        ensures padded { bytes_padded self.new ≡ bytes_padded self.old }
     {
         let Some(first) = self.fes.next() else {
             let last = last_byte(self.padded, self.held.to_u8() as u16, self.count);
@@ -258,29 +274,46 @@ impl<I: Iterator<Item = Fe32>> Iterator for FesToBytes<I> {
     fn size_hint(&self) -> (usize, Option<usize>)
         ensures lower { IsWithinCount result.0 (bytes_left I.remaining self.now) }
         ensures upper { IfSome result.1 (UpTo (bytes_left I.remaining self.now)) }
-        ensures rule { FollowsHint (count_bytes self.now.padded self.now.count)
-            (fuse_left I.remaining (bytes_source self.now)) result }
+        ensures rule { FollowsHint (bytes_from self.now) (fuse_left I.remaining (bytes_source self.now)) result }
     {
         bytes_hint(self.padded, self.fes.size_hint(), self.count)
     }
 }
 
+impl<I: Iterator<Item = Fe32>> FusedIterator for FesToBytes<I> {}
+
+impl<I: Clone> Clone for FesToBytes<I> {
+    ghost use Rattle.bech32_bits.specs.FesToBytes.{bytes_source, IsBytesClone};
+
+    ghost is_clone = { IsBytesClone ⟦<Fuse<I> as Clone>⟧.is_clone };
+
+    ghost is_infallible = { λ s. ⟦<Fuse<I> as Clone>⟧.is_infallible (bytes_source s) };
+
+    fn clone(&self) -> Result<Self, AllocError> {
+        Ok(FesToBytes {
+            fes: self.fes.clone()?,
+            held: self.held,
+            count: self.count,
+            padded: self.padded,
+        })
+    }
+}
+
 impl<I: Iterator<Item = Fe32>> FesToBytes<I> {
-    ghost use Rattle.bech32_bits.specs.Adaptor.{Adapts, IsExactFused};
-    ghost use Rattle.bech32_bits.specs.FesToBytes.{bytes_source, bytes_gives, bytes_left};
+    ghost use Rattle.bech32_bits.specs.Adaptor.{IsExactFused};
+    ghost use Rattle.bech32_bits.specs.FesToBytes.{bytes_source, bytes_gives, bytes_padded, bytes_steps, bytes_left};
 
     /// The bytes of the elements, with a last part filled with zero bits or dropped.
     #[inline]
     pub fn new(fes: I, padded: bool) -> Self
         ensures source { fuse_source (bytes_source result) ≡ fes }
         ensures fresh { fuse_done (bytes_source result) ≡ false }
-        ensures padded { result.padded ≡ padded }
+        ensures padded { bytes_padded result ≡ padded }
         ensures gives { (xs : List Fe32) → bytes_gives result xs ≡ cut_bytes padded (fe_bits xs) }
-        ensures walk { (bytes : List ℕ) → Drains (Adapts I.next_gives bytes_source bytes_gives) result bytes
-            → (xs : List Fe32) × Drains I.next_gives fes xs × (bytes ≡ cut_bytes padded (fe_bits xs)) }
-        ensures runs { EachRunFrom (Adapts I.next_gives bytes_source bytes_gives) result (λ p.
-            SomeRun I.next_gives fes (λ q.
-            (p.whole ≡ true → q.whole ≡ true) × (p.whole ≡ true → p.items ≡ cut_bytes padded (fe_bits q.items)))) }
+        ensures walk { EachWalkGives I.next_gives fes (bytes_steps I.next_gives) result
+            (λ xs bytes. bytes ≡ cut_bytes padded (fe_bits xs)) }
+        ensures runs { EachRunGives I.next_gives fes (bytes_steps I.next_gives) result
+            (λ xs bytes. bytes ≡ cut_bytes padded (fe_bits xs)) }
     {
         FesToBytes {
             fes: fes.fuse(),
@@ -297,7 +330,7 @@ impl<I: Iterator<Item = Fe32>> FesToBytes<I> {
         ensures left { result ≡ size (bytes_left I.remaining self.now) }
         // Where the elements to come are as many as they are said to be, so are the bytes.
         ensures exact { IsExactFused I.next_gives I.remaining (bytes_source self.now)
-            → (bytes : List ℕ) → Drains (Adapts I.next_gives bytes_source bytes_gives) self.now bytes
+            → (bytes : List ℕ) → Drains (bytes_steps I.next_gives) self.now bytes
             → result ≡ length bytes }
     {
         bytes_len(self.padded, self.fes.len(), self.count)
