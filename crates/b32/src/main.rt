@@ -16,13 +16,16 @@ mod segwit_encode;
 mod vectors;
 mod version_word;
 
-use crate::run::run;
+use crate::run::run_on;
+use bech32::primitives::device::Watched;
 use std::process::ExitCode;
 
 fn main(rt: HostRuntime) -> ExitCode {
     let mut input = rt.stdin();
     let mut output = rt.stdout();
-    match run(rt.alloc(), &mut input, &mut output) {
+    let mut source = Watched::new(&mut input);
+    let mut sink = Watched::new(&mut output);
+    match run_on(rt.alloc(), &mut source, &mut sink) {
         Ok(()) => ExitCode::SUCCESS,
         Err(e) => {
             let _ = eprintln!(rt; "{e}");

@@ -1,6 +1,6 @@
 //! Answers the lines of a source, one after another.
 
-ghost use Rattle.std.specs.Prelude.{◌≡◌, ℕ, ◌≤◌, ◌<◌, false, true, List, [], ◌∷◌, ◌++◌, take};
+ghost use Rattle.std.specs.Prelude.{◌≡◌, ℕ, ◌+◌, ◌≤◌, ◌<◌, false, true, List, [], ◌∷◌, ◌++◌, take};
 ghost use Rattle.std.specs.Prelude.{vec_len, vec_capacity, OnOk, OnErr, IsErrOf, IfOk};
 ghost use Rattle.std.specs.Io.KnownBytes.{Appends, Keeps};
 ghost use Rattle.b32.specs.Lines.{ended_from, rest_from, last_line};
@@ -58,6 +58,7 @@ impl Lines {
             × Appends (K.contents sink.old) (K.contents sink.new) (take n (said ++ 10 ∷ []))) }
         ensures err_mark { OnErr result (K.has_failed sink.new ≡ true) }
         ensures only { OnErr result (result ≡ Err RunError.Write) }
+        ensures unflushed { K.flushes sink.new ≡ K.flushes sink.old }
         ensures same { K.is_same sink.old sink.new }
     {
         self.out.clear();
@@ -87,6 +88,7 @@ impl Lines {
             × IsBeginning (ended_from before bytes.now) out) }
         ensures err_mark { OnErr result (K.has_failed sink.new ≡ true) }
         ensures only { OnErr result (result ≡ Err RunError.Write) }
+        ensures unflushed { K.flushes sink.new ≡ K.flushes sink.old }
         ensures same { K.is_same sink.old sink.new }
     {
         for b in bytes {
@@ -112,6 +114,7 @@ impl Lines {
             → IsBeginning (xs ++ last_line before) (a ++ out))) }
         ensures err_mark { OnErr result (K.has_failed sink.new ≡ true) }
         ensures only { OnErr result (result ≡ Err RunError.Write) }
+        ensures unflushed { K.flushes sink.new ≡ K.flushes sink.old }
         ensures same { K.is_same sink.old sink.new }
     {
         if self.line.is_empty() {
@@ -126,6 +129,8 @@ fn flush<K: ByteSink>(sink: &mut K) -> Result<(), RunError>
     requires { K.has_failed sink.old ≡ false }
     ensures bytes { Keeps (K.contents sink.old) (K.contents sink.new) }
     ensures done { OnOk result (K.is_flushed sink.new ≡ true) }
+    ensures counted { OnOk result (K.flushes sink.new ≡ K.flushes sink.old + 1) }
+    ensures uncounted { OnErr result (K.flushes sink.new ≡ K.flushes sink.old) }
     ensures ok_mark { OnOk result (K.has_failed sink.new ≡ false) }
     ensures err_mark { OnErr result (K.has_failed sink.new ≡ true) }
     ensures only { OnErr result (result ≡ Err RunError.Write) }
@@ -138,13 +143,13 @@ fn flush<K: ByteSink>(sink: &mut K) -> Result<(), RunError>
 }
 
 /// Answers each line of a source: writes its reply and a newline. It makes its buffers first, and
-/// flushes the sink at its end.
+/// flushes the sink once, at its end, unless writing failed.
 ///
 /// # Errors
 ///
-/// `Memory` where there is none for the buffers: nothing was read. `Read` where reading failed: the
-/// lines that ended before it were answered and flushed. `Write` where writing or flushing failed:
-/// a beginning of the replies went out.
+/// `Memory` where there is none for the buffers: nothing was read, written or flushed. `Read` where
+/// reading failed: the lines that ended before it were answered, and flushed once. `Write` where
+/// writing or flushing failed: a beginning of the replies went out, and no flush succeeded.
 pub fn run_on<S: ByteSource, K: ByteSink>(
     alloc: Global,
     source: &mut S,
@@ -158,12 +163,20 @@ pub fn run_on<S: ByteSource, K: ByteSink>(
         → IsAnsweredSoFar (S.remaining source.old) (S.remaining source.new)
         (K.contents sink.old) (K.contents sink.new) }
     ensures flushed { OnOk result (K.is_flushed sink.new ≡ true) }
+    ensures flushed_once { OnOk result (K.flushes sink.new ≡ K.flushes sink.old + 1) }
+    ensures ok_marks { OnOk result ((S.has_failed source.new ≡ false)
+        × (K.has_failed sink.new ≡ false)) }
     ensures read_flushed { IsErrOf result RunError.Read → K.is_flushed sink.new ≡ true }
-    ensures read_mark { IsErrOf result RunError.Read → S.has_failed source.new ≡ true }
+    ensures read_flushed_once { IsErrOf result RunError.Read
+        → K.flushes sink.new ≡ K.flushes sink.old + 1 }
+    ensures read_marks { IsErrOf result RunError.Read
+        → (S.has_failed source.new ≡ true) × (K.has_failed sink.new ≡ false) }
     ensures write { IsErrOf result RunError.Write
         → IsCutShort (S.remaining source.old) (S.remaining source.new)
         (K.contents sink.old) (K.contents sink.new) }
     ensures write_mark { IsErrOf result RunError.Write → K.has_failed sink.new ≡ true }
+    ensures write_unflushed { IsErrOf result RunError.Write
+        → K.flushes sink.new ≡ K.flushes sink.old }
     ensures memory { IsErrOf result RunError.Memory
         → (source.new ≡ source.old) × (sink.new ≡ sink.old) }
     ensures source_same { S.is_same source.old source.new }
@@ -187,11 +200,12 @@ pub fn run_on<S: ByteSource, K: ByteSink>(
     flush(sink)
 }
 
-/// Answers each line of a reader, as `run_on` does.
+/// Answers each line of a reader, as `run_on` does over a [`Watched`] reader and writer.
 ///
 /// # Errors
 ///
-/// Those of `run_on`.
+/// Those of `run_on`. Whether the reader or the writer failed can be told only of what is watched:
+/// a caller who is to know it watches both and calls `run_on`, as `main` does.
 pub fn run<R: io::Read, W: io::Write>(
     alloc: Global,
     reader: &mut R,
@@ -205,6 +219,8 @@ pub fn run<R: io::Read, W: io::Write>(
     ensures write { IsErrOf result RunError.Write
         → IsCutShort (R.remaining reader.old) (R.remaining reader.new)
         (W.contents writer.old) (W.contents writer.new) }
+    ensures memory { IsErrOf result RunError.Memory
+        → (reader.new ≡ reader.old) × (writer.new ≡ writer.old) }
 {
     let mut source = Watched::new(reader);
     let mut sink = Watched::new(writer);
@@ -212,150 +228,4 @@ pub fn run<R: io::Read, W: io::Write>(
 }
 
 #[cfg(test)]
-mod tests {
-    use super::*;
-    use std::test::Fail;
-
-    // Gives `left`, `step` bytes a call, and fails in place of the byte at `room`.
-    #[derive(Drop)]
-    struct Faulty<'a> {
-        left: &'a [u8],
-        room: usize,
-        step: usize,
-        ghost moves: { 0 < step },
-    }
-
-    impl<'a> io::Read for Faulty<'a> {
-        ghost use Rattle.std.specs.Prelude.{Some};
-
-        ghost remaining = { λ r. Some r.left.now };
-
-        fn read(&mut self, buf: &mut [u8]) -> io::Result<usize> {
-            let n = buf.len().min(self.step).min(self.left.len());
-            if n == 0 {
-                return Ok(0);
-            }
-            if self.room < n {
-                return Err(io::Error::from(io::ErrorKind::Other));
-            }
-            self.room -= n;
-            buf[..n].copy_from_slice(&self.left[..n]);
-            self.left = &self.left[n..];
-            Ok(n)
-        }
-    }
-
-    // Takes `step` bytes a call, and fails once `room` are taken; a flush fails where `stuck`.
-    #[derive(Drop)]
-    struct Narrow {
-        got: Vec<u8>,
-        room: usize,
-        step: usize,
-        stuck: bool,
-    }
-
-    impl io::Write for Narrow {
-        ghost use Rattle.std.specs.Prelude.{Some};
-
-        ghost contents = { λ w. Some w.got.items };
-
-        fn write(&mut self, buf: &[u8]) -> io::Result<usize> {
-            if self.got.len() >= self.room {
-                return Err(io::Error::from(io::ErrorKind::StorageFull));
-            }
-            let left = self.room - self.got.len();
-            let n = buf.len().min(self.step).min(left);
-            self.got.extend_from_slice(&buf[..n])?;
-            Ok(n)
-        }
-
-        fn flush(&mut self) -> io::Result<()> {
-            if self.stuck {
-                return Err(io::Error::from(io::ErrorKind::Other));
-            }
-            Ok(())
-        }
-    }
-
-    // Three lines, the last without its end.
-    const INPUT: &[u8] = b"x\n\ndecode";
-
-    #[test]
-    fn empty_input(rt: HostRuntime) -> Result<(), Fail> {
-        let mut input = b"".as_slice();
-        let mut out = Vec::new(rt.alloc());
-        assert_eq!(rt; run(rt.alloc(), &mut input, &mut out), Ok(()));
-        assert!(rt; out.is_empty());
-        Ok(())
-    }
-
-    #[test]
-    fn reads_that_fail(rt: HostRuntime) -> Result<(), Fail> {
-        for room in 0..12usize {
-            let mut reader = Faulty {
-                left: INPUT,
-                room,
-                step: 1,
-            };
-            let mut out = Vec::new(rt.alloc());
-            let outcome = run(rt.alloc(), &mut reader, &mut out);
-            let whole = room >= INPUT.len();
-            let want = if whole { Ok(()) } else { Err(RunError::Read) };
-            assert_eq!(rt; outcome, want, "room {room}");
-            let lines: &[u8] = match room {
-                0 | 1 => b"",
-                2 => b"err 3\n",
-                _ if whole => b"err 3\nerr 3\nerr 3\n",
-                _ => b"err 3\nerr 3\n",
-            };
-            assert!(rt; out.as_slice() == lines, "room {room}");
-        }
-        Ok(())
-    }
-
-    #[test]
-    fn writes_that_fail(rt: HostRuntime) -> Result<(), Fail> {
-        let whole = b"err 3\nerr 3\nerr 3\n";
-        for room in 0..20usize {
-            let mut reader = INPUT;
-            let mut writer = Narrow {
-                got: Vec::new(rt.alloc()),
-                room,
-                step: 4,
-                stuck: false,
-            };
-            let outcome = run(rt.alloc(), &mut reader, &mut writer);
-            let want = if room < 18 {
-                Err(RunError::Write)
-            } else {
-                Ok(())
-            };
-            assert_eq!(rt; outcome, want, "room {room}");
-            assert!(rt;
-                writer.got.as_slice() == &whole[..room.min(18)],
-                "room {room}"
-            );
-        }
-        Ok(())
-    }
-
-    #[test]
-    fn flushes_that_fail(rt: HostRuntime) -> Result<(), Fail> {
-        for room in [0, 3, 100] {
-            let mut reader = Faulty {
-                left: INPUT,
-                room,
-                step: 1,
-            };
-            let mut writer = Narrow {
-                got: Vec::new(rt.alloc()),
-                room: 100,
-                step: 100,
-                stuck: true,
-            };
-            let outcome = run(rt.alloc(), &mut reader, &mut writer);
-            assert_eq!(rt; outcome, Err(RunError::Write), "room {room}");
-        }
-        Ok(())
-    }
-}
+mod tests;

@@ -1,4 +1,4 @@
-use Rattle.std.proofs.Common.{rules, ◌++◌, take, inl, inr}
+use Rattle.std.proofs.Common.{rules, ◌∙◌, ◌++◌, take, inl, inr}
 use Rattle.std.proofs.lemmas.Result.{on_ok_weaker}
 use Rattle.b32.specs.Lines.{ended_lines}
 use Rattle.b32.proofs.Joined.{beginning-whole, output-append, output-more, beginning-more, kept-piece, Consumes-then, Consumes-kept, Consumes-nothing, Appends-then, Appends-kept}
@@ -25,6 +25,7 @@ reads-preserved g c =
       sink_unmarked = search rules;
       source_same = g.met.S.ByteSource.transitive _ _ _ c.reads.invariant.source_same c.read.ensures.same;
       sink_same = g.met.K.ByteSink.transitive _ _ _ c.reads.invariant.sink_same c.feed.ensures.same;
+      unflushed = c.feed.ensures.unflushed ∙ c.reads.invariant.unflushed;
       answered = (
         read ++ bytes,
         Consumes-then _ _ _ read bytes consumed c.in-Ok-read.ensures.bytes.0,

@@ -19,6 +19,7 @@ pub loop-b-preserved : goal.loop-b-preserved
 loop-b-preserved g c = elim c.if-b-eq10.branch [
   | then-b-eq10+in_ok-answer w ↦ record {
     unmarked = search rules;
+    unflushed = rw w.sink-is (w.answer.ensures.unflushed ∙ c.loop-b.invariant.unflushed);
     same = rw w.sink-is (g.met.K.ByteSink.transitive _ _ _ c.loop-b.invariant.same w.answer.ensures.same);
     answered = rw (w.sink-is, w.self-is) (λ before e.
         let (kept, out, appended, is) = c.loop-b.invariant.answered before e in
@@ -31,6 +32,7 @@ loop-b-preserved g c = elim c.if-b-eq10.branch [
   }
   | else-b-eq10 w ↦ record {
     unmarked = search rules;
+    unflushed = rw w.sink-is c.loop-b.invariant.unflushed;
     same = rw w.sink-is c.loop-b.invariant.same;
     answered = rw (w.sink-is, w.self-is) (λ before e.
         let (kept, out, appended, is) = c.loop-b.invariant.answered before e in

@@ -7,6 +7,7 @@ use Rattle.b32.proofs.run.Lines.feed.Given as goal
 abbrev pub invariant-loop-b : goal.invariant-loop-b
 invariant-loop-b g l = record {
   unmarked : g.K.ByteSink.has_failed l.sink ≡ false;
+  unflushed : g.K.ByteSink.flushes l.sink ≡ g.K.ByteSink.flushes l.initial.sink;
   same : g.K.ByteSink.is_same l.initial.sink l.sink;
   answered : (before : List ℕ) → l.initial.self.line.items ≡ take 4097 before → (l.self.line.items ≡ take 4097 (rest_from before (take l.b-index l.bytes)))
       × (out : List ℕ) × Appends (g.K.ByteSink.contents l.initial.sink) (g.K.ByteSink.contents l.sink) out × IsOutput (ended_from before (take l.b-index l.bytes)) out;
