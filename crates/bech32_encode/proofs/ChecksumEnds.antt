@@ -13,12 +13,10 @@ use Rattle.bech32_poly.proofs.Remainder.{remainder_of-itself, remainder_unique, 
 use Rattle.bech32_poly.specs.Division.{step, remainder_of}
 use Rattle.bech32_bits.specs.Adaptor.{then_gives}
 use Rattle.bech32_encode.specs.ChecksumElements.{checksum_of, then_checksum}
-use Rattle.bech32_checksum.specs.Code.{Code, code_of, IsResidueOf}
+use Rattle.bech32_checksum.specs.Code.{Code, IsResidueOf}
 use Rattle.bech32_checksum.specs.Packed.{digit_of, digits, tabulate}
 use Rattle.bech32_checksum.specs.TextPolynomial.{hrp_elements, text_polynomial, IsChecksumOf, IsChecksumOfElements, EndsInChecksum}
 use Rattle.bech32_checksum.proofs.Digits.{length-tabulate}
-use Rattle.bech32_checksum.proofs.Residue.{same_size}
-use Rattle.bech32_checksum.proofs.Target.{length-target}
 
 -- ---- a row of digits, the highest first
 
@@ -97,6 +95,12 @@ module _ {R : Type 0} (number : R → ℕ) (code : Code) where
       ∙ ap (λ o. then_gives result (then_checksum number code r o xs)) (sym there)
       ∙ ap (λ q. then_gives result (then_checksum number code q more xs)) (sym same)
 
+  -- where no element of it is left, nothing is
+  pub then_checksum-none : (r : R) (more : Option ℕ) (left : ℕ) → more ≡ Some (left - 1) → left ≡ 0 → then_checksum number code r more [] ≡ []
+  then_checksum-none r more left there none =
+      let zero_left : left - 1 ≡ 0 = omega arith in
+      ap (λ o. then_checksum number code r o []) there ∙ ap (λ n. reverse (digits n (number r))) zero_left
+
   -- the same where the elements end
   pub then_checksum-first : (r u v : R) (tail more : Option ℕ) (d : ℕ) (result : Option Fe32) (xs : List Fe32) → tail ≡ None
       → ((p : List Fe32) → IsResidueOf number code r p → IsResidueOf number code u (appended p (reverse code.target)))
@@ -110,10 +114,14 @@ module _ {R : Type 0} (number : R → ℕ) (code : Code) where
       ∙ then_checksum-tail u v (Some d) more d result xs refl same there given none
 
   -- what comes of an engine that holds the residue of a polynomial
-  pub then_checksum-start : (r : R) (p xs : List Fe32) → IsResidueOf number code r p → then_checksum number code r None xs ≡ xs ++ checksum_of code (appended p xs)
+  then_checksum-start : (r : R) (p xs : List Fe32) → IsResidueOf number code r p → then_checksum number code r None xs ≡ xs ++ checksum_of code (appended p xs)
   then_checksum-start r p xs h = ap (λ (l : List Fe32). xs ++ l) (checksum_of-appended code (row r) p xs (same_remainder r p h))
 
 -- ---- it is the checksum
+
+-- the target has as many coefficients as the generator has lower ones: `k` is the code of the packed words
+pub target-length : (code k : Code) (degree : ℕ) → code ≡ k → length k.target ≡ degree → length code.generator ≡ degree → length code.target ≡ length code.generator
+target-length code k degree law size degree_law = ap (λ (c : Code). length c.target) law ∙ size ∙ sym degree_law
 
 module _ (code : Code) (size : length code.target ≡ length code.generator) where
   length-checksum_of : (p : List Fe32) → length (checksum_of code p) ≡ length code.generator
@@ -135,7 +143,7 @@ module _ (code : Code) (size : length code.target ≡ length code.generator) whe
         leaves_target = subst (λ p. IsRemainder fe32.ops code.generator p code.target) (sym (appended-append (fe32.one ∷ []) xs c)) (leaves_target (appended (fe32.one ∷ []) xs));
       }
 
-  pub checksum_of-hrp : (hrp : List ℕ) (xs : List Fe32) → IsChecksumOf code hrp xs (checksum_of code (text_polynomial hrp xs))
+  checksum_of-hrp : (hrp : List ℕ) (xs : List Fe32) → IsChecksumOf code hrp xs (checksum_of code (text_polynomial hrp xs))
   checksum_of-hrp hrp xs =
       let c : List Fe32 = checksum_of code (text_polynomial hrp xs) in
       let front : List Fe32 = appended (fe32.one ∷ []) (hrp_elements hrp) in
@@ -147,36 +155,22 @@ module _ (code : Code) (size : length code.target ≡ length code.generator) whe
             (leaves_target (text_polynomial hrp xs));
       }
 
--- ---- by the law that ties a checksum's words to its code
+  module _ {R : Type 0} (number : R → ℕ) (residue : R) where
+    -- what comes of an engine that was given nothing
+    pub ends_in_checksum : IsResidueOf number code residue (fe32.one ∷ [])
+        → (xs : List Fe32) → EndsInChecksum (IsChecksumOfElements code) xs (then_checksum number code residue None xs)
+    ends_in_checksum h xs = record {
+      checksum = checksum_of code (appended (fe32.one ∷ []) xs);
+      is_checksum = checksum_of-elements xs;
+      given_is = then_checksum-start number code residue (fe32.one ∷ []) xs h;
+    }
 
-module _ {R : Type 0} (number : R → ℕ) (code : Code) (code_length degree : ℕ) (words : List R) (target : R)
-    (law : code ≡ code_of number code_length degree words target) where
-  pub generator-length : length code.generator ≡ degree
-  generator-length = same_size number code code_length degree words target law
-
-  pub target-length : length code.target ≡ length code.generator
-  target-length = length-target number code code_length degree words target law ∙ sym generator-length
-
-  -- what comes of an engine that was given nothing
-  pub ends_in_checksum : (r : R) → IsResidueOf number code r (fe32.one ∷ []) → (xs : List Fe32)
-      → EndsInChecksum (IsChecksumOfElements code) xs (then_checksum number code r None xs)
-  ends_in_checksum r h xs = record {
-    checksum = checksum_of code (appended (fe32.one ∷ []) xs);
-    is_checksum = checksum_of-elements code target-length xs;
-    given_is = then_checksum-start number code r (fe32.one ∷ []) xs h;
-  }
-
-  -- or a human-readable part
-  pub gives_hrp : (r : R) (hrp : List ℕ) → IsResidueOf number code r (appended (fe32.one ∷ []) (hrp_elements hrp)) → (xs : List Fe32)
-      → then_checksum number code r None xs ≡ xs ++ checksum_of code (text_polynomial hrp xs)
-  gives_hrp r hrp h xs =
-      then_checksum-start number code r (appended (fe32.one ∷ []) (hrp_elements hrp)) xs h
-      ∙ ap (λ p. xs ++ checksum_of code p) (sym (appended-append (fe32.one ∷ []) (hrp_elements hrp) xs))
-
-  pub ends_in_checksum_of_hrp : (r : R) (hrp : List ℕ) → IsResidueOf number code r (appended (fe32.one ∷ []) (hrp_elements hrp)) → (xs : List Fe32)
-      → EndsInChecksum (IsChecksumOf code hrp) xs (then_checksum number code r None xs)
-  ends_in_checksum_of_hrp r hrp h xs = record {
-    checksum = checksum_of code (text_polynomial hrp xs);
-    is_checksum = checksum_of-hrp code target-length hrp xs;
-    given_is = gives_hrp r hrp h xs;
-  }
+    -- or a human-readable part
+    pub ends_in_checksum_of_hrp : (hrp : List ℕ) → IsResidueOf number code residue (appended (fe32.one ∷ []) (hrp_elements hrp))
+        → (xs : List Fe32) → EndsInChecksum (IsChecksumOf code hrp) xs (then_checksum number code residue None xs)
+    ends_in_checksum_of_hrp hrp h xs = record {
+      checksum = checksum_of code (text_polynomial hrp xs);
+      is_checksum = checksum_of-hrp hrp xs;
+      given_is = then_checksum-start number code residue (appended (fe32.one ∷ []) (hrp_elements hrp)) xs h
+          ∙ ap (λ p. xs ++ checksum_of code p) (sym (appended-append (fe32.one ∷ []) (hrp_elements hrp) xs));
+    }

@@ -8,6 +8,7 @@ use Rattle.std.proofs.iter.runs.Made.{run, took}
 use Rattle.std.specs.Iterator.Adapters.{fuse_source, fuse_done}
 use Rattle.std.specs.declared.iter.Fuse.{Fuse}
 use Rattle.bech32_bits.specs.Adaptor.{then_gives, Adapts}
+use Rattle.bech32_bits.specs.Walks.{EachWalkGives, EachRunGives}
 use Rattle.bech32_bits.proofs.AdaptorWalks.{pulled_same, walk_holds, runs_hold}
 
 -- what an answer of a fused source says of its end
@@ -33,12 +34,17 @@ module _ {S A U V B C : Type 0} (steps : S → Option A → S → Type 0) (sourc
     taken = [];
     pulled = pulled_same steps (source (inner s)) (source (inner t)) (ap source same);
     ended = tt;
+    nothing_left = tt;
     gave = λ rest z. ap (λ l. l ++ map f (gives (inner s) rest)) e ∙ ap (λ v. c ∷ (front t ++ map f (gives v rest))) (sym same);
   }
 
   map-then_gives : (r : Option B) (ys : List B) → map f (then_gives r ys) ≡ then_gives (option_map f r) (map f ys)
   map-then_gives None ys = refl
   map-then_gives (Some y) ys = refl
+
+  none_left : (P Q : Type 0) → (r : Option B) → (P → Q) → IfNone r P → IfNone (option_map f r) Q
+  none_left P Q None k h = k h
+  none_left P Q (Some y) k h = tt
 
   ended-map : (P : Type 0) (r : Option B) → IfNone r P → IfNone (option_map f r) P
   ended-map P None h = h
@@ -51,6 +57,7 @@ module _ {S A U V B C : Type 0} (steps : S → Option A → S → Type 0) (sourc
     taken = a.taken;
     pulled = a.pulled;
     ended = ended-map _ r a.ended;
+    nothing_left = none_left _ _ r (λ none. ap (λ l. front t ++ map f l) none ∙ ap (λ l. l ++ []) d) a.nothing_left;
     gave = λ rest z.
         ap (λ l. l ++ map f (gives (inner s) (a.taken ++ rest))) e
         ∙ ap (map f) (a.gave rest z)
@@ -89,12 +96,12 @@ module _ {S A : Type 0} (steps : S → Option A → S → Type 0) (Known : Optio
 -- a whole walk, and each run, of an adaptor of whose items more is known
 module _ {S A U B : Type 0} (steps : S → Option A → S → Type 0) (source : U → Fuse S) (gives : U → List A → List B) (Known : Option B → Type 0) (Holds : List A → List B → Type 0) where
   pub walk_holds_known : (s : U) (from : S) → fuse_source (source s) ≡ from → fuse_done (source s) ≡ false → ((xs : List A) → Holds xs (gives s xs))
-      → (ys : List B) → Drains (λ u r t. Adapts steps source gives u r t × Known r) s ys → (xs : List A) × Drains steps from xs × Holds xs ys
+      → EachWalkGives steps from (λ u r t. Adapts steps source gives u r t × Known r) s Holds
   walk_holds_known s from is fresh holds ys d =
       walk_holds steps source gives Holds s from is fresh holds ys (drains_alone (Adapts steps source gives) Known s ys d)
 
   pub runs_hold_known : (s : U) (from : S) → fuse_source (source s) ≡ from → fuse_done (source s) ≡ false → ((xs : List A) → Holds xs (gives s xs))
-      → EachRunFrom (λ u r t. Adapts steps source gives u r t × Known r) s (λ p. SomeRun steps from (λ q. (p.whole ≡ true → q.whole ≡ true) × (p.whole ≡ true → Holds q.items p.items)))
+      → EachRunGives steps from (λ u r t. Adapts steps source gives u r t × Known r) s Holds
   runs_hold_known s from is fresh holds =
       runs_alone (Adapts steps source gives) Known s (λ ys whole. SomeRun steps from (λ q. (whole ≡ true → q.whole ≡ true) × (whole ≡ true → Holds q.items ys)))
       (runs_hold steps source gives Holds s from is fresh holds)

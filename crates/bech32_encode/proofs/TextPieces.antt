@@ -10,13 +10,12 @@ use Rattle.bech32_poly.specs.Polynomial.{appended}
 use Rattle.bech32_poly.specs.Remainder.{IsRemainder}
 use Rattle.bech32_poly.proofs.Appended.{appended-append, checksum_of_target}
 use Rattle.bech32_encode.specs.Buffers.{IsPut, IsPutAsFits, PutsBehind}
-use Rattle.bech32_checksum.specs.Code.{Code, code_of, IsResidueOf}
+use Rattle.bech32_checksum.specs.Code.{Code, IsResidueOf}
 use Rattle.bech32_checksum.specs.Encoded.{char_of_element, spelled, IsEncodedText}
 use Rattle.bech32_encode.specs.TextFrom.{text_front}
 use Rattle.bech32_hrp.specs.Hrp.{lowered}
 use Rattle.bech32_checksum.specs.Packed.{digit_of, digits}
 use Rattle.bech32_checksum.specs.TextPolynomial.{hrp_elements, text_polynomial}
-use Rattle.bech32_encode.proofs.ChecksumEnds.{generator-length, target-length}
 use Rattle.bech32_checksum.proofs.Digits.{length-tabulate, get_or-tabulate}
 
 -- nothing more
@@ -115,26 +114,24 @@ spelled-parts hrp version fes checksum =
     (ap (λ (l : List ℕ). l ++ last) (sym (map-append char_of_element version fes)) ∙ sym (map-append char_of_element (version ++ fes) checksum))
     ∙ append_assoc (lowered hrp) (49 ∷ []) (map char_of_element ((version ++ fes) ++ checksum))
 
-module _ {R : Type 0} (number : R → ℕ) (code : Code) (code_length degree : ℕ) (words : List R) (target : R)
-    (law : code ≡ code_of number code_length degree words target) where
-  -- where an engine was given the human-readable part, the version, the elements and the target
-  pub encoded_pieces : (hrp : List ℕ) (version fes : List Fe32) (residue row : R) (size : ℕ) → row ≡ residue → size ≡ degree
-      → IsResidueOf number code residue (appended (appended (appended (appended (fe32.one ∷ []) (hrp_elements hrp)) version) fes) (reverse code.target))
-      → IsEncodedText code hrp (version ++ fes)
-      (((text_front hrp ++ map char_of_element version) ++ map char_of_element fes) ++ map char_of_element (reverse (digits size (number row))))
-  encoded_pieces hrp version fes residue row size same is h =
-      let p : List Fe32 = appended (appended (appended (fe32.one ∷ []) (hrp_elements hrp)) version) fes in
-      let left : List Fe32 = digits size (number row) in
-      let wide = generator-length number code code_length degree words target law in
-      let held : IsRemainder fe32.ops code.generator (appended p (reverse code.target)) left =
-      subst (λ r. IsRemainder fe32.ops code.generator (appended p (reverse code.target)) (digits size (number r))) (sym same)
-      (subst (λ k. IsRemainder fe32.ops code.generator (appended p (reverse code.target)) (digits k (number residue))) (wide ∙ sym is) h) in
-      record {
-        checksum = reverse left;
-        is_checksum = record {
-          size = length-reverse left ∙ length-tabulate size (digit_of (number row)) ∙ is ∙ sym wide;
-          leaves_target = subst (λ q. IsRemainder fe32.ops code.generator q code.target) (polynomial-parts hrp version fes (reverse left))
-              (checksum_of_target is_field code.generator p code.target left (λ x. refl) (target-length number code code_length degree words target law) held);
-        };
-        spelling = spelled-parts hrp version fes (reverse left);
-      }
+-- where an engine was given the human-readable part, the version, the elements and the target
+pub encoded_pieces : {R : Type 0} → (number : R → ℕ) (code : Code) (degree : ℕ) → length code.generator ≡ degree → length code.target ≡ length code.generator
+    → (hrp : List ℕ) (version fes : List Fe32) (residue row : R) (size : ℕ) → row ≡ residue → size ≡ degree
+    → IsResidueOf number code residue (appended (appended (appended (appended (fe32.one ∷ []) (hrp_elements hrp)) version) fes) (reverse code.target))
+    → IsEncodedText code hrp (version ++ fes)
+    (((text_front hrp ++ map char_of_element version) ++ map char_of_element fes) ++ map char_of_element (reverse (digits size (number row))))
+encoded_pieces number code degree wide target hrp version fes residue row size same is h =
+    let p : List Fe32 = appended (appended (appended (fe32.one ∷ []) (hrp_elements hrp)) version) fes in
+    let left : List Fe32 = digits size (number row) in
+    let held : IsRemainder fe32.ops code.generator (appended p (reverse code.target)) left =
+    subst (λ r. IsRemainder fe32.ops code.generator (appended p (reverse code.target)) (digits size (number r))) (sym same)
+    (subst (λ k. IsRemainder fe32.ops code.generator (appended p (reverse code.target)) (digits k (number residue))) (wide ∙ sym is) h) in
+    record {
+      checksum = reverse left;
+      is_checksum = record {
+        size = length-reverse left ∙ length-tabulate size (digit_of (number row)) ∙ is ∙ sym wide;
+        leaves_target = subst (λ q. IsRemainder fe32.ops code.generator q code.target) (polynomial-parts hrp version fes (reverse left))
+            (checksum_of_target is_field code.generator p code.target left (λ x. refl) target held);
+      };
+      spelling = spelled-parts hrp version fes (reverse left);
+    }

@@ -1,4 +1,6 @@
 pub mod Buffers
 pub mod ChecksumElements
+pub mod Encoder
 pub mod TextFrom
 pub mod TextLength
+pub mod WitnessVersion

@@ -1,22 +1,23 @@
 //! Texts: a human-readable part, the separator, and the characters of elements and their checksum.
 
-ghost use Rattle.std.specs.Prelude.{◌≡◌, ◌+◌, ◌-◌, ◌≤◌, ◌<◌, ◌∷◌, ◌++◌, ℕ, List, Some, true, length, slice_get, IfSome};
+ghost use Rattle.std.specs.Prelude.{◌≡◌, ◌+◌, ◌-◌, ◌≤◌, ◌<◌, List, Some, true, false, length, slice_get, IfSome};
 ghost use Rattle.std.specs.Char.{is_ascii};
 ghost use Rattle.std.specs.List.{list_all};
-ghost use Rattle.std.specs.Iterator.{Drains, UpTo, MakesProgress, count_map};
-ghost use Rattle.std.specs.Iterator.Runs.{EachRunFrom, SomeRun};
+ghost use Rattle.std.specs.Iterator.{UpTo, MakesProgress, count_map};
+ghost use Rattle.std.specs.Iterator.Adapters.{fuse_source, fuse_done};
 ghost use Rattle.std.specs.Iterator.SizeHint.{IsWithinCount};
 ghost use Rattle.bech32_gf.specs.declared.gf32.Fe32.{Fe32 as Element};
 ghost use Rattle.bech32_encode.specs.TextFrom.{text_front, text_from};
 ghost use Rattle.bech32_bits.specs.SizeHints.{FollowsHint};
+ghost use Rattle.bech32_bits.specs.Walks.{EachWalkGives, EachRunGives};
 
 use super::version::WitnessVersionIter;
-use crate::Checksummed;
+use crate::{Adaptor, Checksummed};
 use bech32_bits::hints::longer_hint;
 use bech32_checksum::{Checksum, Engine};
 use bech32_gf::gf32::Fe32;
 use bech32_hrp::Hrp;
-use std::iter::Fuse;
+use std::iter::{Fuse, FusedIterator};
 use std::marker::PhantomData;
 
 /// The characters of a text: the human-readable part in lower case, `1`, and the characters of the
@@ -48,29 +49,36 @@ fn front_byte(hrp: &[u8], place: usize) -> u8
     }
 }
 
+impl<'hrp, I, Ck: Checksum> Adaptor for CharIter<'hrp, I, Ck> {
+    type Source = WitnessVersionIter<I>;
+
+    type Given = char;
+
+    ghost source = { λ s. ⟦<Checksummed<WitnessVersionIter<I>, Ck> as Adaptor>⟧.source s.checksummed };
+
+    ghost gives = { λ s xs. text_from s.hrp.now s.place
+        (⟦<Checksummed<WitnessVersionIter<I>, Ck> as Adaptor>⟧.gives s.checksummed xs) };
+
+    ghost more = { λ s. ⟦<Checksummed<WitnessVersionIter<I>, Ck> as Adaptor>⟧.more s.checksummed
+        + (length s.hrp.now + 1 - s.place) };
+}
+
 impl<'hrp, I: Iterator<Item = Fe32>, Ck: Checksum> CharIter<'hrp, I, Ck> {
-    ghost use Rattle.bech32_encode.specs.ChecksumElements.{checksum_of};
-    ghost use Rattle.bech32_checksum.specs.Encoded.{spelled, IsEncodedText};
+    ghost use Rattle.bech32_encode.specs.WitnessVersion.{version_steps};
+    ghost use Rattle.bech32_checksum.specs.Encoded.{IsEncodedText};
     ghost use Rattle.bech32_hrp.specs.HrpBytes.{hrp_bytes};
-    ghost use Rattle.bech32_checksum.specs.TextPolynomial.{text_polynomial};
-    ghost use Rattle.std.specs.Iterator.Adapters.{fuse_source, fuse_done};
-    ghost use Rattle.std.specs.Prelude.{false};
 
     /// The characters of the text of the elements and their checksum.
     pub fn new(hrp: &'hrp Hrp, elements: WitnessVersionIter<I>) -> Self
-        ensures source { fuse_source result.checksummed.elements ≡ elements }
-        ensures fresh { fuse_done result.checksummed.elements ≡ false }
-        ensures gives { (xs : List Element) → text_from Ck.MidstateRepr.number Ck.code result.hrp.now result.place
-            result.checksummed.engine.residue result.checksummed.tail xs
-            ≡ spelled (hrp_bytes hrp.now) (xs ++ checksum_of Ck.code (text_polynomial (hrp_bytes hrp.now) xs)) }
+        ensures source { fuse_source (⟦<CharIter<'hrp, I, Ck> as Adaptor>⟧.source result) ≡ elements }
+        ensures fresh { fuse_done (⟦<CharIter<'hrp, I, Ck> as Adaptor>⟧.source result) ≡ false }
+        ensures gives { (xs : List Element) → IsEncodedText Ck.code (hrp_bytes hrp.now) xs
+            (⟦<CharIter<'hrp, I, Ck> as Adaptor>⟧.gives result xs) }
         // A whole walk gives the text of what a whole walk of the elements gives.
-        ensures walk { (text : List ℕ) → Drains ⟦<CharIter<'hrp, I, Ck> as Iterator>⟧.next_gives result text
-            → (xs : List Element) × Drains ⟦<WitnessVersionIter<I> as Iterator>⟧.next_gives elements xs
-            × IsEncodedText Ck.code (hrp_bytes hrp.now) xs text }
-        // The same, as chains of iterators follow it.
-        ensures runs { EachRunFrom ⟦<CharIter<'hrp, I, Ck> as Iterator>⟧.next_gives result (λ p.
-            SomeRun ⟦<WitnessVersionIter<I> as Iterator>⟧.next_gives elements (λ q. (p.whole ≡ true → q.whole ≡ true)
-            × (p.whole ≡ true → IsEncodedText Ck.code (hrp_bytes hrp.now) q.items p.items))) }
+        ensures walk { EachWalkGives (version_steps I.next_gives) elements
+            ⟦<CharIter<'hrp, I, Ck> as Iterator>⟧.next_gives result (IsEncodedText Ck.code (hrp_bytes hrp.now)) }
+        ensures runs { EachRunGives (version_steps I.next_gives) elements
+            ⟦<CharIter<'hrp, I, Ck> as Iterator>⟧.next_gives result (IsEncodedText Ck.code (hrp_bytes hrp.now)) }
     {
         CharIter {
             hrp: hrp.as_bytes(),
@@ -103,18 +111,16 @@ impl<'hrp, I: Iterator<Item = Fe32>, Ck: Checksum> CharIter<'hrp, I, Ck> {
 impl<'hrp, I: Iterator<Item = Fe32>, Ck: Checksum> Iterator for CharIter<'hrp, I, Ck> {
     type Item = char;
 
-    ghost use Rattle.bech32_bits.specs.Adaptor.{Adapts};
+    ghost use Rattle.bech32_bits.specs.Adaptor.{Adapts, fuse_left};
+    ghost use Rattle.bech32_encode.specs.WitnessVersion.{version_steps};
 
     ghost can_next = { λ s. ⟦<Checksummed<WitnessVersionIter<I>, Ck> as Iterator>⟧.can_next s.checksummed };
 
-    ghost next_gives = { λ s r t. Adapts ⟦<WitnessVersionIter<I> as Iterator>⟧.next_gives
-        (λ u. u.checksummed.elements)
-        (λ u xs. text_from Ck.MidstateRepr.number Ck.code u.hrp.now u.place
-        u.checksummed.engine.residue u.checksummed.tail xs) s r t
-        × IfSome r (λ c. c < 128) };
+    ghost next_gives = { λ s r t. Adapts (version_steps I.next_gives) ⟦<CharIter<'hrp, I, Ck> as Adaptor>⟧.source
+        ⟦<CharIter<'hrp, I, Ck> as Adaptor>⟧.gives s r t × IfSome r (λ c. c < 128) };
 
-    ghost remaining = { λ s. count_map (λ n. n + (length s.hrp.now + 1 - s.place))
-        (⟦<Checksummed<WitnessVersionIter<I>, Ck> as Iterator>⟧.remaining s.checksummed) };
+    ghost remaining = { λ s. count_map (λ n. n + ⟦<CharIter<'hrp, I, Ck> as Adaptor>⟧.more s)
+        (fuse_left ⟦<WitnessVersionIter<I> as Iterator>⟧.remaining (⟦<CharIter<'hrp, I, Ck> as Adaptor>⟧.source s)) };
 
     #[inline]
     fn next(&mut self) -> Option<char> {
@@ -127,10 +133,13 @@ impl<'hrp, I: Iterator<Item = Fe32>, Ck: Checksum> Iterator for CharIter<'hrp, I
     fn size_hint(&self) -> (usize, Option<usize>)
         ensures lower { IsWithinCount result.0 (⟦<CharIter<'hrp, I, Ck> as Iterator>⟧.remaining self.now) }
         ensures upper { IfSome result.1 (UpTo (⟦<CharIter<'hrp, I, Ck> as Iterator>⟧.remaining self.now)) }
-        ensures rule { FollowsHint (λ n. n + (length self.now.hrp.now + 1 - self.now.place))
-            (⟦<Checksummed<WitnessVersionIter<I>, Ck> as Iterator>⟧.remaining self.now.checksummed) result }
+        ensures rule { FollowsHint (λ n. n + ⟦<CharIter<'hrp, I, Ck> as Adaptor>⟧.more self.now)
+            (fuse_left ⟦<WitnessVersionIter<I> as Iterator>⟧.remaining
+            (⟦<CharIter<'hrp, I, Ck> as Adaptor>⟧.source self.now)) result }
     {
         let front = (self.hrp.len() + 1).saturating_sub(self.place);
         longer_hint(self.checksummed.size_hint(), front)
     }
 }
+
+impl<'hrp, I: Iterator<Item = Fe32>, Ck: Checksum> FusedIterator for CharIter<'hrp, I, Ck> {}

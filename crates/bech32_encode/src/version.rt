@@ -1,16 +1,15 @@
 //! Elements behind a witness version.
 
-ghost use Rattle.std.specs.Prelude.{◌≡◌, ◌+◌, ◌++◌, true, false, List, length, option_to_list, IfSome};
-ghost use Rattle.std.specs.Iterator.{Drains, UpTo, count_map};
+ghost use Rattle.std.specs.Prelude.{◌≡◌, ◌+◌, ◌++◌, false, option_to_list, IfSome};
+ghost use Rattle.std.specs.Iterator.{UpTo, count_map};
 ghost use Rattle.std.specs.Iterator.Adapters.{fuse_source, fuse_done};
-ghost use Rattle.std.specs.Iterator.Runs.{EachRunFrom, SomeRun};
 ghost use Rattle.std.specs.Iterator.SizeHint.{IsWithinCount};
-ghost use Rattle.bech32_gf.specs.declared.gf32.Fe32.{Fe32 as Element};
 ghost use Rattle.bech32_bits.specs.SizeHints.{FollowsHint};
+ghost use Rattle.bech32_bits.specs.Walks.{EachWalkGives, EachRunGives};
 
 use bech32_bits::hints::longer_hint;
 use bech32_gf::gf32::Fe32;
-use std::iter::Fuse;
+use std::iter::{Fuse, FusedIterator};
 
 /// A witness version, if there is one, and then the elements of an iterator (BIP-173, Segwit
 /// address format).
@@ -22,19 +21,19 @@ pub struct WitnessVersionIter<I> {
 }
 
 impl<I: Iterator<Item = Fe32>> WitnessVersionIter<I> {
+    ghost use Rattle.bech32_encode.specs.WitnessVersion.{version_source, version_of, version_steps};
+
     /// The version, if there is one, and then the elements.
     #[inline]
     pub fn new(version: Option<Fe32>, elements: I) -> Self
-        ensures source { fuse_source result.elements ≡ elements }
-        ensures fresh { fuse_done result.elements ≡ false }
-        ensures version { result.version ≡ version }
+        ensures source { fuse_source (version_source result) ≡ elements }
+        ensures fresh { fuse_done (version_source result) ≡ false }
+        ensures version { version_of result ≡ version }
         // A whole walk gives the version and what a whole walk of the elements gives.
-        ensures walk { (fes : List Element) → Drains ⟦<WitnessVersionIter<I> as Iterator>⟧.next_gives result fes
-            → (xs : List Element) × Drains I.next_gives elements xs × (fes ≡ option_to_list version ++ xs) }
-        // The same, as chains of iterators follow it.
-        ensures runs { EachRunFrom ⟦<WitnessVersionIter<I> as Iterator>⟧.next_gives result (λ p.
-            SomeRun I.next_gives elements (λ q. (p.whole ≡ true → q.whole ≡ true)
-            × (p.whole ≡ true → p.items ≡ option_to_list version ++ q.items))) }
+        ensures walk { EachWalkGives I.next_gives elements (version_steps I.next_gives) result
+            (λ xs fes. fes ≡ option_to_list version ++ xs) }
+        ensures runs { EachRunGives I.next_gives elements (version_steps I.next_gives) result
+            (λ xs fes. fes ≡ option_to_list version ++ xs) }
     {
         WitnessVersionIter {
             version,
@@ -46,14 +45,14 @@ impl<I: Iterator<Item = Fe32>> WitnessVersionIter<I> {
 impl<I: Iterator<Item = Fe32>> Iterator for WitnessVersionIter<I> {
     type Item = Fe32;
 
-    ghost use Rattle.bech32_bits.specs.Adaptor.{Adapts, fuse_can, fuse_left};
+    ghost use Rattle.bech32_bits.specs.Adaptor.{fuse_can, fuse_left};
+    ghost use Rattle.bech32_encode.specs.WitnessVersion.{version_source, version_steps, version_more};
 
-    ghost can_next = { λ s. fuse_can I.can_next s.elements };
+    ghost can_next = { λ s. fuse_can I.can_next (version_source s) };
 
-    ghost next_gives = { Adapts I.next_gives (λ s. s.elements) (λ s xs. option_to_list s.version ++ xs) };
+    ghost next_gives = { version_steps I.next_gives };
 
-    ghost remaining = { λ s. count_map (λ n. n + length (option_to_list s.version))
-        (fuse_left I.remaining s.elements) };
+    ghost remaining = { λ s. count_map (λ n. n + version_more s) (fuse_left I.remaining (version_source s)) };
 
     #[inline]
     fn next(&mut self) -> Option<Fe32> {
@@ -69,8 +68,8 @@ impl<I: Iterator<Item = Fe32>> Iterator for WitnessVersionIter<I> {
     fn size_hint(&self) -> (usize, Option<usize>)
         ensures lower { IsWithinCount result.0 (⟦<WitnessVersionIter<I> as Iterator>⟧.remaining self.now) }
         ensures upper { IfSome result.1 (UpTo (⟦<WitnessVersionIter<I> as Iterator>⟧.remaining self.now)) }
-        ensures rule { FollowsHint (λ n. n + length (option_to_list self.now.version))
-            (fuse_left I.remaining self.now.elements) result }
+        ensures rule { FollowsHint (λ n. n + version_more self.now)
+            (fuse_left I.remaining (version_source self.now)) result }
     {
         let more = match self.version {
             Some(_) => 1,
@@ -79,3 +78,5 @@ impl<I: Iterator<Item = Fe32>> Iterator for WitnessVersionIter<I> {
         longer_hint(self.elements.size_hint(), more)
     }
 }
+
+impl<I: Iterator<Item = Fe32>> FusedIterator for WitnessVersionIter<I> {}

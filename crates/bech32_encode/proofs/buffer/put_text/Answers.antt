@@ -5,12 +5,15 @@ use Rattle.bech32_encode.specs.TextFrom.{text_front}
 use Rattle.bech32_hrp.specs.HrpBytes.{hrp_bytes}
 use Rattle.bech32_checksum.specs.Packed.{digits}
 use Rattle.bech32_encode.proofs.TextPieces.{puts_then, put_as_fits, encoded_pieces}
+use Rattle.bech32_checksum.proofs.Digits.{length-tabulate}
+use Rattle.bech32_encode.proofs.ChecksumEnds.{target-length}
 use Rattle.bech32_encode.proofs.buffer.put_text.Goals as goal
 
 pub returns : goal.returns
 returns g c =
     let number = g.Ck.MidstateRepr.PackedFe32.number in
     let code = g.Ck.Checksum.code in
+    let laws = g.met.Ck.Checksum in
     let hrp = hrp_bytes c.args.hrp.now in
     let version = option_to_list c.args.version in
     let (fes, walk, put, held) = c.put_elements-end.ensures in
@@ -20,7 +23,7 @@ returns g c =
       fes,
       text,
       walk,
-      encoded_pieces number code g.Ck.Checksum.CODE_LENGTH g.Ck.Checksum.CHECKSUM_LENGTH g.Ck.Checksum.GENERATOR_SH g.Ck.Checksum.TARGET_RESIDUE g.met.Ck.Checksum.code_law
+      encoded_pieces number code g.Ck.Checksum.CHECKSUM_LENGTH laws.degree_law (target-length g.Ck.Checksum.code _ _ laws.code_law (length-tabulate _ _) laws.degree_law)
           hrp version fes c.input_target_residue.new.self.residue c.residue.result.now c.CHECKSUM_LENGTH.result c.residue.ensures c.CHECKSUM_LENGTH.ensures
           (c.input_target_residue.ensures _ (held _ (c.put_version-start.ensures.residue _ (c.input_hrp.ensures (fe32.one ∷ []) c.new-engine.ensures)))),
       put_as_fits text c.args.buffer.now c.put_row.new.buffer c.put_row.result

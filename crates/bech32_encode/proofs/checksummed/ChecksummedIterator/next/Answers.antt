@@ -20,6 +20,7 @@ returns-in-Some-clause-steps g c =
       taken = c.in-Some.fe ∷ [];
       pulled = pulled_next g.I.Iterator.next_gives _ _ _ c.in-Some.ensures.steps;
       ended = search rules;
+      nothing_left = tt;
       gave = λ rest z. then_checksum-more g.Ck.MidstateRepr.PackedFe32.number g.Ck.Checksum.code s.engine.residue _ s.tail c.in-Some.fe rest
           (no_tail s.tail (fuse_done s.elements) c.in-Some.fe _ s.ended c.in-Some.ensures.steps.0) c.input_fe.ensures;
     }
@@ -34,6 +35,7 @@ returns-in-None-clause-steps g c =
       taken = [];
       pulled = pulled_next_same g.I.Iterator.next_gives s.elements c.next.new.self _ _ c.in-None.ensures.steps after.elements;
       ended = search rules;
+      nothing_left = after.nothing_left;
       gave = λ rest z.
           ap (then_checksum number code s.engine.residue s.tail) (z (search rules))
           ∙ after.gives
