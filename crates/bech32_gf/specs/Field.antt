@@ -69,6 +69,14 @@ pub record ListsDivisors (n : ℕ) (divisors : List ℕ) : Type 0 where
   pub rising : IsStrictlyIncreasing divisors
   pub all : (d : ℕ) → Contains divisors d ↔ (d ∣ n)
 
+-- the map gives of a sum the sum of what it gives
+abbrev pub KeepsSums : {A B : Type 0} → Ops A → Ops B → (A → B) → Type 0
+KeepsSums {A} a b f = (x y : A) → f (a.add x y) ≡ b.add (f x) (f y)
+
+-- the map gives of a product the product of what it gives
+abbrev pub KeepsProducts : {A B : Type 0} → Ops A → Ops B → (A → B) → Type 0
+KeepsProducts {A} a b f = (x y : A) → f (a.mul x y) ≡ b.mul (f x) (f y)
+
 -- n is from 1 on, and fits an i64
 pub record IsPositiveI64 (n : ℕ) : Type 0 where
   pub positive : 0 < n

@@ -6,7 +6,8 @@
 ghost use Rattle.std.specs.Prelude.{◌≡◌, ◌≢◌, ◌↔◌, ◌+◌, ◌-◌, ◌<◌, ◌≤◌, ◌<ℤ◌, ℕ, pos, List, Some, Option, IsTrue, fold};
 ghost use Rattle.std.specs.Iterator.{YieldsFirst, item_count};
 ghost use Rattle.std.specs.Fmt.{WritesOnOk};
-ghost use Rattle.bech32_gf.specs.Field.{Ops, IsField, IsOrder, IsCharacteristic, ListsDivisors, IsPositiveI64, power, signed_power, signed_multiple};
+ghost use Rattle.bech32_gf.specs.Field.{Ops, IsField, IsOrder, IsCharacteristic, ListsDivisors, IsPositiveI64};
+ghost use Rattle.bech32_gf.specs.Field.{power, signed_power, signed_multiple, KeepsSums, KeepsProducts};
 ghost use Rattle.bech32_gf.specs.Powers.{powers_of, left_of};
 
 use std::fmt;
@@ -262,11 +263,11 @@ pub trait ExtensionField: Field + From<Self::BaseField> {
 
     ghost embed_one_law: { embed Self.BaseField.ops.one ≡ Self.ops.one };
 
-    ghost embed_add_law: { (x y : Self.BaseField) → embed (Self.BaseField.ops.add x y) ≡ Self.ops.add (embed x) (embed y) };
+    ghost embed_add_law: { KeepsSums Self.BaseField.ops Self.ops embed };
 
     ghost embed_neg_law: { (x : Self.BaseField) → embed (Self.BaseField.ops.neg x) ≡ Self.ops.neg (embed x) };
 
-    ghost embed_mul_law: { (x y : Self.BaseField) → embed (Self.BaseField.ops.mul x y) ≡ Self.ops.mul (embed x) (embed y) };
+    ghost embed_mul_law: { KeepsProducts Self.BaseField.ops Self.ops embed };
 
     ghost polynomial_law: { power Self.ops EXT_ELEM DEGREE ≡ POLYNOMIAL };
 }

@@ -1,15 +1,17 @@
 //! The extension fields at outside values.
 
-ghost use Rattle.std.specs.Prelude.{◌≡◌, ◌≢◌};
+ghost use Rattle.std.specs.Prelude.{◌≢◌};
+ghost use Rattle.bech32_gf_ext.specs.Fe1024 as pairs;
+ghost use Rattle.bech32_gf_ext.specs.Fe32768 as triples;
 
 mod fe1024_table;
 mod fe32768_table;
 
-use super::{Fe32Ext, Fe1024, Fe32768};
-use bech32_gf::field::tests::Code;
 use bech32_gf::field::{Bech32Field, ExtensionField, Field, MultiplicativeOrder};
 use bech32_gf::gf32::Fe32;
-use std::process::Abort;
+use bech32_gf_ext::{Fe32Ext, Fe1024, Fe32768};
+use bech32_testing::code::Code;
+use bech32_testing::compare::{same, same_items};
 use std::test::Fail;
 
 // The element whose characters these are, the constant coefficient first.
@@ -23,33 +25,37 @@ fn element<const DEG: usize>(text: &str) -> Result<Fe32Ext<DEG>, Fail> {
     Ok(Fe32Ext::new(inner))
 }
 
+// What a line says of two elements and an exponent: a product, an inverse, an order and a power.
+type Results<F> = (F, F, usize, F);
+
 // A line of a table.
 #[derive(Drop)]
 struct Row<const DEG: usize> {
     a: Fe32Ext<DEG>,
     b: Fe32Ext<DEG>,
-    product: Fe32Ext<DEG>,
-    inverse: Fe32Ext<DEG>,
-    order: usize,
-    power: Fe32Ext<DEG>,
     exponent: i64,
+    results: Results<Fe32Ext<DEG>>,
 }
 
 fn row_of<const DEG: usize>(line: &str) -> Result<Row<DEG>, Fail> {
     let mut words = line.split(' ');
+    let a = element(words.next().ok_or("no first element")?)?;
+    let b = element(words.next().ok_or("no second element")?)?;
+    let product = element(words.next().ok_or("no product")?)?;
+    let inverse = element(words.next().ok_or("no inverse")?)?;
+    let order = words.next().ok_or("no order")?.parse::<usize>()?;
+    let power = element(words.next().ok_or("no power")?)?;
+    let exponent = words.next().ok_or("no exponent")?.parse::<i64>()?;
     Ok(Row {
-        a: element(words.next().ok_or("no first element")?)?,
-        b: element(words.next().ok_or("no second element")?)?,
-        product: element(words.next().ok_or("no product")?)?,
-        inverse: element(words.next().ok_or("no inverse")?)?,
-        order: words.next().ok_or("no order")?.parse::<usize>()?,
-        power: element(words.next().ok_or("no power")?)?,
-        exponent: words.next().ok_or("no exponent")?.parse::<i64>()?,
+        a,
+        b,
+        exponent,
+        results: (product, inverse, order, power),
     })
 }
 
-// What code over any field gives: a product, an inverse, an order and a power.
-fn results<F: Field>(a: F, b: F, exponent: i64) -> (F, F, usize, F)
+// What code over any field gives.
+fn results<F: Field>(a: F, b: F, exponent: i64) -> Results<F>
     requires { a ≢ F.ops.zero }
 {
     (
@@ -65,15 +71,12 @@ fn table_of_pairs(rt: HostRuntime) -> Result<(), Fail> {
     let mut count = 0u32;
     for line in fe1024_table::ROWS.lines() {
         let row = row_of::<2>(line)?;
-        assert!(rt; row.a != Fe1024::ZERO, "{line}");
-        let (product, inverse, order, power) = results(row.a, row.b, row.exponent);
-        assert_eq!(rt; product, row.product, "{line}");
-        assert_eq!(rt; inverse, row.inverse, "{line}");
-        assert_eq!(rt; order, row.order, "{line}");
-        assert_eq!(rt; power, row.power, "{line}");
+        assert!(rt; row.a != Fe1024::ZERO);
+        let got = results(row.a, row.b, row.exponent);
+        same(&rt, &(line, got), &(line, row.results));
         count = count.checked_add(1).ok_or("too many")?;
     }
-    assert_eq!(rt; count, 300);
+    same(&rt, &count, &300);
     Ok(())
 }
 
@@ -82,80 +85,107 @@ fn table_of_triples(rt: HostRuntime) -> Result<(), Fail> {
     let mut count = 0u32;
     for line in fe32768_table::ROWS.lines() {
         let row = row_of::<3>(line)?;
-        assert!(rt; row.a != Fe32768::ZERO, "{line}");
-        let (product, inverse, order, power) = results(row.a, row.b, row.exponent);
-        assert_eq!(rt; product, row.product, "{line}");
-        assert_eq!(rt; inverse, row.inverse, "{line}");
-        assert_eq!(rt; order, row.order, "{line}");
-        assert_eq!(rt; power, row.power, "{line}");
+        assert!(rt; row.a != Fe32768::ZERO);
+        let got = results(row.a, row.b, row.exponent);
+        same(&rt, &(line, got), &(line, row.results));
         count = count.checked_add(1).ok_or("too many")?;
     }
-    assert_eq!(rt; count, 300);
+    same(&rt, &count, &300);
     Ok(())
+}
+
+// The order of an element, unless it is zero.
+fn order_of<F: Field>(x: F) -> Option<usize> {
+    if x == F::ZERO {
+        return None;
+    }
+    Some(x.multiplicative_order())
 }
 
 #[test]
 fn orders(rt: HostRuntime) -> Result<(), Fail> {
     let x = Fe1024::new([Fe32::K, Fe32::L]);
-    assert!(rt; x != Fe1024::ZERO);
-    assert_eq!(rt; x.multiplicative_order(), 1023);
-    let y = x.powi(3);
-    assert!(rt; y != Fe1024::ZERO);
-    assert_eq!(rt; y.multiplicative_order(), 341);
-    let z = x.powi(341);
-    assert!(rt; z != Fe1024::ZERO);
-    assert_eq!(rt; z.multiplicative_order(), 3);
+    let of_pairs = [order_of(x), order_of(x.powi(3)), order_of(x.powi(341))];
+    same(&rt, &of_pairs, &[Some(1023), Some(341), Some(3)]);
     let x = element::<3>("acq")?;
-    assert!(rt; x != Fe32768::ZERO);
-    assert_eq!(rt; x.multiplicative_order(), 32767);
-    let y = x.powi(7);
-    assert!(rt; y != Fe32768::ZERO);
-    assert_eq!(rt; y.multiplicative_order(), 4681);
-    let z = x.powi(341);
-    assert!(rt; z != Fe32768::ZERO);
-    assert_eq!(rt; z.multiplicative_order(), 1057);
+    let of_triples = [order_of(x), order_of(x.powi(7)), order_of(x.powi(341))];
+    same(&rt, &of_triples, &[Some(32767), Some(4681), Some(1057)]);
     Ok(())
 }
 
 #[test]
 fn constants(rt: HostRuntime) {
-    assert_eq!(rt; Fe1024::GENERATOR, Fe1024::new([Fe32::P, Fe32::H]));
-    assert_eq!(rt;
-        Fe32768::GENERATOR,
-        Fe32768::new([Fe32::A, Fe32::C, Fe32::Q])
-    );
-    assert_eq!(rt; Fe1024::default(), Fe1024::new([Fe32::Q, Fe32::Q]));
-    assert_eq!(rt;
-        Fe32768::default(),
-        Fe32768::new([Fe32::Q, Fe32::Q, Fe32::Q])
-    );
-    assert_eq!(rt; Fe1024::EXT_ELEM.powi(2), Fe1024::POLYNOMIAL);
-    assert_eq!(rt; Fe32768::EXT_ELEM.powi(3), Fe32768::POLYNOMIAL);
+    let pairs = [Fe1024::GENERATOR, Fe1024::default(), Fe1024::POLYNOMIAL];
+    let z_squared = Fe1024::EXT_ELEM.powi(2);
+    let wanted_pairs = [
+        Fe1024::new([Fe32::P, Fe32::H]),
+        Fe1024::new([Fe32::Q, Fe32::Q]),
+        z_squared,
+    ];
+    same(&rt, &pairs, &wanted_pairs);
+    let triples = [Fe32768::GENERATOR, Fe32768::default(), Fe32768::POLYNOMIAL];
+    let z_cubed = Fe32768::EXT_ELEM.powi(3);
+    let wanted_triples = [
+        Fe32768::new([Fe32::A, Fe32::C, Fe32::Q]),
+        Fe32768::new([Fe32::Q, Fe32::Q, Fe32::Q]),
+        z_cubed,
+    ];
+    same(&rt, &triples, &wanted_triples);
     let x = Fe1024::new([Fe32::P, Fe32::X]);
     assert!(rt; x != Fe1024::ZERO);
-    assert_eq!(rt;
-        x.multiplicative_inverse(),
-        Fe1024::new([Fe32::_7, Fe32::F])
+    same(
+        &rt,
+        &x.multiplicative_inverse(),
+        &Fe1024::new([Fe32::_7, Fe32::F]),
     );
 }
 
 #[test]
 fn embedded_and_back(rt: HostRuntime) {
-    assert_eq!(rt; Fe1024::from(Fe32::Z), Fe1024::new([Fe32::Z, Fe32::Q]));
-    assert_eq!(rt;
-        Fe32768::from(Fe32::Z),
-        Fe32768::new([Fe32::Z, Fe32::Q, Fe32::Q])
+    same(
+        &rt,
+        &Fe1024::from(Fe32::Z),
+        &Fe1024::new([Fe32::Z, Fe32::Q]),
     );
-    assert_eq!(rt; Fe32::try_from(Fe1024::from(Fe32::L)), Ok(Fe32::L));
-    assert_eq!(rt; Fe32::try_from(Fe32768::from(Fe32::L)), Ok(Fe32::L));
-    assert_eq!(rt; Fe32::try_from(Fe1024::POLYNOMIAL), Err(()));
-    assert_eq!(rt; Fe32::try_from(Fe32768::POLYNOMIAL), Err(()));
-    assert_eq!(rt;
-        Fe32::try_from(Fe32768::new([Fe32::P, Fe32::Q, Fe32::P])),
-        Err(())
+    same(
+        &rt,
+        &Fe32768::from(Fe32::Z),
+        &Fe32768::new([Fe32::Z, Fe32::Q, Fe32::Q]),
     );
-    assert_eq!(rt; Fe1024::from(Fe32::A).to_base(), Some(Fe32::A));
-    assert_eq!(rt; Fe32768::EXT_ELEM.to_base(), None);
+    let third_alone = Fe32768::new([Fe32::P, Fe32::Q, Fe32::P]);
+    let back = [
+        Fe32::try_from(Fe1024::from(Fe32::L)),
+        Fe32::try_from(Fe32768::from(Fe32::L)),
+        Fe32::try_from(Fe1024::POLYNOMIAL),
+        Fe32::try_from(Fe32768::POLYNOMIAL),
+        Fe32::try_from(third_alone),
+    ];
+    same(
+        &rt,
+        &back,
+        &[Ok(Fe32::L), Ok(Fe32::L), Err(()), Err(()), Err(())],
+    );
+    let bases = [Fe1024::from(Fe32::A).to_base(), Fe32768::EXT_ELEM.to_base()];
+    same_items(&rt, &bases, &[Some(Fe32::A), None]);
+}
+
+// What a pair is after assigning operators, each by value and borrowed.
+fn assigned_pairs(mut z: Fe1024, y: Fe1024) -> [Fe1024; 5]
+    requires { y ≢ pairs.zero }
+{
+    z += y;
+    let sum = z;
+    z -= &y;
+    let difference = z;
+    z += &y;
+    z -= y;
+    z *= y;
+    let product = z;
+    z /= &y;
+    let quotient = z;
+    z *= &y;
+    z /= y;
+    [sum, difference, product, quotient, z]
 }
 
 // Each form of each operator, at a line of the table.
@@ -165,45 +195,40 @@ fn operator_forms_of_pairs(rt: HostRuntime) {
     let y = Fe1024::new([Fe32::J, Fe32::C]);
     assert!(rt; y != Fe1024::ZERO);
     let sum = Fe1024::new([Fe32::F, Fe32::P]);
-    for got in [
-        x + y,
-        x + &y,
-        &x + y,
-        &x + &y,
-        x - y,
-        x - &y,
-        &x - y,
-        &x - &y,
-    ] {
-        assert_eq!(rt; got, sum);
-    }
     let product = Fe1024::new([Fe32::P, Fe32::_9]);
-    for got in [x * y, x * &y, &x * y, &x * &y] {
-        assert_eq!(rt; got, product);
+    let factor = Fe32::A;
+    for (got, want) in [
+        ([x + y, x + &y, &x + y, &x + &y], sum),
+        ([x - y, x - &y, &x - y, &x - &y], sum),
+        ([x * y, x * &y, &x * y, &x * &y], product),
+        ([product / y, product / &y, &product / y, &product / &y], x),
+        (
+            [x * factor, x * &factor, &x * factor, &x * &factor],
+            x * Fe1024::from(factor),
+        ),
+    ] {
+        same(&rt, &got, &[want; 4]);
     }
-    for got in [product / y, product / &y, &product / y, &product / &y] {
-        assert_eq!(rt; got, x);
-    }
-    let mut z = x;
+    same(&rt, &assigned_pairs(x, y), &[sum, x, product, x, x]);
+}
+
+// What a triple is after assigning operators, each by value and borrowed.
+fn assigned_triples(mut z: Fe32768, y: Fe32768) -> [Fe32768; 5]
+    requires { y ≢ triples.zero }
+{
     z += y;
-    assert_eq!(rt; z, sum);
+    let sum = z;
     z -= &y;
-    assert_eq!(rt; z, x);
+    let difference = z;
     z += &y;
     z -= y;
     z *= y;
-    assert_eq!(rt; z, product);
+    let product = z;
     z /= &y;
-    assert_eq!(rt; z, x);
+    let quotient = z;
     z *= &y;
     z /= y;
-    assert_eq!(rt; z, x);
-    assert_eq!(rt; -x, x);
-    let factor = Fe32::A;
-    for got in [x * factor, x * &factor, &x * factor, &x * &factor] {
-        assert_eq!(rt; got, x * Fe1024::from(factor));
-    }
-    assert_eq!(rt; [x, y, x].into_iter().sum::<Fe1024>(), y);
+    [sum, difference, product, quotient, z]
 }
 
 // Each form of each operator, at a line of the table.
@@ -213,45 +238,31 @@ fn operator_forms_of_triples(rt: HostRuntime) {
     let y = Fe32768::new([Fe32::_8, Fe32::_2, Fe32::_3]);
     assert!(rt; y != Fe32768::ZERO);
     let sum = Fe32768::new([Fe32::_8, Fe32::M, Fe32::Y]);
-    for got in [
-        x + y,
-        x + &y,
-        &x + y,
-        &x + &y,
-        x - y,
-        x - &y,
-        &x - y,
-        &x - &y,
-    ] {
-        assert_eq!(rt; got, sum);
-    }
     let product = Fe32768::new([Fe32::_5, Fe32::_4, Fe32::N]);
-    for got in [x * y, x * &y, &x * y, &x * &y] {
-        assert_eq!(rt; got, product);
-    }
-    for got in [product / y, product / &y, &product / y, &product / &y] {
-        assert_eq!(rt; got, x);
-    }
-    let mut z = x;
-    z += y;
-    assert_eq!(rt; z, sum);
-    z -= &y;
-    assert_eq!(rt; z, x);
-    z += &y;
-    z -= y;
-    z *= y;
-    assert_eq!(rt; z, product);
-    z /= &y;
-    assert_eq!(rt; z, x);
-    z *= &y;
-    z /= y;
-    assert_eq!(rt; z, x);
-    assert_eq!(rt; -x, x);
     let factor = Fe32::A;
-    for got in [x * factor, x * &factor, &x * factor, &x * &factor] {
-        assert_eq!(rt; got, x * Fe32768::from(factor));
+    for (got, want) in [
+        ([x + y, x + &y, &x + y, &x + &y], sum),
+        ([x - y, x - &y, &x - y, &x - &y], sum),
+        ([x * y, x * &y, &x * y, &x * &y], product),
+        ([product / y, product / &y, &product / y, &product / &y], x),
+        (
+            [x * factor, x * &factor, &x * factor, &x * &factor],
+            x * Fe32768::from(factor),
+        ),
+    ] {
+        same(&rt, &got, &[want; 4]);
     }
-    assert_eq!(rt; [x, y, x].into_iter().sum::<Fe32768>(), y);
+    same(&rt, &assigned_triples(x, y), &[sum, x, product, x, x]);
+}
+
+#[test]
+fn negatives_and_sums(rt: HostRuntime) {
+    let x = Fe1024::new([Fe32::M, Fe32::E]);
+    let y = Fe1024::new([Fe32::J, Fe32::C]);
+    same_items(&rt, &[-x, [x, y, x].into_iter().sum::<Fe1024>()], &[x, y]);
+    let x = Fe32768::new([Fe32::Q, Fe32::_3, Fe32::_4]);
+    let y = Fe32768::new([Fe32::_8, Fe32::_2, Fe32::_3]);
+    same_items(&rt, &[-x, [x, y, x].into_iter().sum::<Fe32768>()], &[x, y]);
 }
 
 #[test]
@@ -259,15 +270,17 @@ fn printed(rt: HostRuntime) -> Result<(), Fail> {
     let pair = Fe1024::new([Fe32::P, Fe32::X]);
     let triple = Fe32768::new([Fe32::_9, Fe32::Q, Fe32::L]);
     let text = format!(in rt.alloc(); "{pair} {pair:?} {triple} {triple:?}")?;
-    assert_eq!(rt; text.as_str(), "px px 9ql 9ql");
+    same(&rt, &text.as_str(), &"px px 9ql 9ql");
     let pair_code = Code(pair);
     let triple_code = Code(triple);
     let code = format!(in rt.alloc(); "{pair_code}; {triple_code}")?;
-    assert_eq!(rt;
-        code.as_str(),
-        "Fe32Ext { inner: [Fe32::P, Fe32::X] }; Fe32Ext { inner: [Fe32::_9, Fe32::Q, Fe32::L] }"
-    );
-    assert_eq!(rt; <Fe1024 as Bech32Field>::NAME, "Fe1024");
-    assert_eq!(rt; <Fe32768 as Bech32Field>::NAME, "Fe32768");
+    let want =
+        "Fe32Ext { inner: [Fe32::P, Fe32::X] }; Fe32Ext { inner: [Fe32::_9, Fe32::Q, Fe32::L] }";
+    same(&rt, &code.as_str(), &want);
+    let names = [
+        <Fe1024 as Bech32Field>::NAME,
+        <Fe32768 as Bech32Field>::NAME,
+    ];
+    same_items(&rt, &names, &["Fe1024", "Fe32768"]);
     Ok(())
 }

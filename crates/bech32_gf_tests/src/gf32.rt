@@ -1,4 +1,5 @@
-use super::*;
+use bech32_gf::gf32::{Fe32, FromCharError, plain};
+use bech32_testing::compare::{same, same_items};
 use std::test::Fail;
 
 // The characters of the elements, in order of their values.
@@ -85,19 +86,19 @@ const POWERS_OF_20: &[u8; 31] = b"p529kt3uw8hlmecvxr470na6djfsgyz";
 #[test]
 fn constants_by_name_and_value(rt: HostRuntime) {
     for (value, element) in (0u8..32).zip(ELEMENTS.iter()) {
-        assert_eq!(rt; element.to_u8(), value);
-        assert_eq!(rt; *element, Fe32::from_low_bits(value));
+        same(&rt, &element.to_u8(), &value);
+        same(&rt, element, &Fe32::from_low_bits(value));
     }
 }
 
 #[test]
 fn alphabet_in_both_cases(rt: HostRuntime) {
     for (element, c) in ELEMENTS.iter().zip(LOWER_CASE.iter()) {
-        assert_eq!(rt; element.to_char(), *c as char);
+        same(&rt, &element.to_char(), &(*c as char));
     }
     for characters in [LOWER_CASE, UPPER_CASE] {
         for (element, c) in ELEMENTS.iter().zip(characters.iter()) {
-            assert_eq!(rt; Fe32::from_char(*c as char), Ok(*element));
+            same(&rt, &Fe32::from_char(*c as char), &Ok(*element));
         }
     }
 }
@@ -106,33 +107,41 @@ fn alphabet_in_both_cases(rt: HostRuntime) {
 fn unchecked_characters(rt: HostRuntime) {
     for c in LOWER_CASE.iter().chain(UPPER_CASE.iter()) {
         let checked = Fe32::from_char(*c as char);
-        assert!(rt; checked.is_ok(), "at {c}");
-        assert_eq!(rt; Ok(Fe32::from_char_unchecked(*c)), checked, "at {c}");
+        assert!(rt; checked.is_ok());
+        same(&rt, &Ok(Fe32::from_char_unchecked(*c)), &checked);
     }
 }
 
 #[test]
 fn low_bits(rt: HostRuntime) {
-    assert_eq!(rt; Fe32::from_low_bits(0xff), Fe32::L);
-    assert_eq!(rt; Fe32::from_low_bits(0x34), Fe32::_5);
+    let got = [Fe32::from_low_bits(0xff), Fe32::from_low_bits(0x34)];
+    same_items(&rt, &got, &[Fe32::L, Fe32::_5]);
 }
 
 #[test]
-fn other_characters(rt: HostRuntime) -> Result<(), Fail> {
+fn other_characters(rt: HostRuntime) {
     for c in ['b', 'i', 'o', '1', 'B', ' ', '\u{7f}'] {
-        assert_eq!(rt; Fe32::from_char(c), Err(FromCharError::Invalid(c)));
+        same(&rt, &Fe32::from_char(c), &Err(FromCharError::Invalid(c)));
     }
     for c in ['é', '\u{80}', 'ƀ', '💥'] {
-        assert_eq!(rt; Fe32::from_char(c), Err(FromCharError::NotAscii(c)));
+        same(&rt, &Fe32::from_char(c), &Err(FromCharError::NotAscii(c)));
     }
-    assert_eq!(rt;
-        FromCharError::Invalid('b').to_string(rt.alloc())?.as_str(),
-        "tried to interpret a character as a GF32 element but it is not of the alphabet: b"
-    );
-    assert_eq!(rt;
-        FromCharError::NotAscii('é').to_string(rt.alloc())?.as_str(),
-        "tried to interpret a character as a GF32 element but it is not ASCII: é"
-    );
+}
+
+#[test]
+fn texts_of_refusals(rt: HostRuntime) -> Result<(), Fail> {
+    for (error, want) in [
+        (
+            FromCharError::Invalid('b'),
+            "tried to interpret a character as a GF32 element but it is not of the alphabet: b",
+        ),
+        (
+            FromCharError::NotAscii('é'),
+            "tried to interpret a character as a GF32 element but it is not ASCII: é",
+        ),
+    ] {
+        same(&rt, &error.to_string(rt.alloc())?.as_str(), &want);
+    }
     Ok(())
 }
 
@@ -141,8 +150,8 @@ fn all_products(rt: HostRuntime) {
     for (a, row) in ELEMENTS.iter().zip(PRODUCTS.iter()) {
         for (b, c) in ELEMENTS.iter().zip(row.iter()) {
             let product = *a * *b;
-            assert_eq!(rt; product.to_char(), *c as char, "{a:?} times {b:?}");
-            assert_eq!(rt; plain::product(*a, *b), product, "{a:?} times {b:?}");
+            same(&rt, &(*a, *b, product.to_char()), &(*a, *b, *c as char));
+            same(&rt, &(*a, *b, plain::product(*a, *b)), &(*a, *b, product));
         }
     }
 }
@@ -151,21 +160,24 @@ fn all_products(rt: HostRuntime) {
 fn powers_of_20(rt: HostRuntime) {
     let mut power = Fe32::P;
     for c in POWERS_OF_20.iter() {
-        assert_eq!(rt; power.to_char(), *c as char);
+        same(&rt, &power.to_char(), &(*c as char));
         power *= Fe32::_5;
     }
-    assert_eq!(rt; power, Fe32::P);
+    same(&rt, &power, &Fe32::P);
 }
 
 #[test]
 fn operators(rt: HostRuntime) {
-    assert_eq!(rt; Fe32::_5 + Fe32::F, Fe32::A);
-    assert_eq!(rt; Fe32::L + Fe32::L, Fe32::Q);
-    assert_eq!(rt; Fe32::S * Fe32::Z, Fe32::F);
     let mut sum = Fe32::_5;
     sum += Fe32::F;
-    assert_eq!(rt; sum, Fe32::A);
     let mut product = Fe32::S;
     product *= Fe32::Z;
-    assert_eq!(rt; product, Fe32::F);
+    let got = [
+        Fe32::_5 + Fe32::F,
+        Fe32::L + Fe32::L,
+        Fe32::S * Fe32::Z,
+        sum,
+        product,
+    ];
+    same_items(&rt, &got, &[Fe32::A, Fe32::Q, Fe32::F, Fe32::A, Fe32::F]);
 }
