@@ -4,7 +4,7 @@ use Rattle.std.specs.Str.{IsUtf8}
 use Rattle.bech32_decode.specs.declared.error.UncheckedHrpstringError.{UncheckedHrpstringError}
 use Rattle.bech32_decode.specs.declared.unchecked.UncheckedHrpstring.{UncheckedHrpstring}
 use Rattle.bech32_hrp.specs.HrpBytes.{hrp_bytes}
-use Rattle.bech32_hrp.proofs.HrpParts.{IsAscii-from_list_all}
+use Rattle.bech32_hrp.proofs.HrpParts.{hrp_bytes-ascii, IsAscii-from_list_all}
 use Rattle.std.proofs.lemmas.Str.{IsUtf8-from_ascii}
 use Rattle.bech32_decode.specs.Text.{IsText, IsInGrammar, text_refusal}
 use Rattle.bech32_decode.proofs.Grammar.{IsText-from_refusal, only-from_IsText, accepts-from_outcome}
@@ -16,7 +16,7 @@ abbrev pub IsOutcome : List ℕ → Result UncheckedHrpstring UncheckedHrpstring
 IsOutcome text r = MatchResult r (IsRead text) (λ e. text_refusal text ≡ Some e)
 
 text-from_read : (text : List ℕ) (u : UncheckedHrpstring) → IsRead text u → IsText text (hrp_bytes u.hrp) u.data_part_ascii.now
-text-from_read text u h = IsText-from_refusal text (hrp_bytes u.hrp) u.data_part_ascii.now (IsUtf8-from_ascii (hrp_bytes u.hrp) (IsAscii-from_list_all (hrp_bytes u.hrp) u.hrp.all_ascii)) h.0 h.1 u.of_alphabet
+text-from_read text u h = IsText-from_refusal text (hrp_bytes u.hrp) u.data_part_ascii.now (IsUtf8-from_ascii (hrp_bytes u.hrp) (IsAscii-from_list_all (hrp_bytes u.hrp) (hrp_bytes-ascii u.hrp))) h.0 h.1 u.of_alphabet
 
 pub parts-from_outcome : (text : List ℕ) (r : Result UncheckedHrpstring UncheckedHrpstringError) → IsOutcome text r
     → IfOk r (λ u. IsText text (hrp_bytes u.hrp) u.data_part_ascii.now × (u.hrpstring_length ≡ length text))

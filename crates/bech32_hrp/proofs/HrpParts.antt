@@ -1,5 +1,6 @@
 -- The bytes of a human-readable part, in their row of 83.
 use Rattle.std.proofs.Common.{◌≡◌, ℕ, ◌+◌, ◌-◌, ◌≤◌, true, List, [], ◌∷◌, ◌++◌, length, take, drop, replicate, refl, sym, ap, ◌∙◌, arith, length-take}
+use Rattle.std.proofs.lemmas.Bool.Decides.{nat_tests}
 use Rattle.std.proofs.lemmas.Bool.{and_parts, and_from, ltb-true, lt-ltb}
 use Rattle.std.proofs.lemmas.List.{drop-replicate, drop_at, take_at, length-replicate, length-append, length-take-le, length-map}
 use Rattle.std.proofs.lemmas.Str.Ascii.{IsAscii-nil, IsAscii-cons, lowercase_ascii}
@@ -7,7 +8,7 @@ use Rattle.std.specs.Char.{is_ascii, to_ascii_lowercase}
 use Rattle.std.specs.List.{list_all}
 use Rattle.std.specs.Str.{IsAscii}
 use Rattle.bech32_hrp.specs.declared.Hrp.{Hrp}
-use Rattle.bech32_hrp.specs.Hrp.{padded, lowered}
+use Rattle.bech32_hrp.specs.Hrp.{is_graphic, padded, lowered}
 use Rattle.bech32_hrp.specs.HrpBytes.{hrp_bytes, lowered_bytes}
 
 -- written over the front of 83 zeros
@@ -29,6 +30,28 @@ drop-buf h =
     ap (drop h.size) h.zeros_behind
     ∙ drop_at (hrp_bytes h) (replicate (83 - length (hrp_bytes h)) 0) h.size (length-hrp_bytes h)
     ∙ ap (λ n. replicate (83 - n) 0) (length-hrp_bytes h)
+
+graphic_lower : (b : ℕ) → is_graphic b ≡ true → is_graphic (to_ascii_lowercase b) ≡ true
+graphic_lower b h = grind (arith, nat_tests)
+
+pub lowered-graphic : (bytes : List ℕ) → list_all is_graphic bytes ≡ true → list_all is_graphic (lowered bytes) ≡ true
+lowered-graphic [] h = refl
+lowered-graphic (b ∷ bs) h =
+    let parts = and_parts (is_graphic b) (list_all is_graphic bs) h in
+    and_from (is_graphic (to_ascii_lowercase b)) (list_all is_graphic (lowered bs)) (graphic_lower b parts.0) (lowered-graphic bs parts.1)
+
+ascii_graphic : (b : ℕ) → is_graphic b ≡ true → is_ascii b ≡ true
+ascii_graphic b h = grind (arith, nat_tests)
+
+ascii-from_graphic : (bytes : List ℕ) → list_all is_graphic bytes ≡ true → list_all is_ascii bytes ≡ true
+ascii-from_graphic [] h = refl
+ascii-from_graphic (b ∷ bs) h =
+    let parts = and_parts (is_graphic b) (list_all is_graphic bs) h in
+    and_from (is_ascii b) (list_all is_ascii bs) (ascii_graphic b parts.0) (ascii-from_graphic bs parts.1)
+
+-- the bytes of a human-readable part are ASCII
+pub hrp_bytes-ascii : (h : Hrp) → list_all is_ascii (hrp_bytes h) ≡ true
+hrp_bytes-ascii h = ascii-from_graphic (hrp_bytes h) h.all_graphic
 
 pub lowered-ascii : (bytes : List ℕ) → list_all is_ascii bytes ≡ true → list_all is_ascii (lowered bytes) ≡ true
 lowered-ascii [] h = refl
@@ -57,5 +80,5 @@ padded-lower h front e =
     ∙ ap (λ (x : List ℕ). lowered_bytes h ++ x) (drop-buf h ∙ ap (λ n. replicate (83 - n) 0) (sym (length-lowered (hrp_bytes h) ∙ length-hrp_bytes h)))
     ∙ sym (ap padded (take-lower h front e))
 
-pub ascii-lower : (h : Hrp) (front : List ℕ) → front ≡ lowered_bytes h → list_all is_ascii (take h.size (front ++ drop h.size h.buf)) ≡ true
-ascii-lower h front e = ap (list_all is_ascii) (take-lower h front e) ∙ lowered-ascii (hrp_bytes h) h.all_ascii
+pub graphic-lower : (h : Hrp) (front : List ℕ) → front ≡ lowered_bytes h → list_all is_graphic (take h.size (front ++ drop h.size h.buf)) ≡ true
+graphic-lower h front e = ap (list_all is_graphic) (take-lower h front e) ∙ lowered-graphic (hrp_bytes h) h.all_graphic

@@ -18,7 +18,7 @@ pub record Scanned (text rest : List ℕ) (has_lower has_upper : Bool) : Type 0 
   pub before : List ℕ
   pub split : text ≡ before ++ rest
   pub rest_is_text : IsUtf8 rest
-  pub ascii : list_all is_ascii before ≡ true
+  pub graphic : list_all is_graphic before ≡ true
   pub same : first_bad before (chars rest) ≡ first_bad [] (chars text)
   pub lower : has_lower ≡ list_any is_lower before
   pub upper : has_upper ≡ list_any is_upper before
@@ -27,7 +27,7 @@ pub record Scanned (text rest : List ℕ) (has_lower has_upper : Bool) : Type 0 
 pub Scanned-start : (text rest : List ℕ) → IsUtf8 text → rest ≡ text → Scanned text rest false false
 Scanned-start text rest u e =
     subst (λ (x : List ℕ). Scanned text x false false) (sym e)
-    (record { before = []; split = refl; rest_is_text = u; ascii = refl; same = refl; lower = refl; upper = refl })
+    (record { before = []; split = refl; rest_is_text = u; graphic = refl; same = refl; lower = refl; upper = refl })
 
 or_false : (b : Bool) → (b || false) ≡ b
 or_false true = refl
@@ -86,17 +86,19 @@ Scanned-next text rest t c low up s p h g m =
       before = s.before ++ c ∷ [];
       split = s.split ∙ ap (λ (x : List ℕ). s.before ++ x) (p ∙ ap (λ (x : List ℕ). x ++ t) one) ∙ sym (append_assoc s.before (c ∷ []) t);
       rest_is_text = IsUtf8-past_char rest t c s.rest_is_text p;
-      ascii = list_all-append is_ascii s.before (c ∷ []) ∙ and_from (list_all is_ascii s.before) (list_all is_ascii (c ∷ [])) s.ascii (and_from (is_ascii c) true h refl);
+      graphic =
+          list_all-append is_graphic s.before (c ∷ [])
+          ∙ and_from (list_all is_graphic s.before) (list_all is_graphic (c ∷ [])) s.graphic (and_from (is_graphic c) true g refl);
       same = sym (first_bad-next s.before rest t c s.rest_is_text p ∙ ap (λ (o : Option Error). first_of o (first_bad (s.before ++ c ∷ []) (chars t))) none) ∙ s.same;
       lower = flag-more is_lower s.before c low s.lower;
       upper = flag-more is_upper s.before c up s.upper;
     }
 
 -- all is read
-pub Scanned-end : (text rest : List ℕ) (low up : Bool) → Scanned text rest low up → length rest ≡ 0 → (first_bad [] (chars text) ≡ None) × (list_all is_ascii text ≡ true)
+pub Scanned-end : (text rest : List ℕ) (low up : Bool) → Scanned text rest low up → length rest ≡ 0 → (first_bad [] (chars text) ≡ None) × (list_all is_graphic text ≡ true)
 unfolding first_bad
 Scanned-end text rest low up s n =
     let e = nil_from_length rest n in (
       sym s.same ∙ ap (λ (x : List ℕ). first_bad s.before (chars x)) e ∙ ap (first_bad s.before) chars-nil,
-      ap (list_all is_ascii) (s.split ∙ ap (λ (x : List ℕ). s.before ++ x) e ∙ append-nil s.before) ∙ s.ascii,
+      ap (list_all is_graphic) (s.split ∙ ap (λ (x : List ℕ). s.before ++ x) e ∙ append-nil s.before) ∙ s.graphic,
     )

@@ -1,5 +1,5 @@
 -- Which texts are refused as human-readable parts.
-use Rattle.std.proofs.Common.{◌≡◌, ℕ, zero, suc, ◌<◌, ◌≤◌, Bool, true, false, List, [], ◌∷◌, ◌++◌, Option, Some, None, ◌||◌, ◌&&◌, length, cond, ltb, leb, eqb, refl, sym, ap, ◌∙◌, arith, inl, inr, append_assoc, append-nil, Result, Ok, Err, IsOk, ◌↔◌, MatchResult}
+use Rattle.std.proofs.Common.{◌≡◌, ℕ, zero, suc, ◌<◌, ◌≤◌, Bool, true, false, List, [], ◌∷◌, ◌++◌, Option, Some, None, ◌||◌, ◌&&◌, length, cond, ltb, leb, eqb, refl, sym, ap, ◌∙◌, arith, inl, inr, append_assoc, append-nil, Result, Ok, Err, IsOk, ◌↔◌}
 use Rattle.std.proofs.lemmas.Bool.{and_parts, and_from, cases_Bool, cases_lt, cond-true, cond-false, lt-leb, leb-true, le-ltb, ne_eqb, lt-ltb}
 use Rattle.std.proofs.lemmas.List.Folds.{list_any-append}
 use Rattle.std.proofs.lemmas.Str.{chars-IsAscii, encodes-IsAscii, encodes-chars}
@@ -11,7 +11,7 @@ use Rattle.bech32_hrp.specs.declared.Error.{Error}
 use Rattle.bech32_hrp.specs.declared.Error.TheVariants.{TooLong, NonAsciiChar, InvalidAsciiByte, MixedCase}
 use Rattle.bech32_hrp.specs.declared.Hrp.{Hrp}
 use Rattle.bech32_hrp.specs.Hrp.{is_lower, is_upper, is_graphic, is_mixed_case, first_of, bad_case, bad_after, first_bad, empty_fault, length_fault, hrp_refusal, IsHrp}
-use Rattle.bech32_hrp.specs.HrpBytes.{hrp_bytes}
+use Rattle.bech32_hrp.specs.HrpBytes.{IsParsed}
 
 none_first : (f r : Option Error) → first_of f r ≡ None → (f ≡ None) × (r ≡ None)
 none_first None r h = (refl, h)
@@ -156,10 +156,6 @@ IsHrp-from_refusal bytes u h =
       one_case = ap is_mixed_case (sym same) ∙ parts.1;
     }
 
--- what `parse` answers
-abbrev pub IsOutcome : List ℕ → Result Hrp Error → Type 0
-IsOutcome text r = MatchResult r (λ h. (hrp_refusal text ≡ None) × (hrp_bytes h ≡ text)) (λ e. hrp_refusal text ≡ Some e)
-
-pub accepts-from_outcome : (text : List ℕ) → IsUtf8 text → (r : Result Hrp Error) → IsOutcome text r → IsOk r ↔ IsHrp text
+pub accepts-from_outcome : (text : List ℕ) → IsUtf8 text → (r : Result Hrp Error) → IsParsed text r → IsOk r ↔ IsHrp text
 accepts-from_outcome text u (Ok h) o = (λ w. IsHrp-from_refusal text u o.0, λ w. refl)
 accepts-from_outcome text u (Err e) o = (λ w. absurd (cc), λ w. absurd (let none = hrp_refusal-none text w in cc))

@@ -1,5 +1,6 @@
 -- Human-readable parts (BIP-173, Bech32): which texts are one, and why another is not.
-use Rattle.std.specs.Prelude.{◌≡◌, ℕ, ◌≤◌, Bool, true, false, if◌then◌else◌, ◌&&◌, ◌||◌, ◌==◌, nat_lt, nat_le, List, [], ◌∷◌, ◌++◌, ◌-◌, length, replicate, map, Option, Some, None}
+use Rattle.std.specs.Prelude.{◌≡◌, ℕ, ◌≤◌, Bool, true, false, if◌then◌else◌, ◌&&◌, ◌||◌, ◌==◌, nat_lt, nat_le}
+use Rattle.std.specs.Prelude.{List, [], ◌∷◌, ◌++◌, ◌-◌, length, replicate, map, Option, Some, None}
 use Rattle.std.specs.Char.{to_ascii_lowercase}
 use Rattle.std.specs.List.{list_any, list_all}
 use Rattle.std.specs.Str.{chars}
@@ -61,7 +62,8 @@ length_fault n = if nat_lt 83 n then Some (TooLong n) else None
 
 -- why a text is no human-readable part: the first fault, in this order
 abbrev pub hrp_refusal : List ℕ → Option Error
-hrp_refusal text = first_of (empty_fault (length text)) (first_of (length_fault (length text)) (first_bad [] (chars text)))
+hrp_refusal text =
+    first_of (empty_fault (length text)) (first_of (length_fault (length text)) (first_bad [] (chars text)))
 
 -- the bytes are a human-readable part: 1 to 83 of them, each from 33 to 126, in one case (BIP-173, Bech32)
 pub record IsHrp (bytes : List ℕ) : Type 0 where

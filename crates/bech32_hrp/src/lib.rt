@@ -1,11 +1,11 @@
 //! Human-readable parts: what stands before the separator of a text (BIP-173, Bech32).
 #![tactic(auto)]
 
-ghost use Rattle.std.specs.Prelude.{◌≡◌, ℕ, ◌+◌, ◌-◌, ◌≤◌, ◌<◌, ◌++◌, [], ◌∷◌, true, false, ◌&&◌, ◌||◌, List, length, take, replicate, ◌↔◌, ◌⊎◌, IsTrue, IsOk, codes, MatchResult, Option, Some, None};
-ghost use Rattle.std.specs.Char.{is_ascii};
+ghost use Rattle.std.specs.Prelude.{◌≡◌, ℕ, ◌+◌, ◌-◌, ◌≤◌, ◌<◌, ◌++◌, [], ◌∷◌, true, false, ◌&&◌, ◌||◌, ◌↔◌, ◌⊎◌};
+ghost use Rattle.std.specs.Prelude.{List, length, take, replicate, IsTrue, IsOk, codes, MatchResult, Option, Some, None};
 ghost use Rattle.std.specs.List.{list_all};
 ghost use Rattle.std.specs.Str.{chars};
-ghost use Rattle.bech32_hrp.specs.Hrp.{is_graphic, is_lower, is_upper, padded, first_bad, hrp_refusal, IsHrp};
+ghost use Rattle.bech32_hrp.specs.Hrp.{is_graphic, is_lower, is_upper, padded, first_bad, IsHrp};
 
 use std::cmp::Ordering;
 use std::fmt;
@@ -24,7 +24,7 @@ pub enum Error {
     #[error("hrp is empty, must have at least 1 character")]
     Empty,
     /// The text has this character, which is not ASCII.
-    #[error("found non-ASCII character in human-readable part: {0}")]
+    #[error("found non-ASCII character: {0}")]
     NonAsciiChar(char),
     /// The text has this byte, which is ASCII and not from 33 to 126.
     #[error("byte value is not valid US-ASCII: \'{0:x}\'")]
@@ -34,9 +34,10 @@ pub enum Error {
     MixedCase,
 }
 
-/// A human-readable part: at most 83 ASCII bytes, in the case that they were parsed in.
+/// A human-readable part: at most 83 bytes from 33 to 126, in the case that they were parsed in.
 ///
-/// Two of them are equal where they differ in case alone: equality, order and hash go by the lower-cased bytes.
+/// Two of them are equal where they differ in case alone: equality, order and hash go by the
+/// lower-cased bytes.
 #[derive(Clone, Copy, Debug)]
 pub struct Hrp {
     // The bytes, and zeros behind them.
@@ -45,7 +46,7 @@ pub struct Hrp {
     size: usize,
     pub ghost size_fits: { size ≤ 83 },
     pub ghost zeros_behind: { buf ≡ padded (take size buf) },
-    pub ghost all_ascii: { list_all is_ascii (take size buf) ≡ true },
+    pub ghost all_graphic: { list_all is_graphic (take size buf) ≡ true },
 }
 
 /// The human-readable part of the Bitcoin network: `bc`.
@@ -94,7 +95,9 @@ fn is_of_other_case(b: u8, has_lower: bool, has_upper: bool) -> bool
 
 /// Looks for the first bad character.
 fn check(text: &str) -> Result<(), Error>
-    ensures { MatchResult result (λ _. (first_bad [] (chars text.now) ≡ None) × (list_all is_ascii text.now ≡ true)) (λ e. first_bad [] (chars text.now) ≡ Some e) }
+    ensures { MatchResult result
+        (λ _. (first_bad [] (chars text.now) ≡ None) × (list_all is_graphic text.now ≡ true))
+        (λ e. first_bad [] (chars text.now) ≡ Some e) }
 {
     let mut has_lower = false;
     let mut has_upper = false;
@@ -126,11 +129,11 @@ fn pad(bytes: &[u8]) -> [u8; MAX_HRP_LEN]
 }
 
 impl Hrp {
-    ghost use Rattle.bech32_hrp.specs.HrpBytes.{hrp_bytes, lowered_bytes};
+    ghost use Rattle.bech32_hrp.specs.HrpBytes.{hrp_bytes, lowered_bytes, IsParsed};
 
     /// What `parse` answers.
     fn read(text: &str) -> Result<Hrp, Error>
-        ensures { MatchResult result (λ h. (hrp_refusal text.now ≡ None) × (hrp_bytes h ≡ text.now)) (λ e. hrp_refusal text.now ≡ Some e) }
+        ensures { IsParsed text.now result }
     {
         if text.is_empty() {
             return Err(Error::Empty);
@@ -145,13 +148,16 @@ impl Hrp {
         })
     }
 
-    /// Reads a human-readable part: 1 to 83 bytes from 33 to 126, without letters of both cases (BIP-173, Bech32).
+    /// Reads a human-readable part: 1 to 83 bytes from 33 to 126, without letters of both cases
+    /// (BIP-173, Bech32).
     ///
     /// # Errors
     ///
-    /// The first of these that applies: `Empty`; `TooLong`; then at the first bad character from the front `NonAsciiChar`, `InvalidAsciiByte` or, for a letter whose case differs from that of a letter before it, `MixedCase`.
+    /// The first of these that applies: `Empty`; `TooLong`; then at the first bad character from the
+    /// front `NonAsciiChar`, `InvalidAsciiByte` or, for a letter whose case differs from that of a
+    /// letter before it, `MixedCase`.
     pub fn parse(text: &str) -> Result<Hrp, Error>
-        ensures outcome { MatchResult result (λ h. (hrp_refusal text.now ≡ None) × (hrp_bytes h ≡ text.now)) (λ e. hrp_refusal text.now ≡ Some e) }
+        ensures outcome { IsParsed text.now result }
         ensures accepts { IsOk result ↔ IsHrp text.now }
     {
         Self::read(text)
@@ -182,6 +188,27 @@ impl Hrp {
         self.size
     }
 
+    /// [`BC`]: a clause cannot name a constant of this type, so its text is said here.
+    fn mainnet() -> Hrp
+        ensures { hrp_bytes result ≡ codes "bc" }
+    {
+        BC
+    }
+
+    /// [`TB`], in the same way.
+    fn testnet() -> Hrp
+        ensures { hrp_bytes result ≡ codes "tb" }
+    {
+        TB
+    }
+
+    /// [`BCRT`], in the same way.
+    fn regtest() -> Hrp
+        ensures { hrp_bytes result ≡ codes "bcrt" }
+    {
+        BCRT
+    }
+
     /// The part in lower case.
     fn lower(&self) -> Hrp
         ensures { hrp_bytes result ≡ lowered_bytes self.now }
@@ -194,25 +221,27 @@ impl Hrp {
         }
     }
 
-    /// Whether it is that of segregated witness addresses of the Bitcoin network or of a test network: `bc` or `tb` (BIP-173, Segwit address format).
+    /// Whether it is that of segregated witness addresses of the Bitcoin network or of a test
+    /// network: `bc` or `tb` (BIP-173, Segwit address format).
     pub fn is_valid_segwit(&self) -> bool
-        ensures { IsTrue result ↔ ((lowered_bytes self.now ≡ codes "bc") ⊎ (lowered_bytes self.now ≡ codes "tb")) }
+        ensures { IsTrue result
+            ↔ ((lowered_bytes self.now ≡ codes "bc") ⊎ (lowered_bytes self.now ≡ codes "tb")) }
     {
         self.is_valid_on_mainnet() || self.is_valid_on_testnet()
     }
 
-    /// Whether it is that of the Bitcoin network: `bc`.
+    /// Whether it is that of the Bitcoin network: `bc`, the text of [`BC`].
     pub fn is_valid_on_mainnet(&self) -> bool
         ensures { IsTrue result ↔ (lowered_bytes self.now ≡ codes "bc") }
     {
-        *self == BC
+        *self == Self::mainnet()
     }
 
-    /// Whether it is that of the Bitcoin testnet: `tb`.
+    /// Whether it is that of the Bitcoin testnet: `tb`, the text of [`TB`].
     pub fn is_valid_on_testnet(&self) -> bool
         ensures { IsTrue result ↔ (lowered_bytes self.now ≡ codes "tb") }
     {
-        *self == TB
+        *self == Self::testnet()
     }
 
     /// Whether it is that of the Bitcoin signet: `tb`.
@@ -222,11 +251,11 @@ impl Hrp {
         self.is_valid_on_testnet()
     }
 
-    /// Whether it is that of the Bitcoin regtest network: `bcrt`.
+    /// Whether it is that of the Bitcoin regtest network: `bcrt`, the text of [`BCRT`].
     pub fn is_valid_on_regtest(&self) -> bool
         ensures { IsTrue result ↔ (lowered_bytes self.now ≡ codes "bcrt") }
     {
-        *self == BCRT
+        *self == Self::regtest()
     }
 }
 

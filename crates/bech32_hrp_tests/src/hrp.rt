@@ -1,4 +1,6 @@
-use super::{BC, BCRT, Error, Hrp, TB};
+use bech32_hrp::{BC, BCRT, Error, Hrp, TB};
+use bech32_testing::compare::{same, same_items};
+use std::alloc::{AllocError, Global};
 use std::cmp::Ordering;
 use std::hash::{DefaultHasher, Hash, Hasher};
 use std::process::Abort;
@@ -14,18 +16,47 @@ fn hash_of(hrp: &Hrp) -> u64 {
     state.finish()
 }
 
+// The length of the part that a text is, or why it is none.
+fn read(text: &str) -> Result<usize, Error> {
+    Hrp::parse(text).map(|h| h.len())
+}
+
+// The parts that each of the five questions takes: segwit, mainnet, testnet, signet, regtest.
+fn networks(hrp: &Hrp) -> [bool; 5] {
+    [
+        hrp.is_valid_segwit(),
+        hrp.is_valid_on_mainnet(),
+        hrp.is_valid_on_testnet(),
+        hrp.is_valid_on_signet(),
+        hrp.is_valid_on_regtest(),
+    ]
+}
+
 #[test]
-fn refuses_at_the_first_fault(rt: HostRuntime) -> Result<(), Fail> {
+fn refuses_by_length(rt: HostRuntime) -> Result<(), Fail> {
     let alloc = rt.alloc();
-    assert_eq!(rt; Hrp::parse("").err(), Some(Error::Empty));
     let longest = "a".repeat(alloc, 83)?;
-    assert_eq!(rt; Hrp::parse(&longest).map(|h| h.len()), Ok(83));
     let longer = "a".repeat(alloc, 84)?;
-    assert_eq!(rt; Hrp::parse(&longer).err(), Some(Error::TooLong(84)));
     let accents = "é".repeat(alloc, 42)?;
-    assert_eq!(rt; Hrp::parse(&accents).err(), Some(Error::TooLong(84)));
     let spaced = format!(in alloc; " {longest}")?;
-    assert_eq!(rt; Hrp::parse(&spaced).err(), Some(Error::TooLong(84)));
+    let got = [
+        read(""),
+        read(&longest),
+        read(&longer),
+        read(&accents),
+        read(&spaced),
+    ];
+    let too_long = Err(Error::TooLong(84));
+    same_items(
+        &rt,
+        &got,
+        &[Err(Error::Empty), Ok(83), too_long, too_long, too_long],
+    );
+    Ok(())
+}
+
+#[test]
+fn refuses_at_the_first_bad_character(rt: HostRuntime) {
     for (text, error) in [
         ("a b", Error::InvalidAsciiByte(0x20)),
         ("a\u{7f}B", Error::InvalidAsciiByte(0x7f)),
@@ -35,73 +66,77 @@ fn refuses_at_the_first_fault(rt: HostRuntime) -> Result<(), Fail> {
         ("é", Error::NonAsciiChar('é')),
         ("aéB", Error::NonAsciiChar('é')),
     ] {
-        assert_eq!(rt; Hrp::parse(text).err(), Some(error), "at {text:?}");
+        same(&rt, &(text, read(text)), &(text, Err(error)));
     }
-    Ok(())
 }
 
 #[test]
 fn keeps_the_parsed_case(rt: HostRuntime) -> Result<(), Fail> {
     let hrp = part(&rt, "~ABC!1");
-    assert_eq!(rt; hrp.as_bytes(), b"~ABC!1".as_slice());
-    assert_eq!(rt; hrp.as_str(), "~ABC!1");
-    assert_eq!(rt; hrp.len(), 6);
     let shown = format!(in rt.alloc(); "{hrp}")?;
-    assert_eq!(rt; shown.as_str(), "~ABC!1");
+    same_items(&rt, hrp.as_bytes(), b"~ABC!1");
+    same_items(&rt, &[hrp.as_str(), shown.as_str()], &["~ABC!1", "~ABC!1"]);
+    same(&rt, &hrp.len(), &6);
     Ok(())
 }
 
 #[test]
 fn compares_without_case(rt: HostRuntime) {
     let (upper, lower) = (part(&rt, "A"), part(&rt, "a"));
-    assert_eq!(rt; upper, lower);
-    assert_eq!(rt; hash_of(&upper), hash_of(&lower));
-    assert_eq!(rt; upper.cmp(&lower), Ordering::Equal);
-    let (b, c) = (part(&rt, "B"), part(&rt, "c"));
-    assert_ne!(rt; lower, b);
-    assert_ne!(rt; hash_of(&lower), hash_of(&b));
-    assert!(rt; lower < b && b < c);
-    assert!(rt; part(&rt, "bz") < c && b < part(&rt, "bz"));
+    let (b, c, bz) = (part(&rt, "B"), part(&rt, "c"), part(&rt, "bz"));
+    same(&rt, &upper, &lower);
+    same(&rt, &hash_of(&upper), &hash_of(&lower));
+    let differ = [lower == b, hash_of(&lower) == hash_of(&b)];
+    same_items(&rt, &differ, &[false; 2]);
+    let less = [lower < b, b < c, bz < c, b < bz];
+    same_items(&rt, &less, &[true; 4]);
+    same(&rt, &upper.cmp(&lower), &Ordering::Equal);
+}
+
+#[test]
+fn spells_the_networks(rt: HostRuntime) {
+    let texts = [BC.as_str(), TB.as_str(), BCRT.as_str()];
+    same_items(&rt, &texts, &["bc", "tb", "bcrt"]);
+    same_items(
+        &rt,
+        &[BC, TB, BCRT],
+        &[part(&rt, "BC"), part(&rt, "TB"), part(&rt, "bcrt")],
+    );
 }
 
 #[test]
 fn knows_the_networks(rt: HostRuntime) {
-    for (hrp, text, [segwit, mainnet, testnet, signet, regtest]) in [
-        (BC, "BC", [true, true, false, false, false]),
-        (TB, "Tb", [true, false, true, true, false]),
-        (BCRT, "bcrt", [false, false, false, false, true]),
-        (part(&rt, "b"), "b", [false; 5]),
+    for (hrp, want) in [
+        (BC, [true, true, false, false, false]),
+        (TB, [true, false, true, true, false]),
+        (BCRT, [false, false, false, false, true]),
+        (part(&rt, "b"), [false; 5]),
+        (part(&rt, "BC"), [true, true, false, false, false]),
     ] {
-        assert!(rt; hrp.as_str().eq_ignore_ascii_case(text));
-        assert_eq!(rt; hrp.is_valid_segwit(), segwit, "{text}");
-        assert_eq!(rt; hrp.is_valid_on_mainnet(), mainnet, "{text}");
-        assert_eq!(rt; hrp.is_valid_on_testnet(), testnet, "{text}");
-        assert_eq!(rt; hrp.is_valid_on_signet(), signet, "{text}");
-        assert_eq!(rt; hrp.is_valid_on_regtest(), regtest, "{text}");
+        same(&rt, &(hrp, networks(&hrp)), &(hrp, want));
     }
-    assert!(rt; part(&rt, "BC").is_valid_on_mainnet());
+}
+
+fn message(alloc: Global, error: Error) -> Result<String, AllocError> {
+    format!(in alloc; "{error}")
 }
 
 #[test]
 fn tells_the_fault(rt: HostRuntime) -> Result<(), Fail> {
-    for (error, message) in [
+    for (error, want) in [
         (
             Error::TooLong(84),
             "hrp is too long, found 84 characters, must be <= 83",
         ),
         (Error::Empty, "hrp is empty, must have at least 1 character"),
-        (
-            Error::NonAsciiChar('é'),
-            "found non-ASCII character in human-readable part: é",
-        ),
+        (Error::NonAsciiChar('é'), "found non-ASCII character: é"),
         (
             Error::InvalidAsciiByte(0x7f),
             "byte value is not valid US-ASCII: '7f'",
         ),
         (Error::MixedCase, "hrp cannot mix upper and lower case"),
     ] {
-        let shown = format!(in rt.alloc(); "{error}")?;
-        assert_eq!(rt; shown.as_str(), message);
+        same(&rt, &message(rt.alloc(), error)?.as_str(), &want);
     }
     Ok(())
 }

@@ -5,6 +5,7 @@ use Rattle.std.specs.Slice.Iter.{iter_rest, iter_steps}
 use Rattle.std.specs.Str.{IsUtf8}
 use Rattle.bech32_bits.specs.Bits.{to_fes}
 use Rattle.bech32_hrp.specs.HrpBytes.{hrp_bytes}
+use Rattle.bech32_hrp.proofs.HrpParts.{hrp_bytes-ascii}
 use Rattle.bech32_bits.proofs.ListSources.{ShowsRest-copied, copied_rest, drains-rest}
 use Rattle.bech32_encode.proofs.TextPieces.{put_whole}
 use Rattle.bech32_encode.proofs.Encoding.{IsEncodedText-same, IsAscii-encoded, text_fills}
@@ -26,7 +27,7 @@ from_utf8_unchecked-requires g c =
     let filled = text_fills k.code k.CHECKSUM_LENGTH g.met.Ck.Checksum.degree_law
     hrp c.args.data.now c.args.version fes text c.as_mut_slice.result.now c.put_text.new.buffer (drop (length c.put_text.new.buffer) c.in_ok-text.text.items) c.put_text.result c.in_ok-text.text.len
     (are ∙ ap to_fes items) is (size ∙ c.length_with_version-length.ensures) less room (put_whole text c.as_mut_slice.result.now c.put_text.new.buffer c.put_text.result put) in
-    subst IsUtf8 (sym filled) (IsUtf8-from_ascii text (IsAscii-encoded k.code hrp (option_to_list c.args.version ++ fes) text c.args.hrp.all_ascii is))
+    subst IsUtf8 (sym filled) (IsUtf8-from_ascii text (IsAscii-encoded k.code hrp (option_to_list c.args.version ++ fes) text (hrp_bytes-ascii c.args.hrp) is))
 
 pub returns : goal.returns
 returns g c =
