@@ -29,57 +29,59 @@ use Rattle.std.specs.declared.convert.From.{Ghosts as From}
 -- and the members of the traits that these three have.
 module _ {Ck R F : Type 0}
     {checksum : Checksum Ck R F}
-    {packed : PackedFe32 R}
-    {eq_r : PartialEq R}
-    {bitxor_r : BitXor R R R}
+    {row : PackedFe32 R}
+    {row_partial_eq : PartialEq R}
+    {row_bitxor : BitXor R R R}
     {extension : ExtensionField F Fe32}
-    {field_f : Field F}
-    {partialeq_f : PartialEq F}
-    {default_f : Default F}
-    {hash_f : Hash F}
-    {debug_f : Debug F}
-    {display_f : Display F}
-    {sum_f : Sum F F}
-    {add_f : Add F F F}
-    {sub_f : Sub F F F}
-    {addassign_f : AddAssign F F}
-    {subassign_f : SubAssign F F}
-    {mul_f : Mul F F F}
-    {mulassign_f : MulAssign F F}
-    {div_f : Div F F F}
-    {divassign_f : DivAssign F F}
-    {neg_f : Neg F F}
-    {from_f : From F Fe32}
-    {field_e : Field Fe32}
-    {partialeq_e : PartialEq Fe32}
-    {default_e : Default Fe32}
-    {hash_e : Hash Fe32}
-    {debug_e : Debug Fe32}
-    {display_e : Display Fe32}
-    {sum_e : Sum Fe32 Fe32}
-    {add_e : Add Fe32 Fe32 Fe32}
-    {sub_e : Sub Fe32 Fe32 Fe32}
-    {addassign_e : AddAssign Fe32 Fe32}
-    {subassign_e : SubAssign Fe32 Fe32}
-    {mul_e : Mul Fe32 Fe32 Fe32}
-    {mulassign_e : MulAssign Fe32 Fe32}
-    {div_e : Div Fe32 Fe32 Fe32}
-    {divassign_e : DivAssign Fe32 Fe32}
-    {neg_e : Neg Fe32 Fe32} where
+    {field : Field F}
+    {field_partial_eq : PartialEq F}
+    {field_default : Default F}
+    {field_hash : Hash F}
+    {field_debug : Debug F}
+    {field_display : Display F}
+    {field_sum : Sum F F}
+    {field_add : Add F F F}
+    {field_sub : Sub F F F}
+    {field_add_assign : AddAssign F F}
+    {field_sub_assign : SubAssign F F}
+    {field_mul : Mul F F F}
+    {field_mul_assign : MulAssign F F}
+    {field_div : Div F F F}
+    {field_div_assign : DivAssign F F}
+    {field_neg : Neg F F}
+    {field_from_base : From F Fe32}
+    {base : Field Fe32}
+    {base_partial_eq : PartialEq Fe32}
+    {base_default : Default Fe32}
+    {base_hash : Hash Fe32}
+    {base_debug : Debug Fe32}
+    {base_display : Display Fe32}
+    {base_sum : Sum Fe32 Fe32}
+    {base_add : Add Fe32 Fe32 Fe32}
+    {base_sub : Sub Fe32 Fe32 Fe32}
+    {base_add_assign : AddAssign Fe32 Fe32}
+    {base_sub_assign : SubAssign Fe32 Fe32}
+    {base_mul : Mul Fe32 Fe32 Fe32}
+    {base_mul_assign : MulAssign Fe32 Fe32}
+    {base_div : Div Fe32 Fe32 Fe32}
+    {base_div_assign : DivAssign Fe32 Fe32}
+    {base_neg : Neg Fe32 Fe32} where
   -- the packed remainder of what the engine was given
   abbrev pub residue_of :
-      Engine Ck R F checksum packed eq_r bitxor_r extension field_f partialeq_f default_f hash_f
-      debug_f display_f sum_f add_f sub_f addassign_f subassign_f mul_f mulassign_f div_f
-      divassign_f neg_f from_f field_e partialeq_e default_e hash_e debug_e display_e sum_e
-      add_e sub_e addassign_e subassign_e mul_e mulassign_e div_e divassign_e neg_e
+      Engine Ck R F checksum row row_partial_eq row_bitxor extension field field_partial_eq field_default
+      field_hash field_debug field_display field_sum field_add field_sub field_add_assign field_sub_assign
+      field_mul field_mul_assign field_div field_div_assign field_neg field_from_base base base_partial_eq
+      base_default base_hash base_debug base_display base_sum base_add base_sub base_add_assign
+      base_sub_assign base_mul base_mul_assign base_div base_div_assign base_neg
       → R
   residue_of engine = engine.residue
 
   -- that is the remainder of the polynomial by the checksum's generator
   abbrev pub Holds :
-      Engine Ck R F checksum packed eq_r bitxor_r extension field_f partialeq_f default_f hash_f
-      debug_f display_f sum_f add_f sub_f addassign_f subassign_f mul_f mulassign_f div_f
-      divassign_f neg_f from_f field_e partialeq_e default_e hash_e debug_e display_e sum_e
-      add_e sub_e addassign_e subassign_e mul_e mulassign_e div_e divassign_e neg_e
+      Engine Ck R F checksum row row_partial_eq row_bitxor extension field field_partial_eq field_default
+      field_hash field_debug field_display field_sum field_add field_sub field_add_assign field_sub_assign
+      field_mul field_mul_assign field_div field_div_assign field_neg field_from_base base base_partial_eq
+      base_default base_hash base_debug base_display base_sum base_add base_sub base_add_assign
+      base_sub_assign base_mul base_mul_assign base_div base_div_assign base_neg
       → List Fe32 → Type 0
-  Holds engine p = IsResidueOf packed.number checksum.code engine.residue p
+  Holds engine p = IsResidueOf row.number checksum.code engine.residue p

@@ -1,22 +1,19 @@
-ghost use Rattle.std.specs.Prelude.{List, length, ◌≤◌, refl};
-ghost use Rattle.std.proofs.Common.{arith};
+//! Engines: checksums that are known, long division, the rows of codex32.
+
+ghost use Rattle.std.specs.Prelude.{List, length, ◌≤◌};
 ghost use Rattle.bech32_gf.specs.declared.gf32.Fe32.{Fe32 as Element};
-ghost use Rattle.bech32_gf.specs.Fe32.{element};
-ghost use Rattle.bech32_gf_ext.specs.Fe1024.{pair};
-ghost use Rattle.bech32_gf_ext.specs.Fe32768.{triple};
 ghost use Rattle.bech32_poly.specs.Polynomial.{appended};
-ghost use Rattle.bech32_checksum.specs.Code.{IsResidueOf};
-ghost use Rattle.bech32_checksum.specs.laws.PackedLaws as packed;
-ghost use Rattle.bech32_checksum_tests.specs.TestWords.{words_8, words_8_keep, code_8, words_13, words_13_keep, code_13};
+ghost use Rattle.bech32_checksum.specs.Engine.{Holds};
 
-mod codex32_rows;
-mod roots;
-
-use super::*;
-use bech32_bits::{Checksummed, Fe32IterExt};
-use bech32_gf_ext::{Fe32Ext, Fe1024, Fe32768};
+use crate::checksums::{Degree8, Degree13};
+use crate::codex32_rows;
+use bech32_checksum::{Bech32, Bech32m, Checksum, Engine, NoChecksum, PackedFe32, PackedNull};
+use bech32_encode::{Checksummed, Fe32IterExt};
+use bech32_gf::gf32::Fe32;
+use bech32_hrp::Hrp;
 use bech32_poly::polynomial::remainder;
-use std::alloc::Global;
+use bech32_testing::compare::{same, same_items};
+use std::alloc::{AllocError, Global};
 use std::process::Abort;
 use std::test::Fail;
 
@@ -52,122 +49,9 @@ const LOW_13: [Fe32; 13] = [
     Fe32::E,
 ];
 
-// A checksum in a `u64`.
-#[derive(Copy, Clone)]
-enum Degree8 {}
-
-impl Checksum for Degree8 {
-    type MidstateRepr = u64;
-
-    type CorrectionField = Fe32768;
-
-    ghost ROOT_GENERATOR = { triple (element 11) (element 8) (element 15) };
-
-    ghost ROOT_EXPONENTS_START = { 1056 };
-
-    ghost ROOT_EXPONENTS_END = { 1058 };
-
-    ghost CODE_LENGTH = { 32767 };
-
-    ghost CHECKSUM_LENGTH = { 8 };
-
-    ghost GENERATOR_SH = { words_8 };
-
-    ghost TARGET_RESIDUE = { 1 };
-
-    ghost code = { code_8 };
-
-    const ROOT_GENERATOR: Fe32768 = Fe32Ext {
-        inner: [Fe32::T, Fe32::G, Fe32::_0],
-    };
-
-    const ROOT_EXPONENTS_START: usize = 1056;
-
-    const ROOT_EXPONENTS_END: usize = 1058;
-
-    const CODE_LENGTH: usize = 32767;
-
-    const CHECKSUM_LENGTH: usize = 8;
-
-    const GENERATOR_SH: [u64; 5] = [
-        0x000000f5dee51989,
-        0x000000a9fdca3312,
-        0x0000001bab10e32d,
-        0x0000003706b1677a,
-        0x000000644d626ffd,
-    ];
-
-    const TARGET_RESIDUE: u64 = 1;
-
-    ghost packing_laws = { words_8_keep };
-
-    ghost code_law = { refl };
-
-    ghost degree_law = { refl };
-
-    ghost code_length_law = { refl };
-}
-
-// A checksum in a `u128`.
-#[derive(Copy, Clone)]
-enum Degree13 {}
-
-impl Checksum for Degree13 {
-    type MidstateRepr = u128;
-
-    type CorrectionField = Fe1024;
-
-    ghost ROOT_GENERATOR = { pair (element 5) (element 5) };
-
-    ghost ROOT_EXPONENTS_START = { 9 };
-
-    ghost ROOT_EXPONENTS_END = { 16 };
-
-    ghost CODE_LENGTH = { 93 };
-
-    ghost CHECKSUM_LENGTH = { 13 };
-
-    ghost GENERATOR_SH = { words_13 };
-
-    ghost TARGET_RESIDUE = { 0x10ce0795c2fd1e62a };
-
-    ghost code = { code_13 };
-
-    const ROOT_GENERATOR: Fe1024 = Fe32Ext {
-        inner: [Fe32::_9, Fe32::_9],
-    };
-
-    const ROOT_EXPONENTS_START: usize = 9;
-
-    const ROOT_EXPONENTS_END: usize = 16;
-
-    const CODE_LENGTH: usize = 93;
-
-    const CHECKSUM_LENGTH: usize = 13;
-
-    const GENERATOR_SH: [u128; 5] = [
-        0x19dc500ce73fde210,
-        0x1bfae00def77fe529,
-        0x1fbd920fffe7bee52,
-        0x1739640bdeee3fdad,
-        0x07729a039cfc75f5a,
-    ];
-
-    const TARGET_RESIDUE: u128 = 0x10ce0795c2fd1e62a;
-
-    ghost packing_laws = { words_13_keep };
-
-    ghost code_law = { refl };
-
-    ghost degree_law = { refl };
-
-    ghost code_length_law = { refl };
-}
-
+// Takes elements, one after another.
 fn input_all<Ck: Checksum>(engine: &mut Engine<Ck>, elements: &[Fe32])
-    ensures { (p : List Element)
-        → IsResidueOf Ck.MidstateRepr.number Ck.code engine.old.residue p
-        → IsResidueOf Ck.MidstateRepr.number Ck.code engine.new.residue (appended p elements.now) }
+    ensures { (p : List Element) → Holds engine.old p → Holds engine.new (appended p elements.now) }
 {
     for e in elements {
         engine.input_fe(*e);
@@ -191,30 +75,28 @@ fn checksums_of_one_letter(rt: HostRuntime) -> Result<(), Fail> {
     let mut engine = Engine::<Bech32>::new();
     input_all(&mut engine, &hrp);
     engine.input_target_residue();
-    assert_eq!(rt;
-        characters(rt.alloc(), *engine.residue())?.as_str(),
-        "2uel5l"
-    );
+    let bech32 = characters(rt.alloc(), *engine.residue())?;
+    same(&rt, &bech32.as_str(), &"2uel5l");
 
     let mut engine = Engine::<Bech32m>::new();
     input_all(&mut engine, &hrp);
     engine.input_target_residue();
-    assert_eq!(rt;
-        characters(rt.alloc(), *engine.residue())?.as_str(),
-        "lqfn3a"
-    );
+    let bech32m = characters(rt.alloc(), *engine.residue())?;
+    same(&rt, &bech32m.as_str(), &"lqfn3a");
+    Ok(())
+}
 
-    // By the human-readable part itself, whose case does not count.
+// By the human-readable part itself, whose case does not count.
+#[test]
+fn checksum_of_a_part(rt: HostRuntime) -> Result<(), Fail> {
     let mut engine = Engine::<Bech32>::default();
     engine.input_hrp(Hrp::parse("A")?);
     let before = engine.clone()?;
     assert!(rt; engine == before);
     engine.input_target_residue();
     assert!(rt; engine != before);
-    assert_eq!(rt;
-        characters(rt.alloc(), *engine.residue())?.as_str(),
-        "2uel5l"
-    );
+    let text = characters(rt.alloc(), *engine.residue())?;
+    same(&rt, &text.as_str(), &"2uel5l");
     Ok(())
 }
 
@@ -232,14 +114,11 @@ fn agrees<Ck: Checksum>(rt: &impl Abort, alloc: Global, low: &[Fe32]) -> Result<
     polynomial.reverse();
     polynomial.push(Fe32::P)?;
     let rest = remainder(alloc, &polynomial, low)?;
-    assert_eq!(rt; rest.len(), low.len());
+    let mut held = Vec::new(alloc);
     for place in 0..low.len() {
-        assert_eq!(rt;
-            engine.residue().unpack(place),
-            rest[place].to_u8(),
-            "place {place}"
-        );
+        held.push(Fe32::from_low_bits(engine.residue().unpack(place)))?;
     }
+    same_items(rt, &held, &rest);
     Ok(())
 }
 
@@ -260,10 +139,10 @@ fn no_checksum(rt: HostRuntime) -> Result<(), Fail> {
     engine.input_hrp(Hrp::parse("a")?);
     engine.input_fe(Fe32::L);
     engine.input_target_residue();
-    assert_eq!(rt; *engine.residue(), PackedNull);
-    assert!(rt; engine == Engine::default());
-    assert_eq!(rt; NoChecksum::CODE_LENGTH, usize::MAX);
-    assert_eq!(rt; NoChecksum::CHECKSUM_LENGTH, 0);
+    same(&rt, engine.residue(), &PackedNull);
+    same(&rt, &engine, &Engine::default());
+    let sizes = [NoChecksum::CODE_LENGTH, NoChecksum::CHECKSUM_LENGTH];
+    same_items(&rt, &sizes, &[usize::MAX, 0]);
     Ok(())
 }
 
@@ -314,12 +193,12 @@ fn appends_the_checksums_of_codex32(rt: HostRuntime) -> Result<(), Fail> {
         all.extend_from_slice(&elements_of(alloc, checksum)?)?;
         let given = Checksummed::<_, Degree13>::new_hrp(hrp, fes.iter().copied());
         let given: Vec<Fe32> = given.collect(alloc)?;
-        assert_eq!(rt; given.as_slice(), all.as_slice());
+        same_items(&rt, &given, &all);
 
         let text = text_of::<Degree13>(alloc, &hrp, &fes)?;
         assert!(rt; text.ends_with(checksum));
         rows = rows.saturating_add(1);
     }
-    assert_eq!(rt; rows, 80);
+    same(&rt, &rows, &80);
     Ok(())
 }

@@ -2,6 +2,8 @@
 #![tactic(auto)]
 
 #[cfg(test)]
+mod checksums;
+#[cfg(test)]
 mod codex32_rows;
 #[cfg(test)]
 mod engine;

@@ -1,6 +1,9 @@
+//! Packed rows: what is packed is read back, rows move up, sums are by element.
+
 ghost use Rattle.std.specs.Prelude.{length, ◌≤◌};
 
-use super::*;
+use bech32_checksum::{PackedFe32, PackedNull};
+use bech32_testing::compare::{same, same_items};
 use std::process::Abort;
 use std::test::Fail;
 
@@ -9,11 +12,7 @@ fn shows<R: PackedFe32>(rt: &impl Abort, row: R, elements: &[u8])
     requires { length elements.now ≤ R.WIDTH }
 {
     for i in 0..elements.len() {
-        assert_eq!(rt;
-            row.unpack(elements.len() - 1 - i),
-            elements[i],
-            "element {i}"
-        );
+        same(rt, &row.unpack(elements.len() - 1 - i), &elements[i]);
     }
 }
 
@@ -34,23 +33,21 @@ const RISING: [u8; 25] = [
 #[test]
 fn first_value_is_highest(rt: HostRuntime) -> Result<(), Fail> {
     let row = u128::pack([1, 2, 3, 4].into_iter());
-    assert_eq!(rt; row, 0b00001_00010_00011_00100);
-    assert_eq!(rt; row.unpack(0), 4);
-    assert_eq!(rt; row.unpack(3), 1);
-    assert_eq!(rt; row.unpack(4), 0);
+    same(&rt, &row, &0b00001_00010_00011_00100);
+    shows(&rt, row, &[0, 1, 2, 3, 4]);
     Ok(())
 }
 
 #[test]
 fn full_rows(rt: HostRuntime) -> Result<(), Fail> {
-    assert_eq!(rt; (u32::WIDTH, u64::WIDTH), (6, 12));
-    assert_eq!(rt; (u128::WIDTH, PackedNull::WIDTH), (25, 0));
+    let widths = [u32::WIDTH, u64::WIDTH, u128::WIDTH, PackedNull::WIDTH];
+    same_items(&rt, &widths, &[6, 12, 25, 0]);
     let row: u32 = row_of(&rt, &[31, 30, 29, 28, 27, 26]);
-    assert_eq!(rt; row, 0b11111_11110_11101_11100_11011_11010);
+    same(&rt, &row, &0b11111_11110_11101_11100_11011_11010);
     let _: u64 = row_of(&rt, &RISING[..12]);
     let _: u128 = row_of(&rt, &RISING);
     let row: PackedNull = row_of(&rt, &[]);
-    assert_eq!(rt; row, PackedNull);
+    same(&rt, &row, &PackedNull);
     Ok(())
 }
 
@@ -69,11 +66,11 @@ fn words_of_checksums(rt: HostRuntime) -> Result<(), Fail> {
 #[test]
 fn moves_up_in_u32(rt: HostRuntime) -> Result<(), Fail> {
     let mut row: u32 = 0x3b6a57b2;
-    assert_eq!(rt; row.mul_by_x_then_add(6, 7), 29);
+    same(&rt, &row.mul_by_x_then_add(6, 7), &29);
     shows(&rt, row, &[22, 20, 21, 29, 18, 7]);
 
     let mut row = u32::ONE;
-    assert_eq!(rt; row.mul_by_x_then_add(1, 31), 1);
+    same(&rt, &row.mul_by_x_then_add(1, 31), &1);
     shows(&rt, row, &[0, 0, 0, 0, 0, 31]);
     Ok(())
 }
@@ -82,11 +79,11 @@ fn moves_up_in_u32(rt: HostRuntime) -> Result<(), Fail> {
 fn moves_up_in_u64(rt: HostRuntime) -> Result<(), Fail> {
     let mut row: u64 = row_of(&rt, &RISING[..12]);
     assert!(rt; row < 1 << 60);
-    assert_eq!(rt; row.mul_by_x_then_add(12, 31), 1);
+    same(&rt, &row.mul_by_x_then_add(12, 31), &1);
     shows(&rt, row, &[2, 3, 4, 5, 6, 7, 8, 9, 10, 11, 12, 31]);
 
     let mut row: u64 = 0xf5dee51989;
-    assert_eq!(rt; row.mul_by_x_then_add(8, 0), 30);
+    same(&rt, &row.mul_by_x_then_add(8, 0), &30);
     shows(&rt, row, &[0, 0, 0, 0, 23, 15, 14, 10, 6, 12, 9, 0]);
     Ok(())
 }
@@ -95,7 +92,7 @@ fn moves_up_in_u64(rt: HostRuntime) -> Result<(), Fail> {
 fn moves_up_in_u128(rt: HostRuntime) -> Result<(), Fail> {
     let mut row: u128 = row_of(&rt, &RISING);
     assert!(rt; row < 1 << 125);
-    assert_eq!(rt; row.mul_by_x_then_add(25, 31), 1);
+    same(&rt, &row.mul_by_x_then_add(25, 31), &1);
     shows(
         &rt,
         row & ((1 << 60) - 1),
@@ -108,7 +105,7 @@ fn moves_up_in_u128(rt: HostRuntime) -> Result<(), Fail> {
     );
 
     let mut row: u128 = 0x19dc500ce73fde210;
-    assert_eq!(rt; row.mul_by_x_then_add(13, 1), 25);
+    same(&rt, &row.mul_by_x_then_add(13, 1), &25);
     shows(
         &rt,
         row,
@@ -128,10 +125,10 @@ fn xor_adds(rt: HostRuntime) -> Result<(), Fail> {
 #[test]
 fn nothing_fits_nothing(rt: HostRuntime) -> Result<(), Fail> {
     let mut row = PackedNull::pack([1, 2, 255].into_iter());
-    assert_eq!(rt; row, PackedNull);
-    assert_eq!(rt; row, PackedNull::ONE ^ row);
-    assert_eq!(rt; row.unpack(7), 0);
-    assert_eq!(rt; row.mul_by_x_then_add(3, 200), 0);
-    assert_eq!(rt; row, PackedNull);
+    same(&rt, &row, &PackedNull);
+    same(&rt, &row, &(PackedNull::ONE ^ row));
+    same(&rt, &row.unpack(7), &0);
+    same(&rt, &row.mul_by_x_then_add(3, 200), &0);
+    same(&rt, &row, &PackedNull);
     Ok(())
 }

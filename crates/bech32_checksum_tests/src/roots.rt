@@ -1,18 +1,18 @@
 //! Lawful roots, and roots with one thing wrong.
 
 ghost use Rattle.std.specs.Prelude.{◌≡◌, ◌<◌, ◌≤◌, ◌+◌, ◌-◌, IsTrue, refl};
-ghost use Rattle.std.proofs.Common.{arith};
 ghost use Rattle.bech32_gf.specs.Fe32 as fe32;
 ghost use Rattle.bech32_gf_ext.specs.Fe1024.{pair};
 ghost use Rattle.bech32_checksum.specs.Code.{bech32};
 ghost use Rattle.bech32_checksum.specs.laws.CodeLaws as codes;
-ghost use Rattle.bech32_checksum.specs.laws.PackedLaws as packed;
 ghost use Rattle.bech32_checksum.specs.Roots.{HasLawfulRoots};
 ghost use Rattle.bech32_checksum_tests.specs.TestWords.{words_1, words_1_keep, code_1, code_6};
 
-use super::{Bech32, Bech32m, Checksum, Degree8, Degree13, NoChecksum};
+use crate::checksums::{Degree8, Degree13};
+use bech32_checksum::{Bech32, Bech32m, Checksum, NoChecksum};
 use bech32_gf::gf32::Fe32;
 use bech32_gf_ext::{Fe32Ext, Fe1024};
+use bech32_testing::compare::{same, same_items};
 
 const WORDS: [u32; 5] = [0x3b6a57b2, 0x26508e6d, 0x1ea119fa, 0x3d4233dd, 0x2a1462b3];
 
@@ -218,39 +218,53 @@ fn bech32m_is_sane() -> bool
 
 #[test]
 fn lawful_roots(rt: HostRuntime) {
-    assert!(rt; no_checksum_is_sane());
-    assert!(rt; bech32_is_sane());
-    assert!(rt; bech32m_is_sane());
-    assert_eq!(rt; roots_of_bech32(), 3);
-    assert_eq!(rt; roots_of_bech32m(), 3);
-    assert_eq!(rt; tested::<NoChecksum>(), None);
-    assert_eq!(rt; tested::<Bech32>(), Some(3));
-    assert_eq!(rt; tested::<Bech32m>(), Some(3));
-    assert_eq!(rt; tested::<Degree8>(), Some(3));
-    assert_eq!(rt; tested::<Degree13>(), Some(8));
-    assert!(rt; Degree8::sanity_check());
-    assert!(rt; Degree13::sanity_check());
-    assert_eq!(rt;
-        (Bech32m::ROOT_EXPONENTS_START, Bech32m::ROOT_EXPONENTS_END),
-        (24, 26)
-    );
-    assert_eq!(rt; Bech32::ROOT_GENERATOR, Bech32m::ROOT_GENERATOR);
+    let sane = [
+        no_checksum_is_sane(),
+        bech32_is_sane(),
+        bech32m_is_sane(),
+        Degree8::sanity_check(),
+        Degree13::sanity_check(),
+    ];
+    same_items(&rt, &sane, &[true; 5]);
+    same_items(&rt, &[roots_of_bech32(), roots_of_bech32m()], &[3, 3]);
+    let found = [
+        tested::<NoChecksum>(),
+        tested::<Bech32>(),
+        tested::<Bech32m>(),
+        tested::<Degree8>(),
+        tested::<Degree13>(),
+    ];
+    same_items(&rt, &found, &[None, Some(3), Some(3), Some(3), Some(8)]);
+}
+
+#[test]
+fn roots_of_both(rt: HostRuntime) {
+    let exponents = [Bech32m::ROOT_EXPONENTS_START, Bech32m::ROOT_EXPONENTS_END];
+    same_items(&rt, &exponents, &[24, 26]);
+    same(&rt, &Bech32::ROOT_GENERATOR, &Bech32m::ROOT_GENERATOR);
 }
 
 #[test]
 fn altered_roots(rt: HostRuntime) {
-    assert!(rt; Altered::<24, 26, 1023>::sanity_check());
-    assert!(rt; Altered::<24, 24, 1>::sanity_check());
-    // The same powers once more.
-    assert!(rt; Altered::<1047, 1049, 1023>::sanity_check());
-    assert!(rt; !Altered::<24, 26, 1024>::sanity_check());
-    assert!(rt; !Altered::<24, 27, 1023>::sanity_check());
-    assert!(rt; !Altered::<23, 26, 1023>::sanity_check());
-    assert!(rt; !Altered::<27, 27, 1023>::sanity_check());
-    assert!(rt; !Altered::<25, 24, 1023>::sanity_check());
-    assert!(rt; !Altered::<0, { usize::MAX }, 1023>::sanity_check());
-    assert!(rt; !OtherBase::sanity_check());
-    // As many roots as the degree, and one more.
-    assert!(rt; Degree1::<3>::sanity_check());
-    assert!(rt; !Degree1::<4>::sanity_check());
+    let lawful = [
+        Altered::<24, 26, 1023>::sanity_check(),
+        Altered::<24, 24, 1>::sanity_check(),
+        // The same powers once more.
+        Altered::<1047, 1049, 1023>::sanity_check(),
+        // As many roots as the degree.
+        Degree1::<3>::sanity_check(),
+    ];
+    same_items(&rt, &lawful, &[true; 4]);
+    let unlawful = [
+        Altered::<24, 26, 1024>::sanity_check(),
+        Altered::<24, 27, 1023>::sanity_check(),
+        Altered::<23, 26, 1023>::sanity_check(),
+        Altered::<27, 27, 1023>::sanity_check(),
+        Altered::<25, 24, 1023>::sanity_check(),
+        Altered::<0, { usize::MAX }, 1023>::sanity_check(),
+        OtherBase::sanity_check(),
+        // One root more than the degree.
+        Degree1::<4>::sanity_check(),
+    ];
+    same_items(&rt, &unlawful, &[false; 8]);
 }

@@ -1,5 +1,5 @@
 use Rattle.std.proofs.Common.{◌≡◌, ◌<◌, ◌≤◌, ◌-◌, arith}
-use Rattle.bech32_checksum.proofs.RootTests.{length-generator, lawful_exponents}
+use Rattle.bech32_checksum.proofs.RootTests.{lawful_exponents}
 use Rattle.bech32_checksum_tests.proofs.roots.roots_in_a_row.Goals as goal
 
 pub overflow_sub-result : goal.overflow_sub-result
@@ -11,7 +11,7 @@ overflow_sub-result g c =
     let end_read : c.ROOT_EXPONENTS_END.result ≡ end = c.ROOT_EXPONENTS_END.ensures in
     let exponents : (start ≤ end) × (end - start < degree) =
     lawful_exponents _ _ _ _ start end degree
-    (length-generator g.Ck.MidstateRepr.PackedFe32.number g.Ck.Checksum.code g.Ck.Checksum.CODE_LENGTH degree g.Ck.Checksum.GENERATOR_SH g.Ck.Checksum.TARGET_RESIDUE g.met.Ck.Checksum.code_law)
+    g.met.Ck.Checksum.degree_law
     c.requires.positive c.requires.lawful in
     omega arith
 
@@ -24,7 +24,7 @@ overflow_add-result g c =
     let end_read : c.ROOT_EXPONENTS_END.result ≡ end = c.ROOT_EXPONENTS_END.ensures in
     let exponents : (start ≤ end) × (end - start < degree) =
     lawful_exponents _ _ _ _ start end degree
-    (length-generator g.Ck.MidstateRepr.PackedFe32.number g.Ck.Checksum.code g.Ck.Checksum.CODE_LENGTH degree g.Ck.Checksum.GENERATOR_SH g.Ck.Checksum.TARGET_RESIDUE g.met.Ck.Checksum.code_law)
+    g.met.Ck.Checksum.degree_law
     c.requires.positive c.requires.lawful in
     let fits : degree ≤ g.Ck.MidstateRepr.PackedFe32.WIDTH = g.met.Ck.Checksum.packing_laws.fits in
     let wide : g.Ck.MidstateRepr.PackedFe32.WIDTH ≤ 25 = g.met.Ck.MidstateRepr.PackedFe32.wide_law in
@@ -39,6 +39,6 @@ returns-clause-within g c =
     let end_read : c.ROOT_EXPONENTS_END.result ≡ end = c.ROOT_EXPONENTS_END.ensures in
     let exponents : (start ≤ end) × (end - start < degree) =
     lawful_exponents _ _ _ _ start end degree
-    (length-generator g.Ck.MidstateRepr.PackedFe32.number g.Ck.Checksum.code g.Ck.Checksum.CODE_LENGTH degree g.Ck.Checksum.GENERATOR_SH g.Ck.Checksum.TARGET_RESIDUE g.met.Ck.Checksum.code_law)
+    g.met.Ck.Checksum.degree_law
     c.requires.positive c.requires.lawful in
     omega arith
