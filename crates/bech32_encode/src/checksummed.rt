@@ -15,6 +15,7 @@ use bech32_bits::hints::longer_hint;
 use bech32_checksum::{Checksum, Engine, PackedFe32};
 use bech32_gf::gf32::Fe32;
 use bech32_hrp::Hrp;
+use std::alloc::AllocError;
 use std::iter::{Fuse, FusedIterator};
 
 /// The elements of an iterator, and then the elements of their checksum.
@@ -80,6 +81,21 @@ impl<I: Iterator<Item = Fe32>, Ck: Checksum> Iterator for Checksummed<I, Ck> {
 }
 
 impl<I: Iterator<Item = Fe32>, Ck: Checksum> FusedIterator for Checksummed<I, Ck> {}
+
+impl<I: Clone, Ck: Checksum> Clone for Checksummed<I, Ck> {
+    ghost use Rattle.bech32_encode.specs.Clones.{IsAdaptorClone};
+
+    ghost is_clone = { IsAdaptorClone ⟦<Fuse<I> as Clone>⟧.is_clone ⟦<Checksummed<I, Ck> as Adaptor>⟧.source
+        ⟦<Checksummed<I, Ck> as Adaptor>⟧.gives ⟦<Checksummed<I, Ck> as Adaptor>⟧.more };
+
+    fn clone(&self) -> Result<Self, AllocError> {
+        Ok(Checksummed {
+            elements: self.elements.clone()?,
+            engine: self.engine.clone()?,
+            tail: self.tail,
+        })
+    }
+}
 
 impl<I: Iterator<Item = Fe32>, Ck: Checksum> Checksummed<I, Ck> {
     ghost use Rattle.bech32_bits.specs.Adaptor.{then_gives};

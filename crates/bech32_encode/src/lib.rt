@@ -31,7 +31,7 @@ pub use version::WitnessVersionIter;
 
 /// Encodes the elements of an iterator under a human-readable part, with a witness version before
 /// them where there is one: as characters, as bytes, or as the elements that the checksum covers.
-#[derive(Drop)]
+#[derive(Clone, PartialEq, Eq, Drop)]
 pub struct Encoder<'hrp, I, Ck> {
     elements: I,
     hrp: &'hrp Hrp,
