@@ -1,9 +1,9 @@
 -- Why a text is not decoded or not written.
-use Rattle.std.specs.Prelude.{◌≡◌, ◌<◌, ◌≤◌, ◌⊎◌, ℕ, List, Some}
+use Rattle.std.specs.Prelude.{◌≡◌, ◌<◌, ◌≤◌, ℕ, List, Some}
 use Rattle.bech32_gf.specs.declared.gf32.Fe32.{Fe32}
-use Rattle.bech32_checksum.specs.Code.{Code, bech32, bech32m}
+use Rattle.bech32_checksum.specs.Code.{Code}
 use Rattle.bech32_decode.specs.Text.{text_refusal}
-use Rattle.bech32_decode.specs.Acceptance.{Accepts}
+use Rattle.bech32_decode.specs.Acceptance.{IsAcceptedByEither}
 use Rattle.bech32_decode.specs.Refusals.{IsRefusedByBoth}
 use Rattle.bech32_encode.specs.TextLength.{encoded_length_of}
 use Rattle.bech32.specs.declared.error.DecodeError.{DecodeError}
@@ -15,9 +15,10 @@ use Rattle.bech32.specs.declared.error.EncodeError.TheVariants.{TooLong, Fmt, Me
 abbrev pub IsDecodeRefusal : List ℕ → DecodeError → Type 0
 IsDecodeRefusal text (Parse e) = text_refusal text ≡ Some e
 IsDecodeRefusal text (Checksum e) = IsRefusedByBoth text e
-IsDecodeRefusal text Memory = Accepts bech32m text ⊎ Accepts bech32 text
+IsDecodeRefusal text Memory = IsAcceptedByEither text
 
--- why the text of a human-readable part and elements is not written: it is too long, or memory is wanting where it is not
+-- why the text of a human-readable part and elements is not written: it is too long, or memory is wanting where it is
+-- not
 abbrev pub IsEncodeRefusal : Code → List ℕ → List Fe32 → EncodeError → Type 0
 IsEncodeRefusal code hrp elements (TooLong e) =
     (code.code_length < encoded_length_of code hrp elements)

@@ -1,17 +1,15 @@
 //! Encoding and decoding of bech32 texts (BIP-173 and BIP-350).
 #![tactic(auto)]
 
-ghost use Rattle.std.specs.Prelude.{◌≡◌, ℕ, List, nat_lt, ◌<◌, ◌≤◌, ◌⊎◌, true, length, MatchResult, IfOk, IfErr, IsOk, IsOkUnless, string_bytes};
-ghost use Rattle.std.specs.List.{list_all};
-ghost use Rattle.bech32_gf.specs.Fe32.{elements_of};
-ghost use Rattle.bech32_bits.specs.Bits.{to_bytes, to_fes};
-ghost use Rattle.bech32_checksum.specs.Code.{bech32, bech32m};
-ghost use Rattle.bech32_hrp.specs.Hrp.{IsHrp, lowered};
+ghost use Rattle.std.specs.Prelude.{◌≡◌, ◌<◌, ◌≤◌, MatchResult, IfOk, IfErr, IsOk, IsOkUnless, string_bytes};
+ghost use Rattle.bech32_bits.specs.Bits.{to_fes};
 ghost use Rattle.bech32_hrp.specs.HrpBytes.{hrp_bytes};
-ghost use Rattle.bech32_decode.specs.Acceptance.{Accepts, IsDecoded};
+ghost use Rattle.bech32_decode.specs.Acceptance.{IsAcceptedByEither, IsDecoded};
+ghost use Rattle.bech32_decode.specs.Parts.{checked_bytes};
 ghost use Rattle.bech32_checksum.specs.Encoded.{IsEncodedText};
 ghost use Rattle.bech32_encode.specs.TextLength.{encoded_length_of};
 ghost use Rattle.bech32.specs.Refusals.{IsDecodeRefusal, IsEncodeRefusal};
+ghost use Rattle.bech32.specs.WayBack.{GivesBack};
 
 mod error;
 pub mod hrp;
@@ -34,7 +32,7 @@ fn bytes_in<A: Allocator>(
     alloc: A,
     checked: &CheckedHrpstring<'_>,
 ) -> Result<Vec<u8, A>, AllocError>
-    ensures { IfOk result (λ v. v.items ≡ to_bytes (elements_of checked.now.ascii.now)) }
+    ensures { IfOk result (λ v. v.items ≡ checked_bytes checked.now) }
 {
     checked.byte_iter().collect(alloc)
 }
@@ -63,11 +61,9 @@ fn decoded_in<A: Allocator>(alloc: A, s: &str) -> Result<(Hrp, Vec<u8, A>), Deco
 /// Bech32m); there is no memory for the data.
 pub fn decode_in<A: Allocator>(alloc: A, s: &str) -> Result<(Hrp, Vec<u8, A>), DecodeError>
     ensures value { IfOk result (λ d. IsDecoded s.now (hrp_bytes d.0) d.1.items) }
-    ensures accepts { (Accepts bech32m s.now ⊎ Accepts bech32 s.now) → IsOkUnless result DecodeError.Memory }
+    ensures accepts { IsAcceptedByEither s.now → IsOkUnless result DecodeError.Memory }
     ensures refused { IfErr result (λ e. IsDecodeRefusal s.now e) }
-    ensures back { (hrp : List ℕ) → (bytes : List ℕ) → IsHrp hrp → list_all (λ b. nat_lt b 256) bytes ≡ true
-        → IsEncodedText bech32m hrp (to_fes bytes) s.now ⊎ IsEncodedText bech32 hrp (to_fes bytes) s.now → length s.now ≤ 1023
-        → IsOkUnless result DecodeError.Memory × IfOk result (λ d. (hrp_bytes d.0 ≡ lowered hrp) × (d.1.items ≡ bytes)) }
+    ensures back { GivesBack (λ v. v.items) s.now result }
 {
     decoded_in(alloc, s)
 }
@@ -75,11 +71,9 @@ pub fn decode_in<A: Allocator>(alloc: A, s: &str) -> Result<(Hrp, Vec<u8, A>), D
 /// Decodes as [`decode_in`] does, with memory of the global allocator.
 pub fn decode(alloc: Global, s: &str) -> Result<(Hrp, Vec<u8>), DecodeError>
     ensures value { IfOk result (λ d. IsDecoded s.now (hrp_bytes d.0) d.1.items) }
-    ensures accepts { (Accepts bech32m s.now ⊎ Accepts bech32 s.now) → IsOkUnless result DecodeError.Memory }
+    ensures accepts { IsAcceptedByEither s.now → IsOkUnless result DecodeError.Memory }
     ensures refused { IfErr result (λ e. IsDecodeRefusal s.now e) }
-    ensures back { (hrp : List ℕ) → (bytes : List ℕ) → IsHrp hrp → list_all (λ b. nat_lt b 256) bytes ≡ true
-        → IsEncodedText bech32m hrp (to_fes bytes) s.now ⊎ IsEncodedText bech32 hrp (to_fes bytes) s.now → length s.now ≤ 1023
-        → IsOkUnless result DecodeError.Memory × IfOk result (λ d. (hrp_bytes d.0 ≡ lowered hrp) × (d.1.items ≡ bytes)) }
+    ensures back { GivesBack (λ v. v.items) s.now result }
 {
     decode_in(alloc, s)
 }

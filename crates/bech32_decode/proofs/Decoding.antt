@@ -1,7 +1,6 @@
 -- What a text's parts and its checksum say of the text.
-use Rattle.std.proofs.Common.{◌≡◌, ◌<◌, ◌≤◌, ◌⊎◌, ◌∙◌, ◌+◌, ◌-◌, ◌++◌, ◌↔◌, ℕ, List, None, Result, Ok, Err, length, length-append, take, refl, sym, ap, subst, arith, inl, inr, ⊎_elim, IfErr, IsOk, MatchResult}
+use Rattle.std.proofs.Common.{◌≡◌, ◌<◌, ◌≤◌, ◌⊎◌, ◌∙◌, ◌+◌, ◌-◌, ◌++◌, ◌↔◌, ℕ, List, None, Result, Ok, Err, length, length-append, take, refl, sym, ap, subst, arith, inl, inr, ⊎_elim, IsOk, MatchResult}
 use Rattle.std.proofs.lemmas.List.{take_at}
-use Rattle.std.specs.Result.{IsOkUnless}
 use Rattle.std.specs.Str.{IsUtf8}
 use Rattle.bech32_gf.specs.Fe32.{ops, elements_of}
 use Rattle.bech32_gf.specs.laws.Fe32Laws.{is_field}

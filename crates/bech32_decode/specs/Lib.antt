@@ -1,6 +1,7 @@
 pub mod Acceptance
 pub mod BeforeChecksum
 pub mod Checked
+pub mod Parts
 pub mod Readers
 pub mod Refusals
 pub mod ResidueRows

@@ -1,18 +1,22 @@
 -- Why a checksum does not accept a text.
-use Rattle.std.specs.Prelude.{◌≡◌, ◌≢◌, ◌<◌, ◌≤◌, ◌⊎◌, ℕ, List, length, Some}
+use Rattle.std.specs.Prelude.{◌≡◌, ◌≢◌, ◌<◌, ◌≤◌, ℕ, List, length}
 use Rattle.bech32_gf.specs.Fe32.{ops, elements_of}
 use Rattle.bech32_gf.specs.declared.gf32.Fe32.{Fe32}
 use Rattle.bech32_poly.specs.Polynomial.{IsSamePolynomial}
 use Rattle.bech32_poly.specs.Remainder.{IsRemainder}
 use Rattle.bech32_checksum.specs.Code.{Code, bech32, bech32m}
 use Rattle.bech32_checksum.specs.TextPolynomial.{text_polynomial}
-use Rattle.bech32_decode.specs.Text.{IsText, text_refusal}
+use Rattle.bech32_decode.specs.Text.{IsText}
 use Rattle.bech32_decode.specs.Acceptance.{Accepts}
 use Rattle.bech32_decode.specs.declared.error.ChecksumError.{ChecksumError}
 use Rattle.bech32_decode.specs.declared.error.ChecksumError.TheVariants.{CodeLength, InvalidLength, InvalidResidue}
 use Rattle.bech32_decode.specs.declared.error.InvalidResidueError.{InvalidResidueError}
+use Rattle.bech32_decode.specs.declared.unchecked.UncheckedHrpstring.{UncheckedHrpstring}
+use Rattle.bech32_decode.specs.Parts.{unchecked_part, unchecked_data, unchecked_length}
+use Rattle.bech32_decode.specs.ResidueRows.{actual_row, target_row}
 
--- a text of n bytes with these parts is not longer than the code, has room for the checksum, and its polynomial leaves the target
+-- a text of n bytes with these parts is not longer than the code, has room for the checksum, and its polynomial leaves
+-- the target
 abbrev pub HasValidChecksum : Code → ℕ → List ℕ → List ℕ → Type 0
 HasValidChecksum code n hrp data_part =
     (n ≤ code.code_length) × (length code.generator ≤ length data_part)
@@ -23,15 +27,26 @@ pub record IsResidueError (code : Code) (polynomial : List Fe32) (e : InvalidRes
   pub remainder : List Fe32
   pub is_remainder : IsRemainder ops code.generator polynomial remainder
   pub not_target : remainder ≢ code.target
-  pub actual : IsSamePolynomial ops e.actual.digits remainder
-  pub target : IsSamePolynomial ops e.target.digits code.target
+  pub actual : IsSamePolynomial ops (actual_row e) remainder
+  pub target : IsSamePolynomial ops (target_row e) code.target
 
 -- why a checksum refuses a text of n bytes with these parts: the first of three faults
 abbrev pub IsChecksumRefusal : Code → ℕ → List ℕ → List ℕ → ChecksumError → Type 0
-IsChecksumRefusal code n hrp data_part (CodeLength e) = (code.code_length < n) × (e ≡ record { encoded_length = n; code_length = code.code_length })
-IsChecksumRefusal code n hrp data_part InvalidLength = (n ≤ code.code_length) × (length data_part < length code.generator)
+IsChecksumRefusal code n hrp data_part (CodeLength e) =
+    (code.code_length < n) × (e ≡ record { encoded_length = n; code_length = code.code_length })
+IsChecksumRefusal code n hrp data_part InvalidLength =
+    (n ≤ code.code_length) × (length data_part < length code.generator)
 IsChecksumRefusal code n hrp data_part (InvalidResidue e) =
-    (n ≤ code.code_length) × (length code.generator ≤ length data_part) × IsResidueError code (text_polynomial hrp (elements_of data_part)) e
+    (n ≤ code.code_length) × (length code.generator ≤ length data_part)
+    × IsResidueError code (text_polynomial hrp (elements_of data_part)) e
+
+-- the checksum of a text that was read is right
+abbrev pub IsValidBy : Code → UncheckedHrpstring → Type 0
+IsValidBy code u = HasValidChecksum code (unchecked_length u) (unchecked_part u) (unchecked_data u)
+
+-- why it is not
+abbrev pub IsInvalidBy : Code → UncheckedHrpstring → ChecksumError → Type 0
+IsInvalidBy code u e = IsChecksumRefusal code (unchecked_length u) (unchecked_part u) (unchecked_data u) e
 
 -- Bech32m refuses the text by this error, and Bech32 does not accept it
 pub record IsRefusedByBoth (text : List ℕ) (e : ChecksumError) : Type 0 where

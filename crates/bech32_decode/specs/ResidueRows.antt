@@ -1,5 +1,7 @@
 -- The coefficients that a residue error carries.
-use Rattle.std.specs.Prelude.{ℕ, List}
+use Rattle.std.specs.Prelude.{ℕ, Bool, List, ◌==◌}
+use Rattle.std.specs.Cmp.Lexicographic.{pointwise}
+use Rattle.std.specs.Ordering.{eq_of_both, on}
 use Rattle.bech32_gf.specs.declared.gf32.Fe32.{Fe32}
 use Rattle.bech32_decode.specs.declared.error.InvalidResidueError.{InvalidResidueError}
 
@@ -13,3 +15,8 @@ target_row e = e.target.digits
 
 abbrev pub value_of_element : Fe32 → ℕ
 value_of_element x = x.value
+
+-- two have the same coefficients of both
+abbrev pub has_same_rows : InvalidResidueError → InvalidResidueError → Bool
+has_same_rows =
+    eq_of_both (on actual_row (pointwise (on value_of_element ◌==◌))) (on target_row (pointwise (on value_of_element ◌==◌)))

@@ -5,7 +5,7 @@ use Rattle.bech32_gf.specs.Fe32.{elements_of}
 use Rattle.bech32_gf.specs.declared.gf32.Fe32.{Fe32}
 use Rattle.bech32_bits.specs.Bits.{to_fes, to_bytes}
 use Rattle.bech32_checksum.specs.Code.{Code, bech32, bech32m}
-use Rattle.bech32_hrp.specs.Hrp.{IsHrp}
+use Rattle.bech32_hrp.specs.Hrp.{IsHrp, lowered}
 use Rattle.bech32_decode.specs.Text.{IsText, text_refusal}
 use Rattle.bech32_checksum.specs.Encoded.{IsEncodedText}
 use Rattle.bech32_decode.specs.Acceptance.{IsAccepted}
@@ -38,7 +38,17 @@ pub record IsAddress (hrp : List ℕ) (version : Fe32) (program text : List ℕ)
 
 -- the text is the address of some human-readable part, version and program
 abbrev pub IsAddressText : List ℕ → Type 0
-IsAddressText text = (hrp : List ℕ) × (version : Fe32) × (program : List ℕ) × IsHrp hrp × IsAddress hrp version program text
+IsAddressText text =
+    (hrp : List ℕ) × (version : Fe32) × (program : List ℕ) × IsHrp hrp × IsAddress hrp version program text
+
+-- the text is the address of these parts
+abbrev pub IsDecodedAddress : List ℕ → List ℕ → Fe32 → List ℕ → Type 0
+IsDecodedAddress text hrp version program = IsHrp hrp × IsAddress hrp version program text
+
+-- each address of these parts, in either case, is the text but for its case
+abbrev pub IsOneSpelling : List ℕ → List ℕ → Fe32 → List ℕ → Type 0
+IsOneSpelling text hrp version program =
+    (h : List ℕ) → (t : List ℕ) → lowered h ≡ lowered hrp → IsAddress h version program t → lowered t ≡ lowered text
 
 -- ---- the elements before a checksum
 
@@ -70,7 +80,8 @@ abbrev pub IsDataRefusal : ℕ → List Fe32 → SegwitHrpstringError → Type 0
 IsDataRefusal n fes NoData = fes ≡ []
 IsDataRefusal n fes (TooLong m) = (fes ≢ []) × (90 < n) × (m ≡ n)
 IsDataRefusal n fes (InvalidWitnessVersion v) = (n ≤ 90) × IsVersionRefusal fes (InvalidWitnessVersion v)
-IsDataRefusal n fes (Padding e) = (n ≤ 90) × (version : Fe32) × (program : List Fe32) × IsVersioned fes version program × IsPaddingRefusal program e
+IsDataRefusal n fes (Padding e) =
+    (n ≤ 90) × (version : Fe32) × (program : List Fe32) × IsVersioned fes version program × IsPaddingRefusal program e
 IsDataRefusal n fes (WitnessLength e) =
     (n ≤ 90) × (version : Fe32) × (program : List Fe32) × IsVersioned fes version program × IsPadded program
     × IsLengthRefusal version (length (to_bytes program)) e
@@ -119,8 +130,10 @@ pub record IsOfWrongData (code : Fe32 → Code) (text : List ℕ) (e : SegwitHrp
 
 -- why a text is refused: the first of four faults
 abbrev pub IsAddressRefusal : (Fe32 → Code) → List ℕ → SegwitHrpstringError → Type 0
-IsAddressRefusal code text e = IsUnread text e ⊎ IsWithoutVersion text e ⊎ IsOfWrongChecksum code text e ⊎ IsOfWrongData code text e
+IsAddressRefusal code text e =
+    IsUnread text e ⊎ IsWithoutVersion text e ⊎ IsOfWrongChecksum code text e ⊎ IsOfWrongData code text e
 
 -- why a text is no address: it is too long, or the first of those
 abbrev pub IsSegwitRefusal : List ℕ → SegwitHrpstringError → Type 0
-IsSegwitRefusal text e = ((90 < length text) × (e ≡ TooLong (length text))) ⊎ ((length text ≤ 90) × IsAddressRefusal segwit_code text e)
+IsSegwitRefusal text e =
+    ((90 < length text) × (e ≡ TooLong (length text))) ⊎ ((length text ≤ 90) × IsAddressRefusal segwit_code text e)

@@ -1,13 +1,10 @@
 //! A text that is a segwit address.
 
 ghost use Rattle.std.specs.Prelude.{◌≡◌, ◌↔◌, ◌⊎◌, codes, true, MatchResult, IfOk, IfErr, IsOk, IsTrue};
-ghost use Rattle.bech32_bits.specs.Bits.{to_bytes};
 ghost use Rattle.bech32_checksum.specs.Code.{bech32};
-ghost use Rattle.bech32_hrp.specs.HrpBytes.{hrp_bytes, lowered_bytes};
+ghost use Rattle.bech32_hrp.specs.HrpBytes.{lowered_bytes};
 ghost use Rattle.bech32_gf.specs.Alphabet.{is_data};
-ghost use Rattle.bech32_gf.specs.Fe32.{elements_of};
 ghost use Rattle.bech32_decode.specs.Readers.{bytes_to_come};
-ghost use Rattle.bech32_decode.specs.Segwit.{segwit_code, IsAddress, IsAddressText, IsAddressRefusal, IsSegwitRefusal};
 
 use crate::byte_reader::ByteIter;
 use crate::error::SegwitHrpstringError;
@@ -29,15 +26,17 @@ pub struct SegwitHrpstring<'s> {
 }
 
 impl<'s> SegwitHrpstring<'s> {
+    ghost use Rattle.bech32_decode.specs.Parts.{address_hrp, address_part, address_version, address_data, address_program};
+    ghost use Rattle.bech32_decode.specs.Segwit.{segwit_code, IsAddress, IsAddressText, IsAddressRefusal, IsSegwitRefusal};
     ghost use Rattle.bech32_decode.specs.SegwitParts.{IsReadAs, IsReadBy, IsRefusedBy, IsWrongDataOf};
 
     // An address of these parts.
     #[inline]
     pub(crate) fn of_parts(hrp: Hrp, witness_version: Fe32, ascii: &'s [u8]) -> Self
         requires { is_data ascii.now ≡ true }
-        ensures hrp { result.hrp ≡ hrp }
-        ensures version { result.witness_version ≡ witness_version }
-        ensures characters { result.ascii.now ≡ ascii.now }
+        ensures hrp { address_hrp result ≡ hrp }
+        ensures version { address_version result ≡ witness_version }
+        ensures characters { address_data result ≡ ascii.now }
     {
         SegwitHrpstring {
             hrp,
@@ -87,7 +86,7 @@ impl<'s> SegwitHrpstring<'s> {
     /// neither 20 nor 32 in version 0.
     pub fn new(s: &'s str) -> Result<Self, SegwitHrpstringError>
         ensures parts { IfOk result (λ a. IsReadAs segwit_code s.now a) }
-        ensures address { IfOk result (λ a. IsAddress (hrp_bytes a.hrp) a.witness_version (to_bytes (elements_of a.ascii.now)) s.now) }
+        ensures address { IfOk result (λ a. IsAddress (address_part a) (address_version a) (address_program a) s.now) }
         ensures accepts { IsOk result ↔ IsAddressText s.now }
         ensures refused { IfErr result (λ e. IsSegwitRefusal s.now e) }
     {
@@ -115,7 +114,8 @@ impl<'s> SegwitHrpstring<'s> {
     /// Whether the human-readable part is `bc` or `tb`, in either case, as BIP-173 asks of segwit
     /// addresses.
     pub fn has_valid_hrp(&self) -> bool
-        ensures { IsTrue result ↔ ((lowered_bytes self.now.hrp ≡ codes "bc") ⊎ (lowered_bytes self.now.hrp ≡ codes "tb")) }
+        ensures { let part = lowered_bytes (address_hrp self.now) in
+            IsTrue result ↔ ((part ≡ codes "bc") ⊎ (part ≡ codes "tb")) }
     {
         self.hrp().is_valid_segwit()
     }
@@ -123,7 +123,7 @@ impl<'s> SegwitHrpstring<'s> {
     /// The human-readable part, in the case of the text.
     #[inline]
     pub fn hrp(&self) -> Hrp
-        ensures { result ≡ self.now.hrp }
+        ensures { result ≡ address_hrp self.now }
     {
         self.hrp
     }
@@ -131,7 +131,7 @@ impl<'s> SegwitHrpstring<'s> {
     /// The witness version.
     #[inline]
     pub fn witness_version(&self) -> Fe32
-        ensures { result ≡ self.now.witness_version }
+        ensures { result ≡ address_version self.now }
     {
         self.witness_version
     }
@@ -140,7 +140,7 @@ impl<'s> SegwitHrpstring<'s> {
     /// alphabet, in the case of the text.
     #[inline]
     pub fn data_part_ascii_no_witver_no_checksum(&self) -> &'s [u8]
-        ensures value { result.now ≡ self.now.ascii.now }
+        ensures value { result.now ≡ address_data self.now }
         ensures of_alphabet { is_data result.now ≡ true }
     {
         self.ascii
@@ -149,7 +149,7 @@ impl<'s> SegwitHrpstring<'s> {
     /// The bytes of the program, in turn.
     #[inline]
     pub fn byte_iter(&self) -> ByteIter<'s>
-        ensures { bytes_to_come result ≡ to_bytes (elements_of self.now.ascii.now) }
+        ensures { bytes_to_come result ≡ address_program self.now }
     {
         ByteIter::new(self.ascii)
     }

@@ -1,7 +1,6 @@
 //! A text whose checksum was tested.
 
 ghost use Rattle.std.specs.Prelude.{◌≡◌, ◌↔◌, ◌≤◌, true, length, drop, MatchOption, MatchResult, IfOk, IfErr, IsOk};
-ghost use Rattle.bech32_bits.specs.Bits.{to_bytes};
 ghost use Rattle.bech32_gf.specs.Alphabet.{is_data};
 ghost use Rattle.bech32_gf.specs.Fe32.{elements_of};
 ghost use Rattle.bech32_decode.specs.Acceptance.{Accepts};
@@ -32,14 +31,15 @@ pub struct CheckedHrpstring<'s> {
 
 impl<'s> CheckedHrpstring<'s> {
     ghost use Rattle.bech32_decode.specs.Checked.{IsAcceptedAs, IsCheckedRefusal};
+    ghost use Rattle.bech32_decode.specs.Parts.{checked_hrp, checked_data, checked_bytes, checked_length};
 
     // A text of these parts.
     #[inline]
     pub(crate) fn of_parts(hrp: Hrp, ascii: &'s [u8], hrpstring_length: usize) -> Self
         requires { is_data ascii.now ≡ true }
-        ensures hrp { result.hrp ≡ hrp }
-        ensures characters { result.ascii.now ≡ ascii.now }
-        ensures text_length { result.hrpstring_length ≡ hrpstring_length }
+        ensures hrp { checked_hrp result ≡ hrp }
+        ensures characters { checked_data result ≡ ascii.now }
+        ensures text_length { checked_length result ≡ hrpstring_length }
     {
         CheckedHrpstring {
             hrp,
@@ -68,7 +68,8 @@ impl<'s> CheckedHrpstring<'s> {
         ensures accepts { IsOk result ↔ Accepts Ck.code s.now }
         ensures refused { IfErr result (λ e. IsCheckedRefusal Ck.code s.now e) }
         // At degree 0 grammar and length alone decide.
-        ensures no_checksum { Ck.CHECKSUM_LENGTH ≡ 0 → IsOk result ↔ (IsInGrammar s.now × (length s.now ≤ Ck.CODE_LENGTH)) }
+        ensures no_checksum { Ck.CHECKSUM_LENGTH ≡ 0
+            → IsOk result ↔ (IsInGrammar s.now × (length s.now ≤ Ck.CODE_LENGTH)) }
     {
         Self::read::<Ck>(s)
     }
@@ -76,7 +77,7 @@ impl<'s> CheckedHrpstring<'s> {
     /// The human-readable part, in the case of the text.
     #[inline]
     pub fn hrp(&self) -> Hrp
-        ensures { result ≡ self.now.hrp }
+        ensures { result ≡ checked_hrp self.now }
     {
         self.hrp
     }
@@ -85,7 +86,7 @@ impl<'s> CheckedHrpstring<'s> {
     /// text.
     #[inline]
     pub fn data_part_ascii_no_checksum(&self) -> &'s [u8]
-        ensures value { result.now ≡ self.now.ascii.now }
+        ensures value { result.now ≡ checked_data self.now }
         ensures of_alphabet { is_data result.now ≡ true }
     {
         self.ascii
@@ -95,7 +96,7 @@ impl<'s> CheckedHrpstring<'s> {
     /// Segwit address format).
     #[inline]
     pub fn witness_version(&self) -> Option<Fe32>
-        ensures { result ≡ version_of (elements_of self.now.ascii.now) }
+        ensures { result ≡ version_of (elements_of (checked_data self.now)) }
     {
         version_in(self.ascii)
     }
@@ -104,9 +105,12 @@ impl<'s> CheckedHrpstring<'s> {
     ///
     /// The length that the rules of segwit addresses test stays that of the whole text.
     pub fn remove_witness_version(&mut self) -> Option<Fe32>
-        ensures version { result ≡ version_of (elements_of self.old.ascii.now) }
-        ensures rest { MatchOption result (self.new.ascii.now ≡ self.old.ascii.now) (λ _. self.new.ascii.now ≡ drop 1 self.old.ascii.now) }
-        ensures others { (self.new.hrp ≡ self.old.hrp) × (self.new.hrpstring_length ≡ self.old.hrpstring_length) }
+        ensures version { result ≡ version_of (elements_of (checked_data self.old)) }
+        ensures rest { MatchOption result
+            (checked_data self.new ≡ checked_data self.old)
+            (λ _. checked_data self.new ≡ drop 1 (checked_data self.old)) }
+        ensures others { (checked_hrp self.new ≡ checked_hrp self.old)
+            × (checked_length self.new ≡ checked_length self.old) }
     {
         let version = self.witness_version()?;
         self.ascii = &self.ascii[1..];
@@ -116,7 +120,7 @@ impl<'s> CheckedHrpstring<'s> {
     /// The elements of the data part, in turn.
     #[inline]
     pub fn fe32_iter(&self) -> AsciiToFe32Iter<'s>
-        ensures { elements_left result ≡ elements_of self.now.ascii.now }
+        ensures { elements_left result ≡ elements_of (checked_data self.now) }
     {
         AsciiToFe32Iter::new(self.ascii)
     }
@@ -125,7 +129,7 @@ impl<'s> CheckedHrpstring<'s> {
     /// (BIP-173, Segwit address format).
     #[inline]
     pub fn byte_iter(&self) -> ByteIter<'s>
-        ensures { bytes_to_come result ≡ to_bytes (elements_of self.now.ascii.now) }
+        ensures { bytes_to_come result ≡ checked_bytes self.now }
     {
         ByteIter::new(self.ascii)
     }
@@ -145,7 +149,7 @@ impl<'s> CheckedHrpstring<'s> {
     pub fn validate_segwit(self) -> Result<SegwitHrpstring<'s>, SegwitHrpstringError>
         ensures { MatchResult result
             (λ a. IsSegwitOf self.entry a)
-            (λ e. IsDataRefusal self.entry.hrpstring_length (elements_of self.entry.ascii.now) e) }
+            (λ e. IsDataRefusal (checked_length self.entry) (elements_of (checked_data self.entry)) e) }
     {
         if self.ascii.is_empty() {
             return Err(SegwitHrpstringError::NoData);
@@ -168,8 +172,8 @@ impl<'s> CheckedHrpstring<'s> {
     /// The first of: more than four bits; bits that are not all zero.
     pub fn validate_segwit_padding(&self) -> Result<(), PaddingError>
         ensures { MatchResult result
-            (λ _. IsPadded (elements_of self.now.ascii.now))
-            (λ e. IsPaddingRefusal (elements_of self.now.ascii.now) e) }
+            (λ _. IsPadded (elements_of (checked_data self.now)))
+            (λ e. IsPaddingRefusal (elements_of (checked_data self.now)) e) }
     {
         let Some(last) = self.ascii.last() else {
             return Ok(());
@@ -195,8 +199,8 @@ impl<'s> CheckedHrpstring<'s> {
         witness_version: Fe32,
     ) -> Result<(), WitnessLengthError>
         ensures { MatchResult result
-            (λ _. IsProgramLength witness_version (length (to_bytes (elements_of self.now.ascii.now))))
-            (λ e. IsLengthRefusal witness_version (length (to_bytes (elements_of self.now.ascii.now))) e) }
+            (λ _. IsProgramLength witness_version (length (checked_bytes self.now)))
+            (λ e. IsLengthRefusal witness_version (length (checked_bytes self.now)) e) }
     {
         segwit::validate_witness_program_length(self.byte_iter().len(), witness_version)
     }

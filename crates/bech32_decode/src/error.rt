@@ -5,6 +5,7 @@ ghost use Rattle.bech32_gf.specs.Fe32.{ops};
 ghost use Rattle.bech32_poly.specs.Polynomial.{coefficient, IsSamePolynomial};
 ghost use Rattle.bech32_checksum.specs.Code.{bech32};
 ghost use Rattle.bech32_checksum.specs.Packed.{digit_of};
+ghost use Rattle.bech32_decode.specs.ResidueRows.{actual_row, target_row};
 
 use crate::residue::Residue;
 use crate::segwit::{MAX_STRING_LENGTH, WitnessLengthError};
@@ -84,23 +85,19 @@ pub struct InvalidResidueError {
 }
 
 impl PartialEq for InvalidResidueError {
-    ghost use Rattle.std.specs.Prelude.{◌==◌};
-    ghost use Rattle.std.specs.Cmp.Lexicographic.{pointwise};
     ghost use Rattle.std.specs.Cmp.Rules.{comparing};
-    ghost use Rattle.std.specs.Ordering.{eq_of_both, on};
     ghost use Rattle.std.proofs.Common.{rules};
-    ghost use Rattle.bech32_decode.specs.ResidueRows.{actual_row, target_row, value_of_element};
+    ghost use Rattle.bech32_decode.specs.ResidueRows.{has_same_rows};
 
-    ghost eq = { eq_of_both (on actual_row (pointwise (on value_of_element ◌==◌)))
-        (on target_row (pointwise (on value_of_element ◌==◌))) };
+    ghost eq = { has_same_rows };
 
     ghost laws = { Prim.search (comparing, rules) depth 12 };
 
     fn eq(&self, other: &InvalidResidueError) -> bool
-        ensures value { result ≡ eq_of_both (on actual_row (pointwise (on value_of_element ◌==◌))) (on target_row (pointwise (on value_of_element ◌==◌))) self.now other.now }
+        ensures value { result ≡ has_same_rows self.now other.now }
         // As polynomials.
-        ensures polynomials { IsTrue result ↔ (IsSamePolynomial ops self.now.actual.digits other.now.actual.digits
-            × IsSamePolynomial ops self.now.target.digits other.now.target.digits) }
+        ensures polynomials { IsTrue result ↔ (IsSamePolynomial ops (actual_row self.now) (actual_row other.now)
+            × IsSamePolynomial ops (target_row self.now) (target_row other.now)) }
     {
         self.is_same(other)
     }
@@ -114,14 +111,11 @@ impl Eq for InvalidResidueError {
 }
 
 impl InvalidResidueError {
-    ghost use Rattle.std.specs.Prelude.{◌==◌};
-    ghost use Rattle.std.specs.Cmp.Lexicographic.{pointwise};
-    ghost use Rattle.std.specs.Ordering.{eq_of_both, on};
-    ghost use Rattle.bech32_decode.specs.ResidueRows.{actual_row, target_row, value_of_element};
+    ghost use Rattle.bech32_decode.specs.ResidueRows.{has_same_rows};
 
     // Whether another error has the same rows.
     fn is_same(&self, other: &InvalidResidueError) -> bool
-        ensures { result ≡ eq_of_both (on actual_row (pointwise (on value_of_element ◌==◌))) (on target_row (pointwise (on value_of_element ◌==◌))) self.now other.now }
+        ensures { result ≡ has_same_rows self.now other.now }
     {
         self.actual == other.actual && self.target == other.target
     }
@@ -130,8 +124,8 @@ impl InvalidResidueError {
     pub(crate) fn new<R: PackedFe32>(actual: &R, target: &R) -> Self
         requires actual_fits { R.number actual.now < 2 ^ (5 * R.WIDTH) }
         requires target_fits { R.number target.now < 2 ^ (5 * R.WIDTH) }
-        ensures actual { (n : ℕ) → coefficient ops result.actual.digits n ≡ digit_of (R.number actual.now) n }
-        ensures target { (n : ℕ) → coefficient ops result.target.digits n ≡ digit_of (R.number target.now) n }
+        ensures actual { (n : ℕ) → coefficient ops (actual_row result) n ≡ digit_of (R.number actual.now) n }
+        ensures target { (n : ℕ) → coefficient ops (target_row result) n ≡ digit_of (R.number target.now) n }
     {
         InvalidResidueError {
             actual: Residue::new(actual),
@@ -142,7 +136,7 @@ impl InvalidResidueError {
     /// Whether the remainder is the target of Bech32, whatever checksum refused the text: a text that
     /// Bech32m refuses for its remainder is then one that Bech32 accepts.
     pub fn matches_bech32_checksum(&self) -> bool
-        ensures { IsTrue result ↔ IsSamePolynomial ops self.now.actual.digits bech32.target }
+        ensures { IsTrue result ↔ IsSamePolynomial ops (actual_row self.now) bech32.target }
     {
         self.actual == Residue::new(&Bech32::TARGET_RESIDUE)
     }

@@ -9,7 +9,6 @@ ghost use Rattle.bech32_checksum.specs.Code.{IsResidueOf};
 ghost use Rattle.bech32_hrp.specs.Hrp.{is_lower, is_upper};
 ghost use Rattle.bech32_hrp.specs.HrpBytes.{hrp_bytes};
 ghost use Rattle.bech32_checksum.specs.TextPolynomial.{text_polynomial};
-ghost use Rattle.bech32_decode.specs.Refusals.{HasValidChecksum, IsChecksumRefusal};
 ghost use Rattle.bech32_decode.specs.Version.{version_of};
 ghost use Rattle.bech32_decode.specs.Text.{IsText, IsInGrammar, invalid_character, split_at_last, text_refusal};
 
@@ -58,8 +57,10 @@ fn is_data_character(c: char) -> bool
 // What stands before the last `1`, where all behind it is of the alphabet.
 fn before_separator(s: &str) -> Result<Option<&str>, CharError>
     ensures { MatchResult result
-        (λ o. (invalid_character s.now ≡ None) × MatchOption o (split_at_last s.now ≡ None)
-        (λ front. (behind : List ℕ) × (s.now ≡ front.now ++ 49 ∷ behind) × (is_data behind ≡ true) × (split_at_last s.now ≡ Some (front.now, behind))))
+        (λ o. (invalid_character s.now ≡ None)
+        × MatchOption o (split_at_last s.now ≡ None)
+        (λ front. (behind : List ℕ) × (s.now ≡ front.now ++ 49 ∷ behind) × (is_data behind ≡ true)
+        × (split_at_last s.now ≡ Some (front.now, behind))))
         (λ e. invalid_character s.now ≡ Some e) }
 {
     let mut front = s.chars();
@@ -77,7 +78,8 @@ fn before_separator(s: &str) -> Result<Option<&str>, CharError>
 // The remainder of a text's polynomial, packed.
 fn residue_of<Ck: Checksum>(hrp: Hrp, data_part: &[u8]) -> Ck::MidstateRepr
     requires { is_data data_part.now ≡ true }
-    ensures residue { IsResidueOf Ck.MidstateRepr.number Ck.code result (text_polynomial (hrp_bytes hrp) (elements_of data_part.now)) }
+    ensures residue { let polynomial = text_polynomial (hrp_bytes hrp) (elements_of data_part.now) in
+        IsResidueOf Ck.MidstateRepr.number Ck.code result polynomial }
     ensures clear { Ck.MidstateRepr.number result < 2 ^ (5 * Ck.CHECKSUM_LENGTH) }
 {
     let mut engine = Engine::<Ck>::new();
@@ -90,11 +92,14 @@ fn residue_of<Ck: Checksum>(hrp: Hrp, data_part: &[u8]) -> Ck::MidstateRepr
 
 impl<'s> UncheckedHrpstring<'s> {
     ghost use Rattle.bech32_decode.specs.Checked.{IsWithoutChecksum};
+    ghost use Rattle.bech32_decode.specs.Parts.{unchecked_hrp, unchecked_part, unchecked_data, unchecked_length};
+    ghost use Rattle.bech32_decode.specs.Refusals.{IsValidBy, IsInvalidBy};
 
     // A text in its parts, or its first fault.
     fn read(s: &'s str) -> Result<Self, UncheckedHrpstringError>
         ensures { MatchResult result
-            (λ u. (text_refusal s.now ≡ None) × (s.now ≡ hrp_bytes u.hrp ++ 49 ∷ u.data_part_ascii.now) × (u.hrpstring_length ≡ length s.now))
+            (λ u. (text_refusal s.now ≡ None) × (s.now ≡ unchecked_part u ++ 49 ∷ unchecked_data u)
+            × (unchecked_length u ≡ length s.now))
             (λ e. text_refusal s.now ≡ Some e) }
     {
         let before = before_separator(s)?;
@@ -119,8 +124,10 @@ impl<'s> UncheckedHrpstring<'s> {
     /// The first fault of the text: a character that is not of the alphabet, letters of both cases,
     /// no separator, a human-readable part that is none.
     pub fn new(s: &'s str) -> Result<Self, UncheckedHrpstringError>
-        ensures parts { IfOk result (λ u. IsText s.now (hrp_bytes u.hrp) u.data_part_ascii.now × (u.hrpstring_length ≡ length s.now)) }
-        ensures only { IfOk result (λ u. (h : List ℕ) → (d : List ℕ) → IsText s.now h d → (h ≡ hrp_bytes u.hrp) × (d ≡ u.data_part_ascii.now)) }
+        ensures parts { IfOk result (λ u. IsText s.now (unchecked_part u) (unchecked_data u)
+            × (unchecked_length u ≡ length s.now)) }
+        ensures only { IfOk result (λ u. (h : List ℕ) → (d : List ℕ) → IsText s.now h d
+            → (h ≡ unchecked_part u) × (d ≡ unchecked_data u)) }
         ensures refused { MatchResult result (λ u. text_refusal s.now ≡ None) (λ e. text_refusal s.now ≡ Some e) }
         ensures accepts { IsOk result ↔ IsInGrammar s.now }
     {
@@ -130,7 +137,7 @@ impl<'s> UncheckedHrpstring<'s> {
     /// The human-readable part, in the case of the text.
     #[inline]
     pub fn hrp(&self) -> Hrp
-        ensures { result ≡ self.now.hrp }
+        ensures { result ≡ unchecked_hrp self.now }
     {
         self.hrp
     }
@@ -139,7 +146,7 @@ impl<'s> UncheckedHrpstring<'s> {
     /// the checksum.
     #[inline]
     pub fn data_part_ascii(&self) -> &'s [u8]
-        ensures value { result.now ≡ self.now.data_part_ascii.now }
+        ensures value { result.now ≡ unchecked_data self.now }
         ensures of_alphabet { is_data result.now ≡ true }
     {
         self.data_part_ascii
@@ -149,7 +156,7 @@ impl<'s> UncheckedHrpstring<'s> {
     /// Segwit address format).
     #[inline]
     pub fn witness_version(&self) -> Option<Fe32>
-        ensures { result ≡ version_of (elements_of self.now.data_part_ascii.now) }
+        ensures { result ≡ version_of (elements_of (unchecked_data self.now)) }
     {
         version_in(self.data_part_ascii)
     }
@@ -158,9 +165,12 @@ impl<'s> UncheckedHrpstring<'s> {
     ///
     /// The length that is tested against a code length stays that of the whole text.
     pub fn remove_witness_version(&mut self) -> Option<Fe32>
-        ensures version { result ≡ version_of (elements_of self.old.data_part_ascii.now) }
-        ensures rest { MatchOption result (self.new.data_part_ascii.now ≡ self.old.data_part_ascii.now) (λ _. self.new.data_part_ascii.now ≡ drop 1 self.old.data_part_ascii.now) }
-        ensures others { (self.new.hrp ≡ self.old.hrp) × (self.new.hrpstring_length ≡ self.old.hrpstring_length) }
+        ensures version { result ≡ version_of (elements_of (unchecked_data self.old)) }
+        ensures rest { MatchOption result
+            (unchecked_data self.new ≡ unchecked_data self.old)
+            (λ _. unchecked_data self.new ≡ drop 1 (unchecked_data self.old)) }
+        ensures others { (unchecked_hrp self.new ≡ unchecked_hrp self.old)
+            × (unchecked_length self.new ≡ unchecked_length self.old) }
     {
         let version = self.witness_version()?;
         self.data_part_ascii = &self.data_part_ascii[1..];
@@ -175,8 +185,8 @@ impl<'s> UncheckedHrpstring<'s> {
     /// the polynomial of the text does not leave the target as remainder.
     pub fn validate_checksum<Ck: Checksum>(&self) -> Result<(), ChecksumError>
         ensures { MatchResult result
-            (λ _. HasValidChecksum Ck.code self.now.hrpstring_length (hrp_bytes self.now.hrp) self.now.data_part_ascii.now)
-            (λ e. IsChecksumRefusal Ck.code self.now.hrpstring_length (hrp_bytes self.now.hrp) self.now.data_part_ascii.now e) }
+            (λ _. IsValidBy Ck.code self.now)
+            (λ e. IsInvalidBy Ck.code self.now e) }
     {
         if self.hrpstring_length > Ck::CODE_LENGTH {
             return Err(ChecksumError::CodeLength(CodeLengthError {
@@ -202,7 +212,7 @@ impl<'s> UncheckedHrpstring<'s> {
 
     /// Whether the checksum of the data part is right: [`Self::validate_checksum`] is `Ok`.
     pub fn has_valid_checksum<Ck: Checksum>(&self) -> bool
-        ensures { IsTrue result ↔ HasValidChecksum Ck.code self.now.hrpstring_length (hrp_bytes self.now.hrp) self.now.data_part_ascii.now }
+        ensures { IsTrue result ↔ IsValidBy Ck.code self.now }
     {
         self.validate_checksum::<Ck>().is_ok()
     }
@@ -216,9 +226,8 @@ impl<'s> UncheckedHrpstring<'s> {
         self,
     ) -> Result<CheckedHrpstring<'s>, ChecksumError>
         ensures { MatchResult result
-            (λ c. HasValidChecksum Ck.code self.entry.hrpstring_length (hrp_bytes self.entry.hrp) self.entry.data_part_ascii.now
-            × IsWithoutChecksum Ck.code self.entry c)
-            (λ e. IsChecksumRefusal Ck.code self.entry.hrpstring_length (hrp_bytes self.entry.hrp) self.entry.data_part_ascii.now e) }
+            (λ c. IsValidBy Ck.code self.entry × IsWithoutChecksum Ck.code self.entry c)
+            (λ e. IsInvalidBy Ck.code self.entry e) }
     {
         self.validate_checksum::<Ck>()?;
         Ok(self.remove_checksum::<Ck>())
@@ -228,7 +237,7 @@ impl<'s> UncheckedHrpstring<'s> {
     ///
     /// The data part must have as many characters as the checksum at least.
     pub fn remove_checksum<Ck: Checksum>(self) -> CheckedHrpstring<'s>
-        requires { length Ck.code.generator ≤ length self.data_part_ascii.now }
+        requires { length Ck.code.generator ≤ length (unchecked_data self) }
         ensures { IsWithoutChecksum Ck.code self.entry result }
     {
         let end = self.data_part_ascii.len() - Ck::CHECKSUM_LENGTH;

@@ -1,1 +1,2 @@
+pub mod SegwitDecoding
 pub mod SegwitEncoding

@@ -1,15 +1,16 @@
 //! Encoding and decoding of segwit addresses (BIP-173, Segwit address format; BIP-350).
 #![tactic(auto)]
 
-ghost use Rattle.std.specs.Prelude.{◌≡◌, ◌<◌, ◌≤◌, ◌⊎◌, ◌-◌, ◌^◌, ℕ, List, ◌∷◌, min, length, MatchResult, IfOk, IfErr, IsOkUnless, string_bytes};
-ghost use Rattle.bech32_gf.specs.Fe32.{zero, one, elements_of};
-ghost use Rattle.bech32_bits.specs.Bits.{to_bytes, to_fes};
-ghost use Rattle.bech32_hrp.specs.Hrp.{IsHrp, lowered};
-ghost use Rattle.bech32_hrp.specs.HrpBytes.{hrp_bytes, lowered_bytes};
+ghost use Rattle.std.specs.Prelude.{◌≡◌, ◌<◌, ◌≤◌, ◌-◌, ◌^◌, ◌∷◌, min, MatchResult, IfOk, IfErr, IsOkUnless, string_bytes};
+ghost use Rattle.bech32_gf.specs.Fe32.{zero, one};
+ghost use Rattle.bech32_bits.specs.Bits.{to_fes};
+ghost use Rattle.bech32_hrp.specs.HrpBytes.{hrp_bytes};
 ghost use Rattle.bech32_checksum.specs.Encoded.{IsEncodedText};
-ghost use Rattle.bech32_decode.specs.Segwit.{segwit_code, IsLowerAddress, IsAddress, IsAddressText, IsSegwitRefusal};
+ghost use Rattle.bech32_decode.specs.Parts.{address_program};
+ghost use Rattle.bech32_decode.specs.Segwit.{segwit_code, IsLowerAddress, IsAddressText, IsDecodedAddress, IsOneSpelling};
 ghost use Rattle.bech32_decode.specs.Text.{HasHrp};
-ghost use Rattle.bech32_segwit.specs.SegwitEncoding.{HasAddress, address_length, IsSegwitEncodeRefusal};
+ghost use Rattle.bech32_segwit.specs.SegwitDecoding.{IsSegwitDecodeRefusal};
+ghost use Rattle.bech32_segwit.specs.SegwitEncoding.{HasAddress, SpellsEachAddress, address_length, IsSegwitEncodeRefusal};
 
 mod error;
 
@@ -30,16 +31,16 @@ fn program_in<A: Allocator>(
     alloc: A,
     address: &SegwitHrpstring<'_>,
 ) -> Result<Vec<u8, A>, AllocError>
-    ensures { IfOk result (λ v. v.items ≡ to_bytes (elements_of address.now.ascii.now)) }
+    ensures { IfOk result (λ v. v.items ≡ address_program address.now) }
 {
     address.byte_iter().collect(alloc)
 }
 
 // What a text is decoded to, or why it is not.
 fn decoded_in<A: Allocator>(alloc: A, s: &str) -> Result<(Hrp, Fe32, Vec<u8, A>), DecodeError>
-    ensures value { IfOk result (λ d. IsHrp (hrp_bytes d.0) × IsAddress (hrp_bytes d.0) d.1 d.2.items s.now) }
+    ensures value { IfOk result (λ d. IsDecodedAddress s.now (hrp_bytes d.0) d.1 d.2.items) }
     ensures part { IfOk result (λ d. HasHrp s.now (hrp_bytes d.0)) }
-    ensures refused { IfErr result (λ e. IsSegwitRefusal s.now e.0 ⊎ ((e.0 ≡ SegwitHrpstringError.Memory) × IsAddressText s.now)) }
+    ensures refused { IfErr result (λ e. IsSegwitDecodeRefusal s.now e) }
 {
     let address = SegwitHrpstring::new(s)?;
     let program = program_in(alloc, &address)?;
@@ -56,22 +57,22 @@ fn decoded_in<A: Allocator>(alloc: A, s: &str) -> Result<(Hrp, Fe32, Vec<u8, A>)
 /// Those of [`SegwitHrpstring::new`]; then [`SegwitHrpstringError::Memory`] where there is no memory
 /// for the program.
 pub fn decode_in<A: Allocator>(alloc: A, s: &str) -> Result<(Hrp, Fe32, Vec<u8, A>), DecodeError>
-    ensures value { IfOk result (λ d. IsHrp (hrp_bytes d.0) × IsAddress (hrp_bytes d.0) d.1 d.2.items s.now) }
+    ensures value { IfOk result (λ d. IsDecodedAddress s.now (hrp_bytes d.0) d.1 d.2.items) }
     ensures part { IfOk result (λ d. HasHrp s.now (hrp_bytes d.0)) }
     ensures accepts { IsAddressText s.now → IfErr result (λ e. e.0 ≡ SegwitHrpstringError.Memory) }
-    ensures refused { IfErr result (λ e. IsSegwitRefusal s.now e.0 ⊎ ((e.0 ≡ SegwitHrpstringError.Memory) × IsAddressText s.now)) }
-    ensures spelling { IfOk result (λ d. (h : List ℕ) → (t : List ℕ) → lowered h ≡ lowered_bytes d.0 → IsAddress h d.1 d.2.items t → lowered t ≡ lowered s.now) }
+    ensures refused { IfErr result (λ e. IsSegwitDecodeRefusal s.now e) }
+    ensures spelling { IfOk result (λ d. IsOneSpelling s.now (hrp_bytes d.0) d.1 d.2.items) }
 {
     decoded_in(alloc, s)
 }
 
 /// Decodes as [`decode_in`] does, with memory of the global allocator.
 pub fn decode(alloc: Global, s: &str) -> Result<(Hrp, Fe32, Vec<u8>), DecodeError>
-    ensures value { IfOk result (λ d. IsHrp (hrp_bytes d.0) × IsAddress (hrp_bytes d.0) d.1 d.2.items s.now) }
+    ensures value { IfOk result (λ d. IsDecodedAddress s.now (hrp_bytes d.0) d.1 d.2.items) }
     ensures part { IfOk result (λ d. HasHrp s.now (hrp_bytes d.0)) }
     ensures accepts { IsAddressText s.now → IfErr result (λ e. e.0 ≡ SegwitHrpstringError.Memory) }
-    ensures refused { IfErr result (λ e. IsSegwitRefusal s.now e.0 ⊎ ((e.0 ≡ SegwitHrpstringError.Memory) × IsAddressText s.now)) }
-    ensures spelling { IfOk result (λ d. (h : List ℕ) → (t : List ℕ) → lowered h ≡ lowered_bytes d.0 → IsAddress h d.1 d.2.items t → lowered t ≡ lowered s.now) }
+    ensures refused { IfErr result (λ e. IsSegwitDecodeRefusal s.now e) }
+    ensures spelling { IfOk result (λ d. IsOneSpelling s.now (hrp_bytes d.0) d.1 d.2.items) }
 {
     decode_in(alloc, s)
 }
@@ -119,7 +120,8 @@ fn text_of_version_in<A: Allocator>(
     version: Fe32,
     program: &[u8],
 ) -> Result<String<A>, AllocError>
-    ensures { IfOk result (λ s. IsEncodedText (segwit_code version) (hrp_bytes hrp) (version ∷ to_fes «program».now) (string_bytes s)) }
+    ensures { let elements = version ∷ to_fes «program».now in
+        IfOk result (λ s. IsEncodedText (segwit_code version) (hrp_bytes hrp) elements (string_bytes s)) }
 {
     if version == VERSION_0 {
         text_in::<Bech32, A>(alloc, hrp, Some(version), program)
@@ -158,11 +160,14 @@ pub fn encode_in<A: Allocator>(
     witness_version: Fe32,
     witness_program: &[u8],
 ) -> Result<String<A>, EncodeError>
-    ensures text { IfOk result (λ s. IsLowerAddress (hrp_bytes hrp) witness_version «witness_program».now (string_bytes s)) }
-    ensures exists { HasAddress (hrp_bytes hrp) witness_version «witness_program».now → IsOkUnless result EncodeError.Memory }
-    ensures refused { IfErr result (λ e. IsSegwitEncodeRefusal (hrp_bytes hrp) witness_version «witness_program».now e) }
-    ensures spelling { (h : List ℕ) → (t : List ℕ) → lowered h ≡ lowered_bytes hrp → IsAddress h witness_version «witness_program».now t
-        → IsOkUnless result EncodeError.Memory × IfOk result (λ s. string_bytes s ≡ lowered t) }
+    ensures text { IfOk result
+        (λ s. IsLowerAddress (hrp_bytes hrp) witness_version «witness_program».now (string_bytes s)) }
+    ensures exists { HasAddress (hrp_bytes hrp) witness_version «witness_program».now
+        → IsOkUnless result EncodeError.Memory }
+    ensures refused { IfErr result
+        (λ e. IsSegwitEncodeRefusal (hrp_bytes hrp) witness_version «witness_program».now e) }
+    ensures spelling { SpellsEachAddress (λ s. string_bytes s)
+        (hrp_bytes hrp) witness_version «witness_program».now result }
 {
     encoded_in(alloc, hrp, witness_version, witness_program)
 }
@@ -174,11 +179,14 @@ pub fn encode(
     witness_version: Fe32,
     witness_program: &[u8],
 ) -> Result<String, EncodeError>
-    ensures text { IfOk result (λ s. IsLowerAddress (hrp_bytes hrp) witness_version «witness_program».now (string_bytes s)) }
-    ensures exists { HasAddress (hrp_bytes hrp) witness_version «witness_program».now → IsOkUnless result EncodeError.Memory }
-    ensures refused { IfErr result (λ e. IsSegwitEncodeRefusal (hrp_bytes hrp) witness_version «witness_program».now e) }
-    ensures spelling { (h : List ℕ) → (t : List ℕ) → lowered h ≡ lowered_bytes hrp → IsAddress h witness_version «witness_program».now t
-        → IsOkUnless result EncodeError.Memory × IfOk result (λ s. string_bytes s ≡ lowered t) }
+    ensures text { IfOk result
+        (λ s. IsLowerAddress (hrp_bytes hrp) witness_version «witness_program».now (string_bytes s)) }
+    ensures exists { HasAddress (hrp_bytes hrp) witness_version «witness_program».now
+        → IsOkUnless result EncodeError.Memory }
+    ensures refused { IfErr result
+        (λ e. IsSegwitEncodeRefusal (hrp_bytes hrp) witness_version «witness_program».now e) }
+    ensures spelling { SpellsEachAddress (λ s. string_bytes s)
+        (hrp_bytes hrp) witness_version «witness_program».now result }
 {
     encode_in(alloc, hrp, witness_version, witness_program)
 }
@@ -193,22 +201,28 @@ pub fn encode_v0_in<A: Allocator>(
     hrp: Hrp,
     witness_program: &[u8],
 ) -> Result<String<A>, EncodeError>
-    ensures text { IfOk result (λ s. IsLowerAddress (hrp_bytes hrp) zero «witness_program».now (string_bytes s)) }
-    ensures exists { HasAddress (hrp_bytes hrp) zero «witness_program».now → IsOkUnless result EncodeError.Memory }
-    ensures refused { IfErr result (λ e. IsSegwitEncodeRefusal (hrp_bytes hrp) zero «witness_program».now e) }
-    ensures spelling { (h : List ℕ) → (t : List ℕ) → lowered h ≡ lowered_bytes hrp → IsAddress h zero «witness_program».now t
-        → IsOkUnless result EncodeError.Memory × IfOk result (λ s. string_bytes s ≡ lowered t) }
+    ensures text { IfOk result
+        (λ s. IsLowerAddress (hrp_bytes hrp) zero «witness_program».now (string_bytes s)) }
+    ensures exists { HasAddress (hrp_bytes hrp) zero «witness_program».now
+        → IsOkUnless result EncodeError.Memory }
+    ensures refused { IfErr result
+        (λ e. IsSegwitEncodeRefusal (hrp_bytes hrp) zero «witness_program».now e) }
+    ensures spelling { SpellsEachAddress (λ s. string_bytes s)
+        (hrp_bytes hrp) zero «witness_program».now result }
 {
     encode_in(alloc, hrp, VERSION_0, witness_program)
 }
 
 /// Encodes as [`encode_v0_in`] does, with memory of the global allocator.
 pub fn encode_v0(alloc: Global, hrp: Hrp, witness_program: &[u8]) -> Result<String, EncodeError>
-    ensures text { IfOk result (λ s. IsLowerAddress (hrp_bytes hrp) zero «witness_program».now (string_bytes s)) }
-    ensures exists { HasAddress (hrp_bytes hrp) zero «witness_program».now → IsOkUnless result EncodeError.Memory }
-    ensures refused { IfErr result (λ e. IsSegwitEncodeRefusal (hrp_bytes hrp) zero «witness_program».now e) }
-    ensures spelling { (h : List ℕ) → (t : List ℕ) → lowered h ≡ lowered_bytes hrp → IsAddress h zero «witness_program».now t
-        → IsOkUnless result EncodeError.Memory × IfOk result (λ s. string_bytes s ≡ lowered t) }
+    ensures text { IfOk result
+        (λ s. IsLowerAddress (hrp_bytes hrp) zero «witness_program».now (string_bytes s)) }
+    ensures exists { HasAddress (hrp_bytes hrp) zero «witness_program».now
+        → IsOkUnless result EncodeError.Memory }
+    ensures refused { IfErr result
+        (λ e. IsSegwitEncodeRefusal (hrp_bytes hrp) zero «witness_program».now e) }
+    ensures spelling { SpellsEachAddress (λ s. string_bytes s)
+        (hrp_bytes hrp) zero «witness_program».now result }
 {
     encode_v0_in(alloc, hrp, witness_program)
 }
@@ -223,22 +237,28 @@ pub fn encode_v1_in<A: Allocator>(
     hrp: Hrp,
     witness_program: &[u8],
 ) -> Result<String<A>, EncodeError>
-    ensures text { IfOk result (λ s. IsLowerAddress (hrp_bytes hrp) one «witness_program».now (string_bytes s)) }
-    ensures exists { HasAddress (hrp_bytes hrp) one «witness_program».now → IsOkUnless result EncodeError.Memory }
-    ensures refused { IfErr result (λ e. IsSegwitEncodeRefusal (hrp_bytes hrp) one «witness_program».now e) }
-    ensures spelling { (h : List ℕ) → (t : List ℕ) → lowered h ≡ lowered_bytes hrp → IsAddress h one «witness_program».now t
-        → IsOkUnless result EncodeError.Memory × IfOk result (λ s. string_bytes s ≡ lowered t) }
+    ensures text { IfOk result
+        (λ s. IsLowerAddress (hrp_bytes hrp) one «witness_program».now (string_bytes s)) }
+    ensures exists { HasAddress (hrp_bytes hrp) one «witness_program».now
+        → IsOkUnless result EncodeError.Memory }
+    ensures refused { IfErr result
+        (λ e. IsSegwitEncodeRefusal (hrp_bytes hrp) one «witness_program».now e) }
+    ensures spelling { SpellsEachAddress (λ s. string_bytes s)
+        (hrp_bytes hrp) one «witness_program».now result }
 {
     encode_in(alloc, hrp, VERSION_1, witness_program)
 }
 
 /// Encodes as [`encode_v1_in`] does, with memory of the global allocator.
 pub fn encode_v1(alloc: Global, hrp: Hrp, witness_program: &[u8]) -> Result<String, EncodeError>
-    ensures text { IfOk result (λ s. IsLowerAddress (hrp_bytes hrp) one «witness_program».now (string_bytes s)) }
-    ensures exists { HasAddress (hrp_bytes hrp) one «witness_program».now → IsOkUnless result EncodeError.Memory }
-    ensures refused { IfErr result (λ e. IsSegwitEncodeRefusal (hrp_bytes hrp) one «witness_program».now e) }
-    ensures spelling { (h : List ℕ) → (t : List ℕ) → lowered h ≡ lowered_bytes hrp → IsAddress h one «witness_program».now t
-        → IsOkUnless result EncodeError.Memory × IfOk result (λ s. string_bytes s ≡ lowered t) }
+    ensures text { IfOk result
+        (λ s. IsLowerAddress (hrp_bytes hrp) one «witness_program».now (string_bytes s)) }
+    ensures exists { HasAddress (hrp_bytes hrp) one «witness_program».now
+        → IsOkUnless result EncodeError.Memory }
+    ensures refused { IfErr result
+        (λ e. IsSegwitEncodeRefusal (hrp_bytes hrp) one «witness_program».now e) }
+    ensures spelling { SpellsEachAddress (λ s. string_bytes s)
+        (hrp_bytes hrp) one «witness_program».now result }
 {
     encode_v1_in(alloc, hrp, witness_program)
 }

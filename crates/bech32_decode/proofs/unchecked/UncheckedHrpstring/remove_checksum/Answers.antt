@@ -1,14 +1,11 @@
 use Rattle.std.proofs.Common.{◌≡◌, ◌∙◌, ◌-◌, ◌++◌, ℕ, List, length, drop, sym, ap, arith, length-drop}
 use Rattle.std.proofs.lemmas.List.{take-append-drop}
-use Rattle.bech32_decode.proofs.Checksums.{length-generator}
 use Rattle.bech32_decode.proofs.Letters.{is_data-take}
 use Rattle.bech32_decode.proofs.unchecked.UncheckedHrpstring.remove_checksum.Goals as goal
 
 pub overflow_sub-end : goal.overflow_sub-end
 overflow_sub-end g c =
-    let k = g.Ck.Checksum in
-    let r = g.Ck.MidstateRepr.PackedFe32 in
-    let degree = length-generator r.number g.met.Ck.MidstateRepr.PackedFe32.same_number_law k.code k.CODE_LENGTH k.CHECKSUM_LENGTH k.GENERATOR_SH k.TARGET_RESIDUE g.met.Ck.Checksum.code_law in
+    let degree = g.met.Ck.Checksum.degree_law in
     let a = c.CHECKSUM_LENGTH.ensures in
     let fits = c.requires in
     omega arith
@@ -18,9 +15,7 @@ of_parts-requires g c = is_data-take _ c.args.self.data_part_ascii.now c.args.se
 
 pub returns : goal.returns
 returns g c =
-    let k = g.Ck.Checksum in
-    let r = g.Ck.MidstateRepr.PackedFe32 in
-    let degree = length-generator r.number g.met.Ck.MidstateRepr.PackedFe32.same_number_law k.code k.CODE_LENGTH k.CHECKSUM_LENGTH k.GENERATOR_SH k.TARGET_RESIDUE g.met.Ck.Checksum.code_law in
+    let degree = g.met.Ck.Checksum.degree_law in
     let a = c.CHECKSUM_LENGTH.ensures in
     let fits = c.requires in
     let bytes = c.args.self.data_part_ascii.now in

@@ -1,8 +1,9 @@
-use Rattle.std.proofs.Common.{◌≡◌, ◌≢◌, ◌∙◌, ◌<◌, ◌≤◌, ◌*◌, ◌^◌, ℕ, Bool, true, false, sym, refl, arith}
+use Rattle.std.proofs.Common.{◌≡◌, ◌≢◌, ◌∙◌, ◌<◌, ◌≤◌, ◌*◌, ◌^◌, ℕ, Bool, true, false, ap, sym, refl, arith}
 use mathlib.Core.Bool.{not}
 use Rattle.std.proofs.Common.{lt_of_lt_of_le}
 use Rattle.std.proofs.Math.Pow.{pow_mono}
-use Rattle.bech32_decode.proofs.Checksums.{length-generator, code_length-is, leaves_target, leaves_target-degree_0, residue_error}
+use Rattle.bech32_checksum.specs.Code.{Code}
+use Rattle.bech32_decode.proofs.Checksums.{leaves_target, leaves_target-degree_0, residue_error}
 use Rattle.bech32_decode.proofs.unchecked.UncheckedHrpstring.validate_checksum.Goals as goal
 
 -- what fits the degree fits the width
@@ -19,26 +20,19 @@ equal false e = absurd cc
 
 pub returns-then-CHECKSUM_LENGTH-eq0 : goal.returns-then-CHECKSUM_LENGTH-eq0
 returns-then-CHECKSUM_LENGTH-eq0 g c =
-    let k = g.Ck.Checksum in
-    let r = g.Ck.MidstateRepr.PackedFe32 in
-    let same_number = g.met.Ck.MidstateRepr.PackedFe32.same_number_law in
-    let degree = length-generator r.number same_number k.code k.CODE_LENGTH k.CHECKSUM_LENGTH k.GENERATOR_SH k.TARGET_RESIDUE g.met.Ck.Checksum.code_law in
-    let size = code_length-is r.number same_number k.code k.CODE_LENGTH k.CHECKSUM_LENGTH k.GENERATOR_SH k.TARGET_RESIDUE g.met.Ck.Checksum.code_law in
-    let a = c.CODE_LENGTH.ensures in
-    let none : k.CHECKSUM_LENGTH ≡ 0 = sym c.CHECKSUM_LENGTH.ensures ∙ c.if-CHECKSUM_LENGTH-eq0.true in (
-      omega arith,
-      omega arith,
-      leaves_target-degree_0 r.number same_number k.code k.CODE_LENGTH k.CHECKSUM_LENGTH k.GENERATOR_SH k.TARGET_RESIDUE g.met.Ck.Checksum.code_law none _,
-    )
+    let laws = g.met.Ck.Checksum in
+    let degree = laws.degree_law in
+    let size = laws.code_length_law in
+    let longest = c.CODE_LENGTH.ensures in
+    let none : g.Ck.Checksum.CHECKSUM_LENGTH ≡ 0 = sym c.CHECKSUM_LENGTH.ensures ∙ c.if-CHECKSUM_LENGTH-eq0.true in
+    (omega arith, omega arith, leaves_target-degree_0 g.Ck.Checksum.code _ _ degree (ap (λ (k : Code). k.target) laws.code_law) none _)
 
 pub returns-then-self-CHECKSUM_LENGTH : goal.returns-then-self-CHECKSUM_LENGTH
 returns-then-self-CHECKSUM_LENGTH g c =
-    let k = g.Ck.Checksum in
-    let r = g.Ck.MidstateRepr.PackedFe32 in
-    let degree = length-generator r.number g.met.Ck.MidstateRepr.PackedFe32.same_number_law k.code k.CODE_LENGTH k.CHECKSUM_LENGTH k.GENERATOR_SH k.TARGET_RESIDUE g.met.Ck.Checksum.code_law in
-    let size = code_length-is r.number g.met.Ck.MidstateRepr.PackedFe32.same_number_law k.code k.CODE_LENGTH k.CHECKSUM_LENGTH k.GENERATOR_SH k.TARGET_RESIDUE g.met.Ck.Checksum.code_law in
-    let a = c.CODE_LENGTH.ensures in
-    let b = c.CHECKSUM_LENGTH.ensures in
+    let degree = g.met.Ck.Checksum.degree_law in
+    let size = g.met.Ck.Checksum.code_length_law in
+    let longest = c.CODE_LENGTH.ensures in
+    let count = c.CHECKSUM_LENGTH.ensures in
     (omega arith, omega arith)
 
 pub new-requires-clause-actual_fits : goal.new-requires-clause-actual_fits
@@ -50,34 +44,33 @@ new-requires-clause-target_fits g c =
 
 pub returns-then-ne : goal.returns-then-ne
 returns-then-ne g c =
-    let k = g.Ck.Checksum in
-    let r = g.Ck.MidstateRepr.PackedFe32 in
-    let same_number = g.met.Ck.MidstateRepr.PackedFe32.same_number_law in
-    let degree = length-generator r.number same_number k.code k.CODE_LENGTH k.CHECKSUM_LENGTH k.GENERATOR_SH k.TARGET_RESIDUE g.met.Ck.Checksum.code_law in
-    let size = code_length-is r.number same_number k.code k.CODE_LENGTH k.CHECKSUM_LENGTH k.GENERATOR_SH k.TARGET_RESIDUE g.met.Ck.Checksum.code_law in
-    let a = c.CODE_LENGTH.ensures in
-    let b = c.CHECKSUM_LENGTH.ensures in
-    let differs : c.residue_of-residue.result ≢ k.TARGET_RESIDUE = λ e.
-    not_equal _ c.if-ne.ensures ((g.met.Ck.MidstateRepr.PackedFe32.eq_law c.residue_of-residue.result c.TARGET_RESIDUE.result).1 (e ∙ sym c.TARGET_RESIDUE.ensures)) in (
+    let laws = g.met.Ck.Checksum in
+    let words = g.met.Ck.MidstateRepr.PackedFe32 in
+    let degree = laws.degree_law in
+    let size = laws.code_length_law in
+    let longest = c.CODE_LENGTH.ensures in
+    let count = c.CHECKSUM_LENGTH.ensures in
+    let residue = c.residue_of-residue.result in
+    let target = g.Ck.Checksum.TARGET_RESIDUE in
+    let differs : residue ≢ target = λ e. not_equal _ c.if-ne.ensures ((words.eq_law residue c.TARGET_RESIDUE.result).1 (e ∙ sym c.TARGET_RESIDUE.ensures)) in (
       omega arith,
       omega arith,
-      residue_error r.number same_number k.code k.CODE_LENGTH k.CHECKSUM_LENGTH k.GENERATOR_SH k.TARGET_RESIDUE g.met.Ck.Checksum.code_law
-          c.residue_of-residue.result _ c.new.result c.residue_of-residue.ensures.clear g.met.Ck.Checksum.packing_laws.target_clear differs c.residue_of-residue.ensures.residue
+      residue_error g.Ck.Checksum.code _ _ degree (ap (λ (k : Code). k.target) laws.code_law) (g.Ck.MidstateRepr.PackedFe32.number residue) _ c.new.result
+          c.residue_of-residue.ensures.clear laws.packing_laws.target_clear (λ e. differs (words.same_number_law residue target e)) c.residue_of-residue.ensures.residue
           c.new.ensures.actual (rw c.TARGET_RESIDUE-then-ne.ensures at c.new.ensures.target),
     )
 
 pub returns : goal.returns
 returns g c =
-    let k = g.Ck.Checksum in
-    let r = g.Ck.MidstateRepr.PackedFe32 in
-    let same_number = g.met.Ck.MidstateRepr.PackedFe32.same_number_law in
-    let degree = length-generator r.number same_number k.code k.CODE_LENGTH k.CHECKSUM_LENGTH k.GENERATOR_SH k.TARGET_RESIDUE g.met.Ck.Checksum.code_law in
-    let size = code_length-is r.number same_number k.code k.CODE_LENGTH k.CHECKSUM_LENGTH k.GENERATOR_SH k.TARGET_RESIDUE g.met.Ck.Checksum.code_law in
-    let a = c.CODE_LENGTH.ensures in
-    let b = c.CHECKSUM_LENGTH.ensures in
-    let same = (g.met.Ck.MidstateRepr.PackedFe32.eq_law c.residue_of-residue.result c.TARGET_RESIDUE.result).0 (equal _ c.if-ne.ensures) ∙ c.TARGET_RESIDUE.ensures in (
+    let laws = g.met.Ck.Checksum in
+    let degree = laws.degree_law in
+    let size = laws.code_length_law in
+    let longest = c.CODE_LENGTH.ensures in
+    let count = c.CHECKSUM_LENGTH.ensures in
+    let residue = c.residue_of-residue.result in
+    let same = (g.met.Ck.MidstateRepr.PackedFe32.eq_law residue c.TARGET_RESIDUE.result).0 (equal _ c.if-ne.ensures) ∙ c.TARGET_RESIDUE.ensures in (
       omega arith,
       omega arith,
-      leaves_target r.number same_number k.code k.CODE_LENGTH k.CHECKSUM_LENGTH k.GENERATOR_SH k.TARGET_RESIDUE g.met.Ck.Checksum.code_law
-          c.residue_of-residue.result _ same c.residue_of-residue.ensures.residue,
+      leaves_target g.Ck.Checksum.code _ _ degree (ap (λ (k : Code). k.target) laws.code_law) (g.Ck.MidstateRepr.PackedFe32.number residue) _ (ap g.Ck.MidstateRepr.PackedFe32.number same)
+          c.residue_of-residue.ensures.residue,
     )
