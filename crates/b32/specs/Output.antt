@@ -7,13 +7,15 @@ use Rattle.b32.specs.Reply.{IsReply}
 -- a reply to each line in turn, each ended by the byte 10
 abbrev pub IsOutput : List (List ℕ) → List ℕ → Type 0
 IsOutput [] out = out ≡ []
-IsOutput (line ∷ lines) out = (said : List ℕ) × (rest : List ℕ) × IsReply line said × (out ≡ said ++ 10 ∷ rest) × IsOutput lines rest
+IsOutput (line ∷ lines) out =
+    (said : List ℕ) × (rest : List ℕ) × IsReply line said × (out ≡ said ++ 10 ∷ rest) × IsOutput lines rest
 
 -- a beginning of such an output
 abbrev pub IsBeginning : List (List ℕ) → List ℕ → Type 0
 IsBeginning lines out = (more : List ℕ) × IsOutput lines (out ++ more)
 
--- Bytes left a source and others went out to a sink, where those are known: what was left and what is, what went out before and after.
+-- Bytes left a source and others went out to a sink, where those are known: what the source had left
+-- before and after, and what had gone out before and after.
 module _ (source source' sink sink' : Option (List ℕ)) where
   -- the source is at its end, and each line was answered
   pub record IsAnswered : Type 0 where
@@ -38,4 +40,6 @@ module _ (source source' sink sink' : Option (List ℕ)) where
     pub written : List ℕ
     pub consumed : Consumes source source' read
     pub appended : Appends sink sink' written
-    pub beginning : IsBeginning (ended_lines read) written ⊎ (IsAtEnd source' × IsBeginning (lines_of read) written)
+    pub beginning :
+        IsBeginning (ended_lines read) written
+        ⊎ (IsAtEnd source' × IsBeginning (lines_of read) written)

@@ -2,7 +2,8 @@
 #![tactic(auto)]
 
 ghost use Rattle.std.specs.Prelude.{◌≡◌, ℕ, ◌+◌, ◌-◌, ◌≤◌, ◌<◌, ◌++◌, [], ◌∷◌, true, false, ◌&&◌, ◌||◌, ◌↔◌, ◌⊎◌};
-ghost use Rattle.std.specs.Prelude.{List, length, take, replicate, IsTrue, IsOk, codes, MatchResult, Option, Some, None};
+ghost use Rattle.std.specs.Prelude.{List, length, take, replicate, IsTrue, IsOk, codes, MatchResult};
+ghost use Rattle.std.specs.Prelude.{Option, Some, None};
 ghost use Rattle.std.specs.List.{list_all};
 ghost use Rattle.std.specs.Str.{chars};
 ghost use Rattle.bech32_hrp.specs.Hrp.{is_graphic, is_lower, is_upper, padded, first_bad, IsHrp};
