@@ -33,7 +33,8 @@ cut_in_eights (a ∷ b ∷ c ∷ d ∷ e ∷ f ∷ g ∷ h ∷ rest) =
     (128 * a + 64 * b + 32 * c + 16 * d + 8 * e + 4 * f + 2 * g + h) ∷ cut_in_eights rest
 cut_in_eights _ = []
 
--- bits cut in eights, with a last part filled with zeros: of seven zeros behind the bits it takes those that it lacks, and the others are dropped
+-- bits cut in eights, with a last part filled with zeros: of seven zeros behind the bits it takes those that it lacks,
+-- and the others are dropped
 abbrev pub cut_in_eights_zeropad : List ℕ → List ℕ
 cut_in_eights_zeropad bs = cut_in_eights (bs ++ replicate 7 0)
 
@@ -46,7 +47,8 @@ cut_bytes false bs = cut_in_eights bs
 abbrev pub to_fes : List ℕ → List Fe32
 to_fes bytes = cut_in_fives (byte_bits bytes)
 
--- the bytes that elements stand for: their bits in groups of eight, an incomplete group discarded (BIP-173, Segwit address format, Decoding)
+-- the bytes that elements stand for: their bits in groups of eight, an incomplete group discarded (BIP-173, Segwit
+-- address format, Decoding)
 abbrev pub to_bytes : List Fe32 → List ℕ
 to_bytes fes = cut_in_eights (fe_bits fes)
 

@@ -12,7 +12,8 @@ pub record IsHintOf (left : Count) (hint : ℕ × Option ℕ) : Type 0 where
 abbrev pub fitting : ℕ → Option ℕ
 fitting n = if nat_lt n (2 ^ 64) then Some n else None
 
--- the bounds where n items become f n: the lower one is the greatest number, and the upper one is left out, where they do not fit
+-- the bounds where n items become f n: the lower one is the greatest number, and the upper one is left out, where
+-- they do not fit
 abbrev pub hint_map : (ℕ → ℕ) → ℕ × Option ℕ → ℕ × Option ℕ
 hint_map f hint = (min (f hint.0) (2 ^ 64 - 1), option_and_then (λ n. fitting (f n)) hint.1)
 

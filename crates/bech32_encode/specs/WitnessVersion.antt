@@ -19,7 +19,8 @@ abbrev pub version_gives : {I : Type 0} → WitnessVersionIter I → List Fe32 �
 version_gives s xs = option_to_list (version_of s) ++ xs
 
 -- what a call of `next` does
-abbrev pub version_steps : {I : Type 0} → (I → Option Fe32 → I → Type 0) → WitnessVersionIter I → Option Fe32 → WitnessVersionIter I → Type 0
+abbrev pub version_steps : {I : Type 0} → (I → Option Fe32 → I → Type 0)
+    → WitnessVersionIter I → Option Fe32 → WitnessVersionIter I → Type 0
 version_steps steps = Adapts steps version_source version_gives
 
 -- how many versions are to come

@@ -102,7 +102,8 @@ fn put_elements<I: Iterator<Item = Fe32>, Ck: Checksum>(
 #[inline]
 fn put_row<R: PackedFe32>(row: &R, size: usize, count: usize, buffer: &mut [u8]) -> usize
     requires { size ≤ R.WIDTH }
-    ensures { PutsBehind (map char_of_element (reverse (digits size (R.number row.now)))) buffer.old count buffer.new result }
+    ensures { PutsBehind (map char_of_element (reverse (digits size (R.number row.now))))
+        buffer.old count buffer.new result }
 {
     let mut count = count;
     for i in 0..size {

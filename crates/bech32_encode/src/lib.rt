@@ -25,7 +25,7 @@ pub use bytes::ByteIter;
 pub use checksummed::Checksummed;
 pub use elements::Fe32Iter;
 use std::marker::PhantomData;
-pub use text::{text_in, text_length};
+pub use text::{length_with_version, text_in, text_length};
 pub use texts::CharIter;
 pub use version::WitnessVersionIter;
 

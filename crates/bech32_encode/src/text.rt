@@ -1,8 +1,9 @@
 //! Whole texts of bytes: their lengths, and themselves in memory.
 
-ghost use Rattle.std.specs.Prelude.{◌≡◌, ◌++◌, ◌+◌, ◌-◌, ◌^◌, min, length, option_to_list, IfOk, string_bytes};
+ghost use Rattle.std.specs.Prelude.{◌≡◌, ◌++◌, ◌+◌, length, option_to_list, IfOk, string_bytes};
 ghost use Rattle.bech32_bits.specs.Bits.{fes_count, to_fes};
 ghost use Rattle.bech32_checksum.specs.Encoded.{IsEncodedText};
+ghost use Rattle.bech32_encode.specs.TextLength.{text_length_of};
 ghost use Rattle.bech32_hrp.specs.HrpBytes.{hrp_bytes};
 
 use crate::put_text;
@@ -15,7 +16,7 @@ use std::alloc::{AllocError, Allocator};
 /// The length of the text of a human-readable part and so many bytes, or `usize::MAX` where it does
 /// not fit.
 pub fn text_length<Ck: Checksum>(hrp: &Hrp, bytes: usize) -> usize
-    ensures { result ≡ min (length (hrp_bytes hrp.now) + 1 + fes_count 0 bytes + Ck.CHECKSUM_LENGTH) (2 ^ 64 - 1) }
+    ensures { result ≡ text_length_of Ck.CHECKSUM_LENGTH (hrp_bytes hrp.now) (fes_count 0 bytes) }
 {
     let groups = (bytes / 5)
         .saturating_mul(8)
@@ -25,10 +26,10 @@ pub fn text_length<Ck: Checksum>(hrp: &Hrp, bytes: usize) -> usize
         .saturating_add(Ck::CHECKSUM_LENGTH)
 }
 
-// The number of characters of the text with a witness version, where there is one, or `usize::MAX`
-// where it does not fit.
-fn length_with_version<Ck: Checksum>(hrp: &Hrp, version: Option<Fe32>, bytes: usize) -> usize
-    ensures { result ≡ min (length (hrp_bytes hrp.now) + 1 + (length (option_to_list version) + fes_count 0 bytes) + Ck.CHECKSUM_LENGTH) (2 ^ 64 - 1) }
+/// The same with a witness version before the bytes, where there is one.
+pub fn length_with_version<Ck: Checksum>(hrp: &Hrp, version: Option<Fe32>, bytes: usize) -> usize
+    ensures { result ≡ text_length_of Ck.CHECKSUM_LENGTH (hrp_bytes hrp.now)
+        (length (option_to_list version) + fes_count 0 bytes) }
 {
     let length = text_length::<Ck>(hrp, bytes);
     match version {
@@ -49,7 +50,8 @@ pub fn text_in<Ck: Checksum, A: Allocator>(
     version: Option<Fe32>,
     data: &[u8],
 ) -> Result<String<A>, AllocError>
-    ensures { IfOk result (λ s. IsEncodedText Ck.code (hrp_bytes hrp) (option_to_list version ++ to_fes «data».now) (string_bytes s)) }
+    ensures { IfOk result (λ s.
+        IsEncodedText Ck.code (hrp_bytes hrp) (option_to_list version ++ to_fes «data».now) (string_bytes s)) }
 {
     let length = length_with_version::<Ck>(&hrp, version, data.len());
     let mut text = vec![in alloc; 0u8; length]?;

@@ -115,14 +115,15 @@ fn text_of_a_witness_program_in_a_buffer(rt: HostRuntime) -> Result<(), Fail> {
 fn text_in_buffers_of_each_size(rt: HostRuntime) -> Result<(), Fail> {
     let none: [Fe32; 0] = [];
     let hrp = Hrp::parse("A")?;
-    let text = b"a12uel5l----";
+    let text = b"a12uel5l----".as_slice();
+    let behind = [b'-'; 12];
     for room in 0..11usize {
         let mut buffer = [b'-'; 12];
         let fes = none.iter().copied();
         let count = put_text::<_, Bech32>(&hrp, None, fes, &mut buffer[..room]);
         same(&rt, &count, &room.min(8));
         same_items(&rt, &buffer[..room], &text[..room]);
-        same_items(&rt, &buffer[room..], &b"------------"[room..]);
+        same_items(&rt, &buffer[room..], &behind[room..]);
     }
     Ok(())
 }
