@@ -1,1 +1,2 @@
+pub mod Iterators
 pub mod Seven

@@ -7,10 +7,10 @@ ghost use Rattle.std.specs.Iterator.SizeHint.{IsWithinCount};
 
 use std::iter::ExactSizeIterator;
 
-/// Gives two items, `None`, and then items again, if it is asked. Its size hint has the lower bound
-/// 0.
+/// Gives two items, `None`, and then items again, if it is asked. Its size hint has the lower
+/// bound 0.
 #[derive(Drop)]
-pub(crate) struct TwoItems<T> {
+pub struct TwoItems<T> {
     item: T,
     calls: u8,
     upper: Option<usize>,
@@ -18,10 +18,12 @@ pub(crate) struct TwoItems<T> {
 }
 
 impl<T: Copy> TwoItems<T> {
+    ghost use Rattle.bech32_testing.specs.Iterators.{times_asked};
+
     /// Two items, with this upper bound.
-    pub(crate) fn new(item: T, upper: Option<usize>) -> Self
+    pub fn new(item: T, upper: Option<usize>) -> Self
         requires { ForSome upper (λ n. 2 ≤ n) }
-        ensures { result.calls ≡ 0 }
+        ensures { times_asked result ≡ 0 }
     {
         TwoItems {
             item,
@@ -32,13 +34,15 @@ impl<T: Copy> TwoItems<T> {
 }
 
 impl<T: Copy> Iterator for TwoItems<T> {
+    ghost use Rattle.bech32_testing.specs.Iterators.{times_asked, GivesTwoItems};
+
     type Item = T;
 
-    ghost can_next = { λ s. s.calls < 3 };
+    ghost can_next = { λ s. times_asked s < 3 };
 
-    ghost next_gives = { λ s r t. (s.calls < 2 → IsSome r × (t.calls ≡ s.calls + 1)) × (2 ≤ s.calls → IsNone r) };
+    ghost next_gives = { GivesTwoItems };
 
-    ghost remaining = { λ s. at_most (2 - s.calls) };
+    ghost remaining = { λ s. at_most (2 - times_asked s) };
 
     fn next(&mut self) -> Option<T> {
         self.calls += 1;
@@ -50,8 +54,8 @@ impl<T: Copy> Iterator for TwoItems<T> {
     }
 
     fn size_hint(&self) -> (usize, Option<usize>)
-        ensures lower { IsWithinCount result.0 (at_most (2 - self.now.calls)) }
-        ensures upper { IfSome result.1 (UpTo (at_most (2 - self.now.calls))) }
+        ensures lower { IsWithinCount result.0 (at_most (2 - times_asked self.now)) }
+        ensures upper { IfSome result.1 (UpTo (at_most (2 - times_asked self.now))) }
     {
         (0, self.upper)
     }
@@ -59,23 +63,29 @@ impl<T: Copy> Iterator for TwoItems<T> {
 
 /// Says that five items come, and gives two.
 #[derive(Drop)]
-pub(crate) struct TwoOfFive<T> {
+pub struct TwoOfFive<T> {
     item: T,
     given: u8,
     ghost few: { given ≤ 2 },
 }
 
 impl<T: Copy> TwoOfFive<T> {
+    ghost use Rattle.bech32_testing.specs.Iterators.{count_given};
+
     /// Two items.
-    pub(crate) fn new(item: T) -> Self {
+    pub fn new(item: T) -> Self
+        ensures { count_given result ≡ 0 }
+    {
         TwoOfFive { item, given: 0 }
     }
 }
 
 impl<T: Copy> Iterator for TwoOfFive<T> {
+    ghost use Rattle.bech32_testing.specs.Iterators.{count_given};
+
     type Item = T;
 
-    ghost remaining = { λ s. at_most (5 - s.given) };
+    ghost remaining = { λ s. at_most (5 - count_given s) };
 
     fn next(&mut self) -> Option<T> {
         if self.given == 2 {
@@ -86,8 +96,8 @@ impl<T: Copy> Iterator for TwoOfFive<T> {
     }
 
     fn size_hint(&self) -> (usize, Option<usize>)
-        ensures lower { IsWithinCount result.0 (at_most (5 - self.now.given)) }
-        ensures upper { IfSome result.1 (UpTo (at_most (5 - self.now.given))) }
+        ensures lower { IsWithinCount result.0 (at_most (5 - count_given self.now)) }
+        ensures upper { IfSome result.1 (UpTo (at_most (5 - count_given self.now))) }
     {
         let left = 5 - self.given as usize;
         (left, Some(left))
@@ -96,22 +106,28 @@ impl<T: Copy> Iterator for TwoOfFive<T> {
 
 /// Gives as many items as it says, up to 2^64 - 1.
 #[derive(Drop)]
-pub(crate) struct Many<T> {
+pub struct Many<T> {
     item: T,
     left: usize,
 }
 
 impl<T: Copy> Many<T> {
+    ghost use Rattle.bech32_testing.specs.Iterators.{count_left};
+
     /// So many items.
-    pub(crate) fn new(item: T, left: usize) -> Self {
+    pub fn new(item: T, left: usize) -> Self
+        ensures { count_left result ≡ left }
+    {
         Many { item, left }
     }
 }
 
 impl<T: Copy> Iterator for Many<T> {
+    ghost use Rattle.bech32_testing.specs.Iterators.{count_left};
+
     type Item = T;
 
-    ghost remaining = { λ s. at_most s.left };
+    ghost remaining = { λ s. at_most (count_left s) };
 
     fn next(&mut self) -> Option<T> {
         self.left = self.left.checked_sub(1)?;
@@ -119,8 +135,8 @@ impl<T: Copy> Iterator for Many<T> {
     }
 
     fn size_hint(&self) -> (usize, Option<usize>)
-        ensures lower { IsWithinCount result.0 (at_most self.now.left) }
-        ensures upper { IfSome result.1 (UpTo (at_most self.now.left)) }
+        ensures lower { IsWithinCount result.0 (at_most (count_left self.now)) }
+        ensures upper { IfSome result.1 (UpTo (at_most (count_left self.now))) }
     {
         (self.left, Some(self.left))
     }

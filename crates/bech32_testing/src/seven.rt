@@ -3,7 +3,7 @@
 ghost use Rattle.std.specs.Prelude.{◌≡◌, ◌≢◌, ◌<◌};
 ghost use Rattle.bech32_testing.specs.Seven as seven;
 
-use crate::field::Field;
+use bech32_gf::field::Field;
 use std::fmt;
 use std::iter::Sum;
 use std::marker::Model;
