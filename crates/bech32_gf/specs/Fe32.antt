@@ -10,6 +10,10 @@ use Rattle.bech32_gf.specs.laws.Gf32Laws.{product-lt, inverse-lt}
 use Rattle.bech32_gf.specs.Alphabet.{value_of, value_of-lt}
 use Rattle.bech32_gf.specs.declared.gf32.Fe32.{Fe32}
 
+-- the value of an element, from 0 to 31
+abbrev pub value : Fe32 → ℕ
+value x = x.value
+
 -- two elements of one value are equal
 pub path : (x y : Fe32) → x.value ≡ y.value → x ≡ y
 path x y e =

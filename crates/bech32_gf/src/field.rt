@@ -8,7 +8,7 @@ ghost use Rattle.std.specs.Iterator.{YieldsFirst, item_count};
 ghost use Rattle.std.specs.Fmt.{WritesOnOk};
 ghost use Rattle.bech32_gf.specs.Field.{Ops, IsField, IsOrder, IsCharacteristic, ListsDivisors, IsPositiveI64};
 ghost use Rattle.bech32_gf.specs.Field.{power, signed_power, signed_multiple, KeepsSums, KeepsProducts};
-ghost use Rattle.bech32_gf.specs.Powers.{powers_of, left_of};
+ghost use Rattle.bech32_gf.specs.Powers.{powers_of, left_of, base_of, next_of, power_after, GivesNextPower};
 
 use std::fmt;
 use std::hash::Hash;
@@ -118,8 +118,8 @@ pub trait Field: Copy
 
     /// All powers of this element, from power 0 on and without an end.
     fn powers(self) -> Powers<Self>
-        ensures base { result.base ≡ self }
-        ensures next { result.next ≡ ops.one }
+        ensures base { base_of result ≡ self }
+        ensures next { next_of result ≡ ops.one }
     {
         Powers {
             base: self,
@@ -306,8 +306,8 @@ pub struct Powers<F: Field> {
 impl<F: Field> Powers<F> {
     // Passes over so many powers.
     fn advance(&mut self, n: usize)
-        ensures base { self.new.base ≡ self.old.base }
-        ensures next { self.new.next ≡ F.ops.mul self.old.next (power F.ops self.old.base n) }
+        ensures base { base_of self.new ≡ base_of self.old }
+        ensures next { next_of self.new ≡ power_after F.ops self.old n }
     {
         let half = self.base.powi((n / 2) as i64);
         self.next *= half;
@@ -319,9 +319,9 @@ impl<F: Field> Powers<F> {
 
     /// The power that stands so many places on; the next one is the one behind it.
     pub fn nth(&mut self, n: usize) -> Option<F>
-        ensures item { result ≡ Some (F.ops.mul self.old.next (power F.ops self.old.base n)) }
-        ensures base { self.new.base ≡ self.old.base }
-        ensures next { self.new.next ≡ F.ops.mul self.old.next (power F.ops self.old.base (n + 1)) }
+        ensures item { result ≡ Some (power_after F.ops self.old n) }
+        ensures base { base_of self.new ≡ base_of self.old }
+        ensures next { next_of self.new ≡ power_after F.ops self.old (n + 1) }
     {
         self.advance(n);
         self.next()
@@ -331,7 +331,7 @@ impl<F: Field> Powers<F> {
 impl<F: Field> Iterator for Powers<F> {
     type Item = F;
 
-    ghost next_gives = { λ s r t. (r ≡ Some s.next) × (t.base ≡ s.base) × (t.next ≡ F.ops.mul s.next s.base) };
+    ghost next_gives = { GivesNextPower F.ops };
 
     fn next(&mut self) -> Option<F> {
         let item = self.next;

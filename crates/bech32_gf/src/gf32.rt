@@ -179,7 +179,7 @@ impl Fe32 {
     /// The element 31, whose character is `l`.
     pub const L: Fe32 = Fe32 { value: 31 };
 
-    ghost use Rattle.bech32_gf.specs.Fe32.{add, mul, element, element_of};
+    ghost use Rattle.bech32_gf.specs.Fe32.{value, add, mul, element, element_of};
 
     /// The element that a character of the alphabet stands for, in either case (BIP-173, section
     /// Bech32).
@@ -224,7 +224,7 @@ impl Fe32 {
 
     /// The character of the element, in lower case (BIP-173, section Bech32).
     pub fn to_char(self) -> char
-        ensures value { result ≡ char_of self.value }
+        ensures value { result ≡ char_of (value self) }
         ensures ascii { result < 128 }
     {
         CHARACTERS[self.value as usize]
@@ -232,7 +232,7 @@ impl Fe32 {
 
     /// The value of the element, from 0 to 31.
     pub fn to_u8(self) -> u8
-        ensures { result ≡ self.value }
+        ensures { result ≡ value self }
     {
         self.value
     }

@@ -166,7 +166,9 @@ impl TryFrom<i128> for Fe32 {
 }
 
 impl From<Fe32> for u8 {
-    ghost from_gives = { λ x r. r ≡ x.value };
+    ghost use Rattle.bech32_gf.specs.Fe32.{value};
+
+    ghost from_gives = { λ x r. r ≡ value x };
 
     fn from(element: Fe32) -> u8 {
         element.value
@@ -175,9 +177,11 @@ impl From<Fe32> for u8 {
 
 /// Writes the character of the element, in lower case.
 impl fmt::Display for Fe32 {
-    ghost output = { λ x. Some (char_of x.value ∷ []) };
+    ghost use Rattle.bech32_gf.specs.Fe32.{value};
 
-    ghost styled_output = { λ x spec. Some (styled_text spec (char_of x.value ∷ [])) };
+    ghost output = { λ x. Some (char_of (value x) ∷ []) };
+
+    ghost styled_output = { λ x spec. Some (styled_text spec (char_of (value x) ∷ [])) };
 
     fn fmt<W: fmt::Write>(&self, f: &mut fmt::Formatter<W>) -> fmt::Result {
         fmt::Display::fmt(&self.to_char(), f)
