@@ -59,7 +59,8 @@ impl PlainChecksum {
         alloc: Global,
         polynomial: &[Fe32],
     ) -> Result<bool, AllocError>
-        ensures { IfOk result (λ b. IsTrue b ↔ IsRemainder ops (code_of_name self).generator polynomial.now (code_of_name self).target) }
+        ensures { IfOk result (λ b. IsTrue b
+            ↔ IsRemainder ops (code_of_name self).generator polynomial.now (code_of_name self).target) }
     {
         let rest = remainder(alloc, polynomial, &self.generator())?;
         let target = self.target();

@@ -40,7 +40,8 @@ pub(crate) fn accepts_at(
     at: usize,
 ) -> Result<bool, AllocError>
     requires { at < length text.now }
-    ensures { IfOk result (λ b. IsTrue b ↔ IsAccepted (code_of_name checksum) text.now (take at text.now) (drop (at + 1) text.now)) }
+    ensures { IfOk result (λ b. IsTrue b
+        ↔ IsAccepted (code_of_name checksum) text.now (take at text.now) (drop (at + 1) text.now)) }
 {
     let data_part = &text[at + 1..];
     if !is_text(text, at) || text.len() > CODE_LENGTH || data_part.len() < CHECKSUM_LENGTH {
