@@ -20,6 +20,10 @@ pub record IsText (text hrp data_part : List ℕ) : Type 0 where
 abbrev pub IsInGrammar : List ℕ → Type 0
 IsInGrammar text = (hrp : List ℕ) × (data_part : List ℕ) × IsText text hrp data_part
 
+-- the text is in the grammar, and this is its human-readable part, in the case of the text
+abbrev pub HasHrp : List ℕ → List ℕ → Type 0
+HasHrp text hrp = (data_part : List ℕ) × IsText text hrp data_part
+
 -- the last character that is not of the alphabet
 unfoldable pub last_stranger : List ℕ → Option ℕ
 last_stranger [] = None

@@ -8,6 +8,7 @@ ghost use Rattle.bech32_hrp.specs.Hrp.{IsHrp, lowered};
 ghost use Rattle.bech32_hrp.specs.HrpBytes.{hrp_bytes, lowered_bytes};
 ghost use Rattle.bech32_checksum.specs.Encoded.{IsEncodedText};
 ghost use Rattle.bech32_decode.specs.Segwit.{segwit_code, IsLowerAddress, IsAddress, IsAddressText, IsSegwitRefusal};
+ghost use Rattle.bech32_decode.specs.Text.{HasHrp};
 ghost use Rattle.bech32_segwit.specs.SegwitEncoding.{HasAddress, address_length, IsSegwitEncodeRefusal};
 
 mod error;
@@ -37,6 +38,7 @@ fn program_in<A: Allocator>(
 // What a text is decoded to, or why it is not.
 fn decoded_in<A: Allocator>(alloc: A, s: &str) -> Result<(Hrp, Fe32, Vec<u8, A>), DecodeError>
     ensures value { IfOk result (λ d. IsHrp (hrp_bytes d.0) × IsAddress (hrp_bytes d.0) d.1 d.2.items s.now) }
+    ensures part { IfOk result (λ d. HasHrp s.now (hrp_bytes d.0)) }
     ensures refused { IfErr result (λ e. IsSegwitRefusal s.now e.0 ⊎ ((e.0 ≡ SegwitHrpstringError.Memory) × IsAddressText s.now)) }
 {
     let address = SegwitHrpstring::new(s)?;
@@ -55,6 +57,7 @@ fn decoded_in<A: Allocator>(alloc: A, s: &str) -> Result<(Hrp, Fe32, Vec<u8, A>)
 /// for the program.
 pub fn decode_in<A: Allocator>(alloc: A, s: &str) -> Result<(Hrp, Fe32, Vec<u8, A>), DecodeError>
     ensures value { IfOk result (λ d. IsHrp (hrp_bytes d.0) × IsAddress (hrp_bytes d.0) d.1 d.2.items s.now) }
+    ensures part { IfOk result (λ d. HasHrp s.now (hrp_bytes d.0)) }
     ensures accepts { IsAddressText s.now → IfErr result (λ e. e.0 ≡ SegwitHrpstringError.Memory) }
     ensures refused { IfErr result (λ e. IsSegwitRefusal s.now e.0 ⊎ ((e.0 ≡ SegwitHrpstringError.Memory) × IsAddressText s.now)) }
     ensures spelling { IfOk result (λ d. (h : List ℕ) → (t : List ℕ) → lowered h ≡ lowered_bytes d.0 → IsAddress h d.1 d.2.items t → lowered t ≡ lowered s.now) }
@@ -65,6 +68,7 @@ pub fn decode_in<A: Allocator>(alloc: A, s: &str) -> Result<(Hrp, Fe32, Vec<u8, 
 /// Decodes as [`decode_in`] does, with memory of the global allocator.
 pub fn decode(alloc: Global, s: &str) -> Result<(Hrp, Fe32, Vec<u8>), DecodeError>
     ensures value { IfOk result (λ d. IsHrp (hrp_bytes d.0) × IsAddress (hrp_bytes d.0) d.1 d.2.items s.now) }
+    ensures part { IfOk result (λ d. HasHrp s.now (hrp_bytes d.0)) }
     ensures accepts { IsAddressText s.now → IfErr result (λ e. e.0 ≡ SegwitHrpstringError.Memory) }
     ensures refused { IfErr result (λ e. IsSegwitRefusal s.now e.0 ⊎ ((e.0 ≡ SegwitHrpstringError.Memory) × IsAddressText s.now)) }
     ensures spelling { IfOk result (λ d. (h : List ℕ) → (t : List ℕ) → lowered h ≡ lowered_bytes d.0 → IsAddress h d.1 d.2.items t → lowered t ≡ lowered s.now) }
