@@ -5,6 +5,7 @@ use Rattle.bech32_gf.specs.Fe32.{element}
 use Rattle.bech32_gf.specs.declared.gf32.Fe32.{Fe32}
 use Rattle.bech32_hrp.specs.Hrp.{IsHrp, lowered}
 use Rattle.bech32_decode.specs.Segwit.{IsLowerAddress, IsAddress, IsSegwitRefusal}
+use Rattle.bech32_decode.specs.Text.{HasHrp}
 use Rattle.bech32_segwit.specs.SegwitEncoding.{HasAddress, address_length, IsSegwitEncodeRefusal}
 use Rattle.bech32_segwit.specs.declared.error.EncodeError.TheVariants.{WitnessVersion, WitnessLength, TooLong as NoAddressLength}
 use Rattle.bech32_encode.specs.Buffers.{IsPut}
@@ -45,12 +46,14 @@ IsSegwitEncodeFault hrp version program room e =
 
 -- ---- decoding
 
--- the parts of an address, which has one spelling in each case, are put into a buffer for the human-readable part, a number and a buffer for the program
+-- the parts of an address, which has one spelling in each case, are put into a buffer for the human-readable part, in
+-- the case of the text, a number and a buffer for the program
 pub record PutsProgram (text hrp hrp' program program' : List ℕ) (hrp_count version program_count : ℕ) : Type 0 where
   pub part : List ℕ
   pub witness_version : Fe32
   pub found : List ℕ
   pub is_hrp : IsHrp part
+  pub has_part : HasHrp text part
   pub is_address : IsAddress part witness_version found text
   pub spelling : (h : List ℕ) → (t : List ℕ) → lowered h ≡ lowered part → IsAddress h witness_version found t → lowered t ≡ lowered text
   pub part_put : IsPut part hrp hrp' hrp_count

@@ -1,17 +1,19 @@
 //! Why a call writes nothing, and the numbers of refusals.
 
 ghost use Rattle.std.specs.Prelude.{◌≡◌, ◌<◌};
-ghost use Rattle.bech32_c.specs.Numbers.{number_of, number_of_hrp_error, number_of_char_error};
-ghost use Rattle.bech32_c.specs.Numbers.{number_of_text_error, number_of_checksum_error};
-ghost use Rattle.bech32_c.specs.Numbers.{number_of_padding_error, number_of_length_error};
-ghost use Rattle.bech32_c.specs.Numbers.{number_of_address_error};
+ghost use Rattle.bech32_c.specs.Numbers.{number_of};
 
 use bech32::primitives::decode::{
-    CharError, CheckedHrpstringError, ChecksumError, CodeLengthError, PaddingError,
-    SegwitCodeLengthError, SegwitHrpstringError, UncheckedHrpstringError,
+    CheckedHrpstringError, ChecksumError, CodeLengthError, SegwitCodeLengthError,
+    SegwitHrpstringError, UncheckedHrpstringError,
 };
 use bech32::primitives::hrp;
 use bech32::primitives::segwit::{InvalidWitnessVersionError, WitnessLengthError};
+use bech32::{EncodeError, segwit};
+use bech32_numbers::{
+    address_error_number, checksum_error_number, encode_error_number, hrp_error_number,
+    length_error_number, segwit_encode_error_number, text_error_number,
+};
 
 /// Why a call writes nothing.
 #[derive(Clone, Copy)]
@@ -40,92 +42,9 @@ pub enum Refusal {
     Address(SegwitHrpstringError),
 }
 
-fn hrp_number(e: hrp::Error) -> u32
-    ensures value { result ≡ number_of_hrp_error e }
-    ensures some { 0 < result }
-{
-    match e {
-        hrp::Error::Empty => 11,
-        hrp::Error::TooLong(_) => 12,
-        hrp::Error::NonAsciiChar(_) => 13,
-        hrp::Error::InvalidAsciiByte(_) => 14,
-        hrp::Error::MixedCase => 15,
-    }
-}
-
-fn char_number(e: CharError) -> u32
-    ensures value { result ≡ number_of_char_error e }
-    ensures some { 0 < result }
-{
-    match e {
-        CharError::InvalidChar(_) => 21,
-        CharError::MixedCase => 22,
-        CharError::MissingSeparator => 23,
-        CharError::NothingAfterSeparator => 24,
-    }
-}
-
-fn text_number(e: UncheckedHrpstringError) -> u32
-    ensures value { result ≡ number_of_text_error e }
-    ensures some { 0 < result }
-{
-    match e {
-        UncheckedHrpstringError::Char(e) => char_number(e),
-        UncheckedHrpstringError::Hrp(e) => hrp_number(e),
-    }
-}
-
-fn checksum_number(e: ChecksumError) -> u32
-    ensures value { result ≡ number_of_checksum_error e }
-    ensures some { 0 < result }
-{
-    match e {
-        ChecksumError::CodeLength(_) => 31,
-        ChecksumError::InvalidLength => 32,
-        ChecksumError::InvalidResidue(_) => 33,
-    }
-}
-
-fn padding_number(e: PaddingError) -> u32
-    ensures value { result ≡ number_of_padding_error e }
-    ensures some { 0 < result }
-{
-    match e {
-        PaddingError::TooMuch => 44,
-        PaddingError::NonZero => 45,
-    }
-}
-
-fn length_number(e: WitnessLengthError) -> u32
-    ensures value { result ≡ number_of_length_error e }
-    ensures some { 0 < result }
-{
-    match e {
-        WitnessLengthError::TooShort => 46,
-        WitnessLengthError::TooLong => 47,
-        WitnessLengthError::InvalidSegwitV0 => 48,
-    }
-}
-
-fn address_number(e: SegwitHrpstringError) -> u32
-    ensures value { result ≡ number_of_address_error e }
-    ensures some { 0 < result }
-{
-    match e {
-        SegwitHrpstringError::Unchecked(e) => text_number(e),
-        SegwitHrpstringError::TooLong(_) => 41,
-        SegwitHrpstringError::NoData => 42,
-        SegwitHrpstringError::InvalidWitnessVersion(_) => 43,
-        SegwitHrpstringError::Padding(e) => padding_number(e),
-        SegwitHrpstringError::WitnessLength(e) => length_number(e),
-        SegwitHrpstringError::Checksum(e) => checksum_number(e),
-        SegwitHrpstringError::Memory => 91,
-    }
-}
-
 impl Refusal {
-    /// The number that a call answers.
-    pub fn number(self) -> u32
+    // The number, which has two digits at most.
+    fn small_number(self) -> u8
         ensures value { result ≡ number_of self }
         ensures some { 0 < result }
     {
@@ -133,15 +52,27 @@ impl Refusal {
             Refusal::NotUtf8 => 2,
             Refusal::BadNumber => 4,
             Refusal::NoRoom => 92,
-            Refusal::Hrp(e) => hrp_number(e),
-            Refusal::TooLong(_) => 51,
-            Refusal::Text(e) => text_number(e),
-            Refusal::Checksum(e) => checksum_number(e),
-            Refusal::Version(_) => 52,
-            Refusal::ProgramLength(e) => length_number(e),
-            Refusal::AddressTooLong(_) => 53,
-            Refusal::Address(e) => address_number(e),
+            Refusal::Hrp(e) => hrp_error_number(e),
+            Refusal::TooLong(e) => encode_error_number(EncodeError::TooLong(e)),
+            Refusal::Text(e) => text_error_number(e),
+            Refusal::Checksum(e) => checksum_error_number(e),
+            Refusal::Version(e) => {
+                segwit_encode_error_number(segwit::EncodeError::WitnessVersion(e))
+            }
+            Refusal::ProgramLength(e) => length_error_number(e),
+            Refusal::AddressTooLong(e) => {
+                segwit_encode_error_number(segwit::EncodeError::TooLong(e))
+            }
+            Refusal::Address(e) => address_error_number(e),
         }
+    }
+
+    /// The number that a call answers.
+    pub fn number(self) -> u32
+        ensures value { result ≡ number_of self }
+        ensures some { 0 < result }
+    {
+        u32::from(self.small_number())
     }
 }
 

@@ -1,4 +1,4 @@
-use Rattle.std.proofs.Common.{◌≤◌, ℕ, List, All, length, arith, sym, subst, take_all}
+use Rattle.std.proofs.Common.{◌≤◌, ◌<◌, ◌*◌, ◌^◌, ℕ, List, All, length, arith, sym, subst, take_all}
 use Rattle.bech32_gf.specs.declared.gf32.Fe32.{Fe32}
 use Rattle.bech32_checksum.specs.Code.{IsResidueOf}
 use Rattle.bech32_c.specs.Engine.{run_polynomial}
@@ -27,4 +27,6 @@ returns g c =
       elements = subst (λ (l : List ℕ). All (λ x. x ≤ 31) l) whole c.loop-value.invariant.elements;
       residue_is = subst (λ (l : List ℕ). IsResidueOf g.Ck.MidstateRepr.PackedFe32.number g.Ck.Checksum.code c.loop-value.engine.residue (run_polynomial l)) whole
           c.loop-value.invariant.residue;
+      fits = subst (λ (n : ℕ). g.Ck.MidstateRepr.PackedFe32.number c.loop-value.engine.residue < 2 ^ (5 * n))
+          (sym g.met.Ck.Checksum.degree_law) c.loop-value.engine.clear;
     })

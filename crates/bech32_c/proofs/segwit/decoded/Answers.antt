@@ -4,6 +4,7 @@ use Rattle.bech32_bits.specs.Bits.{to_bytes}
 use Rattle.bech32_hrp.specs.HrpBytes.{hrp_bytes}
 use Rattle.bech32_decode.specs.Readers.{bytes_to_come}
 use Rattle.bech32_decode.specs.Segwit.{IsAddress}
+use Rattle.bech32_decode.specs.Text.{HasHrp}
 use Rattle.bech32_segwit.proofs.SegwitEncoding.{one_spelling}
 use Rattle.bech32_c.proofs.Puts.{put-same, put-whole}
 use Rattle.bech32_c.proofs.segwit.decoded.Goals as goal
@@ -41,6 +42,8 @@ returns-then-len-program-clause-refused c =
 pub returns-clause-value : goal.returns-clause-value
 returns-clause-value c =
     let address = c.in_ok-address.address in
+    let read = c.in_ok-address.ensures.parts in
+    let whole : HasHrp c.in_ok-text_of.field-0.now (hrp_bytes address.hrp) = (read.data_part, read.accepted.grammar) in
     let part = c.as_bytes.ensures ∙ ap hrp_bytes c.hrp-part.ensures in
     let size = c.len-2.ensures.value in
     let room = c.if-len-program.false in
@@ -50,7 +53,8 @@ returns-clause-value c =
       part = hrp_bytes address.hrp;
       witness_version = address.witness_version;
       found = to_bytes (elements_of address.ascii.now);
-      is_hrp = c.in_ok-address.ensures.parts.accepted.grammar.is_hrp;
+      is_hrp = read.accepted.grammar.is_hrp;
+      has_part = rw c.in_ok-text_of.ensures.0 at whole;
       is_address = is;
       spelling = λ h t same a. one_spelling h (hrp_bytes address.hrp) address.witness_version (to_bytes (elements_of address.ascii.now)) t c.args.text.now same a is;
       part_put = put-same _ _ _ _ _ _ part (ap length c.as_bytes.ensures ∙ sym c.len-3.ensures.value) c.put.ensures;

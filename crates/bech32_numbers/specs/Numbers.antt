@@ -1,0 +1,116 @@
+-- The numbers of refusals: from 11 for a human-readable part, 21 for characters, 31 for a checksum, 41 for a segwit
+-- address, 51 for a text that is not written, and 91 for want of memory. An error that carries another has its number.
+use Rattle.std.specs.Prelude.{◌<◌, ℕ}
+use Rattle.bech32_hrp.specs.declared.Error.{Error as HrpError}
+use Rattle.bech32_hrp.specs.declared.Error.TheVariants.{Empty, TooLong as HrpTooLong}
+use Rattle.bech32_hrp.specs.declared.Error.TheVariants.{NonAsciiChar, InvalidAsciiByte, MixedCase as HrpMixedCase}
+use Rattle.bech32_decode.specs.declared.error.CharError.{CharError}
+use Rattle.bech32_decode.specs.declared.error.CharError.TheVariants.{InvalidChar, MixedCase}
+use Rattle.bech32_decode.specs.declared.error.CharError.TheVariants.{MissingSeparator, NothingAfterSeparator}
+use Rattle.bech32_decode.specs.declared.error.UncheckedHrpstringError.{UncheckedHrpstringError}
+use Rattle.bech32_decode.specs.declared.error.UncheckedHrpstringError.TheVariants.{Char, Hrp}
+use Rattle.bech32_decode.specs.declared.error.ChecksumError.{ChecksumError}
+use Rattle.bech32_decode.specs.declared.error.ChecksumError.TheVariants.{CodeLength, InvalidLength, InvalidResidue}
+use Rattle.bech32_decode.specs.declared.error.CheckedHrpstringError.{CheckedHrpstringError}
+use Rattle.bech32_decode.specs.declared.error.CheckedHrpstringError.TheVariants.{Parse as NotParsed, Checksum as Refused}
+use Rattle.bech32_decode.specs.declared.error.PaddingError.{PaddingError}
+use Rattle.bech32_decode.specs.declared.error.PaddingError.TheVariants.{TooMuch, NonZero}
+use Rattle.bech32_decode.specs.declared.error.SegwitHrpstringError.{SegwitHrpstringError}
+use Rattle.bech32_decode.specs.declared.error.SegwitHrpstringError.TheVariants.{Unchecked, NoData, TooLong as LongAddress}
+use Rattle.bech32_decode.specs.declared.error.SegwitHrpstringError.TheVariants.{InvalidWitnessVersion, Padding}
+use Rattle.bech32_decode.specs.declared.error.SegwitHrpstringError.TheVariants.{WitnessLength, Checksum as WrongChecksum}
+use Rattle.bech32_decode.specs.declared.error.SegwitHrpstringError.TheVariants.{Memory as ProgramMemory}
+use Rattle.bech32_decode.specs.declared.segwit.WitnessLengthError.{WitnessLengthError}
+use Rattle.bech32_decode.specs.declared.segwit.WitnessLengthError.TheVariants.{TooShort, TooLong as LongProgram}
+use Rattle.bech32_decode.specs.declared.segwit.WitnessLengthError.TheVariants.{InvalidSegwitV0}
+use Rattle.bech32.specs.declared.error.DecodeError.{DecodeError}
+use Rattle.bech32.specs.declared.error.DecodeError.TheVariants.{Parse, Checksum, Memory as DecodeMemory}
+use Rattle.bech32.specs.declared.error.EncodeError.{EncodeError}
+use Rattle.bech32.specs.declared.error.EncodeError.TheVariants.{TooLong, Fmt, Memory as EncodeMemory}
+use Rattle.bech32_segwit.specs.declared.error.DecodeError.{DecodeError as SegwitDecodeError}
+use Rattle.bech32_segwit.specs.declared.error.EncodeError.{EncodeError as SegwitEncodeError}
+use Rattle.bech32_segwit.specs.declared.error.EncodeError.TheVariants.{WitnessVersion, WitnessLength as NoProgramLength}
+use Rattle.bech32_segwit.specs.declared.error.EncodeError.TheVariants.{TooLong as NoAddressLength, Fmt as AddressFmt}
+use Rattle.bech32_segwit.specs.declared.error.EncodeError.TheVariants.{Memory as AddressMemory}
+
+-- a number of one or two digits, and not 0, which is no refusal's
+pub record IsSmall (number : ℕ) : Type 0 where
+  pub above : 0 < number
+  pub below : number < 100
+
+-- of a human-readable part that is refused
+abbrev pub number_of_hrp_error : HrpError → ℕ
+number_of_hrp_error Empty = 11
+number_of_hrp_error (HrpTooLong n) = 12
+number_of_hrp_error (NonAsciiChar c) = 13
+number_of_hrp_error (InvalidAsciiByte b) = 14
+number_of_hrp_error HrpMixedCase = 15
+
+-- of characters that are refused
+abbrev pub number_of_char_error : CharError → ℕ
+number_of_char_error (InvalidChar c) = 21
+number_of_char_error MixedCase = 22
+number_of_char_error MissingSeparator = 23
+number_of_char_error NothingAfterSeparator = 24
+
+-- of a text that is not in the grammar
+abbrev pub number_of_text_error : UncheckedHrpstringError → ℕ
+number_of_text_error (Char e) = number_of_char_error e
+number_of_text_error (Hrp e) = number_of_hrp_error e
+
+-- of a text that a checksum refuses
+abbrev pub number_of_checksum_error : ChecksumError → ℕ
+number_of_checksum_error (CodeLength e) = 31
+number_of_checksum_error InvalidLength = 32
+number_of_checksum_error (InvalidResidue e) = 33
+
+-- of a text that is not in the grammar, or that a checksum refuses
+abbrev pub number_of_checked_error : CheckedHrpstringError → ℕ
+number_of_checked_error (NotParsed e) = number_of_text_error e
+number_of_checked_error (Refused e) = number_of_checksum_error e
+
+-- of bits behind a program that are refused
+abbrev pub number_of_padding_error : PaddingError → ℕ
+number_of_padding_error TooMuch = 44
+number_of_padding_error NonZero = 45
+
+-- of a program's length that is refused
+abbrev pub number_of_length_error : WitnessLengthError → ℕ
+number_of_length_error TooShort = 46
+number_of_length_error LongProgram = 47
+number_of_length_error InvalidSegwitV0 = 48
+
+-- of a text that is no segwit address
+abbrev pub number_of_address_error : SegwitHrpstringError → ℕ
+number_of_address_error (Unchecked e) = number_of_text_error e
+number_of_address_error (LongAddress n) = 41
+number_of_address_error NoData = 42
+number_of_address_error (InvalidWitnessVersion v) = 43
+number_of_address_error (Padding e) = number_of_padding_error e
+number_of_address_error (WitnessLength e) = number_of_length_error e
+number_of_address_error (WrongChecksum e) = number_of_checksum_error e
+number_of_address_error ProgramMemory = 91
+
+-- of a text that is not decoded
+abbrev pub number_of_decode_error : DecodeError → ℕ
+number_of_decode_error (Parse e) = number_of_text_error e
+number_of_decode_error (Checksum e) = number_of_checksum_error e
+number_of_decode_error DecodeMemory = 91
+
+-- of a text that is not written
+abbrev pub number_of_encode_error : EncodeError → ℕ
+number_of_encode_error (TooLong e) = 51
+number_of_encode_error (Fmt e) = 54
+number_of_encode_error EncodeMemory = 91
+
+-- of a segwit address that is not decoded
+abbrev pub number_of_segwit_decode_error : SegwitDecodeError → ℕ
+number_of_segwit_decode_error e = number_of_address_error e.0
+
+-- of a segwit address that is not written
+abbrev pub number_of_segwit_encode_error : SegwitEncodeError → ℕ
+number_of_segwit_encode_error (WitnessVersion e) = 52
+number_of_segwit_encode_error (NoProgramLength e) = number_of_length_error e
+number_of_segwit_encode_error (NoAddressLength e) = 53
+number_of_segwit_encode_error (AddressFmt e) = 54
+number_of_segwit_encode_error AddressMemory = 91

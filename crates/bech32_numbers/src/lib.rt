@@ -1,0 +1,170 @@
+//! The numbers of refusals: each error of `bech32` has one, from 1 to 99, that programs and the
+//! functions for C print or answer in its place. An error that carries another has its number.
+//!
+//! Numbers from 1 to 9 and from 92 are left to the programs.
+#![tactic(auto)]
+
+ghost use Rattle.std.specs.Prelude.{◌≡◌};
+ghost use Rattle.bech32_numbers.specs.Numbers.{IsSmall, number_of_hrp_error, number_of_char_error};
+ghost use Rattle.bech32_numbers.specs.Numbers.{number_of_text_error, number_of_checksum_error};
+ghost use Rattle.bech32_numbers.specs.Numbers.{number_of_checked_error, number_of_padding_error};
+ghost use Rattle.bech32_numbers.specs.Numbers.{number_of_length_error, number_of_address_error};
+ghost use Rattle.bech32_numbers.specs.Numbers.{number_of_decode_error, number_of_encode_error};
+ghost use Rattle.bech32_numbers.specs.Numbers.{number_of_segwit_decode_error};
+ghost use Rattle.bech32_numbers.specs.Numbers.{number_of_segwit_encode_error};
+
+use bech32::primitives::decode::{
+    CharError, CheckedHrpstringError, ChecksumError, PaddingError, SegwitHrpstringError,
+    UncheckedHrpstringError,
+};
+use bech32::primitives::hrp;
+use bech32::primitives::segwit::WitnessLengthError;
+use bech32::{DecodeError, EncodeError, segwit};
+
+/// The number, 11 to 15, of a human-readable part that is refused.
+pub fn hrp_error_number(e: hrp::Error) -> u8
+    ensures value { result ≡ number_of_hrp_error e }
+    ensures small { IsSmall result }
+{
+    match e {
+        hrp::Error::Empty => 11,
+        hrp::Error::TooLong(_) => 12,
+        hrp::Error::NonAsciiChar(_) => 13,
+        hrp::Error::InvalidAsciiByte(_) => 14,
+        hrp::Error::MixedCase => 15,
+    }
+}
+
+/// The number, 21 to 24, of characters that are refused.
+pub fn char_error_number(e: CharError) -> u8
+    ensures value { result ≡ number_of_char_error e }
+    ensures small { IsSmall result }
+{
+    match e {
+        CharError::InvalidChar(_) => 21,
+        CharError::MixedCase => 22,
+        CharError::MissingSeparator => 23,
+        CharError::NothingAfterSeparator => 24,
+    }
+}
+
+/// The number, 11 to 24, of a text that is not in the grammar.
+pub fn text_error_number(e: UncheckedHrpstringError) -> u8
+    ensures value { result ≡ number_of_text_error e }
+    ensures small { IsSmall result }
+{
+    match e {
+        UncheckedHrpstringError::Char(e) => char_error_number(e),
+        UncheckedHrpstringError::Hrp(e) => hrp_error_number(e),
+    }
+}
+
+/// The number, 31 to 33, of a text that a checksum refuses.
+pub fn checksum_error_number(e: ChecksumError) -> u8
+    ensures value { result ≡ number_of_checksum_error e }
+    ensures small { IsSmall result }
+{
+    match e {
+        ChecksumError::CodeLength(_) => 31,
+        ChecksumError::InvalidLength => 32,
+        ChecksumError::InvalidResidue(_) => 33,
+    }
+}
+
+/// The number, 11 to 33, of a text that is not in the grammar, or that a checksum refuses.
+pub fn checked_error_number(e: CheckedHrpstringError) -> u8
+    ensures value { result ≡ number_of_checked_error e }
+    ensures small { IsSmall result }
+{
+    match e {
+        CheckedHrpstringError::Parse(e) => text_error_number(e),
+        CheckedHrpstringError::Checksum(e) => checksum_error_number(e),
+    }
+}
+
+/// The number, 44 or 45, of bits behind a witness program that are refused (BIP-173, Segwit address
+/// format).
+pub fn padding_error_number(e: PaddingError) -> u8
+    ensures value { result ≡ number_of_padding_error e }
+    ensures small { IsSmall result }
+{
+    match e {
+        PaddingError::TooMuch => 44,
+        PaddingError::NonZero => 45,
+    }
+}
+
+/// The number, 46 to 48, of the length of a witness program that is refused.
+pub fn length_error_number(e: WitnessLengthError) -> u8
+    ensures value { result ≡ number_of_length_error e }
+    ensures small { IsSmall result }
+{
+    match e {
+        WitnessLengthError::TooShort => 46,
+        WitnessLengthError::TooLong => 47,
+        WitnessLengthError::InvalidSegwitV0 => 48,
+    }
+}
+
+/// The number, 11 to 48 or 91, of a text that is no segwit address.
+pub fn address_error_number(e: SegwitHrpstringError) -> u8
+    ensures value { result ≡ number_of_address_error e }
+    ensures small { IsSmall result }
+{
+    match e {
+        SegwitHrpstringError::Unchecked(e) => text_error_number(e),
+        SegwitHrpstringError::TooLong(_) => 41,
+        SegwitHrpstringError::NoData => 42,
+        SegwitHrpstringError::InvalidWitnessVersion(_) => 43,
+        SegwitHrpstringError::Padding(e) => padding_error_number(e),
+        SegwitHrpstringError::WitnessLength(e) => length_error_number(e),
+        SegwitHrpstringError::Checksum(e) => checksum_error_number(e),
+        SegwitHrpstringError::Memory => 91,
+    }
+}
+
+/// The number, 11 to 33 or 91, of a text that is not decoded.
+pub fn decode_error_number(e: DecodeError) -> u8
+    ensures value { result ≡ number_of_decode_error e }
+    ensures small { IsSmall result }
+{
+    match e {
+        DecodeError::Parse(e) => text_error_number(e),
+        DecodeError::Checksum(e) => checksum_error_number(e),
+        DecodeError::Memory => 91,
+    }
+}
+
+/// The number, 51, 54 or 91, of a text that is not written.
+pub fn encode_error_number(e: EncodeError) -> u8
+    ensures value { result ≡ number_of_encode_error e }
+    ensures small { IsSmall result }
+{
+    match e {
+        EncodeError::TooLong(_) => 51,
+        EncodeError::Fmt(_) => 54,
+        EncodeError::Memory => 91,
+    }
+}
+
+/// The number, 11 to 48 or 91, of a segwit address that is not decoded.
+pub fn segwit_decode_error_number(e: segwit::DecodeError) -> u8
+    ensures value { result ≡ number_of_segwit_decode_error e }
+    ensures small { IsSmall result }
+{
+    address_error_number(e.0)
+}
+
+/// The number, 46 to 48, 52 to 54 or 91, of a segwit address that is not written.
+pub fn segwit_encode_error_number(e: segwit::EncodeError) -> u8
+    ensures value { result ≡ number_of_segwit_encode_error e }
+    ensures small { IsSmall result }
+{
+    match e {
+        segwit::EncodeError::WitnessVersion(_) => 52,
+        segwit::EncodeError::WitnessLength(e) => length_error_number(e),
+        segwit::EncodeError::TooLong(_) => 53,
+        segwit::EncodeError::Fmt(_) => 54,
+        segwit::EncodeError::Memory => 91,
+    }
+}
