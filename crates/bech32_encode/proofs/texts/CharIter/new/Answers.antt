@@ -4,9 +4,13 @@ use Rattle.bech32_bits.specs.Adaptor.{Adapts}
 use Rattle.bech32_checksum.specs.Encoded.{IsEncodedText}
 use Rattle.bech32_encode.specs.TextFrom.{text_from}
 use Rattle.bech32_hrp.specs.HrpBytes.{hrp_bytes}
+use Rattle.bech32_hrp.proofs.HrpParts.{hrp_bytes-ascii}
 use Rattle.bech32_encode.proofs.EncodedTexts.{encoded_text}
 use Rattle.bech32_encode.proofs.FrontedWalks.{walk_holds_known, runs_hold_known}
 use Rattle.bech32_encode.proofs.texts.CharIter.new.Goals as goal
+
+pub invariant_of-result-clause-ascii : goal.invariant_of-result-clause-ascii
+invariant_of-result-clause-ascii g c = rw c.as_bytes.ensures (hrp_bytes-ascii c.args.hrp.now)
 
 pub returns-clause-walk : goal.returns-clause-walk
 returns-clause-walk g c =
