@@ -3,6 +3,42 @@
 use crate::ours::{self, BECH32, BECH32M};
 use crate::theirs;
 use crate::workloads;
+use crate::Reply;
+use std::collections::BTreeSet;
+
+// Human-readable parts, most of them none: empty, too long, of other characters, of both cases.
+const PARTS: [&str; 6] = [
+    "a",
+    "",
+    "an84characterslonghumanreadablepartthatcontainsthetheexcludedcharactersbioandnumber1",
+    "\u{e9}",
+    "a b",
+    "aB",
+];
+
+// Texts that are refused, most of them from BIP-173 and BIP-350.
+const TEXTS: [&str; 20] = [
+    "",
+    "a1",
+    "1qqqqqq",
+    "pzry9x0s0muk",
+    "\u{e9}1qqqqqq",
+    " 1nwldj5",
+    "a12uel5l\r",
+    "Q1q",
+    "b12uel5l",
+    "a1lqfn3a",
+    "an84characterslonghumanreadablepartthatcontainsthetheexcludedcharactersbioandnumber11d6pts4",
+    "anhrpthatistwentycha1pqyqszqgpqyqszqgpqyqszqgpqyqszqgpqyqszqgpqyqszqgpqyqszqgpqyqszqgqfrwjz",
+    "tb1p0xlxvlhemja6c4dqv22uapctqupfhlxm9h8z3k2e72q4k9hcz7vq47Zagq",
+    "BC130XLXVLHEMJA6C4DQV22UAPCTQUPFHLXM9H8Z3K2E72Q4K9HCZ7VQ7ZWS8R",
+    "bc1p0xlxvlhemja6c4dqv22uapctqupfhlxm9h8z3k2e72q4k9hcz7v07qwwzcrf",
+    "tb1p0xlxvlhemja6c4dqv22uapctqupfhlxm9h8z3k2e72q4k9hcz7vpggkg4j",
+    "bc1pw5dgrnzv",
+    "bc1p0xlxvlhemja6c4dqv22uapctqupfhlxm9h8z3k2e72q4k9hcz7v8n0nx0muaewav253zgeav",
+    "BC1QR508D6QEJXTDG4Y5R3ZARVARYV98GJ9P",
+    "BC1SW50QGDZ25K",
+];
 
 // A generator of numbers, the same in each run.
 struct Numbers(u64);
@@ -55,20 +91,92 @@ fn texts(numbers: &mut Numbers) -> Vec<String> {
     .collect()
 }
 
-/// How many replies were compared, of the measured workloads and of so many rounds of others, and
-/// those that differ.
-pub fn compare(rounds: u64) -> (u64, Vec<String>) {
-    let (mut numbers, mut compared, mut different) = (Numbers(1), 0, vec![]);
-    let mut check = |what: String, same: bool| {
-        compared += 1;
-        if !same {
-            different.push(what);
+/// What was compared.
+#[derive(Default)]
+pub struct Compared {
+    /// How many replies.
+    pub replies: u64,
+    /// The numbers of the refusals among them.
+    pub refusals: BTreeSet<u32>,
+    /// Those that differ.
+    pub different: Vec<String>,
+}
+
+impl Compared {
+    fn check(&mut self, what: String, ours: Reply, theirs: Reply) {
+        self.replies += 1;
+        if ours != theirs {
+            self.different.push(format!("{what}: {ours:?}, {theirs:?}"));
         }
-    };
-    for operation in workloads::operations() {
-        let [ours, theirs] = &operation.replies;
-        check(operation.name.to_string(), ours.is_ok() && ours == theirs);
+        self.refusals.extend(theirs.err());
     }
+
+    fn written(&mut self, part: &str, bytes: &[u8]) {
+        for checksum in [BECH32, BECH32M] {
+            self.check(
+                format!("encode {checksum} {part:?} {bytes:?}"),
+                ours::replies::encode(checksum, part, bytes),
+                theirs::replies::encode(checksum, part, bytes),
+            );
+        }
+    }
+
+    fn address(&mut self, part: &str, version: u32, program: &[u8]) {
+        self.check(
+            format!("segwit_encode {part:?} {version} {program:?}"),
+            ours::replies::segwit_encode(part, version, program),
+            theirs::replies::segwit_encode(part, version, program),
+        );
+    }
+
+    fn remainder(&mut self, values: &[u8]) {
+        for checksum in [BECH32, BECH32M] {
+            self.check(
+                format!("residue {checksum} {values:?}"),
+                ours::replies::residue(checksum, values),
+                theirs::replies::residue(checksum, values),
+            );
+        }
+    }
+
+    fn read(&mut self, text: &str) {
+        self.check(
+            format!("decode {text:?}"),
+            ours::replies::decode(text),
+            theirs::replies::decode(text),
+        );
+        self.check(
+            format!("segwit_decode {text:?}"),
+            ours::replies::segwit_decode(text),
+            theirs::replies::segwit_decode(text),
+        );
+        for checksum in [BECH32, BECH32M] {
+            self.check(
+                format!("check {checksum} {text:?}"),
+                ours::replies::check(checksum, text),
+                theirs::replies::check(checksum, text),
+            );
+        }
+    }
+}
+
+/// Compares the replies of the measured workloads, to inputs that are refused, and of so many rounds
+/// of others.
+pub fn compare(rounds: u64) -> Compared {
+    let (mut numbers, mut compared) = (Numbers(1), Compared::default());
+    for operation in workloads::operations() {
+        let [ours, theirs] = operation.replies;
+        assert!(ours.is_ok(), "{}", operation.name);
+        compared.check(operation.name.to_string(), ours, theirs);
+    }
+    for part in PARTS {
+        compared.written(part, &[0]);
+        compared.address(part, 17, &[0]);
+    }
+    for text in TEXTS {
+        compared.read(text);
+    }
+    compared.read(&format!("a1{}", "q".repeat(1022)));
     for _ in 0..rounds {
         let (part, bytes) = (numbers.part(), numbers.bytes(700));
         let program = numbers.bytes(44);
@@ -76,41 +184,13 @@ pub fn compare(rounds: u64) -> (u64, Vec<String>) {
         let values: Vec<u8> = (0..numbers.below(50))
             .map(|_| numbers.below(33) as u8)
             .collect();
-        for checksum in [BECH32, BECH32M] {
-            check(
-                format!("encode {checksum} {part:?} {bytes:?}"),
-                ours::replies::encode(checksum, &part, &bytes)
-                    == theirs::replies::encode(checksum, &part, &bytes),
-            );
-            check(
-                format!("residue {checksum} {values:?}"),
-                ours::replies::residue(checksum, &values)
-                    == theirs::replies::residue(checksum, &values),
-            );
-        }
-        check(
-            format!("segwit_encode {part:?} {version} {program:?}"),
-            ours::replies::segwit_encode(&part, version, &program)
-                == theirs::replies::segwit_encode(&part, version, &program),
-        );
+        compared.written(&part, &bytes);
+        compared.remainder(&values);
+        compared.address(&part, version, &program);
+        compared.address("bc", numbers.below(3) as u32, &program);
         for text in texts(&mut numbers) {
-            let text = numbers.mistyped(&text);
-            check(
-                format!("decode {text:?}"),
-                ours::replies::decode(&text) == theirs::replies::decode(&text),
-            );
-            check(
-                format!("segwit_decode {text:?}"),
-                ours::replies::segwit_decode(&text) == theirs::replies::segwit_decode(&text),
-            );
-            for checksum in [BECH32, BECH32M] {
-                check(
-                    format!("check {checksum} {text:?}"),
-                    ours::replies::check(checksum, &text)
-                        == theirs::replies::check(checksum, &text),
-                );
-            }
+            compared.read(&numbers.mistyped(&text));
         }
     }
-    (compared, different)
+    compared
 }

@@ -1,6 +1,6 @@
 //! Measures the static library `bech32_c` beside the Rust crate bech32.
 //!
-//!     bench compare ROUNDS           replies of both sides; fails where two differ
+//!     bench compare ROUNDS           replies of both sides, refusals by number; fails where two differ
 //!     bench time                     nanoseconds of a call, least and median of the rounds
 //!     bench list                     the operations
 //!     bench count ours|theirs N K    K calls of operation N, for a count of instructions
@@ -8,6 +8,7 @@
 //!     bench chart TIMES COUNTS       their chart
 
 mod compare;
+mod numbers;
 mod ours;
 mod report;
 mod theirs;
@@ -15,8 +16,8 @@ mod workloads;
 
 use std::time::Instant;
 
-/// The parts of an answer, or nothing where it is a refusal.
-pub type Reply = Result<Vec<Vec<u8>>, ()>;
+/// The parts of an answer, or the number of a refusal.
+pub type Reply = Result<Vec<Vec<u8>>, u32>;
 
 const ROUNDS: usize = 15;
 
@@ -71,12 +72,17 @@ fn main() {
     let words: Vec<String> = std::env::args().collect();
     match words.get(1).map(String::as_str) {
         Some("compare") => {
-            let (compared, different) = compare::compare(words[2].parse().unwrap());
-            for what in different.iter().take(10) {
+            let compared = compare::compare(words[2].parse().unwrap());
+            for what in compared.different.iter().take(10) {
                 eprintln!("different: {what}");
             }
-            eprintln!("{compared} replies compared, {} different", different.len());
-            assert!(different.is_empty());
+            eprintln!(
+                "{} replies compared, {} different; refusals {:?}",
+                compared.replies,
+                compared.different.len(),
+                compared.refusals
+            );
+            assert!(compared.different.is_empty());
         }
         Some("time") => {
             for mut o in workloads::operations() {

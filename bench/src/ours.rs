@@ -189,7 +189,7 @@ pub mod replies {
     use super::*;
 
     fn written(answer: Result<usize, u32>, out: &Buffers) -> Reply {
-        answer.map(|n| vec![out.text[..n].to_vec()]).map_err(|_| ())
+        answer.map(|n| vec![out.text[..n].to_vec()])
     }
 
     pub fn encode(checksum: u32, hrp: &str, bytes: &[u8]) -> Reply {
@@ -202,16 +202,13 @@ pub mod replies {
         let mut out = Buffers::new();
         super::decode(text, &mut out)
             .map(|(h, n)| vec![out.hrp[..h].to_vec(), out.text[..n].to_vec()])
-            .map_err(|_| ())
     }
 
     pub fn check(checksum: u32, text: &str) -> Reply {
-        super::check(checksum, text)
-            .map(|(h, n)| {
-                let text = text.as_bytes();
-                vec![text[..h].to_vec(), text[h + 1..h + 1 + n].to_vec()]
-            })
-            .map_err(|_| ())
+        super::check(checksum, text).map(|(h, n)| {
+            let text = text.as_bytes();
+            vec![text[..h].to_vec(), text[h + 1..h + 1 + n].to_vec()]
+        })
     }
 
     pub fn segwit_encode(hrp: &str, version: u32, program: &[u8]) -> Reply {
@@ -224,12 +221,9 @@ pub mod replies {
         let mut out = Buffers::new();
         super::segwit_decode(text, &mut out)
             .map(|(h, v, n)| vec![out.hrp[..h].to_vec(), vec![v as u8], out.text[..n].to_vec()])
-            .map_err(|_| ())
     }
 
     pub fn residue(checksum: u32, values: &[u8]) -> Reply {
-        super::residue(checksum, values)
-            .map(|r| vec![r.to_be_bytes().to_vec()])
-            .map_err(|_| ())
+        super::residue(checksum, values).map(|r| vec![r.to_be_bytes().to_vec()])
     }
 }

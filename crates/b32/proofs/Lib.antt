@@ -1,3 +1,4 @@
+pub mod Bytes
 pub mod Joined
 pub mod Kept
 pub mod Pieces

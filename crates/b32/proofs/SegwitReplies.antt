@@ -13,7 +13,8 @@ use Rattle.bech32_segwit.specs.SegwitEncoding.{IsSegwitEncodeRefusal}
 use Rattle.bech32_segwit.specs.declared.error.EncodeError.{EncodeError}
 use Rattle.bech32_checksum.proofs.Uniqueness.{length-encoded}
 use Rattle.b32.specs.Hex.{bytes_of, hex_of}
-use Rattle.b32.specs.Numbers.{number_of, number_of_hrp_error, number_of_segwit_encode_error}
+use Rattle.b32.specs.Numbers.{number_of}
+use Rattle.bech32_numbers.specs.Numbers.{number_of_hrp_error, number_of_segwit_encode_error}
 use Rattle.b32.specs.declared.refusal.Refusal.{Refusal}
 use Rattle.b32.specs.declared.refusal.Refusal.TheVariants.{BadHex, Memory}
 use Rattle.b32.specs.Reply.{err, OrNoMemory, IsVersionWord, IsNoVersion, IsSegwitEncodeAnswer}

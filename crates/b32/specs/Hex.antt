@@ -1,8 +1,12 @@
 -- Bytes as a word: `-` for no bytes, else a pair of hex digits for each.
-use Rattle.std.specs.Prelude.{ℕ, if◌then◌else◌, List, [], ◌∷◌, codes, Option, Some}
+use Rattle.std.specs.Prelude.{◌<◌, ℕ, if◌then◌else◌, List, [], ◌∷◌, All, codes, Option, Some}
 use Rattle.std.specs.Result.{result_ok}
 use Rattle.std.specs.Str.{bytes_eq}
 use Rattle.hex.specs.Hex.{decode_of, encode_lower}
+
+-- each number is a byte, which is less than 256
+abbrev pub AreBytes : List ℕ → Type 0
+AreBytes numbers = All (λ n. n < 256) numbers
 
 -- the bytes that a word stands for, if any: digits are in either case
 abbrev pub bytes_of : List ℕ → Option (List ℕ)

@@ -17,8 +17,8 @@ use Rattle.bech32.specs.declared.error.EncodeError.{EncodeError}
 use Rattle.bech32_decode.specs.declared.error.SegwitHrpstringError.TheVariants.{Memory}
 use Rattle.bech32_segwit.specs.declared.error.DecodeError.{DecodeError as SegwitDecodeError}
 use Rattle.bech32_segwit.specs.declared.error.EncodeError.{EncodeError as SegwitEncodeError}
-use Rattle.b32.specs.Hex.{bytes_of, hex_of}
-use Rattle.b32.specs.Numbers.{number_of_hrp_error, number_of_decode_error, number_of_encode_error, number_of_segwit_decode_error, number_of_segwit_encode_error}
+use Rattle.b32.specs.Hex.{AreBytes, bytes_of, hex_of}
+use Rattle.bech32_numbers.specs.Numbers.{number_of_hrp_error, number_of_decode_error, number_of_encode_error, number_of_segwit_decode_error, number_of_segwit_encode_error}
 use Rattle.b32.specs.Request.{Request, Encode, Decode, SegwitEncode, SegwitDecode, code_of_name, request_of}
 
 -- a refusal with this number
@@ -104,6 +104,7 @@ pub record SaysProgram (text said : List ℕ) : Type 0 where
   pub version : Fe32
   pub program : List ℕ
   pub is_hrp : IsHrp hrp
+  pub are_bytes : AreBytes program
   pub is_address : IsAddress hrp version program text
   pub spelling : said ≡ codes "ok " ++ (lowered hrp ++ (32 ∷ (decimal version.value ++ (32 ∷ hex_of program))))
 

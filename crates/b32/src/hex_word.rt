@@ -1,7 +1,7 @@
 //! Bytes as a word: `-` for no bytes, else a pair of hex digits for each.
 
 ghost use Rattle.std.specs.Prelude.{◌≡◌, ◌⊎◌, MatchResult, IfOk, Some, None, string_bytes};
-ghost use Rattle.b32.specs.Hex.{bytes_of, hex_of};
+ghost use Rattle.b32.specs.Hex.{AreBytes, bytes_of, hex_of};
 
 use crate::refusal::Refusal;
 use hex::FromHexError;
@@ -25,7 +25,8 @@ pub fn bytes_of_word<A: Allocator>(alloc: A, word: &str) -> Result<Vec<u8, A>, R
 
 /// The word for bytes, in lower case.
 pub fn word_of_bytes<A: Allocator>(alloc: A, bytes: &[u8]) -> Result<String<A>, AllocError>
-    ensures { IfOk result (λ word. string_bytes word ≡ hex_of bytes.now) }
+    ensures word { IfOk result (λ word. string_bytes word ≡ hex_of bytes.now) }
+    ensures bytes { AreBytes bytes.now }
 {
     if bytes.is_empty() {
         return String::from_str(alloc, "-");

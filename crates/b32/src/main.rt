@@ -12,8 +12,6 @@ mod reply;
 mod run;
 mod segwit_decode;
 mod segwit_encode;
-#[cfg(test)]
-mod vectors;
 mod version_word;
 
 use crate::run::run_on;

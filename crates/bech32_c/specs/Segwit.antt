@@ -7,11 +7,13 @@ use Rattle.bech32_hrp.specs.Hrp.{IsHrp, lowered}
 use Rattle.bech32_decode.specs.Segwit.{IsLowerAddress, IsAddress, IsSegwitRefusal}
 use Rattle.bech32_decode.specs.Text.{HasHrp}
 use Rattle.bech32_segwit.specs.SegwitEncoding.{HasAddress, address_length, IsSegwitEncodeRefusal}
-use Rattle.bech32_segwit.specs.declared.error.EncodeError.TheVariants.{WitnessVersion, WitnessLength, TooLong as NoAddressLength}
+use Rattle.bech32_segwit.specs.declared.error.EncodeError.TheVariants.{WitnessVersion, WitnessLength}
+use Rattle.bech32_segwit.specs.declared.error.EncodeError.TheVariants.{TooLong as LongAddress}
 use Rattle.bech32_encode.specs.Buffers.{IsPut}
 use Rattle.bech32_c.specs.Faults.{IsPartFault}
 use Rattle.bech32_c.specs.declared.refusal.Refusal.{Refusal}
-use Rattle.bech32_c.specs.declared.refusal.Refusal.TheVariants.{NotUtf8, BadNumber, NoRoom, Version, ProgramLength, AddressTooLong, Address}
+use Rattle.bech32_c.specs.declared.refusal.Refusal.TheVariants.{NotUtf8, BadNumber, NoRoom}
+use Rattle.bech32_c.specs.declared.refusal.Refusal.TheVariants.{Version, ProgramLength, AddressTooLong, Address}
 
 -- ---- encoding
 
@@ -30,11 +32,12 @@ pub record HasRoomFor (hrp : List ℕ) (version : ℕ) (program : List ℕ) (roo
   pub exists : HasAddress hrp (element version) program
   pub has_room : address_length hrp program ≤ room
 
--- why the address of a human-readable part, a version and a program is not put into a buffer of so many bytes: the first fault
+-- why the address of a human-readable part, a version and a program is not put into a buffer of so many bytes: the
+-- first fault
 abbrev pub IsAddressFault : List ℕ → Fe32 → List ℕ → ℕ → Refusal → Type 0
 IsAddressFault hrp version program room (Version e) = IsSegwitEncodeRefusal hrp version program (WitnessVersion e)
 IsAddressFault hrp version program room (ProgramLength e) = IsSegwitEncodeRefusal hrp version program (WitnessLength e)
-IsAddressFault hrp version program room (AddressTooLong e) = IsSegwitEncodeRefusal hrp version program (NoAddressLength e)
+IsAddressFault hrp version program room (AddressTooLong e) = IsSegwitEncodeRefusal hrp version program (LongAddress e)
 IsAddressFault hrp version program room NoRoom = HasAddress hrp version program × (room < address_length hrp program)
 IsAddressFault hrp version program room _ = ⊥
 
@@ -55,7 +58,8 @@ pub record PutsProgram (text hrp hrp' program program' : List ℕ) (hrp_count ve
   pub is_hrp : IsHrp part
   pub has_part : HasHrp text part
   pub is_address : IsAddress part witness_version found text
-  pub spelling : (h : List ℕ) → (t : List ℕ) → lowered h ≡ lowered part → IsAddress h witness_version found t → lowered t ≡ lowered text
+  pub spelling : (h : List ℕ) → (t : List ℕ)
+      → lowered h ≡ lowered part → IsAddress h witness_version found t → lowered t ≡ lowered text
   pub part_put : IsPut part hrp hrp' hrp_count
   pub version_is : version ≡ witness_version.value
   pub found_put : IsPut found program program' program_count
@@ -79,7 +83,8 @@ pub record LacksRoomFor (text : List ℕ) (hrp_room program_room : ℕ) : Type 0
   pub is_address : IsAddress part version found text
   pub lacks : (hrp_room < length part) ⊎ (program_room < length found)
 
--- why nothing is put into buffers of so many bytes: the bytes are no text, or the text's first fault, or a buffer is too small
+-- why nothing is put into buffers of so many bytes: the bytes are no text, or the text's first fault, or a buffer is
+-- too small
 abbrev pub IsSegwitDecodeFault : List ℕ → ℕ → ℕ → Refusal → Type 0
 IsSegwitDecodeFault text hrp_room program_room NotUtf8 = ¬ (IsUtf8 text)
 IsSegwitDecodeFault text hrp_room program_room (Address e) = IsUtf8 text × IsSegwitRefusal text e

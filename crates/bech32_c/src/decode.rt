@@ -71,15 +71,17 @@ pub extern "C" fn bech32_decode(
     bytes: &mut [u8],
     bytes_length: &mut usize,
 ) -> u32
-    ensures value { result ≡ 0 → PutsDecoded text.now hrp.old hrp.new bytes.old bytes.new hrp_length.new bytes_length.new }
+    ensures value { result ≡ 0
+        → PutsDecoded text.now hrp.old hrp.new bytes.old bytes.new hrp_length.new bytes_length.new }
     ensures accepts { CanDecode text.now (length hrp.old) (length bytes.old) → result ≡ 0 }
     ensures refused { result ≢ 0 → IsNumberOf (IsDecodeFault text.now (length hrp.old) (length bytes.old)) result }
     ensures same { result ≢ 0 → (hrp.new ≡ hrp.old) × (hrp_length.new ≡ hrp_length.old)
         × (bytes.new ≡ bytes.old) × (bytes_length.new ≡ bytes_length.old) }
     ensures back { (part : List ℕ) → (found : List ℕ) → IsHrp part → list_all (λ b. nat_lt b 256) found ≡ true
-        → IsEncodedText bech32m part (to_fes found) text.now ⊎ IsEncodedText bech32 part (to_fes found) text.now → length text.now ≤ 1023
-        → length part ≤ length hrp.old → length found ≤ length bytes.old
-        → (result ≡ 0) × IsPut (lowered part) hrp.old hrp.new hrp_length.new × IsPut found bytes.old bytes.new bytes_length.new }
+        → IsEncodedText bech32m part (to_fes found) text.now ⊎ IsEncodedText bech32 part (to_fes found) text.now
+        → length text.now ≤ 1023 → length part ≤ length hrp.old → length found ≤ length bytes.old
+        → (result ≡ 0) × IsPut (lowered part) hrp.old hrp.new hrp_length.new
+        × IsPut found bytes.old bytes.new bytes_length.new }
 {
     match decoded(text, hrp, bytes) {
         Ok((hrp_count, bytes_count)) => {

@@ -23,7 +23,8 @@ pub(crate) fn put_text<Ck: Checksum>(
     bytes: &[u8],
     text: &mut [u8],
 ) -> usize
-    requires { length (hrp_bytes hrp.now) + 1 + length (option_to_list version ++ to_fes bytes.now) + length Ck.code.generator ≤ length text.old }
+    requires { length (hrp_bytes hrp.now) + 1 + length (option_to_list version ++ to_fes bytes.now)
+        + length Ck.code.generator ≤ length text.old }
     ensures { (written : List ℕ)
         × IsEncodedText Ck.code (hrp_bytes hrp.now) (option_to_list version ++ to_fes bytes.now) written
         × IsPut written text.old text.new result }
@@ -49,7 +50,8 @@ fn encoded<Ck: Checksum>(hrp: &[u8], bytes: &[u8], text: &mut [u8]) -> Result<us
 
 // Puts the text by the checksum of a number, and answers its length.
 fn encoded_by(checksum: u32, hrp: &[u8], bytes: &[u8], text: &mut [u8]) -> Result<usize, Refusal>
-    ensures value { IfOk result (λ count. ForChecksum checksum (λ code. PutsText code hrp.now bytes.now text.old text.new count)) }
+    ensures value { IfOk result (λ count.
+        ForChecksum checksum (λ code. PutsText code hrp.now bytes.now text.old text.new count)) }
     ensures refused { IfErr result (λ e. IsFaultBy checksum (IsEncodeFault hrp.now bytes.now (length text.old)) e) }
     ensures same { OnErr result (text.new ≡ text.old) }
 {
@@ -77,9 +79,11 @@ pub extern "C" fn bech32_encode(
     text: &mut [u8],
     text_length: &mut usize,
 ) -> u32
-    ensures value { result ≡ 0 → ForChecksum checksum (λ code. PutsText code hrp.now bytes.now text.old text.new text_length.new) }
+    ensures value { result ≡ 0
+        → ForChecksum checksum (λ code. PutsText code hrp.now bytes.now text.old text.new text_length.new) }
     ensures accepts { ForChecksum checksum (λ code. HasText code hrp.now bytes.now (length text.old)) → result ≡ 0 }
-    ensures refused { result ≢ 0 → IsNumberOf (IsFaultBy checksum (IsEncodeFault hrp.now bytes.now (length text.old))) result }
+    ensures refused { result ≢ 0
+        → IsNumberOf (IsFaultBy checksum (IsEncodeFault hrp.now bytes.now (length text.old))) result }
     ensures same { result ≢ 0 → (text.new ≡ text.old) × (text_length.new ≡ text_length.old) }
 {
     match encoded_by(checksum, hrp, bytes, text) {

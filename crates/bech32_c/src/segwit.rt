@@ -86,9 +86,11 @@ pub extern "C" fn bech32_segwit_encode(
 ) -> u32
     ensures value { result ≡ 0 → PutsAddress hrp.now version program.now text.old text.new text_length.new }
     ensures accepts { HasRoomFor hrp.now version program.now (length text.old) → result ≡ 0 }
-    ensures refused { result ≢ 0 → IsNumberOf (IsSegwitEncodeFault hrp.now version program.now (length text.old)) result }
+    ensures refused { result ≢ 0
+        → IsNumberOf (IsSegwitEncodeFault hrp.now version program.now (length text.old)) result }
     ensures same { result ≢ 0 → (text.new ≡ text.old) × (text_length.new ≡ text_length.old) }
-    ensures spelling { (h : List ℕ) → (t : List ℕ) → lowered h ≡ lowered hrp.now → IsAddress h (element version) program.now t
+    ensures spelling { (h : List ℕ) → (t : List ℕ)
+        → lowered h ≡ lowered hrp.now → IsAddress h (element version) program.now t
         → IsHrp hrp.now → version ≤ 31 → length t ≤ length text.old
         → (result ≡ 0) × IsPut (lowered t) text.old text.new text_length.new }
 {
@@ -139,9 +141,11 @@ pub extern "C" fn bech32_segwit_decode(
     program: &mut [u8],
     program_length: &mut usize,
 ) -> u32
-    ensures value { result ≡ 0 → PutsProgram text.now hrp.old hrp.new program.old program.new hrp_length.new version.new program_length.new }
+    ensures value { result ≡ 0 → PutsProgram text.now hrp.old hrp.new program.old program.new
+        hrp_length.new version.new program_length.new }
     ensures accepts { CanDecodeAddress text.now (length hrp.old) (length program.old) → result ≡ 0 }
-    ensures refused { result ≢ 0 → IsNumberOf (IsSegwitDecodeFault text.now (length hrp.old) (length program.old)) result }
+    ensures refused { result ≢ 0
+        → IsNumberOf (IsSegwitDecodeFault text.now (length hrp.old) (length program.old)) result }
     ensures same { result ≢ 0 → (hrp.new ≡ hrp.old) × (hrp_length.new ≡ hrp_length.old) × (version.new ≡ version.old)
         × (program.new ≡ program.old) × (program_length.new ≡ program_length.old) }
 {

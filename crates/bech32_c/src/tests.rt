@@ -3,6 +3,7 @@ use crate::encode::bech32_encode;
 use crate::engine::bech32_residue;
 use crate::segwit::{bech32_segwit_decode, bech32_segwit_encode};
 use std::alloc::Global;
+use std::fmt::Debug;
 use std::process::Abort;
 use std::test::Fail;
 
@@ -28,19 +29,21 @@ const TAPROOT: [u8; 32] = [
     0x02, 0x9b, 0xfc, 0xdb, 0x2d, 0xce, 0x28, 0xd9, 0x59, 0xf2, 0x81, 0x5b, 0x16, 0xf8, 0x17, 0x98,
 ];
 
+// Fails where the two differ.
+fn same<T: PartialEq + Debug>(rt: &impl Abort, got: &T, want: &T) {
+    assert_eq!(rt; got, want);
+}
+
 // The bytes stand at the front of the buffer, and behind them it is as it was.
 fn holds(rt: &impl Abort, buffer: &[u8], count: usize, bytes: &[u8]) {
-    assert_eq!(rt; count, bytes.len());
-    assert!(rt; buffer.starts_with(bytes), "{bytes:?}");
-    assert!(rt;
-        buffer.iter().skip(count).all(|b| *b == BEFORE),
-        "{bytes:?}"
-    );
+    same(rt, &count, &bytes.len());
+    assert!(rt; buffer.starts_with(bytes));
+    assert!(rt; buffer.iter().skip(count).all(|b| *b == BEFORE));
 }
 
 // The buffer and its length are as they were.
 fn is_untouched(rt: &impl Abort, buffer: &[u8], count: usize) {
-    assert_eq!(rt; count, LENGTH_BEFORE);
+    same(rt, &count, &LENGTH_BEFORE);
     assert!(rt; buffer.iter().all(|b| *b == BEFORE));
 }
 
@@ -56,18 +59,18 @@ fn encodes(
     let mut count = LENGTH_BEFORE;
     let mut buffer = [BEFORE; 64];
     let number = bech32_encode(checksum, hrp, bytes, &mut buffer, &mut count);
-    assert_eq!(rt; number, 0, "{want:?}");
+    same(rt, &number, &0);
     holds(rt, &buffer, count, want);
 
     let mut exact = vec![in alloc; BEFORE; want.len()]?;
     let number = bech32_encode(checksum, hrp, bytes, exact.as_mut_slice(), &mut count);
-    assert_eq!(rt; number, 0, "{want:?}");
+    same(rt, &number, &0);
     holds(rt, exact.as_slice(), count, want);
 
     let mut count = LENGTH_BEFORE;
     let mut short = vec![in alloc; BEFORE; want.len().saturating_sub(1)]?;
     let number = bech32_encode(checksum, hrp, bytes, short.as_mut_slice(), &mut count);
-    assert_eq!(rt; number, 92, "{want:?}");
+    same(rt, &number, &92);
     is_untouched(rt, short.as_slice(), count);
     Ok(())
 }
@@ -104,11 +107,12 @@ fn encodes_up_to_the_code_length(rt: HostRuntime) {
         let (bytes, _) = bytes.split_at(size.min(635));
         let mut count = LENGTH_BEFORE;
         let mut buffer = [BEFORE; 1100];
-        assert_eq!(rt;
-            bech32_encode(1, b"a", bytes, &mut buffer, &mut count),
-            number
+        same(
+            &rt,
+            &bech32_encode(1, b"a", bytes, &mut buffer, &mut count),
+            &number,
         );
-        assert_eq!(rt; count, length);
+        same(&rt, &count, &length);
     }
 }
 
@@ -129,7 +133,7 @@ fn refuses_to_encode(rt: HostRuntime) {
         let mut count = LENGTH_BEFORE;
         let mut buffer = [BEFORE; 128];
         let number = bech32_encode(checksum, hrp, b"", &mut buffer, &mut count);
-        assert_eq!(rt; number, want);
+        same(&rt, &number, &want);
         is_untouched(&rt, &buffer, count);
     }
 }
@@ -145,7 +149,7 @@ fn decodes(
     let (mut hrp_count, mut count) = (LENGTH_BEFORE, LENGTH_BEFORE);
     let (mut hrp, mut bytes) = ([BEFORE; 83], [BEFORE; 634]);
     let number = bech32_decode(text, &mut hrp, &mut hrp_count, &mut bytes, &mut count);
-    assert_eq!(rt; number, 0, "{text:?}");
+    same(rt, &number, &0);
     holds(rt, &hrp, hrp_count, part);
     holds(rt, &bytes, count, found);
 
@@ -158,7 +162,7 @@ fn decodes(
         bytes.as_mut_slice(),
         &mut count,
     );
-    assert_eq!(rt; number, 0, "{text:?}");
+    same(rt, &number, &0);
     holds(rt, hrp.as_slice(), hrp_count, part);
     holds(rt, bytes.as_slice(), count, found);
     Ok(())
@@ -189,13 +193,22 @@ fn decodes_known_texts(rt: HostRuntime) -> Result<(), Fail> {
 
         let (mut hrp_count, mut count) = (LENGTH_BEFORE, LENGTH_BEFORE);
         let other = if checksum == 1 { 2 } else { 1 };
-        assert_eq!(rt; bech32_check(other, text, &mut hrp_count, &mut count), 33);
-        assert_eq!(rt; count, LENGTH_BEFORE);
-        assert_eq!(rt; bech32_check(checksum, text, &mut hrp_count, &mut count), 0);
-        assert_eq!(rt; hrp_count, part.len());
-        assert_eq!(rt;
-            Some(count),
-            text.len().checked_sub(part.len().saturating_add(7))
+        same(
+            &rt,
+            &bech32_check(other, text, &mut hrp_count, &mut count),
+            &33,
+        );
+        same(&rt, &count, &LENGTH_BEFORE);
+        same(
+            &rt,
+            &bech32_check(checksum, text, &mut hrp_count, &mut count),
+            &0,
+        );
+        same(&rt, &hrp_count, &part.len());
+        same(
+            &rt,
+            &Some(count),
+            &text.len().checked_sub(part.len().saturating_add(7)),
         );
     }
     Ok(())
@@ -223,16 +236,16 @@ fn refuses_to_decode(rt: HostRuntime) {
         let (mut hrp_count, mut count) = (LENGTH_BEFORE, LENGTH_BEFORE);
         let (mut hrp, mut bytes) = ([BEFORE; 83], [BEFORE; 634]);
         let number = bech32_decode(text, &mut hrp, &mut hrp_count, &mut bytes, &mut count);
-        assert_eq!(rt; number, want, "{text:?}");
+        same(&rt, &number, &want);
         is_untouched(&rt, &hrp, hrp_count);
         is_untouched(&rt, &bytes, count);
 
         for (checksum, want) in [(1, want), (2, want), (0, 4)] {
             let number = bech32_check(checksum, text, &mut hrp_count, &mut count);
-            assert_eq!(rt; number, want, "{text:?}");
+            same(&rt, &number, &want);
         }
-        assert_eq!(rt; hrp_count, LENGTH_BEFORE);
-        assert_eq!(rt; count, LENGTH_BEFORE);
+        same(&rt, &hrp_count, &LENGTH_BEFORE);
+        same(&rt, &count, &LENGTH_BEFORE);
     }
 }
 
@@ -241,11 +254,15 @@ fn texts_above_the_code_length(rt: HostRuntime) {
     let mut text = [b'q'; 1024];
     text[1] = b'1';
     let (mut hrp_count, mut count) = (LENGTH_BEFORE, LENGTH_BEFORE);
-    assert_eq!(rt; bech32_check(2, &text, &mut hrp_count, &mut count), 31);
-    assert_eq!(rt; hrp_count, LENGTH_BEFORE);
+    same(
+        &rt,
+        &bech32_check(2, &text, &mut hrp_count, &mut count),
+        &31,
+    );
+    same(&rt, &hrp_count, &LENGTH_BEFORE);
     let (mut hrp, mut bytes) = ([BEFORE; 83], [BEFORE; 634]);
     let number = bech32_decode(&text, &mut hrp, &mut hrp_count, &mut bytes, &mut count);
-    assert_eq!(rt; number, 31);
+    same(&rt, &number, &31);
     is_untouched(&rt, &hrp, hrp_count);
     is_untouched(&rt, &bytes, count);
 }
@@ -259,7 +276,7 @@ fn decodes_into_small_buffers(rt: HostRuntime) {
         let (hrp, _) = hrp.split_at_mut(hrp_room.min(4));
         let (bytes, _) = bytes.split_at_mut(room.min(20));
         let number = bech32_decode(text, hrp, &mut hrp_count, bytes, &mut count);
-        assert_eq!(rt; number, 92);
+        same(&rt, &number, &92);
         is_untouched(&rt, hrp, hrp_count);
         is_untouched(&rt, bytes, count);
     }
@@ -285,9 +302,9 @@ fn goes_around(
         &mut program,
         &mut count,
     );
-    assert_eq!(rt; number, 0, "{text:?}");
+    same(rt, &number, &0);
     holds(rt, &hrp, hrp_count, part);
-    assert_eq!(rt; found, version);
+    same(rt, &found, &version);
     holds(rt, &program, count, want);
 
     let mut lower = text.to_vec(alloc)?;
@@ -295,11 +312,11 @@ fn goes_around(
     let mut count = LENGTH_BEFORE;
     let mut short = vec![in alloc; BEFORE; text.len().saturating_sub(1)]?;
     let number = bech32_segwit_encode(part, version, want, short.as_mut_slice(), &mut count);
-    assert_eq!(rt; number, 92, "{text:?}");
+    same(rt, &number, &92);
     is_untouched(rt, short.as_slice(), count);
     let mut buffer = [BEFORE; 90];
     let number = bech32_segwit_encode(part, version, want, &mut buffer, &mut count);
-    assert_eq!(rt; number, 0, "{text:?}");
+    same(rt, &number, &0);
     holds(rt, &buffer, count, lower.as_slice());
     Ok(())
 }
@@ -383,9 +400,9 @@ fn refuses_addresses(rt: HostRuntime) {
             &mut program,
             &mut count,
         );
-        assert_eq!(rt; number, want, "{text:?}");
+        same(&rt, &number, &want);
         is_untouched(&rt, &hrp, hrp_count);
-        assert_eq!(rt; version, u32::MAX);
+        same(&rt, &version, &u32::MAX);
         is_untouched(&rt, &program, count);
     }
 }
@@ -407,14 +424,14 @@ fn reads_addresses_into_small_buffers(rt: HostRuntime) {
             program,
             &mut count,
         );
-        assert_eq!(rt; number, want);
+        same(&rt, &number, &want);
         if number == 0 {
             holds(&rt, hrp, hrp_count, b"bc");
             holds(&rt, program, count, &PROGRAM);
         } else {
             is_untouched(&rt, hrp, hrp_count);
             is_untouched(&rt, program, count);
-            assert_eq!(rt; version, u32::MAX);
+            same(&rt, &version, &u32::MAX);
         }
     }
 }
@@ -441,7 +458,7 @@ fn refuses_to_write_addresses(rt: HostRuntime) {
         let mut count = LENGTH_BEFORE;
         let mut buffer = [BEFORE; 90];
         let number = bech32_segwit_encode(hrp, version, program, &mut buffer, &mut count);
-        assert_eq!(rt; number, want);
+        same(&rt, &number, &want);
         if number != 0 {
             is_untouched(&rt, &buffer, count);
         }
@@ -461,13 +478,13 @@ fn remainders_of_right_texts(rt: HostRuntime) {
     ];
     for (checksum, values, want) in rows {
         let mut residue = u32::MAX;
-        assert_eq!(rt; bech32_residue(checksum, values, &mut residue), 0);
-        assert_eq!(rt; residue, want);
+        same(&rt, &bech32_residue(checksum, values, &mut residue), &0);
+        same(&rt, &residue, &want);
     }
     let refused: [(u32, &[u8]); 4] = [(0, &[]), (3, &[1]), (1, &[0, 32]), (2, &[255, 1])];
     for (checksum, values) in refused {
         let mut residue = u32::MAX;
-        assert_eq!(rt; bech32_residue(checksum, values, &mut residue), 4);
-        assert_eq!(rt; residue, u32::MAX);
+        same(&rt, &bech32_residue(checksum, values, &mut residue), &4);
+        same(&rt, &residue, &u32::MAX);
     }
 }

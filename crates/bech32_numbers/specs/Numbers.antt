@@ -12,13 +12,14 @@ use Rattle.bech32_decode.specs.declared.error.UncheckedHrpstringError.TheVariant
 use Rattle.bech32_decode.specs.declared.error.ChecksumError.{ChecksumError}
 use Rattle.bech32_decode.specs.declared.error.ChecksumError.TheVariants.{CodeLength, InvalidLength, InvalidResidue}
 use Rattle.bech32_decode.specs.declared.error.CheckedHrpstringError.{CheckedHrpstringError}
-use Rattle.bech32_decode.specs.declared.error.CheckedHrpstringError.TheVariants.{Parse as NotParsed, Checksum as Refused}
+use Rattle.bech32_decode.specs.declared.error.CheckedHrpstringError.TheVariants.{Parse as NoText, Checksum as Refused}
 use Rattle.bech32_decode.specs.declared.error.PaddingError.{PaddingError}
 use Rattle.bech32_decode.specs.declared.error.PaddingError.TheVariants.{TooMuch, NonZero}
 use Rattle.bech32_decode.specs.declared.error.SegwitHrpstringError.{SegwitHrpstringError}
-use Rattle.bech32_decode.specs.declared.error.SegwitHrpstringError.TheVariants.{Unchecked, NoData, TooLong as LongAddress}
-use Rattle.bech32_decode.specs.declared.error.SegwitHrpstringError.TheVariants.{InvalidWitnessVersion, Padding}
-use Rattle.bech32_decode.specs.declared.error.SegwitHrpstringError.TheVariants.{WitnessLength, Checksum as WrongChecksum}
+use Rattle.bech32_decode.specs.declared.error.SegwitHrpstringError.TheVariants.{Unchecked, TooLong as LongAddress}
+use Rattle.bech32_decode.specs.declared.error.SegwitHrpstringError.TheVariants.{NoData, InvalidWitnessVersion}
+use Rattle.bech32_decode.specs.declared.error.SegwitHrpstringError.TheVariants.{Padding, WitnessLength}
+use Rattle.bech32_decode.specs.declared.error.SegwitHrpstringError.TheVariants.{Checksum as WrongChecksum}
 use Rattle.bech32_decode.specs.declared.error.SegwitHrpstringError.TheVariants.{Memory as ProgramMemory}
 use Rattle.bech32_decode.specs.declared.segwit.WitnessLengthError.{WitnessLengthError}
 use Rattle.bech32_decode.specs.declared.segwit.WitnessLengthError.TheVariants.{TooShort, TooLong as LongProgram}
@@ -66,7 +67,7 @@ number_of_checksum_error (InvalidResidue e) = 33
 
 -- of a text that is not in the grammar, or that a checksum refuses
 abbrev pub number_of_checked_error : CheckedHrpstringError → ℕ
-number_of_checked_error (NotParsed e) = number_of_text_error e
+number_of_checked_error (NoText e) = number_of_text_error e
 number_of_checked_error (Refused e) = number_of_checksum_error e
 
 -- of bits behind a program that are refused

@@ -14,7 +14,7 @@ append-requires-3 g c =
     let hrp = hrp_bytes c.in_ok-hrp.hrp in
     let bytes = c.in_ok-hrp.bytes.items in
     let (part, size) = decoded-sizes c.args.text.now hrp bytes c.in_ok-hrp.ensures.value in
-    let hex = c.as_bytes-2.ensures.value ∙ c.in_ok-hex.ensures ∙ ap hex_of c.as_slice.ensures.value in
+    let hex = c.as_bytes-2.ensures.value ∙ c.in_ok-hex.ensures.word ∙ ap hex_of c.as_slice.ensures.value in
     let part_is = c.append_lowered.ensures.items ∙ ap (λ (t : List ℕ). c.append.new.out.items ++ lowered t) c.as_bytes.ensures in
     let front = three-pieces c.args.out.now.items (codes "ok ") (lowered hrp) (32 ∷ []) _ _ _ c.append.ensures.items part_is c.append-2.ensures.items in
     omega (
@@ -36,7 +36,7 @@ returns-clause-ok g c =
     let hrp = hrp_bytes c.in_ok-hrp.hrp in
     let bytes = c.in_ok-hrp.bytes.items in
     let is = c.in_ok-hrp.ensures.value in
-    let hex = c.as_bytes-2.ensures.value ∙ c.in_ok-hex.ensures ∙ ap hex_of c.as_slice.ensures.value in
+    let hex = c.as_bytes-2.ensures.value ∙ c.in_ok-hex.ensures.word ∙ ap hex_of c.as_slice.ensures.value in
     let part_is = c.append_lowered.ensures.items ∙ ap (λ (t : List ℕ). c.append.new.out.items ++ lowered t) c.as_bytes.ensures in
     let last_is = c.append-3.ensures.items ∙ ap (λ (t : List ℕ). c.append-2.new.out.items ++ t) hex in
     record {

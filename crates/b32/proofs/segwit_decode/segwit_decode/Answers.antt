@@ -1,10 +1,10 @@
-use Rattle.std.proofs.Common.{ℕ, List, [], ◌∷◌, ◌++◌, length, refl, ap, ◌∙◌, arith, inl, codes, length-append}
+use Rattle.std.proofs.Common.{ℕ, List, [], ◌∷◌, ◌++◌, length, refl, ap, ◌∙◌, arith, inl, codes, length-append, subst}
 use Rattle.std.proofs.lemmas.List.{length-map}
 use Rattle.std.specs.Char.{to_ascii_lowercase}
 use Rattle.std.specs.Fmt.{decimal}
 use Rattle.bech32_hrp.specs.Hrp.{lowered}
 use Rattle.bech32_hrp.specs.HrpBytes.{hrp_bytes}
-use Rattle.b32.specs.Hex.{hex_of}
+use Rattle.b32.specs.Hex.{AreBytes, hex_of}
 use Rattle.b32.proofs.Pieces.{three-pieces}
 use Rattle.b32.proofs.Sizes.{length-hex_of}
 use Rattle.b32.proofs.SegwitReplies.{address-sizes, segwit-decode-size, six-pieces}
@@ -16,7 +16,7 @@ append-requires-4 g c =
     let version = c.in_ok-hrp.version in
     let program = c.in_ok-hrp.program.items in
     let (part, size) = address-sizes c.args.text.now hrp version program c.in_ok-hrp.ensures.value.1 in
-    let hex = c.as_bytes-2.ensures.value ∙ c.in_ok-hex.ensures ∙ ap hex_of c.as_slice.ensures.value in
+    let hex = c.as_bytes-2.ensures.value ∙ c.in_ok-hex.ensures.word ∙ ap hex_of c.as_slice.ensures.value in
     let part_is = c.append_lowered.ensures.items ∙ ap (λ (t : List ℕ). c.append.new.out.items ++ lowered t) c.as_bytes.ensures in
     let front = three-pieces c.args.out.now.items (codes "ok ") (lowered hrp) (32 ∷ []) _ _ _ c.append.ensures.items part_is c.append-2.ensures.items in
     omega (
@@ -44,13 +44,13 @@ returns-clause-ok g c =
     let version = c.in_ok-hrp.version in
     let program = c.in_ok-hrp.program.items in
     let is = c.in_ok-hrp.ensures.value in
-    let hex = c.as_bytes-2.ensures.value ∙ c.in_ok-hex.ensures ∙ ap hex_of c.as_slice.ensures.value in
+    let hex = c.as_bytes-2.ensures.value ∙ c.in_ok-hex.ensures.word ∙ ap hex_of c.as_slice.ensures.value in
     let part_is = c.append_lowered.ensures.items ∙ ap (λ (t : List ℕ). c.append.new.out.items ++ lowered t) c.as_bytes.ensures in
     let number_is = c.append_number.ensures.items ∙ ap (λ (n : ℕ). c.append-2.new.out.items ++ decimal n) c.to_u8.ensures in
     let last_is = c.append-4.ensures.items ∙ ap (λ (t : List ℕ). c.append-3.new.out.items ++ t) hex in
     record {
       said = codes "ok " ++ (lowered hrp ++ (32 ∷ (decimal version.value ++ (32 ∷ hex_of program))));
-      says = inl (record { hrp = hrp; version = version; program = program; is_hrp = is.0; is_address = is.1; spelling = refl });
+      says = inl (record { hrp = hrp; version = version; program = program; is_hrp = is.0; are_bytes = subst AreBytes c.as_slice.ensures.value c.in_ok-hex.ensures.bytes; is_address = is.1; spelling = refl });
       size = segwit-decode-size c.args.text.now hrp version program is.1;
       added = six-pieces c.args.out.now.items (codes "ok ") (lowered hrp) (32 ∷ []) (decimal version.value) (32 ∷ []) (hex_of program) _ _ _ _ _ _ c.append.ensures.items part_is
           c.append-2.ensures.items number_is c.append-3.ensures.items last_is;
