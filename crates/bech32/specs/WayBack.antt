@@ -12,7 +12,8 @@ use Rattle.bech32.specs.declared.error.DecodeError.TheVariants.{Memory}
 
 -- Bech32m or Bech32 encodes bytes under a human-readable part as the text
 abbrev pub IsEncodedByEither : List ℕ → List ℕ → List ℕ → Type 0
-IsEncodedByEither hrp bytes text = IsEncodedText bech32m hrp (to_fes bytes) text ⊎ IsEncodedText bech32 hrp (to_fes bytes) text
+IsEncodedByEither hrp bytes text =
+    IsEncodedText bech32m hrp (to_fes bytes) text ⊎ IsEncodedText bech32 hrp (to_fes bytes) text
 
 -- where the text is encoded so, and within the code, the outcome is that human-readable part, in lower case, and those
 -- bytes, want of memory aside

@@ -12,7 +12,7 @@ pub enum DecodeError {
     #[error("parsing failed: {0}")]
     Parse(UncheckedHrpstringError),
     /// Neither checksum accepts it; the error is that of Bech32m.
-    #[error("invalid checksum: {0}")]
+    #[error("no valid bech32 or bech32m checksum: {0}")]
     Checksum(ChecksumError),
     /// There is no memory for the data.
     #[error("no memory")]
@@ -23,7 +23,7 @@ pub enum DecodeError {
 #[derive(Clone, Copy, Debug, PartialEq, Eq, Drop, Error)]
 pub enum EncodeError {
     /// It would be longer than the checksum's code.
-    #[error("encoding error: {0}")]
+    #[error("encode error: {0}")]
     TooLong(CodeLengthError),
     /// The formatter failed.
     #[error("encode to formatter failed: {0}")]

@@ -8,6 +8,6 @@ pub use bech32_hrp as hrp;
 
 /// Iterators that regroup bits, and add checksums.
 pub mod iter {
-    pub use bech32_bits::{ByteIterExt, BytesToFes, FesToBytes};
+    pub use bech32_bits::{ByteIterExt, BytesToFes, FesToBytes, plain};
     pub use bech32_encode::{Checksummed, Fe32IterExt};
 }

@@ -8,6 +8,7 @@ use Rattle.bech32_bits.specs.FesToBytes.{bytes_source, bytes_gives}
 use Rattle.bech32_decode.specs.declared.byte_reader.ByteIter.{ByteIter}
 use Rattle.bech32_decode.specs.declared.reader.AsciiToFe32Iter.{AsciiToFe32Iter}
 
+-- the elements that are to come
 abbrev pub elements_left : AsciiToFe32Iter → List Fe32
 elements_left s = elements_of s.rest.now
 

@@ -13,10 +13,12 @@ actual_row e = e.actual.digits
 abbrev pub target_row : InvalidResidueError → List Fe32
 target_row e = e.target.digits
 
+-- the value of an element
 abbrev pub value_of_element : Fe32 → ℕ
 value_of_element x = x.value
 
 -- two have the same coefficients of both
 abbrev pub has_same_rows : InvalidResidueError → InvalidResidueError → Bool
 has_same_rows =
-    eq_of_both (on actual_row (pointwise (on value_of_element ◌==◌))) (on target_row (pointwise (on value_of_element ◌==◌)))
+    eq_of_both (on actual_row (pointwise (on value_of_element ◌==◌)))
+    (on target_row (pointwise (on value_of_element ◌==◌)))

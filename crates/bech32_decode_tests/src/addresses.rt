@@ -1,5 +1,16 @@
-use super::*;
-use crate::segwit::WitnessLengthError;
+use bech32_checksum::{Bech32, Bech32m, Checksum};
+use bech32_decode::segwit::WitnessLengthError;
+use bech32_decode::{
+    ByteIter, CharError, CheckedHrpstring, ChecksumError, PaddingError, SegwitHrpstring,
+    SegwitHrpstringError, UncheckedHrpstring, UncheckedHrpstringError,
+};
+use bech32_gf::gf32::Fe32;
+use bech32_testing::compare::{same, same_items};
+use std::alloc::{AllocError, Global};
+use std::test::Fail;
+
+// An address of BIP-173's time.
+const ADDRESS: &str = "bc1qar0srrr7xfkvy5l643lydnw9re59gtzzwf5mdq";
 
 // Addresses of BIP-173 and BIP-350: the human-readable part in the case of the text, the version,
 // the program in hexadecimal, and whether that part is one of those that BIP-173 asks for.
@@ -55,15 +66,15 @@ fn hexadecimal(alloc: Global, bytes: ByteIter<'_>) -> Result<String, AllocError>
 fn reads_known_addresses(rt: HostRuntime) -> Result<(), Fail> {
     for (text, part, version, program, has_valid_hrp) in ADDRESSES {
         let address = SegwitHrpstring::new(text)?;
-        assert_eq!(rt; address.hrp().as_str(), part);
-        assert_eq!(rt; address.witness_version(), version);
+        same(&rt, &address.hrp().as_str(), &part);
+        let found = (address.witness_version(), address.has_valid_hrp());
+        same(&rt, &found, &(version, has_valid_hrp));
         let bytes = hexadecimal(rt.alloc(), address.byte_iter())?;
-        assert_eq!(rt; bytes.as_str(), program);
-        assert_eq!(rt; address.has_valid_hrp(), has_valid_hrp);
+        same(&rt, &bytes.as_str(), &program);
     }
     let address = SegwitHrpstring::new(ADDRESS)?;
     let program = b"ar0srrr7xfkvy5l643lydnw9re59gtzz".as_slice();
-    assert_eq!(rt; address.data_part_ascii_no_witver_no_checksum(), program);
+    same_items(&rt, address.data_part_ascii_no_witver_no_checksum(), program);
     Ok(())
 }
 
@@ -87,11 +98,12 @@ fn refuses_texts_in_order(rt: HostRuntime) -> Result<(), Fail> {
         "bc1gmk9yu",
     ] {
         let refusal = SegwitHrpstring::new(text).err();
-        assert_eq!(rt; refusal, Some(wrong_residue::<Bech32m>(text)?), "at {text}");
+        let error = wrong_residue::<Bech32m>(text)?;
+        same(&rt, &(text, refusal), &(text, Some(error)));
     }
     let of_version_0 = "bc1qw508d6qejxtdg4y5r3zarvary0c5xw7kemeawh";
     let refusal = SegwitHrpstring::new(of_version_0).err();
-    assert_eq!(rt; refusal, Some(wrong_residue::<Bech32>(of_version_0)?));
+    same(&rt, &refusal, &Some(wrong_residue::<Bech32>(of_version_0)?));
     for (text, error) in [
         (
             "a1lqfn3a",
@@ -136,7 +148,8 @@ fn refuses_texts_in_order(rt: HostRuntime) -> Result<(), Fail> {
             PaddingError::NonZero.into(),
         ),
     ] {
-        assert_eq!(rt; SegwitHrpstring::new(text).err(), Some(error), "at {text}");
+        let refusal = SegwitHrpstring::new(text).err();
+        same(&rt, &(text, refusal), &(text, Some(error)));
     }
     Ok(())
 }
@@ -145,10 +158,10 @@ fn refuses_texts_in_order(rt: HostRuntime) -> Result<(), Fail> {
 fn refuses_texts_by_bech32_in_order(rt: HostRuntime) -> Result<(), Fail> {
     let text = "bc1pw508d6qejxtdg4y5r3zarvary0c5xw7kw508d6qejxtdg4y5r3zarvary0c5xw7k7grplx";
     let address = SegwitHrpstring::new_bech32(text)?;
-    assert_eq!(rt; address.witness_version(), Fe32::P);
-    assert_eq!(rt; address.byte_iter().len(), 40);
+    let found = (address.witness_version(), address.byte_iter().len());
+    same(&rt, &found, &(Fe32::P, 40));
     let refusal = SegwitHrpstring::new_bech32("BC1SW50QGDZ25J").err();
-    assert_eq!(rt; refusal, Some(wrong_residue::<Bech32>("BC1SW50QGDZ25J")?));
+    same(&rt, &refusal, &Some(wrong_residue::<Bech32>("BC1SW50QGDZ25J")?));
     for (text, error) in [
         ("a12uel5l", SegwitHrpstringError::NoData),
         ("a1", SegwitHrpstringError::NoData),
@@ -165,34 +178,32 @@ fn refuses_texts_by_bech32_in_order(rt: HostRuntime) -> Result<(), Fail> {
             WitnessLengthError::InvalidSegwitV0.into(),
         ),
     ] {
-        assert_eq!(rt;
-            SegwitHrpstring::new_bech32(text).err(),
-            Some(error),
-            "at {text}"
-        );
+        let refusal = SegwitHrpstring::new_bech32(text).err();
+        same(&rt, &(text, refusal), &(text, Some(error)));
     }
     Ok(())
 }
 
+// Why the rules of addresses refuse a text that a checksum accepts.
+fn rules_refusal<Ck: Checksum>(text: &str) -> Result<Option<SegwitHrpstringError>, Fail> {
+    Ok(CheckedHrpstring::new::<Ck>(text)?.validate_segwit().err())
+}
+
 #[test]
 fn tests_the_rules_of_addresses(rt: HostRuntime) -> Result<(), Fail> {
-    let checked = CheckedHrpstring::new::<Bech32m>("a13qqqq9qz88s")?;
     let version = SegwitHrpstringError::InvalidWitnessVersion(Fe32::_3);
-    assert_eq!(rt; checked.validate_segwit().err(), Some(version));
-    let checked = CheckedHrpstring::new::<Bech32>("a12uel5l")?;
-    assert_eq!(rt;
-        checked.validate_segwit().err(),
-        Some(SegwitHrpstringError::NoData)
-    );
+    let refusal = rules_refusal::<Bech32m>("a13qqqq9qz88s")?;
+    same(&rt, &refusal, &Some(version));
     let long =
-        "a13qqqqqqqqqqqqqqqqqqqqqqqqqqqqqqqqqqqqqqqqqqqqqqqqqqqqqqqqqqqqqqqqqqqqqqqqqqqqqqqqqqqqqqqqqqqqqqqqqqqqk8ljg5";
-    let checked = CheckedHrpstring::new::<Bech32>(long)?;
-    assert_eq!(rt;
-        checked.validate_segwit().err(),
-        Some(SegwitHrpstringError::TooLong(109))
-    );
-    let checked = CheckedHrpstring::new::<Bech32>(ADDRESS)?;
-    assert_eq!(rt; checked.validate_segwit()?.witness_version(), Fe32::Q);
+        "a13qqqqqqqqqqqqqqqqqqqqqqqqqqqqqqqqqqqqqqqqqqqqqqqqqqqqqqqqqqqqqqqqqqqqqqqqqqqqqqqqqqqqqqqqqqqqqqqqqqqqqk8ljg5";
+    for (text, error) in [
+        ("a12uel5l", SegwitHrpstringError::NoData),
+        (long, SegwitHrpstringError::TooLong(109)),
+    ] {
+        same(&rt, &rules_refusal::<Bech32>(text)?, &Some(error));
+    }
+    let address = CheckedHrpstring::new::<Bech32>(ADDRESS)?.validate_segwit()?;
+    same(&rt, &address.witness_version(), &Fe32::Q);
     Ok(())
 }
 
@@ -217,75 +228,19 @@ fn tests_padding_and_length(rt: HostRuntime) -> Result<(), Fail> {
         ("a1llllllllm6su8m", None),
     ] {
         let checked = CheckedHrpstring::new::<Bech32m>(text)?;
-        assert_eq!(rt;
-            checked.validate_segwit_padding().err(),
-            padding,
-            "at {text}"
-        );
+        let refusal = checked.validate_segwit_padding().err();
+        same(&rt, &(text, refusal), &(text, padding));
     }
-    let checked = CheckedHrpstring::new::<Bech32m>("a1qqqq726jfk")?;
-    let refusal = checked.validate_witness_program_length(Fe32::Q).err();
-    assert_eq!(rt; refusal, Some(WitnessLengthError::InvalidSegwitV0));
-    assert_eq!(rt;
-        checked.validate_witness_program_length(Fe32::P).err(),
-        None
-    );
-    let checked = CheckedHrpstring::new::<Bech32m>("a1qqqcmw5yr")?;
-    let refusal = checked.validate_witness_program_length(Fe32::P).err();
-    assert_eq!(rt; refusal, Some(WitnessLengthError::TooShort));
-    Ok(())
-}
-
-#[test]
-fn tells_why_a_text_is_no_address(rt: HostRuntime) -> Result<(), Fail> {
-    for (error, message) in [
-        (
-            UncheckedHrpstringError::Char(CharError::MixedCase).into(),
-            "parsing unchecked hrpstring failed: character error: mixed-case strings not allowed",
-        ),
-        (
-            SegwitHrpstringError::NoData,
-            "no data found after removing the checksum",
-        ),
-        (
-            SegwitHrpstringError::TooLong(91),
-            "encoded length 91 exceeds spec limit 90 chars",
-        ),
-        (
-            SegwitHrpstringError::InvalidWitnessVersion(Fe32::_3),
-            "invalid segwit witness version: 17 (bech32 character: '3')",
-        ),
-        (
-            PaddingError::TooMuch.into(),
-            "invalid padding on the witness data: the data payload has too many bits of padding",
-        ),
-        (
-            PaddingError::NonZero.into(),
-            "invalid padding on the witness data: the data payload is padded with non-zero bits",
-        ),
-        (
-            WitnessLengthError::TooShort.into(),
-            "invalid witness length: witness program is less than 2 bytes long",
-        ),
-        (
-            ChecksumError::InvalidLength.into(),
-            "invalid checksum: the checksummed string is not a valid length",
-        ),
+    let invalid = Some(WitnessLengthError::InvalidSegwitV0);
+    let too_short = Some(WitnessLengthError::TooShort);
+    for (text, version, error) in [
+        ("a1qqqq726jfk", Fe32::Q, invalid),
+        ("a1qqqq726jfk", Fe32::P, None),
+        ("a1qqqcmw5yr", Fe32::P, too_short),
     ] {
-        assert_eq!(rt;
-            shown::<SegwitHrpstringError>(rt.alloc(), &error)?.as_str(),
-            message
-        );
+        let checked = CheckedHrpstring::new::<Bech32m>(text)?;
+        let refusal = checked.validate_witness_program_length(version).err();
+        same(&rt, &(text, refusal), &(text, error));
     }
-    let too_long = CodeLengthError {
-        encoded_length: 91,
-        code_length: 1023,
-    };
-    let error = SegwitCodeLengthError::from(too_long);
-    assert_eq!(rt; error, SegwitCodeLengthError(91));
-    assert_eq!(rt;
-        shown(rt.alloc(), &error)?.as_str(),
-        "encoded length 91 exceeds maximum (code length) 90"
-    );
     Ok(())
 }

@@ -1,18 +1,25 @@
-use super::*;
-use std::alloc::{AllocError, Global};
-use std::fmt;
-use std::test::Fail;
+use bech32_decode::segwit::{
+    InvalidWitnessVersionError, MAX_STRING_LENGTH, VERSION_0, VERSION_1, WitnessLengthError,
+    is_valid_witness_program_length, is_valid_witness_version, validate_witness_program_length,
+    validate_witness_version,
+};
+use bech32_gf::gf32::Fe32;
+use bech32_testing::compare::same;
 
 #[test]
 fn knows_versions(rt: HostRuntime) {
-    for version in [VERSION_0, VERSION_1, Fe32::S] {
-        assert!(rt; is_valid_witness_version(version));
-        assert_eq!(rt; validate_witness_version(version).err(), None);
-    }
-    for version in [Fe32::_3, Fe32::L] {
-        let refusal = Some(InvalidWitnessVersionError(version));
-        assert!(rt; !is_valid_witness_version(version));
-        assert_eq!(rt; validate_witness_version(version).err(), refusal);
+    for (version, refusal) in [
+        (VERSION_0, None),
+        (VERSION_1, None),
+        (Fe32::S, None),
+        (Fe32::_3, Some(InvalidWitnessVersionError(Fe32::_3))),
+        (Fe32::L, Some(InvalidWitnessVersionError(Fe32::L))),
+    ] {
+        let found = (
+            is_valid_witness_version(version),
+            validate_witness_version(version).err(),
+        );
+        same(&rt, &found, &(refusal.is_none(), refusal));
     }
 }
 
@@ -33,44 +40,12 @@ fn knows_program_lengths(rt: HostRuntime) {
         (41, too_long, too_long),
     ] {
         for (version, refusal) in [(VERSION_0, of_version_0), (VERSION_1, of_version_1)] {
-            assert_eq!(rt;
+            let found = (
+                is_valid_witness_program_length(length, version),
                 validate_witness_program_length(length, version).err(),
-                refusal
             );
-            let is_valid = is_valid_witness_program_length(length, version);
-            assert_eq!(rt; is_valid, refusal.is_none());
+            same(&rt, &found, &(refusal.is_none(), refusal));
         }
     }
-    assert_eq!(rt; MAX_STRING_LENGTH, 90);
-}
-
-// What an error prints.
-fn shown<E: fmt::Display>(alloc: Global, error: &E) -> Result<String, AllocError> {
-    format!(in alloc; "{error}")
-}
-
-#[test]
-fn tells_what_is_wrong(rt: HostRuntime) -> Result<(), Fail> {
-    let alloc = rt.alloc();
-    assert_eq!(rt;
-        shown(alloc, &InvalidWitnessVersionError(Fe32::_3))?.as_str(),
-        "invalid segwit witness version: 17 (bech32 character: '3')"
-    );
-    for (error, message) in [
-        (
-            WitnessLengthError::TooShort,
-            "witness program is less than 2 bytes long",
-        ),
-        (
-            WitnessLengthError::TooLong,
-            "witness program is more than 40 bytes long",
-        ),
-        (
-            WitnessLengthError::InvalidSegwitV0,
-            "the segwit v0 witness is not 20 or 32 bytes long",
-        ),
-    ] {
-        assert_eq!(rt; shown(alloc, &error)?.as_str(), message);
-    }
-    Ok(())
+    same(&rt, &MAX_STRING_LENGTH, &90);
 }

@@ -1,11 +1,19 @@
-use super::*;
-use bech32_decode::{
-    CharError, ChecksumError, CodeLengthError, PaddingError, UncheckedHrpstringError,
-};
-use bech32::primitives::hrp;
 use bech32_decode::segwit::{InvalidWitnessVersionError, WitnessLengthError};
+use bech32_decode::{
+    CharError, ChecksumError, PaddingError, SegwitCodeLengthError, SegwitHrpstring,
+    SegwitHrpstringError, UncheckedHrpstringError,
+};
+use bech32_gf::gf32::Fe32;
+use bech32_hrp::{self as hrp, Hrp};
+use bech32_segwit::{
+    DecodeError, EncodeError, VERSION_0, VERSION_1, decode, decode_in, encode, encode_in,
+    encode_v0, encode_v0_in, encode_v1, encode_v1_in, encoded_length,
+};
+use bech32_testing::compare::{same, same_items};
 use linked_list_allocator::LocalHeap;
+use std::alloc::{AllocError, Allocator, Global};
 use std::fmt;
+use std::process::Abort;
 use std::test::Fail;
 
 // Programs, and addresses of version 0 and 1 (BIP-173, BIP-350).
@@ -33,6 +41,7 @@ const TOO_LONG: &str =
 #[test]
 fn encodes_known_addresses(rt: HostRuntime) -> Result<(), Fail> {
     let alloc = rt.alloc();
+    let upper_case = Hrp::parse("BC")?;
     for (version, program, address) in [
         (VERSION_0, PROGRAM.as_slice(), ADDRESS),
         (VERSION_1, LONG_PROGRAM.as_slice(), TWICE),
@@ -44,19 +53,17 @@ fn encodes_known_addresses(rt: HostRuntime) -> Result<(), Fail> {
             "bc1zw508d6qejxtdg4y5r3zarvaryvaxxpcs",
         ),
     ] {
-        let text = encode(alloc, hrp::BC, version, program)?;
-        assert_eq!(rt; text.as_str(), address);
-        assert_eq!(rt;
-            encoded_length(hrp::BC, version, program),
-            Ok(address.len())
-        );
-        let text = encode(alloc, Hrp::parse("BC")?, version, program)?;
-        assert_eq!(rt; text.as_str(), address);
+        for hrp in [hrp::BC, upper_case] {
+            let text = encode(alloc, hrp, version, program)?;
+            same(&rt, &text.as_str(), &address);
+        }
+        let length = encoded_length(hrp::BC, version, program);
+        same(&rt, &length, &Ok(address.len()));
     }
     let text = encode_v0(alloc, hrp::BC, &PROGRAM)?;
-    assert_eq!(rt; text.as_str(), ADDRESS);
+    same(&rt, &text.as_str(), &ADDRESS);
     let text = encode_v1(alloc, hrp::BC, &[0xab; 20])?;
-    assert_eq!(rt; text.as_str(), TAPROOT);
+    same(&rt, &text.as_str(), &TAPROOT);
     Ok(())
 }
 
@@ -82,9 +89,8 @@ fn decodes_known_addresses(rt: HostRuntime) -> Result<(), Fail> {
         ),
     ] {
         let (hrp, witness_version, witness_program) = decode(alloc, text)?;
-        assert_eq!(rt; hrp.as_str(), part);
-        assert_eq!(rt; witness_version, version);
-        assert_eq!(rt; witness_program.as_slice(), program, "of {text}");
+        same(&rt, &(hrp.as_str(), witness_version), &(part, version));
+        same_items(&rt, witness_program.as_slice(), program);
     }
     Ok(())
 }
@@ -108,39 +114,33 @@ fn refuses_to_encode_in_order(rt: HostRuntime) -> Result<(), Fail> {
         (long_part, VERSION_1, 40, too_long),
     ] {
         let program = vec![in alloc; 0u8; size]?;
-        assert_eq!(rt;
-            encode(alloc, hrp, version, program.as_slice()).err(),
-            Some(error),
-            "of {size} bytes"
-        );
+        let refusal = encode(alloc, hrp, version, program.as_slice()).err();
+        same(&rt, &(size, refusal), &(size, Some(error)));
     }
-    assert_eq!(rt; encode_v0(alloc, hrp::BC, &[0; 2]).err(), Some(invalid));
-    assert_eq!(rt; encode_v1(alloc, long_part, &[0; 40]).err(), Some(too_long));
+    let refusals = [
+        encode_v0(alloc, hrp::BC, &[0; 2]).err(),
+        encode_v1(alloc, long_part, &[0; 40]).err(),
+    ];
+    same_items(&rt, &refusals, &[Some(invalid), Some(too_long)]);
     let fits = encode_v1(alloc, Hrp::parse("anhrpthatis18chars")?, &[0; 40])?;
-    assert_eq!(rt; fits.len(), 90);
+    same(&rt, &fits.len(), &90);
     Ok(())
 }
 
 #[test]
 fn counts_the_version(rt: HostRuntime) -> Result<(), Fail> {
     let part = Hrp::parse("abcde")?;
-    let too_long = Err(CodeLengthError {
-        encoded_length: 1024,
-        code_length: 1023,
-    });
-    for (size, length, without) in [
-        (0usize, Ok(13), Ok(12)),
-        (48, Ok(90), Ok(89)),
-        (49, Err(SegwitCodeLengthError(92)), Ok(91)),
-        (632, Err(SegwitCodeLengthError(1025)), too_long),
+    for (size, length) in [
+        (0usize, Ok(13)),
+        (48, Ok(90)),
+        (49, Err(SegwitCodeLengthError(92))),
+        (632, Err(SegwitCodeLengthError(1025))),
     ] {
         let program = vec![in rt.alloc(); 0u8; size]?;
         let program = program.as_slice();
         for version in [VERSION_0, VERSION_1, Fe32::L] {
-            assert_eq!(rt; encoded_length(part, version, program), length);
+            same(&rt, &encoded_length(part, version, program), &length);
         }
-        assert_eq!(rt; bech32::encoded_length::<Bech32>(part, program), without);
-        assert_eq!(rt; bech32::encoded_length::<Bech32m>(part, program), without);
     }
     Ok(())
 }
@@ -187,15 +187,23 @@ fn refuses_to_decode_in_order(rt: HostRuntime) -> Result<(), Fail> {
         ),
     ] {
         let refusal = decode(alloc, text).err();
-        assert_eq!(rt; refusal, SegwitHrpstring::new(text).err().map(DecodeError));
-        assert_eq!(rt; refusal, Some(DecodeError(error)), "at {text}");
+        let read = SegwitHrpstring::new(text).err().map(DecodeError);
+        let error = Some(DecodeError(error));
+        same(&rt, &(text, refusal, read), &(text, error, error));
     }
     Ok(())
 }
 
-// What an error prints.
-fn shown<E: fmt::Display>(alloc: Global, error: &E) -> Result<String, AllocError> {
-    format!(in alloc; "{error}")
+// Fails where an error prints something else.
+fn says<E: fmt::Display>(
+    rt: &impl Abort,
+    alloc: Global,
+    error: &E,
+    message: &str,
+) -> Result<(), AllocError> {
+    let text = format!(in alloc; "{error}")?;
+    assert_eq!(rt; text.as_str(), message);
+    Ok(())
 }
 
 #[test]
@@ -220,7 +228,7 @@ fn tells_what_is_wrong(rt: HostRuntime) -> Result<(), Fail> {
         ),
         (EncodeError::Memory, "no memory"),
     ] {
-        assert_eq!(rt; shown(alloc, &error)?.as_str(), message);
+        says(&rt, alloc, &error, message)?;
     }
     for (error, message) in [
         (
@@ -232,7 +240,7 @@ fn tells_what_is_wrong(rt: HostRuntime) -> Result<(), Fail> {
             "decoding segwit address failed: no memory",
         ),
     ] {
-        assert_eq!(rt; shown(alloc, &DecodeError(error))?.as_str(), message);
+        says(&rt, alloc, &DecodeError(error), message)?;
     }
     Ok(())
 }
@@ -261,9 +269,27 @@ fn encodes_or_wants_memory(rt: HostRuntime) -> Result<(), Fail> {
         refused[2] = refused[2].saturating_add(u32::from(text.is_err()));
     }
     for count in refused {
-        assert!(rt; 1 <= count && count < 16, "{count}");
+        assert!(rt; 1 <= count && count < 16);
     }
     Ok(())
+}
+
+// Whether a text is decoded to the parts of the known address; an error is want of memory.
+fn decodes_or_wants_memory_of<A: Allocator>(
+    rt: &impl Abort,
+    decoded: Result<(Hrp, Fe32, Vec<u8, A>), DecodeError>,
+) -> bool {
+    match decoded {
+        Ok((hrp, version, program)) => {
+            same(rt, &(hrp.as_str(), version), &("bc", VERSION_0));
+            same_items(rt, program.as_slice(), PROGRAM.as_slice());
+            true
+        }
+        Err(error) => {
+            same(rt, &error, &DecodeError(SegwitHrpstringError::Memory));
+            false
+        }
+    }
 }
 
 #[test]
@@ -271,22 +297,32 @@ fn decodes_or_wants_memory(rt: HostRuntime) -> Result<(), Fail> {
     let mut refused = 0u32;
     for size in 0..16usize {
         let heap = LocalHeap::new(rt.alloc(), 16 * size)?;
-        match decode_in(&heap, ADDRESS) {
-            Ok((hrp, version, program)) => {
-                assert_eq!(rt; hrp.as_str(), "bc");
-                assert_eq!(rt; version, VERSION_0);
-                assert_eq!(rt; program.as_slice(), PROGRAM.as_slice());
-            }
-            Err(error) => {
-                assert_eq!(rt; error, DecodeError(SegwitHrpstringError::Memory));
-                refused = refused.saturating_add(1);
-            }
+        if !decodes_or_wants_memory_of(&rt, decode_in(&heap, ADDRESS)) {
+            refused = refused.saturating_add(1);
         }
-        assert_eq!(rt;
-            decode_in(&heap, "a1").err(),
-            decode(rt.alloc(), "a1").err()
-        );
+        let refusals = [decode_in(&heap, "a1").err(), decode(rt.alloc(), "a1").err()];
+        same(&rt, &refusals[0], &refusals[1]);
     }
-    assert!(rt; 1 <= refused && refused < 16, "{refused}");
+    assert!(rt; 1 <= refused && refused < 16);
+    Ok(())
+}
+
+// Whether the address of a program is decoded to it.
+fn comes_back(alloc: Global, version: Fe32, program: &[u8]) -> Result<bool, Fail> {
+    let text = encode(alloc, hrp::BC, version, program)?;
+    let (hrp, found_version, found) = decode(alloc, text.as_str())?;
+    Ok(hrp == hrp::BC && found_version == version && found.as_slice() == program)
+}
+
+#[test]
+fn decodes_programs_of_every_length(rt: HostRuntime) -> Result<(), Fail> {
+    let alloc = rt.alloc();
+    for size in [20, 32] {
+        assert!(rt; comes_back(alloc, VERSION_0, &LONG_PROGRAM[..size])?);
+    }
+    for size in 2..41usize {
+        assert!(rt; comes_back(alloc, VERSION_1, &LONG_PROGRAM[..size])?);
+        assert!(rt; comes_back(alloc, Fe32::S, &LONG_PROGRAM[..size])?);
+    }
     Ok(())
 }

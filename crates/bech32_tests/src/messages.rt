@@ -1,0 +1,108 @@
+use bech32::primitives::decode::{
+    CharError, ChecksumError, CodeLengthError, UncheckedHrpstring, UncheckedHrpstringError,
+};
+use bech32::primitives::hrp;
+use bech32::{Bech32m, DecodeError, EncodeError};
+use std::alloc::{AllocError, Global};
+use std::fmt;
+use std::process::Abort;
+use std::test::Fail;
+
+// Fails where an error prints something else.
+fn says<E: fmt::Display>(
+    rt: &impl Abort,
+    alloc: Global,
+    error: &E,
+    message: &str,
+) -> Result<(), AllocError> {
+    let text = format!(in alloc; "{error}")?;
+    assert_eq!(rt; text.as_str(), message);
+    Ok(())
+}
+
+#[test]
+fn tells_why_a_text_is_not_read(rt: HostRuntime) -> Result<(), Fail> {
+    let alloc = rt.alloc();
+    for (error, message) in [
+        (
+            CharError::MissingSeparator,
+            "missing human-readable separator, \"1\"",
+        ),
+        (
+            CharError::NothingAfterSeparator,
+            "invalid data - no characters after the separator",
+        ),
+        (CharError::InvalidChar('b'), "invalid character (code=b)"),
+        (CharError::MixedCase, "mixed-case strings not allowed"),
+    ] {
+        says(&rt, alloc, &error, message)?;
+    }
+    for (error, message) in [
+        (
+            DecodeError::Parse(UncheckedHrpstringError::Char(CharError::MixedCase)),
+            "parsing failed: character error: mixed-case strings not allowed",
+        ),
+        (
+            DecodeError::Parse(UncheckedHrpstringError::Hrp(hrp::Error::Empty)),
+            "parsing failed: invalid human-readable part: hrp is empty, must have at least 1 character",
+        ),
+        (
+            DecodeError::Checksum(ChecksumError::InvalidLength),
+            "no valid bech32 or bech32m checksum: the checksummed string is not a valid length",
+        ),
+        (DecodeError::Memory, "no memory"),
+    ] {
+        says(&rt, alloc, &error, message)?;
+    }
+    for (text, message) in [
+        (
+            "a12uel57",
+            "checksum failed: residue q did not match target r9vsu4",
+        ),
+        (
+            "a12uel5q",
+            "checksum failed: residue 7 did not match target r9vsu4",
+        ),
+        (
+            "a12uel47",
+            "checksum failed: residue qp did not match target r9vsu4",
+        ),
+        (
+            "a1qqqqqq",
+            "checksum failed: residue 75leu2 did not match target r9vsu4",
+        ),
+    ] {
+        let refusal = UncheckedHrpstring::new(text)?
+            .validate_checksum::<Bech32m>()
+            .err()
+            .ok_or("it is accepted")?;
+        says(&rt, alloc, &refusal, message)?;
+    }
+    Ok(())
+}
+
+#[test]
+fn tells_why_a_text_is_not_written(rt: HostRuntime) -> Result<(), Fail> {
+    let alloc = rt.alloc();
+    let too_long = CodeLengthError {
+        encoded_length: 1024,
+        code_length: 1023,
+    };
+    for (error, message) in [
+        (
+            EncodeError::TooLong(too_long),
+            "encode error: encoded length 1024 exceeds maximum (code length) 1023",
+        ),
+        (
+            EncodeError::Fmt(fmt::Error),
+            "encode to formatter failed: an error occurred when formatting an argument",
+        ),
+        (EncodeError::Memory, "no memory"),
+    ] {
+        says(&rt, alloc, &error, message)?;
+    }
+    let message =
+        "string exceeds maximum allowed length: encoded length 1024 exceeds maximum (code length) 1023";
+    says(&rt, alloc, &ChecksumError::CodeLength(too_long), message)?;
+    Ok(())
+}

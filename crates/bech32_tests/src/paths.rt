@@ -1,0 +1,77 @@
+//! Every item stands under the path that it has in the Rust crate.
+
+pub mod root {
+    pub use bech32::{
+        Bech32, Bech32m, ByteIterExt, Checksum, DecodeError, EncodeError, Fe32, Fe32IterExt,
+        Fe1024, Fe32768, Hrp, NoChecksum, decode, encode, encoded_length,
+    };
+}
+
+pub mod hrp {
+    pub use bech32::hrp::{BC, BCRT, Hrp, TB};
+}
+
+pub mod segwit {
+    pub use bech32::segwit::{
+        DecodeError, EncodeError, VERSION_0, VERSION_1, decode, encode, encode_v0, encode_v1,
+        encoded_length,
+    };
+}
+
+pub mod primitives {
+    pub use bech32::primitives::{
+        Bech32, Bech32Field, Bech32m, ExtensionField, Field, MultiplicativeOrder, NoChecksum,
+        Powers, PowersRange,
+    };
+
+    pub mod checksum {
+        pub use bech32::primitives::checksum::{
+            Checksum, Engine, HrpFe32Iter, PackedFe32, PackedNull,
+        };
+    }
+
+    pub mod decode {
+        pub use bech32::primitives::decode::{
+            AsciiToFe32Iter, ByteIter, CharError, CheckedHrpstring, CheckedHrpstringError,
+            ChecksumError, CodeLengthError, InvalidResidueError, PaddingError,
+            SegwitCodeLengthError, SegwitHrpstring, SegwitHrpstringError, UncheckedHrpstring,
+            UncheckedHrpstringError,
+        };
+    }
+
+    pub mod device {
+        pub use bech32::primitives::device::{ByteSink, ByteSource, Watched};
+    }
+
+    pub mod encode {
+        pub use bech32::primitives::encode::{
+            ByteIter, CharIter, Encoder, Fe32Iter, WitnessVersionIter,
+        };
+    }
+
+    pub mod gf32 {
+        pub use bech32::primitives::gf32::{AlphaIter, Fe32, FromCharError, TryFromError};
+    }
+
+    pub mod gf32_ext {
+        pub use bech32::primitives::gf32_ext::{Fe32Ext, Fe1024, Fe32768};
+    }
+
+    pub mod hrp {
+        pub use bech32::primitives::hrp::{BC, BCRT, Error, Hrp, TB};
+    }
+
+    pub mod iter {
+        pub use bech32::primitives::iter::{
+            ByteIterExt, BytesToFes, Checksummed, Fe32IterExt, FesToBytes,
+        };
+    }
+
+    pub mod segwit {
+        pub use bech32::primitives::segwit::{
+            InvalidWitnessVersionError, MAX_STRING_LENGTH, VERSION_0, VERSION_1,
+            WitnessLengthError, is_valid_witness_program_length, is_valid_witness_version,
+            validate_witness_program_length, validate_witness_version,
+        };
+    }
+}
