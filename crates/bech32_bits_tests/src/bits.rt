@@ -7,10 +7,10 @@ ghost use Rattle.bech32_bits.specs.Bits.{to_fes, to_bytes, to_bytes_zeropad};
 
 mod bits_rows;
 
+use crate::compare::{same, same_items};
 use bech32_bits::plain::{plain_to_bytes, plain_to_fes};
 use bech32_bits::{ByteIterExt, BytesToFes, FesToBytes};
 use bech32_gf::gf32::Fe32;
-use bech32_testing::compare::{same, same_items};
 use bech32_testing::iterators::{Many, TwoItems, TwoOfFive};
 use std::alloc::{AllocError, Global};
 use std::iter::{self, Copied};

@@ -3,3 +3,5 @@
 
 #[cfg(test)]
 mod bits;
+#[cfg(test)]
+mod compare;

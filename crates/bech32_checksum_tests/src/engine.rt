@@ -7,12 +7,12 @@ ghost use Rattle.bech32_checksum.specs.Engine.{Holds};
 
 use crate::checksums::{Degree8, Degree13};
 use crate::codex32_rows;
+use crate::compare::{same, same_items};
 use bech32_checksum::{Bech32, Bech32m, Checksum, Engine, NoChecksum, PackedFe32, PackedNull};
 use bech32_encode::{Checksummed, Fe32IterExt};
 use bech32_gf::gf32::Fe32;
 use bech32_hrp::Hrp;
 use bech32_poly::polynomial::remainder;
-use bech32_testing::compare::{same, same_items};
 use std::alloc::{AllocError, Global};
 use std::process::Abort;
 use std::test::Fail;

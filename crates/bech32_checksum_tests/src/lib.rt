@@ -6,6 +6,8 @@ mod checksums;
 #[cfg(test)]
 mod codex32_rows;
 #[cfg(test)]
+mod compare;
+#[cfg(test)]
 mod engine;
 #[cfg(test)]
 mod packed;

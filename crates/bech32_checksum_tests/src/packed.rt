@@ -2,8 +2,8 @@
 
 ghost use Rattle.std.specs.Prelude.{length, ◌≤◌};
 
+use crate::compare::{same, same_items};
 use bech32_checksum::{PackedFe32, PackedNull};
-use bech32_testing::compare::{same, same_items};
 use std::process::Abort;
 use std::test::Fail;
 

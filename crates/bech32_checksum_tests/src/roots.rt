@@ -9,10 +9,10 @@ ghost use Rattle.bech32_checksum.specs.Roots.{HasLawfulRoots};
 ghost use Rattle.bech32_checksum_tests.specs.TestWords.{words_1, words_1_keep, code_1, code_6};
 
 use crate::checksums::{Degree8, Degree13};
+use crate::compare::{same, same_items};
 use bech32_checksum::{Bech32, Bech32m, Checksum, NoChecksum};
 use bech32_gf::gf32::Fe32;
 use bech32_gf_ext::{Fe32Ext, Fe1024};
-use bech32_testing::compare::{same, same_items};
 
 const WORDS: [u32; 5] = [0x3b6a57b2, 0x26508e6d, 0x1ea119fa, 0x3d4233dd, 0x2a1462b3];
 

@@ -1,3 +1,4 @@
+use crate::compare::{same, same_items};
 use bech32_checksum::{Bech32, Bech32m, Checksum};
 use bech32_decode::segwit::WitnessLengthError;
 use bech32_decode::{
@@ -5,7 +6,6 @@ use bech32_decode::{
     SegwitHrpstringError, UncheckedHrpstring, UncheckedHrpstringError,
 };
 use bech32_gf::gf32::Fe32;
-use bech32_testing::compare::{same, same_items};
 use std::alloc::{AllocError, Global};
 use std::test::Fail;
 
@@ -74,7 +74,11 @@ fn reads_known_addresses(rt: HostRuntime) -> Result<(), Fail> {
     }
     let address = SegwitHrpstring::new(ADDRESS)?;
     let program = b"ar0srrr7xfkvy5l643lydnw9re59gtzz".as_slice();
-    same_items(&rt, address.data_part_ascii_no_witver_no_checksum(), program);
+    same_items(
+        &rt,
+        address.data_part_ascii_no_witver_no_checksum(),
+        program,
+    );
     Ok(())
 }
 
@@ -161,7 +165,11 @@ fn refuses_texts_by_bech32_in_order(rt: HostRuntime) -> Result<(), Fail> {
     let found = (address.witness_version(), address.byte_iter().len());
     same(&rt, &found, &(Fe32::P, 40));
     let refusal = SegwitHrpstring::new_bech32("BC1SW50QGDZ25J").err();
-    same(&rt, &refusal, &Some(wrong_residue::<Bech32>("BC1SW50QGDZ25J")?));
+    same(
+        &rt,
+        &refusal,
+        &Some(wrong_residue::<Bech32>("BC1SW50QGDZ25J")?),
+    );
     for (text, error) in [
         ("a12uel5l", SegwitHrpstringError::NoData),
         ("a1", SegwitHrpstringError::NoData),

@@ -4,6 +4,8 @@
 #[cfg(test)]
 mod addresses;
 #[cfg(test)]
+mod compare;
+#[cfg(test)]
 mod messages;
 #[cfg(test)]
 mod readers;

@@ -1,3 +1,4 @@
+use crate::compare::same;
 use bech32_checksum::Bech32;
 use bech32_decode::segwit::{InvalidWitnessVersionError, WitnessLengthError};
 use bech32_decode::{
@@ -5,7 +6,6 @@ use bech32_decode::{
     SegwitCodeLengthError, SegwitHrpstringError, UncheckedHrpstringError,
 };
 use bech32_gf::gf32::Fe32;
-use bech32_testing::compare::same;
 use std::alloc::{AllocError, Global};
 use std::fmt::Display;
 use std::process::Abort;

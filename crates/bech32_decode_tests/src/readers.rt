@@ -1,3 +1,4 @@
+use crate::compare::{same, same_items};
 use bech32_checksum::{Bech32, Bech32m, Checksum, NoChecksum};
 use bech32_decode::{
     CharError, CheckedHrpstring, CheckedHrpstringError, ChecksumError, CodeLengthError,
@@ -5,7 +6,6 @@ use bech32_decode::{
 };
 use bech32_gf::gf32::Fe32;
 use bech32_hrp as hrp;
-use bech32_testing::compare::{same, same_items};
 use std::test::Fail;
 
 // An address of BIP-173's time, and its program.
@@ -113,7 +113,11 @@ fn tests_the_length_of_the_whole_text(rt: HostRuntime) -> Result<(), Fail> {
     let refusal = unchecked.validate_checksum::<Bech32>().err();
     same(&rt, &refusal, &Some(too_long));
     let refusal = CheckedHrpstring::new::<Bech32>(text.as_str()).err();
-    same(&rt, &refusal, &Some(CheckedHrpstringError::Checksum(too_long)));
+    same(
+        &rt,
+        &refusal,
+        &Some(CheckedHrpstringError::Checksum(too_long)),
+    );
     Ok(())
 }
 

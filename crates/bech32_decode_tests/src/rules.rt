@@ -1,10 +1,10 @@
+use crate::compare::same;
 use bech32_decode::segwit::{
     InvalidWitnessVersionError, MAX_STRING_LENGTH, VERSION_0, VERSION_1, WitnessLengthError,
     is_valid_witness_program_length, is_valid_witness_version, validate_witness_program_length,
     validate_witness_version,
 };
 use bech32_gf::gf32::Fe32;
-use bech32_testing::compare::same;
 
 #[test]
 fn knows_versions(rt: HostRuntime) {

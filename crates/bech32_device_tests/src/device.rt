@@ -1,8 +1,8 @@
 ghost use Rattle.std.specs.Prelude.{ℕ, ◌≤◌, length, take, OnOk, OnErr};
 ghost use Rattle.std.specs.Io.KnownBytes.{Appends};
 
+use crate::compare::{same, same_items};
 use bech32_device::{ByteSink, ByteSource, Watched, write_all};
-use bech32_testing::compare::{same, same_items};
 use std::io;
 use std::test::Fail;
 

@@ -5,12 +5,12 @@ mod checksum_rows;
 ghost use Rattle.std.specs.Prelude.{◌≤◌};
 ghost use Rattle.std.specs.Option.{ForSome};
 
+use crate::compare::{same, same_items};
 use bech32_bits::ByteIterExt;
 use bech32_checksum::{Bech32, Bech32m, Checksum, HrpFe32Iter, NoChecksum};
 use bech32_encode::{Checksummed, Encoder, Fe32IterExt, WitnessVersionIter, put_text};
 use bech32_gf::gf32::Fe32;
 use bech32_hrp::Hrp;
-use bech32_testing::compare::{same, same_items};
 use bech32_testing::iterators::{Many, TwoItems, TwoOfFive};
 use std::alloc::{AllocError, Global};
 use std::iter;
@@ -73,12 +73,20 @@ fn size_hints(rt: HostRuntime) -> Result<(), Fail> {
     let mut fes = one.iter().copied().with_checksum::<Bech32>(&hrp).fes();
     for left in [12, 11, 10, 9, 8, 7, 6, 5, 4, 3, 2, 1, 0, 0] {
         let bounds = fes.size_hint();
-        same(&rt, &(bounds, fes.next().is_some()), &(exactly(left), left > 0));
+        same(
+            &rt,
+            &(bounds, fes.next().is_some()),
+            &(exactly(left), left > 0),
+        );
     }
 
     let two = [Fe32::L, Fe32::Q];
     let mut fes = WitnessVersionIter::new(None, two.iter().copied());
-    same(&rt, &(fes.size_hint(), fes.next()), &(exactly(2), Some(Fe32::L)));
+    same(
+        &rt,
+        &(fes.size_hint(), fes.next()),
+        &(exactly(2), Some(Fe32::L)),
+    );
     let mut fes = WitnessVersionIter::new(Some(Fe32::P), two.iter().copied());
     let rows = [
         (3, Some(Fe32::P)),
@@ -140,7 +148,11 @@ fn text_of_a_witness_program(rt: HostRuntime) -> Result<(), Fail> {
     let mut chars = encoder.chars();
     let mut left = 42usize;
     for c in text.chars() {
-        same(&rt, &(chars.size_hint(), chars.next()), &(exactly(left), Some(c)));
+        same(
+            &rt,
+            &(chars.size_hint(), chars.next()),
+            &(exactly(left), Some(c)),
+        );
         left = left.saturating_sub(1);
     }
     for _ in 0..3 {
@@ -275,9 +287,20 @@ fn bounds_of_an_ended_iterator(rt: HostRuntime) -> Result<(), Fail> {
     let mut chars = TwoOfFive::new(Fe32::_4)
         .with_checksum::<Bech32>(&hrp)
         .chars();
-    let rows = [(13, 'a'), (12, '1'), (11, '4'), (10, '4'), (9, 'm'), (5, 'h')];
+    let rows = [
+        (13, 'a'),
+        (12, '1'),
+        (11, '4'),
+        (10, '4'),
+        (9, 'm'),
+        (5, 'h'),
+    ];
     for (left, c) in rows {
-        same(&rt, &(chars.size_hint(), chars.next()), &(exactly(left), Some(c)));
+        same(
+            &rt,
+            &(chars.size_hint(), chars.next()),
+            &(exactly(left), Some(c)),
+        );
     }
     Ok(())
 }
@@ -385,10 +408,18 @@ fn checksum_of_the_elements_of_one_letter(rt: HostRuntime) -> Result<(), Fail> {
     let mut fes = Checksummed::<_, Bech32>::new(hrp.iter().copied());
     let mut left = 9usize;
     for fe in elements_of(rt.alloc(), b"rqp2uel5l")? {
-        same(&rt, &(fes.size_hint(), fes.next()), &(exactly(left), Some(fe)));
+        same(
+            &rt,
+            &(fes.size_hint(), fes.next()),
+            &(exactly(left), Some(fe)),
+        );
         left = left.saturating_sub(1);
         let mut other = fes.clone()?;
-        same(&rt, &(other.size_hint(), other.next().is_some()), &(exactly(left), left > 0));
+        same(
+            &rt,
+            &(other.size_hint(), other.next().is_some()),
+            &(exactly(left), left > 0),
+        );
     }
     for _ in 0..3 {
         same(&rt, &(fes.size_hint(), fes.next()), &(exactly(0), None));

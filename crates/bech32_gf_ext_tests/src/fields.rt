@@ -3,10 +3,10 @@
 ghost use Rattle.std.specs.Prelude.{◌≡◌, ◌+◌, Some, fold};
 ghost use Rattle.bech32_gf.specs.Powers.{powers_of};
 
+use crate::compare::{same, same_items};
 use bech32_gf::field::{ExtensionField, Field, MultiplicativeOrder};
 use bech32_gf::gf32::Fe32;
 use bech32_gf_ext::{Fe1024, Fe32768};
-use bech32_testing::compare::{same, same_items};
 use bech32_testing::seven::Seven;
 use std::process::Abort;
 

@@ -7,11 +7,11 @@ ghost use Rattle.bech32_gf_ext.specs.Fe32768 as triples;
 mod fe1024_table;
 mod fe32768_table;
 
+use crate::compare::{same, same_items};
 use bech32_gf::field::{Bech32Field, ExtensionField, Field, MultiplicativeOrder};
 use bech32_gf::gf32::Fe32;
 use bech32_gf_ext::{Fe32Ext, Fe1024, Fe32768};
 use bech32_testing::code::Code;
-use bech32_testing::compare::{same, same_items};
 use std::test::Fail;
 
 // The element whose characters these are, the constant coefficient first.

@@ -1,5 +1,5 @@
+use crate::compare::same;
 use bech32_gf::gf32::{Fe32, TryFromError};
-use bech32_testing::compare::same;
 use std::test::Fail;
 
 // What came of an integer: an element, or the byte from 32 on that is none, or nothing that is told

@@ -1,7 +1,7 @@
+use crate::compare::{same, same_items};
 use bech32_gf::field::{Bech32Field, ExtensionField, Field, MultiplicativeOrder};
 use bech32_gf::gf32::Fe32;
 use bech32_testing::code::Code;
-use bech32_testing::compare::{same, same_items};
 use bech32_testing::seven::Seven;
 use std::test::Fail;
 

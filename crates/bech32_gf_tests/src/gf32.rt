@@ -1,5 +1,5 @@
+use crate::compare::{same, same_items};
 use bech32_gf::gf32::{Fe32, FromCharError, plain};
-use bech32_testing::compare::{same, same_items};
 use std::test::Fail;
 
 // The characters of the elements, in order of their values.

@@ -1,8 +1,8 @@
 ghost use Rattle.std.specs.Prelude.{◌≢◌};
 ghost use Rattle.bech32_gf.specs.Fe32.{zero};
 
+use crate::compare::{same, same_items};
 use bech32_gf::gf32::Fe32;
-use bech32_testing::compare::{same, same_items};
 use std::test::Fail;
 
 // The operands of the tests, by their characters.

@@ -1,5 +1,5 @@
+use crate::compare::{same, same_items};
 use bech32_hrp::{BC, BCRT, Error, Hrp, TB};
-use bech32_testing::compare::{same, same_items};
 use std::alloc::{AllocError, Global};
 use std::cmp::Ordering;
 use std::hash::{DefaultHasher, Hash, Hasher};

@@ -58,6 +58,3 @@ pub fn encoded_text(
     all.extend_from_slice(&appended)?;
     spell(alloc, hrp.as_bytes(), &all)
 }
-
-#[cfg(test)]
-mod tests;

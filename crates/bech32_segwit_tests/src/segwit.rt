@@ -1,3 +1,4 @@
+use crate::compare::{same, same_items};
 use bech32_decode::segwit::{InvalidWitnessVersionError, WitnessLengthError};
 use bech32_decode::{
     CharError, ChecksumError, PaddingError, SegwitCodeLengthError, SegwitHrpstring,
@@ -9,7 +10,6 @@ use bech32_segwit::{
     DecodeError, EncodeError, VERSION_0, VERSION_1, decode, decode_in, encode, encode_in,
     encode_v0, encode_v0_in, encode_v1, encode_v1_in, encoded_length,
 };
-use bech32_testing::compare::{same, same_items};
 use linked_list_allocator::LocalHeap;
 use std::alloc::{AllocError, Allocator, Global};
 use std::fmt;

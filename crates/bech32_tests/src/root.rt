@@ -1,3 +1,4 @@
+use crate::compare::{same, same_items};
 use bech32::primitives::decode::{
     CharError, CheckedHrpstring, ChecksumError, CodeLengthError, InvalidResidueError,
     UncheckedHrpstring, UncheckedHrpstringError,
@@ -7,7 +8,6 @@ use bech32::{
     Bech32, Bech32m, Checksum, DecodeError, EncodeError, Fe32, Hrp, NoChecksum, decode, decode_in,
     encode, encode_in, encoded_length,
 };
-use bech32_testing::compare::{same, same_items};
 use linked_list_allocator::LocalHeap;
 use std::alloc::Global;
 use std::test::Fail;
@@ -42,12 +42,7 @@ fn encodes_known_texts(rt: HostRuntime) -> Result<(), Fail> {
             "abc14w46h2at4w46h2at4w46h2at4w46h2atsghld7",
             "abc14w46h2at4w46h2at4w46h2at4w46h2at958ngu",
         ),
-        (
-            "test",
-            PROGRAM.as_slice(),
-            TEXT_BY_BECH32,
-            TEXT_BY_BECH32M,
-        ),
+        ("test", PROGRAM.as_slice(), TEXT_BY_BECH32, TEXT_BY_BECH32M),
         ("a", [].as_slice(), "a12uel5l", "a1lqfn3a"),
         ("A", [].as_slice(), "a12uel5l", "a1lqfn3a"),
     ] {
@@ -113,7 +108,11 @@ fn refuses_at_the_first_fault(rt: HostRuntime) -> Result<(), Fail> {
         ("aB1qqqqqq", CharError::MixedCase),
     ] {
         let refusal = DecodeError::Parse(UncheckedHrpstringError::Char(error));
-        same(&rt, &(text, decode(alloc, text).err()), &(text, Some(refusal)));
+        same(
+            &rt,
+            &(text, decode(alloc, text).err()),
+            &(text, Some(refusal)),
+        );
     }
     let long_part = format!(in alloc; "{}1qqqqqq", "a".repeat(alloc, 84)?)?;
     for (text, error) in [
@@ -123,7 +122,11 @@ fn refuses_at_the_first_fault(rt: HostRuntime) -> Result<(), Fail> {
         ("a 1qqqqqq", hrp::Error::InvalidAsciiByte(0x20)),
     ] {
         let refusal = DecodeError::Parse(UncheckedHrpstringError::Hrp(error));
-        same(&rt, &(text, decode(alloc, text).err()), &(text, Some(refusal)));
+        same(
+            &rt,
+            &(text, decode(alloc, text).err()),
+            &(text, Some(refusal)),
+        );
     }
     let long_text = format!(in alloc; "a1{}", "q".repeat(alloc, 1022)?)?;
     let too_long = ChecksumError::CodeLength(CodeLengthError {
@@ -135,7 +138,11 @@ fn refuses_at_the_first_fault(rt: HostRuntime) -> Result<(), Fail> {
         ("a1", ChecksumError::InvalidLength),
     ] {
         let refusal = DecodeError::Checksum(error);
-        same(&rt, &(text, decode(alloc, text).err()), &(text, Some(refusal)));
+        same(
+            &rt,
+            &(text, decode(alloc, text).err()),
+            &(text, Some(refusal)),
+        );
     }
     Ok(())
 }

@@ -1,6 +1,8 @@
-use super::*;
-use bech32::{Bech32, Bech32m, decode, encode};
+use crate::compare::same_items;
+use bech32::{Bech32, Bech32m, Hrp, decode, encode};
 use bech32_bits::plain::plain_to_fes;
+use bech32_plain::{PlainChecksum, accepts, encoded_text};
+use std::alloc::{AllocError, Global};
 use std::test::Fail;
 
 // Texts in and out of the grammar, with right and wrong checksums.
@@ -96,15 +98,11 @@ fn encodes_by_the_definition(rt: HostRuntime) -> Result<(), Fail> {
         let hrp = Hrp::parse(part)?;
         let elements = plain_to_fes(alloc, data)?;
         let text = encoded_text(alloc, PlainChecksum::Bech32, &hrp, &elements)?;
-        assert_eq!(rt;
-            encode::<Bech32>(alloc, hrp, data)?.as_bytes(),
-            text.as_slice()
-        );
+        let fast = encode::<Bech32>(alloc, hrp, data)?;
+        same_items(&rt, fast.as_bytes(), text.as_slice());
         let text = encoded_text(alloc, PlainChecksum::Bech32m, &hrp, &elements)?;
-        assert_eq!(rt;
-            encode::<Bech32m>(alloc, hrp, data)?.as_bytes(),
-            text.as_slice()
-        );
+        let fast = encode::<Bech32m>(alloc, hrp, data)?;
+        same_items(&rt, fast.as_bytes(), text.as_slice());
     }
     Ok(())
 }

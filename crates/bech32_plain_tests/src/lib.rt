@@ -1,0 +1,7 @@
+//! Tests of `bech32_plain`.
+#![tactic(auto)]
+
+#[cfg(test)]
+mod compare;
+#[cfg(test)]
+mod plain;
