@@ -40,6 +40,4 @@ module _ (source source' sink sink' : Option (List ℕ)) where
     pub written : List ℕ
     pub consumed : Consumes source source' read
     pub appended : Appends sink sink' written
-    pub beginning :
-        IsBeginning (ended_lines read) written
-        ⊎ (IsAtEnd source' × IsBeginning (lines_of read) written)
+    pub beginning : IsBeginning (ended_lines read) written ⊎ (IsAtEnd source' × IsBeginning (lines_of read) written)
