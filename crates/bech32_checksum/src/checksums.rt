@@ -16,7 +16,7 @@ use bech32_gf::gf32::Fe32;
 use bech32_gf_ext::{Fe32Ext, Fe1024};
 
 /// No checksum: degree 0, and a text of any length.
-#[derive(Copy, Clone, Debug, PartialEq, Eq, PartialOrd, Ord, Hash)]
+#[derive(Copy, Clone)]
 pub enum NoChecksum {}
 
 impl Checksum for NoChecksum {
@@ -72,7 +72,7 @@ const BASE: Fe1024 = Fe32Ext {
 };
 
 /// The checksum of BIP-173: degree 6, target 1.
-#[derive(Copy, Clone, Debug, PartialEq, Eq, PartialOrd, Ord, Hash)]
+#[derive(Copy, Clone)]
 pub enum Bech32 {}
 
 impl Checksum for Bech32 {
@@ -125,7 +125,7 @@ impl Checksum for Bech32 {
 }
 
 /// The checksum of BIP-350: that of BIP-173 with another target.
-#[derive(Copy, Clone, Debug, PartialEq, Eq, PartialOrd, Ord, Hash)]
+#[derive(Copy, Clone)]
 pub enum Bech32m {}
 
 impl Checksum for Bech32m {
