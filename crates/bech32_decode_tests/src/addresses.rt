@@ -203,7 +203,7 @@ fn tests_the_rules_of_addresses(rt: HostRuntime) -> Result<(), Fail> {
     let refusal = rules_refusal::<Bech32m>("a13qqqq9qz88s")?;
     same(&rt, &refusal, &Some(version));
     let long =
-        "a13qqqqqqqqqqqqqqqqqqqqqqqqqqqqqqqqqqqqqqqqqqqqqqqqqqqqqqqqqqqqqqqqqqqqqqqqqqqqqqqqqqqqqqqqqqqqqqqqqqqqqk8ljg5";
+        "a13qqqqqqqqqqqqqqqqqqqqqqqqqqqqqqqqqqqqqqqqqqqqqqqqqqqqqqqqqqqqqqqqqqqqqqqqqqqqqqqqqqqqqqqqqqqqqqqqqqqqk8ljg5";
     for (text, error) in [
         ("a12uel5l", SegwitHrpstringError::NoData),
         (long, SegwitHrpstringError::TooLong(109)),
