@@ -1,3 +1,5 @@
+ghost use Rattle.std.specs.Prelude.{◌<◌};
+
 use super::run;
 use crate::error::RunError;
 use std::fmt::Debug;
