@@ -1,5 +1,5 @@
--- The numbers of refusals: those of `bech32_numbers`, with 1 to 5 for lines and words that are not read, and 91 for want
--- of memory.
+-- The numbers of refusals: those of `bech32_numbers`, with 1 to 5 for lines and words that are not read, and 91 for
+-- want of memory.
 use Rattle.std.specs.Prelude.{ℕ}
 use Rattle.bech32_numbers.specs.Numbers.{number_of_hrp_error, number_of_decode_error, number_of_encode_error}
 use Rattle.bech32_numbers.specs.Numbers.{number_of_segwit_decode_error, number_of_segwit_encode_error}

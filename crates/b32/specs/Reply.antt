@@ -18,7 +18,8 @@ use Rattle.bech32_decode.specs.declared.error.SegwitHrpstringError.TheVariants.{
 use Rattle.bech32_segwit.specs.declared.error.DecodeError.{DecodeError as SegwitDecodeError}
 use Rattle.bech32_segwit.specs.declared.error.EncodeError.{EncodeError as SegwitEncodeError}
 use Rattle.b32.specs.Hex.{AreBytes, bytes_of, hex_of}
-use Rattle.bech32_numbers.specs.Numbers.{number_of_hrp_error, number_of_decode_error, number_of_encode_error, number_of_segwit_decode_error, number_of_segwit_encode_error}
+use Rattle.bech32_numbers.specs.Numbers.{number_of_hrp_error, number_of_decode_error, number_of_encode_error}
+use Rattle.bech32_numbers.specs.Numbers.{number_of_segwit_decode_error, number_of_segwit_encode_error}
 use Rattle.b32.specs.Request.{Request, Encode, Decode, SegwitEncode, SegwitDecode, code_of_name, request_of}
 
 -- a refusal with this number
@@ -96,7 +97,8 @@ IsVersionedAnswer hrp version hex said =
 -- and with any word: a bad number is refused first
 abbrev pub IsSegwitEncodeAnswer : List ℕ → List ℕ → List ℕ → List ℕ → Type 0
 IsSegwitEncodeAnswer hrp word hex said =
-    (IsNoVersion word × (said ≡ err 4)) ⊎ ((version : Fe32) × IsVersionWord word version × IsVersionedAnswer hrp version hex said)
+    (IsNoVersion word × (said ≡ err 4))
+    ⊎ ((version : Fe32) × IsVersionWord word version × IsVersionedAnswer hrp version hex said)
 
 -- the human-readable part of an address is said, in lower case, its version and its program
 pub record SaysProgram (text said : List ℕ) : Type 0 where

@@ -5,10 +5,13 @@ use Rattle.bech32_checksum.specs.Code.{Code, bech32, bech32m}
 use Rattle.b32.specs.declared.command.ChecksumName.{ChecksumName}
 use Rattle.b32.specs.declared.command.ChecksumName.TheVariants.{Bech32, Bech32m}
 use Rattle.b32.specs.declared.command.Command.{Command}
-use Rattle.b32.specs.declared.command.Command.TheVariants.{Encode as EncodeCommand, Decode as DecodeCommand, SegwitEncode as SegwitEncodeCommand, SegwitDecode as SegwitDecodeCommand}
+use Rattle.b32.specs.declared.command.Command.TheVariants.{Encode as EncodeCommand, Decode as DecodeCommand}
+use Rattle.b32.specs.declared.command.Command.TheVariants.{SegwitEncode as SegwitEncodeCommand}
+use Rattle.b32.specs.declared.command.Command.TheVariants.{SegwitDecode as SegwitDecodeCommand}
 use Rattle.b32.specs.Words.{words, has_empty_word}
 
--- the text of bytes, or the bytes of a text; the segwit address of a program, or the program of an address; each argument as its word
+-- the text of bytes, or the bytes of a text; the segwit address of a program, or the program of an address; each
+-- argument as its word
 pub data Request : Type 0 where
   Encode : (checksum : ChecksumName) (hrp hex : List ℕ) → Request
   Decode : (text : List ℕ) → Request
@@ -17,7 +20,9 @@ pub data Request : Type 0 where
 
 -- the checksum of a word
 abbrev pub checksum_of : List ℕ → Option ChecksumName
-checksum_of word = if bytes_eq word (codes "bech32") then Some Bech32 else (if bytes_eq word (codes "bech32m") then Some Bech32m else None)
+checksum_of word =
+    if bytes_eq word (codes "bech32") then Some Bech32
+    else (if bytes_eq word (codes "bech32m") then Some Bech32m else None)
 
 -- what a checksum's name stands for
 abbrev pub code_of_name : ChecksumName → Code
