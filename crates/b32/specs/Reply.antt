@@ -14,7 +14,7 @@ use Rattle.bech32_decode.specs.Segwit.{IsLowerAddress, IsAddress, IsAddressText,
 use Rattle.bech32_segwit.specs.SegwitEncoding.{IsSegwitEncodeRefusal}
 use Rattle.bech32.specs.declared.error.DecodeError.{DecodeError}
 use Rattle.bech32.specs.declared.error.EncodeError.{EncodeError}
-use Rattle.bech32_decode.specs.declared.error.SegwitHrpstringError.TheVariants.{Memory}
+use Rattle.bech32_errors.specs.declared.error.SegwitHrpstringError.TheVariants.{Memory}
 use Rattle.bech32_segwit.specs.declared.error.DecodeError.{DecodeError as SegwitDecodeError}
 use Rattle.bech32_segwit.specs.declared.error.EncodeError.{EncodeError as SegwitEncodeError}
 use Rattle.b32.specs.Hex.{AreBytes, bytes_of, hex_of}

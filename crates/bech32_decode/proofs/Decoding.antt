@@ -15,15 +15,16 @@ use Rattle.bech32_decode.specs.Text.{IsText, text_refusal}
 use Rattle.bech32_decode.specs.Acceptance.{IsAccepted, Accepts, IsDecoded}
 use Rattle.bech32_decode.specs.BeforeChecksum.{IsBeforeChecksum}
 use Rattle.bech32_decode.specs.Checked.{IsWithoutChecksum, IsAcceptedAs, IsCheckedRefusal}
-use Rattle.bech32_decode.specs.Refusals.{HasValidChecksum, IsChecksumRefusal, IsResidueError, IsRefusedByBoth}
+use Rattle.bech32_decode.specs.Refusals.{HasValidChecksum, IsChecksumRefusal, IsRefusedByBoth}
+use Rattle.bech32_errors.specs.ResidueRows.{IsResidueError, actual_row}
 use Rattle.bech32_decode.specs.declared.checked.CheckedHrpstring.{CheckedHrpstring}
 use Rattle.bech32_decode.specs.declared.unchecked.UncheckedHrpstring.{UncheckedHrpstring}
-use Rattle.bech32_decode.specs.declared.error.CheckedHrpstringError.{CheckedHrpstringError}
-use Rattle.bech32_decode.specs.declared.error.CheckedHrpstringError.TheVariants.{Parse as ParseFailed, Checksum as ChecksumFailed}
-use Rattle.bech32_decode.specs.declared.error.ChecksumError.{ChecksumError}
-use Rattle.bech32_decode.specs.declared.error.ChecksumError.TheVariants.{CodeLength, InvalidLength, InvalidResidue}
-use Rattle.bech32_decode.specs.declared.error.InvalidResidueError.{InvalidResidueError}
-use Rattle.bech32_decode.proofs.Coefficients.{same_row}
+use Rattle.bech32_errors.specs.declared.error.CheckedHrpstringError.{CheckedHrpstringError}
+use Rattle.bech32_errors.specs.declared.error.CheckedHrpstringError.TheVariants.{Parse as ParseFailed, Checksum as ChecksumFailed}
+use Rattle.bech32_errors.specs.declared.error.ChecksumError.{ChecksumError}
+use Rattle.bech32_errors.specs.declared.error.ChecksumError.TheVariants.{CodeLength, InvalidLength, InvalidResidue}
+use Rattle.bech32_errors.specs.declared.error.InvalidResidueError.{InvalidResidueError}
+use Rattle.bech32_errors.proofs.Coefficients.{same_row}
 use Rattle.bech32_decode.proofs.Grammar.{only-from_IsText, text_refusal-none}
 
 pub accepted : (code : Code) (text hrp data_part : List ℕ) → IsText text hrp data_part → HasValidChecksum code (length text) hrp data_part → IsAccepted code text hrp data_part
@@ -49,10 +50,10 @@ not_valid code n hrp data_part (InvalidResidue e) r v = r.2.not_target (one_rema
 
 -- the polynomials of Bech32 and Bech32m differ in the target alone
 pub matches-from_valid : (p : List Fe32) (e : InvalidResidueError) → IsResidueError bech32m p e → IsRemainder ops bech32.generator p bech32.target
-    → IsSamePolynomial ops e.actual.digits bech32.target
+    → IsSamePolynomial ops (actual_row e) bech32.target
 matches-from_valid p e r v n = r.actual n ∙ ap (λ (xs : List Fe32). coefficient ops xs n) (one_remainder bech32m.generator p _ _ r.is_remainder v)
 
-pub valid-from_matches : (p : List Fe32) (e : InvalidResidueError) → IsResidueError bech32m p e → IsSamePolynomial ops e.actual.digits bech32.target
+pub valid-from_matches : (p : List Fe32) (e : InvalidResidueError) → IsResidueError bech32m p e → IsSamePolynomial ops (actual_row e) bech32.target
     → IsRemainder ops bech32.generator p bech32.target
 valid-from_matches p e r same =
     let row : r.remainder ≡ bech32.target = same_row r.remainder bech32.target r.is_remainder.short (λ n. sym (r.actual n) ∙ same n) in

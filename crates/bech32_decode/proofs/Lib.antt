@@ -1,7 +1,6 @@
 pub mod Addresses
 pub mod ByteWalks
 pub mod Checksums
-pub mod Coefficients
 pub mod Decoding
 pub mod Grammar
 pub mod Letters

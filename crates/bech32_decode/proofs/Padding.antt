@@ -7,7 +7,7 @@ use Rattle.bech32_gf.specs.declared.gf32.Fe32.{Fe32}
 use Rattle.bech32_bits.specs.Bits.{bits, byte_bits, fe_bits, cut_in_fives, cut_in_eights, to_fes, to_bytes}
 use Rattle.bech32_bits.proofs.BitLists.{cut-five, AreBits, AreBits-fe_bits, AreBits-byte_bits}
 use Rattle.bech32_bits.proofs.RoundTrip.{fe_bits-cut, length-byte_bits, length-fe_bits}
-use Rattle.bech32_decode.specs.SegwitRules.{padding, IsPadded}
+use Rattle.bech32_decode.specs.SegwitPadding.{padding, IsPadded}
 
 fe_bits-append : (xs ys : List Fe32) → fe_bits (xs ++ ys) ≡ fe_bits xs ++ fe_bits ys
 fe_bits-append [] ys = refl

@@ -4,9 +4,8 @@ pub mod Checked
 pub mod Parts
 pub mod Readers
 pub mod Refusals
-pub mod ResidueRows
 pub mod Segwit
+pub mod SegwitPadding
 pub mod SegwitParts
-pub mod SegwitRules
 pub mod Text
 pub mod Version

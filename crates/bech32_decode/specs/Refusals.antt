@@ -1,19 +1,16 @@
 -- Why a checksum does not accept a text.
-use Rattle.std.specs.Prelude.{◌≡◌, ◌≢◌, ◌<◌, ◌≤◌, ℕ, List, length}
+use Rattle.std.specs.Prelude.{◌≡◌, ◌<◌, ◌≤◌, ℕ, List, length}
 use Rattle.bech32_gf.specs.Fe32.{ops, elements_of}
-use Rattle.bech32_gf.specs.declared.gf32.Fe32.{Fe32}
-use Rattle.bech32_poly.specs.Polynomial.{IsSamePolynomial}
 use Rattle.bech32_poly.specs.Remainder.{IsRemainder}
 use Rattle.bech32_checksum.specs.Code.{Code, bech32, bech32m}
 use Rattle.bech32_checksum.specs.TextPolynomial.{text_polynomial}
 use Rattle.bech32_decode.specs.Text.{IsText}
 use Rattle.bech32_decode.specs.Acceptance.{Accepts}
-use Rattle.bech32_decode.specs.declared.error.ChecksumError.{ChecksumError}
-use Rattle.bech32_decode.specs.declared.error.ChecksumError.TheVariants.{CodeLength, InvalidLength, InvalidResidue}
-use Rattle.bech32_decode.specs.declared.error.InvalidResidueError.{InvalidResidueError}
+use Rattle.bech32_errors.specs.declared.error.ChecksumError.{ChecksumError}
+use Rattle.bech32_errors.specs.declared.error.ChecksumError.TheVariants.{CodeLength, InvalidLength, InvalidResidue}
 use Rattle.bech32_decode.specs.declared.unchecked.UncheckedHrpstring.{UncheckedHrpstring}
 use Rattle.bech32_decode.specs.Parts.{unchecked_part, unchecked_data, unchecked_length}
-use Rattle.bech32_decode.specs.ResidueRows.{actual_row, target_row}
+use Rattle.bech32_errors.specs.ResidueRows.{IsResidueError}
 
 -- a text of n bytes with these parts is not longer than the code, has room for the checksum, and its polynomial leaves
 -- the target
@@ -21,14 +18,6 @@ abbrev pub HasValidChecksum : Code → ℕ → List ℕ → List ℕ → Type 0
 HasValidChecksum code n hrp data_part =
     (n ≤ code.code_length) × (length code.generator ≤ length data_part)
     × IsRemainder ops code.generator (text_polynomial hrp (elements_of data_part)) code.target
-
--- the error carries the remainder that a polynomial leaves, which is not the target, and the target
-pub record IsResidueError (code : Code) (polynomial : List Fe32) (e : InvalidResidueError) : Type 0 where
-  pub remainder : List Fe32
-  pub is_remainder : IsRemainder ops code.generator polynomial remainder
-  pub not_target : remainder ≢ code.target
-  pub actual : IsSamePolynomial ops (actual_row e) remainder
-  pub target : IsSamePolynomial ops (target_row e) code.target
 
 -- why a checksum refuses a text of n bytes with these parts: the first of three faults
 abbrev pub IsChecksumRefusal : Code → ℕ → List ℕ → List ℕ → ChecksumError → Type 0

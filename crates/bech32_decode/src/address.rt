@@ -7,11 +7,11 @@ ghost use Rattle.bech32_gf.specs.Alphabet.{is_data};
 ghost use Rattle.bech32_decode.specs.Readers.{bytes_to_come};
 
 use crate::byte_reader::ByteIter;
-use crate::error::SegwitHrpstringError;
-use crate::segwit::{MAX_STRING_LENGTH, VERSION_0};
 use crate::unchecked::UncheckedHrpstring;
 use crate::version::first_version;
 use bech32_checksum::{Bech32, Bech32m, Checksum};
+use bech32_errors::SegwitHrpstringError;
+use bech32_errors::segwit::{MAX_STRING_LENGTH, VERSION_0};
 use bech32_gf::gf32::Fe32;
 use bech32_hrp::Hrp;
 

@@ -4,9 +4,9 @@ ghost use Rattle.std.specs.Prelude.{◌⊎◌, MatchResult};
 ghost use Rattle.bech32_checksum.specs.Code.{bech32, bech32m};
 ghost use Rattle.bech32_decode.specs.Refusals.{IsValidBy, IsInvalidBy};
 
-use crate::error::ChecksumError;
 use crate::unchecked::UncheckedHrpstring;
 use bech32_checksum::Bech32m;
+use bech32_errors::ChecksumError;
 
 /// Tests the checksum as Bech32m and as Bech32, in one pass: they differ in the target alone.
 ///

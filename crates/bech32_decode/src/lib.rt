@@ -7,20 +7,17 @@ mod address;
 mod byte_reader;
 mod checked;
 mod either;
-mod error;
 mod reader;
-mod residue;
-pub mod segwit;
 mod unchecked;
 mod version;
 
 pub use address::SegwitHrpstring;
+pub use bech32_errors::{
+    CharError, CheckedHrpstringError, ChecksumError, CodeLengthError, InvalidResidueError,
+    PaddingError, SegwitCodeLengthError, SegwitHrpstringError, UncheckedHrpstringError, segwit,
+};
 pub use byte_reader::ByteIter;
 pub use checked::CheckedHrpstring;
 pub use either::validate_either;
-pub use error::{
-    CharError, CheckedHrpstringError, ChecksumError, CodeLengthError, InvalidResidueError,
-    PaddingError, SegwitCodeLengthError, SegwitHrpstringError, UncheckedHrpstringError,
-};
 pub use reader::AsciiToFe32Iter;
 pub use unchecked::UncheckedHrpstring;

@@ -13,12 +13,12 @@ ghost use Rattle.bech32_decode.specs.Version.{version_of};
 ghost use Rattle.bech32_decode.specs.Text.{IsText, IsInGrammar, invalid_character, split_at_last, text_refusal};
 
 use crate::checked::CheckedHrpstring;
-use crate::error::{
-    CharError, ChecksumError, CodeLengthError, InvalidResidueError, UncheckedHrpstringError,
-};
 use crate::reader::AsciiToFe32Iter;
 use crate::version::version_in;
 use bech32_checksum::{Checksum, Engine};
+use bech32_errors::{
+    CharError, ChecksumError, CodeLengthError, InvalidResidueError, UncheckedHrpstringError,
+};
 use bech32_gf::gf32::Fe32;
 use bech32_hrp::Hrp;
 

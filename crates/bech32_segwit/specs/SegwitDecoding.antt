@@ -1,7 +1,7 @@
 -- Reading segwit addresses (BIP-173, Segwit address format; BIP-350): why a text is not decoded.
 use Rattle.std.specs.Prelude.{◌≡◌, ◌⊎◌, ℕ, List}
 use Rattle.bech32_decode.specs.Segwit.{IsAddressText, IsSegwitRefusal}
-use Rattle.bech32_decode.specs.declared.error.SegwitHrpstringError.TheVariants.{Memory}
+use Rattle.bech32_errors.specs.declared.error.SegwitHrpstringError.TheVariants.{Memory}
 use Rattle.bech32_segwit.specs.declared.error.DecodeError.{DecodeError}
 
 -- the text is no address, or memory is wanting where it is one

@@ -43,7 +43,7 @@ impl From<SegwitHrpstringError> for DecodeError {
 
 impl From<AllocError> for DecodeError {
     ghost use Rattle.std.specs.Prelude.{◌≡◌};
-    ghost use Rattle.bech32_decode.specs.declared.error.SegwitHrpstringError.TheVariants.{Memory};
+    ghost use Rattle.bech32_errors.specs.declared.error.SegwitHrpstringError.TheVariants.{Memory};
 
     ghost from_gives = { λ e r. r.0 ≡ Memory };
 

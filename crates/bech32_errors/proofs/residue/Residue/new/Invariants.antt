@@ -2,7 +2,7 @@ use Rattle.std.proofs.Common.{◌≡◌, ◌≤◌, ◌<◌, ℕ, length}
 use Rattle.bech32_gf.specs.Fe32.{ops, zero}
 use Rattle.bech32_poly.specs.Polynomial.{coefficient}
 use Rattle.bech32_checksum.specs.Packed.{digit_of}
-use Rattle.bech32_decode.proofs.residue.Residue.new.Given as goal
+use Rattle.bech32_errors.proofs.residue.Residue.new.Given as goal
 
 abbrev pub invariant-loop-i : goal.invariant-loop-i
 invariant-loop-i g l = record {

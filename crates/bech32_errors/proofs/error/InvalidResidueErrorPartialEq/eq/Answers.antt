@@ -1,6 +1,6 @@
 use Rattle.std.proofs.Common.{◌∙◌, sym}
-use Rattle.bech32_decode.proofs.Coefficients.{errors-decide}
-use Rattle.bech32_decode.proofs.error.InvalidResidueErrorPartialEq.eq.Goals as goal
+use Rattle.bech32_errors.proofs.Coefficients.{errors-decide}
+use Rattle.bech32_errors.proofs.error.InvalidResidueErrorPartialEq.eq.Goals as goal
 
 pub returns-clause-polynomials : goal.returns-clause-polynomials
 returns-clause-polynomials c =

@@ -7,8 +7,8 @@ use Rattle.bech32_checksum.specs.Code.{Code, bech32}
 use Rattle.bech32_checksum.specs.laws.CodeLaws.{bech32_is_packed}
 use lib.Pointwise.{pointwise_decides}
 use Rattle.bech32_checksum.proofs.DigitRows.{coefficient-digits}
-use Rattle.bech32_decode.proofs.Coefficients.{same_row}
-use Rattle.bech32_decode.proofs.error.InvalidResidueError.matches_bech32_checksum.Goals as goal
+use Rattle.bech32_errors.proofs.Coefficients.{same_row}
+use Rattle.bech32_errors.proofs.error.InvalidResidueError.matches_bech32_checksum.Goals as goal
 
 pub returns : goal.returns
 returns c =

@@ -1,7 +1,7 @@
 //! The rules of segwit addresses (BIP-173, Segwit address format; BIP-350).
 
 ghost use Rattle.std.specs.Prelude.{◌≡◌, ◌↔◌, ◌<◌, ◌≤◌, MatchResult, IsTrue};
-ghost use Rattle.bech32_decode.specs.SegwitRules.{IsProgramLength, IsLengthRefusal};
+ghost use Rattle.bech32_errors.specs.SegwitRules.{IsProgramLength, IsLengthRefusal};
 
 use bech32_gf::gf32::Fe32;
 use thiserror::Error;

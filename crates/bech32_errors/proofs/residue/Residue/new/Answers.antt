@@ -1,8 +1,8 @@
 use Rattle.std.proofs.Common.{◌∙◌, ◌<◌, length, arith, refl, ap}
 use Rattle.std.proofs.lemmas.List.{length-set}
 use Rattle.bech32_gf.specs.Fe32.{element}
-use Rattle.bech32_decode.proofs.Coefficients.{coefficient-replicate, element-digit_of, read-more, rest-less, read-all}
-use Rattle.bech32_decode.proofs.residue.Residue.new.Goals as goal
+use Rattle.bech32_errors.proofs.Coefficients.{coefficient-replicate, element-digit_of, read-more, rest-less, read-all}
+use Rattle.bech32_errors.proofs.residue.Residue.new.Goals as goal
 
 pub loop-i-init : goal.loop-i-init
 loop-i-init g c = record {

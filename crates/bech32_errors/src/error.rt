@@ -5,7 +5,7 @@ ghost use Rattle.bech32_gf.specs.Fe32.{ops};
 ghost use Rattle.bech32_poly.specs.Polynomial.{coefficient, IsSamePolynomial};
 ghost use Rattle.bech32_checksum.specs.Code.{bech32};
 ghost use Rattle.bech32_checksum.specs.Packed.{digit_of};
-ghost use Rattle.bech32_decode.specs.ResidueRows.{actual_row, target_row};
+ghost use Rattle.bech32_errors.specs.ResidueRows.{actual_row, target_row};
 
 use crate::residue::Residue;
 use crate::segwit::{MAX_STRING_LENGTH, WitnessLengthError};
@@ -45,7 +45,7 @@ pub enum UncheckedHrpstringError {
 
 impl From<CharError> for UncheckedHrpstringError {
     ghost use Rattle.std.specs.Prelude.{◌≡◌};
-    ghost use Rattle.bech32_decode.specs.declared.error.UncheckedHrpstringError.TheVariants.{Char};
+    ghost use Rattle.bech32_errors.specs.declared.error.UncheckedHrpstringError.TheVariants.{Char};
 
     ghost from_gives = { λ e r. r ≡ Char e };
 
@@ -56,7 +56,7 @@ impl From<CharError> for UncheckedHrpstringError {
 
 impl From<hrp::Error> for UncheckedHrpstringError {
     ghost use Rattle.std.specs.Prelude.{◌≡◌};
-    ghost use Rattle.bech32_decode.specs.declared.error.UncheckedHrpstringError.TheVariants.{Hrp};
+    ghost use Rattle.bech32_errors.specs.declared.error.UncheckedHrpstringError.TheVariants.{Hrp};
 
     ghost from_gives = { λ e r. r ≡ Hrp e };
 
@@ -87,7 +87,7 @@ pub struct InvalidResidueError {
 impl PartialEq for InvalidResidueError {
     ghost use Rattle.std.specs.Cmp.Rules.{comparing};
     ghost use Rattle.std.proofs.Common.{rules};
-    ghost use Rattle.bech32_decode.specs.ResidueRows.{has_same_rows};
+    ghost use Rattle.bech32_errors.specs.ResidueRows.{has_same_rows};
 
     ghost eq = { has_same_rows };
 
@@ -111,7 +111,7 @@ impl Eq for InvalidResidueError {
 }
 
 impl InvalidResidueError {
-    ghost use Rattle.bech32_decode.specs.ResidueRows.{has_same_rows};
+    ghost use Rattle.bech32_errors.specs.ResidueRows.{has_same_rows};
 
     // Whether another error has the same rows.
     fn is_same(&self, other: &InvalidResidueError) -> bool
@@ -120,8 +120,9 @@ impl InvalidResidueError {
         self.actual == other.actual && self.target == other.target
     }
 
-    // The error of a text that leaves `actual` in place of `target`.
-    pub(crate) fn new<R: PackedFe32>(actual: &R, target: &R) -> Self
+    /// The error of a text that leaves `actual` in place of `target`: for the layers above, which test
+    /// texts. Each must fit its type's width.
+    pub fn new<R: PackedFe32>(actual: &R, target: &R) -> Self
         requires actual_fits { R.number actual.now < 2 ^ (5 * R.WIDTH) }
         requires target_fits { R.number target.now < 2 ^ (5 * R.WIDTH) }
         ensures actual { (n : ℕ) → coefficient ops (actual_row result) n ≡ digit_of (R.number actual.now) n }
@@ -169,7 +170,7 @@ pub enum CheckedHrpstringError {
 
 impl From<UncheckedHrpstringError> for CheckedHrpstringError {
     ghost use Rattle.std.specs.Prelude.{◌≡◌};
-    ghost use Rattle.bech32_decode.specs.declared.error.CheckedHrpstringError.TheVariants.{Parse};
+    ghost use Rattle.bech32_errors.specs.declared.error.CheckedHrpstringError.TheVariants.{Parse};
 
     ghost from_gives = { λ e r. r ≡ Parse e };
 
@@ -180,7 +181,7 @@ impl From<UncheckedHrpstringError> for CheckedHrpstringError {
 
 impl From<ChecksumError> for CheckedHrpstringError {
     ghost use Rattle.std.specs.Prelude.{◌≡◌};
-    ghost use Rattle.bech32_decode.specs.declared.error.CheckedHrpstringError.TheVariants.{Checksum};
+    ghost use Rattle.bech32_errors.specs.declared.error.CheckedHrpstringError.TheVariants.{Checksum};
 
     ghost from_gives = { λ e r. r ≡ Checksum e };
 
@@ -247,7 +248,7 @@ pub enum SegwitHrpstringError {
 
 impl From<UncheckedHrpstringError> for SegwitHrpstringError {
     ghost use Rattle.std.specs.Prelude.{◌≡◌};
-    ghost use Rattle.bech32_decode.specs.declared.error.SegwitHrpstringError.TheVariants.{Unchecked};
+    ghost use Rattle.bech32_errors.specs.declared.error.SegwitHrpstringError.TheVariants.{Unchecked};
 
     ghost from_gives = { λ e r. r ≡ Unchecked e };
 
@@ -258,7 +259,7 @@ impl From<UncheckedHrpstringError> for SegwitHrpstringError {
 
 impl From<WitnessLengthError> for SegwitHrpstringError {
     ghost use Rattle.std.specs.Prelude.{◌≡◌};
-    ghost use Rattle.bech32_decode.specs.declared.error.SegwitHrpstringError.TheVariants.{WitnessLength};
+    ghost use Rattle.bech32_errors.specs.declared.error.SegwitHrpstringError.TheVariants.{WitnessLength};
 
     ghost from_gives = { λ e r. r ≡ WitnessLength e };
 
@@ -269,7 +270,7 @@ impl From<WitnessLengthError> for SegwitHrpstringError {
 
 impl From<PaddingError> for SegwitHrpstringError {
     ghost use Rattle.std.specs.Prelude.{◌≡◌};
-    ghost use Rattle.bech32_decode.specs.declared.error.SegwitHrpstringError.TheVariants.{Padding};
+    ghost use Rattle.bech32_errors.specs.declared.error.SegwitHrpstringError.TheVariants.{Padding};
 
     ghost from_gives = { λ e r. r ≡ Padding e };
 
@@ -280,7 +281,7 @@ impl From<PaddingError> for SegwitHrpstringError {
 
 impl From<ChecksumError> for SegwitHrpstringError {
     ghost use Rattle.std.specs.Prelude.{◌≡◌};
-    ghost use Rattle.bech32_decode.specs.declared.error.SegwitHrpstringError.TheVariants.{Checksum};
+    ghost use Rattle.bech32_errors.specs.declared.error.SegwitHrpstringError.TheVariants.{Checksum};
 
     ghost from_gives = { λ e r. r ≡ Checksum e };
 

@@ -9,7 +9,7 @@ use lib.Pointwise.{pointwise, pointwise_decides}
 use Rattle.bech32_poly.specs.Polynomial.{coefficient, IsSamePolynomial}
 use Rattle.bech32_checksum.specs.Packed.{digit_of}
 use Rattle.bech32_checksum.proofs.DigitRows.{digit_of-past}
-use Rattle.bech32_decode.specs.declared.error.InvalidResidueError.{InvalidResidueError}
+use Rattle.bech32_errors.specs.declared.error.InvalidResidueError.{InvalidResidueError}
 
 pub coefficient-replicate : (m n : ℕ) (e : 0 < 32) → coefficient fe32.ops (replicate m (record { value = 0; in_field = e })) n ≡ fe32.zero
 coefficient-replicate zero n e = refl

@@ -1,0 +1,2 @@
+pub mod ResidueRows
+pub mod SegwitRules

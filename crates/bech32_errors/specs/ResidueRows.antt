@@ -1,0 +1,36 @@
+-- The remainders that a residue error carries, by their coefficients.
+use Rattle.std.specs.Prelude.{◌≢◌, ℕ, Bool, List, ◌==◌}
+use Rattle.std.specs.Cmp.Lexicographic.{pointwise}
+use Rattle.std.specs.Ordering.{eq_of_both, on}
+use Rattle.bech32_gf.specs.Fe32.{ops}
+use Rattle.bech32_gf.specs.declared.gf32.Fe32.{Fe32}
+use Rattle.bech32_poly.specs.Polynomial.{IsSamePolynomial}
+use Rattle.bech32_poly.specs.Remainder.{IsRemainder}
+use Rattle.bech32_checksum.specs.Code.{Code}
+use Rattle.bech32_errors.specs.declared.error.InvalidResidueError.{InvalidResidueError}
+
+-- of the remainder that a text left
+abbrev pub actual_row : InvalidResidueError → List Fe32
+actual_row e = e.actual.digits
+
+-- of the remainder that it should have left
+abbrev pub target_row : InvalidResidueError → List Fe32
+target_row e = e.target.digits
+
+-- the value of an element
+abbrev pub value_of_element : Fe32 → ℕ
+value_of_element x = x.value
+
+-- two have the same coefficients of both
+abbrev pub has_same_rows : InvalidResidueError → InvalidResidueError → Bool
+has_same_rows =
+    eq_of_both (on actual_row (pointwise (on value_of_element ◌==◌)))
+    (on target_row (pointwise (on value_of_element ◌==◌)))
+
+-- the error carries the remainder that a polynomial leaves, which is not the target, and the target
+pub record IsResidueError (code : Code) (polynomial : List Fe32) (e : InvalidResidueError) : Type 0 where
+  pub remainder : List Fe32
+  pub is_remainder : IsRemainder ops code.generator polynomial remainder
+  pub not_target : remainder ≢ code.target
+  pub actual : IsSamePolynomial ops (actual_row e) remainder
+  pub target : IsSamePolynomial ops (target_row e) code.target
