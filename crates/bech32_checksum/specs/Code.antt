@@ -2,6 +2,7 @@
 use Rattle.std.specs.Prelude.{ℕ, ◌-◌, ◌^◌, List, [], ◌∷◌, map, length, slice_index_or}
 use Rattle.bech32_gf.specs.Fe32 as fe32
 use Rattle.bech32_gf.specs.declared.gf32.Fe32.{Fe32}
+use Rattle.bech32_poly.specs.Polynomial.{appended}
 use Rattle.bech32_poly.specs.Remainder.{IsRemainder}
 use Rattle.bech32_checksum.specs.Packed.{digits}
 
@@ -26,6 +27,11 @@ code_of number code_length degree words target = record {
 abbrev pub IsResidueOf : {R : Type 0} → (R → ℕ) → Code → R → List Fe32 → Type 0
 IsResidueOf number code residue p =
     IsRemainder fe32.ops code.generator p (digits (length code.generator) (number residue))
+
+-- whatever polynomial `old` is the residue of, `new` is that of the same with these elements behind it
+abbrev pub IsResidueAfter : {R : Type 0} → (R → ℕ) → Code → R → List Fe32 → R → Type 0
+IsResidueAfter number code old elements new =
+    (p : List Fe32) → IsResidueOf number code old p → IsResidueOf number code new (appended p elements)
 
 -- no checksum, which is in no standard: the generator 1 and the target 0, which have no coefficient below the degree 0;
 -- the code length is the greatest usize

@@ -1,6 +1,5 @@
 pub mod Code
 pub mod Encoded
-pub mod Engine
 pub mod HrpFes
 pub mod Packed
 pub mod PackingLaws

@@ -2,12 +2,11 @@
 #![tactic(auto)]
 
 ghost use Rattle.std.specs.Prelude.{◌≡◌, ◌↔◌, ◌/◌, map, reverse, ℕ, List, IsTrue, length, ◌∷◌, [], ⊤};
-ghost use Rattle.bech32_gf.specs.declared.gf32.Fe32.{Fe32 as Element};
 ghost use Rattle.bech32_gf.specs.Fe32 as fe32;
-ghost use Rattle.bech32_poly.specs.Polynomial.{appended, scale};
+ghost use Rattle.bech32_poly.specs.Polynomial.{scale};
 ghost use Rattle.bech32_hrp.specs.Hrp.{lowered};
 ghost use Rattle.bech32_checksum.specs.Packed.{HasDigits, IsRowOf};
-ghost use Rattle.bech32_checksum.specs.Code.{Code, code_of};
+ghost use Rattle.bech32_checksum.specs.Code.{Code, code_of, IsResidueOf, IsResidueAfter};
 ghost use Rattle.bech32_checksum.specs.PackingLaws.{KeepsPackingLaws};
 ghost use Rattle.bech32_checksum.specs.Roots.{HasLawfulRoots};
 
@@ -24,6 +23,7 @@ use bech32_gf::gf32::Fe32;
 use bech32_hrp::Hrp;
 use std::alloc::AllocError;
 use std::fmt::Debug;
+use std::marker::Model;
 
 /// A checksum: a code with a monic generator over the elements, and the remainder that right texts
 /// leave (BIP-173, Checksum).
@@ -135,7 +135,17 @@ pub trait Checksum {
 #[derive_where(Debug; Ck::MidstateRepr: Debug)]
 pub struct Engine<Ck: Checksum> {
     residue: Ck::MidstateRepr,
-    ghost clear: { HasDigits Ck.CHECKSUM_LENGTH (Ck.MidstateRepr.number residue) },
+}
+
+// Contracts see the packed remainder of what an engine was given.
+impl<Ck: Checksum> Model for Engine<Ck> {
+    ghost Value = { Ck.MidstateRepr };
+
+    ghost view = { λ engine. engine.residue };
+
+    ghost invariant = { λ engine. HasDigits Ck.CHECKSUM_LENGTH (Ck.MidstateRepr.number engine.residue) };
+
+    ghost inverse = { λ residue. record { residue = residue } };
 }
 
 /// Never an error.
@@ -153,9 +163,7 @@ impl<Ck: Checksum> Clone for Engine<Ck> {
 }
 
 impl<Ck: Checksum> Default for Engine<Ck> {
-    ghost use Rattle.bech32_checksum.specs.Engine.{Holds};
-
-    ghost is_default = { λ engine. Holds engine (fe32.one ∷ []) };
+    ghost is_default = { λ engine. IsResidueOf Ck.MidstateRepr.number Ck.code engine (fe32.one ∷ []) };
 
     fn default() -> Self {
         Self::new()
@@ -163,14 +171,13 @@ impl<Ck: Checksum> Default for Engine<Ck> {
 }
 
 impl<Ck: Checksum> Engine<Ck> {
-    ghost use Rattle.bech32_checksum.specs.Engine.{Holds, residue_of};
     ghost use Rattle.bech32_checksum.specs.TextPolynomial.{hrp_elements};
     ghost use Rattle.bech32_hrp.specs.HrpBytes.{hrp_bytes};
 
     /// An engine that was given nothing.
     #[inline]
     pub fn new() -> Self
-        ensures { Holds result (fe32.one ∷ []) }
+        ensures { IsResidueOf Ck.MidstateRepr.number Ck.code result (fe32.one ∷ []) }
     {
         Engine {
             residue: Ck::MidstateRepr::ONE,
@@ -180,7 +187,8 @@ impl<Ck: Checksum> Engine<Ck> {
     /// The remainder of what was given so far.
     #[inline]
     pub fn residue(&self) -> &Ck::MidstateRepr
-        ensures { result.now ≡ residue_of self.now }
+        ensures value { result.now ≡ self.now }
+        ensures clear { HasDigits Ck.CHECKSUM_LENGTH (Ck.MidstateRepr.number result.now) }
     {
         &self.residue
     }
@@ -188,7 +196,7 @@ impl<Ck: Checksum> Engine<Ck> {
     /// Takes the next element.
     #[inline]
     pub fn input_fe(&mut self, e: Fe32)
-        ensures { (p : List Element) → Holds self.old p → Holds self.new (e ∷ p) }
+        ensures { IsResidueAfter Ck.MidstateRepr.number Ck.code self.old (e ∷ []) self.new }
     {
         let mut residue = self.residue;
         let xn = residue.mul_by_x_then_add(Ck::CHECKSUM_LENGTH, e.to_u8());
@@ -201,7 +209,7 @@ impl<Ck: Checksum> Engine<Ck> {
     /// first, put in the target's place, make the polynomial leave the target.
     #[inline]
     pub fn input_target_residue(&mut self)
-        ensures { (p : List Element) → Holds self.old p → Holds self.new (appended p (reverse Ck.code.target)) }
+        ensures { IsResidueAfter Ck.MidstateRepr.number Ck.code self.old (reverse Ck.code.target) self.new }
     {
         for i in 0..Ck::CHECKSUM_LENGTH {
             let place = Ck::CHECKSUM_LENGTH - 1 - i;
@@ -211,8 +219,8 @@ impl<Ck: Checksum> Engine<Ck> {
 
     // Takes the highest three bits of each byte, in lower case.
     fn input_high_bits(&mut self, bytes: &[u8])
-        ensures { (p : List Element) → Holds self.old p
-            → Holds self.new (appended p (map (λ b. fe32.element (b / 32)) (lowered bytes.now))) }
+        ensures { IsResidueAfter Ck.MidstateRepr.number Ck.code self.old
+            (map (λ b. fe32.element (b / 32)) (lowered bytes.now)) self.new }
     {
         for b in bytes {
             self.input_fe(Fe32::from_low_bits(b.to_ascii_lowercase() / 32));
@@ -221,8 +229,8 @@ impl<Ck: Checksum> Engine<Ck> {
 
     // Takes the lowest five bits of each byte, in lower case.
     fn input_low_bits(&mut self, bytes: &[u8])
-        ensures { (p : List Element) → Holds self.old p
-            → Holds self.new (appended p (map fe32.element (lowered bytes.now))) }
+        ensures { IsResidueAfter Ck.MidstateRepr.number Ck.code self.old
+            (map fe32.element (lowered bytes.now)) self.new }
     {
         for b in bytes {
             self.input_fe(Fe32::from_low_bits(b.to_ascii_lowercase()));
@@ -232,8 +240,7 @@ impl<Ck: Checksum> Engine<Ck> {
     /// Takes the elements of a human-readable part: the high bits of each byte, a zero, the low
     /// bits of each (BIP-173, Checksum). The case of its letters does not count.
     pub fn input_hrp(&mut self, hrp: Hrp)
-        ensures { (p : List Element) → Holds self.old p
-            → Holds self.new (appended p (hrp_elements (hrp_bytes hrp))) }
+        ensures { IsResidueAfter Ck.MidstateRepr.number Ck.code self.old (hrp_elements (hrp_bytes hrp)) self.new }
     {
         self.input_high_bits(hrp.as_bytes());
         self.input_fe(Fe32::Q);

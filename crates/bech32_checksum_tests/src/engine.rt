@@ -1,9 +1,7 @@
 //! Engines: checksums that are known, long division, the rows of codex32.
 
-ghost use Rattle.std.specs.Prelude.{List, length, ◌≤◌};
-ghost use Rattle.bech32_gf.specs.declared.gf32.Fe32.{Fe32 as Element};
-ghost use Rattle.bech32_poly.specs.Polynomial.{appended};
-ghost use Rattle.bech32_checksum.specs.Engine.{Holds};
+ghost use Rattle.std.specs.Prelude.{length, ◌≤◌};
+ghost use Rattle.bech32_checksum.specs.Code.{IsResidueAfter};
 
 use crate::checksums::{Degree8, Degree13};
 use crate::codex32_rows;
@@ -51,7 +49,7 @@ const LOW_13: [Fe32; 13] = [
 
 // Takes elements, one after another.
 fn input_all<Ck: Checksum>(engine: &mut Engine<Ck>, elements: &[Fe32])
-    ensures { (p : List Element) → Holds engine.old p → Holds engine.new (appended p elements.now) }
+    ensures { IsResidueAfter Ck.MidstateRepr.number Ck.code engine.old elements.now engine.new }
 {
     for e in elements {
         engine.input_fe(*e);

@@ -3,9 +3,8 @@
 ghost use Rattle.std.specs.Prelude.{◌≡◌, ◌≤◌, ◌++◌, ℕ, List, [], ◌∷◌, Option, map, reverse, option_to_list};
 ghost use Rattle.std.specs.Iterator.{Drains, IsFinite};
 ghost use Rattle.bech32_gf.specs.declared.gf32.Fe32.{Fe32 as Element};
-ghost use Rattle.bech32_poly.specs.Polynomial.{appended};
 ghost use Rattle.bech32_encode.specs.Buffers.{IsPutAsFits, PutsBehind};
-ghost use Rattle.bech32_checksum.specs.Code.{IsResidueOf};
+ghost use Rattle.bech32_checksum.specs.Code.{IsResidueAfter};
 ghost use Rattle.bech32_checksum.specs.Encoded.{char_of_element, IsEncodedText};
 ghost use Rattle.bech32_encode.specs.TextFrom.{text_front};
 ghost use Rattle.bech32_hrp.specs.HrpBytes.{hrp_bytes};
@@ -48,9 +47,7 @@ fn put_element<Ck: Checksum>(
     buffer: &mut [u8],
 ) -> usize
     ensures text { PutsBehind (char_of_element element ∷ []) buffer.old count buffer.new result }
-    ensures residue { (p : List Element)
-        → IsResidueOf Ck.MidstateRepr.number Ck.code engine.old.residue p
-        → IsResidueOf Ck.MidstateRepr.number Ck.code engine.new.residue (element ∷ p) }
+    ensures residue { IsResidueAfter Ck.MidstateRepr.number Ck.code engine.old (element ∷ []) engine.new }
 {
     engine.input_fe(element);
     put_byte(element.to_char() as u8, count, buffer)
@@ -65,9 +62,7 @@ fn put_version<Ck: Checksum>(
     buffer: &mut [u8],
 ) -> usize
     ensures text { PutsBehind (map char_of_element (option_to_list version)) buffer.old count buffer.new result }
-    ensures residue { (p : List Element)
-        → IsResidueOf Ck.MidstateRepr.number Ck.code engine.old.residue p
-        → IsResidueOf Ck.MidstateRepr.number Ck.code engine.new.residue (appended p (option_to_list version)) }
+    ensures residue { IsResidueAfter Ck.MidstateRepr.number Ck.code engine.old (option_to_list version) engine.new }
 {
     match version {
         Some(version) => put_element(version, engine, count, buffer),
@@ -87,9 +82,7 @@ fn put_elements<I: Iterator<Item = Fe32>, Ck: Checksum>(
     requires finite { IsFinite (I.remaining elements) }
     ensures { (fes : List Element) × Drains I.next_gives elements fes
         × PutsBehind (map char_of_element fes) buffer.old count buffer.new result
-        × ((p : List Element)
-        → IsResidueOf Ck.MidstateRepr.number Ck.code engine.old.residue p
-        → IsResidueOf Ck.MidstateRepr.number Ck.code engine.new.residue (appended p fes)) }
+        × IsResidueAfter Ck.MidstateRepr.number Ck.code engine.old fes engine.new }
 {
     let mut count = count;
     for fe in elements {

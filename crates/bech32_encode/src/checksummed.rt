@@ -38,7 +38,7 @@ impl<I, Ck: Checksum> Adaptor for Checksummed<I, Ck> {
 
     ghost source = { λ s. s.elements };
 
-    ghost gives = { λ s. then_checksum Ck.MidstateRepr.number Ck.code s.engine.residue s.tail };
+    ghost gives = { λ s. then_checksum Ck.MidstateRepr.number Ck.code s.engine s.tail };
 
     ghost more = { λ s. unwrap_or s.tail Ck.CHECKSUM_LENGTH };
 }
@@ -171,9 +171,9 @@ impl<I: Iterator<Item = Fe32>, Ck: Checksum> Checksummed<I, Ck> {
         requires few { left ≤ Ck.CHECKSUM_LENGTH }
         requires ended { fuse_done self.old.elements ≡ true }
         ensures elements { self.new.elements ≡ self.old.elements }
-        ensures residue { self.new.engine.residue ≡ self.old.engine.residue }
+        ensures residue { self.new.engine ≡ self.old.engine }
         ensures tail { self.new.tail ≡ Some (left - 1) }
-        ensures given { let number = Ck.MidstateRepr.number self.old.engine.residue in
+        ensures given { let number = Ck.MidstateRepr.number self.old.engine in
             reverse (digits left number) ≡ then_gives result (reverse (digits (left - 1) number)) }
         ensures some { MatchOption result (left ≡ 0) (λ _. 0 < left) }
     {

@@ -22,4 +22,4 @@ returns g c p h =
     let (q, whole, held) = c.loop-b.invariant p h in
     let all : length c.args.bytes.now ≤ c.loop-b.b-index = omega arith in
     let same = sym (ap (λ (xs : List ℕ). appended q (map (λ (b : ℕ). fe32.element (b / 32)) (lowered xs))) (drop_all c.loop-b.b-index c.args.bytes.now all)) ∙ whole in
-    subst (λ (r : List Element). IsResidueOf g.Ck.MidstateRepr.PackedFe32.number g.Ck.Checksum.code c.loop-b.self.residue r) same held
+    subst (λ (r : List Element). IsResidueOf g.Ck.MidstateRepr.PackedFe32.number g.Ck.Checksum.code c.loop-b.self r) same held

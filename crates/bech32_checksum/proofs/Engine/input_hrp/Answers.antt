@@ -16,4 +16,4 @@ returns g c p h =
     let second = c.input_fe.ensures (appended p high) first in
     let third = rw c.as_bytes-2.ensures at (c.input_low_bits.ensures _ second) in
     let same = ap (λ (e : Element). appended (e ∷ appended p high) low) (fe32.path _ fe32.zero refl) ∙ sym (appended-append p high (fe32.zero ∷ low)) in
-    subst (λ (r : List Element). IsResidueOf g.Ck.MidstateRepr.PackedFe32.number g.Ck.Checksum.code c.input_low_bits.new.self.residue r) same third
+    subst (λ (r : List Element). IsResidueOf g.Ck.MidstateRepr.PackedFe32.number g.Ck.Checksum.code c.input_low_bits.new.self r) same third

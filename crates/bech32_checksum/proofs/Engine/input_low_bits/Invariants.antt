@@ -11,5 +11,5 @@ invariant-loop-b g l =
     let number = g.Ck.MidstateRepr.PackedFe32.number in
     let code = g.Ck.Checksum.code in
     let f = λ (b : ℕ). fe32.element b in
-    (p : List Element) → IsResidueOf number code l.initial.self.residue p
-    → (q : List Element) × (appended q (map f (lowered (drop l.b-index l.bytes))) ≡ appended p (map f (lowered l.bytes))) × IsResidueOf number code l.self.residue q
+    (p : List Element) → IsResidueOf number code l.initial.self p
+    → (q : List Element) × (appended q (map f (lowered (drop l.b-index l.bytes))) ≡ appended p (map f (lowered l.bytes))) × IsResidueOf number code l.self q

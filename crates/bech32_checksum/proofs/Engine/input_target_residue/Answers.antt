@@ -17,10 +17,10 @@ loop-i-preserved g c p h =
     let here : c.loop-i.i < degree = rw c.CHECKSUM_LENGTH-i-end.ensures at c.loop-i-test.true in
     let value : c.unpack.result ≡ (digit_of (number target) (degree - 1 - c.loop-i.i)).value =
     rw (c.TARGET_RESIDUE.ensures, c.CHECKSUM_LENGTH.ensures) at c.unpack.ensures.value in
-    let after : IsResidueOf number code c.input_fe.new.self.residue (fe32.element c.unpack.result ∷ before) =
-    subst (λ (e : Fe32). IsResidueOf number code c.input_fe.new.self.residue (e ∷ before)) c.from_low_bits.ensures
+    let after : IsResidueOf number code c.input_fe.new.self (fe32.element c.unpack.result ∷ before) =
+    subst (λ (e : Fe32). IsResidueOf number code c.input_fe.new.self (e ∷ before)) c.from_low_bits.ensures
     (c.input_fe.ensures before (c.loop-i.invariant p h)) in
-    subst (IsResidueOf number code c.input_fe.new.self.residue)
+    subst (IsResidueOf number code c.input_fe.new.self)
     (sym (appended_more code.target degree (number target) (ap (λ (k : Code). k.target) g.met.Ck.Checksum.code_law) p c.loop-i.i c.unpack.result here c.unpack.ensures.below value))
     after
 
@@ -30,6 +30,6 @@ returns g c p h =
     let code = g.Ck.Checksum.code in
     let degree = g.Ck.Checksum.CHECKSUM_LENGTH in
     let all : degree ≤ c.loop-i.i = rw c.CHECKSUM_LENGTH-i-end.ensures at c.loop-i-test.false in
-    subst (IsResidueOf number code c.loop-i.self.residue)
+    subst (IsResidueOf number code c.loop-i.self)
     (appended_all code.target degree (number g.Ck.Checksum.TARGET_RESIDUE) (ap (λ (k : Code). k.target) g.met.Ck.Checksum.code_law) p c.loop-i.i all)
     (c.loop-i.invariant p h)

@@ -11,4 +11,4 @@ use Rattle.bech32_decode.proofs.unchecked.residue_of.Given as goal
 abbrev pub invariant-loop-fe : goal.invariant-loop-fe
 invariant-loop-fe g l =
     (p : List Element) × (appended p (elements_left l.fe-iterator) ≡ text_polynomial (hrp_bytes l.fn.hrp) (elements_of l.fn.data_part))
-    × IsResidueOf g.Ck.MidstateRepr.PackedFe32.number g.Ck.Checksum.code l.engine.residue p
+    × IsResidueOf g.Ck.MidstateRepr.PackedFe32.number g.Ck.Checksum.code l.engine p

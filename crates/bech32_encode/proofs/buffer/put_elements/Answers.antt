@@ -15,6 +15,6 @@ loop-fe-preserved g c =
     record {
       text = puts_then (map char_of_element before) (char_of_element fe ∷ []) (map char_of_element (before ++ fe ∷ [])) _ _ _ _ _ _
           (map-append char_of_element before (fe ∷ [])) c.loop-fe.invariant.text c.put_element-count.ensures.text;
-      residue = λ p h. subst (λ (q : List Element). IsResidueOf g.Ck.MidstateRepr.PackedFe32.number g.Ck.Checksum.code c.put_element-count.new.engine.residue q)
+      residue = λ p h. subst (λ (q : List Element). IsResidueOf g.Ck.MidstateRepr.PackedFe32.number g.Ck.Checksum.code c.put_element-count.new.engine q)
           (sym (appended-append p before (fe ∷ []))) (c.put_element-count.ensures.residue (appended p before) (c.loop-fe.invariant.residue p h));
     }

@@ -1,8 +1,6 @@
-use Rattle.std.proofs.Common.{List, map}
-use Rattle.bech32_gf.specs.declared.gf32.Fe32.{Fe32 as Element}
-use Rattle.bech32_poly.specs.Polynomial.{appended}
+use Rattle.std.proofs.Common.{map}
 use Rattle.bech32_encode.specs.Buffers.{PutsBehind}
-use Rattle.bech32_checksum.specs.Code.{IsResidueOf}
+use Rattle.bech32_checksum.specs.Code.{IsResidueAfter}
 use Rattle.bech32_checksum.specs.Encoded.{char_of_element}
 use Rattle.bech32_encode.proofs.buffer.put_elements.Given as goal
 
@@ -12,5 +10,5 @@ invariant-loop-fe g l =
     let code = g.Ck.Checksum.code in
     record {
       text : PutsBehind (map char_of_element l.yielded) l.initial.buffer l.initial.count l.buffer l.count;
-      residue : (p : List Element) → IsResidueOf number code l.initial.engine.residue p → IsResidueOf number code l.engine.residue (appended p l.yielded);
+      residue : IsResidueAfter number code l.initial.engine l.yielded l.engine;
     }

@@ -24,7 +24,7 @@ returns g c =
       text,
       walk,
       encoded_pieces number code g.Ck.Checksum.CHECKSUM_LENGTH laws.degree_law (target-length g.Ck.Checksum.code _ _ laws.code_law (length-tabulate _ _) laws.degree_law)
-          hrp version fes c.input_target_residue.new.self.residue c.residue.result.now c.CHECKSUM_LENGTH.result c.residue.ensures c.CHECKSUM_LENGTH.ensures
+          hrp version fes c.input_target_residue.new.self c.residue.result.now c.CHECKSUM_LENGTH.result c.residue.ensures.value c.CHECKSUM_LENGTH.ensures
           (c.input_target_residue.ensures _ (held _ (c.put_version-start.ensures.residue _ (c.input_hrp.ensures (fe32.one ∷ []) c.new-engine.ensures)))),
       put_as_fits text c.args.buffer.now c.put_row.new.buffer c.put_row.result
           (puts_then second _ text _ _ _ _ _ _ refl

@@ -7,7 +7,7 @@ use Rattle.bech32_encode.proofs.checksummed.Checksummed.new.Goals as goal
 pub returns-clause-gives : goal.returns-clause-gives
 returns-clause-gives g c =
     let laws = g.met.Ck.Checksum in
-    ends_in_checksum g.Ck.Checksum.code (target-length g.Ck.Checksum.code _ _ laws.code_law (length-tabulate _ _) laws.degree_law) g.Ck.MidstateRepr.PackedFe32.number c.new.result.residue c.new.ensures
+    ends_in_checksum g.Ck.Checksum.code (target-length g.Ck.Checksum.code _ _ laws.code_law (length-tabulate _ _) laws.degree_law) g.Ck.MidstateRepr.PackedFe32.number c.new.result c.new.ensures
 
 pub returns-clause-walk : goal.returns-clause-walk
 returns-clause-walk g c =

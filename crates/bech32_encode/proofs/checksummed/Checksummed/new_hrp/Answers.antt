@@ -11,7 +11,7 @@ pub returns-clause-gives : goal.returns-clause-gives
 returns-clause-gives g c =
     let laws = g.met.Ck.Checksum in
     ends_in_checksum_of_hrp g.Ck.Checksum.code (target-length g.Ck.Checksum.code _ _ laws.code_law (length-tabulate _ _) laws.degree_law) g.Ck.MidstateRepr.PackedFe32.number
-    c.input_hrp.new.self.residue (hrp_bytes c.args.hrp) (c.input_hrp.ensures (fe32.one ∷ []) c.new-engine.ensures)
+    c.input_hrp.new.self (hrp_bytes c.args.hrp) (c.input_hrp.ensures (fe32.one ∷ []) c.new-engine.ensures)
 
 pub returns-clause-walk : goal.returns-clause-walk
 returns-clause-walk g c =

@@ -21,7 +21,7 @@ pub returns-in-Some-clause-gives : goal.returns-in-Some-clause-gives
 returns-in-Some-clause-gives g c =
     let s = c.args.self.now in
     let after = c.next_of_residue.ensures in
-    then_checksum-tail g.Ck.MidstateRepr.PackedFe32.number g.Ck.Checksum.code s.engine.residue _ s.tail _ c.in-Some.left _ [] c.in-Some.is after.residue after.tail after.given refl
+    then_checksum-tail g.Ck.MidstateRepr.PackedFe32.number g.Ck.Checksum.code s.engine _ s.tail _ c.in-Some.left _ [] c.in-Some.is after.residue after.tail after.given refl
 
 pub returns-in-None-clause-gives : goal.returns-in-None-clause-gives
 returns-in-None-clause-gives g c =
@@ -29,4 +29,4 @@ returns-in-None-clause-gives g c =
     let after = c.next_of_residue-in-None.ensures in
     let size : length g.Ck.Checksum.code.generator ≡ c.CHECKSUM_LENGTH.result =
     g.met.Ck.Checksum.degree_law ∙ sym c.CHECKSUM_LENGTH.ensures in
-    then_checksum-first g.Ck.MidstateRepr.PackedFe32.number g.Ck.Checksum.code s.engine.residue _ _ s.tail _ c.CHECKSUM_LENGTH.result _ [] c.in-None.is c.input_target_residue.ensures after.residue after.tail size after.given refl
+    then_checksum-first g.Ck.MidstateRepr.PackedFe32.number g.Ck.Checksum.code s.engine _ _ s.tail _ c.CHECKSUM_LENGTH.result _ [] c.in-None.is c.input_target_residue.ensures after.residue after.tail size after.given refl

@@ -21,7 +21,7 @@ returns-in-Some-clause-steps g c =
       pulled = pulled_next g.I.Iterator.next_gives _ _ _ c.in-Some.ensures.steps;
       ended = search rules;
       nothing_left = tt;
-      gave = λ rest z. then_checksum-more g.Ck.MidstateRepr.PackedFe32.number g.Ck.Checksum.code s.engine.residue _ s.tail c.in-Some.fe rest
+      gave = λ rest z. then_checksum-more g.Ck.MidstateRepr.PackedFe32.number g.Ck.Checksum.code s.engine _ s.tail c.in-Some.fe rest
           (no_tail s.tail (fuse_done s.elements) c.in-Some.fe _ s.ended c.in-Some.ensures.steps.0) c.input_fe.ensures;
     }
 
@@ -37,7 +37,7 @@ returns-in-None-clause-steps g c =
       ended = search rules;
       nothing_left = after.nothing_left;
       gave = λ rest z.
-          ap (then_checksum number code s.engine.residue s.tail) (z (search rules))
+          ap (then_checksum number code s.engine s.tail) (z (search rules))
           ∙ after.gives
-          ∙ ap (λ l. then_gives c.next_of_checksum.result (then_checksum number code c.next_of_checksum.new.self.engine.residue c.next_of_checksum.new.self.tail l)) (sym (z (search rules)));
+          ∙ ap (λ l. then_gives c.next_of_checksum.result (then_checksum number code c.next_of_checksum.new.self.engine c.next_of_checksum.new.self.tail l)) (sym (z (search rules)));
     }

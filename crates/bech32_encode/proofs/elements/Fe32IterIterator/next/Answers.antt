@@ -12,5 +12,5 @@ returns-in-Some-clause-steps g c =
       pulled = pulled_none (version_steps g.I.Iterator.next_gives) s.checksummed.elements;
       ended = tt;
       nothing_left = tt;
-      gave = λ rest z. ap (λ l. l ++ then_checksum g.Ck.MidstateRepr.PackedFe32.number g.Ck.Checksum.code s.checksummed.engine.residue s.checksummed.tail rest) c.in-Some.ensures.steps;
+      gave = λ rest z. ap (λ l. l ++ then_checksum g.Ck.MidstateRepr.PackedFe32.number g.Ck.Checksum.code s.checksummed.engine s.checksummed.tail rest) c.in-Some.ensures.steps;
     }

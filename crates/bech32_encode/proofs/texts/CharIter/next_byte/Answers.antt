@@ -12,7 +12,7 @@ pub returns-then-self-clause-steps : goal.returns-then-self-clause-steps
 returns-then-self-clause-steps g c =
     let s = c.args.self.now in (
       front_step (version_steps g.I.Iterator.next_gives)
-          (λ v. v.elements) (λ v xs. then_checksum g.Ck.MidstateRepr.PackedFe32.number g.Ck.Checksum.code v.engine.residue v.tail xs)
+          (λ v. v.elements) (λ v xs. then_checksum g.Ck.MidstateRepr.PackedFe32.number g.Ck.Checksum.code v.engine v.tail xs)
           (λ u. u.checksummed) (λ u. drop u.place (text_front u.hrp.now)) char_of_element
           _ _ c.front_byte-byte.result (drop_of_some (text_front s.hrp.now) s.place c.front_byte-byte.result c.front_byte-byte.ensures.byte) refl,
       c.front_byte-byte.ensures.ascii,
@@ -23,7 +23,7 @@ returns-in-Some-clause-steps g c =
     let s = c.args.self.now in
     let past = front-past s.hrp.now s.place (omega (arith, c.if-self.false)) in (
       inner_item (version_steps g.I.Iterator.next_gives)
-          (λ v. v.elements) (λ v xs. then_checksum g.Ck.MidstateRepr.PackedFe32.number g.Ck.Checksum.code v.engine.residue v.tail xs)
+          (λ v. v.elements) (λ v xs. then_checksum g.Ck.MidstateRepr.PackedFe32.number g.Ck.Checksum.code v.engine v.tail xs)
           (λ u. u.checksummed) (λ u. drop u.place (text_front u.hrp.now)) char_of_element
           _ _ c.in-Some.fe c.to_char.result c.to_char.ensures.value past past c.in-Some.ensures.steps,
       c.to_char.ensures.ascii,
