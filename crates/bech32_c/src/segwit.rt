@@ -1,7 +1,7 @@
 //! Encodes and decodes segwit addresses.
 
 ghost use Rattle.std.specs.Prelude.{◌≡◌, ◌≢◌, ◌≤◌, ◌∷◌, ℕ, List, length, MatchResult, IfOk, IfErr, OnErr};
-ghost use Rattle.bech32_gf.specs.Fe32.{element};
+ghost use Rattle.bech32_gf.specs.Fe32.{element, value};
 ghost use Rattle.bech32_bits.specs.Bits.{to_fes};
 ghost use Rattle.bech32_checksum.specs.Encoded.{IsEncodedText};
 ghost use Rattle.bech32_hrp.specs.Hrp.{IsHrp, lowered};
@@ -106,7 +106,7 @@ pub extern "C" fn bech32_segwit_encode(
 // Puts the human-readable part and the program of an address into buffers, and answers the length
 // of the one, the version, and the length of the other.
 fn decoded(text: &[u8], hrp: &mut [u8], program: &mut [u8]) -> Result<(usize, Fe32, usize), Refusal>
-    ensures value { IfOk result (λ n. PutsProgram text.now hrp.old hrp.new program.old program.new n.0 n.1.value n.2) }
+    ensures value { IfOk result (λ n. PutsProgram text.now hrp.old hrp.new program.old program.new n.0 (value n.1) n.2) }
     ensures refused { IfErr result (λ e. IsSegwitDecodeFault text.now (length hrp.old) (length program.old) e) }
     ensures same { OnErr result ((hrp.new ≡ hrp.old) × (program.new ≡ program.old)) }
 {

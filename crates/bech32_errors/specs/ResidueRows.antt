@@ -1,8 +1,8 @@
 -- The remainders that a residue error carries, by their coefficients.
-use Rattle.std.specs.Prelude.{◌≢◌, ℕ, Bool, List, ◌==◌}
+use Rattle.std.specs.Prelude.{◌≢◌, Bool, List, ◌==◌}
 use Rattle.std.specs.Cmp.Lexicographic.{pointwise}
 use Rattle.std.specs.Ordering.{eq_of_both, on}
-use Rattle.bech32_gf.specs.Fe32.{ops}
+use Rattle.bech32_gf.specs.Fe32.{ops, value}
 use Rattle.bech32_gf.specs.declared.gf32.Fe32.{Fe32}
 use Rattle.bech32_poly.specs.Polynomial.{IsSamePolynomial}
 use Rattle.bech32_poly.specs.Remainder.{IsRemainder}
@@ -17,15 +17,11 @@ actual_row e = e.actual.digits
 abbrev pub target_row : InvalidResidueError → List Fe32
 target_row e = e.target.digits
 
--- the value of an element
-abbrev pub value_of_element : Fe32 → ℕ
-value_of_element x = x.value
-
 -- two have the same coefficients of both
 abbrev pub has_same_rows : InvalidResidueError → InvalidResidueError → Bool
 has_same_rows =
-    eq_of_both (on actual_row (pointwise (on value_of_element ◌==◌)))
-    (on target_row (pointwise (on value_of_element ◌==◌)))
+    eq_of_both (on actual_row (pointwise (on value ◌==◌)))
+    (on target_row (pointwise (on value ◌==◌)))
 
 -- the error carries the remainder that a polynomial leaves, which is not the target, and the target
 pub record IsResidueError (code : Code) (polynomial : List Fe32) (e : InvalidResidueError) : Type 0 where

@@ -1,6 +1,7 @@
 //! The rules of segwit addresses (BIP-173, Segwit address format; BIP-350).
 
 ghost use Rattle.std.specs.Prelude.{◌≡◌, ◌↔◌, ◌<◌, ◌≤◌, MatchResult, IsTrue};
+ghost use Rattle.bech32_gf.specs.Fe32.{value};
 ghost use Rattle.bech32_errors.specs.SegwitRules.{IsProgramLength, IsLengthRefusal};
 
 use bech32_gf::gf32::Fe32;
@@ -38,7 +39,7 @@ pub enum WitnessLengthError {
 
 /// Whether an element is a witness version: from 0 to 16.
 pub fn is_valid_witness_version(witness_version: Fe32) -> bool
-    ensures { IsTrue result ↔ (witness_version.value ≤ 16) }
+    ensures { IsTrue result ↔ (value witness_version ≤ 16) }
 {
     validate_witness_version(witness_version).is_ok()
 }
@@ -58,8 +59,8 @@ pub fn is_valid_witness_program_length(length: usize, witness_version: Fe32) -> 
 /// The element, where it is above 16.
 pub fn validate_witness_version(witness_version: Fe32) -> Result<(), InvalidWitnessVersionError>
     ensures { MatchResult result
-        (λ _. witness_version.value ≤ 16)
-        (λ e. (16 < witness_version.value) × (e.0 ≡ witness_version)) }
+        (λ _. value witness_version ≤ 16)
+        (λ e. (16 < value witness_version) × (e.0 ≡ witness_version)) }
 {
     if witness_version.to_u8() > 16 {
         return Err(InvalidWitnessVersionError(witness_version));
