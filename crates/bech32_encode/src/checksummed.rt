@@ -88,6 +88,8 @@ impl<I: Clone, Ck: Checksum> Clone for Checksummed<I, Ck> {
     ghost is_clone = { IsAdaptorClone ⟦<Fuse<I> as Clone>⟧.is_clone ⟦<Checksummed<I, Ck> as Adaptor>⟧.source
         ⟦<Checksummed<I, Ck> as Adaptor>⟧.gives ⟦<Checksummed<I, Ck> as Adaptor>⟧.more };
 
+    ghost is_infallible = { λ s. ⟦<Fuse<I> as Clone>⟧.is_infallible (⟦<Checksummed<I, Ck> as Adaptor>⟧.source s) };
+
     fn clone(&self) -> Result<Self, AllocError> {
         Ok(Checksummed {
             elements: self.elements.clone()?,

@@ -1,7 +1,7 @@
 //! Elements behind a witness version.
 
 ghost use Rattle.std.specs.Prelude.{◌≡◌, ◌+◌, ◌++◌, false, option_to_list, IfSome};
-ghost use Rattle.std.specs.Iterator.{UpTo, count_map};
+ghost use Rattle.std.specs.Iterator.{UpTo, MakesProgress, count_map};
 ghost use Rattle.std.specs.Iterator.Adapters.{fuse_source, fuse_done};
 ghost use Rattle.std.specs.Iterator.SizeHint.{IsWithinCount};
 ghost use Rattle.bech32_bits.specs.SizeHints.{FollowsHint};
@@ -46,7 +46,7 @@ impl<I: Iterator<Item = Fe32>> Iterator for WitnessVersionIter<I> {
     type Item = Fe32;
 
     ghost use Rattle.bech32_bits.specs.Adaptor.{fuse_can, fuse_left};
-    ghost use Rattle.bech32_encode.specs.WitnessVersion.{version_source, version_steps, version_more};
+    ghost use Rattle.bech32_encode.specs.WitnessVersion.{version_source, version_of, version_steps, version_more};
 
     ghost can_next = { λ s. fuse_can I.can_next (version_source s) };
 
@@ -55,7 +55,14 @@ impl<I: Iterator<Item = Fe32>> Iterator for WitnessVersionIter<I> {
     ghost remaining = { λ s. count_map (λ n. n + version_more s) (fuse_left I.remaining (version_source s)) };
 
     #[inline]
-    fn next(&mut self) -> Option<Fe32> {
+    fn next(&mut self) -> Option<Fe32>
+        requires { fuse_can I.can_next (version_source self.old) }
+        ensures steps { version_steps I.next_gives self.old result self.new }
+        ensures goes { MakesProgress ⟦<WitnessVersionIter<I> as Iterator>⟧.can_next
+            ⟦<WitnessVersionIter<I> as Iterator>⟧.remaining self.old result self.new }
+        // While the version is to come, no element is asked for.
+        ensures waits { IfSome (version_of self.old) (λ _. version_source self.new ≡ version_source self.old) }
+    {
         match self.version {
             Some(version) => {
                 self.version = None;
