@@ -1,0 +1,5 @@
+use Rattle.std.proofs.Common.{rules}
+use Rattle.bech32_decode.proofs.unchecked.UncheckedHrpstring.validate_and_remove_checksum.Goals as goal
+
+pub returns : goal.returns
+returns g c = search rules
