@@ -7,7 +7,12 @@ ghost use Rattle.bech32_gf.specs.Fe32 as fe32;
 ghost use Rattle.bech32_poly.specs.Polynomial.{add, scale};
 ghost use Rattle.bech32_poly.specs.Remainder.{IsRemainder};
 
+mod coefficients;
+mod roots;
+
 use bech32_gf::gf32::Fe32;
+pub use coefficients::{Polynomial, evaluate};
+pub use roots::RootIter;
 use std::alloc::{AllocError, Allocator};
 
 // Takes factor times x^k times the polynomial `low` off, for the k at which the two end at one

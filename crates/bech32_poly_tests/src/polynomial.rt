@@ -1,0 +1,107 @@
+use bech32_gf::field::Field;
+use bech32_gf::gf32::Fe32;
+use bech32_gf_ext::Fe1024;
+use bech32_poly::polynomial::{Polynomial, RootIter, evaluate};
+use super::compare::{same, same_items};
+use bech32_testing::seven::Seven;
+use linked_list_allocator::LocalHeap;
+use std::alloc::Global;
+use std::test::Fail;
+
+// The generator of Bech32: its lower coefficients are 18, 29, 21, 20, 22, 29.
+const GENERATOR: [Fe32; 7] = [
+    Fe32::J,
+    Fe32::A,
+    Fe32::_4,
+    Fe32::_5,
+    Fe32::K,
+    Fe32::A,
+    Fe32::P,
+];
+
+#[test]
+fn zeros_at_the_high_end(rt: HostRuntime) -> Result<(), Fail> {
+    let alloc = rt.alloc();
+    let list = [Fe32::Z, Fe32::Q, Fe32::P, Fe32::Q, Fe32::Q];
+    let polynomial = Polynomial::from_slice(alloc, &list)?;
+    same(&rt, &polynomial.degree(), &2);
+    same_items(&rt, polynomial.coefficients(), &list[..3]);
+    same(&rt, &polynomial.leading_coefficient(), &Fe32::P);
+    let zero = Polynomial::from_slice(alloc, &[Fe32::Q, Fe32::Q])?;
+    same(&rt, &zero.degree(), &0);
+    same(&rt, &zero.coefficients().len(), &0);
+    same(&rt, &zero.leading_coefficient(), &Fe32::Q);
+    Ok(())
+}
+
+#[test]
+fn products(rt: HostRuntime) -> Result<(), Fail> {
+    let alloc = rt.alloc();
+    let p = Polynomial::from_slice(alloc, &[Seven::new(1), Seven::new(2)])?;
+    let q = Polynomial::from_slice(alloc, &[Seven::new(3), Seven::new(4)])?;
+    let product = [Seven::new(3), Seven::new(3), Seven::new(1)];
+    same_items(&rt, p.multiply(&q)?.coefficients(), &product);
+    same_items(&rt, p.multiply_below(&q, 2)?.coefficients(), &product[..2]);
+    same_items(&rt, p.multiply_below(&q, 9)?.coefficients(), &product);
+    same_items(&rt, p.multiply_below(&q, 0)?.coefficients(), &[]);
+    let turned = [Seven::new(2), Seven::new(1)];
+    same_items(&rt, p.reversed()?.coefficients(), &turned);
+    same_items(&rt, p.clone()?.coefficients(), &[Seven::new(1), Seven::new(2)]);
+    Ok(())
+}
+
+#[test]
+fn roots_of_a_generator(rt: HostRuntime) -> Result<(), Fail> {
+    let alloc = rt.alloc();
+    let generator = Polynomial::from_slice(alloc, &GENERATOR)?;
+    let base = Fe1024::new([Fe32::P, Fe32::X]);
+    let roots: Vec<usize> = RootIter::new(&generator, base, 0, 1023)?.collect(alloc)?;
+    same_items(&rt, &roots, &[24, 25, 26, 768, 800, 832]);
+    let some: Vec<usize> = RootIter::new(&generator, base, 25, 800)?.collect(alloc)?;
+    same_items(&rt, &some, &[25, 26, 768]);
+    let none: Vec<usize> = RootIter::new(&generator, base, 26, 26)?.collect(alloc)?;
+    same_items(&rt, &none, &[]);
+    same(&rt, &evaluate(&generator, base.powi(24)), &Fe1024::ZERO);
+    let at_one = Fe1024::from(Fe32::J + Fe32::A + Fe32::_4 + Fe32::_5 + Fe32::K + Fe32::A + Fe32::P);
+    same(&rt, &evaluate(&generator, Fe1024::ONE), &at_one);
+    Ok(())
+}
+
+// How many of the calls that take memory are refused it by a heap of so many bytes.
+fn refusals(alloc: Global, count: usize, bytes: usize) -> Result<usize, Fail> {
+    let heap = LocalHeap::new(alloc, bytes)?;
+    let ones = [Fe32::P; 20];
+    let list = ones.get(..count).ok_or("too many")?;
+    let Ok(polynomial) = Polynomial::from_slice(&heap, list) else {
+        return Ok(6);
+    };
+    let base = Fe1024::GENERATOR;
+    let given = [
+        polynomial.clone().is_ok(),
+        polynomial.reversed().is_ok(),
+        polynomial.multiply(&polynomial).is_ok(),
+        polynomial.multiply_below(&polynomial, count).is_ok(),
+        RootIter::new(&polynomial, base, 0, 9).is_ok(),
+    ];
+    Ok(given.iter().filter(|given| !**given).count())
+}
+
+#[test]
+fn seven_coefficients_take_no_memory(rt: HostRuntime) -> Result<(), Fail> {
+    same(&rt, &refusals(rt.alloc(), 4, 0)?, &0);
+    same(&rt, &refusals(rt.alloc(), 7, 0)?, &1);
+    Ok(())
+}
+
+#[test]
+fn twenty_coefficients_or_want_of_memory(rt: HostRuntime) -> Result<(), Fail> {
+    let mut seen = [0u32; 7];
+    for size in 0..256usize {
+        let refused = refusals(rt.alloc(), 20, 16 * size)?;
+        if refused < 7 {
+            seen[refused] = seen[refused].saturating_add(1);
+        }
+    }
+    assert!(rt; 1 <= seen[6] && 1 <= seen[0] && 1 <= seen[1], "{:?}", seen);
+    Ok(())
+}
