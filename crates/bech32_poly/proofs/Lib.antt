@@ -1,4 +1,5 @@
 pub mod Appended
+pub mod Below
 pub mod Embedding
 pub mod Lists
 pub mod LongDivision

@@ -4,7 +4,7 @@ use Rattle.std.proofs.lemmas.List.{length-append, get_or_append_left, get_or-app
 use Rattle.std.proofs.Math.Decide.{dec_le, dec_lt}
 use Rattle.bech32_gf.specs.Field.{Ops}
 use Rattle.bech32_poly.specs.Polynomial.{coefficient}
-use Rattle.bech32_poly.specs.Register.{back_sum, Generates, continued, item_at, from_place}
+use Rattle.bech32_poly.specs.Register.{back_sum, Generates, GivesAllOf, continued, item_at, from_place}
 
 module _ {F : Type 0} (o : Ops F) where
   -- only the items before the place count
@@ -93,9 +93,17 @@ module _ {F : Type 0} (o : Ops F) where
         | no p ↦ item_at-follows cs items n (omega (arith, size)) (omega arith)
       ]
 
-  -- the same of a ring that begins at its first place
-  pub goes_on : (cs items ring : List F) → Generates o cs items → ring ≡ take (length cs) items → (n : ℕ) → item_at o cs (from_place 0 ring) n ≡ item_at o cs items n
-  goes_on cs items ring h is n = ap (λ u. item_at o cs u n) (append-nil ring ∙ is) ∙ item_at-first cs items h n
+  -- a ring that begins at its first place gives all of the items
+  pub goes_on : (cs items ring : List F) → Generates o cs items → ring ≡ take (length cs) items → GivesAllOf o items (record { coefficients = cs; coming = from_place 0 ring })
+  goes_on cs items ring h is = record {
+    begins = λ n within. same n ∙ item_at-listed cs items n within;
+    follows = λ n behind.
+        same n ∙ item_at-follows cs items n (omega (arith, h.fits)) behind
+        ∙ ap o.neg (back_sum-cong cs (item_at o cs items) (item_at o cs (from_place 0 ring)) n (omega (arith, h.fits)) (λ k less. sym (same k)));
+  }
+    where
+      same : (n : ℕ) → item_at o cs (from_place 0 ring) n ≡ item_at o cs items n
+      same n = ap (λ u. item_at o cs u n) (append-nil ring ∙ is) ∙ item_at-first cs items h n
 
   -- without its first item, where the next one by the register comes behind
   pub item_at-moved : (cs rest : List F) (first : F) → length cs ≡ suc (length rest)

@@ -38,9 +38,10 @@ pub record Register (F : Type 0) : Type 0 where
 abbrev pub to_come : {F : Type 0} → Ops F → Register F → ℕ → F
 to_come o r n = item_at o r.coefficients r.coming n
 
--- the items to come are these, and then those that the register goes on with
-abbrev pub GivesAllOf : {F : Type 0} → Ops F → List F → Register F → Type 0
-GivesAllOf o items r = (n : ℕ) → to_come o r n ≡ item_at o r.coefficients items n
+-- the items to come are these, and then each is minus the sum of coefficient times earlier item, without end
+pub record GivesAllOf {F : Type 0} (o : Ops F) (items : List F) (r : Register F) : Type 0 where
+  pub begins : (n : ℕ) → n < length items → to_come o r n ≡ coefficient o items n
+  pub follows : (n : ℕ) → length items ≤ n → to_come o r n ≡ o.neg (back_sum o r.coefficients (to_come o r) n)
 
 -- an iterator gives the first item to come, and those after it stay to come
 abbrev pub GivesNext : {F : Type 0} → Ops F → Register F → Option F → Register F → Type 0

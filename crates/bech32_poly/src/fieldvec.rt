@@ -2,11 +2,14 @@
 
 ghost use Rattle.std.specs.Prelude.{◌≡◌, ◌≤◌, ◌<◌, ◌+◌, ◌++◌, ◌∷◌, ◌==◌, [], List, length, slice_set, IfOk, IsOk, OnErr, OnOk};
 ghost use Rattle.bech32_poly.specs.FieldVec.{FitsInPlace};
+ghost use Rattle.bech32_poly.specs.Division.{zeros};
 ghost use Rattle.bech32_poly.specs.Polynomial.{add, scale};
+ghost use Rattle.bech32_poly.specs.Remainder.{IsRemainder};
 ghost use Rattle.bech32_poly.specs.RootSearch.{multiplied_each};
 ghost use Rattle.bech32_poly.specs.Window.{shifted};
 
 use crate::arithmetic::Arithmetic;
+use crate::polynomial::divide;
 use bech32_gf::field::Field;
 use smallvec::SmallVec;
 use std::alloc::{AllocError, Allocator, Global};
@@ -114,6 +117,15 @@ impl<F: Field, A: Allocator + Copy> FieldVec<F, A> {
         ensures { self.new ≡ multiplied_each F.ops self.old factors.now }
     {
         multiply_each(self.inner.as_mut_slice(), factors);
+    }
+
+    // Divides a polynomial by the monic one with the lower coefficients `low`: the remainder
+    // comes in the place of zeros.
+    pub(crate) fn divide(&mut self, polynomial: &[F], low: &[F])
+        requires { self.old ≡ zeros F.ops (length low.now) }
+        ensures { IsRemainder F.ops low.now polynomial.now self.new }
+    {
+        divide(self.inner.as_mut_slice(), polynomial, low);
     }
 
     // The allocator.

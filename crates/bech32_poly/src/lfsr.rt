@@ -153,7 +153,7 @@ fn window_sum<F: Field>(register: &[F], items: &[F], start: usize) -> F
 }
 
 // A copy with zeros put in below it.
-fn shifted_copy<F: Field, A: Allocator + Copy>(
+pub(crate) fn shifted_copy<F: Field, A: Allocator + Copy>(
     alloc: A,
     source: &[F],
     shift: usize,

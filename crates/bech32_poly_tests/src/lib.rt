@@ -4,9 +4,13 @@
 #[cfg(test)]
 mod compare;
 #[cfg(test)]
+mod fieldvec;
+#[cfg(test)]
 mod lfsr;
 #[cfg(test)]
 mod polynomial;
+#[cfg(test)]
+mod remainder;
 #[cfg(test)]
 mod vectors;
 #[cfg(test)]

@@ -1,7 +1,7 @@
 use bech32_gf::field::Field;
 use bech32_gf::gf32::Fe32;
 use bech32_gf_ext::Fe1024;
-use bech32_poly::polynomial::{Polynomial, RootIter, evaluate};
+use bech32_poly::polynomial::{Polynomial, RootIter, evaluate, remainder};
 use super::compare::{same, same_items};
 use bech32_testing::seven::Seven;
 use linked_list_allocator::LocalHeap;
@@ -67,41 +67,51 @@ fn roots_of_a_generator(rt: HostRuntime) -> Result<(), Fail> {
     Ok(())
 }
 
-// How many of the calls that take memory are refused it by a heap of so many bytes.
-fn refusals(alloc: Global, count: usize, bytes: usize) -> Result<usize, Fail> {
+// Of the calls that take memory, which ones a heap of so many bytes refuses it; `None` where the
+// polynomial of so many ones itself does not fit.
+fn refused(alloc: Global, count: usize, bytes: usize) -> Result<Option<[bool; 7]>, Fail> {
     let heap = LocalHeap::new(alloc, bytes)?;
     let ones = [Fe32::P; 20];
     let list = ones.get(..count).ok_or("too many")?;
     let Ok(polynomial) = Polynomial::from_slice(&heap, list) else {
-        return Ok(6);
+        return Ok(None);
     };
-    let base = Fe1024::GENERATOR;
-    let given = [
-        polynomial.clone().is_ok(),
-        polynomial.reversed().is_ok(),
-        polynomial.multiply(&polynomial).is_ok(),
-        polynomial.multiply_below(&polynomial, count).is_ok(),
-        RootIter::new(&polynomial, base, 0, 9).is_ok(),
-    ];
-    Ok(given.iter().filter(|given| !**given).count())
+    Ok(Some([
+        polynomial.clone().is_err(),
+        polynomial.reversed().is_err(),
+        polynomial.multiply(&polynomial).is_err(),
+        polynomial.multiply_below(&polynomial, count).is_err(),
+        polynomial.remainder(list).is_err(),
+        RootIter::new(&polynomial, Fe1024::GENERATOR, 0, 9).is_err(),
+        remainder(&heap, list, list).is_err(),
+    ]))
 }
 
+// Only a product that is too long takes memory, and a vector.
 #[test]
 fn seven_coefficients_take_no_memory(rt: HostRuntime) -> Result<(), Fail> {
-    same(&rt, &refusals(rt.alloc(), 4, 0)?, &0);
-    same(&rt, &refusals(rt.alloc(), 7, 0)?, &1);
+    let four = [false, false, false, false, false, false, true];
+    same(&rt, &refused(rt.alloc(), 4, 0)?, &Some(four));
+    let seven = [false, false, true, false, false, false, true];
+    same(&rt, &refused(rt.alloc(), 7, 0)?, &Some(seven));
     Ok(())
 }
 
 #[test]
 fn twenty_coefficients_or_want_of_memory(rt: HostRuntime) -> Result<(), Fail> {
-    let mut seen = [0u32; 7];
+    let mut refusals = [0u32; 7];
+    let mut missing = 0u32;
     for size in 0..256usize {
-        let refused = refusals(rt.alloc(), 20, 16 * size)?;
-        if refused < 7 {
-            seen[refused] = seen[refused].saturating_add(1);
+        match refused(rt.alloc(), 20, 16 * size)? {
+            None => missing = missing.saturating_add(1),
+            Some(calls) => {
+                for (count, call) in refusals.iter_mut().zip(calls) {
+                    *count = count.saturating_add(u32::from(call));
+                }
+            }
         }
     }
-    assert!(rt; 1 <= seen[6] && 1 <= seen[0] && 1 <= seen[1], "{:?}", seen);
+    let few = refusals.iter().all(|count| 1 <= *count && *count < 200);
+    assert!(rt; few && 1 <= missing && missing < 56, "{missing} {:?}", refusals);
     Ok(())
 }

@@ -3,10 +3,11 @@ ghost use Rattle.bech32_gf.specs.Field.{value_at};
 ghost use Rattle.bech32_poly.specs.Degree.{IsDegree, HasNoZeroAbove};
 ghost use Rattle.bech32_poly.specs.FieldVec.{FitsInPlace};
 ghost use Rattle.bech32_poly.specs.Polynomial.{BeginsAs, IsSamePolynomial, coefficient, multiply};
+ghost use Rattle.bech32_poly.specs.Remainder.{IsRemainder};
 
 use crate::arithmetic::{Arithmetic, Embedding};
 use crate::fieldvec::FieldVec;
-use crate::lfsr::turned_copy;
+use crate::lfsr::{shifted_copy, turned_copy};
 use bech32_gf::field::{ExtensionField, Field};
 use std::alloc::{AllocError, Allocator, Global};
 use std::marker::Model;
@@ -25,7 +26,8 @@ impl<F: Field, A: Allocator + Copy> Model for Polynomial<F, A> {
 }
 
 impl<F: Field, A: Allocator + Copy> Polynomial<F, A> {
-    /// The polynomial with these coefficients, the constant one first.
+    /// The polynomial with these coefficients, the constant one first. The coefficients of a
+    /// remainder, in that order, make its polynomial too.
     ///
     /// # Errors
     ///
@@ -107,6 +109,21 @@ impl<F: Field, A: Allocator + Copy> Polynomial<F, A> {
         Ok(Polynomial {
             list: turned_copy(self.list.allocator(), self.list.as_slice())?,
         })
+    }
+
+    /// The remainder by the monic polynomial whose lower coefficients are `low`, the constant one
+    /// first. It has a coefficient for each of them, and no more than it takes memory.
+    ///
+    /// # Errors
+    ///
+    /// Where memory runs out.
+    pub fn remainder(&self, low: &[F]) -> Result<Self, AllocError>
+        ensures remainder { IfOk result (λ p. IsRemainder F.ops low.now self.now p) }
+        ensures in_place { FitsInPlace (length low.now) → IsOk result }
+    {
+        let mut list = shifted_copy(self.list.allocator(), &[], low.len())?;
+        list.divide(self.list.as_slice(), low);
+        Ok(Polynomial { list })
     }
 
     // The coefficients as they were given.

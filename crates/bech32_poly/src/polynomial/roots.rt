@@ -1,4 +1,4 @@
-ghost use Rattle.std.specs.Prelude.{◌≡◌, ◌≤◌, ◌<◌, ◌+◌, length, map, IfOk, IsOk, MatchOption};
+ghost use Rattle.std.specs.Prelude.{◌≡◌, ◌≤◌, ◌<◌, ◌+◌, ℕ, List, length, map, IfOk, IsOk, MatchOption};
 ghost use Rattle.std.specs.Iterator.{YieldsFirst, item_count};
 ghost use Rattle.bech32_gf.specs.Field.{power};
 ghost use Rattle.bech32_poly.specs.FieldVec.{FitsInPlace};
@@ -15,18 +15,13 @@ use std::marker::Model;
 /// exponent to the next each term is multiplied once, by the power of the base that stands in it.
 #[derive(Drop)]
 pub struct RootIter<E: Field, A: Allocator + Copy = Global> {
-    terms: FieldVec<E, A>,
-    factors: FieldVec<E, A>,
-    next: usize,
-    end: usize,
+    search: Search<E, A>,
 }
 
 impl<E: Field, A: Allocator + Copy> Model for RootIter<E, A> {
-    ghost Value = { RootSearch E };
+    ghost Value = { List ℕ };
 
-    ghost view = { λ a. record { terms = a.terms; factors = a.factors; next = a.next; end = a.end } };
-
-    ghost invariant = { λ a. length a.factors ≡ length a.terms };
+    ghost view = { λ a. left_of E.ops E.eq a.search };
 }
 
 impl<E: ExtensionField, A: Allocator + Copy> RootIter<E, A> {
@@ -43,8 +38,56 @@ impl<E: ExtensionField, A: Allocator + Copy> RootIter<E, A> {
         start: usize,
         end: usize,
     ) -> Result<Self, AllocError>
-        ensures roots { IfOk result (λ r.
-            left_of E.ops E.eq r ≡ root_exponents E.ops E.eq (map E.embed polynomial.now) base start end) }
+        ensures roots { IfOk result (λ left.
+            left ≡ root_exponents E.ops E.eq (map E.embed polynomial.now) base start end) }
+        ensures in_place { FitsInPlace (length polynomial.now) → IsOk result }
+    {
+        Ok(RootIter {
+            search: Search::new(polynomial, base, start, end)?,
+        })
+    }
+}
+
+impl<E: Field, A: Allocator + Copy> Iterator for RootIter<E, A> {
+    type Item = usize;
+
+    ghost next_gives = { YieldsFirst (λ left. left) };
+
+    ghost remaining = { item_count (λ left. left) };
+
+    fn next(&mut self) -> Option<usize> {
+        self.search.next_root()
+    }
+}
+
+// The terms of a polynomial at the power of the base that comes next, with the power of the base
+// in each, and how far the exponents go.
+#[derive(Drop)]
+struct Search<E: Field, A: Allocator + Copy> {
+    terms: FieldVec<E, A>,
+    factors: FieldVec<E, A>,
+    next: usize,
+    end: usize,
+}
+
+impl<E: Field, A: Allocator + Copy> Model for Search<E, A> {
+    ghost Value = { RootSearch E };
+
+    ghost view = { λ a. record { terms = a.terms; factors = a.factors; next = a.next; end = a.end } };
+
+    ghost invariant = { λ a. length a.factors ≡ length a.terms };
+}
+
+impl<E: ExtensionField, A: Allocator + Copy> Search<E, A> {
+    // A search that stands at `start`.
+    fn new(
+        polynomial: &Polynomial<E::BaseField, A>,
+        base: E,
+        start: usize,
+        end: usize,
+    ) -> Result<Self, AllocError>
+        ensures roots { IfOk result (λ s.
+            left_of E.ops E.eq s ≡ root_exponents E.ops E.eq (map E.embed polynomial.now) base start end) }
         ensures in_place { FitsInPlace (length polynomial.now) → IsOk result }
     {
         let first = power_of(base, start);
@@ -58,7 +101,7 @@ impl<E: ExtensionField, A: Allocator + Copy> RootIter<E, A> {
             power = power.times(first);
             factor = factor.times(base);
         }
-        Ok(RootIter {
+        Ok(Search {
             terms,
             factors,
             next: start,
@@ -67,7 +110,19 @@ impl<E: ExtensionField, A: Allocator + Copy> RootIter<E, A> {
     }
 }
 
-impl<E: Field, A: Allocator + Copy> RootIter<E, A> {
+impl<E: Field, A: Allocator + Copy> Search<E, A> {
+    // The exponent of the next root, where one is left.
+    fn next_root(&mut self) -> Option<usize>
+        ensures { YieldsFirst (left_of E.ops E.eq) self.old result self.new }
+    {
+        while let Some(exponent) = self.exponent() {
+            if self.step() {
+                return Some(exponent);
+            }
+        }
+        None
+    }
+
     // The exponent that comes next, where one is left.
     fn exponent(&self) -> Option<usize>
         ensures { MatchOption result (self.now.end ≤ self.now.next)
@@ -93,23 +148,6 @@ impl<E: Field, A: Allocator + Copy> RootIter<E, A> {
         self.terms.multiply_each(self.factors.as_slice());
         self.next += 1;
         is_root
-    }
-}
-
-impl<E: Field, A: Allocator + Copy> Iterator for RootIter<E, A> {
-    type Item = usize;
-
-    ghost next_gives = { YieldsFirst (left_of E.ops E.eq) };
-
-    ghost remaining = { item_count (left_of E.ops E.eq) };
-
-    fn next(&mut self) -> Option<usize> {
-        while let Some(exponent) = self.exponent() {
-            if self.step() {
-                return Some(exponent);
-            }
-        }
-        None
     }
 }
 

@@ -3,7 +3,7 @@ use Rattle.std.proofs.lemmas.List.{take_all, length-map, length-take-le}
 use Rattle.bech32_gf.specs.Field.{Ops, IsField}
 use Rattle.bech32_gf.specs.laws.FieldLaws.{power-zero}
 use Rattle.bech32_poly.proofs.RootTerms.{terms_from, terms_next, factors_next, power_next, search_of, length-terms_from, length-factors_from}
-use Rattle.bech32_poly.proofs.polynomial.roots.RootIter.new.Goals as goal
+use Rattle.bech32_poly.proofs.polynomial.roots.Search.new.Goals as goal
 
 refused : {P : Type 0} → false ≡ true → P
 refused h = absurd (cc h)

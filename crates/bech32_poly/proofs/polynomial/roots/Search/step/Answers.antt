@@ -1,7 +1,7 @@
 use Rattle.std.proofs.Common.{length, sym, ap, ◌∙◌}
 use Rattle.bech32_poly.specs.RootSearch.{value_after, total_of, multiplied_each}
 use Rattle.bech32_poly.proofs.RootTerms.{value_after-now, length-multiplied_each}
-use Rattle.bech32_poly.proofs.polynomial.roots.RootIter.step.Goals as goal
+use Rattle.bech32_poly.proofs.polynomial.roots.Search.step.Goals as goal
 
 pub invariant_of-self : goal.invariant_of-self
 invariant_of-self g c =
