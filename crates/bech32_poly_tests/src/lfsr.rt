@@ -1,7 +1,7 @@
+use super::compare::{same, same_items};
 use bech32_gf::field::Field;
 use bech32_gf::gf32::Fe32;
 use bech32_poly::lfsr::LfsrIter;
-use super::compare::{same, same_items};
 use bech32_testing::seven::Seven;
 use linked_list_allocator::LocalHeap;
 use std::alloc::{AllocError, Allocator, Global};
@@ -92,8 +92,26 @@ fn integers_modulo_seven(rt: HostRuntime) -> Result<(), Fail> {
 // whether each could be made.
 fn made(alloc: Global, count: usize, bytes: usize) -> Result<(bool, bool), Fail> {
     let list = [
-        Fe32::P, Fe32::Z, Fe32::R, Fe32::Y, Fe32::_9, Fe32::X, Fe32::_8, Fe32::G, Fe32::F, Fe32::_2,
-        Fe32::T, Fe32::V, Fe32::D, Fe32::W, Fe32::_0, Fe32::S, Fe32::_3, Fe32::J, Fe32::N, Fe32::_5,
+        Fe32::P,
+        Fe32::Z,
+        Fe32::R,
+        Fe32::Y,
+        Fe32::_9,
+        Fe32::X,
+        Fe32::_8,
+        Fe32::G,
+        Fe32::F,
+        Fe32::_2,
+        Fe32::T,
+        Fe32::V,
+        Fe32::D,
+        Fe32::W,
+        Fe32::_0,
+        Fe32::S,
+        Fe32::_3,
+        Fe32::J,
+        Fe32::N,
+        Fe32::_5,
     ];
     let heap = LocalHeap::new(alloc, bytes)?;
     let items = list.get(..count).ok_or("too many")?;
@@ -125,6 +143,9 @@ fn twenty_items_or_want_of_memory(rt: HostRuntime) -> Result<(), Fail> {
             (true, false) => {}
         }
     }
-    assert!(rt; 1 <= refused && refused < 64 && 1 <= cloned, "{refused} {cloned}");
+    assert!(rt;
+        1 <= refused && refused < 64 && 1 <= cloned,
+        "{refused} {cloned}"
+    );
     Ok(())
 }

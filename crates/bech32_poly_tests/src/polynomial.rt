@@ -1,8 +1,8 @@
+use super::compare::{same, same_items};
 use bech32_gf::field::Field;
 use bech32_gf::gf32::Fe32;
 use bech32_gf_ext::Fe1024;
 use bech32_poly::polynomial::{Polynomial, RootIter, evaluate, remainder};
-use super::compare::{same, same_items};
 use bech32_testing::seven::Seven;
 use linked_list_allocator::LocalHeap;
 use std::alloc::Global;
@@ -46,7 +46,11 @@ fn products(rt: HostRuntime) -> Result<(), Fail> {
     same_items(&rt, p.multiply_below(&q, 0)?.coefficients(), &[]);
     let turned = [Seven::new(2), Seven::new(1)];
     same_items(&rt, p.reversed()?.coefficients(), &turned);
-    same_items(&rt, p.clone()?.coefficients(), &[Seven::new(1), Seven::new(2)]);
+    same_items(
+        &rt,
+        p.clone()?.coefficients(),
+        &[Seven::new(1), Seven::new(2)],
+    );
     Ok(())
 }
 
@@ -62,7 +66,9 @@ fn roots_of_a_generator(rt: HostRuntime) -> Result<(), Fail> {
     let none: Vec<usize> = RootIter::new(&generator, base, 26, 26)?.collect(alloc)?;
     same_items(&rt, &none, &[]);
     same(&rt, &evaluate(&generator, base.powi(24)), &Fe1024::ZERO);
-    let at_one = Fe1024::from(Fe32::J + Fe32::A + Fe32::_4 + Fe32::_5 + Fe32::K + Fe32::A + Fe32::P);
+    let at_one = Fe1024::from(
+        Fe32::J + Fe32::A + Fe32::_4 + Fe32::_5 + Fe32::K + Fe32::A + Fe32::P,
+    );
     same(&rt, &evaluate(&generator, Fe1024::ONE), &at_one);
     Ok(())
 }
@@ -112,6 +118,10 @@ fn twenty_coefficients_or_want_of_memory(rt: HostRuntime) -> Result<(), Fail> {
         }
     }
     let few = refusals.iter().all(|count| 1 <= *count && *count < 200);
-    assert!(rt; few && 1 <= missing && missing < 56, "{missing} {:?}", refusals);
+    assert!(rt;
+        few && 1 <= missing && missing < 56,
+        "{missing} {:?}",
+        refusals
+    );
     Ok(())
 }

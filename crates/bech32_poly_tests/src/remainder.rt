@@ -48,6 +48,12 @@ fn seven(number: u8) -> Seven {
 fn modulo_seven(rt: HostRuntime) -> Result<(), Fail> {
     let alloc = rt.alloc();
     let list = [seven(5), seven(4), seven(3), seven(2), seven(1)];
-    divides(&rt, alloc, &list, &[seven(6), seven(5)], &[seven(3), seven(4)])?;
+    divides(
+        &rt,
+        alloc,
+        &list,
+        &[seven(6), seven(5)],
+        &[seven(3), seven(4)],
+    )?;
     divides(&rt, alloc, &list, &[seven(3)], &[seven(5)])
 }

@@ -1,9 +1,9 @@
+use super::compare::{same, same_items};
 use super::vectors_table;
 use bech32_gf::field::Field;
 use bech32_gf::gf32::Fe32;
 use bech32_gf_ext::Fe32Ext;
 use bech32_poly::lfsr::LfsrIter;
-use super::compare::{same, same_items};
 use std::alloc::Global;
 use std::process::Abort;
 use std::test::Fail;
@@ -73,13 +73,40 @@ fn check_line(rt: &impl Abort, alloc: Global, line: &str) -> Result<(), Fail> {
     let after = words.next().ok_or("no items")?;
     if field == "Fe32" {
         let (list, coefficients) = (digits(alloc, list)?, digits(alloc, coefficients)?);
-        check(rt, alloc, &list, length, &coefficients, &digits(alloc, after)?)
+        check(
+            rt,
+            alloc,
+            &list,
+            length,
+            &coefficients,
+            &digits(alloc, after)?,
+        )
     } else if field == "Fe1024" {
-        let (list, coefficients) = (elements::<2>(alloc, list)?, elements::<2>(alloc, coefficients)?);
-        check(rt, alloc, &list, length, &coefficients, &elements::<2>(alloc, after)?)
+        let (list, coefficients) = (
+            elements::<2>(alloc, list)?,
+            elements::<2>(alloc, coefficients)?,
+        );
+        check(
+            rt,
+            alloc,
+            &list,
+            length,
+            &coefficients,
+            &elements::<2>(alloc, after)?,
+        )
     } else {
-        let (list, coefficients) = (elements::<3>(alloc, list)?, elements::<3>(alloc, coefficients)?);
-        check(rt, alloc, &list, length, &coefficients, &elements::<3>(alloc, after)?)
+        let (list, coefficients) = (
+            elements::<3>(alloc, list)?,
+            elements::<3>(alloc, coefficients)?,
+        );
+        check(
+            rt,
+            alloc,
+            &list,
+            length,
+            &coefficients,
+            &elements::<3>(alloc, after)?,
+        )
     }
 }
 

@@ -1,4 +1,4 @@
-use Rattle.std.proofs.Common.{◌≡◌, ◌∷◌, sym, ap, ◌∙◌}
+use Rattle.std.proofs.Common.{◌∷◌, sym, ap, ◌∙◌}
 use Rattle.bech32_poly.specs.RootSearch.{left_of}
 use Rattle.bech32_poly.proofs.RootTerms.{stepped_found, stepped_missed}
 use Rattle.bech32_poly.proofs.polynomial.roots.Search.next_root.Goals as goal
