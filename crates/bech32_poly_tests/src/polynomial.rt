@@ -5,7 +5,7 @@ use bech32_gf_ext::Fe1024;
 use bech32_poly::polynomial::{Polynomial, RootIter, evaluate, remainder};
 use bech32_testing::seven::Seven;
 use linked_list_allocator::LocalHeap;
-use std::alloc::Global;
+use std::alloc::{AllocError, Global};
 use std::test::Fail;
 
 // The generator of Bech32: its lower coefficients are 18, 29, 21, 20, 22, 29.
@@ -73,42 +73,61 @@ fn roots_of_a_generator(rt: HostRuntime) -> Result<(), Fail> {
     Ok(())
 }
 
-// Of the calls that take memory, which ones a heap of so many bytes refuses it; `None` where the
-// polynomial of so many ones itself does not fit.
-fn refused(alloc: Global, count: usize, bytes: usize) -> Result<Option<[bool; 7]>, Fail> {
+// Whether what was made has memory of the heap, or was refused it.
+fn takes_memory<T: Drop>(heap: &LocalHeap, made: Result<T, AllocError>) -> bool {
+    made.is_err() || heap.used() > 0
+}
+
+// Of the calls that take memory, which ones do so for a polynomial of so many ones, itself in place.
+fn with_memory(alloc: Global, count: usize) -> Result<[bool; 6], Fail> {
+    let heap = LocalHeap::new(alloc, 1 << 10)?;
+    let ones = [Fe32::P; 7];
+    let list = ones.get(..count).ok_or("too many")?;
+    let polynomial = Polynomial::from_slice(&heap, list)?;
+    Ok([
+        takes_memory(&heap, polynomial.clone()),
+        takes_memory(&heap, polynomial.reversed()),
+        takes_memory(&heap, polynomial.multiply(&polynomial)),
+        takes_memory(&heap, polynomial.multiply_below(&polynomial, count)),
+        takes_memory(&heap, polynomial.remainder(list)),
+        takes_memory(&heap, RootIter::new(&polynomial, Fe1024::GENERATOR, 0, 9)),
+    ])
+}
+
+#[test]
+fn seven_coefficients_take_no_memory(rt: HostRuntime) -> Result<(), Fail> {
+    same(&rt, &with_memory(rt.alloc(), 4)?, &[false; 6]);
+    let product = [false, false, true, false, false, false];
+    same(&rt, &with_memory(rt.alloc(), 7)?, &product);
+    Ok(())
+}
+
+// Of the same calls and `remainder`, which ones a heap of so many bytes refuses memory for twenty
+// coefficients; `None` where the polynomial itself does not fit.
+fn refused(alloc: Global, bytes: usize) -> Result<Option<[bool; 7]>, Fail> {
     let heap = LocalHeap::new(alloc, bytes)?;
     let ones = [Fe32::P; 20];
-    let list = ones.get(..count).ok_or("too many")?;
-    let Ok(polynomial) = Polynomial::from_slice(&heap, list) else {
+    let vector = remainder(&heap, &ones, &ones).is_err();
+    let Ok(polynomial) = Polynomial::from_slice(&heap, &ones) else {
         return Ok(None);
     };
     Ok(Some([
         polynomial.clone().is_err(),
         polynomial.reversed().is_err(),
         polynomial.multiply(&polynomial).is_err(),
-        polynomial.multiply_below(&polynomial, count).is_err(),
-        polynomial.remainder(list).is_err(),
+        polynomial.multiply_below(&polynomial, 20).is_err(),
+        polynomial.remainder(&ones).is_err(),
         RootIter::new(&polynomial, Fe1024::GENERATOR, 0, 9).is_err(),
-        remainder(&heap, list, list).is_err(),
+        vector,
     ]))
-}
-
-// Only a product that is too long takes memory, and a vector.
-#[test]
-fn seven_coefficients_take_no_memory(rt: HostRuntime) -> Result<(), Fail> {
-    let four = [false, false, false, false, false, false, true];
-    same(&rt, &refused(rt.alloc(), 4, 0)?, &Some(four));
-    let seven = [false, false, true, false, false, false, true];
-    same(&rt, &refused(rt.alloc(), 7, 0)?, &Some(seven));
-    Ok(())
 }
 
 #[test]
 fn twenty_coefficients_or_want_of_memory(rt: HostRuntime) -> Result<(), Fail> {
     let mut refusals = [0u32; 7];
     let mut missing = 0u32;
-    for size in 0..256usize {
-        match refused(rt.alloc(), 20, 16 * size)? {
+    for size in 0..64usize {
+        match refused(rt.alloc(), 16 * size)? {
             None => missing = missing.saturating_add(1),
             Some(calls) => {
                 for (count, call) in refusals.iter_mut().zip(calls) {
@@ -117,9 +136,10 @@ fn twenty_coefficients_or_want_of_memory(rt: HostRuntime) -> Result<(), Fail> {
             }
         }
     }
-    let few = refusals.iter().all(|count| 1 <= *count && *count < 200);
+    let given = refusals.iter().all(|count| *count < 32);
+    let some = refusals.iter().take(6).all(|count| 1 <= *count);
     assert!(rt;
-        few && 1 <= missing && missing < 56,
+        given && some && 1 <= missing && missing < 32,
         "{missing} {:?}",
         refusals
     );

@@ -3,6 +3,7 @@ use bech32_gf::field::Field;
 use bech32_gf::gf32::Fe32;
 use bech32_poly::polynomial::{Polynomial, remainder};
 use bech32_testing::seven::Seven;
+use linked_list_allocator::LocalHeap;
 use std::alloc::Global;
 use std::process::Abort;
 use std::test::Fail;
@@ -56,4 +57,23 @@ fn modulo_seven(rt: HostRuntime) -> Result<(), Fail> {
         &[seven(3), seven(4)],
     )?;
     divides(&rt, alloc, &list, &[seven(3)], &[seven(5)])
+}
+
+// The divisor, the sum of x^0 to x^40, divides x^41 - 1: so x^41 to x^49 leave x^0 to x^8, and the
+// powers below cancel.
+#[test]
+fn vector_or_want_of_memory(rt: HostRuntime) -> Result<(), Fail> {
+    let mut refused = 0u32;
+    for size in 0..16usize {
+        let heap = LocalHeap::new(rt.alloc(), 16 * size)?;
+        match remainder(&heap, &[Fe32::P; 50], &[Fe32::P; 40]) {
+            Ok(rest) => {
+                same_items(&rt, &rest[..9], &[Fe32::P; 9]);
+                same_items(&rt, &rest[9..], &[Fe32::Q; 31]);
+            }
+            Err(_) => refused = refused.saturating_add(1),
+        }
+    }
+    assert!(rt; 1 <= refused && refused < 8, "{refused}");
+    Ok(())
 }
