@@ -59,15 +59,20 @@ module _ {K : Type 0} {o : Ops K} (l : IsField o) where
   other_roots a p [] at_a apart roots = tt
   other_roots a p (x ∷ xs) at_a apart roots = (other_root a x p at_a roots.0 apart.0, other_roots a p xs at_a apart.1 roots.1)
 
-  single : (c x : K) → c ≡ o.one → o.add c (o.mul x o.zero) ≡ o.zero → o.one ≡ o.zero
-  single c x e f = sym e ∙ sym (one_left c x) ∙ f
+  single : (c x : K) → c ≢ o.zero → o.add c (o.mul x o.zero) ≡ o.zero → ⊥
+  single c x n f = n (sym (one_left c x) ∙ f)
 
-  pub root_bound : (n : ℕ) (p xs : List K) → length p ≡ suc n → top_of o p ≡ o.one → IsOnce xs → AllByRecursion (λ x. value_at o x p ≡ o.zero) xs → length xs ≤ n
-  root_bound n p [] size monic once roots = omega arith
-  root_bound n [] (x ∷ xs) size monic once roots = absurd (omega arith)
-  root_bound n (c ∷ []) (x ∷ xs) size monic once roots = absurd (l.one_not_zero (single c x monic roots.0))
-  root_bound zero (c ∷ d ∷ p) (x ∷ xs) size monic once roots = absurd (omega arith)
-  root_bound (suc n) (c ∷ d ∷ p) (x ∷ xs) size monic once roots =
+  -- with a highest coefficient that is not zero
+  pub roots_within : (n : ℕ) (p xs : List K) → length p ≡ suc n → top_of o p ≢ o.zero → IsOnce xs → AllByRecursion (λ x. value_at o x p ≡ o.zero) xs → length xs ≤ n
+  roots_within n p [] size leads once roots = omega arith
+  roots_within n [] (x ∷ xs) size leads once roots = absurd (omega arith)
+  roots_within n (c ∷ []) (x ∷ xs) size leads once roots = absurd (single c x leads roots.0)
+  roots_within zero (c ∷ d ∷ p) (x ∷ xs) size leads once roots = absurd (omega arith)
+  roots_within (suc n) (c ∷ d ∷ p) (x ∷ xs) size leads once roots =
       let smaller : length (quot o x (c ∷ d ∷ p)) ≡ suc n = length-quot x c (d ∷ p) ∙ omega arith in
-      let fewer : length xs ≤ n = root_bound n (quot o x (c ∷ d ∷ p)) xs smaller (top_of-quot x c d p ∙ monic) once.1 (other_roots x (c ∷ d ∷ p) xs roots.0 once.0 roots.1) in
+      let fewer : length xs ≤ n = roots_within n (quot o x (c ∷ d ∷ p)) xs smaller (λ e. leads (sym (top_of-quot x c d p) ∙ e)) once.1 (other_roots x (c ∷ d ∷ p) xs roots.0 once.0 roots.1) in
       omega arith
+
+  -- of a monic polynomial
+  pub root_bound : (n : ℕ) (p xs : List K) → length p ≡ suc n → top_of o p ≡ o.one → IsOnce xs → AllByRecursion (λ x. value_at o x p ≡ o.zero) xs → length xs ≤ n
+  root_bound n p xs size monic once roots = roots_within n p xs size (λ e. l.one_not_zero (sym monic ∙ e)) once roots

@@ -26,4 +26,5 @@ inside embed (p ∷ e) = (p.0, embed p.1) ∷ inside embed e
 -- the sum of value times weight times the locator to the power of t
 abbrev pub power_sum : {K : Type 0} → Ops K → (ℕ → K) → (ℕ → K) → List (ℕ × K) → ℕ → K
 power_sum o locator weight [] t = o.zero
-power_sum o locator weight (p ∷ e) t = o.add (o.mul (o.mul p.1 (weight p.0)) (power o (locator p.0) t)) (power_sum o locator weight e t)
+power_sum o locator weight (p ∷ e) t =
+    o.add (o.mul (o.mul p.1 (weight p.0)) (power o (locator p.0) t)) (power_sum o locator weight e t)

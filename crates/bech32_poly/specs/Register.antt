@@ -11,7 +11,8 @@ back_sum o (c ∷ cs) s n = o.add (o.mul c (s (n - 1))) (back_sum o cs s (n - 1)
 -- the register with these coefficients generates the items: each from place `length cs` on is minus that sum
 pub record Generates {F : Type 0} (o : Ops F) (cs items : List F) : Type 0 where
   pub fits : length cs ≤ length items
-  pub follows : (n : ℕ) → length cs ≤ n → n < length items → coefficient o items n ≡ o.neg (back_sum o cs (coefficient o items) n)
+  pub follows : (n : ℕ) → length cs ≤ n → n < length items
+      → coefficient o items n ≡ o.neg (back_sum o cs (coefficient o items) n)
 
 -- no register that generates the items is shorter
 pub record IsShortest {F : Type 0} (o : Ops F) (cs items : List F) : Type 0 where

@@ -70,6 +70,7 @@ impl<F: Field, A: Allocator + Copy> Polynomial<F, A> {
     /// Where memory runs out.
     pub fn multiply(&self, other: &Self) -> Result<Self, AllocError>
         ensures product { IfOk result (λ p. IsSamePolynomial F.ops p (multiply F.ops self.now other.now)) }
+        ensures size { IfOk result (λ p. length p ≡ length self.now + (length other.now - 1)) }
         ensures in_place { FitsInPlace (length self.now) → length self.now + length other.now ≤ 8 → IsOk result }
     {
         let (p, q) = (self.list.as_slice(), other.list.as_slice());
@@ -79,21 +80,22 @@ impl<F: Field, A: Allocator + Copy> Polynomial<F, A> {
         Ok(Polynomial { list })
     }
 
-    /// The product without its terms from place `length` on.
+    /// The product without its terms from place `end` on.
     ///
     /// # Errors
     ///
     /// Where memory runs out.
-    pub fn multiply_below(&self, other: &Self, length: usize) -> Result<Self, AllocError>
+    pub fn multiply_below(&self, other: &Self, end: usize) -> Result<Self, AllocError>
         ensures product { IfOk result (λ p.
-            IsSamePolynomial F.ops p (take length (multiply F.ops self.now other.now))) }
-        ensures in_place { FitsInPlace length → IsOk result }
+            IsSamePolynomial F.ops p (take end (multiply F.ops self.now other.now))) }
+        ensures size { IfOk result (λ p. length p ≤ end) }
+        ensures in_place { FitsInPlace end → IsOk result }
     {
         let (p, q) = (self.list.as_slice(), other.list.as_slice());
         let mut list = FieldVec::new(self.list.allocator());
-        let first = length.min(p.len());
+        let first = end.min(p.len());
         push_products(&mut list, p, q, first)?;
-        push_products(&mut list, p, q, q.len().min(length - first))?;
+        push_products(&mut list, p, q, q.len().min(end - first))?;
         Ok(Polynomial { list })
     }
 

@@ -25,3 +25,10 @@ returns-clause-product g c =
     (subst (λ q. IsSamePolynomial o list (multiply o c.as_slice-p.result.now q)) (c.as_slice-q.ensures ∙ c.other.view_is)
     (whole_product g.met.F.Field.laws list c.as_slice-p.result.now c.as_slice-q.result.now c.push_products-2.ensures.begins
     (omega (arith, none, c.in_ok-push_products.ensures.longer, c.in_ok-push_products-2.ensures.longer, c.saturating_sub.ensures))))
+
+pub returns-clause-size : goal.returns-clause-size
+returns-clause-size g c =
+    let none : length c.new-list.result ≡ 0 = ap (λ u. length u) c.new-list.ensures in
+    let size : length c.as_slice-p.result.now ≡ length c.args.self.now = ap (λ u. length u) (c.as_slice-p.ensures ∙ c.self.view_is) in
+    let more : length c.as_slice-q.result.now ≡ length c.args.other.now = ap (λ u. length u) (c.as_slice-q.ensures ∙ c.other.view_is) in
+    omega (arith, none, size, more, c.in_ok-push_products.ensures.longer, c.in_ok-push_products-2.ensures.longer, c.saturating_sub.ensures)

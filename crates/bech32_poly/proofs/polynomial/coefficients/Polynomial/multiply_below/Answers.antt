@@ -18,8 +18,13 @@ returns-clause-product g c =
     let o = g.F.Field.ops in
     let list = c.push_products-2.new.list in
     let none : length c.new-list.result ≡ 0 = ap (λ u. length u) c.new-list.ensures in
-    subst (λ p. IsSamePolynomial o list (take c.args.length (multiply o p c.args.other.now))) (c.as_slice-p.ensures ∙ c.self.view_is)
-    (subst (λ q. IsSamePolynomial o list (take c.args.length (multiply o c.as_slice-p.result.now q))) (c.as_slice-q.ensures ∙ c.other.view_is)
-    (cut_product g.met.F.Field.laws list c.as_slice-p.result.now c.as_slice-q.result.now c.args.length c.push_products-2.ensures.begins
+    subst (λ p. IsSamePolynomial o list (take c.args.end (multiply o p c.args.other.now))) (c.as_slice-p.ensures ∙ c.self.view_is)
+    (subst (λ q. IsSamePolynomial o list (take c.args.end (multiply o c.as_slice-p.result.now q))) (c.as_slice-q.ensures ∙ c.other.view_is)
+    (cut_product g.met.F.Field.laws list c.as_slice-p.result.now c.as_slice-q.result.now c.args.end c.push_products-2.ensures.begins
     (omega (arith, none, c.in_ok-push_products.ensures.longer, c.in_ok-push_products-2.ensures.longer, c.min-first.ensures, c.min.ensures))
     (λ below. omega (arith, none, below, c.in_ok-push_products.ensures.longer, c.in_ok-push_products-2.ensures.longer, c.min-first.ensures, c.min.ensures))))
+
+pub returns-clause-size : goal.returns-clause-size
+returns-clause-size g c =
+    let none : length c.new-list.result ≡ 0 = ap (λ u. length u) c.new-list.ensures in
+    omega (arith, none, c.in_ok-push_products.ensures.longer, c.in_ok-push_products-2.ensures.longer, c.min-first.ensures, c.min.ensures)
