@@ -1,5 +1,4 @@
 use super::compare::same_items;
-use bech32_gf::field::Field;
 use bech32_gf::gf32::Fe32;
 use bech32_poly::polynomial::{Polynomial, remainder};
 use bech32_testing::seven::Seven;
@@ -12,12 +11,12 @@ use std::test::Fail;
 const LOW: [Fe32; 6] = [Fe32::J, Fe32::A, Fe32::_4, Fe32::_5, Fe32::K, Fe32::A];
 
 // Divides a list of coefficients in both ways.
-fn divides<F: Field>(
+fn divides(
     rt: &impl Abort,
     alloc: Global,
-    list: &[F],
-    low: &[F],
-    want: &[F],
+    list: &[Fe32],
+    low: &[Fe32],
+    want: &[Fe32],
 ) -> Result<(), Fail> {
     same_items(rt, &remainder(alloc, list, low)?, want);
     let rest = Polynomial::from_slice(alloc, list)?.remainder(low)?;
@@ -39,24 +38,18 @@ fn by_a_generator(rt: HostRuntime) -> Result<(), Fail> {
     divides(&rt, alloc, &[], &LOW, &[q; 6])
 }
 
-// The element of a number.
-fn seven(number: u8) -> Seven {
-    Seven::new(number)
-}
-
 // Worked by hand: with x^2 = 2x + 1, x^3 = 5x + 2 and x^4 = 5x + 5; and the value at 4.
 #[test]
 fn modulo_seven(rt: HostRuntime) -> Result<(), Fail> {
     let alloc = rt.alloc();
-    let list = [seven(5), seven(4), seven(3), seven(2), seven(1)];
-    divides(
-        &rt,
-        alloc,
-        &list,
-        &[seven(6), seven(5)],
-        &[seven(3), seven(4)],
-    )?;
-    divides(&rt, alloc, &list, &[seven(3)], &[seven(5)])
+    let list = [5, 4, 3, 2, 1].map(Seven::new);
+    let polynomial = Polynomial::from_slice(alloc, &list)?;
+    let (low, rest) = ([6, 5].map(Seven::new), [3, 4].map(Seven::new));
+    same_items(&rt, &remainder(alloc, &list, &low)?, &rest);
+    same_items(&rt, polynomial.remainder(&low)?.coefficients(), &rest);
+    let value = polynomial.remainder(&[Seven::new(3)])?;
+    same_items(&rt, value.coefficients(), &[Seven::new(5)]);
+    Ok(())
 }
 
 // The divisor, the sum of x^0 to x^40, divides x^41 - 1: so x^41 to x^49 leave x^0 to x^8, and the

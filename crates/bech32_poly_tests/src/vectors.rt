@@ -39,28 +39,29 @@ fn digits(alloc: Global, text: &str) -> Result<Vec<Fe32>, Fail> {
     Ok(items)
 }
 
-// Compares a register of the list with what is wanted; without wanted items its length alone.
-fn check<F: Field>(
-    rt: &impl Abort,
-    alloc: Global,
-    list: &[F],
-    length: usize,
-    coefficients: &[F],
-    after: &[F],
-) -> Result<(), Fail> {
+// The register of a list.
+fn register<F: Field>(alloc: Global, list: &[F]) -> Result<LfsrIter<F>, Fail> {
     if list.is_empty() {
         return Err("no list".into());
     }
-    let mut register = LfsrIter::berlekamp_massey(alloc, list)?;
-    same(rt, &register.coefficients().len(), &length);
+    Ok(LfsrIter::berlekamp_massey(alloc, list)?)
+}
+
+// Compares a register with what is wanted, of which there is none where several are shortest.
+fn check<F: Field>(
+    rt: &impl Abort,
+    register: &mut LfsrIter<F>,
+    coefficients: &[F],
+    items: &[F],
+    after: &[F],
+) {
     if after.is_empty() {
-        return Ok(());
+        return;
     }
     same_items(rt, register.coefficients(), coefficients);
-    for want in list.iter().chain(after) {
+    for want in items.iter().chain(after) {
         same(rt, &register.next(), &Some(*want));
     }
-    Ok(())
 }
 
 // Compares one line.
@@ -72,42 +73,31 @@ fn check_line(rt: &impl Abort, alloc: Global, line: &str) -> Result<(), Fail> {
     let coefficients = words.next().ok_or("no coefficients")?;
     let after = words.next().ok_or("no items")?;
     if field == "Fe32" {
-        let (list, coefficients) = (digits(alloc, list)?, digits(alloc, coefficients)?);
-        check(
-            rt,
-            alloc,
-            &list,
-            length,
-            &coefficients,
-            &digits(alloc, after)?,
-        )
+        let list = digits(alloc, list)?;
+        let mut register = register(alloc, &list)?;
+        same(rt, &register.coefficients().len(), &length);
+        let (coefficients, after) = (digits(alloc, coefficients)?, digits(alloc, after)?);
+        check(rt, &mut register, &coefficients, &list, &after);
     } else if field == "Fe1024" {
-        let (list, coefficients) = (
-            elements::<2>(alloc, list)?,
+        let list = elements::<2>(alloc, list)?;
+        let mut register = register(alloc, &list)?;
+        same(rt, &register.coefficients().len(), &length);
+        let (coefficients, after) = (
             elements::<2>(alloc, coefficients)?,
+            elements::<2>(alloc, after)?,
         );
-        check(
-            rt,
-            alloc,
-            &list,
-            length,
-            &coefficients,
-            &elements::<2>(alloc, after)?,
-        )
+        check(rt, &mut register, &coefficients, &list, &after);
     } else {
-        let (list, coefficients) = (
-            elements::<3>(alloc, list)?,
+        let list = elements::<3>(alloc, list)?;
+        let mut register = register(alloc, &list)?;
+        same(rt, &register.coefficients().len(), &length);
+        let (coefficients, after) = (
             elements::<3>(alloc, coefficients)?,
+            elements::<3>(alloc, after)?,
         );
-        check(
-            rt,
-            alloc,
-            &list,
-            length,
-            &coefficients,
-            &elements::<3>(alloc, after)?,
-        )
+        check(rt, &mut register, &coefficients, &list, &after);
     }
+    Ok(())
 }
 
 #[test]
