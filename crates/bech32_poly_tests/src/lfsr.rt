@@ -61,13 +61,19 @@ fn lengths(rt: HostRuntime) -> Result<(), Fail> {
     Ok(())
 }
 
+// The element of a number.
+fn seven(number: u8) -> Seven {
+    Seven::new(number)
+}
+
 #[test]
 fn integers_modulo_seven(rt: HostRuntime) -> Result<(), Fail> {
-    let list = [Seven::new(1), Seven::new(3), Seven::new(2)];
+    let list = [seven(1), seven(3), seven(2)];
     let register = LfsrIter::berlekamp_massey(rt.alloc(), &list)?;
-    same_items(&rt, register.coefficients(), &[Seven::new(4)]);
+    same_items(&rt, register.coefficients(), &[seven(4)]);
     let items: Vec<Seven> = register.take(7).collect(rt.alloc())?;
-    let powers = [1, 3, 2, 6, 4, 5, 1].map(Seven::new);
+    let [a, b, c] = list;
+    let powers = [a, b, c, seven(6), seven(4), seven(5), seven(1)];
     same_items(&rt, &items, &powers);
     Ok(())
 }
@@ -106,12 +112,26 @@ fn six_items_take_no_memory(rt: HostRuntime) -> Result<(), Fail> {
     Ok(())
 }
 
+// A register of twenty items on a heap of so many bytes, and a clone of it: whether each could be
+// made.
+fn made(alloc: Global, bytes: usize) -> Result<(bool, bool), Fail> {
+    let list = [
+        Fe32::P, Fe32::Z, Fe32::R, Fe32::Y, Fe32::_9, Fe32::X, Fe32::_8, Fe32::G, Fe32::F, Fe32::_2,
+        Fe32::T, Fe32::V, Fe32::D, Fe32::W, Fe32::_0, Fe32::S, Fe32::_3, Fe32::J, Fe32::N, Fe32::_5,
+    ];
+    let heap = LocalHeap::new(alloc, bytes)?;
+    match LfsrIter::berlekamp_massey_in(&heap, &list) {
+        Ok(register) => Ok((true, register.clone().is_ok())),
+        Err(_) => Ok((false, false)),
+    }
+}
+
 #[test]
 fn twenty_items_or_want_of_memory(rt: HostRuntime) -> Result<(), Fail> {
     let mut refused = 0u32;
     let mut cloned = 0u32;
     for size in 0..64usize {
-        match made(rt.alloc(), 20, 16 * size)? {
+        match made(rt.alloc(), 16 * size)? {
             (false, _) => refused = refused.saturating_add(1),
             (true, true) => cloned = cloned.saturating_add(1),
             (true, false) => {}

@@ -38,17 +38,22 @@ fn by_a_generator(rt: HostRuntime) -> Result<(), Fail> {
     divides(&rt, alloc, &[], &LOW, &[q; 6])
 }
 
+// The element of a number.
+fn seven(number: u8) -> Seven {
+    Seven::new(number)
+}
+
 // Worked by hand: with x^2 = 2x + 1, x^3 = 5x + 2 and x^4 = 5x + 5; and the value at 4.
 #[test]
 fn modulo_seven(rt: HostRuntime) -> Result<(), Fail> {
     let alloc = rt.alloc();
-    let list = [5, 4, 3, 2, 1].map(Seven::new);
+    let list = [seven(5), seven(4), seven(3), seven(2), seven(1)];
     let polynomial = Polynomial::from_slice(alloc, &list)?;
-    let (low, rest) = ([6, 5].map(Seven::new), [3, 4].map(Seven::new));
+    let (low, rest) = ([seven(6), seven(5)], [seven(3), seven(4)]);
     same_items(&rt, &remainder(alloc, &list, &low)?, &rest);
     same_items(&rt, polynomial.remainder(&low)?.coefficients(), &rest);
-    let value = polynomial.remainder(&[Seven::new(3)])?;
-    same_items(&rt, value.coefficients(), &[Seven::new(5)]);
+    let value = polynomial.remainder(&[seven(3)])?;
+    same_items(&rt, value.coefficients(), &[seven(5)]);
     Ok(())
 }
 

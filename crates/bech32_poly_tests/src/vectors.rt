@@ -40,7 +40,7 @@ fn digits(alloc: Global, text: &str) -> Result<Vec<Fe32>, Fail> {
 }
 
 // The register of a list.
-fn register<F: Field>(alloc: Global, list: &[F]) -> Result<LfsrIter<F>, Fail> {
+fn register_of<F: Field>(alloc: Global, list: &[F]) -> Result<LfsrIter<F>, Fail> {
     if list.is_empty() {
         return Err("no list".into());
     }
@@ -74,13 +74,13 @@ fn check_line(rt: &impl Abort, alloc: Global, line: &str) -> Result<(), Fail> {
     let after = words.next().ok_or("no items")?;
     if field == "Fe32" {
         let list = digits(alloc, list)?;
-        let mut register = register(alloc, &list)?;
+        let mut register = register_of(alloc, &list)?;
         same(rt, &register.coefficients().len(), &length);
         let (coefficients, after) = (digits(alloc, coefficients)?, digits(alloc, after)?);
         check(rt, &mut register, &coefficients, &list, &after);
     } else if field == "Fe1024" {
         let list = elements::<2>(alloc, list)?;
-        let mut register = register(alloc, &list)?;
+        let mut register = register_of(alloc, &list)?;
         same(rt, &register.coefficients().len(), &length);
         let (coefficients, after) = (
             elements::<2>(alloc, coefficients)?,
@@ -89,7 +89,7 @@ fn check_line(rt: &impl Abort, alloc: Global, line: &str) -> Result<(), Fail> {
         check(rt, &mut register, &coefficients, &list, &after);
     } else {
         let list = elements::<3>(alloc, list)?;
-        let mut register = register(alloc, &list)?;
+        let mut register = register_of(alloc, &list)?;
         same(rt, &register.coefficients().len(), &length);
         let (coefficients, after) = (
             elements::<3>(alloc, coefficients)?,
