@@ -9,3 +9,5 @@ pub use bech32_gf::field::{
 };
 pub use bech32_gf::gf32;
 pub use bech32_gf_ext as gf32_ext;
+pub use bech32_poly::fieldvec::NO_ALLOC_MAX_LENGTH;
+pub use bech32_poly::lfsr::LfsrIter;

@@ -1,3 +1,11 @@
+pub mod Degree
+pub mod Distinct
 pub mod Division
+pub mod Embedding
+pub mod FieldVec
+pub mod Pattern
 pub mod Polynomial
+pub mod Register
 pub mod Remainder
+pub mod RootSearch
+pub mod Window

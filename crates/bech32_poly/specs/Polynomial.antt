@@ -1,5 +1,6 @@
--- Polynomials over a field, as lists of coefficients: place i for x^i, the constant one first. Zeros at the high end do not matter.
-use Rattle.std.specs.Prelude.{◌≡◌, ℕ, List, [], ◌∷◌, slice_index_or}
+-- Polynomials over a field, as lists of coefficients: place i for x^i, the constant one first. Zeros at the high end do
+-- not matter.
+use Rattle.std.specs.Prelude.{◌≡◌, ◌<◌, ℕ, List, [], ◌∷◌, length, slice_index_or}
 use Rattle.bech32_gf.specs.Field.{Ops}
 
 -- the coefficient of x^n
@@ -9,6 +10,10 @@ coefficient o p n = slice_index_or p n o.zero
 -- the same coefficients
 abbrev pub IsSamePolynomial : {F : Type 0} → Ops F → List F → List F → Type 0
 IsSamePolynomial o p q = (n : ℕ) → coefficient o p n ≡ coefficient o q n
+
+-- the coefficients of p, as many as there are, are the first ones of q
+abbrev pub BeginsAs : {F : Type 0} → Ops F → List F → List F → Type 0
+BeginsAs o q p = (n : ℕ) → n < length p → coefficient o p n ≡ coefficient o q n
 
 -- the sum
 abbrev pub add : {F : Type 0} → Ops F → List F → List F → List F

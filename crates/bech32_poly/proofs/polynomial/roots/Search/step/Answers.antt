@@ -1,0 +1,19 @@
+use Rattle.std.proofs.Common.{length, sym, ap, ◌∙◌}
+use Rattle.bech32_poly.specs.RootSearch.{value_after, total_of, multiplied_each}
+use Rattle.bech32_poly.proofs.RootTerms.{value_after-now, length-multiplied_each}
+use Rattle.bech32_poly.proofs.polynomial.roots.Search.step.Goals as goal
+
+pub invariant_of-self : goal.invariant_of-self
+invariant_of-self g c =
+    c.self.invariant
+    ∙ sym (length-multiplied_each g.met.E.Field.laws c.self.inside.terms c.self.inside.factors)
+    ∙ ap (λ u. length u) (sym (c.multiply_each.ensures ∙ ap (multiplied_each g.E.Field.ops c.self.inside.terms) c.as_slice-2.ensures))
+
+pub returns-clause-found : goal.returns-clause-found
+returns-clause-found g c =
+    let o = g.E.Field.ops in
+    let same = g.E.PartialEq.eq in
+    c.eq-is_root.ensures
+    ∙ ap (λ x. same x c.zero.result) (c.total.ensures ∙ ap (total_of o) c.as_slice.ensures ∙ sym (value_after-now g.met.E.Field.laws c.self.inside.terms c.self.inside.factors c.self.invariant))
+    ∙ ap (same (value_after o c.self.inside.terms c.self.inside.factors 0)) c.zero.ensures
+    ∙ ap (λ v. same (value_after o v.terms v.factors 0) o.zero) c.self.view_is
