@@ -116,8 +116,26 @@ fn six_items_take_no_memory(rt: HostRuntime) -> Result<(), Fail> {
 // made.
 fn made(alloc: Global, bytes: usize) -> Result<(bool, bool), Fail> {
     let list = [
-        Fe32::P, Fe32::Z, Fe32::R, Fe32::Y, Fe32::_9, Fe32::X, Fe32::_8, Fe32::G, Fe32::F, Fe32::_2,
-        Fe32::T, Fe32::V, Fe32::D, Fe32::W, Fe32::_0, Fe32::S, Fe32::_3, Fe32::J, Fe32::N, Fe32::_5,
+        Fe32::P,
+        Fe32::Z,
+        Fe32::R,
+        Fe32::Y,
+        Fe32::_9,
+        Fe32::X,
+        Fe32::_8,
+        Fe32::G,
+        Fe32::F,
+        Fe32::_2,
+        Fe32::T,
+        Fe32::V,
+        Fe32::D,
+        Fe32::W,
+        Fe32::_0,
+        Fe32::S,
+        Fe32::_3,
+        Fe32::J,
+        Fe32::N,
+        Fe32::_5,
     ];
     let heap = LocalHeap::new(alloc, bytes)?;
     match LfsrIter::berlekamp_massey_in(&heap, &list) {
