@@ -4,8 +4,8 @@ ghost use Rattle.std.specs.Prelude.{refl};
 ghost use Rattle.bech32_gf.specs.Fe32.{element};
 ghost use Rattle.bech32_gf_ext.specs.Fe1024.{pair};
 ghost use Rattle.bech32_gf_ext.specs.Fe32768.{triple};
-ghost use Rattle.bech32_checksum_tests.specs.TestWords.{words_8, words_8_keep, code_8};
-ghost use Rattle.bech32_checksum_tests.specs.TestWords.{words_13, words_13_keep, code_13};
+ghost use Rattle.bech32_testing_codes.specs.TestWords.{words_8, words_8_keep, code_8};
+ghost use Rattle.bech32_testing_codes.specs.TestWords.{words_13, words_13_keep, code_13};
 
 use bech32_checksum::Checksum;
 use bech32_gf::gf32::Fe32;
@@ -13,7 +13,7 @@ use bech32_gf_ext::{Fe32Ext, Fe1024, Fe32768};
 
 /// A checksum of degree 8, in a `u64`.
 #[derive(Copy, Clone)]
-pub(crate) enum Degree8 {}
+pub enum Degree8 {}
 
 impl Checksum for Degree8 {
     type MidstateRepr = u64;
@@ -69,7 +69,7 @@ impl Checksum for Degree8 {
 
 /// The checksum of codex32 (BIP-93), of degree 13, in a `u128`.
 #[derive(Copy, Clone)]
-pub(crate) enum Degree13 {}
+pub enum Degree13 {}
 
 impl Checksum for Degree13 {
     type MidstateRepr = u128;
