@@ -40,6 +40,7 @@ extern "C" {
 #define BECH32_MAX_BYTES 634u           /* the bytes of a text */
 #define BECH32_MAX_SEGWIT_TEXT 90u      /* a segwit address */
 #define BECH32_MAX_SEGWIT_PROGRAM 40u   /* a witness program */
+#define BECH32_MAX_LISTED 3u            /* the locations of a correction */
 
 /* Answers. */
 #define BECH32_OK 0u
@@ -56,6 +57,7 @@ extern "C" {
 #define BECH32_TEXT_TOO_LONG 31u        /* the text has more than 1023 characters */
 #define BECH32_NO_CHECKSUM 32u          /* fewer than six characters stand behind the separator */
 #define BECH32_WRONG_CHECKSUM 33u       /* the checksum is wrong */
+#define BECH32_NO_CORRECTION 34u        /* no correction of the data part mends the text */
 #define BECH32_ADDRESS_TOO_LONG 41u     /* the text has more than 90 characters */
 #define BECH32_NO_DATA 42u              /* the address has no witness version */
 #define BECH32_BAD_VERSION 43u          /* its witness version is above 16 */
@@ -135,6 +137,26 @@ uint32_t bech32_segwit_decode(const uint8_t *text, size_t text_length, uint8_t *
  */
 uint32_t bech32_residue(uint32_t checksum, const uint8_t *elements, size_t elements_length,
                         uint32_t *residue);
+
+/*
+ * Mends a mistyped text by a checksum (BECH32_BECH32 or BECH32_BECH32M). `erasures` are the locations
+ * of characters that are known to be wrong; location 0 is the last character. Where the checksum
+ * accepts the text, *count is 0. Else *count locations are put into `locations`, each erasure once and
+ * in the order given, then those of the other errors, and the elements to add there, from 0 to 31
+ * each, into `values`: to add elements is to take the exclusive or of their five bits. The text in
+ * lower case, with them added, is put into `mended`; *mended_length is its length, which is
+ * text_length. locations_room and values_room are numbers of items: BECH32_MAX_LISTED are enough.
+ *
+ * It is the one correction of the data part where twice the errors outside the erasures, with the
+ * erasures, are three at most. It may not be what was meant: show it, and ask.
+ *
+ * Refusals, the first that applies: 4; 2; 21, 22, 23, 11 to 15; 31, 32; 34 (there is no such
+ * correction, or an erasure is not in the data part); 92.
+ */
+uint32_t bech32_correct(uint32_t checksum, const uint8_t *text, size_t text_length,
+                        const size_t *erasures, size_t erasures_length, size_t *locations,
+                        size_t locations_room, uint8_t *values, size_t values_room, size_t *count,
+                        uint8_t *mended, size_t mended_room, size_t *mended_length);
 
 #ifdef __cplusplus
 }

@@ -11,6 +11,12 @@ use bech32::{segwit, DecodeError, EncodeError};
 /// A number is that of no checksum, or of no element.
 pub const BAD_NUMBER: u32 = 4;
 
+/// The checksum is wrong.
+pub const RESIDUE: u32 = 33;
+
+/// No correction of a text is within the bound.
+pub const NO_CORRECTION: u32 = 34;
+
 // An error that the crate may add to those of 0.12.0.
 const UNKNOWN: u32 = u32::MAX;
 
@@ -40,7 +46,7 @@ fn checksum(e: &ChecksumError) -> u32 {
     match e {
         ChecksumError::CodeLength(_) => 31,
         ChecksumError::InvalidLength => 32,
-        ChecksumError::InvalidResidue(_) => 33,
+        ChecksumError::InvalidResidue(_) => RESIDUE,
         _ => UNKNOWN,
     }
 }

@@ -60,12 +60,29 @@ extern "C" {
         values_size: usize,
         residue: *mut u32,
     ) -> u32;
+    fn bech32_correct(
+        checksum: u32,
+        text: *const u8,
+        text_length: usize,
+        erasures: *const usize,
+        erasures_length: usize,
+        locations: *mut usize,
+        locations_room: usize,
+        values: *mut u8,
+        values_room: usize,
+        count: *mut usize,
+        mended: *mut u8,
+        mended_room: usize,
+        mended_length: *mut usize,
+    ) -> u32;
 }
 
 /// The buffers of a caller, which every call uses again.
 pub struct Buffers {
     pub hrp: [u8; 83],
     pub text: [u8; 1024],
+    pub locations: [usize; 8],
+    pub values: [u8; 8],
 }
 
 impl Buffers {
@@ -73,6 +90,8 @@ impl Buffers {
         Buffers {
             hrp: [0; 83],
             text: [0; 1024],
+            locations: [0; 8],
+            values: [0; 8],
         }
     }
 }
@@ -177,6 +196,35 @@ pub fn residue(checksum: u32, values: &[u8]) -> Result<u32, u32> {
     answered(answer, residue)
 }
 
+/// The number of listed locations, and that of the characters of the mended text.
+pub fn correct(
+    checksum: u32,
+    text: &str,
+    erasures: &[usize],
+    out: &mut Buffers,
+) -> Result<(usize, usize), u32> {
+    let (mut count, mut length) = (0, 0);
+    // SAFETY: each pointer stands with the length of its slice, and no two overlap.
+    let answer = unsafe {
+        bech32_correct(
+            checksum,
+            text.as_ptr(),
+            text.len(),
+            erasures.as_ptr(),
+            erasures.len(),
+            out.locations.as_mut_ptr(),
+            out.locations.len(),
+            out.values.as_mut_ptr(),
+            out.values.len(),
+            &mut count,
+            out.text.as_mut_ptr(),
+            out.text.len(),
+            &mut length,
+        )
+    };
+    answered(answer, (count, length))
+}
+
 fn answered<T>(answer: u32, value: T) -> Result<T, u32> {
     match answer {
         0 => Ok(value),
@@ -221,6 +269,17 @@ pub mod replies {
         let mut out = Buffers::new();
         super::segwit_decode(text, &mut out)
             .map(|(h, v, n)| vec![out.hrp[..h].to_vec(), vec![v as u8], out.text[..n].to_vec()])
+    }
+
+    pub fn correct(checksum: u32, text: &str, erasures: &[usize]) -> Reply {
+        let mut out = Buffers::new();
+        let (count, length) = super::correct(checksum, text, erasures, &mut out)?;
+        let listing = out.locations[..count].iter().zip(&out.values[..count]);
+        let words = listing.map(|(place, value)| format!("{place}:{value}"));
+        Ok(vec![
+            words.collect::<Vec<_>>().join(" ").into_bytes(),
+            out.text[..length].to_vec(),
+        ])
     }
 
     pub fn residue(checksum: u32, values: &[u8]) -> Reply {

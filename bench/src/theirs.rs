@@ -3,8 +3,9 @@
 use crate::ours::{BECH32, BECH32M};
 use crate::Reply;
 use bech32::primitives::checksum::Engine;
-use bech32::primitives::decode::CheckedHrpstring;
-use bech32::{segwit, Bech32, Bech32m, Fe32, Hrp};
+use bech32::primitives::correction::CorrectableError;
+use bech32::primitives::decode::{CheckedHrpstring, CheckedHrpstringError};
+use bech32::{segwit, Bech32, Bech32m, Checksum, Fe32, Hrp};
 
 pub fn residue(checksum: u32, values: &[Fe32]) -> u32 {
     match checksum {
@@ -19,6 +20,40 @@ pub fn residue(checksum: u32, values: &[Fe32]) -> u32 {
             *engine.residue()
         }
     }
+}
+
+/// What the crate lists for a refused text, and the text with it added.
+pub struct Correction {
+    pub listing: Vec<(usize, Fe32)>,
+    pub mended: String,
+}
+
+// The text in lower case with the listed elements added to its data part, where all stand in it.
+fn mended(text: &str, listing: &[(usize, Fe32)]) -> Option<String> {
+    let mut bytes = text.to_ascii_lowercase().into_bytes();
+    let data = bytes.len() - bytes.iter().rposition(|b| *b == b'1')? - 1;
+    for (place, value) in listing {
+        if *place >= data {
+            return None;
+        }
+        let at = bytes.len() - 1 - place;
+        let element = Fe32::from_char(char::from(bytes[at])).ok()?;
+        bytes[at] = (element + *value).to_char() as u8;
+    }
+    String::from_utf8(bytes).ok()
+}
+
+/// What the crate corrects in a text that is refused by this error.
+pub fn correct<Ck: Checksum>(
+    error: &CheckedHrpstringError,
+    text: &str,
+    erasures: &[usize],
+) -> Option<Correction> {
+    let mut corrector = error.correction_context::<Ck>()?;
+    corrector.add_erasures(erasures);
+    let listing: Vec<(usize, Fe32)> = corrector.bch_errors()?.collect();
+    let mended = mended(text, &listing)?;
+    Some(Correction { listing, mended })
 }
 
 /// What the calls say of a text or of bytes, in words that both sides share.
@@ -83,6 +118,37 @@ pub mod replies {
                 vec![hrp.as_bytes().to_vec(), vec![version.to_u8()], program]
             })
             .map_err(|e| numbers::address(&e.0))
+    }
+
+    fn corrected<Ck: Checksum>(text: &str, erasures: &[usize]) -> Reply {
+        let error = match CheckedHrpstring::new::<Ck>(text) {
+            Ok(_) => return Ok(vec![vec![], text.to_ascii_lowercase().into_bytes()]),
+            Err(error) => error,
+        };
+        let number = numbers::checked(&error);
+        if number != numbers::RESIDUE {
+            return Err(number);
+        }
+        // The crate may list what does not mend, or panic.
+        let found = std::panic::catch_unwind(|| super::correct::<Ck>(&error, text, erasures));
+        let found = found.ok().flatten().ok_or(numbers::NO_CORRECTION)?;
+        if CheckedHrpstring::new::<Ck>(&found.mended).is_err() {
+            return Err(numbers::NO_CORRECTION);
+        }
+        let listing = found.listing.iter();
+        let words = listing.map(|(place, value)| format!("{place}:{}", value.to_u8()));
+        Ok(vec![
+            words.collect::<Vec<_>>().join(" ").into_bytes(),
+            found.mended.into_bytes(),
+        ])
+    }
+
+    pub fn correct(checksum: u32, text: &str, erasures: &[usize]) -> Reply {
+        match checksum {
+            BECH32 => corrected::<Bech32>(text, erasures),
+            BECH32M => corrected::<Bech32m>(text, erasures),
+            _ => Err(numbers::BAD_NUMBER),
+        }
     }
 
     pub fn residue(checksum: u32, values: &[u8]) -> Reply {

@@ -149,6 +149,42 @@ fn segwit_decode(name: &'static str, text: String) -> Operation {
     )
 }
 
+// A correction of a Bech32 text that is refused for its residue.
+fn correct(name: &'static str, text: String, erasures: &'static [usize]) -> Operation {
+    let replies = [
+        ours::replies::correct(BECH32, &text, erasures),
+        theirs::replies::correct(BECH32, &text, erasures),
+    ];
+    let (mut out, ours_text) = (Buffers::new(), text.clone());
+    Operation {
+        name,
+        replies,
+        ours: Box::new(move || {
+            let _ = black_box(ours::correct(
+                BECH32,
+                black_box(&ours_text),
+                black_box(erasures),
+                &mut out,
+            ));
+            black_box(&out.text);
+        }),
+        theirs: Box::new(move || {
+            let error = CheckedHrpstring::new::<Bech32>(black_box(&text)).unwrap_err();
+            black_box(theirs::correct::<Bech32>(&error, &text, black_box(erasures)));
+        }),
+    }
+}
+
+// A text with other characters at some locations, of which 0 is the last.
+fn mistyped(text: &str, locations: &[usize]) -> String {
+    let mut bytes = text.as_bytes().to_vec();
+    for place in locations {
+        let at = bytes.len() - 1 - place;
+        bytes[at] = if bytes[at] == b'q' { b'p' } else { b'q' };
+    }
+    String::from_utf8(bytes).unwrap()
+}
+
 fn residue(name: &'static str) -> Operation {
     let values: Vec<u8> = (0..1000u32).map(|i| (i * 11 % 32) as u8).collect();
     let fes: Vec<Fe32> = values.iter().map(|v| Fe32::try_from(*v).unwrap()).collect();
@@ -170,6 +206,7 @@ fn residue(name: &'static str) -> Operation {
 pub fn operations() -> Vec<Operation> {
     let bc = Hrp::parse("bc").unwrap();
     let (bytes, text) = long();
+    let short = bech32::encode::<Bech32>(bc, &PROGRAM).unwrap();
     let taproot: Vec<u8> = (0..32).map(|i| (i * 37 + 11) as u8).collect();
     vec![
         encode("encode, 20 bytes, Bech32", BECH32, "bc", PROGRAM.to_vec()),
@@ -203,5 +240,25 @@ pub fn operations() -> Vec<Operation> {
             segwit::encode(bc, Fe32::P, &taproot).unwrap(),
         ),
         residue("Engine::input_fe, 1000 elements"),
+        correct(
+            "correct, one error in 41 characters",
+            mistyped(&short, &[20]),
+            &[],
+        ),
+        correct(
+            "correct, two erasures in 41 characters",
+            mistyped(&short, &[9, 30]),
+            &[9, 30],
+        ),
+        correct(
+            "correct, three erasures in 41 characters",
+            mistyped(&short, &[0, 9, 30]),
+            &[0, 9, 30],
+        ),
+        correct(
+            "correct, no pattern for 41 characters",
+            mistyped(&short, &[3, 9, 15, 30]),
+            &[],
+        ),
     ]
 }

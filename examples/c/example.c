@@ -1,4 +1,5 @@
-/* Decodes a segwit address, writes that of its program on the test network, and refuses a text. */
+/* Decodes a segwit address, writes that of its program on the test network, refuses a text, and
+ * mends one. */
 #include <stdio.h>
 #include <string.h>
 
@@ -29,5 +30,20 @@ int main(void) {
 
     number = bech32_check(BECH32_BECH32, (const uint8_t *)"a12uel5m", 8, &hrp_length, &data_length);
     printf("a12uel5m: refusal %u\n", (unsigned)number);
+
+    const size_t erasures[] = {3};
+    size_t locations[BECH32_MAX_LISTED], count;
+    uint8_t values[BECH32_MAX_LISTED];
+    number = bech32_correct(BECH32_BECH32, (const uint8_t *)"a12uel5q", 8, erasures, 1, locations,
+                            BECH32_MAX_LISTED, values, BECH32_MAX_LISTED, &count, text, sizeof text,
+                            &text_length);
+    if (number != BECH32_OK) {
+        return 1;
+    }
+    printf("a12uel5q:");
+    for (size_t i = 0; i < count; i++) {
+        printf(" %u at %u,", (unsigned)values[i], (unsigned)locations[i]);
+    }
+    printf(" %.*s\n", (int)text_length, (char *)text);
     return 0;
 }

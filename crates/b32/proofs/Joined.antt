@@ -1,11 +1,10 @@
 -- Lines and their replies, one piece after another.
-use Rattle.std.proofs.Common.{◌≡◌, ℕ, ◌+◌, ◌<◌, Bool, true, false, List, [], ◌∷◌, ◌++◌, length, take, drop, sym, ap, subst, ◌∙◌, refl, arith, append_assoc, append-nil, Option, Some, None, cond, eqb, get_or}
+use Rattle.std.proofs.Common.{◌≡◌, ℕ, ◌+◌, ◌<◌, Bool, true, false, List, [], ◌∷◌, ◌++◌, length, take, drop, sym, ap, subst, ◌∙◌, refl, arith, append_assoc, append-nil, Option, Some, None, cond, eqb, get_or, inr}
 use Rattle.std.proofs.lemmas.List.{take-append-drop, drop_more, take_more}
 use Rattle.std.specs.Io.KnownBytes.{Appends, Keeps, Consumes}
 use Rattle.b32.specs.Lines.{ended_from, rest_from, last_line, ended_lines}
 use Rattle.b32.specs.Reply.{IsReply}
 use Rattle.b32.specs.Output.{IsOutput, IsBeginning}
-use Rattle.b32.proofs.Replies.{some-reply}
 
 -- ---- lines
 
@@ -34,24 +33,18 @@ pub output-append : (xs ys : List (List ℕ)) (a b : List ℕ) → IsOutput xs a
 output-append [] ys a b p q = subst (λ (l : List ℕ). IsOutput ys (l ++ b)) (sym p) q
 output-append (x ∷ xs) ys a b (said, rest, is, e, p) q = (said, rest ++ b, is, ap (λ (l : List ℕ). l ++ b) e ∙ append_assoc said (10 ∷ rest) b, output-append xs ys rest b p q)
 
--- each line has a reply
-pub output-some : (xs : List (List ℕ)) → (out : List ℕ) × IsOutput xs out
-output-some [] = ([], refl)
-output-some (x ∷ xs) = let (rest, p) = output-some xs in let (said, is) = some-reply x in (said ++ 10 ∷ rest, (said, rest, is, refl, p))
-
-pub output-beginning : (xs ys : List (List ℕ)) (a : List ℕ) → IsOutput xs a → IsBeginning (xs ++ ys) a
-output-beginning xs ys a p = let (b, q) = output-some ys in (b, output-append xs ys a b p q)
-
 -- a part of the next reply
 pub part-beginning : (xs ys : List (List ℕ)) (line a said : List ℕ) (n : ℕ) → IsOutput xs a → IsReply line said → IsBeginning (xs ++ line ∷ ys) (a ++ take n (said ++ 10 ∷ []))
-part-beginning xs ys line a said n p q =
-    let (b, r) = output-some ys in
-    let whole = output-append xs (line ∷ ys) a ((said ++ 10 ∷ []) ++ b) p (said, b, q, append_assoc said (10 ∷ []) b, r) in
-    let all = said ++ 10 ∷ [] in (
-      drop n all ++ b,
-      subst (IsOutput (xs ++ line ∷ ys))
-          (ap (λ (l : List ℕ). a ++ (l ++ b)) (sym (take-append-drop n all)) ∙ ap (λ (l : List ℕ). a ++ l) (append_assoc (take n all) (drop n all) b) ∙ sym (append_assoc a (take n all) (drop n all ++ b))) whole,
-    )
+part-beginning xs ys line a said n p q = record {
+  answered = xs;
+  others = line ∷ ys;
+  split = refl;
+  replies = a;
+  output = p;
+  front = take n (said ++ 10 ∷ []);
+  is_front = inr (said, n, q, refl);
+  out_is = refl;
+}
 
 -- ---- known bytes
 
@@ -148,10 +141,28 @@ cut-newline before xs out said i n l e p q =
 -- ---- a piece more
 
 pub beginning-whole : (xs : List (List ℕ)) (a : List ℕ) → IsOutput xs a → IsBeginning xs a
-beginning-whole xs a p = ([], subst (IsOutput xs) (sym (append-nil a)) p)
+beginning-whole xs a p = record {
+  answered = xs;
+  others = [];
+  split = sym (append-nil xs);
+  replies = a;
+  output = p;
+  front = [];
+  is_front = refl;
+  out_is = sym (append-nil a);
+}
 
 pub beginning-append : (xs ys : List (List ℕ)) (a b : List ℕ) → IsOutput xs a → IsBeginning ys b → IsBeginning (xs ++ ys) (a ++ b)
-beginning-append xs ys a b p (more, q) = (more, subst (IsOutput (xs ++ ys)) (sym (append_assoc a b more)) (output-append xs ys a (b ++ more) p q))
+beginning-append xs ys a b p q = record {
+  answered = xs ++ q.answered;
+  others = q.others;
+  split = ap (λ (ls : List (List ℕ)). xs ++ ls) q.split ∙ sym (append_assoc xs q.answered q.others);
+  replies = a ++ q.replies;
+  output = output-append xs q.answered a q.replies p q.output;
+  front = q.front;
+  is_front = q.is_front;
+  out_is = ap (λ (l : List ℕ). a ++ l) q.out_is ∙ sym (append_assoc a q.replies q.front);
+}
 
 pub output-more : (read bytes a b : List ℕ) → IsOutput (ended_lines read) a → IsOutput (ended_from (rest_from [] read) bytes) b → IsOutput (ended_lines (read ++ bytes)) (a ++ b)
 output-more read bytes a b p q = subst (λ (ls : List (List ℕ)). IsOutput ls (a ++ b)) (sym (ended-append [] read bytes)) (output-append _ _ a b p q)

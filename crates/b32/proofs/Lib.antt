@@ -1,6 +1,10 @@
 pub mod Bytes
+pub mod CorrectReplies
+pub mod CorrectSplit
 pub mod Joined
 pub mod Kept
+pub mod LocationLists
+pub mod LocationWords
 pub mod Pieces
 pub mod Replies
 pub mod SegwitReplies

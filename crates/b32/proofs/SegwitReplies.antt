@@ -1,13 +1,14 @@
 -- What may be said of a segwit address.
-use Rattle.std.proofs.Common.{◌≡◌, ◌⊎◌, ℕ, ◌≤◌, ◌++◌, ◌∷◌, ◌∙◌, ◌==◌, Bool, true, false, cond, List, length, length-append, refl, sym, ap, subst, append_assoc, codes, arith, inl, inr, ⊎_elim, Some, None}
+use Rattle.std.proofs.Common.{◌≡◌, ◌⊎◌, ℕ, ◌≤◌, ◌%◌, ◌++◌, ◌∷◌, ◌∙◌, ◌==◌, Bool, true, false, cond, List, length, length-append, refl, sym, ap, subst, append_assoc, codes, arith, inl, inr, ⊎_elim, Some, None}
 use Rattle.std.proofs.lemmas.List.{length-map}
 use Rattle.std.specs.Char.{to_ascii_lowercase}
 use Rattle.std.specs.Fmt.{decimal}
 use Rattle.bech32_gf.specs.declared.gf32.Fe32.{Fe32}
 use Rattle.bech32_bits.specs.Bits.{to_fes}
 use Rattle.bech32_checksum.specs.Code.{bech32, bech32m}
-use Rattle.bech32_hrp.specs.Hrp.{lowered, hrp_refusal}
+use Rattle.bech32_hrp.specs.Hrp.{IsHrp, lowered, hrp_refusal}
 use Rattle.bech32_hrp.specs.declared.Error.{Error as HrpError}
+use Rattle.bech32_errors.specs.declared.error.SegwitHrpstringError.TheVariants.{Memory as NoMemory}
 use Rattle.bech32_decode.specs.Segwit.{segwit_code, IsLowerAddress, IsAddress}
 use Rattle.bech32_segwit.specs.SegwitEncoding.{IsSegwitEncodeRefusal}
 use Rattle.bech32_segwit.specs.declared.error.EncodeError.{EncodeError}
@@ -17,7 +18,7 @@ use Rattle.b32.specs.Numbers.{number_of}
 use Rattle.bech32_numbers.specs.Numbers.{number_of_hrp_error, number_of_segwit_encode_error}
 use Rattle.b32.specs.declared.refusal.Refusal.{Refusal}
 use Rattle.b32.specs.declared.refusal.Refusal.TheVariants.{BadHex, Memory}
-use Rattle.b32.specs.Reply.{err, OrNoMemory, IsVersionWord, IsNoVersion, IsSegwitEncodeAnswer}
+use Rattle.b32.specs.Reply.{err, IsVersionWord, IsNoVersion, IsSegwitEncodeAnswer, IsSegwitDecodeAnswer}
 use Rattle.b32.proofs.Pieces.{three-pieces, four-pieces}
 use Rattle.b32.proofs.Sizes.{length-hex_of}
 use Rattle.b32.proofs.VersionWords.{length-version}
@@ -30,27 +31,31 @@ module _ (hrp word hex : List ℕ) where
 
   module _ (version : Fe32) (is : IsVersionWord word version) where
     pub says-bad_hex : bytes_of hex ≡ None → IsSegwitEncodeAnswer hrp word hex (err 5)
-    says-bad_hex none = inr (version, is, rw none refl)
+    says-bad_hex none = inr (version, is, inl (rw none refl))
 
-    pub says-refused_hex : (e : Refusal) → (e ≡ Memory) ⊎ ((e ≡ BadHex) × (bytes_of hex ≡ None)) → OrNoMemory (IsSegwitEncodeAnswer hrp word hex) (err (number_of e))
+    pub says-refused_hex : (e : Refusal) → ((e ≡ Memory) × (length hex % 2 ≡ 0)) ⊎ ((e ≡ BadHex) × (bytes_of hex ≡ None)) → IsSegwitEncodeAnswer hrp word hex (err (number_of e))
     says-refused_hex e h =
         ⊎_elim
-        (λ (m : e ≡ Memory). inr (ap (λ (x : Refusal). err (number_of x)) m))
-        (λ (b : (e ≡ BadHex) × (bytes_of hex ≡ None)). subst (λ (x : Refusal). OrNoMemory (IsSegwitEncodeAnswer hrp word hex) (err (number_of x))) (sym b.0) (inl (says-bad_hex b.1)))
+        (λ (m : (e ≡ Memory) × (length hex % 2 ≡ 0)). inr (version, is, inr (m.1, ap (λ (x : Refusal). err (number_of x)) m.0)))
+        (λ (b : (e ≡ BadHex) × (bytes_of hex ≡ None)). subst (λ (x : Refusal). IsSegwitEncodeAnswer hrp word hex (err (number_of x))) (sym b.0) (says-bad_hex b.1))
         h
 
     module _ (program : List ℕ) (some : bytes_of hex ≡ Some program) where
       pub says-bad_hrp : (e : HrpError) → hrp_refusal hrp ≡ Some e → IsSegwitEncodeAnswer hrp word hex (err (number_of_hrp_error e))
-      says-bad_hrp e refused = inr (version, is, rw (some, refused) refl)
+      says-bad_hrp e refused = inr (version, is, inl (rw (some, refused) refl))
 
       pub says-address : (text : List ℕ) → hrp_refusal hrp ≡ None → IsLowerAddress hrp version program text → IsSegwitEncodeAnswer hrp word hex (codes "ok " ++ text)
-      says-address text fine address = inr (version, is, rw (some, fine) (inl (record { text = text; is_address = address; spelling = refl })))
+      says-address text fine address = inr (version, is, inl (rw (some, fine) (inl (record { text = text; is_address = address; spelling = refl }))))
 
       pub says-no_address : (e : EncodeError) → hrp_refusal hrp ≡ None → IsSegwitEncodeRefusal hrp version program e
           → IsSegwitEncodeAnswer hrp word hex (err (number_of_segwit_encode_error e))
-      says-no_address e fine refusal = inr (version, is, rw (some, fine) (inr (record { error = e; is_refusal = refusal; spelling = refl })))
+      says-no_address e fine refusal = inr (version, is, inl (rw (some, fine) (inr (record { error = e; is_refusal = refusal; spelling = refl }))))
 
 -- ---- the answer to `segwit-decode`
+
+-- there is no memory for the hex of an address's program
+pub no_memory-address : (text hrp : List ℕ) (version : Fe32) (program : List ℕ) → IsHrp hrp → IsAddress hrp version program text → IsSegwitDecodeAnswer text (err 91)
+no_memory-address text hrp version program is a = inr (record { error = record { 0 = NoMemory }; is_refusal = inr (refl, (hrp, version, program, is, a)); spelling = refl })
 
 -- the parts of an address
 pub address-sizes : (text hrp : List ℕ) (version : Fe32) (program : List ℕ) → IsAddress hrp version program text → (length hrp ≤ 83) × (length program ≤ 40)

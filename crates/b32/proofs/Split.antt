@@ -1,5 +1,6 @@
 -- The words of a line, one after another.
-use Rattle.std.proofs.Common.{◌≡◌, ◌≢◌, ℕ, ◌<◌, Bool, true, false, ◌||◌, List, [], ◌∷◌, ◌++◌, length, get_or, eqb, cond, sym, ap, ◌∙◌, refl, arith, Option, Some, None, is_some, MatchOption, Bor, codes}
+use Rattle.std.proofs.Common.{◌≡◌, ◌≢◌, ℕ, ◌<◌, Bool, true, false, ◌||◌, List, [], ◌∷◌, ◌++◌, length, get_or, eqb, cond, sym, ap, ◌∙◌, refl, arith, Option, Some, None, is_some, MatchOption, Bor, codes, eq-eqb}
+use Rattle.std.specs.List.{slice_split}
 use Rattle.std.proofs.lemmas.Bool.{ne_eqb}
 use Rattle.std.proofs.lemmas.List.Elements.{All-from_get_or}
 use Rattle.std.proofs.lemmas.List.Splits.{slice_split_none, slice_split_at, length-slice_split}
@@ -7,28 +8,34 @@ use Rattle.std.proofs.lemmas.Str.Pattern.{IsSplitOnceResult, split_parts}
 use Rattle.b32.specs.Words.{words, is_empty, has_empty_word}
 use Rattle.b32.specs.Request.{checksum_of, encode_request, request_of_words, request_of}
 
--- a text with no space is one word
-no_space : (bs : List ℕ) → ((i : ℕ) → i < length bs → get_or bs i 0 ≢ 32) → words bs ≡ bs ∷ []
-no_space bs h =
-    slice_split_none (λ b. eqb b 32) bs
-    (All-from_get_or (λ b. eqb b 32 ≡ false) bs 0 (λ i l. ne_eqb (get_or bs i 0) 32 (h i l)))
+-- a text without the byte is one part
+no_byte : (c : ℕ) (bs : List ℕ) → ((i : ℕ) → i < length bs → get_or bs i 0 ≢ c) → slice_split (λ b. eqb b c) bs ≡ bs ∷ []
+no_byte c bs h =
+    slice_split_none (λ b. eqb b c) bs
+    (All-from_get_or (λ b. eqb b c ≡ false) bs 0 (λ i l. ne_eqb (get_or bs i 0) c (h i l)))
 
--- a word ends at the first space
-at_space : (bs front back : List ℕ) → bs ≡ front ++ (32 ∷ back) → ((i : ℕ) → i < length front → get_or front i 0 ≢ 32) → words bs ≡ front ∷ words back
-at_space bs front back e h =
-    ap words e
-    ∙ slice_split_at (λ b. eqb b 32) front 32 back
-    (All-from_get_or (λ b. eqb b 32 ≡ false) front 0 (λ i l. ne_eqb (get_or front i 0) 32 (h i l))) refl
+-- a part ends at the first such byte
+at_byte : (c : ℕ) (bs front back : List ℕ) → bs ≡ front ++ (c ∷ back) → ((i : ℕ) → i < length front → get_or front i 0 ≢ c)
+    → slice_split (λ b. eqb b c) bs ≡ front ∷ slice_split (λ b. eqb b c) back
+at_byte c bs front back e h =
+    ap (slice_split (λ b. eqb b c)) e
+    ∙ slice_split_at (λ b. eqb b c) front c back
+    (All-from_get_or (λ b. eqb b c ≡ false) front 0 (λ i l. ne_eqb (get_or front i 0) c (h i l))) (eq-eqb c c refl)
 
--- the words of a text, by what `split_once` answers
+-- the parts of a text, by what `split_once` answers
+pub split-split_once : (c : ℕ) (bs : List ℕ) (r : Option (Bor (List ℕ) × Bor (List ℕ))) → c < 128 → IsSplitOnceResult c bs r
+    → MatchOption r (slice_split (λ b. eqb b c) bs ≡ bs ∷ []) (λ x. slice_split (λ b. eqb b c) bs ≡ x.0.now ∷ slice_split (λ b. eqb b c) x.1.now)
+split-split_once c bs r ascii h = cases r (split_parts c bs r h ascii) where
+  cases : (s : Option (Bor (List ℕ) × Bor (List ℕ)))
+      → MatchOption s ((i : ℕ) → i < length bs → get_or bs i 0 ≢ c) (λ x. (bs ≡ x.0.now ++ (c ∷ x.1.now)) × ((i : ℕ) → i < length x.0.now → get_or x.0.now i 0 ≢ c))
+      → MatchOption s (slice_split (λ b. eqb b c) bs ≡ bs ∷ []) (λ x. slice_split (λ b. eqb b c) bs ≡ x.0.now ∷ slice_split (λ b. eqb b c) x.1.now)
+  cases None p = no_byte c bs p
+  cases (Some x) p = at_byte c bs x.0.now x.1.now p.0 p.1
+
+-- the words of a text likewise
 pub words-split_once : (bs : List ℕ) (r : Option (Bor (List ℕ) × Bor (List ℕ))) → IsSplitOnceResult 32 bs r
     → MatchOption r (words bs ≡ bs ∷ []) (λ x. words bs ≡ x.0.now ∷ words x.1.now)
-words-split_once bs r h = cases r (split_parts 32 bs r h (omega arith)) where
-  cases : (s : Option (Bor (List ℕ) × Bor (List ℕ)))
-      → MatchOption s ((i : ℕ) → i < length bs → get_or bs i 0 ≢ 32) (λ x. (bs ≡ x.0.now ++ (32 ∷ x.1.now)) × ((i : ℕ) → i < length x.0.now → get_or x.0.now i 0 ≢ 32))
-      → MatchOption s (words bs ≡ bs ∷ []) (λ x. words bs ≡ x.0.now ∷ words x.1.now)
-  cases None p = no_space bs p
-  cases (Some x) p = at_space bs x.0.now x.1.now p.0 p.1
+words-split_once bs r h = split-split_once 32 bs r (omega arith) h
 
 -- there is at least one word
 pub words-some : (bs : List ℕ) → words bs ≡ [] → ⊥

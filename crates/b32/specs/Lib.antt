@@ -1,5 +1,6 @@
 pub mod Hex
 pub mod Lines
+pub mod Locations
 pub mod Numbers
 pub mod Output
 pub mod Reply

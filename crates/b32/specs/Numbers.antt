@@ -2,10 +2,11 @@
 -- want of memory.
 use Rattle.std.specs.Prelude.{ℕ}
 use Rattle.bech32_numbers.specs.Numbers.{number_of_hrp_error, number_of_decode_error, number_of_encode_error}
+use Rattle.bech32_numbers.specs.Numbers.{number_of_checked_error}
 use Rattle.bech32_numbers.specs.Numbers.{number_of_segwit_decode_error, number_of_segwit_encode_error}
 use Rattle.b32.specs.declared.refusal.Refusal.{Refusal}
 use Rattle.b32.specs.declared.refusal.Refusal.TheVariants.{LineTooLong, NotUtf8, NoRequest, BadNumber, BadHex, Hrp}
-use Rattle.b32.specs.declared.refusal.Refusal.TheVariants.{Encode, Decode, SegwitEncode, SegwitDecode, Memory}
+use Rattle.b32.specs.declared.refusal.Refusal.TheVariants.{Encode, Decode, SegwitEncode, SegwitDecode, Correct, Memory}
 
 -- of any refusal
 abbrev pub number_of : Refusal → ℕ
@@ -19,4 +20,5 @@ number_of (Encode e) = number_of_encode_error e
 number_of (Decode e) = number_of_decode_error e
 number_of (SegwitEncode e) = number_of_segwit_encode_error e
 number_of (SegwitDecode e) = number_of_segwit_decode_error e
+number_of (Correct e) = number_of_checked_error e
 number_of Memory = 91

@@ -1,5 +1,5 @@
 -- What is written for lines.
-use Rattle.std.specs.Prelude.{◌≡◌, ◌⊎◌, ℕ, List, [], ◌∷◌, ◌++◌, Option}
+use Rattle.std.specs.Prelude.{◌≡◌, ◌⊎◌, ℕ, List, [], ◌∷◌, ◌++◌, take, Option}
 use Rattle.std.specs.Io.KnownBytes.{Appends, Consumes, IsAtEnd}
 use Rattle.b32.specs.Lines.{lines_of, ended_lines}
 use Rattle.b32.specs.Reply.{IsReply}
@@ -10,9 +10,22 @@ IsOutput [] out = out ≡ []
 IsOutput (line ∷ lines) out =
     (said : List ℕ) × (rest : List ℕ) × IsReply line said × (out ≡ said ++ 10 ∷ rest) × IsOutput lines rest
 
--- a beginning of such an output
-abbrev pub IsBeginning : List (List ℕ) → List ℕ → Type 0
-IsBeginning lines out = (more : List ℕ) × IsOutput lines (out ++ more)
+-- nothing, or a front of the reply to the first of some lines
+abbrev pub IsFront : List (List ℕ) → List ℕ → Type 0
+IsFront [] out = out ≡ []
+IsFront (line ∷ lines) out =
+    (out ≡ []) ⊎ ((said : List ℕ) × (n : ℕ) × IsReply line said × (out ≡ take n (said ++ 10 ∷ [])))
+
+-- a beginning of an output: the replies to the first lines, and a front of the one to the next
+pub record IsBeginning (lines : List (List ℕ)) (out : List ℕ) : Type 0 where
+  pub answered : List (List ℕ)
+  pub others : List (List ℕ)
+  pub split : lines ≡ answered ++ others
+  pub replies : List ℕ
+  pub output : IsOutput answered replies
+  pub front : List ℕ
+  pub is_front : IsFront others front
+  pub out_is : out ≡ replies ++ front
 
 -- Bytes left a source and others went out to a sink, where those are known: what the source had left
 -- before and after, and what had gone out before and after.

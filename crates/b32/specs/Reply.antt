@@ -1,30 +1,42 @@
 -- What may be said of a line.
-use Rattle.std.specs.Prelude.{◌≡◌, ◌≤◌, ◌⊎◌, ℕ, List, ◌∷◌, ◌++◌, length, nat_lt, codes, MatchOption, MatchBool}
+use Rattle.std.specs.Prelude.{◌≡◌, ◌≤◌, ◌⊎◌, ◌%◌, ℕ, List, [], ◌∷◌, ◌++◌, length, nat_lt, codes, None, MatchOption, MatchBool}
 use Rattle.std.specs.Fmt.{decimal}
 use Rattle.std.specs.Str.{is_utf8}
 use Rattle.bech32_gf.specs.declared.gf32.Fe32.{Fe32}
 use Rattle.bech32_bits.specs.Bits.{to_fes}
 use Rattle.bech32_checksum.specs.Code.{Code}
 use Rattle.bech32_hrp.specs.Hrp.{IsHrp, lowered, hrp_refusal}
-use Rattle.bech32_decode.specs.Acceptance.{IsDecoded}
-use Rattle.bech32_checksum.specs.Encoded.{IsEncodedText}
+use Rattle.bech32_decode.specs.Acceptance.{Accepts, IsDecoded}
+use Rattle.bech32_decode.specs.Checked.{IsCheckedRefusal}
+use Rattle.bech32_checksum.specs.Encoded.{IsEncodedText, char_of_element}
+use Rattle.bech32_corrector.specs.Carried.{of_checked}
+use Rattle.bech32_corrector.specs.Correction.{singleton_bound}
+use Rattle.bech32_mended.specs.Mistyped.{HasNoListing, IsListingOf, IsMendedText}
 use Rattle.bech32_encode.specs.TextLength.{encoded_length_of}
 use Rattle.bech32.specs.Refusals.{IsDecodeRefusal, IsEncodeRefusal}
 use Rattle.bech32_decode.specs.Segwit.{IsLowerAddress, IsAddress, IsAddressText, IsSegwitRefusal}
 use Rattle.bech32_segwit.specs.SegwitEncoding.{IsSegwitEncodeRefusal}
 use Rattle.bech32.specs.declared.error.DecodeError.{DecodeError}
 use Rattle.bech32.specs.declared.error.EncodeError.{EncodeError}
+use Rattle.bech32_errors.specs.declared.error.CheckedHrpstringError.{CheckedHrpstringError}
 use Rattle.bech32_errors.specs.declared.error.SegwitHrpstringError.TheVariants.{Memory}
 use Rattle.bech32_segwit.specs.declared.error.DecodeError.{DecodeError as SegwitDecodeError}
 use Rattle.bech32_segwit.specs.declared.error.EncodeError.{EncodeError as SegwitEncodeError}
 use Rattle.b32.specs.Hex.{AreBytes, bytes_of, hex_of}
-use Rattle.bech32_numbers.specs.Numbers.{number_of_hrp_error, number_of_decode_error, number_of_encode_error}
+use Rattle.bech32_numbers.specs.Numbers.{number_of_checked_error, number_of_hrp_error}
+use Rattle.bech32_numbers.specs.Numbers.{number_of_decode_error, number_of_encode_error}
 use Rattle.bech32_numbers.specs.Numbers.{number_of_segwit_decode_error, number_of_segwit_encode_error}
-use Rattle.b32.specs.Request.{Request, Encode, Decode, SegwitEncode, SegwitDecode, code_of_name, request_of}
+use Rattle.b32.specs.Locations.{AreLocations, BeginsWithLocation, IsNoListOfLocations}
+use Rattle.b32.specs.Request.{Request, Encode, Decode, SegwitEncode, SegwitDecode, Correct, CorrectAt}
+use Rattle.b32.specs.Request.{code_of_name, request_of}
 
 -- a refusal with this number
 abbrev pub err : ℕ → List ℕ
 err number = codes "err " ++ decimal number
+
+-- an answer, or that there is no memory for the bytes of a word in hex, which then has its digits in pairs
+abbrev pub OrNoMemory : List ℕ → (List ℕ → Type 0) → List ℕ → Type 0
+OrNoMemory hex Says said = Says said ⊎ ((length hex % 2 ≡ 0) × (said ≡ err 91))
 
 -- the text of a human-readable part and bytes is said
 pub record SaysText (code : Code) (hrp bytes said : List ℕ) : Type 0 where
@@ -55,7 +67,7 @@ pub record SaysBytes (text said : List ℕ) : Type 0 where
   pub is_decoded : IsDecoded text hrp bytes
   pub spelling : said ≡ codes "ok " ++ (lowered hrp ++ (32 ∷ hex_of bytes))
 
--- it is said why a text is not decoded
+-- it is said why a text is not decoded: want of memory only of one that is accepted
 pub record SaysNoBytes (text said : List ℕ) : Type 0 where
   pub error : DecodeError
   pub is_refusal : IsDecodeRefusal text error
@@ -94,11 +106,12 @@ IsVersionedAnswer hrp version hex said =
     (SaysAddress hrp version program said ⊎ SaysNoAddress hrp version program said)
     (λ error. said ≡ err (number_of_hrp_error error)))
 
--- and with any word: a bad number is refused first
+-- and with any word: a bad number is refused first, and then memory for the bytes may be wanting
 abbrev pub IsSegwitEncodeAnswer : List ℕ → List ℕ → List ℕ → List ℕ → Type 0
 IsSegwitEncodeAnswer hrp word hex said =
     (IsNoVersion word × (said ≡ err 4))
-    ⊎ ((version : Fe32) × IsVersionWord word version × IsVersionedAnswer hrp version hex said)
+    ⊎ ((version : Fe32) × IsVersionWord word version
+    × OrNoMemory hex (IsVersionedAnswer hrp version hex) said)
 
 -- the human-readable part of an address is said, in lower case, its version and its program
 pub record SaysProgram (text said : List ℕ) : Type 0 where
@@ -110,7 +123,7 @@ pub record SaysProgram (text said : List ℕ) : Type 0 where
   pub is_address : IsAddress hrp version program text
   pub spelling : said ≡ codes "ok " ++ (lowered hrp ++ (32 ∷ (decimal version.value ++ (32 ∷ hex_of program))))
 
--- it is said why a text is no address
+-- it is said why a text is no address, or of one that memory is wanting
 pub record SaysNoProgram (text said : List ℕ) : Type 0 where
   pub error : SegwitDecodeError
   pub is_refusal : IsSegwitRefusal text error.0 ⊎ ((error.0 ≡ Memory) × IsAddressText text)
@@ -120,16 +133,57 @@ pub record SaysNoProgram (text said : List ℕ) : Type 0 where
 abbrev pub IsSegwitDecodeAnswer : List ℕ → List ℕ → Type 0
 IsSegwitDecodeAnswer text said = SaysProgram text said ⊎ SaysNoProgram text said
 
+-- said is that the checksum accepts the text
+pub record SaysFine (code : Code) (text said : List ℕ) : Type 0 where
+  pub accepted : Accepts code text
+  pub spelling : said ≡ codes "fine"
+
+-- the items of a listing: each location, a colon, the lower-case character of the element to add, and a space
+abbrev pub listed : List (ℕ × Fe32) → List ℕ
+listed [] = []
+listed (p ∷ more) = (decimal p.0 ++ (58 ∷ char_of_element p.1 ∷ 32 ∷ [])) ++ listed more
+
+-- said is how the text is to be mended, and the mended text, which the checksum accepts
+pub record SaysMended (code : Code) (text given said : List ℕ) : Type 0 where
+  pub listing : List (ℕ × Fe32)
+  pub is_listing : IsListingOf code (singleton_bound 24 26) text given listing
+  pub mended_text : List ℕ
+  pub is_mended : IsMendedText listing text mended_text
+  pub accepted : Accepts code mended_text
+  pub spelling : said ≡ codes "ok " ++ (listed listing ++ mended_text)
+
+-- said is that no pattern in the data part solves the residue
+pub record SaysNone (code : Code) (text given said : List ℕ) : Type 0 where
+  pub none : HasNoListing code (singleton_bound 24 26) text given
+  pub spelling : said ≡ codes "none"
+
+-- it is said why the text is refused, which is not for its residue
+pub record SaysRefused (code : Code) (text said : List ℕ) : Type 0 where
+  pub error : CheckedHrpstringError
+  pub is_refusal : IsCheckedRefusal code text error
+  pub no_residue : of_checked error ≡ None
+  pub spelling : said ≡ err (number_of_checked_error error)
+
+-- the answer to `correct`, where these locations are the erasures
+abbrev pub IsCorrectAnswer : Code → List ℕ → List ℕ → List ℕ → Type 0
+IsCorrectAnswer code text given said =
+    SaysFine code text said ⊎ (SaysMended code text given said
+    ⊎ (SaysNone code text given said ⊎ SaysRefused code text said))
+
+-- the same where a word lists the locations: the first bad number is refused, or memory for those before it is wanting
+abbrev pub IsCorrectAtAnswer : Code → List ℕ → List ℕ → List ℕ → Type 0
+IsCorrectAtAnswer code text word said =
+    (IsNoListOfLocations word × (said ≡ err 4)) ⊎ ((BeginsWithLocation word × (said ≡ err 91))
+    ⊎ ((given : List ℕ) × AreLocations word given × IsCorrectAnswer code text given said))
+
 -- the answer to a request
 abbrev pub IsAnswer : Request → List ℕ → Type 0
-IsAnswer (Encode checksum hrp hex) said = IsEncodeAnswer (code_of_name checksum) hrp hex said
+IsAnswer (Encode checksum hrp hex) said = OrNoMemory hex (IsEncodeAnswer (code_of_name checksum) hrp hex) said
 IsAnswer (Decode text) said = IsDecodeAnswer text said
 IsAnswer (SegwitEncode hrp version hex) said = IsSegwitEncodeAnswer hrp version hex said
 IsAnswer (SegwitDecode text) said = IsSegwitDecodeAnswer text said
-
--- an answer, or that there is no memory for it
-abbrev pub OrNoMemory : (List ℕ → Type 0) → List ℕ → Type 0
-OrNoMemory Says said = Says said ⊎ (said ≡ err 91)
+IsAnswer (Correct checksum text) said = IsCorrectAnswer (code_of_name checksum) text [] said
+IsAnswer (CorrectAt checksum text word) said = IsCorrectAtAnswer (code_of_name checksum) text word said
 
 -- what is said is added to bytes, and leaves room for a newline
 pub record Adds (Says : List ℕ → Type 0) (old new : List ℕ) : Type 0 where
@@ -146,5 +200,5 @@ IsReply line said =
     (MatchBool (is_utf8 line)
     (MatchOption (request_of line)
     (said ≡ err 3)
-    (λ request. OrNoMemory (IsAnswer request) said))
+    (λ request. IsAnswer request said))
     (said ≡ err 2))

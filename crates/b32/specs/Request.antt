@@ -1,5 +1,6 @@
 -- What a line asks for: its first word names a command, the others are its arguments.
 use Rattle.std.specs.Prelude.{ℕ, if◌then◌else◌, List, [], ◌∷◌, codes, Option, Some, None}
+use Rattle.std.specs.List.{list_any}
 use Rattle.std.specs.Str.{bytes_eq}
 use Rattle.bech32_checksum.specs.Code.{Code, bech32, bech32m}
 use Rattle.b32.specs.declared.command.ChecksumName.{ChecksumName}
@@ -8,15 +9,18 @@ use Rattle.b32.specs.declared.command.Command.{Command}
 use Rattle.b32.specs.declared.command.Command.TheVariants.{Encode as EncodeCommand, Decode as DecodeCommand}
 use Rattle.b32.specs.declared.command.Command.TheVariants.{SegwitEncode as SegwitEncodeCommand}
 use Rattle.b32.specs.declared.command.Command.TheVariants.{SegwitDecode as SegwitDecodeCommand}
-use Rattle.b32.specs.Words.{words, has_empty_word}
+use Rattle.b32.specs.declared.command.Command.TheVariants.{Correct as CorrectCommand, CorrectAt as CorrectAtCommand}
+use Rattle.b32.specs.Words.{words, has_empty_word, is_empty}
 
--- the text of bytes, or the bytes of a text; the segwit address of a program, or the program of an address; each
--- argument as its word
+-- the text of bytes, or the bytes of a text; the segwit address of a program, or the program of an address; a mistyped
+-- text mended, with or without erasures; each argument as its word
 pub data Request : Type 0 where
   Encode : (checksum : ChecksumName) (hrp hex : List ℕ) → Request
   Decode : (text : List ℕ) → Request
   SegwitEncode : (hrp version hex : List ℕ) → Request
   SegwitDecode : (text : List ℕ) → Request
+  Correct : (checksum : ChecksumName) (text : List ℕ) → Request
+  CorrectAt : (checksum : ChecksumName) (text locations : List ℕ) → Request
 
 -- the checksum of a word
 abbrev pub checksum_of : List ℕ → Option ChecksumName
@@ -54,6 +58,26 @@ abbrev pub segwit_decode_request : List (List ℕ) → Option Request
 segwit_decode_request (text ∷ []) = Some (SegwitDecode text)
 segwit_decode_request _ = None
 
+-- a text to be mended by the checksum of a word, if it is one
+abbrev pub correct_under : Option ChecksumName → List ℕ → Option Request
+correct_under None text = None
+correct_under (Some checksum) text = Some (Correct checksum text)
+
+-- the same with erasures
+abbrev pub correct_at_under : Option ChecksumName → List ℕ → List ℕ → Option Request
+correct_at_under None text locations = None
+correct_at_under (Some checksum) text locations = Some (CorrectAt checksum text locations)
+
+-- `correct CHECKSUM TEXT` and `correct CHECKSUM TEXT LOCATIONS`
+abbrev pub correct_request : List (List ℕ) → Option Request
+correct_request (checksum ∷ text ∷ []) = correct_under (checksum_of checksum) text
+correct_request (checksum ∷ text ∷ locations ∷ []) = correct_at_under (checksum_of checksum) text locations
+correct_request _ = None
+
+-- what the words behind `correct` ask for, of which none is empty
+abbrev pub correct_arguments : List (List ℕ) → Option Request
+correct_arguments arguments = if list_any is_empty arguments then None else correct_request arguments
+
 -- what words ask for
 abbrev pub request_of_words : List (List ℕ) → Option Request
 request_of_words [] = None
@@ -62,7 +86,8 @@ request_of_words (name ∷ arguments) =
     else (if bytes_eq name (codes "decode") then decode_request arguments
     else (if bytes_eq name (codes "segwit-encode") then segwit_encode_request arguments
     else (if bytes_eq name (codes "segwit-decode") then segwit_decode_request arguments
-    else None)))
+    else (if bytes_eq name (codes "correct") then correct_request arguments
+    else None))))
 
 -- what a line asks for, which has no empty word
 abbrev pub request_of : List ℕ → Option Request
@@ -74,3 +99,5 @@ request_of_command (EncodeCommand checksum hrp hex) = Encode checksum hrp.now he
 request_of_command (DecodeCommand text) = Decode text.now
 request_of_command (SegwitEncodeCommand hrp version hex) = SegwitEncode hrp.now version.now hex.now
 request_of_command (SegwitDecodeCommand text) = SegwitDecode text.now
+request_of_command (CorrectCommand checksum text) = Correct checksum text.now
+request_of_command (CorrectAtCommand checksum text locations) = CorrectAt checksum text.now locations.now

@@ -39,3 +39,25 @@ pub fn append_number(out: &mut Vec<u8>, number: u8)
     }
     append(out, &[b'0' + number % 10]);
 }
+
+/// Adds a location, which is 1022 at most, in decimal.
+pub fn append_location(out: &mut Vec<u8>, location: usize)
+    requires small { location ≤ 1022 }
+    requires room { vec_len out.old + 4 ≤ vec_capacity out.old }
+    ensures items { out.new.items ≡ out.old.items ++ decimal location }
+    ensures size { vec_len out.new ≤ vec_len out.old + 4 }
+    ensures capacity { vec_capacity out.old ≤ vec_capacity out.new }
+{
+    if location < 100 {
+        append_number(out, location as u8);
+    } else {
+        append_number(out, (location / 100) as u8);
+        append(
+            out,
+            &[
+                b'0' + (location / 10 % 10) as u8,
+                b'0' + (location % 10) as u8,
+            ],
+        );
+    }
+}

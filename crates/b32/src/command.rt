@@ -2,7 +2,7 @@
 
 ghost use Rattle.std.specs.Prelude.{◌≡◌, ◌≢◌, ℕ, List, [], ◌∷◌, MatchOption, Some, None};
 ghost use Rattle.b32.specs.Words.{words};
-ghost use Rattle.b32.specs.Request.{checksum_of, request_of, request_of_command};
+ghost use Rattle.b32.specs.Request.{checksum_of, correct_arguments, request_of, request_of_command};
 
 /// The checksum that a command names.
 #[derive(Clone, Copy, Debug, PartialEq, Eq)]
@@ -35,6 +35,17 @@ pub enum Command<'a> {
     /// `segwit-decode TEXT`: the version and the program of a segwit address.
     SegwitDecode {
         text: &'a str,
+    },
+    /// `correct CHECKSUM TEXT`: a mistyped text mended.
+    Correct {
+        checksum: ChecksumName,
+        text: &'a str,
+    },
+    /// `correct CHECKSUM TEXT LOCATIONS`: the same, where characters are known to be wrong.
+    CorrectAt {
+        checksum: ChecksumName,
+        text: &'a str,
+        locations: &'a str,
     },
 }
 
@@ -108,7 +119,28 @@ impl<'a> Command<'a> {
             "segwit-decode" => Some(Command::SegwitDecode {
                 text: only_word(arguments)?,
             }),
+            "correct" => Command::parse_correct(arguments),
             _ => None,
         }
+    }
+
+    // Reads what stands behind `correct`.
+    fn parse_correct(arguments: &'a str) -> Option<Command<'a>>
+        ensures { MatchOption result
+            (correct_arguments (words arguments.now) ≡ None)
+            (λ command. correct_arguments (words arguments.now) ≡ Some (request_of_command command)) }
+    {
+        let (name, arguments) = first_word(arguments)?;
+        let checksum = checksum_named(name)?;
+        let Some((text, locations)) = first_word(arguments) else {
+            let text = only_word(arguments)?;
+            return Some(Command::Correct { checksum, text });
+        };
+        let locations = only_word(locations)?;
+        Some(Command::CorrectAt {
+            checksum,
+            text,
+            locations,
+        })
     }
 }

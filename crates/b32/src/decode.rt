@@ -2,7 +2,7 @@
 
 ghost use Rattle.std.specs.Prelude.{◌≡◌, ◌+◌, ◌≤◌, vec_len, vec_capacity, OnOk, OnErr, IfErr};
 ghost use Rattle.b32.specs.Numbers.{number_of};
-ghost use Rattle.b32.specs.Reply.{err, Adds, OrNoMemory, IsDecodeAnswer};
+ghost use Rattle.b32.specs.Reply.{err, Adds, IsDecodeAnswer};
 
 use crate::append::{append, append_lowered};
 use crate::hex_word::word_of_bytes;
@@ -14,7 +14,7 @@ use std::alloc::Allocator;
 pub fn decode<A: Allocator + Copy>(alloc: A, text: &str, out: &mut Vec<u8>) -> Result<(), Refusal>
     requires { vec_len out.old + 2047 ≤ vec_capacity out.old }
     ensures ok { OnOk result (Adds (IsDecodeAnswer text.now) out.old.items out.new.items) }
-    ensures err { IfErr result (λ e. OrNoMemory (IsDecodeAnswer text.now) (err (number_of e))) }
+    ensures err { IfErr result (λ e. IsDecodeAnswer text.now (err (number_of e))) }
     ensures same { OnErr result (out.new.items ≡ out.old.items) }
     ensures capacity { vec_capacity out.old ≤ vec_capacity out.new }
 {

@@ -22,7 +22,7 @@ pub fn encode<Ck: Checksum, A: Allocator + Copy>(
     ensures ok { OnOk result
         (Adds (IsEncodeAnswer Ck.code hrp.now hex.now) out.old.items out.new.items) }
     ensures err { IfErr result
-        (λ e. OrNoMemory (IsEncodeAnswer Ck.code hrp.now hex.now) (err (number_of e))) }
+        (λ e. OrNoMemory hex.now (IsEncodeAnswer Ck.code hrp.now hex.now) (err (number_of e))) }
     ensures same { OnErr result (out.new.items ≡ out.old.items) }
     ensures capacity { vec_capacity out.old ≤ vec_capacity out.new }
 {

@@ -1,17 +1,18 @@
 //! Bytes as a word: `-` for no bytes, else a pair of hex digits for each.
 
-ghost use Rattle.std.specs.Prelude.{◌≡◌, ◌⊎◌, MatchResult, IfOk, Some, None, string_bytes};
+ghost use Rattle.std.specs.Prelude.{◌≡◌, ◌⊎◌, ◌%◌, length, MatchResult, IfOk, Some, None, string_bytes};
 ghost use Rattle.b32.specs.Hex.{AreBytes, bytes_of, hex_of};
 
 use crate::refusal::Refusal;
 use hex::FromHexError;
 use std::alloc::{AllocError, Allocator};
 
-/// The bytes that a word stands for.
+/// The bytes that a word stands for. Memory is wanted only where its digits are in pairs.
 pub fn bytes_of_word<A: Allocator>(alloc: A, word: &str) -> Result<Vec<u8, A>, Refusal>
     ensures { MatchResult result
         (λ bytes. bytes_of word.now ≡ Some bytes.items)
-        (λ e. (e ≡ Refusal.Memory) ⊎ ((e ≡ Refusal.BadHex) × (bytes_of word.now ≡ None))) }
+        (λ e. ((e ≡ Refusal.Memory) × (length word.now % 2 ≡ 0))
+        ⊎ ((e ≡ Refusal.BadHex) × (bytes_of word.now ≡ None))) }
 {
     if word == "-" {
         return Ok(Vec::new(alloc));

@@ -3,10 +3,12 @@
 
 mod append;
 mod command;
+mod correct;
 mod decode;
 mod encode;
 mod error;
 mod hex_word;
+mod location_word;
 mod refusal;
 mod reply;
 mod run;

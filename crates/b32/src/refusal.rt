@@ -3,11 +3,12 @@
 ghost use Rattle.std.specs.Prelude.{◌≡◌, ◌<◌};
 ghost use Rattle.b32.specs.Numbers.{number_of};
 
+use bech32::primitives::decode::CheckedHrpstringError;
 use bech32::primitives::hrp;
 use bech32::{DecodeError, EncodeError, segwit};
 use bech32_numbers::{
-    decode_error_number, encode_error_number, hrp_error_number, segwit_decode_error_number,
-    segwit_encode_error_number,
+    checked_error_number, decode_error_number, encode_error_number, hrp_error_number,
+    segwit_decode_error_number, segwit_encode_error_number,
 };
 use std::alloc::AllocError;
 
@@ -34,6 +35,8 @@ pub enum Refusal {
     SegwitEncode(segwit::EncodeError),
     /// The text is not decoded as a segwit address.
     SegwitDecode(segwit::DecodeError),
+    /// The text is refused, and not for its residue.
+    Correct(CheckedHrpstringError),
     /// There is no memory for the reply.
     Memory,
 }
@@ -55,6 +58,7 @@ impl Refusal {
             Refusal::Decode(e) => decode_error_number(e),
             Refusal::SegwitEncode(e) => segwit_encode_error_number(e),
             Refusal::SegwitDecode(e) => segwit_decode_error_number(e),
+            Refusal::Correct(e) => checked_error_number(e),
             Refusal::Memory => 91,
         }
     }
@@ -107,6 +111,16 @@ impl From<segwit::DecodeError> for Refusal {
 
     fn from(e: segwit::DecodeError) -> Refusal {
         Refusal::SegwitDecode(e)
+    }
+}
+
+impl From<CheckedHrpstringError> for Refusal {
+    ghost use Rattle.b32.specs.declared.refusal.Refusal.TheVariants.{Correct};
+
+    ghost from_gives = { λ e r. r ≡ Correct e };
+
+    fn from(e: CheckedHrpstringError) -> Refusal {
+        Refusal::Correct(e)
     }
 }
 

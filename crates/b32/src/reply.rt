@@ -4,12 +4,14 @@ ghost use Rattle.std.specs.Prelude.{◌≡◌, ℕ, ◌+◌, ◌≤◌, List, []
 ghost use Rattle.std.specs.Prelude.{vec_len, vec_capacity, OnOk, OnErr, IfErr};
 ghost use Rattle.b32.specs.Numbers.{number_of};
 ghost use Rattle.b32.specs.Request.{request_of_command};
-ghost use Rattle.b32.specs.Reply.{err, Adds, OrNoMemory, IsAnswer, IsReply};
+ghost use Rattle.b32.specs.Reply.{err, Adds, IsAnswer, IsReply};
 
 use crate::append::{append, append_number};
 use crate::command::{ChecksumName, Command};
+use crate::correct::correct;
 use crate::decode::decode;
 use crate::encode::encode;
+use crate::location_word::locations_of_word;
 use crate::refusal::Refusal;
 use crate::segwit_decode::segwit_decode;
 use crate::segwit_encode::segwit_encode;
@@ -28,7 +30,7 @@ fn answer<A: Allocator + Copy>(alloc: A, command: Command, out: &mut Vec<u8>) ->
     ensures ok { OnOk result
         (Adds (IsAnswer (request_of_command command.entry)) out.old.items out.new.items) }
     ensures err { IfErr result
-        (λ e. OrNoMemory (IsAnswer (request_of_command command.entry)) (err (number_of e))) }
+        (λ e. IsAnswer (request_of_command command.entry) (err (number_of e))) }
     ensures same { OnErr result (out.new.items ≡ out.old.items) }
     ensures capacity { vec_capacity out.old ≤ vec_capacity out.new }
 {
@@ -40,6 +42,15 @@ fn answer<A: Allocator + Copy>(alloc: A, command: Command, out: &mut Vec<u8>) ->
         Command::Decode { text } => decode(alloc, text, out),
         Command::SegwitEncode { hrp, version, hex } => segwit_encode(alloc, hrp, version, hex, out),
         Command::SegwitDecode { text } => segwit_decode(alloc, text, out),
+        Command::Correct { checksum, text } => correct(checksum, text, &[], out),
+        Command::CorrectAt {
+            checksum,
+            text,
+            locations,
+        } => {
+            let given = locations_of_word(alloc, locations)?;
+            correct(checksum, text, given.as_slice(), out)
+        }
     }
 }
 

@@ -2,7 +2,7 @@
 
 ghost use Rattle.std.specs.Prelude.{◌≡◌, ◌+◌, ◌≤◌, vec_len, vec_capacity, OnOk, OnErr, IfErr};
 ghost use Rattle.b32.specs.Numbers.{number_of};
-ghost use Rattle.b32.specs.Reply.{err, Adds, OrNoMemory, IsSegwitDecodeAnswer};
+ghost use Rattle.b32.specs.Reply.{err, Adds, IsSegwitDecodeAnswer};
 
 use crate::append::{append, append_lowered, append_number};
 use crate::hex_word::word_of_bytes;
@@ -19,8 +19,7 @@ pub fn segwit_decode<A: Allocator + Copy>(
 ) -> Result<(), Refusal>
     requires { vec_len out.old + 2047 ≤ vec_capacity out.old }
     ensures ok { OnOk result (Adds (IsSegwitDecodeAnswer text.now) out.old.items out.new.items) }
-    ensures err { IfErr result
-        (λ e. OrNoMemory (IsSegwitDecodeAnswer text.now) (err (number_of e))) }
+    ensures err { IfErr result (λ e. IsSegwitDecodeAnswer text.now (err (number_of e))) }
     ensures same { OnErr result (out.new.items ≡ out.old.items) }
     ensures capacity { vec_capacity out.old ≤ vec_capacity out.new }
 {

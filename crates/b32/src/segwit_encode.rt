@@ -2,7 +2,7 @@
 
 ghost use Rattle.std.specs.Prelude.{◌≡◌, ◌+◌, ◌≤◌, vec_len, vec_capacity, OnOk, OnErr, IfErr};
 ghost use Rattle.b32.specs.Numbers.{number_of};
-ghost use Rattle.b32.specs.Reply.{err, Adds, OrNoMemory, IsSegwitEncodeAnswer};
+ghost use Rattle.b32.specs.Reply.{err, Adds, IsSegwitEncodeAnswer};
 
 use crate::append::append;
 use crate::hex_word::bytes_of_word;
@@ -23,7 +23,7 @@ pub fn segwit_encode<A: Allocator + Copy>(
     ensures ok { OnOk result
         (Adds (IsSegwitEncodeAnswer hrp.now version.now hex.now) out.old.items out.new.items) }
     ensures err { IfErr result
-        (λ e. OrNoMemory (IsSegwitEncodeAnswer hrp.now version.now hex.now) (err (number_of e))) }
+        (λ e. IsSegwitEncodeAnswer hrp.now version.now hex.now (err (number_of e))) }
     ensures same { OnErr result (out.new.items ≡ out.old.items) }
     ensures capacity { vec_capacity out.old ≤ vec_capacity out.new }
 {

@@ -8,7 +8,7 @@ use bech32::Fe32;
 
 /// The value of a decimal digit.
 #[inline]
-fn digit_value(byte: u8) -> Option<u8>
+pub(crate) fn digit_value(byte: u8) -> Option<u8>
     ensures { MatchOption result ((byte < 48) ⊎ (57 < byte)) (λ d. (d < 10) × (byte ≡ 48 + d)) }
 {
     if byte < b'0' || b'9' < byte {

@@ -1,6 +1,7 @@
 //! Why a text is not decoded or not written.
 
-use bech32_decode::{ChecksumError, CodeLengthError, UncheckedHrpstringError};
+use bech32_corrector::CorrectableError;
+use bech32_decode::{ChecksumError, CodeLengthError, InvalidResidueError, UncheckedHrpstringError};
 use std::alloc::AllocError;
 use std::fmt;
 use thiserror::Error;
@@ -63,6 +64,19 @@ impl From<AllocError> for DecodeError {
 
     fn from(_e: AllocError) -> Self {
         Self::Memory
+    }
+}
+
+impl CorrectableError for DecodeError {
+    ghost use Rattle.bech32.specs.Carried.{of_decoding};
+
+    ghost carried = { of_decoding };
+
+    fn residue_error(&self) -> Option<&InvalidResidueError> {
+        match self {
+            DecodeError::Checksum(e) => e.residue_error(),
+            _ => None,
+        }
     }
 }
 

@@ -17,6 +17,7 @@ pub mod primitives;
 
 pub use bech32_bits::ByteIterExt;
 pub use bech32_checksum::{Bech32, Bech32m, Checksum, NoChecksum};
+pub use bech32_corrector::CorrectableError;
 use bech32_decode::{CheckedHrpstring, CodeLengthError, UncheckedHrpstring, validate_either};
 pub use bech32_encode::Fe32IterExt;
 use bech32_encode::{text_in, text_length};

@@ -11,3 +11,9 @@ pub use bech32_gf::gf32;
 pub use bech32_gf_ext as gf32_ext;
 pub use bech32_poly::fieldvec::NO_ALLOC_MAX_LENGTH;
 pub use bech32_poly::lfsr::LfsrIter;
+
+/// Correction of mistyped texts.
+pub mod correction {
+    pub use bech32_corrector::{CorrectableError, Corrector, ErrorIterator};
+    pub use bech32_poly::fieldvec::NO_ALLOC_MAX_LENGTH;
+}

@@ -5,5 +5,7 @@ pub mod Checking
 pub mod Decoding
 pub mod Encoding
 pub mod Letters
+pub mod Listings
+pub mod Mending
 pub mod Puts
 pub mod Runs

@@ -1,6 +1,7 @@
 pub mod Buffers
 pub mod Check
 pub mod Checksums
+pub mod Correct
 pub mod Decode
 pub mod Encode
 pub mod Engine

@@ -4,11 +4,11 @@ use Rattle.std.specs.Prelude.{ℕ}
 use Rattle.bech32.specs.declared.error.EncodeError.TheVariants.{TooLong as LongText}
 use Rattle.bech32_segwit.specs.declared.error.EncodeError.TheVariants.{WitnessVersion, TooLong as LongAddress}
 use Rattle.bech32_numbers.specs.Numbers.{number_of_hrp_error, number_of_text_error, number_of_checksum_error}
-use Rattle.bech32_numbers.specs.Numbers.{number_of_length_error, number_of_address_error}
+use Rattle.bech32_numbers.specs.Numbers.{number_of_length_error, number_of_address_error, number_of_no_correction}
 use Rattle.bech32_numbers.specs.Numbers.{number_of_encode_error, number_of_segwit_encode_error}
 use Rattle.bech32_c.specs.declared.refusal.Refusal.{Refusal}
-use Rattle.bech32_c.specs.declared.refusal.Refusal.TheVariants.{NotUtf8, BadNumber, NoRoom, Hrp, TooLong, Text}
-use Rattle.bech32_c.specs.declared.refusal.Refusal.TheVariants.{Checksum, Version, ProgramLength}
+use Rattle.bech32_c.specs.declared.refusal.Refusal.TheVariants.{NotUtf8, BadNumber, NoRoom, NoCorrection}
+use Rattle.bech32_c.specs.declared.refusal.Refusal.TheVariants.{Hrp, TooLong, Text, Checksum, Version, ProgramLength}
 use Rattle.bech32_c.specs.declared.refusal.Refusal.TheVariants.{AddressTooLong, Address}
 
 -- of any refusal (91, for want of memory, is never answered, since no call takes memory)
@@ -16,6 +16,7 @@ abbrev pub number_of : Refusal → ℕ
 number_of NotUtf8 = 2
 number_of BadNumber = 4
 number_of NoRoom = 92
+number_of NoCorrection = number_of_no_correction
 number_of (Hrp e) = number_of_hrp_error e
 number_of (TooLong e) = number_of_encode_error (LongText e)
 number_of (Text e) = number_of_text_error e

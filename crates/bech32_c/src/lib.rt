@@ -11,6 +11,7 @@
 
 mod buffer;
 mod checksum;
+pub mod correct;
 pub mod decode;
 pub mod encode;
 pub mod engine;

@@ -11,8 +11,8 @@ use bech32::primitives::hrp;
 use bech32::primitives::segwit::{InvalidWitnessVersionError, WitnessLengthError};
 use bech32::{EncodeError, segwit};
 use bech32_numbers::{
-    address_error_number, checksum_error_number, encode_error_number, hrp_error_number,
-    length_error_number, segwit_encode_error_number, text_error_number,
+    NO_CORRECTION, address_error_number, checksum_error_number, encode_error_number,
+    hrp_error_number, length_error_number, segwit_encode_error_number, text_error_number,
 };
 
 /// Why a call writes nothing.
@@ -24,6 +24,8 @@ pub enum Refusal {
     BadNumber,
     /// A buffer is too small.
     NoRoom,
+    /// No correction mends the text.
+    NoCorrection,
     /// A human-readable part is none.
     Hrp(hrp::Error),
     /// The text would be longer than the checksum's code.
@@ -52,6 +54,7 @@ impl Refusal {
             Refusal::NotUtf8 => 2,
             Refusal::BadNumber => 4,
             Refusal::NoRoom => 92,
+            Refusal::NoCorrection => NO_CORRECTION,
             Refusal::Hrp(e) => hrp_error_number(e),
             Refusal::TooLong(e) => encode_error_number(EncodeError::TooLong(e)),
             Refusal::Text(e) => text_error_number(e),

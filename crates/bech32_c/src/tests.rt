@@ -1,3 +1,4 @@
+use crate::correct::bech32_correct;
 use crate::decode::{bech32_check, bech32_decode};
 use crate::encode::bech32_encode;
 use crate::engine::bech32_residue;
@@ -265,6 +266,7 @@ fn texts_above_the_code_length(rt: HostRuntime) {
     same(&rt, &number, &31);
     is_untouched(&rt, &hrp, hrp_count);
     is_untouched(&rt, &bytes, count);
+    is_refused(&rt, &corrected(2, &text, &[], (4, 4, 64)), 31);
 }
 
 #[test]
@@ -486,5 +488,170 @@ fn remainders_of_right_texts(rt: HostRuntime) {
         let mut residue = u32::MAX;
         same(&rt, &bech32_residue(checksum, values, &mut residue), &4);
         same(&rt, &residue, &u32::MAX);
+    }
+}
+
+// What `bech32_correct` answers, and what it leaves.
+#[derive(Drop)]
+struct Outcome {
+    number: u32,
+    locations: [usize; 4],
+    values: [u8; 4],
+    count: usize,
+    mended: [u8; 64],
+    length: usize,
+}
+
+// Calls it with buffers of so many items.
+fn corrected(
+    checksum: u32,
+    text: &[u8],
+    erasures: &[usize],
+    rooms: (usize, usize, usize),
+) -> Outcome {
+    let (mut count, mut length) = (LENGTH_BEFORE, LENGTH_BEFORE);
+    let (mut locations, mut values, mut mended) = ([LENGTH_BEFORE; 4], [BEFORE; 4], [BEFORE; 64]);
+    let (front, _) = locations.split_at_mut(rooms.0.min(4));
+    let (elements, _) = values.split_at_mut(rooms.1.min(4));
+    let (characters, _) = mended.split_at_mut(rooms.2.min(64));
+    let number = bech32_correct(
+        checksum,
+        text,
+        erasures,
+        front,
+        elements,
+        &mut count,
+        characters,
+        &mut length,
+    );
+    Outcome {
+        number,
+        locations,
+        values,
+        count,
+        mended,
+        length,
+    }
+}
+
+// It refuses by this number, and nothing is written.
+fn is_refused(rt: &impl Abort, got: &Outcome, number: u32) {
+    same(rt, &got.number, &number);
+    same(rt, &got.locations, &[LENGTH_BEFORE; 4]);
+    is_untouched(rt, &got.values, got.count);
+    is_untouched(rt, &got.mended, got.length);
+}
+
+// It lists these, mends the text to this, and writes nothing behind them.
+fn is_mended(rt: &impl Abort, got: &Outcome, locations: &[usize], values: &[u8], want: &[u8]) {
+    same(rt, &got.number, &0);
+    assert!(rt; got.locations.starts_with(locations));
+    assert!(rt;
+        got.locations
+            .iter()
+            .skip(got.count)
+            .all(|n| *n == LENGTH_BEFORE)
+    );
+    same(rt, &got.count, &locations.len());
+    holds(rt, &got.values, got.count, values);
+    holds(rt, &got.mended, got.length, want);
+}
+
+#[test]
+fn mends_known_texts(rt: HostRuntime) {
+    // Made twice over and equal: by a reference model written from the definitions alone, and by the
+    // Rust crate bech32 0.12.0 with the differences of docs/DIFFERENCES.md.
+    let rows: [(u32, &[u8], &[usize], &[usize], &[u8], &[u8]); 8] = [
+        (1, b"a12uel5l", &[6], &[], &[], b"a12uel5l"),
+        (1, b"A12UEL5L", &[], &[], &[], b"a12uel5l"),
+        (1, b"a12uel5q", &[], &[0], &[31], b"a12uel5l"),
+        (
+            1,
+            b"a12uel5q",
+            &[3, 0, 3, 0],
+            &[3, 0],
+            &[0, 31],
+            b"a12uel5l",
+        ),
+        (
+            1,
+            b"a12uel5q",
+            &[0, 1, 2],
+            &[0, 1, 2],
+            &[31, 0, 0],
+            b"a12uel5l",
+        ),
+        (
+            1,
+            b"bc1q9r0srrr7xfkvy5l64qlydnw9re59gtzzwf5mdx",
+            &[37, 0, 20],
+            &[37, 0, 20],
+            &[24, 6, 17],
+            b"bc1qar0srrr7xfkvy5l643lydnw9re59gtzzwf5mdq",
+        ),
+        (
+            2,
+            b"1118GLKZVV",
+            &[6, 2, 5],
+            &[6, 2, 5],
+            &[20, 0, 0],
+            b"111nglkzvv",
+        ),
+        (
+            2,
+            b"1~12el7n3ndp4klznfk",
+            &[],
+            &[4],
+            &[5],
+            b"1~12el7n3ndp4k6znfk",
+        ),
+    ];
+    for (checksum, text, erasures, locations, values, want) in rows {
+        let (count, size) = (locations.len(), text.len());
+        for rooms in [(4, 4, 64), (count, count, size)] {
+            let got = corrected(checksum, text, erasures, rooms);
+            is_mended(&rt, &got, locations, values, want);
+        }
+        let short = corrected(
+            checksum,
+            text,
+            erasures,
+            (count, count, size.saturating_sub(1)),
+        );
+        is_refused(&rt, &short, 92);
+        if count > 0 {
+            let less = count.saturating_sub(1);
+            for rooms in [(less, count, size), (count, less, size)] {
+                is_refused(&rt, &corrected(checksum, text, erasures, rooms), 92);
+            }
+        }
+    }
+}
+
+#[test]
+fn refuses_to_mend(rt: HostRuntime) {
+    let rows: [(u32, &[u8], &[usize], u32); 17] = [
+        (0, b"\xff", &[], 4),
+        (3, b"a12uel5q", &[], 4),
+        (1, b"\xff", &[usize::MAX], 2),
+        (1, b"1qqqqqq", &[], 11),
+        (1, b" 1nwldj5", &[], 14),
+        (1, b"a12uel5l\r", &[], 21),
+        (2, b"pQ", &[], 22),
+        (2, b"qpzry", &[], 23),
+        (1, b"a1", &[0], 32),
+        (1, b"b12uel5l", &[], 34),
+        (2, b"a12uel5q", &[], 34),
+        (1, b"a12uel5q", &[1, 2], 34),
+        (1, b"a12uel5q", &[0, 1, 2, 3], 34),
+        (1, b"a12uel5q", &[6], 34),
+        (1, b"a12uel5q", &[0, 7], 34),
+        (1, b"a12uel5q", &[usize::MAX], 34),
+        (2, b"111pxa7d3mwg", &[11, 0, 1], 34),
+    ];
+    for (checksum, text, erasures, want) in rows {
+        for rooms in [(4, 4, 64), (0, 0, 0)] {
+            is_refused(&rt, &corrected(checksum, text, erasures, rooms), want);
+        }
     }
 }

@@ -12,6 +12,7 @@ use Rattle.bech32_poly.proofs.Remainder.{remainder_exists, remainder_of-short}
 use Rattle.bech32_checksum.specs.Packed.{digit_of, digits, tabulate}
 use Rattle.bech32_checksum.specs.Code.{Code, code_of}
 use Rattle.bech32_checksum.proofs.Digits.{length-tabulate}
+use Rattle.bech32_checksum.proofs.PartialProduct.{zero_digit}
 
 -- the generator of the code of packed words has as many lower coefficients as the degree
 pub same_size : {R : Type 0} (number : R → ℕ) (code : Code) (code_length degree : ℕ) (words : List R) (target : R)
@@ -28,6 +29,13 @@ zero_above n =
 zeros_above : (c : ℕ) (f : ℕ → Fe32) → ((n : ℕ) → f n ≡ fe32.zero) → tabulate c f ≡ zeros fe32.ops c
 zeros_above zero f h = refl
 zeros_above (suc c) f h = same_cons _ _ _ _ (h 0) (zeros_above c (λ i. f (suc i)) (λ n. h (suc n)))
+
+-- an engine of the polynomial zero has a row of zeros
+pub zero_is_residue : (low : List Fe32) (n : ℕ) → n ≡ 0 → IsRemainder fe32.ops low [] (digits (length low) n)
+zero_is_residue low n there =
+    subst (IsRemainder fe32.ops low [])
+    (sym (zeros_above (length low) (digit_of n) (λ k. ap (λ m. digit_of m k) there ∙ zero_digit k)))
+    (remainder_exists is_field low [])
 
 -- an engine that was given nothing has the remainder of the polynomial 1
 pub one_is_residue : (low : List Fe32) (width n : ℕ) → length low ≤ width → (0 < width → n ≡ 1)

@@ -184,6 +184,17 @@ impl<Ck: Checksum> Engine<Ck> {
         }
     }
 
+    /// An engine that was given nothing, and has no coefficient 1 above what it is given: it computes
+    /// the remainder of a polynomial as it is.
+    #[inline]
+    pub fn zero() -> Self
+        ensures { IsResidueOf Ck.MidstateRepr.number Ck.code result [] }
+    {
+        Engine {
+            residue: Ck::MidstateRepr::ONE ^ Ck::MidstateRepr::ONE,
+        }
+    }
+
     /// The remainder of what was given so far.
     #[inline]
     pub fn residue(&self) -> &Ck::MidstateRepr

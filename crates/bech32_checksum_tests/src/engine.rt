@@ -3,7 +3,6 @@
 ghost use Rattle.std.specs.Prelude.{length, ◌≤◌};
 ghost use Rattle.bech32_checksum.specs.Code.{IsResidueAfter};
 
-use crate::checksums::{Degree8, Degree13};
 use crate::codex32_rows;
 use crate::compare::{same, same_items};
 use bech32_checksum::{Bech32, Bech32m, Checksum, Engine, NoChecksum, PackedFe32, PackedNull};
@@ -11,6 +10,7 @@ use bech32_encode::{Checksummed, Fe32IterExt};
 use bech32_gf::gf32::Fe32;
 use bech32_hrp::Hrp;
 use bech32_poly::polynomial::remainder;
+use bech32_testing_codes::{Degree8, Degree13};
 use std::alloc::{AllocError, Global};
 use std::process::Abort;
 use std::test::Fail;

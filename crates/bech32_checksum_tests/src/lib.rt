@@ -2,8 +2,6 @@
 #![tactic(auto)]
 
 #[cfg(test)]
-mod checksums;
-#[cfg(test)]
 mod codex32_rows;
 #[cfg(test)]
 mod compare;

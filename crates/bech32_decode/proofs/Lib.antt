@@ -2,6 +2,7 @@ pub mod Addresses
 pub mod ByteWalks
 pub mod Checksums
 pub mod Decoding
+pub mod Distances
 pub mod Grammar
 pub mod Letters
 pub mod Outcomes

@@ -1,6 +1,7 @@
 pub mod Acceptance
 pub mod BeforeChecksum
 pub mod Checked
+pub mod Distance
 pub mod Parts
 pub mod Readers
 pub mod Refusals

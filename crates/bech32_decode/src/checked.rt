@@ -1,9 +1,11 @@
 //! A text whose checksum was tested.
 
-ghost use Rattle.std.specs.Prelude.{◌≡◌, ◌↔◌, ◌≤◌, true, length, drop, MatchOption, MatchResult, IfOk, IfErr, IsOk};
+ghost use Rattle.std.specs.Prelude.{◌≡◌, ◌↔◌, ◌≤◌, ◌<◌, ◌+◌, ◌-◌, true, length, drop, MatchOption, MatchResult, IfOk, IfErr, IsOk};
 ghost use Rattle.bech32_gf.specs.Alphabet.{is_data};
 ghost use Rattle.bech32_gf.specs.Fe32.{elements_of};
+ghost use Rattle.bech32_checksum.specs.Roots.{HasLawfulRoots};
 ghost use Rattle.bech32_decode.specs.Acceptance.{Accepts};
+ghost use Rattle.bech32_decode.specs.Distance.{IsFarFromOthers};
 ghost use Rattle.bech32_decode.specs.Readers.{bytes_to_come, elements_left};
 ghost use Rattle.bech32_decode.specs.Text.{IsInGrammar};
 ghost use Rattle.bech32_decode.specs.Version.{version_of};
@@ -31,7 +33,7 @@ pub struct CheckedHrpstring<'s> {
 
 impl<'s> CheckedHrpstring<'s> {
     ghost use Rattle.bech32_decode.specs.Checked.{IsAcceptedAs, IsCheckedRefusal};
-    ghost use Rattle.bech32_decode.specs.Parts.{checked_hrp, checked_data, checked_bytes, checked_length};
+    ghost use Rattle.bech32_decode.specs.Parts.{checked_hrp, checked_part, checked_data, checked_bytes, checked_length};
 
     // A text of these parts.
     #[inline]
@@ -59,6 +61,10 @@ impl<'s> CheckedHrpstring<'s> {
 
     /// Reads a text that the checksum accepts.
     ///
+    /// Where the roots are lawful and the degree is above 0, two texts that are read, of one
+    /// human-readable part and one length, have the same elements or differ in more than
+    /// `ROOT_EXPONENTS_END - ROOT_EXPONENTS_START + 1` places: in more than 3 for Bech32 and Bech32m.
+    ///
     /// # Errors
     ///
     /// The first of: the text is not in the grammar (as [`UncheckedHrpstring::new`]); the checksum
@@ -70,6 +76,12 @@ impl<'s> CheckedHrpstring<'s> {
         // At degree 0 grammar and length alone decide.
         ensures no_checksum { Ck.CHECKSUM_LENGTH ≡ 0
             → IsOk result ↔ (IsInGrammar s.now × (length s.now ≤ Ck.CODE_LENGTH)) }
+        // The bound is the singleton bound: the number of exponents from the first to the last.
+        ensures distance { IfOk result (λ c. 0 < Ck.CHECKSUM_LENGTH
+            → HasLawfulRoots Ck.CorrectionField.ops Ck.CorrectionField.embed Ck.code
+            Ck.ROOT_GENERATOR Ck.ROOT_EXPONENTS_START Ck.ROOT_EXPONENTS_END
+            → IsFarFromOthers Ck.code s.now (checked_part c)
+            (Ck.ROOT_EXPONENTS_END - Ck.ROOT_EXPONENTS_START + 1)) }
     {
         Self::read::<Ck>(s)
     }

@@ -4,7 +4,7 @@ use Rattle.std.specs.Cmp.Lexicographic.{pointwise}
 use Rattle.std.specs.Ordering.{eq_of_both, on}
 use Rattle.bech32_gf.specs.Fe32.{ops, value}
 use Rattle.bech32_gf.specs.declared.gf32.Fe32.{Fe32}
-use Rattle.bech32_poly.specs.Polynomial.{IsSamePolynomial}
+use Rattle.bech32_poly.specs.Polynomial.{IsSamePolynomial, add}
 use Rattle.bech32_poly.specs.Remainder.{IsRemainder}
 use Rattle.bech32_checksum.specs.Code.{Code}
 use Rattle.bech32_errors.specs.declared.error.InvalidResidueError.{InvalidResidueError}
@@ -16,6 +16,10 @@ actual_row e = e.actual.digits
 -- of the remainder that it should have left
 abbrev pub target_row : InvalidResidueError → List Fe32
 target_row e = e.target.digits
+
+-- of what is left of the former where the latter is taken off; an element is its own negative
+abbrev pub residue_of : InvalidResidueError → List Fe32
+residue_of e = add ops (actual_row e) (target_row e)
 
 -- two have the same coefficients of both
 abbrev pub has_same_rows : InvalidResidueError → InvalidResidueError → Bool

@@ -5,9 +5,9 @@ ghost use Rattle.bech32_gf.specs.Fe32.{ops};
 ghost use Rattle.bech32_poly.specs.Polynomial.{coefficient, IsSamePolynomial};
 ghost use Rattle.bech32_checksum.specs.Code.{bech32};
 ghost use Rattle.bech32_checksum.specs.Packed.{digit_of};
-ghost use Rattle.bech32_errors.specs.ResidueRows.{actual_row, target_row};
+ghost use Rattle.bech32_errors.specs.ResidueRows.{actual_row, residue_of, target_row};
 
-use crate::residue::Residue;
+use crate::residue::{MAX_DEGREE, Residue};
 use crate::segwit::{MAX_STRING_LENGTH, WitnessLengthError};
 use bech32_checksum::{Bech32, Checksum, PackedFe32};
 use bech32_gf::gf32::Fe32;
@@ -140,6 +140,14 @@ impl InvalidResidueError {
         ensures { IsTrue result ↔ IsSamePolynomial ops (actual_row self.now) bech32.target }
     {
         self.actual == Residue::new(&Bech32::TARGET_RESIDUE)
+    }
+
+    /// What is left of the remainder where the target is taken off, by which errors are found: its
+    /// coefficients, the constant term first, with zeros behind them.
+    pub fn residue(&self) -> [Fe32; MAX_DEGREE]
+        ensures { result ≡ residue_of self.now }
+    {
+        self.actual.less(&self.target)
     }
 }
 

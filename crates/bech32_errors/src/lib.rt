@@ -10,3 +10,4 @@ pub use error::{
     CharError, CheckedHrpstringError, ChecksumError, CodeLengthError, InvalidResidueError,
     PaddingError, SegwitCodeLengthError, SegwitHrpstringError, UncheckedHrpstringError,
 };
+pub use residue::MAX_DEGREE;

@@ -2,15 +2,15 @@
 
 ghost use Rattle.std.specs.Prelude.{◌≡◌, ◌<◌, ◌*◌, ◌^◌, ℕ, length};
 ghost use Rattle.bech32_gf.specs.Fe32.{ops};
-ghost use Rattle.bech32_poly.specs.Polynomial.{coefficient};
+ghost use Rattle.bech32_poly.specs.Polynomial.{add, coefficient};
 ghost use Rattle.bech32_checksum.specs.Packed.{digit_of};
 
 use bech32_checksum::PackedFe32;
 use bech32_gf::gf32::Fe32;
 use std::fmt;
 
-// No checksum has a higher degree.
-const MAX_DEGREE: usize = 25;
+/// The number of coefficients of a residue: no checksum has a higher degree.
+pub const MAX_DEGREE: usize = 25;
 
 /// A remainder: its coefficients, the constant term first, with zeros behind them. Two are equal
 /// where their polynomials are.
@@ -31,6 +31,18 @@ impl Residue {
             digits[i] = Fe32::from_low_bits(packed.unpack(i));
         }
         Residue { digits }
+    }
+
+    /// The coefficients of the difference from another, which is the sum: an element is its own
+    /// negative.
+    pub(crate) fn less(&self, other: &Residue) -> [Fe32; MAX_DEGREE]
+        ensures { result ≡ add ops self.now.digits other.now.digits }
+    {
+        let mut digits = self.digits;
+        for i in 0..MAX_DEGREE {
+            digits[i] = digits[i] + other.digits[i];
+        }
+        digits
     }
 }
 

@@ -1,5 +1,5 @@
 -- The bytes of a human-readable part, in their row of 83.
-use Rattle.std.proofs.Common.{◌≡◌, ℕ, ◌+◌, ◌-◌, ◌≤◌, true, List, [], ◌∷◌, ◌++◌, length, take, drop, replicate, refl, sym, ap, ◌∙◌, arith, length-take}
+use Rattle.std.proofs.Common.{◌≡◌, ℕ, ◌+◌, ◌-◌, ◌≤◌, true, List, [], ◌∷◌, ◌++◌, length, take, drop, map, replicate, refl, sym, ap, ◌∙◌, arith, length-take}
 use Rattle.std.proofs.lemmas.Bool.Decides.{nat_tests}
 use Rattle.std.proofs.lemmas.Bool.{and_parts, and_from, ltb-true, lt-ltb}
 use Rattle.std.proofs.lemmas.List.{drop-replicate, drop_at, take_at, length-replicate, length-append, length-take-le, length-map}
@@ -8,7 +8,7 @@ use Rattle.std.specs.Char.{is_ascii, to_ascii_lowercase}
 use Rattle.std.specs.List.{list_all}
 use Rattle.std.specs.Str.{IsAscii}
 use Rattle.bech32_hrp.specs.declared.Hrp.{Hrp}
-use Rattle.bech32_hrp.specs.Hrp.{is_graphic, padded, lowered}
+use Rattle.bech32_hrp.specs.Hrp.{is_graphic, graphic_or_x, padded, lowered}
 use Rattle.bech32_hrp.specs.HrpBytes.{hrp_bytes, lowered_bytes}
 
 -- written over the front of 83 zeros
@@ -25,11 +25,14 @@ pub length-hrp_bytes : (h : Hrp) → length (hrp_bytes h) ≡ h.size
 length-hrp_bytes h = length-take-le h.size h.buf (omega (arith, length-buf h, h.size_fits))
 
 -- the zeros
-pub drop-buf : (h : Hrp) → drop h.size h.buf ≡ replicate (83 - h.size) 0
-drop-buf h =
-    ap (drop h.size) h.zeros_behind
-    ∙ drop_at (hrp_bytes h) (replicate (83 - length (hrp_bytes h)) 0) h.size (length-hrp_bytes h)
-    ∙ ap (λ n. replicate (83 - n) 0) (length-hrp_bytes h)
+-- bytes written over the front of a part's row, as many as the part has
+pub padded-over : (n : ℕ) (bytes buf front : List ℕ) → buf ≡ padded bytes → length bytes ≡ n → length front ≡ n
+    → front ++ drop n buf ≡ padded (take n (front ++ drop n buf))
+padded-over n bytes buf front b e f =
+    ap (λ (x : List ℕ). front ++ drop n x) b
+    ∙ ap (λ (x : List ℕ). front ++ x) (drop_at bytes (replicate (83 - length bytes) 0) n e)
+    ∙ ap (λ (k : ℕ). front ++ replicate (83 - k) 0) (e ∙ sym f)
+    ∙ sym (ap padded (take_at front (drop n buf) n f))
 
 graphic_lower : (b : ℕ) → is_graphic b ≡ true → is_graphic (to_ascii_lowercase b) ≡ true
 graphic_lower b h = grind (arith, nat_tests)
@@ -76,9 +79,32 @@ take-lower h front e =
 
 pub padded-lower : (h : Hrp) (front : List ℕ) → front ≡ lowered_bytes h → front ++ drop h.size h.buf ≡ padded (take h.size (front ++ drop h.size h.buf))
 padded-lower h front e =
-    ap (λ (x : List ℕ). x ++ drop h.size h.buf) e
-    ∙ ap (λ (x : List ℕ). lowered_bytes h ++ x) (drop-buf h ∙ ap (λ n. replicate (83 - n) 0) (sym (length-lowered (hrp_bytes h) ∙ length-hrp_bytes h)))
-    ∙ sym (ap padded (take-lower h front e))
+    padded-over h.size (hrp_bytes h) h.buf front h.zeros_behind (length-hrp_bytes h) (ap length e ∙ length-lowered (hrp_bytes h) ∙ length-hrp_bytes h)
 
 pub graphic-lower : (h : Hrp) (front : List ℕ) → front ≡ lowered_bytes h → list_all is_graphic (take h.size (front ++ drop h.size h.buf)) ≡ true
 graphic-lower h front e = ap (list_all is_graphic) (take-lower h front e) ∙ lowered-graphic (hrp_bytes h) h.all_graphic
+
+graphic-or_x : (b : ℕ) → is_graphic (graphic_or_x b) ≡ true
+graphic-or_x b = grind (arith, nat_tests)
+
+graphic-all_or_x : (bytes : List ℕ) → list_all is_graphic (map graphic_or_x bytes) ≡ true
+graphic-all_or_x [] = refl
+graphic-all_or_x (b ∷ bs) = and_from (is_graphic (graphic_or_x b)) (list_all is_graphic (map graphic_or_x bs)) (graphic-or_x b) (graphic-all_or_x bs)
+
+-- the bytes of any text, with `X` for those that are not graphic, are those of a part
+module _ (bytes buf front : List ℕ) (b : buf ≡ padded bytes) (f : front ≡ map graphic_or_x (take (length bytes) buf)) where
+  front-unchecked : front ≡ map graphic_or_x bytes
+  front-unchecked =
+      f ∙ ap (map graphic_or_x) (ap (take (length bytes)) b ∙ take_at bytes (replicate (83 - length bytes) 0) (length bytes) refl)
+
+  length-unchecked : length front ≡ length bytes
+  length-unchecked = ap length front-unchecked ∙ simp length-map
+
+  pub take-unchecked : take (length bytes) (front ++ drop (length bytes) buf) ≡ map graphic_or_x bytes
+  take-unchecked = take_at front (drop (length bytes) buf) (length bytes) length-unchecked ∙ front-unchecked
+
+  pub padded-unchecked : front ++ drop (length bytes) buf ≡ padded (take (length bytes) (front ++ drop (length bytes) buf))
+  padded-unchecked = padded-over (length bytes) bytes buf front b refl length-unchecked
+
+  pub graphic-unchecked : list_all is_graphic (take (length bytes) (front ++ drop (length bytes) buf)) ≡ true
+  graphic-unchecked = ap (list_all is_graphic) take-unchecked ∙ graphic-all_or_x bytes

@@ -19,6 +19,10 @@ is_upper b = nat_le 65 b && nat_le b 90
 abbrev pub is_graphic : ℕ → Bool
 is_graphic b = nat_le 33 b && nat_le b 126
 
+-- the byte, or `X` where it may not stand in a human-readable part
+abbrev pub graphic_or_x : ℕ → ℕ
+graphic_or_x b = if is_graphic b then b else 88
+
 -- whether a lower-case letter and an upper-case one stand among the bytes
 abbrev pub is_mixed_case : List ℕ → Bool
 is_mixed_case bytes = list_any is_lower bytes && list_any is_upper bytes

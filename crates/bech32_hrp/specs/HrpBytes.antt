@@ -1,6 +1,7 @@
 -- The bytes of a human-readable part.
-use Rattle.std.specs.Prelude.{◌≡◌, ℕ, List, take, None, Some, Result, MatchResult}
+use Rattle.std.specs.Prelude.{◌≡◌, ℕ, ◌-◌, ◌^◌, List, take, None, Some, Result, Err, MatchResult}
 use Rattle.bech32_hrp.specs.declared.Error.{Error}
+use Rattle.bech32_hrp.specs.declared.Error.TheVariants.{TooLong}
 use Rattle.bech32_hrp.specs.declared.Hrp.{Hrp}
 use Rattle.bech32_hrp.specs.Hrp.{lowered, hrp_refusal}
 
@@ -16,3 +17,7 @@ lowered_bytes h = lowered (hrp_bytes h)
 abbrev pub IsParsed : List ℕ → Result Hrp Error → Type 0
 IsParsed text r =
     MatchResult r (λ h. (hrp_refusal text ≡ None) × (hrp_bytes h ≡ text)) (λ e. hrp_refusal text ≡ Some e)
+
+-- what reading a text in pieces answers where a usize cannot count its bytes: it is too long, with the highest count
+abbrev pub IsBeyondCount : Result Hrp Error → Type 0
+IsBeyondCount r = r ≡ Err (TooLong (2 ^ 64 - 1))

@@ -1,2 +1,4 @@
 pub mod Hrp
 pub mod HrpBytes
+pub mod Iterators
+pub mod Sink

@@ -2,12 +2,21 @@
 #![tactic(auto)]
 
 ghost use Rattle.std.specs.Prelude.{◌≡◌, ℕ, ◌+◌, ◌-◌, ◌≤◌, ◌<◌, ◌++◌, [], ◌∷◌, true, false, ◌&&◌, ◌||◌, ◌↔◌, ◌⊎◌};
-ghost use Rattle.std.specs.Prelude.{List, length, take, replicate, IsTrue, IsOk, codes, MatchResult};
+ghost use Rattle.std.specs.Prelude.{List, length, take, replicate, map, string_bytes, codes};
+ghost use Rattle.std.specs.Prelude.{IsTrue, IsOk, IfOk, MatchResult};
 ghost use Rattle.std.specs.Prelude.{Option, Some, None};
 ghost use Rattle.std.specs.List.{list_all};
 ghost use Rattle.std.specs.Str.{chars};
-ghost use Rattle.bech32_hrp.specs.Hrp.{is_graphic, is_lower, is_upper, padded, first_bad, IsHrp};
+ghost use Rattle.bech32_hrp.specs.Hrp.{is_graphic, is_lower, is_upper, padded, first_bad, IsHrp, graphic_or_x};
 
+mod iter;
+mod lowercase;
+mod sink;
+
+pub use iter::{ByteIter, CharIter};
+pub use lowercase::{LowercaseByteIter, LowercaseCharIter};
+pub use sink::HrpSink;
+use std::alloc::{AllocError, Allocator, Global};
 use std::cmp::Ordering;
 use std::fmt;
 use std::hash::{Hash, Hasher};
@@ -33,6 +42,9 @@ pub enum Error {
     /// The text has a lower-case letter and an upper-case one.
     #[error("hrp cannot mix upper and lower case")]
     MixedCase,
+    /// The value that was to print the text did not print.
+    #[error("formatting failed")]
+    Fmt,
 }
 
 /// A human-readable part: at most 83 bytes from 33 to 126, in the case that they were parsed in.
@@ -129,6 +141,22 @@ fn pad(bytes: &[u8]) -> [u8; MAX_HRP_LEN]
     buf
 }
 
+/// The byte, or `X` where it may not stand in a human-readable part.
+fn graphic_or_x(b: u8) -> u8
+    ensures { result ≡ graphic_or_x b }
+{
+    if is_graphic_byte(b) { b } else { b'X' }
+}
+
+/// Puts `X` for each byte that may not stand in a human-readable part.
+fn put_x(bytes: &mut [u8])
+    ensures { bytes.new ≡ map graphic_or_x bytes.old }
+{
+    for b in bytes.iter_mut() {
+        *b = graphic_or_x(*b);
+    }
+}
+
 impl Hrp {
     ghost use Rattle.bech32_hrp.specs.HrpBytes.{hrp_bytes, lowered_bytes, IsParsed};
 
@@ -162,6 +190,42 @@ impl Hrp {
         ensures accepts { IsOk result ↔ IsHrp text.now }
     {
         Self::read(text)
+    }
+
+    /// The part of the bytes of a text of at most 83 bytes, with `X` for each that is not from 33 to
+    /// 126. It may be empty, and have letters of both cases.
+    pub fn parse_unchecked(hrp: &str) -> Hrp
+        requires { length hrp.now ≤ 83 }
+        ensures { hrp_bytes result ≡ map graphic_or_x hrp.now }
+    {
+        let mut buf = pad(hrp.as_bytes());
+        put_x(&mut buf[..hrp.len()]);
+        Hrp {
+            buf,
+            size: hrp.len(),
+        }
+    }
+
+    /// The text in lower case, with memory from `alloc`.
+    ///
+    /// # Errors
+    ///
+    /// Where there is no memory for it.
+    pub fn to_lowercase_in<A: Allocator>(&self, alloc: A) -> Result<String<A>, AllocError>
+        ensures { IfOk result (λ s. string_bytes s ≡ lowered_bytes self.now) }
+    {
+        self.as_str().to_ascii_lowercase(alloc)
+    }
+
+    /// The text in lower case, with memory of the global allocator.
+    ///
+    /// # Errors
+    ///
+    /// Where there is no memory for it.
+    pub fn to_lowercase(&self, alloc: Global) -> Result<String, AllocError>
+        ensures { IfOk result (λ s. string_bytes s ≡ lowered_bytes self.now) }
+    {
+        self.to_lowercase_in(alloc)
     }
 
     /// The bytes, in the case that they were parsed in.

@@ -135,6 +135,7 @@ fn tells_the_fault(rt: HostRuntime) -> Result<(), Fail> {
             "byte value is not valid US-ASCII: '7f'",
         ),
         (Error::MixedCase, "hrp cannot mix upper and lower case"),
+        (Error::Fmt, "formatting failed"),
     ] {
         same(&rt, &message(rt.alloc(), error)?.as_str(), &want);
     }

@@ -5,3 +5,7 @@
 mod compare;
 #[cfg(test)]
 mod hrp;
+#[cfg(test)]
+mod items;
+#[cfg(test)]
+mod pieces;

@@ -3,7 +3,7 @@
 use Rattle.std.specs.Prelude.{◌<◌, ℕ}
 use Rattle.bech32_hrp.specs.declared.Error.{Error as HrpError}
 use Rattle.bech32_hrp.specs.declared.Error.TheVariants.{Empty, TooLong as HrpTooLong}
-use Rattle.bech32_hrp.specs.declared.Error.TheVariants.{NonAsciiChar, InvalidAsciiByte, MixedCase as HrpMixedCase}
+use Rattle.bech32_hrp.specs.declared.Error.TheVariants.{NonAsciiChar, InvalidAsciiByte, MixedCase as HrpMixedCase, Fmt as HrpFmt}
 use Rattle.bech32_errors.specs.declared.error.CharError.{CharError}
 use Rattle.bech32_errors.specs.declared.error.CharError.TheVariants.{InvalidChar, MixedCase}
 use Rattle.bech32_errors.specs.declared.error.CharError.TheVariants.{MissingSeparator, NothingAfterSeparator}
@@ -39,13 +39,14 @@ pub record IsSmall (number : ℕ) : Type 0 where
   pub above : 0 < number
   pub below : number < 100
 
--- of a human-readable part that is refused
+-- of a human-readable part that is refused; the last comes of a value that does not print, which no command reads
 abbrev pub number_of_hrp_error : HrpError → ℕ
 number_of_hrp_error Empty = 11
 number_of_hrp_error (HrpTooLong n) = 12
 number_of_hrp_error (NonAsciiChar c) = 13
 number_of_hrp_error (InvalidAsciiByte b) = 14
 number_of_hrp_error HrpMixedCase = 15
+number_of_hrp_error HrpFmt = 16
 
 -- of characters that are refused
 abbrev pub number_of_char_error : CharError → ℕ
@@ -64,6 +65,10 @@ abbrev pub number_of_checksum_error : ChecksumError → ℕ
 number_of_checksum_error (CodeLength e) = 31
 number_of_checksum_error InvalidLength = 32
 number_of_checksum_error (InvalidResidue e) = 33
+
+-- of a text that a checksum refuses for its residue, and that no correction mends
+abbrev pub number_of_no_correction : ℕ
+number_of_no_correction = 34
 
 -- of a text that is not in the grammar, or that a checksum refuses
 abbrev pub number_of_checked_error : CheckedHrpstringError → ℕ

@@ -21,7 +21,11 @@ use bech32::primitives::hrp;
 use bech32::primitives::segwit::WitnessLengthError;
 use bech32::{DecodeError, EncodeError, segwit};
 
-/// The number, 11 to 15, of a human-readable part that is refused.
+/// The number of a text that a checksum refuses for its residue, and that no correction mends.
+pub const NO_CORRECTION: u8 = 34;
+
+/// The number, 11 to 16, of a human-readable part that is refused. `Fmt`, 16, comes of
+/// `Hrp::parse_display` alone, so no program of this repository answers it.
 pub fn hrp_error_number(e: hrp::Error) -> u8
     ensures value { result ≡ number_of_hrp_error e }
     ensures small { IsSmall result }
@@ -32,6 +36,7 @@ pub fn hrp_error_number(e: hrp::Error) -> u8
         hrp::Error::NonAsciiChar(_) => 13,
         hrp::Error::InvalidAsciiByte(_) => 14,
         hrp::Error::MixedCase => 15,
+        hrp::Error::Fmt => 16,
     }
 }
 

@@ -5,6 +5,8 @@ use Rattle.std.proofs.lemmas.List.{length-map, length-take-le, map-append, take_
 use Rattle.bech32_gf.specs.Field.{Ops, IsField, power, value_at}
 use Rattle.bech32_gf.specs.laws.Ring.{ring, one_mul}
 use Rattle.bech32_gf.specs.laws.FieldLaws.{power-add, power-of_product}
+use Rattle.bech32_gf.specs.Powers.{powers_of}
+use Rattle.bech32_poly.proofs.Lists.{same_cons}
 use Rattle.bech32_poly.proofs.Zero.{power-swap}
 use Rattle.bech32_poly.specs.RootSearch.{RootSearch, value_after, total_of, multiplied_each, root_exponents, left_of}
 
@@ -202,6 +204,41 @@ module _ {K : Type 0} {o : Ops K} (l : IsField o) where
   power_next b pw pw' i at product =
       let e : suc i ≡ i + 1 = omega arith in
       product ∙ l.mul_comm pw b ∙ ap (o.mul b) at ∙ ap (power o b) e
+
+  powers_are_factors : (b : K) (i n : ℕ) → powers_of o b i n ≡ factors_from o b i n
+  powers_are_factors b i zero = refl
+  powers_are_factors b i (suc n) = let e : i + 1 ≡ suc i = omega arith in ap (λ u. power o b i ∷ u) (ap (λ k. powers_of o b k n) e ∙ powers_are_factors b (suc i) n)
+
+  pub powers-more : (b : K) (n : ℕ) → powers_of o b 0 (n + 1) ≡ powers_of o b 0 n ++ (power o b n ∷ [])
+  powers-more b n =
+      let e : n + 1 ≡ suc n = omega arith in
+      let place : 0 + n ≡ n = omega arith in
+      ap (powers_of o b 0) e ∙ powers_are_factors b 0 (suc n) ∙ factors_from-more b 0 n
+      ∙ ap (λ u. u ++ (power o b (0 + n) ∷ [])) (sym (powers_are_factors b 0 n)) ∙ ap (λ k. powers_of o b 0 n ++ (power o b k ∷ [])) place
+
+  pub length-powers : (b : K) (n : ℕ) → length (powers_of o b 0 n) ≡ n
+  length-powers b n = ap (λ u. length u) (powers_are_factors b 0 n) ∙ length-factors_from b 0 n
+
+  one_of : (i : ℕ) → power o o.one i ≡ o.one
+  unfolding power
+  one_of zero = refl
+  one_of (suc i) = ap (o.mul o.one) (one_of i) ∙ l.mul_one o.one
+
+  terms_of_one : (i : ℕ) (p : List K) → terms_from o o.one i p ≡ p
+  terms_of_one i [] = refl
+  terms_of_one i (a ∷ p) = same_cons (o.mul a (power o o.one i)) a (terms_from o o.one (suc i) p) p (ap (o.mul a) (one_of i) ∙ l.mul_one a) (terms_of_one (suc i) p)
+
+  first_power : (b : K) → power o b 0 ≡ o.one
+  unfolding power
+  first_power b = refl
+
+  -- the search over the coefficients themselves, which are the terms at one
+  pub search_below : (same : K → K → Bool) (p ts fs : List K) (base : K) (end : ℕ) → ts ≡ p → fs ≡ powers_of o base 0 (length p)
+      → left_of o same (record { terms = ts; factors = fs; next = 0; end = end }) ≡ root_exponents o same p base 0 end
+  search_below same p ts fs base end e1 e2 =
+      ap (λ u. left_of o same (record { terms = u; factors = fs; next = 0; end = end })) (e1 ∙ sym (terms_of_one 0 p) ∙ ap (λ x. terms_from o x 0 p) (sym (first_power base)))
+      ∙ ap (λ u. left_of o same (record { terms = terms_from o (power o base 0) 0 p; factors = u; next = 0; end = end })) (e2 ∙ powers_are_factors base 0 (length p))
+      ∙ search_is same p base 0 end
 
   -- the search that a loop has made
   pub search_of : (same : K → K → Bool) (p p' : List K) (base first : K) (start end n : ℕ) (ts fs : List K) → ts ≡ terms_from o first 0 p → fs ≡ factors_from o base 0 n

@@ -103,16 +103,16 @@ impl<F: Field, A: Allocator + Copy> FieldVec<F, A> {
         self.inner.as_mut_slice()[index] = x;
     }
 
-    // Adds a multiple of `source`, shifted up.
-    pub(crate) fn add_multiple(&mut self, factor: F, source: &[F], shift: usize)
+    /// Adds a multiple of `source`, shifted up.
+    pub fn add_multiple(&mut self, factor: F, source: &[F], shift: usize)
         requires { shift + length source.now ≤ length self.old }
         ensures { self.new ≡ add F.ops self.old (scale F.ops factor (shifted F.ops shift source.now)) }
     {
         add_multiple(self.inner.as_mut_slice(), factor, source, shift);
     }
 
-    // Multiplies each element by that at the same place of `factors`.
-    pub(crate) fn multiply_each(&mut self, factors: &[F])
+    /// Multiplies each element by that at the same place of `factors`.
+    pub fn multiply_each(&mut self, factors: &[F])
         requires { length factors.now ≡ length self.old }
         ensures { self.new ≡ multiplied_each F.ops self.old factors.now }
     {
@@ -128,8 +128,8 @@ impl<F: Field, A: Allocator + Copy> FieldVec<F, A> {
         divide(self.inner.as_mut_slice(), polynomial, low);
     }
 
-    // The allocator.
-    pub(crate) fn allocator(&self) -> A {
+    /// The allocator.
+    pub fn allocator(&self) -> A {
         *self.inner.allocator()
     }
 }

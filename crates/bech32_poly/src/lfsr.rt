@@ -198,8 +198,13 @@ fn one<F: Field, A: Allocator + Copy>(alloc: A) -> Result<FieldVec<F, A>, AllocE
     Ok(v)
 }
 
-// A shortest register for the items, from its last coefficient to its first, and a one behind it.
-fn shortest_register<F: Field, A: Allocator + Copy>(
+/// A shortest register for the items, from its last coefficient to its first, and a one behind it.
+/// For six items no memory is needed.
+///
+/// # Errors
+///
+/// Where memory runs out.
+pub fn shortest_register<F: Field, A: Allocator + Copy>(
     alloc: A,
     items: &[F],
 ) -> Result<FieldVec<F, A>, AllocError>

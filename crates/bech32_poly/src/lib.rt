@@ -1,7 +1,7 @@
 //! Polynomials over fields, shift registers, and the short vectors that they stand in.
 #![tactic(auto)]
 
-mod arithmetic;
+pub mod arithmetic;
 pub mod fieldvec;
 pub mod lfsr;
 pub mod polynomial;

@@ -1,8 +1,8 @@
 //! Polynomials over a field: lists of coefficients, the constant one first.
 
-mod coefficients;
+pub(crate) mod coefficients;
 mod division;
-mod roots;
+pub(crate) mod roots;
 
 pub use coefficients::{Polynomial, evaluate};
 pub(crate) use division::divide;

@@ -1,7 +1,8 @@
 //! Why a segwit address is not read or not written.
 
+use bech32_corrector::CorrectableError;
 use bech32_decode::segwit::{InvalidWitnessVersionError, WitnessLengthError};
-use bech32_decode::{SegwitCodeLengthError, SegwitHrpstringError};
+use bech32_decode::{InvalidResidueError, SegwitCodeLengthError, SegwitHrpstringError};
 use std::alloc::AllocError;
 use std::fmt;
 use thiserror::Error;
@@ -49,6 +50,16 @@ impl From<AllocError> for DecodeError {
 
     fn from(_e: AllocError) -> Self {
         Self(SegwitHrpstringError::Memory)
+    }
+}
+
+impl CorrectableError for DecodeError {
+    ghost use Rattle.bech32_corrector.specs.Carried.{of_segwit};
+
+    ghost carried = { λ e. of_segwit e.0 };
+
+    fn residue_error(&self) -> Option<&InvalidResidueError> {
+        self.0.residue_error()
     }
 }
 

@@ -4,6 +4,8 @@
 #[cfg(test)]
 mod compare;
 #[cfg(test)]
+mod correction;
+#[cfg(test)]
 mod messages;
 #[cfg(test)]
 pub mod paths;

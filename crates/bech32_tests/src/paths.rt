@@ -2,8 +2,8 @@
 
 pub mod root {
     pub use bech32::{
-        Bech32, Bech32m, ByteIterExt, Checksum, DecodeError, EncodeError, Fe32, Fe32IterExt,
-        Fe1024, Fe32768, Hrp, NoChecksum, decode, encode, encoded_length,
+        Bech32, Bech32m, ByteIterExt, Checksum, CorrectableError, DecodeError, EncodeError, Fe32,
+        Fe32IterExt, Fe1024, Fe32768, Hrp, NoChecksum, decode, encode, encoded_length,
     };
 }
 
@@ -27,6 +27,12 @@ pub mod primitives {
     pub mod checksum {
         pub use bech32::primitives::checksum::{
             Checksum, Engine, HrpFe32Iter, PackedFe32, PackedNull,
+        };
+    }
+
+    pub mod correction {
+        pub use bech32::primitives::correction::{
+            CorrectableError, Corrector, ErrorIterator, NO_ALLOC_MAX_LENGTH,
         };
     }
 
@@ -58,7 +64,10 @@ pub mod primitives {
     }
 
     pub mod hrp {
-        pub use bech32::primitives::hrp::{BC, BCRT, Error, Hrp, TB};
+        pub use bech32::primitives::hrp::{
+            BC, BCRT, ByteIter, CharIter, Error, Hrp, HrpSink, LowercaseByteIter,
+            LowercaseCharIter, TB,
+        };
     }
 
     pub mod iter {

@@ -183,8 +183,8 @@ fn coefficient_of<F: Field>(p: &[F], n: usize) -> F
     if n < p.len() { p[n] } else { F::zero() }
 }
 
-// The value at `x`, by the coefficients from the highest one down.
-fn embedded_value<E: ExtensionField>(p: &[E::BaseField], x: E) -> E
+/// The value of a polynomial at `x`, by the coefficients from the highest one down.
+pub fn embedded_value<E: ExtensionField>(p: &[E::BaseField], x: E) -> E
     ensures { result ≡ value_at E.ops x (map E.embed p.now) }
 {
     let mut sum = E::zero();

@@ -1,6 +1,7 @@
 ghost use Rattle.std.specs.Prelude.{◌≡◌, ◌≤◌, ◌<◌, ◌+◌, ℕ, List, length, map, IfOk, IsOk, MatchOption};
 ghost use Rattle.std.specs.Iterator.{YieldsFirst, item_count};
 ghost use Rattle.bech32_gf.specs.Field.{power};
+ghost use Rattle.bech32_gf.specs.Powers.{powers_of};
 ghost use Rattle.bech32_poly.specs.FieldVec.{FitsInPlace};
 ghost use Rattle.bech32_poly.specs.RootSearch.{RootSearch, left_of, multiplied_each, root_exponents, total_of, value_after};
 
@@ -151,8 +152,8 @@ impl<E: Field, A: Allocator + Copy> Search<E, A> {
     }
 }
 
-// The power by a number, by squares.
-fn power_of<F: Field>(base: F, n: usize) -> F
+/// The power by a number, by squares.
+pub fn power_of<F: Field>(base: F, n: usize) -> F
     ensures { result ≡ power F.ops base n }
 {
     let mut powers = base.powers();
@@ -162,8 +163,30 @@ fn power_of<F: Field>(base: F, n: usize) -> F
     }
 }
 
-// The sum of the elements.
-fn total<F: Field>(items: &[F]) -> F
+/// So many powers of the base, from that by 0 on. Seven of them need no memory.
+///
+/// # Errors
+///
+/// Where memory runs out.
+pub fn first_powers<F: Field, A: Allocator + Copy>(
+    alloc: A,
+    base: F,
+    count: usize,
+) -> Result<FieldVec<F, A>, AllocError>
+    ensures powers { IfOk result (λ v. v ≡ powers_of F.ops base 0 count) }
+    ensures in_place { FitsInPlace count → IsOk result }
+{
+    let mut powers = FieldVec::new(alloc);
+    let mut power = F::one();
+    for _ in 0..count {
+        powers.push(power)?;
+        power = power.times(base);
+    }
+    Ok(powers)
+}
+
+/// The sum of the elements.
+pub fn total<F: Field>(items: &[F]) -> F
     ensures { result ≡ total_of F.ops items.now }
 {
     let mut sum = F::zero();

@@ -7,6 +7,7 @@ use Rattle.bech32_hrp.specs.Hrp.{lowered}
 use Rattle.b32.specs.Hex.{hex_of}
 use Rattle.b32.proofs.Pieces.{three-pieces, four-pieces}
 use Rattle.b32.proofs.Sizes.{decoded-sizes, decode-reply-size, length-hex_of}
+use Rattle.b32.proofs.Replies.{no_memory-decoded}
 use Rattle.b32.proofs.decode.decode.Goals as goal
 
 pub append-requires-3 : goal.append-requires-3
@@ -49,4 +50,9 @@ returns-clause-ok g c =
 pub returns-in_err-hrp-clause-err : goal.returns-in_err-hrp-clause-err
 returns-in_err-hrp-clause-err g c =
     let p = err_from_is_err_and c.from_residual.result c.from_residual.ensures.1 in
-    rw p.1 (rw p.2 (inl (inr (record { error = c.in_err-hrp.field-0.0; is_refusal = c.in_err-hrp.ensures.refused; spelling = refl }))))
+    rw p.1 (rw p.2 (inr (record { error = c.in_err-hrp.field-0.0; is_refusal = c.in_err-hrp.ensures.refused; spelling = refl })))
+
+pub returns-in_err-hex-clause-err : goal.returns-in_err-hex-clause-err
+returns-in_err-hex-clause-err g c =
+    let p = err_from_is_err_and c.from_residual-in_err-hex.result c.from_residual-in_err-hex.ensures.1 in
+    rw p.1 (rw p.2 (no_memory-decoded c.args.text.now (hrp_bytes c.in_ok-hrp.hrp) c.in_ok-hrp.bytes.items c.in_ok-hrp.ensures.value))

@@ -1,10 +1,11 @@
 use Rattle.std.proofs.Common.{ℕ, ◌≤◌, List, ◌++◌, length, refl, ap, ◌∙◌, arith, codes, length-append, string_bytes}
+use Rattle.std.proofs.lemmas.Result.{err_from_is_err_and}
 use Rattle.bech32_bits.specs.Bits.{to_fes}
 use Rattle.bech32_checksum.specs.Encoded.{IsEncodedText}
 use Rattle.bech32_encode.specs.TextLength.{encoded_length_of}
 use Rattle.b32.proofs.Pieces.{two-pieces}
 use Rattle.b32.proofs.Sizes.{encoded-size}
-use Rattle.b32.proofs.Replies.{encode-text}
+use Rattle.b32.proofs.Replies.{encode-text, encode-refused_hex}
 use Rattle.b32.proofs.encode.encode.Goals as goal
 
 pub append-requires-2 : goal.append-requires-2
@@ -35,3 +36,8 @@ returns-clause-ok g c =
       size = omega (arith, size);
       added = two-pieces c.args.out.now.items (codes "ok ") text _ _ c.append.ensures.items (c.append-2.ensures.items ∙ ap (λ (t : List ℕ). c.append.new.out.items ++ t) c.as_bytes.ensures.value);
     }
+
+pub returns-in_err-bytes-clause-err : goal.returns-in_err-bytes-clause-err
+returns-in_err-bytes-clause-err g c =
+    let p = err_from_is_err_and c.from_residual.result c.from_residual.ensures.1 in
+    rw p.1 (rw p.2 (encode-refused_hex g.Ck.Checksum.code c.args.hrp.now c.args.hex.now c.in_err-bytes.field-0.0 c.in_err-bytes.ensures))

@@ -1,4 +1,4 @@
-use Rattle.std.proofs.Common.{◌≡◌, Some, None, refl, inl}
+use Rattle.std.proofs.Common.{◌≡◌, Some, None, refl}
 use Rattle.std.proofs.lemmas.Result.{on_ok_weaker, IfErr-weaker}
 use Rattle.b32.specs.Numbers.{number_of}
 use Rattle.b32.specs.Request.{request_of, request_of_command}
@@ -23,7 +23,7 @@ returns-clause-ok g c =
     on_ok_weaker c.answer.result
     (λ h. record {
       said = h.said;
-      says = answer-reply c.args.line.now h.said (request_of_command c.in-Some.command) c.if-line-gt-LINE_LIMIT.false text.1 some (inl h.says);
+      says = answer-reply c.args.line.now h.said (request_of_command c.in-Some.command) c.if-line-gt-LINE_LIMIT.false text.1 some h.says;
       size = h.size;
       added = h.added;
     })

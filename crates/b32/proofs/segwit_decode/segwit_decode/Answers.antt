@@ -1,5 +1,6 @@
-use Rattle.std.proofs.Common.{ℕ, List, [], ◌∷◌, ◌++◌, length, refl, ap, ◌∙◌, arith, inl, codes, length-append, subst}
+use Rattle.std.proofs.Common.{ℕ, List, [], ◌∷◌, ◌++◌, length, refl, ap, ◌∙◌, arith, inl, inr, codes, length-append, subst}
 use Rattle.std.proofs.lemmas.List.{length-map}
+use Rattle.std.proofs.lemmas.Result.{err_from_is_err_and}
 use Rattle.std.specs.Char.{to_ascii_lowercase}
 use Rattle.std.specs.Fmt.{decimal}
 use Rattle.bech32_hrp.specs.Hrp.{lowered}
@@ -7,7 +8,7 @@ use Rattle.bech32_hrp.specs.HrpBytes.{hrp_bytes}
 use Rattle.b32.specs.Hex.{AreBytes, hex_of}
 use Rattle.b32.proofs.Pieces.{three-pieces}
 use Rattle.b32.proofs.Sizes.{length-hex_of}
-use Rattle.b32.proofs.SegwitReplies.{address-sizes, segwit-decode-size, six-pieces}
+use Rattle.b32.proofs.SegwitReplies.{address-sizes, no_memory-address, segwit-decode-size, six-pieces}
 use Rattle.b32.proofs.segwit_decode.segwit_decode.Goals as goal
 
 pub append-requires-4 : goal.append-requires-4
@@ -55,3 +56,13 @@ returns-clause-ok g c =
       added = six-pieces c.args.out.now.items (codes "ok ") (lowered hrp) (32 ∷ []) (decimal version.value) (32 ∷ []) (hex_of program) _ _ _ _ _ _ c.append.ensures.items part_is
           c.append-2.ensures.items number_is c.append-3.ensures.items last_is;
     }
+
+pub returns-in_err-hrp-clause-err : goal.returns-in_err-hrp-clause-err
+returns-in_err-hrp-clause-err g c =
+    let p = err_from_is_err_and c.from_residual.result c.from_residual.ensures.1 in
+    rw p.1 (rw p.2 (inr (record { error = c.in_err-hrp.field-0.0; is_refusal = c.in_err-hrp.ensures.refused; spelling = refl })))
+
+pub returns-in_err-hex-clause-err : goal.returns-in_err-hex-clause-err
+returns-in_err-hex-clause-err g c =
+    let p = err_from_is_err_and c.from_residual-in_err-hex.result c.from_residual-in_err-hex.ensures.1 in
+    rw p.1 (rw p.2 (no_memory-address c.args.text.now (hrp_bytes c.in_ok-hrp.hrp) c.in_ok-hrp.version c.in_ok-hrp.program.items c.in_ok-hrp.ensures.value.0 c.in_ok-hrp.ensures.value.1))

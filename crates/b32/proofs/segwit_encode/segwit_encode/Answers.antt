@@ -1,4 +1,4 @@
-use Rattle.std.proofs.Common.{ℕ, ◌≤◌, List, ◌++◌, length, ap, ◌∙◌, arith, inl, codes, string_bytes}
+use Rattle.std.proofs.Common.{ℕ, ◌≤◌, List, ◌++◌, length, ap, ◌∙◌, arith, codes, string_bytes}
 use Rattle.std.proofs.lemmas.Result.{err_from_is_err_and}
 use Rattle.bech32_decode.specs.Segwit.{IsLowerAddress}
 use Rattle.bech32_segwit.specs.SegwitEncoding.{IsSegwitEncodeRefusal}
@@ -14,8 +14,8 @@ returns-in_err-program-clause-err g c =
 pub returns-in_err-hrp-clause-err : goal.returns-in_err-hrp-clause-err
 returns-in_err-hrp-clause-err g c =
     let p = err_from_is_err_and c.from_residual-in_err-hrp.result c.from_residual-in_err-hrp.ensures.1 in
-    rw p.1 (rw p.2 (inl (says-bad_hrp c.args.hrp.now c.args.version.now c.args.hex.now c.in-Some.version c.in-Some.ensures c.in_ok-program.program.items c.in_ok-program.ensures
-    c.in_err-hrp.field-0.0 c.in_err-hrp.ensures.outcome)))
+    rw p.1 (rw p.2 (says-bad_hrp c.args.hrp.now c.args.version.now c.args.hex.now c.in-Some.version c.in-Some.ensures c.in_ok-program.program.items c.in_ok-program.ensures
+    c.in_err-hrp.field-0.0 c.in_err-hrp.ensures.outcome))
 
 pub returns-in_err-text-clause-err : goal.returns-in_err-text-clause-err
 returns-in_err-text-clause-err g c =
@@ -23,8 +23,8 @@ returns-in_err-text-clause-err g c =
     let bytes = c.as_slice.ensures.value in
     let hrp = c.in_ok-hrp.ensures.outcome.1 in
     let refusal : IsSegwitEncodeRefusal c.args.hrp.now c.in-Some.version c.in_ok-program.program.items c.in_err-text.field-0.0 = rw (bytes, hrp) at c.in_err-text.ensures.refused in
-    rw p.1 (rw p.2 (inl (says-no_address c.args.hrp.now c.args.version.now c.args.hex.now c.in-Some.version c.in-Some.ensures c.in_ok-program.program.items c.in_ok-program.ensures
-    c.in_err-text.field-0.0 c.in_ok-hrp.ensures.outcome.0 refusal)))
+    rw p.1 (rw p.2 (says-no_address c.args.hrp.now c.args.version.now c.args.hex.now c.in-Some.version c.in-Some.ensures c.in_ok-program.program.items c.in_ok-program.ensures
+    c.in_err-text.field-0.0 c.in_ok-hrp.ensures.outcome.0 refusal))
 
 pub returns-clause-ok : goal.returns-clause-ok
 returns-clause-ok g c =

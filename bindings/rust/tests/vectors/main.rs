@@ -1,0 +1,264 @@
+//! The public vectors, and what of this crate no other crate has: its numbers.
+
+mod rows;
+
+use bech32_proved::primitives::decode::CheckedHrpstring;
+use bech32_proved::{decode, encode, hrp, segwit, Bech32, Bech32m, Checksum, Fe32, Hrp, Refusal};
+use std::collections::hash_map::DefaultHasher;
+use std::hash::{Hash, Hasher};
+
+const HEADER: &str = include_str!("../../../../include/bech32.h");
+
+// The number that the library answers: 0, or that of the refusal.
+fn number<T>(result: Result<T, Refusal>) -> u32 {
+    result.map_or_else(Refusal::number, |_| 0)
+}
+
+fn part(text: &str) -> Hrp {
+    Hrp::parse(text).unwrap()
+}
+
+// The bytes of hexadecimal digits.
+fn bytes(digits: &str) -> Vec<u8> {
+    let pairs = (0..digits.len()).step_by(2).map(|i| &digits[i..i + 2]);
+    pairs
+        .map(|pair| u8::from_str_radix(pair, 16).unwrap())
+        .collect()
+}
+
+// That one checksum accepts a text, and gives its parts, and that the other refuses it.
+fn accepted<Ck: Checksum, Other: Checksum>(text: &str) {
+    let checked = CheckedHrpstring::new::<Ck>(text).unwrap();
+    let (before, behind) = text.rsplit_once('1').unwrap();
+    assert_eq!(checked.hrp().as_str(), before);
+    let data_part = checked.data_part_ascii_no_checksum();
+    assert_eq!(data_part, &behind.as_bytes()[..behind.len() - 6]);
+    let (hrp, found) = decode(text).unwrap();
+    assert_eq!(hrp.as_str(), before);
+    assert!(checked.byte_iter().eq(found));
+    let other = CheckedHrpstring::new::<Other>(text).unwrap_err();
+    assert_eq!(other, Refusal::WrongChecksum, "{text}");
+}
+
+#[test]
+fn accepts_the_texts_of_the_bips() {
+    rows::BECH32
+        .iter()
+        .for_each(|text| accepted::<Bech32, Bech32m>(text));
+    rows::BECH32M
+        .iter()
+        .for_each(|text| accepted::<Bech32m, Bech32>(text));
+}
+
+#[test]
+fn refuses_the_texts_of_the_bips() {
+    for (text, wanted) in rows::NOT_BECH32 {
+        assert_eq!(
+            number(CheckedHrpstring::new::<Bech32>(text)),
+            wanted,
+            "{text}"
+        );
+        assert_eq!(number(decode(text)), wanted, "{text}");
+    }
+    for (text, wanted) in rows::NOT_BECH32M {
+        assert_eq!(
+            number(CheckedHrpstring::new::<Bech32m>(text)),
+            wanted,
+            "{text}"
+        );
+        assert_eq!(number(decode(text)), wanted, "{text}");
+    }
+}
+
+#[test]
+fn reads_and_writes_addresses() {
+    for (address, hrp, version, program) in rows::ADDRESSES {
+        let (found_hrp, found_version, found) = segwit::decode(address).unwrap();
+        assert_eq!((found_hrp.as_str(), found_version.to_u8()), (hrp, version));
+        assert_eq!(found, bytes(program), "{address}");
+        let text = segwit::encode(found_hrp, found_version, &found).unwrap();
+        assert_eq!(text, address.to_lowercase());
+    }
+    for address in rows::MORE_ADDRESSES {
+        let (hrp, version, program) = segwit::decode(address).unwrap();
+        assert_eq!(segwit::encode(hrp, version, &program).unwrap(), address);
+    }
+}
+
+#[test]
+fn refuses_what_is_no_address() {
+    for (text, wanted) in rows::NOT_ADDRESSES {
+        assert_eq!(number(segwit::decode(text)), wanted, "{text}");
+    }
+    let program = [0; 41];
+    for (hrp, version, length, wanted) in [
+        ("anhrpthatis18chars", Fe32::P, 40, 0),
+        ("anhrpthatis19charsx", Fe32::P, 40, 53),
+        ("bc", Fe32::_3, 2, 52),
+        ("bc", Fe32::P, 1, 46),
+        ("bc", Fe32::P, 41, 47),
+        ("bc", Fe32::Q, 2, 48),
+        ("bc", Fe32::S, 2, 0),
+    ] {
+        let text = segwit::encode(part(hrp), version, &program[..length]);
+        assert_eq!(number(text), wanted, "{hrp} {version} {length}");
+    }
+}
+
+#[test]
+fn writes_texts() {
+    let mut data = bytes("751e76e8199196d454941c45d1b3a323f1433bd6");
+    data[0] = 0xff;
+    let text = encode::<Bech32>(part("test"), &data).unwrap();
+    assert_eq!(text, "test1lu08d6qejxtdg4y5r3zarvary0c5xw7kw79nnx");
+    let text = encode::<Bech32m>(part("TEST"), &data).unwrap();
+    assert_eq!(text, "test1lu08d6qejxtdg4y5r3zarvary0c5xw7kmz4lky");
+    let (hrp, found) = decode("TEST1LU08D6QEJXTDG4Y5R3ZARVARY0C5XW7KW79NNX").unwrap();
+    assert_eq!((hrp, hrp.as_str()), (part("test"), "TEST"));
+    assert_eq!(found, data);
+}
+
+#[test]
+fn fills_the_code() {
+    let text = encode::<Bech32m>(part("abcd"), &[0; 632]).unwrap();
+    assert_eq!(text.len(), 1023);
+    assert_eq!(decode(&text).unwrap(), (part("abcd"), vec![0; 632]));
+    let refusal = encode::<Bech32m>(part("abcde"), &[0; 632]).unwrap_err();
+    assert_eq!(refusal, Refusal::EncodedTooLong);
+    let longest = encode::<Bech32>(part("a"), &[0xa5; 634]).unwrap();
+    assert_eq!(decode(&longest).unwrap(), (part("a"), vec![0xa5; 634]));
+    assert_eq!(number(decode(&format!("a1{}", "q".repeat(1022)))), 31);
+    // Of 91 characters, which an address may not have.
+    let above_segwit = format!("abcd1{}rw9z3s", "q".repeat(80));
+    assert_eq!(number(decode(&above_segwit)), 0);
+}
+
+// The hash of a part.
+fn hash(hrp: &Hrp) -> u64 {
+    let mut hasher = DefaultHasher::new();
+    hrp.hash(&mut hasher);
+    hasher.finish()
+}
+
+#[test]
+fn reads_human_readable_parts() {
+    for (text, wanted) in rows::PARTS {
+        assert_eq!(number(Hrp::parse(text)), wanted, "{text}");
+    }
+    for (known, text) in [(hrp::BC, "bc"), (hrp::TB, "tb"), (hrp::BCRT, "bcrt")] {
+        let upper_case = part(&text.to_uppercase());
+        assert_eq!((known, known.as_str()), (upper_case, text));
+        assert_eq!(hash(&known), hash(&upper_case));
+        assert_eq!(upper_case.to_lowercase(), text);
+        assert_eq!(upper_case.to_string(), text.to_uppercase());
+    }
+    assert!(part("A") < part("b") && part("a") < part("AB"));
+    assert_eq!(number(Hrp::parse(&"a".repeat(83))), 0);
+    assert_eq!(number(Hrp::parse(&"a".repeat(84))), 12);
+}
+
+#[test]
+fn names_elements() {
+    let characters: String = (0..32)
+        .map(|v| Fe32::try_from(v).unwrap().to_char())
+        .collect();
+    assert_eq!(characters, "qpzry9x8gf2tvdw0s3jn54khce6mua7l");
+    assert_eq!(number(Fe32::try_from(32)), 4);
+    for (constant, character) in [
+        (Fe32::Q, 'q'),
+        (Fe32::_9, '9'),
+        (Fe32::_0, '0'),
+        (Fe32::L, 'l'),
+    ] {
+        assert_eq!(constant.to_char(), character);
+    }
+}
+
+// The name of a refusal in the header: `HrpEmpty` is `BECH32_HRP_EMPTY` there.
+fn name(refusal: &Refusal) -> String {
+    let capital = |c: char| {
+        [
+            c.is_uppercase().then_some('_'),
+            Some(c.to_ascii_uppercase()),
+        ]
+    };
+    let words: String = format!("{refusal:?}")
+        .chars()
+        .flat_map(capital)
+        .flatten()
+        .collect();
+    format!("BECH32{words}")
+}
+
+#[test]
+fn has_the_numbers_of_the_header() {
+    let (_, answers) = HEADER.split_once("/* Answers. */").unwrap();
+    let defined = answers.lines().filter_map(|line| {
+        let mut words = line.strip_prefix("#define ")?.split_whitespace();
+        let name = words.next()?.to_owned();
+        let number: u32 = words.next()?.strip_suffix('u')?.parse().ok()?;
+        Some((number, name))
+    });
+    let defined: Vec<(u32, String)> = defined.filter(|(number, _)| *number > 0).collect();
+    let has_correction = defined.iter().any(|(number, _)| *number == 34);
+    assert!(has_correction || !cfg!(feature = "correct"));
+    let known = Refusal::ALL
+        .iter()
+        .map(|refusal| (refusal.number(), name(refusal)));
+    let known: Vec<(u32, String)> = known.filter(|(n, _)| *n != 34 || has_correction).collect();
+    assert_eq!(known, defined);
+    for refusal in Refusal::ALL {
+        assert_eq!(Refusal::from_number(refusal.number()), Some(*refusal));
+    }
+    assert_eq!(Refusal::from_number(0), None);
+}
+
+#[cfg(feature = "correct")]
+mod corrections {
+    use super::{number, rows};
+    use bech32_proved::{correct, Bech32, Bech32m};
+
+    #[test]
+    fn mends_texts() {
+        for (text, erasures, listed, mended) in rows::CORRECTIONS {
+            let correction = correct::<Bech32>(text, erasures);
+            let Some(mended) = mended else {
+                assert_eq!(number(correction), 34);
+                continue;
+            };
+            let correction = correction.unwrap();
+            assert_eq!(correction.as_str(), mended);
+            let found: Vec<_> = correction
+                .bch_errors()
+                .map(|(l, v)| (l, v.to_u8()))
+                .collect();
+            assert_eq!(found, listed);
+        }
+    }
+
+    #[test]
+    fn leaves_accepted_texts() {
+        let correction = correct::<Bech32m>("A1LQFN3A", &[0, 1, 2]).unwrap();
+        assert_eq!(correction.as_str(), "a1lqfn3a");
+        assert_eq!(correction.bch_errors().count(), 0);
+    }
+
+    #[test]
+    fn refuses_to_guess() {
+        for (text, erasures, wanted) in [
+            ("b12uel5l", [].as_slice(), 34),
+            ("a12uel5q", &[1, 2], 34),
+            ("a12uel5q", &[0, 1, 2, 3], 34),
+            ("a12uel5q", &[6], 34),
+            ("a12uel5q", &[3, 3], 0),
+            ("a12ueL5q", &[], 22),
+            ("a12uel5", &[], 32),
+        ] {
+            assert_eq!(
+                number(correct::<Bech32>(text, erasures)),
+                wanted,
+                "{text} {erasures:?}"
+            );
+        }
+    }
+}

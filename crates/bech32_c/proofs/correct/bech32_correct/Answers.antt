@@ -1,0 +1,15 @@
+use Rattle.std.proofs.Common.{length}
+use Rattle.bech32_c.specs.Correct.{CanMend, IsCorrectFault}
+use Rattle.bech32_c.proofs.ByNumber.{no_fault_by}
+use Rattle.bech32_c.proofs.Mending.{no_correct_fault}
+use Rattle.bech32_c.proofs.correct.bech32_correct.Goals as goal
+
+pub returns-in-Err-clause-accepts : goal.returns-in-Err-clause-accepts
+returns-in-Err-clause-accepts c can =
+    let text = c.args.text.now in
+    let given = c.args.erasures.now in
+    let m = length c.args.locations.now in
+    let n = length c.args.values.now in
+    let r = length c.args.mended.now in
+    absurd (no_fault_by (CanMend text given m n r) (IsCorrectFault text given m n r) c.in-Err.refusal
+    (λ code. no_correct_fault text given code m n r c.in-Err.refusal) c.args.checksum can c.in-Err.ensures.refused)

@@ -1,0 +1,152 @@
+//! Mends mistyped texts.
+
+ghost use Rattle.std.specs.Prelude.{◌≡◌, ◌≢◌, ◌≤◌, ◌<◌, ℕ, List, length, map, IfErr, IfOk, MatchResult, OnErr};
+ghost use Rattle.std.specs.List.{AllByRecursion};
+ghost use Rattle.bech32_gf.specs.Fe32.{ops, value as value_of};
+ghost use Rattle.bech32_gf.specs.declared.gf32.Fe32.{Fe32 as Element};
+ghost use Rattle.bech32_correct.specs.Pattern.{locations as locations_of};
+ghost use Rattle.bech32_encode.specs.Buffers.{IsPut};
+ghost use Rattle.bech32_hrp.specs.Hrp.{lowered};
+ghost use Rattle.bech32_mended.specs.Mended.{EndsIn, mended as mended_of};
+ghost use Rattle.bech32_mended.specs.Mistyped.{IsAnswer};
+ghost use Rattle.bech32_c.specs.Checksums.{ForChecksum, IsFaultBy};
+ghost use Rattle.bech32_c.specs.Correct.{CanMend, IsCorrectFault, IsListingFault, IsMendedBy, PutsMended, bound};
+ghost use Rattle.bech32_c.specs.Faults.{IsNumberOf};
+
+use crate::checksum::{BECH32, BECH32M};
+use crate::input::text_of;
+use crate::refusal::Refusal;
+use bech32::Fe32;
+use bech32_mended::{Answer, Listing, NoMemory, bech32_correction, bech32m_correction, mend};
+
+// What the checksum of a number answers to a text.
+fn answer_by(checksum: u32, bytes: &[u8], given: &[usize]) -> Result<Answer, Refusal>
+    ensures { MatchResult result
+        (λ answer. ForChecksum checksum (λ code. IsAnswer code bound bytes.now given.now answer))
+        (λ e. IsFaultBy checksum (IsListingFault bytes.now given.now) e) }
+{
+    match checksum {
+        BECH32 => Ok(bech32_correction(text_of(bytes)?, given)?),
+        BECH32M => Ok(bech32m_correction(text_of(bytes)?, given)?),
+        _ => Err(Refusal::BadNumber),
+    }
+}
+
+// How the checksum of a number would have a text mended.
+fn listed_by(checksum: u32, bytes: &[u8], given: &[usize]) -> Result<Listing, Refusal>
+    ensures { MatchResult result
+        (λ listing. ForChecksum checksum (IsMendedBy bytes.now given.now listing))
+        (λ e. IsFaultBy checksum (IsListingFault bytes.now given.now) e) }
+{
+    match answer_by(checksum, bytes, given)? {
+        Answer::Fine => Ok(Listing::new(NoMemory)),
+        Answer::Found(listing) => Ok(listing),
+        Answer::NotFound => Err(Refusal::NoCorrection),
+    }
+}
+
+// Puts the locations and the values of a listing at the fronts of buffers that have room for them.
+fn put_listing(listing: &[(usize, Fe32)], locations: &mut [usize], values: &mut [u8])
+    requires locations { length listing.now ≤ length locations.old }
+    requires values { length listing.now ≤ length values.old }
+    ensures locations { IsPut (locations_of listing.now) locations.old locations.new (length listing.now) }
+    ensures values { IsPut (map (λ p. value_of p.1) listing.now) values.old values.new (length listing.now) }
+{
+    for i in 0..listing.len() {
+        let (location, value) = listing[i];
+        locations[i] = location;
+        values[i] = value.to_u8();
+    }
+}
+
+// Puts a text in lower case, with a listing's values added, at the front of a buffer that has room for
+// it.
+fn put_mended(buffer: &mut [u8], text: &[u8], listing: &[(usize, Fe32)])
+    requires room { length text.now ≤ length buffer.old }
+    requires inside { (front : List ℕ) × ((elements : List Element) × EndsIn (lowered text.now) front elements
+        × AllByRecursion (λ p. p.0 < length elements) listing.now) }
+    ensures { (front : List ℕ) (elements : List Element) → EndsIn (lowered text.now) front elements
+        → AllByRecursion (λ p. p.0 < length elements) listing.now
+        → (t : List ℕ) × EndsIn t front (mended_of ops listing.now elements)
+        × IsPut t buffer.old buffer.new (length text.now) }
+{
+    let mended = &mut buffer[..text.len()];
+    mended.copy_from_slice(text);
+    mended.make_ascii_lowercase();
+    mend(mended, listing);
+}
+
+// Puts the listing and the mended text into buffers, and answers how many are listed.
+fn corrected(
+    checksum: u32,
+    text: &[u8],
+    erasures: &[usize],
+    locations: &mut [usize],
+    values: &mut [u8],
+    mended: &mut [u8],
+) -> Result<usize, Refusal>
+    ensures value { IfOk result (λ n. ForChecksum checksum (PutsMended text.now erasures.now
+        locations.old locations.new values.old values.new n mended.old mended.new (length text.now))) }
+    ensures refused { IfErr result (λ e. IsFaultBy checksum (IsCorrectFault text.now erasures.now
+        (length locations.old) (length values.old) (length mended.old)) e) }
+    ensures same { OnErr result ((locations.new ≡ locations.old) × (values.new ≡ values.old)
+        × (mended.new ≡ mended.old)) }
+{
+    let found = listed_by(checksum, text, erasures)?;
+    let listing = found.as_slice();
+    let count = listing.len();
+    if count > locations.len() {
+        return Err(Refusal::NoRoom);
+    }
+    if count > values.len() {
+        return Err(Refusal::NoRoom);
+    }
+    if text.len() > mended.len() {
+        return Err(Refusal::NoRoom);
+    }
+    put_listing(listing, locations, values);
+    put_mended(mended, text, listing);
+    Ok(count)
+}
+
+/// Mends a mistyped text by the checksum that a number stands for (1 is Bech32, 2 is Bech32m).
+/// `erasures` are the locations of characters that are known to be wrong; location 0 is the last
+/// character. Where the text is to be mended, `count` locations, the erasures first, are put at the
+/// front of `locations`, the elements to add there, from 0 to 31 each, at the front of `values`, and the
+/// mended text, in lower case, at the front of `mended`; `mended_length` is its length, that of the
+/// text. Where the checksum accepts the text, `count` is 0. At most three locations are listed.
+///
+/// # Errors
+///
+/// Answers the number of the first of: another number for `checksum` (4); a text that is not UTF-8
+/// (2); its first fault (11 to 15, 21 to 23, 31, 32); no such few errors in the data part that mend it,
+/// or an erasure that is not in it (34); a buffer that is too small (92).
+#[unsafe(no_mangle)]
+pub extern "C" fn bech32_correct(
+    checksum: u32,
+    text: &[u8],
+    erasures: &[usize],
+    locations: &mut [usize],
+    values: &mut [u8],
+    count: &mut usize,
+    mended: &mut [u8],
+    mended_length: &mut usize,
+) -> u32
+    ensures value { result ≡ 0 → ForChecksum checksum (PutsMended text.now erasures.now
+        locations.old locations.new values.old values.new count.new mended.old mended.new mended_length.new) }
+    ensures accepts { ForChecksum checksum (CanMend text.now erasures.now
+        (length locations.old) (length values.old) (length mended.old)) → result ≡ 0 }
+    ensures refused { result ≢ 0 → IsNumberOf (IsFaultBy checksum (IsCorrectFault text.now erasures.now
+        (length locations.old) (length values.old) (length mended.old))) result }
+    ensures same { result ≢ 0 → (locations.new ≡ locations.old) × (values.new ≡ values.old)
+        × (count.new ≡ count.old) × (mended.new ≡ mended.old) × (mended_length.new ≡ mended_length.old) }
+{
+    match corrected(checksum, text, erasures, locations, values, mended) {
+        Ok(listed) => {
+            *count = listed;
+            *mended_length = text.len();
+            0
+        }
+        Err(refusal) => refusal.number(),
+    }
+}

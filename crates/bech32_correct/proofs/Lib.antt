@@ -1,0 +1,15 @@
+pub mod Accepted
+pub mod Alone
+pub mod Candidates
+pub mod Counting
+pub mod Distance
+pub mod Found
+pub mod Knock
+pub mod Located
+pub mod Loops
+pub mod Patterns
+pub mod Places
+pub mod Rising
+pub mod Searched
+pub mod Solved
+pub mod Usable

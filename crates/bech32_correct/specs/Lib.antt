@@ -1,0 +1,6 @@
+pub mod Distance
+pub mod Erasures
+pub mod Knock
+pub mod Listing
+pub mod Pattern
+pub mod Search

@@ -1,0 +1,18 @@
+//! Correction over any field and an extension of it: where the errors of a residue may be, and their
+//! values.
+#![tactic(auto)]
+
+mod decoder;
+mod listing;
+mod locations;
+mod short_vec;
+mod syndromes;
+mod terms;
+mod values;
+
+pub use self::decoder::{Roots, candidate};
+pub use self::listing::{highest_place, value_at_place};
+pub use self::locations::contains;
+pub use self::short_vec::ShortVec;
+pub use self::terms::locators_of;
+pub use bech32_poly::fieldvec::NO_ALLOC_MAX_LENGTH;

@@ -1,0 +1,76 @@
+//! Vectors whose first places need no memory.
+
+ghost use Rattle.std.specs.Prelude.{◌≡◌, ◌≤◌, ◌+◌, ◌++◌, ◌∷◌, [], List, length, take, IsOk, OnErr, OnOk};
+ghost use Rattle.bech32_poly.specs.FieldVec.{FitsInPlace};
+
+use bech32_poly::fieldvec::NO_ALLOC_MAX_LENGTH;
+use smallvec::SmallVec;
+use std::alloc::{AllocError, Allocator, Global};
+use std::marker::Model;
+
+/// Items, the first [`NO_ALLOC_MAX_LENGTH`] of them in place.
+#[derive(Drop)]
+pub struct ShortVec<T: Copy + Default, A: Allocator + Copy = Global> {
+    inner: SmallVec<T, NO_ALLOC_MAX_LENGTH, A>,
+}
+
+impl<T: Copy + Default, A: Allocator + Copy> Model for ShortVec<T, A> {
+    ghost Value = { List T };
+
+    ghost view = { λ a. a.inner.items };
+
+    ghost invariant = { λ a. 7 ≤ a.inner.capacity };
+}
+
+impl<T: Copy + Default, A: Allocator + Copy> ShortVec<T, A> {
+    /// No items.
+    pub fn new(alloc: A) -> Self
+        ensures { result ≡ [] }
+    {
+        ShortVec {
+            inner: SmallVec::new(alloc),
+        }
+    }
+
+    /// Adds an item at the end. It takes no memory where that one fits in place too.
+    ///
+    /// # Errors
+    ///
+    /// Where memory runs out; the items are then as before.
+    pub fn push(&mut self, item: T) -> Result<(), AllocError>
+        ensures ok { OnOk result (self.new ≡ self.old ++ item ∷ []) }
+        ensures err { OnErr result (self.new ≡ self.old) }
+        ensures in_place { FitsInPlace (length self.old + 1) → IsOk result }
+    {
+        match self.inner.push(item) {
+            Ok(()) => Ok(()),
+            Err(_) => Err(AllocError),
+        }
+    }
+
+    /// The items without those from place `length` on.
+    pub fn truncate(&mut self, length: usize)
+        ensures { self.new ≡ take length self.old }
+    {
+        self.inner.truncate(length);
+    }
+
+    /// The number of items.
+    pub fn len(&self) -> usize
+        ensures { result ≡ length self.now }
+    {
+        self.inner.len()
+    }
+
+    /// The items.
+    pub fn as_slice(&self) -> &[T]
+        ensures { result.now ≡ self.now }
+    {
+        self.inner.as_slice()
+    }
+
+    /// The allocator.
+    pub fn allocator(&self) -> A {
+        *self.inner.allocator()
+    }
+}

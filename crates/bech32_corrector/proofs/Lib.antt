@@ -1,0 +1,4 @@
+pub mod Added
+pub mod Mended
+pub mod Remainders
+pub mod Usable

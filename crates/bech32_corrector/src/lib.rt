@@ -1,0 +1,13 @@
+//! Correction of mistyped texts: the errors, and the elements at the erasures, that explain the
+//! residue of a text that a checksum refuses (BIP-173, Checksum design).
+#![tactic(auto)]
+
+mod correctable;
+mod correction;
+mod corrector;
+mod division;
+mod errors;
+
+pub use self::correctable::CorrectableError;
+pub use self::corrector::Corrector;
+pub use self::errors::ErrorIterator;

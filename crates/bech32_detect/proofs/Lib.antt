@@ -1,0 +1,7 @@
+pub mod Answer
+pub mod Apart
+pub mod Four
+pub mod RowDigits
+pub mod Searched
+pub mod TermRows
+pub mod Texts

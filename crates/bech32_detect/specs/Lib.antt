@@ -1,0 +1,3 @@
+pub mod Detection
+pub mod Rows
+pub mod Texts

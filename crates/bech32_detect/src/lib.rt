@@ -1,0 +1,61 @@
+//! Whether a checksum detects each error in up to four elements.
+#![tactic(auto)]
+
+ghost use Rattle.std.specs.Prelude.{◌<◌, ◌↔◌, IsTrue, IfOk};
+ghost use Rattle.bech32_gf.specs.Fe32 as fe32;
+ghost use Rattle.bech32_poly.specs.Polynomial.{coefficient};
+ghost use Rattle.bech32_detect.specs.Detection.{DetectsFour};
+ghost use Rattle.bech32_detect.specs.Texts.{AreTextsFar};
+
+mod rows;
+mod search;
+
+use bech32_checksum::{Checksum, Engine};
+use rows::{row_of, term_rows};
+use search::has_three;
+use std::alloc::{AllocError, Allocator, Global};
+
+// Whether four errors are detected.
+fn decided_in<Ck: Checksum, A: Allocator>(alloc: A, n: usize) -> Result<bool, AllocError>
+    requires { 0 < (coefficient fe32.ops Ck.code.generator 0).value }
+    ensures { IfOk result (λ answer. IsTrue answer ↔ DetectsFour fe32.ops Ck.code.generator n) }
+{
+    if n == 0 {
+        return Ok(true);
+    }
+    let mut rows = term_rows::<Ck, A>(alloc, n)?;
+    rows.sort_unstable();
+    // What a pattern leaves is zero or not whatever its values are multiplied by and wherever it
+    // begins: its lowest location may be taken as 0, and the value there as 1.
+    let one = Engine::<Ck>::new();
+    Ok(!has_three(&rows, row_of::<Ck>(one.residue())))
+}
+
+/// Whether no pattern of one to four errors, at different locations below `n`, leaves the remainder
+/// zero (BIP-173, Checksum design: of Bech32 at 89, the data part of a text of 90 characters), with
+/// memory from `alloc`.
+///
+/// Where it is true, two texts that the checksum accepts, of the same human-readable part and length
+/// and with data parts of at most `n` characters, have the same elements or differ in at least five.
+/// The caller has seen to it that the constant coefficient of the generator is not zero, and so that
+/// the degree is above 0. Memory and time grow with `n` and, but for a logarithm, with its square.
+///
+/// # Errors
+///
+/// Where memory runs out. At `n` = 0 none is taken.
+pub fn detects_four_in<Ck: Checksum, A: Allocator>(alloc: A, n: usize) -> Result<bool, AllocError>
+    requires { 0 < (coefficient fe32.ops Ck.code.generator 0).value }
+    ensures value { IfOk result (λ answer. IsTrue answer ↔ DetectsFour fe32.ops Ck.code.generator n) }
+    ensures texts { IfOk result (λ answer. IsTrue answer → AreTextsFar Ck.code n 4) }
+{
+    decided_in::<Ck, A>(alloc, n)
+}
+
+/// Decides as [`detects_four_in`] does, with memory of the global allocator.
+pub fn detects_four<Ck: Checksum>(alloc: Global, n: usize) -> Result<bool, AllocError>
+    requires { 0 < (coefficient fe32.ops Ck.code.generator 0).value }
+    ensures value { IfOk result (λ answer. IsTrue answer ↔ DetectsFour fe32.ops Ck.code.generator n) }
+    ensures texts { IfOk result (λ answer. IsTrue answer → AreTextsFar Ck.code n 4) }
+{
+    detects_four_in::<Ck, Global>(alloc, n)
+}

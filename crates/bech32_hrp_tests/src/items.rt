@@ -1,0 +1,172 @@
+use crate::compare::{same, same_items};
+use bech32_hrp::{ByteIter, CharIter, Hrp, LowercaseByteIter, LowercaseCharIter};
+use linked_list_allocator::LocalHeap;
+use std::process::Abort;
+use std::test::Fail;
+
+fn part(rt: &impl Abort, text: &str) -> Hrp {
+    Hrp::parse(text).expect(rt, "it is a human-readable part")
+}
+
+fn unchecked(rt: &impl Abort, text: &str) -> Hrp {
+    assert!(rt; text.len() <= 83);
+    Hrp::parse_unchecked(text)
+}
+
+// The four iterators over a part.
+#[derive(Drop)]
+struct Four<'b> {
+    bytes: ByteIter<'b>,
+    chars: CharIter<'b>,
+    lower_bytes: LowercaseByteIter<'b>,
+    lower_chars: LowercaseCharIter<'b>,
+}
+
+// What the four give in one turn.
+type Items = (Option<u8>, Option<char>, Option<u8>, Option<char>);
+
+fn four_of(hrp: &Hrp) -> Four<'_> {
+    Four {
+        bytes: hrp.byte_iter(),
+        chars: hrp.char_iter(),
+        lower_bytes: hrp.lowercase_byte_iter(),
+        lower_chars: hrp.lowercase_char_iter(),
+    }
+}
+
+fn front(four: &mut Four<'_>) -> Items {
+    (
+        four.bytes.next(),
+        four.chars.next(),
+        four.lower_bytes.next(),
+        four.lower_chars.next(),
+    )
+}
+
+fn back(four: &mut Four<'_>) -> Items {
+    (
+        four.bytes.next_back(),
+        four.chars.next_back(),
+        four.lower_bytes.next_back(),
+        four.lower_chars.next_back(),
+    )
+}
+
+// That the four have so many items left, by `len` and by their size hints.
+fn same_lengths(rt: &impl Abort, four: &Four<'_>, want: usize) {
+    let lengths = [
+        four.bytes.len(),
+        four.chars.len(),
+        four.lower_bytes.len(),
+        four.lower_chars.len(),
+    ];
+    same_items(rt, &lengths, &[want; 4]);
+    let hints = [
+        four.bytes.size_hint(),
+        four.chars.size_hint(),
+        four.lower_bytes.size_hint(),
+        four.lower_chars.size_hint(),
+    ];
+    same_items(rt, &hints, &[(want, Some(want)); 4]);
+}
+
+fn items(upper: u8, lower: u8) -> Items {
+    (
+        Some(upper),
+        Some(char::from(upper)),
+        Some(lower),
+        Some(char::from(lower)),
+    )
+}
+
+const ENDED: Items = (None, None, None, None);
+
+#[test]
+fn gives_items_from_both_ends(rt: HostRuntime) {
+    let hrp = part(&rt, "A~Z");
+    // Bit n of `sides` says that turn n asks at the back.
+    for sides in 0..64u32 {
+        let mut rest: &[(u8, u8)] = &[(b'A', b'a'), (b'~', b'~'), (b'Z', b'z')];
+        let mut walk = four_of(&hrp);
+        for turn in 0..6u32 {
+            same_lengths(&rt, &walk, rest.len());
+            let at_back = sides >> turn & 1 == 1;
+            let got = if at_back {
+                back(&mut walk)
+            } else {
+                front(&mut walk)
+            };
+            let split = if at_back {
+                rest.split_last()
+            } else {
+                rest.split_first()
+            };
+            let want = match split {
+                Some((&(upper, lower), others)) => {
+                    rest = others;
+                    items(upper, lower)
+                }
+                None => ENDED,
+            };
+            same(&rt, &(sides, got), &(sides, want));
+        }
+    }
+}
+
+#[test]
+fn gives_characters(rt: HostRuntime) {
+    let hrp = part(&rt, "AB");
+    let mut chars = hrp.char_iter();
+    let got = [chars.next_back(), chars.next_back(), chars.next_back()];
+    same_items(&rt, &got, &[Some('B'), Some('A'), None]);
+    let mut lower = hrp.lowercase_char_iter();
+    let got = [lower.next(), lower.next(), lower.next(), lower.next()];
+    same_items(&rt, &got, &[Some('a'), Some('b'), None, None]);
+}
+
+#[test]
+fn keeps_other_bytes_as_x(rt: HostRuntime) -> Result<(), Fail> {
+    let longest = "~".repeat(rt.alloc(), 83)?;
+    for (text, want) in [
+        ("", ""),
+        ("bc", "bc"),
+        ("aB", "aB"),
+        ("a b\u{7f}c", "aXbXc"),
+        ("é", "XX"),
+        ("!\u{0}~", "!X~"),
+    ] {
+        let hrp = unchecked(&rt, text);
+        same(&rt, &(hrp.as_str(), hrp.len()), &(want, want.len()));
+    }
+    let whole = unchecked(&rt, &longest);
+    same(&rt, &whole.as_str(), &longest.as_str());
+    let empty = unchecked(&rt, "");
+    same_lengths(&rt, &four_of(&empty), 0);
+    same(&rt, &front(&mut four_of(&empty)), &ENDED);
+    Ok(())
+}
+
+#[test]
+fn lowers_the_text(rt: HostRuntime) -> Result<(), Fail> {
+    for (text, want) in [("AB", "ab"), ("bc", "bc"), ("~A1[@", "~a1[@")] {
+        let hrp = part(&rt, text);
+        same(&rt, &hrp.to_lowercase(rt.alloc())?.as_str(), &want);
+        same(&rt, &hrp.as_str(), &text);
+    }
+    Ok(())
+}
+
+#[test]
+fn lowers_the_text_or_wants_memory(rt: HostRuntime) -> Result<(), Fail> {
+    let hrp = part(&rt, "ABCDEFGHIJKLMNOPQRSTUVWXYZ0123456789");
+    let mut refused = 0u32;
+    for size in 0..16usize {
+        let heap = LocalHeap::new(rt.alloc(), 16 * size)?;
+        match hrp.to_lowercase_in(&heap) {
+            Ok(text) => same(&rt, &text.as_str(), &"abcdefghijklmnopqrstuvwxyz0123456789"),
+            Err(_) => refused = refused.saturating_add(1),
+        }
+    }
+    assert!(rt; 1 <= refused && refused < 16);
+    Ok(())
+}

@@ -1,0 +1,4 @@
+pub mod Code
+pub mod Parts
+pub mod Strings
+pub mod laws

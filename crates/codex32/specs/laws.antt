@@ -1,0 +1,2 @@
+-- What the laws of the checksum are proved by.
+pub mod CodeLaws

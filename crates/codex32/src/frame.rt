@@ -1,0 +1,41 @@
+//! What is asked of a text before its checksum: the grammar, the length, the human-readable part.
+
+ghost use Rattle.std.specs.Prelude.{◌≡◌, length, None, Some, MatchResult};
+ghost use Rattle.bech32_decode.specs.Parts.{unchecked_data, unchecked_length, unchecked_part};
+ghost use Rattle.bech32_decode.specs.Text.{IsText};
+ghost use Rattle.codex32.specs.Strings.{frame_refusal, is_ms, is_within};
+
+use crate::error::Codex32Error;
+use bech32_decode::UncheckedHrpstring;
+
+// Whether a text may have so many characters.
+fn has_length(count: usize) -> bool
+    ensures { result ≡ is_within count }
+{
+    48 <= count && count <= 93
+}
+
+// Whether a human-readable part is `ms`, in either case.
+fn is_of_codex32(hrp: &[u8]) -> bool
+    ensures { result ≡ is_ms hrp.now }
+{
+    hrp.eq_ignore_ascii_case(b"ms")
+}
+
+/// The parts of a text in the grammar, of 48 to 93 characters, whose human-readable part is `ms` in
+/// either case.
+pub(crate) fn framed(text: &str) -> Result<UncheckedHrpstring<'_>, Codex32Error>
+    ensures { MatchResult result
+        (λ u. (frame_refusal text.now ≡ None) × IsText text.now (unchecked_part u) (unchecked_data u)
+        × (unchecked_length u ≡ length text.now))
+        (λ e. frame_refusal text.now ≡ Some e) }
+{
+    let unchecked = UncheckedHrpstring::new(text)?;
+    if !has_length(text.len()) {
+        return Err(Codex32Error::Length);
+    }
+    if !is_of_codex32(unchecked.hrp().as_bytes()) {
+        return Err(Codex32Error::Hrp);
+    }
+    Ok(unchecked)
+}

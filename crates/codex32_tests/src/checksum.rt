@@ -1,0 +1,211 @@
+//! The checksum of codex32 with the calls for any checksum.
+
+ghost use Rattle.std.specs.Prelude.{◌<◌, IsTrue, refl};
+ghost use Rattle.std.specs.List.{AllByRecursion};
+ghost use Rattle.bech32_gf.specs.Fe32.{element};
+ghost use Rattle.bech32_gf_ext.specs.Fe1024.{pair};
+ghost use Rattle.bech32_checksum.specs.Code.{code_of};
+ghost use Rattle.codex32.specs.laws.CodeLaws as codes;
+
+use super::compare::{same, same_items};
+use bech32_checksum::Checksum;
+use bech32_corrector::{CorrectableError, Corrector};
+use bech32_decode::CheckedHrpstring;
+use bech32_gf::gf32::Fe32;
+use bech32_gf_ext::{Fe32Ext, Fe1024};
+use codex32::Codex32;
+use std::alloc::Global;
+use std::test::Fail;
+
+const TEXT: &str = "ms10testsxxxxxxxxxxxxxxxxxxxxxxxxxx4nzvca9cmczlw";
+
+// The same for longer texts than its roots serve.
+#[derive(Copy, Clone)]
+enum Longer {}
+
+impl Checksum for Longer {
+    type MidstateRepr = u128;
+
+    type CorrectionField = Fe1024;
+
+    ghost ROOT_GENERATOR = { pair (element 5) (element 5) };
+
+    ghost ROOT_EXPONENTS_START = { 9 };
+
+    ghost ROOT_EXPONENTS_END = { 16 };
+
+    ghost CODE_LENGTH = { 94 };
+
+    ghost CHECKSUM_LENGTH = { 13 };
+
+    ghost GENERATOR_SH = { codes.words };
+
+    ghost TARGET_RESIDUE = { 0x10ce0795c2fd1e62a };
+
+    ghost code = { code_of (λ x. x) 94 13 codes.words 0x10ce0795c2fd1e62a };
+
+    const ROOT_GENERATOR: Fe1024 = Fe32Ext {
+        inner: [Fe32::_9, Fe32::_9],
+    };
+
+    const ROOT_EXPONENTS_START: usize = 9;
+
+    const ROOT_EXPONENTS_END: usize = 16;
+
+    const CODE_LENGTH: usize = 94;
+
+    const CHECKSUM_LENGTH: usize = 13;
+
+    const GENERATOR_SH: [u128; 5] = [
+        0x19dc500ce73fde210,
+        0x1bfae00def77fe529,
+        0x1fbd920fffe7bee52,
+        0x1739640bdeee3fdad,
+        0x07729a039cfc75f5a,
+    ];
+
+    const TARGET_RESIDUE: u128 = 0x10ce0795c2fd1e62a;
+
+    ghost packing_laws = { codes.codex32_keeps };
+
+    ghost code_law = { refl };
+
+    ghost degree_law = { refl };
+
+    ghost code_length_law = { refl };
+}
+
+// Of codex32 it is proved.
+fn codex32_is_sane() -> bool
+    ensures { IsTrue result }
+{
+    Codex32::sanity_check()
+}
+
+#[test]
+fn lawful_roots(rt: HostRuntime) {
+    same_items(
+        &rt,
+        &[codex32_is_sane(), Longer::sanity_check()],
+        &[true, false],
+    );
+    same(&rt, &CheckedHrpstring::new::<Codex32>(TEXT).is_ok(), &true);
+}
+
+// Whether all locations are below the window.
+fn are_below(places: &[usize], window: usize) -> bool
+    ensures { IsTrue result → AllByRecursion (λ i. i < window) places.now }
+{
+    for place in places {
+        if *place >= window {
+            return false;
+        }
+    }
+    true
+}
+
+// What a corrector lists with these erasures.
+fn listed_by<Ck: Checksum>(
+    mut corrector: Corrector<Ck>,
+    alloc: Global,
+    erasures: &[usize],
+) -> Result<Option<Vec<(usize, Fe32)>>, Fail> {
+    if !are_below(erasures, corrector.window()) {
+        return Err("an erasure past the window".into());
+    }
+    corrector.add_erasures(erasures)?;
+    match corrector.bch_errors()? {
+        Some(errors) => Ok(Some(errors.collect(alloc)?)),
+        None => Ok(None),
+    }
+}
+
+// What is listed for a text that the checksum refuses.
+fn listed(
+    alloc: Global,
+    text: &str,
+    erasures: &[usize],
+) -> Result<Option<Vec<(usize, Fe32)>>, Fail> {
+    let error = CheckedHrpstring::new::<Codex32>(text)
+        .err()
+        .ok_or("it is accepted")?;
+    if !Codex32::sanity_check() {
+        return Err("no lawful roots".into());
+    }
+    let corrector = error
+        .correction_context::<Codex32, Global>(alloc)
+        .ok_or("no corrector")?;
+    listed_by(corrector, alloc, erasures)
+}
+
+#[test]
+fn four_errors(rt: HostRuntime) -> Result<(), Fail> {
+    let (alloc, text) = (
+        rt.alloc(),
+        "ms1qtestsqxxxxxxxxxxxxxxxxxxxxxxxxq4nzvca9cmczlq",
+    );
+    let (w, zero) = ((0, Fe32::W), (44, Fe32::_0));
+    let (x, last) = ((38, Fe32::X), (13, Fe32::X));
+    let got = listed(alloc, text, &[])?.ok_or("no listing")?;
+    same_items(&rt, &got, &[w, zero, x, last]);
+    let got = listed(alloc, text, &[44, 0])?.ok_or("no listing")?;
+    same_items(&rt, &got, &[zero, w, x, last]);
+    Ok(())
+}
+
+#[test]
+fn eight_erasures(rt: HostRuntime) -> Result<(), Fail> {
+    let (alloc, text) = (
+        rt.alloc(),
+        "ms10testsxxxxxxxxxxxxxxxxxxxxxxxxxx4nzvcqqqqqqqq",
+    );
+    let got = listed(alloc, text, &[0, 1, 2, 3, 4, 5, 6, 7])?.ok_or("no listing")?;
+    let want = [
+        (0, Fe32::W),
+        (1, Fe32::L),
+        (2, Fe32::Z),
+        (3, Fe32::C),
+        (4, Fe32::M),
+        (5, Fe32::C),
+        (6, Fe32::_9),
+        (7, Fe32::A),
+    ];
+    same_items(&rt, &got, &want);
+    let got = listed(alloc, text, &[0, 1, 2, 3, 4, 5, 6, 7, 8])?;
+    same(&rt, &got.is_none(), &true);
+    Ok(())
+}
+
+// The text with an element added at a location.
+fn with_error(alloc: Global, location: usize, value: Fe32) -> Result<String, Fail> {
+    let mut text = String::new(alloc);
+    let behind = location.checked_add(1).ok_or("no such place")?;
+    let place = TEXT.len().checked_sub(behind).ok_or("no such place")?;
+    for (i, c) in TEXT.chars().enumerate() {
+        if i == place {
+            let element = Fe32::from_char(c).ok().ok_or("no element")?;
+            text.push((element + value).to_char())?;
+        } else {
+            text.push(c)?;
+        }
+    }
+    Ok(text)
+}
+
+#[test]
+fn each_single_error(rt: HostRuntime) -> Result<(), Fail> {
+    let (alloc, mut count) = (rt.alloc(), 0u32);
+    for location in 0..45usize {
+        for value in Fe32::iter_alpha() {
+            if value == Fe32::Q {
+                continue;
+            }
+            let text = with_error(alloc, location, value)?;
+            let got = listed(alloc, &text, &[])?.ok_or("no listing")?;
+            same_items(&rt, &got, &[(location, value)]);
+            count = count.checked_add(1).ok_or("too many")?;
+        }
+    }
+    same(&rt, &count, &1395);
+    Ok(())
+}

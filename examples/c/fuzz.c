@@ -1,0 +1,639 @@
+/*
+ * Calls every function of bech32.h with random and mistyped input and with buffers of every size.
+ *
+ *     fuzz CALLS SEED
+ *
+ * Each buffer stands between two pages that nobody may touch, at the end of the one or at the
+ * beginning of the other, and the bytes around it are known. After each call: on a refusal buffers
+ * and lengths are as they were; else the bytes behind what was written are as they were, and the
+ * lengths fit the buffers. What is given to be read is as it was. A buffer that is too small is
+ * refused (92) exactly where the call succeeds with larger ones. What was written is read back.
+ *
+ * The header asks for pointers that are not null. Null for an empty buffer is tried all the same: it
+ * shows what the library does, and is no promise.
+ *
+ * Built for the address and undefined-behaviour checks (see fuzz), where the bytes around a buffer
+ * are marked for them too. It prints the calls and refusals of each function.
+ */
+#define _DEFAULT_SOURCE
+#include <stdio.h>
+#include <stdlib.h>
+#include <string.h>
+#include <sys/mman.h>
+
+#include "bech32.h"
+
+#if defined(__has_feature)
+#if __has_feature(address_sanitizer)
+#define MARKS 1
+#endif
+#endif
+#if defined(__SANITIZE_ADDRESS__)
+#define MARKS 1
+#endif
+#ifdef MARKS
+#include <sanitizer/asan_interface.h>
+#define FORBID(at, length) ASAN_POISON_MEMORY_REGION(at, length)
+#define ALLOW(at, length) ASAN_UNPOISON_MEMORY_REGION(at, length)
+#else
+#define FORBID(at, length) ((void)(at), (void)(length))
+#define ALLOW(at, length) ((void)(at), (void)(length))
+#endif
+
+#define AREA 4096u     /* the bytes between two pages that nobody may touch */
+#define MOST 1100u     /* a text, a part or bytes have at most so many bytes here, most of the time */
+#define NUMBERS 100u   /* refusals have numbers below this */
+
+/* What was being called, for the message of a failure. */
+static const char *called = "";
+static unsigned long long calls;
+
+static void fail(const char *what) {
+    fprintf(stderr, "%s, call %llu: %s\n", called, calls, what);
+    abort();
+}
+
+static void expect(int is_so, const char *what) {
+    if (!is_so) {
+        fail(what);
+    }
+}
+
+/* A generator of numbers, the same for the same seed (SplitMix64). */
+static uint64_t state;
+
+static uint64_t next_number(void) {
+    uint64_t z = state += UINT64_C(0x9e3779b97f4a7c15);
+    z = (z ^ (z >> 30)) * UINT64_C(0xbf58476d1ce4e5b9);
+    z = (z ^ (z >> 27)) * UINT64_C(0x94d049bb133111eb);
+    return z ^ (z >> 31);
+}
+
+static size_t below(size_t n) {
+    return (size_t)(next_number() % n);
+}
+
+static int percent(unsigned cases) {
+    return below(100) < cases;
+}
+
+/* Bytes between two pages that nobody may touch, and a buffer among them. */
+typedef struct {
+    uint8_t *bytes;         /* AREA of them */
+    uint8_t before[AREA];   /* what they were before the call */
+    uint8_t *buffer;        /* null for an empty buffer, at times */
+    size_t length;
+} Area;
+
+static void make_area(Area *area, size_t page) {
+    size_t middle = (AREA + page - 1) / page * page;
+    uint8_t *all = mmap(NULL, middle + 2 * page, PROT_NONE, MAP_PRIVATE | MAP_ANONYMOUS, -1, 0);
+    expect(all != MAP_FAILED, "no memory");
+    expect(middle == AREA, "a page is larger than a buffer");
+    expect(mprotect(all + page, middle, PROT_READ | PROT_WRITE) == 0, "no memory");
+    area->bytes = all + page;
+}
+
+/* A buffer of this length, of which the content is given or is what it happens to be. */
+static void place(Area *area, const void *content, size_t length, size_t alignment) {
+    size_t at = percent(70) ? AREA - length : below((AREA - length) / alignment + 1) * alignment;
+    if (percent(20)) {
+        at = 0;
+    }
+    ALLOW(area->bytes, AREA);
+    memset(area->bytes, (int)below(256), AREA);
+    if (content != NULL && length > 0) {
+        memcpy(area->bytes + at, content, length);
+    }
+    memcpy(area->before, area->bytes, AREA);
+    FORBID(area->bytes, AREA);
+    ALLOW(area->bytes + at, length);
+    area->buffer = length == 0 && percent(50) ? NULL : area->bytes + at;
+    area->length = length;
+}
+
+/* The area is as it was but for so many bytes at the front of its buffer. */
+static void expect_kept(Area *area, size_t written, const char *what) {
+    ALLOW(area->bytes, AREA);
+    if (written == 0) {
+        expect(memcmp(area->bytes, area->before, AREA) == 0, what);
+        return;
+    }
+    expect(written <= area->length && area->buffer != NULL, "more was written than there is room for");
+    size_t at = (size_t)(area->buffer - area->bytes);
+    expect(memcmp(area->bytes, area->before, at) == 0, what);
+    at += written;
+    expect(memcmp(area->bytes + at, area->before + at, AREA - at) == 0, what);
+}
+
+/* The areas of a call: two that are read, two that are written, and two lengths. */
+static Area read_1, read_2, written_1, written_2, length_1, length_2;
+
+static size_t *new_length(Area *area) {
+    size_t any = (size_t)next_number();
+    place(area, &any, sizeof any, sizeof any);
+    return (size_t *)(void *)area->buffer;
+}
+
+static size_t length_in(Area *area) {
+    size_t length;
+    memcpy(&length, area->buffer, sizeof length);
+    return length;
+}
+
+/* So many bytes that there is often, and not always, room for what is written. */
+static size_t room(size_t usual) {
+    switch (below(6)) {
+    case 0: return below(MOST);
+    case 1: return below(usual + 2);
+    case 2: return below(8);
+    default: return usual;
+    }
+}
+
+/* What the calls of a function answered. */
+typedef struct {
+    const char *name;
+    unsigned long long calls, numbers[NUMBERS];
+    const uint32_t *refusals; /* those that the header lists, ended by 0 */
+} Function;
+
+static const uint32_t of_encode[] = {2, 4, 11, 12, 13, 14, 15, 51, 92, 0};
+static const uint32_t of_decode[] = {2, 11, 12, 13, 14, 15, 21, 22, 23, 31, 32, 33, 92, 0};
+static const uint32_t of_check[] = {2, 4, 11, 12, 13, 14, 15, 21, 22, 23, 31, 32, 33, 0};
+static const uint32_t of_segwit_encode[] = {2, 4, 11, 12, 13, 14, 15, 46, 47, 48, 52, 53, 92, 0};
+static const uint32_t of_segwit_decode[] = {2,  11, 12, 13, 14, 15, 21, 22, 23, 32, 33,
+                                            41, 42, 43, 44, 45, 46, 47, 48, 92, 0};
+static const uint32_t of_residue[] = {4, 0};
+
+static Function encode = {"bech32_encode", 0, {0}, of_encode};
+static Function decode = {"bech32_decode", 0, {0}, of_decode};
+static Function check = {"bech32_check", 0, {0}, of_check};
+static Function segwit_encode = {"bech32_segwit_encode", 0, {0}, of_segwit_encode};
+static Function segwit_decode = {"bech32_segwit_decode", 0, {0}, of_segwit_decode};
+static Function residue = {"bech32_residue", 0, {0}, of_residue};
+
+static void begin(Function *function) {
+    called = function->name;
+    calls++;
+}
+
+/* Counts an answer, which must be one that the header lists. */
+static void count(Function *function, uint32_t number) {
+    const uint32_t *listed = function->refusals;
+    while (*listed != 0 && *listed != number) {
+        listed++;
+    }
+    expect(number == BECH32_OK || *listed != 0, "a refusal that the header does not list");
+    function->calls++;
+    function->numbers[number]++;
+}
+
+/* The answer with buffers that are large enough decides: with smaller ones it is 92. */
+static void expect_number(uint32_t number, uint32_t ample, int fits) {
+    expect(number == (ample == BECH32_OK && !fits ? BECH32_NO_ROOM : ample),
+           "the answer is not that of larger buffers, or of buffers without room");
+}
+
+/* Input: a human-readable part, bytes, and a text, each with its length. */
+static uint8_t part[AREA], data[AREA], text[AREA];
+static size_t part_length, data_length, text_length;
+
+static const char alphabet[] = "qpzry9x8gf2tvdw0s3jn54khce6mua7l";
+
+static uint8_t lowered(uint8_t byte) {
+    return byte >= 'A' && byte <= 'Z' ? (uint8_t)(byte + 32) : byte;
+}
+
+static void random_part(void) {
+    static const char *known[] = {"bc", "tb", "bcrt", "BC", "a", "A", "1", "aB", "\xc3\xa9", "a b"};
+    if (percent(50)) {
+        const char *one = known[below(sizeof known / sizeof *known)];
+        part_length = strlen(one);
+        memcpy(part, one, part_length);
+        return;
+    }
+    part_length = percent(80) ? 1 + below(20) : below(100);
+    int any_byte = percent(3), is_upper = percent(20);
+    for (size_t i = 0; i < part_length; i++) {
+        uint8_t byte = (uint8_t)(33 + below(94));
+        int is_letter = lowered(byte) >= 'a' && lowered(byte) <= 'z';
+        part[i] = is_letter ? (uint8_t)(lowered(byte) - (is_upper ? 32 : 0)) : byte;
+        if (any_byte) {
+            part[i] = (uint8_t)below(256);
+        }
+    }
+}
+
+static void random_data(size_t usual) {
+    data_length = percent(90) ? below(usual + 1) : below(MOST);
+    for (size_t i = 0; i < data_length || i < BECH32_MAX_SEGWIT_PROGRAM; i++) {
+        data[i] = (uint8_t)below(256);
+    }
+}
+
+static uint32_t random_checksum(void) {
+    return percent(95) ? 1 + (uint32_t)below(2) : (uint32_t)next_number();
+}
+
+static uint32_t random_version(void) {
+    return percent(60) ? (uint32_t)below(2) : percent(90) ? (uint32_t)below(35) : (uint32_t)next_number();
+}
+
+/* The remainder of BIP-173's own program for a checksum. */
+static uint32_t polymod(const uint8_t *values, size_t length) {
+    static const uint32_t generator[5] = {0x3b6a57b2, 0x26508e6d, 0x1ea119fa, 0x3d4233dd, 0x2a1462b3};
+    uint32_t word = 1;
+    for (size_t i = 0; i < length; i++) {
+        uint32_t top = word >> 25;
+        word = (word & 0x1ffffff) << 5 ^ values[i];
+        for (int bit = 0; bit < 5; bit++) {
+            word ^= top >> bit & 1 ? generator[bit] : 0;
+        }
+    }
+    return word;
+}
+
+/* The text of elements, as BIP-173's own program makes it: no rule of addresses is kept, or tested. */
+static void text_of_elements(const uint8_t *elements, size_t length, uint32_t target) {
+    static uint8_t values[AREA];
+    size_t n = 0;
+    for (size_t i = 0; i < part_length; i++) {
+        values[n++] = lowered(part[i]) >> 5;
+        text[i] = lowered(part[i]);
+    }
+    values[n++] = 0;
+    for (size_t i = 0; i < part_length; i++) {
+        values[n++] = lowered(part[i]) & 31;
+    }
+    memcpy(values + n, elements, length);
+    memset(values + n + length, 0, 6);
+    uint32_t sum = polymod(values, n + length + 6) ^ target;
+    text_length = part_length;
+    text[text_length++] = '1';
+    for (size_t i = 0; i < length; i++) {
+        text[text_length++] = (uint8_t)alphabet[elements[i]];
+    }
+    for (int i = 5; i >= 0; i--) {
+        text[text_length++] = (uint8_t)alphabet[sum >> 5 * i & 31];
+    }
+}
+
+static void random_elements(void) {
+    static uint8_t elements[MOST];
+    size_t length = percent(20) ? below(5) : percent(95) ? below(75) : below(MOST);
+    for (size_t i = 0; i < length; i++) {
+        elements[i] = (uint8_t)below(32);
+    }
+    if (length > 0 && percent(80)) {
+        elements[0] &= 1;
+        elements[length - 1] &= percent(50) ? 16 : 31;
+    }
+    int is_first = length > 0 && elements[0] == 0;
+    text_of_elements(elements, length, is_first ? BECH32_TARGET : BECH32M_TARGET);
+}
+
+/* A text that is accepted, one that is one to four changes from such a text, or any bytes. */
+static void random_text(void) {
+    uint32_t number = BECH32_OK;
+    random_part();
+    random_data(60);
+    switch (below(3)) {
+    case 0:
+        number = bech32_encode(1 + (uint32_t)below(2), part, part_length, data, data_length, text,
+                               sizeof text, &text_length);
+        break;
+    case 1:
+        data_length = percent(50) ? 20 + 12 * below(2) : 2 + below(39);
+        number = bech32_segwit_encode(part, part_length, (uint32_t)below(3), data, data_length, text,
+                                      sizeof text, &text_length);
+        break;
+    default:
+        random_elements();
+    }
+    if (number != BECH32_OK || percent(8)) {
+        text_length = percent(80) ? below(100) : below(MOST);
+        for (size_t i = 0; i < text_length; i++) {
+            text[i] = (uint8_t)alphabet[below(32)];
+        }
+        if (text_length > 0 && percent(90)) {
+            text[below(text_length)] = '1';
+        }
+    }
+    int is_upper = percent(20);
+    for (size_t i = 0; is_upper && i < text_length; i++) {
+        text[i] = text[i] >= 'a' && text[i] <= 'z' ? (uint8_t)(text[i] - 32) : text[i];
+    }
+    for (size_t i = percent(40) ? 0 : 1 + below(4); i > 0 && text_length > 0; i--) {
+        uint8_t letter = (uint8_t)alphabet[below(32)];
+        text[below(text_length)] = percent(85) ? letter : (uint8_t)below(256);
+    }
+    if (percent(3) && text_length >= 2) {
+        memcpy(text + below(text_length - 1), "\xc3\xa9", 2);
+    }
+}
+
+static int same_lowered(const uint8_t *a, const uint8_t *b, size_t length) {
+    for (size_t i = 0; i < length; i++) {
+        if (lowered(a[i]) != lowered(b[i])) {
+            return 0;
+        }
+    }
+    return 1;
+}
+
+static void try_encode(void) {
+    static uint8_t ample[AREA], back_part[AREA], back[AREA];
+    size_t length = 0, h = 0, n = 0;
+    uint32_t checksum = random_checksum();
+    begin(&encode);
+    random_part();
+    random_data(640);
+    uint32_t expected = bech32_encode(checksum, part, part_length, data, data_length, ample,
+                                      sizeof ample, &length);
+    place(&read_1, part, part_length, 1);
+    place(&read_2, data, data_length, 1);
+    place(&written_1, NULL, room(expected == BECH32_OK ? length : BECH32_MAX_TEXT), 1);
+    size_t *told = new_length(&length_1);
+    uint32_t number =
+        bech32_encode(checksum, read_1.buffer, part_length, read_2.buffer, data_length,
+                      written_1.buffer, written_1.length, told);
+    count(&encode, number);
+    expect_number(number, expected, length <= written_1.length);
+    expect_kept(&read_1, 0, "the human-readable part changed");
+    expect_kept(&read_2, 0, "the bytes changed");
+    expect_kept(&written_1, number == BECH32_OK ? length : 0, "the buffer changed elsewhere");
+    expect_kept(&length_1, number == BECH32_OK ? sizeof length : 0, "the length changed");
+    if (number != BECH32_OK) {
+        return;
+    }
+    expect(length_in(&length_1) == length && length == part_length + 7 + (8 * data_length + 4) / 5,
+           "the length of the text");
+    expect(memcmp(written_1.buffer, ample, length) == 0, "another text");
+    expect(bech32_check(checksum, ample, length, &h, &n) == BECH32_OK && h == part_length &&
+               n == length - part_length - 7,
+           "the text is not accepted");
+    expect(bech32_decode(ample, length, back_part, sizeof back_part, &h, back, sizeof back, &n) ==
+                   BECH32_OK &&
+               h == part_length && n == data_length && memcmp(back, data, n) == 0 &&
+               same_lowered(back_part, part, h),
+           "the text is not decoded to what was encoded");
+}
+
+static void try_decode(void) {
+    static uint8_t ample_part[AREA], ample[AREA];
+    size_t h = 0, n = 0, unused;
+    begin(&decode);
+    random_text();
+    uint32_t expected =
+        bech32_decode(text, text_length, ample_part, sizeof ample_part, &h, ample, sizeof ample, &n);
+    place(&read_1, text, text_length, 1);
+    place(&written_1, NULL, room(expected == BECH32_OK ? h : BECH32_MAX_HRP), 1);
+    place(&written_2, NULL, room(expected == BECH32_OK ? n : BECH32_MAX_BYTES), 1);
+    size_t *told_1 = new_length(&length_1), *told_2 = new_length(&length_2);
+    uint32_t number = bech32_decode(read_1.buffer, text_length, written_1.buffer, written_1.length,
+                                    told_1, written_2.buffer, written_2.length, told_2);
+    int is_ok = number == BECH32_OK;
+    count(&decode, number);
+    expect_number(number, expected, h <= written_1.length && n <= written_2.length);
+    expect_kept(&read_1, 0, "the text changed");
+    expect_kept(&written_1, is_ok ? h : 0, "the first buffer changed elsewhere");
+    expect_kept(&written_2, is_ok ? n : 0, "the second buffer changed elsewhere");
+    expect_kept(&length_1, is_ok ? sizeof h : 0, "the first length changed");
+    expect_kept(&length_2, is_ok ? sizeof n : 0, "the second length changed");
+    if (is_ok) {
+        expect(length_in(&length_1) == h && length_in(&length_2) == n, "the lengths");
+        expect(memcmp(written_1.buffer, text, h) == 0, "another human-readable part");
+        expect(n == 0 || memcmp(written_2.buffer, ample, n) == 0, "other bytes");
+    }
+    expect((expected == BECH32_OK) ==
+               (bech32_check(BECH32_BECH32, text, text_length, &unused, &unused) == BECH32_OK ||
+                bech32_check(BECH32_BECH32M, text, text_length, &unused, &unused) == BECH32_OK),
+           "bech32_check says otherwise");
+}
+
+static void try_check(void) {
+    uint32_t checksum = random_checksum();
+    begin(&check);
+    random_text();
+    place(&read_1, text, text_length, 1);
+    size_t *told_1 = new_length(&length_1), *told_2 = new_length(&length_2);
+    uint32_t number = bech32_check(checksum, read_1.buffer, text_length, told_1, told_2);
+    int is_ok = number == BECH32_OK;
+    count(&check, number);
+    expect_kept(&read_1, 0, "the text changed");
+    expect_kept(&length_1, is_ok ? sizeof(size_t) : 0, "the first length changed");
+    expect_kept(&length_2, is_ok ? sizeof(size_t) : 0, "the second length changed");
+    if (is_ok) {
+        size_t h = length_in(&length_1), n = length_in(&length_2);
+        expect(h >= 1 && h <= BECH32_MAX_HRP && h + 1 + n + 6 == text_length && text[h] == '1',
+               "the lengths");
+    }
+}
+
+static void try_segwit_encode(void) {
+    static uint8_t ample[AREA], back_part[AREA], back[AREA];
+    size_t length = 0, h = 0, n = 0;
+    uint32_t version = random_version(), back_version = 99;
+    begin(&segwit_encode);
+    random_part();
+    random_data(45);
+    if (percent(60) && data_length >= 20) {
+        data_length = data_length >= 32 ? 32 : 20;
+    }
+    uint32_t expected = bech32_segwit_encode(part, part_length, version, data, data_length, ample,
+                                             sizeof ample, &length);
+    place(&read_1, part, part_length, 1);
+    place(&read_2, data, data_length, 1);
+    place(&written_1, NULL, room(expected == BECH32_OK ? length : BECH32_MAX_SEGWIT_TEXT), 1);
+    size_t *told = new_length(&length_1);
+    uint32_t number =
+        bech32_segwit_encode(read_1.buffer, part_length, version, read_2.buffer, data_length,
+                             written_1.buffer, written_1.length, told);
+    count(&segwit_encode, number);
+    expect_number(number, expected, length <= written_1.length);
+    expect_kept(&read_1, 0, "the human-readable part changed");
+    expect_kept(&read_2, 0, "the program changed");
+    expect_kept(&written_1, number == BECH32_OK ? length : 0, "the buffer changed elsewhere");
+    expect_kept(&length_1, number == BECH32_OK ? sizeof length : 0, "the length changed");
+    if (number != BECH32_OK) {
+        return;
+    }
+    expect(length_in(&length_1) == length && length <= BECH32_MAX_SEGWIT_TEXT, "the length");
+    expect(memcmp(written_1.buffer, ample, length) == 0, "another address");
+    expect(bech32_segwit_decode(ample, length, back_part, sizeof back_part, &h, &back_version, back,
+                                sizeof back, &n) == BECH32_OK &&
+               h == part_length && back_version == version && n == data_length &&
+               memcmp(back, data, n) == 0 && same_lowered(back_part, part, h),
+           "the address is not decoded to what was encoded");
+}
+
+static void try_segwit_decode(void) {
+    static uint8_t ample_part[AREA], ample[AREA], back[AREA];
+    size_t h = 0, n = 0, length = 0;
+    uint32_t ample_version = 0;
+    begin(&segwit_decode);
+    random_text();
+    uint32_t expected = bech32_segwit_decode(text, text_length, ample_part, sizeof ample_part, &h,
+                                             &ample_version, ample, sizeof ample, &n);
+    place(&read_1, text, text_length, 1);
+    place(&written_1, NULL, room(expected == BECH32_OK ? h : BECH32_MAX_HRP), 1);
+    place(&written_2, NULL, room(expected == BECH32_OK ? n : BECH32_MAX_SEGWIT_PROGRAM), 1);
+    uint32_t any = (uint32_t)next_number();
+    place(&read_2, &any, sizeof any, sizeof any);
+    size_t *told_1 = new_length(&length_1), *told_2 = new_length(&length_2);
+    uint32_t number = bech32_segwit_decode(
+        read_1.buffer, text_length, written_1.buffer, written_1.length, told_1,
+        (uint32_t *)(void *)read_2.buffer, written_2.buffer, written_2.length, told_2);
+    int is_ok = number == BECH32_OK;
+    count(&segwit_decode, number);
+    expect_number(number, expected, h <= written_1.length && n <= written_2.length);
+    expect_kept(&read_1, 0, "the text changed");
+    expect_kept(&read_2, is_ok ? sizeof any : 0, "the version changed");
+    expect_kept(&written_1, is_ok ? h : 0, "the first buffer changed elsewhere");
+    expect_kept(&written_2, is_ok ? n : 0, "the second buffer changed elsewhere");
+    expect_kept(&length_1, is_ok ? sizeof h : 0, "the first length changed");
+    expect_kept(&length_2, is_ok ? sizeof n : 0, "the second length changed");
+    if (!is_ok) {
+        return;
+    }
+    expect(length_in(&length_1) == h && length_in(&length_2) == n && n <= BECH32_MAX_SEGWIT_PROGRAM,
+           "the lengths");
+    expect(memcmp(read_2.buffer, &ample_version, sizeof any) == 0 && ample_version <= 16, "the version");
+    expect(memcmp(written_2.buffer, ample, n) == 0, "another program");
+    expect(bech32_segwit_encode(ample_part, h, ample_version, ample, n, back, sizeof back, &length) ==
+                   BECH32_OK &&
+               length == text_length && same_lowered(back, text, length),
+           "the address is not the one of its parts");
+}
+
+static void try_residue(void) {
+    uint32_t checksum = random_checksum(), any = (uint32_t)next_number(), told;
+    int is_above = percent(20), has_above = 0;
+    begin(&residue);
+    random_data(80);
+    for (size_t i = 0; i < data_length; i++) {
+        data[i] &= 31;
+    }
+    if (is_above && data_length > 0) {
+        data[below(data_length)] = (uint8_t)(32 + below(224));
+        has_above = 1;
+    }
+    place(&read_1, data, data_length, 1);
+    place(&written_1, &any, sizeof any, sizeof any);
+    uint32_t number = bech32_residue(checksum, read_1.buffer, data_length,
+                                     (uint32_t *)(void *)written_1.buffer);
+    count(&residue, number);
+    expect((number == BECH32_OK) == (!has_above && (checksum == 1 || checksum == 2)), "the answer");
+    expect_kept(&read_1, 0, "the elements changed");
+    expect_kept(&written_1, number == BECH32_OK ? sizeof any : 0, "the remainder changed");
+    if (number == BECH32_OK) {
+        memcpy(&told, written_1.buffer, sizeof told);
+        expect(told == polymod(data, data_length), "another remainder");
+    }
+}
+
+#ifdef BECH32_HAS_CORRECT
+/* Mistyped texts: not called before the header has bech32_correct. */
+static const uint32_t of_correct[] = {2, 4, 11, 12, 13, 14, 15, 21, 22, 23, 31, 32, 34, 92, 0};
+static Function correct = {"bech32_correct", 0, {0}, of_correct};
+static Area erasures_area, locations_area, values_area, mended_area, length_3;
+
+static void try_correct(void) {
+    static uint8_t ample[AREA];
+    size_t erasures[8], erasures_length = percent(60) ? 0 : below(6), ample_locations[8];
+    size_t items = 0, length = 0, h = 0, n = 0;
+    uint8_t ample_values[8];
+    uint32_t checksum = random_checksum();
+    begin(&correct);
+    random_text();
+    for (size_t i = 0; i < erasures_length; i++) {
+        erasures[i] = percent(95) ? below(text_length + 1) : (size_t)next_number();
+    }
+    uint32_t expected = bech32_correct(checksum, text, text_length, erasures, erasures_length,
+                                       ample_locations, 8, ample_values, 8, &items, ample,
+                                       sizeof ample, &length);
+    place(&read_1, text, text_length, 1);
+    place(&erasures_area, erasures, erasures_length * sizeof *erasures, sizeof *erasures);
+    place(&locations_area, NULL, below(6) * sizeof(size_t), sizeof(size_t));
+    place(&values_area, NULL, below(6), 1);
+    place(&mended_area, NULL, room(expected == BECH32_OK ? length : text_length), 1);
+    size_t *told_items = new_length(&length_1), *told_length = new_length(&length_3);
+    size_t locations_room = locations_area.length / sizeof(size_t);
+    uint32_t number = bech32_correct(
+        checksum, read_1.buffer, text_length, (const size_t *)(void *)erasures_area.buffer,
+        erasures_length, (size_t *)(void *)locations_area.buffer, locations_room, values_area.buffer,
+        values_area.length, told_items, mended_area.buffer, mended_area.length, told_length);
+    int is_ok = number == BECH32_OK;
+    count(&correct, number);
+    expect_number(number, expected,
+                  items <= locations_room && items <= values_area.length &&
+                      length <= mended_area.length);
+    expect_kept(&read_1, 0, "the text changed");
+    expect_kept(&erasures_area, 0, "the erasures changed");
+    expect_kept(&locations_area, is_ok ? items * sizeof(size_t) : 0, "the locations changed");
+    expect_kept(&values_area, is_ok ? items : 0, "the values changed");
+    expect_kept(&mended_area, is_ok ? length : 0, "the mended text's buffer changed elsewhere");
+    expect_kept(&length_1, is_ok ? sizeof items : 0, "the number of items changed");
+    expect_kept(&length_3, is_ok ? sizeof length : 0, "the length changed");
+    if (!is_ok) {
+        return;
+    }
+    expect(length_in(&length_1) == items && items <= 3, "the number of items");
+    expect(length_in(&length_3) == length && length == text_length, "the length");
+    expect(memcmp(mended_area.buffer, ample, length) == 0, "another mended text");
+    expect(bech32_check(checksum, ample, length, &h, &n) == BECH32_OK, "the mended text is refused");
+    for (size_t i = 0; i < items; i++) {
+        expect(ample_locations[i] < n + 6 && ample_values[i] < 32, "the listing");
+        expect(memcmp(locations_area.buffer + i * sizeof(size_t), &ample_locations[i],
+                      sizeof(size_t)) == 0 &&
+                   values_area.buffer[i] == ample_values[i],
+               "another listing");
+    }
+}
+#endif
+
+static void print(const Function *function) {
+    printf("%s: %llu calls; ", function->name, function->calls);
+    printf("%llu answered", function->numbers[BECH32_OK]);
+    for (uint32_t number = 1; number < NUMBERS; number++) {
+        if (function->numbers[number] > 0) {
+            printf(", refusal %u %llu", (unsigned)number, function->numbers[number]);
+        }
+    }
+    printf("\n");
+}
+
+int main(int argc, char **argv) {
+    static void (*const tries[])(void) = {
+        try_encode, try_decode, try_check, try_segwit_encode, try_segwit_decode, try_residue,
+#ifdef BECH32_HAS_CORRECT
+        try_correct,
+#endif
+    };
+    unsigned long long count = argc > 1 ? strtoull(argv[1], NULL, 10) : 100000;
+    Area *areas[] = {
+        &read_1, &read_2, &written_1, &written_2, &length_1, &length_2,
+#ifdef BECH32_HAS_CORRECT
+        &erasures_area, &locations_area, &values_area, &mended_area, &length_3,
+#endif
+    };
+    state = argc > 2 ? strtoull(argv[2], NULL, 10) : 1;
+    for (size_t i = 0; i < sizeof areas / sizeof *areas; i++) {
+        make_area(areas[i], AREA);
+    }
+    while (calls < count) {
+        tries[below(sizeof tries / sizeof *tries)]();
+    }
+    printf("%llu calls\n", calls);
+    print(&encode);
+    print(&decode);
+    print(&check);
+    print(&segwit_encode);
+    print(&segwit_decode);
+    print(&residue);
+#ifdef BECH32_HAS_CORRECT
+    print(&correct);
+#endif
+    return 0;
+}
