@@ -129,8 +129,11 @@ pub mod replies {
         if number != numbers::RESIDUE {
             return Err(number);
         }
-        // The crate may list what does not mend, or panic.
+        // The crate may list what does not mend, or panic, of which nothing is printed.
+        let shown = std::panic::take_hook();
+        std::panic::set_hook(Box::new(|_| {}));
         let found = std::panic::catch_unwind(|| super::correct::<Ck>(&error, text, erasures));
+        std::panic::set_hook(shown);
         let found = found.ok().flatten().ok_or(numbers::NO_CORRECTION)?;
         if CheckedHrpstring::new::<Ck>(&found.mended).is_err() {
             return Err(numbers::NO_CORRECTION);
