@@ -533,8 +533,7 @@ static void try_residue(void) {
     }
 }
 
-#ifdef BECH32_HAS_CORRECT
-/* Mistyped texts: not called before the header has bech32_correct. */
+/* Mistyped texts. */
 static const uint32_t of_correct[] = {2, 4, 11, 12, 13, 14, 15, 21, 22, 23, 31, 32, 34, 92, 0};
 static Function correct = {"bech32_correct", 0, {0}, of_correct};
 static Area erasures_area, locations_area, values_area, mended_area, length_3;
@@ -591,7 +590,6 @@ static void try_correct(void) {
                "another listing");
     }
 }
-#endif
 
 static void print(const Function *function) {
     printf("%s: %llu calls; ", function->name, function->calls);
@@ -606,17 +604,13 @@ static void print(const Function *function) {
 
 int main(int argc, char **argv) {
     static void (*const tries[])(void) = {
-        try_encode, try_decode, try_check, try_segwit_encode, try_segwit_decode, try_residue,
-#ifdef BECH32_HAS_CORRECT
-        try_correct,
-#endif
+        try_encode,        try_decode,  try_check,   try_segwit_encode,
+        try_segwit_decode, try_residue, try_correct,
     };
     unsigned long long count = argc > 1 ? strtoull(argv[1], NULL, 10) : 100000;
     Area *areas[] = {
-        &read_1, &read_2, &written_1, &written_2, &length_1, &length_2,
-#ifdef BECH32_HAS_CORRECT
+        &read_1,        &read_2,         &written_1,   &written_2,   &length_1, &length_2,
         &erasures_area, &locations_area, &values_area, &mended_area, &length_3,
-#endif
     };
     state = argc > 2 ? strtoull(argv[2], NULL, 10) : 1;
     for (size_t i = 0; i < sizeof areas / sizeof *areas; i++) {
@@ -632,8 +626,6 @@ int main(int argc, char **argv) {
     print(&segwit_encode);
     print(&segwit_decode);
     print(&residue);
-#ifdef BECH32_HAS_CORRECT
     print(&correct);
-#endif
     return 0;
 }
