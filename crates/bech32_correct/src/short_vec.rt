@@ -74,3 +74,17 @@ impl<T: Copy + Default, A: Allocator + Copy> ShortVec<T, A> {
         *self.inner.allocator()
     }
 }
+
+impl<T: Copy + Default, A: Allocator + Copy> Clone for ShortVec<T, A> {
+    ghost is_clone = { λ v w. v ≡ w };
+
+    ghost is_infallible = { λ v. FitsInPlace (length v) };
+
+    fn clone(&self) -> Result<Self, AllocError> {
+        let mut copy = Self::new(self.allocator());
+        for item in self.as_slice() {
+            copy.push(*item)?;
+        }
+        Ok(copy)
+    }
+}
