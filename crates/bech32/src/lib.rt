@@ -16,6 +16,7 @@ pub mod hrp;
 pub mod primitives;
 
 pub use bech32_bits::ByteIterExt;
+pub use bech32_block::PrintImpl;
 pub use bech32_checksum::{Bech32, Bech32m, Checksum, NoChecksum};
 pub use bech32_corrector::CorrectableError;
 use bech32_decode::{CheckedHrpstring, CodeLengthError, UncheckedHrpstring, validate_either};

@@ -3,7 +3,7 @@
 pub mod root {
     pub use bech32::{
         Bech32, Bech32m, ByteIterExt, Checksum, CorrectableError, DecodeError, EncodeError, Fe32,
-        Fe32IterExt, Fe1024, Fe32768, Hrp, NoChecksum, decode, encode, encoded_length,
+        Fe32IterExt, Fe1024, Fe32768, Hrp, NoChecksum, PrintImpl, decode, encode, encoded_length,
     };
 }
 
@@ -26,7 +26,8 @@ pub mod primitives {
 
     pub mod checksum {
         pub use bech32::primitives::checksum::{
-            Checksum, Engine, HrpFe32Iter, PackedFe32, PackedNull,
+            Checksum, Engine, HrpFe32Iter, NamedField, PackedFe32, PackedNull, PrintError,
+            PrintImpl, detects_four, detects_four_in,
         };
     }
 
