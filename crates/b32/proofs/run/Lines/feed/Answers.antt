@@ -31,7 +31,7 @@ loop-b-preserved g c = elim c.if-b-eq10.branch [
           written ++ out,
           Appends-then _ _ _ written out appended more,
           subst (IsOutput (ended_from before (take (c.loop-b.b-index + 1) c.args.bytes.now))) (gathered-more written gathered (said ++ 10 ∷ []) out _ made)
-          (turn-newline before c.args.bytes.now (written ++ gathered) said c.loop-b.b-index c.loop-b-test.true (search rules) is reply),
+              (turn-newline before c.args.bytes.now (written ++ gathered) said c.loop-b.b-index c.loop-b-test.true (search rules) is reply),
         ));
   }
   | else-b-eq10 w ↦ record {
@@ -45,7 +45,7 @@ loop-b-preserved g c = elim c.if-b-eq10.branch [
           written,
           appended,
           subst (λ o. IsOutput (ended_from before (take (c.loop-b.b-index + 1) c.args.bytes.now)) (written ++ o.items)) (sym w.put.ensures.out)
-          (turn-other before c.args.bytes.now (written ++ c.loop-b.self.out.items) c.loop-b.b-index c.loop-b-test.true other is),
+              (turn-other before c.args.bytes.now (written ++ c.loop-b.self.out.items) c.loop-b.b-index c.loop-b-test.true other is),
         ));
   }
 ]

@@ -12,10 +12,13 @@ returns-in_err-answer-clause-err g c =
     let p = err_from_is_err_and c.from_residual.result c.from_residual.ensures.1 in
     rw p.1 (λ before e.
     let (n, more) = c.in_err-answer.ensures.err in
-    let nothing : take n c.args.self.now.out.items ≡ [] = ap (λ (l : List ℕ). take n l) c.requires.none_left ∙ take_all n [] (omega arith) in
-    (take n c.args.self.now.out.items, more, λ xs a p.
-        subst (IsBeginning (xs ++ last_line before)) (sym (ap (λ (l : List ℕ). a ++ l) nothing ∙ append-nil a))
-        (beginning-longer xs (last_line before) a (beginning-whole xs a p))))
+    let nothing : take n c.args.self.now.out.items ≡ [] = ap (λ (l : List ℕ). take n l) c.requires.none_left ∙ take_all n [] (omega arith) in (
+      take n c.args.self.now.out.items,
+      more,
+      λ xs a p.
+          subst (IsBeginning (xs ++ last_line before)) (sym (ap (λ (l : List ℕ). a ++ l) nothing ∙ append-nil a))
+          (beginning-longer xs (last_line before) a (beginning-whole xs a p)),
+    ))
 
 -- the reply is what was written before, with what is gathered
 whole : (old said out new : List ℕ) → old ≡ [] → old ++ (said ++ 10 ∷ []) ≡ out ++ new → said ++ 10 ∷ [] ≡ out ++ new
@@ -27,9 +30,12 @@ returns-clause-ok g c = on_ok_weaker c.write_out.result
     let (said, is, out, appended, made) = c.in_ok-answer.ensures.ok before e in
     let some : 0 < length c.args.self.now.line.items = search rules in
     let one = last-some before _ e some in
-    let gathered = c.answer.new.self.out.items in
-    (out ++ gathered, Appends-then _ _ _ out gathered appended more, subst (λ (xs : List (List ℕ)). IsOutput xs (out ++ gathered)) (sym one)
-    (subst (IsOutput (before ∷ [])) (whole _ said out gathered c.requires.none_left made) (output-one before said is))))
+    let gathered = c.answer.new.self.out.items in (
+      out ++ gathered,
+      Appends-then _ _ _ out gathered appended more,
+      subst (λ (xs : List (List ℕ)). IsOutput xs (out ++ gathered)) (sym one)
+          (subst (IsOutput (before ∷ [])) (whole _ said out gathered c.requires.none_left made) (output-one before said is)),
+    ))
     c.write_out.ensures.ok
 
 pub returns-clause-err : goal.returns-clause-err
@@ -39,8 +45,11 @@ returns-clause-err g c = on_err_weaker c.write_out.result
     let (said, is, out, appended, made) = c.in_ok-answer.ensures.ok before e in
     let some : 0 < length c.args.self.now.line.items = search rules in
     let one = last-some before _ e some in
-    let gathered = c.answer.new.self.out.items in
-    (out ++ take n gathered, Appends-then _ _ _ out (take n gathered) appended more, λ xs a p.
-        subst (λ (ys : List (List ℕ)). IsBeginning (xs ++ ys) (a ++ (out ++ take n gathered))) (sym one)
-        (cut-last xs before a said out gathered n p is (whole _ said out gathered c.requires.none_left made))))
+    let gathered = c.answer.new.self.out.items in (
+      out ++ take n gathered,
+      Appends-then _ _ _ out (take n gathered) appended more,
+      λ xs a p.
+          subst (λ (ys : List (List ℕ)). IsBeginning (xs ++ ys) (a ++ (out ++ take n gathered))) (sym one)
+          (cut-last xs before a said out gathered n p is (whole _ said out gathered c.requires.none_left made)),
+    ))
     c.write_out.ensures.err
