@@ -4,6 +4,7 @@
 //!     bench time                     nanoseconds of a call, least and median of the rounds
 //!     bench list                     the operations
 //!     bench count ours|theirs N K    K calls of operation N, for a count of instructions
+//!     bench written fmt|bytes SIZE K K texts of SIZE bytes written by the crate, for the same
 //!     bench table TIMES COUNTS       the table of two files
 //!     bench chart TIMES COUNTS       their chart
 
@@ -94,8 +95,12 @@ fn main() {
             .iter()
             .for_each(|o| println!("{}", o.name)),
         Some("count") => count(&words),
+        Some("written") => {
+            let number = |at: usize| words[at].parse().unwrap();
+            println!("{}", theirs::written(&words[2], number(3), number(4)));
+        }
         Some("table") => print!("{}", report::table(&rows(&words))),
         Some("chart") => print!("{}", report::chart(&rows(&words))),
-        _ => panic!("compare, time, list, count, table or chart"),
+        _ => panic!("compare, time, list, count, written, table or chart"),
     }
 }

@@ -6,6 +6,7 @@ use bech32::primitives::checksum::Engine;
 use bech32::primitives::correction::CorrectableError;
 use bech32::primitives::decode::{CheckedHrpstring, CheckedHrpstringError};
 use bech32::{segwit, Bech32, Bech32m, Checksum, Fe32, Hrp};
+use std::hint::black_box;
 
 pub fn residue(checksum: u32, values: &[Fe32]) -> u32 {
     match checksum {
@@ -20,6 +21,30 @@ pub fn residue(checksum: u32, values: &[Fe32]) -> u32 {
             *engine.residue()
         }
     }
+}
+
+/// Writes the text of so many bytes in each call, to a new string or to a new byte vector, and says
+/// how many bytes were written.
+pub fn written(kind: &str, size: usize, calls: usize) -> usize {
+    let hrp = Hrp::parse("abcd").unwrap();
+    let data = [0xa5; 632];
+    let mut written = 0;
+    for _ in 0..calls {
+        let data = black_box(&data[..size]);
+        written += match kind {
+            "fmt" => {
+                let mut text = String::new();
+                bech32::encode_to_fmt::<Bech32m, String>(&mut text, hrp, data).unwrap();
+                black_box(text).len()
+            }
+            _ => {
+                let mut bytes = Vec::new();
+                bech32::encode_to_writer::<Bech32m, Vec<u8>>(&mut bytes, hrp, data).unwrap();
+                black_box(bytes).len()
+            }
+        };
+    }
+    written
 }
 
 /// What the crate lists for a refused text, and the text with it added.

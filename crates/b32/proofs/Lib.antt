@@ -1,6 +1,7 @@
 pub mod Bytes
 pub mod CorrectReplies
 pub mod CorrectSplit
+pub mod Gathered
 pub mod Joined
 pub mod Kept
 pub mod LocationLists

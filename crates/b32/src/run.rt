@@ -16,73 +16,123 @@ use std::io;
 // What is kept of a line: one byte more than it may have shows that it is too long.
 const KEPT: usize = 4097;
 
-/// What a run keeps between two reads.
+// So many bytes are read at once.
+const READ: usize = 16384;
+
+// Replies are gathered in so much room.
+const OUT_ROOM: usize = 16384;
+
+/// What a run keeps between two reads, and the replies that are gathered and not written yet.
 #[derive(Drop)]
 struct Lines {
     line: Vec<u8>,
     out: Vec<u8>,
     ghost line_room: { vec_len line ≤ 4097 × 4097 ≤ vec_capacity line },
-    ghost out_room: { 2048 ≤ vec_capacity out },
+    ghost out_room: { 16384 ≤ vec_capacity out },
 }
 
 impl Lines {
-    /// No bytes yet, and room for a line and its reply.
+    /// No bytes yet, and room for a line and for replies.
     fn new(alloc: Global) -> Result<Lines, AllocError>
-        ensures { IfOk result (λ l. l.line.items ≡ []) }
+        ensures { IfOk result (λ l. (l.line.items ≡ []) × (l.out.items ≡ [])) }
     {
         let line = Vec::with_capacity(alloc, KEPT)?;
-        let out = Vec::with_capacity(alloc, REPLY_ROOM)?;
+        let out = Vec::with_capacity(alloc, OUT_ROOM)?;
         Ok(Lines { line, out })
     }
 
     /// Takes a byte that ends no line.
     fn put(&mut self, b: u8)
-        ensures { (before : List ℕ) → self.old.line.items ≡ take 4097 before
+        ensures line { (before : List ℕ) → self.old.line.items ≡ take 4097 before
             → self.new.line.items ≡ take 4097 (before ++ b ∷ []) }
+        ensures out { self.new.out ≡ self.old.out }
     {
         if self.line.len() < KEPT {
             self.line.push(b).unwrap();
         }
     }
 
-    /// Writes the reply to the line, and makes ready for the next.
+    /// Writes the replies that are gathered.
+    fn write_out<K: ByteSink>(&mut self, sink: &mut K) -> Result<(), RunError>
+        requires { K.has_failed sink.old ≡ false }
+        ensures ok { OnOk result (Appends (K.contents sink.old) (K.contents sink.new) self.old.out.items) }
+        ensures ok_mark { OnOk result (K.has_failed sink.new ≡ false) }
+        ensures none_left { OnOk result (self.new.out.items ≡ []) }
+        ensures err { OnErr result ((n : ℕ)
+            × Appends (K.contents sink.old) (K.contents sink.new) (take n self.old.out.items)) }
+        ensures err_mark { OnErr result (K.has_failed sink.new ≡ true) }
+        ensures only { OnErr result (result ≡ Err RunError.Write) }
+        ensures line { self.new.line ≡ self.old.line }
+        ensures unflushed { K.flushes sink.new ≡ K.flushes sink.old }
+        ensures same { K.is_same sink.old sink.new }
+    {
+        match write_all(sink, self.out.as_slice()) {
+            Ok(()) => {
+                self.out.clear();
+                Ok(())
+            }
+            Err(_) => Err(RunError::Write),
+        }
+    }
+
+    /// Writes what is gathered where there may be no room for a reply behind it.
+    fn make_room<K: ByteSink>(&mut self, sink: &mut K) -> Result<(), RunError>
+        requires { K.has_failed sink.old ≡ false }
+        ensures ok { OnOk result ((out : List ℕ) × Appends (K.contents sink.old) (K.contents sink.new) out
+            × (self.old.out.items ≡ out ++ self.new.out.items)) }
+        ensures ok_mark { OnOk result (K.has_failed sink.new ≡ false) }
+        ensures room { OnOk result (vec_len self.new.out ≤ 14336) }
+        ensures err { OnErr result ((n : ℕ)
+            × Appends (K.contents sink.old) (K.contents sink.new) (take n self.old.out.items)) }
+        ensures err_mark { OnErr result (K.has_failed sink.new ≡ true) }
+        ensures only { OnErr result (result ≡ Err RunError.Write) }
+        ensures line { self.new.line ≡ self.old.line }
+        ensures unflushed { K.flushes sink.new ≡ K.flushes sink.old }
+        ensures same { K.is_same sink.old sink.new }
+    {
+        if self.out.len() <= OUT_ROOM - REPLY_ROOM {
+            return Ok(());
+        }
+        self.write_out(sink)
+    }
+
+    /// Gathers the reply to the line, and makes ready for the next.
     fn answer<K: ByteSink>(&mut self, alloc: Global, sink: &mut K) -> Result<(), RunError>
         requires { K.has_failed sink.old ≡ false }
         ensures ok { OnOk result ((before : List ℕ) → self.old.line.items ≡ take 4097 before
             → (said : List ℕ) × IsReply before said
-            × Appends (K.contents sink.old) (K.contents sink.new) (said ++ 10 ∷ [])) }
+            × (out : List ℕ) × Appends (K.contents sink.old) (K.contents sink.new) out
+            × (self.old.out.items ++ (said ++ 10 ∷ []) ≡ out ++ self.new.out.items)) }
         ensures ok_mark { OnOk result (K.has_failed sink.new ≡ false) }
         ensures next { OnOk result (self.new.line.items ≡ []) }
-        ensures err { OnErr result ((before : List ℕ) → self.old.line.items ≡ take 4097 before
-            → (said : List ℕ) × IsReply before said × (n : ℕ)
-            × Appends (K.contents sink.old) (K.contents sink.new) (take n (said ++ 10 ∷ []))) }
+        ensures err { OnErr result ((n : ℕ)
+            × Appends (K.contents sink.old) (K.contents sink.new) (take n self.old.out.items)) }
         ensures err_mark { OnErr result (K.has_failed sink.new ≡ true) }
         ensures only { OnErr result (result ≡ Err RunError.Write) }
         ensures unflushed { K.flushes sink.new ≡ K.flushes sink.old }
         ensures same { K.is_same sink.old sink.new }
     {
-        self.out.clear();
+        self.make_room(sink)?;
         reply(alloc, self.line.as_slice(), &mut self.out);
         self.line.clear();
-        match write_all(sink, self.out.as_slice()) {
-            Ok(()) => Ok(()),
-            Err(_) => Err(RunError::Write),
-        }
+        Ok(())
     }
 
-    /// Takes bytes, and answers each line that they end.
+    /// Takes bytes, gathers the reply to each line that they end, and writes all replies.
     fn feed<K: ByteSink>(
         &mut self,
         alloc: Global,
         bytes: &[u8],
         sink: &mut K,
     ) -> Result<(), RunError>
-        requires { K.has_failed sink.old ≡ false }
+        requires unmarked { K.has_failed sink.old ≡ false }
+        requires none_left { self.old.out.items ≡ [] }
         ensures ok { OnOk result ((before : List ℕ) → self.old.line.items ≡ take 4097 before
             → (self.new.line.items ≡ take 4097 (rest_from before bytes.now))
             × (out : List ℕ) × Appends (K.contents sink.old) (K.contents sink.new) out
             × IsOutput (ended_from before bytes.now) out) }
         ensures ok_mark { OnOk result (K.has_failed sink.new ≡ false) }
+        ensures none_left { OnOk result (self.new.out.items ≡ []) }
         ensures err { OnErr result ((before : List ℕ) → self.old.line.items ≡ take 4097 before
             → (out : List ℕ) × Appends (K.contents sink.old) (K.contents sink.new) out
             × IsBeginning (ended_from before bytes.now) out) }
@@ -98,12 +148,13 @@ impl Lines {
                 self.put(*b);
             }
         }
-        Ok(())
+        self.write_out(sink)
     }
 
     /// Answers what is left at the end.
     fn finish<K: ByteSink>(&mut self, alloc: Global, sink: &mut K) -> Result<(), RunError>
-        requires { K.has_failed sink.old ≡ false }
+        requires unmarked { K.has_failed sink.old ≡ false }
+        requires none_left { self.old.out.items ≡ [] }
         ensures ok { OnOk result ((before : List ℕ) → self.old.line.items ≡ take 4097 before
             → (out : List ℕ) × Appends (K.contents sink.old) (K.contents sink.new) out
             × IsOutput (last_line before) out) }
@@ -120,7 +171,8 @@ impl Lines {
         if self.line.is_empty() {
             return Ok(());
         }
-        self.answer(alloc, sink)
+        self.answer(alloc, sink)?;
+        self.write_out(sink)
     }
 }
 
@@ -142,8 +194,9 @@ fn flush<K: ByteSink>(sink: &mut K) -> Result<(), RunError>
     }
 }
 
-/// Answers each line of a source: writes its reply and a newline. It makes its buffers first, and
-/// flushes the sink once, at its end, unless writing failed.
+/// Answers each line of a source: writes its reply and a newline. It makes its buffers first, writes
+/// the replies to all lines that have ended before each further read, and flushes the sink once, at
+/// its end, unless writing failed.
 ///
 /// # Errors
 ///
@@ -185,7 +238,7 @@ pub fn run_on<S: ByteSource, K: ByteSink>(
     let Ok(mut lines) = Lines::new(alloc) else {
         return Err(RunError::Memory);
     };
-    let mut buf = [0u8; 4096];
+    let mut buf = [0u8; READ];
     'reads: loop {
         let Ok(n) = source.read(&mut buf) else {
             flush(sink)?;

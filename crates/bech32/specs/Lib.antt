@@ -1,3 +1,4 @@
 pub mod Carried
 pub mod Refusals
 pub mod WayBack
+pub mod Writing

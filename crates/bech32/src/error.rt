@@ -3,7 +3,7 @@
 use bech32_corrector::CorrectableError;
 use bech32_decode::{ChecksumError, CodeLengthError, InvalidResidueError, UncheckedHrpstringError};
 use std::alloc::AllocError;
-use std::fmt;
+use std::{fmt, io};
 use thiserror::Error;
 
 /// Why a text is not decoded.
@@ -32,6 +32,17 @@ pub enum EncodeError {
     /// There is no memory for the text.
     #[error("no memory")]
     Memory,
+}
+
+/// Why a text is not written to an [`io::Write`].
+#[derive(Debug, Drop, Error)]
+pub enum EncodeIoError {
+    /// It would be longer than the checksum's code.
+    #[error("encode error: {0}")]
+    TooLong(CodeLengthError),
+    /// The writer failed.
+    #[error("encode to writer failed: {0}")]
+    Write(io::Error),
 }
 
 impl From<UncheckedHrpstringError> for DecodeError {
@@ -110,5 +121,27 @@ impl From<AllocError> for EncodeError {
 
     fn from(_e: AllocError) -> Self {
         Self::Memory
+    }
+}
+
+impl From<CodeLengthError> for EncodeIoError {
+    ghost use Rattle.std.specs.Prelude.{◌≡◌};
+    ghost use Rattle.bech32.specs.declared.error.EncodeIoError.TheVariants.{TooLong};
+
+    ghost from_gives = { λ e r. r ≡ TooLong e };
+
+    fn from(e: CodeLengthError) -> Self {
+        Self::TooLong(e)
+    }
+}
+
+impl From<io::Error> for EncodeIoError {
+    ghost use Rattle.std.specs.Prelude.{◌≡◌};
+    ghost use Rattle.bech32.specs.declared.error.EncodeIoError.TheVariants.{Write};
+
+    ghost from_gives = { λ e r. r ≡ Write e };
+
+    fn from(e: io::Error) -> Self {
+        Self::Write(e)
     }
 }

@@ -1,12 +1,13 @@
 //! Encoding and decoding of bech32 texts (BIP-173 and BIP-350).
 #![tactic(auto)]
 
-ghost use Rattle.std.specs.Prelude.{◌≡◌, ◌<◌, ◌≤◌, MatchResult, IfOk, IfErr, IsOk, IsOkUnless, string_bytes};
+ghost use Rattle.std.specs.Prelude.{◌≡◌, ◌<◌, ◌≤◌, MatchResult, IfOk, IfErr, IsOk, IsOkUnless, string_bytes, true};
 ghost use Rattle.bech32_bits.specs.Bits.{to_fes};
 ghost use Rattle.bech32_hrp.specs.HrpBytes.{hrp_bytes};
 ghost use Rattle.bech32_decode.specs.Acceptance.{IsAcceptedByEither, IsDecoded};
 ghost use Rattle.bech32_decode.specs.Parts.{checked_bytes};
 ghost use Rattle.bech32_checksum.specs.Encoded.{IsEncodedText};
+ghost use Rattle.bech32_encode.specs.Cased.{IsTextInCase};
 ghost use Rattle.bech32_encode.specs.TextLength.{encoded_length_of};
 ghost use Rattle.bech32.specs.Refusals.{IsDecodeRefusal, IsEncodeRefusal};
 ghost use Rattle.bech32.specs.WayBack.{GivesBack};
@@ -14,8 +15,10 @@ ghost use Rattle.bech32.specs.WayBack.{GivesBack};
 mod error;
 pub mod hrp;
 pub mod primitives;
+mod writers;
 
 pub use bech32_bits::ByteIterExt;
+pub use bech32_block::PrintImpl;
 pub use bech32_checksum::{Bech32, Bech32m, Checksum, NoChecksum};
 pub use bech32_corrector::CorrectableError;
 use bech32_decode::{CheckedHrpstring, CodeLengthError, UncheckedHrpstring, validate_either};
@@ -25,8 +28,12 @@ pub use bech32_gf::gf32::Fe32;
 pub use bech32_gf_ext::{Fe1024, Fe32768};
 pub use bech32_hrp::Hrp;
 pub use bech32_segwit as segwit;
-pub use error::{DecodeError, EncodeError};
+pub use error::{DecodeError, EncodeError, EncodeIoError};
 use std::alloc::{AllocError, Allocator, Global};
+pub use writers::{
+    encode_into_bytes, encode_into_fmt, encode_lower_to_fmt, encode_lower_to_writer, encode_to_fmt,
+    encode_to_writer, encode_upper_to_fmt, encode_upper_to_writer,
+};
 
 // The bytes of the data.
 fn bytes_in<A: Allocator>(
@@ -131,4 +138,63 @@ pub fn encode<Ck: Checksum>(alloc: Global, hrp: Hrp, data: &[u8]) -> Result<Stri
     ensures refused { IfErr result (λ e. IsEncodeRefusal Ck.code (hrp_bytes hrp) (to_fes «data».now) e) }
 {
     encode_in::<Ck, Global>(alloc, hrp, data)
+}
+
+/// Encodes as [`encode_in`] does: in lower case.
+pub fn encode_lower_in<Ck: Checksum, A: Allocator>(
+    alloc: A,
+    hrp: Hrp,
+    data: &[u8],
+) -> Result<String<A>, EncodeError>
+    ensures text { IfOk result (λ s. IsEncodedText Ck.code (hrp_bytes hrp) (to_fes «data».now) (string_bytes s)) }
+    ensures fits { IsOk result → encoded_length_of Ck.code (hrp_bytes hrp) (to_fes «data».now) ≤ Ck.code.code_length }
+    ensures refused { IfErr result (λ e. IsEncodeRefusal Ck.code (hrp_bytes hrp) (to_fes «data».now) e) }
+{
+    encode_in::<Ck, A>(alloc, hrp, data)
+}
+
+/// Encodes as [`encode_lower_in`] does, with memory of the global allocator.
+pub fn encode_lower<Ck: Checksum>(
+    alloc: Global,
+    hrp: Hrp,
+    data: &[u8],
+) -> Result<String, EncodeError>
+    ensures text { IfOk result (λ s. IsEncodedText Ck.code (hrp_bytes hrp) (to_fes «data».now) (string_bytes s)) }
+    ensures fits { IsOk result → encoded_length_of Ck.code (hrp_bytes hrp) (to_fes «data».now) ≤ Ck.code.code_length }
+    ensures refused { IfErr result (λ e. IsEncodeRefusal Ck.code (hrp_bytes hrp) (to_fes «data».now) e) }
+{
+    encode_lower_in::<Ck, Global>(alloc, hrp, data)
+}
+
+/// Encodes bytes under a human-readable part, in upper case, with memory from `alloc`: what
+/// [`encode_in`] writes, with each letter in upper case.
+///
+/// # Errors
+///
+/// Those of [`encode_in`].
+pub fn encode_upper_in<Ck: Checksum, A: Allocator>(
+    alloc: A,
+    hrp: Hrp,
+    data: &[u8],
+) -> Result<String<A>, EncodeError>
+    ensures text { IfOk result (λ s. IsTextInCase true Ck.code (hrp_bytes hrp) (to_fes «data».now) (string_bytes s)) }
+    ensures fits { IsOk result → encoded_length_of Ck.code (hrp_bytes hrp) (to_fes «data».now) ≤ Ck.code.code_length }
+    ensures refused { IfErr result (λ e. IsEncodeRefusal Ck.code (hrp_bytes hrp) (to_fes «data».now) e) }
+{
+    let mut text = encode_in::<Ck, A>(alloc, hrp, data)?;
+    text.make_ascii_uppercase();
+    Ok(text)
+}
+
+/// Encodes as [`encode_upper_in`] does, with memory of the global allocator.
+pub fn encode_upper<Ck: Checksum>(
+    alloc: Global,
+    hrp: Hrp,
+    data: &[u8],
+) -> Result<String, EncodeError>
+    ensures text { IfOk result (λ s. IsTextInCase true Ck.code (hrp_bytes hrp) (to_fes «data».now) (string_bytes s)) }
+    ensures fits { IsOk result → encoded_length_of Ck.code (hrp_bytes hrp) (to_fes «data».now) ≤ Ck.code.code_length }
+    ensures refused { IfErr result (λ e. IsEncodeRefusal Ck.code (hrp_bytes hrp) (to_fes «data».now) e) }
+{
+    encode_upper_in::<Ck, Global>(alloc, hrp, data)
 }

@@ -1,7 +1,7 @@
 //! The parts that encoding and decoding are made of.
 
 pub use bech32_checksum::{Bech32, Bech32m, NoChecksum};
-pub use bech32_core::{checksum, device, encode, hrp, iter};
+pub use bech32_core::{device, encode, hrp, iter};
 pub use bech32_decode as decode;
 pub use bech32_decode::segwit;
 pub use bech32_gf::field::{
@@ -11,6 +11,15 @@ pub use bech32_gf::gf32;
 pub use bech32_gf_ext as gf32_ext;
 pub use bech32_poly::fieldvec::NO_ALLOC_MAX_LENGTH;
 pub use bech32_poly::lfsr::LfsrIter;
+
+/// Checksums and their engine, which errors a checksum detects, and the code that defines one.
+pub mod checksum {
+    pub use bech32_block::{NamedField, PrintError, PrintImpl};
+    pub use bech32_checksum::{
+        Bech32, Bech32m, Checksum, Engine, HrpFe32Iter, NoChecksum, PackedFe32, PackedNull,
+    };
+    pub use bech32_detect::{detects_four, detects_four_in};
+}
 
 /// Correction of mistyped texts.
 pub mod correction {

@@ -1,6 +1,6 @@
 //! Vectors whose first places need no memory.
 
-ghost use Rattle.std.specs.Prelude.{◌≡◌, ◌≤◌, ◌+◌, ◌++◌, ◌∷◌, [], List, length, take, IsOk, OnErr, OnOk};
+ghost use Rattle.std.specs.Prelude.{◌≡◌, ◌≤◌, ◌+◌, ◌++◌, ◌∷◌, [], List, length, take, IfOk, IsOk, OnErr, OnOk};
 ghost use Rattle.bech32_poly.specs.FieldVec.{FitsInPlace};
 
 use bech32_poly::fieldvec::NO_ALLOC_MAX_LENGTH;
@@ -30,6 +30,22 @@ impl<T: Copy + Default, A: Allocator + Copy> ShortVec<T, A> {
         ShortVec {
             inner: SmallVec::new(alloc),
         }
+    }
+
+    /// A copy of items.
+    ///
+    /// # Errors
+    ///
+    /// Where memory runs out.
+    pub fn from_slice(alloc: A, items: &[T]) -> Result<Self, AllocError>
+        ensures ok { IfOk result (λ v. v ≡ items.now) }
+        ensures in_place { FitsInPlace (length items.now) → IsOk result }
+    {
+        let mut copy = Self::new(alloc);
+        for item in items {
+            copy.push(*item)?;
+        }
+        Ok(copy)
     }
 
     /// Adds an item at the end. It takes no memory where that one fits in place too.
@@ -72,5 +88,15 @@ impl<T: Copy + Default, A: Allocator + Copy> ShortVec<T, A> {
     /// The allocator.
     pub fn allocator(&self) -> A {
         *self.inner.allocator()
+    }
+}
+
+impl<T: Copy + Default, A: Allocator + Copy> Clone for ShortVec<T, A> {
+    ghost is_clone = { λ v w. v ≡ w };
+
+    ghost is_infallible = { λ v. FitsInPlace (length v) };
+
+    fn clone(&self) -> Result<Self, AllocError> {
+        Self::from_slice(self.allocator(), self.as_slice())
     }
 }

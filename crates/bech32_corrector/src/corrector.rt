@@ -47,6 +47,23 @@ impl<Ck: Checksum, A: Allocator + Copy> Model for Corrector<Ck, A> {
         Ck.ROOT_GENERATOR Ck.ROOT_EXPONENTS_START Ck.ROOT_EXPONENTS_END };
 }
 
+/// A clone takes no memory up to seven erasures.
+impl<Ck: Checksum, A: Allocator + Copy> Clone for Corrector<Ck, A> {
+    ghost is_clone = { λ v w. v ≡ w };
+
+    ghost is_infallible = { λ v. FitsInPlace (length v.erasures) };
+
+    fn clone(&self) -> Result<Self, AllocError> {
+        Ok(Corrector {
+            erasures: self.erasures.clone()?,
+            known: self.known.clone()?,
+            residue: self.residue,
+            window: self.window,
+            of: PhantomData,
+        })
+    }
+}
+
 /// Shows what contracts see: the residue, the window and the erasures.
 impl<Ck: Checksum, A: Allocator + Copy> fmt::Debug for Corrector<Ck, A> {
     fn fmt<W: fmt::Write>(&self, f: &mut fmt::Formatter<W>) -> fmt::Result {

@@ -44,7 +44,7 @@ fn a_listing_or_want_of_memory(rt: HostRuntime) -> Result<(), Fail> {
     Ok(())
 }
 
-// What is listed without memory for a text of Bech32 with one error.
+// What a clone lists without memory for a text of Bech32 with one error.
 fn without_memory(alloc: Global, erasures: &[usize]) -> Result<Option<Listing>, Fail> {
     let heap = LocalHeap::new(alloc, 0)?;
     let error = refusal::<Bech32>("a12uel5q")?;
@@ -55,7 +55,7 @@ fn without_memory(alloc: Global, erasures: &[usize]) -> Result<Option<Listing>, 
         .correction_context::<Bech32, _>(&heap)
         .ok_or("no corrector")?;
     corrector.add_erasures(erasures)?;
-    match corrector.bch_errors()? {
+    match corrector.clone()?.bch_errors()? {
         Some(errors) => Ok(Some(errors.collect(alloc)?)),
         None => Ok(None),
     }

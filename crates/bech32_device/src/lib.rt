@@ -9,7 +9,10 @@ ghost use Rattle.bech32_device.specs.Marks.{write_fails};
 ghost use Rattle.bech32_device.specs.Watched.{device_of, reference_of, is_marked, was_flushed};
 ghost use Rattle.bech32_device.specs.Watched.{flush_count, reads_to_come};
 
-use std::io;
+mod pieces;
+
+pub use pieces::{PIECE_LENGTH, Pieces, pieces_into_bytes, pieces_into_fmt};
+use std::{fmt, io};
 
 /// What bytes are read from, with a mark that says whether a call failed.
 ///
@@ -114,10 +117,46 @@ pub trait ByteSink {
     ghost transitive: { (s t u : Self) → is_same s t → is_same t u → is_same s u };
 }
 
+/// What text is written to, with a mark that says whether a call failed.
+///
+/// A call fails where it answers an error. A call that fails sets the mark, and then the sink is
+/// asked nothing more: a piece is written only while the mark is unset.
+pub trait FmtSink {
+    // Relates the sink before a piece that it took, the piece, and the sink after it. Of a whole
+    // text in pieces it is `WritesInCalls takes` that says so.
+    ghost takes: { Self → List ℕ → Self → Type 0 };
+
+    // The mark: a call has failed.
+    ghost has_failed: { Self → Bool };
+
+    // Two states of one device. Without this nothing is known afterwards of a writer that the
+    // sink borrows.
+    ghost is_same: { Self → Self → Type 0 };
+
+    /// Writes a piece of a text.
+    ///
+    /// # Errors
+    ///
+    /// Where writing failed. Nothing is known of the piece, and the mark is set.
+    fn write_str(&mut self, s: &str) -> fmt::Result
+        requires { has_failed self.old ≡ false }
+        ensures piece { OnOk result (takes self.old s.now self.new) }
+        ensures mark { has_failed self.new ≡ is_err result }
+        ensures same { is_same self.old self.new };
+
+    /// Whether the mark is set.
+    fn failed(&self) -> bool
+        ensures { result ≡ has_failed self.now };
+
+    ghost reflexive: { (s : Self) → is_same s s };
+
+    ghost transitive: { (s t u : Self) → is_same s t → is_same t u → is_same s u };
+}
+
 /// A reader or a writer with a mark that says whether a call failed.
 ///
 /// The mark is unset at first, and set from the first failing call on. Over an [`io::Read`] this is
-/// a [`ByteSource`], and over an [`io::Write`] a [`ByteSink`].
+/// a [`ByteSource`], over an [`io::Write`] a [`ByteSink`], and over a [`fmt::Write`] a [`FmtSink`].
 ///
 /// Each read, write and flush asks the device once, but for one limit: after 2^64 - 1 reads the
 /// next read fails with [`io::ErrorKind::Other`] and does not ask, and so does a flush after
@@ -226,6 +265,31 @@ impl<'a, D: io::Write> ByteSink for Watched<'a, D> {
 
     fn failed(&self) -> bool {
         self.marked // set by a write or a flush
+    }
+}
+
+impl<'a, D: fmt::Write> FmtSink for Watched<'a, D> {
+    ghost use Rattle.std.specs.Prelude.{refl};
+    ghost use Rattle.std.proofs.Common.{◌∙◌};
+
+    ghost takes = { λ s piece t. D.write_str_gives (device_of s) piece (device_of t) };
+
+    ghost has_failed = { is_marked };
+
+    ghost is_same = { λ s t. reference_of s ≡ reference_of t };
+
+    ghost reflexive = { λ s. refl };
+
+    ghost transitive = { λ s t u p q. p ∙ q };
+
+    fn write_str(&mut self, s: &str) -> fmt::Result {
+        let outcome = self.device.write_str(s);
+        self.marked = outcome.is_err();
+        outcome
+    }
+
+    fn failed(&self) -> bool {
+        self.marked // set by a piece
     }
 }
 

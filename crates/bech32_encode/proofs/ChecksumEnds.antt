@@ -1,5 +1,5 @@
 -- Elements with their checksum behind them, one at a time.
-use Rattle.std.proofs.Common.{◌≡◌, ◌<◌, ◌-◌, ℕ, zero, suc, List, [], ◌∷◌, ◌++◌, length, reverse, Option, Some, None, subst, sym, ap, ◌∙◌, refl, arith}
+use Rattle.std.proofs.Common.{◌≡◌, ◌<◌, ◌-◌, ℕ, zero, suc, List, [], ◌∷◌, ◌++◌, length, reverse, Option, Some, None, subst, sym, ap, ◌∙◌, refl, append_assoc, arith}
 use Rattle.std.proofs.lemmas.List.{reverse-append, length-reverse}
 use Rattle.std.proofs.Math.Nat.{mod-eq_of_lt}
 use Rattle.bech32_gf.specs.Field.{Ops}
@@ -74,8 +74,17 @@ module _ {R : Type 0} (number : R → ℕ) (code : Code) where
       ∙ ap (λ (l : List Fe32). x ∷ (xs ++ l)) (checksum_of-appended code (x ∷ row r) (row u) xs (sym (same_remainder u (x ∷ row r) (h (row r) (row-residue r)))))
       ∙ ap (λ o. x ∷ then_checksum number code u o xs) (sym here)
 
+  -- some elements more
+  pub then_checksum-append : (r u : R) (xs ys : List Fe32) → ((p : List Fe32) → IsResidueOf number code r p → IsResidueOf number code u (appended p xs))
+      → then_checksum number code r None (xs ++ ys) ≡ xs ++ then_checksum number code u None ys
+  then_checksum-append r u xs ys h =
+      append_assoc xs ys (checksum_of code (appended (row r) (xs ++ ys)))
+      ∙ ap (λ (l : List Fe32). xs ++ (ys ++ l))
+      (ap (checksum_of code) (appended-append (row r) xs ys)
+      ∙ checksum_of-appended code (appended (row r) xs) (row u) ys (sym (same_remainder u (appended (row r) xs) (h (row r) (row-residue r)))))
+
   -- no more: the residue with the target behind it is the checksum
-  then_checksum-end : (r u : R) (d : ℕ) (xs : List Fe32) → ((p : List Fe32) → IsResidueOf number code r p → IsResidueOf number code u (appended p (reverse code.target)))
+  pub then_checksum-end : (r u : R) (d : ℕ) (xs : List Fe32) → ((p : List Fe32) → IsResidueOf number code r p → IsResidueOf number code u (appended p (reverse code.target)))
       → length code.generator ≡ d → xs ≡ [] → then_checksum number code r None xs ≡ reverse (digits d (number u))
   unfolding checksum_of
   then_checksum-end r u d xs h size none =
@@ -114,7 +123,7 @@ module _ {R : Type 0} (number : R → ℕ) (code : Code) where
       ∙ then_checksum-tail u v (Some d) more d result xs refl same there given none
 
   -- what comes of an engine that holds the residue of a polynomial
-  then_checksum-start : (r : R) (p xs : List Fe32) → IsResidueOf number code r p → then_checksum number code r None xs ≡ xs ++ checksum_of code (appended p xs)
+  pub then_checksum-start : (r : R) (p xs : List Fe32) → IsResidueOf number code r p → then_checksum number code r None xs ≡ xs ++ checksum_of code (appended p xs)
   then_checksum-start r p xs h = ap (λ (l : List Fe32). xs ++ l) (checksum_of-appended code (row r) p xs (same_remainder r p h))
 
 -- ---- it is the checksum
@@ -124,7 +133,7 @@ pub target-length : (code k : Code) (degree : ℕ) → code ≡ k → length k.t
 target-length code k degree law size degree_law = ap (λ (c : Code). length c.target) law ∙ size ∙ sym degree_law
 
 module _ (code : Code) (size : length code.target ≡ length code.generator) where
-  length-checksum_of : (p : List Fe32) → length (checksum_of code p) ≡ length code.generator
+  pub length-checksum_of : (p : List Fe32) → length (checksum_of code p) ≡ length code.generator
   unfolding checksum_of
   length-checksum_of p =
       length-reverse (remainder_of fe32.ops code.generator (appended p (reverse code.target)))
@@ -143,7 +152,7 @@ module _ (code : Code) (size : length code.target ≡ length code.generator) whe
         leaves_target = subst (λ p. IsRemainder fe32.ops code.generator p code.target) (sym (appended-append (fe32.one ∷ []) xs c)) (leaves_target (appended (fe32.one ∷ []) xs));
       }
 
-  checksum_of-hrp : (hrp : List ℕ) (xs : List Fe32) → IsChecksumOf code hrp xs (checksum_of code (text_polynomial hrp xs))
+  pub checksum_of-hrp : (hrp : List ℕ) (xs : List Fe32) → IsChecksumOf code hrp xs (checksum_of code (text_polynomial hrp xs))
   checksum_of-hrp hrp xs =
       let c : List Fe32 = checksum_of code (text_polynomial hrp xs) in
       let front : List Fe32 = appended (fe32.one ∷ []) (hrp_elements hrp) in

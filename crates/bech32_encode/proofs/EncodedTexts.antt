@@ -1,5 +1,5 @@
 -- What stands behind a human-readable part, as a text and as elements.
-use Rattle.std.proofs.Common.{◌≡◌, ◌<◌, ◌+◌, ℕ, List, [], ◌∷◌, ◌++◌, map, drop, length, Option, ap, ◌∙◌, append_assoc, arith}
+use Rattle.std.proofs.Common.{◌≡◌, ◌<◌, ◌+◌, ℕ, List, [], ◌∷◌, ◌++◌, map, drop, length, ap, ◌∙◌, append_assoc, arith}
 use Rattle.std.proofs.lemmas.List.{drop_all, length-append, length-map}
 use Rattle.std.specs.Char.{to_ascii_lowercase}
 use Rattle.bech32_gf.specs.declared.gf32.Fe32.{Fe32}
@@ -9,7 +9,7 @@ use Rattle.bech32_encode.specs.TextFrom.{text_front, text_from}
 use Rattle.bech32_hrp.specs.Hrp.{lowered}
 use Rattle.bech32_checksum.specs.TextPolynomial.{hrp_elements, IsChecksumOf, EndsInChecksum}
 
-length-front : (hrp : List ℕ) → length (text_front hrp) ≡ length hrp + 1
+pub length-front : (hrp : List ℕ) → length (text_front hrp) ≡ length hrp + 1
 length-front hrp =
     length-append (lowered hrp) (49 ∷ []) ∙ ap (λ (n : ℕ). n + 1) (length-map hrp to_ascii_lowercase)
 

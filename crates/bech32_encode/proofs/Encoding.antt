@@ -30,7 +30,7 @@ IsEncodedText-same code hrp hrp' fes fes' text text' e f t h =
     (subst (λ x. IsEncodedText code hrp x text') f (subst (λ x. IsEncodedText code hrp fes x) t h))
 
 -- a text is ASCII
-IsAscii-characters : (xs : List Fe32) → IsAscii (map char_of_element xs)
+pub IsAscii-characters : (xs : List Fe32) → IsAscii (map char_of_element xs)
 IsAscii-characters [] = IsAscii-nil
 IsAscii-characters (x ∷ xs) =
     IsAscii-cons (char_of x.value) (map char_of_element xs) (ltb-true _ _ (each_below-at 32 (λ v. nat_lt (char_of v) 128) refl x.value x.in_field)) (IsAscii-characters xs)

@@ -3,3 +3,4 @@ pub mod EncodedTexts
 pub mod Encoding
 pub mod FrontedWalks
 pub mod TextPieces
+pub mod TextsLeft

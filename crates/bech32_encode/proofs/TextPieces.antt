@@ -102,7 +102,7 @@ polynomial-parts hrp version fes checksum =
     ∙ sym (appended-append front (version ++ fes) checksum)
     ∙ sym (appended-append (fe32.one ∷ []) (hrp_elements hrp) ((version ++ fes) ++ checksum))
 
-spelled-parts : (hrp : List ℕ) (version fes checksum : List Fe32)
+pub spelled-parts : (hrp : List ℕ) (version fes checksum : List Fe32)
     → ((text_front hrp ++ map char_of_element version) ++ map char_of_element fes) ++ map char_of_element checksum
     ≡ spelled hrp ((version ++ fes) ++ checksum)
 spelled-parts hrp version fes checksum =

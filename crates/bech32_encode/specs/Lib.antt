@@ -1,7 +1,9 @@
 pub mod Buffers
+pub mod Cased
 pub mod ChecksumElements
 pub mod Clones
 pub mod Encoder
 pub mod TextFrom
+pub mod TextLeft
 pub mod TextLength
 pub mod WitnessVersion

@@ -1,8 +1,7 @@
 -- Elements behind a witness version.
 use Rattle.std.specs.Prelude.{ℕ, List, ◌++◌, length, Option, option_to_list}
-use Rattle.std.specs.Iterator.{Count, count_map}
 use Rattle.std.specs.declared.iter.Fuse.{Fuse}
-use Rattle.bech32_bits.specs.Adaptor.{Adapts, fuse_can, fuse_left}
+use Rattle.bech32_bits.specs.Adaptor.{Adapts}
 use Rattle.bech32_gf.specs.declared.gf32.Fe32.{Fe32}
 use Rattle.bech32_encode.specs.declared.version.WitnessVersionIter.{WitnessVersionIter}
 

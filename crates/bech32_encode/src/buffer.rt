@@ -1,22 +1,26 @@
 //! Puts whole texts into buffers.
 
 ghost use Rattle.std.specs.Prelude.{◌≡◌, ◌≤◌, ◌++◌, ℕ, List, [], ◌∷◌, Option, map, reverse, option_to_list};
+ghost use Rattle.std.specs.Prelude.{length, min, take, drop};
 ghost use Rattle.std.specs.Iterator.{Drains, IsFinite};
 ghost use Rattle.bech32_gf.specs.declared.gf32.Fe32.{Fe32 as Element};
 ghost use Rattle.bech32_encode.specs.Buffers.{IsPutAsFits, PutsBehind};
 ghost use Rattle.bech32_checksum.specs.Code.{IsResidueAfter};
 ghost use Rattle.bech32_checksum.specs.Encoded.{char_of_element, IsEncodedText};
+ghost use Rattle.bech32_bits.specs.Bits.{to_fes};
+ghost use Rattle.bech32_encode.specs.Cased.{in_case, IsTextInCase};
 ghost use Rattle.bech32_encode.specs.TextFrom.{text_front};
 ghost use Rattle.bech32_hrp.specs.HrpBytes.{hrp_bytes};
 ghost use Rattle.bech32_checksum.specs.Packed.{digits};
 
+use bech32_bits::ByteIterExt;
 use bech32_checksum::{Checksum, Engine, PackedFe32};
 use bech32_gf::gf32::Fe32;
 use bech32_hrp::Hrp;
 
 // Puts a byte behind those that were put, where there is room, and answers how many there are.
 #[inline]
-fn put_byte(byte: u8, count: usize, buffer: &mut [u8]) -> usize
+pub(super) fn put_byte(byte: u8, count: usize, buffer: &mut [u8]) -> usize
     ensures { PutsBehind (byte ∷ []) buffer.old count buffer.new result }
 {
     if count < buffer.len() {
@@ -28,7 +32,7 @@ fn put_byte(byte: u8, count: usize, buffer: &mut [u8]) -> usize
 }
 
 // Puts the human-readable part in lower case and `1`.
-fn put_front(hrp: &Hrp, buffer: &mut [u8]) -> usize
+pub(super) fn put_front(hrp: &Hrp, buffer: &mut [u8]) -> usize
     ensures { PutsBehind (text_front (hrp_bytes hrp.now)) buffer.old 0 buffer.new result }
 {
     let mut count = 0;
@@ -72,7 +76,7 @@ fn put_version<Ck: Checksum>(
 
 // Puts the characters of elements, and hands the elements to the engine.
 #[inline]
-fn put_elements<I: Iterator<Item = Fe32>, Ck: Checksum>(
+pub(super) fn put_elements<I: Iterator<Item = Fe32>, Ck: Checksum>(
     elements: I,
     engine: &mut Engine<Ck>,
     count: usize,
@@ -93,7 +97,7 @@ fn put_elements<I: Iterator<Item = Fe32>, Ck: Checksum>(
 
 // Puts the characters of the lowest elements of a packed row, the highest first.
 #[inline]
-fn put_row<R: PackedFe32>(row: &R, size: usize, count: usize, buffer: &mut [u8]) -> usize
+pub(super) fn put_row<R: PackedFe32>(row: &R, size: usize, count: usize, buffer: &mut [u8]) -> usize
     requires { size ≤ R.WIDTH }
     ensures { PutsBehind (map char_of_element (reverse (digits size (R.number row.now))))
         buffer.old count buffer.new result }
@@ -130,4 +134,48 @@ pub fn put_text<I: Iterator<Item = Fe32>, Ck: Checksum>(
     let end = put_elements(elements, &mut engine, start, buffer);
     engine.input_target_residue();
     put_row(engine.residue(), Ck::CHECKSUM_LENGTH, end, buffer)
+}
+
+// Puts the characters of the elements of bytes, and hands these to the engine.
+pub(super) fn put_bytes<Ck: Checksum>(
+    bytes: &[u8],
+    engine: &mut Engine<Ck>,
+    count: usize,
+    buffer: &mut [u8],
+) -> usize
+    ensures text { PutsBehind (map char_of_element (to_fes bytes.now)) buffer.old count buffer.new result }
+    ensures residue { IsResidueAfter Ck.MidstateRepr.number Ck.code engine.old (to_fes bytes.now) engine.new }
+{
+    let elements = bytes.iter().copied().bytes_to_fes();
+    put_elements(elements, engine, count, buffer)
+}
+
+// Puts the front of a buffer in upper case, where that is asked for.
+pub(super) fn raise_front(upper: bool, count: usize, buffer: &mut [u8])
+    requires { count ≤ length buffer.old }
+    ensures { buffer.new ≡ in_case upper (take count buffer.old) ++ drop count buffer.old }
+{
+    if upper {
+        buffer[..count].make_ascii_uppercase();
+    }
+}
+
+/// Puts as much as there is room for of the text of a human-readable part, a witness version where
+/// there is one, and bytes, in upper case or in lower case, and answers how much that is.
+pub fn put_front_of_text<Ck: Checksum>(
+    hrp: &Hrp,
+    version: Option<Fe32>,
+    bytes: &[u8],
+    upper: bool,
+    buffer: &mut [u8],
+) -> usize
+    ensures { (text : List ℕ)
+        × IsTextInCase upper Ck.code (hrp_bytes hrp.now) (option_to_list version ++ to_fes bytes.now) text
+        × (take result buffer.new ≡ take (length buffer.old) text)
+        × (result ≡ min (length text) (length buffer.old)) }
+{
+    let elements = bytes.iter().copied().bytes_to_fes();
+    let count = put_text::<_, Ck>(hrp, version, elements, buffer);
+    raise_front(upper, count, buffer);
+    count
 }

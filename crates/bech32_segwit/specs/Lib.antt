@@ -1,2 +1,3 @@
 pub mod SegwitDecoding
 pub mod SegwitEncoding
+pub mod Unchecked

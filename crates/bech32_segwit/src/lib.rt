@@ -13,6 +13,7 @@ ghost use Rattle.bech32_segwit.specs.SegwitDecoding.{IsSegwitDecodeRefusal};
 ghost use Rattle.bech32_segwit.specs.SegwitEncoding.{HasAddress, SpellsEachAddress, address_length, IsSegwitEncodeRefusal};
 
 mod error;
+mod unchecked;
 
 use bech32_checksum::{Bech32, Bech32m};
 use bech32_decode::segwit::{
@@ -25,6 +26,10 @@ use bech32_gf::gf32::Fe32;
 use bech32_hrp::Hrp;
 pub use error::{DecodeError, EncodeError};
 use std::alloc::{AllocError, Allocator, Global};
+pub use unchecked::{
+    encode_lower_to_fmt_unchecked, encode_lower_to_writer_unchecked, encode_to_fmt_unchecked,
+    encode_to_writer_unchecked, encode_upper_to_fmt_unchecked, encode_upper_to_writer_unchecked,
+};
 
 // The bytes of the program.
 fn program_in<A: Allocator>(

@@ -2,8 +2,11 @@
 
 pub mod root {
     pub use bech32::{
-        Bech32, Bech32m, ByteIterExt, Checksum, CorrectableError, DecodeError, EncodeError, Fe32,
-        Fe32IterExt, Fe1024, Fe32768, Hrp, NoChecksum, decode, encode, encoded_length,
+        Bech32, Bech32m, ByteIterExt, Checksum, CorrectableError, DecodeError, EncodeError,
+        EncodeIoError, Fe32, Fe32IterExt, Fe1024, Fe32768, Hrp, NoChecksum, PrintImpl, decode,
+        encode, encode_lower, encode_lower_to_fmt, encode_lower_to_writer, encode_to_fmt,
+        encode_to_writer, encode_upper, encode_upper_to_fmt, encode_upper_to_writer,
+        encoded_length,
     };
 }
 
@@ -13,8 +16,10 @@ pub mod hrp {
 
 pub mod segwit {
     pub use bech32::segwit::{
-        DecodeError, EncodeError, VERSION_0, VERSION_1, decode, encode, encode_v0, encode_v1,
-        encoded_length,
+        DecodeError, EncodeError, VERSION_0, VERSION_1, decode, encode,
+        encode_lower_to_fmt_unchecked, encode_lower_to_writer_unchecked, encode_to_fmt_unchecked,
+        encode_to_writer_unchecked, encode_upper_to_fmt_unchecked,
+        encode_upper_to_writer_unchecked, encode_v0, encode_v1, encoded_length,
     };
 }
 
@@ -26,7 +31,8 @@ pub mod primitives {
 
     pub mod checksum {
         pub use bech32::primitives::checksum::{
-            Checksum, Engine, HrpFe32Iter, PackedFe32, PackedNull,
+            Checksum, Engine, HrpFe32Iter, NamedField, PackedFe32, PackedNull, PrintError,
+            PrintImpl, detects_four, detects_four_in,
         };
     }
 
@@ -46,7 +52,7 @@ pub mod primitives {
     }
 
     pub mod device {
-        pub use bech32::primitives::device::{ByteSink, ByteSource, Watched};
+        pub use bech32::primitives::device::{ByteSink, ByteSource, FmtSink, Watched};
     }
 
     pub mod encode {

@@ -1,3 +1,9 @@
+pub mod Answered
 pub mod Ascii
 pub mod LawfulRoots
+pub mod Locations
+pub mod Near
+pub mod Proposed
+pub mod Reading
+pub mod Separated
 pub mod Strings

@@ -18,7 +18,7 @@ use Rattle.codex32.specs.Code.{codex32}
 use Rattle.codex32.specs.Parts.{IsStringOf, identifier_of, payload_of, share_index_of, threshold_of}
 use Rattle.codex32.specs.Strings.{IsBodyRefusal, IsCodex32, IsString, IsStringRefusal, as_text, frame_refusal, header_fault, hrp_fault, is_ms, is_threshold, is_within, length_fault, share_index_fault, threshold_fault}
 use Rattle.codex32.specs.declared.error.Codex32Error.{Codex32Error}
-use Rattle.codex32.specs.declared.error.Codex32Error.TheVariants.{Text, Length, Hrp, Checksum, Threshold, ShareIndex}
+use Rattle.codex32.specs.declared.error.Codex32Error.TheVariants.{Text, Length, Hrp, Checksum, Threshold, ShareIndex, Memory}
 use Rattle.codex32.specs.declared.string.Codex32Str.{Codex32Str}
 use lib.Pointwise.{bytes_decides}
 
@@ -203,6 +203,7 @@ body_refuted text hrp data_part Length is none h = absurd (let k = sym none ∙ 
 body_refuted text hrp data_part Hrp is none h = absurd (let k = sym none ∙ h.1 in cc)
 body_refuted text hrp data_part Threshold is none h = absurd (let k = sym none ∙ h.1 in cc)
 body_refuted text hrp data_part ShareIndex is none h = absurd (let k = sym none ∙ h.1 in cc)
+body_refuted text hrp data_part Memory is none h = absurd (let k = sym none ∙ h.1 in cc)
 
 refuted : (text : List ℕ) (e : Codex32Error) → IsUtf8 text → IsCodex32 text → IsStringRefusal text e → ⊥
 refuted text e u (hrp, threshold, identifier, share_index, payload, checksum, is) (inl h) =

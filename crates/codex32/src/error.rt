@@ -1,9 +1,10 @@
 //! Why texts are refused.
 
 use bech32_errors::{ChecksumError, UncheckedHrpstringError};
+use std::alloc::AllocError;
 use thiserror::Error;
 
-/// Why a text is no codex32 string.
+/// Why a text is no codex32 string, or why no nearest text is looked for.
 #[derive(Clone, Copy, Debug, PartialEq, Eq, Drop, Error)]
 pub enum Codex32Error {
     /// It is not in the grammar (BIP-173, Bech32).
@@ -24,6 +25,9 @@ pub enum Codex32Error {
     /// The threshold is 0, and the share index is not `s`.
     #[error("the threshold is 0, and the share index is not \"s\"")]
     ShareIndex,
+    /// There is no memory (given by [`propose`](crate::propose) alone).
+    #[error("no memory")]
+    Memory,
 }
 
 impl From<UncheckedHrpstringError> for Codex32Error {
@@ -45,5 +49,16 @@ impl From<ChecksumError> for Codex32Error {
 
     fn from(e: ChecksumError) -> Self {
         Self::Checksum(e)
+    }
+}
+
+impl From<AllocError> for Codex32Error {
+    ghost use Rattle.std.specs.Prelude.{◌≡◌};
+    ghost use Rattle.codex32.specs.declared.error.Codex32Error.TheVariants.{Memory};
+
+    ghost from_gives = { λ e r. r ≡ Memory };
+
+    fn from(_: AllocError) -> Self {
+        Self::Memory
     }
 }

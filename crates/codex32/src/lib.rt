@@ -1,11 +1,14 @@
-//! The checksum of codex32 and its strings (BIP-93).
+//! The checksum of codex32, its strings, and the nearest string to a damaged one (BIP-93).
 #![tactic(auto)]
 
 mod checksum;
 mod error;
 mod frame;
+mod nearest;
 mod string;
+mod unreadable;
 
 pub use self::checksum::Codex32;
 pub use self::error::Codex32Error;
+pub use self::nearest::{propose, propose_in};
 pub use self::string::Codex32Str;

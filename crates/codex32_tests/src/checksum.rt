@@ -176,34 +176,28 @@ fn eight_erasures(rt: HostRuntime) -> Result<(), Fail> {
     Ok(())
 }
 
-// The text with an element added at a location.
-fn with_error(alloc: Global, location: usize, value: Fe32) -> Result<String, Fail> {
-    let mut text = String::new(alloc);
+// Whether just this is listed for the text with an element added at a location.
+fn is_listed(alloc: Global, location: usize, value: Fe32) -> Result<bool, Fail> {
+    let mut bytes = TEXT.as_bytes().to_vec(alloc)?;
     let behind = location.checked_add(1).ok_or("no such place")?;
-    let place = TEXT.len().checked_sub(behind).ok_or("no such place")?;
-    for (i, c) in TEXT.chars().enumerate() {
-        if i == place {
-            let element = Fe32::from_char(c).ok().ok_or("no element")?;
-            text.push((element + value).to_char())?;
-        } else {
-            text.push(c)?;
-        }
-    }
-    Ok(text)
+    let place = bytes.len().checked_sub(behind).ok_or("no such place")?;
+    let right = Fe32::from_char(char::from(bytes[place]))
+        .ok()
+        .ok_or("no element")?;
+    bytes[place] = (right + value).to_char() as u8;
+    let text = str::from_utf8(&bytes).ok().ok_or("no text")?;
+    let got = listed(alloc, text, &[])?.ok_or("no listing")?;
+    Ok(got.as_slice() == [(location, value)].as_slice())
 }
 
 #[test]
 fn each_single_error(rt: HostRuntime) -> Result<(), Fail> {
-    let (alloc, mut count) = (rt.alloc(), 0u32);
+    let mut count = 0u32;
     for location in 0..45usize {
         for value in Fe32::iter_alpha() {
-            if value == Fe32::Q {
-                continue;
+            if value != Fe32::Q && is_listed(rt.alloc(), location, value)? {
+                count = count.saturating_add(1);
             }
-            let text = with_error(alloc, location, value)?;
-            let got = listed(alloc, &text, &[])?.ok_or("no listing")?;
-            same_items(&rt, &got, &[(location, value)]);
-            count = count.checked_add(1).ok_or("too many")?;
         }
     }
     same(&rt, &count, &1395);

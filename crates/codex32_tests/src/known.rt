@@ -3,7 +3,7 @@
 use super::compare::same;
 use super::known_table;
 use bech32_errors::{CharError, ChecksumError, UncheckedHrpstringError};
-use codex32::{Codex32Error, Codex32Str};
+use codex32::{Codex32Error, Codex32Str, propose};
 use std::alloc::Global;
 use std::test::Fail;
 
@@ -38,16 +38,29 @@ fn parsed(alloc: Global, text: &str) -> Result<String, Fail> {
     }
 }
 
+// The nearest text.
+fn proposed(alloc: Global, text: &str) -> Result<String, Fail> {
+    match propose(alloc, text) {
+        Ok(Some(nearest)) => Ok(format!(in alloc; "some {nearest}")?),
+        Ok(None) => Ok(String::from_str(alloc, "none")?),
+        Err(error) => refusal(alloc, error),
+    }
+}
+
 #[test]
 fn known_replies(rt: HostRuntime) -> Result<(), Fail> {
     let (alloc, mut count) = (rt.alloc(), 0u32);
     for row in known_table::ROWS.lines() {
-        let (text, want) = row.split_once('|').ok_or("no reply")?;
-        let got = parsed(alloc, text)?;
+        let (line, want) = row.split_once('|').ok_or("no reply")?;
+        let (command, text) = line.split_once(' ').ok_or("no text")?;
+        let got = match command {
+            "codex-parse" => parsed(alloc, text)?,
+            _ => proposed(alloc, text)?,
+        };
         same(&rt, &got.as_str(), &want);
         count = count.checked_add(1).ok_or("too many")?;
     }
-    same(&rt, &count, &77);
+    same(&rt, &count, &184);
     Ok(())
 }
 

@@ -9,3 +9,5 @@ mod compare;
 mod known;
 #[cfg(test)]
 mod known_table;
+#[cfg(test)]
+mod memory;

@@ -67,8 +67,32 @@ impl io::Write for Narrow {
     }
 }
 
-// Three lines, the last without its end.
-const INPUT: &[u8] = b"x\n\ndecode";
+// Lines of all commands, and some that are none; the last has no end.
+const INPUT: &[u8] = b"encode bech32 a -\nencode bech32m a 880000\ndecode a12uel5l\n\
+segwit-encode bc 16 751e\nsegwit-decode BC1SW50QGDZ25J\ncorrect bech32 a12uel5q 3\nx\n\ndecode";
+
+// The replies to them.
+const OUTPUT: &[u8] = b"ok a12uel5l\nok a13qqqq9qz88s\nok a -\n\
+ok bc1sw50qgdz25j\nok bc 16 751e\nok 3:q 0:l a12uel5l\nerr 3\nerr 3\nerr 3\n";
+
+// The replies to the lines that end in a front of the input.
+fn answered(front: &[u8]) -> &'static [u8] {
+    let mut lines = 0usize;
+    for b in front {
+        if *b == b'\n' {
+            lines = lines.saturating_add(1);
+        }
+    }
+    for i in 0..OUTPUT.len() {
+        if lines == 0 {
+            return &OUTPUT[..i];
+        }
+        if OUTPUT[i] == b'\n' {
+            lines = lines.saturating_sub(1);
+        }
+    }
+    OUTPUT
+}
 
 // Fails where the two differ.
 fn same<T: PartialEq + Debug>(rt: &impl Abort, got: &T, want: &T) {
@@ -85,7 +109,7 @@ fn empty_input(rt: HostRuntime) {
 
 #[test]
 fn reads_that_fail(rt: HostRuntime) {
-    for room in 0..12usize {
+    for room in 0..=INPUT.len() {
         let mut reader = Faulty {
             left: INPUT,
             room,
@@ -93,20 +117,22 @@ fn reads_that_fail(rt: HostRuntime) {
         };
         let mut out = Vec::new(rt.alloc());
         let outcome = run(rt.alloc(), &mut reader, &mut out);
-        let (want, lines) = match room {
-            0 | 1 => (Err(RunError::Read), b"".as_slice()),
-            2 => (Err(RunError::Read), b"err 3\n".as_slice()),
-            3..=8 => (Err(RunError::Read), b"err 3\nerr 3\n".as_slice()),
-            _ => (Ok(()), b"err 3\nerr 3\nerr 3\n".as_slice()),
+        let (want, replies) = if room < INPUT.len() {
+            (Err(RunError::Read), answered(&INPUT[..room]))
+        } else {
+            (Ok(()), OUTPUT)
         };
-        same(&rt, &(room, outcome, out.as_slice()), &(room, want, lines));
+        same(
+            &rt,
+            &(room, outcome, out.as_slice()),
+            &(room, want, replies),
+        );
     }
 }
 
 #[test]
 fn writes_that_fail(rt: HostRuntime) {
-    let whole = b"err 3\nerr 3\nerr 3\n";
-    for room in 0..20usize {
+    for room in 0..=OUTPUT.len() {
         let mut reader = INPUT;
         let mut writer = Narrow {
             got: Vec::new(rt.alloc()),
@@ -115,23 +141,22 @@ fn writes_that_fail(rt: HostRuntime) {
             stuck: false,
         };
         let outcome = run(rt.alloc(), &mut reader, &mut writer);
-        let want = if room < 18 {
+        let want = if room < OUTPUT.len() {
             Err(RunError::Write)
         } else {
             Ok(())
         };
-        let front = &whole[..room.min(18)];
         same(
             &rt,
             &(room, outcome, writer.got.as_slice()),
-            &(room, want, front),
+            &(room, want, &OUTPUT[..room]),
         );
     }
 }
 
 #[test]
 fn flushes_that_fail(rt: HostRuntime) {
-    for room in [0, 3, 100] {
+    for room in [0, 30, 1000] {
         let mut reader = Faulty {
             left: INPUT,
             room,
@@ -139,8 +164,8 @@ fn flushes_that_fail(rt: HostRuntime) {
         };
         let mut writer = Narrow {
             got: Vec::new(rt.alloc()),
-            room: 100,
-            step: 100,
+            room: 1000,
+            step: 1000,
             stuck: true,
         };
         let outcome = run(rt.alloc(), &mut reader, &mut writer);

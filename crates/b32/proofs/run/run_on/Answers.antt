@@ -25,6 +25,7 @@ reads-preserved g c =
       sink_unmarked = search rules;
       source_same = g.met.S.ByteSource.transitive _ _ _ c.reads.invariant.source_same c.read.ensures.same;
       sink_same = g.met.K.ByteSink.transitive _ _ _ c.reads.invariant.sink_same c.feed.ensures.same;
+      none_left = c.in_ok-feed.ensures.none_left;
       unflushed = c.feed.ensures.unflushed ∙ c.reads.invariant.unflushed;
       answered = (
         read ++ bytes,

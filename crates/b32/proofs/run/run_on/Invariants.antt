@@ -10,6 +10,7 @@ invariant-reads g l = record {
   sink_unmarked : g.K.ByteSink.has_failed l.sink ≡ false;
   source_same : g.S.ByteSource.is_same l.initial.source l.source;
   sink_same : g.K.ByteSink.is_same l.initial.sink l.sink;
+  none_left : l.lines.out.items ≡ [];
   unflushed : g.K.ByteSink.flushes l.sink ≡ g.K.ByteSink.flushes l.initial.sink;
   answered : (read : List ℕ) × Consumes (g.S.ByteSource.remaining l.initial.source) (g.S.ByteSource.remaining l.source) read
       × (l.lines.line.items ≡ take 4097 (rest_from [] read))

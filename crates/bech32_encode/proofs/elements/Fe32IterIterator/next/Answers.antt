@@ -1,4 +1,4 @@
-use Rattle.std.proofs.Common.{[], ◌++◌, ap, option_to_list}
+use Rattle.std.proofs.Common.{[], ◌++◌, ap}
 use Rattle.bech32_encode.specs.WitnessVersion.{version_steps}
 use Rattle.bech32_encode.specs.ChecksumElements.{then_checksum}
 use Rattle.bech32_bits.proofs.AdaptorWalks.{pulled_none}

@@ -1,4 +1,4 @@
-use Rattle.std.proofs.Common.{◌++◌, arith, drop, option_to_list, refl}
+use Rattle.std.proofs.Common.{arith, drop, refl}
 use Rattle.bech32_encode.specs.WitnessVersion.{version_steps}
 use Rattle.bech32_encode.specs.ChecksumElements.{then_checksum}
 use Rattle.bech32_checksum.specs.Encoded.{char_of_element}

@@ -1,0 +1,35 @@
+-- What a watched device took, the device took.
+use Rattle.std.proofs.Common.{◌≡◌, ◌≤◌, ℕ, Bool, List, [], ◌∷◌, length, take, Option, Result, Ok, Err, ap, IfErr}
+use Rattle.std.specs.List.{FoldsTo}
+use Rattle.std.specs.Fmt.{WritesInCalls}
+use Rattle.bech32_gf.specs.declared.gf32.Fe32.{Fe32}
+use Rattle.bech32_checksum.specs.Code.{Code}
+use Rattle.bech32.specs.Writing.{WritesText, IsFmtRefusal, IsIoRefusal}
+use Rattle.bech32.specs.declared.error.EncodeError.{EncodeError}
+use Rattle.bech32.specs.declared.error.EncodeError.TheVariants.{TooLong, Fmt, Memory}
+use Rattle.bech32.specs.declared.error.EncodeIoError.{EncodeIoError}
+use Rattle.bech32.specs.declared.error.EncodeIoError.TheVariants.{TooLong as IoTooLong, Write}
+
+module _ {S W : Type 0} (took : W → List ℕ → W → Type 0) (writer : S → W) where
+  calls_through : (s : S) (pieces : List (List ℕ)) (t : S) → FoldsTo (λ a x b. took (writer a) x (writer b)) s pieces t → FoldsTo took (writer s) pieces (writer t)
+  calls_through s [] t p = ap writer p
+  calls_through s (x ∷ pieces) t p = (writer p.0, p.1, calls_through p.0 pieces t p.2)
+
+  -- a text
+  pub text_through : (s t : S) (upper : Bool) (code : Code) (hrp bytes : List ℕ) → WritesText (λ a x b. took (writer a) x (writer b)) s t upper code hrp bytes
+      → WritesText took (writer s) (writer t) upper code hrp bytes
+  text_through s t upper code hrp bytes (text, is, went) = (text, is, record { parts = went.parts; calls = calls_through s went.parts t went.calls; whole = went.whole })
+
+-- a refusal, where less is said of the sink
+pub fmt_refusal : {kept kept' failed failed' : Type 0} (code : Code) (hrp : List ℕ) (elements : List Fe32) → (kept → kept') → (failed → failed')
+    → {T : Type 0} (r : Result T EncodeError) → IfErr r (λ e. IsFmtRefusal kept failed code hrp elements e) → IfErr r (λ e. IsFmtRefusal kept' failed' code hrp elements e)
+fmt_refusal code hrp elements f g (Ok x) h = tt
+fmt_refusal code hrp elements f g (Err (TooLong e)) (long, kept) = (long, f kept)
+fmt_refusal code hrp elements f g (Err (Fmt e)) (fits, failed) = (fits, g failed)
+fmt_refusal code hrp elements f g (Err Memory) h = h
+
+pub io_refusal : {kept kept' failed failed' : Type 0} (code : Code) (hrp : List ℕ) (elements : List Fe32) → (kept → kept') → (failed → failed')
+    → {T : Type 0} (r : Result T EncodeIoError) → IfErr r (λ e. IsIoRefusal kept failed code hrp elements e) → IfErr r (λ e. IsIoRefusal kept' failed' code hrp elements e)
+io_refusal code hrp elements f g (Ok x) h = tt
+io_refusal code hrp elements f g (Err (IoTooLong e)) (long, kept) = (long, f kept)
+io_refusal code hrp elements f g (Err (Write e)) (fits, failed) = (fits, g failed)

@@ -1,0 +1,24 @@
+use Rattle.std.proofs.Common.{◌≡◌, ◌+◌, ℕ, [], ◌∷◌, ◌++◌, take, reverse, sym, ap, ◌∙◌}
+use Rattle.std.proofs.lemmas.List.{take_all, take_more}
+use Rattle.bech32_gf.specs.Fe32 as fe32
+use Rattle.bech32_poly.specs.Embedding.{value_in}
+use Rattle.bech32_poly.specs.Remainder.{monic}
+use Rattle.bech32_block.proofs.RootList.{value_start, value_next}
+use Rattle.bech32_block.proofs.roots.generator_at.Goals as goal
+
+pub loop-coefficient-init : goal.loop-coefficient-init
+loop-coefficient-init g c = value_start g.met.E.Field.laws g.E.ExtensionField.embed c.args.x c.one-value.result c.one-value.ensures g.met.E.ExtensionField.embed_one_law
+
+pub loop-coefficient-preserved : goal.loop-coefficient-preserved
+loop-coefficient-preserved g c =
+    let whole = c.args.generator.now in
+    let i : ℕ = c.loop-coefficient.coefficient-index in
+    let item = c.coefficient-item.result in
+    let more : take (i + 1) whole ≡ take i whole ++ (item ∷ []) = take_more whole i item c.loop-coefficient-test.true ∙ ap (λ y. take i whole ++ (y ∷ [])) (sym c.coefficient-item.is) in
+    c.plus-value.ensures
+    ∙ value_next g.met.E.Field.laws g.E.ExtensionField.embed (take i whole) (take (i + 1) whole) item c.args.x c.loop-coefficient.value c.lift.result c.times.result more c.loop-coefficient.invariant c.lift.ensures c.times.ensures
+
+pub returns : goal.returns
+returns g c =
+    c.loop-coefficient.invariant
+    ∙ ap (λ ws. value_in g.E.Field.ops g.E.ExtensionField.embed (monic fe32.ops (reverse ws)) c.args.x) (take_all c.loop-coefficient.coefficient-index c.args.generator.now c.loop-coefficient-test.false)

@@ -1,0 +1,15 @@
+//! The printed block of a checksum: from a generator and a target to Rust code that defines it.
+#![tactic(auto)]
+
+mod error;
+mod hex;
+mod named;
+mod print;
+mod roots;
+mod series;
+mod text;
+mod words;
+
+pub use self::error::PrintError;
+pub use self::named::NamedField;
+pub use self::print::PrintImpl;

@@ -1,0 +1,51 @@
+-- The front of a text in a buffer.
+use Rattle.std.proofs.Common.{◌≡◌, ◌≤◌, ◌∙◌, ◌∷◌, ℕ, List, Bool, true, min, length, take, Option, Result, Ok, Err, IsOk, OnOk, IfErr, ap, sym, subst, refl, arith}
+use Rattle.std.specs.Char.{is_ascii}
+use Rattle.std.specs.List.{list_all}
+use Rattle.std.specs.Io.KnownBytes.{Appends}
+use Rattle.std.specs.Str.{IsAscii}
+use Rattle.std.proofs.lemmas.Str.{IsAscii-take}
+use Rattle.bech32_gf.specs.declared.gf32.Fe32.{Fe32}
+use Rattle.bech32_bits.specs.Bits.{to_fes}
+use Rattle.bech32_checksum.specs.Code.{Code}
+use Rattle.bech32_encode.specs.Cased.{in_case, IsTextInCase}
+use Rattle.bech32_encode.proofs.Encoding.{IsAscii-encoded}
+use Rattle.bech32_encode.proofs.TextsLeft.{IsAscii-in_case}
+use Rattle.bech32_decode.specs.Segwit.{segwit_code}
+use Rattle.bech32_segwit.specs.Unchecked.{IsFrontOfText, AppendsFront, AppendsPartOfFront}
+
+-- what was put of a text by one code, where that is the version's
+pub front-from_put : (upper : Bool) (code : Code) (hrp : List ℕ) (version : Fe32) (program old new : List ℕ) (count : ℕ) → code ≡ segwit_code version → length old ≡ 90
+    → ((text : List ℕ) × IsTextInCase upper code hrp (version ∷ to_fes program) text × (take count new ≡ take (length old) text) × (count ≡ min (length text) (length old)))
+    → IsFrontOfText upper hrp version program (take count new)
+front-from_put upper code hrp version program old new count same size (text, is, put, counted) = (
+  text,
+  subst (λ (k : Code). IsTextInCase upper k hrp (version ∷ to_fes program) text) same is,
+  put ∙ ap (λ (n : ℕ). take n text) size,
+)
+
+pub bound-from_put : (upper : Bool) (code : Code) (hrp : List ℕ) (elements : List Fe32) (old new : List ℕ) (count : ℕ) → length old ≡ 90
+    → ((text : List ℕ) × IsTextInCase upper code hrp elements text × (take count new ≡ take (length old) text) × (count ≡ min (length text) (length old)))
+    → count ≤ 90
+bound-from_put upper code hrp elements old new count size (text, is, put, counted) = omega arith
+
+-- it is ASCII
+pub IsAscii-front : (upper : Bool) (hrp : List ℕ) (version : Fe32) (program front : List ℕ) → list_all is_ascii hrp ≡ true
+    → IsFrontOfText upper hrp version program front → IsAscii front
+IsAscii-front upper hrp version program front h (text, (lower, is, e), f) =
+    subst IsAscii (sym (f ∙ ap (take 90) e))
+    (IsAscii-take (in_case upper lower) 90 (IsAscii-in_case upper lower (IsAscii-encoded (segwit_code version) hrp (version ∷ to_fes program) lower h is)))
+
+pub on_ok-from : {T E P : Type 0} (r : Result T E) → (IsOk r → P) → OnOk r P
+on_ok-from (Ok x) f = f refl
+on_ok-from (Err e) f = tt
+
+-- known bytes grew by it, or by a beginning of it
+module _ (old new : Option (List ℕ)) (upper : Bool) (hrp : List ℕ) (version : Fe32) (program front : List ℕ) (is : IsFrontOfText upper hrp version program front) {T E : Type 0} where
+  pub appends_front : (r : Result T E) → OnOk r (Appends old new front) → OnOk r (AppendsFront old new upper hrp version program)
+  appends_front (Ok x) took = (front, is, took)
+  appends_front (Err e) took = tt
+
+  pub appends_part : (r : Result T E) → IfErr r (λ _. (n : ℕ) × (n ≤ length front) × Appends old new (take n front)) → IfErr r (λ _. AppendsPartOfFront old new upper hrp version program)
+  appends_part (Ok x) took = tt
+  appends_part (Err e) (n, within, took) = (front, is, n, within, took)

@@ -1,0 +1,171 @@
+//! Segwit addresses written without any test.
+
+ghost use Rattle.std.specs.Prelude.{◌≡◌, ◌≤◌, ◌∷◌, ℕ, List, true, false, length, take, OnOk, OnErr};
+ghost use Rattle.std.specs.Fmt.{WritesInCalls};
+ghost use Rattle.std.specs.Io.KnownBytes.{Appends};
+ghost use Rattle.bech32_hrp.specs.HrpBytes.{hrp_bytes};
+ghost use Rattle.bech32_segwit.specs.Unchecked.{IsFrontOfText, WritesFront, AppendsFront, AppendsPartOfFront};
+
+use crate::VERSION_0;
+use bech32_checksum::{Bech32, Bech32m};
+use bech32_decode::segwit::MAX_STRING_LENGTH;
+use bech32_device::{Watched, write_all};
+use bech32_encode::put_front_of_text;
+use bech32_gf::gf32::Fe32;
+use bech32_hrp::Hrp;
+use std::{fmt, io};
+
+// Puts the first 90 characters of the text by the checksum of the version, and answers how many
+// there are.
+fn put_front(hrp: Hrp, version: Fe32, program: &[u8], upper: bool, buffer: &mut [u8]) -> usize
+    requires { length buffer.old ≡ 90 }
+    ensures front { IsFrontOfText upper (hrp_bytes hrp) version «program».now (take result buffer.new) }
+    ensures bound { result ≤ 90 }
+{
+    if version == VERSION_0 {
+        put_front_of_text::<Bech32>(&hrp, Some(version), program, upper, buffer)
+    } else {
+        put_front_of_text::<Bech32m>(&hrp, Some(version), program, upper, buffer)
+    }
+}
+
+fn front_to_fmt<W: fmt::Write>(
+    fmt: &mut W,
+    hrp: Hrp,
+    version: Fe32,
+    program: &[u8],
+    upper: bool,
+) -> fmt::Result
+    ensures { OnOk result
+        (WritesFront W.write_str_gives fmt.old fmt.new upper (hrp_bytes hrp) version «program».now) }
+{
+    let mut buffer = [0u8; MAX_STRING_LENGTH];
+    let count = put_front(hrp, version, program, upper, &mut buffer);
+    // All of it is ASCII: what the call requires is proved.
+    let front = unsafe { str::from_utf8_unchecked(&buffer[..count]) };
+    fmt.write_str(front)
+}
+
+fn front_to_writer<W: io::Write>(
+    w: &mut W,
+    hrp: Hrp,
+    version: Fe32,
+    program: &[u8],
+    upper: bool,
+) -> io::Result<()>
+    ensures ok { OnOk result
+        (AppendsFront (W.contents w.old) (W.contents w.new) upper (hrp_bytes hrp) version «program».now) }
+    ensures beginning { OnErr result
+        (AppendsPartOfFront (W.contents w.old) (W.contents w.new) upper (hrp_bytes hrp) version «program».now) }
+{
+    let mut buffer = [0u8; MAX_STRING_LENGTH];
+    let count = put_front(hrp, version, program, upper, &mut buffer);
+    let mut sink = Watched::new(w);
+    write_all(&mut sink, &buffer[..count])
+}
+
+/// Writes as [`encode_lower_to_fmt_unchecked`] does.
+pub fn encode_to_fmt_unchecked<W: fmt::Write>(
+    fmt: &mut W,
+    hrp: Hrp,
+    witness_version: Fe32,
+    witness_program: &[u8],
+) -> fmt::Result
+    ensures { OnOk result
+        (WritesFront W.write_str_gives fmt.old fmt.new false (hrp_bytes hrp) witness_version «witness_program».now) }
+{
+    encode_lower_to_fmt_unchecked(fmt, hrp, witness_version, witness_program)
+}
+
+/// Writes the first 90 characters of the text of a witness version and a program to a `fmt::Write`,
+/// in lower case: by Bech32 for version 0, else by Bech32m (BIP-350). Nothing is tested.
+///
+/// # Errors
+///
+/// Where the writer failed.
+pub fn encode_lower_to_fmt_unchecked<W: fmt::Write>(
+    fmt: &mut W,
+    hrp: Hrp,
+    witness_version: Fe32,
+    witness_program: &[u8],
+) -> fmt::Result
+    ensures { OnOk result
+        (WritesFront W.write_str_gives fmt.old fmt.new false (hrp_bytes hrp) witness_version «witness_program».now) }
+{
+    front_to_fmt(fmt, hrp, witness_version, witness_program, false)
+}
+
+/// Writes the first 90 characters of the text of a witness version and a program to a `fmt::Write`,
+/// in upper case: by Bech32 for version 0, else by Bech32m (BIP-350). Nothing is tested.
+///
+/// # Errors
+///
+/// Where the writer failed.
+pub fn encode_upper_to_fmt_unchecked<W: fmt::Write>(
+    fmt: &mut W,
+    hrp: Hrp,
+    witness_version: Fe32,
+    witness_program: &[u8],
+) -> fmt::Result
+    ensures { OnOk result
+        (WritesFront W.write_str_gives fmt.old fmt.new true (hrp_bytes hrp) witness_version «witness_program».now) }
+{
+    front_to_fmt(fmt, hrp, witness_version, witness_program, true)
+}
+
+/// Writes as [`encode_lower_to_writer_unchecked`] does.
+pub fn encode_to_writer_unchecked<W: io::Write>(
+    w: &mut W,
+    hrp: Hrp,
+    witness_version: Fe32,
+    witness_program: &[u8],
+) -> io::Result<()>
+    ensures ok { OnOk result (AppendsFront (W.contents w.old) (W.contents w.new)
+        false (hrp_bytes hrp) witness_version «witness_program».now) }
+    ensures beginning { OnErr result (AppendsPartOfFront (W.contents w.old) (W.contents w.new)
+        false (hrp_bytes hrp) witness_version «witness_program».now) }
+{
+    encode_lower_to_writer_unchecked(w, hrp, witness_version, witness_program)
+}
+
+/// Writes the first 90 characters of the text of a witness version and a program to an `io::Write`,
+/// in lower case: by Bech32 for version 0, else by Bech32m (BIP-350). Nothing is tested.
+///
+/// # Errors
+///
+/// Where the writer failed, a write that takes nothing included. A beginning of those characters
+/// went out. The first error of any kind ends the call, [`io::ErrorKind::Interrupted`] too.
+pub fn encode_lower_to_writer_unchecked<W: io::Write>(
+    w: &mut W,
+    hrp: Hrp,
+    witness_version: Fe32,
+    witness_program: &[u8],
+) -> io::Result<()>
+    ensures ok { OnOk result (AppendsFront (W.contents w.old) (W.contents w.new)
+        false (hrp_bytes hrp) witness_version «witness_program».now) }
+    ensures beginning { OnErr result (AppendsPartOfFront (W.contents w.old) (W.contents w.new)
+        false (hrp_bytes hrp) witness_version «witness_program».now) }
+{
+    front_to_writer(w, hrp, witness_version, witness_program, false)
+}
+
+/// Writes the first 90 characters of the text of a witness version and a program to an `io::Write`,
+/// in upper case: by Bech32 for version 0, else by Bech32m (BIP-350). Nothing is tested.
+///
+/// # Errors
+///
+/// Where the writer failed, a write that takes nothing included. A beginning of those characters
+/// went out. The first error of any kind ends the call, [`io::ErrorKind::Interrupted`] too.
+pub fn encode_upper_to_writer_unchecked<W: io::Write>(
+    w: &mut W,
+    hrp: Hrp,
+    witness_version: Fe32,
+    witness_program: &[u8],
+) -> io::Result<()>
+    ensures ok { OnOk result (AppendsFront (W.contents w.old) (W.contents w.new)
+        true (hrp_bytes hrp) witness_version «witness_program».now) }
+    ensures beginning { OnErr result (AppendsPartOfFront (W.contents w.old) (W.contents w.new)
+        true (hrp_bytes hrp) witness_version «witness_program».now) }
+{
+    front_to_writer(w, hrp, witness_version, witness_program, true)
+}

@@ -1,0 +1,29 @@
+//! Texts that are known from outside.
+
+/// The 20 bytes of a known text.
+pub const PROGRAM: [u8; 20] = [
+    0xff, 0x1e, 0x76, 0xe8, 0x19, 0x91, 0x96, 0xd4, 0x54, 0x94, 0x1c, 0x45, 0xd1, 0xb3, 0xa3, 0x23,
+    0xf1, 0x43, 0x3b, 0xd6,
+];
+
+/// The text of these under `test` by Bech32, and in upper case.
+pub const TEXT: &str = "test1lu08d6qejxtdg4y5r3zarvary0c5xw7kw79nnx";
+
+pub const UPPER_TEXT: &str = "TEST1LU08D6QEJXTDG4Y5R3ZARVARY0C5XW7KW79NNX";
+
+/// The program of the first address in BIP-173's examples, and the address.
+pub const ADDRESS_PROGRAM: [u8; 20] = [
+    0x75, 0x1e, 0x76, 0xe8, 0x19, 0x91, 0x96, 0xd4, 0x54, 0x94, 0x1c, 0x45, 0xd1, 0xb3, 0xa3, 0x23,
+    0xf1, 0x43, 0x3b, 0xd6,
+];
+
+pub const ADDRESS: &str = "bc1qw508d6qejxtdg4y5r3zarvary0c5xw7kv8f3t4";
+
+pub const UPPER_ADDRESS: &str = "BC1QW508D6QEJXTDG4Y5R3ZARVARY0C5XW7KV8F3T4";
+
+/// The human-readable part whose address of 40 bytes would have 91 characters.
+pub const LONG_PART: &str = "anhrpthatis19charsx";
+
+/// The first 90 of those characters at version 1, for 40 zeros, by the reference code of BIP-350.
+pub const FRONT: &str =
+    "anhrpthatis19charsx1pqqqqqqqqqqqqqqqqqqqqqqqqqqqqqqqqqqqqqqqqqqqqqqqqqqqqqqqqqqqqqqqqyn4jn";

@@ -1,0 +1,63 @@
+-- The nearest text to a damaged one (BIP-93, Error Correction).
+use Rattle.std.specs.Prelude.{◌≡◌, ◌⊎◌, ◌≤◌, ◌<◌, ◌+◌, ◌*◌, ◌==◌, ◌||◌, if◌then◌else◌, ℕ, List, [], ◌∷◌, ◌++◌, map, length, Option, None, Some}
+use Rattle.bech32_gf.specs.Fe32.{element_of}
+use Rattle.bech32_gf.specs.declared.gf32.Fe32.{Fe32}
+use Rattle.bech32_checksum.specs.Encoded.{spelled}
+use Rattle.bech32_decode.specs.Acceptance.{Accepts}
+use Rattle.bech32_decode.specs.Distance.{same_element}
+use Rattle.bech32_decode.specs.Text.{IsText, split_at_last}
+use Rattle.bech32_mended.specs.Mistyped.{HasNoListing, IsListingOf}
+use Rattle.codex32.specs.Code.{codex32}
+
+-- a character as it is read: `?`, which is unreadable, as `0`
+abbrev pub read_character : ℕ → ℕ
+read_character c = if c == 63 then 48 else c
+
+-- the characters of a data part as they are read
+abbrev pub read_data : List ℕ → List ℕ
+read_data damaged = map read_character damaged
+
+abbrev pub with_data_read : List ℕ → Option (List ℕ × List ℕ) → List ℕ
+with_data_read text None = text
+with_data_read text (Some p) = p.0 ++ (49 ∷ read_data p.1)
+
+-- the text as it is read: each `?` behind the last `1` as `0`
+abbrev pub read_text : List ℕ → List ℕ
+read_text text = with_data_read text (split_at_last text)
+
+-- the locations of the unreadable characters, of which 0 is the last
+abbrev pub unreadable : List ℕ → List ℕ
+unreadable [] = []
+unreadable (c ∷ cs) = if c == 63 then length cs ∷ unreadable cs else unreadable cs
+
+-- the locations of the other characters, where they are not those of the elements
+abbrev pub changed : List ℕ → List Fe32 → List ℕ
+changed [] xs = []
+changed (c ∷ cs) [] = []
+changed (c ∷ cs) (x ∷ xs) =
+    if c == 63 || same_element (element_of c) x then changed cs xs else length cs ∷ changed cs xs
+
+-- The nearest text: in lower case, with the same human-readable part and as many elements, accepted by the checksum;
+-- and twice the number of the characters that are changed, with the number of the unreadable ones, is at most 8.
+pub record IsNearestText (text nearest : List ℕ) : Type 0 where
+  pub hrp : List ℕ
+  pub damaged : List ℕ
+  pub split : text ≡ hrp ++ (49 ∷ damaged)
+  pub grammar : IsText (read_text text) hrp (read_data damaged)
+  pub elements : List Fe32
+  pub same_length : length elements ≡ length damaged
+  pub spelling : nearest ≡ spelled hrp elements
+  pub accepted : Accepts codex32 nearest
+  pub few : 2 * length (changed damaged elements) + length (unreadable damaged) ≤ 8
+
+-- ---- on the way
+
+-- the values to add to the elements of a text as it was read: none where the checksum accepts it and at most 8
+-- characters are unreadable, else the listing
+abbrev pub IsListed : List ℕ → List ℕ → List (ℕ × Fe32) → Type 0
+IsListed text given listing =
+    ((listing ≡ []) × Accepts codex32 text × (length given ≤ 8)) ⊎ IsListingOf codex32 8 text given listing
+
+-- there is no listing
+abbrev pub IsUnlisted : List ℕ → List ℕ → Type 0
+IsUnlisted text given = (8 < length given) ⊎ HasNoListing codex32 8 text given

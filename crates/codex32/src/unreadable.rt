@@ -1,0 +1,47 @@
+//! Characters that cannot be read.
+
+ghost use Rattle.std.specs.Prelude.{◌≡◌, IfOk, string_bytes};
+ghost use Rattle.codex32.specs.Nearest.{read_character, read_text, unreadable};
+
+use std::alloc::{AllocError, Allocator};
+
+// A character as it is read.
+fn read_char(c: char) -> char
+    ensures { result ≡ read_character c }
+{
+    if c == '?' { '0' } else { c }
+}
+
+/// The text with each `?` behind the last `1` read as `0`.
+pub(crate) fn read_in<A: Allocator>(alloc: A, text: &str) -> Result<String<A>, AllocError>
+    ensures { IfOk result (λ s. string_bytes s ≡ read_text text.now) }
+{
+    let Some((front, behind)) = text.rsplit_once('1') else {
+        return String::from_str(alloc, text);
+    };
+    let mut read = String::from_str(alloc, front)?;
+    read.push('1')?;
+    for c in behind.chars() {
+        read.push(read_char(c))?;
+    }
+    Ok(read)
+}
+
+/// The locations of each `?` in a data part, of which 0 is the last character.
+pub(crate) fn unreadable_in<A: Allocator>(
+    alloc: A,
+    data_part: &[u8],
+) -> Result<Vec<usize, A>, AllocError>
+    ensures { IfOk result (λ v. v.items ≡ unreadable data_part.now) }
+{
+    let mut places = Vec::new(alloc);
+    let mut behind = data_part.len();
+    for c in data_part {
+        behind -= 1;
+        if *c != b'?' {
+            continue;
+        }
+        places.push(behind)?;
+    }
+    Ok(places)
+}
