@@ -5,10 +5,13 @@
 //!     bench list                     the operations
 //!     bench count ours|theirs N K    K calls of operation N, for a count of instructions
 //!     bench written fmt|bytes SIZE K K texts of SIZE bytes written by the crate, for the same
+//!     bench kinds                    what is corrected beside Bech32's own texts, with the name of its row
+//!     bench corrected KIND K         the crate's K corrections of it, for the same
 //!     bench table TIMES COUNTS       the table of two files
 //!     bench chart TIMES COUNTS       their chart
 
 mod compare;
+mod corrections;
 mod numbers;
 mod ours;
 mod report;
@@ -99,8 +102,17 @@ fn main() {
             let number = |at: usize| words[at].parse().unwrap();
             println!("{}", theirs::written(&words[2], number(3), number(4)));
         }
+        Some("kinds") => corrections::KINDS
+            .iter()
+            .for_each(|(kind, name)| println!("{kind}\t{name}")),
+        Some("corrected") => {
+            println!(
+                "{}",
+                corrections::corrected(&words[2], words[3].parse().unwrap())
+            );
+        }
         Some("table") => print!("{}", report::table(&rows(&words))),
         Some("chart") => print!("{}", report::chart(&rows(&words))),
-        _ => panic!("compare, time, list, count, written, table or chart"),
+        _ => panic!("compare, time, list, count, written, kinds, corrected, table or chart"),
     }
 }
