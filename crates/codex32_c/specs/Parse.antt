@@ -19,3 +19,4 @@ pub record IsParsed (text : List ℕ) (threshold share_index payload_length : �
 abbrev pub IsParseFault : List ℕ → Refusal → Type 0
 IsParseFault text NotUtf8 = ¬ (IsUtf8 text)
 IsParseFault text (Text e) = IsUtf8 text × IsStringRefusal text e
+IsParseFault text _ = ⊥

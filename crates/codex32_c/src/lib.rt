@@ -7,8 +7,10 @@
 //! null, and what one points to may not overlap with what a `&mut` does.
 #![tactic(auto)]
 
+mod buffer;
 mod input;
 pub mod parse;
+pub mod propose;
 mod refusal;
 #[cfg(test)]
 mod tests;

@@ -11,8 +11,12 @@ use codex32_numbers::codex32_error_number;
 pub enum Refusal {
     /// The bytes of a text are not UTF-8.
     NotUtf8,
-    /// The text is no codex32 string.
+    /// The text is no codex32 string, or there is no memory.
     Text(Codex32Error),
+    /// There is no nearest text.
+    NoNearest,
+    /// A buffer is too small.
+    NoRoom,
 }
 
 impl Refusal {
@@ -24,6 +28,8 @@ impl Refusal {
         match self {
             Refusal::NotUtf8 => 2,
             Refusal::Text(e) => codex32_error_number(e),
+            Refusal::NoNearest => 34,
+            Refusal::NoRoom => 92,
         }
     }
 

@@ -1,6 +1,10 @@
 use crate::parse::codex32_parse;
+use crate::propose::nearest_in;
+use linked_list_allocator::LocalHeap;
+use std::alloc::Allocator;
 use std::fmt::Debug;
 use std::process::Abort;
+use std::test::Fail;
 
 // What the numbers hold before a call.
 const BEFORE: u32 = 7777;
@@ -82,4 +86,69 @@ fn refuses_texts(rt: HostRuntime) {
         same(&rt, &share_index, &BEFORE);
         same(&rt, &length, &LENGTH_BEFORE);
     }
+}
+
+// What a buffer holds before a call.
+const BYTE_BEFORE: u8 = 0xee;
+
+// The number of the answer to a damaged text with this memory and a buffer of so many bytes, of which
+// the front is the wanted text on 0, and else nothing is written.
+fn proposes<A: Allocator + Copy>(
+    rt: &impl Abort,
+    alloc: A,
+    text: &[u8],
+    room: usize,
+    want: &[u8],
+) -> u32 {
+    let mut buffer = [BYTE_BEFORE; 96];
+    let (buffer, _) = buffer.split_at_mut(room.min(96));
+    match nearest_in(alloc, text, buffer) {
+        Ok(count) => {
+            same(rt, &count, &want.len());
+            assert!(rt; buffer.starts_with(want));
+            assert!(rt; buffer.iter().skip(count).all(|b| *b == BYTE_BEFORE));
+            0
+        }
+        Err(refusal) => {
+            assert!(rt; buffer.iter().all(|b| *b == BYTE_BEFORE));
+            refusal.number()
+        }
+    }
+}
+
+const NEAREST: &[u8] = b"ms10testsxxxxxxxxxxxxxxxxxxxxxxxxxx4nzvca9cmczlw";
+
+#[test]
+fn proposes_known_texts(rt: HostRuntime) {
+    let rows: [(&[u8], usize, u32); 12] = [
+        (NEAREST, 96, 0),
+        (NEAREST, 48, 0),
+        (NEAREST, 47, 92),
+        (b"MS10TESTSXXXXXXXXXXXXXXXXXXXXXXXXXX4NZVC????????", 96, 0),
+        (b"ms1qtestsqxxxxxxxxxxxxxxxxxxxxxxxxq4nzvca9cmczlq", 96, 0),
+        (b"ms10testsxxxxxxxxxxxxxxxxxxxxxxxxxx4nzv?????????", 0, 34),
+        (b"ms1qtestsxxxxxxxxxxxxxxxxxxxxxxxxxx4nzvca???????", 96, 34),
+        (b"mt10testsxxxxxxxxxxxxxxxxxxxxxxxxxx4nzvca9cmczlw", 96, 81),
+        (b"mt10testsxxxxxxxxxxxxxxxxxxxxxxxxxx4nzvca9cmczl", 96, 82),
+        (b"ms10testsxxxxxxxxxxxxxxxxxxxxxxxxxx4nzvca9cmczlb", 96, 21),
+        (b"msq", 96, 23),
+        (b"\xff", 96, 2),
+    ];
+    for (text, room, want) in rows {
+        same(&rt, &proposes(&rt, rt.alloc(), text, room, NEAREST), &want);
+    }
+}
+
+#[test]
+fn proposes_or_wants_memory(rt: HostRuntime) -> Result<(), Fail> {
+    let text = b"ms1qtestsqxxxxxxxxxxxxxxxxxxxxxxxxq4nzvca9cmczlq";
+    let mut before = 91;
+    for size in 0..128usize {
+        let heap = LocalHeap::new(rt.alloc(), 16 * size)?;
+        let number = proposes(&rt, &heap, text, 48, NEAREST);
+        assert!(rt; number == 0 || number == before);
+        before = number;
+    }
+    same(&rt, &before, &0);
+    Ok(())
 }
