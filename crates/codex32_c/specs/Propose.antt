@@ -20,8 +20,8 @@ pub record LacksRoom (text : List ℕ) (room : ℕ) : Type 0 where
   pub is_nearest : IsNearestText text nearest
   pub lacks : room < length nearest
 
--- why none is put into a buffer of so many bytes: the bytes are no text; there is no memory; the first fault of the text
--- as it is read; there is none; it does not fit
+-- why none is put into a buffer of so many bytes: the bytes are no text; there is no memory; the first fault of the
+-- text as it is read; there is none; it does not fit
 abbrev pub IsProposeFault : List ℕ → ℕ → Refusal → Type 0
 IsProposeFault text room NotUtf8 = ¬ (IsUtf8 text)
 IsProposeFault text room (Text e) = (e ≡ Memory) ⊎ (IsUtf8 text × (frame_refusal (read_text text) ≡ Some e))
