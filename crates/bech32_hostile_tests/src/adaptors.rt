@@ -1,0 +1,65 @@
+//! Iterators over one that gives two items, `None`, and then items again.
+
+use crate::compare::same;
+use bech32::primitives::encode::WitnessVersionIter;
+use bech32::primitives::iter::Checksummed;
+use bech32::{Bech32, Fe32, Fe32IterExt, Hrp};
+use bech32_testing::iterators::TwoItems;
+use std::test::Fail;
+
+// The text of the two under `a`, which does not depend on how often they are asked for.
+const TEXT: &str = "a144mh9z97";
+
+#[test]
+fn texts_stay_ended(rt: HostRuntime) -> Result<(), Fail> {
+    let hrp = Hrp::parse("a")?;
+    let encoder = TwoItems::new(Fe32::_4, None).with_checksum::<Bech32>(&hrp);
+    let mut chars = encoder.chars();
+    for c in TEXT.chars() {
+        same(&rt, &chars.next(), &Some(c));
+    }
+    for _ in 0..3 {
+        same(&rt, &chars.next(), &None);
+    }
+    let encoder = TwoItems::new(Fe32::_4, Some(usize::MAX)).with_checksum::<Bech32>(&hrp);
+    let mut bytes = encoder.bytes();
+    for b in TEXT.as_bytes() {
+        same(&rt, &bytes.next(), &Some(*b));
+    }
+    for _ in 0..3 {
+        same(&rt, &bytes.next(), &None);
+    }
+    Ok(())
+}
+
+#[test]
+fn elements_stay_ended(rt: HostRuntime) -> Result<(), Fail> {
+    let hrp = Hrp::parse("a")?;
+    let encoder = TwoItems::new(Fe32::_4, None).with_checksum::<Bech32>(&hrp);
+    let mut fes = encoder.fes();
+    for c in "rqp44mh9z97".chars() {
+        same(&rt, &fes.next().map(|fe| fe.to_char()), &Some(c));
+    }
+    for _ in 0..3 {
+        same(&rt, &fes.next(), &None);
+    }
+    let mut fes = Checksummed::<_, Bech32>::new_hrp(hrp, TwoItems::new(Fe32::_4, None));
+    for c in "44mh9z97".chars() {
+        same(&rt, &fes.next().map(|fe| fe.to_char()), &Some(c));
+    }
+    for _ in 0..3 {
+        same(&rt, &fes.next(), &None);
+    }
+    let mut fes = WitnessVersionIter::new(Some(Fe32::Q), TwoItems::new(Fe32::_4, None));
+    for fe in [
+        Some(Fe32::Q),
+        Some(Fe32::_4),
+        Some(Fe32::_4),
+        None,
+        None,
+        None,
+    ] {
+        same(&rt, &fes.next(), &fe);
+    }
+    Ok(())
+}
