@@ -150,12 +150,14 @@ const ITEMS: [Fe32; 20] = [
 type Register<'h> = LfsrIter<Fe32, &'h Refusing<Global>>;
 
 // Whether these items come next.
-fn goes_on(register: &mut Register<'_>, items: &[Fe32]) -> bool {
+fn goes_on(register: Register<'_>, items: &[Fe32]) -> bool {
+    let mut place = 0usize;
     let mut is_same = true;
-    for item in items {
-        is_same = is_same && register.next() == Some(*item);
+    for item in register.take(items.len()) {
+        is_same = is_same && items.get(place) == Some(&item);
+        place = place.saturating_add(1);
     }
-    is_same
+    is_same && place == items.len()
 }
 
 enum Massey {}
@@ -163,7 +165,7 @@ enum Massey {}
 impl Call for Massey {
     fn answer(heap: &Refusing<Global>) -> Result<Answer, Fail> {
         match LfsrIter::berlekamp_massey_in(heap, &ITEMS) {
-            Ok(mut register) => Ok(Answer::of(goes_on(&mut register, &ITEMS))),
+            Ok(register) => Ok(Answer::of(goes_on(register, &ITEMS))),
             Err(_) => Ok(Answer::NoMemory),
         }
     }
@@ -176,13 +178,11 @@ impl Call for CloneRegister {
         let Ok(mut register) = LfsrIter::berlekamp_massey_in(heap, &ITEMS) else {
             return Ok(Answer::NoMemory);
         };
-        if !goes_on(&mut register, &ITEMS[..2]) {
-            return Ok(Answer::Other);
-        }
+        let first = [register.next(), register.next()];
         let copy: Result<Register<'_>, AllocError> = register.clone();
-        let is_same = goes_on(&mut register, &ITEMS[2..]);
+        let is_same = first == [Some(Fe32::P), Some(Fe32::Z)] && goes_on(register, &ITEMS[2..]);
         match copy {
-            Ok(mut other) => Ok(Answer::of(is_same && goes_on(&mut other, &ITEMS[2..]))),
+            Ok(other) => Ok(Answer::of(is_same && goes_on(other, &ITEMS[2..]))),
             Err(_) if is_same => Ok(Answer::NoMemory),
             Err(_) => Ok(Answer::Other),
         }

@@ -11,6 +11,8 @@ mod compare;
 #[cfg(test)]
 mod correction;
 #[cfg(test)]
+mod global;
+#[cfg(test)]
 mod residues;
 #[cfg(test)]
 mod turns;
