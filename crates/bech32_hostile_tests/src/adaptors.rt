@@ -1,7 +1,6 @@
 //! Iterators over one that gives two items, `None`, and then items again.
 
 use crate::compare::same;
-use bech32::primitives::encode::WitnessVersionIter;
 use bech32::primitives::iter::Checksummed;
 use bech32::{Bech32, Fe32, Fe32IterExt, Hrp};
 use bech32_testing::iterators::TwoItems;
@@ -57,15 +56,4 @@ fn checksums_stay_ended(rt: HostRuntime) -> Result<(), Fail> {
         same(&rt, &fes.next(), &None);
     }
     Ok(())
-}
-
-#[test]
-fn versions_stay_ended(rt: HostRuntime) {
-    let mut fes = WitnessVersionIter::new(Some(Fe32::Q), TwoItems::new(Fe32::_4, None));
-    for b in b"q44" {
-        same(&rt, &fes.next(), &Fe32::from_char(char::from(*b)).ok());
-    }
-    for _ in 0..3 {
-        same(&rt, &fes.next(), &None);
-    }
 }
