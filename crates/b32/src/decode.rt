@@ -2,9 +2,12 @@
 
 ghost use Rattle.std.specs.Prelude.{◌≡◌, ◌+◌, ◌≤◌, vec_len, vec_capacity, OnOk, OnErr, IfErr};
 ghost use Rattle.b32.specs.Numbers.{number_of};
-ghost use Rattle.b32.specs.Reply.{err, Adds, IsDecodeAnswer};
+ghost use Rattle.bech32_lines.specs.Added.{Adds};
+ghost use Rattle.bech32_lines.specs.Refused.{err};
+ghost use Rattle.b32.specs.Reply.{IsDecodeAnswer};
 
-use crate::append::{append, append_lowered};
+use crate::append::append_lowered;
+use bech32_lines::append;
 use crate::hex_word::word_of_bytes;
 use crate::refusal::Refusal;
 use bech32::decode_in;
