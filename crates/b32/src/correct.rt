@@ -19,11 +19,11 @@ ghost use Rattle.b32.specs.Reply.{listed, IsCorrectAnswer};
 ghost use Rattle.b32.specs.Request.{code_of_name};
 
 use crate::append::{append_location, append_lowered};
-use bech32_lines::append;
 use crate::command::ChecksumName;
 use crate::refusal::Refusal;
 use bech32::Fe32;
 use bech32::primitives::decode::CheckedHrpstringError;
+use bech32_lines::append;
 use bech32_mended::{Answer, bech32_correction, bech32m_correction, mend};
 
 /// What a checksum answers to a text, where the given locations are erasures.

@@ -7,10 +7,10 @@ ghost use Rattle.bech32_lines.specs.Refused.{err};
 ghost use Rattle.b32.specs.Reply.{IsDecodeAnswer};
 
 use crate::append::append_lowered;
-use bech32_lines::append;
 use crate::hex_word::word_of_bytes;
 use crate::refusal::Refusal;
 use bech32::decode_in;
+use bech32_lines::append;
 use std::alloc::Allocator;
 
 /// Adds the human-readable part and the bytes of a text, or leaves all as it was.

@@ -11,6 +11,7 @@ use std::alloc::Global;
 use std::io;
 
 /// The replies of this program, with memory from `alloc`.
+#[derive(Drop)]
 struct Commands {
     alloc: Global,
 }

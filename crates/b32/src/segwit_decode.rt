@@ -7,10 +7,10 @@ ghost use Rattle.bech32_lines.specs.Refused.{err};
 ghost use Rattle.b32.specs.Reply.{IsSegwitDecodeAnswer};
 
 use crate::append::append_lowered;
-use bech32_lines::{append, append_number};
 use crate::hex_word::word_of_bytes;
 use crate::refusal::Refusal;
 use bech32::segwit;
+use bech32_lines::{append, append_number};
 use std::alloc::Allocator;
 
 /// Adds the human-readable part, the version and the program of a segwit address, or leaves all as

@@ -6,11 +6,11 @@ ghost use Rattle.bech32_lines.specs.Added.{Adds};
 ghost use Rattle.bech32_lines.specs.Refused.{err};
 ghost use Rattle.b32.specs.Reply.{IsSegwitEncodeAnswer};
 
-use bech32_lines::append;
 use crate::hex_word::bytes_of_word;
 use crate::refusal::Refusal;
 use crate::version_word::version_of_word;
 use bech32::{Hrp, segwit};
+use bech32_lines::append;
 use std::alloc::Allocator;
 
 /// Adds the segwit address of a program, or leaves all as it was.

@@ -1,9 +1,9 @@
 -- The lines that end in some bytes, one piece after another.
-use Rattle.std.proofs.Common.{◌≡◌, ℕ, suc, ◌+◌, ◌<◌, ◌≤◌, Bool, true, false, List, [], ◌∷◌, ◌++◌, length, take, drop, get_or, eqb, cond, sym, ap, ◌∙◌, refl, arith, append_assoc, append-nil, Option, Some, None}
+use Rattle.std.proofs.Common.{◌≡◌, ℕ, suc, ◌+◌, ◌<◌, true, false, List, [], ◌∷◌, ◌++◌, length, take, drop, get_or, eqb, cond, sym, ap, ◌∙◌, refl, arith, append_assoc, append-nil, Some, None}
 use Rattle.std.proofs.lemmas.Bool.{eqb-true, false_from_ne_true}
 use Rattle.std.proofs.lemmas.List.{take-append-drop, drop_more, length-take, get_or-take}
 use Rattle.memchr.specs.Find.{IsFirstByte, is_byte}
-use Rattle.bech32_lines.specs.Lines.{ended_from, rest_from, last_line, ended_lines}
+use Rattle.bech32_lines.specs.Lines.{ended_from, rest_from, last_line}
 
 pub ended-append : (before xs ys : List ℕ) → ended_from before (xs ++ ys) ≡ ended_from before xs ++ ended_from (rest_from before xs) ys
 ended-append before [] ys = refl

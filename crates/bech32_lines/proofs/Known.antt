@@ -1,5 +1,5 @@
 -- Bytes that are read and written, where they are known.
-use Rattle.std.proofs.Common.{◌≡◌, ℕ, List, [], ◌++◌, sym, ap, subst, ◌∙◌, refl, append_assoc, append-nil, Option, Some, None}
+use Rattle.std.proofs.Common.{ℕ, List, [], ◌++◌, sym, ap, subst, ◌∙◌, refl, append_assoc, append-nil, Option, Some, None}
 use Rattle.std.specs.Io.KnownBytes.{Appends, Keeps, Consumes}
 
 pub Appends-nil : (a : Option (List ℕ)) → Appends a a []

@@ -1,11 +1,11 @@
 -- The words of a line, one after another.
-use Rattle.std.proofs.Common.{◌≡◌, ◌≢◌, ℕ, ◌<◌, Bool, true, false, ◌||◌, List, [], ◌∷◌, ◌++◌, length, get_or, eqb, cond, sym, ap, ◌∙◌, refl, arith, Option, Some, None, is_some, MatchOption, Bor, codes, eq-eqb}
+use Rattle.std.proofs.Common.{◌≡◌, ◌≢◌, ℕ, ◌<◌, true, false, List, [], ◌∷◌, ◌++◌, length, get_or, eqb, sym, ap, ◌∙◌, refl, arith, Option, Some, None, is_some, MatchOption, Bor, eq-eqb}
 use Rattle.std.specs.List.{slice_split}
 use Rattle.std.proofs.lemmas.Bool.{ne_eqb}
 use Rattle.std.proofs.lemmas.List.Elements.{All-from_get_or}
 use Rattle.std.proofs.lemmas.List.Splits.{slice_split_none, slice_split_at, length-slice_split}
 use Rattle.std.proofs.lemmas.Str.Pattern.{IsSplitOnceResult, split_parts}
-use Rattle.bech32_lines.specs.Words.{words, is_empty, has_empty_word}
+use Rattle.bech32_lines.specs.Words.{words}
 
 -- a text without the byte is one part
 no_byte : (c : ℕ) (bs : List ℕ) → ((i : ℕ) → i < length bs → get_or bs i 0 ≢ c) → slice_split (λ b. eqb b c) bs ≡ bs ∷ []

@@ -53,4 +53,4 @@ module _ (IsReply : List ℕ → List ℕ → Type 0) (source source' sink sink'
     pub consumed : Consumes source source' read
     pub appended : Appends sink sink' written
     pub beginning : IsBeginning IsReply (ended_lines read) written
-      ⊎ (IsAtEnd source' × IsBeginning IsReply (lines_of read) written)
+        ⊎ (IsAtEnd source' × IsBeginning IsReply (lines_of read) written)

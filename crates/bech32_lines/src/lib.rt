@@ -2,14 +2,14 @@
 //! replies put together. What is said of a line is the program's own ([`Replies`]).
 #![tactic(auto)]
 
-mod lines;
 mod error;
+mod lines;
 mod output;
 mod replies;
 mod words;
 
-pub use output::{append, append_number, append_refusal};
 pub use error::RunError;
-pub use replies::{LINE_LIMIT, REPLY_ROOM, Replies};
 pub use lines::{run, run_on};
+pub use output::{append, append_number, append_refusal};
+pub use replies::{LINE_LIMIT, REPLY_ROOM, Replies};
 pub use words::{first_word, only_word};

@@ -6,8 +6,8 @@ ghost use Rattle.std.specs.Io.KnownBytes.{Appends, Keeps};
 ghost use Rattle.bech32_lines.specs.Lines.{ended_from, rest_from, last_line};
 ghost use Rattle.bech32_lines.specs.Output.{IsOutput, IsBeginning, IsAnswered, IsAnsweredSoFar, IsCutShort};
 
-use crate::output::append;
 use crate::error::RunError;
+use crate::output::append;
 use crate::replies::{REPLY_ROOM, Replies};
 use bech32_device::{ByteSink, ByteSource, Watched, write_all};
 use memchr::memchr;
@@ -173,11 +173,7 @@ impl Lines {
     }
 
     /// Answers what is left at the end.
-    fn finish<P: Replies, K: ByteSink>(
-        &mut self,
-        program: &P,
-        sink: &mut K,
-    ) -> Result<(), RunError>
+    fn finish<P: Replies, K: ByteSink>(&mut self, program: &P, sink: &mut K) -> Result<(), RunError>
         requires unmarked { K.has_failed sink.old ≡ false }
         requires none_left { self.old.out.items ≡ [] }
         ensures ok { OnOk result ((before : List ℕ) → self.old.line.items ≡ take 4097 before

@@ -9,13 +9,9 @@ use bech32_lines::{first_word, only_word};
 #[derive(Clone, Copy, Debug)]
 pub enum Command<'a> {
     /// `parse TEXT`: the parts of a codex32 string.
-    Parse {
-        text: &'a str,
-    },
+    Parse { text: &'a str },
     /// `propose TEXT`: the nearest text to a damaged one.
-    Propose {
-        text: &'a str,
-    },
+    Propose { text: &'a str },
 }
 
 impl<'a> Command<'a> {

@@ -12,11 +12,7 @@ use codex32::propose_in;
 use std::alloc::Allocator;
 
 /// Adds the nearest text to a damaged one, or that there is none, or leaves all as it was.
-pub fn propose<A: Allocator + Copy>(
-    alloc: A,
-    text: &str,
-    out: &mut Vec<u8>,
-) -> Result<(), Refusal>
+pub fn propose<A: Allocator + Copy>(alloc: A, text: &str, out: &mut Vec<u8>) -> Result<(), Refusal>
     requires { vec_len out.old + 2047 ≤ vec_capacity out.old }
     ensures ok { OnOk result (Adds (IsProposeAnswer text.now) out.old.items out.new.items) }
     ensures err { IfErr result (λ e. IsProposeAnswer text.now (err (number_of e))) }

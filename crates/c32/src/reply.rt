@@ -82,3 +82,6 @@ pub fn reply(alloc: Global, line: &[u8], out: &mut Vec<u8>)
 {
     reply_in(alloc, line, out)
 }
+
+#[cfg(test)]
+mod tests;

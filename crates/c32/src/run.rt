@@ -8,9 +8,9 @@ use crate::reply::reply;
 use bech32_device::{ByteSink, ByteSource};
 use bech32_lines::{Replies, RunError};
 use std::alloc::Global;
-use std::io;
 
 /// The replies of this program, with memory from `alloc`.
+#[derive(Drop)]
 struct Commands {
     alloc: Global,
 }
@@ -70,29 +70,3 @@ pub fn run_on<S: ByteSource, K: ByteSink>(
 {
     bech32_lines::run_on(alloc, &Commands { alloc }, source, sink)
 }
-
-/// Answers each line of a reader, as `run_on` does over a watched reader and writer.
-///
-/// # Errors
-///
-/// Those of `run_on`. Whether the reader or the writer failed can be told only of what is watched:
-/// a caller who is to know it watches both and calls `run_on`, as `main` does.
-pub fn run<R: io::Read, W: io::Write>(
-    alloc: Global,
-    reader: &mut R,
-    writer: &mut W,
-) -> Result<(), RunError>
-    ensures ok { OnOk result (IsAnswered IsReply (R.remaining reader.old) (R.remaining reader.new)
-        (W.contents writer.old) (W.contents writer.new)) }
-    ensures read { IsErrOf result RunError.Read
-        → IsAnsweredSoFar IsReply (R.remaining reader.old) (R.remaining reader.new)
-        (W.contents writer.old) (W.contents writer.new) }
-    ensures write { IsErrOf result RunError.Write
-        → IsCutShort IsReply (R.remaining reader.old) (R.remaining reader.new)
-        (W.contents writer.old) (W.contents writer.new) }
-    ensures memory { IsErrOf result RunError.Memory
-        → (reader.new ≡ reader.old) × (writer.new ≡ writer.old) }
-{
-    bech32_lines::run(alloc, &Commands { alloc }, reader, writer)
-}
-

@@ -1,4 +1,4 @@
-use Rattle.std.proofs.Common.{◌≡◌, ℕ, List, rules, ◌∙◌, ◌+◌, ◌++◌, ◌∷◌, [], take, drop, None, Some, ap, sym, subst}
+use Rattle.std.proofs.Common.{ℕ, List, rules, ◌∙◌, ◌+◌, ◌++◌, ◌∷◌, [], take, drop, Some, ap, sym, subst}
 use Rattle.std.proofs.lemmas.List.{take_rest}
 use Rattle.std.proofs.lemmas.Result.{err_from_is_err_and, on_ok_weaker, on_err_weaker}
 use Rattle.std.specs.Io.KnownBytes.{Appends}

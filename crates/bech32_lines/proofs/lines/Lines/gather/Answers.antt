@@ -1,4 +1,4 @@
-use Rattle.std.proofs.Common.{◌∙◌, arith, ◌++◌, ◌∷◌, [], List, ℕ, ap}
+use Rattle.std.proofs.Common.{◌∙◌, arith, ◌++◌, ◌∷◌, [], ap}
 use Rattle.bech32_lines.proofs.Kept.{reply-kept}
 use Rattle.bech32_lines.proofs.lines.Lines.gather.Goals as goal
 

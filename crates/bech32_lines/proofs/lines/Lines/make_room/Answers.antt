@@ -1,5 +1,5 @@
 use Rattle.std.specs.Prelude.{OnOk}
-use Rattle.std.proofs.Common.{sym, ap, ◌∙◌, ◌++◌, [], List, ℕ, Result, Ok, Err, append-nil}
+use Rattle.std.proofs.Common.{sym, ap, ◌∙◌, ◌++◌, List, ℕ, Result, Ok, Err, append-nil}
 use Rattle.bech32_lines.proofs.lines.Lines.make_room.Goals as goal
 
 both : {T E : Type 0} (r : Result T E) {P Q R : Type 0} → (P → Q → R) → OnOk r P → OnOk r Q → OnOk r R
