@@ -8,7 +8,8 @@ use Rattle.codex32.specs.Strings.{IsStringRefusal, frame_refusal}
 use Rattle.codex32.specs.declared.error.Codex32Error.{Codex32Error}
 use Rattle.codex32.specs.declared.error.Codex32Error.TheVariants.{Memory}
 use Rattle.bech32_lines.specs.Refused.{err}
-use Rattle.c32.specs.Numbers.{number_of, number_of_codex32_error}
+use Rattle.codex32_numbers.specs.Numbers.{number_of_codex32_error}
+use Rattle.c32.specs.Numbers.{number_of}
 use Rattle.c32.specs.declared.refusal.Refusal.{Refusal}
 use Rattle.c32.specs.declared.refusal.Refusal.TheVariants.{Codex32}
 use Rattle.c32.specs.Request.{Request, request_of}

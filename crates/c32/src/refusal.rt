@@ -1,10 +1,10 @@
 //! Why a line is refused, and the numbers of refusals.
 
 ghost use Rattle.std.specs.Prelude.{◌≡◌, ◌<◌};
-ghost use Rattle.c32.specs.Numbers.{number_of, number_of_codex32_error};
+ghost use Rattle.c32.specs.Numbers.{number_of};
 
-use bech32_numbers::{checksum_error_number, text_error_number};
 use codex32::Codex32Error;
+use codex32_numbers::codex32_error_number;
 
 /// Why a line is refused.
 #[derive(Clone, Copy, Debug, PartialEq, Eq, Drop)]
@@ -17,22 +17,6 @@ pub enum Refusal {
     NoRequest,
     /// The text is no codex32 string, or no nearest text is looked for.
     Codex32(Codex32Error),
-}
-
-/// The number of a text that is refused.
-fn codex32_error_number(error: Codex32Error) -> u8
-    ensures value { result ≡ number_of_codex32_error error }
-    ensures small { result < 100 }
-{
-    match error {
-        Codex32Error::Text(e) => text_error_number(e),
-        Codex32Error::Hrp => 81,
-        Codex32Error::Length => 82,
-        Codex32Error::Checksum(e) => checksum_error_number(e),
-        Codex32Error::Threshold => 83,
-        Codex32Error::ShareIndex => 84,
-        Codex32Error::Memory => 91,
-    }
 }
 
 impl Refusal {
