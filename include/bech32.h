@@ -15,6 +15,9 @@
  * else that it is given. These two, and that the lengths are true, are all that a caller owes.
  *
  * Lengths are in bytes, which are characters where the text is accepted or written.
+ *
+ * This describes the version of the library that BECH32_VERSION names, which is also that of the Rust
+ * crate over it (bindings/rust). The refusals are those of the Rust crate bech32 0.12.0, in its order.
  */
 #ifndef BECH32_H
 #define BECH32_H
@@ -25,6 +28,9 @@
 #ifdef __cplusplus
 extern "C" {
 #endif
+
+/* The version of the library. */
+#define BECH32_VERSION "0.1.0"
 
 /* Checksums. */
 #define BECH32_BECH32 1u  /* BIP-173 */

@@ -1,49 +1,109 @@
-/* Decodes a segwit address, writes that of its program on the test network, refuses a text, and
- * mends one. */
+/* Each function of bech32.h: encodes, decodes and tests texts, mends one, writes and reads addresses,
+ * and feeds an engine. */
 #include <stdio.h>
 #include <string.h>
 
 #include "bech32.h"
 
-int main(void) {
+/* Ends with the number of a refusal that should not be. */
+static int refused(const char *what, uint32_t number) {
+    fprintf(stderr, "%s: refusal %u\n", what, (unsigned)number);
+    return 1;
+}
+
+static void put_hex(const uint8_t *bytes, size_t length) {
+    for (size_t i = 0; i < length; i++) {
+        printf("%02x", bytes[i]);
+    }
+}
+
+/* Bytes as a text, and back. */
+static int texts(void) {
+    const uint8_t part[] = {'a', 'b', 'c'}, data[] = {0xab, 0xab, 0xab, 0xab, 0xab};
+    uint8_t text[BECH32_MAX_TEXT], hrp[BECH32_MAX_HRP], bytes[BECH32_MAX_BYTES];
+    size_t text_length, hrp_length, bytes_length;
+    uint32_t number;
+
+    number = bech32_encode(BECH32_BECH32M, part, sizeof part, data, sizeof data, text, sizeof text,
+                           &text_length);
+    if (number != BECH32_OK) {
+        return refused("encode", number);
+    }
+    number = bech32_decode(text, text_length, hrp, sizeof hrp, &hrp_length, bytes, sizeof bytes,
+                           &bytes_length);
+    if (number != BECH32_OK) {
+        return refused("decode", number);
+    }
+    printf("%.*s: %.*s ", (int)text_length, (char *)text, (int)hrp_length, (char *)hrp);
+    put_hex(bytes, bytes_length);
+    printf("\n");
+    return 0;
+}
+
+/* A text that is refused, and how another is mended where its fourth character from the end is
+ * doubtful. */
+static int corrections(void) {
+    uint8_t mended[BECH32_MAX_TEXT], values[BECH32_MAX_LISTED];
+    size_t locations[BECH32_MAX_LISTED], count, mended_length, hrp_length, data_length;
+    uint32_t number;
+
+    number = bech32_check(BECH32_BECH32, (const uint8_t *)"a12uel5m", 8, &hrp_length, &data_length);
+    printf("a12uel5m: refusal %u\n", (unsigned)number);
+
+    const char *mistyped = "a12uel5q";
+    const size_t erasures[] = {3};
+    number = bech32_correct(BECH32_BECH32, (const uint8_t *)mistyped, strlen(mistyped), erasures, 1,
+                            locations, BECH32_MAX_LISTED, values, BECH32_MAX_LISTED, &count, mended,
+                            sizeof mended, &mended_length);
+    if (number != BECH32_OK) {
+        return refused("correct", number);
+    }
+    printf("%s:", mistyped);
+    for (size_t i = 0; i < count; i++) {
+        printf(" %u at %u,", (unsigned)values[i], (unsigned)locations[i]);
+    }
+    printf(" %.*s\n", (int)mended_length, (char *)mended);
+    return 0;
+}
+
+/* An address, and that of its program on the test network. */
+static int addresses(void) {
     const char *address = "BC1QW508D6QEJXTDG4Y5R3ZARVARY0C5XW7KV8F3T4";
     uint8_t hrp[BECH32_MAX_HRP], program[BECH32_MAX_SEGWIT_PROGRAM], text[BECH32_MAX_SEGWIT_TEXT];
-    size_t hrp_length, program_length, text_length, data_length;
+    size_t hrp_length, program_length, text_length;
     uint32_t version, number;
 
     number = bech32_segwit_decode((const uint8_t *)address, strlen(address), hrp, sizeof hrp,
                                   &hrp_length, &version, program, sizeof program, &program_length);
     if (number != BECH32_OK) {
-        return 1;
+        return refused("segwit_decode", number);
     }
     printf("%.*s version %u, ", (int)hrp_length, (char *)hrp, (unsigned)version);
-    for (size_t i = 0; i < program_length; i++) {
-        printf("%02x", program[i]);
-    }
+    put_hex(program, program_length);
 
     number = bech32_segwit_encode((const uint8_t *)"tb", 2, version, program, program_length, text,
                                   sizeof text, &text_length);
     if (number != BECH32_OK) {
-        return 1;
+        return refused("segwit_encode", number);
     }
     printf("\n%.*s\n", (int)text_length, (char *)text);
-
-    number = bech32_check(BECH32_BECH32, (const uint8_t *)"a12uel5m", 8, &hrp_length, &data_length);
-    printf("a12uel5m: refusal %u\n", (unsigned)number);
-
-    const size_t erasures[] = {3};
-    size_t locations[BECH32_MAX_LISTED], count;
-    uint8_t values[BECH32_MAX_LISTED];
-    number = bech32_correct(BECH32_BECH32, (const uint8_t *)"a12uel5q", 8, erasures, 1, locations,
-                            BECH32_MAX_LISTED, values, BECH32_MAX_LISTED, &count, text, sizeof text,
-                            &text_length);
-    if (number != BECH32_OK) {
-        return 1;
-    }
-    printf("a12uel5q:");
-    for (size_t i = 0; i < count; i++) {
-        printf(" %u at %u,", (unsigned)values[i], (unsigned)locations[i]);
-    }
-    printf(" %.*s\n", (int)text_length, (char *)text);
     return 0;
+}
+
+/* The remainder of a12uel5l: the elements of its human-readable part, then those of its data part. */
+static int remainder_of_a_text(void) {
+    const uint8_t elements[] = {3, 0, 1, 10, 28, 25, 31, 20, 31};
+    uint32_t residue, number;
+
+    number = bech32_residue(BECH32_BECH32, elements, sizeof elements, &residue);
+    if (number != BECH32_OK) {
+        return refused("residue", number);
+    }
+    printf("a12uel5l: remainder %u, target %u\n", (unsigned)residue, (unsigned)BECH32_TARGET);
+    return 0;
+}
+
+int main(void) {
+    printf("bech32 %s\n", BECH32_VERSION);
+    return texts() || corrections() || addresses() || remainder_of_a_text();
 }

@@ -1,5 +1,5 @@
 /*
- * Calls every function of bech32.h with random and mistyped input and with buffers of every size.
+ * Calls every function of bech32.h and of codex32.h with random and mistyped input and with buffers of every size.
  *
  *     fuzz CALLS SEED
  *
@@ -22,6 +22,7 @@
 #include <sys/mman.h>
 
 #include "bech32.h"
+#include "codex32.h"
 
 #if defined(__has_feature)
 #if __has_feature(address_sanitizer)
@@ -591,6 +592,117 @@ static void try_correct(void) {
     }
 }
 
+/* Codex32 strings. */
+static const uint32_t of_codex32_parse[] = {2, 11, 12, 13, 14, 15, 21, 22, 23, 33, 81, 82, 83, 84, 0};
+static Function read_codex32 = {"codex32_parse", 0, {0}, of_codex32_parse};
+static Area threshold_area, share_index_area;
+
+/* A known string, one that is some changes from it, or any text. */
+static void random_string(void) {
+    static const char *known[] = {
+        "ms10testsxxxxxxxxxxxxxxxxxxxxxxxxxx4nzvca9cmczlw",
+        "ms12testaxxxxxxxxxxxxxxxxxxxxxxxxxxk2htcew89530d",
+        "ms1qtestsxxxxxxxxxxxxxxxxxxxxxxxxxxq68ksv56lmaq5",
+        "ms10testaxxxxxxxxxxxxxxxxxxxxxxxxxxzd568kp774rau",
+        "ms13lwj58s47h5wpzp0pm9dmwl0n4084llte76ftpzr2phlsa93mxazghatx2hglr8p754666v",
+    };
+    if (percent(20)) {
+        random_text();
+        return;
+    }
+    const char *one = known[below(sizeof known / sizeof *known)];
+    text_length = strlen(one);
+    memcpy(text, one, text_length);
+    for (size_t i = percent(50) ? 0 : 1 + below(4); i > 0; i--) {
+        uint8_t letter = (uint8_t)alphabet[below(32)];
+        text[below(text_length)] = percent(90) ? letter : (uint8_t)below(256);
+    }
+    if (percent(5)) {
+        text_length = below(text_length + 1);
+    }
+}
+
+static void try_codex32_parse(void) {
+    uint32_t before[2] = {(uint32_t)next_number(), (uint32_t)next_number()};
+    begin(&read_codex32);
+    random_string();
+    place(&read_1, text, text_length, 1);
+    place(&threshold_area, &before[0], sizeof before[0], sizeof before[0]);
+    place(&share_index_area, &before[1], sizeof before[1], sizeof before[1]);
+    size_t *told = new_length(&length_1);
+    uint32_t number = codex32_parse(read_1.buffer, text_length,
+                                    (uint32_t *)(void *)threshold_area.buffer,
+                                    (uint32_t *)(void *)share_index_area.buffer, told);
+    int is_ok = number == CODEX32_OK;
+    count(&read_codex32, number);
+    expect_kept(&read_1, 0, "the text changed");
+    expect_kept(&threshold_area, is_ok ? sizeof before[0] : 0, "the threshold changed");
+    expect_kept(&share_index_area, is_ok ? sizeof before[1] : 0, "the share index changed");
+    expect_kept(&length_1, is_ok ? sizeof(size_t) : 0, "the length changed");
+    if (!is_ok) {
+        return;
+    }
+    uint32_t threshold, share_index;
+    memcpy(&threshold, threshold_area.buffer, sizeof threshold);
+    memcpy(&share_index, share_index_area.buffer, sizeof share_index);
+    expect(text_length >= CODEX32_MIN_TEXT && text_length <= CODEX32_MAX_TEXT &&
+               length_in(&length_1) + CODEX32_PAYLOAD_AT + 13 == text_length,
+           "the length of the payload");
+    expect(text[CODEX32_THRESHOLD_AT] == '0' + threshold && threshold <= 9 && threshold != 1 &&
+               text[CODEX32_SHARE_INDEX_AT] == share_index &&
+               (threshold != 0 || lowered(text[CODEX32_SHARE_INDEX_AT]) == 's'),
+           "the threshold or the share index");
+}
+
+static const uint32_t of_codex32_propose[] = {2, 11, 12, 13, 14, 15, 21, 22, 23, 34, 81, 82, 91, 92, 0};
+static Function propose_codex32 = {"codex32_propose", 0, {0}, of_codex32_propose};
+static Area memory_area;
+
+/* Ample memory, and memory of any size that ends where nobody may touch. */
+static _Alignas(16) uint8_t ample_memory[CODEX32_MEMORY(AREA)];
+static _Alignas(16) uint8_t some_memory[CODEX32_MEMORY(AREA)];
+
+static void try_codex32_propose(void) {
+    static uint8_t ample[AREA];
+    size_t length = 0;
+    codex32_memory whole = {ample_memory, sizeof ample_memory};
+    begin(&propose_codex32);
+    random_string();
+    for (size_t i = percent(50) ? 0 : 1 + below(9); i > 0 && text_length > 4; i--) {
+        text[3 + below(text_length - 3)] = '?';
+    }
+    uint32_t expected =
+        codex32_propose(text, text_length, &whole, ample, sizeof ample, &length);
+    expect(whole.start == ample_memory && whole.size == sizeof ample_memory, "the memory was kept");
+    expect(expected != CODEX32_NO_MEMORY, "the memory that the header states does not suffice");
+    int is_small = percent(30);
+    size_t enough = CODEX32_MEMORY(text_length);
+    size_t size = is_small ? below(enough) : enough;
+    codex32_memory memory = {some_memory + (sizeof some_memory - size) / 16 * 16, size};
+    FORBID(some_memory, sizeof some_memory);
+    ALLOW(memory.start, size);
+    place(&read_1, text, text_length, 1);
+    place(&memory_area, &memory, sizeof memory, sizeof(size_t));
+    place(&written_1, NULL, room(expected == CODEX32_OK ? length : text_length), 1);
+    size_t *told = new_length(&length_1);
+    uint32_t number = codex32_propose(read_1.buffer, text_length,
+                                      (codex32_memory *)(void *)memory_area.buffer, written_1.buffer,
+                                      written_1.length, told);
+    int is_ok = number == CODEX32_OK;
+    count(&propose_codex32, number);
+    if (!is_small || number != CODEX32_NO_MEMORY) {
+        expect_number(number, expected, length <= written_1.length);
+    }
+    expect_kept(&read_1, 0, "the text changed");
+    expect_kept(&memory_area, 0, "the memory was kept");
+    expect_kept(&written_1, is_ok ? length : 0, "the buffer changed elsewhere");
+    expect_kept(&length_1, is_ok ? sizeof length : 0, "the length changed");
+    if (is_ok) {
+        expect(length_in(&length_1) == length && length == text_length, "the length");
+        expect(memcmp(written_1.buffer, ample, length) == 0, "another text");
+    }
+}
+
 static void print(const Function *function) {
     printf("%s: %llu calls; ", function->name, function->calls);
     printf("%llu answered", function->numbers[BECH32_OK]);
@@ -605,12 +717,14 @@ static void print(const Function *function) {
 int main(int argc, char **argv) {
     static void (*const tries[])(void) = {
         try_encode,        try_decode,  try_check,   try_segwit_encode,
-        try_segwit_decode, try_residue, try_correct,
+        try_segwit_decode, try_residue, try_correct, try_codex32_parse,
+        try_codex32_propose,
     };
     unsigned long long count = argc > 1 ? strtoull(argv[1], NULL, 10) : 100000;
     Area *areas[] = {
         &read_1,        &read_2,         &written_1,   &written_2,   &length_1, &length_2,
         &erasures_area, &locations_area, &values_area, &mended_area, &length_3,
+        &threshold_area, &share_index_area, &memory_area,
     };
     state = argc > 2 ? strtoull(argv[2], NULL, 10) : 1;
     for (size_t i = 0; i < sizeof areas / sizeof *areas; i++) {
@@ -627,5 +741,7 @@ int main(int argc, char **argv) {
     print(&segwit_decode);
     print(&residue);
     print(&correct);
+    print(&read_codex32);
+    print(&propose_codex32);
     return 0;
 }

@@ -24,7 +24,8 @@ use Rattle.b32.specs.declared.refusal.Refusal.TheVariants.{BadNumber, Memory}
 use Rattle.b32.specs.Locations.{AreLocations, BeginsWithLocation, IsNoListOfLocations}
 use Rattle.b32.specs.Numbers.{number_of}
 use Rattle.b32.specs.Request.{code_of_name}
-use Rattle.b32.specs.Reply.{err, listed, IsCorrectAnswer, IsCorrectAtAnswer}
+use Rattle.bech32_lines.specs.Refused.{err}
+use Rattle.b32.specs.Reply.{listed, IsCorrectAnswer, IsCorrectAtAnswer}
 
 -- both codes are short
 bech32-short : bech32.code_length ≤ 1023

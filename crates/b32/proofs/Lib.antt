@@ -1,12 +1,8 @@
 pub mod Bytes
 pub mod CorrectReplies
 pub mod CorrectSplit
-pub mod Gathered
-pub mod Joined
-pub mod Kept
 pub mod LocationLists
 pub mod LocationWords
-pub mod Pieces
 pub mod Replies
 pub mod SegwitReplies
 pub mod SegwitSplit

@@ -15,7 +15,9 @@ use Rattle.b32.specs.Numbers.{number_of}
 use Rattle.b32.specs.declared.refusal.Refusal.{Refusal}
 use Rattle.b32.specs.declared.refusal.Refusal.TheVariants.{BadHex, Memory}
 use Rattle.b32.specs.Request.{Request, request_of}
-use Rattle.b32.specs.Reply.{err, Adds, OrNoMemory, IsEncodeAnswer, IsDecodeAnswer, IsAnswer, IsReply}
+use Rattle.bech32_lines.specs.Added.{Adds}
+use Rattle.bech32_lines.specs.Refused.{err}
+use Rattle.b32.specs.Reply.{OrNoMemory, IsEncodeAnswer, IsDecodeAnswer, IsAnswer, IsReply}
 
 -- ---- the answer to `encode`
 
@@ -69,7 +71,3 @@ words-reply line said n u r e = rw (le-ltb 4096 (length line) n, is_utf8-from_Is
 -- a line that asks for something
 pub answer-reply : (line said : List ℕ) (request : Request) → length line ≤ 4096 → IsUtf8 line → request_of line ≡ Some request → IsAnswer request said → IsReply line said
 answer-reply line said request n u r h = rw (le-ltb 4096 (length line) n, is_utf8-from_IsUtf8 line u, r) h
-
--- a long line has one reply
-pub reply-long : (line said : List ℕ) → 4096 < length line → IsReply line said → said ≡ err 1
-reply-long line said n h = rw (lt-ltb 4096 (length line) n) at h

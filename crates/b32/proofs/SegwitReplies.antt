@@ -18,8 +18,9 @@ use Rattle.b32.specs.Numbers.{number_of}
 use Rattle.bech32_numbers.specs.Numbers.{number_of_hrp_error, number_of_segwit_encode_error}
 use Rattle.b32.specs.declared.refusal.Refusal.{Refusal}
 use Rattle.b32.specs.declared.refusal.Refusal.TheVariants.{BadHex, Memory}
-use Rattle.b32.specs.Reply.{err, IsVersionWord, IsNoVersion, IsSegwitEncodeAnswer, IsSegwitDecodeAnswer}
-use Rattle.b32.proofs.Pieces.{three-pieces, four-pieces}
+use Rattle.bech32_lines.specs.Refused.{err}
+use Rattle.b32.specs.Reply.{IsVersionWord, IsNoVersion, IsSegwitEncodeAnswer, IsSegwitDecodeAnswer}
+use Rattle.bech32_lines.proofs.Pieces.{three-pieces, four-pieces}
 use Rattle.b32.proofs.Sizes.{length-hex_of}
 use Rattle.b32.proofs.VersionWords.{length-version}
 

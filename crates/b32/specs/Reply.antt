@@ -22,6 +22,7 @@ use Rattle.bech32_errors.specs.declared.error.CheckedHrpstringError.{CheckedHrps
 use Rattle.bech32_errors.specs.declared.error.SegwitHrpstringError.TheVariants.{Memory}
 use Rattle.bech32_segwit.specs.declared.error.DecodeError.{DecodeError as SegwitDecodeError}
 use Rattle.bech32_segwit.specs.declared.error.EncodeError.{EncodeError as SegwitEncodeError}
+use Rattle.bech32_lines.specs.Refused.{err}
 use Rattle.b32.specs.Hex.{AreBytes, bytes_of, hex_of}
 use Rattle.bech32_numbers.specs.Numbers.{number_of_checked_error, number_of_hrp_error}
 use Rattle.bech32_numbers.specs.Numbers.{number_of_decode_error, number_of_encode_error}
@@ -29,10 +30,6 @@ use Rattle.bech32_numbers.specs.Numbers.{number_of_segwit_decode_error, number_o
 use Rattle.b32.specs.Locations.{AreLocations, BeginsWithLocation, IsNoListOfLocations}
 use Rattle.b32.specs.Request.{Request, Encode, Decode, SegwitEncode, SegwitDecode, Correct, CorrectAt}
 use Rattle.b32.specs.Request.{code_of_name, request_of}
-
--- a refusal with this number
-abbrev pub err : ℕ → List ℕ
-err number = codes "err " ++ decimal number
 
 -- an answer, or that there is no memory for the bytes of a word in hex, which then has its digits in pairs
 abbrev pub OrNoMemory : List ℕ → (List ℕ → Type 0) → List ℕ → Type 0
@@ -184,13 +181,6 @@ IsAnswer (SegwitEncode hrp version hex) said = IsSegwitEncodeAnswer hrp version 
 IsAnswer (SegwitDecode text) said = IsSegwitDecodeAnswer text said
 IsAnswer (Correct checksum text) said = IsCorrectAnswer (code_of_name checksum) text [] said
 IsAnswer (CorrectAt checksum text word) said = IsCorrectAtAnswer (code_of_name checksum) text word said
-
--- what is said is added to bytes, and leaves room for a newline
-pub record Adds (Says : List ℕ → Type 0) (old new : List ℕ) : Type 0 where
-  pub said : List ℕ
-  pub says : Says said
-  pub size : length said ≤ 2047
-  pub added : new ≡ old ++ said
 
 -- what may be said of a line: it is too long, no text or no request, in this order, or it is answered
 abbrev pub IsReply : List ℕ → List ℕ → Type 0

@@ -4,16 +4,7 @@ ghost use Rattle.std.specs.Prelude.{◌≡◌, ◌+◌, ◌<◌, ◌≤◌, ◌+
 ghost use Rattle.std.specs.Fmt.{decimal};
 ghost use Rattle.bech32_hrp.specs.Hrp.{lowered};
 
-/// Adds bytes.
-pub fn append(out: &mut Vec<u8>, bytes: &[u8])
-    requires { vec_len out.old + length bytes.now ≤ vec_capacity out.old }
-    ensures items { out.new.items ≡ out.old.items ++ bytes.now }
-    ensures capacity { vec_capacity out.old ≤ vec_capacity out.new }
-{
-    let Ok(()) = out.extend_from_slice(bytes) else {
-        unreachable!()
-    };
-}
+use bech32_lines::{append, append_number};
 
 /// Adds bytes, each ASCII letter in lower case.
 pub fn append_lowered(out: &mut Vec<u8>, bytes: &[u8])
@@ -24,20 +15,6 @@ pub fn append_lowered(out: &mut Vec<u8>, bytes: &[u8])
     for b in bytes {
         out.push(b.to_ascii_lowercase()).unwrap();
     }
-}
-
-/// Adds a number below 100 in decimal.
-pub fn append_number(out: &mut Vec<u8>, number: u8)
-    requires small { number < 100 }
-    requires room { vec_len out.old + 2 ≤ vec_capacity out.old }
-    ensures items { out.new.items ≡ out.old.items ++ decimal number }
-    ensures size { vec_len out.new ≤ vec_len out.old + 2 }
-    ensures capacity { vec_capacity out.old ≤ vec_capacity out.new }
-{
-    if number >= 10 {
-        append(out, &[b'0' + number / 10]);
-    }
-    append(out, &[b'0' + number % 10]);
 }
 
 /// Adds a location, which is 1022 at most, in decimal.

@@ -1,8 +1,10 @@
 //! Reads a line as a command with its arguments.
 
-ghost use Rattle.std.specs.Prelude.{◌≡◌, ◌≢◌, ℕ, List, [], ◌∷◌, MatchOption, Some, None};
-ghost use Rattle.b32.specs.Words.{words};
+ghost use Rattle.std.specs.Prelude.{◌≡◌, MatchOption, Some, None};
+ghost use Rattle.bech32_lines.specs.Words.{words};
 ghost use Rattle.b32.specs.Request.{checksum_of, correct_arguments, request_of, request_of_command};
+
+use bech32_lines::{first_word, only_word};
 
 /// The checksum that a command names.
 #[derive(Clone, Copy, Debug, PartialEq, Eq)]
@@ -47,32 +49,6 @@ pub enum Command<'a> {
         text: &'a str,
         locations: &'a str,
     },
-}
-
-/// The first word, and what stands behind the space after it.
-fn first_word(text: &str) -> Option<(&str, &str)>
-    ensures { MatchOption result
-        ((first second : List ℕ) (rest : List (List ℕ))
-        → words text.now ≡ first ∷ second ∷ rest → first ≡ [])
-        (λ r. (words text.now ≡ r.0.now ∷ words r.1.now) × (r.0.now ≢ [])) }
-{
-    let (word, rest) = text.split_once(' ')?;
-    if word.is_empty() {
-        return None;
-    }
-    Some((word, rest))
-}
-
-/// The text, where it is one word.
-fn only_word(text: &str) -> Option<&str>
-    ensures { MatchOption result
-        ((word : List ℕ) → words text.now ≡ word ∷ [] → word ≡ [])
-        (λ r. (words text.now ≡ r.now ∷ []) × (r.now ≢ [])) }
-{
-    if text.is_empty() || text.split_once(' ').is_some() {
-        return None;
-    }
-    Some(text)
 }
 
 /// The checksum of this name.

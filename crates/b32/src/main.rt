@@ -6,7 +6,6 @@ mod command;
 mod correct;
 mod decode;
 mod encode;
-mod error;
 mod hex_word;
 mod location_word;
 mod refusal;
@@ -28,7 +27,7 @@ fn main(rt: HostRuntime) -> ExitCode {
     match run_on(rt.alloc(), &mut source, &mut sink) {
         Ok(()) => ExitCode::SUCCESS,
         Err(e) => {
-            let _ = eprintln!(rt; "{e}");
+            let _ = eprintln!(rt; "b32: {e}");
             ExitCode::FAILURE
         }
     }

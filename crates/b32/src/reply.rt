@@ -4,9 +4,10 @@ ghost use Rattle.std.specs.Prelude.{◌≡◌, ℕ, ◌+◌, ◌≤◌, List, []
 ghost use Rattle.std.specs.Prelude.{vec_len, vec_capacity, OnOk, OnErr, IfErr};
 ghost use Rattle.b32.specs.Numbers.{number_of};
 ghost use Rattle.b32.specs.Request.{request_of_command};
-ghost use Rattle.b32.specs.Reply.{err, Adds, IsAnswer, IsReply};
+ghost use Rattle.bech32_lines.specs.Added.{Adds};
+ghost use Rattle.bech32_lines.specs.Refused.{err};
+ghost use Rattle.b32.specs.Reply.{IsAnswer, IsReply};
 
-use crate::append::{append, append_number};
 use crate::command::{ChecksumName, Command};
 use crate::correct::correct;
 use crate::decode::decode;
@@ -16,13 +17,8 @@ use crate::refusal::Refusal;
 use crate::segwit_decode::segwit_decode;
 use crate::segwit_encode::segwit_encode;
 use bech32::{Bech32, Bech32m};
+use bech32_lines::{LINE_LIMIT, append};
 use std::alloc::{Allocator, Global};
-
-/// A line may have so many bytes.
-pub const LINE_LIMIT: usize = 4096;
-
-/// What `reply` adds to its output is no longer than this.
-pub const REPLY_ROOM: usize = 2048;
 
 /// Adds the answer to a command, or leaves all as it was.
 fn answer<A: Allocator + Copy>(alloc: A, command: Command, out: &mut Vec<u8>) -> Result<(), Refusal>
@@ -81,8 +77,7 @@ fn append_refusal(out: &mut Vec<u8>, refusal: Refusal)
     ensures size { vec_len out.new ≤ vec_len out.old + 6 }
     ensures capacity { vec_capacity out.old ≤ vec_capacity out.new }
 {
-    append(out, b"err ");
-    append_number(out, refusal.number());
+    bech32_lines::append_refusal(out, refusal.number());
 }
 
 /// Adds the reply to a line, and a newline, with memory from `alloc`.

@@ -1,202 +1,36 @@
 //! Answers the lines of a source, one after another.
 
-ghost use Rattle.std.specs.Prelude.{◌≡◌, ℕ, ◌+◌, ◌≤◌, ◌<◌, false, true, List, [], ◌∷◌, ◌++◌, take};
-ghost use Rattle.std.specs.Prelude.{vec_len, vec_capacity, OnOk, OnErr, IsErrOf, IfOk};
-ghost use Rattle.std.specs.Io.KnownBytes.{Appends, Keeps};
-ghost use Rattle.b32.specs.Lines.{ended_from, rest_from, last_line};
+ghost use Rattle.std.specs.Prelude.{◌≡◌, ◌+◌, false, true, OnOk, IsErrOf};
+ghost use Rattle.bech32_lines.specs.Output.{IsAnswered, IsAnsweredSoFar, IsCutShort};
 ghost use Rattle.b32.specs.Reply.{IsReply};
-ghost use Rattle.b32.specs.Output.{IsOutput, IsBeginning, IsAnswered, IsAnsweredSoFar, IsCutShort};
 
-use crate::error::RunError;
-use crate::reply::{REPLY_ROOM, reply};
-use bech32::primitives::device::{ByteSink, ByteSource, Watched, write_all};
-use std::alloc::{AllocError, Global};
+use crate::reply::reply;
+use bech32::primitives::device::{ByteSink, ByteSource};
+use bech32_lines::{Replies, RunError};
+use std::alloc::Global;
 use std::io;
 
-// What is kept of a line: one byte more than it may have shows that it is too long.
-const KEPT: usize = 4097;
-
-// So many bytes are read at once.
-const READ: usize = 16384;
-
-// Replies are gathered in so much room.
-const OUT_ROOM: usize = 16384;
-
-/// What a run keeps between two reads, and the replies that are gathered and not written yet.
+/// The replies of this program, with memory from `alloc`.
 #[derive(Drop)]
-struct Lines {
-    line: Vec<u8>,
-    out: Vec<u8>,
-    ghost line_room: { vec_len line ≤ 4097 × 4097 ≤ vec_capacity line },
-    ghost out_room: { 16384 ≤ vec_capacity out },
+struct Commands {
+    alloc: Global,
 }
 
-impl Lines {
-    /// No bytes yet, and room for a line and for replies.
-    fn new(alloc: Global) -> Result<Lines, AllocError>
-        ensures { IfOk result (λ l. (l.line.items ≡ []) × (l.out.items ≡ [])) }
-    {
-        let line = Vec::with_capacity(alloc, KEPT)?;
-        let out = Vec::with_capacity(alloc, OUT_ROOM)?;
-        Ok(Lines { line, out })
-    }
+impl Replies for Commands {
+    ghost use Rattle.b32.specs.laws.LongLines.{long_lines};
 
-    /// Takes a byte that ends no line.
-    fn put(&mut self, b: u8)
-        ensures line { (before : List ℕ) → self.old.line.items ≡ take 4097 before
-            → self.new.line.items ≡ take 4097 (before ++ b ∷ []) }
-        ensures out { self.new.out ≡ self.old.out }
-    {
-        if self.line.len() < KEPT {
-            self.line.push(b).unwrap();
-        }
-    }
+    ghost is_reply = { IsReply };
 
-    /// Writes the replies that are gathered.
-    fn write_out<K: ByteSink>(&mut self, sink: &mut K) -> Result<(), RunError>
-        requires { K.has_failed sink.old ≡ false }
-        ensures ok { OnOk result (Appends (K.contents sink.old) (K.contents sink.new) self.old.out.items) }
-        ensures ok_mark { OnOk result (K.has_failed sink.new ≡ false) }
-        ensures none_left { OnOk result (self.new.out.items ≡ []) }
-        ensures err { OnErr result ((n : ℕ)
-            × Appends (K.contents sink.old) (K.contents sink.new) (take n self.old.out.items)) }
-        ensures err_mark { OnErr result (K.has_failed sink.new ≡ true) }
-        ensures only { OnErr result (result ≡ Err RunError.Write) }
-        ensures line { self.new.line ≡ self.old.line }
-        ensures unflushed { K.flushes sink.new ≡ K.flushes sink.old }
-        ensures same { K.is_same sink.old sink.new }
-    {
-        match write_all(sink, self.out.as_slice()) {
-            Ok(()) => {
-                self.out.clear();
-                Ok(())
-            }
-            Err(_) => Err(RunError::Write),
-        }
-    }
+    ghost too_long = { long_lines };
 
-    /// Writes what is gathered where there may be no room for a reply behind it.
-    fn make_room<K: ByteSink>(&mut self, sink: &mut K) -> Result<(), RunError>
-        requires { K.has_failed sink.old ≡ false }
-        ensures ok { OnOk result ((out : List ℕ) × Appends (K.contents sink.old) (K.contents sink.new) out
-            × (self.old.out.items ≡ out ++ self.new.out.items)) }
-        ensures ok_mark { OnOk result (K.has_failed sink.new ≡ false) }
-        ensures room { OnOk result (vec_len self.new.out ≤ 14336) }
-        ensures err { OnErr result ((n : ℕ)
-            × Appends (K.contents sink.old) (K.contents sink.new) (take n self.old.out.items)) }
-        ensures err_mark { OnErr result (K.has_failed sink.new ≡ true) }
-        ensures only { OnErr result (result ≡ Err RunError.Write) }
-        ensures line { self.new.line ≡ self.old.line }
-        ensures unflushed { K.flushes sink.new ≡ K.flushes sink.old }
-        ensures same { K.is_same sink.old sink.new }
-    {
-        if self.out.len() <= OUT_ROOM - REPLY_ROOM {
-            return Ok(());
-        }
-        self.write_out(sink)
-    }
-
-    /// Gathers the reply to the line, and makes ready for the next.
-    fn answer<K: ByteSink>(&mut self, alloc: Global, sink: &mut K) -> Result<(), RunError>
-        requires { K.has_failed sink.old ≡ false }
-        ensures ok { OnOk result ((before : List ℕ) → self.old.line.items ≡ take 4097 before
-            → (said : List ℕ) × IsReply before said
-            × (out : List ℕ) × Appends (K.contents sink.old) (K.contents sink.new) out
-            × (self.old.out.items ++ (said ++ 10 ∷ []) ≡ out ++ self.new.out.items)) }
-        ensures ok_mark { OnOk result (K.has_failed sink.new ≡ false) }
-        ensures next { OnOk result (self.new.line.items ≡ []) }
-        ensures err { OnErr result ((n : ℕ)
-            × Appends (K.contents sink.old) (K.contents sink.new) (take n self.old.out.items)) }
-        ensures err_mark { OnErr result (K.has_failed sink.new ≡ true) }
-        ensures only { OnErr result (result ≡ Err RunError.Write) }
-        ensures unflushed { K.flushes sink.new ≡ K.flushes sink.old }
-        ensures same { K.is_same sink.old sink.new }
-    {
-        self.make_room(sink)?;
-        reply(alloc, self.line.as_slice(), &mut self.out);
-        self.line.clear();
-        Ok(())
-    }
-
-    /// Takes bytes, gathers the reply to each line that they end, and writes all replies.
-    fn feed<K: ByteSink>(
-        &mut self,
-        alloc: Global,
-        bytes: &[u8],
-        sink: &mut K,
-    ) -> Result<(), RunError>
-        requires unmarked { K.has_failed sink.old ≡ false }
-        requires none_left { self.old.out.items ≡ [] }
-        ensures ok { OnOk result ((before : List ℕ) → self.old.line.items ≡ take 4097 before
-            → (self.new.line.items ≡ take 4097 (rest_from before bytes.now))
-            × (out : List ℕ) × Appends (K.contents sink.old) (K.contents sink.new) out
-            × IsOutput (ended_from before bytes.now) out) }
-        ensures ok_mark { OnOk result (K.has_failed sink.new ≡ false) }
-        ensures none_left { OnOk result (self.new.out.items ≡ []) }
-        ensures err { OnErr result ((before : List ℕ) → self.old.line.items ≡ take 4097 before
-            → (out : List ℕ) × Appends (K.contents sink.old) (K.contents sink.new) out
-            × IsBeginning (ended_from before bytes.now) out) }
-        ensures err_mark { OnErr result (K.has_failed sink.new ≡ true) }
-        ensures only { OnErr result (result ≡ Err RunError.Write) }
-        ensures unflushed { K.flushes sink.new ≡ K.flushes sink.old }
-        ensures same { K.is_same sink.old sink.new }
-    {
-        for b in bytes {
-            if *b == b'\n' {
-                self.answer(alloc, sink)?;
-            } else {
-                self.put(*b);
-            }
-        }
-        self.write_out(sink)
-    }
-
-    /// Answers what is left at the end.
-    fn finish<K: ByteSink>(&mut self, alloc: Global, sink: &mut K) -> Result<(), RunError>
-        requires unmarked { K.has_failed sink.old ≡ false }
-        requires none_left { self.old.out.items ≡ [] }
-        ensures ok { OnOk result ((before : List ℕ) → self.old.line.items ≡ take 4097 before
-            → (out : List ℕ) × Appends (K.contents sink.old) (K.contents sink.new) out
-            × IsOutput (last_line before) out) }
-        ensures ok_mark { OnOk result (K.has_failed sink.new ≡ false) }
-        ensures err { OnErr result ((before : List ℕ) → self.old.line.items ≡ take 4097 before
-            → (out : List ℕ) × Appends (K.contents sink.old) (K.contents sink.new) out
-            × ((xs : List (List ℕ)) (a : List ℕ) → IsOutput xs a
-            → IsBeginning (xs ++ last_line before) (a ++ out))) }
-        ensures err_mark { OnErr result (K.has_failed sink.new ≡ true) }
-        ensures only { OnErr result (result ≡ Err RunError.Write) }
-        ensures unflushed { K.flushes sink.new ≡ K.flushes sink.old }
-        ensures same { K.is_same sink.old sink.new }
-    {
-        if self.line.is_empty() {
-            return Ok(());
-        }
-        self.answer(alloc, sink)?;
-        self.write_out(sink)
+    fn reply(&self, line: &[u8], out: &mut Vec<u8>) {
+        reply(self.alloc, line, out)
     }
 }
 
-/// Flushes the sink.
-fn flush<K: ByteSink>(sink: &mut K) -> Result<(), RunError>
-    requires { K.has_failed sink.old ≡ false }
-    ensures bytes { Keeps (K.contents sink.old) (K.contents sink.new) }
-    ensures done { OnOk result (K.is_flushed sink.new ≡ true) }
-    ensures counted { OnOk result (K.flushes sink.new ≡ K.flushes sink.old + 1) }
-    ensures uncounted { OnErr result (K.flushes sink.new ≡ K.flushes sink.old) }
-    ensures ok_mark { OnOk result (K.has_failed sink.new ≡ false) }
-    ensures err_mark { OnErr result (K.has_failed sink.new ≡ true) }
-    ensures only { OnErr result (result ≡ Err RunError.Write) }
-    ensures same { K.is_same sink.old sink.new }
-{
-    match sink.flush() {
-        Ok(()) => Ok(()),
-        Err(_) => Err(RunError::Write),
-    }
-}
-
-/// Answers each line of a source: writes its reply and a newline. It makes its buffers first, writes
-/// the replies to all lines that have ended before each further read, and flushes the sink once, at
-/// its end, unless writing failed.
+/// Answers each line of a source, as [`bech32_lines::run_on`] does: writes its reply and a newline. It
+/// makes its buffers first, writes the replies to all lines that have ended before each further read,
+/// and flushes the sink once, at its end, unless writing failed.
 ///
 /// # Errors
 ///
@@ -210,10 +44,10 @@ pub fn run_on<S: ByteSource, K: ByteSink>(
 ) -> Result<(), RunError>
     requires source_unmarked { S.has_failed source.old ≡ false }
     requires sink_unmarked { K.has_failed sink.old ≡ false }
-    ensures ok { OnOk result (IsAnswered (S.remaining source.old) (S.remaining source.new)
+    ensures ok { OnOk result (IsAnswered IsReply (S.remaining source.old) (S.remaining source.new)
         (K.contents sink.old) (K.contents sink.new)) }
     ensures read { IsErrOf result RunError.Read
-        → IsAnsweredSoFar (S.remaining source.old) (S.remaining source.new)
+        → IsAnsweredSoFar IsReply (S.remaining source.old) (S.remaining source.new)
         (K.contents sink.old) (K.contents sink.new) }
     ensures flushed { OnOk result (K.is_flushed sink.new ≡ true) }
     ensures flushed_once { OnOk result (K.flushes sink.new ≡ K.flushes sink.old + 1) }
@@ -225,7 +59,7 @@ pub fn run_on<S: ByteSource, K: ByteSink>(
     ensures read_marks { IsErrOf result RunError.Read
         → (S.has_failed source.new ≡ true) × (K.has_failed sink.new ≡ false) }
     ensures write { IsErrOf result RunError.Write
-        → IsCutShort (S.remaining source.old) (S.remaining source.new)
+        → IsCutShort IsReply (S.remaining source.old) (S.remaining source.new)
         (K.contents sink.old) (K.contents sink.new) }
     ensures write_mark { IsErrOf result RunError.Write → K.has_failed sink.new ≡ true }
     ensures write_unflushed { IsErrOf result RunError.Write
@@ -235,25 +69,10 @@ pub fn run_on<S: ByteSource, K: ByteSink>(
     ensures source_same { S.is_same source.old source.new }
     ensures sink_same { K.is_same sink.old sink.new }
 {
-    let Ok(mut lines) = Lines::new(alloc) else {
-        return Err(RunError::Memory);
-    };
-    let mut buf = [0u8; READ];
-    'reads: loop {
-        let Ok(n) = source.read(&mut buf) else {
-            flush(sink)?;
-            return Err(RunError::Read);
-        };
-        if n == 0 {
-            break 'reads;
-        }
-        lines.feed(alloc, &buf[..n], sink)?;
-    }
-    lines.finish(alloc, sink)?;
-    flush(sink)
+    bech32_lines::run_on(alloc, &Commands { alloc }, source, sink)
 }
 
-/// Answers each line of a reader, as `run_on` does over a [`Watched`] reader and writer.
+/// Answers each line of a reader, as `run_on` does over a watched reader and writer.
 ///
 /// # Errors
 ///
@@ -264,20 +83,18 @@ pub fn run<R: io::Read, W: io::Write>(
     reader: &mut R,
     writer: &mut W,
 ) -> Result<(), RunError>
-    ensures ok { OnOk result (IsAnswered (R.remaining reader.old) (R.remaining reader.new)
+    ensures ok { OnOk result (IsAnswered IsReply (R.remaining reader.old) (R.remaining reader.new)
         (W.contents writer.old) (W.contents writer.new)) }
     ensures read { IsErrOf result RunError.Read
-        → IsAnsweredSoFar (R.remaining reader.old) (R.remaining reader.new)
+        → IsAnsweredSoFar IsReply (R.remaining reader.old) (R.remaining reader.new)
         (W.contents writer.old) (W.contents writer.new) }
     ensures write { IsErrOf result RunError.Write
-        → IsCutShort (R.remaining reader.old) (R.remaining reader.new)
+        → IsCutShort IsReply (R.remaining reader.old) (R.remaining reader.new)
         (W.contents writer.old) (W.contents writer.new) }
     ensures memory { IsErrOf result RunError.Memory
         → (reader.new ≡ reader.old) × (writer.new ≡ writer.old) }
 {
-    let mut source = Watched::new(reader);
-    let mut sink = Watched::new(writer);
-    run_on(alloc, &mut source, &mut sink)
+    bech32_lines::run(alloc, &Commands { alloc }, reader, writer)
 }
 
 #[cfg(test)]

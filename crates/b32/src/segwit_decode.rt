@@ -2,12 +2,15 @@
 
 ghost use Rattle.std.specs.Prelude.{◌≡◌, ◌+◌, ◌≤◌, vec_len, vec_capacity, OnOk, OnErr, IfErr};
 ghost use Rattle.b32.specs.Numbers.{number_of};
-ghost use Rattle.b32.specs.Reply.{err, Adds, IsSegwitDecodeAnswer};
+ghost use Rattle.bech32_lines.specs.Added.{Adds};
+ghost use Rattle.bech32_lines.specs.Refused.{err};
+ghost use Rattle.b32.specs.Reply.{IsSegwitDecodeAnswer};
 
-use crate::append::{append, append_lowered, append_number};
+use crate::append::append_lowered;
 use crate::hex_word::word_of_bytes;
 use crate::refusal::Refusal;
 use bech32::segwit;
+use bech32_lines::{append, append_number};
 use std::alloc::Allocator;
 
 /// Adds the human-readable part, the version and the program of a segwit address, or leaves all as

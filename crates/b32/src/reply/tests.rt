@@ -7,6 +7,7 @@
 //! applied to it. The others come from BIP-173 and BIP-350, or show one refusal each.
 
 use super::*;
+use bech32_lines::REPLY_ROOM;
 use linked_list_allocator::LocalHeap;
 use std::process::Abort;
 use std::test::Fail;

@@ -1,7 +1,7 @@
 ghost use Rattle.std.specs.Prelude.{◌<◌};
 
 use super::run;
-use crate::error::RunError;
+use bech32_lines::RunError;
 use std::fmt::Debug;
 use std::io;
 use std::process::Abort;

@@ -2,7 +2,7 @@ use Rattle.std.proofs.Common.{◌≡◌, Some, None, refl}
 use Rattle.std.proofs.lemmas.Result.{on_ok_weaker, IfErr-weaker}
 use Rattle.b32.specs.Numbers.{number_of}
 use Rattle.b32.specs.Request.{request_of, request_of_command}
-use Rattle.b32.specs.Reply.{err}
+use Rattle.bech32_lines.specs.Refused.{err}
 use Rattle.b32.proofs.Replies.{bytes-reply, words-reply, answer-reply}
 use Rattle.b32.proofs.reply.answer_line.Goals as goal
 

@@ -1,7 +1,7 @@
 use Rattle.std.proofs.Common.{◌≡◌, ℕ, List, [], ◌∷◌, ◌++◌, length, length-append, ap, ◌∙◌, arith, Vec, Global, vec_len, vec_capacity}
 use Rattle.b32.specs.Numbers.{number_of}
-use Rattle.b32.specs.Reply.{err}
-use Rattle.b32.proofs.Pieces.{two-pieces}
+use Rattle.bech32_lines.specs.Refused.{err}
+use Rattle.bech32_lines.proofs.Pieces.{two-pieces}
 use Rattle.b32.proofs.reply.reply_in.Goals.{in-Err, in_default}
 use Rattle.b32.proofs.reply.reply_in.Goals as goal
 

@@ -1,0 +1,2 @@
+-- What the laws of the trait of replies are proved by.
+pub mod LongLines

@@ -1,0 +1,61 @@
+//! Calls whose requests for memory are refused, one at a time.
+
+use crate::compare::same;
+use bech32_testing_memory::Refusing;
+use std::alloc::Global;
+use std::process::Abort;
+use std::test::Fail;
+
+/// What a call answers, beside its answer where memory is ample.
+#[derive(Clone, Copy, PartialEq, Eq, Debug)]
+pub enum Answer {
+    /// That very answer.
+    Undisturbed,
+    /// Want of memory.
+    NoMemory,
+    /// Anything else.
+    Other,
+}
+
+impl Answer {
+    /// What is answered where it is told whether that is the undisturbed answer.
+    pub fn of(is_undisturbed: bool) -> Answer {
+        if is_undisturbed {
+            Answer::Undisturbed
+        } else {
+            Answer::Other
+        }
+    }
+}
+
+/// A call that takes memory.
+pub trait Call {
+    /// What it answers with the memory of a heap.
+    fn answer(heap: &Refusing<Global>) -> Result<Answer, Fail>;
+}
+
+/// Refuses each request of a call in turn, until all are granted: it answers want of memory or the
+/// undisturbed answer, and the latter in the end. It says how often it answered want of memory.
+pub fn wants_of<C: Call>(rt: &impl Abort, alloc: Global) -> Result<u32, Fail> {
+    let mut wants = 0u32;
+    for number in 1..1000u64 {
+        let heap = Refusing::new(alloc, number);
+        let answer = C::answer(&heap)?;
+        if answer == Answer::NoMemory {
+            wants = wants.saturating_add(1);
+        }
+        same(rt, &(number, answer == Answer::Other), &(number, false));
+        if !heap.has_refused() {
+            same(rt, &(number > 1, answer), &(true, Answer::Undisturbed));
+            return Ok(wants);
+        }
+    }
+    Err("there are more requests".into())
+}
+
+/// The same of a call that wants memory where one of its requests is refused.
+pub fn each_refused<C: Call>(rt: &impl Abort, alloc: Global) -> Result<(), Fail> {
+    let wants = wants_of::<C>(rt, alloc)?;
+    same(rt, &(wants > 0), &true);
+    Ok(())
+}

@@ -1,0 +1,5 @@
+use Rattle.std.proofs.Common.{rules}
+use Rattle.bech32_hrp.proofs.lowercase.LowercaseByteIterIterator.next.Goals as goal
+
+pub returns : goal.returns
+returns c = search rules

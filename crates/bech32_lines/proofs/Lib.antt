@@ -1,0 +1,6 @@
+pub mod Ended
+pub mod Kept
+pub mod Known
+pub mod Outputs
+pub mod Pieces
+pub mod Split

@@ -1,0 +1,67 @@
+-- The words of a line, one after another.
+use Rattle.std.proofs.Common.{◌≡◌, ◌≢◌, ℕ, ◌<◌, true, false, List, [], ◌∷◌, ◌++◌, length, get_or, eqb, sym, ap, ◌∙◌, refl, arith, Option, Some, None, is_some, MatchOption, Bor, eq-eqb}
+use Rattle.std.specs.List.{slice_split}
+use Rattle.std.proofs.lemmas.Bool.{ne_eqb}
+use Rattle.std.proofs.lemmas.List.Elements.{All-from_get_or}
+use Rattle.std.proofs.lemmas.List.Splits.{slice_split_none, slice_split_at, length-slice_split}
+use Rattle.std.proofs.lemmas.Str.Pattern.{IsSplitOnceResult, split_parts}
+use Rattle.bech32_lines.specs.Words.{words}
+
+-- a text without the byte is one part
+no_byte : (c : ℕ) (bs : List ℕ) → ((i : ℕ) → i < length bs → get_or bs i 0 ≢ c) → slice_split (λ b. eqb b c) bs ≡ bs ∷ []
+no_byte c bs h =
+    slice_split_none (λ b. eqb b c) bs
+    (All-from_get_or (λ b. eqb b c ≡ false) bs 0 (λ i l. ne_eqb (get_or bs i 0) c (h i l)))
+
+-- a part ends at the first such byte
+at_byte : (c : ℕ) (bs front back : List ℕ) → bs ≡ front ++ (c ∷ back) → ((i : ℕ) → i < length front → get_or front i 0 ≢ c)
+    → slice_split (λ b. eqb b c) bs ≡ front ∷ slice_split (λ b. eqb b c) back
+at_byte c bs front back e h =
+    ap (slice_split (λ b. eqb b c)) e
+    ∙ slice_split_at (λ b. eqb b c) front c back
+    (All-from_get_or (λ b. eqb b c ≡ false) front 0 (λ i l. ne_eqb (get_or front i 0) c (h i l))) (eq-eqb c c refl)
+
+-- the parts of a text, by what `split_once` answers
+pub split-split_once : (c : ℕ) (bs : List ℕ) (r : Option (Bor (List ℕ) × Bor (List ℕ))) → c < 128 → IsSplitOnceResult c bs r
+    → MatchOption r (slice_split (λ b. eqb b c) bs ≡ bs ∷ []) (λ x. slice_split (λ b. eqb b c) bs ≡ x.0.now ∷ slice_split (λ b. eqb b c) x.1.now)
+split-split_once c bs r ascii h = cases r (split_parts c bs r h ascii) where
+  cases : (s : Option (Bor (List ℕ) × Bor (List ℕ)))
+      → MatchOption s ((i : ℕ) → i < length bs → get_or bs i 0 ≢ c) (λ x. (bs ≡ x.0.now ++ (c ∷ x.1.now)) × ((i : ℕ) → i < length x.0.now → get_or x.0.now i 0 ≢ c))
+      → MatchOption s (slice_split (λ b. eqb b c) bs ≡ bs ∷ []) (λ x. slice_split (λ b. eqb b c) bs ≡ x.0.now ∷ slice_split (λ b. eqb b c) x.1.now)
+  cases None p = no_byte c bs p
+  cases (Some x) p = at_byte c bs x.0.now x.1.now p.0 p.1
+
+-- the words of a text likewise
+pub words-split_once : (bs : List ℕ) (r : Option (Bor (List ℕ) × Bor (List ℕ))) → IsSplitOnceResult 32 bs r
+    → MatchOption r (words bs ≡ bs ∷ []) (λ x. words bs ≡ x.0.now ∷ words x.1.now)
+words-split_once bs r h = split-split_once 32 bs r (omega arith) h
+
+-- there is at least one word
+pub words-some : (bs : List ℕ) → words bs ≡ [] → ⊥
+words-some bs e = omega (arith, length-slice_split (λ b. eqb b 32) bs, ap length e)
+
+-- more than one word where only an empty first one was taken
+pub first-empty : (all : List (List ℕ)) (w a b : List ℕ) (rest more : List (List ℕ)) → all ≡ w ∷ more → w ≡ [] → all ≡ a ∷ b ∷ rest → a ≡ []
+first-empty all w a b rest more e n h = cc
+
+-- no bytes
+pub length-zero : (bs : List ℕ) → length bs ≡ 0 → bs ≡ []
+length-zero [] e = refl
+length-zero (b ∷ bs) e = absurd (omega arith)
+
+-- a text that is not split is one word
+pub only-word : (bs : List ℕ) (r : Option (Bor (List ℕ) × Bor (List ℕ))) → MatchOption r (words bs ≡ bs ∷ []) (λ x. words bs ≡ x.0.now ∷ words x.1.now)
+    → is_some r ≡ false → words bs ≡ bs ∷ []
+only-word bs None h e = h
+only-word bs (Some x) h e = cc
+
+-- a text that is split is no single word
+pub several-words : (bs word : List ℕ) (r : Option (Bor (List ℕ) × Bor (List ℕ))) → MatchOption r (words bs ≡ bs ∷ []) (λ x. words bs ≡ x.0.now ∷ words x.1.now)
+    → is_some r ≡ true → words bs ≡ word ∷ [] → ⊥
+several-words bs word None h e one = cc
+several-words bs word (Some x) h e one = words-some x.1.now (let more : x.0.now ∷ words x.1.now ≡ word ∷ [] = sym h ∙ one in cc)
+
+-- an empty text is one empty word
+pub empty-word : (bs word : List ℕ) → length bs ≡ 0 → words bs ≡ word ∷ [] → word ≡ []
+empty-word [] word e one = cc
+empty-word (b ∷ bs) word e one = absurd (omega arith)

@@ -1,0 +1,5 @@
+pub mod Added
+pub mod Lines
+pub mod Output
+pub mod Refused
+pub mod Words

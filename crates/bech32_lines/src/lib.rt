@@ -1,0 +1,15 @@
+//! What programs that answer lines share: a run over all lines of an input, the words of a line, and
+//! replies put together. What is said of a line is the program's own ([`Replies`]).
+#![tactic(auto)]
+
+mod error;
+mod lines;
+mod output;
+mod replies;
+mod words;
+
+pub use error::RunError;
+pub use lines::{run, run_on};
+pub use output::{append, append_number, append_refusal};
+pub use replies::{LINE_LIMIT, REPLY_ROOM, Replies};
+pub use words::{first_word, only_word};

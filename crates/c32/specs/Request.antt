@@ -1,0 +1,32 @@
+-- What a line asks for: its first word names a command, the second is its argument.
+use Rattle.std.specs.Prelude.{ℕ, if◌then◌else◌, List, [], ◌∷◌, codes, Option, Some, None}
+use Rattle.std.specs.Str.{bytes_eq}
+use Rattle.bech32_lines.specs.Words.{words, has_empty_word}
+use Rattle.c32.specs.declared.command.Command.{Command}
+use Rattle.c32.specs.declared.command.Command.TheVariants.{Parse as ParseCommand, Propose as ProposeCommand}
+
+-- the parts of a codex32 string; the nearest text to a damaged one
+pub data Request : Type 0 where
+  Parse : (text : List ℕ) → Request
+  Propose : (text : List ℕ) → Request
+
+-- what a name asks for, of a text: `parse TEXT` or `propose TEXT`
+abbrev pub request_of_name : List ℕ → List ℕ → Option Request
+request_of_name name text =
+    if bytes_eq name (codes "parse") then Some (Parse text)
+    else (if bytes_eq name (codes "propose") then Some (Propose text)
+    else None)
+
+-- what words ask for
+abbrev pub request_of_words : List (List ℕ) → Option Request
+request_of_words (name ∷ text ∷ []) = request_of_name name text
+request_of_words _ = None
+
+-- what a line asks for, which has no empty word
+abbrev pub request_of : List ℕ → Option Request
+request_of line = if has_empty_word line then None else request_of_words (words line)
+
+-- what a command asks for
+abbrev pub request_of_command : Command → Request
+request_of_command (ParseCommand text) = Parse text.now
+request_of_command (ProposeCommand text) = Propose text.now

@@ -1,0 +1,30 @@
+//! Answers `parse`.
+
+ghost use Rattle.std.specs.Prelude.{◌≡◌, ◌+◌, ◌≤◌, vec_len, vec_capacity, OnOk, OnErr, IfErr};
+ghost use Rattle.bech32_lines.specs.Added.{Adds};
+ghost use Rattle.bech32_lines.specs.Refused.{err};
+ghost use Rattle.c32.specs.Numbers.{number_of};
+ghost use Rattle.c32.specs.Reply.{IsParseAnswer};
+
+use crate::refusal::Refusal;
+use bech32_lines::append;
+use codex32::Codex32Str;
+
+/// Adds the parts of a codex32 string, in the case of the text, or leaves all as it was.
+pub fn parse(text: &str, out: &mut Vec<u8>) -> Result<(), Refusal>
+    requires { vec_len out.old + 2047 ≤ vec_capacity out.old }
+    ensures ok { OnOk result (Adds (IsParseAnswer text.now) out.old.items out.new.items) }
+    ensures err { IfErr result (λ e. IsParseAnswer text.now (err (number_of e))) }
+    ensures same { OnErr result (out.new.items ≡ out.old.items) }
+    ensures capacity { vec_capacity out.old ≤ vec_capacity out.new }
+{
+    let parts = Codex32Str::parse(text)?;
+    // Both are ASCII characters: the casts are proved to lose nothing.
+    let threshold = parts.threshold() as u8;
+    let share_index = parts.share_index() as u8;
+    append(out, &[b'o', b'k', b' ', threshold, b' ']);
+    append(out, parts.identifier().as_bytes());
+    append(out, &[b' ', share_index, b' ']);
+    append(out, parts.payload().as_bytes());
+    Ok(())
+}

@@ -1,0 +1,3 @@
+mod Cell
+mod Cuts
+mod Taken

@@ -1,0 +1,78 @@
+//! A caller's memory as an allocator, which gives all of it as one block.
+
+ghost use Rattle.std.specs.Prelude.{◌≡◌, ◌<◌, ◌≤◌, ◌*◌, ◌/◌, ◌^◌, IfSome};
+ghost use Rattle.caller_memory.specs.Memory.{memory_size};
+ghost use Rattle.caller_memory.specs.Ownership.{block_token};
+
+use crate::memory::{Memory, Returned};
+use crate::slot::Slot;
+use std::alloc::{AllocError, Allocator};
+
+// To so many bytes the memory is aligned.
+const ALIGN: usize = 16;
+
+/// An allocator that has one block to give: all of a caller's memory.
+pub struct Lent {
+    slot: Slot,
+    size: usize,
+    ghost whole: { size ≡ memory_size slot },
+}
+
+impl Lent {
+    ghost use Rattle.caller_memory.specs.Lent.{lent_memory};
+
+    /// Takes a caller's memory over.
+    pub fn new(memory: Memory) -> Lent
+        ensures { lent_memory result ≡ memory }
+    {
+        let (size, memory) = memory.with_size();
+        let slot = Slot::new(memory);
+        Lent { slot, size }
+    }
+
+    /// The memory, where the block is not out.
+    pub fn into_memory(self) -> Option<Memory>
+        ensures { IfSome result (λ m. m ≡ lent_memory self) }
+    {
+        let Lent { slot, size: _ } = self;
+        slot.into_inner()
+    }
+
+    fn take(&self, size: usize, align: usize) -> Option<Memory>
+        ensures { IfSome result (λ m. (m ≡ lent_memory self.now)
+            × (size ≤ memory_size (lent_memory self.now) / 16 * 16) × (size < 2 ^ 63) × (align ≤ 16)) }
+    {
+        if align > ALIGN || size > isize::MAX as usize || size > self.size / ALIGN * ALIGN {
+            return None;
+        }
+        self.slot.replace(None)
+    }
+
+    fn give(&self, block: Returned)
+        requires { block.memory ≡ lent_memory self.now }
+    {
+        drop(self.slot.replace(Some(block.into_memory(self.size))));
+    }
+}
+
+unsafe impl Allocator for Lent {
+    ghost dealloc_token = { λ lent. block_token lent.slot };
+
+    fn allocate(&self, size: usize, align: usize) -> Result<*mut u8, AllocError> {
+        match self.take(size, align) {
+            Some(Memory { start, size: _ }) => Ok(start),
+            None => Err(AllocError),
+        }
+    }
+
+    unsafe fn deallocate(&self, ptr: *mut u8, _size: usize, _align: usize) {
+        self.give(Returned { start: ptr });
+    }
+}
+
+impl Drop for Lent {
+    fn drop(self) {
+        let Lent { slot, size: _ } = self;
+        drop(slot.into_inner());
+    }
+}

@@ -1,0 +1,77 @@
+//! Memory as a C program describes it.
+
+ghost use Rattle.std.specs.Prelude.{◌≡◌};
+ghost use Rattle.caller_memory.specs.Ownership.{bytes_at};
+ghost use Rattle.caller_memory.specs.declared.memory.Memory.{Memory as Whole};
+ghost use Rattle.caller_memory.specs.Memory.{memory_size};
+
+use core::mem::replace_with;
+use std::marker::Model;
+
+/// `size` bytes from `start` on, in which nothing lies, aligned to 16 bytes. What is more than a
+/// multiple of 16 bytes is not used.
+#[repr(C)]
+#[derive(Drop)]
+pub struct Memory {
+    pub(crate) start: *mut u8,
+    pub(crate) size: usize,
+}
+
+impl Model for Memory {
+    ghost also_owns = { λ m. bytes_at m.start m.size };
+}
+
+impl Memory {
+    /// The number of bytes, and the memory again.
+    pub fn with_size(self) -> (usize, Memory)
+        ensures { (result.0 ≡ memory_size self) × (result.1 ≡ self) }
+    {
+        let Memory { start, size } = self;
+        (size, Memory { start, size })
+    }
+
+    // The memory again, and memory of no bytes.
+    fn with_none(self) -> (Memory, Memory)
+        ensures { (result.0 ≡ self) × (memory_size result.1 ≡ 0) }
+    {
+        let Memory { start, size } = self;
+        (Memory { start, size }, Memory { start, size: 0 })
+    }
+
+    // Memory of no bytes, and the memory again.
+    fn parted(self, _unused: ()) -> (Memory, Memory)
+        ensures { (memory_size result.0 ≡ 0) × (result.1 ≡ self) }
+    {
+        let (whole, none) = self.with_none();
+        (none, whole)
+    }
+
+    /// The memory, which leaves memory of no bytes behind.
+    pub fn take(&mut self) -> Memory
+        ensures { (result ≡ self.old) × (memory_size self.new ≡ 0) }
+    {
+        replace_with(self, (), Memory::parted)
+    }
+}
+
+/// A block that comes back: all of a caller's memory.
+pub(crate) struct Returned {
+    pub(crate) start: *mut u8,
+    pub ghost memory: { Whole },
+    ghost begins: { start ≡ memory.start },
+}
+
+impl Model for Returned {
+    ghost also_owns = { λ r. bytes_at r.start r.memory.size };
+}
+
+impl Returned {
+    /// The memory, which has so many bytes.
+    pub(crate) fn into_memory(self, size: usize) -> Memory
+        requires { size ≡ memory_size self.memory }
+        ensures { result ≡ self.memory }
+    {
+        let Returned { start } = self;
+        Memory { start, size }
+    }
+}

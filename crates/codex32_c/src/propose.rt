@@ -1,0 +1,105 @@
+//! Proposes the nearest text to a damaged codex32 string.
+
+ghost use Rattle.std.specs.Prelude.{◌≡◌, ◌≢◌, ◌⊎◌, ◌≤◌, length, IfErr, IfOk, OnErr};
+ghost use Rattle.caller_memory.specs.Memory.{memory_size};
+ghost use Rattle.codex32_c.specs.Faults.{IsNumberOf};
+ghost use Rattle.codex32_c.specs.Propose.{IsProposeFault, PutsNearest};
+
+use crate::buffer::put;
+use crate::input::text_of;
+use crate::refusal::Refusal;
+use bumpalo::Bump;
+use caller_memory::{Lent, Memory};
+use codex32::{Codex32Error, propose_in};
+use std::alloc::Allocator;
+
+// The arena asks for whole pages, without what it keeps beside them.
+const PAGE: usize = 4096;
+
+const BESIDE: usize = 64;
+
+/// Puts the nearest text at the front of a buffer, and answers its length.
+pub(crate) fn nearest_in<A: Allocator + Copy>(
+    alloc: A,
+    bytes: &[u8],
+    proposed: &mut [u8],
+) -> Result<usize, Refusal>
+    ensures value { IfOk result (λ count. PutsNearest bytes.now proposed.old proposed.new count) }
+    ensures refused { IfErr result (λ e. IsProposeFault bytes.now (length proposed.old) e) }
+    ensures same { OnErr result (proposed.new ≡ proposed.old) }
+{
+    let text = text_of(bytes)?;
+    let nearest = match propose_in(alloc, text)? {
+        Some(nearest) => nearest,
+        None => return Err(Refusal::NoNearest),
+    };
+    let found = nearest.as_bytes();
+    if found.len() > proposed.len() {
+        return Err(Refusal::NoRoom);
+    }
+    put(proposed, found);
+    Ok(found.len())
+}
+
+// The same with so many bytes of lent memory.
+fn nearest_over(
+    lent: &Lent,
+    size: usize,
+    bytes: &[u8],
+    proposed: &mut [u8],
+) -> Result<usize, Refusal>
+    ensures value { IfOk result (λ count. PutsNearest bytes.now proposed.old proposed.new count) }
+    ensures refused { IfErr result (λ e. IsProposeFault bytes.now (length proposed.old) e) }
+    ensures same { OnErr result (proposed.new ≡ proposed.old) }
+{
+    let pages = size.saturating_add(16) / PAGE;
+    let Ok(arena) = Bump::try_with_capacity(lent, (pages * PAGE).saturating_sub(BESIDE)) else {
+        return Err(Refusal::Text(Codex32Error::Memory));
+    };
+    nearest_in(&arena, bytes, proposed)
+}
+
+// The same with memory that comes back.
+fn nearest_with(memory: &mut Memory, bytes: &[u8], proposed: &mut [u8]) -> Result<usize, Refusal>
+    ensures value { IfOk result (λ count. PutsNearest bytes.now proposed.old proposed.new count) }
+    ensures refused { IfErr result (λ e. IsProposeFault bytes.now (length proposed.old) e) }
+    ensures same { OnErr result (proposed.new ≡ proposed.old) }
+    ensures memory { (memory.new ≡ memory.old) ⊎ (memory_size memory.new ≡ 0) }
+{
+    let (size, whole) = memory.take().with_size();
+    let lent = Lent::new(whole);
+    let answer = nearest_over(&lent, size, bytes, proposed);
+    if let Some(whole) = lent.into_memory() {
+        *memory = whole;
+    }
+    answer
+}
+
+/// Puts the nearest text to a damaged codex32 string at the front of `proposed`, as [`propose_in`] has
+/// it; `proposed_length` is then its length. It is worked out in `memory`.
+///
+/// # Errors
+///
+/// Answers the number of the first of: a text that is not UTF-8 (2); the first fault of its grammar
+/// (21 to 23, 11 to 15), its length (82) and its human-readable part (81); no such text (34); a buffer
+/// that is too small (92). Where `memory` does not suffice, 91 in place of any answer.
+#[unsafe(no_mangle)]
+pub extern "C" fn codex32_propose(
+    text: &[u8],
+    memory: &mut Memory,
+    proposed: &mut [u8],
+    proposed_length: &mut usize,
+) -> u32
+    ensures value { result ≡ 0 → PutsNearest text.now proposed.old proposed.new proposed_length.new }
+    ensures refused { result ≢ 0 → IsNumberOf (IsProposeFault text.now (length proposed.old)) result }
+    ensures same { result ≢ 0 → (proposed.new ≡ proposed.old) × (proposed_length.new ≡ proposed_length.old) }
+    ensures memory { (memory.new ≡ memory.old) ⊎ (memory_size memory.new ≡ 0) }
+{
+    match nearest_with(memory, text, proposed) {
+        Ok(count) => {
+            *proposed_length = count;
+            0
+        }
+        Err(refusal) => refusal.number(),
+    }
+}

@@ -1,0 +1,53 @@
+//! Why a call writes nothing, and the numbers of refusals.
+
+ghost use Rattle.std.specs.Prelude.{◌≡◌, ◌<◌};
+ghost use Rattle.codex32_c.specs.Numbers.{number_of};
+
+use codex32::Codex32Error;
+use codex32_numbers::codex32_error_number;
+
+/// Why a call writes nothing.
+#[derive(Clone, Copy)]
+pub enum Refusal {
+    /// The bytes of a text are not UTF-8.
+    NotUtf8,
+    /// The text is no codex32 string, or there is no memory.
+    Text(Codex32Error),
+    /// There is no nearest text.
+    NoNearest,
+    /// A buffer is too small.
+    NoRoom,
+}
+
+impl Refusal {
+    // The number, which has two digits at most.
+    fn small_number(self) -> u8
+        ensures value { result ≡ number_of self }
+        ensures some { 0 < result }
+    {
+        match self {
+            Refusal::NotUtf8 => 2,
+            Refusal::Text(e) => codex32_error_number(e),
+            Refusal::NoNearest => 34,
+            Refusal::NoRoom => 92,
+        }
+    }
+
+    /// The number that a call answers.
+    pub fn number(self) -> u32
+        ensures value { result ≡ number_of self }
+        ensures some { 0 < result }
+    {
+        u32::from(self.small_number())
+    }
+}
+
+impl From<Codex32Error> for Refusal {
+    ghost use Rattle.codex32_c.specs.declared.refusal.Refusal.TheVariants.{Text};
+
+    ghost from_gives = { λ e r. r ≡ Text e };
+
+    fn from(e: Codex32Error) -> Refusal {
+        Refusal::Text(e)
+    }
+}

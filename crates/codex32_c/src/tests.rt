@@ -1,0 +1,154 @@
+use crate::parse::codex32_parse;
+use crate::propose::nearest_in;
+use linked_list_allocator::LocalHeap;
+use std::alloc::Allocator;
+use std::fmt::Debug;
+use std::process::Abort;
+use std::test::Fail;
+
+// What the numbers hold before a call.
+const BEFORE: u32 = 7777;
+
+const LENGTH_BEFORE: usize = 7777;
+
+// Fails where the two differ.
+fn same<T: PartialEq + Debug>(rt: &impl Abort, got: &T, want: &T) {
+    assert_eq!(rt; got, want);
+}
+
+// Reads a string, of which the threshold, the share index and the length of the payload are known.
+fn reads(rt: &impl Abort, text: &[u8], want: (u32, char, usize)) {
+    let (mut threshold, mut share_index, mut length) = (BEFORE, BEFORE, LENGTH_BEFORE);
+    let number = codex32_parse(text, &mut threshold, &mut share_index, &mut length);
+    same(rt, &number, &0);
+    same(rt, &threshold, &want.0);
+    same(rt, &share_index, &u32::from(want.1));
+    same(rt, &length, &want.2);
+}
+
+// Some rows are those of a reference model and of the Rust crate bech32 with a codex32 profile, which
+// agree; the first two are of BIP-93.
+#[test]
+fn reads_known_strings(rt: HostRuntime) {
+    let rows: [(&[u8], (u32, char, usize)); 6] = [
+        (
+            b"ms10testsxxxxxxxxxxxxxxxxxxxxxxxxxx4nzvca9cmczlw",
+            (0, 's', 26),
+        ),
+        (
+            b"MS10TESTSXXXXXXXXXXXXXXXXXXXXXXXXXX4NZVCA9CMCZLW",
+            (0, 'S', 26),
+        ),
+        (
+            b"ms12testaxxxxxxxxxxxxxxxxxxxxxxxxxxk2htcew89530d",
+            (2, 'a', 26),
+        ),
+        (
+            b"ms14v8j700fq3pltvct4589s7dwvy9vuyxd49xa9x3u8kre0w7egcqzrlzkm87vzm6vp7m08v7",
+            (4, '0', 52),
+        ),
+        (
+            b"ms12pfq9axd9m2xcjalevmsj955v3h7eesc5ndtrers3guca",
+            (2, 'a', 26),
+        ),
+        (
+            b"ms13lwj58s47h5wpzp0pm9dmwl0n4084llte76ftpzr2phlsa93mxazghatx2hglr8p754666v",
+            (3, '8', 52),
+        ),
+    ];
+    for (text, want) in rows {
+        reads(&rt, text, want);
+    }
+}
+
+#[test]
+fn refuses_texts(rt: HostRuntime) {
+    let rows: [(&[u8], u32); 13] = [
+        (b"\xff", 2),
+        (b"1qqqqqq", 11),
+        (b" 1qqqqqq", 14),
+        (b"\xc3\xa91qqqqqq", 13),
+        (b"ms10testsxxxxxxxxxxxxxxxxxxxxxxxxxx4nzvca9cmczlb", 21),
+        (b"Ms1q", 22),
+        (b"msq", 23),
+        (b"ms1qtestsqxxxxxxxxxxxxxxxxxxxxxxxxq4nzvca9cmczlq", 33),
+        (b"mt10testsxxxxxxxxxxxxxxxxxxxxxxxxxx4nzvca9cmczlw", 81),
+        (b"ms10testsxxxxxxxxxxxxxxxxxxxxxxxxxx4nzvca9cmczl", 82),
+        (b"mt10testsxxxxxxxxxxxxxxxxxxxxxxxxxx4nzvca9cmczl", 82),
+        (b"ms1qtestsxxxxxxxxxxxxxxxxxxxxxxxxxxq68ksv56lmaq5", 83),
+        (b"ms10testaxxxxxxxxxxxxxxxxxxxxxxxxxxzd568kp774rau", 84),
+    ];
+    for (text, want) in rows {
+        let (mut threshold, mut share_index, mut length) = (BEFORE, BEFORE, LENGTH_BEFORE);
+        let number = codex32_parse(text, &mut threshold, &mut share_index, &mut length);
+        same(&rt, &number, &want);
+        same(&rt, &threshold, &BEFORE);
+        same(&rt, &share_index, &BEFORE);
+        same(&rt, &length, &LENGTH_BEFORE);
+    }
+}
+
+// What a buffer holds before a call.
+const BYTE_BEFORE: u8 = 0xee;
+
+// The number of the answer to a damaged text with this memory and a buffer of so many bytes, of which
+// the front is the wanted text on 0, and else nothing is written.
+fn proposes<A: Allocator + Copy>(
+    rt: &impl Abort,
+    alloc: A,
+    text: &[u8],
+    room: usize,
+    want: &[u8],
+) -> u32 {
+    let mut buffer = [BYTE_BEFORE; 96];
+    let (buffer, _) = buffer.split_at_mut(room.min(96));
+    match nearest_in(alloc, text, buffer) {
+        Ok(count) => {
+            same(rt, &count, &want.len());
+            assert!(rt; buffer.starts_with(want));
+            assert!(rt; buffer.iter().skip(count).all(|b| *b == BYTE_BEFORE));
+            0
+        }
+        Err(refusal) => {
+            assert!(rt; buffer.iter().all(|b| *b == BYTE_BEFORE));
+            refusal.number()
+        }
+    }
+}
+
+const NEAREST: &[u8] = b"ms10testsxxxxxxxxxxxxxxxxxxxxxxxxxx4nzvca9cmczlw";
+
+#[test]
+fn proposes_known_texts(rt: HostRuntime) {
+    let rows: [(&[u8], usize, u32); 12] = [
+        (NEAREST, 96, 0),
+        (NEAREST, 48, 0),
+        (NEAREST, 47, 92),
+        (b"MS10TESTSXXXXXXXXXXXXXXXXXXXXXXXXXX4NZVC????????", 96, 0),
+        (b"ms1qtestsqxxxxxxxxxxxxxxxxxxxxxxxxq4nzvca9cmczlq", 96, 0),
+        (b"ms10testsxxxxxxxxxxxxxxxxxxxxxxxxxx4nzv?????????", 0, 34),
+        (b"ms1qtestsxxxxxxxxxxxxxxxxxxxxxxxxxx4nzvca???????", 96, 34),
+        (b"mt10testsxxxxxxxxxxxxxxxxxxxxxxxxxx4nzvca9cmczlw", 96, 81),
+        (b"mt10testsxxxxxxxxxxxxxxxxxxxxxxxxxx4nzvca9cmczl", 96, 82),
+        (b"ms10testsxxxxxxxxxxxxxxxxxxxxxxxxxx4nzvca9cmczlb", 96, 21),
+        (b"msq", 96, 23),
+        (b"\xff", 96, 2),
+    ];
+    for (text, room, want) in rows {
+        same(&rt, &proposes(&rt, rt.alloc(), text, room, NEAREST), &want);
+    }
+}
+
+#[test]
+fn proposes_or_wants_memory(rt: HostRuntime) -> Result<(), Fail> {
+    let text = b"ms1qtestsqxxxxxxxxxxxxxxxxxxxxxxxxq4nzvca9cmczlq";
+    let mut before = 91;
+    for size in 0..128usize {
+        let heap = LocalHeap::new(rt.alloc(), 16 * size)?;
+        let number = proposes(&rt, &heap, text, 48, NEAREST);
+        assert!(rt; number == 0 || number == before);
+        before = number;
+    }
+    same(&rt, &before, &0);
+    Ok(())
+}
