@@ -8,7 +8,7 @@ use std::panic::{catch_unwind, AssertUnwindSafe};
 // The refusals of the program itself.
 const LINE_TOO_LONG: u32 = 1;
 const NOT_UTF8: u32 = 2;
-const NO_COMMAND: u32 = 3;
+pub const NO_COMMAND: u32 = 3;
 const BAD_HEX: u32 = 5;
 
 /// A line may have so many bytes.
@@ -17,18 +17,19 @@ pub const LINE_LIMIT: usize = 4096;
 const HIGHEST_VERSION: usize = 31;
 const HIGHEST_LOCATION: usize = 1022;
 
-type Answer = Result<String, u32>;
+/// The reply to a command, or the number of its refusal.
+pub type Answer = Result<String, u32>;
 
-/// The reply to a line, without its end. It is `panic` where the crate panics.
-pub fn reply(line: &[u8]) -> String {
-    match catch_unwind(AssertUnwindSafe(|| answer(line))) {
+/// The reply to a line, without its end, by what answers its words. It is `panic` where that panics.
+pub fn reply_by(line: &[u8], command: fn(&[&str]) -> Answer) -> String {
+    match catch_unwind(AssertUnwindSafe(|| answer(line, command))) {
         Ok(Ok(reply)) => reply,
         Ok(Err(number)) => format!("err {number}"),
         Err(_) => "panic".to_string(),
     }
 }
 
-fn answer(line: &[u8]) -> Answer {
+fn answer(line: &[u8], command: fn(&[&str]) -> Answer) -> Answer {
     if line.len() > LINE_LIMIT {
         return Err(LINE_TOO_LONG);
     }
@@ -37,7 +38,12 @@ fn answer(line: &[u8]) -> Answer {
     if words.iter().any(|word| word.is_empty()) {
         return Err(NO_COMMAND);
     }
-    match words[..] {
+    command(&words)
+}
+
+/// The reply of `b32` to a line, without its end. It is `panic` where the crate panics.
+pub fn reply(line: &[u8]) -> String {
+    reply_by(line, |words| match words[..] {
         ["encode", "bech32", hrp, hex] => encode::<Bech32>(hrp, hex),
         ["encode", "bech32m", hrp, hex] => encode::<Bech32m>(hrp, hex),
         ["decode", text] => decode(text),
@@ -48,7 +54,7 @@ fn answer(line: &[u8]) -> Answer {
         ["correct", "bech32", text, places] => correct::<Bech32>(text, &locations(places)?),
         ["correct", "bech32m", text, places] => correct::<Bech32m>(text, &locations(places)?),
         _ => Err(NO_COMMAND),
-    }
+    })
 }
 
 fn encode<Ck: Checksum>(hrp: &str, hex: &str) -> Answer {
@@ -95,17 +101,24 @@ fn correct<Ck: Checksum>(text: &str, erasures: &[usize]) -> Answer {
 
 // The reply with a listing, where each of its locations is in the data part.
 fn mended(text: &str, listing: &[(usize, Fe32)]) -> Option<String> {
+    let mended = with_listing(text, listing)?;
+    let each: String = listing
+        .iter()
+        .map(|(location, value)| format!("{location}:{value} "))
+        .collect();
+    Some(format!("ok {each}{mended}"))
+}
+
+/// The text in lower case with the listed values added, where each location is in the data part.
+pub fn with_listing(text: &str, listing: &[(usize, Fe32)]) -> Option<String> {
     let (hrp, data) = text.rsplit_once('1')?;
     let mut elements: Vec<Fe32> = data.chars().flat_map(Fe32::from_char).collect();
-    let mut reply = "ok".to_string();
     for (location, value) in listing {
         let place = elements.len().checked_sub(1 + location)?;
         elements[place] += *value;
-        reply += &format!(" {location}:{value}");
     }
-    reply += &format!(" {}1", hrp.to_ascii_lowercase());
-    reply.extend(elements.iter().map(|fe| fe.to_char()));
-    Some(reply)
+    let data: String = elements.iter().map(|fe| fe.to_char()).collect();
+    Some(format!("{}1{data}", hrp.to_ascii_lowercase()))
 }
 
 fn locations(word: &str) -> Result<Vec<usize>, u32> {

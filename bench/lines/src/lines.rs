@@ -199,8 +199,8 @@ fn around_the_limit(random: &mut Random) -> Vec<u8> {
     line
 }
 
-// Changes a byte, or the words.
-fn edit(random: &mut Random, line: &mut Vec<u8>) {
+/// Changes a byte of a line, or its words.
+pub fn edit(random: &mut Random, line: &mut Vec<u8>) {
     if line.is_empty() {
         return;
     }
