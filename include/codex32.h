@@ -87,8 +87,8 @@ typedef struct {
  * its length, that of the text. It may not be what was meant: show it, and ask. Neither threshold nor
  * share index is tested.
  *
- * Refusals, the first that applies: 2; 21, 22, 23, 11 to 15; 82; 81; 34; 92; and 91 in place of any
- * answer where `memory` does not suffice, which CODEX32_MEMORY(text_length) bytes do.
+ * Refusals, the first that applies: 2; 21, 22, 23, 11 to 15; 82; 81; 34; 92; and 91 in place of 0, 34 or
+ * 92 where `memory` does not suffice, which CODEX32_MEMORY(text_length) bytes do.
  */
 uint32_t codex32_propose(const uint8_t *text, size_t text_length, codex32_memory *memory,
                          uint8_t *proposed, size_t proposed_room, size_t *proposed_length);

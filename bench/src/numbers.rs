@@ -14,9 +14,6 @@ pub const BAD_NUMBER: u32 = 4;
 /// The checksum is wrong.
 pub const RESIDUE: u32 = 33;
 
-/// No correction of a text is within the bound.
-pub const NO_CORRECTION: u32 = 34;
-
 // An error that the crate may add to those of 0.12.0.
 const UNKNOWN: u32 = u32::MAX;
 

@@ -690,7 +690,10 @@ static void try_codex32_propose(void) {
                                       written_1.length, told);
     int is_ok = number == CODEX32_OK;
     count(&propose_codex32, number);
-    if (!is_small || number != CODEX32_NO_MEMORY) {
+    if (number == CODEX32_NO_MEMORY) {
+        expect(is_small && (expected == CODEX32_OK || expected == CODEX32_NO_NEAREST),
+               "want of memory in place of a refusal");
+    } else {
         expect_number(number, expected, length <= written_1.length);
     }
     expect_kept(&read_1, 0, "the text changed");

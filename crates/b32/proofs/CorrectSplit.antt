@@ -2,7 +2,7 @@
 use Rattle.std.specs.List.{list_any}
 use Rattle.std.proofs.Common.{◌≡◌, ℕ, Bool, true, false, ◌||◌, cond, List, [], ◌∷◌, refl, ap, ◌∙◌, None, codes}
 use Rattle.bech32_lines.specs.Words.{words, is_empty}
-use Rattle.b32.specs.Request.{checksum_of, correct_arguments, correct_request, request_of, request_of_words}
+use Rattle.b32.specs.Request.{correct_arguments, correct_request, request_of, request_of_words}
 use Rattle.bech32_lines.proofs.Split.{words-some}
 
 -- such a line asks for what its arguments ask for

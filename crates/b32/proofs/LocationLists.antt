@@ -1,11 +1,10 @@
 -- Words that list locations.
-use Rattle.std.proofs.Common.{◌≡◌, ◌≢◌, ℕ, ◌<◌, ◌≤◌, List, [], ◌∷◌, ◌++◌, map, length, get_or, eqb, sym, ap, ◌∙◌, refl, arith, append_assoc, Option, Some, None, MatchOption, Bor}
-use Rattle.std.proofs.ByRecursion.{All-push}
+use Rattle.std.proofs.Common.{◌≡◌, ◌≢◌, ℕ, ◌≤◌, List, [], ◌∷◌, ◌++◌, map, sym, ap, ◌∙◌, arith, append_assoc, Option, MatchOption, Bor}
 use Rattle.std.proofs.lemmas.List.{map-append}
 use Rattle.std.proofs.lemmas.Str.Pattern.{IsSplitOnceResult}
 use Rattle.std.specs.Fmt.{decimal}
 use Rattle.std.specs.List.{AllByRecursion}
-use Rattle.b32.specs.Locations.{pieces, AreLocations, BeginsWithLocation, IsNoListOfLocations}
+use Rattle.b32.specs.Locations.{pieces, BeginsWithLocation, IsNoListOfLocations}
 use Rattle.bech32_lines.proofs.Split.{split-split_once}
 
 -- the pieces of a word, by what `split_once` answers

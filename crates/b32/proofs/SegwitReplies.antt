@@ -6,9 +6,8 @@ use Rattle.std.specs.Fmt.{decimal}
 use Rattle.bech32_gf.specs.declared.gf32.Fe32.{Fe32}
 use Rattle.bech32_bits.specs.Bits.{to_fes}
 use Rattle.bech32_checksum.specs.Code.{bech32, bech32m}
-use Rattle.bech32_hrp.specs.Hrp.{IsHrp, lowered, hrp_refusal}
+use Rattle.bech32_hrp.specs.Hrp.{lowered, hrp_refusal}
 use Rattle.bech32_hrp.specs.declared.Error.{Error as HrpError}
-use Rattle.bech32_errors.specs.declared.error.SegwitHrpstringError.TheVariants.{Memory as NoMemory}
 use Rattle.bech32_decode.specs.Segwit.{segwit_code, IsLowerAddress, IsAddress}
 use Rattle.bech32_segwit.specs.SegwitEncoding.{IsSegwitEncodeRefusal}
 use Rattle.bech32_segwit.specs.declared.error.EncodeError.{EncodeError}
@@ -19,7 +18,7 @@ use Rattle.bech32_numbers.specs.Numbers.{number_of_hrp_error, number_of_segwit_e
 use Rattle.b32.specs.declared.refusal.Refusal.{Refusal}
 use Rattle.b32.specs.declared.refusal.Refusal.TheVariants.{BadHex, Memory}
 use Rattle.bech32_lines.specs.Refused.{err}
-use Rattle.b32.specs.Reply.{IsVersionWord, IsNoVersion, IsSegwitEncodeAnswer, IsSegwitDecodeAnswer}
+use Rattle.b32.specs.Reply.{IsVersionWord, IsNoVersion, IsSegwitEncodeAnswer}
 use Rattle.bech32_lines.proofs.Pieces.{three-pieces, four-pieces}
 use Rattle.b32.proofs.Sizes.{length-hex_of}
 use Rattle.b32.proofs.VersionWords.{length-version}
@@ -53,10 +52,6 @@ module _ (hrp word hex : List ℕ) where
       says-no_address e fine refusal = inr (version, is, inl (rw (some, fine) (inr (record { error = e; is_refusal = refusal; spelling = refl }))))
 
 -- ---- the answer to `segwit-decode`
-
--- there is no memory for the hex of an address's program
-pub no_memory-address : (text hrp : List ℕ) (version : Fe32) (program : List ℕ) → IsHrp hrp → IsAddress hrp version program text → IsSegwitDecodeAnswer text (err 91)
-no_memory-address text hrp version program is a = inr (record { error = record { 0 = NoMemory }; is_refusal = inr (refl, (hrp, version, program, is, a)); spelling = refl })
 
 -- the parts of an address
 pub address-sizes : (text hrp : List ℕ) (version : Fe32) (program : List ℕ) → IsAddress hrp version program text → (length hrp ≤ 83) × (length program ≤ 40)

@@ -3,4 +3,3 @@ pub mod Locations
 pub mod Numbers
 pub mod Reply
 pub mod Request
-pub mod laws

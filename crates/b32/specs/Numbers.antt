@@ -1,18 +1,15 @@
--- The numbers of refusals: those of `bech32_numbers`, with 1 to 5 for lines and words that are not read, and 91 for
--- want of memory.
+-- The numbers of refusals: those of `bech32_numbers`, with 4 and 5 for words that are not read, and 91 for want
+-- of memory; 1 to 3 are those of `bech32_lines`.
 use Rattle.std.specs.Prelude.{ℕ}
 use Rattle.bech32_numbers.specs.Numbers.{number_of_hrp_error, number_of_decode_error, number_of_encode_error}
 use Rattle.bech32_numbers.specs.Numbers.{number_of_checked_error}
 use Rattle.bech32_numbers.specs.Numbers.{number_of_segwit_decode_error, number_of_segwit_encode_error}
 use Rattle.b32.specs.declared.refusal.Refusal.{Refusal}
-use Rattle.b32.specs.declared.refusal.Refusal.TheVariants.{LineTooLong, NotUtf8, NoRequest, BadNumber, BadHex, Hrp}
+use Rattle.b32.specs.declared.refusal.Refusal.TheVariants.{BadNumber, BadHex, Hrp}
 use Rattle.b32.specs.declared.refusal.Refusal.TheVariants.{Encode, Decode, SegwitEncode, SegwitDecode, Correct, Memory}
 
 -- of any refusal
 abbrev pub number_of : Refusal → ℕ
-number_of LineTooLong = 1
-number_of NotUtf8 = 2
-number_of NoRequest = 3
 number_of BadNumber = 4
 number_of BadHex = 5
 number_of (Hrp e) = number_of_hrp_error e

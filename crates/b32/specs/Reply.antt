@@ -1,7 +1,6 @@
 -- What may be said of a line.
-use Rattle.std.specs.Prelude.{◌≡◌, ◌≤◌, ◌⊎◌, ◌%◌, ℕ, List, [], ◌∷◌, ◌++◌, length, nat_lt, codes, None, MatchOption, MatchBool}
+use Rattle.std.specs.Prelude.{◌≡◌, ◌≤◌, ◌⊎◌, ◌%◌, ℕ, List, [], ◌∷◌, ◌++◌, length, codes, None, MatchOption}
 use Rattle.std.specs.Fmt.{decimal}
-use Rattle.std.specs.Str.{is_utf8}
 use Rattle.bech32_gf.specs.declared.gf32.Fe32.{Fe32}
 use Rattle.bech32_bits.specs.Bits.{to_fes}
 use Rattle.bech32_checksum.specs.Code.{Code}
@@ -23,6 +22,7 @@ use Rattle.bech32_errors.specs.declared.error.SegwitHrpstringError.TheVariants.{
 use Rattle.bech32_segwit.specs.declared.error.DecodeError.{DecodeError as SegwitDecodeError}
 use Rattle.bech32_segwit.specs.declared.error.EncodeError.{EncodeError as SegwitEncodeError}
 use Rattle.bech32_lines.specs.Refused.{err}
+use Rattle.bech32_lines.specs.Reply.{IsReplyBy}
 use Rattle.b32.specs.Hex.{AreBytes, bytes_of, hex_of}
 use Rattle.bech32_numbers.specs.Numbers.{number_of_checked_error, number_of_hrp_error}
 use Rattle.bech32_numbers.specs.Numbers.{number_of_decode_error, number_of_encode_error}
@@ -182,13 +182,6 @@ IsAnswer (SegwitDecode text) said = IsSegwitDecodeAnswer text said
 IsAnswer (Correct checksum text) said = IsCorrectAnswer (code_of_name checksum) text [] said
 IsAnswer (CorrectAt checksum text word) said = IsCorrectAtAnswer (code_of_name checksum) text word said
 
--- what may be said of a line: it is too long, no text or no request, in this order, or it is answered
+-- what may be said of a line
 abbrev pub IsReply : List ℕ → List ℕ → Type 0
-IsReply line said =
-    MatchBool (nat_lt 4096 (length line))
-    (said ≡ err 1)
-    (MatchBool (is_utf8 line)
-    (MatchOption (request_of line)
-    (said ≡ err 3)
-    (λ request. IsAnswer request said))
-    (said ≡ err 2))
+IsReply line said = IsReplyBy request_of IsAnswer line said

@@ -7,7 +7,7 @@ ghost use Rattle.bech32_lines.specs.Refused.{err};
 ghost use Rattle.b32.specs.Reply.{IsDecodeAnswer};
 
 use crate::append::append_lowered;
-use crate::hex_word::word_of_bytes;
+use crate::hex_word::append_hex;
 use crate::refusal::Refusal;
 use bech32::decode_in;
 use bech32_lines::append;
@@ -22,10 +22,9 @@ pub fn decode<A: Allocator + Copy>(alloc: A, text: &str, out: &mut Vec<u8>) -> R
     ensures capacity { vec_capacity out.old ≤ vec_capacity out.new }
 {
     let (hrp, bytes) = decode_in(alloc, text)?;
-    let hex = word_of_bytes(alloc, bytes.as_slice())?;
     append(out, b"ok ");
     append_lowered(out, hrp.as_bytes());
     append(out, b" ");
-    append(out, hex.as_bytes());
+    append_hex(out, bytes.as_slice());
     Ok(())
 }

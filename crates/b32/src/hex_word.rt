@@ -1,11 +1,48 @@
 //! Bytes as a word: `-` for no bytes, else a pair of hex digits for each.
 
-ghost use Rattle.std.specs.Prelude.{◌≡◌, ◌⊎◌, ◌%◌, length, MatchResult, IfOk, Some, None, string_bytes};
+ghost use Rattle.std.specs.Prelude.{◌≡◌, ◌⊎◌, ◌+◌, ◌*◌, ◌%◌, ◌≤◌, ◌++◌, if◌then◌else◌, length};
+ghost use Rattle.std.specs.Prelude.{vec_len, vec_capacity, MatchResult, Some, None};
+ghost use Rattle.std.specs.Result.{result_ok};
+ghost use Rattle.hex.specs.Hex.{decode_of, encode_lower};
 ghost use Rattle.b32.specs.Hex.{AreBytes, bytes_of, hex_of};
 
 use crate::refusal::Refusal;
-use hex::FromHexError;
-use std::alloc::{AllocError, Allocator};
+use bech32_lines::append;
+use std::alloc::Allocator;
+
+/// The value of each hex digit, in either case, and 255 of each other byte.
+const VALUES: [u8; 256] = [
+    255, 255, 255, 255, 255, 255, 255, 255, 255, 255, 255, 255, 255, 255, 255, 255, 255, 255, 255,
+    255, 255, 255, 255, 255, 255, 255, 255, 255, 255, 255, 255, 255, 255, 255, 255, 255, 255, 255,
+    255, 255, 255, 255, 255, 255, 255, 255, 255, 255, 0, 1, 2, 3, 4, 5, 6, 7, 8, 9, 255, 255, 255,
+    255, 255, 255, 255, 10, 11, 12, 13, 14, 15, 255, 255, 255, 255, 255, 255, 255, 255, 255, 255,
+    255, 255, 255, 255, 255, 255, 255, 255, 255, 255, 255, 255, 255, 255, 255, 255, 10, 11, 12, 13,
+    14, 15, 255, 255, 255, 255, 255, 255, 255, 255, 255, 255, 255, 255, 255, 255, 255, 255, 255,
+    255, 255, 255, 255, 255, 255, 255, 255, 255, 255, 255, 255, 255, 255, 255, 255, 255, 255, 255,
+    255, 255, 255, 255, 255, 255, 255, 255, 255, 255, 255, 255, 255, 255, 255, 255, 255, 255, 255,
+    255, 255, 255, 255, 255, 255, 255, 255, 255, 255, 255, 255, 255, 255, 255, 255, 255, 255, 255,
+    255, 255, 255, 255, 255, 255, 255, 255, 255, 255, 255, 255, 255, 255, 255, 255, 255, 255, 255,
+    255, 255, 255, 255, 255, 255, 255, 255, 255, 255, 255, 255, 255, 255, 255, 255, 255, 255, 255,
+    255, 255, 255, 255, 255, 255, 255, 255, 255, 255, 255, 255, 255, 255, 255, 255, 255, 255, 255,
+    255, 255, 255, 255, 255, 255, 255, 255, 255, 255, 255, 255, 255, 255, 255, 255, 255, 255, 255,
+    255, 255, 255,
+];
+
+/// Puts the bytes of pairs of hex digits, in either case, and answers whether all are digits.
+fn put_bytes(bytes: &mut [u8], digits: &[u8]) -> bool
+    requires { length digits.now ≡ 2 * length bytes.old }
+    ensures { result_ok (decode_of digits.now) ≡ (if result then Some bytes.new else None) }
+{
+    'pairs: for i in 0..bytes.len() {
+        let high = VALUES[digits[2 * i] as usize];
+        let low = VALUES[digits[2 * i + 1] as usize];
+        if high > 15 || low > 15 {
+            return false;
+        }
+        bytes[i] = 16 * high + low;
+    }
+    true
+}
 
 /// The bytes that a word stands for. Memory is wanted only where its digits are in pairs.
 pub fn bytes_of_word<A: Allocator>(alloc: A, word: &str) -> Result<Vec<u8, A>, Refusal>
@@ -17,20 +54,46 @@ pub fn bytes_of_word<A: Allocator>(alloc: A, word: &str) -> Result<Vec<u8, A>, R
     if word == "-" {
         return Ok(Vec::new(alloc));
     }
-    match hex::decode(alloc, word) {
-        Ok(bytes) => Ok(bytes),
-        Err(FromHexError::OutOfMemory) => Err(Refusal::Memory),
-        Err(_) => Err(Refusal::BadHex),
+    if word.len() % 2 != 0 {
+        return Err(Refusal::BadHex);
+    }
+    let Ok(mut bytes) = vec![in alloc; 0u8; word.len() / 2] else {
+        return Err(Refusal::Memory);
+    };
+    if !put_bytes(bytes.as_mut_slice(), word.as_bytes()) {
+        return Err(Refusal::BadHex);
+    }
+    Ok(bytes)
+}
+
+/// The lower-case hex digits.
+const DIGITS: [u8; 16] = *b"0123456789abcdef";
+
+/// Puts two lower-case digits for each byte.
+fn put_digits(digits: &mut [u8], bytes: &[u8])
+    requires { length digits.old ≡ 2 * length bytes.now }
+    ensures { digits.new ≡ encode_lower bytes.now }
+{
+    'bytes: for i in 0..bytes.len() {
+        digits[2 * i] = DIGITS[(bytes[i] >> 4) as usize];
+        digits[2 * i + 1] = DIGITS[(bytes[i] & 15) as usize];
     }
 }
 
-/// The word for bytes, in lower case.
-pub fn word_of_bytes<A: Allocator>(alloc: A, bytes: &[u8]) -> Result<String<A>, AllocError>
-    ensures word { IfOk result (λ word. string_bytes word ≡ hex_of bytes.now) }
+/// Adds the word for bytes, in lower case.
+pub fn append_hex(out: &mut Vec<u8>, bytes: &[u8])
+    requires { vec_len out.old + (2 * length bytes.now + 1) ≤ vec_capacity out.old }
+    ensures items { out.new.items ≡ out.old.items ++ hex_of bytes.now }
     ensures bytes { AreBytes bytes.now }
+    ensures capacity { vec_capacity out.old ≤ vec_capacity out.new }
 {
     if bytes.is_empty() {
-        return String::from_str(alloc, "-");
+        append(out, b"-");
+        return;
     }
-    hex::encode(alloc, bytes)
+    let front = out.len();
+    let Ok(()) = out.resize(front + 2 * bytes.len(), 0) else {
+        unreachable!()
+    };
+    put_digits(&mut out.as_mut_slice()[front..], bytes);
 }

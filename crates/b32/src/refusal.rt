@@ -1,4 +1,4 @@
-//! Why a line is refused, and the numbers of refusals.
+//! Why a command is refused, and the numbers of refusals.
 
 ghost use Rattle.std.specs.Prelude.{◌≡◌, ◌<◌};
 ghost use Rattle.b32.specs.Numbers.{number_of};
@@ -12,15 +12,9 @@ use bech32_numbers::{
 };
 use std::alloc::AllocError;
 
-/// Why a line is refused.
+/// Why a command is refused.
 #[derive(Clone, Copy, Debug, PartialEq, Eq, Drop)]
 pub enum Refusal {
-    /// The line is too long.
-    LineTooLong,
-    /// The line is not UTF-8.
-    NotUtf8,
-    /// The line is no command with its arguments.
-    NoRequest,
     /// A word that should be the number of a version is not.
     BadNumber,
     /// A word that should be bytes in hex is not.
@@ -48,9 +42,6 @@ impl Refusal {
         ensures small { result < 100 }
     {
         match self {
-            Refusal::LineTooLong => 1,
-            Refusal::NotUtf8 => 2,
-            Refusal::NoRequest => 3,
             Refusal::BadNumber => 4,
             Refusal::BadHex => 5,
             Refusal::Hrp(e) => hrp_error_number(e),

@@ -7,7 +7,7 @@ ghost use Rattle.bech32_lines.specs.Refused.{err};
 ghost use Rattle.b32.specs.Reply.{IsSegwitDecodeAnswer};
 
 use crate::append::append_lowered;
-use crate::hex_word::word_of_bytes;
+use crate::hex_word::append_hex;
 use crate::refusal::Refusal;
 use bech32::segwit;
 use bech32_lines::{append, append_number};
@@ -27,12 +27,11 @@ pub fn segwit_decode<A: Allocator + Copy>(
     ensures capacity { vec_capacity out.old ≤ vec_capacity out.new }
 {
     let (hrp, version, program) = segwit::decode_in(alloc, text)?;
-    let hex = word_of_bytes(alloc, program.as_slice())?;
     append(out, b"ok ");
     append_lowered(out, hrp.as_bytes());
     append(out, b" ");
     append_number(out, version.to_u8());
     append(out, b" ");
-    append(out, hex.as_bytes());
+    append_hex(out, program.as_slice());
     Ok(())
 }

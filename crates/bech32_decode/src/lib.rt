@@ -5,6 +5,7 @@
 
 mod address;
 mod byte_reader;
+mod characters;
 mod checked;
 mod either;
 mod reader;

@@ -2,16 +2,15 @@
 
 ghost use Rattle.std.specs.Prelude.{◌≡◌, ◌↔◌, ◌<◌, ◌≤◌, ◌-◌, ◌*◌, ◌^◌, ℕ, true, List, length, drop, ◌++◌, ◌∷◌, None, Some, MatchResult, MatchOption, IfOk, IsOk, IsTrue};
 ghost use Rattle.std.specs.Char.{IsScalar};
-ghost use Rattle.std.specs.List.{list_any};
-ghost use Rattle.bech32_gf.specs.Alphabet.{is_of_alphabet, is_data};
+ghost use Rattle.bech32_gf.specs.Alphabet.{is_data};
 ghost use Rattle.bech32_gf.specs.Fe32.{elements_of};
 ghost use Rattle.bech32_checksum.specs.Code.{IsResidueOf};
-ghost use Rattle.bech32_hrp.specs.Hrp.{is_lower, is_upper};
 ghost use Rattle.bech32_hrp.specs.HrpBytes.{hrp_bytes};
 ghost use Rattle.bech32_checksum.specs.TextPolynomial.{text_polynomial};
 ghost use Rattle.bech32_decode.specs.Version.{version_of};
 ghost use Rattle.bech32_decode.specs.Text.{IsText, IsInGrammar, invalid_character, split_at_last, text_refusal};
 
+use crate::characters::{data_start, has_both_cases};
 use crate::checked::CheckedHrpstring;
 use crate::reader::AsciiToFe32Iter;
 use crate::version::version_in;
@@ -32,26 +31,12 @@ pub struct UncheckedHrpstring<'s> {
     pub ghost of_alphabet: { is_data data_part_ascii.now ≡ true },
 }
 
-// Whether a lower-case letter stands in a text.
-fn has_lower(s: &str) -> bool
-    ensures { result ≡ list_any is_lower s.now }
-{
-    s.bytes().any(|b| 97 <= b && b <= 122)
-}
-
-// Whether an upper-case letter stands in a text.
-fn has_upper(s: &str) -> bool
-    ensures { result ≡ list_any is_upper s.now }
-{
-    s.bytes().any(|b| 65 <= b && b <= 90)
-}
-
-// Whether a character may stand in a data part.
-fn is_data_character(c: char) -> bool
-    ensures value { result ≡ is_of_alphabet c }
+// The refusal of a text by a character, which is no surrogate.
+fn refusal_by(c: char) -> CharError
+    ensures value { result ≡ CharError.InvalidChar c }
     ensures scalar { IsScalar c }
 {
-    Fe32::from_char(c).is_ok()
+    CharError::InvalidChar(c)
 }
 
 // What stands before the last `1`, where all behind it is of the alphabet.
@@ -63,16 +48,14 @@ fn before_separator(s: &str) -> Result<Option<&str>, CharError>
         × (split_at_last s.now ≡ Some (front.now, behind))))
         (λ e. invalid_character s.now ≡ Some e) }
 {
-    let mut front = s.chars();
-    'behind: while let Some(c) = front.next_back() {
-        if c == '1' {
-            return Ok(Some(front.as_str()));
-        }
-        if !is_data_character(c) {
-            return Err(CharError::InvalidChar(c));
-        }
+    let mut front = s[..data_start(s.as_bytes())].chars();
+    let Some(c) = front.next_back() else {
+        return Ok(None);
+    };
+    if c != '1' {
+        return Err(refusal_by(c));
     }
-    Ok(None)
+    Ok(Some(front.as_str()))
 }
 
 // The remainder of a text's polynomial, packed.
@@ -103,7 +86,8 @@ impl<'s> UncheckedHrpstring<'s> {
             (λ e. text_refusal s.now ≡ Some e) }
     {
         let before = before_separator(s)?;
-        if has_lower(s) && has_upper(s) {
+        let bytes = s.as_bytes();
+        if has_both_cases(bytes) {
             return Err(UncheckedHrpstringError::Char(CharError::MixedCase));
         }
         let Some(front) = before else {
@@ -112,7 +96,7 @@ impl<'s> UncheckedHrpstring<'s> {
         let hrp = Hrp::parse(front)?;
         Ok(UncheckedHrpstring {
             hrp,
-            data_part_ascii: &s.as_bytes()[front.len() + 1..],
+            data_part_ascii: &bytes[front.len() + 1..],
             hrpstring_length: s.len(),
         })
     }

@@ -3,4 +3,5 @@ pub mod Kept
 pub mod Known
 pub mod Outputs
 pub mod Pieces
+pub mod Replied
 pub mod Split

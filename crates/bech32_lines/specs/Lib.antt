@@ -2,4 +2,6 @@ pub mod Added
 pub mod Lines
 pub mod Output
 pub mod Refused
+pub mod Reply
 pub mod Words
+pub mod laws

@@ -1,10 +1,6 @@
 -- No reply is longer than its room, and the characters of codex32 strings are bytes.
-use Rattle.std.specs.Str.{IsAscii}
-use Rattle.std.proofs.Common.{◌≡◌, ℕ, zero, suc, ◌+◌, ◌≤◌, ◌<◌, List, [], ◌∷◌, ◌++◌, length, get_or, ap, ◌∙◌, arith, length-append, refl, subst}
-use Rattle.bech32_decode.specs.Acceptance.{Accepts}
-use Rattle.bech32_decode.specs.Text.{IsText}
+use Rattle.std.proofs.Common.{◌≡◌, ℕ, suc, ◌≤◌, ◌<◌, List, [], ◌∷◌, ◌++◌, length, get_or, ap, ◌∙◌, arith, length-append, refl, subst}
 use Rattle.bech32_decode.proofs.Letters.{IsAscii-from_data}
-use Rattle.codex32.specs.Code.{codex32}
 use Rattle.codex32.specs.Nearest.{IsNearestText}
 use Rattle.codex32.specs.Strings.{IsString}
 

@@ -1,5 +1,4 @@
 -- Lines that ask for nothing.
-use Rattle.std.specs.List.{list_any}
 use Rattle.std.proofs.Common.{◌≡◌, ℕ, Bool, true, false, ◌||◌, List, [], ◌∷◌, cond, ap, ◌∙◌, refl, None}
 use Rattle.bech32_lines.specs.Words.{words, is_empty, has_empty_word}
 use Rattle.c32.specs.Request.{request_of_words, request_of}

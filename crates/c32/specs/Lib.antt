@@ -1,4 +1,2 @@
-pub mod Numbers
 pub mod Reply
 pub mod Request
-pub mod laws

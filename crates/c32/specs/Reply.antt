@@ -1,11 +1,11 @@
 -- What may be said of a line.
-use Rattle.std.specs.Prelude.{◌≡◌, ◌⊎◌, ℕ, List, ◌∷◌, ◌++◌, length, nat_lt, codes, None, Some, MatchOption, MatchBool}
-use Rattle.std.specs.Str.{is_utf8}
-use Rattle.codex32.specs.Nearest.{IsNearestText, read_text}
+use Rattle.std.specs.Prelude.{◌≡◌, ◌⊎◌, ℕ, List, ◌∷◌, ◌++◌, codes, None}
+use Rattle.codex32.specs.Nearest.{IsNearestText, IsProposeRefusal, read_text}
 use Rattle.codex32.specs.Strings.{IsString, IsStringRefusal, frame_refusal}
 use Rattle.codex32.specs.declared.error.Codex32Error.{Codex32Error}
 use Rattle.codex32_numbers.specs.Numbers.{number_of_codex32_error}
 use Rattle.bech32_lines.specs.Refused.{err}
+use Rattle.bech32_lines.specs.Reply.{IsReplyBy}
 use Rattle.c32.specs.Request.{Request, Parse, Propose, request_of}
 
 -- the parts of a codex32 string are said, which are the text's own characters: the threshold, the identifier, the share
@@ -42,29 +42,22 @@ pub record SaysNone (text said : List ℕ) : Type 0 where
   pub framed : frame_refusal (read_text text) ≡ None
   pub spelling : said ≡ codes "none"
 
--- it is said why no nearest text is looked for
+-- it is said why no nearest text is looked for: what is wrong with the text, or, where it has its grammar, its length and
+-- its human-readable part right, that there is no memory
 pub record SaysNotLooked (text said : List ℕ) : Type 0 where
   pub error : Codex32Error
-  pub is_refusal : frame_refusal (read_text text) ≡ Some error
+  pub is_refusal : IsProposeRefusal text error
   pub spelling : said ≡ err (number_of_codex32_error error)
 
--- the answer to `propose`, for which memory is taken whatever the text is: its characters are copied
+-- the answer to `propose`
 abbrev pub IsProposeAnswer : List ℕ → List ℕ → Type 0
-IsProposeAnswer text said =
-    SaysNearest text said ⊎ (SaysNone text said ⊎ (SaysNotLooked text said ⊎ (said ≡ err 91)))
+IsProposeAnswer text said = SaysNearest text said ⊎ (SaysNone text said ⊎ SaysNotLooked text said)
 
 -- the answer to a request
 abbrev pub IsAnswer : Request → List ℕ → Type 0
 IsAnswer (Parse text) said = IsParseAnswer text said
 IsAnswer (Propose text) said = IsProposeAnswer text said
 
--- what may be said of a line: it is too long, no text or no request, in this order, or it is answered
+-- what may be said of a line
 abbrev pub IsReply : List ℕ → List ℕ → Type 0
-IsReply line said =
-    MatchBool (nat_lt 4096 (length line))
-    (said ≡ err 1)
-    (MatchBool (is_utf8 line)
-    (MatchOption (request_of line)
-    (said ≡ err 3)
-    (λ request. IsAnswer request said))
-    (said ≡ err 2))
+IsReply line said = IsReplyBy request_of IsAnswer line said

@@ -4,7 +4,6 @@
 mod command;
 mod parse;
 mod propose;
-mod refusal;
 mod reply;
 mod run;
 

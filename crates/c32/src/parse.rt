@@ -3,18 +3,17 @@
 ghost use Rattle.std.specs.Prelude.{◌≡◌, ◌+◌, ◌≤◌, vec_len, vec_capacity, OnOk, OnErr, IfErr};
 ghost use Rattle.bech32_lines.specs.Added.{Adds};
 ghost use Rattle.bech32_lines.specs.Refused.{err};
-ghost use Rattle.c32.specs.Numbers.{number_of};
+ghost use Rattle.codex32_numbers.specs.Numbers.{number_of_codex32_error};
 ghost use Rattle.c32.specs.Reply.{IsParseAnswer};
 
-use crate::refusal::Refusal;
 use bech32_lines::append;
-use codex32::Codex32Str;
+use codex32::{Codex32Error, Codex32Str};
 
 /// Adds the parts of a codex32 string, in the case of the text, or leaves all as it was.
-pub fn parse(text: &str, out: &mut Vec<u8>) -> Result<(), Refusal>
+pub fn parse(text: &str, out: &mut Vec<u8>) -> Result<(), Codex32Error>
     requires { vec_len out.old + 2047 ≤ vec_capacity out.old }
     ensures ok { OnOk result (Adds (IsParseAnswer text.now) out.old.items out.new.items) }
-    ensures err { IfErr result (λ e. IsParseAnswer text.now (err (number_of e))) }
+    ensures err { IfErr result (λ e. IsParseAnswer text.now (err (number_of_codex32_error e))) }
     ensures same { OnErr result (out.new.items ≡ out.old.items) }
     ensures capacity { vec_capacity out.old ≤ vec_capacity out.new }
 {

@@ -3,19 +3,22 @@
 ghost use Rattle.std.specs.Prelude.{◌≡◌, ◌+◌, ◌≤◌, vec_len, vec_capacity, OnOk, OnErr, IfErr};
 ghost use Rattle.bech32_lines.specs.Added.{Adds};
 ghost use Rattle.bech32_lines.specs.Refused.{err};
-ghost use Rattle.c32.specs.Numbers.{number_of};
+ghost use Rattle.codex32_numbers.specs.Numbers.{number_of_codex32_error};
 ghost use Rattle.c32.specs.Reply.{IsProposeAnswer};
 
-use crate::refusal::Refusal;
 use bech32_lines::append;
-use codex32::propose_in;
+use codex32::{Codex32Error, propose_in};
 use std::alloc::Allocator;
 
 /// Adds the nearest text to a damaged one, or that there is none, or leaves all as it was.
-pub fn propose<A: Allocator + Copy>(alloc: A, text: &str, out: &mut Vec<u8>) -> Result<(), Refusal>
+pub fn propose<A: Allocator + Copy>(
+    alloc: A,
+    text: &str,
+    out: &mut Vec<u8>,
+) -> Result<(), Codex32Error>
     requires { vec_len out.old + 2047 ≤ vec_capacity out.old }
     ensures ok { OnOk result (Adds (IsProposeAnswer text.now) out.old.items out.new.items) }
-    ensures err { IfErr result (λ e. IsProposeAnswer text.now (err (number_of e))) }
+    ensures err { IfErr result (λ e. IsProposeAnswer text.now (err (number_of_codex32_error e))) }
     ensures same { OnErr result (out.new.items ≡ out.old.items) }
     ensures capacity { vec_capacity out.old ≤ vec_capacity out.new }
 {

@@ -1,27 +1,31 @@
-//! The reply to a line.
+//! The answers to commands, by which `bech32_lines` replies to a line.
 
-ghost use Rattle.std.specs.Prelude.{◌≡◌, ℕ, ◌+◌, ◌≤◌, List, [], ◌∷◌, ◌++◌};
-ghost use Rattle.std.specs.Prelude.{vec_len, vec_capacity, OnOk, OnErr, IfErr};
+ghost use Rattle.std.specs.Prelude.{◌≡◌, ◌+◌, ◌≤◌, vec_len, vec_capacity, OnOk, OnErr, IfErr};
 ghost use Rattle.bech32_lines.specs.Added.{Adds};
 ghost use Rattle.bech32_lines.specs.Refused.{err};
-ghost use Rattle.c32.specs.Numbers.{number_of};
-ghost use Rattle.c32.specs.Request.{request_of_command};
-ghost use Rattle.c32.specs.Reply.{IsAnswer, IsReply};
+ghost use Rattle.codex32_numbers.specs.Numbers.{number_of_codex32_error};
+ghost use Rattle.c32.specs.Request.{Request, request_of, request_of_command};
+ghost use Rattle.c32.specs.Reply.{IsAnswer};
 
 use crate::command::Command;
 use crate::parse::parse;
 use crate::propose::propose;
-use crate::refusal::Refusal;
-use bech32_lines::{LINE_LIMIT, append};
-use std::alloc::{Allocator, Global};
+use bech32_lines::{Answers, Unanswered};
+use codex32::Codex32Error;
+use codex32_numbers::codex32_error_number;
+use std::alloc::Allocator;
 
 /// Adds the answer to a command, or leaves all as it was.
-fn answer<A: Allocator + Copy>(alloc: A, command: Command, out: &mut Vec<u8>) -> Result<(), Refusal>
+fn answer<A: Allocator + Copy>(
+    alloc: A,
+    command: Command,
+    out: &mut Vec<u8>,
+) -> Result<(), Codex32Error>
     requires { vec_len out.old + 2047 ≤ vec_capacity out.old }
     ensures ok { OnOk result
         (Adds (IsAnswer (request_of_command command.entry)) out.old.items out.new.items) }
     ensures err { IfErr result
-        (λ e. IsAnswer (request_of_command command.entry) (err (number_of e))) }
+        (λ e. IsAnswer (request_of_command command.entry) (err (number_of_codex32_error e))) }
     ensures same { OnErr result (out.new.items ≡ out.old.items) }
     ensures capacity { vec_capacity out.old ≤ vec_capacity out.new }
 {
@@ -30,57 +34,29 @@ fn answer<A: Allocator + Copy>(alloc: A, command: Command, out: &mut Vec<u8>) ->
         Command::Propose { text } => propose(alloc, text, out),
     }
 }
-/// Adds the answer to a line, or leaves all as it was.
-fn answer_line<A: Allocator + Copy>(alloc: A, line: &[u8], out: &mut Vec<u8>) -> Result<(), Refusal>
-    requires { vec_len out.old + 2047 ≤ vec_capacity out.old }
-    ensures ok { OnOk result (Adds (IsReply line.now) out.old.items out.new.items) }
-    ensures err { IfErr result (λ e. IsReply line.now (err (number_of e))) }
-    ensures same { OnErr result (out.new.items ≡ out.old.items) }
-    ensures capacity { vec_capacity out.old ≤ vec_capacity out.new }
-{
-    if line.len() > LINE_LIMIT {
-        return Err(Refusal::LineTooLong);
+
+/// The commands of this program, answered with memory from `alloc`.
+#[derive(Clone, Copy)]
+pub struct Commands<A> {
+    pub alloc: A,
+}
+
+impl<A: Allocator + Copy> Answers for Commands<A> {
+    ghost request = { Request };
+
+    ghost request_of = { request_of };
+
+    ghost is_answer = { IsAnswer };
+
+    fn answer(&self, text: &str, out: &mut Vec<u8>) -> Result<(), Unanswered> {
+        let Some(command) = Command::parse(text) else {
+            return Err(Unanswered::NoCommand);
+        };
+        match answer(self.alloc, command, out) {
+            Ok(()) => Ok(()),
+            Err(e) => Err(Unanswered::Refused(codex32_error_number(e))),
+        }
     }
-    let Ok(text) = str::from_utf8(line) else {
-        return Err(Refusal::NotUtf8);
-    };
-    let Some(command) = Command::parse(text) else {
-        return Err(Refusal::NoRequest);
-    };
-    answer(alloc, command, out)
-}
-
-/// Adds a refusal.
-fn append_refusal(out: &mut Vec<u8>, refusal: Refusal)
-    requires { vec_len out.old + 6 ≤ vec_capacity out.old }
-    ensures items { out.new.items ≡ out.old.items ++ err (number_of refusal) }
-    ensures size { vec_len out.new ≤ vec_len out.old + 6 }
-    ensures capacity { vec_capacity out.old ≤ vec_capacity out.new }
-{
-    bech32_lines::append_refusal(out, refusal.number());
-}
-
-/// Adds the reply to a line, and a newline, with memory from `alloc`.
-fn reply_in<A: Allocator + Copy>(alloc: A, line: &[u8], out: &mut Vec<u8>)
-    requires { vec_len out.old + 2048 ≤ vec_capacity out.old }
-    ensures reply { (said : List ℕ) × IsReply line.now said
-        × (out.new.items ≡ out.old.items ++ (said ++ 10 ∷ [])) }
-    ensures capacity { vec_capacity out.old ≤ vec_capacity out.new }
-{
-    if let Err(refusal) = answer_line(alloc, line, out) {
-        append_refusal(out, refusal);
-    }
-    append(out, b"\n");
-}
-
-/// Adds the reply to a line, and a newline.
-pub fn reply(alloc: Global, line: &[u8], out: &mut Vec<u8>)
-    requires { vec_len out.old + 2048 ≤ vec_capacity out.old }
-    ensures reply { (said : List ℕ) × IsReply line.now said
-        × (out.new.items ≡ out.old.items ++ (said ++ 10 ∷ [])) }
-    ensures capacity { vec_capacity out.old ≤ vec_capacity out.new }
-{
-    reply_in(alloc, line, out)
 }
 
 #[cfg(test)]

@@ -4,28 +4,10 @@ ghost use Rattle.std.specs.Prelude.{◌≡◌, ◌+◌, false, true, OnOk, IsErr
 ghost use Rattle.bech32_lines.specs.Output.{IsAnswered, IsAnsweredSoFar, IsCutShort};
 ghost use Rattle.c32.specs.Reply.{IsReply};
 
-use crate::reply::reply;
+use crate::reply::Commands;
 use bech32_device::{ByteSink, ByteSource};
-use bech32_lines::{Replies, RunError};
+use bech32_lines::RunError;
 use std::alloc::Global;
-
-/// The replies of this program, with memory from `alloc`.
-#[derive(Drop)]
-struct Commands {
-    alloc: Global,
-}
-
-impl Replies for Commands {
-    ghost use Rattle.c32.specs.laws.LongLines.{long_lines};
-
-    ghost is_reply = { IsReply };
-
-    ghost too_long = { long_lines };
-
-    fn reply(&self, line: &[u8], out: &mut Vec<u8>) {
-        reply(self.alloc, line, out)
-    }
-}
 
 /// Answers each line of a source, as [`bech32_lines::run_on`] does: writes its reply and a newline. It
 /// makes its buffers first, writes the replies to all lines that have ended before each further read,

@@ -4,8 +4,8 @@ use seplogic.Ra.Ura.{Ura}
 use mir.Syntax.{Ty, Width, w8, w16, w32, w64, w128, ty_int, ty_array}
 use mir.Val.{Val, vcons, vnil, of_list, bytes}
 use base.Logic.{ent, sep, id⊢, never}
-use base.Fml.{fex, fwand, froom}
-use prog.Memory.{size, align, capped}
+use base.Fml.{fwand, froom}
+use prog.Memory.{size, capped}
 use prog.Align.{Dv, align_w, align-bytes}
 use prog.Capped.{capped_is, capped_small}
 use types.Logic.{Logic, sem}

@@ -4,12 +4,9 @@ ghost use Rattle.std.specs.Prelude.{◌≡◌, ◌<◌, ◌≤◌, ◌*◌, ◌/
 ghost use Rattle.caller_memory.specs.Memory.{memory_size};
 ghost use Rattle.caller_memory.specs.Ownership.{block_token};
 
-use crate::memory::{Memory, Returned};
+use crate::memory::{ALIGN, Memory, Returned};
 use crate::slot::Slot;
 use std::alloc::{AllocError, Allocator};
-
-// To so many bytes the memory is aligned.
-const ALIGN: usize = 16;
 
 /// An allocator that has one block to give: all of a caller's memory.
 pub struct Lent {

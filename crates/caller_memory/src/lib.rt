@@ -4,6 +4,8 @@
 mod lent;
 mod memory;
 mod slot;
+#[cfg(test)]
+mod tests;
 
 pub use lent::Lent;
 pub use memory::Memory;

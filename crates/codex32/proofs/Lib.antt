@@ -4,6 +4,7 @@ pub mod LawfulRoots
 pub mod Locations
 pub mod Near
 pub mod Proposed
+pub mod ReadTexts
 pub mod Reading
 pub mod Separated
 pub mod Strings

@@ -16,7 +16,7 @@ use Rattle.bech32_errors.specs.declared.error.ChecksumError.{ChecksumError}
 use Rattle.bech32_errors.specs.declared.error.UncheckedHrpstringError.{UncheckedHrpstringError}
 use Rattle.codex32.specs.Code.{codex32}
 use Rattle.codex32.specs.Parts.{IsStringOf, identifier_of, payload_of, share_index_of, threshold_of}
-use Rattle.codex32.specs.Strings.{IsBodyRefusal, IsCodex32, IsString, IsStringRefusal, as_text, frame_refusal, header_fault, hrp_fault, is_ms, is_threshold, is_within, length_fault, share_index_fault, threshold_fault}
+use Rattle.codex32.specs.Strings.{IsBodyRefusal, IsCodex32, IsString, IsStringRefusal, as_text, frame_refusal, header_fault, hrp_fault, is_ms, is_threshold, is_within, length_fault, part_fault, share_index_fault, threshold_fault}
 use Rattle.codex32.specs.declared.error.Codex32Error.{Codex32Error}
 use Rattle.codex32.specs.declared.error.Codex32Error.TheVariants.{Text, Length, Hrp, Checksum, Threshold, ShareIndex, Memory}
 use Rattle.codex32.specs.declared.string.Codex32Str.{Codex32Str}
@@ -40,30 +40,33 @@ refused_text text e h = ap (λ (o : Option UncheckedHrpstringError). first_of (a
 past_text : (text : List ℕ) → text_refusal text ≡ None → frame_refusal text ≡ first_of (length_fault (length text)) (hrp_fault (split_at_last text))
 past_text text h = ap (λ (o : Option UncheckedHrpstringError). first_of (as_text o) (first_of (length_fault (length text)) (hrp_fault (split_at_last text)))) h
 
-pub refused_length : (text : List ℕ) → text_refusal text ≡ None → is_within (length text) ≡ false → frame_refusal text ≡ Some Length
-refused_length text h out =
-    past_text text h
-    ∙ ap (λ (b : Bool). first_of (cond b None (Some Length)) (hrp_fault (split_at_last text))) out
-
 cut_of : (text hrp data_part : List ℕ) → IsText text hrp data_part → split_at_last text ≡ Some (hrp, data_part)
 cut_of text hrp data_part is = ap split_at_last is.split ∙ split_at_last-at hrp data_part is.data_bytes
 
-past_length : (text hrp data_part : List ℕ) → text_refusal text ≡ None → is_within (length text) ≡ true → IsText text hrp data_part
-    → frame_refusal text ≡ cond (is_ms hrp) None (Some Hrp)
-past_length text hrp data_part h within is =
-    past_text text h
-    ∙ ap (λ (b : Bool). first_of (cond b None (Some Length)) (hrp_fault (split_at_last text))) within
-    ∙ ap hrp_fault (cut_of text hrp data_part is)
+-- the length, and then the human-readable part
+pub refused_length : (n : ℕ) (hrp : List ℕ) → is_within n ≡ false → first_of (length_fault n) (part_fault hrp) ≡ Some Length
+refused_length n hrp out = ap (λ (b : Bool). first_of (cond b None (Some Length)) (part_fault hrp)) out
 
-pub refused_hrp : (text hrp data_part : List ℕ) → text_refusal text ≡ None → is_within (length text) ≡ true → IsText text hrp data_part
-    → is_ms hrp ≡ false → frame_refusal text ≡ Some Hrp
-refused_hrp text hrp data_part h within is e =
-    past_length text hrp data_part h within is ∙ cond-false (is_ms hrp) None (Some Hrp) e
+past_length : (n : ℕ) (hrp : List ℕ) → is_within n ≡ true → first_of (length_fault n) (part_fault hrp) ≡ part_fault hrp
+past_length n hrp within = ap (λ (b : Bool). first_of (cond b None (Some Length)) (part_fault hrp)) within
 
-pub not_refused : (text hrp data_part : List ℕ) → text_refusal text ≡ None → is_within (length text) ≡ true → IsText text hrp data_part
+pub refused_hrp : (n : ℕ) (hrp : List ℕ) → is_within n ≡ true → is_ms hrp ≡ false → first_of (length_fault n) (part_fault hrp) ≡ Some Hrp
+refused_hrp n hrp within other = past_length n hrp within ∙ cond-false (is_ms hrp) None (Some Hrp) other
+
+pub fine_outline : (n : ℕ) (hrp : List ℕ) → is_within n ≡ true → is_ms hrp ≡ true → first_of (length_fault n) (part_fault hrp) ≡ None
+fine_outline n hrp within ms = past_length n hrp within ∙ cond-true (is_ms hrp) None (Some Hrp) ms
+
+-- past the grammar, these are left
+pub past_grammar : (text hrp behind : List ℕ) → text_refusal text ≡ None → split_at_last text ≡ Some (hrp, behind)
+    → frame_refusal text ≡ first_of (length_fault (length text)) (part_fault hrp)
+past_grammar text hrp behind h cut = past_text text h ∙ ap (λ (p : Option (List ℕ × List ℕ)). first_of (length_fault (length text)) (hrp_fault p)) cut
+
+pub past_parts : (text hrp data_part : List ℕ) → text_refusal text ≡ None → IsText text hrp data_part → frame_refusal text ≡ first_of (length_fault (length text)) (part_fault hrp)
+past_parts text hrp data_part h is = past_grammar text hrp data_part h (cut_of text hrp data_part is)
+
+not_refused : (text hrp data_part : List ℕ) → text_refusal text ≡ None → is_within (length text) ≡ true → IsText text hrp data_part
     → is_ms hrp ≡ true → frame_refusal text ≡ None
-not_refused text hrp data_part h within is e =
-    past_length text hrp data_part h within is ∙ cond-true (is_ms hrp) None (Some Hrp) e
+not_refused text hrp data_part h within is ms = past_parts text hrp data_part h is ∙ fine_outline (length text) hrp within ms
 
 -- what is so of a text of which nothing of that is wrong
 pub record IsFramed (text hrp data_part : List ℕ) : Type 0 where

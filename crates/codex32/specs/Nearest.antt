@@ -8,6 +8,9 @@ use Rattle.bech32_decode.specs.Distance.{same_element}
 use Rattle.bech32_decode.specs.Text.{IsText, split_at_last}
 use Rattle.bech32_mended.specs.Mistyped.{HasNoListing, IsListingOf}
 use Rattle.codex32.specs.Code.{codex32}
+use Rattle.codex32.specs.Strings.{frame_refusal}
+use Rattle.codex32.specs.declared.error.Codex32Error.{Codex32Error}
+use Rattle.codex32.specs.declared.error.Codex32Error.TheVariants.{Memory}
 
 -- a character as it is read: `?`, which is unreadable, as `0`
 abbrev pub read_character : ℕ → ℕ
@@ -49,6 +52,12 @@ pub record IsNearestText (text nearest : List ℕ) : Type 0 where
   pub spelling : nearest ≡ spelled hrp elements
   pub accepted : Accepts codex32 nearest
   pub few : 2 * length (changed damaged elements) + length (unreadable damaged) ≤ 8
+
+-- why no nearest text is looked for: what is wrong with the text as it is read, but for its checksum; or, where nothing
+-- of that is, there is no memory. The former is never `Memory`.
+abbrev pub IsProposeRefusal : List ℕ → Codex32Error → Type 0
+IsProposeRefusal text e =
+    ((e ≡ Memory) × (frame_refusal (read_text text) ≡ None)) ⊎ (frame_refusal (read_text text) ≡ Some e)
 
 -- ---- on the way
 

@@ -52,10 +52,14 @@ as_text (Some e) = Some (Text e)
 abbrev pub length_fault : ℕ → Option Codex32Error
 length_fault n = if is_within n then None else Some Length
 
+-- the human-readable part is not `ms`
+abbrev pub part_fault : List ℕ → Option Codex32Error
+part_fault hrp = if is_ms hrp then None else Some Hrp
+
 -- of what stands before and after the last `1`: the former is not `ms`
 abbrev pub hrp_fault : Option (List ℕ × List ℕ) → Option Codex32Error
 hrp_fault None = None
-hrp_fault (Some p) = if is_ms p.0 then None else Some Hrp
+hrp_fault (Some p) = part_fault p.0
 
 -- what is wrong with a text but for its checksum, the first of: the grammar, the length, the human-readable part
 abbrev pub frame_refusal : List ℕ → Option Codex32Error

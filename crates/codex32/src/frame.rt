@@ -1,9 +1,10 @@
 //! What is asked of a text before its checksum: the grammar, the length, the human-readable part.
 
 ghost use Rattle.std.specs.Prelude.{◌≡◌, length, None, Some, MatchResult};
+ghost use Rattle.bech32_hrp.specs.Hrp.{first_of};
 ghost use Rattle.bech32_decode.specs.Parts.{unchecked_data, unchecked_length, unchecked_part};
 ghost use Rattle.bech32_decode.specs.Text.{IsText};
-ghost use Rattle.codex32.specs.Strings.{frame_refusal, is_ms, is_within};
+ghost use Rattle.codex32.specs.Strings.{frame_refusal, is_ms, is_within, length_fault, part_fault};
 
 use crate::error::Codex32Error;
 use bech32_decode::UncheckedHrpstring;
@@ -22,6 +23,21 @@ fn is_of_codex32(hrp: &[u8]) -> bool
     hrp.eq_ignore_ascii_case(b"ms")
 }
 
+/// Tests the number of characters of a text, and then its human-readable part.
+pub(crate) fn validate_outline(count: usize, hrp: &[u8]) -> Result<(), Codex32Error>
+    ensures { MatchResult result
+        (λ _. first_of (length_fault count) (part_fault hrp.now) ≡ None)
+        (λ e. first_of (length_fault count) (part_fault hrp.now) ≡ Some e) }
+{
+    if !has_length(count) {
+        return Err(Codex32Error::Length);
+    }
+    if !is_of_codex32(hrp) {
+        return Err(Codex32Error::Hrp);
+    }
+    Ok(())
+}
+
 /// The parts of a text in the grammar, of 48 to 93 characters, whose human-readable part is `ms` in
 /// either case.
 pub(crate) fn framed(text: &str) -> Result<UncheckedHrpstring<'_>, Codex32Error>
@@ -31,11 +47,6 @@ pub(crate) fn framed(text: &str) -> Result<UncheckedHrpstring<'_>, Codex32Error>
         (λ e. frame_refusal text.now ≡ Some e) }
 {
     let unchecked = UncheckedHrpstring::new(text)?;
-    if !has_length(text.len()) {
-        return Err(Codex32Error::Length);
-    }
-    if !is_of_codex32(unchecked.hrp().as_bytes()) {
-        return Err(Codex32Error::Hrp);
-    }
+    validate_outline(text.len(), unchecked.hrp().as_bytes())?;
     Ok(unchecked)
 }

@@ -2,6 +2,7 @@
 #![tactic(auto)]
 
 mod checksum;
+mod damaged;
 mod error;
 mod frame;
 mod nearest;
@@ -9,6 +10,7 @@ mod string;
 mod unreadable;
 
 pub use self::checksum::Codex32;
+pub use self::damaged::validate_damaged;
 pub use self::error::Codex32Error;
 pub use self::nearest::{propose, propose_in};
 pub use self::string::Codex32Str;

@@ -1,6 +1,6 @@
 //! The nearest text to a damaged one.
 
-ghost use Rattle.std.specs.Prelude.{◌≡◌, ◌⊎◌, ◌<◌, ◌≤◌, ℕ, [], List, length, None, Some, IfOk, IfSome, MatchOption, MatchResult, string_bytes};
+ghost use Rattle.std.specs.Prelude.{◌≡◌, ◌<◌, ◌≤◌, ℕ, [], List, length, None, Some, IfOk, IfSome, MatchOption, MatchResult, string_bytes};
 ghost use Rattle.std.specs.List.{AllByRecursion};
 ghost use Rattle.bech32_gf.specs.Fe32.{elements_of, ops};
 ghost use Rattle.bech32_checksum.specs.Encoded.{spelled};
@@ -10,10 +10,11 @@ ghost use Rattle.bech32_decode.specs.Text.{IsText};
 ghost use Rattle.bech32_mended.specs.Mended.{mended};
 ghost use Rattle.bech32_mended.specs.Mistyped.{HasNoListing, IsCorrectorOf, IsListingOf, IsReading};
 ghost use Rattle.codex32.specs.Code.{codex32};
-ghost use Rattle.codex32.specs.Nearest.{IsListed, IsNearestText, IsUnlisted, read_text};
+ghost use Rattle.codex32.specs.Nearest.{IsListed, IsNearestText, IsProposeRefusal, IsUnlisted, read_text};
 ghost use Rattle.codex32.specs.Strings.{frame_refusal};
 
 use crate::checksum::Codex32;
+use crate::damaged::validate_damaged;
 use crate::error::Codex32Error;
 use crate::frame::framed;
 use crate::unreadable::{read_in, unreadable_in};
@@ -129,8 +130,9 @@ fn proposed_in<A: Allocator + Copy>(alloc: A, text: &str) -> Result<Option<Strin
         (λ answer. (frame_refusal (read_text text.now) ≡ None) × MatchOption answer
         ((nearest : List ℕ) → IsNearestText text.now nearest → ⊥)
         (λ s. IsNearestText text.now (string_bytes s)))
-        (λ e. (e ≡ Codex32Error.Memory) ⊎ (frame_refusal (read_text text.now) ≡ Some e)) }
+        (λ e. IsProposeRefusal text.now e) }
 {
+    validate_damaged(text)?;
     let read = read_in(alloc, text)?;
     let unchecked = framed(&read)?;
     let start = text.len() - unchecked.data_part_ascii().len();
@@ -152,9 +154,8 @@ fn proposed_in<A: Allocator + Copy>(alloc: A, text: &str) -> Result<Option<Strin
 ///
 /// # Errors
 ///
-/// The first of: the text, with each `?` behind the last `1` read as `0`, is not in the grammar; it
-/// has less than 48 characters or more than 93; its human-readable part is not `ms` in either case.
-/// Where there is no memory, that in place of any answer.
+/// That of [`validate_damaged`], before any memory is taken. Then, where there is no memory, that in
+/// place of any answer.
 pub fn propose_in<A: Allocator + Copy>(
     alloc: A,
     text: &str,
@@ -166,7 +167,7 @@ pub fn propose_in<A: Allocator + Copy>(
         → one ≡ other }
     ensures refused { MatchResult result
         (λ _. frame_refusal (read_text text.now) ≡ None)
-        (λ e. (e ≡ Codex32Error.Memory) ⊎ (frame_refusal (read_text text.now) ≡ Some e)) }
+        (λ e. IsProposeRefusal text.now e) }
 {
     proposed_in(alloc, text)
 }
@@ -184,7 +185,7 @@ pub fn propose(alloc: Global, text: &str) -> Result<Option<String>, Codex32Error
         → one ≡ other }
     ensures refused { MatchResult result
         (λ _. frame_refusal (read_text text.now) ≡ None)
-        (λ e. (e ≡ Codex32Error.Memory) ⊎ (frame_refusal (read_text text.now) ≡ Some e)) }
+        (λ e. IsProposeRefusal text.now e) }
 {
     propose_in(alloc, text)
 }

@@ -5,8 +5,8 @@ ghost use Rattle.codex32.specs.Nearest.{read_character, read_text, unreadable};
 
 use std::alloc::{AllocError, Allocator};
 
-// A character as it is read.
-fn read_char(c: char) -> char
+/// A character as it is read.
+pub(crate) fn read_char(c: char) -> char
     ensures { result ≡ read_character c }
 {
     if c == '?' { '0' } else { c }

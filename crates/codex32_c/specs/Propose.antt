@@ -1,10 +1,9 @@
 -- The nearest text put into a buffer, and why none is.
-use Rattle.std.specs.Prelude.{◌≡◌, ◌⊎◌, ◌<◌, ℕ, List, length, None, Some}
+use Rattle.std.specs.Prelude.{◌≡◌, ◌<◌, ℕ, List, length, None}
 use Rattle.std.specs.Str.{IsUtf8}
 use Rattle.bech32_encode.specs.Buffers.{IsPut}
-use Rattle.codex32.specs.Nearest.{IsNearestText, read_text}
+use Rattle.codex32.specs.Nearest.{IsNearestText, IsProposeRefusal, read_text}
 use Rattle.codex32.specs.Strings.{frame_refusal}
-use Rattle.codex32.specs.declared.error.Codex32Error.TheVariants.{Memory}
 use Rattle.codex32_c.specs.declared.refusal.Refusal.{Refusal}
 use Rattle.codex32_c.specs.declared.refusal.Refusal.TheVariants.{NotUtf8, Text, NoNearest, NoRoom}
 
@@ -20,11 +19,11 @@ pub record LacksRoom (text : List ℕ) (room : ℕ) : Type 0 where
   pub is_nearest : IsNearestText text nearest
   pub lacks : room < length nearest
 
--- why none is put into a buffer of so many bytes: the bytes are no text; there is no memory; the first fault of the
--- text as it is read; there is none; it does not fit
+-- why none is put into a buffer of so many bytes: the bytes are no text; the first fault of the text as it is read, or,
+-- where it has none, there is no memory; there is no nearest text; it does not fit
 abbrev pub IsProposeFault : List ℕ → ℕ → Refusal → Type 0
 IsProposeFault text room NotUtf8 = ¬ (IsUtf8 text)
-IsProposeFault text room (Text e) = (e ≡ Memory) ⊎ (IsUtf8 text × (frame_refusal (read_text text) ≡ Some e))
+IsProposeFault text room (Text e) = IsUtf8 text × IsProposeRefusal text e
 IsProposeFault text room NoNearest =
     IsUtf8 text × (frame_refusal (read_text text) ≡ None) × ((nearest : List ℕ) → IsNearestText text nearest → ⊥)
 IsProposeFault text room NoRoom = LacksRoom text room

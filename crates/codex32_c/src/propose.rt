@@ -1,7 +1,10 @@
 //! Proposes the nearest text to a damaged codex32 string.
 
-ghost use Rattle.std.specs.Prelude.{◌≡◌, ◌≢◌, ◌⊎◌, ◌≤◌, length, IfErr, IfOk, OnErr};
+ghost use Rattle.std.specs.Prelude.{◌≡◌, ◌≢◌, ◌⊎◌, ◌≤◌, length, None, IfErr, IfOk, OnErr};
+ghost use Rattle.std.specs.Str.{IsUtf8};
 ghost use Rattle.caller_memory.specs.Memory.{memory_size};
+ghost use Rattle.codex32.specs.Nearest.{read_text};
+ghost use Rattle.codex32.specs.Strings.{frame_refusal};
 ghost use Rattle.codex32_c.specs.Faults.{IsNumberOf};
 ghost use Rattle.codex32_c.specs.Propose.{IsProposeFault, PutsNearest};
 
@@ -10,7 +13,7 @@ use crate::input::text_of;
 use crate::refusal::Refusal;
 use bumpalo::Bump;
 use caller_memory::{Lent, Memory};
-use codex32::{Codex32Error, propose_in};
+use codex32::{Codex32Error, propose_in, validate_damaged};
 use std::alloc::Allocator;
 
 // The arena asks for whole pages, without what it keeps beside them.
@@ -18,8 +21,8 @@ const PAGE: usize = 4096;
 
 const BESIDE: usize = 64;
 
-/// Puts the nearest text at the front of a buffer, and answers its length.
-pub(crate) fn nearest_in<A: Allocator + Copy>(
+// Puts the nearest text at the front of a buffer, and answers its length.
+fn nearest_in<A: Allocator + Copy>(
     alloc: A,
     bytes: &[u8],
     proposed: &mut [u8],
@@ -41,13 +44,14 @@ pub(crate) fn nearest_in<A: Allocator + Copy>(
     Ok(found.len())
 }
 
-// The same with so many bytes of lent memory.
+// The same with so many bytes of lent memory, once the text was tested.
 fn nearest_over(
     lent: &Lent,
     size: usize,
     bytes: &[u8],
     proposed: &mut [u8],
 ) -> Result<usize, Refusal>
+    requires { IsUtf8 bytes.now × (frame_refusal (read_text bytes.now) ≡ None) }
     ensures value { IfOk result (λ count. PutsNearest bytes.now proposed.old proposed.new count) }
     ensures refused { IfErr result (λ e. IsProposeFault bytes.now (length proposed.old) e) }
     ensures same { OnErr result (proposed.new ≡ proposed.old) }
@@ -61,6 +65,7 @@ fn nearest_over(
 
 // The same with memory that comes back.
 fn nearest_with(memory: &mut Memory, bytes: &[u8], proposed: &mut [u8]) -> Result<usize, Refusal>
+    requires { IsUtf8 bytes.now × (frame_refusal (read_text bytes.now) ≡ None) }
     ensures value { IfOk result (λ count. PutsNearest bytes.now proposed.old proposed.new count) }
     ensures refused { IfErr result (λ e. IsProposeFault bytes.now (length proposed.old) e) }
     ensures same { OnErr result (proposed.new ≡ proposed.old) }
@@ -75,14 +80,26 @@ fn nearest_with(memory: &mut Memory, bytes: &[u8], proposed: &mut [u8]) -> Resul
     answer
 }
 
+// The same of any text, which is tested before any memory is taken.
+fn nearest_of(memory: &mut Memory, bytes: &[u8], proposed: &mut [u8]) -> Result<usize, Refusal>
+    ensures value { IfOk result (λ count. PutsNearest bytes.now proposed.old proposed.new count) }
+    ensures refused { IfErr result (λ e. IsProposeFault bytes.now (length proposed.old) e) }
+    ensures same { OnErr result (proposed.new ≡ proposed.old) }
+    ensures memory { (memory.new ≡ memory.old) ⊎ (memory_size memory.new ≡ 0) }
+{
+    validate_damaged(text_of(bytes)?)?;
+    nearest_with(memory, bytes, proposed)
+}
+
 /// Puts the nearest text to a damaged codex32 string at the front of `proposed`, as [`propose_in`] has
 /// it; `proposed_length` is then its length. It is worked out in `memory`.
 ///
 /// # Errors
 ///
 /// Answers the number of the first of: a text that is not UTF-8 (2); the first fault of its grammar
-/// (21 to 23, 11 to 15), its length (82) and its human-readable part (81); no such text (34); a buffer
-/// that is too small (92). Where `memory` does not suffice, 91 in place of any answer.
+/// (21 to 23, 11 to 15), its length (82) and its human-readable part (81), all before any memory is
+/// taken; no such text (34); a buffer that is too small (92). Where `memory` does not suffice, 91 in
+/// place of 0, 34 or 92.
 #[unsafe(no_mangle)]
 pub extern "C" fn codex32_propose(
     text: &[u8],
@@ -95,7 +112,7 @@ pub extern "C" fn codex32_propose(
     ensures same { result ≢ 0 → (proposed.new ≡ proposed.old) × (proposed_length.new ≡ proposed_length.old) }
     ensures memory { (memory.new ≡ memory.old) ⊎ (memory_size memory.new ≡ 0) }
 {
-    match nearest_with(memory, text, proposed) {
+    match nearest_of(memory, text, proposed) {
         Ok(count) => {
             *proposed_length = count;
             0

@@ -1,7 +1,6 @@
 use crate::parse::codex32_parse;
-use crate::propose::nearest_in;
-use linked_list_allocator::LocalHeap;
-use std::alloc::Allocator;
+use crate::propose::codex32_propose;
+use caller_memory::Memory;
 use std::fmt::Debug;
 use std::process::Abort;
 use std::test::Fail;
@@ -91,41 +90,50 @@ fn refuses_texts(rt: HostRuntime) {
 // What a buffer holds before a call.
 const BYTE_BEFORE: u8 = 0xee;
 
+const ROOM: usize = 96;
+
 // The number of the answer to a damaged text with this memory and a buffer of so many bytes, of which
 // the front is the wanted text on 0, and else nothing is written.
-fn proposes<A: Allocator + Copy>(
-    rt: &impl Abort,
-    alloc: A,
-    text: &[u8],
-    room: usize,
-    want: &[u8],
-) -> u32 {
-    let mut buffer = [BYTE_BEFORE; 96];
-    let (buffer, _) = buffer.split_at_mut(room.min(96));
-    match nearest_in(alloc, text, buffer) {
-        Ok(count) => {
-            same(rt, &count, &want.len());
-            assert!(rt; buffer.starts_with(want));
-            assert!(rt; buffer.iter().skip(count).all(|b| *b == BYTE_BEFORE));
-            0
+fn proposes(rt: &impl Abort, memory: &mut Memory, text: &[u8], room: usize, want: &[u8]) -> u32 {
+    let mut buffer = [BYTE_BEFORE; ROOM];
+    let mut length = LENGTH_BEFORE;
+    let number = {
+        let (front, _) = buffer.split_at_mut(room.min(ROOM));
+        codex32_propose(text, memory, front, &mut length)
+    };
+    let mut wanted = [BYTE_BEFORE; ROOM];
+    if number == 0 {
+        same(rt, &length, &want.len());
+        for (place, byte) in wanted.iter_mut().zip(want) {
+            *place = *byte;
         }
-        Err(refusal) => {
-            assert!(rt; buffer.iter().all(|b| *b == BYTE_BEFORE));
-            refusal.number()
-        }
+    } else {
+        same(rt, &length, &LENGTH_BEFORE);
     }
+    assert!(rt; buffer == wanted);
+    number
+}
+
+// The number of bytes that `include/codex32.h` states for a text of so many.
+fn memory_for(text: &[u8]) -> usize {
+    16384 + 8 * text.len().min(4096)
 }
 
 const NEAREST: &[u8] = b"ms10testsxxxxxxxxxxxxxxxxxxxxxxxxxx4nzvca9cmczlw";
 
+// The same with four other characters.
+const DAMAGED: &[u8] = b"ms1qtestsqxxxxxxxxxxxxxxxxxxxxxxxxq4nzvca9cmczlq";
+
+// The nearest text of a row is of BIP-93. Each answer gives the memory back.
 #[test]
-fn proposes_known_texts(rt: HostRuntime) {
-    let rows: [(&[u8], usize, u32); 12] = [
+fn proposes_known_texts(rt: HostRuntime) -> Result<(), Fail> {
+    let rows: [(&[u8], usize, u32); 13] = [
         (NEAREST, 96, 0),
         (NEAREST, 48, 0),
         (NEAREST, 47, 92),
         (b"MS10TESTSXXXXXXXXXXXXXXXXXXXXXXXXXX4NZVC????????", 96, 0),
-        (b"ms1qtestsqxxxxxxxxxxxxxxxxxxxxxxxxq4nzvca9cmczlq", 96, 0),
+        (DAMAGED, 96, 0),
+        (DAMAGED, 47, 92),
         (b"ms10testsxxxxxxxxxxxxxxxxxxxxxxxxxx4nzv?????????", 0, 34),
         (b"ms1qtestsxxxxxxxxxxxxxxxxxxxxxxxxxx4nzvca???????", 96, 34),
         (b"mt10testsxxxxxxxxxxxxxxxxxxxxxxxxxx4nzvca9cmczlw", 96, 81),
@@ -135,17 +143,69 @@ fn proposes_known_texts(rt: HostRuntime) {
         (b"\xff", 96, 2),
     ];
     for (text, room, want) in rows {
-        same(&rt, &proposes(&rt, rt.alloc(), text, room, NEAREST), &want);
+        let size = memory_for(text);
+        let mut memory = Memory::leaked(rt.alloc(), size)?;
+        same(&rt, &proposes(&rt, &mut memory, text, room, NEAREST), &want);
+        same(&rt, &memory.with_size().0, &size);
     }
+    Ok(())
 }
 
+// In the same memory again and again, with a longer text of `reads_known_strings`.
+#[test]
+fn memory_serves_again(rt: HostRuntime) -> Result<(), Fail> {
+    let longer = b"ms13lwj58s47h5wpzp0pm9dmwl0n4084llte76ftpzr2phlsa93mxazghatx2hglr8p754666v";
+    let torn = b"ms13lwj5?s47h5wpzp0p???mwl0n4084llte76ft?zr2phlsa93mxaz?hatx2hglr8p754?66?";
+    let size = memory_for(torn);
+    let mut memory = Memory::leaked(rt.alloc(), size)?;
+    for _ in 0..5 {
+        same(&rt, &proposes(&rt, &mut memory, DAMAGED, 48, NEAREST), &0);
+        same(&rt, &proposes(&rt, &mut memory, b"msq", 48, NEAREST), &23);
+        same(&rt, &proposes(&rt, &mut memory, torn, 74, longer), &0);
+    }
+    same(&rt, &memory.with_size().0, &size);
+    Ok(())
+}
+
+// Memory of fewer bytes than the text has.
+#[test]
+fn wants_memory(rt: HostRuntime) -> Result<(), Fail> {
+    for size in [0, 16, 47] {
+        let mut memory = Memory::leaked(rt.alloc(), size)?;
+        same(&rt, &proposes(&rt, &mut memory, DAMAGED, 48, NEAREST), &91);
+        same(&rt, &memory.with_size().0, &size);
+    }
+    Ok(())
+}
+
+// A refusal of the text needs no memory.
+#[test]
+fn refuses_without_memory(rt: HostRuntime) -> Result<(), Fail> {
+    let rows: [(&[u8], u32); 7] = [
+        (b"\xff", 2),
+        (b"1?qqqqq", 11),
+        (b"ms1?b", 21),
+        (b"Ms1?", 22),
+        (b"msq", 23),
+        (b"mt10testsxxxxxxxxxxxxxxxxxxxxxxxxxx4nzvca9cmczl?", 81),
+        (b"ms10testsxxxxxxxxxxxxxxxxxxxxxxxxxx4nzvca9cmcz?", 82),
+    ];
+    for (text, want) in rows {
+        let mut memory = Memory::leaked(rt.alloc(), 0)?;
+        same(&rt, &proposes(&rt, &mut memory, text, 48, NEAREST), &want);
+    }
+    Ok(())
+}
+
+// From some size on memory suffices, at the latest from the stated one.
 #[test]
 fn proposes_or_wants_memory(rt: HostRuntime) -> Result<(), Fail> {
-    let text = b"ms1qtestsqxxxxxxxxxxxxxxxxxxxxxxxxq4nzvca9cmczlq";
+    let enough = memory_for(DAMAGED);
     let mut before = 91;
-    for size in 0..128usize {
-        let heap = LocalHeap::new(rt.alloc(), 16 * size)?;
-        let number = proposes(&rt, &heap, text, 48, NEAREST);
+    for size in (0..enough).step_by(64).chain([enough]) {
+        let mut memory = Memory::leaked(rt.alloc(), size)?;
+        let number = proposes(&rt, &mut memory, DAMAGED, 48, NEAREST);
+        same(&rt, &memory.with_size().0, &size);
         assert!(rt; number == 0 || number == before);
         before = number;
     }

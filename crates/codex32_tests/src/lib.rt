@@ -6,6 +6,8 @@ mod checksum;
 #[cfg(test)]
 mod compare;
 #[cfg(test)]
+mod damaged;
+#[cfg(test)]
 mod known;
 #[cfg(test)]
 mod known_table;

@@ -1,10 +1,10 @@
 //! Callers whose contracts rest on those of the library.
 
-ghost use Rattle.std.specs.Prelude.{◌≡◌, ◌⊎◌, ℕ, List, None, Some, Ok, IfOk, IfErr, MatchOption, string_bytes};
+ghost use Rattle.std.specs.Prelude.{◌≡◌, ◌⊎◌, ℕ, List, None, Ok, IfOk, IfErr, MatchOption, string_bytes};
 ghost use Rattle.bech32_hrp.specs.Hrp.{lowered};
 ghost use Rattle.bech32_segwit.specs.SegwitDecoding.{IsSegwitDecodeRefusal};
-ghost use Rattle.codex32.specs.Nearest.{IsNearestText, read_text};
-ghost use Rattle.codex32.specs.Strings.{IsCodex32, frame_refusal};
+ghost use Rattle.codex32.specs.Nearest.{IsNearestText, IsProposeRefusal};
+ghost use Rattle.codex32.specs.Strings.{IsCodex32};
 
 use bech32::primitives::decode::SegwitHrpstringError;
 use bech32::segwit::{self, DecodeError};
@@ -38,8 +38,7 @@ pub fn proposal(alloc: Global, text: &str) -> Result<Option<String>, Codex32Erro
     ensures value { IfOk result (λ answer. MatchOption answer
         (IsCodex32 text.now ⊎ ((nearest : List ℕ) → IsNearestText text.now nearest → ⊥))
         (λ s. IsNearestText text.now (string_bytes s))) }
-    ensures refused { IfErr result
-        (λ e. (e ≡ Codex32Error.Memory) ⊎ (frame_refusal (read_text text.now) ≡ Some e)) }
+    ensures refused { IfErr result (λ e. IsProposeRefusal text.now e) }
 {
     if Codex32Str::parse(text).is_ok() {
         return Ok(None);

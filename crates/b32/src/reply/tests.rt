@@ -7,8 +7,9 @@
 //! applied to it. The others come from BIP-173 and BIP-350, or show one refusal each.
 
 use super::*;
-use bech32_lines::REPLY_ROOM;
+use bech32_lines::{REPLY_ROOM, Replies};
 use linked_list_allocator::LocalHeap;
+use std::alloc::Global;
 use std::process::Abort;
 use std::test::Fail;
 
@@ -19,7 +20,7 @@ fn refused_at_first(rt: &impl Abort, alloc: Global, line: &[u8], want: &[u8]) ->
     for size in 0..64usize {
         let heap = LocalHeap::new(alloc, 16 * size)?;
         let mut out = Vec::with_capacity(alloc, REPLY_ROOM)?;
-        reply_in(&heap, line, &mut out);
+        Commands { alloc: &heap }.reply(line, &mut out);
         if out.as_slice() == b"err 91\n".as_slice() {
             refused = refused.saturating_add(1);
         } else {
@@ -32,11 +33,24 @@ fn refused_at_first(rt: &impl Abort, alloc: Global, line: &[u8], want: &[u8]) ->
 
 #[test]
 fn each_request_refused(rt: HostRuntime) -> Result<(), Fail> {
+    // Each takes more memory than the smallest heap has.
     let rows: [(&[u8], &[u8]); 5] = [
-        (b"encode bech32m a 880000", b"ok a13qqqq9qz88s\n"),
-        (b"decode a13qqqq9qz88s", b"ok a 880000\n"),
-        (b"segwit-encode bc 16 751e", b"ok bc1sw50qgdz25j\n"),
-        (b"segwit-decode BC1SW50QGDZ25J", b"ok bc 16 751e\n"),
+        (
+            b"encode bech32m test ff1e76e8199196d454941c45d1b3a323f1433bd6",
+            b"ok test1lu08d6qejxtdg4y5r3zarvary0c5xw7kmz4lky\n",
+        ),
+        (
+            b"decode TB1VT82HPZY9SWH27Q5PSTZQKDGR02GN8F9CJJL2L",
+            b"ok tb 62ceab84442c1d7578140c162059a81bd4899d25\n",
+        ),
+        (
+            b"segwit-encode bc 0 751e76e8199196d454941c45d1b3a323f1433bd6",
+            b"ok bc1qw508d6qejxtdg4y5r3zarvary0c5xw7kv8f3t4\n",
+        ),
+        (
+            b"segwit-decode BC1QW508D6QEJXTDG4Y5R3ZARVARY0C5XW7KV8F3T4",
+            b"ok bc 0 751e76e8199196d454941c45d1b3a323f1433bd6\n",
+        ),
         (b"correct bech32 a12uel5q 3", b"ok 3:q 0:l a12uel5l\n"),
     ];
     for (line, want) in rows {
@@ -48,7 +62,8 @@ fn each_request_refused(rt: HostRuntime) -> Result<(), Fail> {
 #[test]
 fn a_reply_with_its_newline(rt: HostRuntime) -> Result<(), Fail> {
     let mut out = Vec::with_capacity(rt.alloc(), REPLY_ROOM)?;
-    reply(rt.alloc(), b"decode A1LQFN3A", &mut out);
+    let program = Commands { alloc: rt.alloc() };
+    program.reply(b"decode A1LQFN3A", &mut out);
     assert!(rt; out.as_slice() == b"ok a -\n".as_slice());
     Ok(())
 }

@@ -5,8 +5,9 @@
 //! which tries every pattern, and by the Rust crate bech32 0.12.0.
 
 use super::*;
-use bech32_lines::REPLY_ROOM;
+use bech32_lines::{REPLY_ROOM, Replies};
 use linked_list_allocator::LocalHeap;
+use std::alloc::Global;
 use std::process::Abort;
 use std::test::Fail;
 
@@ -17,7 +18,7 @@ fn refused_at_first(rt: &impl Abort, alloc: Global, line: &[u8], want: &[u8]) ->
     for size in 0..64usize {
         let heap = LocalHeap::new(alloc, 64 * size)?;
         let mut out = Vec::with_capacity(alloc, REPLY_ROOM)?;
-        reply_in(&heap, line, &mut out);
+        Commands { alloc: &heap }.reply(line, &mut out);
         if out.as_slice() == b"err 91\n".as_slice() {
             refused = refused.saturating_add(1);
         } else {
@@ -43,7 +44,7 @@ fn replies_without_memory(rt: HostRuntime) -> Result<(), Fail> {
     let heap = LocalHeap::new(rt.alloc(), 0)?;
     let mut out = Vec::with_capacity(rt.alloc(), REPLY_ROOM)?;
     let text = b"parse ms10testsxxxxxxxxxxxxxxxxxxxxxxxxxx4nzvca9cmczlw";
-    reply_in(&heap, text, &mut out);
+    Commands { alloc: &heap }.reply(text, &mut out);
     let want = b"ok 0 test s xxxxxxxxxxxxxxxxxxxxxxxxxx\n".as_slice();
     assert!(rt; out.as_slice() == want);
     Ok(())

@@ -6,24 +6,21 @@ use Rattle.bech32_hrp.specs.HrpBytes.{hrp_bytes}
 use Rattle.bech32_hrp.specs.Hrp.{lowered}
 use Rattle.b32.specs.Hex.{hex_of}
 use Rattle.bech32_lines.proofs.Pieces.{three-pieces, four-pieces}
-use Rattle.b32.proofs.Sizes.{decoded-sizes, decode-reply-size, length-hex_of}
-use Rattle.b32.proofs.Replies.{no_memory-decoded}
+use Rattle.b32.proofs.Sizes.{decoded-sizes, decode-reply-size}
 use Rattle.b32.proofs.decode.decode.Goals as goal
 
-pub append-requires-3 : goal.append-requires-3
-append-requires-3 g c =
+pub append_hex-requires : goal.append_hex-requires
+append_hex-requires g c =
     let hrp = hrp_bytes c.in_ok-hrp.hrp in
     let bytes = c.in_ok-hrp.bytes.items in
     let (part, size) = decoded-sizes c.args.text.now hrp bytes c.in_ok-hrp.ensures.value in
-    let hex = c.as_bytes-2.ensures.value ∙ c.in_ok-hex.ensures.word ∙ ap hex_of c.as_slice.ensures.value in
     let part_is = c.append_lowered.ensures.items ∙ ap (λ (t : List ℕ). c.append.new.out.items ++ lowered t) c.as_bytes.ensures in
     let front = three-pieces c.args.out.now.items (codes "ok ") (lowered hrp) (32 ∷ []) _ _ _ c.append.ensures.items part_is c.append-2.ensures.items in
     omega (
       arith,
       part,
       size,
-      ap length hex,
-      length-hex_of bytes,
+      ap length c.as_slice.ensures.value,
       ap length front,
       length-append c.args.out.now.items (codes "ok " ++ (lowered hrp ++ 32 ∷ [])),
       length-append (lowered hrp) (32 ∷ []),
@@ -37,9 +34,8 @@ returns-clause-ok g c =
     let hrp = hrp_bytes c.in_ok-hrp.hrp in
     let bytes = c.in_ok-hrp.bytes.items in
     let is = c.in_ok-hrp.ensures.value in
-    let hex = c.as_bytes-2.ensures.value ∙ c.in_ok-hex.ensures.word ∙ ap hex_of c.as_slice.ensures.value in
     let part_is = c.append_lowered.ensures.items ∙ ap (λ (t : List ℕ). c.append.new.out.items ++ lowered t) c.as_bytes.ensures in
-    let last_is = c.append-3.ensures.items ∙ ap (λ (t : List ℕ). c.append-2.new.out.items ++ t) hex in
+    let last_is = c.append_hex.ensures.items ∙ ap (λ (t : List ℕ). c.append-2.new.out.items ++ hex_of t) c.as_slice.ensures.value in
     record {
       said = codes "ok " ++ (lowered hrp ++ (32 ∷ hex_of bytes));
       says = inl (record { hrp = hrp; bytes = bytes; is_decoded = is; spelling = refl });
@@ -51,8 +47,3 @@ pub returns-in_err-hrp-clause-err : goal.returns-in_err-hrp-clause-err
 returns-in_err-hrp-clause-err g c =
     let p = err_from_is_err_and c.from_residual.result c.from_residual.ensures.1 in
     rw p.1 (rw p.2 (inr (record { error = c.in_err-hrp.field-0.0; is_refusal = c.in_err-hrp.ensures.refused; spelling = refl })))
-
-pub returns-in_err-hex-clause-err : goal.returns-in_err-hex-clause-err
-returns-in_err-hex-clause-err g c =
-    let p = err_from_is_err_and c.from_residual-in_err-hex.result c.from_residual-in_err-hex.ensures.1 in
-    rw p.1 (rw p.2 (no_memory-decoded c.args.text.now (hrp_bytes c.in_ok-hrp.hrp) c.in_ok-hrp.bytes.items c.in_ok-hrp.ensures.value))

@@ -1,4 +1,4 @@
-use Rattle.std.proofs.Common.{◌≡◌, ◌<◌, ◌≤◌, ◌∙◌, ◌+◌, ◌*◌, ℕ, sym, ap, inl, inr, arith}
+use Rattle.std.proofs.Common.{◌≡◌, ◌≤◌, ◌∙◌, ◌+◌, ◌*◌, ℕ, sym, ap, inl, inr, arith}
 use Rattle.std.specs.Fmt.{decimal}
 use Rattle.b32.proofs.LocationWords.{all_read, first_byte, no_byte, no_digit, no_more, no_next, one_more_byte, too_much}
 use Rattle.b32.proofs.location_word.location_of_word.Goals.{then-number-eq0-via-then-number-eq0, then-number-eq0-via-else-number-eq0+then-number}

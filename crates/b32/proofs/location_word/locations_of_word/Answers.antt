@@ -1,4 +1,4 @@
-use Rattle.std.proofs.Common.{rules, ◌≡◌, ◌≢◌, ◌≤◌, ◌∙◌, ℕ, List, [], ◌∷◌, ◌++◌, map, Some, None, refl, ap, sym, inl, inr, append-nil}
+use Rattle.std.proofs.Common.{rules, ◌≡◌, ◌≤◌, ◌∙◌, ℕ, List, [], ◌∷◌, ◌++◌, map, Some, None, refl, ap, sym, inl, inr, append-nil}
 use Rattle.std.proofs.ByRecursion.{All-push}
 use Rattle.std.specs.Fmt.{decimal}
 use Rattle.b32.specs.Locations.{pieces}

@@ -7,25 +7,22 @@ use Rattle.bech32_hrp.specs.Hrp.{lowered}
 use Rattle.bech32_hrp.specs.HrpBytes.{hrp_bytes}
 use Rattle.b32.specs.Hex.{AreBytes, hex_of}
 use Rattle.bech32_lines.proofs.Pieces.{three-pieces}
-use Rattle.b32.proofs.Sizes.{length-hex_of}
-use Rattle.b32.proofs.SegwitReplies.{address-sizes, no_memory-address, segwit-decode-size, six-pieces}
+use Rattle.b32.proofs.SegwitReplies.{address-sizes, segwit-decode-size, six-pieces}
 use Rattle.b32.proofs.segwit_decode.segwit_decode.Goals as goal
 
-pub append-requires-4 : goal.append-requires-4
-append-requires-4 g c =
+pub append_hex-requires : goal.append_hex-requires
+append_hex-requires g c =
     let hrp = hrp_bytes c.in_ok-hrp.hrp in
     let version = c.in_ok-hrp.version in
     let program = c.in_ok-hrp.program.items in
     let (part, size) = address-sizes c.args.text.now hrp version program c.in_ok-hrp.ensures.value.1 in
-    let hex = c.as_bytes-2.ensures.value ∙ c.in_ok-hex.ensures.word ∙ ap hex_of c.as_slice.ensures.value in
     let part_is = c.append_lowered.ensures.items ∙ ap (λ (t : List ℕ). c.append.new.out.items ++ lowered t) c.as_bytes.ensures in
     let front = three-pieces c.args.out.now.items (codes "ok ") (lowered hrp) (32 ∷ []) _ _ _ c.append.ensures.items part_is c.append-2.ensures.items in
     omega (
       arith,
       part,
       size,
-      ap length hex,
-      length-hex_of program,
+      ap length c.as_slice.ensures.value,
       ap length front,
       length-append c.args.out.now.items (codes "ok " ++ (lowered hrp ++ 32 ∷ [])),
       length-append (lowered hrp) (32 ∷ []),
@@ -45,13 +42,12 @@ returns-clause-ok g c =
     let version = c.in_ok-hrp.version in
     let program = c.in_ok-hrp.program.items in
     let is = c.in_ok-hrp.ensures.value in
-    let hex = c.as_bytes-2.ensures.value ∙ c.in_ok-hex.ensures.word ∙ ap hex_of c.as_slice.ensures.value in
     let part_is = c.append_lowered.ensures.items ∙ ap (λ (t : List ℕ). c.append.new.out.items ++ lowered t) c.as_bytes.ensures in
     let number_is = c.append_number.ensures.items ∙ ap (λ (n : ℕ). c.append-2.new.out.items ++ decimal n) c.to_u8.ensures in
-    let last_is = c.append-4.ensures.items ∙ ap (λ (t : List ℕ). c.append-3.new.out.items ++ t) hex in
+    let last_is = c.append_hex.ensures.items ∙ ap (λ (t : List ℕ). c.append-3.new.out.items ++ hex_of t) c.as_slice.ensures.value in
     record {
       said = codes "ok " ++ (lowered hrp ++ (32 ∷ (decimal version.value ++ (32 ∷ hex_of program))));
-      says = inl (record { hrp = hrp; version = version; program = program; is_hrp = is.0; are_bytes = subst AreBytes c.as_slice.ensures.value c.in_ok-hex.ensures.bytes; is_address = is.1; spelling = refl });
+      says = inl (record { hrp = hrp; version = version; program = program; is_hrp = is.0; are_bytes = subst AreBytes c.as_slice.ensures.value c.append_hex.ensures.bytes; is_address = is.1; spelling = refl });
       size = segwit-decode-size c.args.text.now hrp version program is.1;
       added = six-pieces c.args.out.now.items (codes "ok ") (lowered hrp) (32 ∷ []) (decimal version.value) (32 ∷ []) (hex_of program) _ _ _ _ _ _ c.append.ensures.items part_is
           c.append-2.ensures.items number_is c.append-3.ensures.items last_is;
@@ -61,8 +57,3 @@ pub returns-in_err-hrp-clause-err : goal.returns-in_err-hrp-clause-err
 returns-in_err-hrp-clause-err g c =
     let p = err_from_is_err_and c.from_residual.result c.from_residual.ensures.1 in
     rw p.1 (rw p.2 (inr (record { error = c.in_err-hrp.field-0.0; is_refusal = c.in_err-hrp.ensures.refused; spelling = refl })))
-
-pub returns-in_err-hex-clause-err : goal.returns-in_err-hex-clause-err
-returns-in_err-hex-clause-err g c =
-    let p = err_from_is_err_and c.from_residual-in_err-hex.result c.from_residual-in_err-hex.ensures.1 in
-    rw p.1 (rw p.2 (no_memory-address c.args.text.now (hrp_bytes c.in_ok-hrp.hrp) c.in_ok-hrp.version c.in_ok-hrp.program.items c.in_ok-hrp.ensures.value.0 c.in_ok-hrp.ensures.value.1))

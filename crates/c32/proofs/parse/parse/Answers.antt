@@ -1,4 +1,4 @@
-use Rattle.std.proofs.Common.{◌≡◌, rules, ◌++◌, ◌∷◌, [], refl, inl, ap, arith, codes, length, length-append}
+use Rattle.std.proofs.Common.{◌≡◌, rules, ◌++◌, ◌∷◌, [], refl, inl, arith, codes, length-append}
 use Rattle.std.proofs.lemmas.Result.{err_from_is_err_and}
 use Rattle.bech32_lines.proofs.Pieces.{four-pieces}
 use Rattle.c32.proofs.Replies.{says-no_string}

@@ -1,26 +1,26 @@
-use Rattle.std.proofs.Common.{sym, ap, ◌∙◌}
+use Rattle.std.proofs.Common.{List, ℕ, length, sym, ap, ◌∙◌}
+use Rattle.std.proofs.lemmas.Result.{err_from_is_err_and}
+use Rattle.bech32_hrp.specs.Hrp.{first_of}
 use Rattle.bech32_hrp.specs.HrpBytes.{hrp_bytes}
-use Rattle.codex32.specs.Strings.{is_ms}
-use Rattle.codex32.proofs.Strings.{not_refused, refused_hrp, refused_length}
+use Rattle.codex32.specs.Strings.{length_fault, part_fault}
+use Rattle.codex32.proofs.Strings.{past_parts}
 use Rattle.codex32.proofs.frame.framed.Goals as goal
 
-pub returns-then-not-has_length : goal.returns-then-not-has_length
-returns-then-not-has_length c =
-    refused_length c.args.text.now c.in_ok-unchecked.ensures.refused (sym c.has_length.ensures ∙ c.if-not-has_length.true)
-
-pub returns-then-not-is_of_codex32 : goal.returns-then-not-is_of_codex32
-returns-then-not-is_of_codex32 c =
-    let u = c.in_ok-unchecked.unchecked in
-    let parts = c.in_ok-unchecked.ensures.parts in
-    refused_hrp c.args.text.now _ _ c.in_ok-unchecked.ensures.refused (sym c.has_length.ensures ∙ c.if-not-has_length.false) parts.0
-    (ap (λ h. is_ms (hrp_bytes h)) (sym c.hrp.ensures) ∙ ap is_ms (sym c.as_bytes.ensures) ∙ sym c.is_of_codex32.ensures ∙ c.if-not-is_of_codex32.true)
+pub returns-in_err-validate_outline : goal.returns-in_err-validate_outline
+returns-in_err-validate_outline c =
+    let text = c.args.text.now in
+    let p = err_from_is_err_and c.from_residual-in_err-validate_outline.result c.from_residual-in_err-validate_outline.ensures.1 in
+    rw p.1 (rw p.2 (past_parts text _ _ c.in_ok-unchecked.ensures.refused c.in_ok-unchecked.ensures.parts.0
+    ∙ ap (λ (h : List ℕ). first_of (length_fault (length text)) (part_fault h)) (ap hrp_bytes (sym c.hrp.ensures) ∙ sym c.as_bytes.ensures)
+    ∙ c.in_err-validate_outline.ensures))
 
 pub returns : goal.returns
 returns c =
-    let u = c.in_ok-unchecked.unchecked in
+    let text = c.args.text.now in
     let parts = c.in_ok-unchecked.ensures.parts in (
-      not_refused c.args.text.now _ _ c.in_ok-unchecked.ensures.refused (sym c.has_length.ensures ∙ c.if-not-has_length.false) parts.0
-          (ap (λ h. is_ms (hrp_bytes h)) (sym c.hrp.ensures) ∙ ap is_ms (sym c.as_bytes.ensures) ∙ sym c.is_of_codex32.ensures ∙ c.if-not-is_of_codex32.false),
+      past_parts text _ _ c.in_ok-unchecked.ensures.refused parts.0
+          ∙ ap (λ (h : List ℕ). first_of (length_fault (length text)) (part_fault h)) (ap hrp_bytes (sym c.hrp.ensures) ∙ sym c.as_bytes.ensures)
+          ∙ c.in_ok-validate_outline.ensures,
       parts.0,
       parts.1,
     )

@@ -1,22 +1,21 @@
 -- `deallocate` turns the room into the block again, and gives it to the memory. Assumes `Logic`.
-use Rattle.std.proofs.Common.{◌≡◌, ℕ, ◌^◌, ◌<◌, List, [], ◌∷◌, ◌++◌, refl, sym, ap, ◌∙◌, arith, w64}
+use Rattle.std.proofs.Common.{◌≡◌, List, [], ◌∷◌, ◌++◌, refl, ap, w64}
 use mir.Syntax.{Ty, Fn}
 use mir.Val.{Val, vint, vptr, vunit}
 use base.Logic.{SProp, emp, id⊢, apply∗}
 use base.Fml.{ftrue}
 use prog.Memory.{size, align, capped}
-use prog.Capped.{capped_is}
 use prog.Wp.{Env, WpFn}
 use contract.Monad.{fact, fact_i}
 use contract.Running.{tables}
 use types.Logic.{sem}
-use types.Kit.{‵, raw, ◌⊛◌, some, later, prop, ◌$◌, ◌∵◌, !, qed, by, move, keep, drop, use0, use1, use2, split, split3, join, pick, rewrite, regoal, fsplit, fjoin, fpick, feq_l, feq_i, flt_i, await}
+use types.Kit.{‵, raw, ◌⊛◌, some, later, prop, ◌$◌, ◌∵◌, !, qed, by, move, keep, drop, use0, use1, use2, split, split3, join, pick, regoal, fsplit, fjoin, fpick, feq_l, feq_i, await}
 use types.Part.{agg}
 use types.Run.{unit_lit, of_opd, no_more, and_then, returns, enter}
 use types.ByLocal.{alloc_all, pass_all, free_all, look_at, get, sets, lands_as, env}
 use denote.RattleType.{owns}
-use denote.Builtin.{usize, unit}
-use denote.RawPtr.{Ptr, block_ptr, ptr_val, room_for}
+use denote.Builtin.{unit}
+use denote.RawPtr.{ptr_val, room_for}
 use denote.Signature.{types_at}
 use denote.Steps.{nothing, only, heard}
 use denote.Triple.Entry.{alive}

@@ -3,7 +3,6 @@ use Rattle.std.proofs.Common.{◌≡◌, ℕ, List, [], ◌∷◌, ◌++◌, ref
 use mir.Syntax.{Fn}
 use mir.Val.{Val, vint}
 use base.Logic.{SProp, emp}
-use base.Fml.{ftrue}
 use prog.Wp.{Env, WpFn}
 use contract.Monad.{fact, fact_i}
 use contract.Running.{tables}

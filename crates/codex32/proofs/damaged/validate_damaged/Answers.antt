@@ -1,0 +1,34 @@
+use Rattle.std.specs.Prelude.{MatchResult}
+use Rattle.std.proofs.Common.{◌≡◌, List, ℕ, Option, Some, None, length, subst, sym, ap, ◌∙◌}
+use Rattle.std.proofs.lemmas.Result.{err_from_is_err_and}
+use Rattle.bech32_hrp.specs.Hrp.{first_of}
+use Rattle.codex32.specs.Nearest.{read_text}
+use Rattle.codex32.specs.Strings.{frame_refusal, length_fault, part_fault}
+use Rattle.codex32.specs.declared.error.Codex32Error.{Codex32Error}
+use Rattle.codex32.proofs.ReadTexts.{frame-read}
+use Rattle.codex32.proofs.Reading.{none-from_chars, split-from_found}
+use Rattle.codex32.proofs.Separated.{read_text-none}
+use Rattle.codex32.proofs.damaged.validate_damaged.Goals as goal
+
+pub validate_grammar-requires : goal.validate_grammar-requires
+validate_grammar-requires c = split-from_found c.args.text.now c.in-Some.front.now c.in-Some.damaged.now c.in-Some.ensures.cases
+
+pub returns-in_err-framed : goal.returns-in_err-framed
+returns-in_err-framed c =
+    let text = c.args.text.now in
+    let p = err_from_is_err_and c.from_residual.result c.from_residual.ensures.1 in
+    rw p.1 (rw p.2 (subst (λ (t : List ℕ). frame_refusal t ≡ Some c.in_err-framed.field-0.0) (sym (read_text-none text (none-from_chars text c.in_default.ensures.cases))) c.in_err-framed.ensures))
+
+pub returns-in_default : goal.returns-in_default
+returns-in_default c =
+    let text = c.args.text.now in
+    subst (λ (t : List ℕ). frame_refusal t ≡ None) (sym (read_text-none text (none-from_chars text c.in_default.ensures.cases))) c.in_ok-framed.ensures.0
+
+pub returns : goal.returns
+returns c =
+    let text = c.args.text.now in
+    let cut = split-from_found text c.in-Some.front.now c.in-Some.damaged.now c.in-Some.ensures.cases in
+    let left : frame_refusal (read_text text) ≡ first_of (length_fault (length text)) (part_fault c.as_bytes.result.now) =
+    frame-read text c.in-Some.front.now c.in-Some.damaged.now cut c.in_ok-validate_grammar.ensures
+    ∙ ap (λ (h : List ℕ). first_of (length_fault (length text)) (part_fault h)) (sym c.as_bytes.ensures.value) in
+    subst (λ (o : Option Codex32Error). MatchResult c.validate_outline.result (λ _. o ≡ None) (λ e. o ≡ Some e)) (sym left) c.validate_outline.ensures

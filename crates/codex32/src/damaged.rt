@@ -1,0 +1,97 @@
+//! What is asked of a damaged text, as it is read, before any memory is taken.
+
+ghost use Rattle.std.specs.Prelude.{◌≡◌, None, Some, true, MatchResult};
+ghost use Rattle.std.specs.Char.{IsScalar};
+ghost use Rattle.std.specs.List.{list_any};
+ghost use Rattle.bech32_gf.specs.Alphabet.{is_data, is_of_alphabet};
+ghost use Rattle.bech32_hrp.specs.Hrp.{is_lower, is_mixed_case, is_upper};
+ghost use Rattle.bech32_decode.specs.Text.{invalid_character, split_at_last, text_refusal};
+ghost use Rattle.codex32.specs.Nearest.{read_character, read_data, read_text};
+ghost use Rattle.codex32.specs.Strings.{frame_refusal};
+
+use crate::error::Codex32Error;
+use crate::frame::{framed, validate_outline};
+use crate::unreadable::read_char;
+use bech32_errors::{CharError, UncheckedHrpstringError};
+use bech32_gf::gf32::Fe32;
+use bech32_hrp::Hrp;
+
+// Whether a character, as it is read, may stand in a data part.
+fn is_data_character(c: char) -> bool
+    ensures value { result ≡ is_of_alphabet (read_character c) }
+    ensures scalar { IsScalar c }
+{
+    Fe32::from_char(read_char(c)).is_ok()
+}
+
+// Tests the characters of a data part, as they are read.
+fn validate_data(damaged: &str) -> Result<(), CharError>
+    requires { split_at_last damaged.now ≡ None }
+    ensures { MatchResult result
+        (λ _. is_data (read_data damaged.now) ≡ true)
+        (λ e. invalid_character (read_data damaged.now) ≡ Some e) }
+{
+    let mut front = damaged.chars();
+    'behind: while let Some(c) = front.next_back() {
+        if !is_data_character(c) {
+            return Err(CharError::InvalidChar(c));
+        }
+    }
+    Ok(())
+}
+
+// Whether a lower-case letter stands in a text.
+fn has_lower(text: &str) -> bool
+    ensures { result ≡ list_any is_lower text.now }
+{
+    text.bytes().any(|b| b.is_ascii_lowercase())
+}
+
+// Whether an upper-case letter stands in a text.
+fn has_upper(text: &str) -> bool
+    ensures { result ≡ list_any is_upper text.now }
+{
+    text.bytes().any(|b| b.is_ascii_uppercase())
+}
+
+// Whether letters of both cases stand in a text.
+fn has_both_cases(text: &str) -> bool
+    ensures { result ≡ is_mixed_case text.now }
+{
+    has_lower(text) && has_upper(text)
+}
+
+// Tests the grammar of a text, as it is read, of which these stand before and after the last `1`.
+fn validate_grammar(text: &str, front: &str, damaged: &str) -> Result<(), UncheckedHrpstringError>
+    requires { split_at_last text.now ≡ Some (front.now, damaged.now) }
+    ensures { MatchResult result
+        (λ _. text_refusal (read_text text.now) ≡ None)
+        (λ e. text_refusal (read_text text.now) ≡ Some e) }
+{
+    validate_data(damaged)?;
+    if has_both_cases(text) {
+        return Err(UncheckedHrpstringError::Char(CharError::MixedCase));
+    }
+    Hrp::parse(front)?;
+    Ok(())
+}
+
+/// Tests a damaged codex32 string before [`propose`](crate::propose) looks for the nearest text. Each
+/// `?` behind the last `1` is a character that cannot be read. It takes no memory.
+///
+/// # Errors
+///
+/// The first of: the text, with each `?` behind the last `1` read as `0`, is not in the grammar; it
+/// has less than 48 characters or more than 93; its human-readable part is not `ms` in either case.
+pub fn validate_damaged(text: &str) -> Result<(), Codex32Error>
+    ensures { MatchResult result
+        (λ _. frame_refusal (read_text text.now) ≡ None)
+        (λ e. frame_refusal (read_text text.now) ≡ Some e) }
+{
+    let Some((front, damaged)) = text.rsplit_once('1') else {
+        framed(text)?;
+        return Ok(());
+    };
+    validate_grammar(text, front, damaged)?;
+    validate_outline(text.len(), front.as_bytes())
+}
