@@ -3,6 +3,8 @@
 ghost use Rattle.std.specs.Prelude.{◌≡◌, ◌≢◌, ℕ, List, [], ◌∷◌, MatchOption};
 ghost use Rattle.bech32_lines.specs.Words.{words};
 
+use memchr::memchr;
+
 /// The first word, where it is not empty and a space stands behind it, and what stands behind that.
 pub fn first_word(text: &str) -> Option<(&str, &str)>
     ensures { MatchOption result
@@ -10,11 +12,11 @@ pub fn first_word(text: &str) -> Option<(&str, &str)>
         → words text.now ≡ first ∷ second ∷ rest → first ≡ [])
         (λ r. (words text.now ≡ r.0.now ∷ words r.1.now) × (r.0.now ≢ [])) }
 {
-    let (word, rest) = text.split_once(' ')?;
-    if word.is_empty() {
+    let end = memchr(b' ', text.as_bytes())?;
+    if end == 0 {
         return None;
     }
-    Some((word, rest))
+    Some((&text[..end], &text[end + 1..]))
 }
 
 /// The text, where it is one word, and not empty.
@@ -23,7 +25,7 @@ pub fn only_word(text: &str) -> Option<&str>
         ((word : List ℕ) → words text.now ≡ word ∷ [] → word ≡ [])
         (λ r. (words text.now ≡ r.now ∷ []) × (r.now ≢ [])) }
 {
-    if text.is_empty() || text.split_once(' ').is_some() {
+    if text.is_empty() || memchr(b' ', text.as_bytes()).is_some() {
         return None;
     }
     Some(text)

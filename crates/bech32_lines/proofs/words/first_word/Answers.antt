@@ -1,19 +1,24 @@
-use Rattle.std.proofs.Common.{rules, ◌≡◌, [], Some, None}
-use Rattle.bech32_lines.proofs.Split.{words-split_once, first-empty, length-zero}
+use Rattle.std.proofs.Common.{rules, get_or, length, Some, None, arith, ap}
+use Rattle.std.proofs.lemmas.Bool.{eqb-true}
+use Rattle.std.proofs.lemmas.Str.{IsCharBoundary-after_ascii}
+use Rattle.memchr.specs.Find.{IsFirstByte, is_byte}
+use Rattle.bech32_lines.proofs.Split.{words-first_space, range_front}
 use Rattle.bech32_lines.proofs.words.first_word.Goals as goal
 
-pub returns-in_err-word : goal.returns-in_err-word
-returns-in_err-word c =
-    let e = words-split_once c.args.text.now None c.in_err-word.ensures.cases in
+pub range_from-requires : goal.range_from-requires
+range_from-requires c some =
+    let text = c.args.text.now in
+    let end = c.in_ok-end.end in
+    let found : IsFirstByte (is_byte 32) text (Some end) = search rules in
+    IsCharBoundary-after_ascii text end c.utf8.text found.0.high (omega (arith, eqb-true (get_or text end 0) 32 found.1))
+
+pub returns-in_err-end : goal.returns-in_err-end
+returns-in_err-end c =
+    let e = words-first_space c.args.text.now None (search rules) in
     rw c.from_residual.ensures (λ first second rest h. cc)
 
 pub returns : goal.returns
 returns c =
-    let e = words-split_once c.args.text.now (Some (c.in_ok-word.word, c.in_ok-word.rest)) c.in_ok-word.ensures.cases in
-    (e, search rules)
-
-pub returns-then-is_empty : goal.returns-then-is_empty
-returns-then-is_empty c =
-    let e = words-split_once c.args.text.now (Some (c.in_ok-word.word, c.in_ok-word.rest)) c.in_ok-word.ensures.cases in
-    let none : c.in_ok-word.word.now ≡ [] = length-zero _ (search rules) in
-    λ first second rest h. first-empty _ _ first second rest _ e none h
+    let found : IsFirstByte (is_byte 32) c.args.text.now (Some c.in_ok-end.end) = search rules in
+    let e = words-first_space c.args.text.now (Some c.in_ok-end.end) found in
+    (rw (c.range.ensures.value, c.range_from.ensures.value, range_front c.args.text.now c.in_ok-end.end) e, (λ none. c.if-end-eq0.false (omega (arith, ap length none, c.range.ensures.len))))

@@ -1,5 +1,5 @@
 use Rattle.std.proofs.Common.{rules}
-use Rattle.bech32_lines.proofs.Split.{words-split_once, only-word, several-words, empty-word}
+use Rattle.bech32_lines.proofs.Split.{only-word, several-words, empty-word}
 use Rattle.bech32_lines.proofs.words.only_word.Goals.{then-is_empty-via-then-is_empty, then-is_empty-via-else-is_empty+then-is_some}
 use Rattle.bech32_lines.proofs.words.only_word.Goals as goal
 
@@ -7,8 +7,8 @@ pub returns-then-is_empty : goal.returns-then-is_empty
 returns-then-is_empty c word h = elim c.then-is_empty.branch [
   | then-is_empty-via-then-is_empty w ↦ empty-word c.args.text.now word (search rules) h
   | then-is_empty-via-else-is_empty+then-is_some w ↦
-      absurd (several-words c.args.text.now word w.split_once.result (words-split_once c.args.text.now w.split_once.result w.split_once.ensures.cases) (search rules) h)
+      absurd (several-words c.args.text.now word w.memchr.result (search rules) (search rules) h)
 ]
 
 pub returns : goal.returns
-returns c = (only-word c.args.text.now c.split_once.result (words-split_once c.args.text.now c.split_once.result c.split_once.ensures.cases) (search rules), search rules)
+returns c = (only-word c.args.text.now c.memchr.result (search rules) (search rules), search rules)
