@@ -13,6 +13,7 @@ use Rattle.bech32_poly.specs.Embedding.{value_in, Embeds}
 use Rattle.bech32_poly.proofs.Zero.{power_distinct, power_not_zero}
 use Rattle.bech32_correct.specs.Pattern.{locations}
 use Rattle.bech32_correct.proofs.Alone.{mem_or_not, same_values}
+use Rattle.bech32_correct.proofs.Places.{mem_left, mem_right}
 use Rattle.bech32_poly.specs.Pattern.{inside}
 use Rattle.bech32_poly.proofs.PatternSums.{value_of_pattern_at-inside, residue_syndrome}
 
@@ -24,15 +25,6 @@ outside_of s i (inr n) rest = i ∷ rest
 abbrev pub outside : {F : Type 0} → List ℕ → List (ℕ × F) → List ℕ
 outside s [] = []
 outside s (p ∷ e) = outside_of s p.0 (mem_or_not p.0 s) (outside s e)
-
-mem-append_left : (i : ℕ) (xs ys : List ℕ) → IsAmong i xs → IsAmong i (xs ++ ys)
-mem-append_left i [] ys h = absurd h
-mem-append_left i (x ∷ xs) ys (inl e) = inl e
-mem-append_left i (x ∷ xs) ys (inr h) = inr (mem-append_left i xs ys h)
-
-mem-append_right : (i : ℕ) (xs ys : List ℕ) → IsAmong i ys → IsAmong i (xs ++ ys)
-mem-append_right i [] ys h = h
-mem-append_right i (x ∷ xs) ys h = inr (mem-append_right i xs ys h)
 
 pub outside-mem : {F : Type 0} (s : List ℕ) (p : ℕ × F) (e : List (ℕ × F)) → IsAmong p.0 (outside s (p ∷ e)) ⊎ IsAmong p.0 s
 unfolding outside_of
@@ -122,10 +114,10 @@ module _ {F K : Type 0} {f : Ops F} {o : Ops K} (fl : IsField f) (l : IsField o)
       size = omega (arith, length-append_ (outside s e) (outside s e' ++ s), length-append_ (outside s e') s)
 
       e_in : AllByRecursion (λ (p : ℕ × F). IsAmong p.0 ms) e
-      e_in = covers s ms e (λ j h. mem-append_left j (outside s e) _ h) (λ j h. mem-append_right j (outside s e) _ (mem-append_right j (outside s e') s h))
+      e_in = covers s ms e (λ j h. mem_left j (outside s e) _ h) (λ j h. mem_right j (outside s e) _ (mem_right j (outside s e') s h))
 
       e'_in : AllByRecursion (λ (p : ℕ × F). IsAmong p.0 ms) e'
-      e'_in = covers s ms e' (λ j h. mem-append_right j (outside s e) _ (mem-append_left j (outside s e') s h)) (λ j h. mem-append_right j (outside s e) _ (mem-append_right j (outside s e') s h))
+      e'_in = covers s ms e' (λ j h. mem_right j (outside s e) _ (mem_left j (outside s e') s h)) (λ j h. mem_right j (outside s e) _ (mem_right j (outside s e') s h))
 
       all_below : AllByRecursion (λ m. m < w) ms
       all_below = all-append (λ m. m < w) (outside s e) (outside s e' ++ s) (outside-below w s e e_below) (all-append (λ m. m < w) (outside s e') s (outside-below w s e' e'_below) s_below)

@@ -14,7 +14,8 @@ use Rattle.bech32_poly.specs.Polynomial.{coefficient}
 use Rattle.bech32_correct.specs.Knock.{knock, knocks, gap, without}
 use Rattle.bech32_correct.specs.Erasures.{has}
 use Rattle.bech32_correct.specs.Search.{IsKnockedOut, locators}
-use Rattle.bech32_correct.proofs.Places.{all_push}
+use Rattle.bech32_correct.specs.Pattern.{locations}
+use Rattle.bech32_correct.proofs.Places.{all_push, locations-append, mem_left, mem_right}
 
 pub drop_before : {A : Type 0} (xs : List A) (i : ℕ) (d : A) → 0 < i → i ≤ length xs → drop (i - 1) xs ≡ get_or xs (i - 1) d ∷ drop i xs
 drop_before xs i d pos h = let e : suc (i - 1) ≡ i = omega arith in drop-cons xs (i - 1) d (omega arith) ∙ ap (λ k. get_or xs (i - 1) d ∷ drop k xs) e
@@ -148,6 +149,19 @@ pub highest_more : {F : Type 0} (xs : List (ℕ × F)) (i highest highest' : ℕ
 highest_more {F} xs i highest highest' p within at so_far more here =
     subst (λ u. AllByRecursion (λ (q : ℕ × F). q.0 ≤ highest') u) (sym (take_more xs i p within))
     (all_push (λ (q : ℕ × F). q.0 ≤ highest') (take i xs) (get_or xs i p) (all_weaker _ (λ (q : ℕ × F). q.0 ≤ highest') (take i xs) (λ q k. omega (arith, k, more)) so_far) (subst (λ (q : ℕ × F). q.0 ≤ highest') at here))
+
+pub attained_more : {F : Type 0} (xs : List (ℕ × F)) (i highest highest' : ℕ) (p : ℕ × F) → i < length xs → p ≡ get_or xs i p → (highest ≡ 0) ⊎ IsAmong highest (locations (take i xs))
+    → (highest' ≡ highest) ⊎ (highest' ≡ p.0) → (highest' ≡ 0) ⊎ IsAmong highest' (locations (take (i + 1) xs))
+attained_more xs i highest highest' p within at so_far either =
+    let before : List ℕ = locations (take i xs) in
+    let same : locations (take (i + 1) xs) ≡ before ++ (p.0 ∷ []) = ap locations (take_more xs i p within) ∙ locations-append (take i xs) (get_or xs i p ∷ []) ∙ ap (λ q. before ++ (q.0 ∷ [])) (sym at) in
+    elim either [
+      | inl e ↦ elim so_far [
+        | inl none ↦ inl (e ∙ none)
+        | inr m ↦ inr (subst (λ u. IsAmong highest' u) (sym same) (mem_left highest' before (p.0 ∷ []) (subst (λ n. IsAmong n before) (sym e) m)))
+      ]
+      | inr e ↦ inr (subst (λ u. IsAmong highest' u) (sym same) (mem_right highest' before (p.0 ∷ []) (inl e)))
+    ]
 
 pub all_below : {F : Type 0} (xs : List (ℕ × F)) (n n' : ℕ) → n ≤ n' → AllByRecursion (λ (q : ℕ × F). q.0 ≤ n) xs → AllByRecursion (λ (q : ℕ × F). q.0 ≤ n') xs
 all_below {F} xs n n' more a = all_weaker (λ (q : ℕ × F). q.0 ≤ n) (λ (q : ℕ × F). q.0 ≤ n') xs (λ q k. omega (arith, k, more)) a

@@ -1,7 +1,9 @@
 //! The polynomial of a listed pattern, coefficient by coefficient.
 
-ghost use Rattle.std.specs.Prelude.{◌≡◌, ◌≤◌};
+ghost use Rattle.std.specs.Prelude.{◌≡◌, ◌≤◌, ◌⊎◌};
 ghost use Rattle.std.specs.List.{AllByRecursion};
+ghost use Rattle.bech32_correct.specs.Pattern.{locations};
+ghost use Rattle.bech32_poly.specs.Distinct.{IsAmong};
 ghost use Rattle.bech32_poly.specs.Pattern.{value_of_pattern_at};
 
 use bech32_gf::field::Field;
@@ -29,13 +31,15 @@ pub fn value_at_place<F: Field>(listing: &[(usize, F)], place: usize) -> F
 fn larger(a: usize, b: usize) -> usize
     ensures first { a ≤ result }
     ensures second { b ≤ result }
+    ensures either { (result ≡ a) ⊎ (result ≡ b) }
 {
-    a.max(b)
+    if a < b { b } else { a }
 }
 
 /// The highest place of a listing, or 0 where there is none.
 pub fn highest_place<F: Field>(listing: &[(usize, F)]) -> usize
-    ensures { AllByRecursion (λ p. p.0 ≤ result) listing.now }
+    ensures bound { AllByRecursion (λ p. p.0 ≤ result) listing.now }
+    ensures attained { (result ≡ 0) ⊎ IsAmong result (locations listing.now) }
 {
     let mut highest = 0;
     for k in 0..listing.len() {

@@ -7,6 +7,18 @@ ghost use Rattle.bech32_hrp.specs.Hrp.{is_mixed_case};
 // How many bytes are tested at a time.
 const BLOCK: usize = 16;
 
+// 1 for each byte of the alphabet, in either case, and 0 for each other.
+const ALPHABET: [u8; 256] = [
+    0, 0, 0, 0, 0, 0, 0, 0, 0, 0, 0, 0, 0, 0, 0, 0, 0, 0, 0, 0, 0, 0, 0, 0, 0, 0, 0, 0, 0, 0, 0, 0,
+    0, 0, 0, 0, 0, 0, 0, 0, 0, 0, 0, 0, 0, 0, 0, 0, 1, 0, 1, 1, 1, 1, 1, 1, 1, 1, 0, 0, 0, 0, 0, 0,
+    0, 1, 0, 1, 1, 1, 1, 1, 1, 0, 1, 1, 1, 1, 1, 0, 1, 1, 1, 1, 1, 1, 1, 1, 1, 1, 1, 0, 0, 0, 0, 0,
+    0, 1, 0, 1, 1, 1, 1, 1, 1, 0, 1, 1, 1, 1, 1, 0, 1, 1, 1, 1, 1, 1, 1, 1, 1, 1, 1, 0, 0, 0, 0, 0,
+    0, 0, 0, 0, 0, 0, 0, 0, 0, 0, 0, 0, 0, 0, 0, 0, 0, 0, 0, 0, 0, 0, 0, 0, 0, 0, 0, 0, 0, 0, 0, 0,
+    0, 0, 0, 0, 0, 0, 0, 0, 0, 0, 0, 0, 0, 0, 0, 0, 0, 0, 0, 0, 0, 0, 0, 0, 0, 0, 0, 0, 0, 0, 0, 0,
+    0, 0, 0, 0, 0, 0, 0, 0, 0, 0, 0, 0, 0, 0, 0, 0, 0, 0, 0, 0, 0, 0, 0, 0, 0, 0, 0, 0, 0, 0, 0, 0,
+    0, 0, 0, 0, 0, 0, 0, 0, 0, 0, 0, 0, 0, 0, 0, 0, 0, 0, 0, 0, 0, 0, 0, 0, 0, 0, 0, 0, 0, 0, 0, 0,
+];
+
 // Whether letters of both cases stand in a text. Each byte is looked at, so that many can be at a
 // time.
 pub(crate) fn has_both_cases(bytes: &[u8]) -> bool
@@ -21,7 +33,16 @@ pub(crate) fn has_both_cases(bytes: &[u8]) -> bool
     lower && upper
 }
 
-// Whether a byte is of the alphabet: a letter or a digit, and none of `1`, `b`, `i` and `o`.
+// Whether a byte is of the alphabet, by the table: the quicker way for one byte.
+#[inline]
+fn is_in_alphabet(b: u8) -> bool
+    ensures { result ≡ is_of_alphabet b }
+{
+    ALPHABET[b as usize] == 1
+}
+
+// Whether a byte is of the alphabet: a letter or a digit, and none of `1`, `b`, `i` and `o`. A
+// block of bytes is tested so, many at a time, as no table can be asked.
 #[inline]
 fn is_data_byte(b: u8) -> bool
     ensures { result ≡ is_of_alphabet b }
@@ -63,7 +84,7 @@ pub(crate) fn data_start(bytes: &[u8]) -> usize
     ensures before { 0 < result → is_of_alphabet (slice_index bytes.now (result - 1)) ≡ false }
 {
     let mut start = blocks_start(bytes);
-    while start > 0 && is_data_byte(bytes[start - 1]) {
+    while start > 0 && is_in_alphabet(bytes[start - 1]) {
         start -= 1;
     }
     start

@@ -13,7 +13,7 @@ loop-place-init g c =
     let highest : ℕ = c.highest_place-place.result in
     record {
       count = 0;
-      above = all_below c.args.listing.now highest (highest + 0) (omega arith) c.highest_place-place.ensures;
+      above = all_below c.args.listing.now highest (highest + 0) (omega arith) c.highest_place-place.ensures.bound;
       so_far = subst (λ v. IsResidueOf g.Ck.MidstateRepr.PackedFe32.number g.Ck.Checksum.code c.input_fe.new.self (v ∷ [])) c.value_at_place.ensures (c.input_fe.ensures [] c.zero-engine.ensures);
     }
 
