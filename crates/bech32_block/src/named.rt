@@ -20,7 +20,7 @@ impl NamedField for Fe32 {
     ghost field_name = { codes "Fe32" };
 
     fn field_name() -> &'static str {
-        "Fe32"
+        Fe32::NAME
     }
 }
 
@@ -28,7 +28,7 @@ impl NamedField for Fe1024 {
     ghost field_name = { codes "Fe1024" };
 
     fn field_name() -> &'static str {
-        "Fe1024"
+        Fe1024::NAME
     }
 }
 
@@ -36,6 +36,6 @@ impl NamedField for Fe32768 {
     ghost field_name = { codes "Fe32768" };
 
     fn field_name() -> &'static str {
-        "Fe32768"
+        Fe32768::NAME
     }
 }

@@ -41,3 +41,22 @@ quotient_by_logs zero b ha hb na nb = absurd (omega arith)
 quotient_by_logs (suc m) zero ha hb na nb = absurd (omega arith)
 quotient_by_logs (suc m) (suc n) ha hb na nb =
     eqb-true _ _ (each_below-at₂ 31 (λ m n. by_log_difference (suc m) (suc n) == product (suc m) (inverse (suc n))) refl m n (omega arith) (omega arith))
+
+-- each power is 2 times the one before it
+pub POWERS-step : (i : ℕ) → i < 30 → get_or POWERS (i + 1) 0 ≡ product 2 (get_or POWERS i 0)
+unfolding product
+POWERS-step i hi = eqb-true _ _ (each_below-at 30 (λ i. get_or POWERS (i + 1) 0 == product 2 (get_or POWERS i 0)) refl i hi)
+
+-- the logarithm of a power is its exponent
+pub LOG-POWERS : (i : ℕ) → i < 31 → get_or LOG (get_or POWERS i 0) 0 ≡ i
+LOG-POWERS i hi = eqb-true _ _ (each_below-at 31 (λ i. get_or LOG (get_or POWERS i 0) 0 == i) refl i hi)
+
+-- the power at the logarithm of a value is the value
+pub POWERS-LOG : (v : ℕ) → 0 < v → v < 32 → get_or POWERS (get_or LOG v 0) 0 ≡ v
+POWERS-LOG zero some hv = absurd (omega arith)
+POWERS-LOG (suc n) some hv = eqb-true _ _ (each_below-at 31 (λ n. get_or POWERS (get_or LOG (suc n) 0) 0 == suc n) refl n (omega arith))
+
+-- 1 leaves a value as it is
+pub product-one : (v : ℕ) → v < 32 → product 1 v ≡ v
+unfolding product
+product-one v hv = eqb-true _ _ (each_below-at 32 (λ v. product 1 v == v) refl v hv)

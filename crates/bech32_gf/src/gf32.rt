@@ -1,9 +1,10 @@
 //! The field of 32 elements, GF(32) (BIP-173, section Checksum design), and the characters that its
 //! elements have in a text (BIP-173, section Bech32).
 
-ghost use Rattle.std.specs.Prelude.{◌≡◌, ◌≢◌, ◌<◌, ◌≤◌, ◌↔◌, true, IfOk, IfErr, IsOk};
+ghost use Rattle.std.specs.Prelude.{◌≡◌, ◌≢◌, ◌+◌, ◌<◌, ◌≤◌, ◌↔◌, ℕ, true, slice_index, map, IfOk, IfErr, IsOk};
 ghost use Rattle.bech32_gf.specs.Gf32.{product};
-ghost use Rattle.bech32_gf.specs.Alphabet.{is_of_alphabet, value_of, char_of};
+ghost use Rattle.bech32_gf.specs.Alphabet.{alphabet, is_of_alphabet, value_of, char_of};
+ghost use Rattle.bech32_gf.specs.declared.gf32.TheConstants.{LOG, POWERS};
 
 mod alphabetical;
 mod conversions;
@@ -28,6 +29,22 @@ const POWERS: [u8; 31] = [
     1, 2, 4, 8, 16, 9, 18, 13, 26, 29, 19, 15, 30, 21, 3, 6, 12, 24, 25, 27, 31, 23, 7, 14, 28, 17,
     11, 22, 5, 10, 20,
 ];
+
+// What the two tables hold: the powers begin with 1, each is 2 times the one before it, and the
+// logarithms undo them.
+fn tables()
+    ensures begin { slice_index POWERS 0 ≡ 1 }
+    ensures step { (i : ℕ) → i < 30 → slice_index POWERS (i + 1) ≡ product 2 (slice_index POWERS i) }
+    ensures logarithm { (i : ℕ) → i < 31 → slice_index LOG (slice_index POWERS i) ≡ i }
+    ensures power { (v : ℕ) → 0 < v → v < 32 → slice_index POWERS (slice_index LOG v) ≡ v }
+{
+}
+
+// The product with 1, by its definition.
+fn product_of_one()
+    ensures { (v : ℕ) → v < 32 → product 1 v ≡ v }
+{
+}
 
 // The characters of the elements, in order of their values.
 const CHARACTERS: [char; 32] = [
@@ -180,6 +197,47 @@ impl Fe32 {
     pub const L: Fe32 = Fe32 { value: 31 };
 
     ghost use Rattle.bech32_gf.specs.Fe32.{value, add, mul, element, element_of};
+
+    // The constants, in order of the alphabet: each is the element of the character that it is
+    // named for.
+    fn constants() -> [Fe32; 32]
+        ensures { map (λ x. char_of (value x)) result ≡ alphabet }
+    {
+        [
+            Fe32::Q,
+            Fe32::P,
+            Fe32::Z,
+            Fe32::R,
+            Fe32::Y,
+            Fe32::_9,
+            Fe32::X,
+            Fe32::_8,
+            Fe32::G,
+            Fe32::F,
+            Fe32::_2,
+            Fe32::T,
+            Fe32::V,
+            Fe32::D,
+            Fe32::W,
+            Fe32::_0,
+            Fe32::S,
+            Fe32::_3,
+            Fe32::J,
+            Fe32::N,
+            Fe32::_5,
+            Fe32::_4,
+            Fe32::K,
+            Fe32::H,
+            Fe32::C,
+            Fe32::E,
+            Fe32::_6,
+            Fe32::M,
+            Fe32::U,
+            Fe32::A,
+            Fe32::_7,
+            Fe32::L,
+        ]
+    }
 
     /// The element that a character of the alphabet stands for, in either case (BIP-173, section
     /// Bech32).
