@@ -1,6 +1,6 @@
 //! The field of 1024 elements: pairs with z^2 = z + 1.
 
-ghost use Rattle.std.specs.Prelude.{◌≡◌, ◌≢◌};
+ghost use Rattle.std.specs.Prelude.{◌≡◌, ◌≢◌, codes};
 
 use crate::arithmetic::Arithmetic;
 use crate::{Fe32Ext, Fe1024, write_two};
@@ -283,6 +283,13 @@ impl ExtensionField for Fe1024 {
 }
 
 impl Sealed for Fe1024 {}
+
+// The name, since a clause cannot speak of a constant.
+fn name() -> &'static str
+    ensures { result.now ≡ codes "Fe1024" }
+{
+    Fe1024::NAME
+}
 
 impl Bech32Field for Fe1024 {
     ghost use Rattle.bech32_gf_ext.specs.ExtensionCode.{fe1024_code};

@@ -1,6 +1,6 @@
 //! The field of 32768 elements: triples with z^3 = z + 1.
 
-ghost use Rattle.std.specs.Prelude.{◌≡◌, ◌≢◌};
+ghost use Rattle.std.specs.Prelude.{◌≡◌, ◌≢◌, codes};
 
 use crate::arithmetic::Arithmetic;
 use crate::{Fe32Ext, Fe32768, write_two};
@@ -310,6 +310,13 @@ impl ExtensionField for Fe32768 {
 }
 
 impl Sealed for Fe32768 {}
+
+// The name, since a clause cannot speak of a constant.
+fn name() -> &'static str
+    ensures { result.now ≡ codes "Fe32768" }
+{
+    Fe32768::NAME
+}
 
 impl Bech32Field for Fe32768 {
     ghost use Rattle.bech32_gf_ext.specs.ExtensionCode.{fe32768_code};

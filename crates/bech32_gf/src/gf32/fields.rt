@@ -1,5 +1,7 @@
 //! The elements as a field, as an extension of their own field, and as a field of bech32 checksums.
 
+ghost use Rattle.std.specs.Prelude.{◌≡◌, codes};
+
 use super::Fe32;
 use crate::field::private::Sealed;
 use crate::field::{Bech32Field, ExtensionField, Field};
@@ -155,6 +157,13 @@ impl ExtensionField for Fe32 {
 }
 
 impl Sealed for Fe32 {}
+
+// The name, since a clause cannot speak of a constant.
+fn name() -> &'static str
+    ensures { result.now ≡ codes "Fe32" }
+{
+    Fe32::NAME
+}
 
 impl Bech32Field for Fe32 {
     ghost use Rattle.bech32_gf.specs.RustCode.{fe32_code};
