@@ -2,15 +2,20 @@
 #![tactic(auto)]
 
 ghost use Rattle.std.specs.Prelude.{◌≡◌, ℕ, ◌+◌, ◌-◌, ◌^◌, ◌≤◌, ◌<◌, List, Bool, true, false};
-ghost use Rattle.std.specs.Prelude.{is_err, length, take, Option, OnOk, OnErr, IfOk};
+ghost use Rattle.std.specs.Prelude.{is_err, length, take, drop, Option, Result};
+ghost use Rattle.std.specs.Prelude.{OnOk, OnErr, IfOk, IfErr, MatchResult};
+ghost use Rattle.std.specs.declared.io.Error.{Error as IoError};
+ghost use Rattle.std.specs.declared.fmt.Error.{Error as FmtError};
 ghost use Rattle.std.specs.Io.{ReadsAtMost, WritesAtMost};
 ghost use Rattle.std.specs.Io.KnownBytes.{Keeps, Appends, ReadConsumes, WriteAppends};
-ghost use Rattle.bech32_device.specs.Marks.{write_fails};
+ghost use Rattle.bech32_device.specs.Marks.{write_fails, IsErrorOfLastWrite};
 ghost use Rattle.bech32_device.specs.Watched.{device_of, reference_of, is_marked, was_flushed};
 ghost use Rattle.bech32_device.specs.Watched.{flush_count, reads_to_come};
 
+mod device;
 mod pieces;
 
+pub use device::{FmtDevice, ReadDevice, WriteDevice};
 pub use pieces::{PIECE_LENGTH, Pieces, pieces_into_bytes, pieces_into_fmt};
 use std::{fmt, io};
 
@@ -32,6 +37,10 @@ pub trait ByteSource {
     // No more reads than this succeed, so that a loop over reads ends.
     ghost reads_left: { Self → ℕ };
 
+    // What one read did: the source before it, what the buffer then held, what it returned, and the
+    // source after it. Nothing but a read shows it.
+    ghost read_gives: { Self → List ℕ → Result ℕ IoError → Self → Type 0 };
+
     /// Reads into the front of `buf`, and answers how many bytes were read.
     ///
     /// `Ok(0)` says that the source is at its end, or that `buf` is empty.
@@ -45,6 +54,7 @@ pub trait ByteSource {
         ensures bytes { ReadConsumes (remaining self.old) (remaining self.new) result buf.new }
         ensures mark { has_failed self.new ≡ is_err result }
         ensures ends { OnOk result (reads_left self.new < reads_left self.old) }
+        ensures asked { read_gives self.old buf.new result self.new }
         ensures same { is_same self.old self.new };
 
     /// Whether the mark is set.
@@ -78,6 +88,13 @@ pub trait ByteSink {
     // How many flushes succeeded.
     ghost flushes: { Self → ℕ };
 
+    // What one write did: the sink before it, the bytes it was given, what it returned, and the sink
+    // after it. Nothing but a write shows it.
+    ghost write_gives: { Self → List ℕ → Result ℕ IoError → Self → Type 0 };
+
+    // What one flush did, in the same way.
+    ghost flush_gives: { Self → Result Unit IoError → Self → Type 0 };
+
     /// Writes the front of `buf`, and answers how many bytes were taken.
     ///
     /// `Ok(0)` for a `buf` that is not empty is a failure too, and sets the mark.
@@ -92,6 +109,7 @@ pub trait ByteSink {
         ensures mark { has_failed self.new ≡ write_fails result (length buf.now) }
         ensures unflushed { IfOk result (λ n. 0 < n → is_flushed self.new ≡ false) }
         ensures uncounted { flushes self.new ≡ flushes self.old }
+        ensures asked { write_gives self.old buf.now result self.new }
         ensures same { is_same self.old self.new };
 
     /// Hands on what was written.
@@ -106,6 +124,7 @@ pub trait ByteSink {
         ensures uncounted { OnErr result (flushes self.new ≡ flushes self.old) }
         ensures bytes { Keeps (contents self.old) (contents self.new) }
         ensures mark { has_failed self.new ≡ is_err result }
+        ensures asked { flush_gives self.old result self.new }
         ensures same { is_same self.old self.new };
 
     /// Whether the mark is set.
@@ -126,6 +145,10 @@ pub trait FmtSink {
     // text in pieces it is `WritesInCalls takes` that says so.
     ghost takes: { Self → List ℕ → Self → Type 0 };
 
+    // What one call did: the sink before it, the piece, what it returned, and the sink after it.
+    // Nothing but a call shows it.
+    ghost piece_gives: { Self → List ℕ → Result Unit FmtError → Self → Type 0 };
+
     // The mark: a call has failed.
     ghost has_failed: { Self → Bool };
 
@@ -142,6 +165,7 @@ pub trait FmtSink {
         requires { has_failed self.old ≡ false }
         ensures piece { OnOk result (takes self.old s.now self.new) }
         ensures mark { has_failed self.new ≡ is_err result }
+        ensures asked { piece_gives self.old s.now result self.new }
         ensures same { is_same self.old self.new };
 
     /// Whether the mark is set.
@@ -155,8 +179,9 @@ pub trait FmtSink {
 
 /// A reader or a writer with a mark that says whether a call failed.
 ///
-/// The mark is unset at first, and set from the first failing call on. Over an [`io::Read`] this is
-/// a [`ByteSource`], over an [`io::Write`] a [`ByteSink`], and over a [`fmt::Write`] a [`FmtSink`].
+/// The mark is unset at first, and set from the first failing call on. Over a [`ReadDevice`], as
+/// each [`io::Read`] is, this is a [`ByteSource`], over a [`WriteDevice`] a [`ByteSink`], and over a
+/// [`FmtDevice`] a [`FmtSink`].
 ///
 /// Each read, write and flush asks the device once, but for one limit: after 2^64 - 1 reads the
 /// next read fails with [`io::ErrorKind::Other`] and does not ask, and so does a flush after
@@ -191,7 +216,7 @@ impl<'a, D> Watched<'a, D> {
     }
 }
 
-impl<'a, D: io::Read> ByteSource for Watched<'a, D> {
+impl<'a, D: ReadDevice> ByteSource for Watched<'a, D> {
     ghost use Rattle.std.specs.Prelude.{refl};
     ghost use Rattle.std.proofs.Common.{◌∙◌};
 
@@ -203,6 +228,10 @@ impl<'a, D: io::Read> ByteSource for Watched<'a, D> {
 
     ghost reads_left = { reads_to_come };
 
+    // Past the last read that may ask the device, nothing is asked.
+    ghost read_gives = { λ s bytes returned t. 0 < reads_to_come s
+        → D.read_gives (device_of s) bytes returned (device_of t) };
+
     ghost reflexive = { λ s. refl };
 
     ghost transitive = { λ s t u p q. p ∙ q };
@@ -213,7 +242,7 @@ impl<'a, D: io::Read> ByteSource for Watched<'a, D> {
             return Err(io::Error::from(io::ErrorKind::Other));
         }
         self.reads_left -= 1;
-        let outcome = self.device.read(buf);
+        let outcome = self.device.read_once(buf);
         self.marked = outcome.is_err();
         outcome
     }
@@ -223,7 +252,7 @@ impl<'a, D: io::Read> ByteSource for Watched<'a, D> {
     }
 }
 
-impl<'a, D: io::Write> ByteSink for Watched<'a, D> {
+impl<'a, D: WriteDevice> ByteSink for Watched<'a, D> {
     ghost use Rattle.std.specs.Prelude.{refl};
     ghost use Rattle.std.proofs.Common.{◌∙◌};
 
@@ -237,13 +266,19 @@ impl<'a, D: io::Write> ByteSink for Watched<'a, D> {
 
     ghost flushes = { flush_count };
 
+    ghost write_gives = { λ s bytes returned t. D.write_gives (device_of s) bytes returned (device_of t) };
+
+    // Past the last flush that can be counted, nothing is asked.
+    ghost flush_gives = { λ s returned t. flush_count s < 2 ^ 64 - 1
+        → D.flush_gives (device_of s) returned (device_of t) };
+
     ghost reflexive = { λ s. refl };
 
     ghost transitive = { λ s t u p q. p ∙ q };
 
     fn write(&mut self, buf: &[u8]) -> io::Result<usize> {
         self.flushed = false;
-        let outcome = self.device.write(buf);
+        let outcome = self.device.write_once(buf);
         self.marked = match outcome {
             Ok(n) => n == 0 && !buf.is_empty(),
             Err(_) => true,
@@ -256,7 +291,7 @@ impl<'a, D: io::Write> ByteSink for Watched<'a, D> {
             self.marked = true;
             return Err(io::Error::from(io::ErrorKind::Other));
         }
-        let outcome = self.device.flush();
+        let outcome = self.device.flush_once();
         self.marked = outcome.is_err();
         self.flushed = outcome.is_ok();
         self.flushes += u64::from(outcome.is_ok());
@@ -268,11 +303,13 @@ impl<'a, D: io::Write> ByteSink for Watched<'a, D> {
     }
 }
 
-impl<'a, D: fmt::Write> FmtSink for Watched<'a, D> {
+impl<'a, D: FmtDevice> FmtSink for Watched<'a, D> {
     ghost use Rattle.std.specs.Prelude.{refl};
     ghost use Rattle.std.proofs.Common.{◌∙◌};
 
-    ghost takes = { λ s piece t. D.write_str_gives (device_of s) piece (device_of t) };
+    ghost takes = { λ s piece t. D.takes (device_of s) piece (device_of t) };
+
+    ghost piece_gives = { λ s piece returned t. D.piece_gives (device_of s) piece returned (device_of t) };
 
     ghost has_failed = { is_marked };
 
@@ -283,7 +320,7 @@ impl<'a, D: fmt::Write> FmtSink for Watched<'a, D> {
     ghost transitive = { λ s t u p q. p ∙ q };
 
     fn write_str(&mut self, s: &str) -> fmt::Result {
-        let outcome = self.device.write_str(s);
+        let outcome = self.device.write_str_once(s);
         self.marked = outcome.is_err();
         outcome
     }
@@ -307,6 +344,7 @@ pub fn write_all<K: ByteSink>(sink: &mut K, bytes: &[u8]) -> io::Result<()>
     ensures err_mark { OnErr result (K.has_failed sink.new ≡ true) }
     ensures beginning { OnErr result ((n : ℕ) × (n ≤ length bytes.now)
         × Appends (K.contents sink.old) (K.contents sink.new) (take n bytes.now)) }
+    ensures error { IfErr result (λ e. IsErrorOfLastWrite K.write_gives bytes.now sink.new e) }
     ensures uncounted { K.flushes sink.new ≡ K.flushes sink.old }
     ensures same { K.is_same sink.old sink.new }
 {
