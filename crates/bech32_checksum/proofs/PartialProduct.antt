@@ -3,6 +3,7 @@ use Rattle.std.proofs.Common.{◌≡◌, ◌≢◌, ◌<◌, ◌+◌, ◌*◌, �
 use Rattle.std.specs.Prelude.{if◌then◌else◌}
 use Rattle.std.proofs.lemmas.Bool.{eqb-true, false_from_ne_true}
 use Rattle.std.proofs.Math.Nat.{zero-div}
+use lib.Bits.{xor_zero_r}
 use Rattle.bech32_gf.specs.laws.Below.{each_below-at₂}
 use Rattle.bech32_gf.specs.declared.gf32.Fe32.{Fe32}
 use Rattle.bech32_gf.specs.Gf32.{product, product_of}
@@ -11,7 +12,7 @@ use Rattle.bech32_gf.specs.Fe32 as fe32
 use Rattle.bech32_gf.specs.laws.Fe32Laws.{is_field}
 use Rattle.bech32_poly.specs.Polynomial.{scale}
 use Rattle.bech32_poly.proofs.Lists.{same_cons}
-use Rattle.bech32_checksum.specs.Packed.{digit_of, digits, tabulate}
+use Rattle.bech32_checksum.specs.Packed.{digit_of, digits, sum_of_words, tabulate}
 
 -- w times the element whose value has those of the lowest i bits of x
 abbrev pub partial_product : ℕ → ℕ → Fe32 → Fe32
@@ -65,6 +66,18 @@ pub kept : (i x : ℕ) (acc w : Fe32) → (x / 2 ^ i) % 2 ≢ 1 → acc ≡ part
 kept i x acc w h is =
     let clear : ((x / 2 ^ i) % 2 == 1) ≡ false = false_from_ne_true ((x / 2 ^ i) % 2 == 1) (λ t. h (eqb-true ((x / 2 ^ i) % 2) 1 t)) in
     rw (add-one, clear) (is ∙ sym (is_field.add_zero (partial_product i x w)))
+
+-- the same on the sum of words
+pub word-added : (word : ℕ → ℕ) (i x sum new : ℕ) → (x / 2 ^ i) % 2 ≡ 1 → sum ≡ sum_of_words word i x → new ≡ bit_xor sum (word i)
+    → new ≡ sum_of_words word (i + 1) x
+word-added word i x sum new h is e =
+    let set : ((x / 2 ^ i) % 2 == 1) ≡ true = eq-eqb ((x / 2 ^ i) % 2) 1 h in
+    rw (add-one, set) (e ∙ ap (λ s. bit_xor s (word i)) is)
+
+pub word-kept : (word : ℕ → ℕ) (i x sum : ℕ) → (x / 2 ^ i) % 2 ≢ 1 → sum ≡ sum_of_words word i x → sum ≡ sum_of_words word (i + 1) x
+word-kept word i x sum h is =
+    let clear : ((x / 2 ^ i) % 2 == 1) ≡ false = false_from_ne_true ((x / 2 ^ i) % 2 == 1) (λ t. h (eqb-true ((x / 2 ^ i) % 2) 1 t)) in
+    rw (add-one, clear) (is ∙ sym (xor_zero_r (sum_of_words word i x)))
 
 scaled-tabulate : (c : ℕ) (t : Fe32) (f h : ℕ → Fe32) → ((n : ℕ) → h n ≡ fe32.mul t (f n))
     → tabulate c h ≡ scale fe32.ops t (tabulate c f)

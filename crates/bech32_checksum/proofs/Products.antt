@@ -9,7 +9,8 @@ use Rattle.bech32_gf.specs.Fe32 as fe32
 use Rattle.bech32_poly.specs.Polynomial.{scale}
 use Rattle.bech32_poly.proofs.Lists.{same_cons}
 use Rattle.bech32_checksum.specs.Code.{bech32}
-use Rattle.bech32_checksum.specs.Packed.{digit_of, digits, tabulate}
+use Rattle.bech32_checksum.specs.Packed.{digit_of, digits, sum_of_words, tabulate}
+use Rattle.bech32_checksum.specs.laws.CodeLaws.{words}
 use Rattle.bech32_checksum.specs.declared.checksums.products.TheConstants.{PRODUCTS}
 
 -- the coefficient of the generator at a place
@@ -35,3 +36,7 @@ product_is e =
 
 pub product_clear : (v : ℕ) → v < 32 → get_or PRODUCTS v 0 < 2 ^ (5 * 6)
 product_clear v hv = ltb-true _ _ (each_below-at 32 (λ v. nat_lt (get_or PRODUCTS v 0) (2 ^ (5 * 6))) refl v hv)
+
+-- each product is the sum of the words at the set bits
+pub product_sum : (v : ℕ) → v < 32 → get_or PRODUCTS v 0 ≡ sum_of_words (λ i. get_or words i 0) 5 v
+product_sum v hv = eqb-true _ _ (each_below-at 32 (λ v. get_or PRODUCTS v 0 == sum_of_words (λ i. get_or words i 0) 5 v) refl v hv)

@@ -1,11 +1,12 @@
 //! Checksums of elements: the words that define one, and the engine that computes it.
 #![tactic(auto)]
 
-ghost use Rattle.std.specs.Prelude.{◌≡◌, ◌↔◌, ◌/◌, map, reverse, ℕ, List, IsTrue, length, ◌∷◌, [], ⊤};
+ghost use Rattle.std.specs.Prelude.{◌≡◌, ◌↔◌, ◌/◌, map, reverse, get_or, ℕ, List, IsTrue, length, ◌∷◌, [], ⊤};
 ghost use Rattle.bech32_gf.specs.Fe32 as fe32;
+ghost use Rattle.bech32_gf.specs.Fe32.{value};
 ghost use Rattle.bech32_poly.specs.Polynomial.{scale};
 ghost use Rattle.bech32_hrp.specs.Hrp.{lowered};
-ghost use Rattle.bech32_checksum.specs.Packed.{HasDigits, IsRowOf};
+ghost use Rattle.bech32_checksum.specs.Packed.{HasDigits, IsRowOf, sum_of_words};
 ghost use Rattle.bech32_checksum.specs.Code.{Code, code_of, IsResidueOf, IsResidueAfter};
 ghost use Rattle.bech32_checksum.specs.PackingLaws.{KeepsPackingLaws};
 ghost use Rattle.bech32_checksum.specs.Roots.{HasLawfulRoots};
@@ -72,13 +73,17 @@ pub trait Checksum {
     /// The remainder of a right text, packed.
     const TARGET_RESIDUE: Self::MidstateRepr;
 
-    /// The product of an element and the generator's lower coefficients, packed.
+    /// The product of an element and the generator's lower coefficients, packed: the sum of the words
+    /// at the set bits of the element's value.
     ///
-    /// The provided one sums the words. Whoever defines a checksum may read a table in its place.
+    /// The provided one sums the words. Whoever defines a checksum may read a table in its place, and
+    /// shows that it holds these sums.
     #[inline]
     fn generator_times(element: Fe32) -> Self::MidstateRepr
-        ensures { IsRowOf CHECKSUM_LENGTH (scale fe32.ops element code.generator)
+        ensures row { IsRowOf CHECKSUM_LENGTH (scale fe32.ops element code.generator)
             (Self.MidstateRepr.number result) }
+        ensures words { Self.MidstateRepr.number result ≡ sum_of_words
+            (λ i. Self.MidstateRepr.number (get_or GENERATOR_SH i TARGET_RESIDUE)) 5 (value element) }
     {
         let bits = element.to_u8();
         // The row of zeros.

@@ -8,7 +8,7 @@ use Rattle.bech32_poly.specs.Polynomial.{scale}
 use Rattle.bech32_checksum.specs.Code.{Code}
 use Rattle.bech32_checksum.specs.Packed.{digit_of}
 use Rattle.bech32_checksum.proofs.Words.{word_digit}
-use Rattle.bech32_checksum.proofs.PartialProduct.{zero_digit, added, kept, scaled_word}
+use Rattle.bech32_checksum.proofs.PartialProduct.{zero_digit, added, kept, scaled_word, word-added, word-kept}
 use Rattle.bech32_checksum.proofs.Checksum.generator_times.Goals as goal
 use Rattle.bech32_checksum.proofs.Checksum.generator_times.Goals.{then-bits-i-eq1, else-bits-i-eq1}
 
@@ -23,6 +23,7 @@ loop-i-init g c =
     record {
       clear = rw zero_there (pow_pos (5 * g.Self.Checksum.CHECKSUM_LENGTH));
       digits = λ n. ap (λ m. digit_of m n) zero_there ∙ zero_digit n;
+      words = zero_there;
     }
 
 pub loop-i-preserved : goal.loop-i-preserved
@@ -51,10 +52,16 @@ loop-i-preserved g c = elim c.if-bits-i-eq1.branch [
             ∙ (ap (λ x. fe32.add (digit_of (number c.loop-i.sum) n) (digit_of (number x) n)) word
             ∙ (ap (λ x. fe32.add (digit_of (number c.loop-i.sum) n) x) (word_digit _ number words target g.met.Self.Checksum.packing_laws.shifts i here n)
             ∙ added i c.to_u8-bits.result (digit_of (number c.loop-i.sum) n) first w.if-bits-i-eq1.true (c.loop-i.invariant.digits n))));
+        words =
+            word-added (λ j. number (get_or words j target)) i c.to_u8-bits.result (number c.loop-i.sum) (number c.if-bits-i-eq1.sum)
+            w.if-bits-i-eq1.true c.loop-i.invariant.words total;
       }
   | else-bits-i-eq1 w ↦ rw w.sum-is (record {
     clear = c.loop-i.invariant.clear;
     digits = λ n. kept c.loop-i.i c.to_u8-bits.result _ _ w.if-bits-i-eq1.false (c.loop-i.invariant.digits n);
+    words =
+        word-kept (λ j. g.Self.MidstateRepr.PackedFe32.number (get_or g.Self.Checksum.GENERATOR_SH j g.Self.Checksum.TARGET_RESIDUE))
+        c.loop-i.i c.to_u8-bits.result _ w.if-bits-i-eq1.false c.loop-i.invariant.words;
   })
 ]
 
@@ -62,9 +69,12 @@ pub returns : goal.returns
 returns g c =
     let five : c.loop-i.i ≡ 5 = omega arith in
     record {
-      elements_are = scaled_word g.Self.Checksum.CHECKSUM_LENGTH (g.Self.MidstateRepr.PackedFe32.number c.loop-i.sum)
-          (g.Self.MidstateRepr.PackedFe32.number (get_or g.Self.Checksum.GENERATOR_SH 0 g.Self.Checksum.TARGET_RESIDUE)) c.args.element
-          (rw (five, c.to_u8-bits.ensures) at c.loop-i.invariant.digits)
-          ∙ ap (λ (k : Code). scale fe32.ops c.args.element k.generator) (sym g.met.Self.Checksum.code_law);
-      clear = c.loop-i.invariant.clear;
+      row = record {
+        elements_are = scaled_word g.Self.Checksum.CHECKSUM_LENGTH (g.Self.MidstateRepr.PackedFe32.number c.loop-i.sum)
+            (g.Self.MidstateRepr.PackedFe32.number (get_or g.Self.Checksum.GENERATOR_SH 0 g.Self.Checksum.TARGET_RESIDUE)) c.args.element
+            (rw (five, c.to_u8-bits.ensures) at c.loop-i.invariant.digits)
+            ∙ ap (λ (k : Code). scale fe32.ops c.args.element k.generator) (sym g.met.Self.Checksum.code_law);
+        clear = c.loop-i.invariant.clear;
+      };
+      words = rw (five, c.to_u8-bits.ensures) at c.loop-i.invariant.words;
     }

@@ -1,5 +1,5 @@
 use Rattle.std.proofs.Common.{◌≡◌, ◌<◌, ◌*◌, ◌^◌, ℕ, get_or}
-use Rattle.bech32_checksum.specs.Packed.{digit_of}
+use Rattle.bech32_checksum.specs.Packed.{digit_of, sum_of_words}
 use Rattle.bech32_checksum.proofs.PartialProduct.{partial_product}
 use Rattle.bech32_checksum.proofs.Checksum.generator_times.Given as goal
 
@@ -10,4 +10,5 @@ invariant-loop-i g l =
     record {
       clear : number l.sum < 2 ^ (5 * g.Self.Checksum.CHECKSUM_LENGTH);
       digits : (n : ℕ) → digit_of (number l.sum) n ≡ partial_product l.i l.bits (digit_of word n);
+      words : number l.sum ≡ sum_of_words (λ i. number (get_or g.Self.Checksum.GENERATOR_SH i g.Self.Checksum.TARGET_RESIDUE)) l.i l.bits;
     }

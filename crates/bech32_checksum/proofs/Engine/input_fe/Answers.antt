@@ -12,7 +12,7 @@ invariant_of-self g c =
     g.met.Ck.Checksum.packing_laws.empty (g.met.Ck.MidstateRepr.PackedFe32.empty_law c.mul_by_x_then_add-xn.new.self) (rw c.CHECKSUM_LENGTH.ensures at c.mul_by_x_then_add-xn.ensures.others)
     g.met.Ck.Checksum.packing_laws.fits small in
     rw (g.met.Ck.MidstateRepr.PackedFe32.bitxor_law _ _ _ c.bitxor-self-inside.ensures)
-    (xor_lt (5 * g.Ck.Checksum.CHECKSUM_LENGTH) _ _ shifted c.generator_times.ensures.clear)
+    (xor_lt (5 * g.Ck.Checksum.CHECKSUM_LENGTH) _ _ shifted c.generator_times.ensures.row.clear)
 
 pub returns : goal.returns
 returns g c p h =
@@ -25,6 +25,6 @@ returns g c p h =
     c.mul_by_x_then_add-xn.result c.args.e
     g.met.Ck.Checksum.degree_law g.met.Ck.Checksum.packing_laws.fits
     (rw c.CHECKSUM_LENGTH.ensures at c.mul_by_x_then_add-xn.ensures.highest) (rw (c.CHECKSUM_LENGTH.ensures, c.to_u8.ensures) at c.mul_by_x_then_add-xn.ensures.others)
-    (rw c.from_low_bits.ensures at c.generator_times.ensures.elements_are)
+    (rw c.from_low_bits.ensures at c.generator_times.ensures.row.elements_are)
     (g.met.Ck.MidstateRepr.PackedFe32.sum_law _ _ _ c.bitxor-self-inside.ensures)
     (subst (λ r. IsResidueOf number g.Ck.Checksum.code r p) (sym c.self.view_is) h)
