@@ -1,5 +1,8 @@
 //! Comparisons that end a test where they fail.
 
+ghost use Rattle.std.specs.Iterator.{IsFinite};
+
+use std::alloc::Global;
 use std::fmt::Debug;
 use std::process::Abort;
 
@@ -11,4 +14,23 @@ pub fn same<T: PartialEq + Debug>(rt: &impl Abort, got: &T, want: &T) {
 /// Fails where the two differ.
 pub fn same_items<T: PartialEq + Debug>(rt: &impl Abort, got: &[T], want: &[T]) {
     assert_eq!(rt; got, want);
+}
+
+/// Fails where an iterator gives other items than these.
+pub fn gives<T: PartialEq + Debug + Drop, I: Iterator<Item = T>>(
+    rt: &impl Abort,
+    alloc: Global,
+    items: I,
+    want: &[T],
+)
+    requires can { I.can_next items }
+    requires finite { IsFinite (I.remaining items) }
+{
+    let found: Vec<T> = items.collect(alloc).expect(rt, "memory");
+    same_items(rt, &found, want);
+}
+
+/// Fails where an iterator says otherwise how many items come.
+pub fn hints<I: Iterator>(rt: &impl Abort, items: &I, want: (usize, Option<usize>)) {
+    same(rt, &items.size_hint(), &want);
 }

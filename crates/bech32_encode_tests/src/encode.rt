@@ -5,25 +5,40 @@ mod checksum_rows;
 ghost use Rattle.std.specs.Prelude.{◌≤◌};
 ghost use Rattle.std.specs.Option.{ForSome};
 
-use crate::compare::{same, same_items};
-use bech32_bits::ByteIterExt;
+use crate::adaptors::{
+    bytes_are, characters_are, characters_begin, checksummed_are, checksummed_begin,
+    checksummed_under, elements_are, elements_begin, hint_of_bytes, hint_of_characters,
+    hint_of_checksummed, hint_of_elements,
+};
+use crate::compare::{gives, hints, same, same_items};
+use bech32_bits::{ByteIterExt, BytesToFes};
 use bech32_checksum::{Bech32, Bech32m, Checksum, HrpFe32Iter, NoChecksum};
 use bech32_encode::{Checksummed, Encoder, Fe32IterExt, WitnessVersionIter, put_text};
 use bech32_gf::gf32::Fe32;
 use bech32_hrp::Hrp;
 use bech32_testing::iterators::{Many, TwoItems, TwoOfFive};
-use std::alloc::{AllocError, Global};
-use std::iter;
-use std::test::Fail;
+use std::alloc::Global;
+use std::process::Abort;
+use std::{iter, slice};
 
 // The bounds on how many more items come, where those are exact.
 fn exactly(left: usize) -> (usize, Option<usize>) {
     (left, Some(left))
 }
 
+// A human-readable part; fails where the text is none.
+fn part(rt: &impl Abort, text: &str) -> Hrp {
+    Hrp::parse(text).expect(rt, "a human-readable part")
+}
+
+// The element of a character; fails where there is none.
+fn element(rt: &impl Abort, c: u8) -> Fe32 {
+    Fe32::from_char(c as char).expect(rt, "an element")
+}
+
 #[test]
-fn elements_of_a_part(rt: HostRuntime) -> Result<(), Fail> {
-    let hrp = Hrp::parse("AB")?;
+fn elements_of_a_part(rt: HostRuntime) {
+    let hrp = part(&rt, "AB");
     let mut fes = HrpFe32Iter::new(&hrp);
     let rows = [
         (5, Some(Fe32::R)),
@@ -37,13 +52,12 @@ fn elements_of_a_part(rt: HostRuntime) -> Result<(), Fail> {
     for (left, fe) in rows {
         same(&rt, &(fes.size_hint(), fes.next()), &(exactly(left), fe));
     }
-    Ok(())
 }
 
 #[test]
-fn elements_of_no_data(rt: HostRuntime) -> Result<(), Fail> {
+fn elements_of_no_data(rt: HostRuntime) {
     let none: [Fe32; 0] = [];
-    let hrp = Hrp::parse("a")?;
+    let hrp = part(&rt, "a");
     let mut fes = none.iter().copied().with_checksum::<Bech32>(&hrp).fes();
     // The characters `rqp2uel5l`.
     let rows = [
@@ -63,31 +77,24 @@ fn elements_of_no_data(rt: HostRuntime) -> Result<(), Fail> {
     for fe in rows {
         same(&rt, &fes.next(), &fe);
     }
-    Ok(())
 }
 
-#[test]
-fn size_hints(rt: HostRuntime) -> Result<(), Fail> {
-    let hrp = Hrp::parse("ab")?;
+// Fails where the bounds on the elements of a text are other ones.
+fn bounds_of_a_text(rt: &impl Abort, hrp: &Hrp) {
     let one = [Fe32::L];
-    let mut fes = one.iter().copied().with_checksum::<Bech32>(&hrp).fes();
+    let mut fes = one.iter().copied().with_checksum::<Bech32>(hrp).fes();
     for left in [12, 11, 10, 9, 8, 7, 6, 5, 4, 3, 2, 1, 0, 0] {
         let bounds = fes.size_hint();
-        same(
-            &rt,
-            &(bounds, fes.next().is_some()),
-            &(exactly(left), left > 0),
-        );
+        let found = (bounds, fes.next().is_some());
+        same(rt, &found, &(exactly(left), left > 0));
     }
+}
 
-    let two = [Fe32::L, Fe32::Q];
-    let mut fes = WitnessVersionIter::new(None, two.iter().copied());
-    same(
-        &rt,
-        &(fes.size_hint(), fes.next()),
-        &(exactly(2), Some(Fe32::L)),
-    );
-    let mut fes = WitnessVersionIter::new(Some(Fe32::P), two.iter().copied());
+const TWO: [Fe32; 2] = [Fe32::L, Fe32::Q];
+
+// Fails where the bounds on elements behind a version are other ones.
+fn bounds_behind_a_version(rt: &impl Abort) {
+    let mut fes = WitnessVersionIter::new(Some(Fe32::P), TWO.iter().copied());
     let rows = [
         (3, Some(Fe32::P)),
         (2, Some(Fe32::L)),
@@ -96,9 +103,18 @@ fn size_hints(rt: HostRuntime) -> Result<(), Fail> {
         (0, None),
     ];
     for (left, fe) in rows {
-        same(&rt, &(fes.size_hint(), fes.next()), &(exactly(left), fe));
+        same(rt, &(fes.size_hint(), fes.next()), &(exactly(left), fe));
     }
-    Ok(())
+}
+
+#[test]
+fn size_hints(rt: HostRuntime) {
+    let hrp = part(&rt, "ab");
+    bounds_of_a_text(&rt, &hrp);
+    let mut fes = WitnessVersionIter::new(None, TWO.iter().copied());
+    let found = (fes.size_hint(), fes.next());
+    same(&rt, &found, &(exactly(2), Some(Fe32::L)));
+    bounds_behind_a_version(&rt);
 }
 
 const PROGRAM: [u8; 20] = [
@@ -107,22 +123,21 @@ const PROGRAM: [u8; 20] = [
 ];
 
 #[test]
-fn text_of_a_witness_program_in_a_buffer(rt: HostRuntime) -> Result<(), Fail> {
-    let hrp = Hrp::parse("BC")?;
+fn text_of_a_witness_program_in_a_buffer(rt: HostRuntime) {
+    let hrp = part(&rt, "BC");
     let mut buffer = [b'-'; 45];
     let fes = PROGRAM.iter().copied().bytes_to_fes();
     let count = put_text::<_, Bech32>(&hrp, Some(Fe32::Q), fes, &mut buffer);
     same(&rt, &count, &42);
     let text = b"bc1qw508d6qejxtdg4y5r3zarvary0c5xw7kv8f3t4---";
     same_items(&rt, &buffer, text);
-    Ok(())
 }
 
 // Into a buffer without room goes as much as fits, and behind a buffer with room nothing changes.
 #[test]
-fn text_in_buffers_of_each_size(rt: HostRuntime) -> Result<(), Fail> {
+fn text_in_buffers_of_each_size(rt: HostRuntime) {
     let none: [Fe32; 0] = [];
-    let hrp = Hrp::parse("A")?;
+    let hrp = part(&rt, "A");
     let text = b"a12uel5l----".as_slice();
     let behind = [b'-'; 12];
     for room in 0..11usize {
@@ -133,157 +148,162 @@ fn text_in_buffers_of_each_size(rt: HostRuntime) -> Result<(), Fail> {
         same_items(&rt, &buffer[..room], &text[..room]);
         same_items(&rt, &buffer[room..], &behind[room..]);
     }
-    Ok(())
 }
 
-#[test]
-fn text_of_a_witness_program(rt: HostRuntime) -> Result<(), Fail> {
-    let hrp = Hrp::parse("BC")?;
-    let text = "bc1qw508d6qejxtdg4y5r3zarvary0c5xw7kv8f3t4";
-    let fes = PROGRAM.iter().copied().bytes_to_fes();
-    let encoder = fes
-        .with_checksum::<Bech32>(&hrp)
-        .with_witness_version(Fe32::Q);
-    let mut bytes = encoder.clone()?.bytes();
+const TEXT: &str = "bc1qw508d6qejxtdg4y5r3zarvary0c5xw7kv8f3t4";
+
+type Elements<'a> = BytesToFes<iter::Copied<slice::Iter<'a, u8>>>;
+
+// The encoder of a program of version 0.
+fn encoder_of<'a>(program: &'a [u8], hrp: &'a Hrp) -> Encoder<'a, Elements<'a>, Bech32> {
+    let fes = program.iter().copied().bytes_to_fes();
+    fes.with_checksum::<Bech32>(hrp)
+        .with_witness_version(Fe32::Q)
+}
+
+// Fails where the characters of an encoder of the program are not those of its text.
+fn has_characters(rt: &impl Abort, encoder: Encoder<'_, Elements<'_>, Bech32>) {
     let mut chars = encoder.chars();
     let mut left = 42usize;
-    for c in text.chars() {
-        same(
-            &rt,
-            &(chars.size_hint(), chars.next()),
-            &(exactly(left), Some(c)),
-        );
+    for c in TEXT.chars() {
+        let found = (chars.size_hint(), chars.next());
+        same(rt, &found, &(exactly(left), Some(c)));
         left = left.saturating_sub(1);
     }
     for _ in 0..3 {
-        same(&rt, &(chars.size_hint(), chars.next()), &(exactly(0), None));
+        same(rt, &(chars.size_hint(), chars.next()), &(exactly(0), None));
     }
+}
 
-    same(&rt, &bytes.size_hint(), &exactly(42));
-    for b in text.as_bytes() {
-        same(&rt, &bytes.next(), &Some(*b));
+// The same of its bytes.
+fn has_bytes(rt: &impl Abort, encoder: Encoder<'_, Elements<'_>, Bech32>) {
+    let mut bytes = encoder.bytes();
+    same(rt, &bytes.size_hint(), &exactly(42));
+    for b in TEXT.as_bytes() {
+        same(rt, &bytes.next(), &Some(*b));
     }
     for _ in 0..3 {
-        same(&rt, &bytes.next(), &None);
+        same(rt, &bytes.next(), &None);
     }
-    Ok(())
 }
 
 #[test]
-fn version_before_two_elements(rt: HostRuntime) -> Result<(), Fail> {
+fn text_of_a_witness_program(rt: HostRuntime) {
+    let hrp = part(&rt, "BC");
+    let encoder = encoder_of(&PROGRAM, &hrp);
+    has_bytes(&rt, encoder.clone().expect(&rt, "memory"));
+    has_characters(&rt, encoder);
+}
+
+#[test]
+fn version_before_two_elements(rt: HostRuntime) {
     let alloc = rt.alloc();
     let want = [Fe32::Q, Fe32::_4, Fe32::_4];
     let two = TwoItems::new(Fe32::_4, None);
-    let fes: Vec<Fe32> = WitnessVersionIter::new(Some(Fe32::Q), two).collect(alloc)?;
-    same_items(&rt, &fes, &want);
+    gives(
+        &rt,
+        alloc,
+        WitnessVersionIter::new(Some(Fe32::Q), two),
+        &want,
+    );
     let two = TwoOfFive::new(Fe32::_4);
-    let fes: Vec<Fe32> = WitnessVersionIter::new(Some(Fe32::Q), two).collect(alloc)?;
-    same_items(&rt, &fes, &want);
+    gives(
+        &rt,
+        alloc,
+        WitnessVersionIter::new(Some(Fe32::Q), two),
+        &want,
+    );
     let two = TwoItems::new(Fe32::_4, Some(usize::MAX));
-    let fes: Vec<Fe32> = WitnessVersionIter::new(None, two).collect(alloc)?;
-    same_items(&rt, &fes, &[Fe32::_4, Fe32::_4]);
-    Ok(())
+    let want = [Fe32::_4, Fe32::_4];
+    gives(&rt, alloc, WitnessVersionIter::new(None, two), &want);
 }
 
-// The text of two elements, with a version before them where there is one.
+// Fails where the text of two elements, with a version before them where there is one, is another.
 fn text_of_two<Ck: Checksum>(
+    rt: &impl Abort,
     alloc: Global,
-    hrp: &Hrp,
     version: Option<Fe32>,
     upper: Option<usize>,
-) -> Result<Vec<char>, AllocError>
+    want: &[char],
+)
     requires { ForSome upper (λ n. 2 ≤ n) }
 {
-    let encoder = TwoItems::new(Fe32::_4, upper).with_checksum::<Ck>(hrp);
+    let hrp = part(rt, "a");
+    let encoder = TwoItems::new(Fe32::_4, upper).with_checksum::<Ck>(&hrp);
     match version {
-        Some(version) => encoder.with_witness_version(version).chars().collect(alloc),
-        None => encoder.chars().collect(alloc),
+        Some(version) => characters_are(rt, alloc, encoder.with_witness_version(version), want),
+        None => characters_are(rt, alloc, encoder, want),
     }
 }
 
 #[test]
-fn text_of_two_elements(rt: HostRuntime) -> Result<(), Fail> {
+fn text_of_two_elements(rt: HostRuntime) {
     let alloc = rt.alloc();
-    let hrp = Hrp::parse("a")?;
     let want = ['a', '1', '4', '4', 'm', 'h', '9', 'z', '9', '7'];
-    same_items(&rt, &text_of_two::<Bech32>(alloc, &hrp, None, None)?, &want);
-    let text: Vec<char> = TwoOfFive::new(Fe32::_4)
-        .with_checksum::<Bech32>(&hrp)
-        .chars()
-        .collect(alloc)?;
-    same_items(&rt, &text, &want);
-    let text = text_of_two::<Bech32>(alloc, &hrp, Some(Fe32::Q), Some(usize::MAX))?;
+    text_of_two::<Bech32>(&rt, alloc, None, None, &want);
+    let hrp = part(&rt, "a");
+    let encoder = TwoOfFive::new(Fe32::_4).with_checksum::<Bech32>(&hrp);
+    characters_are(&rt, alloc, encoder, &want);
     let want = ['a', '1', 'q', '4', '4', 'k', 'a', 'u', 'y', 'u', 'l'];
-    same_items(&rt, &text, &want);
-    let text = text_of_two::<NoChecksum>(alloc, &hrp, None, None)?;
-    same_items(&rt, &text, &['a', '1', '4', '4']);
-    Ok(())
+    text_of_two::<Bech32>(&rt, alloc, Some(Fe32::Q), Some(usize::MAX), &want);
+    text_of_two::<NoChecksum>(&rt, alloc, None, None, &['a', '1', '4', '4']);
 }
 
 #[test]
-fn text_of_two_elements_as_bytes(rt: HostRuntime) -> Result<(), Fail> {
+fn text_of_two_elements_as_bytes(rt: HostRuntime) {
     let alloc = rt.alloc();
-    let hrp = Hrp::parse("A")?;
+    let hrp = part(&rt, "A");
     let encoder = TwoItems::new(Fe32::_4, None).with_checksum::<Bech32>(&hrp);
-    let text: Vec<u8> = encoder.bytes().collect(alloc)?;
-    same_items(&rt, &text, b"a144mh9z97");
+    bytes_are(&rt, alloc, encoder, b"a144mh9z97");
     let encoder = TwoOfFive::new(Fe32::_4).with_checksum::<Bech32>(&hrp);
-    let text: Vec<u8> = encoder.bytes().collect(alloc)?;
-    same_items(&rt, &text, b"a144mh9z97");
+    bytes_are(&rt, alloc, encoder, b"a144mh9z97");
     let encoder = TwoItems::new(Fe32::_4, Some(usize::MAX)).with_checksum::<Bech32>(&hrp);
     let encoder = encoder.with_witness_version(Fe32::Q);
-    let text: Vec<u8> = encoder.bytes().collect(alloc)?;
-    same_items(&rt, &text, b"a1q44kauyul");
-    Ok(())
+    bytes_are(&rt, alloc, encoder, b"a1q44kauyul");
 }
 
 #[test]
-fn elements_of_a_part_and_two_elements(rt: HostRuntime) -> Result<(), Fail> {
+fn elements_of_a_part_and_two_elements(rt: HostRuntime) {
     let alloc = rt.alloc();
-    let want = elements_of(alloc, b"rqp44mh9z97")?;
-    let hrp = Hrp::parse("a")?;
+    let want = elements_of(&rt, alloc, b"rqp44mh9z97");
+    let hrp = part(&rt, "a");
     let encoder = TwoItems::new(Fe32::_4, None).with_checksum::<Bech32>(&hrp);
-    let fes: Vec<Fe32> = encoder.fes().collect(alloc)?;
-    same_items(&rt, &fes, &want);
+    elements_are(&rt, alloc, encoder, &want);
     let encoder = TwoItems::new(Fe32::_4, Some(usize::MAX)).with_checksum::<Bech32>(&hrp);
-    let fes: Vec<Fe32> = encoder.fes().collect(alloc)?;
-    same_items(&rt, &fes, &want);
+    elements_are(&rt, alloc, encoder, &want);
     let encoder = TwoOfFive::new(Fe32::_4).with_checksum::<Bech32>(&hrp);
-    let fes: Vec<Fe32> = encoder.fes().collect(alloc)?;
-    same_items(&rt, &fes, &want);
-    Ok(())
+    elements_are(&rt, alloc, encoder, &want);
 }
 
 #[test]
-fn elements_with_a_version(rt: HostRuntime) -> Result<(), Fail> {
+fn elements_with_a_version(rt: HostRuntime) {
     let alloc = rt.alloc();
-    let hrp = Hrp::parse("a")?;
+    let hrp = part(&rt, "a");
     let encoder = Encoder::<_, Bech32m>::new(TwoItems::new(Fe32::_4, None), &hrp);
-    let fes: Vec<Fe32> = encoder.with_witness_version(Fe32::P).fes().collect(alloc)?;
-    same_items(&rt, &fes, &elements_of(alloc, b"rqpp44pr9lq9")?);
-    Ok(())
+    let encoder = encoder.with_witness_version(Fe32::P);
+    let want = elements_of(&rt, alloc, b"rqpp44pr9lq9");
+    elements_are(&rt, alloc, encoder, &want);
 }
 
 #[test]
-fn bounds_that_are_not_exact(rt: HostRuntime) -> Result<(), Fail> {
-    let hrp = Hrp::parse("ab")?;
+fn bounds_that_are_not_exact(rt: HostRuntime) {
+    let hrp = part(&rt, "ab");
     let fes = WitnessVersionIter::new(Some(Fe32::Q), TwoItems::new(Fe32::_4, None));
-    same(&rt, &fes.size_hint(), &(1, None));
+    hints(&rt, &fes, (1, None));
     let fes = WitnessVersionIter::new(Some(Fe32::Q), Many::new(Fe32::_4, usize::MAX));
-    same(&rt, &fes.size_hint(), &(usize::MAX, None));
+    hints(&rt, &fes, (usize::MAX, None));
 
     let encoder = TwoItems::new(Fe32::_4, None).with_checksum::<Bech32>(&hrp);
-    same(&rt, &encoder.chars().size_hint(), &(9, None));
+    hint_of_characters(&rt, encoder, (9, None));
     let encoder = TwoItems::new(Fe32::_4, Some(usize::MAX)).with_checksum::<Bech32>(&hrp);
-    same(&rt, &encoder.bytes().size_hint(), &(9, None));
+    hint_of_bytes(&rt, encoder, (9, None));
     let encoder = TwoOfFive::new(Fe32::_4).with_checksum::<Bech32>(&hrp);
-    same(&rt, &encoder.fes().size_hint(), &exactly(16));
-    Ok(())
+    hint_of_elements(&rt, encoder, exactly(16));
 }
 
 #[test]
-fn bounds_of_an_ended_iterator(rt: HostRuntime) -> Result<(), Fail> {
-    let hrp = Hrp::parse("a")?;
+fn bounds_of_an_ended_iterator(rt: HostRuntime) {
+    let hrp = part(&rt, "a");
     let mut chars = TwoOfFive::new(Fe32::_4)
         .with_checksum::<Bech32>(&hrp)
         .chars();
@@ -296,204 +316,198 @@ fn bounds_of_an_ended_iterator(rt: HostRuntime) -> Result<(), Fail> {
         (5, 'h'),
     ];
     for (left, c) in rows {
-        same(
-            &rt,
-            &(chars.size_hint(), chars.next()),
-            &(exactly(left), Some(c)),
-        );
+        let found = (chars.size_hint(), chars.next());
+        same(&rt, &found, &(exactly(left), Some(c)));
     }
-    Ok(())
 }
 
 #[test]
-fn endless_elements(rt: HostRuntime) -> Result<(), Fail> {
+fn endless_elements(rt: HostRuntime) {
     let alloc = rt.alloc();
-    let hrp = Hrp::parse("ab")?;
-    let chars = iter::repeat(Fe32::_4).with_checksum::<Bech32>(&hrp).chars();
-    same(&rt, &chars.size_hint(), &(usize::MAX, None));
-    let chars: Vec<char> = chars.take(8).collect(alloc)?;
-    same_items(&rt, &chars, &['a', 'b', '1', '4', '4', '4', '4', '4']);
-    let fes = iter::repeat(Fe32::_4).with_checksum::<Bech32>(&hrp).fes();
-    same(&rt, &fes.size_hint(), &(usize::MAX, None));
-    let fes: Vec<Fe32> = fes.take(7).collect(alloc)?;
-    same_items(&rt, &fes, &elements_of(alloc, b"rrqpz44")?);
-    let fes = Checksummed::<_, Bech32>::new(iter::repeat(Fe32::_4));
-    same(&rt, &fes.size_hint(), &(usize::MAX, None));
-    let fes: Vec<Fe32> = fes.take(6).collect(alloc)?;
-    same_items(&rt, &fes, &[Fe32::_4; 6]);
-    Ok(())
+    let hrp = part(&rt, "ab");
+    let encoder = iter::repeat(Fe32::_4).with_checksum::<Bech32>(&hrp);
+    let want = ['a', 'b', '1', '4', '4', '4', '4', '4'];
+    characters_begin(&rt, alloc, encoder, (usize::MAX, None), &want);
+    let encoder = iter::repeat(Fe32::_4).with_checksum::<Bech32>(&hrp);
+    let want = elements_of(&rt, alloc, b"rrqpz44");
+    elements_begin(&rt, alloc, encoder, (usize::MAX, None), &want);
+    let fes = iter::repeat(Fe32::_4);
+    let hint = (usize::MAX, None);
+    checksummed_begin::<_, Bech32>(&rt, alloc, fes, hint, &[Fe32::_4; 6]);
 }
 
 #[test]
-fn text_without_a_checksum(rt: HostRuntime) -> Result<(), Fail> {
+fn text_without_a_checksum(rt: HostRuntime) {
     let alloc = rt.alloc();
-    let hrp = Hrp::parse("a")?;
+    let hrp = part(&rt, "a");
     let none: [Fe32; 0] = [];
     let encoder = none.iter().copied().with_checksum::<NoChecksum>(&hrp);
-    let fes: Vec<Fe32> = encoder.fes().collect(alloc)?;
-    same_items(&rt, &fes, &[Fe32::R, Fe32::Q, Fe32::P]);
+    elements_are(&rt, alloc, encoder, &[Fe32::R, Fe32::Q, Fe32::P]);
     let encoder = none.iter().copied().with_checksum::<NoChecksum>(&hrp);
-    let chars: Vec<char> = encoder.chars().collect(alloc)?;
-    same_items(&rt, &chars, &['a', '1']);
-    Ok(())
+    characters_are(&rt, alloc, encoder, &['a', '1']);
 }
 
 #[test]
-fn bytes_of_elements(rt: HostRuntime) -> Result<(), Fail> {
+fn bytes_of_elements(rt: HostRuntime) {
     let alloc = rt.alloc();
     let fes = [Fe32::_4, Fe32::V, Fe32::L];
-    let dropped: Vec<u8> = fes.iter().copied().fes_to_bytes().collect(alloc)?;
-    same_items(&rt, &dropped, &[0xab]);
-    let filled: Vec<u8> = fes.iter().copied().fes_to_bytes_zeropad().collect(alloc)?;
-    same_items(&rt, &filled, &[0xab, 0x3e]);
-    Ok(())
+    gives(&rt, alloc, fes.iter().copied().fes_to_bytes(), &[0xab]);
+    let filled = fes.iter().copied().fes_to_bytes_zeropad();
+    gives(&rt, alloc, filled, &[0xab, 0x3e]);
 }
 
 #[test]
-fn checksum_behind_two_elements(rt: HostRuntime) -> Result<(), Fail> {
+fn checksum_behind_two_elements(rt: HostRuntime) {
     // The second text is that under the human-readable part `a`.
     let alloc = rt.alloc();
-    let alone = elements_of(alloc, b"44ectty8")?;
-    let fes = Checksummed::<_, Bech32>::new(TwoItems::new(Fe32::_4, None));
-    let fes: Vec<Fe32> = fes.collect(alloc)?;
-    same_items(&rt, &fes, &alone);
-    let fes = Checksummed::<_, Bech32>::new(TwoOfFive::new(Fe32::_4));
-    let fes: Vec<Fe32> = fes.collect(alloc)?;
-    same_items(&rt, &fes, &alone);
+    let alone = elements_of(&rt, alloc, b"44ectty8");
+    let two = TwoItems::new(Fe32::_4, None);
+    checksummed_are::<_, Bech32>(&rt, alloc, two, &alone);
+    let two = TwoOfFive::new(Fe32::_4);
+    checksummed_are::<_, Bech32>(&rt, alloc, two, &alone);
 
     let two = TwoItems::new(Fe32::_4, Some(usize::MAX));
-    let fes = Checksummed::<_, Bech32>::new_hrp(Hrp::parse("a")?, two);
-    let fes: Vec<Fe32> = fes.collect(alloc)?;
-    same_items(&rt, &fes, &elements_of(alloc, b"44mh9z97")?);
-    Ok(())
+    let want = elements_of(&rt, alloc, b"44mh9z97");
+    checksummed_under::<_, Bech32>(&rt, alloc, part(&rt, "a"), two, &want);
+}
+
+// Fails where the bounds on two elements and their checksum are other ones.
+fn bounds_of_two_and_a_checksum(rt: &impl Abort) {
+    let mut fes = Checksummed::<_, Bech32>::new(TwoItems::new(Fe32::_4, None));
+    let bounds = fes.size_hint();
+    let first = [fes.next().is_some(), fes.next().is_some()];
+    let behind = fes.size_hint();
+    let third = fes.next().is_some();
+    same_items(
+        rt,
+        &[bounds, behind, fes.size_hint()],
+        &[(6, None), (6, None), exactly(5)],
+    );
+    same(rt, &(first, third), &([true, true], true));
 }
 
 #[test]
 fn size_hints_of_checksums(rt: HostRuntime) {
-    let mut fes = Checksummed::<_, Bech32>::new(TwoItems::new(Fe32::_4, None));
-    same(&rt, &fes.size_hint(), &(6, None));
-    for _ in 0..2 {
-        assert!(rt; fes.next().is_some());
-    }
-    same(&rt, &fes.size_hint(), &(6, None));
-    assert!(rt; fes.next().is_some());
-    same(&rt, &fes.size_hint(), &exactly(5));
-
-    let fes = Checksummed::<_, Bech32>::new(TwoItems::new(Fe32::_4, Some(usize::MAX)));
-    same(&rt, &fes.size_hint(), &(6, None));
-    let fes = Checksummed::<_, Bech32m>::new(TwoOfFive::new(Fe32::_4));
-    same(&rt, &fes.size_hint(), &exactly(11));
-    let fes = Checksummed::<_, NoChecksum>::new(Many::new(Fe32::_4, usize::MAX));
-    same(&rt, &fes.size_hint(), &exactly(usize::MAX));
+    bounds_of_two_and_a_checksum(&rt);
+    let two = TwoItems::new(Fe32::_4, Some(usize::MAX));
+    hint_of_checksummed::<_, Bech32>(&rt, two, (6, None));
+    let two = TwoOfFive::new(Fe32::_4);
+    hint_of_checksummed::<_, Bech32m>(&rt, two, exactly(11));
+    let many = Many::new(Fe32::_4, usize::MAX);
+    hint_of_checksummed::<_, NoChecksum>(&rt, many, exactly(usize::MAX));
 }
 
 #[test]
-fn checksums_of_no_elements(rt: HostRuntime) -> Result<(), Fail> {
+fn checksums_of_no_elements(rt: HostRuntime) {
     let alloc = rt.alloc();
     let none: [Fe32; 0] = [];
-    let fes = Checksummed::<_, Bech32m>::new(none.iter().copied());
-    let fes: Vec<Fe32> = fes.collect(alloc)?;
-    same_items(&rt, &fes, &elements_of(alloc, b"g2yec3")?);
-    let fes = Checksummed::<_, NoChecksum>::new(TwoItems::new(Fe32::_4, None));
-    let fes: Vec<Fe32> = fes.collect(alloc)?;
-    same_items(&rt, &fes, &[Fe32::_4, Fe32::_4]);
-    Ok(())
+    let want = elements_of(&rt, alloc, b"g2yec3");
+    checksummed_are::<_, Bech32m>(&rt, alloc, none.iter().copied(), &want);
+    let two = TwoItems::new(Fe32::_4, None);
+    checksummed_are::<_, NoChecksum>(&rt, alloc, two, &[Fe32::_4, Fe32::_4]);
 }
 
 #[test]
-fn checksum_of_the_elements_of_one_letter(rt: HostRuntime) -> Result<(), Fail> {
+fn checksum_of_the_elements_of_one_letter(rt: HostRuntime) {
     // The elements of the human-readable part `a`, and their checksum. A clone goes on where the
     // iterator stands.
     let hrp = [Fe32::R, Fe32::Q, Fe32::P];
     let mut fes = Checksummed::<_, Bech32>::new(hrp.iter().copied());
     let mut left = 9usize;
-    for fe in elements_of(rt.alloc(), b"rqp2uel5l")? {
-        same(
-            &rt,
-            &(fes.size_hint(), fes.next()),
-            &(exactly(left), Some(fe)),
-        );
+    for c in b"rqp2uel5l" {
+        let found = (fes.size_hint(), fes.next());
+        same(&rt, &found, &(exactly(left), Some(element(&rt, *c))));
         left = left.saturating_sub(1);
-        let mut other = fes.clone()?;
-        same(
-            &rt,
-            &(other.size_hint(), other.next().is_some()),
-            &(exactly(left), left > 0),
-        );
+        let mut other = fes.clone().expect(&rt, "memory");
+        let found = (other.size_hint(), other.next().is_some());
+        same(&rt, &found, &(exactly(left), left > 0));
     }
     for _ in 0..3 {
         same(&rt, &(fes.size_hint(), fes.next()), &(exactly(0), None));
     }
-    Ok(())
 }
 
 // A field of a row: the elements of its characters, or none for `-`.
-fn elements_of(alloc: Global, field: &[u8]) -> Result<Vec<Fe32>, Fail> {
+fn elements_of(rt: &impl Abort, alloc: Global, field: &[u8]) -> Vec<Fe32> {
     let mut fes = Vec::new(alloc);
     if field != b"-".as_slice() {
         for c in field {
-            fes.push(Fe32::from_char(*c as char)?)?;
+            fes.push(element(rt, *c)).expect(rt, "memory");
         }
     }
-    Ok(fes)
+    fes
 }
 
+// Fails where the elements, with their checksum behind them, are others than those of the texts.
 fn checksummed<Ck: Checksum>(
+    rt: &impl Abort,
     alloc: Global,
     hrp: Hrp,
-    fes: &[Fe32],
-) -> Result<Vec<Fe32>, AllocError> {
-    Checksummed::<_, Ck>::new_hrp(hrp, fes.iter().copied()).collect(alloc)
+    data: &[u8],
+    checksum: &[u8],
+) {
+    let fes = elements_of(rt, alloc, data);
+    let mut all = elements_of(rt, alloc, data);
+    let behind = elements_of(rt, alloc, checksum);
+    all.extend_from_slice(&behind).expect(rt, "memory");
+    checksummed_under::<_, Ck>(rt, alloc, hrp, fes.iter().copied(), &all);
 }
 
-fn text_of<Ck: Checksum>(alloc: Global, hrp: &Hrp, fes: &[Fe32]) -> Result<Vec<u8>, AllocError> {
-    fes.iter()
-        .copied()
-        .with_checksum::<Ck>(hrp)
-        .bytes()
-        .collect(alloc)
+// The text of a row: what stands before the separator, and behind it.
+fn spelled(rt: &impl Abort, alloc: Global, part: &[u8], data: &[u8], checksum: &[u8]) -> Vec<u8> {
+    let mut text = part.to_vec(alloc).expect(rt, "memory");
+    text.push(b'1').expect(rt, "memory");
+    if data != b"-".as_slice() {
+        text.extend_from_slice(data).expect(rt, "memory");
+    }
+    text.extend_from_slice(checksum).expect(rt, "memory");
+    text
+}
+
+// Fails where the text of elements under a human-readable part is another.
+fn text_of<Ck: Checksum>(rt: &impl Abort, alloc: Global, hrp: &Hrp, data: &[u8], want: &[u8]) {
+    let fes = elements_of(rt, alloc, data);
+    let encoder = fes.iter().copied().with_checksum::<Ck>(hrp);
+    bytes_are(rt, alloc, encoder, want);
+}
+
+// Fails where the checksum of a row is another.
+fn row_of<Ck: Checksum>(
+    rt: &impl Abort,
+    alloc: Global,
+    spelling: &[u8],
+    data: &[u8],
+    checksum: &[u8],
+) {
+    let hrp = part(rt, str::from_utf8(spelling).expect(rt, "a text"));
+    checksummed::<Ck>(rt, alloc, hrp, data, checksum);
+    let text = spelled(rt, alloc, spelling, data, checksum);
+    text_of::<Ck>(rt, alloc, &hrp, data, &text);
+}
+
+// Fails where the checksum of a row is another, and counts the row.
+fn count_row(rt: &impl Abort, alloc: Global, row: &[u8]) -> u32 {
+    if row.is_empty() {
+        return 0;
+    }
+    let mut fields = row.split(|b| *b == b'\t');
+    let name = fields.next().expect(rt, "the checksum");
+    let spelling = fields.next().expect(rt, "the human-readable part");
+    let data = fields.next().expect(rt, "the elements");
+    let checksum = fields.next().expect(rt, "their checksum");
+    if name == b"Bech32".as_slice() {
+        row_of::<Bech32>(rt, alloc, spelling, data, checksum);
+    } else {
+        row_of::<Bech32m>(rt, alloc, spelling, data, checksum);
+    }
+    1
 }
 
 #[test]
-fn appends_the_checksums_of_the_rows(rt: HostRuntime) -> Result<(), Fail> {
-    let alloc = rt.alloc();
+fn appends_the_checksums_of_the_rows(rt: HostRuntime) {
     let mut rows = 0u32;
     for row in checksum_rows::ROWS.split(|b| *b == b'\n') {
-        if row.is_empty() {
-            continue;
-        }
-        let mut fields = row.split(|b| *b == b'\t');
-        let is_bech32 = fields.next().ok_or("the checksum")? == b"Bech32".as_slice();
-        let spelling = fields.next().ok_or("the human-readable part")?;
-        let hrp = Hrp::parse(str::from_utf8(spelling)?)?;
-        let data = fields.next().ok_or("the elements")?;
-        let checksum = fields.next().ok_or("their checksum")?;
-
-        let fes = elements_of(alloc, data)?;
-        let mut all = fes.clone()?;
-        all.extend_from_slice(&elements_of(alloc, checksum)?)?;
-        let (given, text) = if is_bech32 {
-            (
-                checksummed::<Bech32>(alloc, hrp, &fes)?,
-                text_of::<Bech32>(alloc, &hrp, &fes)?,
-            )
-        } else {
-            (
-                checksummed::<Bech32m>(alloc, hrp, &fes)?,
-                text_of::<Bech32m>(alloc, &hrp, &fes)?,
-            )
-        };
-        same_items(&rt, &given, &all);
-
-        let mut spelled = spelling.to_vec(alloc)?;
-        spelled.push(b'1')?;
-        if data != b"-".as_slice() {
-            spelled.extend_from_slice(data)?;
-        }
-        spelled.extend_from_slice(checksum)?;
-        same_items(&rt, &text, &spelled);
-        rows = rows.saturating_add(1);
+        rows = rows.saturating_add(count_row(&rt, rt.alloc(), row));
     }
     same(&rt, &rows, &200);
-    Ok(())
 }

@@ -2,6 +2,8 @@
 #![tactic(auto)]
 
 #[cfg(test)]
+mod adaptors;
+#[cfg(test)]
 mod compare;
 #[cfg(test)]
 mod encode;

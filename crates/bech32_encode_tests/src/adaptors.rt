@@ -1,0 +1,168 @@
+//! Comparisons of what adaptors give, for any iterator of elements: proved once, and cheap to call.
+
+ghost use Rattle.std.specs.Iterator.{IsFinite};
+ghost use Rattle.bech32_encode.specs.Encoder.{encoder_elements};
+
+use crate::compare::{gives, hints};
+use bech32_checksum::Checksum;
+use bech32_encode::{Checksummed, Encoder};
+use bech32_gf::gf32::Fe32;
+use bech32_hrp::Hrp;
+use std::alloc::Global;
+use std::process::Abort;
+
+/// The bounds on how many more items come.
+pub type Hint = (usize, Option<usize>);
+
+/// Fails where the elements of an encoder are other ones.
+pub fn elements_are<I: Iterator<Item = Fe32>, Ck: Checksum>(
+    rt: &impl Abort,
+    alloc: Global,
+    encoder: Encoder<'_, I, Ck>,
+    want: &[Fe32],
+)
+    requires can { I.can_next (encoder_elements encoder) }
+    requires finite { IsFinite (I.remaining (encoder_elements encoder)) }
+{
+    gives(rt, alloc, encoder.fes(), want);
+}
+
+/// Fails where the characters of an encoder are other ones.
+pub fn characters_are<I: Iterator<Item = Fe32>, Ck: Checksum>(
+    rt: &impl Abort,
+    alloc: Global,
+    encoder: Encoder<'_, I, Ck>,
+    want: &[char],
+)
+    requires can { I.can_next (encoder_elements encoder) }
+    requires finite { IsFinite (I.remaining (encoder_elements encoder)) }
+{
+    gives(rt, alloc, encoder.chars(), want);
+}
+
+/// Fails where the bytes of an encoder are other ones.
+pub fn bytes_are<I: Iterator<Item = Fe32>, Ck: Checksum>(
+    rt: &impl Abort,
+    alloc: Global,
+    encoder: Encoder<'_, I, Ck>,
+    want: &[u8],
+)
+    requires can { I.can_next (encoder_elements encoder) }
+    requires finite { IsFinite (I.remaining (encoder_elements encoder)) }
+{
+    gives(rt, alloc, encoder.bytes(), want);
+}
+
+/// Fails where elements, with their checksum behind them, are other ones.
+pub fn checksummed_are<I: Iterator<Item = Fe32>, Ck: Checksum>(
+    rt: &impl Abort,
+    alloc: Global,
+    elements: I,
+    want: &[Fe32],
+)
+    requires can { I.can_next elements }
+    requires finite { IsFinite (I.remaining elements) }
+{
+    gives(rt, alloc, Checksummed::<I, Ck>::new(elements), want);
+}
+
+/// The same under a human-readable part.
+pub fn checksummed_under<I: Iterator<Item = Fe32>, Ck: Checksum>(
+    rt: &impl Abort,
+    alloc: Global,
+    hrp: Hrp,
+    elements: I,
+    want: &[Fe32],
+)
+    requires can { I.can_next elements }
+    requires finite { IsFinite (I.remaining elements) }
+{
+    gives(
+        rt,
+        alloc,
+        Checksummed::<I, Ck>::new_hrp(hrp, elements),
+        want,
+    );
+}
+
+/// Fails where the bounds on the elements of an encoder are other ones, or the first of them.
+pub fn elements_begin<I: Iterator<Item = Fe32> + Drop, Ck: Checksum>(
+    rt: &impl Abort,
+    alloc: Global,
+    encoder: Encoder<'_, I, Ck>,
+    hint: Hint,
+    want: &[Fe32],
+)
+    requires can { I.can_next (encoder_elements encoder) }
+{
+    let fes = encoder.fes();
+    hints(rt, &fes, hint);
+    gives(rt, alloc, fes.take(want.len()), want);
+}
+
+/// Fails where the bounds on the characters of an encoder are other ones, or the first of them.
+pub fn characters_begin<I: Iterator<Item = Fe32> + Drop, Ck: Checksum>(
+    rt: &impl Abort,
+    alloc: Global,
+    encoder: Encoder<'_, I, Ck>,
+    hint: Hint,
+    want: &[char],
+)
+    requires can { I.can_next (encoder_elements encoder) }
+{
+    let chars = encoder.chars();
+    hints(rt, &chars, hint);
+    gives(rt, alloc, chars.take(want.len()), want);
+}
+
+/// Fails where the bounds on elements with their checksum behind them are other ones, or the first
+/// of them.
+pub fn checksummed_begin<I: Iterator<Item = Fe32> + Drop, Ck: Checksum>(
+    rt: &impl Abort,
+    alloc: Global,
+    elements: I,
+    hint: Hint,
+    want: &[Fe32],
+)
+    requires can { I.can_next elements }
+{
+    let fes = Checksummed::<I, Ck>::new(elements);
+    hints(rt, &fes, hint);
+    gives(rt, alloc, fes.take(want.len()), want);
+}
+
+/// Fails where the bounds on the elements of an encoder are other ones.
+pub fn hint_of_elements<I: Iterator<Item = Fe32> + Drop, Ck: Checksum>(
+    rt: &impl Abort,
+    encoder: Encoder<'_, I, Ck>,
+    hint: Hint,
+) {
+    hints(rt, &encoder.fes(), hint);
+}
+
+/// Fails where the bounds on the characters of an encoder are other ones.
+pub fn hint_of_characters<I: Iterator<Item = Fe32> + Drop, Ck: Checksum>(
+    rt: &impl Abort,
+    encoder: Encoder<'_, I, Ck>,
+    hint: Hint,
+) {
+    hints(rt, &encoder.chars(), hint);
+}
+
+/// Fails where the bounds on the bytes of an encoder are other ones.
+pub fn hint_of_bytes<I: Iterator<Item = Fe32> + Drop, Ck: Checksum>(
+    rt: &impl Abort,
+    encoder: Encoder<'_, I, Ck>,
+    hint: Hint,
+) {
+    hints(rt, &encoder.bytes(), hint);
+}
+
+/// Fails where the bounds on elements with their checksum behind them are other ones.
+pub fn hint_of_checksummed<I: Iterator<Item = Fe32> + Drop, Ck: Checksum>(
+    rt: &impl Abort,
+    elements: I,
+    hint: Hint,
+) {
+    hints(rt, &Checksummed::<I, Ck>::new(elements), hint);
+}
