@@ -6,8 +6,8 @@ use bech32_decode::{
     SegwitHrpstringError, UncheckedHrpstring, UncheckedHrpstringError,
 };
 use bech32_gf::gf32::Fe32;
-use std::alloc::{AllocError, Global};
-use std::test::Fail;
+use std::alloc::Global;
+use std::process::Abort;
 
 // An address of BIP-173's time.
 const ADDRESS: &str = "bc1qar0srrr7xfkvy5l643lydnw9re59gtzzwf5mdq";
@@ -54,60 +54,70 @@ const ADDRESSES: [(&str, &str, Fe32, &str, bool); 6] = [
 ];
 
 // The bytes of a program in hexadecimal.
-fn hexadecimal(alloc: Global, bytes: ByteIter<'_>) -> Result<String, AllocError> {
+fn hexadecimal(rt: &impl Abort, alloc: Global, bytes: ByteIter<'_>) -> String {
     let mut text = String::new(alloc);
     for byte in bytes {
-        text.push_str(format!(in alloc; "{byte:02x}")?.as_str())?;
+        let digits = format!(in alloc; "{byte:02x}").expect(rt, "memory");
+        text.push_str(&digits).expect(rt, "memory");
     }
-    Ok(text)
+    text
+}
+
+// Fails where an address is read otherwise.
+fn reads(rt: &impl Abort, alloc: Global, row: (&str, &str, Fe32, &str, bool)) {
+    let (text, part, version, program, has_valid_hrp) = row;
+    let address = SegwitHrpstring::new(text).expect(rt, "an address");
+    same(rt, &address.hrp().as_str(), &part);
+    let found = (address.witness_version(), address.has_valid_hrp());
+    same(rt, &found, &(version, has_valid_hrp));
+    let bytes = hexadecimal(rt, alloc, address.byte_iter());
+    same(rt, &bytes.as_str(), &program);
 }
 
 #[test]
-fn reads_known_addresses(rt: HostRuntime) -> Result<(), Fail> {
-    for (text, part, version, program, has_valid_hrp) in ADDRESSES {
-        let address = SegwitHrpstring::new(text)?;
-        same(&rt, &address.hrp().as_str(), &part);
-        let found = (address.witness_version(), address.has_valid_hrp());
-        same(&rt, &found, &(version, has_valid_hrp));
-        let bytes = hexadecimal(rt.alloc(), address.byte_iter())?;
-        same(&rt, &bytes.as_str(), &program);
+fn reads_known_addresses(rt: HostRuntime) {
+    for row in ADDRESSES {
+        reads(&rt, rt.alloc(), row);
     }
-    let address = SegwitHrpstring::new(ADDRESS)?;
+    let address = SegwitHrpstring::new(ADDRESS).expect(&rt, "an address");
     let program = b"ar0srrr7xfkvy5l643lydnw9re59gtzz".as_slice();
-    same_items(
-        &rt,
-        address.data_part_ascii_no_witver_no_checksum(),
-        program,
-    );
-    Ok(())
+    let found = address.data_part_ascii_no_witver_no_checksum();
+    same_items(&rt, found, program);
 }
 
 // The refusal of a text whose remainder is wrong.
-fn wrong_residue<Ck: Checksum>(text: &str) -> Result<SegwitHrpstringError, Fail> {
-    let refusal = UncheckedHrpstring::new(text)?
-        .validate_checksum::<Ck>()
-        .err();
-    match refusal {
-        Some(ChecksumError::InvalidResidue(e)) => Ok(ChecksumError::InvalidResidue(e).into()),
-        _ => Err("its remainder is right".into()),
+fn wrong_residue<Ck: Checksum>(rt: &impl Abort, text: &str) -> SegwitHrpstringError {
+    let unchecked = UncheckedHrpstring::new(text).expect(rt, "a text");
+    match unchecked.validate_checksum::<Ck>() {
+        Err(ChecksumError::InvalidResidue(e)) => ChecksumError::InvalidResidue(e).into(),
+        _ => panic!(rt; "its remainder is right"),
     }
 }
 
-#[test]
-fn refuses_texts_in_order(rt: HostRuntime) -> Result<(), Fail> {
+// Fails where a text is read as an address, or refused otherwise.
+fn refuses(rt: &impl Abort, text: &str, error: SegwitHrpstringError) {
+    let refusal = SegwitHrpstring::new(text).err();
+    same(rt, &(text, refusal), &(text, Some(error)));
+}
+
+// Fails where a text with a wrong remainder is refused otherwise.
+fn refuses_wrong_remainders(rt: &impl Abort) {
     for text in [
         "a12uel5l",
         "bc1p0xlxvlhemja6c4dqv22uapctqupfhlxm9h8z3k2e72q4k9hcz7vqh2y7hd",
         "BC1S0XLXVLHEMJA6C4DQV22UAPCTQUPFHLXM9H8Z3K2E72Q4K9HCZ7VQ54WELL",
         "bc1gmk9yu",
     ] {
-        let refusal = SegwitHrpstring::new(text).err();
-        let error = wrong_residue::<Bech32m>(text)?;
-        same(&rt, &(text, refusal), &(text, Some(error)));
+        refuses(rt, text, wrong_residue::<Bech32m>(rt, text));
     }
     let of_version_0 = "bc1qw508d6qejxtdg4y5r3zarvary0c5xw7kemeawh";
-    let refusal = SegwitHrpstring::new(of_version_0).err();
-    same(&rt, &refusal, &Some(wrong_residue::<Bech32>(of_version_0)?));
+    let error = wrong_residue::<Bech32>(rt, of_version_0);
+    refuses(rt, of_version_0, error);
+}
+
+#[test]
+fn refuses_texts_in_order(rt: HostRuntime) {
+    refuses_wrong_remainders(&rt);
     for (text, error) in [
         (
             "a1lqfn3a",
@@ -152,24 +162,30 @@ fn refuses_texts_in_order(rt: HostRuntime) -> Result<(), Fail> {
             PaddingError::NonZero.into(),
         ),
     ] {
-        let refusal = SegwitHrpstring::new(text).err();
-        same(&rt, &(text, refusal), &(text, Some(error)));
+        refuses(&rt, text, error);
     }
-    Ok(())
+}
+
+// Fails where a text is read as an address by Bech32, or refused otherwise.
+fn refuses_by_bech32(rt: &impl Abort, text: &str, error: SegwitHrpstringError) {
+    let refusal = SegwitHrpstring::new_bech32(text).err();
+    same(rt, &(text, refusal), &(text, Some(error)));
+}
+
+// Fails where an address of version 1 by Bech32 is not read.
+fn reads_by_bech32(rt: &impl Abort) {
+    let text = "bc1pw508d6qejxtdg4y5r3zarvary0c5xw7kw508d6qejxtdg4y5r3zarvary0c5xw7k7grplx";
+    let address = SegwitHrpstring::new_bech32(text).expect(rt, "an address");
+    let found = (address.witness_version(), address.byte_iter().len());
+    same(rt, &found, &(Fe32::P, 40));
 }
 
 #[test]
-fn refuses_texts_by_bech32_in_order(rt: HostRuntime) -> Result<(), Fail> {
-    let text = "bc1pw508d6qejxtdg4y5r3zarvary0c5xw7kw508d6qejxtdg4y5r3zarvary0c5xw7k7grplx";
-    let address = SegwitHrpstring::new_bech32(text)?;
-    let found = (address.witness_version(), address.byte_iter().len());
-    same(&rt, &found, &(Fe32::P, 40));
-    let refusal = SegwitHrpstring::new_bech32("BC1SW50QGDZ25J").err();
-    same(
-        &rt,
-        &refusal,
-        &Some(wrong_residue::<Bech32>("BC1SW50QGDZ25J")?),
-    );
+fn refuses_texts_by_bech32_in_order(rt: HostRuntime) {
+    reads_by_bech32(&rt);
+    let of_bech32m = "BC1SW50QGDZ25J";
+    let error = wrong_residue::<Bech32>(&rt, of_bech32m);
+    refuses_by_bech32(&rt, of_bech32m, error);
     for (text, error) in [
         ("a12uel5l", SegwitHrpstringError::NoData),
         ("a1", SegwitHrpstringError::NoData),
@@ -186,37 +202,45 @@ fn refuses_texts_by_bech32_in_order(rt: HostRuntime) -> Result<(), Fail> {
             WitnessLengthError::InvalidSegwitV0.into(),
         ),
     ] {
-        let refusal = SegwitHrpstring::new_bech32(text).err();
-        same(&rt, &(text, refusal), &(text, Some(error)));
+        refuses_by_bech32(&rt, text, error);
     }
-    Ok(())
 }
 
-// Why the rules of addresses refuse a text that a checksum accepts.
-fn rules_refusal<Ck: Checksum>(text: &str) -> Result<Option<SegwitHrpstringError>, Fail> {
-    Ok(CheckedHrpstring::new::<Ck>(text)?.validate_segwit().err())
+// Fails where the rules of addresses accept a text that a checksum accepts, or refuse it otherwise.
+fn refuses_by_rules<Ck: Checksum>(rt: &impl Abort, text: &str, error: SegwitHrpstringError) {
+    let checked = CheckedHrpstring::new::<Ck>(text).expect(rt, "a text");
+    same(rt, &checked.validate_segwit().err(), &Some(error));
 }
 
 #[test]
-fn tests_the_rules_of_addresses(rt: HostRuntime) -> Result<(), Fail> {
+fn tests_the_rules_of_addresses(rt: HostRuntime) {
     let version = SegwitHrpstringError::InvalidWitnessVersion(Fe32::_3);
-    let refusal = rules_refusal::<Bech32m>("a13qqqq9qz88s")?;
-    same(&rt, &refusal, &Some(version));
+    refuses_by_rules::<Bech32m>(&rt, "a13qqqq9qz88s", version);
     let long =
         "a13qqqqqqqqqqqqqqqqqqqqqqqqqqqqqqqqqqqqqqqqqqqqqqqqqqqqqqqqqqqqqqqqqqqqqqqqqqqqqqqqqqqqqqqqqqqqqqqqqqqqk8ljg5";
-    for (text, error) in [
-        ("a12uel5l", SegwitHrpstringError::NoData),
-        (long, SegwitHrpstringError::TooLong(109)),
-    ] {
-        same(&rt, &rules_refusal::<Bech32>(text)?, &Some(error));
-    }
-    let address = CheckedHrpstring::new::<Bech32>(ADDRESS)?.validate_segwit()?;
+    refuses_by_rules::<Bech32>(&rt, "a12uel5l", SegwitHrpstringError::NoData);
+    refuses_by_rules::<Bech32>(&rt, long, SegwitHrpstringError::TooLong(109));
+    let checked = CheckedHrpstring::new::<Bech32>(ADDRESS).expect(&rt, "a text");
+    let address = checked.validate_segwit().expect(&rt, "an address");
     same(&rt, &address.witness_version(), &Fe32::Q);
-    Ok(())
+}
+
+// Fails where the test of padding answers otherwise of a text by Bech32m.
+fn tests_padding(rt: &impl Abort, text: &str, padding: Option<PaddingError>) {
+    let checked = CheckedHrpstring::new::<Bech32m>(text).expect(rt, "a text");
+    let refusal = checked.validate_segwit_padding().err();
+    same(rt, &(text, refusal), &(text, padding));
+}
+
+// Fails where the test of a program's length answers otherwise of a text by Bech32m.
+fn tests_length(rt: &impl Abort, text: &str, version: Fe32, error: Option<WitnessLengthError>) {
+    let checked = CheckedHrpstring::new::<Bech32m>(text).expect(rt, "a text");
+    let refusal = checked.validate_witness_program_length(version).err();
+    same(rt, &(text, refusal), &(text, error));
 }
 
 #[test]
-fn tests_padding_and_length(rt: HostRuntime) -> Result<(), Fail> {
+fn tests_padding_and_length(rt: HostRuntime) {
     let too_much = Some(PaddingError::TooMuch);
     let non_zero = Some(PaddingError::NonZero);
     for (text, padding) in [
@@ -235,20 +259,11 @@ fn tests_padding_and_length(rt: HostRuntime) -> Result<(), Fail> {
         ("a1ggggggguzulx0", None),
         ("a1llllllllm6su8m", None),
     ] {
-        let checked = CheckedHrpstring::new::<Bech32m>(text)?;
-        let refusal = checked.validate_segwit_padding().err();
-        same(&rt, &(text, refusal), &(text, padding));
+        tests_padding(&rt, text, padding);
     }
     let invalid = Some(WitnessLengthError::InvalidSegwitV0);
     let too_short = Some(WitnessLengthError::TooShort);
-    for (text, version, error) in [
-        ("a1qqqq726jfk", Fe32::Q, invalid),
-        ("a1qqqq726jfk", Fe32::P, None),
-        ("a1qqqcmw5yr", Fe32::P, too_short),
-    ] {
-        let checked = CheckedHrpstring::new::<Bech32m>(text)?;
-        let refusal = checked.validate_witness_program_length(version).err();
-        same(&rt, &(text, refusal), &(text, error));
-    }
-    Ok(())
+    tests_length(&rt, "a1qqqq726jfk", Fe32::Q, invalid);
+    tests_length(&rt, "a1qqqq726jfk", Fe32::P, None);
+    tests_length(&rt, "a1qqqcmw5yr", Fe32::P, too_short);
 }

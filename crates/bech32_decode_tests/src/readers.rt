@@ -6,7 +6,8 @@ use bech32_decode::{
 };
 use bech32_gf::gf32::Fe32;
 use bech32_hrp as hrp;
-use std::test::Fail;
+use std::alloc::{AllocError, Global};
+use std::process::Abort;
 
 // An address of BIP-173's time, and its program.
 const ADDRESS: &str = "bc1qar0srrr7xfkvy5l643lydnw9re59gtzzwf5mdq";
@@ -16,8 +17,31 @@ const PROGRAM: [u8; 20] = [
     0x68, 0x54, 0x2c, 0x42,
 ];
 
+// A text that is read; fails where it is not.
+fn read<'a>(rt: &impl Abort, text: &'a str) -> UncheckedHrpstring<'a> {
+    UncheckedHrpstring::new(text).expect(rt, "a text")
+}
+
+// A text that a checksum accepts; fails where it does not.
+fn accepted<'a, Ck: Checksum>(rt: &impl Abort, text: &'a str) -> CheckedHrpstring<'a> {
+    CheckedHrpstring::new::<Ck>(text).expect(rt, "an accepted text")
+}
+
+// Fails where a text is read, or refused otherwise.
+fn refuses(rt: &impl Abort, text: &str, error: UncheckedHrpstringError) {
+    let refusal = UncheckedHrpstring::new(text).err();
+    same(rt, &(text, refusal), &(text, Some(error)));
+}
+
+// So many letters, with a text behind them.
+fn letters(rt: &impl Abort, alloc: Global, count: usize, behind: &str) -> String {
+    let mut text = "a".repeat(alloc, count).expect(rt, "memory");
+    text.push_str(behind).expect(rt, "memory");
+    text
+}
+
 #[test]
-fn refuses_characters_in_order(rt: HostRuntime) -> Result<(), Fail> {
+fn refuses_characters_in_order(rt: HostRuntime) {
     for (text, error) in [
         ("abcdef", CharError::InvalidChar('b')),
         ("qpzry", CharError::MissingSeparator),
@@ -29,11 +53,9 @@ fn refuses_characters_in_order(rt: HostRuntime) -> Result<(), Fail> {
         ("A1q", CharError::MixedCase),
         ("a1qqqqqb", CharError::InvalidChar('b')),
     ] {
-        let refusal = UncheckedHrpstring::new(text).err();
-        let error = UncheckedHrpstringError::Char(error);
-        same(&rt, &(text, refusal), &(text, Some(error)));
+        refuses(&rt, text, UncheckedHrpstringError::Char(error));
     }
-    let long = format!(in rt.alloc(); "{}1", "a".repeat(rt.alloc(), 84)?)?;
+    let long = letters(&rt, rt.alloc(), 84, "1");
     for (text, error) in [
         ("1qqqqqq", hrp::Error::Empty),
         ("1", hrp::Error::Empty),
@@ -42,54 +64,49 @@ fn refuses_characters_in_order(rt: HostRuntime) -> Result<(), Fail> {
         ("a\x7f1q", hrp::Error::InvalidAsciiByte(0x7f)),
         (long.as_str(), hrp::Error::TooLong(84)),
     ] {
-        let refusal = UncheckedHrpstring::new(text).err();
-        let error = UncheckedHrpstringError::Hrp(error);
-        same(&rt, &(text, refusal), &(text, Some(error)));
+        refuses(&rt, text, UncheckedHrpstringError::Hrp(error));
     }
-    Ok(())
+}
+
+// Fails where the parts of a text are others.
+fn has_parts(rt: &impl Abort, text: &str, part: &str, data_part: &str) {
+    let unchecked = read(rt, text);
+    same(rt, &unchecked.hrp().as_str(), &part);
+    same_items(rt, unchecked.data_part_ascii(), data_part.as_bytes());
 }
 
 #[test]
-fn reads_parts(rt: HostRuntime) -> Result<(), Fail> {
-    let long = "a".repeat(rt.alloc(), 83)?;
-    let long_text = format!(in rt.alloc(); "{long}1")?;
-    for (text, part, data_part) in [
-        ("a1", "a", ""),
-        ("11qqqqqq", "1", "qqqqqq"),
-        ("A1QPZR", "A", "QPZR"),
-        (long_text.as_str(), long.as_str(), ""),
-    ] {
-        let unchecked = UncheckedHrpstring::new(text)?;
-        same(&rt, &unchecked.hrp().as_str(), &part);
-        same_items(&rt, unchecked.data_part_ascii(), data_part.as_bytes());
-    }
-    Ok(())
+fn reads_parts(rt: HostRuntime) {
+    has_parts(&rt, "a1", "a", "");
+    has_parts(&rt, "11qqqqqq", "1", "qqqqqq");
+    has_parts(&rt, "A1QPZR", "A", "QPZR");
+    let long = letters(&rt, rt.alloc(), 83, "");
+    let long_text = letters(&rt, rt.alloc(), 83, "1");
+    has_parts(&rt, &long_text, &long, "");
+}
+
+// Fails where the version of a text is another, or something else stands behind it.
+fn takes_off(rt: &impl Abort, text: &str, version: Option<Fe32>, rest: &str) {
+    let mut unchecked = read(rt, text);
+    let hrp = unchecked.hrp();
+    let found = (
+        unchecked.witness_version(),
+        unchecked.remove_witness_version(),
+    );
+    same(rt, &found, &(version, version));
+    same_items(rt, unchecked.data_part_ascii(), rest.as_bytes());
+    same(rt, &unchecked.hrp(), &hrp);
 }
 
 #[test]
-fn takes_versions_off(rt: HostRuntime) -> Result<(), Fail> {
-    for (text, version, rest) in [
-        (
-            ADDRESS,
-            Some(Fe32::Q),
-            "ar0srrr7xfkvy5l643lydnw9re59gtzzwf5mdq",
-        ),
-        ("a1sq", Some(Fe32::S), "q"),
-        ("a13qq", None, "3qq"),
-        ("a1lqq", None, "lqq"),
-        ("a1", None, ""),
-    ] {
-        let mut unchecked = UncheckedHrpstring::new(text)?;
-        let hrp = unchecked.hrp();
-        let found = (
-            unchecked.witness_version(),
-            unchecked.remove_witness_version(),
-        );
-        same(&rt, &found, &(version, version));
-        same_items(&rt, unchecked.data_part_ascii(), rest.as_bytes());
-        same(&rt, &unchecked.hrp(), &hrp);
-    }
-    let mut checked = CheckedHrpstring::new::<Bech32>(ADDRESS)?;
+fn takes_versions_off(rt: HostRuntime) {
+    let rest = "ar0srrr7xfkvy5l643lydnw9re59gtzzwf5mdq";
+    takes_off(&rt, ADDRESS, Some(Fe32::Q), rest);
+    takes_off(&rt, "a1sq", Some(Fe32::S), "q");
+    takes_off(&rt, "a13qq", None, "3qq");
+    takes_off(&rt, "a1lqq", None, "lqq");
+    takes_off(&rt, "a1", None, "");
+    let mut checked = accepted::<Bech32>(&rt, ADDRESS);
     let found = (
         checked.witness_version(),
         checked.remove_witness_version(),
@@ -98,13 +115,13 @@ fn takes_versions_off(rt: HostRuntime) -> Result<(), Fail> {
     same(&rt, &found, &(Some(Fe32::Q), Some(Fe32::Q), None));
     let rest = checked.data_part_ascii_no_checksum();
     same_items(&rt, rest, b"ar0srrr7xfkvy5l643lydnw9re59gtzz".as_slice());
-    Ok(())
 }
 
 #[test]
-fn tests_the_length_of_the_whole_text(rt: HostRuntime) -> Result<(), Fail> {
-    let text = format!(in rt.alloc(); "a1{}", "q".repeat(rt.alloc(), 1022)?)?;
-    let mut unchecked = UncheckedHrpstring::new(text.as_str())?;
+fn tests_the_length_of_the_whole_text(rt: HostRuntime) {
+    let elements = "q".repeat(rt.alloc(), 1022).expect(&rt, "memory");
+    let text = format!(in rt.alloc(); "a1{elements}").expect(&rt, "memory");
+    let mut unchecked = read(&rt, &text);
     same(&rt, &unchecked.remove_witness_version(), &Some(Fe32::Q));
     let too_long = ChecksumError::CodeLength(CodeLengthError {
         encoded_length: 1024,
@@ -112,93 +129,83 @@ fn tests_the_length_of_the_whole_text(rt: HostRuntime) -> Result<(), Fail> {
     });
     let refusal = unchecked.validate_checksum::<Bech32>().err();
     same(&rt, &refusal, &Some(too_long));
-    let refusal = CheckedHrpstring::new::<Bech32>(text.as_str()).err();
-    same(
-        &rt,
-        &refusal,
-        &Some(CheckedHrpstringError::Checksum(too_long)),
-    );
-    Ok(())
+    let refusal = CheckedHrpstring::new::<Bech32>(&text).err();
+    let too_long = CheckedHrpstringError::Checksum(too_long);
+    same(&rt, &refusal, &Some(too_long));
 }
 
 #[test]
-fn takes_checksums_off(rt: HostRuntime) -> Result<(), Fail> {
-    let unchecked = UncheckedHrpstring::new(ADDRESS)?;
+fn takes_checksums_off(rt: HostRuntime) {
+    let unchecked = read(&rt, ADDRESS);
     let valid = (
         unchecked.has_valid_checksum::<Bech32>(),
         unchecked.has_valid_checksum::<Bech32m>(),
     );
     same(&rt, &valid, &(true, false));
     let without = b"qar0srrr7xfkvy5l643lydnw9re59gtzz".as_slice();
-    let checked = unchecked.validate_and_remove_checksum::<Bech32>()?;
+    let checked = unchecked.validate_and_remove_checksum::<Bech32>();
+    let checked = checked.expect(&rt, "an accepted text");
     same_items(&rt, checked.data_part_ascii_no_checksum(), without);
     same(&rt, &checked.hrp().as_str(), &"bc");
     let refused = unchecked.validate_and_remove_checksum::<Bech32m>().err();
-    same(&rt, &refused, &Some(refusal::<Bech32m>(ADDRESS)?));
-    let short = refusal::<Bech32>("a1qpzr")?;
+    same(&rt, &refused, &Some(refusal::<Bech32m>(&rt, ADDRESS)));
+    let short = refusal::<Bech32>(&rt, "a1qpzr");
     same(&rt, &short, &ChecksumError::InvalidLength);
-    Ok(())
 }
 
 // Why a checksum refuses a text.
-fn refusal<Ck: Checksum>(text: &str) -> Result<ChecksumError, Fail> {
-    let refusal = UncheckedHrpstring::new(text)?
-        .validate_checksum::<Ck>()
-        .err();
-    Ok(refusal.ok_or("it is accepted")?)
+fn refusal<Ck: Checksum>(rt: &impl Abort, text: &str) -> ChecksumError {
+    let refusal = read(rt, text).validate_checksum::<Ck>().err();
+    refusal.expect(rt, "it is refused")
 }
 
 #[test]
-fn tells_residue_errors_apart(rt: HostRuntime) -> Result<(), Fail> {
+fn tells_residue_errors_apart(rt: HostRuntime) {
     // The first two leave the remainder zero; the third leaves it against another target, the fourth
     // leaves another against the same target.
-    let zero = refusal::<Bech32m>("a12uel57")?;
-    let equal = (
-        refusal::<Bech32m>("A12UEL57")? == zero,
-        refusal::<Bech32>("a12uel57")? == zero,
-        refusal::<Bech32m>("a12uel5q")? == zero,
-    );
-    same(&rt, &equal, &(true, false, false));
-    Ok(())
+    let zero = refusal::<Bech32m>(&rt, "a12uel57");
+    let equal = [
+        refusal::<Bech32m>(&rt, "A12UEL57") == zero,
+        refusal::<Bech32>(&rt, "a12uel57") == zero,
+        refusal::<Bech32m>(&rt, "a12uel5q") == zero,
+    ];
+    same(&rt, &equal, &[true, false, false]);
 }
 
 #[test]
-fn takes_untested_checksums_off(rt: HostRuntime) -> Result<(), Fail> {
-    let unchecked = UncheckedHrpstring::new("a1qpzryyy")?;
+fn takes_untested_checksums_off(rt: HostRuntime) {
+    let unchecked = read(&rt, "a1qpzryyy");
     same(&rt, &unchecked.has_valid_checksum::<Bech32m>(), &false);
     assert!(rt; 6 <= unchecked.data_part_ascii().len());
     let checked = unchecked.remove_checksum::<Bech32m>();
     same_items(&rt, checked.data_part_ascii_no_checksum(), b"q".as_slice());
-    Ok(())
 }
 
 #[test]
-fn accepts_by_grammar_and_length_at_degree_0(rt: HostRuntime) -> Result<(), Fail> {
+fn accepts_by_grammar_and_length_at_degree_0(rt: HostRuntime) {
     for (text, data_part) in [("a1", ""), ("a1qpz", "qpz")] {
-        let checked = CheckedHrpstring::new::<NoChecksum>(text)?;
+        let checked = accepted::<NoChecksum>(&rt, text);
         let found = checked.data_part_ascii_no_checksum();
         same_items(&rt, found, data_part.as_bytes());
     }
     let refusal = CheckedHrpstring::new::<NoChecksum>("a1b").err();
     let error = UncheckedHrpstringError::Char(CharError::InvalidChar('b'));
     same(&rt, &refusal, &Some(CheckedHrpstringError::Parse(error)));
-    Ok(())
 }
 
 #[test]
-fn reads_elements_and_bytes(rt: HostRuntime) -> Result<(), Fail> {
-    let mut checked = CheckedHrpstring::new::<Bech32>(ADDRESS)?;
+fn reads_elements_and_bytes(rt: HostRuntime) {
+    let mut checked = accepted::<Bech32>(&rt, ADDRESS);
     let counts = (checked.fe32_iter().len(), checked.byte_iter().len());
     same(&rt, &counts, &(33, 20));
     checked.remove_witness_version();
-    let bytes: Vec<u8> = checked.byte_iter().collect(rt.alloc())?;
-    same_items(&rt, bytes.as_slice(), PROGRAM.as_slice());
-    Ok(())
+    let bytes: Result<Vec<u8>, AllocError> = checked.byte_iter().collect(rt.alloc());
+    same_items(&rt, &bytes.expect(&rt, "memory"), &PROGRAM);
 }
 
 #[test]
-fn counts_elements_to_come(rt: HostRuntime) -> Result<(), Fail> {
-    let checked = CheckedHrpstring::new::<Bech32>("a1qpzre5gzdl")?;
+fn counts_elements_to_come(rt: HostRuntime) {
+    let checked = accepted::<Bech32>(&rt, "a1qpzre5gzdl");
     let mut elements = checked.fe32_iter();
     for (element, left) in [
         (Some(Fe32::Q), 3),
@@ -211,17 +218,15 @@ fn counts_elements_to_come(rt: HostRuntime) -> Result<(), Fail> {
         let found = (elements.next(), elements.len(), elements.size_hint());
         same(&rt, &found, &(element, left, (left, Some(left))));
     }
-    Ok(())
 }
 
 #[test]
-fn counts_bytes_to_come(rt: HostRuntime) -> Result<(), Fail> {
-    let checked = CheckedHrpstring::new::<Bech32>("a1qpzre5gzdl")?;
+fn counts_bytes_to_come(rt: HostRuntime) {
+    let checked = accepted::<Bech32>(&rt, "a1qpzre5gzdl");
     let mut bytes = checked.byte_iter();
     same(&rt, &bytes.size_hint(), &(2, Some(2)));
     for (byte, left) in [(Some(0x00), 1), (Some(0x44), 0), (None, 0), (None, 0)] {
         let found = (bytes.next(), bytes.len(), bytes.size_hint());
         same(&rt, &found, &(byte, left, (left, Some(left))));
     }
-    Ok(())
 }
