@@ -2,30 +2,35 @@
 
 use crate::compare::same_items;
 use bech32::{CorrectableError, decode, segwit};
-use std::test::Fail;
+use std::alloc::Global;
+use std::process::Abort;
 
 // Whether an error carries a residue.
 fn carries(error: &impl CorrectableError) -> bool {
     error.residue_error().is_some()
 }
 
+// Whether the error of a text that is no address carries a residue.
+fn carries_of_address(rt: &impl Abort, alloc: Global, text: &str) -> bool {
+    let error = segwit::decode(alloc, text).err();
+    carries(&error.expect(rt, "it is refused"))
+}
+
+// Whether the error of a text that is not read carries a residue.
+fn carries_of_text(rt: &impl Abort, alloc: Global, text: &str) -> bool {
+    let error = decode(alloc, text).err();
+    carries(&error.expect(rt, "it is refused"))
+}
+
 #[test]
-fn errors_that_carry_residues(rt: HostRuntime) -> Result<(), Fail> {
+fn errors_that_carry_residues(rt: HostRuntime) {
     let alloc = rt.alloc();
-    let wrong = decode(alloc, "a12uel5q").err().ok_or("accepted")?;
-    let unread = decode(alloc, "a").err().ok_or("accepted")?;
     let mistyped = "bc1q9r0srrr7xfkvy5l64qlydnw9re59gtzzwf5mdx";
-    let wrong_address = segwit::decode(alloc, mistyped).err().ok_or("accepted")?;
-    let no_data = segwit::decode(alloc, "bc1").err().ok_or("accepted")?;
-    same_items(
-        &rt,
-        &[
-            carries(&wrong),
-            carries(&unread),
-            carries(&wrong_address),
-            carries(&no_data),
-        ],
-        &[true, false, true, false],
-    );
-    Ok(())
+    let found = [
+        carries_of_text(&rt, alloc, "a12uel5q"),
+        carries_of_text(&rt, alloc, "a"),
+        carries_of_address(&rt, alloc, mistyped),
+        carries_of_address(&rt, alloc, "bc1"),
+    ];
+    same_items(&rt, &found, &[true, false, true, false]);
 }

@@ -1,4 +1,4 @@
-//! Tests of `bech32`.
+//! Tests of `bech32`, of its writers, of `bech32_segwit`, and of `bech32_plain` beside it.
 #![tactic(auto)]
 
 #[cfg(test)]
@@ -10,4 +10,10 @@ mod messages;
 #[cfg(test)]
 pub mod paths;
 #[cfg(test)]
+mod plain;
+#[cfg(test)]
 mod root;
+#[cfg(test)]
+mod segwit;
+#[cfg(test)]
+mod writers;

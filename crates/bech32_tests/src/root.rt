@@ -9,8 +9,8 @@ use bech32::{
     encode, encode_in, encoded_length,
 };
 use linked_list_allocator::LocalHeap;
-use std::alloc::Global;
-use std::test::Fail;
+use std::alloc::{AllocError, Allocator, Global};
+use std::process::Abort;
 
 // The 20 bytes of a known text.
 const PROGRAM: [u8; 20] = [
@@ -27,13 +27,19 @@ const TEXT_BY_BECH32M: &str = "test1lu08d6qejxtdg4y5r3zarvary0c5xw7kmz4lky";
 const MOST: [u8; 634] = [0xa5; 634];
 
 // The text of a part and bytes by a checksum.
-fn encoded<Ck: Checksum>(alloc: Global, part: &str, data: &[u8]) -> Result<String, Fail> {
-    let hrp = Hrp::parse(part)?;
-    Ok(encode::<Ck>(alloc, hrp, data)?)
+fn encoded<Ck: Checksum>(rt: &impl Abort, alloc: Global, part: &str, data: &[u8]) -> String {
+    let hrp = Hrp::parse(part).expect(rt, "a human-readable part");
+    encode::<Ck>(alloc, hrp, data).expect(rt, "a text")
+}
+
+// Fails where that text is another.
+fn encodes<Ck: Checksum>(rt: &impl Abort, alloc: Global, part: &str, data: &[u8], want: &str) {
+    let text = encoded::<Ck>(rt, alloc, part, data);
+    same(rt, &text.as_str(), &want);
 }
 
 #[test]
-fn encodes_known_texts(rt: HostRuntime) -> Result<(), Fail> {
+fn encodes_known_texts(rt: HostRuntime) {
     let alloc = rt.alloc();
     for (part, data, bech32, bech32m) in [
         (
@@ -46,16 +52,23 @@ fn encodes_known_texts(rt: HostRuntime) -> Result<(), Fail> {
         ("a", [].as_slice(), "a12uel5l", "a1lqfn3a"),
         ("A", [].as_slice(), "a12uel5l", "a1lqfn3a"),
     ] {
-        let text = encoded::<Bech32>(alloc, part, data)?;
-        same(&rt, &text.as_str(), &bech32);
-        let text = encoded::<Bech32m>(alloc, part, data)?;
-        same(&rt, &text.as_str(), &bech32m);
+        encodes::<Bech32>(&rt, alloc, part, data, bech32);
+        encodes::<Bech32m>(&rt, alloc, part, data, bech32m);
     }
-    Ok(())
+}
+
+// Fails where a text is decoded otherwise.
+fn decodes(rt: &impl Abort, alloc: Global, text: &str, part: &str, data: &[u8]) {
+    let (hrp, bytes) = decode(alloc, text).expect(rt, "a text");
+    let lower = part.to_lowercase(alloc).expect(rt, "memory");
+    let lower = Hrp::parse(&lower).expect(rt, "a human-readable part");
+    same(rt, &(hrp.as_str(), hrp), &(part, lower));
+    same_items(rt, &bytes, data);
 }
 
 #[test]
-fn decodes_known_texts(rt: HostRuntime) -> Result<(), Fail> {
+fn decodes_known_texts(rt: HostRuntime) {
+    let alloc = rt.alloc();
     for (text, part, data) in [
         ("a12uel5l", "a", [].as_slice()),
         ("a1lqfn3a", "a", [].as_slice()),
@@ -68,35 +81,48 @@ fn decodes_known_texts(rt: HostRuntime) -> Result<(), Fail> {
         (TEXT_BY_BECH32, "test", PROGRAM.as_slice()),
         (TEXT_BY_BECH32M, "test", PROGRAM.as_slice()),
     ] {
-        let (hrp, bytes) = decode(rt.alloc(), text)?;
-        let lower = Hrp::parse(part.to_lowercase(rt.alloc())?.as_str())?;
-        same(&rt, &(hrp.as_str(), hrp), &(part, lower));
-        same_items(&rt, bytes.as_slice(), data);
+        decodes(&rt, alloc, text, part, data);
     }
-    Ok(())
 }
 
 #[test]
-fn fills_the_code(rt: HostRuntime) -> Result<(), Fail> {
+fn fills_the_code(rt: HostRuntime) {
     let alloc = rt.alloc();
     let data = [0; 632];
-    let text = encoded::<Bech32m>(alloc, "abcd", &data)?;
+    let text = encoded::<Bech32m>(&rt, alloc, "abcd", &data);
     same(&rt, &text.len(), &1023);
-    let (hrp, bytes) = decode(alloc, &text)?;
-    same(&rt, &hrp.as_str(), &"abcd");
-    same_items(&rt, bytes.as_slice(), data.as_slice());
+    decodes(&rt, alloc, &text, "abcd", &data);
     let too_long = EncodeError::TooLong(CodeLengthError {
         encoded_length: 1024,
         code_length: 1023,
     });
-    let hrp = Hrp::parse("abcde")?;
+    let hrp = Hrp::parse("abcde").expect(&rt, "a human-readable part");
     let refusal = encode::<Bech32m>(alloc, hrp, &data).err();
     same(&rt, &refusal, &Some(too_long));
-    Ok(())
+}
+
+// Fails where a text is decoded, or refused otherwise.
+fn refuses(rt: &impl Abort, alloc: Global, text: &str, refusal: DecodeError) {
+    let found = decode(alloc, text).err();
+    same(rt, &(text, found), &(text, Some(refusal)));
+}
+
+// A text, so many times another, and a text behind them.
+fn repeated(
+    rt: &impl Abort,
+    alloc: Global,
+    before: &str,
+    piece: &str,
+    count: usize,
+    behind: &str,
+) -> String {
+    let pieces = piece.repeat(alloc, count).expect(rt, "memory");
+    let text = format!(in alloc; "{before}{pieces}{behind}");
+    text.expect(rt, "memory")
 }
 
 #[test]
-fn refuses_at_the_first_fault(rt: HostRuntime) -> Result<(), Fail> {
+fn refuses_at_the_first_fault(rt: HostRuntime) {
     let alloc = rt.alloc();
     for (text, error) in [
         ("", CharError::MissingSeparator),
@@ -108,13 +134,9 @@ fn refuses_at_the_first_fault(rt: HostRuntime) -> Result<(), Fail> {
         ("aB1qqqqqq", CharError::MixedCase),
     ] {
         let refusal = DecodeError::Parse(UncheckedHrpstringError::Char(error));
-        same(
-            &rt,
-            &(text, decode(alloc, text).err()),
-            &(text, Some(refusal)),
-        );
+        refuses(&rt, alloc, text, refusal);
     }
-    let long_part = format!(in alloc; "{}1qqqqqq", "a".repeat(alloc, 84)?)?;
+    let long_part = repeated(&rt, alloc, "", "a", 84, "1qqqqqq");
     for (text, error) in [
         ("1qqqqqq", hrp::Error::Empty),
         (long_part.as_str(), hrp::Error::TooLong(84)),
@@ -122,145 +144,158 @@ fn refuses_at_the_first_fault(rt: HostRuntime) -> Result<(), Fail> {
         ("a 1qqqqqq", hrp::Error::InvalidAsciiByte(0x20)),
     ] {
         let refusal = DecodeError::Parse(UncheckedHrpstringError::Hrp(error));
-        same(
-            &rt,
-            &(text, decode(alloc, text).err()),
-            &(text, Some(refusal)),
-        );
+        refuses(&rt, alloc, text, refusal);
     }
-    let long_text = format!(in alloc; "a1{}", "q".repeat(alloc, 1022)?)?;
+    let long_text = repeated(&rt, alloc, "a1", "q", 1022, "");
     let too_long = ChecksumError::CodeLength(CodeLengthError {
         encoded_length: 1024,
         code_length: 1023,
     });
-    for (text, error) in [
-        (long_text.as_str(), too_long),
-        ("a1", ChecksumError::InvalidLength),
-    ] {
-        let refusal = DecodeError::Checksum(error);
-        same(
-            &rt,
-            &(text, decode(alloc, text).err()),
-            &(text, Some(refusal)),
-        );
-    }
-    Ok(())
+    refuses(&rt, alloc, &long_text, DecodeError::Checksum(too_long));
+    let too_short = ChecksumError::InvalidLength;
+    refuses(&rt, alloc, "a1", DecodeError::Checksum(too_short));
 }
 
 // The error of a text that Bech32m refuses for its remainder.
-fn residue_error(text: &str) -> Option<InvalidResidueError> {
-    match UncheckedHrpstring::new(text)
-        .ok()?
-        .validate_checksum::<Bech32m>()
-    {
-        Err(ChecksumError::InvalidResidue(e)) => Some(e),
-        _ => None,
+fn residue_error(rt: &impl Abort, text: &str) -> InvalidResidueError {
+    let unchecked = UncheckedHrpstring::new(text).expect(rt, "a text");
+    match unchecked.validate_checksum::<Bech32m>() {
+        Err(ChecksumError::InvalidResidue(e)) => e,
+        _ => panic!(rt; "its remainder is right"),
     }
 }
 
 #[test]
-fn tells_which_checksum_a_remainder_fits(rt: HostRuntime) -> Result<(), Fail> {
-    let of_neither = residue_error("a12uel5q").ok_or("it is accepted")?;
-    let refusal = DecodeError::Checksum(ChecksumError::InvalidResidue(of_neither));
-    let found = decode(rt.alloc(), "a12uel5q").err();
-    same(&rt, &found, &Some(refusal));
-    let of_bech32 = residue_error("a12uel5l").ok_or("it is accepted")?;
+fn tells_which_checksum_a_remainder_fits(rt: HostRuntime) {
+    let of_neither = residue_error(&rt, "a12uel5q");
+    let refusal = ChecksumError::InvalidResidue(of_neither);
+    let refusal = DecodeError::Checksum(refusal);
+    refuses(&rt, rt.alloc(), "a12uel5q", refusal);
+    let of_bech32 = residue_error(&rt, "a12uel5l");
     let matches = (
         of_neither.matches_bech32_checksum(),
         of_bech32.matches_bech32_checksum(),
         of_neither == of_bech32,
     );
     same(&rt, &matches, &(false, true, false));
-    Ok(())
 }
 
 #[test]
-fn reads_elements(rt: HostRuntime) -> Result<(), Fail> {
-    let elements = CheckedHrpstring::new::<NoChecksum>("A1QPZR")?.fe32_iter();
+fn reads_elements(rt: HostRuntime) {
+    let checked = CheckedHrpstring::new::<NoChecksum>("A1QPZR").expect(&rt, "a text");
+    let elements = checked.fe32_iter();
     let counts = (elements.len(), elements.size_hint());
     same(&rt, &counts, &(4, (4, Some(4))));
-    let elements: Vec<Fe32> = elements.collect(rt.alloc())?;
+    let elements: Result<Vec<Fe32>, AllocError> = elements.collect(rt.alloc());
     let wanted = [Fe32::Q, Fe32::P, Fe32::Z, Fe32::R];
-    same_items(&rt, elements.as_slice(), wanted.as_slice());
-    Ok(())
+    same_items(&rt, &elements.expect(&rt, "memory"), &wanted);
+}
+
+// Fails where the length of the text of so many zeros is another.
+fn counts(rt: &impl Abort, alloc: Global, size: usize, length: Result<usize, CodeLengthError>) {
+    let part = Hrp::parse("abcde").expect(rt, "a human-readable part");
+    let data: Result<Vec<u8>, AllocError> = vec![in alloc; 0u8; size];
+    let data = data.expect(rt, "memory");
+    let found = (
+        encoded_length::<Bech32>(part, &data),
+        encoded_length::<Bech32m>(part, &data),
+    );
+    same(rt, &found, &(length, length));
 }
 
 #[test]
-fn counts_characters(rt: HostRuntime) -> Result<(), Fail> {
-    let part = Hrp::parse("abcde")?;
+fn counts_characters(rt: HostRuntime) {
+    let alloc = rt.alloc();
     let too_long = Err(CodeLengthError {
         encoded_length: 1024,
         code_length: 1023,
     });
-    for (size, length) in [
-        (0usize, Ok(12)),
-        (48, Ok(89)),
-        (49, Ok(91)),
-        (632, too_long),
-    ] {
-        let data = vec![in rt.alloc(); 0u8; size]?;
-        let found = (
-            encoded_length::<Bech32>(part, data.as_slice()),
-            encoded_length::<Bech32m>(part, data.as_slice()),
-        );
-        same(&rt, &found, &(length, length));
-    }
-    Ok(())
+    counts(&rt, alloc, 0, Ok(12));
+    counts(&rt, alloc, 48, Ok(89));
+    counts(&rt, alloc, 49, Ok(91));
+    counts(&rt, alloc, 632, too_long);
 }
 
-#[test]
-fn encodes_or_wants_memory(rt: HostRuntime) -> Result<(), Fail> {
-    let hrp = Hrp::parse("test")?;
-    let mut refused = 0u32;
-    for size in 0..16usize {
-        let heap = LocalHeap::new(rt.alloc(), 16 * size)?;
-        match encode_in::<Bech32, &LocalHeap>(&heap, hrp, &PROGRAM) {
-            Ok(text) => same(&rt, &text.as_str(), &TEXT_BY_BECH32),
-            Err(error) => {
-                same(&rt, &error, &EncodeError::Memory);
-                refused = refused.saturating_add(1);
-            }
+// Whether a known text wants memory in a heap of so many bytes; fails where another is given, or
+// another error.
+fn encodes_in(rt: &impl Abort, alloc: Global, bytes: usize) -> bool {
+    let heap = LocalHeap::new(alloc, bytes).expect(rt, "memory");
+    let hrp = Hrp::parse("test").expect(rt, "a human-readable part");
+    wants_memory(rt, encode_in::<Bech32, &LocalHeap>(&heap, hrp, &PROGRAM))
+}
+
+// Whether memory was wanting; fails where the answer is neither that nor the known text.
+fn wants_memory<A: Allocator>(rt: &impl Abort, text: Result<String<A>, EncodeError>) -> bool {
+    match text {
+        Ok(text) => {
+            same(rt, &text.as_str(), &TEXT_BY_BECH32);
+            false
+        }
+        Err(error) => {
+            same(rt, &error, &EncodeError::Memory);
+            true
         }
     }
-    assert!(rt; 1 <= refused && refused < 16);
-    Ok(())
 }
 
 #[test]
-fn decodes_or_wants_memory(rt: HostRuntime) -> Result<(), Fail> {
+fn encodes_or_wants_memory(rt: HostRuntime) {
     let mut refused = 0u32;
     for size in 0..16usize {
-        let heap = LocalHeap::new(rt.alloc(), 16 * size)?;
-        match decode_in(&heap, TEXT_BY_BECH32M) {
-            Ok((hrp, bytes)) => {
-                same(&rt, &hrp.as_str(), &"test");
-                same_items(&rt, bytes.as_slice(), PROGRAM.as_slice());
-            }
-            Err(error) => {
-                same(&rt, &error, &DecodeError::Memory);
-                refused = refused.saturating_add(1);
-            }
-        }
-        let refusal = decode(rt.alloc(), "a12uel5q").err();
-        same(&rt, &decode_in(&heap, "a12uel5q").err(), &refusal);
+        let is_refused = encodes_in(&rt, rt.alloc(), 16 * size);
+        refused = refused.saturating_add(u32::from(is_refused));
     }
     assert!(rt; 1 <= refused && refused < 16);
-    Ok(())
 }
 
-// Whether the text of bytes is decoded to them.
-fn comes_back<Ck: Checksum>(alloc: Global, hrp: Hrp, data: &[u8]) -> Result<bool, Fail> {
-    let text = encode::<Ck>(alloc, hrp, data)?;
-    let (part, bytes) = decode(alloc, text.as_str())?;
-    Ok(part == hrp && bytes.as_slice() == data)
+// Whether memory was wanting; fails where the answer is neither that nor the parts of the known text.
+fn decoding_wants_memory<A: Allocator>(
+    rt: &impl Abort,
+    decoded: Result<(Hrp, Vec<u8, A>), DecodeError>,
+) -> bool {
+    match decoded {
+        Ok((hrp, bytes)) => {
+            same(rt, &hrp.as_str(), &"test");
+            same_items(rt, bytes.as_slice(), PROGRAM.as_slice());
+            false
+        }
+        Err(error) => {
+            same(rt, &error, &DecodeError::Memory);
+            true
+        }
+    }
+}
+
+// Whether a known text wants memory in a heap of so many bytes. A text that is not accepted is
+// refused there as elsewhere.
+fn decodes_in(rt: &impl Abort, alloc: Global, bytes: usize) -> bool {
+    let heap = LocalHeap::new(alloc, bytes).expect(rt, "memory");
+    let is_refused = decoding_wants_memory(rt, decode_in(&heap, TEXT_BY_BECH32M));
+    let refusal = decode(alloc, "a12uel5q").err();
+    same(rt, &decode_in(&heap, "a12uel5q").err(), &refusal);
+    is_refused
 }
 
 #[test]
-fn decodes_every_length(rt: HostRuntime) -> Result<(), Fail> {
-    let hrp = Hrp::parse("a")?;
+fn decodes_or_wants_memory(rt: HostRuntime) {
+    let mut refused = 0u32;
+    for size in 0..16usize {
+        let is_refused = decodes_in(&rt, rt.alloc(), 16 * size);
+        refused = refused.saturating_add(u32::from(is_refused));
+    }
+    assert!(rt; 1 <= refused && refused < 16);
+}
+
+// Fails where the text of bytes is not decoded to them.
+fn comes_back<Ck: Checksum>(rt: &impl Abort, alloc: Global, data: &[u8]) {
+    let text = encoded::<Ck>(rt, alloc, "a", data);
+    decodes(rt, alloc, &text, "a", data);
+}
+
+#[test]
+fn decodes_every_length(rt: HostRuntime) {
     for size in 0..635usize {
-        assert!(rt; comes_back::<Bech32>(rt.alloc(), hrp, &MOST[..size])?);
-        assert!(rt; comes_back::<Bech32m>(rt.alloc(), hrp, &MOST[..size])?);
+        comes_back::<Bech32>(&rt, rt.alloc(), &MOST[..size]);
+        comes_back::<Bech32m>(&rt, rt.alloc(), &MOST[..size]);
     }
-    Ok(())
 }

@@ -1,0 +1,6 @@
+//! The writers of `bech32` and of `bech32::segwit`.
+
+mod bytes;
+mod known;
+mod messages;
+mod texts;

@@ -1,0 +1,193 @@
+use super::known::{
+    ADDRESS, ADDRESS_PROGRAM, FRONT, LONG_PART, PROGRAM, TEXT, UPPER_ADDRESS, UPPER_TEXT,
+};
+use crate::compare::same;
+use bech32::hrp::BC;
+use bech32::primitives::decode::CodeLengthError;
+use bech32::segwit::{
+    VERSION_0, VERSION_1, encode_lower_to_fmt_unchecked, encode_to_fmt_unchecked,
+    encode_upper_to_fmt_unchecked,
+};
+use bech32::{
+    Bech32, Bech32m, EncodeError, Hrp, encode, encode_lower, encode_lower_in, encode_lower_to_fmt,
+    encode_to_fmt, encode_upper, encode_upper_in, encode_upper_to_fmt,
+};
+use linked_list_allocator::LocalHeap;
+use std::alloc::{Allocator, Global};
+use std::fmt;
+use std::process::Abort;
+
+// Takes as many pieces as `left`, and fails from then on.
+#[derive(Drop)]
+struct Budget {
+    text: String,
+    left: usize,
+}
+
+impl fmt::Write for Budget {
+    fn write_str(&mut self, s: &str) -> fmt::Result {
+        if self.left == 0 {
+            return Err(fmt::Error);
+        }
+        self.left -= 1;
+        self.text.push_str(s)?;
+        Ok(())
+    }
+}
+
+// The human-readable part of a text.
+fn part(rt: &impl Abort, text: &str) -> Hrp {
+    Hrp::parse(text).expect(rt, "a human-readable part")
+}
+
+#[test]
+fn known_texts_in_memory(rt: HostRuntime) {
+    let hrp = part(&rt, "test");
+    let lower = encode_lower::<Bech32>(rt.alloc(), hrp, &PROGRAM).expect(&rt, "a text");
+    let upper = encode_upper::<Bech32>(rt.alloc(), hrp, &PROGRAM).expect(&rt, "a text");
+    same(&rt, &(lower.as_str(), upper.as_str()), &(TEXT, UPPER_TEXT));
+}
+
+// Whether memory was wanting; fails where the answer is neither that nor the text.
+fn wants_memory<A: Allocator>(
+    rt: &impl Abort,
+    outcome: Result<String<A>, EncodeError>,
+    text: &str,
+) -> bool {
+    match outcome {
+        Ok(found) => {
+            same(rt, &found.as_str(), &text);
+            false
+        }
+        Err(error) => {
+            same(rt, &error, &EncodeError::Memory);
+            true
+        }
+    }
+}
+
+// Whether a known text in lower and in upper case wants memory in a heap of so many bytes.
+fn known_texts_in(rt: &impl Abort, alloc: Global, bytes: usize) -> (bool, bool) {
+    let hrp = part(rt, "test");
+    let heap = LocalHeap::new(alloc, bytes).expect(rt, "memory");
+    let lower = encode_lower_in::<Bech32, &LocalHeap>(&heap, hrp, &PROGRAM);
+    let lower = wants_memory(rt, lower, TEXT);
+    let upper = encode_upper_in::<Bech32, &LocalHeap>(&heap, hrp, &PROGRAM);
+    (lower, wants_memory(rt, upper, UPPER_TEXT))
+}
+
+#[test]
+fn known_texts_or_want_of_memory(rt: HostRuntime) {
+    let mut refused = (0u32, 0u32);
+    for size in 0..16usize {
+        let (lower, upper) = known_texts_in(&rt, rt.alloc(), 16 * size);
+        refused.0 = refused.0.saturating_add(u32::from(lower));
+        refused.1 = refused.1.saturating_add(u32::from(upper));
+    }
+    assert!(rt; 1 <= refused.0 && refused.0 < 16 && refused.1 == refused.0);
+}
+
+#[test]
+fn known_texts_to_a_string(rt: HostRuntime) {
+    let hrp = part(&rt, "test");
+    let mut plain = String::new(rt.alloc());
+    let mut lower = String::new(rt.alloc());
+    let mut upper = String::new(rt.alloc());
+    let outcomes = [
+        encode_to_fmt::<Bech32, String>(&mut plain, hrp, &PROGRAM),
+        encode_lower_to_fmt::<Bech32, String>(&mut lower, hrp, &PROGRAM),
+        encode_upper_to_fmt::<Bech32, String>(&mut upper, hrp, &PROGRAM),
+    ];
+    same(&rt, &outcomes, &[Ok(()), Ok(()), Ok(())]);
+    same(
+        &rt,
+        &(plain.as_str(), lower.as_str(), upper.as_str()),
+        &(TEXT, TEXT, UPPER_TEXT),
+    );
+}
+
+#[test]
+fn nothing_is_written_of_a_long_text(rt: HostRuntime) {
+    let hrp = part(&rt, "abcde");
+    let mut text = String::new(rt.alloc());
+    let outcome = encode_to_fmt::<Bech32m, String>(&mut text, hrp, &[0; 632]);
+    let too_long = EncodeError::TooLong(CodeLengthError {
+        encoded_length: 1024,
+        code_length: 1023,
+    });
+    same(&rt, &(outcome, text.as_str()), &(Err(too_long), ""));
+}
+
+const DATA: [u8; 632] = [0xa5; 632];
+
+// Whether the text of the data is cut where a writer takes so many pieces. Fails where the outcome
+// tells otherwise, or what was written is no beginning of the whole text.
+fn is_cut(rt: &impl Abort, alloc: Global, whole: &str, left: usize) -> bool {
+    let hrp = part(rt, "abcd");
+    let mut w = Budget {
+        text: String::new(alloc),
+        left,
+    };
+    let outcome = encode_to_fmt::<Bech32m, Budget>(&mut w, hrp, &DATA);
+    let begins = whole.as_bytes().starts_with(w.text.as_bytes());
+    let is_cut = w.text.len() < whole.len();
+    same(rt, &(outcome, begins), &(failure(is_cut), true));
+    is_cut
+}
+
+// The outcome of a text that is cut, or is not.
+fn failure(is_cut: bool) -> Result<(), EncodeError> {
+    if is_cut {
+        Err(EncodeError::Fmt(fmt::Error))
+    } else {
+        Ok(())
+    }
+}
+
+#[test]
+fn every_piece_may_fail(rt: HostRuntime) {
+    let hrp = part(&rt, "abcd");
+    let whole = encode::<Bech32m>(rt.alloc(), hrp, &DATA).expect(&rt, "a text");
+    let mut failed = 0usize;
+    for left in 0..20usize {
+        let is_cut = is_cut(&rt, rt.alloc(), &whole, left);
+        failed = failed.saturating_add(usize::from(is_cut));
+    }
+    assert!(rt; 1 <= failed && failed < 20);
+}
+
+#[test]
+fn unchecked_addresses_to_a_string(rt: HostRuntime) {
+    let mut plain = String::new(rt.alloc());
+    let mut lower = String::new(rt.alloc());
+    let mut upper = String::new(rt.alloc());
+    let outcomes = [
+        encode_to_fmt_unchecked(&mut plain, BC, VERSION_0, &ADDRESS_PROGRAM),
+        encode_lower_to_fmt_unchecked(&mut lower, BC, VERSION_0, &ADDRESS_PROGRAM),
+        encode_upper_to_fmt_unchecked(&mut upper, BC, VERSION_0, &ADDRESS_PROGRAM),
+    ];
+    same(&rt, &outcomes, &[Ok(()), Ok(()), Ok(())]);
+    same(
+        &rt,
+        &(plain.as_str(), lower.as_str(), upper.as_str()),
+        &(ADDRESS, ADDRESS, UPPER_ADDRESS),
+    );
+}
+
+#[test]
+fn unchecked_addresses_are_cut(rt: HostRuntime) {
+    let hrp = part(&rt, LONG_PART);
+    let mut plain = String::new(rt.alloc());
+    let mut lower = String::new(rt.alloc());
+    let mut w = Budget {
+        text: String::new(rt.alloc()),
+        left: 0,
+    };
+    let outcomes = [
+        encode_to_fmt_unchecked(&mut plain, hrp, VERSION_1, &[0; 40]),
+        encode_lower_to_fmt_unchecked(&mut lower, hrp, VERSION_1, &[0; 40]),
+        encode_to_fmt_unchecked(&mut w, hrp, VERSION_1, &[0; 40]),
+    ];
+    same(&rt, &(plain.as_str(), lower.as_str()), &(FRONT, FRONT));
+    same(&rt, &outcomes, &[Ok(()), Ok(()), Err(fmt::Error)]);
+}
