@@ -3,10 +3,9 @@ use crate::decode::{bech32_check, bech32_decode};
 use crate::encode::bech32_encode;
 use crate::engine::bech32_residue;
 use crate::segwit::{bech32_segwit_decode, bech32_segwit_encode};
-use std::alloc::Global;
+use std::alloc::{AllocError, Global};
 use std::fmt::Debug;
 use std::process::Abort;
-use std::test::Fail;
 
 // What buffers and numbers hold before a call.
 const BEFORE: u8 = 0xee;
@@ -48,36 +47,39 @@ fn is_untouched(rt: &impl Abort, buffer: &[u8], count: usize) {
     assert!(rt; buffer.iter().all(|b| *b == BEFORE));
 }
 
+// Encodes into a buffer, which then holds the text.
+fn puts(rt: &impl Abort, row: (u32, &[u8], &[u8]), buffer: &mut [u8], want: &[u8]) {
+    let mut count = LENGTH_BEFORE;
+    let number = bech32_encode(row.0, row.1, row.2, buffer, &mut count);
+    same(rt, &number, &0);
+    holds(rt, buffer, count, want);
+}
+
+// Is refused by this number, and leaves the buffer as it was.
+fn puts_nothing(rt: &impl Abort, row: (u32, &[u8], &[u8]), buffer: &mut [u8], want: u32) {
+    let mut count = LENGTH_BEFORE;
+    let number = bech32_encode(row.0, row.1, row.2, buffer, &mut count);
+    same(rt, &number, &want);
+    is_untouched(rt, buffer, count);
+}
+
 // Encodes into a buffer with more room than the text, with as much, and with one byte less.
 fn encodes(
     rt: &impl Abort,
     alloc: Global,
-    checksum: u32,
-    hrp: &[u8],
-    bytes: &[u8],
+    row: (u32, &[u8], &[u8]),
     want: &[u8],
-) -> Result<(), Fail> {
-    let mut count = LENGTH_BEFORE;
-    let mut buffer = [BEFORE; 64];
-    let number = bech32_encode(checksum, hrp, bytes, &mut buffer, &mut count);
-    same(rt, &number, &0);
-    holds(rt, &buffer, count, want);
-
+) -> Result<(), AllocError> {
+    puts(rt, row, &mut [BEFORE; 64], want);
     let mut exact = vec![in alloc; BEFORE; want.len()]?;
-    let number = bech32_encode(checksum, hrp, bytes, exact.as_mut_slice(), &mut count);
-    same(rt, &number, &0);
-    holds(rt, exact.as_slice(), count, want);
-
-    let mut count = LENGTH_BEFORE;
+    puts(rt, row, exact.as_mut_slice(), want);
     let mut short = vec![in alloc; BEFORE; want.len().saturating_sub(1)]?;
-    let number = bech32_encode(checksum, hrp, bytes, short.as_mut_slice(), &mut count);
-    same(rt, &number, &92);
-    is_untouched(rt, short.as_slice(), count);
+    puts_nothing(rt, row, short.as_mut_slice(), 92);
     Ok(())
 }
 
 #[test]
-fn encodes_known_texts(rt: HostRuntime) -> Result<(), Fail> {
+fn encodes_known_texts(rt: HostRuntime) -> Result<(), AllocError> {
     let rows: [(u32, &[u8], &[u8], &[u8]); 5] = [
         (1, b"a", b"", b"a12uel5l"),
         (2, b"A", b"", b"a1lqfn3a"),
@@ -96,25 +98,24 @@ fn encodes_known_texts(rt: HostRuntime) -> Result<(), Fail> {
         ),
     ];
     for (checksum, hrp, bytes, want) in rows {
-        encodes(&rt, rt.alloc(), checksum, hrp, bytes, want)?;
+        encodes(&rt, rt.alloc(), (checksum, hrp, bytes), want)?;
     }
     Ok(())
 }
 
+// What encoding bytes under `a` by Bech32 answers, and the length that it leaves.
+fn number_and_length(bytes: &[u8]) -> (u32, usize) {
+    let mut count = LENGTH_BEFORE;
+    let number = bech32_encode(1, b"a", bytes, &mut [BEFORE; 1100], &mut count);
+    (number, count)
+}
+
 #[test]
 fn encodes_up_to_the_code_length(rt: HostRuntime) {
-    for (size, number, length) in [(634usize, 0, 1023), (635, 51, LENGTH_BEFORE)] {
-        let bytes = [0u8; 635];
-        let (bytes, _) = bytes.split_at(size.min(635));
-        let mut count = LENGTH_BEFORE;
-        let mut buffer = [BEFORE; 1100];
-        same(
-            &rt,
-            &bech32_encode(1, b"a", bytes, &mut buffer, &mut count),
-            &number,
-        );
-        same(&rt, &count, &length);
-    }
+    let bytes = [0u8; 635];
+    let (fitting, _) = bytes.split_at(634);
+    same(&rt, &number_and_length(fitting), &(0, 1023));
+    same(&rt, &number_and_length(&bytes), &(51, LENGTH_BEFORE));
 }
 
 #[test]
@@ -131,12 +132,43 @@ fn refuses_to_encode(rt: HostRuntime) {
         (2, b"aB", 15),
     ];
     for (checksum, hrp, want) in rows {
-        let mut count = LENGTH_BEFORE;
-        let mut buffer = [BEFORE; 128];
-        let number = bech32_encode(checksum, hrp, b"", &mut buffer, &mut count);
-        same(&rt, &number, &want);
-        is_untouched(&rt, &buffer, count);
+        puts_nothing(&rt, (checksum, hrp, b""), &mut [BEFORE; 128], want);
     }
+}
+
+// Decodes into buffers, which then hold the parts.
+fn puts_parts(
+    rt: &impl Abort,
+    text: &[u8],
+    (hrp, bytes): (&mut [u8], &mut [u8]),
+    (part, found): (&[u8], &[u8]),
+) {
+    let (mut hrp_count, mut count) = (LENGTH_BEFORE, LENGTH_BEFORE);
+    let number = bech32_decode(text, hrp, &mut hrp_count, bytes, &mut count);
+    same(rt, &number, &0);
+    holds(rt, hrp, hrp_count, part);
+    holds(rt, bytes, count, found);
+}
+
+// Is refused by this number, and leaves the buffers as they were.
+fn puts_no_parts(rt: &impl Abort, text: &[u8], hrp: &mut [u8], bytes: &mut [u8], want: u32) {
+    let (mut hrp_count, mut count) = (LENGTH_BEFORE, LENGTH_BEFORE);
+    let number = bech32_decode(text, hrp, &mut hrp_count, bytes, &mut count);
+    same(rt, &number, &want);
+    is_untouched(rt, hrp, hrp_count);
+    is_untouched(rt, bytes, count);
+}
+
+// What the test of a text answers, and the lengths that it leaves.
+fn checked(checksum: u32, text: &[u8]) -> (u32, usize, usize) {
+    let (mut hrp_count, mut count) = (LENGTH_BEFORE, LENGTH_BEFORE);
+    let number = bech32_check(checksum, text, &mut hrp_count, &mut count);
+    (number, hrp_count, count)
+}
+
+// What it answers where it is refused by this number.
+fn unchecked(number: u32) -> (u32, usize, usize) {
+    (number, LENGTH_BEFORE, LENGTH_BEFORE)
 }
 
 // Decodes into buffers with more room than the parts, and with as much.
@@ -144,33 +176,27 @@ fn decodes(
     rt: &impl Abort,
     alloc: Global,
     text: &[u8],
-    part: &[u8],
-    found: &[u8],
-) -> Result<(), Fail> {
-    let (mut hrp_count, mut count) = (LENGTH_BEFORE, LENGTH_BEFORE);
-    let (mut hrp, mut bytes) = ([BEFORE; 83], [BEFORE; 634]);
-    let number = bech32_decode(text, &mut hrp, &mut hrp_count, &mut bytes, &mut count);
-    same(rt, &number, &0);
-    holds(rt, &hrp, hrp_count, part);
-    holds(rt, &bytes, count, found);
-
-    let mut hrp = vec![in alloc; BEFORE; part.len()]?;
-    let mut bytes = vec![in alloc; BEFORE; found.len()]?;
-    let number = bech32_decode(
-        text,
-        hrp.as_mut_slice(),
-        &mut hrp_count,
-        bytes.as_mut_slice(),
-        &mut count,
-    );
-    same(rt, &number, &0);
-    holds(rt, hrp.as_slice(), hrp_count, part);
-    holds(rt, bytes.as_slice(), count, found);
+    parts: (&[u8], &[u8]),
+) -> Result<(), AllocError> {
+    puts_parts(rt, text, (&mut [BEFORE; 83], &mut [BEFORE; 634]), parts);
+    let mut hrp = vec![in alloc; BEFORE; parts.0.len()]?;
+    let mut bytes = vec![in alloc; BEFORE; parts.1.len()]?;
+    puts_parts(rt, text, (hrp.as_mut_slice(), bytes.as_mut_slice()), parts);
     Ok(())
 }
 
+// The checksum of this number accepts a text with so long a human-readable part, and the other does
+// not.
+fn is_checked(rt: &impl Abort, checksum: u32, text: &[u8], length: usize) {
+    same(rt, &checked(3 - checksum.min(3), text), &unchecked(33));
+    let (number, hrp_count, count) = checked(checksum, text);
+    same(rt, &(number, hrp_count), &(0, length));
+    let rest = text.len().checked_sub(length.saturating_add(7));
+    same(rt, &Some(count), &rest);
+}
+
 #[test]
-fn decodes_known_texts(rt: HostRuntime) -> Result<(), Fail> {
+fn decodes_known_texts(rt: HostRuntime) -> Result<(), AllocError> {
     let rows: [(&[u8], u32, &[u8], &[u8]); 6] = [
         (b"A12UEL5L", 1, b"A", b""),
         (b"a1lqfn3a", 2, b"a", b""),
@@ -190,27 +216,8 @@ fn decodes_known_texts(rt: HostRuntime) -> Result<(), Fail> {
         ),
     ];
     for (text, checksum, part, found) in rows {
-        decodes(&rt, rt.alloc(), text, part, found)?;
-
-        let (mut hrp_count, mut count) = (LENGTH_BEFORE, LENGTH_BEFORE);
-        let other = if checksum == 1 { 2 } else { 1 };
-        same(
-            &rt,
-            &bech32_check(other, text, &mut hrp_count, &mut count),
-            &33,
-        );
-        same(&rt, &count, &LENGTH_BEFORE);
-        same(
-            &rt,
-            &bech32_check(checksum, text, &mut hrp_count, &mut count),
-            &0,
-        );
-        same(&rt, &hrp_count, &part.len());
-        same(
-            &rt,
-            &Some(count),
-            &text.len().checked_sub(part.len().saturating_add(7)),
-        );
+        decodes(&rt, rt.alloc(), text, (part, found))?;
+        is_checked(&rt, checksum, text, part.len());
     }
     Ok(())
 }
@@ -234,19 +241,10 @@ fn refuses_to_decode(rt: HostRuntime) {
         (b"b12uel5l", 33),
     ];
     for (text, want) in rows {
-        let (mut hrp_count, mut count) = (LENGTH_BEFORE, LENGTH_BEFORE);
-        let (mut hrp, mut bytes) = ([BEFORE; 83], [BEFORE; 634]);
-        let number = bech32_decode(text, &mut hrp, &mut hrp_count, &mut bytes, &mut count);
-        same(&rt, &number, &want);
-        is_untouched(&rt, &hrp, hrp_count);
-        is_untouched(&rt, &bytes, count);
-
-        for (checksum, want) in [(1, want), (2, want), (0, 4)] {
-            let number = bech32_check(checksum, text, &mut hrp_count, &mut count);
-            same(&rt, &number, &want);
-        }
-        same(&rt, &hrp_count, &LENGTH_BEFORE);
-        same(&rt, &count, &LENGTH_BEFORE);
+        puts_no_parts(&rt, text, &mut [BEFORE; 83], &mut [BEFORE; 634], want);
+        same(&rt, &checked(1, text), &unchecked(want));
+        same(&rt, &checked(2, text), &unchecked(want));
+        same(&rt, &checked(0, text), &unchecked(4));
     }
 }
 
@@ -254,18 +252,8 @@ fn refuses_to_decode(rt: HostRuntime) {
 fn texts_above_the_code_length(rt: HostRuntime) {
     let mut text = [b'q'; 1024];
     text[1] = b'1';
-    let (mut hrp_count, mut count) = (LENGTH_BEFORE, LENGTH_BEFORE);
-    same(
-        &rt,
-        &bech32_check(2, &text, &mut hrp_count, &mut count),
-        &31,
-    );
-    same(&rt, &hrp_count, &LENGTH_BEFORE);
-    let (mut hrp, mut bytes) = ([BEFORE; 83], [BEFORE; 634]);
-    let number = bech32_decode(&text, &mut hrp, &mut hrp_count, &mut bytes, &mut count);
-    same(&rt, &number, &31);
-    is_untouched(&rt, &hrp, hrp_count);
-    is_untouched(&rt, &bytes, count);
+    same(&rt, &checked(2, &text), &unchecked(31));
+    puts_no_parts(&rt, &text, &mut [BEFORE; 83], &mut [BEFORE; 634], 31);
     is_refused(&rt, &corrected(2, &text, &[], (4, 4, 64)), 31);
 }
 
@@ -273,15 +261,52 @@ fn texts_above_the_code_length(rt: HostRuntime) {
 fn decodes_into_small_buffers(rt: HostRuntime) {
     let text = b"test1lu08d6qejxtdg4y5r3zarvary0c5xw7kmz4lky";
     for (hrp_room, room) in [(3usize, 20usize), (4, 19), (0, 0)] {
-        let (mut hrp_count, mut count) = (LENGTH_BEFORE, LENGTH_BEFORE);
         let (mut hrp, mut bytes) = ([BEFORE; 4], [BEFORE; 20]);
         let (hrp, _) = hrp.split_at_mut(hrp_room.min(4));
         let (bytes, _) = bytes.split_at_mut(room.min(20));
-        let number = bech32_decode(text, hrp, &mut hrp_count, bytes, &mut count);
-        same(&rt, &number, &92);
-        is_untouched(&rt, hrp, hrp_count);
-        is_untouched(&rt, bytes, count);
+        puts_no_parts(&rt, text, hrp, bytes, 92);
     }
+}
+
+// Decodes an address into buffers, which then hold its parts.
+fn puts_program(
+    rt: &impl Abort,
+    text: &[u8],
+    (hrp, program): (&mut [u8], &mut [u8]),
+    (part, version, want): (&[u8], u32, &[u8]),
+) {
+    let mut found = u32::MAX;
+    let (mut hrp_count, mut count) = (LENGTH_BEFORE, LENGTH_BEFORE);
+    let number = bech32_segwit_decode(text, hrp, &mut hrp_count, &mut found, program, &mut count);
+    same(rt, &(number, found), &(0, version));
+    holds(rt, hrp, hrp_count, part);
+    holds(rt, program, count, want);
+}
+
+// Is refused by this number, and leaves the buffers and the version as they were.
+fn puts_no_program(rt: &impl Abort, text: &[u8], hrp: &mut [u8], program: &mut [u8], want: u32) {
+    let mut found = u32::MAX;
+    let (mut hrp_count, mut count) = (LENGTH_BEFORE, LENGTH_BEFORE);
+    let number = bech32_segwit_decode(text, hrp, &mut hrp_count, &mut found, program, &mut count);
+    same(rt, &(number, found), &(want, u32::MAX));
+    is_untouched(rt, hrp, hrp_count);
+    is_untouched(rt, program, count);
+}
+
+// Writes an address into a buffer, which then holds it.
+fn puts_address(rt: &impl Abort, row: (&[u8], u32, &[u8]), buffer: &mut [u8], want: &[u8]) {
+    let mut count = LENGTH_BEFORE;
+    let number = bech32_segwit_encode(row.0, row.1, row.2, buffer, &mut count);
+    same(rt, &number, &0);
+    holds(rt, buffer, count, want);
+}
+
+// Is refused by this number, and leaves the buffer as it was.
+fn puts_no_address(rt: &impl Abort, row: (&[u8], u32, &[u8]), buffer: &mut [u8], want: u32) {
+    let mut count = LENGTH_BEFORE;
+    let number = bech32_segwit_encode(row.0, row.1, row.2, buffer, &mut count);
+    same(rt, &number, &want);
+    is_untouched(rt, buffer, count);
 }
 
 // Decodes an address and writes it again, in lower case, and not into a buffer that is too small.
@@ -289,42 +314,19 @@ fn goes_around(
     rt: &impl Abort,
     alloc: Global,
     text: &[u8],
-    part: &[u8],
-    version: u32,
-    want: &[u8],
-) -> Result<(), Fail> {
-    let mut found = u32::MAX;
-    let (mut hrp_count, mut count) = (LENGTH_BEFORE, LENGTH_BEFORE);
-    let (mut hrp, mut program) = ([BEFORE; 83], [BEFORE; 40]);
-    let number = bech32_segwit_decode(
-        text,
-        &mut hrp,
-        &mut hrp_count,
-        &mut found,
-        &mut program,
-        &mut count,
-    );
-    same(rt, &number, &0);
-    holds(rt, &hrp, hrp_count, part);
-    same(rt, &found, &version);
-    holds(rt, &program, count, want);
-
+    row: (&[u8], u32, &[u8]),
+) -> Result<(), AllocError> {
+    puts_program(rt, text, (&mut [BEFORE; 83], &mut [BEFORE; 40]), row);
+    let mut short = vec![in alloc; BEFORE; text.len().saturating_sub(1)]?;
+    puts_no_address(rt, row, short.as_mut_slice(), 92);
     let mut lower = text.to_vec(alloc)?;
     lower.as_mut_slice().make_ascii_lowercase();
-    let mut count = LENGTH_BEFORE;
-    let mut short = vec![in alloc; BEFORE; text.len().saturating_sub(1)]?;
-    let number = bech32_segwit_encode(part, version, want, short.as_mut_slice(), &mut count);
-    same(rt, &number, &92);
-    is_untouched(rt, short.as_slice(), count);
-    let mut buffer = [BEFORE; 90];
-    let number = bech32_segwit_encode(part, version, want, &mut buffer, &mut count);
-    same(rt, &number, &0);
-    holds(rt, &buffer, count, lower.as_slice());
+    puts_address(rt, row, &mut [BEFORE; 90], lower.as_slice());
     Ok(())
 }
 
 #[test]
-fn known_addresses(rt: HostRuntime) -> Result<(), Fail> {
+fn known_addresses(rt: HostRuntime) -> Result<(), AllocError> {
     let rows: [(&[u8], &[u8], u32, &[u8]); 3] = [
         (
             b"BC1QW508D6QEJXTDG4Y5R3ZARVARY0C5XW7KV8F3T4",
@@ -341,7 +343,7 @@ fn known_addresses(rt: HostRuntime) -> Result<(), Fail> {
         (b"BC1SW50QGDZ25J", b"BC", 16, b"\x75\x1e"),
     ];
     for (text, part, version, program) in rows {
-        goes_around(&rt, rt.alloc(), text, part, version, program)?;
+        goes_around(&rt, rt.alloc(), text, (part, version, program))?;
     }
     Ok(())
 }
@@ -391,56 +393,30 @@ fn refuses_addresses(rt: HostRuntime) {
         (b"BC1SW50QGDZ25K", 33),
     ];
     for (text, want) in rows {
-        let mut version = u32::MAX;
-        let (mut hrp_count, mut count) = (LENGTH_BEFORE, LENGTH_BEFORE);
-        let (mut hrp, mut program) = ([BEFORE; 83], [BEFORE; 40]);
-        let number = bech32_segwit_decode(
-            text,
-            &mut hrp,
-            &mut hrp_count,
-            &mut version,
-            &mut program,
-            &mut count,
-        );
-        same(&rt, &number, &want);
-        is_untouched(&rt, &hrp, hrp_count);
-        same(&rt, &version, &u32::MAX);
-        is_untouched(&rt, &program, count);
+        puts_no_program(&rt, text, &mut [BEFORE; 83], &mut [BEFORE; 40], want);
     }
 }
 
 #[test]
 fn reads_addresses_into_small_buffers(rt: HostRuntime) {
     let text = b"bc1qw508d6qejxtdg4y5r3zarvary0c5xw7kv8f3t4";
-    for (hrp_room, room, want) in [(2usize, 20usize, 0), (1, 20, 92), (2, 19, 92), (0, 0, 92)] {
-        let mut version = u32::MAX;
-        let (mut hrp_count, mut count) = (LENGTH_BEFORE, LENGTH_BEFORE);
+    puts_program(
+        &rt,
+        text,
+        (&mut [BEFORE; 2], &mut [BEFORE; 20]),
+        (b"bc", 0, &PROGRAM),
+    );
+    for (hrp_room, room) in [(1usize, 20usize), (2, 19), (0, 0)] {
         let (mut hrp, mut program) = ([BEFORE; 2], [BEFORE; 20]);
         let (hrp, _) = hrp.split_at_mut(hrp_room.min(2));
         let (program, _) = program.split_at_mut(room.min(20));
-        let number = bech32_segwit_decode(
-            text,
-            hrp,
-            &mut hrp_count,
-            &mut version,
-            program,
-            &mut count,
-        );
-        same(&rt, &number, &want);
-        if number == 0 {
-            holds(&rt, hrp, hrp_count, b"bc");
-            holds(&rt, program, count, &PROGRAM);
-        } else {
-            is_untouched(&rt, hrp, hrp_count);
-            is_untouched(&rt, program, count);
-            same(&rt, &version, &u32::MAX);
-        }
+        puts_no_program(&rt, text, hrp, program, 92);
     }
 }
 
 #[test]
 fn refuses_to_write_addresses(rt: HostRuntime) {
-    let rows: [(&[u8], u32, usize, u32); 12] = [
+    let rows: [(&[u8], u32, usize, u32); 11] = [
         (b"\xff", 32, 1, 4),
         (b"bc", u32::MAX, 20, 4),
         (b"\xff", 17, 1, 2),
@@ -452,19 +428,26 @@ fn refuses_to_write_addresses(rt: HostRuntime) {
         (b"bc", 1, 41, 47),
         (b"bc", 0, 21, 48),
         (b"anhrpthatis19charsx", 1, 40, 53),
-        (b"bc", 1, 40, 0),
     ];
+    let bytes = [0u8; 41];
     for (hrp, version, size, want) in rows {
-        let bytes = [0u8; 41];
         let (program, _) = bytes.split_at(size.min(41));
-        let mut count = LENGTH_BEFORE;
-        let mut buffer = [BEFORE; 90];
-        let number = bech32_segwit_encode(hrp, version, program, &mut buffer, &mut count);
-        same(&rt, &number, &want);
-        if number != 0 {
-            is_untouched(&rt, &buffer, count);
-        }
+        puts_no_address(&rt, (hrp, version, program), &mut [BEFORE; 90], want);
     }
+}
+
+#[test]
+fn writes_the_longest_program(rt: HostRuntime) {
+    let mut count = LENGTH_BEFORE;
+    let number = bech32_segwit_encode(b"bc", 1, &[0; 40], &mut [BEFORE; 90], &mut count);
+    same(&rt, &number, &0);
+}
+
+// What the remainder of elements answers, and what it leaves.
+fn residue(checksum: u32, values: &[u8]) -> (u32, u32) {
+    let mut residue = u32::MAX;
+    let number = bech32_residue(checksum, values, &mut residue);
+    (number, residue)
 }
 
 #[test]
@@ -479,20 +462,16 @@ fn remainders_of_right_texts(rt: HostRuntime) {
         (1, &[31], 63),
     ];
     for (checksum, values, want) in rows {
-        let mut residue = u32::MAX;
-        same(&rt, &bech32_residue(checksum, values, &mut residue), &0);
-        same(&rt, &residue, &want);
+        same(&rt, &residue(checksum, values), &(0, want));
     }
     let refused: [(u32, &[u8]); 4] = [(0, &[]), (3, &[1]), (1, &[0, 32]), (2, &[255, 1])];
     for (checksum, values) in refused {
-        let mut residue = u32::MAX;
-        same(&rt, &bech32_residue(checksum, values, &mut residue), &4);
-        same(&rt, &residue, &u32::MAX);
+        same(&rt, &residue(checksum, values), &(4, u32::MAX));
     }
 }
 
 // What `bech32_correct` answers, and what it leaves.
-#[derive(Drop)]
+#[derive(Clone, Copy)]
 struct Outcome {
     number: u32,
     locations: [usize; 4],
@@ -557,6 +536,27 @@ fn is_mended(rt: &impl Abort, got: &Outcome, locations: &[usize], values: &[u8],
     holds(rt, &got.mended, got.length, want);
 }
 
+// It does so with buffers of more room and of as much, and not with less.
+fn mends(
+    rt: &impl Abort,
+    (checksum, text, erasures): (u32, &[u8], &[usize]),
+    (locations, values, want): (&[usize], &[u8], &[u8]),
+) {
+    let (count, size) = (locations.len(), text.len());
+    for rooms in [(4, 4, 64), (count, count, size)] {
+        let got = corrected(checksum, text, erasures, rooms);
+        is_mended(rt, &got, locations, values, want);
+    }
+    let short = (count, count, size.saturating_sub(1));
+    is_refused(rt, &corrected(checksum, text, erasures, short), 92);
+    if count > 0 {
+        let less = count.saturating_sub(1);
+        for rooms in [(less, count, size), (count, less, size)] {
+            is_refused(rt, &corrected(checksum, text, erasures, rooms), 92);
+        }
+    }
+}
+
 #[test]
 fn mends_known_texts(rt: HostRuntime) {
     // Made twice over and equal: by a reference model written from the definitions alone, and by the
@@ -607,24 +607,7 @@ fn mends_known_texts(rt: HostRuntime) {
         ),
     ];
     for (checksum, text, erasures, locations, values, want) in rows {
-        let (count, size) = (locations.len(), text.len());
-        for rooms in [(4, 4, 64), (count, count, size)] {
-            let got = corrected(checksum, text, erasures, rooms);
-            is_mended(&rt, &got, locations, values, want);
-        }
-        let short = corrected(
-            checksum,
-            text,
-            erasures,
-            (count, count, size.saturating_sub(1)),
-        );
-        is_refused(&rt, &short, 92);
-        if count > 0 {
-            let less = count.saturating_sub(1);
-            for rooms in [(less, count, size), (count, less, size)] {
-                is_refused(&rt, &corrected(checksum, text, erasures, rooms), 92);
-            }
-        }
+        mends(&rt, (checksum, text, erasures), (locations, values, want));
     }
 }
 
