@@ -1,5 +1,6 @@
 //! Comparisons that end a test where they fail.
 
+use std::alloc::{AllocError, Global};
 use std::fmt::Debug;
 use std::process::Abort;
 
@@ -11,4 +12,16 @@ pub fn same<T: PartialEq + Debug>(rt: &impl Abort, got: &T, want: &T) {
 /// Fails where the two differ.
 pub fn same_items<T: PartialEq + Debug>(rt: &impl Abort, got: &[T], want: &[T]) {
     assert_eq!(rt; got, want);
+}
+
+/// Fails where the characters differ from those of the text.
+pub fn same_text(
+    rt: &impl Abort,
+    alloc: Global,
+    got: &[char],
+    want: &str,
+) -> Result<(), AllocError> {
+    let want: Vec<char> = want.chars().collect(alloc)?;
+    same_items(rt, got, &want);
+    Ok(())
 }

@@ -1,45 +1,67 @@
 //! Corrections: location 0 is the last character, and each element is to be added to the one there.
 
+ghost use Rattle.std.specs.Prelude.{◌≡◌, IfSome};
+
 use crate::compare::{same, same_items};
-use bech32::primitives::correction::NO_ALLOC_MAX_LENGTH;
+use bech32::primitives::correction::{Corrector, NO_ALLOC_MAX_LENGTH};
 use bech32::primitives::decode::CheckedHrpstring;
 use bech32::{Bech32, Checksum, CorrectableError, Fe32, segwit};
 use std::alloc::Global;
+use std::process::Abort;
 use std::test::Fail;
+
+// The corrector of what Bech32 refuses by this error, where the error carries a residue.
+fn corrector_of<E: CorrectableError>(alloc: Global, error: &E) -> Option<Corrector<Bech32, Global>>
+    ensures { IfSome result (λ c. c.window ≡ 1023) }
+{
+    if !Bech32::sanity_check() {
+        return None;
+    }
+    error.correction_context::<Bech32, Global>(alloc)
+}
+
+fn corrector_of_text(alloc: Global, text: &str) -> Option<Corrector<Bech32, Global>>
+    ensures { IfSome result (λ c. c.window ≡ 1023) }
+{
+    let error = CheckedHrpstring::new::<Bech32>(text).err()?;
+    corrector_of(alloc, &error)
+}
+
+fn corrector_of_address(alloc: Global, address: &str) -> Option<Corrector<Bech32, Global>>
+    ensures { IfSome result (λ c. c.window ≡ 1023) }
+{
+    let error = segwit::decode(alloc, address).err()?;
+    corrector_of(alloc, &error)
+}
+
+// Fails where a corrector lists other than these: the erasures, and then the errors.
+fn lists(
+    rt: &impl Abort,
+    alloc: Global,
+    corrector: &Corrector<Bech32, Global>,
+    want: &[(usize, Fe32)],
+) -> Result<(), Fail> {
+    let errors = corrector.bch_errors()?.ok_or("no pattern")?;
+    let listing: Vec<(usize, Fe32)> = errors.collect(alloc)?;
+    same_items(rt, &listing, want);
+    Ok(())
+}
 
 #[test]
 fn without_and_with_an_erasure(rt: HostRuntime) -> Result<(), Fail> {
     let alloc = rt.alloc();
-    let refusal = CheckedHrpstring::new::<Bech32>("a12uel5q").err();
-    let error = refusal.ok_or("it is accepted")?;
-    if !Bech32::sanity_check() {
-        return Err("no lawful roots".into());
-    }
-    let mut corrector = error
-        .correction_context::<Bech32, Global>(alloc)
-        .ok_or("no residue")?;
-    let listing: Vec<(usize, Fe32)> = corrector.bch_errors()?.ok_or("no pattern")?.collect(alloc)?;
-    same_items(&rt, &listing, &[(0, Fe32::L)]);
+    let mut corrector = corrector_of_text(alloc, "a12uel5q").ok_or("no residue")?;
+    lists(&rt, alloc, &corrector, &[(0, Fe32::L)])?;
     corrector.add_erasures(&[3])?;
-    let listing: Vec<(usize, Fe32)> = corrector.bch_errors()?.ok_or("no pattern")?.collect(alloc)?;
-    same_items(&rt, &listing, &[(3, Fe32::Q), (0, Fe32::L)]);
-    Ok(())
+    lists(&rt, alloc, &corrector, &[(3, Fe32::Q), (0, Fe32::L)])
 }
 
 #[test]
 fn corrects_an_address(rt: HostRuntime) -> Result<(), Fail> {
     let alloc = rt.alloc();
     let mistyped = "bc1qar0srrr7xfkvy5l64qlydnw9re59gtzzwf5mdx";
-    let error = segwit::decode(alloc, mistyped).err().ok_or("accepted")?;
-    if !Bech32::sanity_check() {
-        return Err("no lawful roots".into());
-    }
-    let mut corrector = error
-        .correction_context::<Bech32, Global>(alloc)
-        .ok_or("no residue")?;
+    let mut corrector = corrector_of_address(alloc, mistyped).ok_or("no residue")?;
     same(&rt, &(corrector.window(), NO_ALLOC_MAX_LENGTH), &(1023, 7));
     corrector.add_erasures(&[0])?;
-    let listing: Vec<(usize, Fe32)> = corrector.bch_errors()?.ok_or("no pattern")?.collect(alloc)?;
-    same_items(&rt, &listing, &[(0, Fe32::X), (20, Fe32::_3)]);
-    Ok(())
+    lists(&rt, alloc, &corrector, &[(0, Fe32::X), (20, Fe32::_3)])
 }

@@ -1,6 +1,7 @@
 //! The front page: encoding, decoding, and a correction.
 
 use crate::compare::{same, same_items};
+use bech32::primitives::correction::Corrector;
 use bech32::primitives::decode::{CheckedHrpstring, SegwitHrpstring};
 use bech32::{
     Bech32, Bech32m, Checksum, CorrectableError, Fe32, Hrp, NoChecksum, decode, encode,
@@ -16,23 +17,37 @@ const STRING: &str = "abc14w46h2at4w46h2at4w46h2at4w46h2at958ngu";
 const TAP_ADDR: &str = "bc1p4w46h2at4w46h2at4w46h2at4w46h2at5kreae";
 
 #[test]
-fn encodes_decodes_and_corrects(rt: HostRuntime) -> Result<(), Fail> {
+fn encodes_and_decodes(rt: HostRuntime) -> Result<(), Fail> {
     let alloc = rt.alloc();
     let hrp = Hrp::parse("abc")?;
     let text = encode::<Bech32m>(alloc, hrp, &DATA)?;
     same(&rt, &text.as_str(), &STRING);
     let (part, bytes) = decode(alloc, &text)?;
     same(&rt, &(part, bytes.as_slice()), &(hrp, DATA.as_slice()));
+    Ok(())
+}
+
+// The corrector of a text that Bech32m refuses, where only its checksum is wrong.
+fn corrector_of(alloc: Global, text: &str) -> Option<Corrector<Bech32m, Global>> {
+    let refusal = decode(alloc, text).err()?;
+    if !Bech32m::sanity_check() {
+        return None;
+    }
+    refusal.correction_context::<Bech32m, Global>(alloc)
+}
+
+// What is to be added to it, and where, counted from the last character.
+fn corrections(alloc: Global, text: &str) -> Result<Vec<(usize, Fe32)>, Fail> {
+    let corrector = corrector_of(alloc, text).ok_or("no residue")?;
+    let errors = corrector.bch_errors()?.ok_or("no pattern")?;
+    Ok(errors.collect(alloc)?)
+}
+
+#[test]
+fn corrects(rt: HostRuntime) -> Result<(), Fail> {
     // The last character should be `u`: that is to be added to the `q`, which is zero.
     let mistyped = "abc14w46h2at4w46h2at4w46h2at4w46h2at958ngq";
-    let refusal = decode(alloc, mistyped).err().ok_or("it is accepted")?;
-    if !Bech32m::sanity_check() {
-        return Err("no lawful roots".into());
-    }
-    let corrector = refusal
-        .correction_context::<Bech32m, Global>(alloc)
-        .ok_or("no residue")?;
-    let listing: Vec<(usize, Fe32)> = corrector.bch_errors()?.ok_or("no pattern")?.collect(alloc)?;
+    let listing = corrections(rt.alloc(), mistyped)?;
     same_items(&rt, &listing, &[(0, Fe32::U)]);
     Ok(())
 }
@@ -42,27 +57,60 @@ fn encoding(rt: HostRuntime) -> Result<(), Fail> {
     let alloc = rt.alloc();
     let hrp = Hrp::parse("abc")?;
     let string = encode::<Bech32m>(alloc, hrp, &DATA)?;
+    same(&rt, &string.as_str(), &STRING);
+    Ok(())
+}
+
+#[test]
+fn encoding_addresses(rt: HostRuntime) -> Result<(), Fail> {
+    let alloc = rt.alloc();
     let taproot_address = segwit::encode(alloc, hrp::BC, segwit::VERSION_1, &DATA)?;
+    same(&rt, &taproot_address.as_str(), &TAP_ADDR);
+    Ok(())
+}
+
+#[test]
+fn encoding_to_fmt(rt: HostRuntime) -> Result<(), Fail> {
+    let alloc = rt.alloc();
+    let hrp = Hrp::parse("abc")?;
     let mut buf = String::new(alloc);
     encode_to_fmt::<Bech32m, String>(&mut buf, hrp, &DATA)?;
-    let found = [string.as_str(), taproot_address.as_str(), buf.as_str()];
-    same_items(&rt, &found, &[STRING, TAP_ADDR, STRING]);
+    same(&rt, &buf.as_str(), &STRING);
     Ok(())
 }
 
 #[test]
 fn decoding(rt: HostRuntime) -> Result<(), Fail> {
     let alloc = rt.alloc();
-    let (hrp, data) = decode(alloc, STRING)?;
-    let (_hrp, _version, program) = segwit::decode(alloc, TAP_ADDR)?;
     let p = CheckedHrpstring::new::<Bech32m>(STRING)?;
-    let of_reader: Vec<u8> = p.byte_iter().collect(alloc)?;
-    let taproot = SegwitHrpstring::new(TAP_ADDR)?;
-    let of_address: Vec<u8> = taproot.byte_iter().collect(alloc)?;
+    let (hrp, data) = decode(alloc, STRING)?;
     same_items(&rt, &[hrp, p.hrp()], &[Hrp::parse("abc")?; 2]);
     same_items(&rt, data.as_slice(), DATA.as_slice());
+    Ok(())
+}
+
+#[test]
+fn decoding_addresses(rt: HostRuntime) -> Result<(), Fail> {
+    let alloc = rt.alloc();
+    let (_hrp, _version, program) = segwit::decode(alloc, TAP_ADDR)?;
     same_items(&rt, program.as_slice(), DATA.as_slice());
+    Ok(())
+}
+
+#[test]
+fn reading(rt: HostRuntime) -> Result<(), Fail> {
+    let alloc = rt.alloc();
+    let p = CheckedHrpstring::new::<Bech32m>(STRING)?;
+    let of_reader: Vec<u8> = p.byte_iter().collect(alloc)?;
     same_items(&rt, of_reader.as_slice(), DATA.as_slice());
+    Ok(())
+}
+
+#[test]
+fn reading_addresses(rt: HostRuntime) -> Result<(), Fail> {
+    let alloc = rt.alloc();
+    let taproot = SegwitHrpstring::new(TAP_ADDR)?;
+    let of_address: Vec<u8> = taproot.byte_iter().collect(alloc)?;
     same_items(&rt, of_address.as_slice(), DATA.as_slice());
     Ok(())
 }

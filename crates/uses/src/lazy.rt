@@ -1,6 +1,6 @@
 //! One character at a time, without memory.
 
-use crate::compare::same_items;
+use crate::compare::{same_items, same_text};
 use bech32::{Bech32, ByteIterExt, Fe32, Fe32IterExt, Hrp};
 use std::test::Fail;
 
@@ -20,9 +20,8 @@ fn characters_of_an_address(rt: HostRuntime) -> Result<(), Fail> {
         .with_witness_version(Fe32::Q)
         .chars();
     let addr: Vec<char> = chars.collect(rt.alloc())?;
-    let want = "bc1qw508d6qejxtdg4y5r3zarvary0c5xw7kv8f3t4".chars();
-    let want: Vec<char> = want.collect(rt.alloc())?;
-    same_items(&rt, &addr, &want);
+    let want = "bc1qw508d6qejxtdg4y5r3zarvary0c5xw7kv8f3t4";
+    same_text(&rt, rt.alloc(), &addr, want)?;
     Ok(())
 }
 

@@ -1,6 +1,6 @@
 //! A checksum of one's own, with the calls for any checksum.
 
-use crate::compare::{same, same_items};
+use crate::compare::{same, same_text};
 use crate::long_codex32::LongCodex32;
 use bech32::primitives::decode::CheckedHrpstring;
 use bech32::{Checksum, Fe32IterExt};
@@ -20,7 +20,6 @@ fn long_codex32_strings(rt: HostRuntime) -> Result<(), Fail> {
         .with_checksum::<LongCodex32>(&hrp)
         .chars();
     let text: Vec<char> = chars.collect(rt.alloc())?;
-    let want: Vec<char> = LONG.chars().collect(rt.alloc())?;
-    same_items(&rt, &text, &want);
+    same_text(&rt, rt.alloc(), &text, LONG)?;
     Ok(())
 }

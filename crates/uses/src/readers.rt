@@ -44,6 +44,11 @@ fn parts_of_an_address(rt: HostRuntime) -> Result<(), Fail> {
     let found = (segwit.hrp(), segwit.witness_version());
     same(&rt, &found, &(Hrp::parse("bc")?, VERSION_1));
     same(&rt, &segwit.byte_iter().len(), &32);
+    Ok(())
+}
+
+#[test]
+fn ascii_of_an_address(rt: HostRuntime) -> Result<(), Fail> {
     let addr = "bc1qar0srrr7xfkvy5l643lydnw9re59gtzzwf5mdq";
     let mut unchecked = UncheckedHrpstring::new(addr)?;
     same(&rt, &unchecked.remove_witness_version(), &Some(Fe32::Q));
