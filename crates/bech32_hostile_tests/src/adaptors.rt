@@ -1,59 +1,69 @@
 //! Iterators over one that gives two items, `None`, and then items again.
 
 use crate::compare::same;
+use bech32::primitives::hrp::Error;
 use bech32::primitives::iter::Checksummed;
 use bech32::{Bech32, Fe32, Fe32IterExt, Hrp};
 use bech32_testing::iterators::TwoItems;
-use std::test::Fail;
+use std::process::Abort;
 
 // The text of the two under `a`, which does not depend on how often they are asked for.
 const TEXT: &str = "a144mh9z97";
 
-#[test]
-fn texts_stay_ended(rt: HostRuntime) -> Result<(), Fail> {
-    let hrp = Hrp::parse("a")?;
-    let encoder = TwoItems::new(Fe32::_4, None).with_checksum::<Bech32>(&hrp);
+// The character, the byte and the element at a place of a text: none behind its end.
+fn char_at(text: &str, place: usize) -> Option<char> {
+    Some(char::from(byte_at(text, place)?))
+}
+
+fn byte_at(text: &str, place: usize) -> Option<u8> {
+    text.as_bytes().get(place).copied()
+}
+
+fn element_at(text: &str, place: usize) -> Option<Fe32> {
+    Fe32::from_char(char_at(text, place)?).ok()
+}
+
+fn chars_stay_ended(rt: &impl Abort, hrp: &Hrp) {
+    let encoder = TwoItems::new(Fe32::_4, None).with_checksum::<Bech32>(hrp);
     let mut chars = encoder.chars();
-    for b in TEXT.as_bytes() {
-        same(&rt, &chars.next(), &Some(char::from(*b)));
+    for place in 0..13usize {
+        same(rt, &chars.next(), &char_at(TEXT, place));
     }
-    for _ in 0..3 {
-        same(&rt, &chars.next(), &None);
-    }
-    let encoder = TwoItems::new(Fe32::_4, Some(usize::MAX)).with_checksum::<Bech32>(&hrp);
+}
+
+fn bytes_stay_ended(rt: &impl Abort, hrp: &Hrp) {
+    let encoder = TwoItems::new(Fe32::_4, Some(usize::MAX)).with_checksum::<Bech32>(hrp);
     let mut bytes = encoder.bytes();
-    for b in TEXT.as_bytes() {
-        same(&rt, &bytes.next(), &Some(*b));
+    for place in 0..13usize {
+        same(rt, &bytes.next(), &byte_at(TEXT, place));
     }
-    for _ in 0..3 {
-        same(&rt, &bytes.next(), &None);
-    }
+}
+
+#[test]
+fn texts_stay_ended(rt: HostRuntime) -> Result<(), Error> {
+    let hrp = Hrp::parse("a")?;
+    chars_stay_ended(&rt, &hrp);
+    bytes_stay_ended(&rt, &hrp);
     Ok(())
 }
 
 #[test]
-fn elements_stay_ended(rt: HostRuntime) -> Result<(), Fail> {
+fn elements_stay_ended(rt: HostRuntime) -> Result<(), Error> {
     let hrp = Hrp::parse("a")?;
     let encoder = TwoItems::new(Fe32::_4, None).with_checksum::<Bech32>(&hrp);
     let mut fes = encoder.fes();
-    for b in b"rqp44mh9z97" {
-        same(&rt, &fes.next(), &Fe32::from_char(char::from(*b)).ok());
-    }
-    for _ in 0..3 {
-        same(&rt, &fes.next(), &None);
+    for place in 0..14usize {
+        same(&rt, &fes.next(), &element_at("rqp44mh9z97", place));
     }
     Ok(())
 }
 
 #[test]
-fn checksums_stay_ended(rt: HostRuntime) -> Result<(), Fail> {
+fn checksums_stay_ended(rt: HostRuntime) -> Result<(), Error> {
     let hrp = Hrp::parse("a")?;
     let mut fes = Checksummed::<_, Bech32>::new_hrp(hrp, TwoItems::new(Fe32::_4, None));
-    for b in b"44mh9z97" {
-        same(&rt, &fes.next(), &Fe32::from_char(char::from(*b)).ok());
-    }
-    for _ in 0..3 {
-        same(&rt, &fes.next(), &None);
+    for place in 0..11usize {
+        same(&rt, &fes.next(), &element_at("44mh9z97", place));
     }
     Ok(())
 }

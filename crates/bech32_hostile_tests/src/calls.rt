@@ -12,7 +12,6 @@ use bech32::{
 use bech32_testing_memory::Refusing;
 use codex32::{Codex32Error, propose_in};
 use std::alloc::{Allocator, Global};
-use std::test::Fail;
 
 // The program of the first address in BIP-173's examples, and the address; a program of version 1.
 const PROGRAM: [u8; 20] = [
@@ -52,41 +51,47 @@ fn address_is<A: Allocator>(outcome: Result<String<A>, segwit::EncodeError>, tex
 enum Encode {}
 
 impl Call for Encode {
-    fn answer(heap: &Refusing<Global>) -> Result<Answer, Fail> {
-        let text = encode_in::<Bech32m, _>(heap, Hrp::parse("abc")?, &BYTES);
-        Ok(text_is(text, TEXT))
+    fn answer(heap: &Refusing<Global>) -> Answer {
+        let Ok(hrp) = Hrp::parse("abc") else {
+            return Answer::Other;
+        };
+        text_is(encode_in::<Bech32m, _>(heap, hrp, &BYTES), TEXT)
     }
 }
 
 enum EncodeLower {}
 
 impl Call for EncodeLower {
-    fn answer(heap: &Refusing<Global>) -> Result<Answer, Fail> {
-        let text = encode_lower_in::<Bech32m, _>(heap, Hrp::parse("ABC")?, &BYTES);
-        Ok(text_is(text, TEXT))
+    fn answer(heap: &Refusing<Global>) -> Answer {
+        let Ok(hrp) = Hrp::parse("ABC") else {
+            return Answer::Other;
+        };
+        text_is(encode_lower_in::<Bech32m, _>(heap, hrp, &BYTES), TEXT)
     }
 }
 
 enum EncodeUpper {}
 
 impl Call for EncodeUpper {
-    fn answer(heap: &Refusing<Global>) -> Result<Answer, Fail> {
-        let text = encode_upper_in::<Bech32m, _>(heap, Hrp::parse("abc")?, &BYTES);
-        Ok(text_is(text, UPPER_TEXT))
+    fn answer(heap: &Refusing<Global>) -> Answer {
+        let Ok(hrp) = Hrp::parse("abc") else {
+            return Answer::Other;
+        };
+        text_is(encode_upper_in::<Bech32m, _>(heap, hrp, &BYTES), UPPER_TEXT)
     }
 }
 
 enum Decode {}
 
 impl Call for Decode {
-    fn answer(heap: &Refusing<Global>) -> Result<Answer, Fail> {
+    fn answer(heap: &Refusing<Global>) -> Answer {
         match decode_in(heap, UPPER_TEXT) {
             Ok((hrp, bytes)) => {
                 let is_same = hrp.as_str() == "ABC" && bytes.as_slice() == BYTES.as_slice();
-                Ok(Answer::of(is_same))
+                Answer::of(is_same)
             }
-            Err(DecodeError::Memory) => Ok(Answer::NoMemory),
-            Err(_) => Ok(Answer::Other),
+            Err(DecodeError::Memory) => Answer::NoMemory,
+            Err(_) => Answer::Other,
         }
     }
 }
@@ -94,39 +99,38 @@ impl Call for Decode {
 enum SegwitEncode {}
 
 impl Call for SegwitEncode {
-    fn answer(heap: &Refusing<Global>) -> Result<Answer, Fail> {
-        let text = segwit::encode_in(heap, BC, VERSION_1, &BYTES);
-        Ok(address_is(text, TAPROOT))
+    fn answer(heap: &Refusing<Global>) -> Answer {
+        address_is(segwit::encode_in(heap, BC, VERSION_1, &BYTES), TAPROOT)
     }
 }
 
 enum SegwitEncodeV0 {}
 
 impl Call for SegwitEncodeV0 {
-    fn answer(heap: &Refusing<Global>) -> Result<Answer, Fail> {
-        Ok(address_is(segwit::encode_v0_in(heap, BC, &PROGRAM), ADDRESS))
+    fn answer(heap: &Refusing<Global>) -> Answer {
+        address_is(segwit::encode_v0_in(heap, BC, &PROGRAM), ADDRESS)
     }
 }
 
 enum SegwitEncodeV1 {}
 
 impl Call for SegwitEncodeV1 {
-    fn answer(heap: &Refusing<Global>) -> Result<Answer, Fail> {
-        Ok(address_is(segwit::encode_v1_in(heap, BC, &BYTES), TAPROOT))
+    fn answer(heap: &Refusing<Global>) -> Answer {
+        address_is(segwit::encode_v1_in(heap, BC, &BYTES), TAPROOT)
     }
 }
 
 enum SegwitDecode {}
 
 impl Call for SegwitDecode {
-    fn answer(heap: &Refusing<Global>) -> Result<Answer, Fail> {
+    fn answer(heap: &Refusing<Global>) -> Answer {
         match segwit::decode_in(heap, ADDRESS) {
             Ok((hrp, version, program)) => {
                 let is_same = hrp == BC && version == VERSION_0;
-                Ok(Answer::of(is_same && program.as_slice() == PROGRAM.as_slice()))
+                Answer::of(is_same && program.as_slice() == PROGRAM.as_slice())
             }
-            Err(segwit::DecodeError(SegwitHrpstringError::Memory)) => Ok(Answer::NoMemory),
-            Err(_) => Ok(Answer::Other),
+            Err(segwit::DecodeError(SegwitHrpstringError::Memory)) => Answer::NoMemory,
+            Err(_) => Answer::Other,
         }
     }
 }
@@ -134,13 +138,15 @@ impl Call for SegwitDecode {
 enum ToLowercase {}
 
 impl Call for ToLowercase {
-    fn answer(heap: &Refusing<Global>) -> Result<Answer, Fail> {
-        let hrp = Hrp::parse("TB")?;
+    fn answer(heap: &Refusing<Global>) -> Answer {
+        let Ok(hrp) = Hrp::parse("TB") else {
+            return Answer::Other;
+        };
         let lower = hrp.to_lowercase_in(heap);
         match lower {
-            Ok(text) => Ok(Answer::of(text.as_str() == "tb" && hrp == TB)),
-            Err(_) if hrp.as_str() == "TB" => Ok(Answer::NoMemory),
-            Err(_) => Ok(Answer::Other),
+            Ok(text) => Answer::of(text.as_str() == "tb" && hrp == TB),
+            Err(_) if hrp.as_str() == "TB" => Answer::NoMemory,
+            Err(_) => Answer::Other,
         }
     }
 }
@@ -148,10 +154,10 @@ impl Call for ToLowercase {
 enum Detects {}
 
 impl Call for Detects {
-    fn answer(heap: &Refusing<Global>) -> Result<Answer, Fail> {
+    fn answer(heap: &Refusing<Global>) -> Answer {
         match detects_four_in::<Bech32, _>(heap, 12) {
-            Ok(answer) => Ok(Answer::of(answer)),
-            Err(_) => Ok(Answer::NoMemory),
+            Ok(answer) => Answer::of(answer),
+            Err(_) => Answer::NoMemory,
         }
     }
 }
@@ -159,12 +165,12 @@ impl Call for Detects {
 enum Block {}
 
 impl Call for Block {
-    fn answer(heap: &Refusing<Global>) -> Result<Answer, Fail> {
+    fn answer(heap: &Refusing<Global>) -> Answer {
         let generator = [Fe32::X, Fe32::G];
         match PrintImpl::<Fe32>::new_in(heap, "Tiny", &generator, &[Fe32::Q, Fe32::P]) {
-            Ok(_) => Ok(Answer::Undisturbed),
-            Err(PrintError::Memory) => Ok(Answer::NoMemory),
-            Err(_) => Ok(Answer::Other),
+            Ok(_) => Answer::Undisturbed,
+            Err(PrintError::Memory) => Answer::NoMemory,
+            Err(_) => Answer::Other,
         }
     }
 }
@@ -172,45 +178,44 @@ impl Call for Block {
 enum Propose {}
 
 impl Call for Propose {
-    fn answer(heap: &Refusing<Global>) -> Result<Answer, Fail> {
+    fn answer(heap: &Refusing<Global>) -> Answer {
         let right = "ms10testsxxxxxxxxxxxxxxxxxxxxxxxxxx4nzvca9cmczlw";
         match propose_in(heap, "ms1qtestsqxxxxxxxxxxxxxxxxxxxxxxxxq4nzvca9cmczlq") {
-            Ok(Some(nearest)) => Ok(Answer::of(nearest.as_str() == right)),
-            Err(Codex32Error::Memory) => Ok(Answer::NoMemory),
-            _ => Ok(Answer::Other),
+            Ok(Some(nearest)) => Answer::of(nearest.as_str() == right),
+            Err(Codex32Error::Memory) => Answer::NoMemory,
+            _ => Answer::Other,
         }
     }
 }
 
 #[test]
-fn texts(rt: HostRuntime) -> Result<(), Fail> {
+fn texts(rt: HostRuntime) {
     let alloc = rt.alloc();
-    each_refused::<Encode>(&rt, alloc)?;
-    each_refused::<EncodeLower>(&rt, alloc)?;
-    each_refused::<EncodeUpper>(&rt, alloc)?;
+    each_refused::<Encode>(&rt, alloc);
+    each_refused::<EncodeLower>(&rt, alloc);
+    each_refused::<EncodeUpper>(&rt, alloc);
     // The bytes are gathered in room that is made at first or as they come.
-    wants_of::<Decode>(&rt, alloc)?;
-    each_refused::<ToLowercase>(&rt, alloc)
+    wants_of::<Decode>(&rt, alloc);
+    each_refused::<ToLowercase>(&rt, alloc);
 }
 
 #[test]
-fn addresses(rt: HostRuntime) -> Result<(), Fail> {
+fn addresses(rt: HostRuntime) {
     let alloc = rt.alloc();
-    each_refused::<SegwitEncode>(&rt, alloc)?;
-    each_refused::<SegwitEncodeV0>(&rt, alloc)?;
-    each_refused::<SegwitEncodeV1>(&rt, alloc)?;
-    wants_of::<SegwitDecode>(&rt, alloc)?;
-    Ok(())
+    each_refused::<SegwitEncode>(&rt, alloc);
+    each_refused::<SegwitEncodeV0>(&rt, alloc);
+    each_refused::<SegwitEncodeV1>(&rt, alloc);
+    wants_of::<SegwitDecode>(&rt, alloc);
 }
 
 #[test]
-fn decisions_and_blocks(rt: HostRuntime) -> Result<(), Fail> {
+fn decisions_and_blocks(rt: HostRuntime) {
     let alloc = rt.alloc();
-    each_refused::<Detects>(&rt, alloc)?;
-    each_refused::<Block>(&rt, alloc)
+    each_refused::<Detects>(&rt, alloc);
+    each_refused::<Block>(&rt, alloc);
 }
 
 #[test]
-fn nearest_strings(rt: HostRuntime) -> Result<(), Fail> {
-    each_refused::<Propose>(&rt, rt.alloc())
+fn nearest_strings(rt: HostRuntime) {
+    each_refused::<Propose>(&rt, rt.alloc());
 }

@@ -1,14 +1,15 @@
 //! The corrector and the register: what they are after a request for memory was refused.
 
+ghost use Rattle.std.specs.Prelude.{◌≡◌, IfSome};
+
 use crate::turns::{Answer, Call, each_refused};
 use bech32::primitives::LfsrIter;
-use bech32::primitives::correction::Corrector;
+use bech32::primitives::correction::{Corrector, ErrorIterator};
 use bech32::primitives::decode::{CheckedHrpstring, CheckedHrpstringError};
 use bech32::{Checksum, CorrectableError, Fe32};
 use bech32_testing_codes::Degree13;
 use bech32_testing_memory::Refusing;
 use std::alloc::{AllocError, Global};
-use std::test::Fail;
 
 // A string of codex32 with four errors, and its listing with the erasures 44 and 0.
 const FOUR_ERRORS: &str = "ms1qtestsqxxxxxxxxxxxxxxxxxxxxxxxxq4nzvca9cmczlq";
@@ -31,22 +32,52 @@ const EIGHT: [(usize, Fe32); 8] = [
 
 type OnHeap<'h> = Corrector<Degree13, &'h Refusing<Global>>;
 
+type Listing<'h> = ErrorIterator<&'h Refusing<Global>>;
+
 // Why the checksum refuses a text.
-fn refusal(text: &str) -> Result<CheckedHrpstringError, Fail> {
-    let refusal = CheckedHrpstring::new::<Degree13>(text).err();
-    Ok(refusal.ok_or("it is accepted")?)
+fn refusal(text: &str) -> Option<CheckedHrpstringError> {
+    match CheckedHrpstring::new::<Degree13>(text) {
+        Ok(_) => None,
+        Err(e) => Some(e),
+    }
+}
+
+// The corrector of a text that the checksum refuses.
+fn corrector_of<'h>(heap: &'h Refusing<Global>, text: &str) -> Option<OnHeap<'h>>
+    ensures { IfSome result (λ c. c.window ≡ 93) }
+{
+    let error = refusal(text)?;
+    if !Degree13::sanity_check() {
+        return None;
+    }
+    error.correction_context::<Degree13, _>(heap)
+}
+
+// That of the four errors, with the first two as erasures.
+fn of_four_errors(heap: &Refusing<Global>) -> Option<OnHeap<'_>>
+    ensures { IfSome result (λ c. c.window ≡ 93) }
+{
+    let mut corrector = corrector_of(heap, FOUR_ERRORS)?;
+    match corrector.add_erasures(&[44, 0]) {
+        Ok(()) => Some(corrector),
+        Err(_) => None,
+    }
+}
+
+// Whether a listing is just this.
+fn is_listing(listing: Listing<'_>, want: &[(usize, Fe32)]) -> bool {
+    let mut errors = listing;
+    let mut is_same = true;
+    for pair in want {
+        is_same = errors.next() == Some(*pair) && is_same;
+    }
+    errors.next().is_none() && is_same
 }
 
 // What a corrector answers that should list just this.
 fn lists(corrector: &OnHeap<'_>, want: &[(usize, Fe32)]) -> Answer {
     match corrector.bch_errors() {
-        Ok(Some(mut errors)) => {
-            let mut is_same = true;
-            for pair in want {
-                is_same = is_same && errors.next() == Some(*pair);
-            }
-            Answer::of(is_same && errors.next().is_none())
-        }
+        Ok(Some(errors)) => Answer::of(is_listing(errors, want)),
         Ok(None) => Answer::Other,
         Err(_) => Answer::NoMemory,
     }
@@ -60,23 +91,32 @@ fn wants_memory(corrector: &OnHeap<'_>, want: &[(usize, Fe32)]) -> Answer {
     }
 }
 
+// What it answers where it is asked again after want of memory.
+fn lists_or_wants_memory(corrector: &OnHeap<'_>, want: &[(usize, Fe32)]) -> Answer {
+    match lists(corrector, want) {
+        Answer::NoMemory => wants_memory(corrector, want),
+        answer => answer,
+    }
+}
+
+// What its clone answers, or itself after want of memory.
+fn clone_lists(corrector: &OnHeap<'_>, want: &[(usize, Fe32)]) -> Answer {
+    match corrector.clone() {
+        Ok(other) => lists(&other, want),
+        Err(_) => wants_memory(corrector, want),
+    }
+}
+
 enum AddErasures {}
 
 impl Call for AddErasures {
-    fn answer(heap: &Refusing<Global>) -> Result<Answer, Fail> {
-        if !Degree13::sanity_check() {
-            return Err("no lawful roots".into());
-        }
-        let error = refusal(FOUR_ERRORS)?;
-        let mut corrector = error
-            .correction_context::<Degree13, _>(heap)
-            .ok_or("no corrector")?;
-        if corrector.add_erasures(&[44, 0]).is_err() {
-            return Ok(Answer::Other);
-        }
+    fn answer(heap: &Refusing<Global>) -> Answer {
+        let Some(mut corrector) = of_four_errors(heap) else {
+            return Answer::Other;
+        };
         match corrector.add_erasures(&[1, 2, 3, 4, 5, 6]) {
-            Ok(()) => Ok(Answer::Undisturbed),
-            Err(_) => Ok(wants_memory(&corrector, &FOUR)),
+            Ok(()) => Answer::Undisturbed,
+            Err(_) => wants_memory(&corrector, &FOUR),
         }
     }
 }
@@ -84,20 +124,10 @@ impl Call for AddErasures {
 enum BchErrors {}
 
 impl Call for BchErrors {
-    fn answer(heap: &Refusing<Global>) -> Result<Answer, Fail> {
-        if !Degree13::sanity_check() {
-            return Err("no lawful roots".into());
-        }
-        let error = refusal(FOUR_ERRORS)?;
-        let mut corrector = error
-            .correction_context::<Degree13, _>(heap)
-            .ok_or("no corrector")?;
-        if corrector.add_erasures(&[44, 0]).is_err() {
-            return Ok(Answer::Other);
-        }
-        match lists(&corrector, &FOUR) {
-            Answer::NoMemory => Ok(wants_memory(&corrector, &FOUR)),
-            answer => Ok(answer),
+    fn answer(heap: &Refusing<Global>) -> Answer {
+        match of_four_errors(heap) {
+            Some(corrector) => lists_or_wants_memory(&corrector, &FOUR),
+            None => Answer::Other,
         }
     }
 }
@@ -105,20 +135,13 @@ impl Call for BchErrors {
 enum CloneCorrector {}
 
 impl Call for CloneCorrector {
-    fn answer(heap: &Refusing<Global>) -> Result<Answer, Fail> {
-        if !Degree13::sanity_check() {
-            return Err("no lawful roots".into());
-        }
-        let error = refusal(EIGHT_ERRORS)?;
-        let mut corrector = error
-            .correction_context::<Degree13, _>(heap)
-            .ok_or("no corrector")?;
-        if corrector.add_erasures(&[0, 1, 2, 3, 4, 5, 6, 7]).is_err() {
-            return Ok(Answer::NoMemory);
-        }
-        match corrector.clone() {
-            Ok(other) => Ok(lists(&other, &EIGHT)),
-            Err(_) => Ok(wants_memory(&corrector, &EIGHT)),
+    fn answer(heap: &Refusing<Global>) -> Answer {
+        let Some(mut corrector) = corrector_of(heap, EIGHT_ERRORS) else {
+            return Answer::Other;
+        };
+        match corrector.add_erasures(&[0, 1, 2, 3, 4, 5, 6, 7]) {
+            Ok(()) => clone_lists(&corrector, &EIGHT),
+            Err(_) => Answer::NoMemory,
         }
     }
 }
@@ -149,57 +172,69 @@ const ITEMS: [Fe32; 20] = [
 
 type Register<'h> = LfsrIter<Fe32, &'h Refusing<Global>>;
 
+// Whether this item comes next.
+fn is_next(register: &mut Register<'_>, item: &Fe32) -> bool {
+    register.next() == Some(*item)
+}
+
 // Whether these items come next.
 fn goes_on(register: Register<'_>, items: &[Fe32]) -> bool {
-    let mut place = 0usize;
+    let mut register = register;
     let mut is_same = true;
-    for item in register.take(items.len()) {
-        is_same = is_same && items.get(place) == Some(&item);
-        place = place.saturating_add(1);
+    for item in items {
+        is_same = is_next(&mut register, item) && is_same;
     }
-    is_same && place == items.len()
+    is_same
 }
 
 enum Massey {}
 
 impl Call for Massey {
-    fn answer(heap: &Refusing<Global>) -> Result<Answer, Fail> {
+    fn answer(heap: &Refusing<Global>) -> Answer {
         match LfsrIter::berlekamp_massey_in(heap, &ITEMS) {
-            Ok(register) => Ok(Answer::of(goes_on(register, &ITEMS))),
-            Err(_) => Ok(Answer::NoMemory),
+            Ok(register) => Answer::of(goes_on(register, &ITEMS)),
+            Err(_) => Answer::NoMemory,
         }
+    }
+}
+
+// What a register and its clone answer, each of which should go on so.
+fn both_go_on(register: Register<'_>, items: &[Fe32]) -> Answer {
+    let copy: Result<Register<'_>, AllocError> = register.clone();
+    let is_same = goes_on(register, items);
+    match copy {
+        Ok(other) => Answer::of(goes_on(other, items) && is_same),
+        Err(_) if is_same => Answer::NoMemory,
+        Err(_) => Answer::Other,
     }
 }
 
 enum CloneRegister {}
 
 impl Call for CloneRegister {
-    fn answer(heap: &Refusing<Global>) -> Result<Answer, Fail> {
+    fn answer(heap: &Refusing<Global>) -> Answer {
         let Ok(mut register) = LfsrIter::berlekamp_massey_in(heap, &ITEMS) else {
-            return Ok(Answer::NoMemory);
+            return Answer::NoMemory;
         };
-        let first = [register.next(), register.next()];
-        let copy: Result<Register<'_>, AllocError> = register.clone();
-        let is_same = first == [Some(Fe32::P), Some(Fe32::Z)] && goes_on(register, &ITEMS[2..]);
-        match copy {
-            Ok(other) => Ok(Answer::of(is_same && goes_on(other, &ITEMS[2..]))),
-            Err(_) if is_same => Ok(Answer::NoMemory),
-            Err(_) => Ok(Answer::Other),
+        if [register.next(), register.next()] == [Some(Fe32::P), Some(Fe32::Z)] {
+            both_go_on(register, &ITEMS[2..])
+        } else {
+            Answer::Other
         }
     }
 }
 
 #[test]
-fn correctors_as_they_were(rt: HostRuntime) -> Result<(), Fail> {
+fn correctors_as_they_were(rt: HostRuntime) {
     let alloc = rt.alloc();
-    each_refused::<AddErasures>(&rt, alloc)?;
-    each_refused::<BchErrors>(&rt, alloc)?;
-    each_refused::<CloneCorrector>(&rt, alloc)
+    each_refused::<AddErasures>(&rt, alloc);
+    each_refused::<BchErrors>(&rt, alloc);
+    each_refused::<CloneCorrector>(&rt, alloc);
 }
 
 #[test]
-fn registers_as_they_were(rt: HostRuntime) -> Result<(), Fail> {
+fn registers_as_they_were(rt: HostRuntime) {
     let alloc = rt.alloc();
-    each_refused::<Massey>(&rt, alloc)?;
-    each_refused::<CloneRegister>(&rt, alloc)
+    each_refused::<Massey>(&rt, alloc);
+    each_refused::<CloneRegister>(&rt, alloc);
 }

@@ -2,11 +2,11 @@
 //! refused: `tools/refused` runs them so.
 
 use crate::compare::same_items;
+use bech32::primitives::hrp::Error;
 use bech32::primitives::iter::plain::{plain_to_bytes, plain_to_fes};
 use bech32::{Fe32, Hrp};
 use bech32_plain::{PlainChecksum, accepts, encoded_text};
 use std::alloc::AllocError;
-use std::test::Fail;
 
 #[test]
 fn plain_regrouping(rt: HostRuntime) {
@@ -21,7 +21,7 @@ fn plain_regrouping(rt: HostRuntime) {
 }
 
 #[test]
-fn plain_texts(rt: HostRuntime) -> Result<(), Fail> {
+fn plain_texts(rt: HostRuntime) -> Result<(), Error> {
     let hrp = Hrp::parse("a")?;
     match encoded_text(rt.alloc(), PlainChecksum::Bech32, &hrp, &[]) {
         Ok(text) => same_items(&rt, text.as_slice(), b"a12uel5l"),

@@ -4,7 +4,6 @@ use crate::compare::same;
 use bech32_testing_memory::Refusing;
 use std::alloc::Global;
 use std::process::Abort;
-use std::test::Fail;
 
 /// What a call answers, beside its answer where memory is ample.
 #[derive(Clone, Copy, PartialEq, Eq, Debug)]
@@ -31,31 +30,35 @@ impl Answer {
 /// A call that takes memory.
 pub trait Call {
     /// What it answers with the memory of a heap.
-    fn answer(heap: &Refusing<Global>) -> Result<Answer, Fail>;
+    fn answer(heap: &Refusing<Global>) -> Answer;
+}
+
+// What a call answers where the request of this number is refused, and whether that request came.
+fn turn<C: Call>(alloc: Global, number: u64) -> (Answer, bool) {
+    let heap = Refusing::new(alloc, number);
+    let answer = C::answer(&heap);
+    (answer, heap.has_refused())
 }
 
 /// Refuses each request of a call in turn, until all are granted: it answers want of memory or the
 /// undisturbed answer, and the latter in the end. It says how often it answered want of memory.
-pub fn wants_of<C: Call>(rt: &impl Abort, alloc: Global) -> Result<u32, Fail> {
+pub fn wants_of<C: Call>(rt: &impl Abort, alloc: Global) -> u32 {
     let mut wants = 0u32;
     for number in 1..1000u64 {
-        let heap = Refusing::new(alloc, number);
-        let answer = C::answer(&heap)?;
+        let (answer, has_refused) = turn::<C>(alloc, number);
+        same(rt, &(number, answer == Answer::Other), &(number, false));
+        if !has_refused {
+            same(rt, &(number > 1, answer), &(true, Answer::Undisturbed));
+            return wants;
+        }
         if answer == Answer::NoMemory {
             wants = wants.saturating_add(1);
         }
-        same(rt, &(number, answer == Answer::Other), &(number, false));
-        if !heap.has_refused() {
-            same(rt, &(number > 1, answer), &(true, Answer::Undisturbed));
-            return Ok(wants);
-        }
     }
-    Err("there are more requests".into())
+    panic!(rt; "there are more requests")
 }
 
 /// The same of a call that wants memory where one of its requests is refused.
-pub fn each_refused<C: Call>(rt: &impl Abort, alloc: Global) -> Result<(), Fail> {
-    let wants = wants_of::<C>(rt, alloc)?;
-    same(rt, &(wants > 0), &true);
-    Ok(())
+pub fn each_refused<C: Call>(rt: &impl Abort, alloc: Global) {
+    same(rt, &(wants_of::<C>(rt, alloc) > 0), &true);
 }
