@@ -1,10 +1,14 @@
-//! Tests of `bech32_corrector`.
+//! Tests of `bech32_corrector` and `bech32_detect`.
 #![tactic(auto)]
 
 #[cfg(test)]
 mod compare;
 #[cfg(test)]
 mod crafted;
+#[cfg(test)]
+mod detection;
+#[cfg(test)]
+mod detection_memory;
 #[cfg(test)]
 mod listed;
 #[cfg(test)]

@@ -1,72 +1,128 @@
 //! Want of memory.
 
-use super::compare::{same, same_items};
-use super::listed::{Listing, are_below, refusal};
+use super::compare::same;
+use super::listed::{Listing, are_within};
 use bech32_checksum::{Bech32, Checksum};
-use bech32_corrector::CorrectableError;
+use bech32_corrector::{CorrectableError, Corrector, ErrorIterator};
+use bech32_decode::CheckedHrpstring;
 use bech32_gf::gf32::Fe32;
 use bech32_testing_codes::Degree13;
 use linked_list_allocator::LocalHeap;
-use std::alloc::Global;
+use std::alloc::{AllocError, Global};
 use std::test::Fail;
 
-// What is listed with so many bytes of memory for four errors of codex32; no answer where they do
-// not suffice.
-fn with_bytes(alloc: Global, bytes: usize) -> Result<Option<Listing>, Fail> {
-    let heap = LocalHeap::new(alloc, bytes)?;
-    let error = refusal::<Degree13>("ms1qtestsqxxxxxxxxxxxxxxxxxxxxxxxxq4nzvca9cmczlq")?;
+// Whether just this was found, or nothing.
+fn is_found(found: Option<ErrorIterator<&LocalHeap>>, want: Option<Listing>) -> bool {
+    let Some(errors) = found else {
+        return want.is_none();
+    };
+    match want {
+        Some(want) => errors.eq(want.iter().copied()),
+        None => false,
+    }
+}
+
+// Whether just this is listed, or nothing is.
+fn lists<Ck: Checksum>(
+    corrector: &Corrector<Ck, &LocalHeap>,
+    want: Option<Listing>,
+) -> Result<bool, AllocError> {
+    let found = corrector.bch_errors()?;
+    Ok(is_found(found, want))
+}
+
+// What finds four errors of codex32.
+fn corrector_in(heap: &LocalHeap) -> Option<Corrector<Degree13, &LocalHeap>> {
     if !Degree13::sanity_check() {
-        return Err("no lawful roots".into());
+        return None;
     }
-    let mut corrector = error
-        .correction_context::<Degree13, _>(&heap)
-        .ok_or("no corrector")?;
-    if corrector.add_erasures(&[44, 0]).is_err() {
-        return Ok(None);
+    match CheckedHrpstring::new::<Degree13>("ms1qtestsqxxxxxxxxxxxxxxxxxxxxxxxxq4nzvca9cmczlq") {
+        Ok(_) => None,
+        Err(error) => error.correction_context::<Degree13, _>(heap),
     }
-    match corrector.bch_errors() {
-        Ok(errors) => Ok(Some(errors.ok_or("no listing")?.collect(alloc)?)),
-        Err(_) => Ok(None),
+}
+
+// Whether just the four errors are listed.
+fn lists_four(heap: &LocalHeap) -> Result<bool, AllocError> {
+    let want = [(44, Fe32::_0), (0, Fe32::W), (38, Fe32::X), (13, Fe32::X)];
+    let Some(mut corrector) = corrector_in(heap) else {
+        return Ok(false);
+    };
+    if !are_within(&[44, 0], &corrector) {
+        return Ok(false);
     }
+    corrector.add_erasures(&[44, 0])?;
+    lists(&corrector, Some(&want))
+}
+
+// The same with so many bytes of memory; no answer where they do not suffice.
+fn with_bytes(alloc: Global, bytes: usize) -> Result<Option<bool>, AllocError> {
+    let heap = LocalHeap::new(alloc, bytes)?;
+    Ok(lists_four(&heap).ok())
+}
+
+// How often there was too little memory, the right answer and the wrong one.
+fn answers(alloc: Global) -> Result<[u32; 3], AllocError> {
+    let (mut refused, mut right, mut wrong) = (0u32, 0u32, 0u32);
+    for size in 0..64usize {
+        match with_bytes(alloc, 16 * size)? {
+            None => refused = refused.saturating_add(1),
+            Some(true) => right = right.saturating_add(1),
+            Some(false) => wrong = wrong.saturating_add(1),
+        }
+    }
+    Ok([refused, right, wrong])
 }
 
 #[test]
 fn a_listing_or_want_of_memory(rt: HostRuntime) -> Result<(), Fail> {
-    let want = [(44, Fe32::_0), (0, Fe32::W), (38, Fe32::X), (13, Fe32::X)];
-    let mut refused = 0u32;
-    for size in 0..64usize {
-        match with_bytes(rt.alloc(), 16 * size)? {
-            None => refused = refused.saturating_add(1),
-            Some(listing) => same(&rt, &listing.as_slice(), &want.as_slice()),
-        }
-    }
-    assert!(rt; 1 <= refused && refused < 64, "{refused}");
+    let [refused, right, wrong] = answers(rt.alloc())?;
+    same(&rt, &(1 <= refused, 1 <= right, wrong), &(true, true, 0));
     Ok(())
 }
 
-// What a clone lists without memory for a text of Bech32 with one error.
-fn without_memory(alloc: Global, erasures: &[usize]) -> Result<Option<Listing>, Fail> {
-    let heap = LocalHeap::new(alloc, 0)?;
-    let error = refusal::<Bech32>("a12uel5q")?;
-    if !Bech32::sanity_check() || !are_below(erasures, 1023) {
-        return Err("no lawful call".into());
+// What finds one error of Bech32.
+fn corrector_of_bech32(heap: &LocalHeap) -> Option<Corrector<Bech32, &LocalHeap>> {
+    if !Bech32::sanity_check() {
+        return None;
     }
-    let mut corrector = error
-        .correction_context::<Bech32, _>(&heap)
-        .ok_or("no corrector")?;
+    match CheckedHrpstring::new::<Bech32>("a12uel5q") {
+        Ok(_) => None,
+        Err(error) => error.correction_context::<Bech32, _>(heap),
+    }
+}
+
+// Whether a clone lists just this, or nothing.
+fn clone_lists(
+    corrector: &Corrector<Bech32, &LocalHeap>,
+    want: Option<Listing>,
+) -> Result<bool, AllocError> {
+    lists(&corrector.clone()?, want)
+}
+
+// The same with these erasures.
+fn is_listed(
+    heap: &LocalHeap,
+    erasures: &[usize],
+    want: Option<Listing>,
+) -> Result<bool, AllocError> {
+    let Some(mut corrector) = corrector_of_bech32(heap) else {
+        return Ok(false);
+    };
+    if !are_within(erasures, &corrector) {
+        return Ok(false);
+    }
     corrector.add_erasures(erasures)?;
-    match corrector.clone()?.bch_errors()? {
-        Some(errors) => Ok(Some(errors.collect(alloc)?)),
-        None => Ok(None),
-    }
+    clone_lists(&corrector, want)
 }
 
 #[test]
 fn six_coefficients_take_no_memory(rt: HostRuntime) -> Result<(), Fail> {
-    let alloc = rt.alloc();
-    let got = without_memory(alloc, &[3])?.ok_or("no listing")?;
-    same_items(&rt, &got, &[(3, Fe32::Q), (0, Fe32::L)]);
-    let none = without_memory(alloc, &[0, 1, 2, 3, 4, 5, 6])?;
-    same(&rt, &none.is_none(), &true);
+    let heap = LocalHeap::new(rt.alloc(), 0)?;
+    let listed = [
+        is_listed(&heap, &[3], Some(&[(3, Fe32::Q), (0, Fe32::L)])).ok(),
+        is_listed(&heap, &[0, 1, 2, 3, 4, 5, 6], None).ok(),
+    ];
+    same(&rt, &listed, &[Some(true); 2]);
     Ok(())
 }
