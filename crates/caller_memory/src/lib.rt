@@ -4,8 +4,6 @@
 mod lent;
 mod memory;
 mod slot;
-#[cfg(test)]
-mod tests;
 
 pub use lent::Lent;
 pub use memory::Memory;

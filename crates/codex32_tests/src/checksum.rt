@@ -15,9 +15,10 @@ use bech32_gf::gf32::Fe32;
 use bech32_gf_ext::{Fe32Ext, Fe1024};
 use codex32::Codex32;
 use std::alloc::Global;
-use std::test::Fail;
 
 const TEXT: &str = "ms10testsxxxxxxxxxxxxxxxxxxxxxxxxxx4nzvca9cmczlw";
+
+const BYTES: &[u8; 48] = b"ms10testsxxxxxxxxxxxxxxxxxxxxxxxxxx4nzvca9cmczlw";
 
 // The same for longer texts than its roots serve.
 #[derive(Copy, Clone)]
@@ -104,62 +105,81 @@ fn are_below(places: &[usize], window: usize) -> bool
     true
 }
 
-// What a corrector lists with these erasures.
-fn listed_by<Ck: Checksum>(
-    mut corrector: Corrector<Ck>,
-    alloc: Global,
-    erasures: &[usize],
-) -> Result<Option<Vec<(usize, Fe32)>>, Fail> {
+// Whether the erasures are below the window, and there was memory for them.
+fn is_given(corrector: &mut Corrector<Codex32>, erasures: &[usize]) -> bool {
     if !are_below(erasures, corrector.window()) {
-        return Err("an erasure past the window".into());
+        return false;
     }
-    corrector.add_erasures(erasures)?;
-    match corrector.bch_errors()? {
-        Some(errors) => Ok(Some(errors.collect(alloc)?)),
-        None => Ok(None),
+    corrector.add_erasures(erasures).is_ok()
+}
+
+// Whether just these errors are listed.
+fn lists(corrector: &Corrector<Codex32>, want: &[(usize, Fe32)]) -> bool {
+    match corrector.bch_errors() {
+        Ok(Some(errors)) => errors.eq(want.iter().copied()),
+        _ => false,
     }
 }
 
-// What is listed for a text that the checksum refuses.
-fn listed(
+// Whether there is memory, and nothing is listed.
+fn lists_nothing(corrector: &Corrector<Codex32>) -> bool {
+    match corrector.bch_errors() {
+        Ok(answer) => answer.is_none(),
+        Err(_) => false,
+    }
+}
+
+// What finds the errors in a text that the checksum refuses.
+fn corrector_of(alloc: Global, text: &str) -> Option<Corrector<Codex32>> {
+    if !Codex32::sanity_check() {
+        return None;
+    }
+    match CheckedHrpstring::new::<Codex32>(text) {
+        Ok(_) => None,
+        Err(error) => error.correction_context::<Codex32, Global>(alloc),
+    }
+}
+
+// Whether just these errors are listed for a text that the checksum refuses, or nothing is.
+fn is_listed(
     alloc: Global,
     text: &str,
     erasures: &[usize],
-) -> Result<Option<Vec<(usize, Fe32)>>, Fail> {
-    let error = CheckedHrpstring::new::<Codex32>(text)
-        .err()
-        .ok_or("it is accepted")?;
-    if !Codex32::sanity_check() {
-        return Err("no lawful roots".into());
+    want: Option<&[(usize, Fe32)]>,
+) -> bool {
+    let Some(mut corrector) = corrector_of(alloc, text) else {
+        return false;
+    };
+    if !is_given(&mut corrector, erasures) {
+        return false;
     }
-    let corrector = error
-        .correction_context::<Codex32, Global>(alloc)
-        .ok_or("no corrector")?;
-    listed_by(corrector, alloc, erasures)
+    match want {
+        Some(want) => lists(&corrector, want),
+        None => lists_nothing(&corrector),
+    }
 }
 
 #[test]
-fn four_errors(rt: HostRuntime) -> Result<(), Fail> {
+fn four_errors(rt: HostRuntime) {
     let (alloc, text) = (
         rt.alloc(),
         "ms1qtestsqxxxxxxxxxxxxxxxxxxxxxxxxq4nzvca9cmczlq",
     );
     let (w, zero) = ((0, Fe32::W), (44, Fe32::_0));
     let (x, last) = ((38, Fe32::X), (13, Fe32::X));
-    let got = listed(alloc, text, &[])?.ok_or("no listing")?;
-    same_items(&rt, &got, &[w, zero, x, last]);
-    let got = listed(alloc, text, &[44, 0])?.ok_or("no listing")?;
-    same_items(&rt, &got, &[zero, w, x, last]);
-    Ok(())
+    let listed = [
+        is_listed(alloc, text, &[], Some(&[w, zero, x, last])),
+        is_listed(alloc, text, &[44, 0], Some(&[zero, w, x, last])),
+    ];
+    same(&rt, &listed, &[true; 2]);
 }
 
 #[test]
-fn eight_erasures(rt: HostRuntime) -> Result<(), Fail> {
+fn eight_erasures(rt: HostRuntime) {
     let (alloc, text) = (
         rt.alloc(),
         "ms10testsxxxxxxxxxxxxxxxxxxxxxxxxxx4nzvcqqqqqqqq",
     );
-    let got = listed(alloc, text, &[0, 1, 2, 3, 4, 5, 6, 7])?.ok_or("no listing")?;
     let want = [
         (0, Fe32::W),
         (1, Fe32::L),
@@ -170,36 +190,42 @@ fn eight_erasures(rt: HostRuntime) -> Result<(), Fail> {
         (6, Fe32::_9),
         (7, Fe32::A),
     ];
-    same_items(&rt, &got, &want);
-    let got = listed(alloc, text, &[0, 1, 2, 3, 4, 5, 6, 7, 8])?;
-    same(&rt, &got.is_none(), &true);
-    Ok(())
+    let listed = [
+        is_listed(alloc, text, &[0, 1, 2, 3, 4, 5, 6, 7], Some(&want)),
+        is_listed(alloc, text, &[0, 1, 2, 3, 4, 5, 6, 7, 8], None),
+    ];
+    same(&rt, &listed, &[true; 2]);
+}
+
+// The text with an element added at a location.
+fn altered(location: usize, value: Fe32) -> Option<[u8; 48]> {
+    let mut bytes = *BYTES;
+    let byte = bytes.get_mut(47usize.checked_sub(location)?)?;
+    let right = Fe32::from_char(char::from(*byte)).ok()?;
+    *byte = (right + value).to_char() as u8;
+    Some(bytes)
 }
 
 // Whether just this is listed for the text with an element added at a location.
-fn is_listed(alloc: Global, location: usize, value: Fe32) -> Result<bool, Fail> {
-    let mut bytes = TEXT.as_bytes().to_vec(alloc)?;
-    let behind = location.checked_add(1).ok_or("no such place")?;
-    let place = bytes.len().checked_sub(behind).ok_or("no such place")?;
-    let right = Fe32::from_char(char::from(bytes[place]))
-        .ok()
-        .ok_or("no element")?;
-    bytes[place] = (right + value).to_char() as u8;
-    let text = str::from_utf8(&bytes).ok().ok_or("no text")?;
-    let got = listed(alloc, text, &[])?.ok_or("no listing")?;
-    Ok(got.as_slice() == [(location, value)].as_slice())
+fn is_single_error_listed(alloc: Global, location: usize, value: Fe32) -> bool {
+    let Some(bytes) = altered(location, value) else {
+        return false;
+    };
+    match str::from_utf8(&bytes) {
+        Ok(text) => is_listed(alloc, text, &[], Some(&[(location, value)])),
+        Err(_) => false,
+    }
 }
 
 #[test]
-fn each_single_error(rt: HostRuntime) -> Result<(), Fail> {
+fn each_single_error(rt: HostRuntime) {
     let mut count = 0u32;
     for location in 0..45usize {
         for value in Fe32::iter_alpha() {
-            if value != Fe32::Q && is_listed(rt.alloc(), location, value)? {
+            if value != Fe32::Q && is_single_error_listed(rt.alloc(), location, value) {
                 count = count.saturating_add(1);
             }
         }
     }
     same(&rt, &count, &1395);
-    Ok(())
 }

@@ -1,67 +1,48 @@
-//! Lines with known replies.
+//! Each call once. The program `c32` is tested with 184 lines of known replies.
 
 use super::compare::same;
-use super::known_table;
-use bech32_errors::{CharError, ChecksumError, UncheckedHrpstringError};
+use bech32_errors::{CharError, UncheckedHrpstringError};
 use codex32::{Codex32Error, Codex32Str, propose};
 use std::alloc::Global;
-use std::test::Fail;
 
-// The number of a refusal that the lines have; 0 for any other.
-fn number(error: Codex32Error) -> u8 {
-    match error {
-        Codex32Error::Text(UncheckedHrpstringError::Char(CharError::InvalidChar(_))) => 21,
-        Codex32Error::Checksum(ChecksumError::InvalidResidue(_)) => 33,
-        Codex32Error::Hrp => 81,
-        Codex32Error::Length => 82,
-        Codex32Error::Threshold => 83,
-        Codex32Error::ShareIndex => 84,
-        _ => 0,
+const TEXT: &str = "ms10testsxxxxxxxxxxxxxxxxxxxxxxxxxx4nzvca9cmczlw";
+
+#[test]
+fn parts_of_a_text(rt: HostRuntime) {
+    let parts = Codex32Str::parse(TEXT).ok().map(|s| (
+        s.threshold(),
+        s.identifier(),
+        s.share_index(),
+        s.payload(),
+    ));
+    let payload = "xxxxxxxxxxxxxxxxxxxxxxxxxx";
+    same(&rt, &parts, &Some(('0', "test", 's', payload)));
+}
+
+// Whether the text is proposed for a damaged one.
+fn is_proposed(alloc: Global, damaged: &str) -> bool {
+    match propose(alloc, damaged) {
+        Ok(Some(nearest)) => nearest.as_str() == TEXT,
+        _ => false,
     }
 }
 
-// The reply to a refusal.
-fn refusal(alloc: Global, error: Codex32Error) -> Result<String, Fail> {
-    let number = number(error);
-    Ok(format!(in alloc; "err {number}")?)
-}
-
-// The parts of a codex32 string.
-fn parsed(alloc: Global, text: &str) -> Result<String, Fail> {
-    match Codex32Str::parse(text) {
-        Ok(s) => {
-            let (threshold, share_index) = (s.threshold(), s.share_index());
-            let (identifier, payload) = (s.identifier(), s.payload());
-            Ok(format!(in alloc; "ok {threshold} {identifier} {share_index} {payload}")?)
-        }
-        Err(error) => refusal(alloc, error),
-    }
-}
-
-// The nearest text.
-fn proposed(alloc: Global, text: &str) -> Result<String, Fail> {
-    match propose(alloc, text) {
-        Ok(Some(nearest)) => Ok(format!(in alloc; "some {nearest}")?),
-        Ok(None) => Ok(String::from_str(alloc, "none")?),
-        Err(error) => refusal(alloc, error),
+// Whether there is no nearest text.
+fn is_far(alloc: Global, damaged: &str) -> bool {
+    match propose(alloc, damaged) {
+        Ok(nearest) => nearest.is_none(),
+        Err(_) => false,
     }
 }
 
 #[test]
-fn known_replies(rt: HostRuntime) -> Result<(), Fail> {
-    let (alloc, mut count) = (rt.alloc(), 0u32);
-    for row in known_table::ROWS.lines() {
-        let (line, want) = row.split_once('|').ok_or("no reply")?;
-        let (command, text) = line.split_once(' ').ok_or("no text")?;
-        let got = match command {
-            "codex-parse" => parsed(alloc, text)?,
-            _ => proposed(alloc, text)?,
-        };
-        same(&rt, &got.as_str(), &want);
-        count = count.checked_add(1).ok_or("too many")?;
-    }
-    same(&rt, &count, &184);
-    Ok(())
+fn nearest_texts(rt: HostRuntime) {
+    let alloc = rt.alloc();
+    let got = [
+        is_proposed(alloc, "ms1qtestsqxxxxxxxxxxxxxxxxxxxxxxxxq4nzvca9cmczlq"),
+        is_far(alloc, "ms10testsxxxxxxxxxxxxxxxxxxxxxxxxxx4nzv?????????"),
+    ];
+    same(&rt, &got, &[true; 2]);
 }
 
 #[test]

@@ -1,4 +1,4 @@
-//! Tests of `codex32`.
+//! Tests of `codex32`, and of `caller_memory`, by which it serves C programs.
 #![tactic(auto)]
 
 #[cfg(test)]
@@ -10,6 +10,6 @@ mod damaged;
 #[cfg(test)]
 mod known;
 #[cfg(test)]
-mod known_table;
+mod lent_memory;
 #[cfg(test)]
 mod memory;

@@ -1,0 +1,108 @@
+//! Memory that a caller lends.
+
+use super::compare::same;
+use caller_memory::{Lent, Memory};
+use std::alloc::{AllocError, Global};
+use std::mem::forget;
+use std::test::Fail;
+
+// How many bytes there are where memory came back.
+fn size_of_memory(memory: Option<Memory>) -> Option<usize> {
+    Some(memory?.with_size().0)
+}
+
+// How many bytes leaked memory has.
+fn leaked_size(alloc: Global, size: usize) -> Option<usize> {
+    size_of_memory(Memory::leaked(alloc, size).ok())
+}
+
+#[test]
+fn leaks_memory_of_each_size(rt: HostRuntime) {
+    for size in [0, 1, 15, 16, 17, 4096, 1 << 20] {
+        same(&rt, &leaked_size(rt.alloc(), size), &Some(size));
+    }
+    same(&rt, &leaked_size(rt.alloc(), usize::MAX), &None);
+}
+
+#[test]
+fn takes_the_memory_and_leaves_none(rt: HostRuntime) -> Result<(), Fail> {
+    let mut memory = Memory::leaked(rt.alloc(), 100)?;
+    let taken = memory.take().with_size().0;
+    same(&rt, &[taken, memory.with_size().0], &[100, 0]);
+    Ok(())
+}
+
+#[test]
+fn memory_that_was_not_asked_for_comes_back(rt: HostRuntime) -> Result<(), Fail> {
+    let lent = Lent::new(Memory::leaked(rt.alloc(), 100)?);
+    same(&rt, &size_of_memory(lent.into_memory()), &Some(100));
+    Ok(())
+}
+
+// Whether the memory holds 96 bytes, which count up from the first, and no more meanwhile.
+fn is_filled(lent: &Lent, first: u8) -> Result<bool, AllocError> {
+    let mut whole: Vec<u8, &Lent> = Vec::with_capacity(lent, 96)?;
+    for count in 0..96u8 {
+        whole.push(first.wrapping_add(count))?;
+    }
+    let is_full = Box::new(lent, 0u8).is_err();
+    Ok(is_full && counts_up(&whole, first))
+}
+
+// Whether bytes count up from the first.
+fn counts_up(bytes: &[u8], first: u8) -> bool {
+    let mut want = first;
+    for byte in bytes {
+        if *byte != want {
+            return false;
+        }
+        want = want.wrapping_add(1);
+    }
+    true
+}
+
+#[test]
+fn gives_one_block_at_a_time_and_takes_it_back(rt: HostRuntime) -> Result<(), Fail> {
+    let lent = Lent::new(Memory::leaked(rt.alloc(), 100)?);
+    for round in 0..5u8 {
+        same(&rt, &is_filled(&lent, round)?, &true);
+    }
+    same(&rt, &size_of_memory(lent.into_memory()), &Some(100));
+    Ok(())
+}
+
+// Whether there is memory for so many bytes.
+fn has_bytes(lent: &Lent, count: usize) -> bool {
+    Vec::<u8, &Lent>::with_capacity(lent, count).is_ok()
+}
+
+// Whether there is memory for so many numbers of 16 bytes.
+fn has_numbers(lent: &Lent, count: usize) -> bool {
+    Vec::<u128, &Lent>::with_capacity(lent, count).is_ok()
+}
+
+#[test]
+fn gives_no_block_that_does_not_fit(rt: HostRuntime) -> Result<(), Fail> {
+    let lent = Lent::new(Memory::leaked(rt.alloc(), 100)?);
+    let given = [
+        has_bytes(&lent, 97),
+        has_numbers(&lent, 7),
+        has_numbers(&lent, 6),
+    ];
+    same(&rt, &given, &[false, false, true]);
+    same(&rt, &size_of_memory(lent.into_memory()), &Some(100));
+    Ok(())
+}
+
+#[test]
+fn memory_is_kept_with_a_block_that_is_out(rt: HostRuntime) -> Result<(), Fail> {
+    let lent = Lent::new(Memory::leaked(rt.alloc(), 100)?);
+    forget(Box::new(&lent, 0u8)?);
+    let is_refused = Box::new(&lent, 0u8).is_err();
+    same(
+        &rt,
+        &(is_refused, lent.into_memory().is_none()),
+        &(true, true),
+    );
+    Ok(())
+}
