@@ -1,6 +1,7 @@
 use crate::parse::codex32_parse;
 use crate::propose::codex32_propose;
 use caller_memory::Memory;
+use std::alloc::{AllocError, Global};
 use std::fmt::Debug;
 use std::process::Abort;
 use std::test::Fail;
@@ -15,14 +16,11 @@ fn same<T: PartialEq + Debug>(rt: &impl Abort, got: &T, want: &T) {
     assert_eq!(rt; got, want);
 }
 
-// Reads a string, of which the threshold, the share index and the length of the payload are known.
-fn reads(rt: &impl Abort, text: &[u8], want: (u32, char, usize)) {
+// The answer to a text, and what the numbers hold then.
+fn answer(text: &[u8]) -> (u32, u32, u32, usize) {
     let (mut threshold, mut share_index, mut length) = (BEFORE, BEFORE, LENGTH_BEFORE);
     let number = codex32_parse(text, &mut threshold, &mut share_index, &mut length);
-    same(rt, &number, &0);
-    same(rt, &threshold, &want.0);
-    same(rt, &share_index, &u32::from(want.1));
-    same(rt, &length, &want.2);
+    (number, threshold, share_index, length)
 }
 
 // Some rows are those of a reference model and of the Rust crate bech32 with a codex32 profile, which
@@ -55,8 +53,9 @@ fn reads_known_strings(rt: HostRuntime) {
             (3, '8', 52),
         ),
     ];
-    for (text, want) in rows {
-        reads(&rt, text, want);
+    for (text, (threshold, share_index, length)) in rows {
+        let want = (0, threshold, u32::from(share_index), length);
+        same(&rt, &answer(text), &want);
     }
 }
 
@@ -78,12 +77,7 @@ fn refuses_texts(rt: HostRuntime) {
         (b"ms10testaxxxxxxxxxxxxxxxxxxxxxxxxxxzd568kp774rau", 84),
     ];
     for (text, want) in rows {
-        let (mut threshold, mut share_index, mut length) = (BEFORE, BEFORE, LENGTH_BEFORE);
-        let number = codex32_parse(text, &mut threshold, &mut share_index, &mut length);
-        same(&rt, &number, &want);
-        same(&rt, &threshold, &BEFORE);
-        same(&rt, &share_index, &BEFORE);
-        same(&rt, &length, &LENGTH_BEFORE);
+        same(&rt, &answer(text), &(want, BEFORE, BEFORE, LENGTH_BEFORE));
     }
 }
 
@@ -92,25 +86,32 @@ const BYTE_BEFORE: u8 = 0xee;
 
 const ROOM: usize = 96;
 
-// The number of the answer to a damaged text with this memory and a buffer of so many bytes, of which
-// the front is the wanted text on 0, and else nothing is written.
-fn proposes(rt: &impl Abort, memory: &mut Memory, text: &[u8], room: usize, want: &[u8]) -> u32 {
+// The answer to a damaged text with this memory and a buffer of so many bytes, and what the length and
+// the buffer hold then.
+fn proposal(memory: &mut Memory, text: &[u8], room: usize) -> (u32, (usize, [u8; ROOM])) {
     let mut buffer = [BYTE_BEFORE; ROOM];
     let mut length = LENGTH_BEFORE;
-    let number = {
-        let (front, _) = buffer.split_at_mut(room.min(ROOM));
-        codex32_propose(text, memory, front, &mut length)
-    };
-    let mut wanted = [BYTE_BEFORE; ROOM];
-    if number == 0 {
-        same(rt, &length, &want.len());
-        for (place, byte) in wanted.iter_mut().zip(want) {
-            *place = *byte;
-        }
-    } else {
-        same(rt, &length, &LENGTH_BEFORE);
+    let (front, _) = buffer.split_at_mut(room.min(ROOM));
+    let number = codex32_propose(text, memory, front, &mut length);
+    (number, (length, buffer))
+}
+
+// What the length and the buffer hold after an answer: the text on 0, and else nothing is written.
+fn written(number: u32, text: &[u8]) -> (usize, [u8; ROOM]) {
+    let mut buffer = [BYTE_BEFORE; ROOM];
+    if number != 0 {
+        return (LENGTH_BEFORE, buffer);
     }
-    assert!(rt; buffer == wanted);
+    for (place, byte) in buffer.iter_mut().zip(text) {
+        *place = *byte;
+    }
+    (text.len(), buffer)
+}
+
+// The number of the answer to a damaged text with this memory and a buffer of so many bytes.
+fn proposes(rt: &impl Abort, memory: &mut Memory, text: &[u8], room: usize, want: &[u8]) -> u32 {
+    let (number, found) = proposal(memory, text, room);
+    same(rt, &found, &written(number, want));
     number
 }
 
@@ -124,7 +125,21 @@ const NEAREST: &[u8] = b"ms10testsxxxxxxxxxxxxxxxxxxxxxxxxxx4nzvca9cmczlw";
 // The same with four other characters.
 const DAMAGED: &[u8] = b"ms1qtestsqxxxxxxxxxxxxxxxxxxxxxxxxq4nzvca9cmczlq";
 
-// The nearest text of a row is of BIP-93. Each answer gives the memory back.
+// The number of the answer where the nearest text is that of BIP-93, with so many bytes of memory, all of
+// which come back.
+fn answer_within(
+    rt: &impl Abort,
+    alloc: Global,
+    size: usize,
+    text: &[u8],
+    room: usize,
+) -> Result<u32, AllocError> {
+    let mut memory = Memory::leaked(alloc, size)?;
+    let number = proposes(rt, &mut memory, text, room, NEAREST);
+    same(rt, &memory.with_size().0, &size);
+    Ok(number)
+}
+
 #[test]
 fn proposes_known_texts(rt: HostRuntime) -> Result<(), Fail> {
     let rows: [(&[u8], usize, u32); 13] = [
@@ -143,10 +158,8 @@ fn proposes_known_texts(rt: HostRuntime) -> Result<(), Fail> {
         (b"\xff", 96, 2),
     ];
     for (text, room, want) in rows {
-        let size = memory_for(text);
-        let mut memory = Memory::leaked(rt.alloc(), size)?;
-        same(&rt, &proposes(&rt, &mut memory, text, room, NEAREST), &want);
-        same(&rt, &memory.with_size().0, &size);
+        let number = answer_within(&rt, rt.alloc(), memory_for(text), text, room)?;
+        same(&rt, &number, &want);
     }
     Ok(())
 }
@@ -159,9 +172,12 @@ fn memory_serves_again(rt: HostRuntime) -> Result<(), Fail> {
     let size = memory_for(torn);
     let mut memory = Memory::leaked(rt.alloc(), size)?;
     for _ in 0..5 {
-        same(&rt, &proposes(&rt, &mut memory, DAMAGED, 48, NEAREST), &0);
-        same(&rt, &proposes(&rt, &mut memory, b"msq", 48, NEAREST), &23);
-        same(&rt, &proposes(&rt, &mut memory, torn, 74, longer), &0);
+        let numbers = [
+            proposes(&rt, &mut memory, DAMAGED, 48, NEAREST),
+            proposes(&rt, &mut memory, b"msq", 48, NEAREST),
+            proposes(&rt, &mut memory, torn, 74, longer),
+        ];
+        same(&rt, &numbers, &[0, 23, 0]);
     }
     same(&rt, &memory.with_size().0, &size);
     Ok(())
@@ -171,9 +187,11 @@ fn memory_serves_again(rt: HostRuntime) -> Result<(), Fail> {
 #[test]
 fn wants_memory(rt: HostRuntime) -> Result<(), Fail> {
     for size in [0, 16, 47] {
-        let mut memory = Memory::leaked(rt.alloc(), size)?;
-        same(&rt, &proposes(&rt, &mut memory, DAMAGED, 48, NEAREST), &91);
-        same(&rt, &memory.with_size().0, &size);
+        same(
+            &rt,
+            &answer_within(&rt, rt.alloc(), size, DAMAGED, 48)?,
+            &91,
+        );
     }
     Ok(())
 }
@@ -191,8 +209,7 @@ fn refuses_without_memory(rt: HostRuntime) -> Result<(), Fail> {
         (b"ms10testsxxxxxxxxxxxxxxxxxxxxxxxxxx4nzvca9cmcz?", 82),
     ];
     for (text, want) in rows {
-        let mut memory = Memory::leaked(rt.alloc(), 0)?;
-        same(&rt, &proposes(&rt, &mut memory, text, 48, NEAREST), &want);
+        same(&rt, &answer_within(&rt, rt.alloc(), 0, text, 48)?, &want);
     }
     Ok(())
 }
@@ -203,9 +220,7 @@ fn proposes_or_wants_memory(rt: HostRuntime) -> Result<(), Fail> {
     let enough = memory_for(DAMAGED);
     let mut before = 91;
     for size in (0..enough).step_by(64).chain([enough]) {
-        let mut memory = Memory::leaked(rt.alloc(), size)?;
-        let number = proposes(&rt, &mut memory, DAMAGED, 48, NEAREST);
-        same(&rt, &memory.with_size().0, &size);
+        let number = answer_within(&rt, rt.alloc(), size, DAMAGED, 48)?;
         assert!(rt; number == 0 || number == before);
         before = number;
     }
