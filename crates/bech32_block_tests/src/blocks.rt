@@ -1,4 +1,3 @@
-use super::table;
 use bech32_block::{NamedField, PrintError, PrintImpl};
 use bech32_gf::field::ExtensionField;
 use bech32_gf::gf32::Fe32;
@@ -182,26 +181,6 @@ pub fn check_rows(rt: &impl Abort, alloc: Global, rows: &str) {
     for line in rows.split('\n') {
         check_row(rt, alloc, line);
     }
-}
-
-#[test]
-fn over_fe32(rt: HostRuntime) {
-    check_rows(&rt, rt.alloc(), table::FE32);
-}
-
-#[test]
-fn over_fe1024(rt: HostRuntime) {
-    check_rows(&rt, rt.alloc(), table::FE1024);
-}
-
-#[test]
-fn over_fe32768(rt: HostRuntime) {
-    check_rows(&rt, rt.alloc(), table::FE32768);
-}
-
-#[test]
-fn more_over_fe32768(rt: HostRuntime) {
-    check_rows(&rt, rt.alloc(), table::FE32768_MORE);
 }
 
 #[test]

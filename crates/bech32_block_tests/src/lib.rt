@@ -7,5 +7,3 @@ mod blocks;
 mod declared;
 #[cfg(test)]
 mod memory;
-#[cfg(test)]
-mod table;

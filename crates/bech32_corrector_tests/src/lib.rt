@@ -15,7 +15,3 @@ mod listed;
 mod memory;
 #[cfg(test)]
 mod rows;
-#[cfg(test)]
-mod vectors;
-#[cfg(test)]
-mod vectors_table;

@@ -1,0 +1,57 @@
+//! Field elements as texts, in which an element is its characters.
+
+use bech32_gf::gf32::Fe32;
+use bech32_gf_ext::Fe32Ext;
+use std::alloc::{AllocError, Global};
+use std::fmt::Display;
+
+/// The elements whose characters these are, each of so many.
+pub fn extended<const DEG: usize>(
+    alloc: Global,
+    text: &str,
+) -> Result<Vec<Fe32Ext<DEG>>, AllocError> {
+    let mut items = Vec::new(alloc);
+    let mut inner = [Fe32::Q; DEG];
+    let mut i = 0usize;
+    for c in text.chars() {
+        if let Ok(digit) = Fe32::from_char(c) {
+            if i < DEG {
+                inner[i] = digit;
+                i += 1;
+            }
+            if i == DEG {
+                items.push(Fe32Ext::new(inner))?;
+                i = 0;
+            }
+        }
+    }
+    Ok(items)
+}
+
+/// The elements whose characters these are.
+pub fn digits(alloc: Global, text: &str) -> Result<Vec<Fe32>, AllocError> {
+    let mut items = Vec::new(alloc);
+    for c in text.chars() {
+        if let Ok(digit) = Fe32::from_char(c) {
+            items.push(digit)?;
+        }
+    }
+    Ok(items)
+}
+
+/// The text of elements with a space between two, and `-` for none.
+pub fn shown<F: Display>(alloc: Global, items: &[F]) -> Result<String, AllocError> {
+    if items.is_empty() {
+        return String::from_str(alloc, "-");
+    }
+    let mut text = String::new(alloc);
+    for (i, item) in items.iter().enumerate() {
+        let piece = if i == 0 {
+            format!(in alloc; "{item}")?
+        } else {
+            format!(in alloc; " {item}")?
+        };
+        text.push_str(&piece)?;
+    }
+    Ok(text)
+}

@@ -1,0 +1,30 @@
+//! The reply to a row.
+
+use crate::{bits, blocks, fields, listings, registers};
+use std::alloc::{AllocError, Global};
+
+/// What is printed for a row that cannot be read.
+pub fn no_row(alloc: Global) -> Result<String, AllocError> {
+    String::from_str(alloc, "no row")
+}
+
+/// A word of a row, which has none past its last.
+pub fn word<'a>(words: &[&'a str], i: usize) -> &'a str {
+    match words.get(i) {
+        Some(word) => word,
+        None => "",
+    }
+}
+
+/// What a row gives.
+pub fn reply(alloc: Global, row: &str) -> Result<String, AllocError> {
+    let words: Vec<&str> = row.split('|').collect(alloc)?;
+    match word(&words, 0) {
+        "register" => registers::reply(alloc, &words),
+        "field" => fields::reply(alloc, &words),
+        "listing" => listings::reply(alloc, &words),
+        "block" => blocks::reply(alloc, &words),
+        "bits" => bits::reply(alloc, &words),
+        _ => no_row(alloc),
+    }
+}
