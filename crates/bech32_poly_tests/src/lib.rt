@@ -11,7 +11,3 @@ mod lfsr;
 mod polynomial;
 #[cfg(test)]
 mod remainder;
-#[cfg(test)]
-mod vectors;
-#[cfg(test)]
-mod vectors_table;
