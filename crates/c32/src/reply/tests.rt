@@ -7,45 +7,65 @@
 use super::*;
 use bech32_lines::{REPLY_ROOM, Replies};
 use linked_list_allocator::LocalHeap;
-use std::alloc::Global;
-use std::process::Abort;
+use std::alloc::{AllocError, Global};
 use std::test::Fail;
 
-// Asks for a reply with more and more memory: at first there is none for it, in the end there is, and
-// nothing else is said.
-fn refused_at_first(rt: &impl Abort, alloc: Global, line: &[u8], want: &[u8]) -> Result<(), Fail> {
-    let mut refused = 0u32;
+// Whether the reply to a line is the wanted one, or one that tells of too little memory.
+fn is_reply(
+    alloc: Global,
+    heap: &LocalHeap,
+    line: &[u8],
+    want: &[u8],
+) -> Result<(bool, bool), AllocError> {
+    let mut out = Vec::with_capacity(alloc, REPLY_ROOM)?;
+    Commands { alloc: heap }.reply(line, &mut out);
+    Ok((
+        out.as_slice() == want,
+        out.as_slice() == b"err 91\n".as_slice(),
+    ))
+}
+
+// The same with so many bytes of memory.
+fn with_bytes(
+    alloc: Global,
+    bytes: usize,
+    line: &[u8],
+    want: &[u8],
+) -> Result<(bool, bool), AllocError> {
+    let heap = LocalHeap::new(alloc, bytes)?;
+    is_reply(alloc, &heap, line, want)
+}
+
+// Asks for a reply with more and more memory, and counts the wanted ones, those that tell of too little
+// memory, and others.
+fn replies(alloc: Global, line: &[u8], want: &[u8]) -> Result<[u32; 3], AllocError> {
+    let (mut given, mut refused, mut others) = (0u32, 0u32, 0u32);
     for size in 0..64usize {
-        let heap = LocalHeap::new(alloc, 64 * size)?;
-        let mut out = Vec::with_capacity(alloc, REPLY_ROOM)?;
-        Commands { alloc: &heap }.reply(line, &mut out);
-        if out.as_slice() == b"err 91\n".as_slice() {
-            refused = refused.saturating_add(1);
-        } else {
-            assert!(rt; out.as_slice() == want);
+        match with_bytes(alloc, 64 * size, line, want)? {
+            (true, _) => given = given.saturating_add(1),
+            (_, true) => refused = refused.saturating_add(1),
+            _ => others = others.saturating_add(1),
         }
     }
-    assert!(rt; 0 < refused && refused < 64);
+    Ok([given, refused, others])
+}
+
+// At first there is no memory for it, in the end there is, and nothing else is said.
+#[test]
+fn each_request_refused(rt: HostRuntime) -> Result<(), Fail> {
+    let [given, refused, others] = replies(
+        rt.alloc(),
+        b"propose ms1qtestsqxxxxxxxxxxxxxxxxxxxxxxxxq4nzvca9cmczlq",
+        b"some ms10testsxxxxxxxxxxxxxxxxxxxxxxxxxx4nzvca9cmczlw\n",
+    )?;
+    assert_eq!(rt; (0 < given, 0 < refused, others), (true, true, 0));
     Ok(())
 }
 
 #[test]
-fn each_request_refused(rt: HostRuntime) -> Result<(), Fail> {
-    refused_at_first(
-        &rt,
-        rt.alloc(),
-        b"propose ms1qtestsqxxxxxxxxxxxxxxxxxxxxxxxxq4nzvca9cmczlq",
-        b"some ms10testsxxxxxxxxxxxxxxxxxxxxxxxxxx4nzvca9cmczlw\n",
-    )
-}
-
-#[test]
 fn replies_without_memory(rt: HostRuntime) -> Result<(), Fail> {
-    let heap = LocalHeap::new(rt.alloc(), 0)?;
-    let mut out = Vec::with_capacity(rt.alloc(), REPLY_ROOM)?;
     let text = b"parse ms10testsxxxxxxxxxxxxxxxxxxxxxxxxxx4nzvca9cmczlw";
-    Commands { alloc: &heap }.reply(text, &mut out);
-    let want = b"ok 0 test s xxxxxxxxxxxxxxxxxxxxxxxxxx\n".as_slice();
-    assert!(rt; out.as_slice() == want);
+    let want = b"ok 0 test s xxxxxxxxxxxxxxxxxxxxxxxxxx\n";
+    assert_eq!(rt; with_bytes(rt.alloc(), 0, text, want)?, (true, false));
     Ok(())
 }
