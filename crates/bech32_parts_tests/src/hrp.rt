@@ -21,6 +21,18 @@ fn read(text: &str) -> Result<usize, Error> {
     Hrp::parse(text).map(|h| h.len())
 }
 
+// The same of a text and so many times another one behind it.
+fn read_behind(
+    alloc: Global,
+    first: &str,
+    piece: &str,
+    count: usize,
+) -> Result<Result<usize, Error>, AllocError> {
+    let pieces = piece.repeat(alloc, count)?;
+    let text = format!(in alloc; "{first}{pieces}")?;
+    Ok(read(&text))
+}
+
 // The parts that each of the five questions takes: segwit, mainnet, testnet, signet, regtest.
 fn networks(hrp: &Hrp) -> [bool; 5] {
     [
@@ -35,16 +47,12 @@ fn networks(hrp: &Hrp) -> [bool; 5] {
 #[test]
 fn refuses_by_length(rt: HostRuntime) -> Result<(), Fail> {
     let alloc = rt.alloc();
-    let longest = "a".repeat(alloc, 83)?;
-    let longer = "a".repeat(alloc, 84)?;
-    let accents = "é".repeat(alloc, 42)?;
-    let spaced = format!(in alloc; " {longest}")?;
     let got = [
         read(""),
-        read(&longest),
-        read(&longer),
-        read(&accents),
-        read(&spaced),
+        read_behind(alloc, "", "a", 83)?,
+        read_behind(alloc, "", "a", 84)?,
+        read_behind(alloc, "", "é", 42)?,
+        read_behind(alloc, " ", "a", 83)?,
     ];
     let too_long = Err(Error::TooLong(84));
     same_items(

@@ -1,6 +1,7 @@
 use crate::compare::{same, same_items};
 use bech32_hrp::{ByteIter, CharIter, Hrp, LowercaseByteIter, LowercaseCharIter};
 use linked_list_allocator::LocalHeap;
+use std::alloc::{AllocError, Global};
 use std::process::Abort;
 use std::test::Fail;
 
@@ -81,35 +82,42 @@ fn items(upper: u8, lower: u8) -> Items {
 
 const ENDED: Items = (None, None, None, None);
 
+// What the four give at one end.
+fn given(four: &mut Four<'_>, at_back: bool) -> Items {
+    if at_back { back(four) } else { front(four) }
+}
+
+// What they should give there where this is left, and what is left then.
+fn wanted(rest: &[(u8, u8)], at_back: bool) -> (Items, &[(u8, u8)]) {
+    let split = if at_back {
+        rest.split_last()
+    } else {
+        rest.split_first()
+    };
+    match split {
+        Some((&(upper, lower), others)) => (items(upper, lower), others),
+        None => (ENDED, &[]),
+    }
+}
+
+// Asks six times, in turn n at the back where bit n of `sides` says so.
+fn walks(rt: &impl Abort, hrp: &Hrp, sides: u32) {
+    let mut rest: &[(u8, u8)] = &[(b'A', b'a'), (b'~', b'~'), (b'Z', b'z')];
+    let mut walk = four_of(hrp);
+    for turn in 0..6u32 {
+        same_lengths(rt, &walk, rest.len());
+        let at_back = sides >> turn & 1 == 1;
+        let (want, others) = wanted(rest, at_back);
+        same(rt, &(sides, given(&mut walk, at_back)), &(sides, want));
+        rest = others;
+    }
+}
+
 #[test]
 fn gives_items_from_both_ends(rt: HostRuntime) {
     let hrp = part(&rt, "A~Z");
-    // Bit n of `sides` says that turn n asks at the back.
     for sides in 0..64u32 {
-        let mut rest: &[(u8, u8)] = &[(b'A', b'a'), (b'~', b'~'), (b'Z', b'z')];
-        let mut walk = four_of(&hrp);
-        for turn in 0..6u32 {
-            same_lengths(&rt, &walk, rest.len());
-            let at_back = sides >> turn & 1 == 1;
-            let got = if at_back {
-                back(&mut walk)
-            } else {
-                front(&mut walk)
-            };
-            let split = if at_back {
-                rest.split_last()
-            } else {
-                rest.split_first()
-            };
-            let want = match split {
-                Some((&(upper, lower), others)) => {
-                    rest = others;
-                    items(upper, lower)
-                }
-                None => ENDED,
-            };
-            same(&rt, &(sides, got), &(sides, want));
-        }
+        walks(&rt, &hrp, sides);
     }
 }
 
@@ -156,15 +164,29 @@ fn lowers_the_text(rt: HostRuntime) -> Result<(), Fail> {
     Ok(())
 }
 
+// Whether a part in lower case is a text; `None` where a heap of so many bytes has no memory for it.
+fn is_lowered(
+    alloc: Global,
+    bytes: usize,
+    hrp: &Hrp,
+    want: &str,
+) -> Result<Option<bool>, AllocError> {
+    let heap = LocalHeap::new(alloc, bytes)?;
+    match hrp.to_lowercase_in(&heap) {
+        Ok(text) => Ok(Some(text.as_str() == want)),
+        Err(_) => Ok(None),
+    }
+}
+
 #[test]
 fn lowers_the_text_or_wants_memory(rt: HostRuntime) -> Result<(), Fail> {
     let hrp = part(&rt, "ABCDEFGHIJKLMNOPQRSTUVWXYZ0123456789");
+    let want = "abcdefghijklmnopqrstuvwxyz0123456789";
     let mut refused = 0u32;
     for size in 0..16usize {
-        let heap = LocalHeap::new(rt.alloc(), 16 * size)?;
-        match hrp.to_lowercase_in(&heap) {
-            Ok(text) => same(&rt, &text.as_str(), &"abcdefghijklmnopqrstuvwxyz0123456789"),
-            Err(_) => refused = refused.saturating_add(1),
+        match is_lowered(rt.alloc(), 16 * size, &hrp, want)? {
+            Some(is_lowered) => same(&rt, &is_lowered, &true),
+            None => refused = refused.saturating_add(1),
         }
     }
     assert!(rt; 1 <= refused && refused < 16);

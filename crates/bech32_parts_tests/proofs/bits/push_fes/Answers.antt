@@ -3,7 +3,7 @@ use Rattle.bech32_gf.specs.declared.gf32.Fe32.{Fe32}
 use Rattle.bech32_bits.specs.Bits.{to_fes}
 use Rattle.bech32_bits.specs.BytesToFes.{fes_source, fes_gives}
 use Rattle.bech32_bits.proofs.ListSources.{from_slice}
-use Rattle.bech32_bits_tests.proofs.bits.push_fes.Goals as goal
+use Rattle.bech32_parts_tests.proofs.bits.push_fes.Goals as goal
 
 on_err : {T E P : Type 0} (r : Result T E) → P → OnErr r P
 on_err (Ok x) p = tt

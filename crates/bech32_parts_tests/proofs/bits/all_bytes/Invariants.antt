@@ -1,6 +1,6 @@
 use Rattle.std.specs.Iterator.{IsFinite, size}
 use Rattle.bech32_bits.specs.FesToBytes.{bytes_can, bytes_left}
-use Rattle.bech32_bits_tests.proofs.bits.all_bytes.Given as goal
+use Rattle.bech32_parts_tests.proofs.bits.all_bytes.Given as goal
 
 abbrev pub invariant-loop-byte : goal.invariant-loop-byte
 invariant-loop-byte g l = record {

@@ -5,8 +5,6 @@ ghost use Rattle.std.specs.Iterator.{IsFinite};
 ghost use Rattle.bech32_gf.specs.declared.gf32.Fe32.{Fe32};
 ghost use Rattle.bech32_bits.specs.Bits.{to_fes, to_bytes, to_bytes_zeropad};
 
-mod bits_rows;
-
 use crate::compare::{same, same_items};
 use bech32_bits::plain::{plain_to_bytes, plain_to_fes};
 use bech32_bits::{ByteIterExt, BytesToFes, FesToBytes};
@@ -31,8 +29,8 @@ fn all_fes<I: Iterator<Item = u8>>(
     while let Some(fe) = fes.next() {
         all.push(fe)?;
     }
-    let again = fes.next().is_some() || fes.next().is_some() || fes.next().is_some();
-    same(rt, &again, &false);
+    let again = [fes.next(), fes.next(), fes.next()];
+    same(rt, &again, &[None; 3]);
     Ok(all)
 }
 
@@ -49,8 +47,8 @@ fn all_bytes<I: Iterator<Item = Fe32>>(
     while let Some(byte) = bytes.next() {
         all.push(byte)?;
     }
-    let again = bytes.next().is_some() || bytes.next().is_some() || bytes.next().is_some();
-    same(rt, &again, &false);
+    let again = [bytes.next(), bytes.next(), bytes.next()];
+    same(rt, &again, &[None; 3]);
     Ok(all)
 }
 
@@ -273,11 +271,20 @@ fn endless_items(rt: HostRuntime) -> Result<(), Fail> {
     let fes: Vec<Fe32> = iter::repeat(0xab).bytes_to_fes().take(6).collect(alloc)?;
     let want = [Fe32::_4, Fe32::W, Fe32::_4, Fe32::_6, Fe32::H, Fe32::_2];
     same_items(&rt, &fes, &want);
-    for padded in [false, true] {
-        let bytes = FesToBytes::new(iter::repeat(Fe32::_4), padded);
-        let bytes: Vec<u8> = bytes.take(6).collect(alloc)?;
-        same_items(&rt, &bytes, &[0xad, 0x6b, 0x5a, 0xd6, 0xb5, 0xad]);
-    }
+    Ok(())
+}
+
+// The first bytes of endless elements.
+fn six_bytes(alloc: Global, padded: bool) -> Result<Vec<u8>, AllocError> {
+    let bytes = FesToBytes::new(iter::repeat(Fe32::_4), padded);
+    bytes.take(6).collect(alloc)
+}
+
+#[test]
+fn endless_elements(rt: HostRuntime) -> Result<(), Fail> {
+    let want = [0xad, 0x6b, 0x5a, 0xd6, 0xb5, 0xad];
+    same_items(&rt, &six_bytes(rt.alloc(), false)?, &want);
+    same_items(&rt, &six_bytes(rt.alloc(), true)?, &want);
     Ok(())
 }
 
@@ -293,18 +300,43 @@ fn size_hints_of_endless_items(rt: HostRuntime) {
     }
 }
 
+// Whether these are the elements of bytes by the plain function.
+fn are_elements(alloc: Global, bytes: &[u8], fes: &[Fe32]) -> Result<bool, AllocError> {
+    let plain = plain_to_fes(alloc, bytes)?;
+    Ok(plain.as_slice() == fes)
+}
+
+// Whether these are the bytes of elements, by both functions.
+fn are_bytes(alloc: Global, fes: &[Fe32], bytes: &[u8]) -> Result<[bool; 2], AllocError> {
+    let back = bytes_of(alloc, fes)?;
+    let plain = plain_to_bytes(alloc, fes)?;
+    Ok([back.as_slice() == bytes, plain.as_slice() == bytes])
+}
+
+// Whether both pairs of functions agree at bytes.
+fn agree(alloc: Global, bytes: &[u8]) -> Result<bool, AllocError> {
+    let fes = fes_of(alloc, bytes)?;
+    let forth = are_elements(alloc, bytes, &fes)?;
+    let back = are_bytes(alloc, &fes, bytes)?;
+    Ok(forth && back == [true; 2])
+}
+
+// Byte `j` of list `i`.
+fn byte(i: u32, j: u32) -> u8 {
+    (i.wrapping_mul(37).wrapping_add(j) % 256) as u8
+}
+
 #[test]
 fn same_as_plain(rt: HostRuntime) -> Result<(), Fail> {
-    let alloc = rt.alloc();
     for i in 0..256u32 {
-        let mut bytes = Vec::new(alloc);
-        for j in 0..7u32 {
-            let fes = fes_of(alloc, &bytes)?;
-            same_items(&rt, &fes, &plain_to_fes(alloc, &bytes)?);
-            let back = bytes_of(alloc, &fes)?;
-            same_items(&rt, &back, &plain_to_bytes(alloc, &fes)?);
-            same_items(&rt, &back, &bytes);
-            bytes.push(((i * 37 + j) % 256) as u8)?;
+        let bytes = [0u32, 1, 2, 3, 4, 5].map(|j| byte(i, j));
+        for length in 0..=6usize {
+            let first = bytes.get(..length).ok_or("too long")?;
+            same(
+                &rt,
+                &(i, length, agree(rt.alloc(), first)?),
+                &(i, length, true),
+            );
         }
     }
     Ok(())
@@ -367,61 +399,5 @@ fn clones(rt: HostRuntime) -> Result<(), Fail> {
     for _ in 0..2 {
         same(&rt, &bytes_step(&mut other), &bytes_step(&mut bytes));
     }
-    Ok(())
-}
-
-// A field of a row: the elements of its characters, or none for `-`.
-fn elements_of(alloc: Global, field: &[u8]) -> Result<Vec<Fe32>, Fail> {
-    let mut fes = Vec::new(alloc);
-    if field != b"-".as_slice() {
-        for c in field {
-            fes.push(Fe32::from_char(*c as char)?)?;
-        }
-    }
-    Ok(fes)
-}
-
-// The value of a hex digit.
-fn hex_value(digit: u8) -> u8
-    ensures { result < 16 }
-{
-    match digit {
-        b'0'..=b'9' => digit - b'0',
-        b'a'..=b'f' => digit - b'a' + 10,
-        _ => 0,
-    }
-}
-
-// The bytes of its pairs of hex digits.
-fn bytes_of_hex(alloc: Global, field: &[u8]) -> Result<Vec<u8>, Fail> {
-    let mut bytes = Vec::new(alloc);
-    for pair in field.chunks_exact(2) {
-        if let [high, low] = pair {
-            bytes.push(hex_value(*high) * 16 + hex_value(*low))?;
-        }
-    }
-    Ok(bytes)
-}
-
-#[test]
-fn regroups_bits_as_the_rows_say(rt: HostRuntime) -> Result<(), Fail> {
-    let alloc = rt.alloc();
-    let mut rows = 0u32;
-    for row in bits_rows::ROWS.split(|b| *b == b'\n') {
-        if row.is_empty() {
-            continue;
-        }
-        let mut fields = row.split(|b| *b == b'\t');
-        let bytes = bytes_of_hex(alloc, fields.next().ok_or("bytes")?)?;
-        let as_fes = elements_of(alloc, fields.next().ok_or("their elements")?)?;
-        let fes = elements_of(alloc, fields.next().ok_or("elements")?)?;
-        let dropped = bytes_of_hex(alloc, fields.next().ok_or("their bytes")?)?;
-        let filled = bytes_of_hex(alloc, fields.next().ok_or("and with zeros")?)?;
-        same_items(&rt, &fes_of(alloc, &bytes)?, &as_fes);
-        same_items(&rt, &bytes_of(alloc, &fes)?, &dropped);
-        same_items(&rt, &filled_bytes_of(alloc, &fes)?, &filled);
-        rows = rows.saturating_add(1);
-    }
-    same(&rt, &rows, &150);
     Ok(())
 }

@@ -1,8 +1,12 @@
-//! Tests of `bech32_hrp`.
+//! Tests of `bech32_bits`, `bech32_device` and `bech32_hrp`.
 #![tactic(auto)]
 
 #[cfg(test)]
+mod bits;
+#[cfg(test)]
 mod compare;
+#[cfg(test)]
+mod device;
 #[cfg(test)]
 mod hrp;
 #[cfg(test)]

@@ -1,7 +1,7 @@
 use Rattle.std.proofs.Common.{◌≡◌, rules}
 use Rattle.bech32_bits.specs.Bits.{to_fes, to_bytes}
 use Rattle.bech32_bits.proofs.RoundTrip.{to_bytes-to_fes, bytes-below}
-use Rattle.bech32_bits_tests.proofs.bits.there_and_back.Goals as goal
+use Rattle.bech32_parts_tests.proofs.bits.there_and_back.Goals as goal
 
 pub returns : goal.returns
 returns c =
