@@ -3,6 +3,7 @@ use bech32_gf::field::{Bech32Field, ExtensionField, Field, MultiplicativeOrder};
 use bech32_gf::gf32::Fe32;
 use bech32_testing::code::Code;
 use bech32_testing::seven::Seven;
+use std::alloc::{AllocError, Global};
 use std::test::Fail;
 
 #[test]
@@ -48,20 +49,31 @@ fn powers_by_any_integer(rt: HostRuntime) -> Result<(), Fail> {
     Ok(())
 }
 
+// The order of an element, unless it is zero.
+fn order_of<F: Field>(x: F) -> Option<usize> {
+    if x == F::ZERO {
+        return None;
+    }
+    Some(x.multiplicative_order())
+}
+
+// The same of a number modulo 7.
+fn order_of_number(number: u8) -> Option<usize> {
+    order_of(Seven::new(number))
+}
+
 #[test]
 fn orders_of_all_elements(rt: HostRuntime) {
     for x in Fe32::iter_alpha() {
-        if x != Fe32::Q {
-            let order = if x == Fe32::P { 1 } else { 31 };
-            same(&rt, &(x, x.multiplicative_order()), &(x, order));
-        }
+        let order = match x {
+            Fe32::Q => None,
+            Fe32::P => Some(1),
+            _ => Some(31),
+        };
+        same(&rt, &(x, order_of(x)), &(x, order));
     }
-    for (number, order) in [(1, 1), (2, 3), (3, 6), (4, 3), (5, 6), (6, 2)] {
-        let x = Seven::new(number);
-        if x != Seven::ZERO {
-            same(&rt, &(x, x.multiplicative_order()), &(x, order));
-        }
-    }
+    let orders = [1, 2, 3, 4, 5, 6].map(order_of_number);
+    same(&rt, &orders, &[1, 3, 6, 3, 6, 2].map(Some));
 }
 
 #[test]
@@ -94,7 +106,7 @@ fn walks_over_ranges_of_powers(rt: HostRuntime) -> Result<(), Fail> {
 }
 
 #[test]
-fn constants_of_the_field_of_32(rt: HostRuntime) -> Result<(), Fail> {
+fn constants_of_the_field_of_32(rt: HostRuntime) {
     same(&rt, &Fe32::order_factors(), &[1, 31].as_slice());
     same(
         &rt,
@@ -120,13 +132,22 @@ fn constants_of_the_field_of_32(rt: HostRuntime) -> Result<(), Fail> {
     ];
     same_items(&rt, &numbers, &[2, 31, 1]);
     same(&rt, &Fe32::NAME, &"Fe32");
-    for (x, code) in [
-        (Fe32::Z, "Fe32::Z"),
-        (Fe32::_9, "Fe32::_9"),
-        (Fe32::Q, "Fe32::Q"),
-    ] {
-        let shown = format!(in rt.alloc(); "{}", Code(x))?;
-        same(&rt, &shown.as_str(), &code);
-    }
+}
+
+// Whether this is the Rust code of an element.
+fn is_code(alloc: Global, x: Fe32, code: &str) -> Result<bool, AllocError> {
+    let shown = format!(in alloc; "{}", Code(x))?;
+    Ok(shown.as_str() == code)
+}
+
+#[test]
+fn rust_code_of_elements(rt: HostRuntime) -> Result<(), Fail> {
+    let alloc = rt.alloc();
+    let codes = [
+        is_code(alloc, Fe32::Z, "Fe32::Z")?,
+        is_code(alloc, Fe32::_9, "Fe32::_9")?,
+        is_code(alloc, Fe32::Q, "Fe32::Q")?,
+    ];
+    same(&rt, &codes, &[true; 3]);
     Ok(())
 }

@@ -1,5 +1,6 @@
 use crate::compare::{same, same_items};
 use bech32_gf::gf32::{Fe32, FromCharError, plain};
+use std::process::Abort;
 use std::test::Fail;
 
 // The characters of the elements, in order of their values.
@@ -86,20 +87,25 @@ const POWERS_OF_20: &[u8; 31] = b"p529kt3uw8hlmecvxr470na6djfsgyz";
 #[test]
 fn constants_by_name_and_value(rt: HostRuntime) {
     for (value, element) in (0u8..32).zip(ELEMENTS.iter()) {
-        same(&rt, &element.to_u8(), &value);
-        same(&rt, element, &Fe32::from_low_bits(value));
+        let got = (element.to_u8(), Fe32::from_low_bits(value));
+        same(&rt, &got, &(value, *element));
+    }
+}
+
+// Fails where the characters are not those of the elements.
+fn reads_elements(rt: &impl Abort, characters: &[u8; 32]) {
+    for (element, c) in ELEMENTS.iter().zip(characters) {
+        same(rt, &Fe32::from_char(char::from(*c)), &Ok(*element));
     }
 }
 
 #[test]
 fn alphabet_in_both_cases(rt: HostRuntime) {
     for (element, c) in ELEMENTS.iter().zip(LOWER_CASE.iter()) {
-        same(&rt, &element.to_char(), &(*c as char));
+        same(&rt, &element.to_char(), &char::from(*c));
     }
     for characters in [LOWER_CASE, UPPER_CASE] {
-        for (element, c) in ELEMENTS.iter().zip(characters.iter()) {
-            same(&rt, &Fe32::from_char(*c as char), &Ok(*element));
-        }
+        reads_elements(&rt, characters);
     }
 }
 
@@ -145,14 +151,23 @@ fn texts_of_refusals(rt: HostRuntime) -> Result<(), Fail> {
     Ok(())
 }
 
+// The product of two elements, as a character, and that by the definition.
+fn product(a: Fe32, b: Fe32) -> (Fe32, Fe32, char, char) {
+    (a, b, (a * b).to_char(), plain::product(a, b).to_char())
+}
+
+// Fails where a product of an element is not that of its row.
+fn same_row(rt: &impl Abort, a: Fe32, row: &[u8; 32]) {
+    for (b, c) in ELEMENTS.iter().zip(row) {
+        let c = char::from(*c);
+        same(rt, &product(a, *b), &(a, *b, c, c));
+    }
+}
+
 #[test]
 fn all_products(rt: HostRuntime) {
-    for (a, row) in ELEMENTS.iter().zip(PRODUCTS.iter()) {
-        for (b, c) in ELEMENTS.iter().zip(row.iter()) {
-            let product = *a * *b;
-            same(&rt, &(*a, *b, product.to_char()), &(*a, *b, *c as char));
-            same(&rt, &(*a, *b, plain::product(*a, *b)), &(*a, *b, product));
-        }
+    for (a, row) in ELEMENTS.iter().zip(PRODUCTS) {
+        same_row(&rt, *a, row);
     }
 }
 

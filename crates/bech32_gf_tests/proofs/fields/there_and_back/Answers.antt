@@ -1,5 +1,5 @@
 use Rattle.std.proofs.Common.{◌∙◌, ap}
-use Rattle.bech32_gf_ext_tests.proofs.fields.there_and_back.Goals as goal
+use Rattle.bech32_gf_tests.proofs.fields.there_and_back.Goals as goal
 
 pub returns : goal.returns
 returns g c =

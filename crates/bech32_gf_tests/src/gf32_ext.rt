@@ -4,95 +4,12 @@ ghost use Rattle.std.specs.Prelude.{◌≢◌};
 ghost use Rattle.bech32_gf_ext.specs.Fe1024 as pairs;
 ghost use Rattle.bech32_gf_ext.specs.Fe32768 as triples;
 
-mod fe1024_table;
-mod fe32768_table;
-
 use crate::compare::{same, same_items};
 use bech32_gf::field::{Bech32Field, ExtensionField, Field, MultiplicativeOrder};
 use bech32_gf::gf32::Fe32;
-use bech32_gf_ext::{Fe32Ext, Fe1024, Fe32768};
+use bech32_gf_ext::{Fe1024, Fe32768};
 use bech32_testing::code::Code;
 use std::test::Fail;
-
-// The element whose characters these are, the constant coefficient first.
-fn element<const DEG: usize>(text: &str) -> Result<Fe32Ext<DEG>, Fail> {
-    let mut inner = [Fe32::Q; DEG];
-    for (i, c) in text.chars().enumerate() {
-        if i < DEG {
-            inner[i] = Fe32::from_char(c)?;
-        }
-    }
-    Ok(Fe32Ext::new(inner))
-}
-
-// What a line says of two elements and an exponent: a product, an inverse, an order and a power.
-type Results<F> = (F, F, usize, F);
-
-// A line of a table.
-#[derive(Drop)]
-struct Row<const DEG: usize> {
-    a: Fe32Ext<DEG>,
-    b: Fe32Ext<DEG>,
-    exponent: i64,
-    results: Results<Fe32Ext<DEG>>,
-}
-
-fn row_of<const DEG: usize>(line: &str) -> Result<Row<DEG>, Fail> {
-    let mut words = line.split(' ');
-    let a = element(words.next().ok_or("no first element")?)?;
-    let b = element(words.next().ok_or("no second element")?)?;
-    let product = element(words.next().ok_or("no product")?)?;
-    let inverse = element(words.next().ok_or("no inverse")?)?;
-    let order = words.next().ok_or("no order")?.parse::<usize>()?;
-    let power = element(words.next().ok_or("no power")?)?;
-    let exponent = words.next().ok_or("no exponent")?.parse::<i64>()?;
-    Ok(Row {
-        a,
-        b,
-        exponent,
-        results: (product, inverse, order, power),
-    })
-}
-
-// What code over any field gives.
-fn results<F: Field>(a: F, b: F, exponent: i64) -> Results<F>
-    requires { a ≢ F.ops.zero }
-{
-    (
-        a * b,
-        a.multiplicative_inverse(),
-        a.multiplicative_order(),
-        a.powi(exponent),
-    )
-}
-
-#[test]
-fn table_of_pairs(rt: HostRuntime) -> Result<(), Fail> {
-    let mut count = 0u32;
-    for line in fe1024_table::ROWS.lines() {
-        let row = row_of::<2>(line)?;
-        assert!(rt; row.a != Fe1024::ZERO);
-        let got = results(row.a, row.b, row.exponent);
-        same(&rt, &(line, got), &(line, row.results));
-        count = count.checked_add(1).ok_or("too many")?;
-    }
-    same(&rt, &count, &300);
-    Ok(())
-}
-
-#[test]
-fn table_of_triples(rt: HostRuntime) -> Result<(), Fail> {
-    let mut count = 0u32;
-    for line in fe32768_table::ROWS.lines() {
-        let row = row_of::<3>(line)?;
-        assert!(rt; row.a != Fe32768::ZERO);
-        let got = results(row.a, row.b, row.exponent);
-        same(&rt, &(line, got), &(line, row.results));
-        count = count.checked_add(1).ok_or("too many")?;
-    }
-    same(&rt, &count, &300);
-    Ok(())
-}
 
 // The order of an element, unless it is zero.
 fn order_of<F: Field>(x: F) -> Option<usize> {
@@ -103,14 +20,13 @@ fn order_of<F: Field>(x: F) -> Option<usize> {
 }
 
 #[test]
-fn orders(rt: HostRuntime) -> Result<(), Fail> {
+fn orders(rt: HostRuntime) {
     let x = Fe1024::new([Fe32::K, Fe32::L]);
     let of_pairs = [order_of(x), order_of(x.powi(3)), order_of(x.powi(341))];
     same(&rt, &of_pairs, &[Some(1023), Some(341), Some(3)]);
-    let x = element::<3>("acq")?;
+    let x = Fe32768::new([Fe32::A, Fe32::C, Fe32::Q]);
     let of_triples = [order_of(x), order_of(x.powi(7)), order_of(x.powi(341))];
     same(&rt, &of_triples, &[Some(32767), Some(4681), Some(1057)]);
-    Ok(())
 }
 
 #[test]
@@ -271,16 +187,21 @@ fn printed(rt: HostRuntime) -> Result<(), Fail> {
     let triple = Fe32768::new([Fe32::_9, Fe32::Q, Fe32::L]);
     let text = format!(in rt.alloc(); "{pair} {pair:?} {triple} {triple:?}")?;
     same(&rt, &text.as_str(), &"px px 9ql 9ql");
-    let pair_code = Code(pair);
-    let triple_code = Code(triple);
-    let code = format!(in rt.alloc(); "{pair_code}; {triple_code}")?;
-    let want =
-        "Fe32Ext { inner: [Fe32::P, Fe32::X] }; Fe32Ext { inner: [Fe32::_9, Fe32::Q, Fe32::L] }";
-    same(&rt, &code.as_str(), &want);
     let names = [
         <Fe1024 as Bech32Field>::NAME,
         <Fe32768 as Bech32Field>::NAME,
     ];
     same_items(&rt, &names, &["Fe1024", "Fe32768"]);
+    Ok(())
+}
+
+#[test]
+fn rust_code(rt: HostRuntime) -> Result<(), Fail> {
+    let pair = Code(Fe1024::new([Fe32::P, Fe32::X]));
+    let triple = Code(Fe32768::new([Fe32::_9, Fe32::Q, Fe32::L]));
+    let code = format!(in rt.alloc(); "{pair}; {triple}")?;
+    let want =
+        "Fe32Ext { inner: [Fe32::P, Fe32::X] }; Fe32Ext { inner: [Fe32::_9, Fe32::Q, Fe32::L] }";
+    same(&rt, &code.as_str(), &want);
     Ok(())
 }
