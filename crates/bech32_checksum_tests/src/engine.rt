@@ -3,7 +3,7 @@
 ghost use Rattle.std.specs.Prelude.{length, ◌≤◌};
 ghost use Rattle.bech32_checksum.specs.Code.{IsResidueAfter};
 
-use crate::codex32_rows;
+use crate::codex32_rows::ROWS;
 use crate::compare::{same, same_items};
 use bech32_checksum::{Bech32, Bech32m, Checksum, Engine, NoChecksum, PackedFe32, PackedNull};
 use bech32_encode::{Checksummed, Fe32IterExt};
@@ -12,7 +12,6 @@ use bech32_hrp::Hrp;
 use bech32_poly::polynomial::remainder;
 use bech32_testing_codes::{Degree8, Degree13};
 use std::alloc::{AllocError, Global};
-use std::process::Abort;
 use std::test::Fail;
 
 // The lower coefficients of the generator of both checksums: 18, 29, 21, 20, 22, 29.
@@ -57,31 +56,45 @@ fn input_all<Ck: Checksum>(engine: &mut Engine<Ck>, elements: &[Fe32])
 }
 
 // The characters of a row of six, the highest first.
-fn characters(alloc: Global, row: u32) -> Result<String, AllocError> {
-    let mut text = String::new(alloc);
+fn characters(row: u32) -> [char; 6] {
+    let mut characters = ['q'; 6];
     for i in 0..6 {
-        text.push(Fe32::from_low_bits(row.unpack(5 - i)).to_char())?;
+        characters[i] = Fe32::from_low_bits(row.unpack(5 - i)).to_char();
     }
-    Ok(text)
+    characters
+}
+
+// The checksum of elements, as a row.
+fn checksum_of<Ck: Checksum>(elements: &[Fe32]) -> Ck::MidstateRepr {
+    let mut engine = Engine::<Ck>::new();
+    input_all(&mut engine, elements);
+    engine.input_target_residue();
+    *engine.residue()
 }
 
 #[test]
-fn checksums_of_one_letter(rt: HostRuntime) -> Result<(), Fail> {
+fn checksums_of_one_letter(rt: HostRuntime) {
     // The elements of the human-readable part `a`.
     let hrp = [Fe32::R, Fe32::Q, Fe32::P];
+    let found = [
+        characters(checksum_of::<Bech32>(&hrp)),
+        characters(checksum_of::<Bech32m>(&hrp)),
+    ];
+    let want = [
+        ['2', 'u', 'e', 'l', '5', 'l'],
+        ['l', 'q', 'f', 'n', '3', 'a'],
+    ];
+    same(&rt, &found, &want);
+}
 
-    let mut engine = Engine::<Bech32>::new();
-    input_all(&mut engine, &hrp);
+// Whether a clone of an engine equals it, and no more once the target was given.
+fn is_changed_by_the_target(engine: &mut Engine<Bech32>) -> bool {
+    let Ok(before) = engine.clone() else {
+        return false;
+    };
+    let is_same = *engine == before;
     engine.input_target_residue();
-    let bech32 = characters(rt.alloc(), *engine.residue())?;
-    same(&rt, &bech32.as_str(), &"2uel5l");
-
-    let mut engine = Engine::<Bech32m>::new();
-    input_all(&mut engine, &hrp);
-    engine.input_target_residue();
-    let bech32m = characters(rt.alloc(), *engine.residue())?;
-    same(&rt, &bech32m.as_str(), &"lqfn3a");
-    Ok(())
+    is_same && *engine != before
 }
 
 // By the human-readable part itself, whose case does not count.
@@ -89,17 +102,14 @@ fn checksums_of_one_letter(rt: HostRuntime) -> Result<(), Fail> {
 fn checksum_of_a_part(rt: HostRuntime) -> Result<(), Fail> {
     let mut engine = Engine::<Bech32>::default();
     engine.input_hrp(Hrp::parse("A")?);
-    let before = engine.clone()?;
-    assert!(rt; engine == before);
-    engine.input_target_residue();
-    assert!(rt; engine != before);
-    let text = characters(rt.alloc(), *engine.residue())?;
-    same(&rt, &text.as_str(), &"2uel5l");
+    same(&rt, &is_changed_by_the_target(&mut engine), &true);
+    let found = characters(*engine.residue());
+    same(&rt, &found, &['2', 'u', 'e', 'l', '5', 'l']);
     Ok(())
 }
 
-// An engine that was given 40 elements holds the remainder that long division leaves.
-fn agrees<Ck: Checksum>(rt: &impl Abort, alloc: Global, low: &[Fe32]) -> Result<(), Fail>
+// Whether an engine that was given 40 elements holds the remainder that long division leaves.
+fn agrees<Ck: Checksum>(alloc: Global, low: &[Fe32]) -> Result<bool, AllocError>
     requires { length low.now ≤ Ck.MidstateRepr.WIDTH }
 {
     let mut polynomial = Vec::new(alloc);
@@ -116,18 +126,20 @@ fn agrees<Ck: Checksum>(rt: &impl Abort, alloc: Global, low: &[Fe32]) -> Result<
     for place in 0..low.len() {
         held.push(Fe32::from_low_bits(engine.residue().unpack(place)))?;
     }
-    same_items(rt, &held, &rest);
-    Ok(())
+    Ok(held == rest)
 }
 
 #[test]
-fn same_as_long_division(rt: HostRuntime) -> Result<(), Fail> {
-    agrees::<Bech32>(&rt, rt.alloc(), &LOW)?;
-    agrees::<Bech32m>(&rt, rt.alloc(), &LOW)?;
-    agrees::<Degree8>(&rt, rt.alloc(), &LOW_8)?;
-    agrees::<Degree13>(&rt, rt.alloc(), &LOW_13)?;
-    agrees::<NoChecksum>(&rt, rt.alloc(), &[])?;
-    Ok(())
+fn same_as_long_division(rt: HostRuntime) {
+    let alloc = rt.alloc();
+    let agreed = [
+        agrees::<Bech32>(alloc, &LOW).ok(),
+        agrees::<Bech32m>(alloc, &LOW).ok(),
+        agrees::<Degree8>(alloc, &LOW_8).ok(),
+        agrees::<Degree13>(alloc, &LOW_13).ok(),
+        agrees::<NoChecksum>(alloc, &[]).ok(),
+    ];
+    same(&rt, &agreed, &[Some(true); 5]);
 }
 
 // No element changes the remainder by the polynomial 1.
@@ -144,25 +156,44 @@ fn no_checksum(rt: HostRuntime) -> Result<(), Fail> {
     Ok(())
 }
 
-#[test]
-fn equal_engines(rt: HostRuntime) -> Result<(), Fail> {
-    let mut engine = Engine::<Bech32>::default();
-    assert!(rt; engine == Engine::new());
-    engine.input_fe(Fe32::L);
-    assert!(rt; engine != Engine::new());
-    assert!(rt; engine.clone()? == engine);
-    Ok(())
+// Whether a clone of an engine equals it.
+fn equals_its_clone(engine: &Engine<Bech32>) -> bool {
+    match engine.clone() {
+        Ok(copy) => copy == *engine,
+        Err(_) => false,
+    }
 }
 
-// A field of a row: the elements of its characters, or none for `-`.
-fn elements_of(alloc: Global, field: &[u8]) -> Result<Vec<Fe32>, Fail> {
+// Whether nothing was given to an engine.
+fn is_new(engine: &Engine<Bech32>) -> bool {
+    *engine == Engine::new()
+}
+
+#[test]
+fn equal_engines(rt: HostRuntime) {
+    let mut engine = Engine::<Bech32>::default();
+    let is_new_before = is_new(&engine);
+    engine.input_fe(Fe32::L);
+    let found = [is_new_before, is_new(&engine), equals_its_clone(&engine)];
+    same_items(&rt, &found, &[true, false, true]);
+}
+
+// The elements of characters, or none for `-`.
+fn elements_of(alloc: Global, field: &[u8]) -> Option<Vec<Fe32>> {
     let mut fes = Vec::new(alloc);
     if field != b"-".as_slice() {
         for c in field {
-            fes.push(Fe32::from_char(*c as char)?)?;
+            fes.push(Fe32::from_char(char::from(*c)).ok()?).ok()?;
         }
     }
-    Ok(fes)
+    Some(fes)
+}
+
+// Whether the elements are given with this checksum behind them, and nothing else.
+fn is_appended(alloc: Global, hrp: Hrp, fes: &[Fe32], checksum: &[Fe32]) -> Option<bool> {
+    let given = Checksummed::<_, Degree13>::new_hrp(hrp, fes.iter().copied());
+    let given: Vec<Fe32> = given.collect(alloc).ok()?;
+    Some(given.strip_prefix(fes)? == checksum)
 }
 
 // The text of the elements and their checksum.
@@ -174,29 +205,36 @@ fn text_of<Ck: Checksum>(alloc: Global, hrp: &Hrp, fes: &[Fe32]) -> Result<Vec<u
         .collect(alloc)
 }
 
+// Whether the text of the elements and their checksum ends with this.
+fn is_written(alloc: Global, hrp: &Hrp, fes: &[Fe32], checksum: &[u8]) -> bool {
+    match text_of::<Degree13>(alloc, hrp, fes) {
+        Ok(text) => text.ends_with(checksum),
+        Err(_) => false,
+    }
+}
+
+// Whether a checksum is appended to elements, to them and to their text.
+fn is_kept(alloc: Global, hrp: Hrp, elements: &[u8], checksum: &[u8]) -> Option<bool> {
+    let fes = elements_of(alloc, elements)?;
+    let last = elements_of(alloc, checksum)?;
+    Some(is_appended(alloc, hrp, &fes, &last)? && is_written(alloc, &hrp, &fes, checksum))
+}
+
+// The same of a row.
+fn row_is_kept(alloc: Global, row: &[u8]) -> Option<bool> {
+    let mut fields = row.split(|b| *b == b'\t');
+    let hrp = Hrp::parse(str::from_utf8(fields.next()?).ok()?).ok()?;
+    is_kept(alloc, hrp, fields.next()?, fields.next()?)
+}
+
 #[test]
-fn appends_the_checksums_of_codex32(rt: HostRuntime) -> Result<(), Fail> {
-    let alloc = rt.alloc();
+fn appends_the_checksums_of_codex32(rt: HostRuntime) {
     let mut rows = 0u32;
-    for row in codex32_rows::ROWS.split(|b| *b == b'\n') {
-        if row.is_empty() {
-            continue;
+    for row in ROWS.split(|b| *b == b'\n') {
+        if !row.is_empty() {
+            same(&rt, &row_is_kept(rt.alloc(), row), &Some(true));
+            rows = rows.saturating_add(1);
         }
-        let mut fields = row.split(|b| *b == b'\t');
-        let hrp = Hrp::parse(str::from_utf8(fields.next().ok_or("the human-readable part")?)?)?;
-        let fes = elements_of(alloc, fields.next().ok_or("the elements")?)?;
-        let checksum = fields.next().ok_or("their checksum")?;
-
-        let mut all = fes.clone()?;
-        all.extend_from_slice(&elements_of(alloc, checksum)?)?;
-        let given = Checksummed::<_, Degree13>::new_hrp(hrp, fes.iter().copied());
-        let given: Vec<Fe32> = given.collect(alloc)?;
-        same_items(&rt, &given, &all);
-
-        let text = text_of::<Degree13>(alloc, &hrp, &fes)?;
-        assert!(rt; text.ends_with(checksum));
-        rows = rows.saturating_add(1);
     }
     same(&rt, &rows, &80);
-    Ok(())
 }

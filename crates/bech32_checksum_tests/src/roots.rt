@@ -165,14 +165,19 @@ fn bech32m_is_sane() -> bool
     Bech32m::sanity_check()
 }
 
+// Whether the roots pass the test.
+fn is_sane<Ck: Checksum>() -> bool {
+    Ck::sanity_check()
+}
+
 #[test]
 fn lawful_roots(rt: HostRuntime) {
     let sane = [
         no_checksum_is_sane(),
         bech32_is_sane(),
         bech32m_is_sane(),
-        Degree8::sanity_check(),
-        Degree13::sanity_check(),
+        is_sane::<Degree8>(),
+        is_sane::<Degree13>(),
     ];
     same_items(&rt, &sane, &[true; 5]);
     same_items(&rt, &[roots_of_bech32(), roots_of_bech32m()], &[3, 3]);
@@ -193,27 +198,37 @@ fn roots_of_both(rt: HostRuntime) {
     same(&rt, &Bech32::ROOT_GENERATOR, &Bech32m::ROOT_GENERATOR);
 }
 
+// Whether the roots of Bech32 with other exponents, and for texts of another length, pass the test.
+fn altered_is_sane<const FIRST: usize, const LAST: usize, const LONGEST: usize>() -> bool {
+    <Altered<FIRST, LAST, LONGEST>>::sanity_check()
+}
+
+// Whether those of the generator x + 1 do, from the exponent 3 on.
+fn degree_1_is_sane<const LAST: usize>() -> bool {
+    <Degree1<LAST>>::sanity_check()
+}
+
 #[test]
 fn altered_roots(rt: HostRuntime) {
     let lawful = [
-        Altered::<24, 26, 1023>::sanity_check(),
-        Altered::<24, 24, 1>::sanity_check(),
+        altered_is_sane::<24, 26, 1023>(),
+        altered_is_sane::<24, 24, 1>(),
         // The same powers once more.
-        Altered::<1047, 1049, 1023>::sanity_check(),
+        altered_is_sane::<1047, 1049, 1023>(),
         // As many roots as the degree.
-        Degree1::<3>::sanity_check(),
+        degree_1_is_sane::<3>(),
     ];
     same_items(&rt, &lawful, &[true; 4]);
     let unlawful = [
-        Altered::<24, 26, 1024>::sanity_check(),
-        Altered::<24, 27, 1023>::sanity_check(),
-        Altered::<23, 26, 1023>::sanity_check(),
-        Altered::<27, 27, 1023>::sanity_check(),
-        Altered::<25, 24, 1023>::sanity_check(),
-        Altered::<0, { usize::MAX }, 1023>::sanity_check(),
+        altered_is_sane::<24, 26, 1024>(),
+        altered_is_sane::<24, 27, 1023>(),
+        altered_is_sane::<23, 26, 1023>(),
+        altered_is_sane::<27, 27, 1023>(),
+        altered_is_sane::<25, 24, 1023>(),
+        altered_is_sane::<0, { usize::MAX }, 1023>(),
         OtherBase::sanity_check(),
         // One root more than the degree.
-        Degree1::<4>::sanity_check(),
+        degree_1_is_sane::<4>(),
     ];
     same_items(&rt, &unlawful, &[false; 8]);
 }
