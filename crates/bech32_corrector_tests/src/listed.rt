@@ -44,13 +44,28 @@ fn is_given<Ck: Checksum>(corrector: &mut Corrector<Ck>, erasures: &[usize]) -> 
     }
 }
 
+// Whether this error comes next.
+fn is_next<A: Allocator + Copy>(errors: &mut ErrorIterator<A>, want: &(usize, Fe32)) -> bool {
+    errors.next() == Some(*want)
+}
+
+/// Whether just these errors are left.
+pub fn gives<A: Allocator + Copy>(errors: &mut ErrorIterator<A>, want: Listing) -> bool {
+    for error in want.iter() {
+        if !is_next(errors, error) {
+            return false;
+        }
+    }
+    errors.next().is_none()
+}
+
 // Whether just this was found, or nothing.
 fn is_found(found: Option<ErrorIterator>, want: Option<Listing>) -> bool {
-    let Some(errors) = found else {
+    let Some(mut errors) = found else {
         return want.is_none();
     };
     match want {
-        Some(want) => errors.eq(want.iter().copied()),
+        Some(want) => gives(&mut errors, want),
         None => false,
     }
 }

@@ -1,7 +1,7 @@
 //! Want of memory.
 
 use super::compare::same;
-use super::listed::{Listing, are_within};
+use super::listed::{Listing, are_within, gives};
 use bech32_checksum::{Bech32, Checksum};
 use bech32_corrector::{CorrectableError, Corrector, ErrorIterator};
 use bech32_decode::CheckedHrpstring;
@@ -13,11 +13,11 @@ use std::test::Fail;
 
 // Whether just this was found, or nothing.
 fn is_found(found: Option<ErrorIterator<&LocalHeap>>, want: Option<Listing>) -> bool {
-    let Some(errors) = found else {
+    let Some(mut errors) = found else {
         return want.is_none();
     };
     match want {
-        Some(want) => errors.eq(want.iter().copied()),
+        Some(want) => gives(&mut errors, want),
         None => false,
     }
 }
