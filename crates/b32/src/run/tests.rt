@@ -2,6 +2,7 @@ ghost use Rattle.std.specs.Prelude.{◌<◌};
 
 use super::run;
 use bech32_lines::RunError;
+use std::alloc::Global;
 use std::fmt::Debug;
 use std::io;
 use std::process::Abort;
@@ -107,68 +108,89 @@ fn empty_input(rt: HostRuntime) {
     same(&rt, &(outcome, out.as_slice()), &(Ok(()), b"".as_slice()));
 }
 
+// What a run over the input is to answer and to write where the read of the byte at `room` fails.
+fn after_reading(room: usize) -> (Result<(), RunError>, &'static [u8]) {
+    if room < INPUT.len() {
+        (Err(RunError::Read), answered(&INPUT[..room]))
+    } else {
+        (Ok(()), OUTPUT)
+    }
+}
+
+// Fails where it does not.
+fn reads(rt: &impl Abort, alloc: Global, room: usize) {
+    let mut reader = Faulty {
+        left: INPUT,
+        room,
+        step: 1,
+    };
+    let mut out = Vec::new(alloc);
+    let outcome = run(alloc, &mut reader, &mut out);
+    let (want, replies) = after_reading(room);
+    same(rt, &(room, outcome, out.as_slice()), &(room, want, replies));
+}
+
 #[test]
 fn reads_that_fail(rt: HostRuntime) {
     for room in 0..=INPUT.len() {
-        let mut reader = Faulty {
-            left: INPUT,
-            room,
-            step: 1,
-        };
-        let mut out = Vec::new(rt.alloc());
-        let outcome = run(rt.alloc(), &mut reader, &mut out);
-        let (want, replies) = if room < INPUT.len() {
-            (Err(RunError::Read), answered(&INPUT[..room]))
-        } else {
-            (Ok(()), OUTPUT)
-        };
-        same(
-            &rt,
-            &(room, outcome, out.as_slice()),
-            &(room, want, replies),
-        );
+        reads(&rt, rt.alloc(), room);
     }
+}
+
+// What a run over the input is to answer where no more than `room` bytes can be written.
+fn after_writing(room: usize) -> Result<(), RunError> {
+    if room < OUTPUT.len() {
+        Err(RunError::Write)
+    } else {
+        Ok(())
+    }
+}
+
+// Fails where it does not, or writes other than the first so many bytes.
+fn writes(rt: &impl Abort, alloc: Global, room: usize) {
+    let mut reader = INPUT;
+    let mut writer = Narrow {
+        got: Vec::new(alloc),
+        room,
+        step: 4,
+        stuck: false,
+    };
+    let outcome = run(alloc, &mut reader, &mut writer);
+    let (front, _) = OUTPUT.split_at(room.min(OUTPUT.len()));
+    same(
+        rt,
+        &(room, outcome, writer.got.as_slice()),
+        &(room, after_writing(room), front),
+    );
 }
 
 #[test]
 fn writes_that_fail(rt: HostRuntime) {
     for room in 0..=OUTPUT.len() {
-        let mut reader = INPUT;
-        let mut writer = Narrow {
-            got: Vec::new(rt.alloc()),
-            room,
-            step: 4,
-            stuck: false,
-        };
-        let outcome = run(rt.alloc(), &mut reader, &mut writer);
-        let want = if room < OUTPUT.len() {
-            Err(RunError::Write)
-        } else {
-            Ok(())
-        };
-        same(
-            &rt,
-            &(room, outcome, writer.got.as_slice()),
-            &(room, want, &OUTPUT[..room]),
-        );
+        writes(&rt, rt.alloc(), room);
     }
+}
+
+// Fails where a run is not told of the flush that fails, whether reading fails at `room` or not.
+fn flushes(rt: &impl Abort, alloc: Global, room: usize) {
+    let mut reader = Faulty {
+        left: INPUT,
+        room,
+        step: 1,
+    };
+    let mut writer = Narrow {
+        got: Vec::new(alloc),
+        room: 1000,
+        step: 1000,
+        stuck: true,
+    };
+    let outcome = run(alloc, &mut reader, &mut writer);
+    same(rt, &(room, outcome), &(room, Err(RunError::Write)));
 }
 
 #[test]
 fn flushes_that_fail(rt: HostRuntime) {
     for room in [0, 30, 1000] {
-        let mut reader = Faulty {
-            left: INPUT,
-            room,
-            step: 1,
-        };
-        let mut writer = Narrow {
-            got: Vec::new(rt.alloc()),
-            room: 1000,
-            step: 1000,
-            stuck: true,
-        };
-        let outcome = run(rt.alloc(), &mut reader, &mut writer);
-        same(&rt, &(room, outcome), &(room, Err(RunError::Write)));
+        flushes(&rt, rt.alloc(), room);
     }
 }
