@@ -2,8 +2,8 @@
 #![tactic(auto)]
 
 ghost use Rattle.std.specs.Prelude.{◌≡◌, ℕ, ◌+◌, ◌-◌, ◌^◌, ◌≤◌, ◌<◌, List, Bool, true, false};
-ghost use Rattle.std.specs.Prelude.{is_err, length, take, drop, Option, Result};
-ghost use Rattle.std.specs.Prelude.{OnOk, OnErr, IfOk, IfErr, MatchResult};
+ghost use Rattle.std.specs.Prelude.{is_err, length, take, Option, Result};
+ghost use Rattle.std.specs.Prelude.{OnOk, OnErr, IfOk, IfErr};
 ghost use Rattle.std.specs.declared.io.Error.{Error as IoError};
 ghost use Rattle.std.specs.declared.fmt.Error.{Error as FmtError};
 ghost use Rattle.std.specs.Io.{ReadsAtMost, WritesAtMost};
@@ -228,9 +228,10 @@ impl<'a, D: ReadDevice> ByteSource for Watched<'a, D> {
 
     ghost reads_left = { reads_to_come };
 
-    // Past the last read that may ask the device, nothing is asked.
-    ghost read_gives = { λ s bytes returned t. 0 < reads_to_come s
-        → D.read_gives (device_of s) bytes returned (device_of t) };
+    // Past the last read that may ask the device, it stays as it is.
+    ghost read_gives = { λ s bytes returned t.
+        (0 < reads_to_come s → D.read_gives (device_of s) bytes returned (device_of t))
+        × (reads_to_come s ≡ 0 → device_of t ≡ device_of s) };
 
     ghost reflexive = { λ s. refl };
 
@@ -268,9 +269,10 @@ impl<'a, D: WriteDevice> ByteSink for Watched<'a, D> {
 
     ghost write_gives = { λ s bytes returned t. D.write_gives (device_of s) bytes returned (device_of t) };
 
-    // Past the last flush that can be counted, nothing is asked.
-    ghost flush_gives = { λ s returned t. flush_count s < 2 ^ 64 - 1
-        → D.flush_gives (device_of s) returned (device_of t) };
+    // Past the last flush that can be counted, the device stays as it is.
+    ghost flush_gives = { λ s returned t.
+        (flush_count s < 2 ^ 64 - 1 → D.flush_gives (device_of s) returned (device_of t))
+        × (flush_count s ≡ 2 ^ 64 - 1 → device_of t ≡ device_of s) };
 
     ghost reflexive = { λ s. refl };
 
@@ -358,6 +360,3 @@ pub fn write_all<K: ByteSink>(sink: &mut K, bytes: &[u8]) -> io::Result<()>
     }
     Ok(())
 }
-
-#[cfg(test)]
-mod tests;
