@@ -1,7 +1,6 @@
 -- What a watched device took, the device took.
 use Rattle.std.proofs.Common.{◌≡◌, ◌≤◌, ℕ, Bool, List, [], ◌∷◌, length, take, Option, Result, Ok, Err, ap, IfErr}
-use Rattle.std.specs.List.{FoldsTo}
-use Rattle.std.specs.Fmt.{WritesInCalls}
+use Rattle.bech32_device.proofs.Through.{writes_through}
 use Rattle.bech32_gf.specs.declared.gf32.Fe32.{Fe32}
 use Rattle.bech32_checksum.specs.Code.{Code}
 use Rattle.bech32.specs.Writing.{WritesText, IsFmtRefusal, IsIoRefusal}
@@ -10,15 +9,10 @@ use Rattle.bech32.specs.declared.error.EncodeError.TheVariants.{TooLong, Fmt, Me
 use Rattle.bech32.specs.declared.error.EncodeIoError.{EncodeIoError}
 use Rattle.bech32.specs.declared.error.EncodeIoError.TheVariants.{TooLong as IoTooLong, Write}
 
-module _ {S W : Type 0} (took : W → List ℕ → W → Type 0) (writer : S → W) where
-  calls_through : (s : S) (pieces : List (List ℕ)) (t : S) → FoldsTo (λ a x b. took (writer a) x (writer b)) s pieces t → FoldsTo took (writer s) pieces (writer t)
-  calls_through s [] t p = ap writer p
-  calls_through s (x ∷ pieces) t p = (writer p.0, p.1, calls_through p.0 pieces t p.2)
-
-  -- a text
-  pub text_through : (s t : S) (upper : Bool) (code : Code) (hrp bytes : List ℕ) → WritesText (λ a x b. took (writer a) x (writer b)) s t upper code hrp bytes
-      → WritesText took (writer s) (writer t) upper code hrp bytes
-  text_through s t upper code hrp bytes (text, is, went) = (text, is, record { parts = went.parts; calls = calls_through s went.parts t went.calls; whole = went.whole })
+-- a text
+pub text_through : {S W : Type 0} (took : W → List ℕ → W → Type 0) (writer : S → W) (s t : S) (upper : Bool) (code : Code) (hrp bytes : List ℕ)
+    → WritesText (λ a x b. took (writer a) x (writer b)) s t upper code hrp bytes → WritesText took (writer s) (writer t) upper code hrp bytes
+text_through took writer s t upper code hrp bytes (text, is, went) = (text, is, writes_through took writer s t text went)
 
 -- a refusal, where less is said of the sink
 pub fmt_refusal : {kept kept' failed failed' : Type 0} (code : Code) (hrp : List ℕ) (elements : List Fe32) → (kept → kept') → (failed → failed')

@@ -12,7 +12,8 @@ use Rattle.bech32_encode.specs.Cased.{in_case, IsTextInCase}
 use Rattle.bech32_encode.proofs.Encoding.{IsAscii-encoded}
 use Rattle.bech32_encode.proofs.TextsLeft.{IsAscii-in_case}
 use Rattle.bech32_decode.specs.Segwit.{segwit_code}
-use Rattle.bech32_segwit.specs.Unchecked.{IsFrontOfText, AppendsFront, AppendsPartOfFront}
+use Rattle.bech32_device.proofs.Through.{writes_through}
+use Rattle.bech32_segwit.specs.Unchecked.{IsFrontOfText, WritesFront, AppendsFront, AppendsPartOfFront}
 
 -- what was put of a text by one code, where that is the version's
 pub front-from_put : (upper : Bool) (code : Code) (hrp : List ℕ) (version : Fe32) (program old new : List ℕ) (count : ℕ) → code ≡ segwit_code version → length old ≡ 90
@@ -36,9 +37,10 @@ IsAscii-front upper hrp version program front h (text, (lower, is, e), f) =
     subst IsAscii (sym (f ∙ ap (take 90) e))
     (IsAscii-take (in_case upper lower) 90 (IsAscii-in_case upper lower (IsAscii-encoded (segwit_code version) hrp (version ∷ to_fes program) lower h is)))
 
-pub on_ok-from : {T E P : Type 0} (r : Result T E) → (IsOk r → P) → OnOk r P
-on_ok-from (Ok x) f = f refl
-on_ok-from (Err e) f = tt
+-- what a watched writer took of it, the writer took
+pub front_through : {S W : Type 0} (took : W → List ℕ → W → Type 0) (writer : S → W) (s t : S) (upper : Bool) (hrp : List ℕ) (version : Fe32) (program : List ℕ)
+    → WritesFront (λ a x b. took (writer a) x (writer b)) s t upper hrp version program → WritesFront took (writer s) (writer t) upper hrp version program
+front_through took writer s t upper hrp version program (front, is, went) = (front, is, writes_through took writer s t front went)
 
 -- known bytes grew by it, or by a beginning of it
 module _ (old new : Option (List ℕ)) (upper : Bool) (hrp : List ℕ) (version : Fe32) (program front : List ℕ) (is : IsFrontOfText upper hrp version program front) {T E : Type 0} where

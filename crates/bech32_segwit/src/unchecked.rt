@@ -9,7 +9,7 @@ ghost use Rattle.bech32_segwit.specs.Unchecked.{IsFrontOfText, WritesFront, Appe
 use crate::VERSION_0;
 use bech32_checksum::{Bech32, Bech32m};
 use bech32_decode::segwit::MAX_STRING_LENGTH;
-use bech32_device::{Watched, write_all};
+use bech32_device::{ByteSink, FmtSink, Watched, write_all};
 use bech32_encode::put_front_of_text;
 use bech32_gf::gf32::Fe32;
 use bech32_hrp::Hrp;
@@ -29,6 +29,62 @@ fn put_front(hrp: Hrp, version: Fe32, program: &[u8], upper: bool, buffer: &mut 
     }
 }
 
+/// Writes the first 90 characters of the text of a witness version and a program into a sink of text,
+/// in upper case or in lower case: by Bech32 for version 0, else by Bech32m (BIP-350). Nothing is
+/// tested.
+///
+/// # Errors
+///
+/// Where the sink failed, and only there; its mark is set.
+pub fn encode_into_fmt_unchecked<S: FmtSink>(
+    sink: &mut S,
+    hrp: Hrp,
+    witness_version: Fe32,
+    witness_program: &[u8],
+    upper: bool,
+) -> fmt::Result
+    requires { S.has_failed sink.old ≡ false }
+    ensures ok { OnOk result
+        (WritesFront S.takes sink.old sink.new upper (hrp_bytes hrp) witness_version «witness_program».now) }
+    ensures ok_mark { OnOk result (S.has_failed sink.new ≡ false) }
+    ensures err_mark { OnErr result (S.has_failed sink.new ≡ true) }
+    ensures same { S.is_same sink.old sink.new }
+{
+    let mut buffer = [0u8; MAX_STRING_LENGTH];
+    let count = put_front(hrp, witness_version, witness_program, upper, &mut buffer);
+    // All of it is ASCII: what the call requires is proved.
+    let front = unsafe { str::from_utf8_unchecked(&buffer[..count]) };
+    sink.write_str(front)
+}
+
+/// The same into a sink of bytes.
+///
+/// # Errors
+///
+/// Where the sink failed, and only there, as [`write_all`] says: its mark is set, and it took a
+/// beginning of those characters.
+pub fn encode_into_bytes_unchecked<S: ByteSink>(
+    sink: &mut S,
+    hrp: Hrp,
+    witness_version: Fe32,
+    witness_program: &[u8],
+    upper: bool,
+) -> io::Result<()>
+    requires { S.has_failed sink.old ≡ false }
+    ensures ok { OnOk result
+        (AppendsFront (S.contents sink.old) (S.contents sink.new) upper (hrp_bytes hrp) witness_version «witness_program».now) }
+    ensures ok_mark { OnOk result (S.has_failed sink.new ≡ false) }
+    ensures err_mark { OnErr result (S.has_failed sink.new ≡ true) }
+    ensures beginning { OnErr result
+        (AppendsPartOfFront (S.contents sink.old) (S.contents sink.new) upper (hrp_bytes hrp) witness_version «witness_program».now) }
+    ensures uncounted { S.flushes sink.new ≡ S.flushes sink.old }
+    ensures same { S.is_same sink.old sink.new }
+{
+    let mut buffer = [0u8; MAX_STRING_LENGTH];
+    let count = put_front(hrp, witness_version, witness_program, upper, &mut buffer);
+    write_all(sink, &buffer[..count])
+}
+
 fn front_to_fmt<W: fmt::Write>(
     fmt: &mut W,
     hrp: Hrp,
@@ -39,11 +95,8 @@ fn front_to_fmt<W: fmt::Write>(
     ensures { OnOk result
         (WritesFront W.write_str_gives fmt.old fmt.new upper (hrp_bytes hrp) version «program».now) }
 {
-    let mut buffer = [0u8; MAX_STRING_LENGTH];
-    let count = put_front(hrp, version, program, upper, &mut buffer);
-    // All of it is ASCII: what the call requires is proved.
-    let front = unsafe { str::from_utf8_unchecked(&buffer[..count]) };
-    fmt.write_str(front)
+    let mut sink = Watched::new(fmt);
+    encode_into_fmt_unchecked(&mut sink, hrp, version, program, upper)
 }
 
 fn front_to_writer<W: io::Write>(
@@ -58,10 +111,8 @@ fn front_to_writer<W: io::Write>(
     ensures beginning { OnErr result
         (AppendsPartOfFront (W.contents w.old) (W.contents w.new) upper (hrp_bytes hrp) version «program».now) }
 {
-    let mut buffer = [0u8; MAX_STRING_LENGTH];
-    let count = put_front(hrp, version, program, upper, &mut buffer);
     let mut sink = Watched::new(w);
-    write_all(&mut sink, &buffer[..count])
+    encode_into_bytes_unchecked(&mut sink, hrp, version, program, upper)
 }
 
 /// Writes as [`encode_lower_to_fmt_unchecked`] does.

@@ -1,25 +1,21 @@
-use Rattle.std.proofs.Common.{◌≡◌, take, subst, OnOk, IfErr, ℕ, ◌≤◌, length, rules}
-use Rattle.std.specs.Io.KnownBytes.{Appends}
+use Rattle.std.proofs.Common.{◌≡◌, subst, OnOk, OnErr, rules}
 use Rattle.bech32_device.specs.Watched.{device_of}
-use Rattle.bech32_segwit.proofs.Fronts.{appends_front, appends_part}
+use Rattle.bech32_hrp.specs.HrpBytes.{hrp_bytes}
+use Rattle.bech32_segwit.specs.Unchecked.{AppendsFront, AppendsPartOfFront}
 use Rattle.bech32_segwit.proofs.unchecked.front_to_writer.Goals as goal
 
 pub returns-clause-ok : goal.returns-clause-ok
 returns-clause-ok g c =
     let held = g.W.Write.contents in
-    let call = c.write_all in
-    let front = take c.put_front-count.result c.put_front-count.new.buffer in
+    let call = c.encode_into_bytes_unchecked in
     let last : device_of call.new.sink ≡ c.w-1.given.0 = search rules in
-    appends_front _ _ _ _ _ _ front c.put_front-count.ensures.front call.result
-    (subst (λ w. OnOk call.result (Appends (held c.args.w.now) (held w) front)) last
-    (subst (λ w. OnOk call.result (Appends (held w) (held (device_of call.new.sink)) front)) c.new-sink.ensures.device call.ensures.ok))
+    subst (λ w. OnOk call.result (AppendsFront (held c.args.w.now) (held w) c.args.upper (hrp_bytes c.args.hrp) c.args.version c.args.program.now)) last
+    (subst (λ w. OnOk call.result (AppendsFront (held w) (held (device_of call.new.sink)) c.args.upper (hrp_bytes c.args.hrp) c.args.version c.args.program.now)) c.new-sink.ensures.device call.ensures.ok)
 
 pub returns-clause-beginning : goal.returns-clause-beginning
 returns-clause-beginning g c =
     let held = g.W.Write.contents in
-    let call = c.write_all in
-    let front = take c.put_front-count.result c.put_front-count.new.buffer in
+    let call = c.encode_into_bytes_unchecked in
     let last : device_of call.new.sink ≡ c.w-1.given.0 = search rules in
-    appends_part _ _ _ _ _ _ front c.put_front-count.ensures.front call.result
-    (subst (λ w. IfErr call.result (λ _. (n : ℕ) × (n ≤ length front) × Appends (held c.args.w.now) (held w) (take n front))) last
-    (subst (λ w. IfErr call.result (λ _. (n : ℕ) × (n ≤ length front) × Appends (held w) (held (device_of call.new.sink)) (take n front))) c.new-sink.ensures.device call.ensures.beginning))
+    subst (λ w. OnErr call.result (AppendsPartOfFront (held c.args.w.now) (held w) c.args.upper (hrp_bytes c.args.hrp) c.args.version c.args.program.now)) last
+    (subst (λ w. OnErr call.result (AppendsPartOfFront (held w) (held (device_of call.new.sink)) c.args.upper (hrp_bytes c.args.hrp) c.args.version c.args.program.now)) c.new-sink.ensures.device call.ensures.beginning)
