@@ -27,8 +27,9 @@ use bech32_hrp::Hrp;
 pub use error::{DecodeError, EncodeError};
 use std::alloc::{AllocError, Allocator, Global};
 pub use unchecked::{
-    encode_lower_to_fmt_unchecked, encode_lower_to_writer_unchecked, encode_to_fmt_unchecked,
-    encode_to_writer_unchecked, encode_upper_to_fmt_unchecked, encode_upper_to_writer_unchecked,
+    encode_into_bytes_unchecked, encode_into_fmt_unchecked, encode_lower_to_fmt_unchecked,
+    encode_lower_to_writer_unchecked, encode_to_fmt_unchecked, encode_to_writer_unchecked,
+    encode_upper_to_fmt_unchecked, encode_upper_to_writer_unchecked,
 };
 
 // The bytes of the program.
