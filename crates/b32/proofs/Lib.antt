@@ -1,6 +1,5 @@
 pub mod CorrectReplies
 pub mod CorrectSplit
-pub mod HexWords
 pub mod LocationLists
 pub mod LocationWords
 pub mod Replies

@@ -1,3 +1,4 @@
+pub mod Ends
 pub mod Hex
 pub mod Locations
 pub mod Numbers

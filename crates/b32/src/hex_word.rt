@@ -10,38 +10,12 @@ use crate::refusal::Refusal;
 use bech32_lines::append;
 use std::alloc::Allocator;
 
-/// The value of each hex digit, in either case, and 255 of each other byte.
-const VALUES: [u8; 256] = [
-    255, 255, 255, 255, 255, 255, 255, 255, 255, 255, 255, 255, 255, 255, 255, 255, 255, 255, 255,
-    255, 255, 255, 255, 255, 255, 255, 255, 255, 255, 255, 255, 255, 255, 255, 255, 255, 255, 255,
-    255, 255, 255, 255, 255, 255, 255, 255, 255, 255, 0, 1, 2, 3, 4, 5, 6, 7, 8, 9, 255, 255, 255,
-    255, 255, 255, 255, 10, 11, 12, 13, 14, 15, 255, 255, 255, 255, 255, 255, 255, 255, 255, 255,
-    255, 255, 255, 255, 255, 255, 255, 255, 255, 255, 255, 255, 255, 255, 255, 255, 10, 11, 12, 13,
-    14, 15, 255, 255, 255, 255, 255, 255, 255, 255, 255, 255, 255, 255, 255, 255, 255, 255, 255,
-    255, 255, 255, 255, 255, 255, 255, 255, 255, 255, 255, 255, 255, 255, 255, 255, 255, 255, 255,
-    255, 255, 255, 255, 255, 255, 255, 255, 255, 255, 255, 255, 255, 255, 255, 255, 255, 255, 255,
-    255, 255, 255, 255, 255, 255, 255, 255, 255, 255, 255, 255, 255, 255, 255, 255, 255, 255, 255,
-    255, 255, 255, 255, 255, 255, 255, 255, 255, 255, 255, 255, 255, 255, 255, 255, 255, 255, 255,
-    255, 255, 255, 255, 255, 255, 255, 255, 255, 255, 255, 255, 255, 255, 255, 255, 255, 255, 255,
-    255, 255, 255, 255, 255, 255, 255, 255, 255, 255, 255, 255, 255, 255, 255, 255, 255, 255, 255,
-    255, 255, 255, 255, 255, 255, 255, 255, 255, 255, 255, 255, 255, 255, 255, 255, 255, 255, 255,
-    255, 255, 255,
-];
-
-/// Puts the bytes of pairs of hex digits, in either case, and answers whether all are digits.
-fn put_bytes(bytes: &mut [u8], digits: &[u8]) -> bool
+/// Puts the bytes of pairs of hex digits, in either case, and returns whether all are digits.
+fn put_bytes(bytes: &mut [u8], digits: &str) -> bool
     requires { length digits.now ≡ 2 * length bytes.old }
     ensures { result_ok (decode_of digits.now) ≡ (if result then Some bytes.new else None) }
 {
-    'pairs: for i in 0..bytes.len() {
-        let high = VALUES[digits[2 * i] as usize];
-        let low = VALUES[digits[2 * i + 1] as usize];
-        if high > 15 || low > 15 {
-            return false;
-        }
-        bytes[i] = 16 * high + low;
-    }
-    true
+    hex::decode_to_slice(digits, bytes).is_ok()
 }
 
 /// The bytes that a word stands for. Memory is wanted only where its digits are in pairs.
@@ -60,24 +34,10 @@ pub fn bytes_of_word<A: Allocator>(alloc: A, word: &str) -> Result<Vec<u8, A>, R
     let Ok(mut bytes) = vec![in alloc; 0u8; word.len() / 2] else {
         return Err(Refusal::Memory);
     };
-    if !put_bytes(bytes.as_mut_slice(), word.as_bytes()) {
+    if !put_bytes(bytes.as_mut_slice(), word) {
         return Err(Refusal::BadHex);
     }
     Ok(bytes)
-}
-
-/// The lower-case hex digits.
-const DIGITS: [u8; 16] = *b"0123456789abcdef";
-
-/// Puts two lower-case digits for each byte.
-fn put_digits(digits: &mut [u8], bytes: &[u8])
-    requires { length digits.old ≡ 2 * length bytes.now }
-    ensures { digits.new ≡ encode_lower bytes.now }
-{
-    'bytes: for i in 0..bytes.len() {
-        digits[2 * i] = DIGITS[(bytes[i] >> 4) as usize];
-        digits[2 * i + 1] = DIGITS[(bytes[i] & 15) as usize];
-    }
 }
 
 /// Adds the word for bytes, in lower case.
@@ -95,5 +55,7 @@ pub fn append_hex(out: &mut Vec<u8>, bytes: &[u8])
     let Ok(()) = out.resize(front + 2 * bytes.len(), 0) else {
         unreachable!()
     };
-    put_digits(&mut out.as_mut_slice()[front..], bytes);
+    let Ok(()) = hex::encode_to_slice(bytes, &mut out.as_mut_slice()[front..]) else {
+        unreachable!()
+    };
 }

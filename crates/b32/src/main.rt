@@ -6,6 +6,7 @@ mod command;
 mod correct;
 mod decode;
 mod encode;
+mod error;
 mod hex_word;
 mod location_word;
 mod refusal;
@@ -27,7 +28,7 @@ fn main(rt: HostRuntime) -> ExitCode {
     match run_on(rt.alloc(), &mut source, &mut sink) {
         Ok(()) => ExitCode::SUCCESS,
         Err(e) => {
-            let _ = eprintln!(rt; "b32: {e}");
+            let _ = eprintln!(rt; "{e}");
             ExitCode::FAILURE
         }
     }

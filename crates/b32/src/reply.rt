@@ -1,11 +1,12 @@
 //! The answers to commands, by which `bech32_lines` replies to a line.
 
-ghost use Rattle.std.specs.Prelude.{◌≡◌, ◌+◌, ◌≤◌, vec_len, vec_capacity, OnOk, OnErr, IfErr};
+ghost use Rattle.std.specs.Prelude.{◌≡◌, ℕ, ◌+◌, ◌≤◌, List, [], ◌∷◌, ◌++◌};
+ghost use Rattle.std.specs.Prelude.{vec_len, vec_capacity, OnOk, OnErr, IfErr};
 ghost use Rattle.b32.specs.Numbers.{number_of};
 ghost use Rattle.b32.specs.Request.{Request, request_of, request_of_command};
 ghost use Rattle.bech32_lines.specs.Added.{Adds};
 ghost use Rattle.bech32_lines.specs.Refused.{err};
-ghost use Rattle.b32.specs.Reply.{IsAnswer};
+ghost use Rattle.b32.specs.Reply.{IsAnswer, IsReply};
 
 use crate::command::{ChecksumName, Command};
 use crate::correct::correct;
@@ -16,7 +17,7 @@ use crate::refusal::Refusal;
 use crate::segwit_decode::segwit_decode;
 use crate::segwit_encode::segwit_encode;
 use bech32::{Bech32, Bech32m};
-use bech32_lines::{Answers, Unanswered};
+use bech32_lines::{Answers, Replies, Unanswered};
 use std::alloc::Allocator;
 
 /// Adds the answer to a command, or leaves all as it was.
@@ -71,6 +72,17 @@ impl<A: Allocator + Copy> Answers for Commands<A> {
             Err(refusal) => Err(Unanswered::Refused(refusal.number())),
         }
     }
+}
+
+/// Adds the reply to a line, and a newline. The line has no newline of its own. Memory for the reply
+/// comes from `alloc`; where there is none, the reply is `err 91`.
+pub fn reply<A: Allocator + Copy>(alloc: A, line: &[u8], out: &mut Vec<u8>)
+    requires { vec_len out.old + 2048 ≤ vec_capacity out.old }
+    ensures reply { (said : List ℕ) × IsReply line.now said
+        × (out.new.items ≡ out.old.items ++ (said ++ 10 ∷ [])) }
+    ensures capacity { vec_capacity out.old ≤ vec_capacity out.new }
+{
+    Commands { alloc }.reply(line, out)
 }
 
 #[cfg(test)]

@@ -4,9 +4,9 @@ ghost use Rattle.std.specs.Prelude.{◌≡◌, ◌+◌, false, true, OnOk, IsErr
 ghost use Rattle.bech32_lines.specs.Output.{IsAnswered, IsAnsweredSoFar, IsCutShort};
 ghost use Rattle.b32.specs.Reply.{IsReply};
 
+use crate::error::RunError;
 use crate::reply::Commands;
 use bech32::primitives::device::{ByteSink, ByteSource};
-use bech32_lines::RunError;
 use std::alloc::Global;
 use std::io;
 
@@ -51,7 +51,7 @@ pub fn run_on<S: ByteSource, K: ByteSink>(
     ensures source_same { S.is_same source.old source.new }
     ensures sink_same { K.is_same sink.old sink.new }
 {
-    bech32_lines::run_on(alloc, &Commands { alloc }, source, sink)
+    Ok(bech32_lines::run_on(alloc, &Commands { alloc }, source, sink)?)
 }
 
 /// Answers each line of a reader, as `run_on` does over a watched reader and writer.
@@ -76,7 +76,7 @@ pub fn run<R: io::Read, W: io::Write>(
     ensures memory { IsErrOf result RunError.Memory
         → (reader.new ≡ reader.old) × (writer.new ≡ writer.old) }
 {
-    bech32_lines::run(alloc, &Commands { alloc }, reader, writer)
+    Ok(bech32_lines::run(alloc, &Commands { alloc }, reader, writer)?)
 }
 
 #[cfg(test)]

@@ -1,7 +1,7 @@
 ghost use Rattle.std.specs.Prelude.{◌<◌};
 
 use super::run;
-use bech32_lines::RunError;
+use crate::error::RunError;
 use std::alloc::Global;
 use std::fmt::Debug;
 use std::io;

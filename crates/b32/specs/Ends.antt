@@ -1,0 +1,12 @@
+-- Why a run ended, in the words of `b32` and of `bech32_lines`.
+use Rattle.std.specs.Prelude.{◌≡◌}
+use Rattle.bech32_lines.specs.declared.error.RunError.{RunError as EarlyEnd}
+use Rattle.bech32_lines.specs.declared.error.RunError.TheVariants.{Read as read_end, Write as write_end, Memory as memory_end}
+use Rattle.b32.specs.declared.error.RunError.{RunError}
+use Rattle.b32.specs.declared.error.RunError.TheVariants.{Read, Write, Memory}
+
+-- the same, of this program
+abbrev pub same_end : EarlyEnd → RunError → Type 0
+same_end read_end e = e ≡ Read
+same_end write_end e = e ≡ Write
+same_end memory_end e = e ≡ Memory

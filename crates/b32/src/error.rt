@@ -1,0 +1,31 @@
+//! Why a run ends early.
+
+use thiserror::Error;
+
+/// Why a run ended early.
+#[derive(Debug, Drop, PartialEq, Eq, Clone, Copy, Error)]
+pub enum RunError {
+    /// The source failed.
+    #[error("b32: reading failed")]
+    Read,
+    /// The sink failed.
+    #[error("b32: writing failed")]
+    Write,
+    /// There was no memory for the run's buffers.
+    #[error("b32: no memory")]
+    Memory,
+}
+
+impl From<bech32_lines::RunError> for RunError {
+    ghost use Rattle.b32.specs.Ends.{same_end};
+
+    ghost from_gives = { same_end };
+
+    fn from(e: bech32_lines::RunError) -> RunError {
+        match e {
+            bech32_lines::RunError::Read => RunError::Read,
+            bech32_lines::RunError::Write => RunError::Write,
+            bech32_lines::RunError::Memory => RunError::Memory,
+        }
+    }
+}
