@@ -9,7 +9,7 @@ ghost use Rattle.codex32.specs.laws.CodeLaws as codes;
 
 use super::compare::{same, same_items};
 use bech32_checksum::Checksum;
-use bech32_corrector::{CorrectableError, Corrector};
+use bech32_corrector::{CorrectableError, Corrector, ErrorIterator};
 use bech32_decode::CheckedHrpstring;
 use bech32_gf::gf32::Fe32;
 use bech32_gf_ext::{Fe32Ext, Fe1024};
@@ -113,10 +113,25 @@ fn is_given(corrector: &mut Corrector<Codex32>, erasures: &[usize]) -> bool {
     corrector.add_erasures(erasures).is_ok()
 }
 
+// Whether this error comes next.
+fn is_next(errors: &mut ErrorIterator, want: &(usize, Fe32)) -> bool {
+    errors.next() == Some(*want)
+}
+
+// Whether just these errors are left.
+fn gives(errors: &mut ErrorIterator, want: &[(usize, Fe32)]) -> bool {
+    for error in want.iter() {
+        if !is_next(errors, error) {
+            return false;
+        }
+    }
+    errors.next().is_none()
+}
+
 // Whether just these errors are listed.
 fn lists(corrector: &Corrector<Codex32>, want: &[(usize, Fe32)]) -> bool {
     match corrector.bch_errors() {
-        Ok(Some(errors)) => errors.eq(want.iter().copied()),
+        Ok(Some(mut errors)) => gives(&mut errors, want),
         _ => false,
     }
 }
