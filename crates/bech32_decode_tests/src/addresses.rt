@@ -115,9 +115,35 @@ fn refuses_wrong_remainders(rt: &impl Abort) {
     refuses(rt, of_version_0, error);
 }
 
+// Fails where a program of a wrong length, or with wrong bits behind it, is refused otherwise.
+fn refuses_programs(rt: &impl Abort) {
+    for (text, error) in [
+        ("bc1pw5dgrnzv", WitnessLengthError::TooShort.into()),
+        (
+            "bc1p0xlxvlhemja6c4dqv22uapctqupfhlxm9h8z3k2e72q4k9hcz7v8n0nx0muaewav253zgeav",
+            WitnessLengthError::TooLong.into(),
+        ),
+        (
+            "BC1QR508D6QEJXTDG4Y5R3ZARVARYV98GJ9P",
+            WitnessLengthError::InvalidSegwitV0.into(),
+        ),
+        (
+            "bc1p0xlxvlhemja6c4dqv22uapctqupfhlxm9h8z3k2e72q4k9hcz7v07qwwzcrf",
+            PaddingError::TooMuch.into(),
+        ),
+        (
+            "tb1p0xlxvlhemja6c4dqv22uapctqupfhlxm9h8z3k2e72q4k9hcz7vpggkg4j",
+            PaddingError::NonZero.into(),
+        ),
+    ] {
+        refuses(rt, text, error);
+    }
+}
+
 #[test]
 fn refuses_texts_in_order(rt: HostRuntime) {
     refuses_wrong_remainders(&rt);
+    refuses_programs(&rt);
     for (text, error) in [
         (
             "a1lqfn3a",
@@ -143,23 +169,6 @@ fn refuses_texts_in_order(rt: HostRuntime) {
         (
             "BC130XLXVLHEMJA6C4DQV22UAPCTQUPFHLXM9H8Z3K2E72Q4K9HCZ7VQ7ZWS8R",
             SegwitHrpstringError::InvalidWitnessVersion(Fe32::_3),
-        ),
-        ("bc1pw5dgrnzv", WitnessLengthError::TooShort.into()),
-        (
-            "bc1p0xlxvlhemja6c4dqv22uapctqupfhlxm9h8z3k2e72q4k9hcz7v8n0nx0muaewav253zgeav",
-            WitnessLengthError::TooLong.into(),
-        ),
-        (
-            "BC1QR508D6QEJXTDG4Y5R3ZARVARYV98GJ9P",
-            WitnessLengthError::InvalidSegwitV0.into(),
-        ),
-        (
-            "bc1p0xlxvlhemja6c4dqv22uapctqupfhlxm9h8z3k2e72q4k9hcz7v07qwwzcrf",
-            PaddingError::TooMuch.into(),
-        ),
-        (
-            "tb1p0xlxvlhemja6c4dqv22uapctqupfhlxm9h8z3k2e72q4k9hcz7vpggkg4j",
-            PaddingError::NonZero.into(),
         ),
     ] {
         refuses(&rt, text, error);

@@ -16,6 +16,18 @@ fn says<E: Display>(rt: &impl Abort, alloc: Global, error: &E, message: &str) {
     assert_eq!(rt; text.as_str(), message);
 }
 
+// Fails where a length beyond that of addresses is told otherwise.
+fn tells_too_long(rt: &impl Abort, alloc: Global) {
+    let too_long = CodeLengthError {
+        encoded_length: 91,
+        code_length: 1023,
+    };
+    let error = SegwitCodeLengthError::from(too_long);
+    same(rt, &error, &SegwitCodeLengthError(91));
+    let message = "encoded length 91 exceeds maximum (code length) 90";
+    says(rt, alloc, &error, message);
+}
+
 #[test]
 fn tells_why_a_text_is_no_address(rt: HostRuntime) {
     for (error, message) in [
@@ -54,14 +66,7 @@ fn tells_why_a_text_is_no_address(rt: HostRuntime) {
     ] {
         says::<SegwitHrpstringError>(&rt, rt.alloc(), &error, message);
     }
-    let too_long = CodeLengthError {
-        encoded_length: 91,
-        code_length: 1023,
-    };
-    let error = SegwitCodeLengthError::from(too_long);
-    same(&rt, &error, &SegwitCodeLengthError(91));
-    let message = "encoded length 91 exceeds maximum (code length) 90";
-    says(&rt, rt.alloc(), &error, message);
+    tells_too_long(&rt, rt.alloc());
 }
 
 #[test]
