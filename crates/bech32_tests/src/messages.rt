@@ -4,6 +4,7 @@ use bech32::primitives::decode::{
 };
 use bech32::primitives::hrp;
 use bech32::{Bech32m, DecodeError, EncodeError};
+use std::alloc::Global;
 use std::fmt;
 use std::process::Abort;
 
@@ -12,6 +13,30 @@ fn refusal(rt: &impl Abort, text: &str) -> ChecksumError {
     let unchecked = UncheckedHrpstring::new(text).expect(rt, "a text");
     let refusal = unchecked.validate_checksum::<Bech32m>().err();
     refusal.expect(rt, "it is refused")
+}
+
+// Fails where a wrong remainder is told otherwise.
+fn tells_remainders(rt: &impl Abort, alloc: Global) {
+    for (text, message) in [
+        (
+            "a12uel57",
+            "checksum failed: residue q did not match target r9vsu4",
+        ),
+        (
+            "a12uel5q",
+            "checksum failed: residue 7 did not match target r9vsu4",
+        ),
+        (
+            "a12uel47",
+            "checksum failed: residue qp did not match target r9vsu4",
+        ),
+        (
+            "a1qqqqqq",
+            "checksum failed: residue 75leu2 did not match target r9vsu4",
+        ),
+    ] {
+        says(rt, alloc, &refusal(rt, text), message);
+    }
 }
 
 #[test]
@@ -48,26 +73,7 @@ fn tells_why_a_text_is_not_read(rt: HostRuntime) {
     ] {
         says(&rt, alloc, &error, message);
     }
-    for (text, message) in [
-        (
-            "a12uel57",
-            "checksum failed: residue q did not match target r9vsu4",
-        ),
-        (
-            "a12uel5q",
-            "checksum failed: residue 7 did not match target r9vsu4",
-        ),
-        (
-            "a12uel47",
-            "checksum failed: residue qp did not match target r9vsu4",
-        ),
-        (
-            "a1qqqqqq",
-            "checksum failed: residue 75leu2 did not match target r9vsu4",
-        ),
-    ] {
-        says(&rt, alloc, &refusal(&rt, text), message);
-    }
+    tells_remainders(&rt, alloc);
 }
 
 #[test]

@@ -170,9 +170,30 @@ fn is_refused(rt: &impl Abort, alloc: Global, text: &str, error: SegwitHrpstring
     same(rt, &(text, read), &(text, Some(error)));
 }
 
+// Fails where a program of a wrong length is refused otherwise.
+fn refuses_lengths(rt: &impl Abort, alloc: Global) {
+    for (text, error) in [
+        (
+            "bc1pw5dgrnzv",
+            SegwitHrpstringError::WitnessLength(WitnessLengthError::TooShort),
+        ),
+        (
+            "bc1p0xlxvlhemja6c4dqv22uapctqupfhlxm9h8z3k2e72q4k9hcz7v8n0nx0muaewav253zgeav",
+            SegwitHrpstringError::WitnessLength(WitnessLengthError::TooLong),
+        ),
+        (
+            "BC1QR508D6QEJXTDG4Y5R3ZARVARYV98GJ9P",
+            SegwitHrpstringError::WitnessLength(WitnessLengthError::InvalidSegwitV0),
+        ),
+    ] {
+        is_refused(rt, alloc, text, error);
+    }
+}
+
 #[test]
 fn refuses_to_decode_in_order(rt: HostRuntime) {
     let alloc = rt.alloc();
+    refuses_lengths(&rt, alloc);
     let missing = UncheckedHrpstringError::Char(CharError::MissingSeparator);
     for (text, error) in [
         (TOO_LONG, SegwitHrpstringError::TooLong(91)),
@@ -193,18 +214,6 @@ fn refuses_to_decode_in_order(rt: HostRuntime) {
         (
             "bc1p0xlxvlhemja6c4dqv22uapctqupfhlxm9h8z3k2e72q4k9hcz7v07qwwzcrf",
             SegwitHrpstringError::Padding(PaddingError::TooMuch),
-        ),
-        (
-            "bc1pw5dgrnzv",
-            SegwitHrpstringError::WitnessLength(WitnessLengthError::TooShort),
-        ),
-        (
-            "bc1p0xlxvlhemja6c4dqv22uapctqupfhlxm9h8z3k2e72q4k9hcz7v8n0nx0muaewav253zgeav",
-            SegwitHrpstringError::WitnessLength(WitnessLengthError::TooLong),
-        ),
-        (
-            "BC1QR508D6QEJXTDG4Y5R3ZARVARYV98GJ9P",
-            SegwitHrpstringError::WitnessLength(WitnessLengthError::InvalidSegwitV0),
         ),
         (
             "BC130XLXVLHEMJA6C4DQV22UAPCTQUPFHLXM9H8Z3K2E72Q4K9HCZ7VQ7ZWS8R",
