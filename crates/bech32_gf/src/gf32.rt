@@ -37,14 +37,12 @@ fn tables()
     ensures step { (i : ℕ) → i < 30 → slice_index POWERS (i + 1) ≡ product 2 (slice_index POWERS i) }
     ensures logarithm { (i : ℕ) → i < 31 → slice_index LOG (slice_index POWERS i) ≡ i }
     ensures power { (v : ℕ) → 0 < v → v < 32 → slice_index POWERS (slice_index LOG v) ≡ v }
-{
-}
+{}
 
 // The product with 1, by its definition.
 fn product_of_one()
     ensures { (v : ℕ) → v < 32 → product 1 v ≡ v }
-{
-}
+{}
 
 // The characters of the elements, in order of their values.
 const CHARACTERS: [char; 32] = [
