@@ -43,18 +43,6 @@ fn are_below(places: &[usize], window: usize) -> bool
     true
 }
 
-// Adds erasures, and says whether they are below the window.
-fn erases<Ck: Checksum>(
-    corrector: &mut Corrector<Ck>,
-    erasures: &[usize],
-) -> Result<bool, AllocError> {
-    if !are_below(erasures, corrector.window()) {
-        return Ok(false);
-    }
-    corrector.add_erasures(erasures)?;
-    Ok(true)
-}
-
 // Each location with its value.
 fn shown(alloc: Global, errors: ErrorIterator) -> Result<String, AllocError> {
     let mut text = String::new(alloc);
@@ -73,39 +61,64 @@ fn listed<Ck: Checksum>(alloc: Global, corrector: &Corrector<Ck>) -> Result<Stri
     }
 }
 
-// What a corrector lists with the erasures of a word.
-fn reply_by<Ck: Checksum>(
+// What a corrector lists with erasures. That it fits in memory is known at once of one over a
+// checksum that is named, so each has functions for itself.
+fn listed_by_bech32(
     alloc: Global,
-    mut corrector: Corrector<Ck>,
-    erasures: &str,
+    corrector: &mut Corrector<Bech32>,
+    erasures: &[usize],
 ) -> Result<String, AllocError> {
-    let erasures = numbers(alloc, erasures)?;
-    if erases(&mut corrector, &erasures)? {
-        listed(alloc, &corrector)
-    } else {
-        no_row(alloc)
+    if !are_below(erasures, corrector.window()) {
+        return no_row(alloc);
     }
+    corrector.add_erasures(erasures)?;
+    listed(alloc, corrector)
 }
 
-// That a corrector fits in memory is known of one over a checksum that is named, so each has a
-// function for itself.
+fn listed_by_bech32m(
+    alloc: Global,
+    corrector: &mut Corrector<Bech32m>,
+    erasures: &[usize],
+) -> Result<String, AllocError> {
+    if !are_below(erasures, corrector.window()) {
+        return no_row(alloc);
+    }
+    corrector.add_erasures(erasures)?;
+    listed(alloc, corrector)
+}
+
+fn listed_by_codex32(
+    alloc: Global,
+    corrector: &mut Corrector<Degree13>,
+    erasures: &[usize],
+) -> Result<String, AllocError> {
+    if !are_below(erasures, corrector.window()) {
+        return no_row(alloc);
+    }
+    corrector.add_erasures(erasures)?;
+    listed(alloc, corrector)
+}
+
 fn reply_of_bech32(alloc: Global, words: &[&str]) -> Result<String, AllocError> {
+    let erasures = numbers(alloc, word(words, 3))?;
     match corrector_of::<Bech32>(alloc, word(words, 2), word(words, 4)) {
-        Some(corrector) => reply_by(alloc, corrector, word(words, 3)),
+        Some(mut corrector) => listed_by_bech32(alloc, &mut corrector, &erasures),
         None => no_row(alloc),
     }
 }
 
 fn reply_of_bech32m(alloc: Global, words: &[&str]) -> Result<String, AllocError> {
+    let erasures = numbers(alloc, word(words, 3))?;
     match corrector_of::<Bech32m>(alloc, word(words, 2), word(words, 4)) {
-        Some(corrector) => reply_by(alloc, corrector, word(words, 3)),
+        Some(mut corrector) => listed_by_bech32m(alloc, &mut corrector, &erasures),
         None => no_row(alloc),
     }
 }
 
 fn reply_of_codex32(alloc: Global, words: &[&str]) -> Result<String, AllocError> {
+    let erasures = numbers(alloc, word(words, 3))?;
     match corrector_of::<Degree13>(alloc, word(words, 2), word(words, 4)) {
-        Some(corrector) => reply_by(alloc, corrector, word(words, 3)),
+        Some(mut corrector) => listed_by_codex32(alloc, &mut corrector, &erasures),
         None => no_row(alloc),
     }
 }
