@@ -9,7 +9,7 @@ use bech32::{
     Bech32, Bech32m, DecodeError, EncodeError, Fe32, Hrp, PrintImpl, decode_in, encode_in,
     encode_lower_in, encode_upper_in,
 };
-use bech32_testing_memory::Refusing;
+use bech32_testing::memory::Refusing;
 use codex32::{Codex32Error, propose_in};
 use std::alloc::{Allocator, Global};
 

@@ -8,7 +8,7 @@ use bech32::primitives::correction::{Corrector, ErrorIterator};
 use bech32::primitives::decode::{CheckedHrpstring, CheckedHrpstringError};
 use bech32::{Checksum, CorrectableError, Fe32};
 use bech32_testing_codes::Degree13;
-use bech32_testing_memory::Refusing;
+use bech32_testing::memory::Refusing;
 use std::alloc::{AllocError, Global};
 
 // A string of codex32 with four errors, and its listing with the erasures 44 and 0.

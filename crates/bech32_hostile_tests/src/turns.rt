@@ -1,7 +1,7 @@
 //! Calls whose requests for memory are refused, one at a time.
 
 use crate::compare::same;
-use bech32_testing_memory::Refusing;
+use bech32_testing::memory::Refusing;
 use std::alloc::Global;
 use std::process::Abort;
 

@@ -17,7 +17,7 @@ use denote.Steps.{nothing, only}
 use denote.Triple.Statement.{Contract}
 use denote.Triple.Spec.{triple_of}
 use Rattle.std.specs.contracts.cell.Cell as CE
-use Rattle.bech32_testing_memory.specs.contracts.is_turn as TK
+use Rattle.bech32_testing.specs.contracts.memory.is_turn as TK
 
 abbrev Left : RattleType
 Left = CE.the_row u64

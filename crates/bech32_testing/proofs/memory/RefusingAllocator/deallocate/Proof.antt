@@ -38,11 +38,11 @@ use denote.RawPtr.{Ptr, block_ptr, null_ptr, ptr_val, rawptr_vals, rawptr_Tells}
 use denote.Builtin.{usize, RawPtr, RefOf}
 use denote.Triple.Call.{calls_at}
 use Rattle.std.proofs.alloc.Calls.{Al, α, seen, token, gives_key, Gives, at_gives, Gives-goes, Gives-Gives}
-use Rattle.bech32_testing_memory.specs.contracts.Refusing as wrapper
-use Rattle.bech32_testing_memory.specs.contracts.RefusingAllocator.deallocate as F
-use Rattle.bech32_testing_memory.specs.contracts.RefusingAllocator.deallocate.Key as key
-use Rattle.bech32_testing_memory.proofs.RefusingAllocator.deallocate.Statement as stated
-use Rattle.bech32_testing_memory.proofs.RefusingAllocator.deallocate.Code as code
+use Rattle.bech32_testing.specs.contracts.memory.Refusing as wrapper
+use Rattle.bech32_testing.specs.contracts.memory.RefusingAllocator.deallocate as F
+use Rattle.bech32_testing.specs.contracts.memory.RefusingAllocator.deallocate.Key as key
+use Rattle.bech32_testing.proofs.memory.RefusingAllocator.deallocate.Statement as stated
+use Rattle.bech32_testing.proofs.memory.RefusingAllocator.deallocate.Code as code
 
 module _ (Z : Al) where
   abbrev args : Args

@@ -1,5 +1,4 @@
 //! Memory for tests: an allocator that refuses one request, whichever a test names.
-#![tactic(auto)]
 
 use std::alloc::{AllocError, Allocator};
 use std::cell::Cell;
