@@ -31,21 +31,25 @@ fn lists<Ck: Checksum>(
     Ok(is_found(found, want))
 }
 
-// What finds four errors of codex32.
-fn corrector_in(heap: &LocalHeap) -> Option<Corrector<Degree13, &LocalHeap>> {
-    if !Degree13::sanity_check() {
+// What finds the errors in a text that a checksum refuses.
+fn corrector_in<'a, Ck: Checksum>(
+    heap: &'a LocalHeap,
+    text: &str,
+) -> Option<Corrector<Ck, &'a LocalHeap>> {
+    if !Ck::sanity_check() {
         return None;
     }
-    match CheckedHrpstring::new::<Degree13>("ms1qtestsqxxxxxxxxxxxxxxxxxxxxxxxxq4nzvca9cmczlq") {
+    match CheckedHrpstring::new::<Ck>(text) {
         Ok(_) => None,
-        Err(error) => error.correction_context::<Degree13, _>(heap),
+        Err(error) => error.correction_context::<Ck, _>(heap),
     }
 }
 
 // Whether just the four errors are listed.
 fn lists_four(heap: &LocalHeap) -> Result<bool, AllocError> {
     let want = [(44, Fe32::_0), (0, Fe32::W), (38, Fe32::X), (13, Fe32::X)];
-    let Some(mut corrector) = corrector_in(heap) else {
+    let text = "ms1qtestsqxxxxxxxxxxxxxxxxxxxxxxxxq4nzvca9cmczlq";
+    let Some(mut corrector) = corrector_in::<Degree13>(heap, text) else {
         return Ok(false);
     };
     if !are_within(&[44, 0], &corrector) {
@@ -81,17 +85,6 @@ fn a_listing_or_want_of_memory(rt: HostRuntime) -> Result<(), Fail> {
     Ok(())
 }
 
-// What finds one error of Bech32.
-fn corrector_of_bech32(heap: &LocalHeap) -> Option<Corrector<Bech32, &LocalHeap>> {
-    if !Bech32::sanity_check() {
-        return None;
-    }
-    match CheckedHrpstring::new::<Bech32>("a12uel5q") {
-        Ok(_) => None,
-        Err(error) => error.correction_context::<Bech32, _>(heap),
-    }
-}
-
 // Whether a clone lists just this, or nothing.
 fn clone_lists(
     corrector: &Corrector<Bech32, &LocalHeap>,
@@ -106,7 +99,7 @@ fn is_listed(
     erasures: &[usize],
     want: Option<Listing>,
 ) -> Result<bool, AllocError> {
-    let Some(mut corrector) = corrector_of_bech32(heap) else {
+    let Some(mut corrector) = corrector_in::<Bech32>(heap, "a12uel5q") else {
         return Ok(false);
     };
     if !are_within(erasures, &corrector) {
