@@ -4,8 +4,8 @@ use crate::compare::{same, same_items};
 use bech32::primitives::correction::Corrector;
 use bech32::primitives::decode::{CheckedHrpstring, SegwitHrpstring};
 use bech32::{
-    Bech32, Bech32m, Checksum, CorrectableError, Fe32, Hrp, NoChecksum, decode, encode,
-    encode_to_fmt, hrp, segwit,
+    Bech32, Bech32m, Checksum, CorrectableError, DecodeError, Fe32, Hrp, NoChecksum, decode,
+    encode, encode_to_fmt, hrp, segwit,
 };
 use std::alloc::Global;
 use std::test::Fail;
@@ -27,13 +27,18 @@ fn encodes_and_decodes(rt: HostRuntime) -> Result<(), Fail> {
     Ok(())
 }
 
+// Why a text is refused.
+fn refusal(alloc: Global, text: &str) -> Option<DecodeError> {
+    decode(alloc, text).err()
+}
+
 // The corrector of a text that Bech32m refuses, where only its checksum is wrong.
 fn corrector_of(alloc: Global, text: &str) -> Option<Corrector<Bech32m, Global>> {
-    let refusal = decode(alloc, text).err()?;
+    let error = refusal(alloc, text)?;
     if !Bech32m::sanity_check() {
         return None;
     }
-    refusal.correction_context::<Bech32m, Global>(alloc)
+    error.correction_context::<Bech32m, Global>(alloc)
 }
 
 // What is to be added to it, and where, counted from the last character.

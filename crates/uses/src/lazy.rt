@@ -2,6 +2,7 @@
 
 use crate::compare::{same_items, same_text};
 use bech32::{Bech32, ByteIterExt, Fe32, Fe32IterExt, Hrp};
+use std::alloc::{AllocError, Global};
 use std::test::Fail;
 
 const WITNESS_PROG: [u8; 20] = [
@@ -9,17 +10,21 @@ const WITNESS_PROG: [u8; 20] = [
     0xf1, 0x43, 0x3b, 0xd6,
 ];
 
-#[test]
-fn characters_of_an_address(rt: HostRuntime) -> Result<(), Fail> {
-    let hrp = Hrp::parse("bc")?;
+// The characters of an address of version 0.
+fn characters(alloc: Global, hrp: &Hrp) -> Result<Vec<char>, AllocError> {
     let chars = WITNESS_PROG
         .iter()
         .copied()
         .bytes_to_fes()
-        .with_checksum::<Bech32>(&hrp)
+        .with_checksum::<Bech32>(hrp)
         .with_witness_version(Fe32::Q)
         .chars();
-    let addr: Vec<char> = chars.collect(rt.alloc())?;
+    chars.collect(alloc)
+}
+
+#[test]
+fn characters_of_an_address(rt: HostRuntime) -> Result<(), Fail> {
+    let addr = characters(rt.alloc(), &Hrp::parse("bc")?)?;
     let want = "bc1qw508d6qejxtdg4y5r3zarvary0c5xw7kv8f3t4";
     same_text(&rt, rt.alloc(), &addr, want)?;
     Ok(())
