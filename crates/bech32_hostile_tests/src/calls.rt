@@ -175,16 +175,26 @@ impl Call for Block {
     }
 }
 
+// What a call answered whose nearest text this is.
+fn nearest_is<A: Allocator>(
+    outcome: Result<Option<String<A>>, Codex32Error>,
+    text: &str,
+) -> Answer {
+    match outcome {
+        Ok(Some(nearest)) => Answer::of(nearest.as_str() == text),
+        Ok(None) => Answer::Other,
+        Err(Codex32Error::Memory) => Answer::NoMemory,
+        Err(_) => Answer::Other,
+    }
+}
+
 enum Propose {}
 
 impl Call for Propose {
     fn answer(heap: &Refusing<Global>) -> Answer {
         let right = "ms10testsxxxxxxxxxxxxxxxxxxxxxxxxxx4nzvca9cmczlw";
-        match propose_in(heap, "ms1qtestsqxxxxxxxxxxxxxxxxxxxxxxxxq4nzvca9cmczlq") {
-            Ok(Some(nearest)) => Answer::of(nearest.as_str() == right),
-            Err(Codex32Error::Memory) => Answer::NoMemory,
-            _ => Answer::Other,
-        }
+        let nearest = propose_in(heap, "ms1qtestsqxxxxxxxxxxxxxxxxxxxxxxxxq4nzvca9cmczlq");
+        nearest_is(nearest, right)
     }
 }
 
