@@ -5,11 +5,15 @@ use bech32_checksum::{Bech32, Bech32m};
 use bech32_detect::detects_four;
 use bech32_testing_codes::{Degree8, Degree13, Tiny};
 
-// The data part of the longest text of Bech32 (BIP-173, Bech32) has 89 characters.
+// The data part of the longest text of Bech32 (BIP-173, Bech32) has 89 characters; Bech32m has the
+// same generator (BIP-350).
 #[test]
 fn in_texts_of_bech32(rt: HostRuntime) {
-    let answer = detects_four::<Bech32>(rt.alloc(), 89).ok();
-    same(&rt, &answer, &Some(true));
+    let answers = [
+        detects_four::<Bech32>(rt.alloc(), 89).ok(),
+        detects_four::<Bech32m>(rt.alloc(), 89).ok(),
+    ];
+    same(&rt, &answers, &[Some(true); 2]);
 }
 
 // Powers of x come back to 1 at the order of the roots, so two errors as far apart leave nothing.

@@ -93,13 +93,19 @@ fn clone_lists(
     lists(&corrector.clone()?, want)
 }
 
+// Addresses with two and three wrong characters.
+const ADDRESS: &str = "bc1qar0srrr7xfkvy5l64qlydnw9re59gtzzwf5mdx";
+
+const OTHER_ADDRESS: &str = "bc1q9r0srrr7xfkvy5l64qlydnw9re59gtzzwf5mdx";
+
 // The same with these erasures.
 fn is_listed(
     heap: &LocalHeap,
+    text: &str,
     erasures: &[usize],
     want: Option<Listing>,
 ) -> Result<bool, AllocError> {
-    let Some(mut corrector) = corrector_in::<Bech32>(heap, "a12uel5q") else {
+    let Some(mut corrector) = corrector_in::<Bech32>(heap, text) else {
         return Ok(false);
     };
     if !are_within(erasures, &corrector) {
@@ -112,10 +118,29 @@ fn is_listed(
 #[test]
 fn six_coefficients_take_no_memory(rt: HostRuntime) -> Result<(), Fail> {
     let heap = LocalHeap::new(rt.alloc(), 0)?;
-    let listed = [
-        is_listed(&heap, &[3], Some(&[(3, Fe32::Q), (0, Fe32::L)])).ok(),
-        is_listed(&heap, &[0, 1, 2, 3, 4, 5, 6], None).ok(),
+    let both = [(3, Fe32::Q), (0, Fe32::L)];
+    let rows: [(&str, &[usize], Option<Listing>); 11] = [
+        ("a12uel5q", &[], Some(&both[1..])),
+        ("a12uel5q", &[3], Some(&both)),
+        ("a12uel5q", &[3, 3], Some(&both)),
+        (
+            "a12uel5q",
+            &[0, 1, 2],
+            Some(&[(0, Fe32::L), (1, Fe32::Q), (2, Fe32::Q)]),
+        ),
+        ("a12uel5q", &[1, 2], None),
+        ("a12uel5q", &[0, 1, 2, 3], None),
+        ("a12uel5q", &[0, 1, 2, 3, 4, 5, 6], None),
+        ("b12uel5l", &[], Some(&[(6, Fe32::R)])),
+        (ADDRESS, &[], None),
+        (ADDRESS, &[0], Some(&[(0, Fe32::X), (20, Fe32::_3)])),
+        (
+            OTHER_ADDRESS,
+            &[37, 0, 20],
+            Some(&[(37, Fe32::C), (0, Fe32::X), (20, Fe32::_3)]),
+        ),
     ];
-    same(&rt, &listed, &[Some(true); 2]);
+    let listed = rows.map(|(text, erasures, want)| is_listed(&heap, text, erasures, want).ok());
+    same(&rt, &listed, &[Some(true); 11]);
     Ok(())
 }

@@ -1,6 +1,7 @@
 //! Iterators over one that gives two items, `None`, and then items again.
 
 use crate::compare::same;
+use bech32::primitives::encode::WitnessVersionIter;
 use bech32::primitives::hrp::Error;
 use bech32::primitives::iter::Checksummed;
 use bech32::{Bech32, Fe32, Fe32IterExt, Hrp};
@@ -66,4 +67,21 @@ fn checksums_stay_ended(rt: HostRuntime) -> Result<(), Error> {
         same(&rt, &fes.next(), &element_at("44mh9z97", place));
     }
     Ok(())
+}
+
+// The checksum of two elements with no human-readable part in front.
+#[test]
+fn checksums_of_elements_alone_stay_ended(rt: HostRuntime) {
+    let mut fes = Checksummed::<_, Bech32>::new(TwoItems::new(Fe32::_4, None));
+    for place in 0..11usize {
+        same(&rt, &fes.next(), &element_at("44ectty8", place));
+    }
+}
+
+#[test]
+fn versions_stay_ended(rt: HostRuntime) {
+    let mut fes = WitnessVersionIter::new(Some(Fe32::P), TwoItems::new(Fe32::_4, None));
+    for place in 0..6usize {
+        same(&rt, &fes.next(), &element_at("p44", place));
+    }
 }

@@ -7,8 +7,8 @@ use bech32::primitives::LfsrIter;
 use bech32::primitives::correction::{Corrector, ErrorIterator};
 use bech32::primitives::decode::{CheckedHrpstring, CheckedHrpstringError};
 use bech32::{Checksum, CorrectableError, Fe32};
-use bech32_testing_codes::Degree13;
 use bech32_testing::memory::Refusing;
+use bech32_testing_codes::Degree13;
 use std::alloc::{AllocError, Global};
 
 // A string of codex32 with four errors, and its listing with the erasures 44 and 0.
@@ -121,6 +121,34 @@ impl Call for AddErasures {
     }
 }
 
+// Whether nothing is listed.
+fn lists_nothing(corrector: &OnHeap<'_>) -> bool {
+    match corrector.bch_errors() {
+        Ok(listing) => listing.is_none(),
+        Err(_) => false,
+    }
+}
+
+// Seven erasures take no memory. The eighth does, and with it the eight characters are found; where
+// its request is refused there are the seven still, by which nothing is listed.
+enum EighthErasure {}
+
+impl Call for EighthErasure {
+    fn answer(heap: &Refusing<Global>) -> Answer {
+        let Some(mut corrector) = corrector_of(heap, EIGHT_ERRORS) else {
+            return Answer::Other;
+        };
+        if corrector.add_erasures(&[0, 1, 2, 3, 4, 5, 6]).is_err() {
+            return Answer::Other;
+        }
+        match corrector.add_erasures(&[7]) {
+            Ok(()) => lists(&corrector, &EIGHT),
+            Err(_) if lists_nothing(&corrector) => Answer::NoMemory,
+            Err(_) => Answer::Other,
+        }
+    }
+}
+
 enum BchErrors {}
 
 impl Call for BchErrors {
@@ -228,6 +256,7 @@ impl Call for CloneRegister {
 fn correctors_as_they_were(rt: HostRuntime) {
     let alloc = rt.alloc();
     each_refused::<AddErasures>(&rt, alloc);
+    each_refused::<EighthErasure>(&rt, alloc);
     each_refused::<BchErrors>(&rt, alloc);
     each_refused::<CloneCorrector>(&rt, alloc);
 }

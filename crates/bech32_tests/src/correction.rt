@@ -1,7 +1,10 @@
 //! Which errors of the root's calls carry a residue.
 
 use crate::compare::same_items;
-use bech32::{CorrectableError, decode, segwit};
+use bech32::primitives::decode::{
+    CheckedHrpstring, ChecksumError, SegwitHrpstring, UncheckedHrpstring,
+};
+use bech32::{Bech32, Checksum, CorrectableError, NoChecksum, decode, segwit};
 use std::alloc::Global;
 use std::process::Abort;
 
@@ -20,6 +23,43 @@ fn carries_of_address(rt: &impl Abort, alloc: Global, text: &str) -> bool {
 fn carries_of_text(rt: &impl Abort, alloc: Global, text: &str) -> bool {
     let error = decode(alloc, text).err();
     carries(&error.expect(rt, "it is refused"))
+}
+
+// Whether an error that carries a residue has no corrector by the absence of a checksum.
+fn has_none_by_no_checksum(alloc: Global, error: &impl CorrectableError) -> bool {
+    error.residue_error().is_some()
+        && NoChecksum::sanity_check()
+        && error
+            .correction_context::<NoChecksum, Global>(alloc)
+            .is_none()
+}
+
+// The error of a text by the checksum alone.
+fn checksum_error(text: &str) -> Option<ChecksumError> {
+    let unchecked = UncheckedHrpstring::new(text).ok()?;
+    unchecked.validate_checksum::<Bech32>().err()
+}
+
+const MISTYPED: &str = "bc1q9r0srrr7xfkvy5l64qlydnw9re59gtzzwf5mdx";
+
+#[test]
+fn no_corrector_by_no_checksum(rt: HostRuntime) {
+    let alloc = rt.alloc();
+    let checksum = checksum_error(MISTYPED).expect(&rt, "it is refused");
+    let residue = checksum.residue_error().expect(&rt, "it carries a residue");
+    let text = CheckedHrpstring::new::<Bech32>(MISTYPED).err();
+    let address = SegwitHrpstring::new(MISTYPED).err();
+    let decoded = decode(alloc, MISTYPED).err();
+    let read = segwit::decode(alloc, MISTYPED).err();
+    let found = [
+        has_none_by_no_checksum(alloc, residue),
+        has_none_by_no_checksum(alloc, &checksum),
+        has_none_by_no_checksum(alloc, &text.expect(&rt, "it is refused")),
+        has_none_by_no_checksum(alloc, &address.expect(&rt, "it is refused")),
+        has_none_by_no_checksum(alloc, &decoded.expect(&rt, "it is refused")),
+        has_none_by_no_checksum(alloc, &read.expect(&rt, "it is refused")),
+    ];
+    same_items(&rt, &found, &[true; 6]);
 }
 
 #[test]

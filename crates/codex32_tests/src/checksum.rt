@@ -155,6 +155,20 @@ fn corrector_of(alloc: Global, text: &str) -> Option<Corrector<Codex32>> {
     }
 }
 
+// The bound of the corrector, and its window.
+fn bounds_of(found: Option<Corrector<Codex32>>) -> Option<(usize, usize)> {
+    let corrector = found?;
+    Some((corrector.singleton_bound(), corrector.window()))
+}
+
+// BIP-93, Error correction: four errors, or eight erasures; a code of 93 characters.
+#[test]
+fn bounds(rt: HostRuntime) {
+    let text = "ms1qtestsqxxxxxxxxxxxxxxxxxxxxxxxxq4nzvca9cmczlq";
+    let found = bounds_of(corrector_of(rt.alloc(), text));
+    same(&rt, &found, &Some((8, 93)));
+}
+
 // Whether just these errors are listed for a text that the checksum refuses, or nothing is.
 fn is_listed(
     alloc: Global,
