@@ -81,7 +81,8 @@ fn checksums_of_elements_alone_stay_ended(rt: HostRuntime) {
 #[test]
 fn versions_stay_ended(rt: HostRuntime) {
     let mut fes = WitnessVersionIter::new(Some(Fe32::P), TwoItems::new(Fe32::_4, None));
-    for place in 0..6usize {
-        same(&rt, &fes.next(), &element_at("p44", place));
-    }
+    let given = [fes.next(), fes.next(), fes.next()];
+    let behind = [fes.next(), fes.next(), fes.next()];
+    let want = [Some(Fe32::P), Some(Fe32::_4), Some(Fe32::_4)];
+    same(&rt, &(given, behind), &(want, [None; 3]));
 }
