@@ -3,6 +3,7 @@ ghost use Rattle.std.specs.Prelude.{◌<◌};
 use super::run;
 use crate::error::RunError;
 use std::alloc::Global;
+use std::cell::Cell;
 use std::fmt::Debug;
 use std::io;
 use std::process::Abort;
@@ -193,4 +194,63 @@ fn flushes_that_fail(rt: HostRuntime) {
     for room in [0, 30, 1000] {
         flushes(&rt, rt.alloc(), room);
     }
+}
+
+// Gives `left`, a few bytes a call, and notes a read before which the replies to all lines that
+// ended were not written.
+#[derive(Drop)]
+struct Looking<'a> {
+    left: &'a [u8],
+    written: &'a Cell<usize>,
+    is_late: &'a Cell<bool>,
+}
+
+impl<'a> io::Read for Looking<'a> {
+    fn read(&mut self, buf: &mut [u8]) -> io::Result<usize> {
+        let given = INPUT.len().saturating_sub(self.left.len());
+        let front = INPUT.get(..given).unwrap_or(INPUT);
+        if self.written.get() != answered(front).len() {
+            self.is_late.set(true);
+        }
+        let n = buf.len().min(7).min(self.left.len());
+        buf[..n].copy_from_slice(&self.left[..n]);
+        self.left = &self.left[n..];
+        Ok(n)
+    }
+}
+
+// Counts the bytes that are written.
+#[derive(Drop)]
+struct Counted<'a> {
+    written: &'a Cell<usize>,
+}
+
+impl<'a> io::Write for Counted<'a> {
+    fn write(&mut self, buf: &[u8]) -> io::Result<usize> {
+        self.written
+            .set(self.written.get().saturating_add(buf.len()));
+        Ok(buf.len())
+    }
+
+    fn flush(&mut self) -> io::Result<()> {
+        Ok(())
+    }
+}
+
+#[test]
+fn replies_before_each_further_read(rt: HostRuntime) {
+    let written = Cell::new(0usize);
+    let is_late = Cell::new(false);
+    let mut reader = Looking {
+        left: INPUT,
+        written: &written,
+        is_late: &is_late,
+    };
+    let mut writer = Counted { written: &written };
+    let outcome = run(rt.alloc(), &mut reader, &mut writer);
+    same(
+        &rt,
+        &(outcome, is_late.get(), written.get()),
+        &(Ok(()), false, OUTPUT.len()),
+    );
 }
