@@ -1,4 +1,4 @@
-//! The program `b32`, whose every reply but those that `docs/DIFFERENCES.md` explains is the crate's.
+//! The program `b32`, whose every reply but those that `docs/rust/DIFFERENCES.md` explains is the crate's.
 
 use crate::answer;
 use crate::compare::{Finding, Subject};

@@ -209,7 +209,7 @@ impl Met {
             println!("checked, {means}: {count}");
         }
         println!(
-            "different as docs/DIFFERENCES.md says: {}",
+            "different as docs/rust/DIFFERENCES.md says: {}",
             listed(&self.explained)
         );
         println!("disagreements: {}", self.disagreements);

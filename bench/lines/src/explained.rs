@@ -1,11 +1,11 @@
-//! Where a reply differs from that of the Rust crate as `docs/DIFFERENCES.md` says.
+//! Where a reply differs from that of the Rust crate as `docs/rust/DIFFERENCES.md` says.
 
 use crate::answer;
 use crate::patterns::has_solution;
 use bech32::primitives::decode::CheckedHrpstring;
 use bech32::{Bech32, Bech32m};
 
-/// The place in `docs/DIFFERENCES.md` that explains two different replies to a line, if any does.
+/// The place in `docs/rust/DIFFERENCES.md` that explains two different replies to a line, if any does.
 pub fn explained(line: &[u8], ours: &[u8]) -> Option<&'static str> {
     let line = std::str::from_utf8(line).ok()?;
     let words: Vec<&str> = line.split(' ').collect();

@@ -107,7 +107,7 @@ fn check_none(text: &str, origin: Option<&str>) -> Checked<Vec<&'static str>> {
     }
 }
 
-// What `docs/DIFFERENCES.md` says of two different replies, of which ours was checked: no more than
+// What `docs/rust/DIFFERENCES.md` says of two different replies, of which ours was checked: no more than
 // that the crate finds something where nothing is to be found.
 fn explained(text: &str, reply: &str, theirs: &str) -> Checked<Option<&'static str>> {
     if reply == theirs {

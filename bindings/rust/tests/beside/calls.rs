@@ -29,7 +29,7 @@ pub type Reply = Result<Vec<Vec<u8>>, u32>;
 /// What the other crate leads one to expect.
 pub struct Expected {
     pub reply: Reply,
-    /// The place of a row of docs/DIFFERENCES.md, where the reply follows from that row.
+    /// The place of a row of docs/rust/DIFFERENCES.md, where the reply follows from that row.
     pub difference: Option<&'static str>,
 }
 

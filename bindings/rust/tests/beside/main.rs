@@ -16,7 +16,7 @@ use std::collections::BTreeMap;
 
 const CALLS: u64 = 1_000_000;
 
-const DIFFERENCES: &str = include_str!("../../../../docs/DIFFERENCES.md");
+const DIFFERENCES: &str = include_str!("../../../../docs/rust/DIFFERENCES.md");
 
 // The refusals that these calls can meet.
 const REFUSALS: [u32; 22] = [
@@ -30,7 +30,7 @@ struct Compared {
     calls: BTreeMap<&'static str, [u64; 2]>,
     /// How many refusals, by number.
     refusals: BTreeMap<u32, u64>,
-    /// How many replies differ from the other crate's by a row of docs/DIFFERENCES.md, by row.
+    /// How many replies differ from the other crate's by a row of docs/rust/DIFFERENCES.md, by row.
     explained: BTreeMap<&'static str, u64>,
     /// The replies that differ without one.
     different: Vec<String>,
@@ -74,7 +74,7 @@ impl Compared {
             let row = format!("| {place}");
             assert!(
                 DIFFERENCES.contains(&row),
-                "docs/DIFFERENCES.md has no row {place}"
+                "docs/rust/DIFFERENCES.md has no row {place}"
             );
         }
         let first: Vec<&String> = self.different.iter().take(10).collect();
