@@ -1,11 +1,11 @@
 """A reference model of Bech32 (BIP-173) and Bech32m (BIP-350), written from the definitions alone.
 
-It is slow and short. A remainder is what long division of lists of coefficients leaves. Bytes and
-elements are cut from whole lists of bits. The grammar is told by cases. A correction is found by
+It is slow and short. A remainder is computed by long division of lists of coefficients. Bytes and
+elements are cut from whole lists of bits. The grammar is checked by cases. A correction is found by
 trying every pattern within the bound. There are no syndromes, no shift registers and no roots, and
 nothing is shared with the library. Polynomials are lists of coefficients, the highest first.
 
-`reply(line)` is what the program b32 answers to a line.
+`reply(line)` is what the program b32 prints for a line.
 """
 
 from collections import namedtuple
@@ -56,7 +56,7 @@ CODES = {"bech32": BECH32, "bech32m": BECH32M}
 
 
 def remainder(code, coefficients):
-    """What division by the generator leaves: as many coefficients as its degree."""
+    """The remainder by the generator: as many coefficients as its degree."""
     divisor = [1] + code.generator
     rest = [0] * len(code.generator) + list(coefficients)
     for place in range(len(coefficients)):
@@ -418,7 +418,7 @@ def answer(line):
 
 
 def reply(line):
-    """What b32 answers to a line, given as bytes without its end."""
+    """What b32 prints for a line, given as bytes without its end."""
     try:
         return answer(line)
     except Refusal as refusal:

@@ -1,8 +1,8 @@
 """Makes and compares rows of the vectors: a line of b32, a tab, and its reply.
 
     rows.py make COUNT SEED FOLDER       writes COUNT rows of each kind by the model
-    rows.py check FILE..                 says where the model answers otherwise
-    rows.py compare PROGRAM FILE..       says where a program answers otherwise
+    rows.py check FILE..                 prints where the model's reply is another
+    rows.py compare PROGRAM FILE..       prints where a program's reply is another
 
 A byte of a line that is not from 32 to 126, and the backslash, stand as \\xNN.
 """
