@@ -1,6 +1,6 @@
 // Loaded into a program before the C library, this counts the program's requests for memory, refuses
-// the one whose number REFUSED is, and at the end writes how many came to the file that REQUESTS names.
-// Both stand in the environment.
+// the one with the number REFUSED, and at the end writes their count into the file REQUESTS. Both are
+// environment variables.
 
 #include <fcntl.h>
 #include <stddef.h>
