@@ -1,0 +1,105 @@
+// Makes the page and the JavaScript package of modules that are built: node assemble.mjs MODULES OUT
+//
+// MODULES has bech32_c.wasm, codex32_c.wasm, and both as NAME.lowered.wasm. OUT gets index.html and package/.
+// Wants Node 20 or later, and nothing else.
+import fs from 'node:fs';
+import path from 'node:path';
+import { createHash } from 'node:crypto';
+
+const HERE = import.meta.dirname ?? path.dirname(new URL(import.meta.url).pathname);
+const [modules, out] = process.argv.slice(2);
+
+const read = (...names) => fs.readFileSync(path.join(HERE, ...names), 'utf8');
+const sha256 = (data, form) => createHash('sha256').update(data).digest(form);
+const wasm = (name) => fs.readFileSync(path.join(modules, `${name}.wasm`));
+
+// Puts values in for the words @NAME@ of a text, each of which has to be there.
+const filled = (text, values) => {
+  for (const [name, value] of Object.entries(values)) {
+    if (!text.includes(`@${name}@`)) throw new Error(`@${name}@ is missing`);
+    text = text.replaceAll(`@${name}@`, () => value);
+  }
+  return text;
+};
+
+const base64 = (name) => wasm(name).toString('base64');
+const modulesSource = () => filled(read('src', 'modules.js'), {
+  BECH32_C: base64('bech32_c'), CODEX32_C: base64('codex32_c'),
+  BECH32_C_LOWERED: base64('bech32_c.lowered'), CODEX32_C_LOWERED: base64('codex32_c.lowered'),
+});
+
+// ---- the page
+
+// The files of the page's script, each behind those that it imports.
+const SCRIPT = [
+  'src/reasons.js', 'src/instance.js', 'src/calls.js', 'src/library.js', 'src/modules.js', 'page/answer.js', 'page/page.js',
+];
+
+const variable = (file) => `$${path.basename(file, '.js')}`;
+
+// A file as a function that returns what it exports: a script in a page that is read from a disk may import nothing.
+const asFunction = (file, source) => {
+  const exported = [];
+  const body = source
+    .replace(/^import \{ ([^}]+) \} from '([^']+)';$/gm, (_, names, from) => `const { ${names} } = ${variable(from)};`)
+    .replace(/^export \{ ([^}]+) \} from '([^']+)';$/gm, (_, names, from) => {
+      exported.push(...names.split(', ').map((name) => `${name}: ${variable(from)}.${name}`));
+      return '';
+    })
+    .replace(/^export (const|class) (\w+)/gm, (_, kind, name) => {
+      exported.push(name);
+      return `${kind} ${name}`;
+    });
+  if (/^(import|export)\b/m.test(body)) throw new Error(`${file} has an import or an export in another form`);
+  return `const ${variable(file)} = (() => {\n${body}return { ${exported.join(', ')} };\n})();\n`;
+};
+
+const script = () => {
+  const parts = SCRIPT.map((file) => asFunction(file, file === 'src/modules.js' ? modulesSource() : read(file)));
+  const text = `'use strict';\n{\n${parts.join('')}}\n`;
+  if (/<\/script|<!--/i.test(text)) throw new Error('the script has words that end a script');
+  return text;
+};
+
+// What the page may do: run this script and these modules, and show by this style. Nothing is loaded, sent or framed.
+const policy = (js, css) => [
+  "default-src 'none'", `script-src 'sha256-${sha256(js, 'base64')}' 'wasm-unsafe-eval'`,
+  `style-src 'sha256-${sha256(css, 'base64')}'`, "base-uri 'none'", "form-action 'none'",
+  "require-trusted-types-for 'script'", "trusted-types 'none'",
+].join('; ');
+
+const page = (version) => {
+  const js = script(), css = read('page', 'page.css');
+  const sums = ['bech32_c', 'codex32_c'].map((name) => `${name} ${sha256(wasm(name), 'hex')}`).join(', ');
+  const values = { POLICY: policy(js, css), STYLE: css, VERSION: version, SUMS: sums, SCRIPT: js };
+  return filled(read('page', 'page.html'), values);
+};
+
+// ---- the package
+
+// Whether the module has the function that finds two wrong characters, and it takes what the glue gives it.
+const hasNearest = () => {
+  const module = new WebAssembly.Module(wasm('bech32_c.lowered'));
+  const { bech32_nearest: nearest, bech32_correct: correct } = new WebAssembly.Instance(module, {}).exports;
+  return nearest !== undefined && nearest.length === correct.length;
+};
+
+const packageFiles = () => {
+  const more = hasNearest();
+  const files = {
+    'index.js': read('src', 'index.js') + (more ? 'export const { nearest } = it;\n' : ''),
+    'index.d.ts': read('src', 'index.d.ts') + (more ? read('src', 'nearest.d.ts') : ''),
+    'modules.js': modulesSource(), 'package.json': read('package.json'), 'README.md': read('README.md'),
+  };
+  for (const name of ['library.js', 'calls.js', 'instance.js', 'reasons.js']) files[name] = read('src', name);
+  const licence = path.join(HERE, '..', 'LICENSE');
+  if (fs.existsSync(licence)) files.LICENSE = fs.readFileSync(licence, 'utf8');
+  return files;
+};
+
+const { version } = JSON.parse(read('package.json'));
+const folder = path.join(out, 'package');
+fs.rmSync(folder, { recursive: true, force: true });
+fs.mkdirSync(folder, { recursive: true });
+for (const [name, text] of Object.entries(packageFiles())) fs.writeFileSync(path.join(folder, name), text);
+fs.writeFileSync(path.join(out, 'index.html'), page(version));

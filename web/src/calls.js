@@ -1,0 +1,127 @@
+// The functions of include/bech32.h and include/codex32.h: each returns `{ number }`, where the number is that of a
+// refusal, or 0 and with it what the function wrote.
+import { Instance } from './instance.js';
+
+/** The numbers of the checksums. */
+export const CHECKSUMS = { bech32: 1, bech32m: 2 };
+
+/** A text of more bytes is refused without a call: it is too long for each of them. */
+export const TEXT_ROOM = 4096;
+
+const TEXT_TOO_LONG = 31, ADDRESS_TOO_LONG = 41, CODEX32_BAD_LENGTH = 82;
+
+// Sizes that are always large enough, as the headers have them.
+const MAX_TEXT = 1023, MAX_HRP = 83, MAX_BYTES = 634, MAX_SEGWIT_TEXT = 90, MAX_SEGWIT_PROGRAM = 40, MAX_CODEX32 = 93;
+const CODEX32_MEMORY = 16384 + 8 * MAX_CODEX32;
+
+// Room for the locations of a correction: bech32_correct lists three at most.
+const MAX_LISTED = 8;
+
+// A human-readable part of more bytes is too long, and so is each text of more bytes of data. What does not fit here is
+// left out, and the refusal is the same.
+const HRP_ROOM = 96, BYTES_ROOM = 1024;
+
+const SIZE = 8;
+
+const BECH32_REGIONS = {
+  text: TEXT_ROOM, hrp: HRP_ROOM, bytes: BYTES_ROOM, erasures: SIZE * MAX_TEXT,
+  hrpOut: MAX_HRP, hrpLength: SIZE, out: MAX_TEXT, outLength: SIZE, version: SIZE,
+  locations: SIZE * MAX_LISTED, values: MAX_LISTED, count: SIZE,
+};
+const CODEX32_REGIONS = {
+  text: TEXT_ROOM, threshold: SIZE, shareIndex: SIZE, payloadLength: SIZE,
+  memory: 2 * SIZE, lent: CODEX32_MEMORY, out: MAX_CODEX32, outLength: SIZE,
+};
+
+/** The calls of the module of `bech32_c`. */
+export const bech32Calls = (module) => {
+  const it = new Instance(module, BECH32_REGIONS);
+  const p = (region) => it.pointer(region);
+  const textOut = () => it.text('out', it.size('outLength'));
+
+  // bech32_correct, and each function that takes the same. Erasures are locations, of which 0 is the last character.
+  const mends = (name) => (checksum, text, erasures = []) => {
+    const { length, isWhole } = it.putText('text', text);
+    if (!isWhole) return { number: TEXT_TOO_LONG };
+    const given = it.putSizes('erasures', [...new Set(erasures)].slice(0, MAX_TEXT));
+    const number = it.call(name, checksum, p('text'), length, p('erasures'), given, p('locations'), BigInt(MAX_LISTED),
+      p('values'), BigInt(MAX_LISTED), p('count'), p('out'), BigInt(MAX_TEXT), p('outLength'));
+    if (number) return { number };
+    const values = it.copy('values', it.size('count'));
+    const errors = Array.from(values, (value, i) => ({ location: it.size('locations', i), value }));
+    return { number, errors, text: textOut() };
+  };
+  const isLikeCorrect = (name) => it.arity(name) !== undefined && it.arity(name) === it.arity('bech32_correct');
+
+  return {
+    encode(checksum, hrp, bytes) {
+      const hrpLength = it.putText('hrp', hrp).length, length = it.putBytes('bytes', bytes);
+      const number = it.call('bech32_encode', checksum, p('hrp'), hrpLength, p('bytes'), length, p('out'),
+        BigInt(MAX_TEXT), p('outLength'));
+      return number ? { number } : { number, text: textOut() };
+    },
+    decode(text) {
+      const { length, isWhole } = it.putText('text', text);
+      if (!isWhole) return { number: TEXT_TOO_LONG };
+      const number = it.call('bech32_decode', p('text'), length, p('hrpOut'), BigInt(MAX_HRP), p('hrpLength'), p('out'),
+        BigInt(MAX_BYTES), p('outLength'));
+      if (number) return { number };
+      return { number, hrp: it.text('hrpOut', it.size('hrpLength')), bytes: it.copy('out', it.size('outLength')) };
+    },
+    check(checksum, text) {
+      const { length, isWhole } = it.putText('text', text);
+      if (!isWhole) return { number: TEXT_TOO_LONG };
+      const number = it.call('bech32_check', checksum, p('text'), length, p('hrpLength'), p('outLength'));
+      return number ? { number } : { number, hrpLength: it.size('hrpLength'), dataLength: it.size('outLength') };
+    },
+    segwitEncode(hrp, version, program) {
+      const hrpLength = it.putText('hrp', hrp).length, length = it.putBytes('bytes', program);
+      const number = it.call('bech32_segwit_encode', p('hrp'), hrpLength, version, p('bytes'), length, p('out'),
+        BigInt(MAX_SEGWIT_TEXT), p('outLength'));
+      return number ? { number } : { number, text: textOut() };
+    },
+    segwitDecode(text) {
+      const { length, isWhole } = it.putText('text', text);
+      if (!isWhole) return { number: ADDRESS_TOO_LONG };
+      const number = it.call('bech32_segwit_decode', p('text'), length, p('hrpOut'), BigInt(MAX_HRP), p('hrpLength'),
+        p('version'), p('out'), BigInt(MAX_SEGWIT_PROGRAM), p('outLength'));
+      if (number) return { number };
+      const hrp = it.text('hrpOut', it.size('hrpLength'));
+      return { number, hrp, version: it.number('version'), program: it.copy('out', it.size('outLength')) };
+    },
+    correct: mends('bech32_correct'),
+    // Not every library has it, and one that takes other arguments is not called.
+    ...(isLikeCorrect('bech32_nearest') && { nearest: mends('bech32_nearest') }),
+    wipe: () => it.wipe(),
+  };
+};
+
+/** The calls of the module of `codex32_c`. Its memory is wiped after each, since a codex32 string is a secret. */
+export const codex32Calls = (module) => {
+  const it = new Instance(module, CODEX32_REGIONS);
+  const p = (region) => it.pointer(region);
+  const wiped = (call) => (text) => {
+    try {
+      const { length, isWhole } = it.putText('text', text);
+      return isWhole ? call(text, length) : { number: CODEX32_BAD_LENGTH };
+    } finally {
+      it.wipe();
+    }
+  };
+  return {
+    parse: wiped((text, length) => {
+      const number = it.call('codex32_parse', p('text'), length, p('threshold'), p('shareIndex'), p('payloadLength'));
+      if (number) return { number };
+      return {
+        number, threshold: it.number('threshold'), identifier: text.slice(4, 8),
+        shareIndex: String.fromCharCode(it.number('shareIndex')), payload: text.slice(9, 9 + it.size('payloadLength')),
+      };
+    }),
+    propose: wiped((text, length) => {
+      it.putSizes('memory', [it.at.lent, CODEX32_MEMORY]);
+      const number = it.call('codex32_propose', p('text'), length, p('memory'), p('out'), BigInt(MAX_CODEX32),
+        p('outLength'));
+      return number ? { number } : { number, text: it.text('out', it.size('outLength')) };
+    }),
+  };
+};

@@ -1,0 +1,71 @@
+/** Bech32 is that of BIP-173, Bech32m that of BIP-350. */
+export type Checksum = 'bech32' | 'bech32m';
+
+/** Why a text, or what is to become one, is refused. */
+export type Code =
+  | 'HRP_EMPTY' | 'HRP_TOO_LONG' | 'HRP_NOT_ASCII' | 'HRP_INVALID' | 'HRP_MIXED_CASE'
+  | 'INVALID_CHARACTER' | 'MIXED_CASE' | 'NO_SEPARATOR'
+  | 'TEXT_TOO_LONG' | 'NO_CHECKSUM' | 'WRONG_CHECKSUM'
+  | 'ADDRESS_TOO_LONG' | 'NO_DATA' | 'BAD_VERSION' | 'PADDING_TOO_LONG' | 'PADDING_NOT_ZERO'
+  | 'PROGRAM_TOO_SHORT' | 'PROGRAM_TOO_LONG' | 'PROGRAM_NOT_V0'
+  | 'ENCODED_TOO_LONG' | 'ENCODED_BAD_VERSION' | 'ENCODED_ADDRESS_TOO_LONG'
+  | 'NOT_MS' | 'BAD_LENGTH' | 'BAD_THRESHOLD' | 'BAD_SHARE_INDEX';
+
+/** A refusal. Its `message` is a sentence with the figures and the character at fault. */
+export class Refused extends Error {
+  readonly code: Code;
+  /** The number of the refusal in `include/bech32.h` and `include/codex32.h`. */
+  readonly number: number;
+  /** Where the character at fault stands in the text or the human-readable part, from 0 on; null where it is no one. */
+  readonly place: number | null;
+}
+
+/** A module stopped without an answer and was started anew. No call does that unless the engine has a fault. */
+export class Stopped extends Error {}
+
+/** Whether the modules were lowered to 32-bit memory, a step that is not proved. */
+export const isLowered: boolean;
+
+/** A character that is to be changed: `from` stands at `place` of the text, from 0 on, and `to` is right. */
+export interface Change { readonly place: number; readonly from: string; readonly to: string }
+
+/** A text mended: in lower case, with these changes, none where it was right. It is a guess at what was meant. */
+export interface Correction { readonly text: string; readonly changes: readonly Change[] }
+
+/** The text of bytes under a human-readable part, in lower case. Throws `Refused`. */
+export function encode(checksum: Checksum, hrp: string, bytes: Uint8Array): string;
+
+/** A text that Bech32m or Bech32 accepts. Bits behind the last whole byte are dropped. Throws `Refused`. */
+export function decode(text: string): { checksum: Checksum; hrp: string; bytes: Uint8Array };
+
+/** The parts of a text that a checksum accepts, without the checksum itself. Throws `Refused`. */
+export function check(checksum: Checksum, text: string): { hrp: string; data: string };
+
+/**
+ * The one correction of a text, where twice the wrong characters, with those at `places`, are three at most; null where
+ * there is none. `places` are those of characters that are known to be wrong or that cannot be read, from 0 on: put any
+ * character of the alphabet there, such as `q`. Only the data part is corrected. Throws `Refused` where more than the
+ * checksum is wrong.
+ */
+export function correct(checksum: Checksum, text: string, places?: Iterable<number>): Correction | null;
+
+export const segwit: {
+  /** The address of a witness version, from 0 to 16, and a program. Throws `Refused`. */
+  encode(hrp: string, version: number, program: Uint8Array): string;
+  /**
+   * The parts of an address. Any human-readable part is accepted: compare it with that of your network. Throws
+   * `Refused`.
+   */
+  decode(text: string): { hrp: string; version: number; program: Uint8Array };
+};
+
+export const codex32: {
+  /** The parts of a codex32 string of 48 to 93 characters, in its case. Throws `Refused`. */
+  parse(text: string): { threshold: number; identifier: string; shareIndex: string; payload: string };
+  /**
+   * The nearest string to a damaged one, in which each `?` is a character that cannot be read; null where there is
+   * none. Twice the wrong characters, with the unreadable ones, are eight at most. Neither threshold nor share index is
+   * tested. Throws `Refused`.
+   */
+  propose(text: string): Correction | null;
+};

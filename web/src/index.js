@@ -1,0 +1,9 @@
+// Bech32 (BIP-173), Bech32m (BIP-350) and codex32 (BIP-93). README.md is for users.
+import { library, Refused, Stopped } from './library.js';
+import { compiled } from './modules.js';
+
+const { modules, isLowered } = compiled();
+const it = library(...modules);
+
+export const { encode, decode, check, correct, segwit, codex32 } = it;
+export { Refused, Stopped, isLowered };

@@ -1,0 +1,115 @@
+// One module of the library and its memory.
+//
+// The module's own memory lies below __heap_base: its constants and its stack. The memory above is the caller's. It is
+// cut into regions, one for each argument, so that nothing a function writes to overlaps with anything else that it is
+// given.
+
+const ALIGNMENT = 16;
+const aligned = (at) => Math.ceil(at / ALIGNMENT) * ALIGNMENT;
+
+/** A module stopped in a call. No call of the library does: it is a fault of the engine or of the memory it gives. */
+export class Stopped extends Error {
+  constructor(name, cause) {
+    super(`${name} stopped without an answer, and the module was started anew: ${cause}`, { cause });
+    this.name = 'Stopped';
+  }
+}
+
+// The constants of a module just started: all between the first byte of its memory that is not zero and the last.
+const constantsOf = (bytes, end) => {
+  let from = 0, to = end;
+  while (from < to && bytes[from] === 0) from++;
+  while (from < to && bytes[to - 1] === 0) to--;
+  return { from, bytes: bytes.slice(from, to) };
+};
+
+/** A running module. `sizes` has the size of each region by its name, and `at` then its place in the memory. */
+export class Instance {
+  #module;
+  #sizes;
+  #exports;
+  #constants;
+
+  constructor(module, sizes) {
+    this.#module = module;
+    this.#sizes = sizes;
+    this.#start();
+  }
+
+  #start() {
+    this.#exports = new WebAssembly.Instance(this.#module, {}).exports;
+    const { memory, __heap_base: base } = this.#exports;
+    this.bytes = new Uint8Array(memory.buffer);
+    this.view = new DataView(memory.buffer);
+    this.at = {};
+    let end = aligned(Number(base.value));
+    this.#constants = constantsOf(this.bytes, end);
+    for (const [name, size] of Object.entries(this.#sizes)) {
+      this.at[name] = end;
+      end = aligned(end + size);
+    }
+    if (end > this.bytes.length) throw new RangeError('the memory of the module is too small for the arguments');
+  }
+
+  /** How many arguments a function takes; undefined where the module has no function of that name. */
+  arity(name) {
+    return this.#exports[name]?.length;
+  }
+
+  /** Calls a function: pointers and sizes are BigInt, and the rest are numbers. */
+  call(name, ...values) {
+    try {
+      return this.#exports[name](...values);
+    } catch (cause) {
+      this.bytes.fill(0);
+      this.#start();
+      throw new Stopped(name, cause);
+    }
+  }
+
+  /** Leaves the memory as it was when the module started: arguments, answers and what the stack held are zeros. */
+  wipe() {
+    this.bytes.fill(0);
+    this.bytes.set(this.#constants.bytes, this.#constants.from);
+  }
+
+  pointer(region) {
+    return BigInt(this.at[region]);
+  }
+
+  /** Puts a text into a region, as UTF-8: its length in bytes, and whether there was room for all of it. */
+  putText(region, text) {
+    const room = this.bytes.subarray(this.at[region], this.at[region] + this.#sizes[region]);
+    const { read, written } = new TextEncoder().encodeInto(text, room);
+    return { length: BigInt(written), isWhole: read === text.length };
+  }
+
+  /** Puts bytes into a region, as many as there is room for, and returns how many they are. */
+  putBytes(region, bytes) {
+    const put = bytes.subarray(0, this.#sizes[region]);
+    this.bytes.set(put, this.at[region]);
+    return BigInt(put.length);
+  }
+
+  putSizes(region, sizes) {
+    sizes.forEach((size, i) => this.view.setBigUint64(this.at[region] + 8 * i, BigInt(size), true));
+    return BigInt(sizes.length);
+  }
+
+  size(region, i = 0) {
+    return Number(this.view.getBigUint64(this.at[region] + 8 * i, true));
+  }
+
+  number(region) {
+    return this.view.getUint32(this.at[region], true);
+  }
+
+  copy(region, length) {
+    return this.bytes.slice(this.at[region], this.at[region] + length);
+  }
+
+  /** The text of ASCII characters at the front of a region. */
+  text(region, length) {
+    return String.fromCharCode(...this.bytes.subarray(this.at[region], this.at[region] + length));
+  }
+}

@@ -1,0 +1,123 @@
+// What users call: the functions of the library with the values of JavaScript, and refusals as errors.
+import { bech32Calls, codex32Calls, CHECKSUMS } from './calls.js';
+import { asciiLower, reasons } from './reasons.js';
+
+export { Stopped } from './instance.js';
+
+/** A text, or parts of one, that the library refuses. */
+export class Refused extends Error {
+  constructor({ number, code, sentence, place }) {
+    super(sentence);
+    this.name = 'Refused';
+    /** The refusal, such as `WRONG_CHECKSUM`. */
+    this.code = code;
+    /** Its number in `include/bech32.h` and `include/codex32.h`. */
+    this.number = number;
+    /** Where the character at fault stands in the text or the human-readable part, from 0 on; null where it is no one. */
+    this.place = place;
+  }
+}
+
+const NO_CORRECTION = 34;
+
+const text = (it, what = 'the text') => {
+  if (typeof it !== 'string') throw new TypeError(`${what} is no string`);
+  return it;
+};
+const bytes = (it, what) => {
+  if (!(it instanceof Uint8Array)) throw new TypeError(`${what} are no Uint8Array`);
+  return it;
+};
+const numberOf = (checksum) => {
+  if (!Object.hasOwn(CHECKSUMS, checksum)) throw new TypeError("the checksum is neither 'bech32' nor 'bech32m'");
+  return CHECKSUMS[checksum];
+};
+const accepted = (answer, why) => {
+  if (answer.number) throw new Refused(why(answer.number));
+  return answer;
+};
+
+// The places of a text at which another has other characters, and those that were given, in rising order.
+const changesOf = (before, after, given) =>
+  Array.from(before, (from, place) => ({ place, from, to: after[place] }))
+    .filter(({ place, from, to }) => given.has(place) || asciiLower(from) !== to);
+
+const placesOf = (given, length) => {
+  const places = [...given];
+  if (!places.every((place) => Number.isInteger(place) && place >= 0 && place < length)) {
+    throw new RangeError('a place is no place of the text');
+  }
+  return places;
+};
+
+const textCalls = (calls) => ({
+  encode(checksum, hrp, data) {
+    const number = numberOf(checksum);
+    text(hrp, 'the human-readable part');
+    bytes(data, 'the data');
+    return accepted(calls.encode(number, hrp, data), (n) => reasons.encoding(n, hrp, data)).text;
+  },
+  decode(given) {
+    const { hrp, bytes: data } = accepted(calls.decode(text(given)), (n) => reasons.text(n, given));
+    const checksum = calls.check(CHECKSUMS.bech32m, given).number === 0 ? 'bech32m' : 'bech32';
+    return { checksum, hrp, bytes: data };
+  },
+  check(checksum, given) {
+    const number = numberOf(checksum);
+    const { hrpLength, dataLength } = accepted(calls.check(number, text(given)), (n) => reasons.text(n, given, number));
+    return { hrp: given.slice(0, hrpLength), data: given.slice(hrpLength + 1, hrpLength + 1 + dataLength) };
+  },
+});
+
+const segwitCalls = (calls) => ({
+  encode(hrp, version, program) {
+    text(hrp, 'the human-readable part');
+    bytes(program, 'the bytes of the program');
+    if (!Number.isInteger(version) || version < 0 || version > 31) {
+      throw new RangeError('the version is no integer from 0 to 31');
+    }
+    const answer = calls.segwitEncode(hrp, version, program);
+    return accepted(answer, (n) => reasons.addressEncoding(n, hrp, version, program)).text;
+  },
+  decode(given) {
+    const { hrp, version, program } = accepted(calls.segwitDecode(text(given)), (n) => reasons.address(n, given));
+    return { hrp, version, program };
+  },
+});
+
+// A call that mends a text; `places` are those of characters known to be wrong.
+const mending = (call) => (checksum, given, places = []) => {
+  const number = numberOf(checksum);
+  const known = placesOf(places, text(given).length);
+  const answer = call(number, given, known.map((place) => given.length - 1 - place));
+  if (answer.number === NO_CORRECTION) return null;
+  accepted(answer, (n) => reasons.text(n, given, number));
+  return { text: answer.text, changes: changesOf(given, answer.text, new Set(answer.errors.length ? known : [])) };
+};
+
+const codex32Functions = (calls) => ({
+  parse(given) {
+    const answer = accepted(calls.parse(text(given)), (n) => reasons.codex32(n, given));
+    const { threshold, identifier, shareIndex, payload } = answer;
+    return { threshold, identifier, shareIndex, payload };
+  },
+  propose(given) {
+    const answer = calls.propose(text(given));
+    if (answer.number === NO_CORRECTION) return null;
+    accepted(answer, (n) => reasons.damaged(n, given));
+    return { text: answer.text, changes: changesOf(given, answer.text, new Set()) };
+  },
+});
+
+/** The library over its two modules, each a `WebAssembly.Module`. */
+export const library = (bech32Module, codex32Module) => {
+  const calls = bech32Calls(bech32Module), codex32 = codex32Calls(codex32Module);
+  return {
+    ...textCalls(calls),
+    segwit: segwitCalls(calls),
+    correct: mending(calls.correct),
+    ...(calls.nearest && { nearest: mending(calls.nearest) }),
+    codex32: codex32Functions(codex32),
+    wipe: calls.wipe,
+  };
+};

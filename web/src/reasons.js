@@ -1,0 +1,283 @@
+// Why a call refuses: a code, a sentence, and the place of the character at fault.
+//
+// The library tells a number. The place and the figures in a sentence are found here, by looking at the text once more;
+// this is no part of what is proved.
+
+/** The codes of the refusals, which the headers have with BECH32_ or CODEX32_ before them. */
+export const CODES = {
+  11: 'HRP_EMPTY', 12: 'HRP_TOO_LONG', 13: 'HRP_NOT_ASCII', 14: 'HRP_INVALID', 15: 'HRP_MIXED_CASE',
+  21: 'INVALID_CHARACTER', 22: 'MIXED_CASE', 23: 'NO_SEPARATOR',
+  31: 'TEXT_TOO_LONG', 32: 'NO_CHECKSUM', 33: 'WRONG_CHECKSUM',
+  41: 'ADDRESS_TOO_LONG', 42: 'NO_DATA', 43: 'BAD_VERSION', 44: 'PADDING_TOO_LONG', 45: 'PADDING_NOT_ZERO',
+  46: 'PROGRAM_TOO_SHORT', 47: 'PROGRAM_TOO_LONG', 48: 'PROGRAM_NOT_V0',
+  51: 'ENCODED_TOO_LONG', 52: 'ENCODED_BAD_VERSION', 53: 'ENCODED_ADDRESS_TOO_LONG',
+  81: 'NOT_MS', 82: 'BAD_LENGTH', 83: 'BAD_THRESHOLD', 84: 'BAD_SHARE_INDEX',
+};
+
+/** The characters of the elements 0 to 31. */
+export const ALPHABET = 'qpzry9x8gf2tvdw0s3jn54khce6mua7l';
+
+const CHECKSUM_LENGTH = 6;
+
+// Code points that do not show what they are.
+const NAMES = {
+  9: 'a tab', 10: 'a line break', 13: 'a line break', 32: 'a space', 0xa0: 'a no-break space', 0xad: 'a soft hyphen',
+  0x200b: 'a space of no width', 0x200c: 'a mark that is not seen', 0x200d: 'a mark that is not seen',
+  0x200e: 'a left-to-right mark', 0x200f: 'a right-to-left mark', 0x202a: 'a mark of direction',
+  0x202b: 'a mark of direction', 0x202c: 'a mark of direction', 0x202d: 'a mark of direction',
+  0x202e: 'a mark of direction', 0x2066: 'a mark of direction', 0x2067: 'a mark of direction',
+  0x2068: 'a mark of direction', 0x2069: 'a mark of direction', 0x212a: 'the Kelvin sign, which looks like K',
+  0xfeff: 'a mark that is not seen',
+};
+
+const isGraphic = (c) => c.length === 1 && c >= '!' && c <= '~';
+const isLower = (c) => c >= 'a' && c <= 'z';
+const isUpper = (c) => c >= 'A' && c <= 'Z';
+const lower = (c) => (isUpper(c) ? c.toLowerCase() : c);
+const isOfAlphabet = (c) => c.length === 1 && ALPHABET.includes(lower(c));
+
+/** A text in lower case, ASCII letters alone: the Kelvin sign stays what it is. */
+export const asciiLower = (text) => text.replace(/[A-Z]/g, (c) => c.toLowerCase());
+
+const grouped = (n) => String(n).replace(/\B(?=(\d{3})+$)/g, ',');
+const counted = (n, one, many) => `${grouped(n)} ${n === 1 ? one : many}`;
+
+/** A character as a sentence shows it: nothing that could be mistaken, or that would change the sentence. */
+export const shown = (character) => {
+  if (isGraphic(character)) return `“${character}”`;
+  const code = character.codePointAt(0);
+  const point = `U+${code.toString(16).toUpperCase().padStart(4, '0')}`;
+  if (code >= 0xd800 && code <= 0xdfff) return `half of a character (${point})`;
+  return code in NAMES ? `${NAMES[code]} (${point})` : point;
+};
+
+/** Which character of a text stands at a place, counted from 1; a character beyond U+FFFF counts once. */
+export const ordinal = (text, place) => Array.from(text.slice(0, place)).length + 1;
+
+// The characters of a text, each with its place.
+const placed = (text) => {
+  let place = 0;
+  return Array.from(text, (character) => {
+    const it = { character, place };
+    place += character.length;
+    return it;
+  });
+};
+
+const characterAt = (text, place) => String.fromCodePoint(text.codePointAt(place));
+const at = (text, place) => `Character ${grouped(ordinal(text, place))}, ${shown(characterAt(text, place))},`;
+
+// ---- human-readable parts
+
+const FOUND_IN_HRP = {
+  13: ({ character }) => character > '\x7f',
+  14: ({ character }) => character <= '\x7f' && !isGraphic(character),
+};
+
+const bytesOf = (text) => new TextEncoder().encode(text).length;
+
+// The length of a text, in characters where each is a byte.
+const measured = (text) => {
+  const bytes = bytesOf(text);
+  return bytes === text.length ? counted(bytes, 'character', 'characters') : `${grouped(bytes)} bytes`;
+};
+
+// The first byte of a text that is too much, by the character that has it. No character has less than a byte.
+const beyondBytes = (text, most) => {
+  let bytes = 0;
+  return placed(text.slice(0, most + 1)).find(({ character }) => (bytes += bytesOf(character)) > most)?.place ?? null;
+};
+
+const firstOfOtherCase = (text) => {
+  const letters = placed(text).filter(({ character }) => isLower(character) || isUpper(character));
+  return letters.find(({ character }) => isLower(character) !== isLower(letters[0].character)) ?? null;
+};
+
+const cases = (text) => {
+  const found = firstOfOtherCase(text);
+  if (!found) return null;
+  const kinds = ['a lower-case letter, and an upper-case one', 'an upper-case letter, and a lower-case one'];
+  const kind = kinds[Number(isUpper(found.character))];
+  return { place: found.place, sentence: `${at(text, found.place)} is ${kind} stands before it: all letters have one case.` };
+};
+
+// What is wrong with no one character of a text.
+const nowhere = (sentence) => ({ place: null, sentence });
+
+const ofHrp = (number, hrp) => {
+  switch (number) {
+    case 11: return { place: 0, sentence: 'Nothing stands before the separator “1”: the human-readable part is missing.' };
+    case 12: {
+      const sentence = `The human-readable part, before the last “1”, has ${measured(hrp)}; it has at most 83.`;
+      return { place: beyondBytes(hrp, 83), sentence };
+    }
+    case 13: case 14: {
+      const place = placed(hrp).find(FOUND_IN_HRP[number])?.place ?? null;
+      const who = place === null ? 'A character' : at(hrp, place);
+      const why = number === 13 ? 'is not ASCII, and stands in' : 'may not stand in';
+      return { place, sentence: `${who} ${why} the human-readable part, before the last “1”.` };
+    }
+    case 15: return cases(hrp);
+    default: return null;
+  }
+};
+
+// ---- texts
+
+const lastStranger = (text) => placed(text).findLast(({ character }) => !isOfAlphabet(character)) ?? null;
+
+const invalidCharacter = (text) => {
+  const found = lastStranger(text);
+  if (!found || found.character === '1') return null;
+  const where = text.includes('1') ? 'behind the last “1”' : 'here, and no separator “1” stands before it';
+  const sentence = `${at(text, found.place)} may not stand ${where}: letters and digits may, but not 1, b, i and o.`;
+  return { place: found.place, sentence };
+};
+
+const tooLong = (text, most, what) => ({
+  place: beyondBytes(text, most),
+  sentence: `The text has ${measured(text)}; ${what} has at most ${grouped(most)}.`,
+});
+
+const CHECKSUM_NAMES = { 1: 'Bech32', 2: 'Bech32m' };
+
+const noChecksum = (text, separator) => {
+  const behind = text.length - separator - 1;
+  const said = ['No character stands', 'One character stands'][behind] ?? `${behind} characters stand`;
+  return { place: separator, sentence: `${said} behind the last “1”; the checksum alone has six.` };
+};
+
+const ofText = (number, text, checksum) => {
+  const separator = text.lastIndexOf('1');
+  switch (number) {
+    case 11: case 12: case 13: case 14: case 15: return ofHrp(number, text.slice(0, separator));
+    case 21: return invalidCharacter(text);
+    case 22: return cases(text);
+    case 23: return nowhere('There is no separator “1” in the text.');
+    case 31: return tooLong(text, 1023, 'a text');
+    case 32: return noChecksum(text, separator);
+    case 33: return nowhere(checksum ? `The ${CHECKSUM_NAMES[checksum]} checksum is wrong.` : 'The checksum is wrong.');
+    default: return null;
+  }
+};
+
+// ---- segwit addresses
+
+const dataOf = (text) => Array.from(text.slice(text.lastIndexOf('1') + 1), (c) => ALPHABET.indexOf(lower(c)));
+
+// The bytes of the program of an address, and the bits behind them.
+const programOf = (text) => {
+  const bits = 5 * (dataOf(text).length - 1 - CHECKSUM_LENGTH);
+  return { bytes: Math.floor(bits / 8), left: bits % 8 };
+};
+
+const lengthOfProgram = (number, bytes) => {
+  const has = `The program has ${counted(bytes, 'byte', 'bytes')}`;
+  switch (number) {
+    case 46: return nowhere(`${has}; it has at least 2.`);
+    case 47: return nowhere(`${has}; it has at most 40.`);
+    default: return nowhere(`${has}; in version 0 it has 20 or 32.`);
+  }
+};
+
+const ofPadding = (number, text) => {
+  const place = text.length - CHECKSUM_LENGTH - 1;
+  const who = `${at(text, place)} the last one before the checksum,`;
+  const sentence = number === 44
+    ? `${who} is one too many: ${programOf(text).left} bits stand behind the last whole byte of the program, and at most four may.`
+    : `${who} has bits behind the last whole byte of the program that are not zero.`;
+  return { place, sentence };
+};
+
+const ofAddress = (number, text) => {
+  const place = text.lastIndexOf('1') + 1, version = dataOf(text)[0];
+  switch (number) {
+    case 33: {
+      const name = CHECKSUM_NAMES[version === 0 ? 1 : 2];
+      return nowhere(`The checksum is wrong: an address of version ${version} has a ${name} checksum.`);
+    }
+    case 41: return tooLong(text, 90, 'an address');
+    case 42: {
+      const sentence = 'No witness version stands between the last “1” and the checksum.';
+      return { place: place - 1, sentence };
+    }
+    case 43: {
+      const sentence = `${at(text, place)} is the witness version ${version}; versions are from 0 to 16.`;
+      return { place, sentence };
+    }
+    case 44: case 45: return ofPadding(number, text);
+    case 46: case 47: case 48: return lengthOfProgram(number, programOf(text).bytes);
+    default: return ofText(number, text);
+  }
+};
+
+// ---- codex32 strings
+
+const notMs = (text) => {
+  const hrp = text.slice(0, text.lastIndexOf('1'));
+  const place = placed(hrp).find(({ character, place: i }) => lower(character) !== 'ms'[i])?.place ?? hrp.length;
+  return { place, sentence: `The text begins with “${hrp}1”; a codex32 string begins with “ms1”.` };
+};
+
+const badLength = (text) => {
+  const isLong = text.length >= 125 && text.length <= 127;
+  const more = isLong ? ' The long codex32 strings, of 125 to 127 characters, are not read here.' : '';
+  return {
+    place: text.length > 93 ? 93 : null,
+    sentence: `The text has ${measured(text)}; a codex32 string has from 48 to 93.${more}`,
+  };
+};
+
+const ofCodex32 = (number, text) => {
+  switch (number) {
+    case 81: return notMs(text);
+    case 82: return badLength(text);
+    case 83: return { place: 3, sentence: `${at(text, 3)} is no threshold, which is 0 or a digit from 2 to 9.` };
+    case 84: return { place: 8, sentence: `${at(text, 8)} is no share index of the threshold 0, which is s.` };
+    default: return ofText(number, text);
+  }
+};
+
+// A damaged text as the library reads it: each `?` behind the last `1` as `0`.
+const asRead = (text) => {
+  const separator = text.lastIndexOf('1') + 1;
+  return separator === 0 ? text : text.slice(0, separator) + text.slice(separator).replaceAll('?', '0');
+};
+
+// ---- encoding
+
+const GROUP = 5;
+const encodedLength = (hrp, elements) => hrp.length + 1 + elements + CHECKSUM_LENGTH;
+const elementsOf = (bytes) => Math.ceil((8 * bytes) / GROUP);
+
+const ofEncoding = (number, hrp, bytes) => {
+  if (number !== 51) return ofHrp(number, hrp);
+  const length = encodedLength(hrp, elementsOf(bytes.length));
+  return nowhere(`The text would have ${grouped(length)} characters; a text has at most 1,023.`);
+};
+
+const ofAddressEncoding = (number, hrp, version, program) => {
+  switch (number) {
+    case 46: case 47: case 48: return lengthOfProgram(number, program.length);
+    case 52: return nowhere(`The witness version is ${version}; versions are from 0 to 16.`);
+    case 53: {
+      const length = encodedLength(hrp, 1 + elementsOf(program.length));
+      return nowhere(`The address would have ${grouped(length)} characters; an address has at most 90.`);
+    }
+    default: return ofHrp(number, hrp);
+  }
+};
+
+// What is said where no sentence fits: no refusal of the library comes to this.
+const reason = (number, found) =>
+  ({ number, code: CODES[number] ?? 'UNKNOWN', ...(found ?? nowhere(`The library refuses this with the number ${number}.`)) });
+
+/** Why a call refused, by what it was given. */
+export const reasons = {
+  text: (number, text, checksum) => reason(number, ofText(number, text, checksum)),
+  address: (number, text) => reason(number, ofAddress(number, text)),
+  codex32: (number, text) => reason(number, ofCodex32(number, text)),
+  damaged: (number, text) => reason(number, ofCodex32(number, asRead(text))),
+  encoding: (number, hrp, bytes) => reason(number, ofEncoding(number, hrp, bytes)),
+  addressEncoding: (number, hrp, version, program) => reason(number, ofAddressEncoding(number, hrp, version, program)),
+};

@@ -1,0 +1,85 @@
+// Firefox without a window, by Marionette: its protocol of commands over a socket.
+import fs from 'node:fs';
+import net from 'node:net';
+import path from 'node:path';
+import { programOf, started, until } from './browser.mjs';
+
+export const program = programOf('firefox-esr', 'firefox');
+export const name = 'Firefox';
+export const packageName = 'firefox-esr';
+
+const PREFERENCES = {
+  'marionette.port': 0, 'browser.shell.checkDefaultBrowser': false, 'browser.startup.page': 0,
+  'app.update.auto': false, 'datareporting.policy.dataSubmissionEnabled': false, 'toolkit.telemetry.enabled': false,
+  'network.captive-portal-service.enabled': false, 'network.connectivity-service.enabled': false,
+};
+
+// A message is its length in bytes, a colon, and as many bytes of JSON.
+const messagesOf = (socket, take) => {
+  let rest = Buffer.alloc(0);
+  socket.on('data', (piece) => {
+    rest = Buffer.concat([rest, piece]);
+    for (let colon = rest.indexOf(58); colon > 0; colon = rest.indexOf(58)) {
+      const end = colon + 1 + Number(rest.subarray(0, colon));
+      if (rest.length < end) break;
+      take(JSON.parse(rest.subarray(colon + 1, end)));
+      rest = rest.subarray(end);
+    }
+  });
+};
+
+const COLORS = { dark: 0, light: 1 };
+
+/** A page of a new browser, which prefers light or dark. */
+export const open = async (colors = 'light') => {
+  const words = (folder) => {
+    const lines = Object.entries({ ...PREFERENCES, 'layout.css.prefers-color-scheme.content-override': COLORS[colors] }).map(([key, value]) => `user_pref(${JSON.stringify(key)}, ${JSON.stringify(value)});\n`);
+    fs.writeFileSync(path.join(folder, 'user.js'), lines.join(''));
+    return ['--headless', '--marionette', '--no-remote', '--profile', folder];
+  };
+  const { folder, stop } = started(program, words, ['ignore', 'ignore', 'ignore']);
+  const file = path.join(folder, 'MarionetteActivePort');
+  const port = await until(() => fs.existsSync(file) && Number(fs.readFileSync(file, 'utf8')), 'port of Firefox');
+  const socket = net.connect(port, '127.0.0.1');
+  const waiting = new Map();
+  let count = 0;
+  const hello = new Promise((done) => waiting.set('hello', done));
+  messagesOf(socket, (message) => {
+    if (!Array.isArray(message)) return waiting.get('hello')();
+    const [, id, error, result] = message;
+    const { resolve, reject } = waiting.get(id);
+    waiting.delete(id);
+    return error ? reject(new Error(error.message)) : resolve(result);
+  });
+  await hello;
+  const call = (command, params = {}) => new Promise((resolve, reject) => {
+    waiting.set(++count, { resolve, reject });
+    const message = JSON.stringify([0, count, command, params]);
+    socket.write(`${Buffer.byteLength(message)}:${message}`);
+  });
+
+  const { capabilities } = await call('WebDriver:NewSession', { capabilities: { alwaysMatch: {} } });
+  const evaluate = async (body, ...given) => (await call('WebDriver:ExecuteAsyncScript', {
+    script: `const given = [...arguments], done = given.pop(); (async function () { ${body} }).apply(null, given).then(done, (error) => done({ failed: String(error) }));`,
+    args: given, sandbox: null,
+  })).value;
+  const pressed = (value) => call('WebDriver:PerformActions', { actions: [{ type: 'key', id: 'keys', actions: [{ type: 'keyDown', value }, { type: 'keyUp', value }] }] });
+
+  return {
+    evaluate, version: `Firefox/${capabilities.browserVersion}`,
+    async stop() {
+      socket.destroy();
+      await stop();
+    },
+    visit: (url) => call('WebDriver:Navigate', { url }),
+    size: (width, height) => call('WebDriver:SetWindowRect', { width, height }),
+    async type(text) {
+      const { value: element } = await call('WebDriver:GetActiveElement');
+      await call('WebDriver:ElementSendKeys', { id: Object.values(element)[0], text });
+    },
+    press: (key) => pressed({ Tab: '\ue004', Enter: '\ue007', ' ': ' ' }[key]),
+    async screenshot() {
+      return Buffer.from((await call('WebDriver:TakeScreenshot', { full: true })).value, 'base64');
+    },
+  };
+};

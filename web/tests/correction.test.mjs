@@ -1,0 +1,119 @@
+// Corrections against brute force: every single change of a text is tried by the checksum as the standard defines it.
+import test from 'node:test';
+import assert from 'node:assert/strict';
+import { codex32, correct } from '../out/package/index.js';
+import { ALPHABET, accepts, acceptsCodex32, changedAt, changedOnce, numbersFrom } from './reference.mjs';
+
+const TEXTS = [
+  ['bech32', 'a12uel5l'],
+  ['bech32', 'bc1qw508d6qejxtdg4y5r3zarvary0c5xw7kv8f3t4'],
+  ['bech32m', 'a1lqfn3a'],
+  ['bech32m', 'bc1p4w46h2at4w46h2at4w46h2at4w46h2at5kreae'],
+  ['bech32m', 'tb1pqqqqp399et2xygdj5xreqhjjvcmzhxw4aywxecjdzew6hylgvsesf3hn0c'],
+];
+
+test('the texts of these tests are right', () => {
+  for (const [checksum, text] of TEXTS) assert.ok(accepts(checksum, text), text);
+});
+
+test('each single error is mended', (t) => {
+  let count = 0;
+  for (const [checksum, text] of TEXTS) {
+    for (const damaged of changedOnce(text)) {
+      count++;
+      const { text: mended, changes } = correct(checksum, damaged);
+      const place = Array.from(text).findIndex((c, i) => c !== damaged[i]);
+      assert.deepEqual([mended, changes], [text, [{ place, from: damaged[place], to: text[place] }]]);
+    }
+  }
+  t.diagnostic(`${count} texts`);
+});
+
+// The texts that a checksum accepts among those that differ in one place.
+const byBruteForce = (checksum, damaged) => [...changedOnce(damaged)].filter((text) => accepts(checksum, text));
+
+const agrees = (checksum, damaged) => {
+  const found = byBruteForce(checksum, damaged);
+  assert.ok(found.length <= 1, damaged);
+  assert.equal(correct(checksum, damaged)?.text ?? null, found[0] ?? null, damaged);
+  return found.length;
+};
+
+test('each double error of a short text is mended as brute force does', (t) => {
+  const [checksum, text] = TEXTS[0];
+  let count = 0, mended = 0;
+  for (const once of changedOnce(text)) {
+    for (const twice of changedOnce(once)) {
+      if (accepts(checksum, twice)) continue;
+      count++;
+      if (count % 7 === 0) mended += agrees(checksum, twice);
+    }
+  }
+  t.diagnostic(`${count} texts, of which every seventh was tried; ${mended} of these have an answer`);
+});
+
+test('double and triple errors of addresses are mended as brute force does', (t) => {
+  const below = numbersFrom(1);
+  let count = 0, mended = 0;
+  for (const [checksum, text] of TEXTS.slice(1)) {
+    for (const errors of [2, 3]) {
+      for (let i = 0; i < 40; i++) {
+        const damaged = changedAt(text, errors, below);
+        count++;
+        mended += agrees(checksum, damaged);
+      }
+    }
+  }
+  t.diagnostic(`${count} texts, ${mended} of which have an answer`);
+});
+
+test('three characters that cannot be read are found, and one of them with one error', () => {
+  const below = numbersFrom(2);
+  for (const [checksum, text] of TEXTS) {
+    const first = text.lastIndexOf('1') + 1;
+    for (let i = 0; i < 300; i++) {
+      const places = [0, 1, 2].map(() => first + below(text.length - first));
+      const filled = Array.from(text, (c, place) => (places.includes(place) ? ALPHABET[below(32)] : c)).join('');
+      assert.equal(correct(checksum, filled, places).text, text);
+      const one = changedAt(text, 1, below), place = places[0];
+      const damaged = `${one.slice(0, place)}q${one.slice(place + 1)}`;
+      assert.equal(correct(checksum, damaged, [place]).text, text);
+    }
+  }
+});
+
+test('places are told in rising order, with those that were right after all', () => {
+  const text = 'a12uel5l';
+  assert.deepEqual(correct('bech32', 'a12uel5q', [4]).changes, [{ place: 4, from: 'e', to: 'e' }, { place: 7, from: 'q', to: 'l' }]);
+  assert.deepEqual(correct('bech32', text, [4]), { text, changes: [] });
+  assert.deepEqual(correct('bech32', text.toUpperCase()), { text, changes: [] });
+  assert.equal(correct('bech32', 'a12uel5q', [0]), null);
+  assert.equal(correct('bech32', 'a12uel5q', [2, 3, 4, 5]), null);
+  assert.throws(() => correct('bech32', text, [8]), RangeError);
+});
+
+const STRING = 'ms10testsxxxxxxxxxxxxxxxxxxxxxxxxxx4nzvca9cmczlw';
+
+test('each single error of a codex32 string is mended, and up to four, and up to eight that cannot be read', (t) => {
+  assert.ok(acceptsCodex32(STRING));
+  let count = 0;
+  for (const damaged of changedOnce(STRING)) {
+    count++;
+    assert.equal(codex32.propose(damaged).text, STRING);
+  }
+  const below = numbersFrom(3);
+  for (let i = 0; i < 500; i++) {
+    const unread = below(9), errors = below(1 + Math.floor((8 - unread) / 2));
+    const places = new Set();
+    while (places.size < unread) places.add(3 + below(STRING.length - 3));
+    const damaged = Array.from(changedAt(STRING, errors, below), (c, place) => (places.has(place) ? '?' : c)).join('');
+    count++;
+    assert.equal(codex32.propose(damaged).text, STRING, damaged);
+  }
+  for (let i = 0; i < 200; i++) {
+    const proposal = codex32.propose(changedAt(STRING, 5, below));
+    count++;
+    if (proposal) assert.ok(acceptsCodex32(proposal.text) && proposal.text !== STRING && proposal.changes.length <= 4);
+  }
+  t.diagnostic(`${count} strings`);
+});

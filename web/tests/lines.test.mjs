@@ -1,0 +1,128 @@
+// The stored lines of the programs b32 and c32, of which the replies come from a model and from the Rust crate: the
+// package replies as the programs do.
+import test from 'node:test';
+import assert from 'node:assert/strict';
+import fs from 'node:fs';
+import { Refused, check, codex32, correct, decode, encode, segwit } from '../out/package/index.js';
+import { bech32Calls, CHECKSUMS } from '../out/package/calls.js';
+import { compiled } from '../out/package/modules.js';
+import { ALPHABET } from './reference.mjs';
+
+const TOP = new URL('../../', import.meta.url);
+const MOST = 4096;
+
+class Reply extends Error {}
+const err = (number) => { throw new Reply(`err ${number}`); };
+
+const linesOf = (file) => {
+  const bytes = fs.readFileSync(new URL(file, TOP));
+  const lines = [];
+  for (let from = 0; from < bytes.length;) {
+    const end = bytes.indexOf(10, from), to = end === -1 ? bytes.length : end;
+    lines.push(bytes.subarray(from, to));
+    from = to + 1;
+  }
+  return lines;
+};
+
+// ---- the words of a line, as the programs read them
+
+const textOf = (line) => {
+  if (line.length > MOST) err(1);
+  try {
+    return new TextDecoder('utf-8', { fatal: true, ignoreBOM: true }).decode(line);
+  } catch {
+    return err(2);
+  }
+};
+const checksumOf = (word) => (Object.hasOwn(CHECKSUMS, word) ? word : err(3));
+const hexOf = (word) => {
+  if (word === '-') return new Uint8Array();
+  return /^(?:[0-9a-f]{2})+$/i.test(word) ? Uint8Array.from(Buffer.from(word, 'hex')) : err(5);
+};
+const hexWord = (bytes) => Buffer.from(bytes).toString('hex') || '-';
+const versionOf = (word) => (/^(?:[0-9]|[12][0-9]|3[01])$/.test(word) ? Number(word) : err(4));
+const locationsOf = (word) => {
+  if (word === undefined) return [];
+  const words = word.split(',');
+  if (!words.every((it) => /^(?:0|[1-9][0-9]{0,3})$/.test(it) && Number(it) <= 1022)) err(4);
+  return words.map(Number);
+};
+const wanted = (words, ...counts) => (counts.includes(words.length) ? words : err(3));
+
+// ---- replies
+
+const calls = bech32Calls(compiled().modules[0]);
+
+// The corrections by locations, as the program takes them: a place of the package has to be one of the text.
+const corrected = (checksum, text, locations) => {
+  const { number, errors, text: mended } = calls.correct(CHECKSUMS[checksum], text, locations);
+  if (number === 34) return 'none';
+  if (number) err(number);
+  return errors.length === 0 ? 'fine' : `ok ${errors.map(({ location, value }) => `${location}:${ALPHABET[value]}`).join(' ')} ${mended}`;
+};
+const correctedByPlaces = (checksum, text, locations) => {
+  if (locations.some((location) => location >= text.length)) return null;
+  const correction = correct(checksum, text, locations.map((location) => text.length - 1 - location));
+  return correction ? correction.text : 'none';
+};
+
+const REPLIES = {
+  encode(words) {
+    const [, checksum, hrp, hex] = wanted(words, 4);
+    return `ok ${encode(checksumOf(checksum), hrp, hexOf(hex))}`;
+  },
+  decode(words) {
+    const { checksum, hrp, bytes } = decode(wanted(words, 2)[1]);
+    check(checksum, words[1]);
+    return `ok ${hrp.toLowerCase()} ${hexWord(bytes)}`;
+  },
+  'segwit-encode'(words) {
+    const [, hrp, version, hex] = wanted(words, 4);
+    const number = versionOf(version);
+    return `ok ${segwit.encode(hrp, number, hexOf(hex))}`;
+  },
+  'segwit-decode'(words) {
+    const { hrp, version, program } = segwit.decode(wanted(words, 2)[1]);
+    return `ok ${hrp.toLowerCase()} ${version} ${hexWord(program)}`;
+  },
+  correct(words) {
+    const [, name, text, given] = wanted(words, 3, 4);
+    const checksum = checksumOf(name), locations = locationsOf(given);
+    const reply = corrected(checksum, text, locations), mended = correctedByPlaces(checksum, text, locations);
+    if (mended !== null) assert.equal(mended, reply === 'fine' ? text.toLowerCase() : reply.split(' ').at(-1), text);
+    return reply;
+  },
+  parse(words) {
+    const { threshold, identifier, shareIndex, payload } = codex32.parse(wanted(words, 2)[1]);
+    return `ok ${threshold} ${identifier} ${shareIndex} ${payload}`;
+  },
+  propose(words) {
+    const proposal = codex32.propose(wanted(words, 2)[1]);
+    return proposal ? `some ${proposal.text}` : 'none';
+  },
+};
+
+const replyTo = (line, commands, count) => {
+  try {
+    const words = textOf(line).split(' ');
+    if (!commands.includes(words[0]) || words.includes('')) err(3);
+    count.called++;
+    return REPLIES[words[0]](words);
+  } catch (error) {
+    if (error instanceof Reply) return error.message;
+    if (error instanceof Refused) return `err ${error.number}`;
+    throw error;
+  }
+};
+
+for (const [program, commands] of [['b32', ['encode', 'decode', 'segwit-encode', 'segwit-decode', 'correct']], ['c32', ['parse', 'propose']]]) {
+  test(`replies to the stored lines of ${program}`, (t) => {
+    const lines = linesOf(`crates/${program}/stdin`), replies = linesOf(`crates/${program}/stdout`);
+    assert.equal(lines.length, replies.length);
+    const count = { called: 0 };
+    lines.forEach((line, i) => assert.equal(replyTo(line, commands, count), replies[i].toString('latin1'), `line ${i + 1}: ${line.toString('latin1')}`));
+    t.diagnostic(`${lines.length} lines, of which ${count.called} have the words of a command`);
+    assert.ok(count.called > lines.length / 2);
+  });
+}

@@ -1,0 +1,109 @@
+// The package as a user takes it: packed, installed in a new folder without network, and its README followed.
+import test from 'node:test';
+import assert from 'node:assert/strict';
+import fs from 'node:fs';
+import os from 'node:os';
+import path from 'node:path';
+import { execFileSync, spawnSync } from 'node:child_process';
+import { fileURLToPath } from 'node:url';
+
+const WEB = fileURLToPath(new URL('..', import.meta.url));
+const PACKAGE = path.join(WEB, 'out', 'package');
+const { name, version } = JSON.parse(fs.readFileSync(path.join(PACKAGE, 'package.json'), 'utf8'));
+const readme = fs.readFileSync(path.join(PACKAGE, 'README.md'), 'utf8');
+
+const has = (program) => spawnSync(program, ['--version']).status === 0;
+
+const inFolder = (body) => {
+  const folder = fs.mkdtempSync(path.join(os.tmpdir(), 'package-'));
+  try {
+    return body(folder);
+  } finally {
+    fs.rmSync(folder, { recursive: true });
+  }
+};
+
+// Installs the package in a folder as its README says.
+const installed = (folder) => {
+  const how = { cwd: folder, stdio: ['ignore', 'pipe', 'pipe'], env: { ...process.env, npm_config_offline: 'true', npm_config_cache: path.join(folder, 'cache'), npm_config_audit: 'false', npm_config_fund: 'false' } };
+  execFileSync('npm', ['pack', '--silent', PACKAGE], how);
+  fs.writeFileSync(path.join(folder, 'package.json'), '{"private":true}');
+  const [command] = readme.match(/(?<=```sh\n)npm install .*/);
+  execFileSync('npm', command.split(' ').slice(1), how);
+};
+
+// A block of code, and the lines that it says it prints.
+const blocks = [...readme.matchAll(/```js\n([^]*?)```/g)].map(([, code]) => ({
+  code, printed: code.split('\n').flatMap((line, i, lines) => {
+    if (!line.startsWith('//')) return [];
+    let first = i;
+    while (lines[first].startsWith('//')) first--;
+    return /console\.log|^\}$/.test(lines[first]) ? [line.slice(3)] : [];
+  }),
+}));
+
+const withNpm = has('npm') ? {} : { skip: 'npm is not installed here, so the package was not installed' };
+
+test('it installs without network, and its README is so', withNpm, () => inFolder((folder) => {
+  installed(folder);
+  assert.ok(blocks.length >= 4);
+  for (const { code, printed } of blocks) {
+    assert.ok(printed.length > 0, code);
+    fs.writeFileSync(path.join(folder, 'example.mjs'), code);
+    const said = execFileSync(process.execPath, [...process.execArgv, 'example.mjs'], { cwd: folder, encoding: 'utf8' });
+    assert.deepEqual(said.trimEnd().split('\n'), printed);
+  }
+  assert.ok(readme.includes(`${name}-${version}.tgz`));
+}));
+
+const USE = `import { encode, decode, check, correct, segwit, codex32, isLowered, Refused, Stopped, type Checksum, type Code, type Correction } from '${name}';
+const checksum: Checksum = decode('a').checksum;
+const text: string = encode(checksum, 'a', new Uint8Array());
+const { hrp, data }: { hrp: string; data: string } = check('bech32', text);
+const found: Correction | null = correct('bech32m', text, new Set([1]));
+const place: number | undefined = found?.changes[0]?.place;
+const version: number = segwit.decode(segwit.encode(hrp, 1, new Uint8Array(2))).version;
+const parts: string = codex32.parse(data).identifier + codex32.propose(text)?.text;
+const lowered: boolean = isLowered;
+try { decode(text); } catch (error) { if (error instanceof Refused) { const code: Code = error.code, at: number | null = error.place; console.log(code, at); } if (error instanceof Stopped) throw error; }
+// @ts-expect-error
+encode('bech33', 'a', new Uint8Array());
+// @ts-expect-error
+decode(5);
+console.log(place, version, parts, lowered);
+`;
+
+const withTypes = withNpm.skip ? withNpm : has('tsc') ? {} : { skip: 'TypeScript (tsc) is not installed here, so the types were not tried' };
+
+test('its types are those of its functions', withTypes, () => inFolder((folder) => {
+  installed(folder);
+  fs.writeFileSync(path.join(folder, 'use.mts'), USE);
+  const ran = spawnSync('tsc', ['--noEmit', '--strict', '--target', 'es2022', '--module', 'nodenext', '--moduleResolution', 'nodenext', 'use.mts'], { cwd: folder, encoding: 'utf8' });
+  assert.equal(ran.status, 0, ran.stdout);
+}));
+
+test('what it exports is what its types name', async () => {
+  const types = fs.readFileSync(path.join(PACKAGE, 'index.d.ts'), 'utf8');
+  const named = [...types.matchAll(/^export (?:class|const|function) (\w+)/gm)].map(([, it]) => it);
+  const exported = Object.keys(await import('../out/package/index.js'));
+  assert.deepEqual(exported.sort(), named.sort());
+  const codes = [...types.slice(0, types.indexOf('class')).matchAll(/'([A-Z0-9_]+)'/g)].map(([, it]) => it);
+  const { CODES } = await import('../out/package/reasons.js');
+  assert.deepEqual(Object.values(CODES).sort(), codes.sort());
+  for (const code of codes) assert.ok(readme.includes(`\`${code}\``), code);
+});
+
+test('the codes are those of the headers', () => {
+  const headers = ['bech32', 'codex32'].map((it) => fs.readFileSync(path.join(WEB, '..', 'include', `${it}.h`), 'utf8')).join('');
+  const numbers = new Map([...headers.matchAll(/#define (?:BECH32|CODEX32)_([A-Z0-9_]+) +(\d+)u/g)].map(([, it, number]) => [it, Number(number)]));
+  return import('../out/package/reasons.js').then(({ CODES }) => {
+    for (const [number, code] of Object.entries(CODES)) assert.equal(numbers.get(code), Number(number), code);
+  });
+});
+
+test('putting it together twice gives the same bytes', () => inFolder((folder) => {
+  execFileSync(process.execPath, [path.join(WEB, 'assemble.mjs'), path.join(WEB, 'out'), folder]);
+  for (const file of ['index.html', ...fs.readdirSync(PACKAGE).map((it) => path.join('package', it))]) {
+    assert.ok(fs.readFileSync(path.join(folder, file)).equals(fs.readFileSync(path.join(WEB, 'out', file))), file);
+  }
+}));

@@ -1,0 +1,332 @@
+// The page in browsers: what is shown for each kind of text, that nothing leaves it, and that a changed byte stops it.
+//
+// PAGE_SCREENS names a folder for screenshots, to be looked at; without it there are none.
+import test from 'node:test';
+import assert from 'node:assert/strict';
+import fs from 'node:fs';
+import http from 'node:http';
+import os from 'node:os';
+import path from 'node:path';
+import { fileURLToPath, pathToFileURL } from 'node:url';
+import { createHash } from 'node:crypto';
+import * as chromium from './browsers/chromium.mjs';
+import * as firefox from './browsers/firefox.mjs';
+import { until } from './browsers/browser.mjs';
+
+const FILE = fileURLToPath(new URL('../out/index.html', import.meta.url));
+const PAGE = pathToFileURL(FILE).href;
+const source = fs.readFileSync(FILE, 'utf8');
+
+const V0 = 'bc1qw508d6qejxtdg4y5r3zarvary0c5xw7kv8f3t4';
+const DAMAGED = 'bc1qw508d6qejxtdg4y5r3zarvaty0c5xw7kv8f3t4';
+const STRING = 'ms10testsxxxxxxxxxxxxxxxxxxxxxxxxxx4nzvca9cmczlw';
+
+// ---- the file
+
+const between = (text, from, to) => text.slice(text.indexOf(from) + from.length, text.indexOf(to, text.indexOf(from)));
+const hash = (text) => createHash('sha256').update(text).digest('base64');
+
+test('the policy allows the script and the style that stand in the file, and nothing else', () => {
+  const policy = between(source, 'Content-Security-Policy" content="', '">');
+  const js = between(source, '<script>', '</script>'), css = between(source, '<style>', '</style>');
+  assert.equal(policy, `default-src 'none'; script-src 'sha256-${hash(js)}' 'wasm-unsafe-eval'; style-src 'sha256-${hash(css)}'; base-uri 'none'; form-action 'none'; require-trusted-types-for 'script'; trusted-types 'none'`);
+  assert.ok(source.indexOf('Content-Security-Policy') < source.indexOf('<style>'));
+});
+
+test('the file names no other, and no address', () => {
+  assert.doesNotMatch(source, /https?:|\/\/[a-z]+\.|<link|<img|<iframe|\bsrc=|\bhref=|innerHTML|localStorage|document\.cookie|location\.hash|history\./);
+});
+
+// ---- in a browser
+
+const TYPED = 'const typed = document.getElementById("typed"); typed.value = arguments[0]; typed.dispatchEvent(new Event("input"));';
+const SHOWN = 'const answer = document.getElementById("answer"); return { text: answer.innerText, wrong: [...answer.querySelectorAll("mark.wrong")].map((it) => it.textContent).join(""), mended: [...answer.querySelectorAll("mark.mended")].map((it) => it.textContent).join(""), codes: [...answer.querySelectorAll("code")].map((it) => it.textContent) };';
+
+const shownFor = async (page, text) => {
+  await page.evaluate(TYPED, text);
+  return page.evaluate(SHOWN);
+};
+
+const KINDS = [
+  ['an address', V0, /This is a right Bech32 address\.[^]*segwit address of Bitcoin/, '', ''],
+  ['an address behind bitcoin:', `BITCOIN:${V0.toUpperCase()}`, /left out[^]*This is a right Bech32 address/, '', ''],
+  ['a payment text', 'a1lqfn3a', /This is a right Bech32m text/, '', ''],
+  ['one wrong character', DAMAGED, /The checksum is wrong[^]*Character 28: “t” becomes “r”\.[^]*A correction is a guess/, 't', 'r'],
+  ['a character that cannot be read', `${V0.slice(0, 27)}?${V0.slice(28)}`, /One character cannot be read\.[^]*which cannot be read, is “r”[^]*A correction is a guess/, '?', 'r'],
+  ['two wrong characters', `${V0.slice(0, 11)}qq${V0.slice(13)}`, /There is no correction/, '', ''],
+  ['a character that is no data', `${V0.slice(0, 27)}b${V0.slice(28)}`, /Character 28, “b”, may not stand/, 'b', 'r'],
+  ['no separator', 'qpzry', /There is no separator “1” in the text\./, '', ''],
+  ['a codex32 string', STRING, /This is a right codex32 string/, '', ''],
+  ['a damaged codex32 string', `${STRING.slice(0, 20)}qq?${STRING.slice(23)}`, /cannot be read[^]*A correction is a guess/, 'qq?', 'xxx'],
+];
+
+const HOSTILE = [
+  ['a text of a megabyte', 'q'.repeat(1 << 20), /has 1,048,576 characters, which is too long/],
+  ['a lone surrogate', 'bc1\ud800qqqqqqqq', /half of a character \(U\+D800\)/],
+  ['a right-to-left mark', `bc1q\u200f${V0.slice(4)}`, /Marks that are not seen were left out: a right-to-left mark \(U\+200F\)/],
+  ['the Kelvin sign', V0.replaceAll('k', '\u212a'), /the Kelvin sign, which looks like K/],
+  ['markup', 'bc1<img src=x onerror="window.ran=1"><script>window.ran=1</script>', /may not stand/],
+  ['markup in a human-readable part', '<script>window.ran=1</script>1qqqqqq', /The checksum is wrong|may not stand|no correction/],
+];
+
+// What a page tries to send, and what a script within it tries to run.
+const LEAK = `
+  const to = arguments[0];
+  const tries = [() => fetch(to + 'fetch').catch(() => {}), () => { new Image().src = to + 'image'; }, () => navigator.sendBeacon(to + 'beacon', 'x'),
+    () => { new WebSocket(to.replace('http', 'ws') + 'socket'); }, () => { new EventSource(to + 'events'); }, () => { const it = new XMLHttpRequest(); it.open('GET', to + 'xhr'); it.send(); },
+    ...['iframe', 'script', 'img'].map((name) => () => { const it = document.createElement(name); it.src = to + name; document.body.append(it); }),
+    () => { const it = document.createElement('link'); it.rel = 'stylesheet'; it.href = to + 'style'; document.head.append(it); },
+    () => { const it = document.createElement('form'); it.action = to + 'form'; it.target = 'elsewhere'; document.body.append(it); it.submit(); }];
+  for (const one of tries) try { one(); } catch {}
+  await new Promise((done) => setTimeout(done, 1500));
+  return tries.length;`;
+const RUN = `
+  const run = [() => { const it = document.createElement('p'); it.setAttribute('onclick', 'window.ran = 1'); document.body.append(it); it.click(); },
+    () => { const it = document.createElement('script'); it.textContent = 'window.ran = 1'; document.body.append(it); }, ...(arguments[0] ? [() => { eval('window.ran = 1'); }, () => { new Function('window.ran = 1')(); }, () => { setTimeout('window.ran = 1', 0); },
+    () => { document.body.innerHTML = '<img src=x onerror="window.ran = 1">'; }] : [])];
+  for (const one of run) try { one(); } catch {}
+  await new Promise((done) => setTimeout(done, 300));
+  return String(window.ran);`;
+
+const withServer = async (body) => {
+  const hits = [];
+  const server = http.createServer((request, response) => {
+    hits.push(request.url);
+    response.end(request.url === '/page' ? '<!doctype html><title>.</title><body>' : '');
+  });
+  server.on('upgrade', (request, socket) => {
+    hits.push(request.url);
+    socket.destroy();
+  });
+  await new Promise((done) => server.listen(0, '127.0.0.1', done));
+  try {
+    await body(`http://127.0.0.1:${server.address().port}/`, hits);
+  } finally {
+    server.closeAllConnections();
+    server.close();
+  }
+};
+
+// The copy of the page with one byte changed, and what is seen of it.
+const withChanged = async (page, at, body) => {
+  const folder = fs.mkdtempSync(path.join(os.tmpdir(), 'changed-'));
+  const file = path.join(folder, 'index.html');
+  const bytes = Buffer.from(source);
+  bytes[at] ^= 1;
+  fs.writeFileSync(file, bytes);
+  try {
+    await page.visit(pathToFileURL(file).href);
+    await body();
+  } finally {
+    fs.rmSync(folder, { recursive: true });
+  }
+};
+const byteOf = (word) => Buffer.from(source).indexOf(word);
+
+const CONTRAST = `
+  const light = (color) => { const parts = color.match(/[\\d.]+/g).slice(0, 3).map((it) => it / 255).map((it) => it <= 0.04045 ? it / 12.92 : ((it + 0.055) / 1.055) ** 2.4); return 0.2126 * parts[0] + 0.7152 * parts[1] + 0.0722 * parts[2]; };
+  const ground = (it) => { for (; it; it = it.parentElement) { const { backgroundColor: color } = getComputedStyle(it); if (!/, 0\\)|transparent/.test(color)) return color; } return 'rgb(255, 255, 255)'; };
+  return [...document.querySelectorAll('h1, label, #help, textarea, button, .verdict, .caution, .offer p, .offer li, code, mark, .column span, summary, footer p')].filter((it) => it.checkVisibility()).map((it) => {
+    const [a, b] = [light(getComputedStyle(it).color), light(ground(it))].sort((x, y) => y - x);
+    return { is: it.tagName + '.' + it.className, ratio: (a + 0.05) / (b + 0.05) };
+  }).filter(({ ratio }) => ratio < 4.5);`;
+
+const screens = process.env.PAGE_SCREENS;
+const pictured = async (page, name) => {
+  if (!screens) return;
+  fs.mkdirSync(screens, { recursive: true });
+  fs.writeFileSync(path.join(screens, `${name}.png`), await page.screenshot());
+};
+
+const inBrowser = (browser, body) => {
+  if (!browser.program) {
+    test(browser.name, { skip: `${browser.name} is not installed here, so the page was not tried in it: apt-get install ${browser.packageName}` }, () => {});
+    return;
+  }
+  test(browser.name, { timeout: 300000 }, async (t) => {
+    const page = await browser.open();
+    t.diagnostic(page.version);
+    try {
+      await body(t, page);
+    } finally {
+      await page.stop();
+    }
+  });
+};
+
+const common = (browser) => async (t, page) => {
+  await page.size(1280, 900);
+  await page.visit(PAGE);
+
+  await t.test('it runs from a disk, and says nothing before there is a text', async () => {
+    assert.equal((await page.evaluate(SHOWN)).text, '');
+  });
+  for (const [kind, text, wanted, wrong, mended] of KINDS) {
+    await t.test(`shows ${kind}`, async () => {
+      const shown = await shownFor(page, text);
+      assert.match(shown.text, wanted);
+      assert.equal(shown.wrong, mended ? wrong : shown.wrong);
+      assert.equal(shown.mended, mended);
+      if (mended) assert.ok([V0, STRING].includes(shown.codes[0]));
+    });
+  }
+  for (const [kind, text, wanted] of HOSTILE) {
+    await t.test(`has a sentence for ${kind}`, async () => {
+      const { text: said } = await shownFor(page, text);
+      assert.match(said, wanted);
+      assert.deepEqual(await page.evaluate('return [String(window.ran), document.querySelectorAll("#answer img, #answer script").length];'), ['undefined', 0]);
+    });
+  }
+  await t.test('keys alone reach everything', async () => {
+    await page.visit(PAGE);
+    const focused = () => page.evaluate('return document.activeElement.id || document.activeElement.tagName;');
+    await page.press('Tab');
+    assert.equal(await focused(), 'typed');
+    await page.type(DAMAGED);
+    assert.match((await page.evaluate(SHOWN)).text, /Character 28/);
+    await page.press('Tab');
+    assert.equal(await focused(), 'clear');
+    await page.press('Enter');
+    assert.deepEqual([await focused(), await page.evaluate('return document.getElementById("typed").value;')], ['typed', '']);
+    assert.equal((await page.evaluate(SHOWN)).text, '');
+    await page.press('Tab');
+    assert.equal(await focused(), 'SUMMARY');
+    await page.press('Enter');
+    assert.ok(await page.evaluate('return document.querySelector("details").open;'));
+  });
+  await t.test('a screen reader is told the answer, once, behind a pause', async () => {
+    await shownFor(page, DAMAGED);
+    const spoken = 'return document.getElementById("spoken").textContent;';
+    assert.equal(await page.evaluate(spoken), '');
+    assert.match(await until(async () => (await page.evaluate(spoken)) || null, 'spoken answer', 5), /^The checksum is wrong.*Character 28: “t” becomes “r”\..*A correction is a guess/);
+    assert.deepEqual(await page.evaluate('const it = document.getElementById("spoken"); return [it.getAttribute("role"), it.getAttribute("aria-live"), document.querySelector(".pair").getAttribute("aria-hidden"), document.querySelector("label").control.id];'), ['status', 'polite', 'true', 'typed']);
+  });
+  await t.test('no text stands in the address, the history or a store', async () => {
+    const before = await page.evaluate('return history.length;');
+    await shownFor(page, STRING);
+    const stored = 'let sizes; try { sizes = [localStorage.length, sessionStorage.length]; } catch { sizes = [0, 0]; } return [location.href, history.length, history.state, document.cookie, ...sizes];';
+    assert.deepEqual(await page.evaluate(stored), [PAGE, before, null, '', 0, 0]);
+  });
+  await t.test('nothing leaves it', () => withServer(async (address, hits) => {
+    await page.visit(`${address}page`);
+    const tries = await page.evaluate(LEAK, address);
+    const seen = hits.filter((url) => !/page|favicon/.test(url)).length;
+    assert.ok(seen >= tries - 1, `a page without a policy sends: ${hits}`);
+    await page.visit(PAGE);
+    hits.length = 0;
+    await shownFor(page, DAMAGED);
+    await page.evaluate(LEAK, address);
+    assert.deepEqual(hits, []);
+  }));
+  await t.test('no other script runs in it', async () => {
+    await page.visit(PAGE);
+    // Marionette runs its scripts outside the page's policy, so what they evaluate themselves shows nothing.
+    assert.equal(await page.evaluate(RUN, browser === chromium), 'undefined');
+  });
+  await t.test('a changed byte stops its script', async () => {
+    for (const word of ['use strict', 'A correction is a guess', 'AGFzbQ']) {
+      const at = byteOf(word) + 1;
+      assert.ok(at > 0, word);
+      await withChanged(page, at, async () => {
+        const { text } = await shownFor(page, DAMAGED);
+        assert.match(text, /^\W*The script of this page did not run/);
+      });
+    }
+    await withChanged(page, byteOf(':root {') + 1, async () => {
+      assert.match((await shownFor(page, V0)).text, /This is a right Bech32 address/);
+      assert.equal(await page.evaluate('return getComputedStyle(document.querySelector("summary")).cursor;') === 'pointer', false);
+    });
+  });
+  for (const [device, width] of [['telephone', 390], ['desk', 1280]]) {
+    await t.test(`it fits the width of a ${device}`, async () => {
+      await page.visit(PAGE);
+      await page.size(width, 900);
+      for (const [kind, text] of [...KINDS, ...HOSTILE.slice(1)]) {
+        await shownFor(page, text);
+        assert.ok(await page.evaluate('return document.documentElement.scrollWidth <= window.innerWidth;'), kind);
+      }
+      assert.deepEqual(await page.evaluate(CONTRAST), []);
+      for (const [name, text] of [['right', V0], ['mended', DAMAGED], ['codex32', KINDS.at(-1)[1]], ['refused', HOSTILE[2][1]]]) {
+        await shownFor(page, text);
+        await pictured(page, `${browser.name}-${device}-light-${name}`);
+      }
+    });
+  }
+};
+
+inBrowser(firefox, common(firefox));
+inBrowser(chromium, async (t, page) => {
+  await common(chromium)(t, page);
+
+  await t.test('it requests nothing but itself', async () => {
+    page.requests.length = 0;
+    await page.visit(PAGE);
+    for (const [, text] of [...KINDS, ...HOSTILE]) await shownFor(page, text);
+    assert.deepEqual(page.requests.filter((url) => !url.startsWith('data:')), [PAGE]);
+  });
+  await t.test('it writes nothing to the console', async () => {
+    page.logged.length = 0;
+    await page.visit(PAGE);
+    for (const [, text] of [...KINDS, ...HOSTILE]) await shownFor(page, text);
+    assert.deepEqual(page.logged, []);
+  });
+  await t.test('the tree of a screen reader has a field with its name, and the answer as text', async () => {
+    await shownFor(page, DAMAGED);
+    const nodes = await page.accessible();
+    assert.ok(nodes.some(({ role, name }) => role === 'textbox' && /^A Bitcoin address/.test(name)));
+    assert.ok(nodes.some(({ role, name }) => role === 'StaticText' && name === V0));
+    assert.ok(nodes.some(({ role, name }) => role === 'heading' && /Bech32, with one character changed/.test(name)));
+    assert.ok(!nodes.some(({ role, name }) => role === 'StaticText' && /^[a-z0-9]$/.test(name)));
+  });
+  await t.test('where a module stops it says so, and the next text has an answer', async () => {
+    const undo = await page.before(`
+      const { Instance } = WebAssembly; let stops = 1;
+      WebAssembly.Instance = function (...given) {
+        const exports = { ...new Instance(...given).exports }, check = exports.bech32_check;
+        if (check) exports.bech32_check = (...all) => { if (stops-- > 0) throw new WebAssembly.RuntimeError('unreachable'); return check(...all); };
+        return { exports };
+      };`);
+    await page.visit(PAGE);
+    assert.match((await shownFor(page, V0)).text, /The library stopped without an answer and was started anew/);
+    assert.match((await shownFor(page, V0)).text, /This is a right Bech32 address/);
+    await undo();
+  });
+  await t.test('without 64-bit memory the lowered modules answer, and it says so', async () => {
+    const memory = 'return document.getElementById("memory").textContent;';
+    await page.visit(PAGE);
+    assert.match(await page.evaluate(memory), /has 64-bit WebAssembly memory/);
+    const undo = await page.before('WebAssembly.validate = () => false;');
+    await page.visit(PAGE);
+    assert.match(await page.evaluate(memory), /lowered to 32 bits\. That step is not proved/);
+    for (const [, text, wanted] of KINDS) assert.match((await shownFor(page, text)).text, wanted);
+    await undo();
+  });
+  await t.test('without WebAssembly it says that it does not run', async () => {
+    const undo = await page.before('delete window.WebAssembly;');
+    await page.visit(PAGE);
+    assert.match((await page.evaluate(SHOWN)).text, /This browser does not run the library/);
+    await undo();
+  });
+});
+
+for (const browser of [firefox, chromium]) {
+  if (!browser.program) continue;
+  test(`${browser.name}, dark`, { timeout: 120000 }, async () => {
+    const page = await browser.open('dark');
+    try {
+      for (const [device, width] of [['telephone', 390], ['desk', 1280]]) {
+        await page.size(width, 900);
+        await page.visit(PAGE);
+        for (const [name, text] of [['right', V0], ['mended', DAMAGED], ['codex32', KINDS.at(-1)[1]], ['refused', HOSTILE[2][1]]]) {
+          await shownFor(page, text);
+          assert.deepEqual(await page.evaluate(CONTRAST), [], name);
+          await pictured(page, `${browser.name}-${device}-dark-${name}`);
+        }
+        const ground = await page.evaluate('return getComputedStyle(document.body).backgroundColor;');
+        assert.equal(ground, 'rgb(22, 22, 22)');
+      }
+    } finally {
+      await page.stop();
+    }
+  });
+}

@@ -1,0 +1,76 @@
+// Bech32, Bech32m and codex32 as the standards define their checksums, over numbers and one bit at a time. It shares
+// nothing with the library or its glue, and is slow.
+export const ALPHABET = 'qpzry9x8gf2tvdw0s3jn54khce6mua7l';
+
+export const TARGETS = { bech32: 1, bech32m: 0x2bc830a3 };
+const GENERATOR = [0x3b6a57b2, 0x26508e6d, 0x1ea119fa, 0x3d4233dd, 0x2a1462b3];
+
+const step = (sum, value) => {
+  const top = sum >>> 25;
+  return GENERATOR.reduce((next, word, bit) => (top >> bit & 1 ? next ^ word : next), (sum & 0x1ffffff) << 5 ^ value);
+};
+const remainder = (values) => values.reduce(step, 1);
+
+/** What a value at a location, of which 0 is the last character, adds to the remainder of a text. */
+export const effectOf = (location, value) => {
+  let sum = value;
+  for (let i = 0; i < location; i++) sum = step(sum, 0);
+  return sum;
+};
+
+const expanded = (hrp) => {
+  const codes = Array.from(hrp.toLowerCase(), (c) => c.charCodeAt(0));
+  return [...codes.map((c) => c >> 5), 0, ...codes.map((c) => c & 31)];
+};
+
+/** Whether a checksum accepts a text in lower case, which is in the grammar. */
+export const accepts = (checksum, text) => {
+  const separator = text.lastIndexOf('1');
+  const data = Array.from(text.slice(separator + 1), (c) => ALPHABET.indexOf(c));
+  return remainder([...expanded(text.slice(0, separator)), ...data]) === TARGETS[checksum];
+};
+
+const CODEX32_GENERATOR = [0x19dc500ce73fde210n, 0x1bfae00def77fe529n, 0x1fbd920fffe7bee52n, 0x1739640bdeee3fdadn, 0x07729a039cfc75f5an];
+const CODEX32_TARGET = 0x10ce0795c2fd1e62an;
+
+/** Whether the codex32 checksum accepts a text in lower case that begins with `ms1`. */
+export const acceptsCodex32 = (text) => {
+  const data = Array.from(text.slice(3), (c) => BigInt(ALPHABET.indexOf(c)));
+  const end = data.reduce((sum, value) => {
+    const top = sum >> 60n;
+    return CODEX32_GENERATOR.reduce((next, word, bit) => (top >> BigInt(bit) & 1n ? next ^ word : next), (sum & 0x0fffffffffffffffn) << 5n ^ value);
+  }, 0x23181b3n);
+  return end === CODEX32_TARGET;
+};
+
+/** A text in lower case with a value added at a location. */
+export const added = (text, { location, value }) => {
+  const place = text.length - 1 - location;
+  return withOther(text, place, ALPHABET[ALPHABET.indexOf(text[place]) ^ value]);
+};
+
+const withOther = (text, place, character) => text.slice(0, place) + character + text.slice(place + 1);
+
+/** The texts that differ from one in the character of one place behind the separator. */
+export function* changedOnce(text) {
+  for (let place = text.lastIndexOf('1') + 1; place < text.length; place++) {
+    for (const character of ALPHABET) if (character !== text[place]) yield withOther(text, place, character);
+  }
+}
+
+/** Numbers below a bound, the same at each run from the same seed. */
+export const numbersFrom = (seed) => {
+  let state = seed >>> 0;
+  return (bound) => {
+    state = Math.imul(state ^ state >>> 15, 0x2c1b3c6d) + 0x9e3779b9 >>> 0;
+    const mixed = Math.imul(state ^ state >>> 12, 0x297a2d39) >>> 0;
+    return (mixed ^ mixed >>> 15) % bound >>> 0;
+  };
+};
+
+/** A text with other characters at some places behind its separator. */
+export const changedAt = (text, count, below) => {
+  const separator = text.lastIndexOf('1'), places = new Set();
+  while (places.size < count) places.add(separator + 1 + below(text.length - separator - 1));
+  return Array.from(text, (c, place) => (places.has(place) ? ALPHABET[(ALPHABET.indexOf(c) + 1 + below(31)) % 32] : c)).join('');
+};

@@ -1,0 +1,144 @@
+// Refusals: a code, a sentence, and the place of the character at fault.
+import test from 'node:test';
+import assert from 'node:assert/strict';
+import fs from 'node:fs';
+import { Refused, check, codex32, correct, decode, encode, segwit } from '../out/package/index.js';
+import { ALPHABET } from './reference.mjs';
+
+const refusal = (call) => {
+  try {
+    call();
+  } catch (error) {
+    assert.ok(error instanceof Refused, String(error));
+    assert.ok(error instanceof Error && error.name === 'Refused');
+    return [error.code, error.place, error.message];
+  }
+  return assert.fail('nothing was refused');
+};
+
+const LETTERS = 'letters and digits may, but not 1, b, i and o.';
+const LONG = 'q'.repeat(1017);
+
+const CASES = [
+  [() => decode(''), 'NO_SEPARATOR', null, 'There is no separator “1” in the text.'],
+  [() => decode('qpzry'), 'NO_SEPARATOR', null, 'There is no separator “1” in the text.'],
+  [() => decode('1qqqqqq'), 'HRP_EMPTY', 0, 'Nothing stands before the separator “1”: the human-readable part is missing.'],
+  [() => decode(`${'x'.repeat(84)}1qqqqqq`), 'HRP_TOO_LONG', 83, 'The human-readable part, before the last “1”, has 84 characters; it has at most 83.'],
+  [() => decode('aé1qqqqqq'), 'HRP_NOT_ASCII', 1, 'Character 2, U+00E9, is not ASCII, and stands in the human-readable part, before the last “1”.'],
+  [() => decode('a b1qqqqqq'), 'HRP_INVALID', 1, 'Character 2, a space (U+0020), may not stand in the human-readable part, before the last “1”.'],
+  [() => decode('a12uelb5l'), 'INVALID_CHARACTER', 6, `Character 7, “b”, may not stand behind the last “1”: ${LETTERS}`],
+  [() => decode('abc'), 'INVALID_CHARACTER', 1, `Character 2, “b”, may not stand here, and no separator “1” stands before it: ${LETTERS}`],
+  [() => decode('A12uel5l'), 'MIXED_CASE', 3, 'Character 4, “u”, is a lower-case letter, and an upper-case one stands before it: all letters have one case.'],
+  [() => decode('a12Uel5l'), 'MIXED_CASE', 3, 'Character 4, “U”, is an upper-case letter, and a lower-case one stands before it: all letters have one case.'],
+  [() => decode(`a1${LONG}qqqqq`), 'TEXT_TOO_LONG', 1023, 'The text has 1,024 characters; a text has at most 1,023.'],
+  [() => decode('a1qqqqq'), 'NO_CHECKSUM', 1, '5 characters stand behind the last “1”; the checksum alone has six.'],
+  [() => decode('a1q'), 'NO_CHECKSUM', 1, 'One character stands behind the last “1”; the checksum alone has six.'],
+  [() => decode('a1'), 'NO_CHECKSUM', 1, 'No character stands behind the last “1”; the checksum alone has six.'],
+  [() => decode('a12uel5q'), 'WRONG_CHECKSUM', null, 'The checksum is wrong.'],
+  [() => check('bech32m', 'a12uel5l'), 'WRONG_CHECKSUM', null, 'The Bech32m checksum is wrong.'],
+  [() => correct('bech32', 'a12uelb'), 'INVALID_CHARACTER', 6, `Character 7, “b”, may not stand behind the last “1”: ${LETTERS}`],
+  [() => encode('bech32', '', new Uint8Array()), 'HRP_EMPTY', 0, 'Nothing stands before the separator “1”: the human-readable part is missing.'],
+  [() => encode('bech32', 'aB', new Uint8Array()), 'HRP_MIXED_CASE', 1, 'Character 2, “B”, is an upper-case letter, and a lower-case one stands before it: all letters have one case.'],
+  [() => encode('bech32', 'a', new Uint8Array(635)), 'ENCODED_TOO_LONG', null, 'The text would have 1,024 characters; a text has at most 1,023.'],
+  [() => encode('bech32', 'a', new Uint8Array(1 << 20)), 'ENCODED_TOO_LONG', null, 'The text would have 1,677,730 characters; a text has at most 1,023.'],
+  [() => segwit.decode(`bc1${'q'.repeat(88)}`), 'ADDRESS_TOO_LONG', 90, 'The text has 91 characters; an address has at most 90.'],
+  [() => segwit.decode(`${'é'.repeat(50)}1qqqqqq`), 'ADDRESS_TOO_LONG', 45, 'The text has 107 bytes; an address has at most 90.'],
+  [() => segwit.decode('bc1'), 'NO_DATA', 2, 'No witness version stands between the last “1” and the checksum.'],
+  [() => segwit.decode(encode('bech32m', 'c', new Uint8Array())), 'NO_DATA', 1, 'No witness version stands between the last “1” and the checksum.'],
+  [() => segwit.decode('BC130XLXVLHEMJA6C4DQV22UAPCTQUPFHLXM9H8Z3K2E72Q4K9HCZ7VQ7ZWS8R'), 'BAD_VERSION', 3, 'Character 4, “3”, is the witness version 17; versions are from 0 to 16.'],
+  [() => segwit.decode('bc1qw508d6qejxtdg4y5r3zarvary0c5xw7kv8f3t5'), 'WRONG_CHECKSUM', null, 'The checksum is wrong: an address of version 0 has a Bech32 checksum.'],
+  [() => segwit.decode('bc1p0xlxvlhemja6c4dqv22uapctqupfhlxm9h8z3k2e72q4k9hcz7vqh2y7hd'), 'WRONG_CHECKSUM', null, 'The checksum is wrong: an address of version 1 has a Bech32m checksum.'],
+  [() => segwit.decode('bc1p0xlxvlhemja6c4dqv22uapctqupfhlxm9h8z3k2e72q4k9hcz7v07qwwzcrf'), 'PADDING_TOO_LONG', 57, 'Character 58, “q”, the last one before the checksum, is one too many: 6 bits stand behind the last whole byte of the program, and at most four may.'],
+  [() => segwit.decode('tb1p0xlxvlhemja6c4dqv22uapctqupfhlxm9h8z3k2e72q4k9hcz7vpggkg4j'), 'PADDING_NOT_ZERO', 55, 'Character 56, “p”, the last one before the checksum, has bits behind the last whole byte of the program that are not zero.'],
+  [() => segwit.decode('bc1pw5dgrnzv'), 'PROGRAM_TOO_SHORT', null, 'The program has 1 byte; it has at least 2.'],
+  [() => segwit.decode('bc1p0xlxvlhemja6c4dqv22uapctqupfhlxm9h8z3k2e72q4k9hcz7v8n0nx0muaewav253zgeav'), 'PROGRAM_TOO_LONG', null, 'The program has 41 bytes; it has at most 40.'],
+  [() => segwit.decode('BC1QR508D6QEJXTDG4Y5R3ZARVARYV98GJ9P'), 'PROGRAM_NOT_V0', null, 'The program has 16 bytes; in version 0 it has 20 or 32.'],
+  [() => segwit.encode('bc', 17, new Uint8Array(2)), 'ENCODED_BAD_VERSION', null, 'The witness version is 17; versions are from 0 to 16.'],
+  [() => segwit.encode('bc', 1, new Uint8Array(1)), 'PROGRAM_TOO_SHORT', null, 'The program has 1 byte; it has at least 2.'],
+  [() => segwit.encode('bc', 1, new Uint8Array(5000)), 'PROGRAM_TOO_LONG', null, 'The program has 5,000 bytes; it has at most 40.'],
+  [() => segwit.encode('bc', 0, new Uint8Array(21)), 'PROGRAM_NOT_V0', null, 'The program has 21 bytes; in version 0 it has 20 or 32.'],
+  [() => segwit.encode('x'.repeat(83), 1, new Uint8Array(2)), 'ENCODED_ADDRESS_TOO_LONG', null, 'The address would have 95 characters; an address has at most 90.'],
+  [() => codex32.parse('mt10testsxxxxxxxxxxxxxxxxxxxxxxxxxx4nzvca9cmczlw'), 'NOT_MS', 1, 'The text begins with “mt1”; a codex32 string begins with “ms1”.'],
+  [() => codex32.parse('ms10testsxxxxxxxxxxxxxxxxxxxxxxxxxx4nzvca9cmczl'), 'BAD_LENGTH', null, 'The text has 47 characters; a codex32 string has from 48 to 93.'],
+  [() => codex32.parse(`ms1${'q'.repeat(122)}`), 'BAD_LENGTH', 93, 'The text has 125 characters; a codex32 string has from 48 to 93. The long codex32 strings, of 125 to 127 characters, are not read here.'],
+  [() => codex32.parse('ms10testsxxxxxxxxxxxxxxxxxxxxxxxxxx4nzvca9cmczlq'), 'WRONG_CHECKSUM', null, 'The checksum is wrong.'],
+  [() => codex32.parse('ms1qtestsxxxxxxxxxxxxxxxxxxxxxxxxxxq68ksv56lmaq5'), 'BAD_THRESHOLD', 3, 'Character 4, “q”, is no threshold, which is 0 or a digit from 2 to 9.'],
+  [() => codex32.parse('ms10testaxxxxxxxxxxxxxxxxxxxxxxxxxxzd568kp774rau'), 'BAD_SHARE_INDEX', 8, 'Character 9, “a”, is no share index of the threshold 0, which is s.'],
+  [() => codex32.propose('ms10tests??b'), 'INVALID_CHARACTER', 11, `Character 12, “b”, may not stand behind the last “1”: ${LETTERS}`],
+  [() => codex32.propose('ms?'), 'INVALID_CHARACTER', 2, `Character 3, “?”, may not stand here, and no separator “1” stands before it: ${LETTERS}`],
+];
+
+for (const [call, ...wanted] of CASES) test(`${wanted[0]}: ${String(call).slice(6, 80)}`, () => assert.deepEqual(refusal(call), wanted));
+
+test('what looks like a character and is another', () => {
+  const sentence = (text) => refusal(() => decode(text))[2];
+  assert.match(sentence('bc1qw508d6qejxtdg4y5r3zarvary0c5xw7\u212av8f3t4'), /^Character 36, the Kelvin sign, which looks like K \(U\+212A\), may not stand/);
+  assert.match(sentence('a12uel\u200f5l'), /^Character 7, a right-to-left mark \(U\+200F\), may not stand/);
+  assert.match(sentence('a12uel\ud8005l'), /^Character 7, half of a character \(U\+D800\), may not stand/);
+  assert.match(sentence('\ud8001qqqqqq'), /^Character 1, half of a character \(U\+D800\), is not ASCII/);
+  assert.match(sentence('a1😀q\u202e'), /^Character 5, a mark of direction \(U\+202E\)/);
+  assert.match(sentence('a12uel5l<script>alert(1)</script>'), /^Character 33, “>”, may not stand/);
+  assert.equal(refusal(() => decode('a1😀q\u202e'))[1], 5);
+});
+
+test('texts of a megabyte', () => {
+  const long = 'q'.repeat(1 << 20);
+  assert.equal(refusal(() => decode(long))[2], 'The text has 1,048,576 characters; a text has at most 1,023.');
+  assert.equal(refusal(() => check('bech32', long))[0], 'TEXT_TOO_LONG');
+  assert.equal(refusal(() => correct('bech32', long))[0], 'TEXT_TOO_LONG');
+  assert.equal(refusal(() => segwit.decode(long))[0], 'ADDRESS_TOO_LONG');
+  assert.equal(refusal(() => codex32.parse(long))[0], 'BAD_LENGTH');
+  assert.equal(refusal(() => codex32.propose(long))[0], 'BAD_LENGTH');
+  assert.equal(refusal(() => encode('bech32', long, new Uint8Array()))[0], 'HRP_TOO_LONG');
+  assert.equal(refusal(() => decode('\u{1f600}'.repeat(1 << 18)))[2], 'The text has 1,048,576 bytes; a text has at most 1,023.');
+});
+
+test('values of another type', () => {
+  for (const call of [() => decode(5), () => decode(), () => check('bech32', null), () => check('bech33', 'a'), () => check('toString', 'a'),
+    () => correct(1, 'a'), () => encode('bech32', 'a', [1]), () => encode('bech32', 1, new Uint8Array()), () => segwit.encode('bc', 0, 'x'),
+    () => codex32.parse(undefined), () => codex32.propose({})]) assert.throws(call, TypeError);
+  for (const call of [() => segwit.encode('bc', 32, new Uint8Array(2)), () => segwit.encode('bc', 0.5, new Uint8Array(2)), () => segwit.encode('bc', -1, new Uint8Array(2)),
+    () => correct('bech32', 'a12uel5l', [-1]), () => correct('bech32', 'a12uel5l', [0.5]), () => correct('bech32', 'a12uel5l', ['1'])]) assert.throws(call, RangeError);
+});
+
+// ---- all stored lines: the place is that of a character at fault
+
+const isData = (c) => c.length === 1 && ALPHABET.includes(c.toLowerCase());
+const HAS_FAULT = {
+  11: (text, place) => place === 0 && text.lastIndexOf('1') === 0,
+  12: (text, place) => place <= 83 && place < text.lastIndexOf('1'),
+  13: (text, place) => text.charCodeAt(place) > 127 && place < text.lastIndexOf('1'),
+  14: (text, place) => !/[!-~]/.test(text[place]) && place < text.lastIndexOf('1'),
+  21: (text, place) => !isData(text[place]) && Array.from(text.slice(place + 1)).every((c, i) => isData(c) || (i === 0 && /[\udc00-\udfff]/.test(c))),
+  22: (text, place) => (/[A-Z]/.test(text[place]) ? /[a-z]/ : /[a-z]/.test(text[place]) ? /[A-Z]/ : /$^/).test(text.slice(0, place)),
+  31: (text, place) => place === 1023,
+  32: (text, place) => text[place] === '1' && text.length - place <= 6,
+  41: (text, place) => place <= 90,
+  42: (text, place) => text[place] === '1',
+  43: (text, place) => text[place - 1] === '1' && ALPHABET.indexOf(text[place].toLowerCase()) > 16,
+  44: (text, place) => place === text.length - 7, 45: (text, place) => place === text.length - 7,
+  81: (text, place) => text[place].toLowerCase() !== 'ms1'[place],
+  83: (text, place) => place === 3, 84: (text, place) => place === 8,
+};
+const NO_PLACE = new Set([23, 33, 46, 47, 48]);
+
+test('the place of each refusal of the stored lines', (t) => {
+  const calls = { decode, 'segwit-decode': segwit.decode, parse: codex32.parse };
+  const seen = {};
+  for (const program of ['b32', 'c32']) {
+    for (const line of fs.readFileSync(new URL(`../../crates/${program}/stdin`, import.meta.url), 'utf8').split('\n')) {
+      const [command, text] = line.split(' ');
+      if (!calls[command] || text === undefined) continue;
+      try {
+        calls[command](text);
+      } catch (error) {
+        const { number, place, message } = error;
+        seen[number] = (seen[number] ?? 0) + 1;
+        assert.doesNotMatch(message, /undefined|NaN|null|number/, message);
+        if (place === null) assert.ok(NO_PLACE.has(number) || (number === 82 && text.length < 48), `${number} ${text}`);
+        else assert.ok(number === 82 ? place === 93 : HAS_FAULT[number](text, place), `${number} at ${place} of ${text}`);
+      }
+    }
+  }
+  t.diagnostic(`refusals by number: ${JSON.stringify(seen)}`);
+});
