@@ -25,11 +25,13 @@ const withInstances = (body, changed = (exports) => exports) => {
 };
 
 const memoryOf = ({ memory }) => Buffer.from(memory.buffer);
-const freshMemory = (module) => memoryOf(new WebAssembly.Instance(module, {}).exports);
+
+// The memory of each module as it is at first.
+const FRESH = modules.map((module) => memoryOf(new WebAssembly.Instance(module, {}).exports));
 
 test('a codex32 string is wiped from the memory after each call', () => withInstances((started) => {
   const { codex32 } = library(...modules);
-  const fresh = freshMemory(modules[1]);
+  const fresh = FRESH[1];
   const inMemory = () => memoryOf(started[1]);
   assert.ok(inMemory().equals(fresh));
   const texts = [STRING, STRING.toUpperCase(), `${STRING.slice(0, -1)}q`, `${STRING.slice(0, -3)}???`, `${STRING.slice(0, 20)}qqqqqqqq${STRING.slice(28)}`,
@@ -50,7 +52,7 @@ test('a codex32 string is wiped from the memory after each call', () => withInst
 
 test('wipe leaves the memory of the other module as it was at first', () => withInstances((started) => {
   const it = library(...modules);
-  const fresh = freshMemory(modules[0]);
+  const fresh = FRESH[0];
   it.correct('bech32', `${ADDRESS.slice(0, -1)}q`);
   assert.ok(!memoryOf(started[0]).equals(fresh));
   it.wipe();
@@ -75,7 +77,7 @@ test('a codex32 string is wiped where the call stops', () => {
     assert.throws(() => codex32.propose(STRING), Stopped);
     assert.equal(started.length, 3);
     assert.ok(memoryOf(started[1]).every((byte) => byte === 0));
-    assert.ok(memoryOf(started[2]).equals(freshMemory(modules[1])));
+    assert.ok(memoryOf(started[2]).equals(FRESH[1]));
     assert.equal(codex32.propose(`${STRING.slice(0, -1)}?`).text, STRING);
   }, (exports) => {
     const { codex32_propose: propose } = exports;

@@ -246,7 +246,7 @@ const common = (browser) => async (t, page) => {
         assert.ok(await page.evaluate('return document.documentElement.scrollWidth <= window.innerWidth;'), kind);
       }
       assert.deepEqual(await page.evaluate(CONTRAST), []);
-      for (const [name, text] of [['right', V0], ['mended', DAMAGED], ['codex32', KINDS.at(-1)[1]], ['refused', HOSTILE[2][1]]]) {
+      for (const [name, text] of [['right', V0], ['mended', DAMAGED], ['codex32', KINDS.at(-1)[1]], ['refused', HOSTILE[4][1]]]) {
         await shownFor(page, text);
         await pictured(page, `${browser.name}-${device}-light-${name}`);
       }
@@ -317,7 +317,7 @@ for (const browser of [firefox, chromium]) {
       for (const [device, width] of [['telephone', 390], ['desk', 1280]]) {
         await page.size(width, 900);
         await page.visit(PAGE);
-        for (const [name, text] of [['right', V0], ['mended', DAMAGED], ['codex32', KINDS.at(-1)[1]], ['refused', HOSTILE[2][1]]]) {
+        for (const [name, text] of [['right', V0], ['mended', DAMAGED], ['codex32', KINDS.at(-1)[1]], ['refused', HOSTILE[4][1]]]) {
           await shownFor(page, text);
           assert.deepEqual(await page.evaluate(CONTRAST), [], name);
           await pictured(page, `${browser.name}-${device}-dark-${name}`);
