@@ -1,2 +1,3 @@
 pub mod Coefficients
+pub mod Shown
 pub mod Sums

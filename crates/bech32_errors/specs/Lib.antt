@@ -1,2 +1,3 @@
 pub mod ResidueRows
+pub mod ResidueText
 pub mod SegwitRules

@@ -4,6 +4,7 @@ ghost use Rattle.std.specs.Prelude.{◌≡◌, ◌<◌, ◌*◌, ◌^◌, ℕ, l
 ghost use Rattle.bech32_gf.specs.Fe32.{ops};
 ghost use Rattle.bech32_poly.specs.Polynomial.{add, coefficient};
 ghost use Rattle.bech32_checksum.specs.Packed.{digit_of};
+ghost use Rattle.bech32_errors.specs.ResidueText.{shown};
 
 use bech32_checksum::PackedFe32;
 use bech32_gf::gf32::Fe32;
@@ -44,20 +45,33 @@ impl Residue {
         }
         digits
     }
+
+    // The coefficients up to the highest that is not zero, and one of zero.
+    fn shown(&self) -> &[Fe32]
+        ensures { result.now ≡ shown self.now.digits }
+    {
+        let mut shown = 1;
+        for i in 0..MAX_DEGREE {
+            shown = if self.digits[i] == Fe32::Q {
+                shown
+            } else {
+                i + 1
+            };
+        }
+        &self.digits[..shown]
+    }
 }
 
 /// Shows the characters of the coefficients, the constant term first, up to the highest that is not
 /// zero, and `q` for zero.
 impl fmt::Display for Residue {
+    ghost use Rattle.std.specs.Prelude.{Some};
+    ghost use Rattle.bech32_errors.specs.ResidueText.{residue_text};
+
+    ghost output = { λ r. Some (residue_text r.digits) };
+
     fn fmt<W: fmt::Write>(&self, f: &mut fmt::Formatter<W>) -> fmt::Result {
-        let zeros = self
-            .digits
-            .iter()
-            .rev()
-            .take_while(|digit| **digit == Fe32::Q)
-            .count();
-        let shown = MAX_DEGREE.saturating_sub(zeros).max(1);
-        for digit in self.digits.iter().take(shown) {
+        for digit in self.shown() {
             f.write_char(digit.to_char())?;
         }
         Ok(())
