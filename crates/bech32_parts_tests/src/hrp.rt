@@ -2,6 +2,7 @@ use crate::compare::{same, same_items};
 use bech32_hrp::{BC, BCRT, Error, Hrp, TB};
 use std::alloc::{AllocError, Global};
 use std::cmp::Ordering;
+use std::fmt;
 use std::hash::{DefaultHasher, Hash, Hasher};
 use std::process::Abort;
 use std::test::Fail;
@@ -88,6 +89,26 @@ fn keeps_the_parsed_case(rt: HostRuntime) -> Result<(), Fail> {
     Ok(())
 }
 
+// Fails where one of the 83 fronts of a text shows otherwise than it is written.
+fn shows_each_front(rt: &impl Abort, alloc: Global, text: &str) {
+    let mut front = String::from_str(alloc, text).expect(rt, "memory");
+    for _ in 0..83 {
+        let shown = message(alloc, &part(rt, &front)).expect(rt, "memory");
+        same(rt, &shown, &front);
+        front.pop();
+    }
+}
+
+#[test]
+fn shows_parts_of_each_length(rt: HostRuntime) {
+    for text in [
+        "an83characterlonghumanreadablepartthatcontainsthetheexcludedcharactersbioandnumber1",
+        "AN83CHARACTERLONGHUMANREADABLEPARTTHATCONTAINSTHETHEEXCLUDEDCHARACTERSBIOANDNUMBER1",
+    ] {
+        shows_each_front(&rt, rt.alloc(), text);
+    }
+}
+
 #[test]
 fn compares_without_case(rt: HostRuntime) {
     let (upper, lower) = (part(&rt, "A"), part(&rt, "a"));
@@ -125,8 +146,8 @@ fn knows_the_networks(rt: HostRuntime) {
     }
 }
 
-fn message(alloc: Global, error: Error) -> Result<String, AllocError> {
-    format!(in alloc; "{error}")
+fn message<T: fmt::Display>(alloc: Global, value: &T) -> Result<String, AllocError> {
+    format!(in alloc; "{value}")
 }
 
 #[test]
@@ -145,7 +166,7 @@ fn tells_the_fault(rt: HostRuntime) -> Result<(), Fail> {
         (Error::MixedCase, "hrp cannot mix upper and lower case"),
         (Error::Fmt, "formatting failed"),
     ] {
-        same(&rt, &message(rt.alloc(), error)?.as_str(), &want);
+        same(&rt, &message(rt.alloc(), &error)?.as_str(), &want);
     }
     Ok(())
 }
