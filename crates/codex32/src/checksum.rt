@@ -6,9 +6,8 @@ ghost use Rattle.bech32_gf_ext.specs.Fe1024.{pair};
 ghost use Rattle.codex32.specs.Code.{codex32};
 ghost use Rattle.codex32.specs.laws.CodeLaws as codes;
 
-use bech32_checksum::Checksum;
-use bech32_gf::gf32::Fe32;
-use bech32_gf_ext::{Fe32Ext, Fe1024};
+use bech32::primitives::gf32_ext::Fe32Ext;
+use bech32::{Checksum, Fe32, Fe1024};
 
 /// The checksum of codex32: degree 13, for texts of at most 93 characters (BIP-93, Checksum). Four
 /// wrong characters, or eight that cannot be read, have one correction.

@@ -12,9 +12,8 @@ ghost use Rattle.codex32.specs.Strings.{frame_refusal};
 use crate::error::Codex32Error;
 use crate::frame::{framed, validate_outline};
 use crate::unreadable::read_char;
-use bech32_errors::{CharError, UncheckedHrpstringError};
-use bech32_gf::gf32::Fe32;
-use bech32_hrp::Hrp;
+use bech32::primitives::decode::{CharError, UncheckedHrpstringError};
+use bech32::{Fe32, Hrp};
 
 // Whether a character, as it is read, may stand in a data part.
 fn is_data_character(c: char) -> bool

@@ -1,6 +1,6 @@
 //! Why texts are refused.
 
-use bech32_errors::{ChecksumError, UncheckedHrpstringError};
+use bech32::primitives::decode::{ChecksumError, UncheckedHrpstringError};
 use std::alloc::AllocError;
 use thiserror::Error;
 

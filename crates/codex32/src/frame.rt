@@ -7,7 +7,7 @@ ghost use Rattle.bech32_decode.specs.Text.{IsText};
 ghost use Rattle.codex32.specs.Strings.{frame_refusal, is_ms, is_within, length_fault, part_fault};
 
 use crate::error::Codex32Error;
-use bech32_decode::UncheckedHrpstring;
+use bech32::primitives::decode::UncheckedHrpstring;
 
 // Whether a text may have so many characters.
 fn has_length(count: usize) -> bool

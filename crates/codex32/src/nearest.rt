@@ -18,9 +18,9 @@ use crate::damaged::validate_damaged;
 use crate::error::Codex32Error;
 use crate::frame::framed;
 use crate::unreadable::{read_in, unreadable_in};
-use bech32_corrector::{CorrectableError, Corrector, ErrorIterator};
-use bech32_decode::UncheckedHrpstring;
-use bech32_gf::gf32::Fe32;
+use bech32::Fe32;
+use bech32::primitives::correction::{CorrectableError, Corrector, ErrorIterator};
+use bech32::primitives::decode::UncheckedHrpstring;
 use bech32_mended::mend;
 use std::alloc::{AllocError, Allocator, Global};
 
