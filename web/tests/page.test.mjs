@@ -76,7 +76,7 @@ const LEAK = `
     () => { new WebSocket(to.replace('http', 'ws') + 'socket'); }, () => { new EventSource(to + 'events'); }, () => { const it = new XMLHttpRequest(); it.open('GET', to + 'xhr'); it.send(); },
     ...['iframe', 'script', 'img'].map((name) => () => { const it = document.createElement(name); it.src = to + name; document.body.append(it); }),
     () => { const it = document.createElement('link'); it.rel = 'stylesheet'; it.href = to + 'style'; document.head.append(it); },
-    () => { const it = document.createElement('form'); it.action = to + 'form'; it.target = 'elsewhere'; document.body.append(it); it.submit(); }];
+    () => { const frame = document.createElement('iframe'), it = document.createElement('form'); frame.name = it.target = 'frame'; it.action = to + 'form'; document.body.append(frame, it); it.submit(); }];
   for (const one of tries) try { one(); } catch {}
   await new Promise((done) => setTimeout(done, 1500));
   return tries.length;`;

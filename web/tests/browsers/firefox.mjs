@@ -72,7 +72,11 @@ export const open = async (colors = 'light') => {
       await stop();
     },
     visit: (url) => call('WebDriver:Navigate', { url }),
-    size: (width, height) => call('WebDriver:SetWindowRect', { width, height }),
+    /** The width is that of the window, and no less than Firefox allows, which is some 500 pixels. */
+    async size(width, height) {
+      await call('WebDriver:SetWindowRect', { width, height });
+      await until(async () => Math.abs(await evaluate('return window.innerWidth;') - width) < 130, `window of ${width} pixels`, 10);
+    },
     async type(text) {
       const { value: element } = await call('WebDriver:GetActiveElement');
       await call('WebDriver:ElementSendKeys', { id: Object.values(element)[0], text });
