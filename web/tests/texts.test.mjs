@@ -1,0 +1,45 @@
+// Texts and addresses of every size, written and read.
+import test from 'node:test';
+import assert from 'node:assert/strict';
+import { check, decode, encode, segwit } from '../out/package/index.js';
+import { accepts, numbersFrom } from './reference.mjs';
+
+const below = numbersFrom(5);
+const random = (length) => Uint8Array.from({ length }, () => below(256));
+
+test('texts of every length are written and read', () => {
+  for (const checksum of ['bech32', 'bech32m']) {
+    for (let length = 0; length <= 634; length++) {
+      const bytes = random(length), text = encode(checksum, 'a', bytes);
+      assert.ok(accepts(checksum, text));
+      assert.equal(text.length, 8 + Math.ceil((8 * length) / 5));
+      assert.deepEqual(decode(text), { checksum, hrp: 'a', bytes });
+      assert.equal(check(checksum, text).data, text.slice(2, -6));
+    }
+  }
+});
+
+test('human-readable parts of every length are written and read', () => {
+  for (let length = 1; length <= 83; length++) {
+    const hrp = Array.from({ length }, () => String.fromCharCode(33 + below(94))).join('');
+    const text = encode('bech32m', hrp.toUpperCase(), Uint8Array.of(7));
+    assert.deepEqual(decode(text.toUpperCase()), { checksum: 'bech32m', hrp: hrp.toUpperCase(), bytes: Uint8Array.of(7) });
+    assert.equal(decode(text).hrp, hrp.toLowerCase());
+  }
+});
+
+test('addresses of every version and length are written and read', () => {
+  for (let version = 0; version <= 16; version++) {
+    for (const length of version === 0 ? [20, 32] : Array.from({ length: 39 }, (_, i) => 2 + i)) {
+      const program = random(length), text = segwit.encode('bc', version, program);
+      assert.ok(accepts(version === 0 ? 'bech32' : 'bech32m', text));
+      assert.deepEqual(segwit.decode(text), { hrp: 'bc', version, program });
+    }
+  }
+});
+
+test('what a call returns is no part of the memory of the module', () => {
+  const { bytes } = decode(encode('bech32', 'a', Uint8Array.of(1, 2, 3)));
+  decode(encode('bech32', 'b', Uint8Array.of(4, 5, 6)));
+  assert.deepEqual(bytes, Uint8Array.of(1, 2, 3));
+});
