@@ -4,3 +4,4 @@ pub mod ByteCuts
 pub mod ListSources
 pub mod PlainCuts
 pub mod RoundTrip
+pub mod WholeGroups

@@ -13,6 +13,7 @@ ghost use Rattle.bech32_bits.specs.SizeHints.{hint_map, FollowsHint};
 ghost use Rattle.bech32_bits.specs.Walks.{EachWalkGives, EachRunGives};
 ghost use Rattle.bech32_bits.specs.Bits.{bits, fe_bits, cut_bytes, to_fes, to_bytes, fes_count, count_bytes};
 
+pub mod groups;
 pub mod hints;
 pub mod plain;
 
