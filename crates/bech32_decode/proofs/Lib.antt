@@ -1,6 +1,7 @@
 pub mod Addresses
 pub mod ByteWalks
 pub mod Checksums
+pub mod DataBytes
 pub mod DataEnds
 pub mod Decoding
 pub mod Distances

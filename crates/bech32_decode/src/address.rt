@@ -1,12 +1,13 @@
 //! A text that is a segwit address.
 
-ghost use Rattle.std.specs.Prelude.{◌≡◌, ◌↔◌, ◌⊎◌, codes, true, MatchResult, IfOk, IfErr, IsOk, IsTrue};
+ghost use Rattle.std.specs.Prelude.{◌≡◌, ◌↔◌, ◌≤◌, ◌⊎◌, ◌++◌, codes, true, length, drop, MatchResult, IfOk, IfErr, IsOk, IsTrue};
 ghost use Rattle.bech32_checksum.specs.Code.{bech32};
 ghost use Rattle.bech32_hrp.specs.HrpBytes.{lowered_bytes};
 ghost use Rattle.bech32_gf.specs.Alphabet.{is_data};
 ghost use Rattle.bech32_decode.specs.Readers.{bytes_to_come};
 
 use crate::byte_reader::ByteIter;
+use crate::data_bytes::put_data_bytes;
 use crate::unchecked::UncheckedHrpstring;
 use crate::version::first_version;
 use bech32_checksum::{Bech32, Bech32m, Checksum};
@@ -152,5 +153,16 @@ impl<'s> SegwitHrpstring<'s> {
         ensures { bytes_to_come result ≡ address_program self.now }
     {
         ByteIter::new(self.ascii)
+    }
+
+    /// Puts the bytes of the program, those of [`Self::byte_iter`], at the front of a buffer that
+    /// has room for them, and answers how many they are.
+    #[inline]
+    pub fn put_program(&self, buffer: &mut [u8]) -> usize
+        requires { length (address_program self.now) ≤ length buffer.old }
+        ensures count { result ≡ length (address_program self.now) }
+        ensures buffer { buffer.new ≡ address_program self.now ++ drop result buffer.old }
+    {
+        put_data_bytes(self.ascii, buffer)
     }
 }

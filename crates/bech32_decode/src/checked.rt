@@ -1,6 +1,6 @@
 //! A text whose checksum was tested.
 
-ghost use Rattle.std.specs.Prelude.{◌≡◌, ◌↔◌, ◌≤◌, ◌<◌, ◌+◌, ◌-◌, true, length, drop, MatchOption, MatchResult, IfOk, IfErr, IsOk};
+ghost use Rattle.std.specs.Prelude.{◌≡◌, ◌↔◌, ◌≤◌, ◌<◌, ◌+◌, ◌++◌, ◌-◌, true, length, drop, MatchOption, MatchResult, IfOk, IfErr, IsOk};
 ghost use Rattle.bech32_gf.specs.Alphabet.{is_data};
 ghost use Rattle.bech32_gf.specs.Fe32.{elements_of};
 ghost use Rattle.bech32_checksum.specs.Roots.{HasLawfulRoots};
@@ -12,6 +12,7 @@ ghost use Rattle.bech32_decode.specs.Version.{version_of};
 
 use crate::address::SegwitHrpstring;
 use crate::byte_reader::ByteIter;
+use crate::data_bytes::put_data_bytes;
 use crate::reader::AsciiToFe32Iter;
 use crate::unchecked::UncheckedHrpstring;
 use crate::version::{first_version, version_in};
@@ -144,6 +145,17 @@ impl<'s> CheckedHrpstring<'s> {
         ensures { bytes_to_come result ≡ checked_bytes self.now }
     {
         ByteIter::new(self.ascii)
+    }
+
+    /// Puts the bytes of the data part, those of [`Self::byte_iter`], at the front of a buffer that
+    /// has room for them, and answers how many they are.
+    #[inline]
+    pub fn put_bytes(&self, buffer: &mut [u8]) -> usize
+        requires { length (checked_bytes self.now) ≤ length buffer.old }
+        ensures count { result ≡ length (checked_bytes self.now) }
+        ensures buffer { buffer.new ≡ checked_bytes self.now ++ drop result buffer.old }
+    {
+        put_data_bytes(self.ascii, buffer)
     }
 
     ghost use Rattle.bech32_decode.specs.Segwit.{IsDataRefusal};

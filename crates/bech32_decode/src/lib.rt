@@ -7,6 +7,7 @@ mod address;
 mod byte_reader;
 mod characters;
 mod checked;
+mod data_bytes;
 mod either;
 mod reader;
 mod unchecked;

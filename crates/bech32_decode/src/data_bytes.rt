@@ -1,0 +1,94 @@
+//! Puts the bytes of a data part into a buffer, group by group.
+
+ghost use Rattle.std.specs.Prelude.{◌≡◌, ◌≤◌, ◌+◌, ◌*◌, ◌/◌, ◌++◌, true, length, take, drop};
+ghost use Rattle.bech32_bits.specs.Bits.{to_bytes};
+ghost use Rattle.bech32_gf.specs.Alphabet.{is_data};
+ghost use Rattle.bech32_gf.specs.Fe32.{elements_of};
+
+use crate::byte_reader::ByteIter;
+use bech32_bits::groups::five_bytes;
+use bech32_gf::gf32::Fe32;
+
+// The elements of the first eight characters.
+#[inline]
+fn first_eight(characters: &[u8]) -> [Fe32; 8]
+    requires data { is_data characters.now ≡ true }
+    requires enough { 8 ≤ length characters.now }
+    ensures { result ≡ elements_of (take 8 characters.now) }
+{
+    [
+        Fe32::from_char_unchecked(characters[0]),
+        Fe32::from_char_unchecked(characters[1]),
+        Fe32::from_char_unchecked(characters[2]),
+        Fe32::from_char_unchecked(characters[3]),
+        Fe32::from_char_unchecked(characters[4]),
+        Fe32::from_char_unchecked(characters[5]),
+        Fe32::from_char_unchecked(characters[6]),
+        Fe32::from_char_unchecked(characters[7]),
+    ]
+}
+
+// Puts bytes into a buffer, from a place on.
+#[inline]
+fn put_at(bytes: &[u8], at: usize, buffer: &mut [u8])
+    requires { at + length bytes.now ≤ length buffer.old }
+    ensures { buffer.new ≡ take at buffer.old ++ (bytes.now ++ drop (at + length bytes.now) buffer.old) }
+{
+    buffer[at..at + bytes.len()].copy_from_slice(bytes);
+}
+
+// Puts the five bytes of the first eight characters into a buffer, from a place on.
+#[inline]
+fn put_group(characters: &[u8], at: usize, buffer: &mut [u8])
+    requires data { is_data characters.now ≡ true }
+    requires enough { 8 ≤ length characters.now }
+    requires room { at + 5 ≤ length buffer.old }
+    ensures { buffer.new ≡ take at buffer.old
+        ++ (to_bytes (elements_of (take 8 characters.now)) ++ drop (at + 5) buffer.old) }
+{
+    let five = five_bytes(first_eight(characters));
+    put_at(&five, at, buffer);
+}
+
+// Puts the bytes of as many groups of eight characters as there are at the front of a buffer.
+fn put_groups(characters: &[u8], buffer: &mut [u8])
+    requires data { is_data characters.now ≡ true }
+    requires room { length characters.now / 8 * 5 ≤ length buffer.old }
+    ensures { buffer.new ≡ to_bytes (elements_of (take (length characters.now / 8 * 8) characters.now))
+        ++ drop (length characters.now / 8 * 5) buffer.old }
+{
+    for group in 0..characters.len() / 8 {
+        put_group(&characters[group * 8..], group * 5, buffer);
+    }
+}
+
+// Puts the bytes of characters into a buffer, one by one from a place on, and answers where they
+// end.
+fn put_rest(characters: &[u8], at: usize, buffer: &mut [u8]) -> usize
+    requires data { is_data characters.now ≡ true }
+    requires room { at + length (to_bytes (elements_of characters.now)) ≤ length buffer.old }
+    ensures count { result ≡ at + length (to_bytes (elements_of characters.now)) }
+    ensures buffer { buffer.new ≡ take at buffer.old
+        ++ (to_bytes (elements_of characters.now) ++ drop result buffer.old) }
+{
+    let mut count = at;
+    for byte in ByteIter::new(characters) {
+        buffer[count] = byte;
+        count += 1;
+    }
+    count
+}
+
+// Puts the bytes of the elements of characters, in either case, at the front of a buffer that has
+// room for them, and answers how many they are; a last part shorter than eight bits is dropped
+// (BIP-173, Segwit address format).
+pub(crate) fn put_data_bytes(characters: &[u8], buffer: &mut [u8]) -> usize
+    requires data { is_data characters.now ≡ true }
+    requires room { length (to_bytes (elements_of characters.now)) ≤ length buffer.old }
+    ensures count { result ≡ length (to_bytes (elements_of characters.now)) }
+    ensures buffer { buffer.new ≡ to_bytes (elements_of characters.now) ++ drop result buffer.old }
+{
+    put_groups(characters, buffer);
+    let groups = characters.len() / 8;
+    put_rest(&characters[groups * 8..], groups * 5, buffer)
+}
