@@ -4,3 +4,4 @@ pub mod Encoding
 pub mod FrontedWalks
 pub mod TextPieces
 pub mod TextsLeft
+pub mod WholeGroups

@@ -1,14 +1,14 @@
 //! Puts whole texts into buffers.
 
 ghost use Rattle.std.specs.Prelude.{◌≡◌, ◌≤◌, ◌++◌, ℕ, List, [], ◌∷◌, Option, map, reverse, option_to_list};
-ghost use Rattle.std.specs.Prelude.{length, min, take, drop};
+ghost use Rattle.std.specs.Prelude.{length, take, drop};
 ghost use Rattle.std.specs.Iterator.{Drains, IsFinite};
 ghost use Rattle.bech32_gf.specs.declared.gf32.Fe32.{Fe32 as Element};
 ghost use Rattle.bech32_encode.specs.Buffers.{IsPutAsFits, PutsBehind};
 ghost use Rattle.bech32_checksum.specs.Code.{IsResidueAfter};
 ghost use Rattle.bech32_checksum.specs.Encoded.{char_of_element, IsEncodedText};
 ghost use Rattle.bech32_bits.specs.Bits.{to_fes};
-ghost use Rattle.bech32_encode.specs.Cased.{in_case, IsTextInCase};
+ghost use Rattle.bech32_encode.specs.Cased.{in_case};
 ghost use Rattle.bech32_encode.specs.TextFrom.{text_front};
 ghost use Rattle.bech32_hrp.specs.HrpBytes.{hrp_bytes};
 ghost use Rattle.bech32_checksum.specs.Packed.{digits};
@@ -59,7 +59,7 @@ fn put_element<Ck: Checksum>(
 
 // Puts the character of the version where there is one, and hands it to the engine.
 #[inline]
-fn put_version<Ck: Checksum>(
+pub(super) fn put_version<Ck: Checksum>(
     version: Option<Fe32>,
     engine: &mut Engine<Ck>,
     count: usize,
@@ -136,8 +136,8 @@ pub fn put_text<I: Iterator<Item = Fe32>, Ck: Checksum>(
     put_row(engine.residue(), Ck::CHECKSUM_LENGTH, end, buffer)
 }
 
-// Puts the characters of the elements of bytes, and hands these to the engine.
-pub(super) fn put_bytes<Ck: Checksum>(
+// Puts the characters of the elements of bytes one by one, and hands these to the engine.
+pub(super) fn put_rest<Ck: Checksum>(
     bytes: &[u8],
     engine: &mut Engine<Ck>,
     count: usize,
@@ -158,24 +158,4 @@ pub(super) fn raise_front(upper: bool, count: usize, buffer: &mut [u8])
     if upper {
         buffer[..count].make_ascii_uppercase();
     }
-}
-
-/// Puts as much as there is room for of the text of a human-readable part, a witness version where
-/// there is one, and bytes, in upper case or in lower case, and answers how much that is.
-pub fn put_front_of_text<Ck: Checksum>(
-    hrp: &Hrp,
-    version: Option<Fe32>,
-    bytes: &[u8],
-    upper: bool,
-    buffer: &mut [u8],
-) -> usize
-    ensures { (text : List ℕ)
-        × IsTextInCase upper Ck.code (hrp_bytes hrp.now) (option_to_list version ++ to_fes bytes.now) text
-        × (take result buffer.new ≡ take (length buffer.old) text)
-        × (result ≡ min (length text) (length buffer.old)) }
-{
-    let elements = bytes.iter().copied().bytes_to_fes();
-    let count = put_text::<_, Ck>(hrp, version, elements, buffer);
-    raise_front(upper, count, buffer);
-    count
 }

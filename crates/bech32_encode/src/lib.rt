@@ -11,6 +11,7 @@ mod buffer;
 mod bytes;
 mod checksummed;
 mod elements;
+mod groups;
 mod pieces;
 mod text;
 mod texts;
@@ -21,13 +22,15 @@ pub use adaptors::Fe32IterExt;
 use bech32_checksum::Checksum;
 use bech32_gf::gf32::Fe32;
 use bech32_hrp::Hrp;
-pub use buffer::{put_front_of_text, put_text};
+pub use buffer::put_text;
 pub use bytes::ByteIter;
 pub use checksummed::Checksummed;
 pub use elements::Fe32Iter;
 pub use pieces::TextInPieces;
 use std::marker::PhantomData;
-pub use text::{length_with_version, text_in, text_length};
+pub use text::{
+    length_with_version, put_front_of_text, put_text_of_bytes, text_in, text_length,
+};
 pub use texts::CharIter;
 pub use version::WitnessVersionIter;
 

@@ -14,7 +14,8 @@ ghost use Rattle.bech32_encode.specs.Cased.{IsTextInCase};
 ghost use Rattle.bech32_encode.specs.TextLeft.{front_left, checksum_left};
 ghost use Rattle.bech32_hrp.specs.HrpBytes.{hrp_bytes};
 
-use super::buffer::{put_byte, put_bytes, put_front, put_row, raise_front};
+use super::buffer::{put_byte, put_front, put_row, raise_front};
+use super::groups::put_bytes;
 use bech32_checksum::{Checksum, Engine};
 use bech32_device::Pieces;
 use bech32_gf::gf32::Fe32;

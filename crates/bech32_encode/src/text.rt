@@ -1,14 +1,16 @@
-//! Whole texts of bytes: their lengths, and themselves in memory.
+//! Whole texts of bytes: their lengths, and themselves in a buffer and in memory.
 
-ghost use Rattle.std.specs.Prelude.{◌≡◌, ◌++◌, ◌+◌, length, option_to_list, IfOk, string_bytes};
+ghost use Rattle.std.specs.Prelude.{◌≡◌, ◌++◌, ◌+◌, ℕ, List, length, min, take, option_to_list, IfOk, string_bytes};
 ghost use Rattle.bech32_bits.specs.Bits.{fes_count, to_fes};
 ghost use Rattle.bech32_checksum.specs.Encoded.{IsEncodedText};
+ghost use Rattle.bech32_encode.specs.Buffers.{IsPutAsFits};
+ghost use Rattle.bech32_encode.specs.Cased.{IsTextInCase};
 ghost use Rattle.bech32_encode.specs.TextLength.{text_length_of};
 ghost use Rattle.bech32_hrp.specs.HrpBytes.{hrp_bytes};
 
-use crate::put_text;
-use bech32_bits::ByteIterExt;
-use bech32_checksum::Checksum;
+use crate::buffer::{put_front, put_row, put_version, raise_front};
+use crate::groups::put_bytes;
+use bech32_checksum::{Checksum, Engine};
 use bech32_gf::gf32::Fe32;
 use bech32_hrp::Hrp;
 use std::alloc::{AllocError, Allocator};
@@ -38,6 +40,50 @@ pub fn length_with_version<Ck: Checksum>(hrp: &Hrp, version: Option<Fe32>, bytes
     }
 }
 
+/// Puts the text of a human-readable part, a witness version where there is one, and bytes at the
+/// front of a buffer that has room for it, and answers its length: what [`put_text`](crate::put_text)
+/// puts of the elements of the bytes.
+///
+/// Into a buffer that has no room for the whole text goes as much of it as fits; the answer is then
+/// the buffer's length.
+pub fn put_text_of_bytes<Ck: Checksum>(
+    hrp: &Hrp,
+    version: Option<Fe32>,
+    bytes: &[u8],
+    buffer: &mut [u8],
+) -> usize
+    ensures { (text : List ℕ)
+        × IsEncodedText Ck.code (hrp_bytes hrp.now) (option_to_list version ++ to_fes bytes.now) text
+        × IsPutAsFits text buffer.old buffer.new result }
+{
+    let mut engine = Engine::<Ck>::new();
+    engine.input_hrp(*hrp);
+    let front = put_front(hrp, buffer);
+    let start = put_version(version, &mut engine, front, buffer);
+    let end = put_bytes(bytes, &mut engine, start, buffer);
+    engine.input_target_residue();
+    put_row(engine.residue(), Ck::CHECKSUM_LENGTH, end, buffer)
+}
+
+/// Puts as much as there is room for of the text of a human-readable part, a witness version where
+/// there is one, and bytes, in upper case or in lower case, and answers how much that is.
+pub fn put_front_of_text<Ck: Checksum>(
+    hrp: &Hrp,
+    version: Option<Fe32>,
+    bytes: &[u8],
+    upper: bool,
+    buffer: &mut [u8],
+) -> usize
+    ensures { (text : List ℕ)
+        × IsTextInCase upper Ck.code (hrp_bytes hrp.now) (option_to_list version ++ to_fes bytes.now) text
+        × (take result buffer.new ≡ take (length buffer.old) text)
+        × (result ≡ min (length text) (length buffer.old)) }
+{
+    let count = put_text_of_bytes::<Ck>(hrp, version, bytes, buffer);
+    raise_front(upper, count, buffer);
+    count
+}
+
 /// The text of a human-readable part, a witness version where there is one, and bytes, with memory
 /// from `alloc`.
 ///
@@ -55,8 +101,7 @@ pub fn text_in<Ck: Checksum, A: Allocator>(
 {
     let length = length_with_version::<Ck>(&hrp, version, data.len());
     let mut text = vec![in alloc; 0u8; length]?;
-    let elements = data.iter().copied().bytes_to_fes();
-    put_text::<_, Ck>(&hrp, version, elements, text.as_mut_slice());
+    put_text_of_bytes::<Ck>(&hrp, version, data, text.as_mut_slice());
     // All of it is ASCII: what the call requires is proved.
     Ok(unsafe { String::from_utf8_unchecked(text) })
 }

@@ -7,7 +7,7 @@ use Rattle.bech32_bits.proofs.ListSources.{ShowsRest-copied, copied_rest, drains
 use Rattle.bech32_checksum.specs.Code.{IsResidueAfter}
 use Rattle.bech32_checksum.specs.Encoded.{char_of_element}
 use Rattle.bech32_encode.specs.Buffers.{PutsBehind}
-use Rattle.bech32_encode.proofs.buffer.put_bytes.Goals as goal
+use Rattle.bech32_encode.proofs.buffer.put_rest.Goals as goal
 
 pub returns-clause-text : goal.returns-clause-text
 returns-clause-text g c =

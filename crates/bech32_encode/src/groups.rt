@@ -1,0 +1,138 @@
+//! Puts the characters of bytes into a buffer, group by group: five bytes are eight characters.
+
+ghost use Rattle.std.specs.Prelude.{◌≡◌, ◌≤◌, ◌+◌, ◌*◌, ◌/◌, ◌++◌, map, length, take, drop};
+ghost use Rattle.bech32_bits.specs.Bits.{to_fes};
+ghost use Rattle.bech32_checksum.specs.Code.{IsResidueAfter};
+ghost use Rattle.bech32_checksum.specs.Encoded.{char_of_element};
+ghost use Rattle.bech32_encode.specs.Buffers.{PutsBehind};
+
+use crate::buffer::{put_byte, put_rest};
+use bech32_bits::groups::eight_elements;
+use bech32_checksum::{Checksum, Engine};
+use bech32_gf::gf32::Fe32;
+
+// The first five bytes.
+#[inline]
+fn first_five(bytes: &[u8]) -> [u8; 5]
+    requires { 5 ≤ length bytes.now }
+    ensures { result ≡ take 5 bytes.now }
+{
+    [bytes[0], bytes[1], bytes[2], bytes[3], bytes[4]]
+}
+
+// The characters of eight elements.
+#[inline]
+fn characters_of(fes: [Fe32; 8]) -> [u8; 8]
+    ensures { result ≡ map char_of_element fes }
+{
+    let [a, b, c, d, e, f, g, h] = fes;
+    [
+        a.to_char() as u8,
+        b.to_char() as u8,
+        c.to_char() as u8,
+        d.to_char() as u8,
+        e.to_char() as u8,
+        f.to_char() as u8,
+        g.to_char() as u8,
+        h.to_char() as u8,
+    ]
+}
+
+// Hands eight elements to the engine.
+#[inline]
+fn input_eight<Ck: Checksum>(fes: [Fe32; 8], engine: &mut Engine<Ck>)
+    ensures { IsResidueAfter Ck.MidstateRepr.number Ck.code engine.old fes engine.new }
+{
+    let [a, b, c, d, e, f, g, h] = fes;
+    engine.input_fe(a);
+    engine.input_fe(b);
+    engine.input_fe(c);
+    engine.input_fe(d);
+    engine.input_fe(e);
+    engine.input_fe(f);
+    engine.input_fe(g);
+    engine.input_fe(h);
+}
+
+// Puts bytes behind those that were put, one by one, and answers how many there are.
+fn put_each(bytes: &[u8], count: usize, buffer: &mut [u8]) -> usize
+    ensures { PutsBehind bytes.now buffer.old count buffer.new result }
+{
+    let mut count = count;
+    for byte in bytes {
+        count = put_byte(*byte, count, buffer);
+    }
+    count
+}
+
+// Puts bytes into a buffer, from a place on.
+#[inline]
+fn put_at(bytes: &[u8], at: usize, buffer: &mut [u8])
+    requires { at + length bytes.now ≤ length buffer.old }
+    ensures { buffer.new ≡ take at buffer.old ++ (bytes.now ++ drop (at + length bytes.now) buffer.old) }
+{
+    buffer[at..at + bytes.len()].copy_from_slice(bytes);
+}
+
+// Puts eight bytes behind those that were put, at once where there is room for all, and answers how
+// many there are.
+#[inline]
+fn put_eight(bytes: [u8; 8], count: usize, buffer: &mut [u8]) -> usize
+    ensures { PutsBehind bytes buffer.old count buffer.new result }
+{
+    if count > buffer.len() || buffer.len() - count < 8 {
+        return put_each(&bytes, count, buffer);
+    }
+    put_at(&bytes, count, buffer);
+    count + 8
+}
+
+// Puts the characters of eight elements, and hands these to the engine.
+#[inline]
+fn put_group<Ck: Checksum>(
+    fes: [Fe32; 8],
+    engine: &mut Engine<Ck>,
+    count: usize,
+    buffer: &mut [u8],
+) -> usize
+    ensures text { PutsBehind (map char_of_element fes) buffer.old count buffer.new result }
+    ensures residue { IsResidueAfter Ck.MidstateRepr.number Ck.code engine.old fes engine.new }
+{
+    input_eight(fes, engine);
+    put_eight(characters_of(fes), count, buffer)
+}
+
+// Puts the characters of the elements of as many groups of five bytes as there are, and hands these
+// to the engine.
+fn put_groups<Ck: Checksum>(
+    bytes: &[u8],
+    engine: &mut Engine<Ck>,
+    count: usize,
+    buffer: &mut [u8],
+) -> usize
+    ensures text { PutsBehind (map char_of_element (to_fes (take (length bytes.now / 5 * 5) bytes.now)))
+        buffer.old count buffer.new result }
+    ensures residue { IsResidueAfter Ck.MidstateRepr.number Ck.code engine.old
+        (to_fes (take (length bytes.now / 5 * 5) bytes.now)) engine.new }
+{
+    let mut count = count;
+    for group in 0..bytes.len() / 5 {
+        let five = first_five(&bytes[group * 5..]);
+        count = put_group(eight_elements(five), engine, count, buffer);
+    }
+    count
+}
+
+// Puts the characters of the elements of bytes, and hands these to the engine.
+pub(super) fn put_bytes<Ck: Checksum>(
+    bytes: &[u8],
+    engine: &mut Engine<Ck>,
+    count: usize,
+    buffer: &mut [u8],
+) -> usize
+    ensures text { PutsBehind (map char_of_element (to_fes bytes.now)) buffer.old count buffer.new result }
+    ensures residue { IsResidueAfter Ck.MidstateRepr.number Ck.code engine.old (to_fes bytes.now) engine.new }
+{
+    let end = put_groups(bytes, engine, count, buffer);
+    put_rest(&bytes[bytes.len() / 5 * 5..], engine, end, buffer)
+}
