@@ -39,7 +39,9 @@ fn program_in<A: Allocator>(
 ) -> Result<Vec<u8, A>, AllocError>
     ensures { IfOk result (λ v. v.items ≡ address_program address.now) }
 {
-    address.byte_iter().collect(alloc)
+    let mut program = vec![in alloc; 0u8; address.byte_iter().len()]?;
+    address.put_program(program.as_mut_slice());
+    Ok(program)
 }
 
 // What a text is decoded to, or why it is not.

@@ -1,4 +1,4 @@
-use Rattle.std.proofs.Common.{◌≡◌, ◌∙◌, ◌*◌, ◌/◌, length, drop, refl, ap, arith}
+use Rattle.std.proofs.Common.{◌∙◌, ◌*◌, ◌/◌, length, refl, ap, arith}
 use Rattle.std.proofs.lemmas.List.{take_rest}
 use Rattle.bech32_gf.specs.Alphabet.{is_data}
 use Rattle.bech32_decode.proofs.DataBytes.{all_bytes, groups_fit, rest_fits}

@@ -1,5 +1,4 @@
 use Rattle.std.proofs.Common.{◌≡◌, ◌∙◌, ◌+◌, ◌++◌, ℕ, List, length, take, drop, ap, arith}
-use Rattle.bech32_gf.specs.Fe32.{elements_of}
 use Rattle.bech32_bits.specs.Bits.{to_bytes}
 use Rattle.bech32_decode.proofs.DataBytes.{group-length}
 use Rattle.bech32_decode.proofs.data_bytes.put_group.Goals as goal

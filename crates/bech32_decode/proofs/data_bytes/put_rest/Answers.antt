@@ -1,6 +1,4 @@
-use Rattle.std.proofs.Common.{◌≡◌, ◌<◌, ◌≤◌, ◌∙◌, ◌+◌, ◌++◌, ℕ, List, [], ◌∷◌, length, take, drop, ap, sym, refl, arith, length-append, take-append-drop}
-use Rattle.bech32_gf.specs.Fe32.{elements_of}
-use Rattle.bech32_bits.specs.Bits.{to_bytes}
+use Rattle.std.proofs.Common.{◌∙◌, [], ◌∷◌, take, ap, sym, refl, arith, length-append, take-append-drop}
 use Rattle.bech32_decode.specs.Readers.{bytes_to_come}
 use Rattle.bech32_decode.proofs.DataBytes.{byte_more, one_fits, one_given}
 use Rattle.bech32_decode.proofs.data_bytes.put_rest.Goals as goal
