@@ -42,7 +42,9 @@ fn bytes_in<A: Allocator>(
 ) -> Result<Vec<u8, A>, AllocError>
     ensures { IfOk result (λ v. v.items ≡ checked_bytes checked.now) }
 {
-    checked.byte_iter().collect(alloc)
+    let mut bytes = vec![in alloc; 0u8; checked.byte_iter().len()]?;
+    checked.put_bytes(bytes.as_mut_slice());
+    Ok(bytes)
 }
 
 // What a text is decoded to, or why it is not.
