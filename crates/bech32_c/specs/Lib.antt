@@ -1,4 +1,3 @@
-pub mod Buffers
 pub mod Check
 pub mod Checksums
 pub mod Correct

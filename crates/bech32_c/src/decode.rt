@@ -15,7 +15,7 @@ ghost use Rattle.bech32_c.specs.Checksums.{ForChecksum, IsFaultBy};
 ghost use Rattle.bech32_c.specs.Decode.{PutsDecoded, CanDecode, IsReadFault, IsDecodeFault};
 ghost use Rattle.bech32_c.specs.Faults.{IsNumberOf};
 
-use crate::buffer::{fill, put};
+use crate::buffer::put;
 use crate::checksum::{BECH32, BECH32M};
 use crate::input::text_of;
 use crate::refusal::Refusal;
@@ -42,15 +42,14 @@ fn decoded(text: &[u8], hrp: &mut [u8], bytes: &mut [u8]) -> Result<(usize, usiz
 {
     let checked = read(text)?;
     let part = checked.hrp();
-    let found = checked.byte_iter();
     if part.len() > hrp.len() {
         return Err(Refusal::NoRoom);
     }
-    if found.len() > bytes.len() {
+    if checked.byte_iter().len() > bytes.len() {
         return Err(Refusal::NoRoom);
     }
     put(hrp, part.as_bytes());
-    Ok((part.len(), fill(bytes, found)))
+    Ok((part.len(), checked.put_bytes(bytes)))
 }
 
 /// Decodes a text that Bech32m or Bech32 accepts, as [`bech32::decode`] does. The human-readable

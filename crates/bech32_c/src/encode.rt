@@ -13,7 +13,7 @@ use crate::checksum::{BECH32, BECH32M};
 use crate::input::part_of;
 use crate::refusal::Refusal;
 use bech32::primitives::encode;
-use bech32::{Bech32, Bech32m, ByteIterExt, Checksum, Fe32, Hrp, encoded_length};
+use bech32::{Bech32, Bech32m, Checksum, Fe32, Hrp, encoded_length};
 
 /// Puts the text of a human-readable part, a witness version where there is one, and bytes into a
 /// buffer that has room for it, and answers its length.
@@ -29,8 +29,7 @@ pub(crate) fn put_text<Ck: Checksum>(
         × IsEncodedText Ck.code (hrp_bytes hrp.now) (option_to_list version ++ to_fes bytes.now) written
         × IsPut written text.old text.new result }
 {
-    let elements = bytes.iter().copied().bytes_to_fes();
-    encode::put_text::<_, Ck>(hrp, version, elements, text)
+    encode::put_text_of_bytes::<Ck>(hrp, version, bytes, text)
 }
 
 // Puts the text by one checksum, and answers its length.

@@ -13,7 +13,7 @@ ghost use Rattle.bech32_c.specs.Faults.{IsNumberOf};
 ghost use Rattle.bech32_c.specs.Segwit.{PutsAddress, HasRoomFor, IsAddressFault, IsSegwitEncodeFault};
 ghost use Rattle.bech32_c.specs.Segwit.{PutsProgram, CanDecodeAddress, IsSegwitDecodeFault};
 
-use crate::buffer::{fill, put};
+use crate::buffer::put;
 use crate::encode::put_text;
 use crate::input::{element_of, part_of, text_of};
 use crate::refusal::Refusal;
@@ -112,15 +112,15 @@ fn decoded(text: &[u8], hrp: &mut [u8], program: &mut [u8]) -> Result<(usize, Fe
 {
     let address = SegwitHrpstring::new(text_of(text)?)?;
     let part = address.hrp();
-    let found = address.byte_iter();
     if part.len() > hrp.len() {
         return Err(Refusal::NoRoom);
     }
-    if found.len() > program.len() {
+    if address.byte_iter().len() > program.len() {
         return Err(Refusal::NoRoom);
     }
     put(hrp, part.as_bytes());
-    Ok((part.len(), address.witness_version(), fill(program, found)))
+    let count = address.put_program(program);
+    Ok((part.len(), address.witness_version(), count))
 }
 
 /// Decodes a segwit address, as [`bech32::segwit::decode`] does. The human-readable part, in the

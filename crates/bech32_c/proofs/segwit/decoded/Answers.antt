@@ -2,11 +2,10 @@ use Rattle.std.proofs.Common.{◌∙◌, ap, arith, inl, inr, length, sym}
 use Rattle.bech32_gf.specs.Fe32.{elements_of}
 use Rattle.bech32_bits.specs.Bits.{to_bytes}
 use Rattle.bech32_hrp.specs.HrpBytes.{hrp_bytes}
-use Rattle.bech32_decode.specs.Readers.{bytes_to_come}
 use Rattle.bech32_decode.specs.Segwit.{IsAddress}
 use Rattle.bech32_decode.specs.Text.{HasHrp}
 use Rattle.bech32_segwit.proofs.SegwitEncoding.{one_spelling}
-use Rattle.bech32_c.proofs.Puts.{put-same, put-whole}
+use Rattle.bech32_c.proofs.Puts.{put-same, put-counted}
 use Rattle.bech32_c.proofs.segwit.decoded.Goals as goal
 
 pub returns-then-len-hrp-clause-refused : goal.returns-then-len-hrp-clause-refused
@@ -27,7 +26,7 @@ returns-then-len-hrp-clause-refused c =
 pub returns-then-len-program-clause-refused : goal.returns-then-len-program-clause-refused
 returns-then-len-program-clause-refused c =
     let address = c.in_ok-address.address in
-    let found = ap length c.byte_iter-found.ensures in
+    let found = ap length c.byte_iter.ensures in
     let size = c.len-2.ensures.value in
     let over = c.if-len-program.true in
     record {
@@ -46,6 +45,7 @@ returns-clause-value c =
     let whole : HasHrp c.in_ok-text_of.field-0.now (hrp_bytes address.hrp) = (read.data_part, read.accepted.grammar) in
     let part = c.as_bytes.ensures ∙ ap hrp_bytes c.hrp-part.ensures in
     let size = c.len-2.ensures.value in
+    let found = ap length c.byte_iter.ensures in
     let room = c.if-len-program.false in
     let is : IsAddress (hrp_bytes address.hrp) address.witness_version (to_bytes (elements_of address.ascii.now)) c.args.text.now =
     rw c.in_ok-text_of.ensures.0 at c.in_ok-address.ensures.address in
@@ -59,5 +59,5 @@ returns-clause-value c =
       spelling = λ h t same a. one_spelling h (hrp_bytes address.hrp) address.witness_version (to_bytes (elements_of address.ascii.now)) t c.args.text.now same a is;
       part_put = put-same _ _ _ _ _ _ part (ap length c.as_bytes.ensures ∙ sym c.len-3.ensures.value) c.put.ensures;
       version_is = ap (λ v. v.value) c.witness_version.ensures;
-      found_put = put-whole bytes_to_come c.byte_iter-found.result _ _ _ _ c.byte_iter-found.ensures (omega arith) c.fill.ensures;
+      found_put = put-counted _ _ _ _ (omega arith) c.put_program-count.ensures.count c.put_program-count.ensures.buffer;
     }
