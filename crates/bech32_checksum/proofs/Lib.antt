@@ -1,5 +1,7 @@
 pub mod DigitRows
 pub mod Digits
+pub mod EightSteps
+pub mod EightTables
 pub mod HrpInput
 pub mod HrpPlaces
 pub mod Input
@@ -9,8 +11,10 @@ pub mod PackedRuns
 pub mod PartialProduct
 pub mod Products
 pub mod Residue
+pub mod ResidueRuns
 pub mod RootTests
 pub mod Shifts
 pub mod Target
+pub mod TimesX
 pub mod Uniqueness
 pub mod Words

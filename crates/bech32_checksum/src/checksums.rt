@@ -7,8 +7,10 @@ ghost use Rattle.bech32_checksum.specs.laws.PackedLaws as packed;
 ghost use Rattle.bech32_checksum.specs.Code.{no_checksum, bech32, bech32m};
 ghost use Rattle.bech32_checksum.specs.laws.CodeLaws as codes;
 
+mod eights;
 mod products;
 
+use self::eights::after_eight_by_tables;
 use self::products::product_with;
 use crate::Checksum;
 use crate::packed::PackedNull;
@@ -115,6 +117,11 @@ impl Checksum for Bech32 {
         product_with(element)
     }
 
+    #[inline]
+    fn after_eight(residue: u32, elements: [Fe32; 8]) -> u32 {
+        after_eight_by_tables(residue, elements)
+    }
+
     ghost packing_laws = { codes.bech32_keeps };
 
     ghost code_law = { codes.bech32_is_packed };
@@ -166,6 +173,11 @@ impl Checksum for Bech32m {
     #[inline]
     fn generator_times(element: Fe32) -> u32 {
         product_with(element)
+    }
+
+    #[inline]
+    fn after_eight(residue: u32, elements: [Fe32; 8]) -> u32 {
+        after_eight_by_tables(residue, elements)
     }
 
     ghost packing_laws = { codes.bech32m_keeps };

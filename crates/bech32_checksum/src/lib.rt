@@ -96,6 +96,35 @@ pub trait Checksum {
         sum
     }
 
+    /// The remainder after one more element, packed.
+    #[inline]
+    fn after_one(residue: Self::MidstateRepr, element: Fe32) -> Self::MidstateRepr
+        requires { HasDigits CHECKSUM_LENGTH (Self.MidstateRepr.number residue) }
+        ensures clear { HasDigits CHECKSUM_LENGTH (Self.MidstateRepr.number result) }
+        ensures after { IsResidueAfter Self.MidstateRepr.number code residue (element ∷ []) result }
+    {
+        let mut next = residue;
+        let xn = next.mul_by_x_then_add(Self::CHECKSUM_LENGTH, element.to_u8());
+        next ^ Self::generator_times(Fe32::from_low_bits(xn))
+    }
+
+    /// The remainder after eight more elements, packed. The first of them comes first.
+    ///
+    /// The provided one takes them one after another. Whoever defines a checksum may read tables in
+    /// its place, and shows that they leave the same remainder.
+    #[inline]
+    fn after_eight(residue: Self::MidstateRepr, elements: [Fe32; 8]) -> Self::MidstateRepr
+        requires { HasDigits CHECKSUM_LENGTH (Self.MidstateRepr.number residue) }
+        ensures clear { HasDigits CHECKSUM_LENGTH (Self.MidstateRepr.number result) }
+        ensures after { IsResidueAfter Self.MidstateRepr.number code residue elements result }
+    {
+        let mut next = residue;
+        for element in elements {
+            next = Self::after_one(next, element);
+        }
+        next
+    }
+
     /// Whether the roots are lawful: the base is not zero, its order is the code length or more, the
     /// first exponent is not above the last, which is less than the degree above it, and each power
     /// of the base from the one to the other is a root of the generator. At degree 0 nothing is
@@ -214,9 +243,15 @@ impl<Ck: Checksum> Engine<Ck> {
     pub fn input_fe(&mut self, e: Fe32)
         ensures { IsResidueAfter Ck.MidstateRepr.number Ck.code self.old (e ∷ []) self.new }
     {
-        let mut residue = self.residue;
-        let xn = residue.mul_by_x_then_add(Ck::CHECKSUM_LENGTH, e.to_u8());
-        self.residue = residue ^ Ck::generator_times(Fe32::from_low_bits(xn));
+        self.residue = Ck::after_one(self.residue, e);
+    }
+
+    /// Takes the next eight elements, the first of them first.
+    #[inline]
+    pub fn input_eight(&mut self, elements: [Fe32; 8])
+        ensures { IsResidueAfter Ck.MidstateRepr.number Ck.code self.old elements self.new }
+    {
+        self.residue = Ck::after_eight(self.residue, elements);
     }
 
     /// Takes the elements of the target, the highest first.

@@ -11,7 +11,7 @@ ghost use Rattle.bech32_checksum.specs.laws.CodeLaws.{words};
 use bech32_gf::gf32::Fe32;
 
 // The generator's lower coefficients times each element, packed.
-const PRODUCTS: [u32; 32] = [
+pub(super) const PRODUCTS: [u32; 32] = [
     0x00000000, 0x3b6a57b2, 0x26508e6d, 0x1d3ad9df, 0x1ea119fa, 0x25cb4e48, 0x38f19797, 0x039bc025,
     0x3d4233dd, 0x0628646f, 0x1b12bdb0, 0x2078ea02, 0x23e32a27, 0x18897d95, 0x05b3a44a, 0x3ed9f3f8,
     0x2a1462b3, 0x117e3501, 0x0c44ecde, 0x372ebb6c, 0x34b57b49, 0x0fdf2cfb, 0x12e5f524, 0x298fa296,
