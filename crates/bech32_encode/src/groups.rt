@@ -38,22 +38,6 @@ fn characters_of(fes: [Fe32; 8]) -> [u8; 8]
     ]
 }
 
-// Hands eight elements to the engine.
-#[inline]
-fn input_eight<Ck: Checksum>(fes: [Fe32; 8], engine: &mut Engine<Ck>)
-    ensures { IsResidueAfter Ck.MidstateRepr.number Ck.code engine.old fes engine.new }
-{
-    let [a, b, c, d, e, f, g, h] = fes;
-    engine.input_fe(a);
-    engine.input_fe(b);
-    engine.input_fe(c);
-    engine.input_fe(d);
-    engine.input_fe(e);
-    engine.input_fe(f);
-    engine.input_fe(g);
-    engine.input_fe(h);
-}
-
 // Puts bytes behind those that were put, one by one, and answers how many there are.
 fn put_each(bytes: &[u8], count: usize, buffer: &mut [u8]) -> usize
     ensures { PutsBehind bytes.now buffer.old count buffer.new result }
@@ -98,7 +82,7 @@ fn put_group<Ck: Checksum>(
     ensures text { PutsBehind (map char_of_element fes) buffer.old count buffer.new result }
     ensures residue { IsResidueAfter Ck.MidstateRepr.number Ck.code engine.old fes engine.new }
 {
-    input_eight(fes, engine);
+    engine.input_eight(fes);
     put_eight(characters_of(fes), count, buffer)
 }
 
