@@ -5,7 +5,7 @@ use Rattle.std.proofs.lemmas.List.{drop-drop, drop_at, drop-take, drop_more, len
 use Rattle.bech32_gf.specs.Alphabet.{is_of_alphabet, is_data}
 use Rattle.bech32_gf.specs.Fe32.{element_of, elements_of}
 use Rattle.bech32_bits.specs.Bits.{to_bytes}
-use Rattle.bech32_bits.proofs.WholeGroups.{to_bytes-append}
+use Rattle.bech32_bits.proofs.WholeGroups.{five_of, to_bytes-append}
 use Rattle.bech32_bits.proofs.RoundTrip.{length-to_bytes}
 
 -- ---- the characters of a group
@@ -116,6 +116,31 @@ byte_more front more old before at count byte l is room part so_far =
     ∙ set_at (front ++ more) (get_or old count 0) (drop (count + 1) old) byte count both
     ∙ append_assoc front more (byte ∷ drop (count + 1) old)
     ∙ ap (λ (b : List ℕ). front ++ b) (sym (append_assoc more (byte ∷ []) (drop (count + 1) old)))
+
+-- the same, with the place behind it named
+next_byte : (more old before : List ℕ) (at count next byte : ℕ) → at ≤ length old → count ≡ at + length more → count < length old → next ≡ count + 1
+    → before ≡ take at old ++ (more ++ drop count old)
+    → set before count byte ≡ take at old ++ ((more ++ byte ∷ []) ++ drop next old)
+next_byte more old before at count next byte l is room e so_far =
+    byte_more (take at old) more old before at count byte l is room refl so_far
+    ∙ ap (λ (k : ℕ). take at old ++ ((more ++ byte ∷ []) ++ drop k old)) (sym e)
+
+-- five bytes, one after another
+pub five_set : (bytes old : List ℕ) (at : ℕ) → length bytes ≡ 5 → at + 5 ≤ length old
+    → set (set (set (set (set old at (get_or bytes 0 0)) (at + 1) (get_or bytes 1 0)) (at + 2) (get_or bytes 2 0)) (at + 3) (get_or bytes 3 0)) (at + 4) (get_or bytes 4 0)
+    ≡ take at old ++ (bytes ++ drop (at + 5) old)
+five_set bytes old at n room =
+    let a : ℕ = get_or bytes 0 0 in
+    let b : ℕ = get_or bytes 1 0 in
+    let c : ℕ = get_or bytes 2 0 in
+    let d : ℕ = get_or bytes 3 0 in
+    let e : ℕ = get_or bytes 4 0 in
+    let one = next_byte [] old old at at (at + 1) a (omega arith) (omega arith) (omega arith) refl (sym (take-append-drop at old)) in
+    let two = next_byte (a ∷ []) old _ at (at + 1) (at + 2) b (omega arith) (omega arith) (omega arith) (omega arith) one in
+    let three = next_byte (a ∷ b ∷ []) old _ at (at + 2) (at + 3) c (omega arith) (omega arith) (omega arith) (omega arith) two in
+    let four = next_byte (a ∷ b ∷ c ∷ []) old _ at (at + 3) (at + 4) d (omega arith) (omega arith) (omega arith) (omega arith) three in
+    next_byte (a ∷ b ∷ c ∷ d ∷ []) old _ at (at + 4) (at + 5) e (omega arith) (omega arith) (omega arith) (omega arith) four
+    ∙ ap (λ (l : List ℕ). take at old ++ (l ++ drop (at + 5) old)) (sym (five_of bytes n))
 
 -- whole groups and then the others are all bytes
 pub all_bytes : (w count : ℕ) (cs rest old between new : List ℕ) → w ≡ length cs / 8 → rest ≡ drop (w * 8) cs

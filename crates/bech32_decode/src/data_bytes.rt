@@ -28,13 +28,19 @@ fn first_eight(characters: &[u8]) -> [Fe32; 8]
     ]
 }
 
-// Puts bytes into a buffer, from a place on.
+// Puts five bytes into a buffer, from a place on, one after another: a copy of the slice would ask
+// whether the two overlap.
 #[inline]
-fn put_at(bytes: &[u8], at: usize, buffer: &mut [u8])
-    requires { at + length bytes.now ≤ length buffer.old }
-    ensures { buffer.new ≡ take at buffer.old ++ (bytes.now ++ drop (at + length bytes.now) buffer.old) }
+fn put_five(bytes: [u8; 5], at: usize, buffer: &mut [u8])
+    requires { at + 5 ≤ length buffer.old }
+    ensures { buffer.new ≡ take at buffer.old ++ (bytes ++ drop (at + 5) buffer.old) }
 {
-    buffer[at..at + bytes.len()].copy_from_slice(bytes);
+    let [a, b, c, d, e] = bytes;
+    buffer[at] = a;
+    buffer[at + 1] = b;
+    buffer[at + 2] = c;
+    buffer[at + 3] = d;
+    buffer[at + 4] = e;
 }
 
 // Puts the five bytes of the first eight characters into a buffer, from a place on.
@@ -46,8 +52,7 @@ fn put_group(characters: &[u8], at: usize, buffer: &mut [u8])
     ensures { buffer.new ≡ take at buffer.old
         ++ (to_bytes (elements_of (take 8 characters.now)) ++ drop (at + 5) buffer.old) }
 {
-    let five = five_bytes(first_eight(characters));
-    put_at(&five, at, buffer);
+    put_five(five_bytes(first_eight(characters)), at, buffer);
 }
 
 // Puts the bytes of as many groups of eight characters as there are at the front of a buffer.
