@@ -1,14 +1,14 @@
 -- The characters of bytes, put into a buffer group by group.
-use Rattle.std.proofs.Common.{◌≡◌, ◌∙◌, ℕ, ◌+◌, ◌-◌, ◌*◌, ◌/◌, ◌%◌, ◌<◌, ◌≤◌, List, [], ◌∷◌, ◌++◌, length, take, drop, get_or, map, min, refl, sym, ap, subst, arith, append_assoc, length-append}
-use Rattle.std.proofs.lemmas.List.{drop-drop, drop-take, drop_at, length-drop, length-take, length-take-le, map-append, take-append-drop, take-take, take_all, take_at}
+use Rattle.std.proofs.Common.{◌≡◌, ◌∙◌, ℕ, ◌+◌, ◌-◌, ◌*◌, ◌/◌, ◌%◌, ◌<◌, ◌≤◌, List, [], ◌∷◌, ◌++◌, length, take, drop, get_or, map, min, set, refl, sym, ap, subst, arith, append_assoc, length-append}
+use Rattle.std.proofs.lemmas.List.{drop-drop, drop-take, drop_at, drop_more, length-drop, length-take, length-take-le, map-append, set_at, take-append-drop, take-take, take_all, take_at}
 use Rattle.bech32_gf.specs.declared.gf32.Fe32.{Fe32}
 use Rattle.bech32_poly.specs.Polynomial.{appended}
 use Rattle.bech32_poly.proofs.Appended.{appended-append}
 use Rattle.bech32_bits.specs.Bits.{to_fes}
-use Rattle.bech32_bits.proofs.WholeGroups.{to_fes-append}
+use Rattle.bech32_bits.proofs.WholeGroups.{eight_of, to_fes-append}
 use Rattle.bech32_checksum.specs.Code.{Code, IsResidueOf, IsResidueAfter}
 use Rattle.bech32_checksum.specs.Encoded.{char_of_element}
-use Rattle.bech32_encode.specs.Buffers.{IsPutAsFits, PutsBehind}
+use Rattle.bech32_encode.specs.Buffers.{PutsBehind}
 
 -- ---- groups of five bytes
 
@@ -61,6 +61,44 @@ residue_then number code xs ys zs old between new e first second p h =
     subst (λ (q : List Fe32). IsResidueOf number code new q) (sym (ap (appended p) e ∙ appended-append p xs ys)) (second (appended p xs) (first p h))
 
 -- ---- eight bytes at once
+
+-- one byte more behind those that were put from a place on
+set_next : (more old before : List ℕ) (at count next byte : ℕ) → at ≤ length old → count ≡ at + length more → count < length old → next ≡ count + 1
+    → before ≡ take at old ++ (more ++ drop count old)
+    → set before count byte ≡ take at old ++ ((more ++ byte ∷ []) ++ drop next old)
+set_next more old before at count next byte l is room e so_far =
+    let front : List ℕ = take at old in
+    let size : length front ≡ at = length-take-le at old l in
+    let both : length (front ++ more) ≡ count = length-append front more ∙ (omega arith) in
+    ap (λ (b : List ℕ). set b count byte)
+    (so_far ∙ ap (λ (b : List ℕ). front ++ (more ++ b)) (drop_more old count 0 room) ∙ sym (append_assoc front more (get_or old count 0 ∷ drop (count + 1) old)))
+    ∙ set_at (front ++ more) (get_or old count 0) (drop (count + 1) old) byte count both
+    ∙ append_assoc front more (byte ∷ drop (count + 1) old)
+    ∙ ap (λ (b : List ℕ). front ++ b) (sym (append_assoc more (byte ∷ []) (drop (count + 1) old)))
+    ∙ ap (λ (k : ℕ). front ++ ((more ++ byte ∷ []) ++ drop k old)) (sym e)
+
+-- eight bytes, one after another
+pub eight_set : (bytes old : List ℕ) (at : ℕ) → length bytes ≡ 8 → at + 8 ≤ length old
+    → set (set (set (set (set (set (set (set old at (get_or bytes 0 0)) (at + 1) (get_or bytes 1 0)) (at + 2) (get_or bytes 2 0)) (at + 3) (get_or bytes 3 0)) (at + 4) (get_or bytes 4 0)) (at + 5) (get_or bytes 5 0)) (at + 6) (get_or bytes 6 0)) (at + 7) (get_or bytes 7 0)
+    ≡ take at old ++ (bytes ++ drop (at + 8) old)
+eight_set bytes old at n room =
+    let a : ℕ = get_or bytes 0 0 in
+    let b : ℕ = get_or bytes 1 0 in
+    let c : ℕ = get_or bytes 2 0 in
+    let d : ℕ = get_or bytes 3 0 in
+    let e : ℕ = get_or bytes 4 0 in
+    let f : ℕ = get_or bytes 5 0 in
+    let g : ℕ = get_or bytes 6 0 in
+    let h : ℕ = get_or bytes 7 0 in
+    let one = set_next [] old old at at (at + 1) a (omega arith) (omega arith) (omega arith) refl (sym (take-append-drop at old)) in
+    let two = set_next (a ∷ []) old _ at (at + 1) (at + 2) b (omega arith) (omega arith) (omega arith) (omega arith) one in
+    let three = set_next (a ∷ b ∷ []) old _ at (at + 2) (at + 3) c (omega arith) (omega arith) (omega arith) (omega arith) two in
+    let four = set_next (a ∷ b ∷ c ∷ []) old _ at (at + 3) (at + 4) d (omega arith) (omega arith) (omega arith) (omega arith) three in
+    let five = set_next (a ∷ b ∷ c ∷ d ∷ []) old _ at (at + 4) (at + 5) e (omega arith) (omega arith) (omega arith) (omega arith) four in
+    let six = set_next (a ∷ b ∷ c ∷ d ∷ e ∷ []) old _ at (at + 5) (at + 6) f (omega arith) (omega arith) (omega arith) (omega arith) five in
+    let seven = set_next (a ∷ b ∷ c ∷ d ∷ e ∷ f ∷ []) old _ at (at + 6) (at + 7) g (omega arith) (omega arith) (omega arith) (omega arith) six in
+    set_next (a ∷ b ∷ c ∷ d ∷ e ∷ f ∷ g ∷ []) old _ at (at + 7) (at + 8) h (omega arith) (omega arith) (omega arith) (omega arith) seven
+    ∙ ap (λ (l : List ℕ). take at old ++ (l ++ drop (at + 8) old)) (sym (eight_of bytes 0 0 0 0 0 0 0 0 n))
 
 length-put : (front start : List ℕ) → length (take (length start) (front ++ drop (length front) start)) ≡ length start
 length-put front start =

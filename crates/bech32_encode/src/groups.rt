@@ -49,13 +49,22 @@ fn put_each(bytes: &[u8], count: usize, buffer: &mut [u8]) -> usize
     count
 }
 
-// Puts bytes into a buffer, from a place on.
+// Puts eight bytes into a buffer, from a place on, one after another: a copy of the slice would ask
+// whether the two overlap.
 #[inline]
-fn put_at(bytes: &[u8], at: usize, buffer: &mut [u8])
-    requires { at + length bytes.now ≤ length buffer.old }
-    ensures { buffer.new ≡ take at buffer.old ++ (bytes.now ++ drop (at + length bytes.now) buffer.old) }
+fn set_eight(bytes: [u8; 8], at: usize, buffer: &mut [u8])
+    requires { at + 8 ≤ length buffer.old }
+    ensures { buffer.new ≡ take at buffer.old ++ (bytes ++ drop (at + 8) buffer.old) }
 {
-    buffer[at..at + bytes.len()].copy_from_slice(bytes);
+    let [a, b, c, d, e, f, g, h] = bytes;
+    buffer[at] = a;
+    buffer[at + 1] = b;
+    buffer[at + 2] = c;
+    buffer[at + 3] = d;
+    buffer[at + 4] = e;
+    buffer[at + 5] = f;
+    buffer[at + 6] = g;
+    buffer[at + 7] = h;
 }
 
 // Puts eight bytes behind those that were put, at once where there is room for all, and answers how
@@ -67,7 +76,7 @@ fn put_eight(bytes: [u8; 8], count: usize, buffer: &mut [u8]) -> usize
     if count > buffer.len() || buffer.len() - count < 8 {
         return put_each(&bytes, count, buffer);
     }
-    put_at(&bytes, count, buffer);
+    set_eight(bytes, count, buffer);
     count + 8
 }
 

@@ -28,9 +28,7 @@ pub use checksummed::Checksummed;
 pub use elements::Fe32Iter;
 pub use pieces::TextInPieces;
 use std::marker::PhantomData;
-pub use text::{
-    length_with_version, put_front_of_text, put_text_of_bytes, text_in, text_length,
-};
+pub use text::{length_with_version, put_front_of_text, put_text_of_bytes, text_in, text_length};
 pub use texts::CharIter;
 pub use version::WitnessVersionIter;
 

@@ -1,6 +1,5 @@
-use Rattle.std.proofs.Common.{◌≡◌, ◌∙◌, ◌*◌, ◌/◌, ◌++◌, List, length, map, take, ap, sym, arith}
+use Rattle.std.proofs.Common.{◌*◌, ◌/◌, length, map, take}
 use Rattle.std.proofs.lemmas.List.{take_rest}
-use Rattle.bech32_gf.specs.declared.gf32.Fe32.{Fe32}
 use Rattle.bech32_bits.specs.Bits.{to_fes}
 use Rattle.bech32_checksum.specs.Encoded.{char_of_element}
 use Rattle.bech32_encode.proofs.WholeGroups.{all_fes, characters-append, residue_then}
