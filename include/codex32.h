@@ -13,6 +13,8 @@
  * No pointer may be null, not even that of an empty text or buffer, and nothing that a function writes
  * to may overlap with anything else that it is given. These two, that the lengths are true, and what
  * is said of lent memory, are all that a caller owes.
+ *
+ * This describes the version of the library that CODEX32_VERSION names, which is that of the file VERSION.
  */
 #ifndef CODEX32_H
 #define CODEX32_H
@@ -23,6 +25,9 @@
 #ifdef __cplusplus
 extern "C" {
 #endif
+
+/* The version of the library. */
+#define CODEX32_VERSION "0.1.0"
 
 /* The least and the greatest length of a codex32 string, in characters. */
 #define CODEX32_MIN_TEXT 48u
