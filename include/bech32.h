@@ -7,8 +7,9 @@
  * number of threads may call it.
  *
  * Each function answers BECH32_OK, or the number of a refusal (below). On a refusal it writes
- * nothing: the buffers and the lengths stay as they were. Else what it writes stands at the front of
- * the buffer, and the bytes behind it stay as they were. Nothing is ended by a zero byte.
+ * nothing, but for the place of bech32_fault: the buffers and the lengths stay as they were. Else what
+ * it writes stands at the front of the buffer, and the bytes behind it stay as they were. Nothing is
+ * ended by a zero byte.
  *
  * A buffer is a pointer and the number of bytes it has room for. No pointer may be null, not even
  * that of an empty text or buffer, and nothing that a function writes to may overlap with anything
@@ -16,8 +17,9 @@
  *
  * Lengths are in bytes, which are characters where the text is accepted or written.
  *
- * This describes the version of the library that BECH32_VERSION names, which is also that of the Rust
- * crate over it (bindings/rust). The refusals are those of the Rust crate bech32 0.12.0, in its order.
+ * This describes the version of the library that BECH32_VERSION names, which is that of the file
+ * VERSION and of the packages over it. The refusals are those of the Rust crate bech32 0.12.0, in its
+ * order.
  */
 #ifndef BECH32_H
 #define BECH32_H
@@ -108,6 +110,19 @@ uint32_t bech32_decode(const uint8_t *text, size_t text_length, uint8_t *hrp, si
  */
 uint32_t bech32_check(uint32_t checksum, const uint8_t *text, size_t text_length,
                       size_t *hrp_length, size_t *data_length);
+
+/*
+ * Answers what bech32_check answers to a text, and where its fault stands, as a place in bytes from 0:
+ *   13, 14    *place is that of the first character that may not stand in a human-readable part;
+ *   21        that of the last character behind the separator that may not stand there (of the whole
+ *             text, where it has no separator); of a character of several bytes it is the first;
+ *   22        that of the first letter with one of the other case before it;
+ *   11, 12    the length of the human-readable part;
+ *   23, 31 to 33    the length of the text.
+ * Of 0, 2 and 4 *place stays as it was. Of a text that bech32_decode or bech32_segwit_decode refuses
+ * by 11 to 14 or 21 to 23, this answers the same number, by either checksum.
+ */
+uint32_t bech32_fault(uint32_t checksum, const uint8_t *text, size_t text_length, size_t *place);
 
 /*
  * Encodes a segwit address of a witness version (0 to 16) and a program, in version 0 by Bech32 and

@@ -14,7 +14,8 @@
  * to may overlap with anything else that it is given. These two, that the lengths are true, and what
  * is said of lent memory, are all that a caller owes.
  *
- * This describes the version of the library that CODEX32_VERSION names, which is that of the file VERSION.
+ * This describes the version of the library that CODEX32_VERSION names, which is that of the file
+ * VERSION and of the packages over it.
  */
 #ifndef CODEX32_H
 #define CODEX32_H

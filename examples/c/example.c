@@ -40,15 +40,17 @@ static int texts(void) {
     return 0;
 }
 
-/* A text that is refused, and how another is mended where its fourth character from the end is
- * doubtful. */
+/* Texts that are refused, where the fault of one stands, and how another is mended where its fourth
+ * character from the end is doubtful. */
 static int corrections(void) {
     uint8_t mended[BECH32_MAX_TEXT], values[BECH32_MAX_LISTED];
-    size_t locations[BECH32_MAX_LISTED], count, mended_length, hrp_length, data_length;
+    size_t locations[BECH32_MAX_LISTED], count, mended_length, hrp_length, data_length, place;
     uint32_t number;
 
     number = bech32_check(BECH32_BECH32, (const uint8_t *)"a12uel5m", 8, &hrp_length, &data_length);
     printf("a12uel5m: refusal %u\n", (unsigned)number);
+    number = bech32_fault(BECH32_BECH32, (const uint8_t *)"x1b4n0q5v", 9, &place);
+    printf("x1b4n0q5v: refusal %u at %u\n", (unsigned)number, (unsigned)place);
 
     const char *mistyped = "a12uel5q";
     const size_t erasures[] = {3};

@@ -170,6 +170,7 @@ static const uint32_t of_residue[] = {4, 0};
 static Function encode = {"bech32_encode", 0, {0}, of_encode};
 static Function decode = {"bech32_decode", 0, {0}, of_decode};
 static Function check = {"bech32_check", 0, {0}, of_check};
+static Function fault = {"bech32_fault", 0, {0}, of_check};
 static Function segwit_encode = {"bech32_segwit_encode", 0, {0}, of_segwit_encode};
 static Function segwit_decode = {"bech32_segwit_decode", 0, {0}, of_segwit_decode};
 static Function residue = {"bech32_residue", 0, {0}, of_residue};
@@ -430,6 +431,39 @@ static void try_check(void) {
         expect(h >= 1 && h <= BECH32_MAX_HRP && h + 1 + n + 6 == text_length && text[h] == '1',
                "the lengths");
     }
+}
+
+/* Whether the fault of a text that is refused by this number may stand at a place. */
+static int may_stand_at(uint32_t number, size_t at) {
+    static const char alphabet[] = "qpzry9x8gf2tvdw0s3jn54khce6mua7lQPZRY9X8GF2TVDW0S3JN54KHCE6MUA7L";
+    int byte = at < text_length ? text[at] : -1;
+    switch (number) {
+    case BECH32_HRP_EMPTY: return at == 0 && byte == '1';
+    case BECH32_HRP_TOO_LONG: return at > BECH32_MAX_HRP && byte == '1';
+    case BECH32_HRP_NOT_ASCII: return byte >= 0xc0;
+    case BECH32_HRP_INVALID: return byte >= 0 && (byte < 33 || byte == 127);
+    case BECH32_INVALID_CHARACTER:
+        return byte == 0 || ((byte > 0 && byte < 0x80 && byte != '1' && strchr(alphabet, byte) == NULL) ||
+                             byte >= 0xc0);
+    case BECH32_MIXED_CASE: return (byte >= 'a' && byte <= 'z') || (byte >= 'A' && byte <= 'Z');
+    default: return at == text_length;
+    }
+}
+
+static void try_fault(void) {
+    uint32_t checksum = random_checksum();
+    size_t h, n;
+    begin(&fault);
+    random_text();
+    place(&read_1, text, text_length, 1);
+    size_t *told = new_length(&length_1);
+    uint32_t number = bech32_fault(checksum, read_1.buffer, text_length, told);
+    int has_place = number != BECH32_OK && number != BECH32_NOT_UTF8 && number != BECH32_BAD_NUMBER;
+    count(&fault, number);
+    expect(number == bech32_check(checksum, text, text_length, &h, &n), "bech32_check says otherwise");
+    expect_kept(&read_1, 0, "the text changed");
+    expect_kept(&length_1, has_place ? sizeof(size_t) : 0, "the place changed");
+    expect(!has_place || may_stand_at(number, length_in(&length_1)), "another place");
 }
 
 static void try_segwit_encode(void) {
@@ -719,9 +753,9 @@ static void print(const Function *function) {
 
 int main(int argc, char **argv) {
     static void (*const tries[])(void) = {
-        try_encode,        try_decode,  try_check,   try_segwit_encode,
-        try_segwit_decode, try_residue, try_correct, try_codex32_parse,
-        try_codex32_propose,
+        try_encode,        try_decode,        try_check,   try_fault,
+        try_segwit_encode, try_segwit_decode, try_residue, try_correct,
+        try_codex32_parse, try_codex32_propose,
     };
     unsigned long long count = argc > 1 ? strtoull(argv[1], NULL, 10) : 100000;
     Area *areas[] = {
@@ -740,6 +774,7 @@ int main(int argc, char **argv) {
     print(&encode);
     print(&decode);
     print(&check);
+    print(&fault);
     print(&segwit_encode);
     print(&segwit_decode);
     print(&residue);

@@ -7,5 +7,6 @@ pub mod Encoding
 pub mod Letters
 pub mod Listings
 pub mod Mending
+pub mod Places
 pub mod Puts
 pub mod Runs

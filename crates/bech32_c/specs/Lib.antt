@@ -6,4 +6,5 @@ pub mod Encode
 pub mod Engine
 pub mod Faults
 pub mod Numbers
+pub mod Place
 pub mod Segwit

@@ -104,8 +104,8 @@ fn checked<Ck: Checksum>(bytes: &[u8]) -> Result<(usize, usize), Refusal>
     Ok((checked.hrp().len(), data_part.len()))
 }
 
-// The same by the checksum of a number.
-fn checked_by(checksum: u32, bytes: &[u8]) -> Result<(usize, usize), Refusal>
+/// The same by the checksum of a number.
+pub(crate) fn checked_by(checksum: u32, bytes: &[u8]) -> Result<(usize, usize), Refusal>
     ensures { MatchResult result
         (λ n. ForChecksum checksum (IsCheckedAs bytes.now n.0 n.1))
         (λ e. IsFaultBy checksum (IsCheckFault bytes.now) e) }

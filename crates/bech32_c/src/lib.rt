@@ -15,6 +15,7 @@ pub mod correct;
 pub mod decode;
 pub mod encode;
 pub mod engine;
+pub mod fault;
 mod input;
 mod refusal;
 pub mod segwit;

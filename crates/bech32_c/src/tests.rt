@@ -2,6 +2,7 @@ use crate::correct::bech32_correct;
 use crate::decode::{bech32_check, bech32_decode};
 use crate::encode::bech32_encode;
 use crate::engine::bech32_residue;
+use crate::fault::bech32_fault;
 use crate::segwit::{bech32_segwit_decode, bech32_segwit_encode};
 use std::alloc::{AllocError, Global};
 use std::fmt::Debug;
@@ -441,6 +442,40 @@ fn writes_the_longest_program(rt: HostRuntime) {
     let mut count = LENGTH_BEFORE;
     let number = bech32_segwit_encode(b"bc", 1, &[0; 40], &mut [BEFORE; 90], &mut count);
     same(&rt, &number, &0);
+}
+
+// What is answered of a text's fault, and the place that is left.
+fn fault(checksum: u32, text: &[u8]) -> (u32, usize) {
+    let mut place = LENGTH_BEFORE;
+    let number = bech32_fault(checksum, text, &mut place);
+    (number, place)
+}
+
+#[test]
+fn places_of_faults(rt: HostRuntime) {
+    // Texts of BIP-173, and some with characters of two bytes.
+    let rows: [(u32, &[u8], (u32, usize)); 13] = [
+        (0, b"x1b4n0q5v", (4, LENGTH_BEFORE)),
+        (1, b"x1\xff", (2, LENGTH_BEFORE)),
+        (1, b"A12UEL5L", (0, LENGTH_BEFORE)),
+        (2, b"A12UEL5L", (33, 8)),
+        (1, b"1qzzfhee", (11, 0)),
+        (
+            1,
+            b"an84characterslonghumanreadablepartthatcontainsthenumber1andtheexcludedcharactersbio1569pvx",
+            (12, 84),
+        ),
+        (1, b"ab\xc3\xa9 1qqqqqq", (13, 2)),
+        (2, b"\x7f1axkwrx", (14, 0)),
+        (2, b"x1b4\xc3\xa90q5v", (21, 4)),
+        (1, b"x1b4n0q5v", (21, 2)),
+        (1, b"a!1qqQqqqq", (22, 5)),
+        (1, b"pzry9x0s0muk", (23, 12)),
+        (2, b"in1muywd", (32, 8)),
+    ];
+    for (checksum, text, want) in rows {
+        same(&rt, &fault(checksum, text), &want);
+    }
 }
 
 // What the remainder of elements answers, and what it leaves.
