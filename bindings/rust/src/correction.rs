@@ -49,8 +49,8 @@ impl Correction {
 ///
 /// # Errors
 ///
-/// Those of [`CheckedHrpstring::new`](crate::primitives::decode::CheckedHrpstring::new), but
-/// [`Refusal::NoCorrection`] in place of [`Refusal::WrongChecksum`], where there is no such
+/// The [`Refusal`] that [`CheckedHrpstring::new`](crate::primitives::decode::CheckedHrpstring::new) has, but
+/// [`Refusal::NoCorrection`] in place of a wrong checksum, where there is no such
 /// correction or an erasure is not in the data part.
 pub fn correct<Ck: Checksum>(s: &str, erasures: &[usize]) -> Result<Correction, Refusal> {
     let (mut locations, mut values) = ([0; MAX_LISTED], [0; MAX_LISTED]);

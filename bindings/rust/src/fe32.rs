@@ -1,10 +1,24 @@
 //! Elements of five bits, which the characters of a data part stand for.
 
-use crate::Refusal;
+use std::error::Error;
 use std::fmt;
+use std::num::TryFromIntError;
 
 // The characters of the elements from 0 to 31 (BIP-173).
 const CHARACTERS: &[u8; 32] = b"qpzry9x8gf2tvdw0s3jn54khce6mua7l";
+
+// The value of each character, in either case, and 32 of others.
+const VALUES: [u8; 128] = {
+    let mut values = [32; 128];
+    let mut value = 0;
+    while value < CHARACTERS.len() {
+        let character = CHARACTERS[value];
+        values[character as usize] = value as u8;
+        values[character.to_ascii_uppercase() as usize] = value as u8;
+        value += 1;
+    }
+    values
+};
 
 /// An element, from 0 to 31: the value of a character of a data part, or a witness version.
 #[derive(Clone, Copy, Debug, PartialEq, Eq, PartialOrd, Ord, Hash)]
@@ -29,6 +43,38 @@ elements! {
 }
 
 impl Fe32 {
+    /// The element of a character, in either case.
+    ///
+    /// ```
+    /// use bech32_proved::primitives::gf32::FromCharError;
+    /// use bech32_proved::Fe32;
+    ///
+    /// assert_eq!(Fe32::from_char('L'), Ok(Fe32::L));
+    /// assert_eq!(Fe32::from_char('b'), Err(FromCharError::Invalid('b')));
+    /// ```
+    ///
+    /// # Errors
+    ///
+    /// The character, where it is not one of the 32.
+    pub fn from_char(c: char) -> Result<Fe32, FromCharError> {
+        if !c.is_ascii() {
+            return Err(FromCharError::NotAscii(c));
+        }
+        match VALUES[c as usize] {
+            value @ 0..=31 => Ok(Fe32(value)),
+            _ => Err(FromCharError::Invalid(c)),
+        }
+    }
+
+    /// The element of a character that is known to be one of the 32, in either case.
+    ///
+    /// # Panics
+    ///
+    /// Where it is not.
+    pub fn from_char_unchecked(c: u8) -> Fe32 {
+        Fe32::from_char(char::from(c)).expect("a character of the alphabet")
+    }
+
     /// Its value, from 0 to 31.
     pub fn to_u8(self) -> u8 {
         self.0
@@ -45,23 +91,36 @@ impl Fe32 {
     pub fn to_char(self) -> char {
         char::from(CHARACTERS[usize::from(self.0)])
     }
-}
 
-impl TryFrom<u8> for Fe32 {
-    type Error = Refusal;
-
-    /// The element of a value.
-    ///
-    /// # Errors
-    ///
-    /// [`Refusal::BadNumber`] where it is above 31.
-    fn try_from(value: u8) -> Result<Fe32, Refusal> {
-        match value {
-            0..=31 => Ok(Fe32(value)),
-            _ => Err(Refusal::BadNumber),
-        }
+    // The element of the five low bits of a number.
+    pub(crate) fn of_low_bits(number: u32) -> Fe32 {
+        Fe32((number & 31) as u8)
     }
 }
+
+macro_rules! from_numbers {
+    ($($number:ident)*) => {
+        $(
+            impl TryFrom<$number> for Fe32 {
+                type Error = TryFromError;
+
+                /// The element of a value.
+                ///
+                /// # Errors
+                ///
+                /// Where it is not from 0 to 31.
+                fn try_from(value: $number) -> Result<Fe32, TryFromError> {
+                    match u8::try_from(value)? {
+                        byte @ 0..=31 => Ok(Fe32(byte)),
+                        byte => Err(TryFromError::InvalidByte(byte)),
+                    }
+                }
+            }
+        )*
+    };
+}
+
+from_numbers! { u8 u16 u32 u64 u128 i8 i16 i32 i64 i128 }
 
 impl From<Fe32> for u8 {
     fn from(element: Fe32) -> u8 {
@@ -69,8 +128,77 @@ impl From<Fe32> for u8 {
     }
 }
 
+impl AsRef<u8> for Fe32 {
+    fn as_ref(&self) -> &u8 {
+        &self.0
+    }
+}
+
 impl fmt::Display for Fe32 {
     fn fmt(&self, f: &mut fmt::Formatter<'_>) -> fmt::Result {
-        write!(f, "{}", self.to_char())
+        fmt::Display::fmt(&self.to_char(), f)
+    }
+}
+
+/// Why a character stands for no element.
+#[derive(Clone, Copy, Debug, PartialEq, Eq)]
+#[non_exhaustive]
+pub enum FromCharError {
+    /// It is not ASCII.
+    NotAscii(char),
+    /// It is ASCII, and not one of the 32.
+    Invalid(char),
+}
+
+impl fmt::Display for FromCharError {
+    fn fmt(&self, f: &mut fmt::Formatter<'_>) -> fmt::Result {
+        match self {
+            FromCharError::NotAscii(c) => write!(f, "non-ascii char in field element: {c}"),
+            FromCharError::Invalid(c) => write!(f, "invalid char in field element: {c}"),
+        }
+    }
+}
+
+impl Error for FromCharError {}
+
+/// Why a number is no element.
+#[derive(Clone, Copy, Debug, PartialEq, Eq)]
+#[non_exhaustive]
+pub enum TryFromError {
+    /// It is not from 0 to 255.
+    NotAByte(TryFromIntError),
+    /// It is a byte above 31.
+    InvalidByte(u8),
+}
+
+impl fmt::Display for TryFromError {
+    fn fmt(&self, f: &mut fmt::Formatter<'_>) -> fmt::Result {
+        match self {
+            TryFromError::NotAByte(_) => f.write_str("invalid field element"),
+            TryFromError::InvalidByte(byte) => {
+                write!(f, "invalid byte in field element: {byte:#04x}")
+            }
+        }
+    }
+}
+
+impl Error for TryFromError {
+    fn source(&self) -> Option<&(dyn Error + 'static)> {
+        match self {
+            TryFromError::NotAByte(e) => Some(e),
+            TryFromError::InvalidByte(_) => None,
+        }
+    }
+}
+
+impl From<TryFromIntError> for TryFromError {
+    fn from(e: TryFromIntError) -> TryFromError {
+        TryFromError::NotAByte(e)
+    }
+}
+
+impl From<std::convert::Infallible> for TryFromError {
+    fn from(never: std::convert::Infallible) -> TryFromError {
+        match never {}
     }
 }

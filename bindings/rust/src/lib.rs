@@ -3,10 +3,9 @@
 //! every input.
 //!
 //! The names are those of the Rust crate bech32 0.12.0, so that a program that calls these
-//! functions needs another `use` and little else. What differs: a call that refuses answers a
-//! [`Refusal`], one enum for all calls, whose numbers are those of `include/bech32.h`; checksums
-//! are [`Bech32`] and [`Bech32m`] and no others; the one reader is
-//! [`CheckedHrpstring`](primitives::decode::CheckedHrpstring).
+//! functions needs another `use` and little else: the README says what is not there. Beside that
+//! crate's errors, each of which holds the character or the length at fault, [`Refusal`] has the number
+//! of any of them in `include/bech32.h`, and [`fault()`] says where in a text the fault stands.
 //!
 //! What is proved is the library. This crate turns slices into the pointers and lengths that the
 //! library takes, in its one module with `unsafe` code, and what comes back into values; it is
@@ -23,14 +22,14 @@
 //!
 //! let address = segwit::encode(hrp::BC, segwit::VERSION_1, &[0xab; 20])?;
 //! assert_eq!(address, "bc1p4w46h2at4w46h2at4w46h2at4w46h2at5kreae");
-//! # Ok::<(), bech32_proved::Refusal>(())
+//! # Ok::<(), Box<dyn std::error::Error>>(())
 //! ```
 //!
 //! # Decoding
 //!
 //! ```
-//! use bech32_proved::primitives::decode::CheckedHrpstring;
-//! use bech32_proved::{segwit, Bech32m, Hrp, Refusal};
+//! use bech32_proved::primitives::decode::{CharError, CheckedHrpstring};
+//! use bech32_proved::{segwit, Bech32m, DecodeError, Hrp, Refusal};
 //!
 //! let text = "abc14w46h2at4w46h2at4w46h2at4w46h2at958ngu";
 //! let (part, bytes) = bech32_proved::decode(text)?;
@@ -44,10 +43,14 @@
 //! assert_eq!(version, segwit::VERSION_1);
 //! assert_eq!(program, [0xab; 20]);
 //!
-//! let refusal = bech32_proved::decode("abc14w46h2at4w46h2at4w46h2at4w46h2at958ngx").unwrap_err();
-//! assert_eq!(refusal, Refusal::WrongChecksum);
-//! assert_eq!(refusal.number(), 33);
-//! # Ok::<(), Refusal>(())
+//! let mistyped = "abc14w46h2at4w46h2at4w46h2at4w46h2at958ngx";
+//! let error = bech32_proved::decode(mistyped).unwrap_err();
+//! assert_eq!(error.to_string(), "no valid bech32 or bech32m checksum");
+//! assert_eq!(Refusal::from(error), Refusal::WrongChecksum);
+//!
+//! let error = bech32_proved::decode("abc14w46h2at4w46b2at4w46h2at4w46h2at958ngu").unwrap_err();
+//! assert_eq!(error, DecodeError::Parse(CharError::InvalidChar('b').into()));
+//! # Ok::<(), Box<dyn std::error::Error>>(())
 //! ```
 //!
 //! [BIP-173]: <https://github.com/bitcoin/bips/blob/master/bip-0173.mediawiki>
@@ -60,21 +63,31 @@ mod checksum;
 #[cfg(feature = "correct")]
 mod correction;
 mod decode;
+mod error;
+mod fault;
 mod fe32;
+mod iter;
 mod part;
 #[allow(unsafe_code)]
 mod raw;
 mod refusal;
+mod rules;
 pub mod segwit;
 mod text;
 
 pub use checksum::{Bech32, Bech32m, Checksum};
 #[cfg(feature = "correct")]
 pub use correction::{correct, Correction};
+pub use fault::{fault, Fault};
 pub use fe32::Fe32;
+pub use iter::{ByteIterExt, Fe32IterExt};
 pub use part::Hrp;
 pub use refusal::Refusal;
-pub use text::{decode, encode};
+pub use text::{
+    decode, encode, encode_lower, encode_lower_to_fmt, encode_lower_to_writer, encode_to_fmt,
+    encode_to_writer, encode_upper, encode_upper_to_fmt, encode_upper_to_writer, encoded_length,
+    DecodeError, EncodeError, EncodeIoError,
+};
 
 /// Human-readable parts, and those of the Bitcoin networks.
 pub mod hrp {
@@ -96,24 +109,40 @@ pub mod primitives {
         pub use crate::correction::{correct, Correction};
     }
 
-    /// Texts read.
+    /// Texts read, and why they are refused.
     pub mod decode {
-        pub use crate::decode::CheckedHrpstring;
+        pub use crate::decode::{CheckedHrpstring, SegwitHrpstring, UncheckedHrpstring};
+        pub use crate::error::{
+            CharError, CheckedHrpstringError, ChecksumError, CodeLengthError, InvalidResidueError,
+            PaddingError, SegwitCodeLengthError, SegwitHrpstringError, UncheckedHrpstringError,
+        };
+        pub use crate::iter::{AsciiToFe32Iter, ByteIter};
     }
 
     /// Elements of five bits.
     pub mod gf32 {
-        pub use crate::fe32::Fe32;
+        pub use crate::fe32::{Fe32, FromCharError, TryFromError};
     }
 
     /// Human-readable parts.
     pub mod hrp {
-        pub use crate::part::{Hrp, BC, BCRT, TB};
+        pub use crate::part::{
+            ByteIter, CharIter, Error, Hrp, LowercaseByteIter, LowercaseCharIter, BC, BCRT, TB,
+        };
     }
 
-    /// The witness versions that have calls of their own.
+    /// Bytes as elements, and back.
+    pub mod iter {
+        pub use crate::iter::{ByteIterExt, BytesToFes, Fe32IterExt, FesToBytes};
+    }
+
+    /// The rules of segwit addresses.
     pub mod segwit {
-        pub use crate::segwit::{VERSION_0, VERSION_1};
+        pub use crate::rules::{
+            is_valid_witness_program_length, is_valid_witness_version,
+            validate_witness_program_length, validate_witness_version, InvalidWitnessVersionError,
+            WitnessLengthError, MAX_STRING_LENGTH, VERSION_0, VERSION_1,
+        };
     }
 }
 

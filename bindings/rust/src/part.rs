@@ -6,6 +6,8 @@ use crate::{raw, Bech32, Refusal};
 use std::cmp::Ordering;
 use std::fmt;
 use std::hash::{Hash, Hasher};
+use std::iter::{Copied, Map};
+use std::slice;
 
 /// The bytes that a human-readable part has at most (BIP-173).
 pub(crate) const MAX_HRP_LENGTH: usize = 83;
@@ -14,13 +16,25 @@ pub(crate) const MAX_HRP_LENGTH: usize = 83;
 const WITHOUT_DATA: usize = 7;
 
 /// The human-readable part of the Bitcoin network.
-pub const BC: Hrp = Hrp::of(b"bc");
+pub const BC: Hrp = Hrp::parse_unchecked("bc");
 
 /// The human-readable part of the Bitcoin networks for tests, testnet and signet.
-pub const TB: Hrp = Hrp::of(b"tb");
+pub const TB: Hrp = Hrp::parse_unchecked("tb");
 
 /// The human-readable part of a Bitcoin network of one's own, regtest.
-pub const BCRT: Hrp = Hrp::of(b"bcrt");
+pub const BCRT: Hrp = Hrp::parse_unchecked("bcrt");
+
+/// The bytes of a human-readable part.
+pub type ByteIter<'b> = Copied<slice::Iter<'b, u8>>;
+
+/// The characters of a human-readable part.
+pub type CharIter<'b> = Map<ByteIter<'b>, fn(u8) -> char>;
+
+/// The bytes of a human-readable part, in lower case.
+pub type LowercaseByteIter<'b> = Map<slice::Iter<'b, u8>, fn(&u8) -> u8>;
+
+/// The characters of a human-readable part, in lower case.
+pub type LowercaseCharIter<'b> = Map<LowercaseByteIter<'b>, fn(u8) -> char>;
 
 /// The human-readable part of a text: 1 to 83 characters with codes from 33 to 126, without letters
 /// of both cases.
@@ -28,12 +42,13 @@ pub const BCRT: Hrp = Hrp::of(b"bcrt");
 /// Parts that differ in case alone are equal, and hash and sort alike; each keeps its own case.
 ///
 /// ```
-/// use bech32_proved::{hrp, Hrp, Refusal};
+/// use bech32_proved::primitives::hrp::Error;
+/// use bech32_proved::{hrp, Hrp};
 ///
 /// assert_eq!(Hrp::parse("BC")?, hrp::BC);
 /// assert_eq!(Hrp::parse("BC")?.as_str(), "BC");
-/// assert_eq!(Hrp::parse("Bc"), Err(Refusal::HrpMixedCase));
-/// # Ok::<(), Refusal>(())
+/// assert_eq!(Hrp::parse("Bc"), Err(Error::MixedCase));
+/// # Ok::<(), Error>(())
 /// ```
 #[derive(Clone, Copy)]
 pub struct Hrp {
@@ -42,36 +57,61 @@ pub struct Hrp {
 }
 
 impl Hrp {
-    // A known part.
-    const fn of(known: &[u8]) -> Hrp {
-        let mut bytes = [0; MAX_HRP_LENGTH];
-        let mut i = 0;
-        while i < known.len() {
-            bytes[i] = known[i];
-            i += 1;
-        }
-        Hrp {
-            bytes,
-            length: known.len(),
-        }
-    }
-
     // The part that the library read.
     pub(crate) fn read(part: &[u8]) -> Hrp {
-        Hrp::of(part)
+        let mut bytes = [0; MAX_HRP_LENGTH];
+        bytes[..part.len()].copy_from_slice(part);
+        Hrp {
+            bytes,
+            length: part.len(),
+        }
     }
 
     /// Reads a human-readable part.
     ///
     /// # Errors
     ///
-    /// [`Refusal::HrpEmpty`], [`Refusal::HrpTooLong`], [`Refusal::HrpNotAscii`],
-    /// [`Refusal::HrpInvalid`] or [`Refusal::HrpMixedCase`], whichever is met first.
-    pub fn parse(hrp: &str) -> Result<Hrp, Refusal> {
+    /// [`Error::Empty`]; [`Error::TooLong`]; then what is wrong with the first character that may not
+    /// stand there.
+    pub fn parse(hrp: &str) -> Result<Hrp, Error> {
         // The library reads the part before it writes the text of no bytes, which has room.
         let mut text = [0; MAX_HRP_LENGTH + WITHOUT_DATA];
-        raw::encode(Bech32::NUMBER, hrp.as_bytes(), &[], &mut text)?;
-        Ok(Hrp::read(hrp.as_bytes()))
+        match raw::encode(Bech32::NUMBER, hrp.as_bytes(), &[], &mut text) {
+            Ok(_) => Ok(Hrp::read(hrp.as_bytes())),
+            Err(refusal) => Err(Error::of(hrp, refusal).expect("a refusal of a part")),
+        }
+    }
+
+    /// Reads a human-readable part from what a value prints.
+    ///
+    /// # Errors
+    ///
+    /// Those of [`Hrp::parse`].
+    pub fn parse_display<T: fmt::Display>(data: T) -> Result<Hrp, Error> {
+        Hrp::parse(&data.to_string())
+    }
+
+    /// A part that is not tested, with `X` in place of each byte that is not from 33 to 126. Of one
+    /// that [`Hrp::parse`] would refuse, the calls that write texts may answer an error.
+    ///
+    /// # Panics
+    ///
+    /// Where it has more than 83 bytes.
+    pub const fn parse_unchecked(hrp: &str) -> Hrp {
+        let given = hrp.as_bytes();
+        let mut bytes = [0; MAX_HRP_LENGTH];
+        let mut i = 0;
+        while i < given.len() {
+            bytes[i] = match given[i] {
+                byte @ 33..=126 => byte,
+                _ => b'X',
+            };
+            i += 1;
+        }
+        Hrp {
+            bytes,
+            length: given.len(),
+        }
     }
 
     /// Its bytes, in its case.
@@ -89,15 +129,61 @@ impl Hrp {
         self.as_str().to_ascii_lowercase()
     }
 
-    // Its bytes in lower case, by which parts are compared.
-    fn lowercase_bytes(&self) -> impl Iterator<Item = u8> + '_ {
+    /// Its bytes, in its case.
+    pub fn byte_iter(&self) -> ByteIter<'_> {
+        self.as_bytes().iter().copied()
+    }
+
+    /// Its characters, in its case.
+    pub fn char_iter(&self) -> CharIter<'_> {
+        self.byte_iter().map(char::from)
+    }
+
+    /// Its bytes in lower case.
+    pub fn lowercase_byte_iter(&self) -> LowercaseByteIter<'_> {
         self.as_bytes().iter().map(u8::to_ascii_lowercase)
+    }
+
+    /// Its characters in lower case.
+    pub fn lowercase_char_iter(&self) -> LowercaseCharIter<'_> {
+        self.lowercase_byte_iter().map(char::from)
+    }
+
+    /// How many characters it has, from 1 to 83.
+    #[allow(clippy::len_without_is_empty)]
+    pub const fn len(&self) -> usize {
+        self.length
+    }
+
+    /// Whether it is `bc` or `tb`, in either case (BIP-173, Segwit address format).
+    pub fn is_valid_segwit(&self) -> bool {
+        self.is_valid_on_mainnet() || self.is_valid_on_testnet()
+    }
+
+    /// Whether it is `bc`, in either case.
+    pub fn is_valid_on_mainnet(&self) -> bool {
+        *self == BC
+    }
+
+    /// Whether it is `tb`, in either case.
+    pub fn is_valid_on_testnet(&self) -> bool {
+        *self == TB
+    }
+
+    /// Whether it is `tb`, in either case.
+    pub fn is_valid_on_signet(&self) -> bool {
+        *self == TB
+    }
+
+    /// Whether it is `bcrt`, in either case.
+    pub fn is_valid_on_regtest(&self) -> bool {
+        *self == BCRT
     }
 }
 
 impl PartialEq for Hrp {
     fn eq(&self, other: &Hrp) -> bool {
-        self.lowercase_bytes().eq(other.lowercase_bytes())
+        self.lowercase_byte_iter().eq(other.lowercase_byte_iter())
     }
 }
 
@@ -111,14 +197,14 @@ impl PartialOrd for Hrp {
 
 impl Ord for Hrp {
     fn cmp(&self, other: &Hrp) -> Ordering {
-        self.lowercase_bytes().cmp(other.lowercase_bytes())
+        self.lowercase_byte_iter().cmp(other.lowercase_byte_iter())
     }
 }
 
 impl Hash for Hrp {
     fn hash<H: Hasher>(&self, state: &mut H) {
         self.length.hash(state);
-        self.lowercase_bytes().for_each(|byte| byte.hash(state));
+        self.lowercase_byte_iter().for_each(|byte| byte.hash(state));
     }
 }
 
@@ -133,3 +219,56 @@ impl fmt::Debug for Hrp {
         f.debug_tuple("Hrp").field(&self.as_str()).finish()
     }
 }
+
+/// Why a text is no human-readable part.
+#[derive(Clone, Copy, Debug, PartialEq, Eq)]
+#[non_exhaustive]
+pub enum Error {
+    /// It has more than 83 bytes: how many.
+    TooLong(usize),
+    /// It is empty.
+    Empty,
+    /// It has this character, which is not ASCII.
+    NonAsciiChar(char),
+    /// It has this byte, which is ASCII and not from 33 to 126.
+    InvalidAsciiByte(u8),
+    /// It has letters of both cases.
+    MixedCase,
+}
+
+impl Error {
+    // What a refusal of a text as a human-readable part says of it. Before the first character at
+    // fault all are ASCII, from 33 to 126.
+    pub(crate) fn of(hrp: &str, refusal: Refusal) -> Option<Error> {
+        match refusal {
+            Refusal::HrpEmpty => Some(Error::Empty),
+            Refusal::HrpTooLong => Some(Error::TooLong(hrp.len())),
+            Refusal::HrpNotAscii => hrp.chars().find(|c| !c.is_ascii()).map(Error::NonAsciiChar),
+            Refusal::HrpInvalid => {
+                let byte = hrp.bytes().find(|b| !(33..=126).contains(b));
+                byte.map(Error::InvalidAsciiByte)
+            }
+            Refusal::HrpMixedCase => Some(Error::MixedCase),
+            _ => None,
+        }
+    }
+}
+
+impl fmt::Display for Error {
+    fn fmt(&self, f: &mut fmt::Formatter<'_>) -> fmt::Result {
+        match self {
+            Error::TooLong(length) => write!(
+                f,
+                "hrp is too long, found {length} characters, must be <= {MAX_HRP_LENGTH}"
+            ),
+            Error::Empty => f.write_str("hrp is empty, must have at least 1 character"),
+            Error::NonAsciiChar(c) => write!(f, "found non-ASCII character: {c}"),
+            Error::InvalidAsciiByte(byte) => {
+                write!(f, "byte value is not valid US-ASCII: '{byte:x}'")
+            }
+            Error::MixedCase => f.write_str("hrp cannot mix upper and lower case"),
+        }
+    }
+}
+
+impl std::error::Error for Error {}

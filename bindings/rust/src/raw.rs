@@ -38,6 +38,20 @@ mod c {
             data_length: *mut usize,
         ) -> u32;
 
+        pub fn bech32_fault(
+            checksum: u32,
+            text: *const u8,
+            text_length: usize,
+            place: *mut usize,
+        ) -> u32;
+
+        pub fn bech32_residue(
+            checksum: u32,
+            elements: *const u8,
+            elements_length: usize,
+            residue: *mut u32,
+        ) -> u32;
+
         pub fn bech32_segwit_encode(
             hrp: *const u8,
             hrp_length: usize,
@@ -142,6 +156,23 @@ pub fn check(checksum: u32, text: &[u8]) -> Result<(usize, usize), Refusal> {
         )
     };
     answered(number, (hrp_length, data_length))
+}
+
+/// Why a text is not accepted, and where its fault stands.
+pub fn fault(checksum: u32, text: &[u8]) -> Result<(), (Refusal, usize)> {
+    let mut place = 0;
+    // SAFETY: as in `encode`.
+    let number = unsafe { c::bech32_fault(checksum, text.as_ptr(), text.len(), &mut place) };
+    answered(number, ()).map_err(|refusal| (refusal, place))
+}
+
+/// The remainder that elements leave, a byte from 0 to 31 each.
+pub fn residue(checksum: u32, elements: &[u8]) -> Result<u32, Refusal> {
+    let mut residue = 0;
+    // SAFETY: as in `encode`.
+    let number =
+        unsafe { c::bech32_residue(checksum, elements.as_ptr(), elements.len(), &mut residue) };
+    answered(number, residue)
 }
 
 /// Puts a segwit address into a buffer, and answers its length.

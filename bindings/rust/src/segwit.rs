@@ -13,34 +13,58 @@
 //! let (part, version, decoded) = segwit::decode(&address)?;
 //! assert_eq!((part, version), (hrp::BC, segwit::VERSION_0));
 //! assert_eq!(decoded, program);
-//! # Ok::<(), bech32_proved::Refusal>(())
+//! # Ok::<(), Box<dyn std::error::Error>>(())
 //! ```
 
+use crate::decode::no_address;
+use crate::error::{causes, SegwitCodeLengthError, SegwitHrpstringError};
 use crate::part::MAX_HRP_LENGTH;
-use crate::text::ascii;
+use crate::rules::{
+    validate_witness_program_length, validate_witness_version, InvalidWitnessVersionError,
+    WitnessLengthError, MAX_STRING_LENGTH,
+};
+use crate::text::length_of;
 use crate::{raw, Fe32, Hrp, Refusal};
+use std::error::Error;
+use std::{fmt, io};
 
-// The characters that an address has at most, and the bytes of a program.
-const MAX_STRING_LENGTH: usize = 90;
-const MAX_PROGRAM_LENGTH: usize = 40;
+pub use crate::rules::{VERSION_0, VERSION_1};
 
-/// The first witness version, whose addresses have the checksum Bech32.
-pub const VERSION_0: Fe32 = Fe32::Q;
+/// The bytes that a witness program has at most.
+pub(crate) const MAX_PROGRAM_LENGTH: usize = 40;
 
-/// The witness version of taproot. It and those above it have the checksum Bech32m.
-pub const VERSION_1: Fe32 = Fe32::P;
+// Puts an address into a buffer, in lower case, and gives it.
+fn put<'b>(
+    hrp: &Hrp,
+    version: Fe32,
+    program: &[u8],
+    buffer: &'b mut [u8; MAX_STRING_LENGTH],
+) -> Result<&'b mut str, Refusal> {
+    let version = u32::from(version.to_u8());
+    let length = raw::segwit_encode(hrp.as_bytes(), version, program, buffer)?;
+    let written = &mut buffer[..length];
+    Ok(std::str::from_utf8_mut(written).expect("the library's characters are ASCII"))
+}
 
 /// Encodes the segwit address of a witness version and a program, in lower case.
 ///
 /// # Errors
 ///
-/// The first of: [`Refusal::EncodedBadVersion`]; [`Refusal::ProgramTooShort`],
-/// [`Refusal::ProgramTooLong`] or [`Refusal::ProgramNotV0`]; [`Refusal::EncodedAddressTooLong`].
-pub fn encode(hrp: Hrp, witness_version: Fe32, witness_program: &[u8]) -> Result<String, Refusal> {
-    let version = u32::from(witness_version.to_u8());
-    let mut text = [0; MAX_STRING_LENGTH];
-    let length = raw::segwit_encode(hrp.as_bytes(), version, witness_program, &mut text)?;
-    Ok(ascii(&text[..length]).to_owned())
+/// The first of: a version above 16; a program of no lawful length; an address of more than 90
+/// characters. Of a part that [`Hrp::parse`] would refuse, [`EncodeError::Fmt`].
+pub fn encode(
+    hrp: Hrp,
+    witness_version: Fe32,
+    witness_program: &[u8],
+) -> Result<String, EncodeError> {
+    validate_witness_version(witness_version)?;
+    validate_witness_program_length(witness_program.len(), witness_version)?;
+    encoded_length(hrp, witness_version, witness_program)?;
+    let mut buffer = [0; MAX_STRING_LENGTH];
+    match put(&hrp, witness_version, witness_program, &mut buffer) {
+        Ok(address) => Ok((*address).to_owned()),
+        Err(_) => Err(EncodeError::Fmt(fmt::Error)),
+    }
 }
 
 /// Encodes a segwit address of version 0.
@@ -48,7 +72,7 @@ pub fn encode(hrp: Hrp, witness_version: Fe32, witness_program: &[u8]) -> Result
 /// # Errors
 ///
 /// Those of [`encode`].
-pub fn encode_v0(hrp: Hrp, witness_program: &[u8]) -> Result<String, Refusal> {
+pub fn encode_v0(hrp: Hrp, witness_program: &[u8]) -> Result<String, EncodeError> {
     encode(hrp, VERSION_0, witness_program)
 }
 
@@ -57,8 +81,126 @@ pub fn encode_v0(hrp: Hrp, witness_program: &[u8]) -> Result<String, Refusal> {
 /// # Errors
 ///
 /// Those of [`encode`].
-pub fn encode_v1(hrp: Hrp, witness_program: &[u8]) -> Result<String, Refusal> {
+pub fn encode_v1(hrp: Hrp, witness_program: &[u8]) -> Result<String, EncodeError> {
     encode(hrp, VERSION_1, witness_program)
+}
+
+/// Writes a segwit address, in lower case.
+///
+/// # Errors
+///
+/// Where there is no such address, of which nothing is written, or the writer fails.
+pub fn encode_to_fmt_unchecked<W: fmt::Write>(
+    fmt: &mut W,
+    hrp: Hrp,
+    witness_version: Fe32,
+    witness_program: &[u8],
+) -> fmt::Result {
+    encode_lower_to_fmt_unchecked(fmt, hrp, witness_version, witness_program)
+}
+
+/// Writes a segwit address, in lower case.
+///
+/// # Errors
+///
+/// Where there is no such address, of which nothing is written, or the writer fails.
+pub fn encode_lower_to_fmt_unchecked<W: fmt::Write>(
+    fmt: &mut W,
+    hrp: Hrp,
+    witness_version: Fe32,
+    witness_program: &[u8],
+) -> fmt::Result {
+    let mut buffer = [0; MAX_STRING_LENGTH];
+    let address = put(&hrp, witness_version, witness_program, &mut buffer);
+    fmt.write_str(address.map_err(|_| fmt::Error)?)
+}
+
+/// Writes a segwit address, in upper case, as it is wanted in a QR code.
+///
+/// # Errors
+///
+/// Where there is no such address, of which nothing is written, or the writer fails.
+pub fn encode_upper_to_fmt_unchecked<W: fmt::Write>(
+    fmt: &mut W,
+    hrp: Hrp,
+    witness_version: Fe32,
+    witness_program: &[u8],
+) -> fmt::Result {
+    let mut buffer = [0; MAX_STRING_LENGTH];
+    let address = put(&hrp, witness_version, witness_program, &mut buffer);
+    let address = address.map_err(|_| fmt::Error)?;
+    address.make_ascii_uppercase();
+    fmt.write_str(address)
+}
+
+/// Writes a segwit address, in lower case.
+///
+/// # Errors
+///
+/// Where there is no such address, of which nothing is written, or the writer fails.
+pub fn encode_to_writer_unchecked<W: io::Write>(
+    w: &mut W,
+    hrp: Hrp,
+    witness_version: Fe32,
+    witness_program: &[u8],
+) -> io::Result<()> {
+    encode_lower_to_writer_unchecked(w, hrp, witness_version, witness_program)
+}
+
+/// Writes a segwit address, in lower case.
+///
+/// # Errors
+///
+/// Where there is no such address, of which nothing is written, or the writer fails.
+pub fn encode_lower_to_writer_unchecked<W: io::Write>(
+    w: &mut W,
+    hrp: Hrp,
+    witness_version: Fe32,
+    witness_program: &[u8],
+) -> io::Result<()> {
+    let mut buffer = [0; MAX_STRING_LENGTH];
+    let address = put(&hrp, witness_version, witness_program, &mut buffer);
+    w.write_all(address.map_err(unwritten)?.as_bytes())
+}
+
+/// Writes a segwit address, in upper case, as it is wanted in a QR code.
+///
+/// # Errors
+///
+/// Where there is no such address, of which nothing is written, or the writer fails.
+pub fn encode_upper_to_writer_unchecked<W: io::Write>(
+    w: &mut W,
+    hrp: Hrp,
+    witness_version: Fe32,
+    witness_program: &[u8],
+) -> io::Result<()> {
+    let mut buffer = [0; MAX_STRING_LENGTH];
+    let address = put(&hrp, witness_version, witness_program, &mut buffer);
+    let address = address.map_err(unwritten)?;
+    address.make_ascii_uppercase();
+    w.write_all(address.as_bytes())
+}
+
+// Why there is no address to write.
+fn unwritten(refusal: Refusal) -> io::Error {
+    io::Error::new(io::ErrorKind::InvalidInput, refusal)
+}
+
+/// The number of characters of a segwit address.
+///
+/// # Errors
+///
+/// That number, where it is more than 90.
+pub fn encoded_length(
+    hrp: Hrp,
+    _witness_version: Fe32,
+    witness_program: &[u8],
+) -> Result<usize, SegwitCodeLengthError> {
+    let length = length_of(&hrp, witness_program) + 1;
+    match length {
+        0..=MAX_STRING_LENGTH => Ok(length),
+        _ => Err(SegwitCodeLengthError(length)),
+    }
 }
 
 /// Decodes a segwit address: its human-readable part, in the case of the text, its witness version
@@ -68,25 +210,77 @@ pub fn encode_v1(hrp: Hrp, witness_program: &[u8]) -> Result<String, Refusal> {
 /// ```
 /// use bech32_proved::{segwit, Refusal};
 ///
-/// let refusal = segwit::decode("bc1pw5dgrnzv").unwrap_err();
-/// assert_eq!(refusal, Refusal::ProgramTooShort);
+/// let error = segwit::decode("bc1pw5dgrnzv").unwrap_err();
+/// assert_eq!(error.0.to_string(), "invalid witness length");
+/// assert_eq!(Refusal::from(error), Refusal::ProgramTooShort);
 /// ```
 ///
 /// # Errors
 ///
-/// The first of: [`Refusal::AddressTooLong`]; the faults of a text and of a human-readable part;
-/// [`Refusal::NoData`], [`Refusal::BadVersion`]; [`Refusal::NoChecksum`],
-/// [`Refusal::WrongChecksum`]; [`Refusal::PaddingTooLong`], [`Refusal::PaddingNotZero`];
-/// [`Refusal::ProgramTooShort`], [`Refusal::ProgramTooLong`], [`Refusal::ProgramNotV0`].
-pub fn decode(s: &str) -> Result<(Hrp, Fe32, Vec<u8>), Refusal> {
+/// Those of [`SegwitHrpstring::new`](crate::primitives::decode::SegwitHrpstring::new).
+pub fn decode(s: &str) -> Result<(Hrp, Fe32, Vec<u8>), DecodeError> {
     let (mut hrp, mut program) = ([0; MAX_HRP_LENGTH], [0; MAX_PROGRAM_LENGTH]);
     let (hrp_length, version, program_length) =
-        raw::segwit_decode(s.as_bytes(), &mut hrp, &mut program)?;
-    let version = u8::try_from(version).map(Fe32::try_from);
-    let version = version.expect("a witness version is small")?;
+        raw::segwit_decode(s.as_bytes(), &mut hrp, &mut program)
+            .map_err(|refusal| no_address(s, refusal))?;
     Ok((
         Hrp::read(&hrp[..hrp_length]),
-        version,
+        Fe32::of_low_bits(version),
         program[..program_length].to_vec(),
     ))
+}
+
+/// Why a text is no segwit address.
+#[derive(Clone, Copy, Debug, PartialEq, Eq)]
+#[non_exhaustive]
+pub struct DecodeError(pub SegwitHrpstringError);
+
+impl fmt::Display for DecodeError {
+    fn fmt(&self, f: &mut fmt::Formatter<'_>) -> fmt::Result {
+        f.write_str("decoding segwit address failed")
+    }
+}
+
+impl Error for DecodeError {
+    fn source(&self) -> Option<&(dyn Error + 'static)> {
+        Some(&self.0)
+    }
+}
+
+impl From<SegwitHrpstringError> for DecodeError {
+    fn from(e: SegwitHrpstringError) -> DecodeError {
+        DecodeError(e)
+    }
+}
+
+/// Why there is no segwit address.
+#[derive(Clone, Copy, Debug, PartialEq, Eq)]
+#[non_exhaustive]
+pub enum EncodeError {
+    /// The witness version is above 16.
+    WitnessVersion(InvalidWitnessVersionError),
+    /// The length of the program.
+    WitnessLength(WitnessLengthError),
+    /// It would have more than 90 characters.
+    TooLong(SegwitCodeLengthError),
+    /// A writer failed, or the human-readable part is none.
+    Fmt(fmt::Error),
+}
+
+impl fmt::Display for EncodeError {
+    fn fmt(&self, f: &mut fmt::Formatter<'_>) -> fmt::Result {
+        f.write_str(match self {
+            EncodeError::WitnessVersion(_) => "witness version",
+            EncodeError::WitnessLength(_) => "witness length",
+            EncodeError::TooLong(_) => "encode error",
+            EncodeError::Fmt(_) => "writing to formatter failed",
+        })
+    }
+}
+
+causes! {
+    EncodeError {
+        WitnessVersion(InvalidWitnessVersionError), WitnessLength(WitnessLengthError),
+        TooLong(SegwitCodeLengthError), Fmt(fmt::Error)
+    }
 }

@@ -1,7 +1,13 @@
 //! Texts of any human-readable part.
 
+use crate::decode::undecoded;
+use crate::error::{
+    causes, CheckedHrpstringError, ChecksumError, CodeLengthError, UncheckedHrpstringError,
+};
 use crate::part::MAX_HRP_LENGTH;
-use crate::{raw, Checksum, Hrp, Refusal};
+use crate::{raw, Checksum, Hrp};
+use std::error::Error;
+use std::{fmt, io};
 
 /// The characters that a text has at most.
 pub(crate) const MAX_TEXT_LENGTH: usize = 1023;
@@ -9,9 +15,35 @@ pub(crate) const MAX_TEXT_LENGTH: usize = 1023;
 // The bytes that a text has at most.
 const MAX_BYTES: usize = 634;
 
+// The characters of a separator and a checksum.
+const WITHOUT_DATA: usize = 7;
+
 /// The text of characters that the library wrote, or read in a text: ASCII.
 pub(crate) fn ascii(bytes: &[u8]) -> &str {
     std::str::from_utf8(bytes).expect("the library's characters are ASCII")
+}
+
+/// The characters of a text: five bits of the bytes each, rounded up, behind the human-readable part.
+pub(crate) fn length_of(hrp: &Hrp, data: &[u8]) -> usize {
+    let (groups, others) = (data.len() / 5, data.len() % 5);
+    let elements = groups.saturating_mul(8) + (8 * others).div_ceil(5);
+    elements.saturating_add(hrp.len() + WITHOUT_DATA)
+}
+
+/// The number of characters of the text of a human-readable part and bytes.
+///
+/// # Errors
+///
+/// That number, where it is more than the checksum allows.
+pub fn encoded_length<Ck: Checksum>(hrp: Hrp, data: &[u8]) -> Result<usize, CodeLengthError> {
+    let (encoded_length, code_length) = (length_of(&hrp, data), Ck::CODE_LENGTH);
+    if encoded_length > code_length {
+        return Err(CodeLengthError {
+            encoded_length,
+            code_length,
+        });
+    }
+    Ok(encoded_length)
 }
 
 /// Encodes bytes under a human-readable part by a checksum. The text is in lower case.
@@ -20,40 +52,226 @@ pub(crate) fn ascii(bytes: &[u8]) -> &str {
 /// use bech32_proved::{encode, Bech32, Hrp};
 ///
 /// assert_eq!(encode::<Bech32>(Hrp::parse("a")?, &[])?, "a12uel5l");
-/// # Ok::<(), bech32_proved::Refusal>(())
+/// # Ok::<(), Box<dyn std::error::Error>>(())
 /// ```
 ///
 /// # Errors
 ///
-/// [`Refusal::EncodedTooLong`] where the text would have more than 1023 characters.
-pub fn encode<Ck: Checksum>(hrp: Hrp, data: &[u8]) -> Result<String, Refusal> {
+/// [`EncodeError::TooLong`] where the text would have more than 1023 characters. Of a part that
+/// [`Hrp::parse`] would refuse, [`EncodeError::Fmt`].
+pub fn encode<Ck: Checksum>(hrp: Hrp, data: &[u8]) -> Result<String, EncodeError> {
+    encode_lower::<Ck>(hrp, data)
+}
+
+/// The same as [`encode`].
+///
+/// # Errors
+///
+/// Those of [`encode`].
+pub fn encode_lower<Ck: Checksum>(hrp: Hrp, data: &[u8]) -> Result<String, EncodeError> {
+    encoded_length::<Ck>(hrp, data)?;
     let mut text = [0; MAX_TEXT_LENGTH];
-    let length = raw::encode(Ck::NUMBER, hrp.as_bytes(), data, &mut text)?;
-    Ok(ascii(&text[..length]).to_owned())
+    match raw::encode(Ck::NUMBER, hrp.as_bytes(), data, &mut text) {
+        Ok(length) => Ok(ascii(&text[..length]).to_owned()),
+        Err(_) => Err(EncodeError::Fmt(fmt::Error)),
+    }
+}
+
+/// Encodes bytes in upper case.
+///
+/// # Errors
+///
+/// Those of [`encode`].
+pub fn encode_upper<Ck: Checksum>(hrp: Hrp, data: &[u8]) -> Result<String, EncodeError> {
+    let mut text = encode_lower::<Ck>(hrp, data)?;
+    text.make_ascii_uppercase();
+    Ok(text)
+}
+
+/// Writes the text of bytes, in lower case.
+///
+/// # Errors
+///
+/// Those of [`encode`], of which nothing is written, and [`EncodeError::Fmt`] where the writer fails.
+pub fn encode_to_fmt<Ck: Checksum, W: fmt::Write>(
+    fmt: &mut W,
+    hrp: Hrp,
+    data: &[u8],
+) -> Result<(), EncodeError> {
+    encode_lower_to_fmt::<Ck, W>(fmt, hrp, data)
+}
+
+/// The same as [`encode_to_fmt`].
+///
+/// # Errors
+///
+/// Those of [`encode_to_fmt`].
+pub fn encode_lower_to_fmt<Ck: Checksum, W: fmt::Write>(
+    fmt: &mut W,
+    hrp: Hrp,
+    data: &[u8],
+) -> Result<(), EncodeError> {
+    Ok(fmt.write_str(&encode_lower::<Ck>(hrp, data)?)?)
+}
+
+/// Writes the text of bytes, in upper case.
+///
+/// # Errors
+///
+/// Those of [`encode_to_fmt`].
+pub fn encode_upper_to_fmt<Ck: Checksum, W: fmt::Write>(
+    fmt: &mut W,
+    hrp: Hrp,
+    data: &[u8],
+) -> Result<(), EncodeError> {
+    Ok(fmt.write_str(&encode_upper::<Ck>(hrp, data)?)?)
+}
+
+/// Writes the text of bytes, in lower case.
+///
+/// # Errors
+///
+/// Those of [`encode`], of which nothing is written, and [`EncodeIoError::Write`] where the writer
+/// fails.
+pub fn encode_to_writer<Ck: Checksum, W: io::Write>(
+    w: &mut W,
+    hrp: Hrp,
+    data: &[u8],
+) -> Result<(), EncodeIoError> {
+    encode_lower_to_writer::<Ck, W>(w, hrp, data)
+}
+
+/// The same as [`encode_to_writer`].
+///
+/// # Errors
+///
+/// Those of [`encode_to_writer`].
+pub fn encode_lower_to_writer<Ck: Checksum, W: io::Write>(
+    w: &mut W,
+    hrp: Hrp,
+    data: &[u8],
+) -> Result<(), EncodeIoError> {
+    let text = encode_lower::<Ck>(hrp, data).map_err(unwritten)?;
+    Ok(w.write_all(text.as_bytes())?)
+}
+
+/// Writes the text of bytes, in upper case.
+///
+/// # Errors
+///
+/// Those of [`encode_to_writer`].
+pub fn encode_upper_to_writer<Ck: Checksum, W: io::Write>(
+    w: &mut W,
+    hrp: Hrp,
+    data: &[u8],
+) -> Result<(), EncodeIoError> {
+    let text = encode_upper::<Ck>(hrp, data).map_err(unwritten)?;
+    Ok(w.write_all(text.as_bytes())?)
+}
+
+// Why there is no text to write.
+fn unwritten(e: EncodeError) -> EncodeIoError {
+    match e {
+        EncodeError::TooLong(e) => EncodeIoError::TooLong(e),
+        EncodeError::Fmt(e) => EncodeIoError::Write(io::Error::new(io::ErrorKind::InvalidInput, e)),
+    }
 }
 
 /// Decodes a text that Bech32m or Bech32 accepts: its human-readable part, in the case of the text,
 /// and its bytes. Bits behind the last whole byte are dropped.
 ///
 /// ```
-/// use bech32_proved::{decode, Hrp, Refusal};
+/// use bech32_proved::primitives::decode::ChecksumError;
+/// use bech32_proved::{decode, DecodeError, Hrp};
 ///
 /// let (part, bytes) = decode("A1LQFN3A")?;
 /// assert_eq!((part, bytes), (Hrp::parse("a")?, vec![]));
-/// assert_eq!(decode("a12uel5"), Err(Refusal::NoChecksum));
-/// # Ok::<(), Refusal>(())
+/// assert_eq!(decode("a12uel5"), Err(DecodeError::Checksum(ChecksumError::InvalidLength)));
+/// # Ok::<(), Box<dyn std::error::Error>>(())
 /// ```
 ///
 /// # Errors
 ///
-/// The text's first fault: [`Refusal::InvalidCharacter`], [`Refusal::MixedCase`] or
-/// [`Refusal::NoSeparator`], one of the human-readable part, [`Refusal::TextTooLong`],
-/// [`Refusal::NoChecksum`] or [`Refusal::WrongChecksum`].
-pub fn decode(s: &str) -> Result<(Hrp, Vec<u8>), Refusal> {
+/// The text's first fault: its characters; its human-readable part; its length; its checksum, of
+/// which the error is that of Bech32m.
+pub fn decode(s: &str) -> Result<(Hrp, Vec<u8>), DecodeError> {
     let (mut hrp, mut bytes) = ([0; MAX_HRP_LENGTH], [0; MAX_BYTES]);
-    let (hrp_length, bytes_length) = raw::decode(s.as_bytes(), &mut hrp, &mut bytes)?;
+    let (hrp_length, bytes_length) =
+        raw::decode(s.as_bytes(), &mut hrp, &mut bytes).map_err(|refusal| undecoded(s, refusal))?;
     Ok((
         Hrp::read(&hrp[..hrp_length]),
         bytes[..bytes_length].to_vec(),
     ))
+}
+
+/// Why a text is not decoded.
+#[derive(Clone, Copy, Debug, PartialEq, Eq)]
+#[non_exhaustive]
+pub enum DecodeError {
+    /// It is not in the grammar.
+    Parse(UncheckedHrpstringError),
+    /// Neither checksum accepts it.
+    Checksum(ChecksumError),
+}
+
+impl fmt::Display for DecodeError {
+    fn fmt(&self, f: &mut fmt::Formatter<'_>) -> fmt::Result {
+        f.write_str(match self {
+            DecodeError::Parse(_) => "parsing failed",
+            DecodeError::Checksum(_) => "no valid bech32 or bech32m checksum",
+        })
+    }
+}
+
+impl From<CheckedHrpstringError> for DecodeError {
+    fn from(e: CheckedHrpstringError) -> DecodeError {
+        match e {
+            CheckedHrpstringError::Parse(e) => DecodeError::Parse(e),
+            CheckedHrpstringError::Checksum(e) => DecodeError::Checksum(e),
+        }
+    }
+}
+
+/// Why there is no text.
+#[derive(Clone, Copy, Debug, PartialEq, Eq)]
+#[non_exhaustive]
+pub enum EncodeError {
+    /// It would be longer than its checksum allows.
+    TooLong(CodeLengthError),
+    /// A writer failed, or the human-readable part is none.
+    Fmt(fmt::Error),
+}
+
+impl fmt::Display for EncodeError {
+    fn fmt(&self, f: &mut fmt::Formatter<'_>) -> fmt::Result {
+        f.write_str(match self {
+            EncodeError::TooLong(_) => "encode error",
+            EncodeError::Fmt(_) => "encode to formatter failed",
+        })
+    }
+}
+
+/// Why a text is not written.
+#[derive(Debug)]
+#[non_exhaustive]
+pub enum EncodeIoError {
+    /// It would be longer than its checksum allows.
+    TooLong(CodeLengthError),
+    /// The writer failed, or the human-readable part is none.
+    Write(io::Error),
+}
+
+impl fmt::Display for EncodeIoError {
+    fn fmt(&self, f: &mut fmt::Formatter<'_>) -> fmt::Result {
+        f.write_str(match self {
+            EncodeIoError::TooLong(_) => "encode error",
+            EncodeIoError::Write(_) => "encode to writer failed",
+        })
+    }
+}
+
+causes! {
+    DecodeError { Parse(UncheckedHrpstringError), Checksum(ChecksumError) }
+    EncodeError { TooLong(CodeLengthError), Fmt(fmt::Error) }
+    EncodeIoError { TooLong(CodeLengthError), Write(io::Error) }
 }

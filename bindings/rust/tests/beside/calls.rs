@@ -1,5 +1,6 @@
 //! Calls of either crate, and what both reply to them, in words that both share.
 
+use crate::readers;
 use std::fmt;
 
 /// Which checksum.
@@ -19,6 +20,8 @@ pub enum Call {
     Check(Code, String),
     SegwitEncode(String, u8, Vec<u8>),
     SegwitDecode(String),
+    Read(String),
+    ReadPart(String, Vec<u8>),
     #[cfg(feature = "correct")]
     Correct(Code, String, Vec<usize>),
 }
@@ -53,6 +56,8 @@ impl Call {
             Call::Check(..) => "CheckedHrpstring::new",
             Call::SegwitEncode(..) => "segwit::encode",
             Call::SegwitDecode(_) => "segwit::decode",
+            Call::Read(_) => "readers, errors, addresses",
+            Call::ReadPart(..) => "Hrp, writers",
             #[cfg(feature = "correct")]
             Call::Correct(..) => "correct",
         }
@@ -73,6 +78,8 @@ impl Call {
                 ours::segwit_encode(hrp, *version, program)
             }
             Call::SegwitDecode(text) => ours::segwit_decode(text),
+            Call::Read(text) => said(readers::ours::said(text)),
+            Call::ReadPart(hrp, bytes) => said(readers::ours::said_of_part(hrp, bytes)),
             #[cfg(feature = "correct")]
             Call::Correct(Code::Bech32, text, erasures) => ours::correct::<Bech32>(text, erasures),
             #[cfg(feature = "correct")]
@@ -80,7 +87,7 @@ impl Call {
                 ours::correct::<Bech32m>(text, erasures)
             }
         };
-        reply.map_err(bech32_proved::Refusal::number)
+        reply.map_err(|refusal| refusal.number())
     }
 
     /// What the other crate replies.
@@ -98,6 +105,10 @@ impl Call {
                 theirs::segwit_encode(hrp, *version, program).into()
             }
             Call::SegwitDecode(text) => theirs::segwit_decode(text).into(),
+            Call::Read(text) => Reply::Ok(vec![readers::theirs::said(text).into_bytes()]).into(),
+            Call::ReadPart(hrp, bytes) => {
+                Reply::Ok(vec![readers::theirs::said_of_part(hrp, bytes).into_bytes()]).into()
+            }
             #[cfg(feature = "correct")]
             Call::Correct(Code::Bech32, text, erasures) => {
                 crate::corrections::expected::<Bech32>(text, erasures)
@@ -108,6 +119,11 @@ impl Call {
             }
         }
     }
+}
+
+// What is said, as a reply.
+fn said(words: String) -> Result<Vec<Vec<u8>>, bech32_proved::Refusal> {
+    Ok(vec![words.into_bytes()])
 }
 
 // A value in debugging form, as a part of a reply.

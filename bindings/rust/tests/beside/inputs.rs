@@ -242,7 +242,9 @@ impl Inputs {
         if self.one_in(8) {
             return self.correction();
         }
-        match self.below(16) {
+        match self.below(20) {
+            16..=18 => Call::Read(self.text()),
+            19 => Call::ReadPart(self.part(), self.bytes(700)),
             0 => Call::Parse(self.part()),
             1 => Call::Compare(self.part(), self.part()),
             2 | 3 => {

@@ -7,6 +7,7 @@ mod corrections;
 mod inputs;
 #[path = "../../../../bench/src/numbers.rs"]
 mod numbers;
+mod readers;
 #[path = "../vectors/rows.rs"]
 mod rows;
 
@@ -89,6 +90,7 @@ fn vectors() -> Vec<Call> {
         calls.push(Call::Check(Code::Bech32, text.to_owned()));
         calls.push(Call::Check(Code::Bech32m, text.to_owned()));
         calls.push(Call::SegwitDecode(text.to_owned()));
+        calls.push(Call::Read(text.to_owned()));
     };
     rows::BECH32.iter().for_each(|text| read(text));
     rows::BECH32M.iter().for_each(|text| read(text));

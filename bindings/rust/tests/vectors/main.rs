@@ -2,16 +2,23 @@
 
 mod rows;
 
-use bech32_proved::primitives::decode::CheckedHrpstring;
-use bech32_proved::{decode, encode, hrp, segwit, Bech32, Bech32m, Checksum, Fe32, Hrp, Refusal};
+use bech32_proved::primitives::decode::{
+    CharError, CheckedHrpstring, CheckedHrpstringError, ChecksumError, SegwitHrpstring,
+    SegwitHrpstringError, UncheckedHrpstring, UncheckedHrpstringError,
+};
+use bech32_proved::primitives::hrp::Error as HrpError;
+use bech32_proved::{
+    decode, encode, encode_upper, encoded_length, fault, hrp, segwit, Bech32, Bech32m, Checksum,
+    EncodeError, Fe32, Hrp, Refusal,
+};
 use std::collections::hash_map::DefaultHasher;
 use std::hash::{Hash, Hasher};
 
-const HEADER: &str = include_str!("../../../../include/bech32.h");
+const HEADER: &str = include_str!(env!("BECH32_HEADER"));
 
 // The number that the library answers: 0, or that of the refusal.
-fn number<T>(result: Result<T, Refusal>) -> u32 {
-    result.map_or_else(Refusal::number, |_| 0)
+fn number<T>(result: Result<T, impl Into<Refusal>>) -> u32 {
+    result.map_or_else(|e| e.into().number(), |_| 0)
 }
 
 fn part(text: &str) -> Hrp {
@@ -37,7 +44,7 @@ fn accepted<Ck: Checksum, Other: Checksum>(text: &str) {
     assert_eq!(hrp.as_str(), before);
     assert!(checked.byte_iter().eq(found));
     let other = CheckedHrpstring::new::<Other>(text).unwrap_err();
-    assert_eq!(other, Refusal::WrongChecksum, "{text}");
+    assert_eq!(Refusal::from(other), Refusal::WrongChecksum, "{text}");
 }
 
 #[test]
@@ -48,6 +55,92 @@ fn accepts_the_texts_of_the_bips() {
     rows::BECH32M
         .iter()
         .for_each(|text| accepted::<Bech32m, Bech32>(text));
+}
+
+// Why the characters or the human-readable part of a text are refused.
+fn parse_error(text: &str) -> UncheckedHrpstringError {
+    UncheckedHrpstring::new(text).unwrap_err()
+}
+
+#[test]
+fn says_which_character_is_at_fault() {
+    for (text, error, place) in [
+        ("x1b4n0q5v", CharError::InvalidChar('b').into(), 2),
+        ("x1b4\u{e9}0q5v", CharError::InvalidChar('\u{e9}').into(), 4),
+        ("de1lg7wt\u{ff}", CharError::InvalidChar('\u{ff}').into(), 8),
+        ("1pzry9x0s0muk", HrpError::Empty.into(), 0),
+        ("pzry9x0s0muk", CharError::MissingSeparator.into(), 12),
+        ("\u{20}1nwldj5", HrpError::InvalidAsciiByte(0x20).into(), 0),
+        (
+            "ab\u{80}1eym55h",
+            HrpError::NonAsciiChar('\u{80}').into(),
+            2,
+        ),
+        ("A1G7SgD8", CharError::MixedCase.into(), 5),
+    ] {
+        assert_eq!(parse_error(text), error, "{text}");
+        for fault in [fault::<Bech32>(text), fault::<Bech32m>(text)] {
+            let found = fault.unwrap();
+            assert_eq!(
+                (found.refusal(), found.place()),
+                (error.into(), place),
+                "{text}"
+            );
+        }
+    }
+    let long = format!("{}1qqqqqq", "a".repeat(84));
+    assert_eq!(parse_error(&long), HrpError::TooLong(84).into());
+    assert_eq!(fault::<Bech32>(&long).unwrap().place(), 84);
+    assert_eq!(fault::<Bech32>("A12UEL5L"), None);
+    assert_eq!(fault::<Bech32m>("A12UEL5L").unwrap().place(), 8);
+}
+
+#[test]
+fn says_which_length_or_remainder_is_at_fault() {
+    let long = format!("a1{}", "q".repeat(1022));
+    let Err(CheckedHrpstringError::Checksum(ChecksumError::CodeLength(e))) =
+        CheckedHrpstring::new::<Bech32>(&long)
+    else {
+        panic!("the text is too long");
+    };
+    assert_eq!((e.encoded_length, e.code_length), (1024, 1023));
+    let Err(CheckedHrpstringError::Checksum(ChecksumError::InvalidResidue(e))) =
+        CheckedHrpstring::new::<Bech32m>("A12UEL5L")
+    else {
+        panic!("the text is of Bech32");
+    };
+    assert!(e.matches_bech32_checksum());
+    assert_eq!(e.to_string(), "residue p did not match target r9vsu4");
+    let address = format!("bc1{}", "q".repeat(88));
+    let error = SegwitHrpstring::new(&address).unwrap_err();
+    assert_eq!(error, SegwitHrpstringError::TooLong(91));
+    let version = SegwitHrpstring::new("bc13qqqqqq").unwrap_err();
+    assert_eq!(
+        version,
+        SegwitHrpstringError::InvalidWitnessVersion(Fe32::_3)
+    );
+}
+
+#[test]
+fn readers_give_the_bytes_that_the_library_gives() {
+    for (address, ..) in rows::ADDRESSES {
+        let (hrp, version, program) = segwit::decode(address).unwrap();
+        let read = SegwitHrpstring::new(address).unwrap();
+        assert_eq!((read.hrp(), read.witness_version()), (hrp, version));
+        assert!(read.byte_iter().eq(program));
+    }
+    let texts = rows::BECH32.iter().chain(&rows::BECH32M);
+    for text in texts {
+        let unchecked = UncheckedHrpstring::new(text).unwrap();
+        let (hrp, bytes) = decode(text).unwrap();
+        assert_eq!(unchecked.hrp().as_bytes(), hrp.as_bytes());
+        let checked = unchecked.remove_checksum::<Bech32>();
+        assert_eq!(checked.byte_iter().len(), bytes.len());
+        assert!(checked.byte_iter().eq(bytes));
+        let letters: String = checked.fe32_iter().map(Fe32::to_char).collect();
+        let ascii = checked.data_part_ascii_no_checksum();
+        assert_eq!(letters.as_bytes(), ascii.to_ascii_lowercase());
+    }
 }
 
 #[test]
@@ -113,7 +206,9 @@ fn writes_texts() {
     assert_eq!(text, "test1lu08d6qejxtdg4y5r3zarvary0c5xw7kw79nnx");
     let text = encode::<Bech32m>(part("TEST"), &data).unwrap();
     assert_eq!(text, "test1lu08d6qejxtdg4y5r3zarvary0c5xw7kmz4lky");
-    let (hrp, found) = decode("TEST1LU08D6QEJXTDG4Y5R3ZARVARY0C5XW7KW79NNX").unwrap();
+    let text = encode_upper::<Bech32>(part("test"), &data).unwrap();
+    assert_eq!(text, "TEST1LU08D6QEJXTDG4Y5R3ZARVARY0C5XW7KW79NNX");
+    let (hrp, found) = decode(&text).unwrap();
     assert_eq!((hrp, hrp.as_str()), (part("test"), "TEST"));
     assert_eq!(found, data);
 }
@@ -124,7 +219,12 @@ fn fills_the_code() {
     assert_eq!(text.len(), 1023);
     assert_eq!(decode(&text).unwrap(), (part("abcd"), vec![0; 632]));
     let refusal = encode::<Bech32m>(part("abcde"), &[0; 632]).unwrap_err();
-    assert_eq!(refusal, Refusal::EncodedTooLong);
+    let error =
+        EncodeError::TooLong(encoded_length::<Bech32m>(part("abcde"), &[0; 632]).unwrap_err());
+    assert_eq!(
+        (refusal, Refusal::from(refusal)),
+        (error, Refusal::EncodedTooLong)
+    );
     let longest = encode::<Bech32>(part("a"), &[0xa5; 634]).unwrap();
     assert_eq!(decode(&longest).unwrap(), (part("a"), vec![0xa5; 634]));
     assert_eq!(number(decode(&format!("a1{}", "q".repeat(1022)))), 31);

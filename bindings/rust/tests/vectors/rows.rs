@@ -257,6 +257,7 @@ pub const PARTS: [(&str, u32); 13] = [
 
 /// A mistyped text, its erasures, the correction (a location with the value to add, each), and the
 /// mended text; no mended text stands for no correction (the Rust crate, by Bech32).
+#[cfg(feature = "correct")]
 pub type Mistyped = (
     &'static str,
     &'static [usize],
@@ -264,9 +265,11 @@ pub type Mistyped = (
     Option<&'static str>,
 );
 
+#[cfg(feature = "correct")]
 const MENDED: Option<&str> = Some("bc1qar0srrr7xfkvy5l643lydnw9re59gtzzwf5mdq");
 
 /// The corrections of the Rust crate's tests.
+#[cfg(feature = "correct")]
 pub const CORRECTIONS: [Mistyped; 9] = [
     (
         "bc1qar0srrr7xfkvy5l643lydnw9re59gtzzwf5mdx",

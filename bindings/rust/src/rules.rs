@@ -1,0 +1,103 @@
+//! The rules of segwit addresses on versions and lengths (BIP-173, Segwit address format).
+
+use crate::Fe32;
+use std::error::Error;
+use std::fmt;
+
+/// The characters that a segwit address has at most.
+pub const MAX_STRING_LENGTH: usize = 90;
+
+/// The first witness version, whose addresses have the checksum Bech32.
+pub const VERSION_0: Fe32 = Fe32::Q;
+
+/// The witness version of taproot. It and those above it have the checksum Bech32m.
+pub const VERSION_1: Fe32 = Fe32::P;
+
+/// Whether an element is a witness version: from 0 to 16.
+pub fn is_valid_witness_version(witness_version: Fe32) -> bool {
+    validate_witness_version(witness_version).is_ok()
+}
+
+/// Whether a witness program of this version may have so many bytes: 2 to 40, and 20 or 32 in
+/// version 0.
+pub fn is_valid_witness_program_length(length: usize, witness_version: Fe32) -> bool {
+    validate_witness_program_length(length, witness_version).is_ok()
+}
+
+/// Tests that an element is a witness version: from 0 to 16.
+///
+/// # Errors
+///
+/// The element, where it is above 16.
+pub fn validate_witness_version(witness_version: Fe32) -> Result<(), InvalidWitnessVersionError> {
+    match witness_version.to_u8() {
+        0..=16 => Ok(()),
+        _ => Err(InvalidWitnessVersionError(witness_version)),
+    }
+}
+
+/// Tests how many bytes a witness program of this version has.
+///
+/// # Errors
+///
+/// The first of: less than 2; more than 40; neither 20 nor 32 in version 0.
+pub fn validate_witness_program_length(
+    length: usize,
+    version: Fe32,
+) -> Result<(), WitnessLengthError> {
+    match length {
+        0 | 1 => Err(WitnessLengthError::TooShort),
+        20 | 32 => Ok(()),
+        2..=40 if version == VERSION_0 => Err(WitnessLengthError::InvalidSegwitV0),
+        2..=40 => Ok(()),
+        _ => Err(WitnessLengthError::TooLong),
+    }
+}
+
+// Shows a witness version that is above 16.
+pub(crate) fn invalid(version: &Fe32, f: &mut fmt::Formatter<'_>) -> fmt::Result {
+    let value = version.to_u8();
+    write!(
+        f,
+        "invalid segwit witness version: {value} (bech32 character: '{version}')"
+    )
+}
+
+/// An element is no witness version: it is above 16.
+#[derive(Clone, Copy, Debug, PartialEq, Eq)]
+#[non_exhaustive]
+pub struct InvalidWitnessVersionError(pub Fe32);
+
+impl fmt::Display for InvalidWitnessVersionError {
+    fn fmt(&self, f: &mut fmt::Formatter<'_>) -> fmt::Result {
+        invalid(&self.0, f)
+    }
+}
+
+impl Error for InvalidWitnessVersionError {}
+
+/// Why a witness program is not of a lawful length.
+#[derive(Clone, Copy, Debug, PartialEq, Eq)]
+#[non_exhaustive]
+pub enum WitnessLengthError {
+    /// It has less than 2 bytes.
+    TooShort,
+    /// It has more than 40 bytes.
+    TooLong,
+    /// It is of version 0, and has neither 20 nor 32 bytes.
+    InvalidSegwitV0,
+}
+
+impl fmt::Display for WitnessLengthError {
+    fn fmt(&self, f: &mut fmt::Formatter<'_>) -> fmt::Result {
+        f.write_str(match self {
+            WitnessLengthError::TooShort => "witness program is less than 2 bytes long",
+            WitnessLengthError::TooLong => "witness program is more than 40 bytes long",
+            WitnessLengthError::InvalidSegwitV0 => {
+                "the segwit v0 witness is not 20 or 32 bytes long"
+            }
+        })
+    }
+}
+
+impl Error for WitnessLengthError {}
