@@ -1,0 +1,38 @@
+"""Bech32 (BIP-173), Bech32m (BIP-350), segwit addresses and codex32 (BIP-93), read and written by the
+static libraries bech32_c and codex32_c, each function of which is proved to do what its contract says of
+every input.
+
+    >>> from bech32_proved import Checksum, correct, decode, encode, segwit
+    >>> encode("abc", bytes([0xab] * 5))
+    'abc14w46h2ata5yucn'
+    >>> decode("abc14w46h2ata5yucn").data.hex()
+    'ababababab'
+    >>> segwit.decode("BC1QW508D6QEJXTDG4Y5R3ZARVARY0C5XW7KV8F3T4").version
+    0
+    >>> correct("a12uel5q", Checksum.BECH32).text
+    'a12uel5l'
+
+A text that is refused is an exception of its own class (`bech32_proved.errors`), with the place of the
+character at fault where there is one. What is proved is the library; this package is tested.
+"""
+
+from . import codex32, errors, segwit
+from .errors import Refused
+from .texts import Checksum, Correction, Decoded, Parts, check, correct, decode, encode
+
+__version__ = "0.1.0"
+
+__all__ = [
+    "Checksum",
+    "Correction",
+    "Decoded",
+    "Parts",
+    "Refused",
+    "check",
+    "codex32",
+    "correct",
+    "decode",
+    "encode",
+    "errors",
+    "segwit",
+]

@@ -1,0 +1,128 @@
+"""The functions of the shared libraries, as `bech32.h` and `codex32.h` declare them, and what they
+answer: a number, 0 or that of a refusal."""
+
+import ctypes
+from pathlib import Path
+from typing import Any, NoReturn, Optional, Tuple, Union
+
+from . import errors
+
+Octets = Union[bytes, bytearray, memoryview]
+
+_FOLDER = Path(__file__).resolve().parent
+
+# Sizes of buffers that are always large enough.
+MAX_TEXT = 1023
+MAX_HRP = 83
+MAX_BYTES = 634
+MAX_ADDRESS = 90
+MAX_PROGRAM = 40
+MAX_LISTED = 3
+
+# The largest number that the library takes for a size.
+MAX_SIZE = ctypes.c_size_t(-1).value
+
+# The refusals whose place bech32_fault gives as that of a character.
+_OF_A_CHARACTER = frozenset({13, 14, 15, 21, 22})
+
+_BYTES, _SIZE, _NUMBER = ctypes.c_char_p, ctypes.c_size_t, ctypes.c_uint32
+_SIZE_OUT, _NUMBER_OUT = ctypes.POINTER(_SIZE), ctypes.POINTER(_NUMBER)
+_IN = (_BYTES, _SIZE)
+_OUT = (_BYTES, _SIZE, _SIZE_OUT)
+
+
+class Memory(ctypes.Structure):
+    """Memory that a function may use."""
+
+    _fields_ = [("start", ctypes.c_void_p), ("size", ctypes.c_size_t)]
+
+
+def _library(name: str) -> ctypes.CDLL:
+    return ctypes.CDLL(str(_FOLDER / name))
+
+
+def _function(library: ctypes.CDLL, name: str, *arguments: Any) -> Any:
+    function = getattr(library, name)
+    function.restype = _NUMBER
+    function.argtypes = arguments
+    return function
+
+
+_BECH32 = _library("libbech32_c.so")
+_CODEX32 = _library("libcodex32_c.so")
+
+encode = _function(_BECH32, "bech32_encode", _NUMBER, *_IN, *_IN, *_OUT)
+decode = _function(_BECH32, "bech32_decode", *_IN, *_OUT, *_OUT)
+check = _function(_BECH32, "bech32_check", _NUMBER, *_IN, _SIZE_OUT, _SIZE_OUT)
+fault = _function(_BECH32, "bech32_fault", _NUMBER, *_IN, _SIZE_OUT)
+segwit_encode = _function(_BECH32, "bech32_segwit_encode", *_IN, _NUMBER, *_IN, *_OUT)
+segwit_decode = _function(_BECH32, "bech32_segwit_decode", *_IN, *_OUT, _NUMBER_OUT, *_OUT)
+correct = _function(
+    _BECH32,
+    "bech32_correct",
+    *(_NUMBER, *_IN, ctypes.POINTER(_SIZE), _SIZE),
+    *(ctypes.POINTER(_SIZE), _SIZE, _BYTES, _SIZE, _SIZE_OUT, *_OUT),
+)
+codex32_parse = _function(_CODEX32, "codex32_parse", *_IN, _NUMBER_OUT, _NUMBER_OUT, _SIZE_OUT)
+codex32_propose = _function(
+    _CODEX32, "codex32_propose", *_IN, ctypes.POINTER(Memory), *_OUT
+)
+
+
+class Buffer:
+    """Room for bytes that a call writes, and their number."""
+
+    def __init__(self, room: int) -> None:
+        self._bytes = ctypes.create_string_buffer(room)
+        self._length = _SIZE()
+        self.out = (self._bytes, _SIZE(room), ctypes.byref(self._length))
+
+    def bytes(self) -> bytes:
+        """What was written."""
+        return self._bytes.raw[: self._length.value]
+
+    def text(self) -> str:
+        """What was written, which is ASCII."""
+        return self.bytes().decode("ascii")
+
+    def wipe(self) -> None:
+        """Puts zeros into all of it."""
+        ctypes.memset(self._bytes, 0, len(self._bytes))
+
+
+def given(data: bytes) -> Tuple[bytes, int]:
+    """Bytes as a function takes them: a pointer, which is never null, and a length."""
+    return data, len(data)
+
+
+def utf8(text: str) -> bytes:
+    """The bytes of a text."""
+    if not isinstance(text, str):
+        raise TypeError(f"a text is wanted, and not {type(text).__name__}")
+    try:
+        return text.encode("utf-8")
+    except UnicodeEncodeError as e:
+        raise errors.NotUnicode(text, e.start) from None
+
+
+def octets(data: Octets) -> bytes:
+    """The bytes of what holds bytes, and of no number."""
+    return bytes(memoryview(data))
+
+
+def _place(text: str, data: bytes) -> Optional[int]:
+    # The character at fault in a text that is refused for its characters, by either checksum.
+    place = _SIZE()
+    number = fault(1, *given(data), ctypes.byref(place))
+    if number not in _OF_A_CHARACTER:
+        return None
+    return len(data[: place.value].decode("utf-8"))
+
+
+def refuse(number: int, text: Optional[str] = None, looked_at: Optional[bytes] = None) -> NoReturn:
+    """Raises the refusal of a number: of a text, where one is refused, and of the bytes of it that the
+    function looked at."""
+    place = None
+    if text is not None and looked_at is not None and number in _OF_A_CHARACTER:
+        place = _place(text, looked_at)
+    raise errors.BY_NUMBER[number](text, place)

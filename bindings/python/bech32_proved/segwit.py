@@ -1,0 +1,58 @@
+"""Segwit addresses (BIP-173, BIP-350)."""
+
+import ctypes
+from typing import NamedTuple
+
+from . import _library, errors
+from ._library import Buffer, Octets, given, octets, refuse, utf8
+
+
+class Address(NamedTuple):
+    """The parts of a segwit address."""
+
+    hrp: str
+    """Its human-readable part, in the case of the text: compare it with that of your network."""
+
+    version: int
+    """Its witness version, from 0 to 16."""
+
+    program: bytes
+    """Its witness program, of 2 to 40 bytes."""
+
+
+def encode(hrp: str, version: int, program: Octets) -> str:
+    """Encodes the address of a witness version and a program, in lower case.
+
+    Raises a fault of the human-readable part, `BadVersion`, `ProgramTooShort`, `ProgramTooLong`,
+    `ProgramNotV0` or `EncodedAddressTooLong`.
+    """
+    if not isinstance(version, int):
+        raise TypeError(f"a witness version is a number, and not {type(version).__name__}")
+    # The library takes a number of 32 bits.
+    if not 0 <= version < 2**32:
+        raise errors.BadVersion()
+    text = Buffer(_library.MAX_ADDRESS)
+    number = _library.segwit_encode(
+        *given(utf8(hrp)), version, *given(octets(program)), *text.out
+    )
+    if number != 0:
+        refuse(number, hrp)
+    return text.text()
+
+
+def decode(text: str) -> Address:
+    """Decodes an address. Any human-readable part is accepted.
+
+    Raises the first of: `AddressTooLong`; `InvalidCharacter`, `MixedCase`, `NoSeparator`; a fault of the
+    human-readable part; `NoData`, `BadVersion`; `NoChecksum`, `WrongChecksum`; `PaddingTooLong`,
+    `PaddingNotZero`; `ProgramTooShort`, `ProgramTooLong`, `ProgramNotV0`.
+    """
+    data = utf8(text)
+    hrp, program = Buffer(_library.MAX_HRP), Buffer(_library.MAX_PROGRAM)
+    version = ctypes.c_uint32()
+    number = _library.segwit_decode(
+        *given(data), *hrp.out, ctypes.byref(version), *program.out
+    )
+    if number != 0:
+        refuse(number, text, data)
+    return Address(hrp.text(), version.value, program.bytes())

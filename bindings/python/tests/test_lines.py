@@ -1,0 +1,108 @@
+"""Compares the package with the stored runs of the programs b32 and c32, whose replies a reference model
+and the Rust crate gave as well: in the folder that B32_LINES names, files b32-lines, b32-replies, c32-lines
+and c32-replies; without it, those of this repository."""
+
+import os
+import unittest
+from pathlib import Path
+
+from bech32_proved import Checksum, Refused, codex32, correct, decode, encode, errors, segwit
+
+TOP = Path(__file__).resolve().parent.parent.parent.parent
+STORED = {"lines": "stdin", "replies": "stdout"}
+
+CHECKSUMS = {"bech32": Checksum.BECH32, "bech32m": Checksum.BECH32M}
+
+
+def stored(program, kind):
+    folder = os.environ.get("B32_LINES")
+    if folder is None:
+        return TOP / "crates" / program / STORED[kind]
+    return Path(folder) / f"{program}-{kind}"
+
+
+def rows(program):
+    """Each line that is UTF-8, in words, with its reply."""
+    lines = stored(program, "lines").read_bytes().split(b"\n")
+    replies = stored(program, "replies").read_text("ascii").split("\n")
+    for line, reply in zip(lines, replies):
+        try:
+            yield line.decode("utf-8").split(" "), reply
+        except UnicodeDecodeError:
+            continue
+
+
+def hexadecimal(data):
+    return data.hex() or "-"
+
+
+def data_of(word):
+    return b"" if word == "-" else bytes.fromhex(word)
+
+
+def b32(words):
+    """The reply to a line of b32, or None to one that is no call of the package."""
+    command, rest = words[0], words[1:]
+    if command == "decode" and len(rest) == 1:
+        hrp, data = decode(rest[0])
+        return f"ok {hrp.lower()} {hexadecimal(data)}"
+    if command == "segwit-decode" and len(rest) == 1:
+        hrp, version, program = segwit.decode(rest[0])
+        return f"ok {hrp.lower()} {version} {program.hex()}"
+    if command == "encode" and len(rest) == 3 and rest[0] in CHECKSUMS:
+        return f"ok {encode(rest[1], data_of(rest[2]), CHECKSUMS[rest[0]])}"
+    if command == "segwit-encode" and len(rest) == 3 and rest[1].isdigit():
+        return f"ok {segwit.encode(rest[0], int(rest[1]), data_of(rest[2]))}"
+    if command == "correct" and len(rest) in (2, 3) and rest[0] in CHECKSUMS:
+        erasures = [int(word) for word in rest[2].split(",")] if len(rest) == 3 else []
+        return mended(*correct(rest[1], CHECKSUMS[rest[0]], erasures))
+    return None
+
+
+def mended(text, listed):
+    alphabet = "qpzry9x8gf2tvdw0s3jn54khce6mua7l"
+    items = "".join(f"{location}:{alphabet[value]} " for location, value in listed)
+    return f"ok {items}{text}" if listed else "fine"
+
+
+def c32(words):
+    command, rest = words[0], words[1:]
+    if command == "parse" and len(rest) == 1:
+        share = codex32.parse(rest[0])
+        return "ok " + " ".join(str(part) for part in share)
+    if command == "propose" and len(rest) == 1:
+        nearest = codex32.propose(rest[0])
+        return "none" if nearest is None else f"some {nearest}"
+    return None
+
+
+class Lines(unittest.TestCase):
+    def compare(self, program, answer):
+        compared = 0
+        for words, reply in rows(program):
+            if "" in words or reply in ("err 1", "err 2", "err 3", "err 4", "err 5"):
+                continue
+            try:
+                found = answer(words)
+            except errors.NoCorrection:
+                found = "none"
+            except Refused as refused:
+                found = type(refused)
+                number = int(reply.split(" ")[1]) if reply.startswith("err ") else 0
+                self.assertEqual(found, errors.BY_NUMBER.get(number), words)
+                compared += 1
+                continue
+            if found is not None:
+                self.assertEqual(found, reply, words)
+                compared += 1
+        return compared
+
+    def test_b32(self):
+        self.assertGreater(self.compare("b32", b32), 2000)
+
+    def test_c32(self):
+        self.assertGreater(self.compare("c32", c32), 150)
+
+
+if __name__ == "__main__":
+    unittest.main()

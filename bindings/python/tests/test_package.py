@@ -1,0 +1,210 @@
+"""Tests the package as it is installed, over the vectors of BIP-173, BIP-350 and BIP-93."""
+
+import doctest
+import unittest
+
+import bech32_proved
+from bech32_proved import Checksum, check, codex32, correct, decode, encode, errors, segwit
+
+PROGRAM = bytes.fromhex("751e76e8199196d454941c45d1b3a323f1433bd6")
+
+# Texts that a checksum accepts.
+BECH32 = [
+    "A12UEL5L",
+    "an83characterlonghumanreadablepartthatcontainsthenumber1andtheexcludedcharactersbio1tt5tgs",
+    "abcdef1qpzry9x8gf2tvdw0s3jn54khce6mua7lmqqqxw",
+    "split1checkupstagehandshakeupstreamerranterredcaperred2y9e3w",
+    "?1ezyfcl",
+]
+BECH32M = [
+    "A1LQFN3A",
+    "an83characterlonghumanreadablepartthatcontainsthetheexcludedcharactersbioandnumber11sg7hg6",
+    "abcdef1l7aum6echk45nj3s0wdvt2fg8x9yrzpqzd3ryx",
+    "split1checkupstagehandshakeupstreamerranterredcaperredlc445v",
+    "?1v759aa",
+]
+
+# Texts that both refuse: why, and the character at fault.
+REFUSED = [
+    ("\x201nwldj5", errors.HrpInvalid, 0),
+    ("\x7f1axkwrx", errors.HrpInvalid, 0),
+    ("\x801eym55h", errors.HrpNotAscii, 0),
+    ("a\u1e9e1eym55h", errors.HrpNotAscii, 1),
+    (
+        "an84characterslonghumanreadablepartthatcontainsthenumber1andtheexcludedcharactersbio1569pvx",
+        errors.HrpTooLong,
+        None,
+    ),
+    ("pzry9x0s0muk", errors.NoSeparator, None),
+    ("1pzry9x0s0muk", errors.HrpEmpty, None),
+    ("x1b4n0q5v", errors.InvalidCharacter, 2),
+    ("\xe9x1q\xe94n0q5v", errors.InvalidCharacter, 4),
+    ("li1dgmt3", errors.NoChecksum, None),
+    ("A1G7SGD8", errors.WrongChecksum, None),
+    ("a12uEL5l", errors.MixedCase, 4),
+    ("a1" + "q" * 1022, errors.TextTooLong, None),
+    # What may stand in a pasted text: marks of direction, the sign of kelvin for K, markup, half of a pair.
+    ("\u202ea12uel5l", errors.HrpNotAscii, 0),
+    ("a12uel5l\u202c", errors.InvalidCharacter, 8),
+    ("bc1qw508d6qejxtdg4y5r3zarvary0c5xw7\u212av8f3t4", errors.InvalidCharacter, 35),
+    ("<b>a12uel5l</b>", errors.InvalidCharacter, 14),
+    ("a12ue\ud800l5l", errors.NotUnicode, 5),
+    ("q" * 1_000_000, errors.NoSeparator, None),
+]
+
+# Texts that are no address.
+NO_ADDRESS = [
+    ("tb1q0xlxvlhemja6c4dqv22uapctqupfhlxm9h8z3k2e72q4k9hcz7vq24jc47", errors.WrongChecksum),
+    (
+        "anhrpthatistwentycha1pqyqszqgpqyqszqgpqyqszqgpqyqszqgpqyqszqgpqyqszqgpqyqszqgpqyqszqgqfrwjz",
+        errors.AddressTooLong,
+    ),
+    ("a1", errors.NoData),
+    ("BC130XLXVLHEMJA6C4DQV22UAPCTQUPFHLXM9H8Z3K2E72Q4K9HCZ7VQ7ZWS8R", errors.BadVersion),
+    (
+        "bc1p0xlxvlhemja6c4dqv22uapctqupfhlxm9h8z3k2e72q4k9hcz7v07qwwzcrf",
+        errors.PaddingTooLong,
+    ),
+    ("tb1p0xlxvlhemja6c4dqv22uapctqupfhlxm9h8z3k2e72q4k9hcz7vpggkg4j", errors.PaddingNotZero),
+    ("bc1pw5dgrnzv", errors.ProgramTooShort),
+    (
+        "bc1p0xlxvlhemja6c4dqv22uapctqupfhlxm9h8z3k2e72q4k9hcz7v8n0nx0muaewav253zgeav",
+        errors.ProgramTooLong,
+    ),
+    ("BC1QR508D6QEJXTDG4Y5R3ZARVARYV98GJ9P", errors.ProgramNotV0),
+]
+
+SECRET = "ms10testsxxxxxxxxxxxxxxxxxxxxxxxxxx4nzvca9cmczlw"
+SHARE = "MS12NAMEA320ZYXWVUTSRQPNMLKJHGFEDCAXRPP870HKKQRM"
+
+
+class Texts(unittest.TestCase):
+    def test_accepts(self):
+        rows = [(text, Checksum.BECH32, Checksum.BECH32M) for text in BECH32]
+        rows += [(text, Checksum.BECH32M, Checksum.BECH32) for text in BECH32M]
+        for text, right, wrong in rows:
+            hrp, _, behind = text.rpartition("1")
+            with self.subTest(text):
+                self.assertEqual(check(text, right), (hrp, behind[:-6]))
+                self.assertEqual(decode(text).hrp, hrp)
+                self.assertRaises(errors.WrongChecksum, check, text, wrong)
+                self.assertEqual(correct(text, right, [0]), (text.lower(), ()))
+
+    def test_refuses(self):
+        for text, error, place in REFUSED:
+            calls = [lambda: decode(text)]
+            calls += [lambda c=c: check(text, c) for c in Checksum]
+            for call in calls:
+                with self.subTest(text[:90]), self.assertRaises(error) as raised:
+                    call()
+                self.assertEqual((raised.exception.text, raised.exception.place), (text, place))
+
+    def test_encodes(self):
+        data = b"\xff" + PROGRAM[1:]
+        self.assertEqual(
+            encode("test", data, Checksum.BECH32), "test1lu08d6qejxtdg4y5r3zarvary0c5xw7kw79nnx"
+        )
+        text = encode("TEST", bytearray(data))
+        self.assertEqual(text, "test1lu08d6qejxtdg4y5r3zarvary0c5xw7kmz4lky")
+        self.assertEqual(decode(text.upper()), ("TEST", data))
+        self.assertEqual(len(encode("a", bytes(634))), 1023)
+        self.assertRaises(errors.EncodedTooLong, encode, "a", bytes(635))
+        for hrp, error in [
+            ("", errors.HrpEmpty),
+            ("a" * 84, errors.HrpTooLong),
+            ("\xe9", errors.HrpNotAscii),
+            ("a b", errors.HrpInvalid),
+            ("aB", errors.HrpMixedCase),
+            ("\udfff", errors.NotUnicode),
+        ]:
+            self.assertRaises(error, encode, hrp, b"")
+
+    def test_mends(self):
+        self.assertEqual(correct("a12uel5q", Checksum.BECH32), ("a12uel5l", ((0, 31),)))
+        mended = correct("bc1qar0srrr7xfkvy5l64qlydnw9re59gtzzwf5mdx", Checksum.BECH32, [0])
+        self.assertEqual(mended.text, "bc1qar0srrr7xfkvy5l643lydnw9re59gtzzwf5mdq")
+        self.assertEqual([location for location, _ in mended.errors], [0, 20])
+        for erasures in [(1, 2), (0, 1, 2, 3), (6,), (-1,), (2**64,), (2**64 - 1,)]:
+            with self.subTest(erasures), self.assertRaises(errors.NoCorrection):
+                correct("a12uel5q", Checksum.BECH32, erasures)
+        with self.assertRaises(errors.InvalidCharacter) as raised:
+            correct("x1b4n0q5v", Checksum.BECH32)
+        self.assertEqual(str(raised.exception), "a character behind the separator may not stand there, at character 2")
+
+    def test_wants_texts_and_bytes(self):
+        self.assertRaises(TypeError, decode, b"a12uel5l")
+        self.assertRaises(TypeError, encode, "a", 5)
+        self.assertRaises(TypeError, encode, "a", "text")
+        self.assertRaises(ValueError, encode, "a", b"", 3)
+        self.assertRaises(TypeError, segwit.encode, "bc", "0", PROGRAM)
+
+
+class Addresses(unittest.TestCase):
+    def test_reads_and_writes(self):
+        text = "BC1QW508D6QEJXTDG4Y5R3ZARVARY0C5XW7KV8F3T4"
+        address = segwit.decode(text)
+        self.assertEqual(address, ("BC", 0, PROGRAM))
+        self.assertEqual(segwit.encode(*address), text.lower())
+        self.assertEqual(segwit.encode("bc", 16, b"\x75\x1e"), "bc1sw50qgdz25j")
+
+    def test_refuses(self):
+        for text, error in NO_ADDRESS:
+            with self.subTest(text), self.assertRaises(error):
+                segwit.decode(text)
+        with self.assertRaises(errors.InvalidCharacter) as raised:
+            segwit.decode("bc1p38j9r5y49hruaue7wxjce0updqjuyyx0kh56v8s25huc6995vvpql3jow4")
+        self.assertEqual(raised.exception.place, 59)
+        for hrp, version, length, error in [
+            ("bc", 17, 20, errors.BadVersion),
+            ("bc", -1, 20, errors.BadVersion),
+            ("bc", 2**32, 20, errors.BadVersion),
+            ("bc", 1, 1, errors.ProgramTooShort),
+            ("bc", 1, 41, errors.ProgramTooLong),
+            ("bc", 0, 21, errors.ProgramNotV0),
+            ("anhrpthatis19charsx", 1, 40, errors.EncodedAddressTooLong),
+            ("", 1, 40, errors.HrpEmpty),
+        ]:
+            self.assertRaises(error, segwit.encode, hrp, version, bytes(length))
+
+
+class Codex32(unittest.TestCase):
+    def test_parses(self):
+        self.assertEqual(codex32.parse(SECRET), (0, "test", "s", "x" * 26))
+        share = codex32.parse(SHARE)
+        self.assertEqual(share, (2, "NAME", "A", "320ZYXWVUTSRQPNMLKJHGFEDCA"))
+
+    def test_refuses(self):
+        for text, error in [
+            (SECRET[:-1], errors.BadLength),
+            ("mt" + SECRET[2:], errors.NotMs),
+            (SECRET[:-1] + "q", errors.WrongChecksum),
+            ("ms10fauxsxxxxxxxxxxxxxxxxxxxxxxxxxxve740yyge2ghP", errors.MixedCase),
+            ("ms1fauxxxxxxxxxxxxxxxxxxxxxxxxxxxxxda3kr3s0s2swg", errors.BadThreshold),
+            ("ms10fauxxxxxxxxxxxxxxxxxxxxxxxxxxxx0z26tfn0ulw3p", errors.BadShareIndex),
+        ]:
+            with self.subTest(text), self.assertRaises(error):
+                codex32.parse(text)
+
+    def test_proposes(self):
+        self.assertEqual(codex32.propose(SECRET), SECRET)
+        damaged = SECRET[:20] + "????" + SECRET[24:-2] + "qq"
+        self.assertEqual(codex32.propose(damaged), SECRET)
+        self.assertIsNone(codex32.propose(SECRET[:20] + "?" * 10 + SECRET[30:]))
+        with self.assertRaises(errors.InvalidCharacter) as raised:
+            codex32.propose(SECRET[:30] + "?b?" + SECRET[33:])
+        self.assertEqual(raised.exception.place, 31)
+
+
+class Package(unittest.TestCase):
+    def test_examples(self):
+        self.assertEqual(doctest.testmod(bech32_proved).failed, 0)
+
+    def test_each_refusal_has_a_class(self):
+        for error in errors.BY_NUMBER.values():
+            self.assertTrue(issubclass(error, bech32_proved.Refused))
+            self.assertTrue(issubclass(error, ValueError) and error.sentence)
+            self.assertEqual(str(error("x", 3)), error.sentence + ", at character 3")
+
+
+if __name__ == "__main__":
+    unittest.main()
