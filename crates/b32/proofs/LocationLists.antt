@@ -7,7 +7,7 @@ use Rattle.std.specs.List.{AllByRecursion}
 use Rattle.b32.specs.Locations.{pieces, BeginsWithLocation, IsNoListOfLocations}
 use Rattle.bech32_lines.proofs.Split.{split-split_once}
 
--- the pieces of a word, by what `split_once` answers
+-- the pieces of a word, by what `split_once` returns
 pub pieces-split_once : (bs : List ℕ) (r : Option (Bor (List ℕ) × Bor (List ℕ))) → IsSplitOnceResult 44 bs r
     → MatchOption r (pieces bs ≡ bs ∷ []) (λ x. pieces bs ≡ x.0.now ∷ pieces x.1.now)
 pieces-split_once bs r h = split-split_once 44 bs r (omega arith) h
@@ -20,7 +20,7 @@ no_location [] (n ∷ all) piece more e below bad = bad n below.0 cc
 no_location (g ∷ given) (n ∷ all) piece more e below bad =
     let rest : map decimal given ++ (piece ∷ more) ≡ map decimal all = cc in no_location given all piece more rest below.1 bad
 
--- a piece that is no location
+-- a piece that is not a location
 pub no_list : (word given piece : List ℕ) (more : List (List ℕ)) → pieces word ≡ map decimal given ++ (piece ∷ more)
     → ((n : ℕ) → n ≤ 1022 → piece ≢ decimal n) → IsNoListOfLocations word
 no_list word given piece more e bad all h = no_location given all piece more (sym e ∙ h.pieces_are) h.below bad

@@ -129,7 +129,7 @@ no_more word others first i n m is more front few small out e =
     let (some, less, low, high) = next_in_word word others first i n m is more front few small e in
     absurd (⊎_elim (λ (none : m ≡ 0). omega (arith, some, none)) (λ (over : 102 < m). omega (arith, less, over, few)) out)
 
--- nor one that is no digit
+-- nor one that is not a digit
 pub no_next : (word others : List ℕ) (first i n m : ℕ) → word ≡ first ∷ others → i < length others → take (1 + i) word ≡ decimal m → n ≤ 1022 → m ≤ 1029
     → (get_or others i 0 < 48) ⊎ (57 < get_or others i 0) → word ≢ decimal n
 no_next word others first i n m is more front few small off e =

@@ -58,7 +58,7 @@ heads a b xs ys e = (cc, cc)
 pub no_first : (word : List ℕ) (n : ℕ) → word ≡ [] → n < 100 → word ≢ decimal n
 no_first word n none small e = let w = number_word word n small e in absurd (let both : [] ≡ w.first ∷ w.others = sym none ∙ w.word_is in cc)
 
--- the first byte is no digit
+-- the first byte is not a digit
 pub no_digit : (word : List ℕ) (n first : ℕ) (others : List ℕ) → word ≡ first ∷ others → (first < 48) ⊎ (57 < first) → n < 100 → word ≢ decimal n
 no_digit word n first others is off small e =
     let w = number_word word n small e in
@@ -80,7 +80,7 @@ no_more word n first second more is off small e =
     ⊎_elim (λ (zero_ : first ≡ 48). omega arith) (λ (some : more ≢ []). some ((heads second two.0 more [] (both.1 ∙ two.1)).1)) off)
     w.behind)
 
--- the second byte is no digit
+-- the second byte is not a digit
 pub no_second_digit : (word : List ℕ) (n first second : ℕ) (more : List ℕ) → word ≡ first ∷ second ∷ more → (second < 48) ⊎ (57 < second) → n < 100 → word ≢ decimal n
 no_second_digit word n first second more is off small e =
     let w = number_word word n small e in
@@ -96,7 +96,7 @@ no_second_digit word n first second more is off small e =
 
 -- ---- versions
 
--- no number is no version
+-- what is not a number is not a version
 pub no_version-from_word : (word : List ℕ) → ((n : ℕ) → n < 100 → word ≢ decimal n) → IsNoVersion word
 no_version-from_word word none version e = let fits : version.value < 32 = version.in_field in none version.value (omega arith) e
 

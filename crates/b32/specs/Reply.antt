@@ -31,7 +31,7 @@ use Rattle.b32.specs.Locations.{AreLocations, BeginsWithLocation, IsNoListOfLoca
 use Rattle.b32.specs.Request.{Request, Encode, Decode, SegwitEncode, SegwitDecode, Correct, CorrectAt}
 use Rattle.b32.specs.Request.{code_of_name, request_of}
 
--- an answer, or that there is no memory for the bytes of a word in hex, which then has its digits in pairs
+-- an answer, or out of memory for the bytes of a word in hex, whose digits are then in pairs
 abbrev pub OrNoMemory : List ℕ → (List ℕ → Type 0) → List ℕ → Type 0
 OrNoMemory hex Says said = Says said ⊎ ((length hex % 2 ≡ 0) × (said ≡ err 91))
 
@@ -64,7 +64,7 @@ pub record SaysBytes (text said : List ℕ) : Type 0 where
   pub is_decoded : IsDecoded text hrp bytes
   pub spelling : said ≡ codes "ok " ++ (lowered hrp ++ (32 ∷ hex_of bytes))
 
--- it is said why a text is not decoded: want of memory only of one that is accepted
+-- it is said why a text is not decoded: out of memory only for one that is accepted
 pub record SaysNoBytes (text said : List ℕ) : Type 0 where
   pub error : DecodeError
   pub is_refusal : IsDecodeRefusal text error
@@ -103,7 +103,7 @@ IsVersionedAnswer hrp version hex said =
     (SaysAddress hrp version program said ⊎ SaysNoAddress hrp version program said)
     (λ error. said ≡ err (number_of_hrp_error error)))
 
--- and with any word: a bad number is refused first, and then memory for the bytes may be wanting
+-- and with any word: a bad number is refused first, and then memory for the bytes may run out
 abbrev pub IsSegwitEncodeAnswer : List ℕ → List ℕ → List ℕ → List ℕ → Type 0
 IsSegwitEncodeAnswer hrp word hex said =
     (IsNoVersion word × (said ≡ err 4))
@@ -120,7 +120,7 @@ pub record SaysProgram (text said : List ℕ) : Type 0 where
   pub is_address : IsAddress hrp version program text
   pub spelling : said ≡ codes "ok " ++ (lowered hrp ++ (32 ∷ (decimal version.value ++ (32 ∷ hex_of program))))
 
--- it is said why a text is no address, or of one that memory is wanting
+-- it is said why a text is not an address, or that memory ran out for one
 pub record SaysNoProgram (text said : List ℕ) : Type 0 where
   pub error : SegwitDecodeError
   pub is_refusal : IsSegwitRefusal text error.0 ⊎ ((error.0 ≡ Memory) × IsAddressText text)
@@ -167,7 +167,8 @@ IsCorrectAnswer code text given said =
     SaysFine code text said ⊎ (SaysMended code text given said
     ⊎ (SaysNone code text given said ⊎ SaysRefused code text said))
 
--- the same where a word lists the locations: the first bad number is refused, or memory for those before it is wanting
+-- the same where a word lists the locations: the first bad number is refused, or memory for those
+-- before it runs out
 abbrev pub IsCorrectAtAnswer : Code → List ℕ → List ℕ → List ℕ → Type 0
 IsCorrectAtAnswer code text word said =
     (IsNoListOfLocations word × (said ≡ err 4)) ⊎ ((BeginsWithLocation word × (said ≡ err 91))

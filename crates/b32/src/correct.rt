@@ -26,7 +26,7 @@ use bech32::primitives::decode::CheckedHrpstringError;
 use bech32_lines::append;
 use bech32_mended::{Answer, bech32_correction, bech32m_correction, mend};
 
-/// What a checksum answers to a text, where the given locations are erasures.
+/// What a checksum finds for a text, where the given locations are erasures.
 fn correction(
     checksum: ChecksumName,
     text: &str,
@@ -71,8 +71,8 @@ fn append_mended(out: &mut Vec<u8>, text: &str, listing: &[(usize, Fe32)])
     mend(out.as_mut_slice(), listing);
 }
 
-/// Adds what the checksum answers to a text, where the given locations are erasures, or leaves all as
-/// it was.
+/// Adds what the checksum finds for a text, where the given locations are erasures, or leaves all
+/// as it was.
 pub fn correct(
     checksum: ChecksumName,
     text: &str,

@@ -11,8 +11,8 @@ pub enum RunError {
     /// The sink failed.
     #[error("b32: writing failed")]
     Write,
-    /// There was no memory for the run's buffers.
-    #[error("b32: no memory")]
+    /// Out of memory for the run's buffers.
+    #[error("b32: out of memory")]
     Memory,
 }
 

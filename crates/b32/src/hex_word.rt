@@ -18,7 +18,7 @@ fn put_bytes(bytes: &mut [u8], digits: &str) -> bool
     hex::decode_to_slice(digits, bytes).is_ok()
 }
 
-/// The bytes that a word stands for. Memory is wanted only where its digits are in pairs.
+/// The bytes that a word stands for. Memory is needed only where its digits are in pairs.
 pub fn bytes_of_word<A: Allocator>(alloc: A, word: &str) -> Result<Vec<u8, A>, Refusal>
     ensures { MatchResult result
         (λ bytes. bytes_of word.now ≡ Some bytes.items)

@@ -31,7 +31,7 @@ pub enum Refusal {
     SegwitDecode(segwit::DecodeError),
     /// The text is refused, and not for its residue.
     Correct(CheckedHrpstringError),
-    /// There is no memory for the reply.
+    /// Out of memory for the reply.
     Memory,
 }
 

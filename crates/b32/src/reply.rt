@@ -1,4 +1,4 @@
-//! The answers to commands, by which `bech32_lines` replies to a line.
+//! The replies to commands, by which `bech32_lines` replies to a line.
 
 ghost use Rattle.std.specs.Prelude.{◌≡◌, ℕ, ◌+◌, ◌≤◌, List, [], ◌∷◌, ◌++◌};
 ghost use Rattle.std.specs.Prelude.{vec_len, vec_capacity, OnOk, OnErr, IfErr};

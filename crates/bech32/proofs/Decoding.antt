@@ -11,7 +11,7 @@ use Rattle.bech32.specs.Refusals.{IsDecodeRefusal}
 use Rattle.bech32.specs.declared.error.DecodeError.{DecodeError}
 use Rattle.bech32.specs.declared.error.DecodeError.TheVariants.{Parse, Checksum, Memory}
 
--- what is accepted is decoded, want of memory aside
+-- what is accepted is decoded, unless out of memory
 pub decoded-from_refusal : {D : Type 0} (text : List ℕ) → IsUtf8 text → (r : Result D DecodeError) → IfErr r (λ e. IsDecodeRefusal text e)
     → (Accepts bech32m text ⊎ Accepts bech32 text) → IsOkUnless r Memory
 decoded-from_refusal text u (Ok d) h a = tt

@@ -11,14 +11,15 @@ use Rattle.bech32.specs.declared.error.DecodeError.TheVariants.{Parse, Checksum,
 use Rattle.bech32.specs.declared.error.EncodeError.{EncodeError}
 use Rattle.bech32.specs.declared.error.EncodeError.TheVariants.{TooLong, Fmt, Memory as EncodeMemory}
 
--- why a text is not decoded: it is no text, no checksum accepts it, or memory is wanting where one does
+-- why a text is not decoded: it is not a text, no checksum accepts it, or out of memory where one
+-- does
 abbrev pub IsDecodeRefusal : List ℕ → DecodeError → Type 0
 IsDecodeRefusal text (Parse e) = text_refusal text ≡ Some e
 IsDecodeRefusal text (Checksum e) = IsRefusedByBoth text e
 IsDecodeRefusal text Memory = IsAcceptedByEither text
 
--- why the text of a human-readable part and elements is not written: it is too long, or memory is wanting where it is
--- not
+-- why the text of a human-readable part and elements is not written: it is too long, or out of
+-- memory where it is not
 abbrev pub IsEncodeRefusal : Code → List ℕ → List Fe32 → EncodeError → Type 0
 IsEncodeRefusal code hrp elements (TooLong e) =
     (code.code_length < encoded_length_of code hrp elements)

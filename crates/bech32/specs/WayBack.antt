@@ -16,7 +16,7 @@ IsEncodedByEither hrp bytes text =
     IsEncodedText bech32m hrp (to_fes bytes) text ⊎ IsEncodedText bech32 hrp (to_fes bytes) text
 
 -- where the text is encoded so, and within the code, the outcome is that human-readable part, in lower case, and those
--- bytes, want of memory aside
+-- bytes, unless out of memory
 abbrev pub GivesBack : {V : Type 0} → (V → List ℕ) → List ℕ → Result (Hrp × V) DecodeError → Type 0
 GivesBack items text outcome =
     (hrp : List ℕ) → (bytes : List ℕ) → IsHrp hrp → list_all (λ b. nat_lt b 256) bytes ≡ true

@@ -15,8 +15,8 @@ pub enum DecodeError {
     /// Neither checksum accepts it; the error is that of Bech32m.
     #[error("no valid bech32 or bech32m checksum: {0}")]
     Checksum(ChecksumError),
-    /// There is no memory for the data.
-    #[error("no memory")]
+    /// Out of memory for the data.
+    #[error("out of memory")]
     Memory,
 }
 
@@ -29,8 +29,8 @@ pub enum EncodeError {
     /// The formatter failed.
     #[error("encode to formatter failed: {0}")]
     Fmt(fmt::Error),
-    /// There is no memory for the text.
-    #[error("no memory")]
+    /// Out of memory for the text.
+    #[error("out of memory")]
     Memory,
 }
 

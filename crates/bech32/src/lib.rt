@@ -68,7 +68,7 @@ fn decoded_in<A: Allocator>(alloc: A, s: &str) -> Result<(Hrp, Vec<u8, A>), Deco
 /// # Errors
 ///
 /// The first of: the text is not in the grammar; neither checksum accepts it (the error is that of
-/// Bech32m); there is no memory for the data.
+/// Bech32m); out of memory for the data.
 pub fn decode_in<A: Allocator>(alloc: A, s: &str) -> Result<(Hrp, Vec<u8, A>), DecodeError>
     ensures value { IfOk result (λ d. IsDecoded s.now (hrp_bytes d.0) d.1.items) }
     ensures accepts { IsAcceptedByEither s.now → IsOkUnless result DecodeError.Memory }
@@ -118,7 +118,7 @@ pub fn encoded_length<Ck: Checksum>(hrp: Hrp, data: &[u8]) -> Result<usize, Code
 /// # Errors
 ///
 /// [`EncodeError::TooLong`] exactly where the text would have more characters than the code length
-/// of the checksum; [`EncodeError::Memory`] where there is no memory for it.
+/// of the checksum; [`EncodeError::Memory`] when out of memory.
 pub fn encode_in<Ck: Checksum, A: Allocator>(
     alloc: A,
     hrp: Hrp,

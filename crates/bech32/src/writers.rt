@@ -74,11 +74,12 @@ pub fn encode_into_bytes<Ck: Checksum, S: ByteSink>(
     Ok(())
 }
 
-/// Encodes bytes under a human-readable part to a `fmt::Write`, in lower case, and takes no memory.
+/// Encodes bytes under a human-readable part to a `fmt::Write`, in lower case, and allocates
+/// nothing.
 ///
 /// # Errors
 ///
-/// What [`encode_into_fmt`] answers over the writer, watched.
+/// What [`encode_into_fmt`] returns over the writer, watched.
 pub fn encode_lower_to_fmt<Ck: Checksum, W: fmt::Write>(
     fmt: &mut W,
     hrp: Hrp,
@@ -109,11 +110,12 @@ pub fn encode_to_fmt<Ck: Checksum, W: fmt::Write>(
     encode_lower_to_fmt::<Ck, W>(fmt, hrp, data)
 }
 
-/// Encodes bytes under a human-readable part to a `fmt::Write`, in upper case, and takes no memory.
+/// Encodes bytes under a human-readable part to a `fmt::Write`, in upper case, and allocates
+/// nothing.
 ///
 /// # Errors
 ///
-/// What [`encode_into_fmt`] answers over the writer, watched.
+/// What [`encode_into_fmt`] returns over the writer, watched.
 pub fn encode_upper_to_fmt<Ck: Checksum, W: fmt::Write>(
     fmt: &mut W,
     hrp: Hrp,
@@ -129,11 +131,12 @@ pub fn encode_upper_to_fmt<Ck: Checksum, W: fmt::Write>(
     encode_into_fmt::<Ck, _>(&mut sink, hrp, data, true)
 }
 
-/// Encodes bytes under a human-readable part to an `io::Write`, in lower case, and takes no memory.
+/// Encodes bytes under a human-readable part to an `io::Write`, in lower case, and allocates
+/// nothing.
 ///
 /// # Errors
 ///
-/// What [`encode_into_bytes`] answers over the writer, watched. The first error of any kind ends
+/// What [`encode_into_bytes`] returns over the writer, watched. The first error of any kind ends
 /// the call, [`io::ErrorKind::Interrupted`] too.
 pub fn encode_lower_to_writer<Ck: Checksum, W: io::Write>(
     w: &mut W,
@@ -167,11 +170,12 @@ pub fn encode_to_writer<Ck: Checksum, W: io::Write>(
     encode_lower_to_writer::<Ck, W>(w, hrp, data)
 }
 
-/// Encodes bytes under a human-readable part to an `io::Write`, in upper case, and takes no memory.
+/// Encodes bytes under a human-readable part to an `io::Write`, in upper case, and allocates
+/// nothing.
 ///
 /// # Errors
 ///
-/// What [`encode_into_bytes`] answers over the writer, watched. The first error of any kind ends
+/// What [`encode_into_bytes`] returns over the writer, watched. The first error of any kind ends
 /// the call, [`io::ErrorKind::Interrupted`] too.
 pub fn encode_upper_to_writer<Ck: Checksum, W: io::Write>(
     w: &mut W,

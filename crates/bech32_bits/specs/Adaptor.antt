@@ -24,10 +24,10 @@ abbrev pub then_gives : {B : Type 0} → Option B → List B → List B
 then_gives None ys = []
 then_gives (Some y) ys = y ∷ ys
 
--- One call of an adaptor's `next`, from s to t, that answers r: what it took of its source, and what that has to do
--- with r. Where it answers `None`, its source has ended and nothing is left of it, so that each later call answers
--- `None`, and the source is not asked.
--- `gives s xs` is the list that the adaptor gives from s on, where its source goes on to give xs.
+-- One call of an adaptor's `next`, from s to t, that returns r: what it took of its source, and
+-- what that has to do with r. If it returns `None`, its source has ended and nothing is left of it,
+-- so that each later call returns `None`, and the source is not asked. `gives s xs` is the list
+-- that the adaptor gives from s on, where its source goes on to give xs.
 pub record Adapts {S A U B : Type 0} (steps : S → Option A → S → Type 0)
     (source : U → Fuse S) (gives : U → List A → List B) (s : U) (r : Option B) (t : U) : Type 0 where
   pub taken : List A

@@ -13,7 +13,7 @@ use std::alloc::{AllocError, Global};
 ///
 /// # Errors
 ///
-/// Where memory runs out.
+/// If memory runs out.
 pub fn plain_to_fes(alloc: Global, bytes: &[u8]) -> Result<Vec<Fe32>, AllocError>
     ensures { IfOk result (λ v. v.items ≡ to_fes bytes.now) }
 {
@@ -26,7 +26,7 @@ pub fn plain_to_fes(alloc: Global, bytes: &[u8]) -> Result<Vec<Fe32>, AllocError
 ///
 /// # Errors
 ///
-/// Where memory runs out.
+/// If memory runs out.
 pub fn plain_to_bytes(alloc: Global, fes: &[Fe32]) -> Result<Vec<u8>, AllocError>
     ensures { IfOk result (λ v. v.items ≡ to_bytes fes.now) }
 {

@@ -5,8 +5,8 @@ use Rattle.bech32_block.specs.Roots.{RootField, roots_of, HasAllRoots, HasNoExpo
 use Rattle.bech32_block.specs.declared.error.PrintError.{PrintError}
 use Rattle.bech32_block.specs.declared.error.PrintError.TheVariants.{Degree, NotSplit, NotPowers, Memory}
 
--- the first of: the degree is one; a root is wanting; the first root of the longest series is no power of its ratio.
--- Want of memory answers only generators whose degree is not one.
+-- the first of: the degree is one; a root is missing; the first root of the longest series is not a
+-- power of its ratio. Out of memory is returned only for generators whose degree is not one.
 abbrev pub IsPrintRefusal : {E : Type 0} → RootField E → List Fe32 → PrintError → Type 0
 IsPrintRefusal f generator Degree = length generator ≡ 1
 IsPrintRefusal f generator NotSplit = (length generator ≢ 1) × (HasAllRoots f generator → ⊥)

@@ -46,7 +46,7 @@ pub record AreOfLongestSeries {E : Type 0} (f : RootField E) (roots : List ℕ) 
   pub end_is : end ≡ start + (count - 1)
   pub code_length_is : IsOrder f.ops base code_length
 
--- the first root of the longest series is no power of its ratio
+-- the first root of the longest series is not a power of its ratio
 pub record HasNoExponents {E : Type 0} (f : RootField E) (roots : List ℕ) : Type 0 where
   pub first : ℕ
   pub step : ℕ

@@ -12,7 +12,7 @@ pub enum PrintError {
     /// The generator has fewer roots in the field than its degree, zero and repetitions aside.
     #[error("the generator has fewer different roots in the field than its degree")]
     NotSplit,
-    /// The first root of the longest series is no power of the series' ratio.
+    /// The first root of the longest series is not a power of the series' ratio.
     #[error("the first root of the longest series is no power of the base")]
     NotPowers,
     /// Memory ran out.

@@ -41,9 +41,9 @@ impl<'a, E: NamedField + ExtensionField<BaseField = Fe32>> PrintImpl<'a, E> {
     ///
     /// # Errors
     ///
-    /// The first of: the degree is 1; the generator has fewer different roots that are not zero than
-    /// its degree; the first root of their longest series is no power of its ratio. From degree 2
-    /// on, where memory runs out.
+    /// The first of: the degree is 1; the generator has fewer different roots that are not zero
+    /// than its degree; the first root of their longest series is not a power of its ratio. From
+    /// degree 2 on, if memory runs out.
     pub fn new(
         alloc: Global,
         name: &'a str,

@@ -66,8 +66,8 @@ impl<E: ExtensionField<BaseField = Fe32>> Roots<E> {
     ///
     /// # Errors
     ///
-    /// Where roots are wanting, where the first one of the series is no power of its ratio, and
-    /// where memory runs out.
+    /// Where roots are missing, where the first one of the series is not a power of its ratio, and
+    /// if memory runs out.
     pub(crate) fn of_generator<A: Allocator>(
         alloc: A,
         generator: &[Fe32],

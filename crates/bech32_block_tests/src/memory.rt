@@ -6,7 +6,7 @@ use std::alloc::Global;
 use std::process::Abort;
 
 // Whether the block of a small generator is printed as ever, where it is made in a heap of so many
-// bytes; nothing where it wants memory.
+// bytes; nothing where it runs out of memory.
 fn is_whole(rt: &impl Abort, alloc: Global, bytes: usize) -> Option<bool> {
     let heap = LocalHeap::new(alloc, bytes).expect(rt, "memory");
     match PrintImpl::<Fe32>::new_in(&heap, "Tiny", &[Fe32::X, Fe32::G], &[Fe32::Q, Fe32::P]) {

@@ -22,7 +22,7 @@ abbrev pub refusal_of_checked : CheckedHrpstringError → Refusal
 refusal_of_checked (Parse e) = Text e
 refusal_of_checked (NotAccepted e) = Checksum e
 
--- why bytes are not accepted: they are no text, or the text's first fault
+-- why bytes are not accepted: they are not a text, or the text's first fault
 abbrev pub IsCheckFault : List ℕ → Code → Refusal → Type 0
 IsCheckFault text code NotUtf8 = ¬ (IsUtf8 text)
 IsCheckFault text code (Text e) = IsUtf8 text × IsCheckedRefusal code text (Parse e)

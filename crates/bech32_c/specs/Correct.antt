@@ -53,8 +53,8 @@ pub record LacksRoomForMended (text given : List ℕ) (places_room values_room t
   pub mended_by : IsMendedBy text given listing code
   pub lacks : (places_room < length listing) ⊎ ((values_room < length listing) ⊎ (text_room < length text))
 
--- why a text is not to be mended: the bytes are no text, the text is refused and not for its residue, or no pattern in
--- the data part solves that
+-- why a text is not to be mended: the bytes are not a text, the text is refused and not for its
+-- residue, or no pattern in the data part solves that
 abbrev pub IsListingFault : List ℕ → List ℕ → Code → Refusal → Type 0
 IsListingFault text given code NotUtf8 = ¬ (IsUtf8 text)
 IsListingFault text given code (Text e) = IsUtf8 text × IsCheckedRefusal code text (Parse e)

@@ -31,7 +31,7 @@ pub record LacksRoom (text : List ℕ) (hrp_room bytes_room : ℕ) : Type 0 wher
   pub is_decoded : IsDecoded text part found
   pub lacks : (hrp_room < length part) ⊎ (bytes_room < length found)
 
--- why bytes are not decoded: they are no text, or the text's first fault
+-- why bytes are not decoded: they are not a text, or the text's first fault
 abbrev pub IsReadFault : List ℕ → Refusal → Type 0
 IsReadFault text NotUtf8 = ¬ (IsUtf8 text)
 IsReadFault text (Text e) = IsUtf8 text × IsDecodeRefusal text (Parse e)

@@ -17,6 +17,6 @@ pub record IsRunResidue {R : Type 0} (number : R → ℕ) (values : List ℕ) (r
   pub residue_is : IsResidueOf number code residue (run_polynomial values)
   pub fits : number residue < 2 ^ (5 * length code.generator)
 
--- why there is none: a value is no element
+-- why there is none: a value is not an element
 abbrev pub IsRunFault : List ℕ → Code → Refusal → Type 0
 IsRunFault values code e = Any (λ x. 31 < x) values × (e ≡ BadNumber)

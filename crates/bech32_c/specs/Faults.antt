@@ -12,7 +12,7 @@ pub record IsNumberOf (P : Refusal → Type 0) (n : ℕ) : Type 0 where
   pub holds : P refusal
   pub number : n ≡ number_of refusal
 
--- why bytes are no human-readable part: they are no text, or the first fault of the text
+-- why bytes are not a human-readable part: they are not a text, or the first fault of the text
 abbrev pub IsPartFault : List ℕ → Refusal → Type 0
 IsPartFault bytes NotUtf8 = ¬ (IsUtf8 bytes)
 IsPartFault bytes (Hrp e) = IsUtf8 bytes × (hrp_refusal bytes ≡ Some e)

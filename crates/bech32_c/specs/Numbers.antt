@@ -1,5 +1,5 @@
--- The numbers of refusals: those of `bech32_numbers`, with 2 for bytes that are no text, 4 for a number that is that of
--- no checksum or of no element, and 92 for a buffer that is too small.
+-- The numbers of refusals: those of `bech32_numbers`, with 2 for bytes that are not a text, 4 for a
+-- number that is that of no checksum or of no element, and 92 for a buffer that is too small.
 use Rattle.std.specs.Prelude.{ℕ}
 use Rattle.bech32.specs.declared.error.EncodeError.TheVariants.{TooLong as LongText}
 use Rattle.bech32_segwit.specs.declared.error.EncodeError.TheVariants.{WitnessVersion, TooLong as LongAddress}
@@ -11,7 +11,7 @@ use Rattle.bech32_c.specs.declared.refusal.Refusal.TheVariants.{NotUtf8, BadNumb
 use Rattle.bech32_c.specs.declared.refusal.Refusal.TheVariants.{Hrp, TooLong, Text, Checksum, Version, ProgramLength}
 use Rattle.bech32_c.specs.declared.refusal.Refusal.TheVariants.{AddressTooLong, Address}
 
--- of any refusal (91, for want of memory, is never answered, since no call takes memory)
+-- of any refusal (91, out of memory, is never returned, since no call allocates)
 abbrev pub number_of : Refusal → ℕ
 number_of NotUtf8 = 2
 number_of BadNumber = 4

@@ -83,8 +83,8 @@ pub record LacksRoomFor (text : List ℕ) (hrp_room program_room : ℕ) : Type 0
   pub is_address : IsAddress part version found text
   pub lacks : (hrp_room < length part) ⊎ (program_room < length found)
 
--- why nothing is put into buffers of so many bytes: the bytes are no text, or the text's first fault, or a buffer is
--- too small
+-- why nothing is put into buffers of so many bytes: the bytes are not a text, or the text's first
+-- fault, or a buffer is too small
 abbrev pub IsSegwitDecodeFault : List ℕ → ℕ → ℕ → Refusal → Type 0
 IsSegwitDecodeFault text hrp_room program_room NotUtf8 = ¬ (IsUtf8 text)
 IsSegwitDecodeFault text hrp_room program_room (Address e) = IsUtf8 text × IsSegwitRefusal text e

@@ -19,7 +19,7 @@ use crate::refusal::Refusal;
 use bech32::Fe32;
 use bech32_mended::{Answer, Listing, NoMemory, bech32_correction, bech32m_correction, mend};
 
-// What the checksum of a number answers to a text.
+// What the checksum of a number finds for a text.
 fn answer_by(checksum: u32, bytes: &[u8], given: &[usize]) -> Result<Answer, Refusal>
     ensures { MatchResult result
         (λ answer. ForChecksum checksum (λ code. IsAnswer code bound bytes.now given.now answer))
@@ -76,7 +76,7 @@ fn put_mended(buffer: &mut [u8], text: &[u8], listing: &[(usize, Fe32)])
     mend(mended, listing);
 }
 
-// Puts the listing and the mended text into buffers, and answers how many are listed.
+// Puts the listing and the mended text into buffers, and returns how many are listed.
 fn corrected(
     checksum: u32,
     text: &[u8],

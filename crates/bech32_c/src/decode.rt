@@ -34,7 +34,7 @@ fn read(bytes: &[u8]) -> Result<CheckedHrpstring<'_>, Refusal>
     Ok(unchecked.remove_checksum::<Bech32m>())
 }
 
-// Puts the human-readable part and the bytes of a text into buffers, and answers their lengths.
+// Puts the human-readable part and the bytes of a text into buffers, and returns their lengths.
 fn decoded(text: &[u8], hrp: &mut [u8], bytes: &mut [u8]) -> Result<(usize, usize), Refusal>
     ensures value { IfOk result (λ n. PutsDecoded text.now hrp.old hrp.new bytes.old bytes.new n.0 n.1) }
     ensures refused { IfErr result (λ e. IsDecodeFault text.now (length hrp.old) (length bytes.old) e) }

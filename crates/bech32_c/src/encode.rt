@@ -16,7 +16,7 @@ use bech32::primitives::encode;
 use bech32::{Bech32, Bech32m, Checksum, Fe32, Hrp, encoded_length};
 
 /// Puts the text of a human-readable part, a witness version where there is one, and bytes into a
-/// buffer that has room for it, and answers its length.
+/// buffer that has room for it, and returns its length.
 pub(crate) fn put_text<Ck: Checksum>(
     hrp: &Hrp,
     version: Option<Fe32>,
@@ -32,7 +32,7 @@ pub(crate) fn put_text<Ck: Checksum>(
     encode::put_text_of_bytes::<Ck>(hrp, version, bytes, text)
 }
 
-// Puts the text by one checksum, and answers its length.
+// Puts the text by one checksum, and returns its length.
 fn encoded<Ck: Checksum>(hrp: &[u8], bytes: &[u8], text: &mut [u8]) -> Result<usize, Refusal>
     requires { Ck.code.code_length ≤ 1023 }
     ensures value { IfOk result (λ count. PutsText Ck.code hrp.now bytes.now text.old text.new count) }
@@ -47,7 +47,7 @@ fn encoded<Ck: Checksum>(hrp: &[u8], bytes: &[u8], text: &mut [u8]) -> Result<us
     Ok(put_text::<Ck>(&part, None, bytes, text))
 }
 
-// Puts the text by the checksum of a number, and answers its length.
+// Puts the text by the checksum of a number, and returns its length.
 fn encoded_by(checksum: u32, hrp: &[u8], bytes: &[u8], text: &mut [u8]) -> Result<usize, Refusal>
     ensures value { IfOk result (λ count.
         ForChecksum checksum (λ code. PutsText code hrp.now bytes.now text.old text.new count)) }

@@ -126,11 +126,12 @@ fn number_of(checksum: u32, text: &[u8]) -> u32
     }
 }
 
-/// Answers what [`bech32_check`](crate::decode::bech32_check) answers to a text, and sets `place` to
-/// where its fault stands, counted in bytes from 0: of a character that may not stand there, its first
-/// byte (13 to 15, 21, 22); of a human-readable part that is empty or too long, the end of it (11, 12);
-/// of a text without separator, that is too long, that is too short for its checksum or whose checksum is
-/// wrong, its length (23, 31, 32, 33). Of other answers (0, 2, 4) `place` stays as it was.
+/// Answers what [`bech32_check`](crate::decode::bech32_check) returns to a text, and sets `place`
+/// to where its fault stands, counted in bytes from 0: of a character that may not stand there, its
+/// first byte (13 to 15, 21, 22); of a human-readable part that is empty or too long, the end of it
+/// (11, 12); of a text without separator, that is too long, that is too short for its checksum or
+/// whose checksum is wrong, its length (23, 31, 32, 33). Of other returns (0, 2, 4) `place` stays
+/// as it was.
 ///
 /// # Errors
 ///

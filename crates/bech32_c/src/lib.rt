@@ -1,9 +1,9 @@
 //! Bech32 for C programs: the calls of `bech32` over numbers and bytes, as `include/bech32.h`
 //! declares them.
 //!
-//! Each call answers 0, or the number of a refusal (`specs/Numbers.antt`). What it writes stands at
+//! Each call returns 0, or the number of a refusal (`specs/Numbers.antt`). What it writes stands at
 //! the front of the caller's buffers; behind it nothing changes, and on a refusal nothing changes
-//! at all. No call takes memory.
+//! at all. No call allocates.
 //!
 //! A `&[u8]` or a `&mut [u8]` is a pointer and then a length to C, and a `&mut` a pointer. None of
 //! these pointers may be null, and what one points to may not overlap with what a `&mut` does.

@@ -40,7 +40,7 @@ pub enum Refusal {
     ProgramLength(WitnessLengthError),
     /// The segwit address would have more than 90 characters.
     AddressTooLong(SegwitCodeLengthError),
-    /// The text is no segwit address.
+    /// The text is not a segwit address.
     Address(SegwitHrpstringError),
 }
 
@@ -70,7 +70,7 @@ impl Refusal {
         }
     }
 
-    /// The number that a call answers.
+    /// The number that a call returns.
     pub fn number(self) -> u32
         ensures value { result ≡ number_of self }
         ensures some { 0 < result }

@@ -53,7 +53,7 @@ fn put_address(hrp: &Hrp, version: Fe32, program: &[u8], text: &mut [u8]) -> usi
     }
 }
 
-// Puts the address, and answers its length.
+// Puts the address, and returns its length.
 fn encoded(hrp: &[u8], version: u32, program: &[u8], text: &mut [u8]) -> Result<usize, Refusal>
     ensures value { IfOk result (λ count. PutsAddress hrp.now version program.now text.old text.new count) }
     ensures refused { IfErr result (λ e. IsSegwitEncodeFault hrp.now version program.now (length text.old) e) }
@@ -103,7 +103,7 @@ pub extern "C" fn bech32_segwit_encode(
     }
 }
 
-// Puts the human-readable part and the program of an address into buffers, and answers the length
+// Puts the human-readable part and the program of an address into buffers, and returns the length
 // of the one, the version, and the length of the other.
 fn decoded(text: &[u8], hrp: &mut [u8], program: &mut [u8]) -> Result<(usize, Fe32, usize), Refusal>
     ensures value { IfOk result (λ n. PutsProgram text.now hrp.old hrp.new program.old program.new n.0 (value n.1) n.2) }

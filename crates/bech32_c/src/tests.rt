@@ -104,7 +104,7 @@ fn encodes_known_texts(rt: HostRuntime) -> Result<(), AllocError> {
     Ok(())
 }
 
-// What encoding bytes under `a` by Bech32 answers, and the length that it leaves.
+// What encoding bytes under `a` by Bech32 returns, and the length that it leaves.
 fn number_and_length(bytes: &[u8]) -> (u32, usize) {
     let mut count = LENGTH_BEFORE;
     let number = bech32_encode(1, b"a", bytes, &mut [BEFORE; 1100], &mut count);
@@ -160,14 +160,14 @@ fn puts_no_parts(rt: &impl Abort, text: &[u8], hrp: &mut [u8], bytes: &mut [u8],
     is_untouched(rt, bytes, count);
 }
 
-// What the test of a text answers, and the lengths that it leaves.
+// What the test of a text returns, and the lengths that it leaves.
 fn checked(checksum: u32, text: &[u8]) -> (u32, usize, usize) {
     let (mut hrp_count, mut count) = (LENGTH_BEFORE, LENGTH_BEFORE);
     let number = bech32_check(checksum, text, &mut hrp_count, &mut count);
     (number, hrp_count, count)
 }
 
-// What it answers where it is refused by this number.
+// What it returns where it is refused by this number.
 fn unchecked(number: u32) -> (u32, usize, usize) {
     (number, LENGTH_BEFORE, LENGTH_BEFORE)
 }
@@ -478,7 +478,7 @@ fn places_of_faults(rt: HostRuntime) {
     }
 }
 
-// What the remainder of elements answers, and what it leaves.
+// What the remainder of elements returns, and what it leaves.
 fn residue(checksum: u32, values: &[u8]) -> (u32, u32) {
     let mut residue = u32::MAX;
     let number = bech32_residue(checksum, values, &mut residue);
@@ -505,7 +505,7 @@ fn remainders_of_right_texts(rt: HostRuntime) {
     }
 }
 
-// What `bech32_correct` answers, and what it leaves.
+// What `bech32_correct` returns, and what it leaves.
 #[derive(Clone, Copy)]
 struct Outcome {
     number: u32,
@@ -595,7 +595,7 @@ fn mends(
 #[test]
 fn mends_known_texts(rt: HostRuntime) {
     // Made twice over and equal: by a reference model written from the definitions alone, and by the
-    // Rust crate bech32 0.12.0 with the differences of docs/DIFFERENCES.md.
+    // Rust crate bech32 0.12.0 with the differences of docs/rust/DIFFERENCES.md.
     let rows: [(u32, &[u8], &[usize], &[usize], &[u8], &[u8]); 8] = [
         (1, b"a12uel5l", &[6], &[], &[], b"a12uel5l"),
         (1, b"A12UEL5L", &[], &[], &[], b"a12uel5l"),

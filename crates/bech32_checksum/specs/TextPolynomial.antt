@@ -15,12 +15,13 @@ hrp_elements hrp = map (λ b. fe32.element (b / 32)) (lowered hrp) ++ (fe32.zero
 abbrev pub text_polynomial : List ℕ → List Fe32 → List Fe32
 text_polynomial hrp elements = appended (fe32.one ∷ []) (hrp_elements hrp ++ elements)
 
--- put after the elements, the checksum makes the polynomial leave the target
+-- put after the elements, the checksum makes the target the polynomial's remainder
 pub record IsChecksumOf (code : Code) (hrp : List ℕ) (elements checksum : List Fe32) : Type 0 where
   pub size : length checksum ≡ length code.generator
   pub leaves_target : IsRemainder fe32.ops code.generator (text_polynomial hrp (elements ++ checksum)) code.target
 
--- put after elements with no human-readable part, the checksum makes the polynomial of a one and them leave the target
+-- put after elements with no human-readable part, the checksum makes the polynomial of a one and
+-- them have the target as remainder
 pub record IsChecksumOfElements (code : Code) (elements checksum : List Fe32) : Type 0 where
   pub size : length checksum ≡ length code.generator
   pub leaves_target : IsRemainder fe32.ops code.generator (appended (fe32.one ∷ []) (elements ++ checksum)) code.target

@@ -257,7 +257,7 @@ impl<Ck: Checksum> Engine<Ck> {
     /// Takes the elements of the target, the highest first.
     ///
     /// The remainder is then the checksum of what was given before: its elements, the highest
-    /// first, put in the target's place, make the polynomial leave the target.
+    /// first, put in the target's place, make the target the polynomial's remainder.
     #[inline]
     pub fn input_target_residue(&mut self)
         ensures { IsResidueAfter Ck.MidstateRepr.number Ck.code self.old (reverse Ck.code.target) self.new }

@@ -108,7 +108,7 @@ fn checksum_of_a_part(rt: HostRuntime) -> Result<(), Fail> {
     Ok(())
 }
 
-// Whether an engine that was given 40 elements holds the remainder that long division leaves.
+// Whether an engine that was given 40 elements holds the remainder by long division.
 fn agrees<Ck: Checksum>(alloc: Global, low: &[Fe32]) -> Result<bool, AllocError>
     requires { length low.now ≤ Ck.MidstateRepr.WIDTH }
 {

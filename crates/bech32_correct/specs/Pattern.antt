@@ -45,7 +45,8 @@ abbrev pub IsAlone : {F : Type 0} → Ops F → List F → List F → List ℕ �
 IsAlone f g residue s w e = (other : List _) → IsPattern f w other → HasRemainder f g residue other
     → (IsSamePattern f other e → ⊥) → errors_outside s e < errors_outside s other
 
--- to add the pattern to a polynomial that leaves the target and the residue makes one that leaves the target
+-- to add the pattern to a polynomial that has the target plus the residue as remainder makes the
+-- remainder the target
 abbrev pub Mends : {F : Type 0} → Ops F → List F → List F → List F → List (ℕ × F) → Type 0
 Mends f g target residue e = (p r : List _) → IsRemainder f g p r → IsSamePolynomial f r (add f target residue)
     → IsRemainder f g (add f p (pattern_polynomial f e)) target

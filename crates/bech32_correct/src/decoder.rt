@@ -47,11 +47,11 @@ fn joined<A: Allocator + Copy>(
 
 /// The listing that alone can be that of a pattern that solves: the erasures and the errors outside
 /// them, each with its value. Whoever calls has to divide once more: where the listed pattern does
-/// not leave the residue, no pattern solves. `known` are the locators of the erasures.
+/// not have the residue as remainder, no pattern solves. `known` are the locators of the erasures.
 ///
 /// # Errors
 ///
-/// Where memory runs out. For at most six roots none is taken.
+/// If memory runs out. For at most six roots nothing is allocated.
 pub fn candidate<E: ExtensionField, A: Allocator + Copy>(
     alloc: A,
     roots: Roots<E>,

@@ -1,4 +1,4 @@
-//! Vectors whose first places need no memory.
+//! Vectors whose first places are in the vector itself.
 
 ghost use Rattle.std.specs.Prelude.{◌≡◌, ◌≤◌, ◌+◌, ◌++◌, ◌∷◌, [], List, length, take, IfOk, IsOk, OnErr, OnOk};
 ghost use Rattle.bech32_poly.specs.FieldVec.{FitsInPlace};
@@ -36,7 +36,7 @@ impl<T: Copy + Default, A: Allocator + Copy> ShortVec<T, A> {
     ///
     /// # Errors
     ///
-    /// Where memory runs out.
+    /// If memory runs out.
     pub fn from_slice(alloc: A, items: &[T]) -> Result<Self, AllocError>
         ensures ok { IfOk result (λ v. v ≡ items.now) }
         ensures in_place { FitsInPlace (length items.now) → IsOk result }
@@ -48,11 +48,11 @@ impl<T: Copy + Default, A: Allocator + Copy> ShortVec<T, A> {
         Ok(copy)
     }
 
-    /// Adds an item at the end. It takes no memory where that one fits in place too.
+    /// Adds an item at the end. It allocates nothing where that one fits in place too.
     ///
     /// # Errors
     ///
-    /// Where memory runs out; the items are then as before.
+    /// If memory runs out; the items are then as before.
     pub fn push(&mut self, item: T) -> Result<(), AllocError>
         ensures ok { OnOk result (self.new ≡ self.old ++ item ∷ []) }
         ensures err { OnErr result (self.new ≡ self.old) }

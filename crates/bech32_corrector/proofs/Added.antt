@@ -7,7 +7,7 @@ use Rattle.std.proofs.lemmas.List.{take_more}
 use Rattle.bech32_poly.specs.Distinct.{IsNotAmong, IsOnce}
 use Rattle.bech32_correct.specs.Erasures.{AreErasures, has, with_erasures}
 
--- what the test answers of a location that is not of the list
+-- what the test returns of a location that is not of the list
 not_of : (s : List ℕ) (i : ℕ) → has s i ≡ false → IsNotAmong i s
 not_of [] i e = tt
 not_of (m ∷ s) i e = step (eqb_tells i m) e (not_of s i)

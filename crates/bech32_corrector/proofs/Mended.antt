@@ -13,7 +13,7 @@ module _ {F : Type 0} {f : Ops F} (fl : IsField f) (same : (x : F) → f.neg x �
   taken_twice : (x y : F) → f.add (f.add x y) y ≡ x
   taken_twice x y = fl.add_assoc x y y ∙ ap (f.add x) (ap (f.add y) (sym (same y)) ∙ fl.add_neg y) ∙ fl.add_zero x
 
-  -- where no element differs from its negative, what leaves the residue mends
+  -- where no element differs from its negative, what has the residue as remainder mends
   pub mends : (g target residue : List F) (e : List (ℕ × F)) → length target ≡ length g → HasRemainder f g residue e → Mends f g target residue e
   mends g target residue e size leaves p r is joined = subst (IsRemainder f g (add f p q)) whole (remainder_exists fl g (add f p q))
     where

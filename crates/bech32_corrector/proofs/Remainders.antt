@@ -41,7 +41,7 @@ leaves g residue e degree number size clear is = (
     same : (r : HasRemainder fe32.ops g residue e) → digits (length g) number ≡ r.0
     same r = remainder_unique is_field g (pattern_polynomial fe32.ops e) (digits (length g) number) is ∙ sym (remainder_unique is_field g (pattern_polynomial fe32.ops e) r.0 r.1)
 
--- what leaves the residue has it as the remainder
+-- a listing that the second division accepts has the residue as remainder
 pub remainder_left : {F : Type 0} {f : Ops F} (fl : IsField f) (g residue : List F) (e : List (ℕ × F)) → HasRemainder f g residue e → IsSamePolynomial f (remainder_of f g (pattern_polynomial f e)) residue
 remainder_left {F} {f} fl g residue e h i = ap (λ u. coefficient f u i) (sym (remainder_unique fl g (pattern_polynomial f e) h.0 h.1)) ∙ h.2 i
 

@@ -47,7 +47,7 @@ impl<Ck: Checksum, A: Allocator + Copy> Model for Corrector<Ck, A> {
         Ck.ROOT_GENERATOR Ck.ROOT_EXPONENTS_START Ck.ROOT_EXPONENTS_END };
 }
 
-/// A clone takes no memory up to seven erasures.
+/// A clone allocates nothing up to seven erasures.
 impl<Ck: Checksum, A: Allocator + Copy> Clone for Corrector<Ck, A> {
     ghost is_clone = { λ v w. v ≡ w };
 
@@ -114,7 +114,7 @@ impl<Ck: Checksum, A: Allocator + Copy> Corrector<Ck, A> {
     ///
     /// # Errors
     ///
-    /// Where memory runs out; the erasures are then as before. Seven need none.
+    /// If memory runs out; the erasures are then as before. Seven need none.
     pub fn add_erasures(&mut self, locations: &[usize]) -> Result<(), AllocError>
         requires { AllByRecursion (λ i. i < self.old.window) locations.now }
         ensures residue { self.new.residue ≡ self.old.residue }
@@ -137,13 +137,13 @@ impl<Ck: Checksum, A: Allocator + Copy> Corrector<Ck, A> {
     }
 
     /// The errors that explain the residue, and the elements at the erasures: the one pattern below
-    /// the window that leaves the residue and has so few errors outside the erasures that twice
-    /// their number and that of the erasures are at most the
+    /// the window that has the residue as remainder and has so few errors outside the erasures that
+    /// twice their number and that of the erasures are at most the
     /// [`singleton_bound`](Self::singleton_bound). `None` where there is no such pattern.
     ///
     /// # Errors
     ///
-    /// Where memory runs out. For a checksum of at most six characters none is taken.
+    /// If memory runs out. For a checksum of at most six characters nothing is allocated.
     pub fn bch_errors(&self) -> Result<Option<ErrorIterator<A>>, AllocError>
         ensures sound { IfOk result (λ answer. IfSome answer (λ errors.
             IsSound fe32.ops Ck.code.generator self.now.residue self.now.erasures self.now.window

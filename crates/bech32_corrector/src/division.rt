@@ -1,4 +1,5 @@
-//! The second division: whether a listed pattern leaves the residue, by the checksum's own engine.
+//! The second division: whether a listed pattern has the residue as remainder, by the checksum's
+//! own engine.
 
 ghost use Rattle.std.specs.Prelude.{◌≡◌, ◌≤◌, ◌<◌, ◌↔◌, ℕ, IsTrue};
 ghost use Rattle.bech32_checksum.specs.Code.{IsResidueOf};
@@ -62,7 +63,7 @@ fn is_same<R: PackedFe32>(row: &R, list: &[Fe32]) -> bool
     true
 }
 
-/// Whether the polynomial of a listed pattern leaves the residue.
+/// Whether the polynomial of a listed pattern has the residue as remainder.
 pub(crate) fn leaves_residue<Ck: Checksum>(listing: &[(usize, Fe32)], residue: &[Fe32]) -> bool
     ensures { IsTrue result ↔ HasRemainder fe32.ops Ck.code.generator residue.now listing.now }
 {

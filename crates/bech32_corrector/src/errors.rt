@@ -11,7 +11,7 @@ use std::iter::FusedIterator;
 use std::marker::Model;
 
 /// An iterator over locations and the elements to add there. Location 0 is the last character. Its
-/// walk takes no memory.
+/// walk allocates nothing.
 pub type ErrorIterator<A = Global> = ShortIter<(usize, Fe32), A>;
 
 /// An iterator over items, the first seven of them in place.

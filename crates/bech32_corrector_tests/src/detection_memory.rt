@@ -1,4 +1,4 @@
-//! Want of memory where errors are detected.
+//! Out of memory where errors are detected.
 
 use super::compare::same;
 use bech32_detect::detects_four_in;
@@ -7,7 +7,7 @@ use linked_list_allocator::LocalHeap;
 use std::alloc::{AllocError, Global};
 use std::test::Fail;
 
-// What is answered with so many bytes of memory; nothing where they do not suffice.
+// What is returned with so many bytes of memory; nothing where they do not suffice.
 fn with_bytes(alloc: Global, bytes: usize) -> Result<Option<bool>, AllocError> {
     let heap = LocalHeap::new(alloc, bytes)?;
     Ok(detects_four_in::<Tiny<2>, _>(&heap, 3).ok())

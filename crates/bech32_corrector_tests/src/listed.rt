@@ -70,7 +70,7 @@ fn is_found(found: Option<ErrorIterator>, want: Option<Listing>) -> bool {
     }
 }
 
-// Whether just this is listed, or nothing is; not where memory runs out.
+// Whether just this is listed, or nothing is; not if memory runs out.
 fn lists<Ck: Checksum>(corrector: &Corrector<Ck>, want: Option<Listing>) -> bool {
     match corrector.bch_errors() {
         Ok(found) => is_found(found, want),

@@ -1,4 +1,4 @@
-//! Want of memory.
+//! Out of memory.
 
 use super::compare::same;
 use super::listed::{Listing, are_within, gives};

@@ -276,7 +276,7 @@ module _ (text : List ℕ) (a : IsAddressIn text) where
   not_refused e u (inr (few, inr (inr (inl r)))) = not_of_wrong_checksum e r
   not_refused e u (inr (few, inr (inr (inr r)))) = not_of_wrong_data e r
 
--- ---- what `new` answers
+-- ---- what `new` returns
 
 pub address-from_outcome : (text : List ℕ) (r : Result SegwitHrpstring SegwitHrpstringError)
     → MatchResult r (λ a. IsReadAs segwit_code text a) (λ e. IsSegwitRefusal text e)

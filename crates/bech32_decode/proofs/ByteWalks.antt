@@ -28,7 +28,7 @@ pulls-left false false s xs t h = yields-left s xs h.0 h.1 ∙ ap (λ (u : Ascii
 dropped : (s : FesToBytes AsciiToFe32Iter) (fes : List Fe32) → s.padded ≡ false → bytes_gives s fes ≡ cut_in_eights (bits s.count s.held.value ++ fe_bits fes)
 dropped s fes p = ap (λ (b : Bool). cut_bytes b (bits s.count s.held.value ++ fe_bits fes)) p
 
--- fewer than eight bits are no byte
+-- fewer than eight bits are not a byte
 nothing_held : (s : FesToBytes AsciiToFe32Iter) → s.padded ≡ false → bytes_gives s [] ≡ []
 nothing_held s p =
     let few : s.count ≤ 4 = s.few in

@@ -21,7 +21,7 @@ module _ (code : Code) (d t : ℕ) (degree : length code.generator ≡ d) (row :
   length-target : length code.target ≡ length code.generator
   length-target = ap length row ∙ length-tabulate d (digit_of t) ∙ sym degree
 
-  -- at degree 0 each polynomial leaves the target
+  -- at degree 0 each polynomial has the target as remainder
   pub leaves_target-degree_0 : d ≡ 0 → (p : List Fe32) → IsRemainder fe32.ops code.generator p code.target
   leaves_target-degree_0 e p =
       let size = length-target in

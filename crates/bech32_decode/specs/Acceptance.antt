@@ -8,7 +8,7 @@ use Rattle.bech32_checksum.specs.TextPolynomial.{text_polynomial}
 use Rattle.bech32_decode.specs.Text.{IsText}
 
 -- the text is in the grammar with these parts, is not longer than the code, has room for the checksum, and its
--- polynomial leaves the target
+-- polynomial has the target as remainder
 pub record IsAccepted (code : Code) (text hrp data_part : List ℕ) : Type 0 where
   pub grammar : IsText text hrp data_part
   pub text_length : length text ≤ code.code_length

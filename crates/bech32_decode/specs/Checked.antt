@@ -32,7 +32,7 @@ pub record IsRefusedByChecksum (code : Code) (text : List ℕ) (e : ChecksumErro
   pub grammar : IsText text hrp data_part
   pub refusal : IsChecksumRefusal code (length text) hrp data_part e
 
--- why a checksum does not accept a text: it is no text, or its checksum is refused
+-- why a checksum does not accept a text: it is not a text, or its checksum is refused
 abbrev pub IsCheckedRefusal : Code → List ℕ → CheckedHrpstringError → Type 0
 IsCheckedRefusal code text (Parse e) = text_refusal text ≡ Some e
 IsCheckedRefusal code text (Checksum e) = IsRefusedByChecksum code text e

@@ -134,7 +134,7 @@ abbrev pub IsAddressRefusal : (Fe32 → Code) → List ℕ → SegwitHrpstringEr
 IsAddressRefusal code text e =
     IsUnread text e ⊎ IsWithoutVersion text e ⊎ IsOfWrongChecksum code text e ⊎ IsOfWrongData code text e
 
--- why a text is no address: it is too long, or the first of those
+-- why a text is not an address: it is too long, or the first of those
 abbrev pub IsSegwitRefusal : List ℕ → SegwitHrpstringError → Type 0
 IsSegwitRefusal text e =
     ((90 < length text) × (e ≡ TooLong (length text))) ⊎ ((length text ≤ 90) × IsAddressRefusal segwit_code text e)

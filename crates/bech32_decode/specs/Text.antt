@@ -68,7 +68,7 @@ abbrev pub as_hrp : Option HrpError → Option UncheckedHrpstringError
 as_hrp None = None
 as_hrp (Some e) = Some (Hrp e)
 
--- why a list of bytes is no text: the first fault, in this order
+-- why a list of bytes is not a text: the first fault, in this order
 abbrev pub text_refusal : List ℕ → Option UncheckedHrpstringError
 text_refusal text =
     first_of (as_char (invalid_character text))

@@ -58,7 +58,7 @@ impl<'s> SegwitHrpstring<'s> {
         checked.validate_segwit()
     }
 
-    // What `new` answers.
+    // What `new` returns.
     fn read(s: &'s str) -> Result<Self, SegwitHrpstringError>
         ensures { MatchResult result (λ a. IsReadAs segwit_code s.now a) (λ e. IsSegwitRefusal s.now e) }
     {
@@ -156,7 +156,7 @@ impl<'s> SegwitHrpstring<'s> {
     }
 
     /// Puts the bytes of the program, those of [`Self::byte_iter`], at the front of a buffer that
-    /// has room for them, and answers how many they are.
+    /// has room for them, and returns how many they are.
     #[inline]
     pub fn put_program(&self, buffer: &mut [u8]) -> usize
         requires { length (address_program self.now) ≤ length buffer.old }

@@ -51,7 +51,7 @@ impl<'s> CheckedHrpstring<'s> {
         }
     }
 
-    // What `new` answers.
+    // What `new` returns.
     fn read<Ck: Checksum>(s: &'s str) -> Result<Self, CheckedHrpstringError>
         ensures { MatchResult result (λ c. IsAcceptedAs Ck.code s.now c) (λ e. IsCheckedRefusal Ck.code s.now e) }
     {
@@ -148,7 +148,7 @@ impl<'s> CheckedHrpstring<'s> {
     }
 
     /// Puts the bytes of the data part, those of [`Self::byte_iter`], at the front of a buffer that
-    /// has room for them, and answers how many they are.
+    /// has room for them, and returns how many they are.
     #[inline]
     pub fn put_bytes(&self, buffer: &mut [u8]) -> usize
         requires { length (checked_bytes self.now) ≤ length buffer.old }

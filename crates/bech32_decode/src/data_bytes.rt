@@ -67,7 +67,7 @@ fn put_groups(characters: &[u8], buffer: &mut [u8])
     }
 }
 
-// Puts the bytes of characters into a buffer, one by one from a place on, and answers where they
+// Puts the bytes of characters into a buffer, one by one from a place on, and returns where they
 // end.
 fn put_rest(characters: &[u8], at: usize, buffer: &mut [u8]) -> usize
     requires data { is_data characters.now ≡ true }
@@ -85,7 +85,7 @@ fn put_rest(characters: &[u8], at: usize, buffer: &mut [u8]) -> usize
 }
 
 // Puts the bytes of the elements of characters, in either case, at the front of a buffer that has
-// room for them, and answers how many they are; a last part shorter than eight bits is dropped
+// room for them, and returns how many they are; a last part shorter than eight bits is dropped
 // (BIP-173, Segwit address format).
 pub(crate) fn put_data_bytes(characters: &[u8], buffer: &mut [u8]) -> usize
     requires data { is_data characters.now ≡ true }

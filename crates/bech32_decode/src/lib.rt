@@ -1,6 +1,6 @@
 //! Reads bech32 texts (BIP-173, Bech32) and tests their checksums.
 //!
-//! A reader borrows the text and takes no memory.
+//! A reader borrows the text and allocates nothing.
 #![tactic(auto)]
 
 mod address;

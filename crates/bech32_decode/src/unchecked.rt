@@ -31,7 +31,7 @@ pub struct UncheckedHrpstring<'s> {
     pub ghost of_alphabet: { is_data data_part_ascii.now ≡ true },
 }
 
-// The refusal of a text by a character, which is no surrogate.
+// The refusal of a text by a character, which is not a surrogate.
 fn refusal_by(c: char) -> CharError
     ensures value { result ≡ CharError.InvalidChar c }
     ensures scalar { IsScalar c }
@@ -166,7 +166,7 @@ impl<'s> UncheckedHrpstring<'s> {
     /// # Errors
     ///
     /// The first of: the text is longer than the code; the data part is shorter than the checksum;
-    /// the polynomial of the text does not leave the target as remainder.
+    /// the polynomial of the text does not have the target as remainder.
     pub fn validate_checksum<Ck: Checksum>(&self) -> Result<(), ChecksumError>
         ensures { MatchResult result
             (λ _. IsValidBy Ck.code self.now)

@@ -234,14 +234,14 @@ fn tests_the_rules_of_addresses(rt: HostRuntime) {
     same(&rt, &address.witness_version(), &Fe32::Q);
 }
 
-// Fails where the test of padding answers otherwise of a text by Bech32m.
+// Fails where the test of padding gives another result for a text by Bech32m.
 fn tests_padding(rt: &impl Abort, text: &str, padding: Option<PaddingError>) {
     let checked = CheckedHrpstring::new::<Bech32m>(text).expect(rt, "a text");
     let refusal = checked.validate_segwit_padding().err();
     same(rt, &(text, refusal), &(text, padding));
 }
 
-// Fails where the test of a program's length answers otherwise of a text by Bech32m.
+// Fails where the test of a program's length gives another result for a text by Bech32m.
 fn tests_length(rt: &impl Abort, text: &str, version: Fe32, error: Option<WitnessLengthError>) {
     let checked = CheckedHrpstring::new::<Bech32m>(text).expect(rt, "a text");
     let refusal = checked.validate_witness_program_length(version).err();

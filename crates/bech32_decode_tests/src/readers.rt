@@ -161,8 +161,8 @@ fn refusal<Ck: Checksum>(rt: &impl Abort, text: &str) -> ChecksumError {
 
 #[test]
 fn tells_residue_errors_apart(rt: HostRuntime) {
-    // The first two leave the remainder zero; the third leaves it against another target, the fourth
-    // leaves another against the same target.
+    // The first two have remainder zero; the third has it against another target, the fourth
+    // has another against the same target.
     let zero = refusal::<Bech32m>(&rt, "a12uel57");
     let equal = [
         refusal::<Bech32m>(&rt, "A12UEL57") == zero,

@@ -31,7 +31,7 @@ fn decided_in<Ck: Checksum, A: Allocator>(alloc: A, n: usize) -> Result<bool, Al
     Ok(!has_three(&rows, row_of::<Ck>(one.residue())))
 }
 
-/// Whether no pattern of one to four errors, at different locations below `n`, leaves the remainder
+/// Whether no pattern of one to four errors, at different locations below `n`, has the remainder
 /// zero (BIP-173, Checksum design: of Bech32 at 89, the data part of a text of 90 characters), with
 /// memory from `alloc`.
 ///
@@ -42,7 +42,7 @@ fn decided_in<Ck: Checksum, A: Allocator>(alloc: A, n: usize) -> Result<bool, Al
 ///
 /// # Errors
 ///
-/// Where memory runs out. At `n` = 0 none is taken.
+/// If memory runs out. At `n` = 0 nothing is allocated.
 pub fn detects_four_in<Ck: Checksum, A: Allocator>(alloc: A, n: usize) -> Result<bool, AllocError>
     requires { 0 < (coefficient fe32.ops Ck.code.generator 0).value }
     ensures value { IfOk result (λ answer. IsTrue answer ↔ DetectsFour fe32.ops Ck.code.generator n) }

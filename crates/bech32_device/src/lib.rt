@@ -21,7 +21,7 @@ use std::{fmt, io};
 
 /// What bytes are read from, with a mark that says whether a call failed.
 ///
-/// A call fails where it answers an error. A call that fails sets the mark, and then the source is
+/// A call fails if it returns an error. A call that fails sets the mark, and then the source is
 /// asked nothing more: a read is allowed only while the mark is unset.
 pub trait ByteSource {
     // The bytes that reads will give from here on, where they are known.
@@ -41,7 +41,7 @@ pub trait ByteSource {
     // source after it. Nothing but a read shows it.
     ghost read_gives: { Self → List ℕ → Result ℕ IoError → Self → Type 0 };
 
-    /// Reads into the front of `buf`, and answers how many bytes were read.
+    /// Reads into the front of `buf`, and returns how many bytes were read.
     ///
     /// `Ok(0)` says that the source is at its end, or that `buf` is empty.
     ///
@@ -68,7 +68,7 @@ pub trait ByteSource {
 
 /// What bytes are written to, with a mark that says whether a call failed.
 ///
-/// A call fails where it answers an error; a `write` also where it answers `Ok(0)` for a slice
+/// A call fails if it returns an error; a `write` also if it returns `Ok(0)` for a slice
 /// that is not empty. A call that fails sets the mark, and then the sink is asked nothing more: a
 /// write or a flush is allowed only while the mark is unset.
 pub trait ByteSink {
@@ -95,7 +95,7 @@ pub trait ByteSink {
     // What one flush did, in the same way.
     ghost flush_gives: { Self → Result Unit IoError → Self → Type 0 };
 
-    /// Writes the front of `buf`, and answers how many bytes were taken.
+    /// Writes the front of `buf`, and returns how many bytes were taken.
     ///
     /// `Ok(0)` for a `buf` that is not empty is a failure too, and sets the mark.
     ///
@@ -138,7 +138,7 @@ pub trait ByteSink {
 
 /// What text is written to, with a mark that says whether a call failed.
 ///
-/// A call fails where it answers an error. A call that fails sets the mark, and then the sink is
+/// A call fails if it returns an error. A call that fails sets the mark, and then the sink is
 /// asked nothing more: a piece is written only while the mark is unset.
 pub trait FmtSink {
     // Relates the sink before a piece that it took, the piece, and the sink after it. Of a whole

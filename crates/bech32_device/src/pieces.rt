@@ -16,7 +16,7 @@ pub trait Pieces {
     // The bytes of the text that are still to come.
     ghost to_come: { Self → List ℕ };
 
-    /// Puts the next piece at the front of `buffer`, and answers how many bytes it has: 0 where
+    /// Puts the next piece at the front of `buffer`, and returns how many bytes it has: 0 where
     /// nothing of the text is left.
     fn put_next(&mut self, buffer: &mut [u8]) -> usize
         requires { 256 ≤ length buffer.old }

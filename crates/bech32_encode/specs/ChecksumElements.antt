@@ -7,8 +7,8 @@ use Rattle.bech32_poly.specs.Division.{remainder_of}
 use Rattle.bech32_checksum.specs.Code.{Code}
 use Rattle.bech32_checksum.specs.Packed.{digits}
 
--- the elements which, put below a polynomial, make it leave the target: the remainder that it leaves with the target
--- put below it, the highest first (BIP-173, Checksum)
+-- the elements which, put below a polynomial, make it have the target as remainder: the remainder
+-- that it leaves with the target put below it, the highest first (BIP-173, Checksum)
 unfoldable pub checksum_of : Code → List Fe32 → List Fe32
 checksum_of code p = reverse (remainder_of fe32.ops code.generator (appended p (reverse code.target)))
 

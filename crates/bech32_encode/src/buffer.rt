@@ -18,7 +18,7 @@ use bech32_checksum::{Checksum, Engine, PackedFe32};
 use bech32_gf::gf32::Fe32;
 use bech32_hrp::Hrp;
 
-// Puts a byte behind those that were put, where there is room, and answers how many there are.
+// Puts a byte behind those that were put, where there is room, and returns how many there are.
 #[inline]
 pub(super) fn put_byte(byte: u8, count: usize, buffer: &mut [u8]) -> usize
     ensures { PutsBehind (byte ∷ []) buffer.old count buffer.new result }
@@ -111,7 +111,7 @@ pub(super) fn put_row<R: PackedFe32>(row: &R, size: usize, count: usize, buffer:
 }
 
 /// Puts the text of a human-readable part, a witness version where there is one, and elements at
-/// the front of a buffer that has room for it, and answers its length (BIP-173, Bech32).
+/// the front of a buffer that has room for it, and returns its length (BIP-173, Bech32).
 ///
 /// Into a buffer that has no room for the whole text goes as much of it as fits; the answer is then
 /// the buffer's length.

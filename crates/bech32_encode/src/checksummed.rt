@@ -105,7 +105,7 @@ impl<I: Iterator<Item = Fe32>, Ck: Checksum> Checksummed<I, Ck> {
     ghost use Rattle.bech32_hrp.specs.HrpBytes.{hrp_bytes};
 
     /// The elements of an iterator, and then those that make the polynomial of 1, the elements and
-    /// them leave the target.
+    /// them have the target as remainder.
     pub fn new(elements: I) -> Checksummed<I, Ck>
         ensures source { fuse_source (⟦<Checksummed<I, Ck> as Adaptor>⟧.source result) ≡ elements }
         ensures fresh { fuse_done (⟦<Checksummed<I, Ck> as Adaptor>⟧.source result) ≡ false }

@@ -38,7 +38,7 @@ fn characters_of(fes: [Fe32; 8]) -> [u8; 8]
     ]
 }
 
-// Puts bytes behind those that were put, one by one, and answers how many there are.
+// Puts bytes behind those that were put, one by one, and returns how many there are.
 fn put_each(bytes: &[u8], count: usize, buffer: &mut [u8]) -> usize
     ensures { PutsBehind bytes.now buffer.old count buffer.new result }
 {
@@ -67,7 +67,7 @@ fn set_eight(bytes: [u8; 8], at: usize, buffer: &mut [u8])
     buffer[at + 7] = h;
 }
 
-// Puts eight bytes behind those that were put, at once where there is room for all, and answers how
+// Puts eight bytes behind those that were put, at once where there is room for all, and returns how
 // many there are.
 #[inline]
 fn put_eight(bytes: [u8; 8], count: usize, buffer: &mut [u8]) -> usize

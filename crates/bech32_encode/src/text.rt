@@ -41,8 +41,8 @@ pub fn length_with_version<Ck: Checksum>(hrp: &Hrp, version: Option<Fe32>, bytes
 }
 
 /// Puts the text of a human-readable part, a witness version where there is one, and bytes at the
-/// front of a buffer that has room for it, and answers its length: what [`put_text`](crate::put_text)
-/// puts of the elements of the bytes.
+/// front of a buffer that has room for it, and returns its length: what
+/// [`put_text`](crate::put_text) puts of the elements of the bytes.
 ///
 /// Into a buffer that has no room for the whole text goes as much of it as fits; the answer is then
 /// the buffer's length.
@@ -66,7 +66,7 @@ pub fn put_text_of_bytes<Ck: Checksum>(
 }
 
 /// Puts as much as there is room for of the text of a human-readable part, a witness version where
-/// there is one, and bytes, in upper case or in lower case, and answers how much that is.
+/// there is one, and bytes, in upper case or in lower case, and returns how much that is.
 pub fn put_front_of_text<Ck: Checksum>(
     hrp: &Hrp,
     version: Option<Fe32>,
@@ -89,7 +89,7 @@ pub fn put_front_of_text<Ck: Checksum>(
 ///
 /// # Errors
 ///
-/// Where there is no memory for it.
+/// When out of memory.
 pub fn text_in<Ck: Checksum, A: Allocator>(
     alloc: A,
     hrp: Hrp,

@@ -9,7 +9,7 @@ use Rattle.bech32_poly.specs.Remainder.{IsRemainder}
 use Rattle.bech32_checksum.specs.Code.{Code}
 use Rattle.bech32_errors.specs.declared.error.InvalidResidueError.{InvalidResidueError}
 
--- of the remainder that a text left
+-- of the remainder of a text
 abbrev pub actual_row : InvalidResidueError → List Fe32
 actual_row e = e.actual.digits
 
@@ -27,7 +27,7 @@ has_same_rows =
     eq_of_both (on actual_row (pointwise (on value ◌==◌)))
     (on target_row (pointwise (on value ◌==◌)))
 
--- the error carries the remainder that a polynomial leaves, which is not the target, and the target
+-- the error carries the remainder of a polynomial, which is not the target, and the target
 pub record IsResidueError (code : Code) (polynomial : List Fe32) (e : InvalidResidueError) : Type 0 where
   pub remainder : List Fe32
   pub is_remainder : IsRemainder ops code.generator polynomial remainder

@@ -75,7 +75,7 @@ pub struct CodeLengthError {
     pub code_length: usize,
 }
 
-/// The remainder that a text leaves is not its checksum's target. Two such errors are equal where
+/// The remainder of a text is not its checksum's target. Two such errors are equal where
 /// their remainders are, and their targets.
 #[derive(Clone, Copy, Debug, Drop, Error)]
 #[error("residue {actual} did not match target {target}")]
@@ -225,7 +225,7 @@ pub enum PaddingError {
     NonZero,
 }
 
-/// Why a text is no segwit address.
+/// Why a text is not a segwit address.
 #[derive(Clone, Copy, Debug, PartialEq, Eq, Drop, Error)]
 pub enum SegwitHrpstringError {
     /// It is not in the grammar.
@@ -249,8 +249,8 @@ pub enum SegwitHrpstringError {
     /// The checksum.
     #[error("invalid checksum: {0}")]
     Checksum(ChecksumError),
-    /// There is no memory for the program (given by [`bech32_segwit::decode`] alone).
-    #[error("no memory")]
+    /// Out of memory for the program (given by [`bech32_segwit::decode`] alone).
+    #[error("out of memory")]
     Memory,
 }
 

@@ -18,7 +18,7 @@ pub const VERSION_0: Fe32 = Fe32::Q;
 /// Segwit version 1 (taproot).
 pub const VERSION_1: Fe32 = Fe32::P;
 
-/// An element is no witness version: it is above 16.
+/// An element is not a witness version: it is above 16.
 #[derive(Clone, Copy, Debug, PartialEq, Eq, Drop, Error)]
 #[error("invalid segwit witness version: {} (bech32 character: '{}')", .0.to_u8(), .0.to_char())]
 pub struct InvalidWitnessVersionError(pub Fe32);

@@ -4,7 +4,7 @@ use Rattle.bech32_gf.specs.declared.gf32.Fe32.{Fe32}
 use Rattle.bech32_gf.specs.declared.gf32.conversions.TryFromError.{TryFromError}
 use Rattle.bech32_gf.specs.declared.gf32.conversions.TryFromError.TheVariants.{NotAByte, InvalidByte}
 
--- an integer is refused because it is no byte, or because it is a byte from 32 on, which is told
+-- an integer is refused because it is not a byte, or because it is a byte from 32 on, which is told
 abbrev pub IsRefusal : ℤ → TryFromError → Type 0
 IsRefusal n (NotAByte e) = ¬ (pos 0 ≤ℤ n × n ≤ℤ pos 255)
 IsRefusal n (InvalidByte b) = (pos b ≡ n) × (32 ≤ b) × (b ≤ 255)

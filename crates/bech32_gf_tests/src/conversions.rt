@@ -3,7 +3,7 @@ use bech32_gf::gf32::{Fe32, TryFromError};
 use std::test::Fail;
 
 // What came of an integer: an element, or the byte from 32 on that is none, or nothing that is told
-// where it is no byte.
+// where it is not a byte.
 fn outcome(answer: Result<Fe32, TryFromError>) -> Result<Fe32, Option<u8>> {
     match answer {
         Ok(element) => Ok(element),

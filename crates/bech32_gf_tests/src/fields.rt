@@ -41,7 +41,8 @@ fn there_and_back<E: ExtensionField>(x: E::BaseField) -> Option<E::BaseField>
     E::from(x).to_base()
 }
 
-// Fails where the constant is not what the function answers, whose contract is the list of divisors.
+// Fails where the constant is not what the function returns, whose contract is the list of
+// divisors.
 fn has_one_list_of_factors<F: Field>(rt: &impl Abort) {
     same_items(rt, F::MULTIPLICATIVE_ORDER_FACTORS, F::order_factors());
 }

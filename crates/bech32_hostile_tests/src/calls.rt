@@ -30,7 +30,7 @@ const UPPER_TEXT: &str = "ABC14W46H2AT4W46H2AT4W46H2AT4W46H2AT958NGU";
 
 const BYTES: [u8; 20] = [0xab; 20];
 
-// What a call answered whose text this is.
+// What a call returned whose text this is.
 fn text_is<A: Allocator>(outcome: Result<String<A>, EncodeError>, text: &str) -> Answer {
     match outcome {
         Ok(found) => Answer::of(found.as_str() == text),
@@ -39,7 +39,7 @@ fn text_is<A: Allocator>(outcome: Result<String<A>, EncodeError>, text: &str) ->
     }
 }
 
-// What a call answered whose address this is.
+// What a call returned whose address this is.
 fn address_is<A: Allocator>(outcome: Result<String<A>, segwit::EncodeError>, text: &str) -> Answer {
     match outcome {
         Ok(found) => Answer::of(found.as_str() == text),
@@ -175,7 +175,7 @@ impl Call for Block {
     }
 }
 
-// What a call answered whose nearest text this is.
+// What a call returned whose nearest text this is.
 fn nearest_is<A: Allocator>(
     outcome: Result<Option<String<A>>, Codex32Error>,
     text: &str,

@@ -74,7 +74,7 @@ fn is_listing(listing: Listing<'_>, want: &[(usize, Fe32)]) -> bool {
     errors.next().is_none() && is_same
 }
 
-// What a corrector answers that should list just this.
+// What a corrector returns that should list just this.
 fn lists(corrector: &OnHeap<'_>, want: &[(usize, Fe32)]) -> Answer {
     match corrector.bch_errors() {
         Ok(Some(errors)) => Answer::of(is_listing(errors, want)),
@@ -83,7 +83,7 @@ fn lists(corrector: &OnHeap<'_>, want: &[(usize, Fe32)]) -> Answer {
     }
 }
 
-// Want of memory, where the corrector still lists just this.
+// Out of memory, where the corrector still lists just this.
 fn wants_memory(corrector: &OnHeap<'_>, want: &[(usize, Fe32)]) -> Answer {
     match lists(corrector, want) {
         Answer::Undisturbed => Answer::NoMemory,
@@ -91,7 +91,7 @@ fn wants_memory(corrector: &OnHeap<'_>, want: &[(usize, Fe32)]) -> Answer {
     }
 }
 
-// What it answers where it is asked again after want of memory.
+// What it returns where it is asked again after it was out of memory.
 fn lists_or_wants_memory(corrector: &OnHeap<'_>, want: &[(usize, Fe32)]) -> Answer {
     match lists(corrector, want) {
         Answer::NoMemory => wants_memory(corrector, want),
@@ -99,7 +99,7 @@ fn lists_or_wants_memory(corrector: &OnHeap<'_>, want: &[(usize, Fe32)]) -> Answ
     }
 }
 
-// What its clone answers, or itself after want of memory.
+// What its clone returns, or itself if out of memory.
 fn clone_lists(corrector: &OnHeap<'_>, want: &[(usize, Fe32)]) -> Answer {
     match corrector.clone() {
         Ok(other) => lists(&other, want),
@@ -129,8 +129,8 @@ fn lists_nothing(corrector: &OnHeap<'_>) -> bool {
     }
 }
 
-// Seven erasures take no memory. The eighth does, and with it the eight characters are found; where
-// its request is refused there are the seven still, by which nothing is listed.
+// Seven erasures allocate nothing. The eighth does, and with it the eight characters are found;
+// where its request is refused there are the seven still, by which nothing is listed.
 enum EighthErasure {}
 
 impl Call for EighthErasure {

@@ -64,7 +64,7 @@ empty_fault n = if n == 0 then Some Empty else None
 abbrev pub length_fault : ℕ → Option Error
 length_fault n = if nat_lt 83 n then Some (TooLong n) else None
 
--- why a text is no human-readable part: the first fault, in this order
+-- why a text is not a human-readable part: the first fault, in this order
 abbrev pub hrp_refusal : List ℕ → Option Error
 hrp_refusal text =
     first_of (empty_fault (length text)) (first_of (length_fault (length text)) (first_bad [] (chars text)))

@@ -13,11 +13,13 @@ hrp_bytes h = take h.size h.buf
 abbrev pub lowered_bytes : Hrp → List ℕ
 lowered_bytes h = lowered (hrp_bytes h)
 
--- what reading a text answers: the part of these bytes where nothing is wrong with them, else why not
+-- what reading a text returns: the part of these bytes where nothing is wrong with them, else why
+-- not
 abbrev pub IsParsed : List ℕ → Result Hrp Error → Type 0
 IsParsed text r =
     MatchResult r (λ h. (hrp_refusal text ≡ None) × (hrp_bytes h ≡ text)) (λ e. hrp_refusal text ≡ Some e)
 
--- what reading a text in pieces answers where a usize cannot count its bytes: it is too long, with the highest count
+-- what reading a text in pieces returns where a usize cannot count its bytes: it is too long, with
+-- the highest count
 abbrev pub IsBeyondCount : Result Hrp Error → Type 0
 IsBeyondCount r = r ≡ Err (TooLong (2 ^ 64 - 1))

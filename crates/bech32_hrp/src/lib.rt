@@ -24,7 +24,7 @@ use std::hash::{Hash, Hasher};
 /// The most bytes that a human-readable part has (BIP-173, Bech32).
 const MAX_HRP_LEN: usize = 83;
 
-/// Why a text is no human-readable part.
+/// Why a text is not a human-readable part.
 #[derive(Clone, Copy, PartialEq, Eq, Debug, Drop, thiserror::Error)]
 pub enum Error {
     /// The text has more than 83 bytes: how many.
@@ -160,7 +160,7 @@ fn put_x(bytes: &mut [u8])
 impl Hrp {
     ghost use Rattle.bech32_hrp.specs.HrpBytes.{hrp_bytes, lowered_bytes, IsParsed};
 
-    /// What `parse` answers.
+    /// What `parse` returns.
     fn read(text: &str) -> Result<Hrp, Error>
         ensures { IsParsed text.now result }
     {
@@ -210,7 +210,7 @@ impl Hrp {
     ///
     /// # Errors
     ///
-    /// Where there is no memory for it.
+    /// When out of memory.
     pub fn to_lowercase_in<A: Allocator>(&self, alloc: A) -> Result<String<A>, AllocError>
         ensures { IfOk result (λ s. string_bytes s ≡ lowered_bytes self.now) }
     {
@@ -221,7 +221,7 @@ impl Hrp {
     ///
     /// # Errors
     ///
-    /// Where there is no memory for it.
+    /// When out of memory.
     pub fn to_lowercase(&self, alloc: Global) -> Result<String, AllocError>
         ensures { IfOk result (λ s. string_bytes s ≡ lowered_bytes self.now) }
     {

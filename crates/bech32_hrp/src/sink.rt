@@ -10,8 +10,8 @@ use crate::{Error, Hrp, MAX_HRP_LEN};
 use std::fmt;
 use std::fmt::Write;
 
-/// Takes a text in pieces, and tells what [`Hrp::parse`] answers of it: keeps its first 83 bytes, and
-/// its length, or `usize::MAX` where that does not fit.
+/// Takes a text in pieces, and tells what [`Hrp::parse`] returns of it: keeps its first 83 bytes,
+/// and its length, or `usize::MAX` where that does not fit.
 #[derive(Drop)]
 pub struct HrpSink {
     // The first bytes of the text.
@@ -42,7 +42,7 @@ impl HrpSink {
         }
     }
 
-    /// What [`Hrp::parse`] answers of the text of all pieces so far.
+    /// What [`Hrp::parse`] returns of the text of all pieces so far.
     ///
     /// # Errors
     ///

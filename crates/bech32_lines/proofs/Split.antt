@@ -23,7 +23,7 @@ at_byte c bs front back e h =
     ∙ slice_split_at (λ b. eqb b c) front c back
     (All-from_get_or (λ b. eqb b c ≡ false) front 0 (λ i l. ne_eqb (get_or front i 0) c (h i l))) (eq-eqb c c refl)
 
--- the parts of a text, by what `split_once` answers
+-- the parts of a text, by what `split_once` returns
 pub split-split_once : (c : ℕ) (bs : List ℕ) (r : Option (Bor (List ℕ) × Bor (List ℕ))) → c < 128 → IsSplitOnceResult c bs r
     → MatchOption r (slice_split (λ b. eqb b c) bs ≡ bs ∷ []) (λ x. slice_split (λ b. eqb b c) bs ≡ x.0.now ∷ slice_split (λ b. eqb b c) x.1.now)
 split-split_once c bs r ascii h = cases r (split_parts c bs r h ascii) where

@@ -1,4 +1,4 @@
-//! What a program answers to commands, and so to each line.
+//! What a program replies to commands, and so to each line.
 
 ghost use Rattle.std.specs.Prelude.{◌≡◌, ℕ, ◌+◌, ◌≤◌, ◌<◌, List, Option, vec_len, vec_capacity};
 ghost use Rattle.std.specs.Prelude.{OnOk, OnErr, IfErr, IsSomeAnd};
@@ -12,7 +12,7 @@ use crate::replies::{LINE_LIMIT, Replies};
 /// Why a text is not answered.
 #[derive(Clone, Copy, Debug, PartialEq, Eq, Drop)]
 pub enum Unanswered {
-    /// It is no command with its arguments.
+    /// It is not a command with its arguments.
     NoCommand,
     /// It is a command that is refused, with this number.
     Refused(u8),
@@ -61,7 +61,7 @@ fn answer_line<P: Answers>(program: &P, line: &[u8], out: &mut Vec<u8>) -> Resul
 }
 
 /// A program replies to a line by its answer. A line that is too long is refused with the number 1,
-/// one that is not UTF-8 with 2, and one that is no command with 3.
+/// one that is not UTF-8 with 2, and one that is not a command with 3.
 impl<P: Answers> Replies for P {
     ghost use Rattle.bech32_lines.specs.laws.LongLines.{long_lines};
 

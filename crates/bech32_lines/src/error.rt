@@ -11,7 +11,7 @@ pub enum RunError {
     /// The sink failed.
     #[error("writing failed")]
     Write,
-    /// There was no memory for the run's buffers.
-    #[error("no memory")]
+    /// Out of memory for the run's buffers.
+    #[error("out of memory")]
     Memory,
 }

@@ -1,5 +1,5 @@
-//! What programs that answer lines share: a run over all lines of an input, the words of a line, and
-//! replies put together. What is said of a line is the program's own ([`Replies`]).
+//! What programs that reply to lines share: a run over all lines of an input, the words of a line,
+//! and replies put together. What is said of a line is the program's own ([`Replies`]).
 #![tactic(auto)]
 
 mod answers;

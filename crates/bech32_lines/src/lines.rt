@@ -172,7 +172,7 @@ impl Lines {
         self.write_out(sink)
     }
 
-    /// Answers what is left at the end.
+    /// Returns what is left at the end.
     fn finish<P: Replies, K: ByteSink>(&mut self, program: &P, sink: &mut K) -> Result<(), RunError>
         requires unmarked { K.has_failed sink.old ≡ false }
         requires none_left { self.old.out.items ≡ [] }

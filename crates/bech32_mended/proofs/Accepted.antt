@@ -68,7 +68,7 @@ module _ (code : Code) (text hrp data_part : List ℕ) (residue : List Fe32) (li
   inside_elements : AllByRecursion (λ (p : ℕ × Fe32). p.0 < length (elements_of data_part)) listing
   inside_elements = subst (λ (n : ℕ). AllByRecursion (λ (p : ℕ × Fe32). p.0 < n) listing) (sym (length-map data_part element_of)) inside
 
-  -- the mended elements leave the target
+  -- the mended elements have the target as remainder
   leaves : IsRemainder ops code.generator (appended (front (lowered hrp)) (mended ops listing (elements_of data_part))) code.target
   leaves =
       IsRemainder-same code.generator (add ops (appended (front (lowered hrp)) (elements_of data_part)) (pattern_polynomial ops listing))

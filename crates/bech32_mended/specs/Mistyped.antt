@@ -1,4 +1,4 @@
--- What a checksum answers to a mistyped text: how to mend it, or that there is no way.
+-- What a checksum finds for a mistyped text: how to mend it, or that there is no way.
 use Rattle.std.specs.Prelude.{◌≡◌, ◌≢◌, ◌<◌, ◌≤◌, ℕ, List, [], length, Option, Some, None}
 use Rattle.std.specs.List.{AllByRecursion}
 use Rattle.bech32_gf.specs.Fe32.{elements_of, ops}
@@ -72,7 +72,8 @@ pub record IsMendedText (listing : List (ℕ × Fe32)) (text mended_text : List 
   pub grammar : IsText text hrp data_part
   pub spelling : mended_text ≡ spelled hrp (mended ops listing (elements_of data_part))
 
--- what a checksum answers to a text: it accepts it, or lists how it is to be mended, or there is no such listing
+-- what a checksum finds for a text: it accepts it, or lists how it is to be mended, or there is no
+-- such listing
 abbrev pub IsAnswer : Code → ℕ → List ℕ → List ℕ → Answer → Type 0
 IsAnswer code bound text given Fine = Accepts code text
 IsAnswer code bound text given (Found listing) = IsListingOf code bound text given listing

@@ -1,4 +1,4 @@
-//! What a checksum answers to a text.
+//! What a checksum finds for a text.
 
 ghost use Rattle.std.specs.Prelude.{◌≡◌, ◌≤◌, ◌<◌, ℕ, [], List, length, None, IfSome, MatchResult};
 ghost use Rattle.std.specs.List.{AllByRecursion};
@@ -27,7 +27,7 @@ use bech32_gf::gf32::Fe32;
 /// Locations, of which 0 is the last character, and the element to add at each.
 pub type Listing = ShortVec<(usize, Fe32), NoMemory>;
 
-/// What a checksum answers to a text.
+/// What a checksum finds for a text.
 #[derive(Drop)]
 pub enum Answer {
     /// It accepts the text.
@@ -107,7 +107,7 @@ fn listing_of<Ck: Checksum>(
     Some(listed(found?))
 }
 
-// What the checksum answers to the text of which this is the corrector.
+// What the checksum finds for the text of which this is the corrector.
 fn answer_of<Ck: Checksum>(corrector: Corrector<Ck, NoMemory>, given: &[usize]) -> Answer
     requires lawful { AreLawfulRoots Ck.CorrectionField.ops Ck.CorrectionField.embed Ck.code
         Ck.ROOT_GENERATOR Ck.ROOT_EXPONENTS_START Ck.ROOT_EXPONENTS_END }
@@ -125,8 +125,8 @@ fn answer_of<Ck: Checksum>(corrector: Corrector<Ck, NoMemory>, given: &[usize]) 
     }
 }
 
-/// What Bech32 answers to a text, where the given locations are erasures: whether it accepts the text,
-/// and else how it is to be mended. It takes no memory.
+/// What Bech32 finds for a text, where the given locations are erasures: whether it accepts the
+/// text, and else how it is to be mended. It allocates nothing.
 ///
 /// # Errors
 ///

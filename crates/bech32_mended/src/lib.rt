@@ -1,4 +1,4 @@
-//! Mistyped texts: what a checksum answers to one, and how it is mended.
+//! Mistyped texts: what a checksum finds for one, and how it is mended.
 #![tactic(auto)]
 
 mod correcting;

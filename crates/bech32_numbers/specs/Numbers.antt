@@ -1,5 +1,6 @@
--- The numbers of refusals: from 11 for a human-readable part, 21 for characters, 31 for a checksum, 41 for a segwit
--- address, 51 for a text that is not written, and 91 for want of memory. An error that carries another has its number.
+-- The numbers of refusals: from 11 for a human-readable part, 21 for characters, 31 for a checksum,
+-- 41 for a segwit address, 51 for a text that is not written, and 91 for out of memory. An error
+-- that carries another has its number.
 use Rattle.std.specs.Prelude.{◌<◌, ℕ}
 use Rattle.bech32_hrp.specs.declared.Error.{Error as HrpError}
 use Rattle.bech32_hrp.specs.declared.Error.TheVariants.{Empty, TooLong as HrpTooLong}
@@ -34,7 +35,7 @@ use Rattle.bech32_segwit.specs.declared.error.EncodeError.TheVariants.{WitnessVe
 use Rattle.bech32_segwit.specs.declared.error.EncodeError.TheVariants.{TooLong as NoAddressLength, Fmt as AddressFmt}
 use Rattle.bech32_segwit.specs.declared.error.EncodeError.TheVariants.{Memory as AddressMemory}
 
--- a number of one or two digits, and not 0, which is no refusal's
+-- a number of one or two digits, and not 0, which is not a refusal's
 pub record IsSmall (number : ℕ) : Type 0 where
   pub above : 0 < number
   pub below : number < 100
@@ -86,7 +87,7 @@ number_of_length_error TooShort = 46
 number_of_length_error LongProgram = 47
 number_of_length_error InvalidSegwitV0 = 48
 
--- of a text that is no segwit address
+-- of a text that is not a segwit address
 abbrev pub number_of_address_error : SegwitHrpstringError → ℕ
 number_of_address_error (Unchecked e) = number_of_text_error e
 number_of_address_error (LongAddress n) = 41

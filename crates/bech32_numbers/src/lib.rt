@@ -1,5 +1,5 @@
 //! The numbers of refusals: each error of `bech32` has one, from 1 to 99, that programs and the
-//! functions for C print or answer in its place. An error that carries another has its number.
+//! functions for C print or return in its place. An error that carries another has its number.
 //!
 //! Numbers from 1 to 9 and from 92 are left to the programs.
 #![tactic(auto)]
@@ -25,7 +25,7 @@ use bech32::{DecodeError, EncodeError, segwit};
 pub const NO_CORRECTION: u8 = 34;
 
 /// The number, 11 to 16, of a human-readable part that is refused. `Fmt`, 16, comes of
-/// `Hrp::parse_display` alone, so no program of this repository answers it.
+/// `Hrp::parse_display` alone, so no program of this repository prints it.
 pub fn hrp_error_number(e: hrp::Error) -> u8
     ensures value { result ≡ number_of_hrp_error e }
     ensures small { IsSmall result }
@@ -111,7 +111,7 @@ pub fn length_error_number(e: WitnessLengthError) -> u8
     }
 }
 
-/// The number, 11 to 48 or 91, of a text that is no segwit address.
+/// The number, 11 to 48 or 91, of a text that is not a segwit address.
 pub fn address_error_number(e: SegwitHrpstringError) -> u8
     ensures value { result ≡ number_of_address_error e }
     ensures small { IsSmall result }

@@ -59,7 +59,7 @@ fn fes_of(alloc: Global, bytes: &[u8]) -> Result<Vec<Fe32>, AllocError>
     bytes.iter().copied().bytes_to_fes().collect(alloc)
 }
 
-// Appends the elements of a slice, one at a time, and where memory runs out some first ones of them.
+// Appends the elements of a slice, one at a time, and if memory runs out some first ones of them.
 fn push_fes(bytes: &[u8], out: &mut Vec<Fe32>) -> Result<(), AllocError>
     ensures ok { OnOk result (out.new.items ≡ out.old.items ++ to_fes bytes.now) }
     ensures err { OnErr result ((first : List Fe32) × (others : List Fe32)

@@ -34,7 +34,7 @@ impl io::Write for Narrow {
     }
 }
 
-// Takes nothing, and answers `Ok(0)`.
+// Takes nothing, and returns `Ok(0)`.
 #[derive(Drop)]
 struct Full;
 
@@ -94,7 +94,7 @@ impl<'a> io::Read for Hiccup<'a> {
     }
 }
 
-// What a call answered, `None` for an error, and the mark after it; or that the device had failed
+// What a call returned, `None` for an error, and the mark after it; or that the device had failed
 // before and was asked nothing more.
 type Answer<T> = Option<(Option<T>, bool)>;
 

@@ -31,7 +31,7 @@ impl fmt::Display for Broken<'_> {
     }
 }
 
-// What a sink answers of these pieces.
+// What a sink returns of these pieces.
 fn by_sink(rt: &impl Abort, pieces: &[&str]) -> Result<Hrp, Error> {
     let mut sink = HrpSink::new();
     for piece in pieces {

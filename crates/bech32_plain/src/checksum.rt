@@ -53,7 +53,7 @@ impl PlainChecksum {
         }
     }
 
-    // Whether a polynomial, the constant term first, leaves the target as remainder.
+    // Whether a polynomial, the constant term first, has the target as remainder.
     pub(crate) fn leaves_target(
         self,
         alloc: Global,

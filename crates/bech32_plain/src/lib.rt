@@ -24,7 +24,7 @@ use std::alloc::{AllocError, Global};
 ///
 /// # Errors
 ///
-/// Where memory runs out.
+/// If memory runs out.
 pub fn accepts(alloc: Global, checksum: PlainChecksum, text: &str) -> Result<bool, AllocError>
     ensures { IfOk result (λ b. IsTrue b ↔ Accepts (code_of_name checksum) text.now) }
 {
@@ -44,7 +44,7 @@ pub fn accepts(alloc: Global, checksum: PlainChecksum, text: &str) -> Result<boo
 ///
 /// # Errors
 ///
-/// Where memory runs out.
+/// If memory runs out.
 pub fn encoded_text(
     alloc: Global,
     checksum: PlainChecksum,

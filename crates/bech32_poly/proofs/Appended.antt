@@ -71,7 +71,8 @@ module _ {F : Type 0} {o : Ops F} (l : IsField o) where
           ∙ ap (remainder_of o low) (appended-reverse p zs)
           ∙ remainder_of-below low (reverse zs) p (length-reverse zs ∙ d)
 
-  -- where no element differs from its negative: the remainder after the target's coefficients makes the polynomial leave the target
+  -- where no element differs from its negative: the remainder after the target's coefficients makes
+  -- the target the polynomial's remainder
   pub checksum_of_target : (low p target r : List F) → ((x : F) → o.neg x ≡ x) → length target ≡ length low
       → IsRemainder o low (appended p (reverse target)) r → IsRemainder o low (appended p (reverse r)) target
   checksum_of_target low p target r same e h =

@@ -1,4 +1,4 @@
-//! Vectors of field elements whose first places need no memory.
+//! Vectors of field elements whose first places are in the vector itself.
 
 ghost use Rattle.std.specs.Prelude.{◌≡◌, ◌≤◌, ◌<◌, ◌+◌, ◌++◌, ◌∷◌, ◌==◌, [], List, length, slice_set, IfOk, IsOk, OnErr, OnOk};
 ghost use Rattle.bech32_poly.specs.FieldVec.{FitsInPlace};
@@ -42,11 +42,11 @@ impl<F: Field, A: Allocator + Copy> FieldVec<F, A> {
         }
     }
 
-    /// A copy of the elements. It takes no memory where they fit in place.
+    /// A copy of the elements. It allocates nothing where they fit in place.
     ///
     /// # Errors
     ///
-    /// Where memory runs out.
+    /// If memory runs out.
     pub fn from_slice(alloc: A, items: &[F]) -> Result<Self, AllocError>
         ensures ok { IfOk result (λ v. v ≡ items.now) }
         ensures in_place { FitsInPlace (length items.now) → IsOk result }
@@ -58,11 +58,11 @@ impl<F: Field, A: Allocator + Copy> FieldVec<F, A> {
         Ok(copy)
     }
 
-    /// Adds an element at the end. It takes no memory where that one fits in place too.
+    /// Adds an element at the end. It allocates nothing where that one fits in place too.
     ///
     /// # Errors
     ///
-    /// Where memory runs out; the elements are then as before.
+    /// If memory runs out; the elements are then as before.
     pub fn push(&mut self, x: F) -> Result<(), AllocError>
         ensures ok { OnOk result (self.new ≡ self.old ++ x ∷ []) }
         ensures err { OnErr result (self.new ≡ self.old) }

@@ -37,7 +37,7 @@ impl<F: Field, A: Allocator + Copy> LfsrIter<F, A> {
     ///
     /// # Errors
     ///
-    /// Where memory runs out.
+    /// If memory runs out.
     pub fn berlekamp_massey_in(alloc: A, items: &[F]) -> Result<Self, AllocError>
         requires { 0 < length items.now }
         ensures shortest { IfOk result (λ r. IsShortest F.ops r.coefficients items.now) }
@@ -78,7 +78,7 @@ impl<F: Field> LfsrIter<F> {
     ///
     /// # Errors
     ///
-    /// Where memory runs out, which six items do not need.
+    /// If memory runs out, which six items do not need.
     pub fn berlekamp_massey(alloc: Global, items: &[F]) -> Result<Self, AllocError>
         requires { 0 < length items.now }
         ensures shortest { IfOk result (λ r. IsShortest F.ops r.coefficients items.now) }
@@ -203,7 +203,7 @@ fn one<F: Field, A: Allocator + Copy>(alloc: A) -> Result<FieldVec<F, A>, AllocE
 ///
 /// # Errors
 ///
-/// Where memory runs out.
+/// If memory runs out.
 pub fn shortest_register<F: Field, A: Allocator + Copy>(
     alloc: A,
     items: &[F],

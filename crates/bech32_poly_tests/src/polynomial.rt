@@ -119,7 +119,7 @@ fn takes_memory<T: Drop>(heap: &LocalHeap, made: Result<T, AllocError>) -> bool 
     made.is_err() || heap.used() > 0
 }
 
-// Of the calls that take memory, which ones do so for a polynomial of so many ones, itself in place.
+// Of the calls that allocate, which ones do so for a polynomial of so many ones, itself in place.
 fn with_memory(
     heap: &LocalHeap,
     polynomial: &Polynomial<Fe32, &LocalHeap>,

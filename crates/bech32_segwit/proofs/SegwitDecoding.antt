@@ -1,4 +1,4 @@
--- A text is decoded as a segwit address exactly where it is one, want of memory aside.
+-- A text is decoded as a segwit address exactly where it is one, unless out of memory.
 use Rattle.std.proofs.Common.{◌≡◌, ◌⊎◌, ℕ, List, Result, Ok, Err, ⊎_elim, IfOk, IfErr}
 use Rattle.std.specs.Str.{IsUtf8}
 use Rattle.bech32_gf.specs.declared.gf32.Fe32.{Fe32}

@@ -12,7 +12,8 @@ use Rattle.bech32_segwit.specs.declared.error.EncodeError.TheVariants.{WitnessVe
 abbrev pub HasAddress : List ℕ → Fe32 → List ℕ → Type 0
 HasAddress hrp version program = (text : List ℕ) × IsLowerAddress hrp version program text
 
--- of each address of these parts, in either case, the outcome is that address in lower case, want of memory aside
+-- of each address of these parts, in either case, the outcome is that address in lower case, unless
+-- out of memory
 abbrev pub SpellsEachAddress : {S : Type 0} → (S → List ℕ) → List ℕ → Fe32 → List ℕ → Result S EncodeError → Type 0
 SpellsEachAddress bytes hrp version program outcome =
     (h : List ℕ) → (t : List ℕ) → lowered h ≡ lowered hrp → IsAddress h version program t
@@ -22,7 +23,7 @@ SpellsEachAddress bytes hrp version program outcome =
 abbrev pub address_length : List ℕ → List ℕ → ℕ
 address_length hrp program = length hrp + 1 + 1 + length (to_fes program) + 6
 
--- why an address is not written: the first of three faults, or memory is wanting where it exists
+-- why an address is not written: the first of three faults, or out of memory where it exists
 abbrev pub IsSegwitEncodeRefusal : List ℕ → Fe32 → List ℕ → EncodeError → Type 0
 IsSegwitEncodeRefusal hrp version program (WitnessVersion e) = (16 < version.value) × (e.0 ≡ version)
 IsSegwitEncodeRefusal hrp version program (WitnessLength e) =

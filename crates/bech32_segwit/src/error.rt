@@ -27,8 +27,8 @@ pub enum EncodeError {
     /// The formatter failed (never given).
     #[error("writing to formatter failed: {0}")]
     Fmt(fmt::Error),
-    /// There is no memory for the address.
-    #[error("no memory")]
+    /// Out of memory for the address.
+    #[error("out of memory")]
     Memory,
 }
 

@@ -62,7 +62,7 @@ fn decoded_in<A: Allocator>(alloc: A, s: &str) -> Result<(Hrp, Fe32, Vec<u8, A>)
 ///
 /// # Errors
 ///
-/// Those of [`SegwitHrpstring::new`]; then [`SegwitHrpstringError::Memory`] where there is no memory
+/// Those of [`SegwitHrpstring::new`]; then [`SegwitHrpstringError::Memory`] when out of memory
 /// for the program.
 pub fn decode_in<A: Allocator>(alloc: A, s: &str) -> Result<(Hrp, Fe32, Vec<u8, A>), DecodeError>
     ensures value { IfOk result (λ d. IsDecodedAddress s.now (hrp_bytes d.0) d.1 d.2.items) }
@@ -161,7 +161,7 @@ fn encoded_in<A: Allocator>(
 /// # Errors
 ///
 /// The first of: a witness version above 16; a program of less than 2 bytes, of more than 40, or of
-/// neither 20 nor 32 in version 0; an address of more than 90 characters; no memory for it.
+/// neither 20 nor 32 in version 0; an address of more than 90 characters; out of memory.
 pub fn encode_in<A: Allocator>(
     alloc: A,
     hrp: Hrp,

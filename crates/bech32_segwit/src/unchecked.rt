@@ -15,7 +15,7 @@ use bech32_gf::gf32::Fe32;
 use bech32_hrp::Hrp;
 use std::{fmt, io};
 
-// Puts the first 90 characters of the text by the checksum of the version, and answers how many
+// Puts the first 90 characters of the text by the checksum of the version, and returns how many
 // there are.
 fn put_front(hrp: Hrp, version: Fe32, program: &[u8], upper: bool, buffer: &mut [u8]) -> usize
     requires { length buffer.old ≡ 90 }

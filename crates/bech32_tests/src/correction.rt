@@ -13,7 +13,7 @@ fn carries(error: &impl CorrectableError) -> bool {
     error.residue_error().is_some()
 }
 
-// Whether the error of a text that is no address carries a residue.
+// Whether the error of a text that is not an address carries a residue.
 fn carries_of_address(rt: &impl Abort, alloc: Global, text: &str) -> bool {
     let error = segwit::decode(alloc, text).err();
     carries(&error.expect(rt, "it is refused"))

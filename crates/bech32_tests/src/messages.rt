@@ -69,7 +69,7 @@ fn tells_why_a_text_is_not_read(rt: HostRuntime) {
             DecodeError::Checksum(ChecksumError::InvalidLength),
             "no valid bech32 or bech32m checksum: the checksummed string is not a valid length",
         ),
-        (DecodeError::Memory, "no memory"),
+        (DecodeError::Memory, "out of memory"),
     ] {
         says(&rt, alloc, &error, message);
     }
@@ -92,7 +92,7 @@ fn tells_why_a_text_is_not_written(rt: HostRuntime) {
             EncodeError::Fmt(fmt::Error),
             "encode to formatter failed: an error occurred when formatting an argument",
         ),
-        (EncodeError::Memory, "no memory"),
+        (EncodeError::Memory, "out of memory"),
     ] {
         says(&rt, alloc, &error, message);
     }

@@ -216,15 +216,15 @@ fn counts_characters(rt: HostRuntime) {
     counts(&rt, alloc, 632, too_long);
 }
 
-// Whether a known text wants memory in a heap of so many bytes; fails where another is given, or
-// another error.
+// Whether a known text runs out of memory in a heap of so many bytes; fails where another is given,
+// or another error.
 fn encodes_in(rt: &impl Abort, alloc: Global, bytes: usize) -> bool {
     let heap = LocalHeap::new(alloc, bytes).expect(rt, "memory");
     let hrp = Hrp::parse("test").expect(rt, "a human-readable part");
     wants_memory(rt, encode_in::<Bech32, &LocalHeap>(&heap, hrp, &PROGRAM))
 }
 
-// Whether memory was wanting; fails where the answer is neither that nor the known text.
+// Whether it was out of memory; fails if the result is neither that nor the known text.
 fn wants_memory<A: Allocator>(rt: &impl Abort, text: Result<String<A>, EncodeError>) -> bool {
     match text {
         Ok(text) => {
@@ -248,7 +248,8 @@ fn encodes_or_wants_memory(rt: HostRuntime) {
     assert!(rt; 1 <= refused && refused < 16);
 }
 
-// Whether memory was wanting; fails where the answer is neither that nor the parts of the known text.
+// Whether it was out of memory; fails if the result is neither that nor the parts of the known
+// text.
 fn decoding_wants_memory<A: Allocator>(
     rt: &impl Abort,
     decoded: Result<(Hrp, Vec<u8, A>), DecodeError>,
@@ -266,8 +267,8 @@ fn decoding_wants_memory<A: Allocator>(
     }
 }
 
-// Whether a known text wants memory in a heap of so many bytes. A text that is not accepted is
-// refused there as elsewhere.
+// Whether a known text runs out of memory in a heap of so many bytes. A text that is not accepted
+// is refused there as elsewhere.
 fn decodes_in(rt: &impl Abort, alloc: Global, bytes: usize) -> bool {
     let heap = LocalHeap::new(alloc, bytes).expect(rt, "memory");
     let is_refused = decoding_wants_memory(rt, decode_in(&heap, TEXT_BY_BECH32M));

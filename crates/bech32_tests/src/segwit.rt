@@ -244,7 +244,7 @@ fn tells_what_is_wrong(rt: HostRuntime) {
             EncodeError::from(fmt::Error),
             "writing to formatter failed: an error occurred when formatting an argument",
         ),
-        (EncodeError::Memory, "no memory"),
+        (EncodeError::Memory, "out of memory"),
     ] {
         says(&rt, alloc, &error, message);
     }
@@ -255,14 +255,14 @@ fn tells_what_is_wrong(rt: HostRuntime) {
         ),
         (
             SegwitHrpstringError::Memory,
-            "decoding segwit address failed: no memory",
+            "decoding segwit address failed: out of memory",
         ),
     ] {
         says(&rt, alloc, &DecodeError(error), message);
     }
 }
 
-// Whether memory was wanting; fails where the answer is neither that nor the text.
+// Whether it was out of memory; fails if the result is neither that nor the text.
 fn wants_memory<A: Allocator>(
     rt: &impl Abort,
     text: &Result<String<A>, EncodeError>,
@@ -280,7 +280,7 @@ fn wants_memory<A: Allocator>(
     }
 }
 
-// Which of three addresses want memory in a heap of so many bytes.
+// Which of three addresses run out of memory in a heap of so many bytes.
 fn encodes_in(rt: &impl Abort, alloc: Global, bytes: usize) -> [bool; 3] {
     let heap = LocalHeap::new(alloc, bytes).expect(rt, "memory");
     let long = encode_in(&heap, hrp::BC, VERSION_1, &LONG_PROGRAM);
@@ -307,7 +307,7 @@ fn encodes_or_wants_memory(rt: HostRuntime) {
     }
 }
 
-// Whether memory was wanting for the parts of a known address; fails where the answer is neither
+// Whether memory ran out for the parts of a known address; fails if the result is neither
 // that nor these.
 fn decoding_wants_memory<A: Allocator>(
     rt: &impl Abort,
@@ -326,8 +326,8 @@ fn decoding_wants_memory<A: Allocator>(
     }
 }
 
-// Whether a known address wants memory in a heap of so many bytes. What is no address is refused
-// there as elsewhere.
+// Whether a known address runs out of memory in a heap of so many bytes. What is not an address is
+// refused there as elsewhere.
 fn decodes_in(rt: &impl Abort, alloc: Global, bytes: usize) -> bool {
     let heap = LocalHeap::new(alloc, bytes).expect(rt, "memory");
     let is_refused = decoding_wants_memory(rt, decode_in(&heap, ADDRESS));

@@ -7,7 +7,7 @@ use Rattle.bech32_lines.specs.Refused.{err}
 use Rattle.codex32_numbers.specs.Numbers.{number_of_codex32_error}
 use Rattle.c32.specs.Reply.{IsParseAnswer, IsProposeAnswer}
 
--- a text that is no codex32 string
+-- a text that is not a codex32 string
 pub says-no_string : (text : List ℕ) (e : Codex32Error) → IsStringRefusal text e → IsParseAnswer text (err (number_of_codex32_error e))
 says-no_string text e h = inr (record { error = e; is_refusal = h; spelling = refl })
 

@@ -26,7 +26,7 @@ pub record SaysNoString (text said : List ℕ) : Type 0 where
   pub is_refusal : IsStringRefusal text error
   pub spelling : said ≡ err (number_of_codex32_error error)
 
--- the answer to `parse`, which takes no memory
+-- the answer to `parse`, which allocates nothing
 abbrev pub IsParseAnswer : List ℕ → List ℕ → Type 0
 IsParseAnswer text said = SaysParts text said ⊎ SaysNoString text said
 
@@ -43,7 +43,7 @@ pub record SaysNone (text said : List ℕ) : Type 0 where
   pub spelling : said ≡ codes "none"
 
 -- it is said why no nearest text is looked for: what is wrong with the text, or, where it has its grammar, its length and
--- its human-readable part right, that there is no memory
+-- its human-readable part right, out of memory
 pub record SaysNotLooked (text said : List ℕ) : Type 0 where
   pub error : Codex32Error
   pub is_refusal : IsProposeRefusal text error

@@ -1,4 +1,4 @@
-//! The answers to commands, by which `bech32_lines` replies to a line.
+//! The replies to commands, by which `bech32_lines` replies to a line.
 
 ghost use Rattle.std.specs.Prelude.{◌≡◌, ◌+◌, ◌≤◌, vec_len, vec_capacity, OnOk, OnErr, IfErr};
 ghost use Rattle.bech32_lines.specs.Added.{Adds};

@@ -54,7 +54,7 @@ pub record IsNearestText (text nearest : List ℕ) : Type 0 where
   pub few : 2 * length (changed damaged elements) + length (unreadable damaged) ≤ 8
 
 -- why no nearest text is looked for: what is wrong with the text as it is read, but for its checksum; or, where nothing
--- of that is, there is no memory. The former is never `Memory`.
+-- of that is, out of memory. The former is never `Memory`.
 abbrev pub IsProposeRefusal : List ℕ → Codex32Error → Type 0
 IsProposeRefusal text e =
     ((e ≡ Memory) × (frame_refusal (read_text text) ≡ None)) ⊎ (frame_refusal (read_text text) ≡ Some e)

@@ -92,7 +92,7 @@ pub record IsLaterRefusal (text : List ℕ) (e : Codex32Error) : Type 0 where
   pub framed : frame_refusal text ≡ None
   pub refusal : IsBodyRefusal text hrp data_part e
 
--- why a text is no codex32 string, the first of: the grammar, the length, the human-readable part, the checksum, the
--- threshold, the share index
+-- why a text is not a codex32 string, the first of: the grammar, the length, the human-readable
+-- part, the checksum, the threshold, the share index
 abbrev pub IsStringRefusal : List ℕ → Codex32Error → Type 0
 IsStringRefusal text e = (frame_refusal text ≡ Some e) ⊎ IsLaterRefusal text e

@@ -1,4 +1,4 @@
-//! What is asked of a damaged text, as it is read, before any memory is taken.
+//! What is asked of a damaged text, as it is read, before anything is allocated.
 
 ghost use Rattle.std.specs.Prelude.{◌≡◌, None, Some, true, MatchResult};
 ghost use Rattle.std.specs.Char.{IsScalar};
@@ -76,7 +76,7 @@ fn validate_grammar(text: &str, front: &str, damaged: &str) -> Result<(), Unchec
 }
 
 /// Tests a damaged codex32 string before [`propose`](crate::propose) looks for the nearest text. Each
-/// `?` behind the last `1` is a character that cannot be read. It takes no memory.
+/// `?` behind the last `1` is a character that cannot be read. It allocates nothing.
 ///
 /// # Errors
 ///

@@ -4,7 +4,7 @@ use bech32::primitives::decode::{ChecksumError, UncheckedHrpstringError};
 use std::alloc::AllocError;
 use thiserror::Error;
 
-/// Why a text is no codex32 string, or why no nearest text is looked for.
+/// Why a text is not a codex32 string, or why no nearest text is looked for.
 #[derive(Clone, Copy, Debug, PartialEq, Eq, Drop, Error)]
 pub enum Codex32Error {
     /// It is not in the grammar (BIP-173, Bech32).
@@ -25,8 +25,8 @@ pub enum Codex32Error {
     /// The threshold is 0, and the share index is not `s`.
     #[error("the threshold is 0, and the share index is not \"s\"")]
     ShareIndex,
-    /// There is no memory (given by [`propose`](crate::propose) alone).
-    #[error("no memory")]
+    /// Out of memory (given by [`propose`](crate::propose) alone).
+    #[error("out of memory")]
     Memory,
 }
 

@@ -154,7 +154,7 @@ fn proposed_in<A: Allocator + Copy>(alloc: A, text: &str) -> Result<Option<Strin
 ///
 /// # Errors
 ///
-/// That of [`validate_damaged`], before any memory is taken. Then, where there is no memory, that in
+/// That of [`validate_damaged`], before anything is allocated. Then, when out of memory, that in
 /// place of any answer.
 pub fn propose_in<A: Allocator + Copy>(
     alloc: A,

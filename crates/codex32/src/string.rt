@@ -66,7 +66,7 @@ impl<'s> Codex32Str<'s> {
         Ok(Self::cut(text))
     }
 
-    /// Reads a codex32 string. It takes no memory.
+    /// Reads a codex32 string. It allocates nothing.
     ///
     /// # Errors
     ///

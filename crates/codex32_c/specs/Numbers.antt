@@ -1,4 +1,4 @@
--- The numbers of refusals: those of `codex32_numbers`, with 2 for bytes that are no text, 34
+-- The numbers of refusals: those of `codex32_numbers`, with 2 for bytes that are not a text, 34
 -- where there is no nearest text, and 92 for a buffer that is too small.
 use Rattle.std.specs.Prelude.{ℕ}
 use Rattle.codex32_numbers.specs.Numbers.{number_of_codex32_error}

@@ -15,7 +15,7 @@ pub record IsParsed (text : List ℕ) (threshold share_index payload_length : �
   pub is_string : IsString text hrp (threshold + 48) identifier share_index payload checksum
   pub payload_length_is : payload_length ≡ length payload
 
--- why bytes are no codex32 string: they are no text, or the text's first fault
+-- why bytes are not a codex32 string: they are not a text, or the text's first fault
 abbrev pub IsParseFault : List ℕ → Refusal → Type 0
 IsParseFault text NotUtf8 = ¬ (IsUtf8 text)
 IsParseFault text (Text e) = IsUtf8 text × IsStringRefusal text e

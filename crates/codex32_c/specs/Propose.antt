@@ -19,8 +19,9 @@ pub record LacksRoom (text : List ℕ) (room : ℕ) : Type 0 where
   pub is_nearest : IsNearestText text nearest
   pub lacks : room < length nearest
 
--- why none is put into a buffer of so many bytes: the bytes are no text; the first fault of the text as it is read, or,
--- where it has none, there is no memory; there is no nearest text; it does not fit
+-- why none is put into a buffer of so many bytes: the bytes are not a text; the first fault of the
+-- text as it is read, or, where it has none, out of memory; there is no nearest text; it does not
+-- fit
 abbrev pub IsProposeFault : List ℕ → ℕ → Refusal → Type 0
 IsProposeFault text room NotUtf8 = ¬ (IsUtf8 text)
 IsProposeFault text room (Text e) = IsUtf8 text × IsProposeRefusal text e

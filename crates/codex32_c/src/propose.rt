@@ -21,7 +21,7 @@ const PAGE: usize = 4096;
 
 const BESIDE: usize = 64;
 
-// Puts the nearest text at the front of a buffer, and answers its length.
+// Puts the nearest text at the front of a buffer, and returns its length.
 fn nearest_in<A: Allocator + Copy>(
     alloc: A,
     bytes: &[u8],
@@ -80,7 +80,7 @@ fn nearest_with(memory: &mut Memory, bytes: &[u8], proposed: &mut [u8]) -> Resul
     answer
 }
 
-// The same of any text, which is tested before any memory is taken.
+// The same of any text, which is tested before anything is allocated.
 fn nearest_of(memory: &mut Memory, bytes: &[u8], proposed: &mut [u8]) -> Result<usize, Refusal>
     ensures value { IfOk result (λ count. PutsNearest bytes.now proposed.old proposed.new count) }
     ensures refused { IfErr result (λ e. IsProposeFault bytes.now (length proposed.old) e) }

@@ -11,7 +11,7 @@ use codex32_numbers::codex32_error_number;
 pub enum Refusal {
     /// The bytes of a text are not UTF-8.
     NotUtf8,
-    /// The text is no codex32 string, or there is no memory.
+    /// The text is not a codex32 string, or out of memory.
     Text(Codex32Error),
     /// There is no nearest text.
     NoNearest,
@@ -33,7 +33,7 @@ impl Refusal {
         }
     }
 
-    /// The number that a call answers.
+    /// The number that a call returns.
     pub fn number(self) -> u32
         ensures value { result ≡ number_of self }
         ensures some { 0 < result }

@@ -1,5 +1,5 @@
 //! The numbers of the refusals of `codex32`, from 11 to 91, that programs and the functions for C print
-//! or answer in their place. An error that carries another has its number.
+//! or return in their place. An error that carries another has its number.
 //!
 //! Numbers from 1 to 9 and from 92 are left to the programs.
 #![tactic(auto)]
@@ -11,8 +11,8 @@ ghost use Rattle.codex32_numbers.specs.Numbers.{number_of_codex32_error};
 use bech32_numbers::{checksum_error_number, text_error_number};
 use codex32::Codex32Error;
 
-/// The number, 11 to 33, 81 to 84 or 91, of a text that is no codex32 string, or for which no nearest
-/// text is looked for.
+/// The number, 11 to 33, 81 to 84 or 91, of a text that is not a codex32 string, or for which no
+/// nearest text is looked for.
 pub fn codex32_error_number(e: Codex32Error) -> u8
     ensures value { result ≡ number_of_codex32_error e }
     ensures small { IsSmall result }

@@ -1,4 +1,4 @@
-//! Want of memory.
+//! Out of memory.
 
 use super::compare::same;
 use codex32::{Codex32Error, propose_in};

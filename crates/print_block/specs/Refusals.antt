@@ -8,7 +8,7 @@ use Rattle.print_block.specs.Words.{IsOfAlphabet}
 use Rattle.print_block.specs.declared.error.BlockError.{BlockError}
 use Rattle.print_block.specs.declared.error.BlockError.TheVariants.{Name, Character, Generator, Target, Print, Memory}
 
--- a byte is no character of the alphabet, or memory is wanting
+-- a byte is not a character of the alphabet, or out of memory
 abbrev pub IsWordRefusal : List ℕ → BlockError → Type 0
 IsWordRefusal word (Character c) = IsOfAlphabet word → ⊥
 IsWordRefusal word Memory = Unit {0}
@@ -17,7 +17,8 @@ IsWordRefusal word Generator = ⊥
 IsWordRefusal word Target = ⊥
 IsWordRefusal word (Print e) = ⊥
 
--- the first of: not 1 to 25 coefficients; a target with another number of them; no block. Or memory is wanting.
+-- the first of: not 1 to 25 coefficients; a target with another number of them; no block. Or out of
+-- memory.
 abbrev pub IsElementsRefusal : {E : Type 0} → RootField E → List Fe32 → List Fe32 → BlockError → Type 0
 IsElementsRefusal f generator target Generator = (0 < length generator) × (length generator ≤ 25) → ⊥
 IsElementsRefusal f generator target Target =
@@ -34,8 +35,8 @@ abbrev pub OfElements : (List Fe32 → List Fe32 → Type 0) → List ℕ → Li
 OfElements holds generator target =
     IsOfAlphabet generator × IsOfAlphabet target × holds (map element_of generator) (map element_of target)
 
--- the first of: no name; a byte of one of the words is no character of the alphabet; what is wrong with their elements.
--- Or memory is wanting, where there is a name.
+-- the first of: no name; a byte of one of the words is not a character of the alphabet; what is
+-- wrong with their elements. Or out of memory, where there is a name.
 abbrev pub IsWordsRefusal : {E : Type 0} → RootField E → List ℕ → List ℕ → List ℕ → BlockError → Type 0
 IsWordsRefusal f name generator target Name = length name ≡ 0
 IsWordsRefusal f name generator target (Character c) =

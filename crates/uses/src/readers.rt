@@ -1,4 +1,4 @@
-//! Readers, which borrow the text and take no memory.
+//! Readers, which borrow the text and allocate nothing.
 
 use crate::compare::{same, same_items};
 use bech32::primitives::decode::{CheckedHrpstring, SegwitHrpstring, UncheckedHrpstring};

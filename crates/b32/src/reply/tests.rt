@@ -3,7 +3,7 @@
 //!
 //! Of those rows 3,025 were made twice over and equal: by a reference model written from the
 //! definitions alone (remainders as sums of the remainders of powers of x, the grammar by cases, bits
-//! as whole lists), and by the Rust crate bech32 0.12.0 with the differences of docs/DIFFERENCES.md
+//! as whole lists), and by the Rust crate bech32 0.12.0 with the differences of docs/rust/DIFFERENCES.md
 //! applied to it. The others come from BIP-173 and BIP-350, or show one refusal each.
 
 use super::*;
@@ -22,7 +22,7 @@ fn reply_with(alloc: Global, size: usize, line: &[u8]) -> Result<Vec<u8>, AllocE
     Ok(out)
 }
 
-// Whether the reply with so much memory is want of memory, and whether it is this one.
+// Whether the reply with so much memory is out of memory, and whether it is this one.
 fn replies_with(
     alloc: Global,
     size: usize,

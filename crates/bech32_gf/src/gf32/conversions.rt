@@ -9,10 +9,10 @@ use std::fmt;
 use std::num::TryFromIntError;
 use thiserror::Error;
 
-/// Why an integer is no element.
+/// Why an integer is not an element.
 #[derive(Clone, Copy, Debug, PartialEq, Eq, Drop, Error)]
 pub enum TryFromError {
-    /// The integer is no byte.
+    /// The integer is not a byte.
     #[error("tried to interpret an integer as a GF32 element but it is not a byte: {0}")]
     NotAByte(TryFromIntError),
     /// The integer is a byte from 32 on.

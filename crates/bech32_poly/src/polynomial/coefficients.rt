@@ -31,7 +31,7 @@ impl<F: Field, A: Allocator + Copy> Polynomial<F, A> {
     ///
     /// # Errors
     ///
-    /// Where memory runs out.
+    /// If memory runs out.
     pub fn from_slice(alloc: A, coefficients: &[F]) -> Result<Self, AllocError>
         ensures list { IfOk result (λ p. p ≡ coefficients.now) }
         ensures in_place { FitsInPlace (length coefficients.now) → IsOk result }
@@ -67,7 +67,7 @@ impl<F: Field, A: Allocator + Copy> Polynomial<F, A> {
     ///
     /// # Errors
     ///
-    /// Where memory runs out.
+    /// If memory runs out.
     pub fn multiply(&self, other: &Self) -> Result<Self, AllocError>
         ensures product { IfOk result (λ p. IsSamePolynomial F.ops p (multiply F.ops self.now other.now)) }
         ensures size { IfOk result (λ p. length p ≡ length self.now + (length other.now - 1)) }
@@ -84,7 +84,7 @@ impl<F: Field, A: Allocator + Copy> Polynomial<F, A> {
     ///
     /// # Errors
     ///
-    /// Where memory runs out.
+    /// If memory runs out.
     pub fn multiply_below(&self, other: &Self, end: usize) -> Result<Self, AllocError>
         ensures product { IfOk result (λ p.
             IsSamePolynomial F.ops p (take end (multiply F.ops self.now other.now))) }
@@ -103,7 +103,7 @@ impl<F: Field, A: Allocator + Copy> Polynomial<F, A> {
     ///
     /// # Errors
     ///
-    /// Where memory runs out.
+    /// If memory runs out.
     pub fn reversed(&self) -> Result<Self, AllocError>
         ensures list { IfOk result (λ p. p ≡ reverse self.now) }
         ensures in_place { FitsInPlace (length self.now) → IsOk result }
@@ -118,7 +118,7 @@ impl<F: Field, A: Allocator + Copy> Polynomial<F, A> {
     ///
     /// # Errors
     ///
-    /// Where memory runs out.
+    /// If memory runs out.
     pub fn remainder(&self, low: &[F]) -> Result<Self, AllocError>
         ensures remainder { IfOk result (λ p. IsRemainder F.ops low.now self.now p) }
         ensures in_place { FitsInPlace (length low.now) → IsOk result }

@@ -14,7 +14,7 @@ use std::alloc::{AllocError, Allocator};
 ///
 /// # Errors
 ///
-/// Where memory runs out.
+/// If memory runs out.
 pub fn remainder<F: Field, A: Allocator>(
     alloc: A,
     polynomial: &[F],
@@ -28,7 +28,7 @@ pub fn remainder<F: Field, A: Allocator>(
     Ok(rest)
 }
 
-// Long division, from the highest coefficient down, which leaves the remainder in the place of zeros.
+// Long division, from the highest coefficient down, with the remainder in the place of zeros.
 pub(crate) fn divide<F: Field>(rest: &mut [F], polynomial: &[F], low: &[F])
     requires { rest.old ≡ zeros F.ops (length low.now) }
     ensures { IsRemainder F.ops low.now polynomial.now rest.new }

@@ -32,7 +32,7 @@ impl<E: ExtensionField, A: Allocator + Copy> RootIter<E, A> {
     ///
     /// # Errors
     ///
-    /// Where memory runs out.
+    /// If memory runs out.
     pub fn new(
         polynomial: &Polynomial<E::BaseField, A>,
         base: E,
@@ -167,7 +167,7 @@ pub fn power_of<F: Field>(base: F, n: usize) -> F
 ///
 /// # Errors
 ///
-/// Where memory runs out.
+/// If memory runs out.
 pub fn first_powers<F: Field, A: Allocator + Copy>(
     alloc: A,
     base: F,

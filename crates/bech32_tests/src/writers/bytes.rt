@@ -44,7 +44,8 @@ fn begins(whole: &[u8], w: &Narrow) -> bool {
     w.got.len() == w.room && whole.starts_with(w.got.as_slice())
 }
 
-// Takes nothing at its first call, answers `first` or else `Ok(0)`, and would take all from then on.
+// Takes nothing at its first call, returns `first` or else `Ok(0)`, and would take all from then
+// on.
 #[derive(Drop)]
 struct Late {
     calls: usize,
@@ -68,7 +69,7 @@ impl io::Write for Late {
     }
 }
 
-// What kind of error the writer answered, `None` for a text that is too long.
+// What kind of error the writer returned, `None` for a text that is too long.
 fn kind(e: EncodeIoError) -> Option<io::ErrorKind> {
     match e {
         EncodeIoError::TooLong(_) => None,

@@ -48,7 +48,7 @@ fn known_texts_in_memory(rt: HostRuntime) {
     same(&rt, &(lower.as_str(), upper.as_str()), &(TEXT, UPPER_TEXT));
 }
 
-// Whether memory was wanting; fails where the answer is neither that nor the text.
+// Whether it was out of memory; fails if the result is neither that nor the text.
 fn wants_memory<A: Allocator>(
     rt: &impl Abort,
     outcome: Result<String<A>, EncodeError>,
@@ -66,7 +66,7 @@ fn wants_memory<A: Allocator>(
     }
 }
 
-// Whether a known text in lower and in upper case wants memory in a heap of so many bytes.
+// Whether a known text in lower and in upper case runs out of memory in a heap of so many bytes.
 fn known_texts_in(rt: &impl Abort, alloc: Global, bytes: usize) -> (bool, bool) {
     let hrp = part(rt, "test");
     let heap = LocalHeap::new(alloc, bytes).expect(rt, "memory");
@@ -121,7 +121,7 @@ fn nothing_is_written_of_a_long_text(rt: HostRuntime) {
 const DATA: [u8; 632] = [0xa5; 632];
 
 // Whether the text of the data is cut where a writer takes so many pieces. Fails where the outcome
-// tells otherwise, or what was written is no beginning of the whole text.
+// tells otherwise, or what was written is not a beginning of the whole text.
 fn is_cut(rt: &impl Abort, alloc: Global, whole: &str, left: usize) -> bool {
     let hrp = part(rt, "abcd");
     let mut w = Budget {

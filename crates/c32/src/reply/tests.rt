@@ -10,7 +10,7 @@ use linked_list_allocator::LocalHeap;
 use std::alloc::{AllocError, Global};
 use std::test::Fail;
 
-// Whether the reply to a line is the wanted one, or one that tells of too little memory.
+// Whether the reply to a line is the wanted one, or one that says that it is out of memory.
 fn is_reply(
     alloc: Global,
     heap: &LocalHeap,

@@ -2,7 +2,7 @@ use Rattle.std.proofs.Common.{refl, inr}
 use Rattle.bech32_hrp.specs.HrpBytes.{hrp_bytes}
 use Rattle.uses.proofs.callers.in_lower_case.Goals as goal
 
--- the text is an address, so only memory can be wanting
+-- the text is an address, so it can only be out of memory
 pub returns-in_default-clause-refused : goal.returns-in_default-clause-refused
 returns-in_default-clause-refused c =
     let of = c.in_ok-hrp.ensures.value in

@@ -1,4 +1,5 @@
--- It refuses where the turn has come, and else answers what the inner allocator answers. Assumes `Logic`.
+-- It refuses where the turn has come, and else returns what the inner allocator returns. Assumes
+-- `Logic`.
 use Rattle.std.proofs.Common.{◌≡◌, ℕ, ◌+◌, ◌^◌, ◌<◌, true, false, List, [], ◌∷◌, Ok, Err, refl, w64, Bor}
 use seplogic.Ra.Ura.{Ura}
 use mir.Syntax.{Ty, Args, Fn, a_type, dnil, dcons}
