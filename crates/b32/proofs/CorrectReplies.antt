@@ -12,7 +12,7 @@ use Rattle.bech32_corrector.specs.Carried.{of_checked}
 use Rattle.bech32_corrector.specs.Correction.{singleton_bound}
 use Rattle.bech32_decode.specs.Acceptance.{Accepts}
 use Rattle.bech32_decode.specs.Checked.{IsCheckedRefusal}
-use Rattle.bech32_errors.specs.declared.error.CheckedHrpstringError.{CheckedHrpstringError}
+use Rattle.bech32_refusals.specs.declared.error.CheckedHrpstringError.{CheckedHrpstringError}
 use Rattle.bech32_mended.specs.Mended.{mended}
 use Rattle.bech32_mended.specs.Mistyped.{HasNoListing, IsListingOf, IsMendedText}
 use Rattle.bech32_mended.proofs.Texts.{IsMendable, few-from_listing, mended_text-from_ends}
@@ -24,7 +24,7 @@ use Rattle.b32.specs.declared.refusal.Refusal.TheVariants.{BadNumber, Memory}
 use Rattle.b32.specs.Locations.{AreLocations, BeginsWithLocation, IsNoListOfLocations}
 use Rattle.b32.specs.Numbers.{number_of}
 use Rattle.b32.specs.Request.{code_of_name}
-use Rattle.bech32_lines.specs.Refused.{err}
+use Rattle.line_program.specs.Refused.{err}
 use Rattle.b32.specs.Reply.{listed, IsCorrectAnswer, IsCorrectAtAnswer}
 
 -- both codes are short

@@ -1,9 +1,9 @@
 -- Lines of `correct`.
 use Rattle.std.specs.List.{list_any}
 use Rattle.std.proofs.Common.{◌≡◌, ℕ, Bool, true, false, ◌||◌, cond, List, [], ◌∷◌, refl, ap, ◌∙◌, None, codes}
-use Rattle.bech32_lines.specs.Words.{words, is_empty}
+use Rattle.line_program.specs.Words.{words, is_empty}
 use Rattle.b32.specs.Request.{correct_arguments, correct_request, request_of, request_of_words}
-use Rattle.bech32_lines.proofs.Split.{words-some}
+use Rattle.line_program.proofs.Split.{words-some}
 
 -- such a line asks for what its arguments ask for
 pub correct-line : (line : List ℕ) (arguments : List (List ℕ)) → words line ≡ codes "correct" ∷ arguments → request_of line ≡ correct_arguments arguments

@@ -5,7 +5,7 @@ use Rattle.std.proofs.lemmas.Str.Pattern.{IsSplitOnceResult}
 use Rattle.std.specs.Fmt.{decimal}
 use Rattle.std.specs.List.{AllByRecursion}
 use Rattle.b32.specs.Locations.{pieces, BeginsWithLocation, IsNoListOfLocations}
-use Rattle.bech32_lines.proofs.Split.{split-split_once}
+use Rattle.line_program.proofs.Split.{split-split_once}
 
 -- the pieces of a word, by what `split_once` returns
 pub pieces-split_once : (bs : List ℕ) (r : Option (Bor (List ℕ) × Bor (List ℕ))) → IsSplitOnceResult 44 bs r

@@ -9,8 +9,8 @@ use Rattle.b32.specs.Hex.{bytes_of}
 use Rattle.b32.specs.Numbers.{number_of}
 use Rattle.b32.specs.declared.refusal.Refusal.{Refusal}
 use Rattle.b32.specs.declared.refusal.Refusal.TheVariants.{BadHex, Memory}
-use Rattle.bech32_lines.specs.Added.{Adds}
-use Rattle.bech32_lines.specs.Refused.{err}
+use Rattle.line_program.specs.Added.{Adds}
+use Rattle.line_program.specs.Refused.{err}
 use Rattle.b32.specs.Reply.{OrNoMemory, IsEncodeAnswer}
 
 -- ---- the answer to `encode`

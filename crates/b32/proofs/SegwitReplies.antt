@@ -17,9 +17,9 @@ use Rattle.b32.specs.Numbers.{number_of}
 use Rattle.bech32_numbers.specs.Numbers.{number_of_hrp_error, number_of_segwit_encode_error}
 use Rattle.b32.specs.declared.refusal.Refusal.{Refusal}
 use Rattle.b32.specs.declared.refusal.Refusal.TheVariants.{BadHex, Memory}
-use Rattle.bech32_lines.specs.Refused.{err}
+use Rattle.line_program.specs.Refused.{err}
 use Rattle.b32.specs.Reply.{IsVersionWord, IsNoVersion, IsSegwitEncodeAnswer}
-use Rattle.bech32_lines.proofs.Pieces.{three-pieces, four-pieces}
+use Rattle.line_program.proofs.Pieces.{three-pieces, four-pieces}
 use Rattle.b32.proofs.Sizes.{length-hex_of}
 use Rattle.b32.proofs.VersionWords.{length-version}
 

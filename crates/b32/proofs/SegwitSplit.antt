@@ -1,6 +1,6 @@
 -- Lines of `segwit-encode` and `segwit-decode` with no last word, or an empty one.
 use Rattle.std.proofs.Common.{◌≡◌, ℕ, Bool, true, false, ◌||◌, List, [], ◌∷◌, refl, None, codes}
-use Rattle.bech32_lines.specs.Words.{words, is_empty}
+use Rattle.line_program.specs.Words.{words, is_empty}
 use Rattle.b32.specs.Request.{request_of}
 use Rattle.b32.proofs.Split.{line-of, line-empty}
 

@@ -1,6 +1,6 @@
 -- Lines that ask for nothing.
 use Rattle.std.proofs.Common.{◌≡◌, ℕ, Bool, true, false, ◌||◌, List, [], ◌∷◌, cond, ap, ◌∙◌, refl, None, codes}
-use Rattle.bech32_lines.specs.Words.{words, is_empty, has_empty_word}
+use Rattle.line_program.specs.Words.{words, is_empty, has_empty_word}
 use Rattle.b32.specs.Request.{checksum_of, encode_request, request_of_words, request_of}
 
 -- a line of these words

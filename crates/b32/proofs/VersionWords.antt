@@ -5,7 +5,7 @@ use Rattle.std.proofs.lemmas.Fmt.{decimal_digit, decimal_step, decimal_injective
 use Rattle.std.specs.Fmt.{decimal}
 use Rattle.bech32_gf.specs.declared.gf32.Fe32.{Fe32}
 use Rattle.b32.specs.Reply.{IsNoVersion}
-use Rattle.bech32_lines.proofs.Split.{length-zero}
+use Rattle.line_program.proofs.Split.{length-zero}
 
 pub two_digits : (tens units : ℕ) → 0 < tens → tens < 10 → units < 10 → decimal (10 * tens + units) ≡ (48 + tens) ∷ (48 + units) ∷ []
 two_digits tens units some few less =

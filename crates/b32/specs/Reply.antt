@@ -17,12 +17,12 @@ use Rattle.bech32_decode.specs.Segwit.{IsLowerAddress, IsAddress, IsAddressText,
 use Rattle.bech32_segwit.specs.SegwitEncoding.{IsSegwitEncodeRefusal}
 use Rattle.bech32.specs.declared.error.DecodeError.{DecodeError}
 use Rattle.bech32.specs.declared.error.EncodeError.{EncodeError}
-use Rattle.bech32_errors.specs.declared.error.CheckedHrpstringError.{CheckedHrpstringError}
-use Rattle.bech32_errors.specs.declared.error.SegwitHrpstringError.TheVariants.{Memory}
+use Rattle.bech32_refusals.specs.declared.error.CheckedHrpstringError.{CheckedHrpstringError}
+use Rattle.bech32_refusals.specs.declared.error.SegwitHrpstringError.TheVariants.{Memory}
 use Rattle.bech32_segwit.specs.declared.error.DecodeError.{DecodeError as SegwitDecodeError}
 use Rattle.bech32_segwit.specs.declared.error.EncodeError.{EncodeError as SegwitEncodeError}
-use Rattle.bech32_lines.specs.Refused.{err}
-use Rattle.bech32_lines.specs.Reply.{IsReplyBy}
+use Rattle.line_program.specs.Refused.{err}
+use Rattle.line_program.specs.Reply.{IsReplyBy}
 use Rattle.b32.specs.Hex.{AreBytes, bytes_of, hex_of}
 use Rattle.bech32_numbers.specs.Numbers.{number_of_checked_error, number_of_hrp_error}
 use Rattle.bech32_numbers.specs.Numbers.{number_of_decode_error, number_of_encode_error}

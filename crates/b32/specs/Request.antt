@@ -10,7 +10,7 @@ use Rattle.b32.specs.declared.command.Command.TheVariants.{Encode as EncodeComma
 use Rattle.b32.specs.declared.command.Command.TheVariants.{SegwitEncode as SegwitEncodeCommand}
 use Rattle.b32.specs.declared.command.Command.TheVariants.{SegwitDecode as SegwitDecodeCommand}
 use Rattle.b32.specs.declared.command.Command.TheVariants.{Correct as CorrectCommand, CorrectAt as CorrectAtCommand}
-use Rattle.bech32_lines.specs.Words.{words, has_empty_word, is_empty}
+use Rattle.line_program.specs.Words.{words, has_empty_word, is_empty}
 
 -- the text of bytes, or the bytes of a text; the segwit address of a program, or the program of an address; a mistyped
 -- text mended, with or without erasures; each argument as its word

@@ -4,7 +4,7 @@ ghost use Rattle.std.specs.Prelude.{◌≡◌, ◌+◌, ◌<◌, ◌≤◌, ◌+
 ghost use Rattle.std.specs.Fmt.{decimal};
 ghost use Rattle.bech32_hrp.specs.Hrp.{lowered};
 
-use bech32_lines::{append, append_number};
+use line_program::{append, append_number};
 
 /// Adds bytes, each ASCII letter in lower case.
 pub fn append_lowered(out: &mut Vec<u8>, bytes: &[u8])

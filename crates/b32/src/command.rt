@@ -1,10 +1,10 @@
 //! Reads a line as a command with its arguments.
 
 ghost use Rattle.std.specs.Prelude.{◌≡◌, MatchOption, Some, None};
-ghost use Rattle.bech32_lines.specs.Words.{words};
+ghost use Rattle.line_program.specs.Words.{words};
 ghost use Rattle.b32.specs.Request.{checksum_of, correct_arguments, request_of, request_of_command};
 
-use bech32_lines::{first_word, only_word};
+use line_program::{first_word, only_word};
 
 /// The checksum that a command names.
 #[derive(Clone, Copy, Debug, PartialEq, Eq)]

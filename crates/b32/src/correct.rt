@@ -13,8 +13,8 @@ ghost use Rattle.bech32_decode.specs.Checked.{IsCheckedRefusal};
 ghost use Rattle.bech32_mended.specs.Mended.{EndsIn, mended};
 ghost use Rattle.bech32_mended.specs.Mistyped.{IsAnswer as IsChecksumAnswer};
 ghost use Rattle.b32.specs.Numbers.{number_of};
-ghost use Rattle.bech32_lines.specs.Added.{Adds};
-ghost use Rattle.bech32_lines.specs.Refused.{err};
+ghost use Rattle.line_program.specs.Added.{Adds};
+ghost use Rattle.line_program.specs.Refused.{err};
 ghost use Rattle.b32.specs.Reply.{listed, IsCorrectAnswer};
 ghost use Rattle.b32.specs.Request.{code_of_name};
 
@@ -23,7 +23,7 @@ use crate::command::ChecksumName;
 use crate::refusal::Refusal;
 use bech32::Fe32;
 use bech32::primitives::decode::CheckedHrpstringError;
-use bech32_lines::append;
+use line_program::append;
 use bech32_mended::{Answer, bech32_correction, bech32m_correction, mend};
 
 /// What a checksum finds for a text, where the given locations are erasures.

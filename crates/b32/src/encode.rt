@@ -2,14 +2,14 @@
 
 ghost use Rattle.std.specs.Prelude.{◌≡◌, ◌+◌, ◌≤◌, vec_len, vec_capacity, OnOk, OnErr, IfErr};
 ghost use Rattle.b32.specs.Numbers.{number_of};
-ghost use Rattle.bech32_lines.specs.Added.{Adds};
-ghost use Rattle.bech32_lines.specs.Refused.{err};
+ghost use Rattle.line_program.specs.Added.{Adds};
+ghost use Rattle.line_program.specs.Refused.{err};
 ghost use Rattle.b32.specs.Reply.{OrNoMemory, IsEncodeAnswer};
 
 use crate::hex_word::bytes_of_word;
 use crate::refusal::Refusal;
 use bech32::{Checksum, Hrp, encode_in};
-use bech32_lines::append;
+use line_program::append;
 use std::alloc::Allocator;
 
 /// Adds the text of bytes under a human-readable part, or leaves all as it was.

@@ -16,16 +16,16 @@ pub enum RunError {
     Memory,
 }
 
-impl From<bech32_lines::RunError> for RunError {
+impl From<line_program::RunError> for RunError {
     ghost use Rattle.b32.specs.Ends.{same_end};
 
     ghost from_gives = { same_end };
 
-    fn from(e: bech32_lines::RunError) -> RunError {
+    fn from(e: line_program::RunError) -> RunError {
         match e {
-            bech32_lines::RunError::Read => RunError::Read,
-            bech32_lines::RunError::Write => RunError::Write,
-            bech32_lines::RunError::Memory => RunError::Memory,
+            line_program::RunError::Read => RunError::Read,
+            line_program::RunError::Write => RunError::Write,
+            line_program::RunError::Memory => RunError::Memory,
         }
     }
 }

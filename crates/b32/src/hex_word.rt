@@ -7,7 +7,7 @@ ghost use Rattle.hex.specs.Hex.{decode_of, encode_lower};
 ghost use Rattle.b32.specs.Hex.{AreBytes, bytes_of, hex_of};
 
 use crate::refusal::Refusal;
-use bech32_lines::append;
+use line_program::append;
 use std::alloc::Allocator;
 
 /// Puts the bytes of pairs of hex digits, in either case, and returns whether all are digits.

@@ -1,11 +1,11 @@
-//! The replies to commands, by which `bech32_lines` replies to a line.
+//! The replies to commands, by which `line_program` replies to a line.
 
 ghost use Rattle.std.specs.Prelude.{◌≡◌, ℕ, ◌+◌, ◌≤◌, List, [], ◌∷◌, ◌++◌};
 ghost use Rattle.std.specs.Prelude.{vec_len, vec_capacity, OnOk, OnErr, IfErr};
 ghost use Rattle.b32.specs.Numbers.{number_of};
 ghost use Rattle.b32.specs.Request.{Request, request_of, request_of_command};
-ghost use Rattle.bech32_lines.specs.Added.{Adds};
-ghost use Rattle.bech32_lines.specs.Refused.{err};
+ghost use Rattle.line_program.specs.Added.{Adds};
+ghost use Rattle.line_program.specs.Refused.{err};
 ghost use Rattle.b32.specs.Reply.{IsAnswer, IsReply};
 
 use crate::command::{ChecksumName, Command};
@@ -17,7 +17,7 @@ use crate::refusal::Refusal;
 use crate::segwit_decode::segwit_decode;
 use crate::segwit_encode::segwit_encode;
 use bech32::{Bech32, Bech32m};
-use bech32_lines::{Answers, Replies, Unanswered};
+use line_program::{Answers, Replies, Unanswered};
 use std::alloc::Allocator;
 
 /// Adds the answer to a command, or leaves all as it was.

@@ -1,7 +1,7 @@
 //! Answers the lines of a source, one after another.
 
 ghost use Rattle.std.specs.Prelude.{◌≡◌, ◌+◌, false, true, OnOk, IsErrOf};
-ghost use Rattle.bech32_lines.specs.Output.{IsAnswered, IsAnsweredSoFar, IsCutShort};
+ghost use Rattle.line_program.specs.Output.{IsAnswered, IsAnsweredSoFar, IsCutShort};
 ghost use Rattle.b32.specs.Reply.{IsReply};
 
 use crate::error::RunError;
@@ -10,7 +10,7 @@ use bech32::primitives::device::{ByteSink, ByteSource};
 use std::alloc::Global;
 use std::io;
 
-/// Answers each line of a source, as [`bech32_lines::run_on`] does: writes its reply and a newline. It
+/// Answers each line of a source, as [`line_program::run_on`] does: writes its reply and a newline. It
 /// makes its buffers first, writes the replies to all lines that have ended before each further read,
 /// and flushes the sink once, at its end, unless writing failed.
 ///
@@ -51,7 +51,7 @@ pub fn run_on<S: ByteSource, K: ByteSink>(
     ensures source_same { S.is_same source.old source.new }
     ensures sink_same { K.is_same sink.old sink.new }
 {
-    Ok(bech32_lines::run_on(alloc, &Commands { alloc }, source, sink)?)
+    Ok(line_program::run_on(alloc, &Commands { alloc }, source, sink)?)
 }
 
 /// Answers each line of a reader, as `run_on` does over a watched reader and writer.
@@ -76,7 +76,7 @@ pub fn run<R: io::Read, W: io::Write>(
     ensures memory { IsErrOf result RunError.Memory
         → (reader.new ≡ reader.old) × (writer.new ≡ writer.old) }
 {
-    Ok(bech32_lines::run(alloc, &Commands { alloc }, reader, writer)?)
+    Ok(line_program::run(alloc, &Commands { alloc }, reader, writer)?)
 }
 
 #[cfg(test)]

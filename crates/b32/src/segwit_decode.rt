@@ -2,15 +2,15 @@
 
 ghost use Rattle.std.specs.Prelude.{◌≡◌, ◌+◌, ◌≤◌, vec_len, vec_capacity, OnOk, OnErr, IfErr};
 ghost use Rattle.b32.specs.Numbers.{number_of};
-ghost use Rattle.bech32_lines.specs.Added.{Adds};
-ghost use Rattle.bech32_lines.specs.Refused.{err};
+ghost use Rattle.line_program.specs.Added.{Adds};
+ghost use Rattle.line_program.specs.Refused.{err};
 ghost use Rattle.b32.specs.Reply.{IsSegwitDecodeAnswer};
 
 use crate::append::append_lowered;
 use crate::hex_word::append_hex;
 use crate::refusal::Refusal;
 use bech32::segwit;
-use bech32_lines::{append, append_number};
+use line_program::{append, append_number};
 use std::alloc::Allocator;
 
 /// Adds the human-readable part, the version and the program of a segwit address, or leaves all as

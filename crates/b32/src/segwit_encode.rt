@@ -2,15 +2,15 @@
 
 ghost use Rattle.std.specs.Prelude.{◌≡◌, ◌+◌, ◌≤◌, vec_len, vec_capacity, OnOk, OnErr, IfErr};
 ghost use Rattle.b32.specs.Numbers.{number_of};
-ghost use Rattle.bech32_lines.specs.Added.{Adds};
-ghost use Rattle.bech32_lines.specs.Refused.{err};
+ghost use Rattle.line_program.specs.Added.{Adds};
+ghost use Rattle.line_program.specs.Refused.{err};
 ghost use Rattle.b32.specs.Reply.{IsSegwitEncodeAnswer};
 
 use crate::hex_word::bytes_of_word;
 use crate::refusal::Refusal;
 use crate::version_word::version_of_word;
 use bech32::{Hrp, segwit};
-use bech32_lines::append;
+use line_program::append;
 use std::alloc::Allocator;
 
 /// Adds the segwit address of a program, or leaves all as it was.

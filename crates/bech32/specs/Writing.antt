@@ -7,7 +7,7 @@ use Rattle.bech32_bits.specs.Bits.{to_fes}
 use Rattle.bech32_checksum.specs.Code.{Code}
 use Rattle.bech32_encode.specs.Cased.{IsTextInCase}
 use Rattle.bech32_encode.specs.TextLength.{encoded_length_of}
-use Rattle.bech32_errors.specs.declared.error.CodeLengthError.{CodeLengthError}
+use Rattle.bech32_refusals.specs.declared.error.CodeLengthError.{CodeLengthError}
 use Rattle.bech32.specs.declared.error.EncodeError.{EncodeError}
 use Rattle.bech32.specs.declared.error.EncodeError.TheVariants.{TooLong, Fmt, Memory}
 use Rattle.bech32.specs.declared.error.EncodeIoError.{EncodeIoError}

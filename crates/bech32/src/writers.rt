@@ -8,7 +8,7 @@ ghost use Rattle.bech32.specs.Writing.{WritesText, AppendsText, AppendsBeginning
 
 use crate::{EncodeError, EncodeIoError, encoded_length};
 use bech32_checksum::Checksum;
-use bech32_device::{ByteSink, FmtSink, Watched, pieces_into_bytes, pieces_into_fmt};
+use devices::{ByteSink, FmtSink, Watched, pieces_into_bytes, pieces_into_fmt};
 use bech32_encode::TextInPieces;
 use bech32_hrp::Hrp;
 use std::{fmt, io};

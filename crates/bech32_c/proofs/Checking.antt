@@ -6,8 +6,8 @@ use Rattle.bech32_hrp.specs.HrpBytes.{hrp_bytes}
 use Rattle.bech32_decode.specs.Acceptance.{Accepts}
 use Rattle.bech32_decode.specs.Checked.{IsAcceptedAs, IsCheckedRefusal}
 use Rattle.bech32_decode.specs.declared.checked.CheckedHrpstring.{CheckedHrpstring}
-use Rattle.bech32_errors.specs.declared.error.CheckedHrpstringError.{CheckedHrpstringError}
-use Rattle.bech32_errors.specs.declared.error.CheckedHrpstringError.TheVariants.{Parse, Checksum as NotAccepted}
+use Rattle.bech32_refusals.specs.declared.error.CheckedHrpstringError.{CheckedHrpstringError}
+use Rattle.bech32_refusals.specs.declared.error.CheckedHrpstringError.TheVariants.{Parse, Checksum as NotAccepted}
 use Rattle.bech32_decode.proofs.Decoding.{accepted-from_checked}
 use Rattle.bech32_c.specs.Check.{IsCheckedAs, IsCheckFault}
 use Rattle.bech32_c.specs.declared.refusal.Refusal.{Refusal}

@@ -3,7 +3,7 @@ use Rattle.std.specs.Prelude.{map}
 use Rattle.std.proofs.Common.{◌≡◌, ℕ, suc, ◌+◌, ◌-◌, ◌<◌, ◌≤◌, List, [], ◌∷◌, ◌++◌, length, take, drop, set, get_or, append_assoc, sym, ap, subst, ◌∙◌, refl, arith}
 use Rattle.std.proofs.lemmas.List.{length-map, length-take-le, map_more, set-append_right, take_all}
 use Rattle.std.proofs.Math.Seq.{drop-cons}
-use Rattle.bech32_correct.specs.Pattern.{locations}
+use Rattle.bech32_bch.specs.Pattern.{locations}
 use Rattle.bech32_encode.specs.Buffers.{IsPut}
 
 -- one more byte at the front of a buffer

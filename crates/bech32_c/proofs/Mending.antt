@@ -13,11 +13,11 @@ use Rattle.bech32_poly.specs.Remainder.{IsRemainder}
 use Rattle.bech32_hrp.specs.Hrp.{lowered}
 use Rattle.bech32_checksum.specs.Code.{Code}
 use Rattle.bech32_checksum.specs.TextPolynomial.{text_polynomial}
-use Rattle.bech32_correct.specs.Erasures.{with_erasures}
-use Rattle.bech32_correct.specs.Listing.{IsSound}
-use Rattle.bech32_correct.specs.Pattern.{HasRemainder, IsSamePattern, Solves, errors_outside, locations}
-use Rattle.bech32_correct.proofs.Places.{once_fits}
-use Rattle.bech32_correct.proofs.Rising.{once_in_order}
+use Rattle.bech32_bch.specs.Erasures.{with_erasures}
+use Rattle.bech32_bch.specs.Listing.{IsSound}
+use Rattle.bech32_bch.specs.Pattern.{HasRemainder, IsSamePattern, Solves, errors_outside, locations}
+use Rattle.bech32_bch.proofs.Places.{once_fits}
+use Rattle.bech32_bch.proofs.Rising.{once_in_order}
 use Rattle.bech32_corrector.specs.Carried.{of_checksum}
 use Rattle.bech32_decode.specs.Acceptance.{Accepts}
 use Rattle.bech32_decode.specs.Checked.{IsRefusedByChecksum}
@@ -25,8 +25,8 @@ use Rattle.bech32_decode.specs.Text.{IsInGrammar, text_refusal}
 use Rattle.bech32_decode.proofs.Decoding.{not_valid, one_remainder, valid-from_accepts}
 use Rattle.bech32_decode.proofs.Grammar.{only-from_IsText, text_refusal-none}
 use Rattle.bech32_encode.specs.Buffers.{IsPut}
-use Rattle.bech32_errors.specs.declared.error.ChecksumError.{ChecksumError}
-use Rattle.bech32_errors.specs.declared.error.ChecksumError.TheVariants.{CodeLength, InvalidLength, InvalidResidue}
+use Rattle.bech32_refusals.specs.declared.error.ChecksumError.{ChecksumError}
+use Rattle.bech32_refusals.specs.declared.error.ChecksumError.TheVariants.{CodeLength, InvalidLength, InvalidResidue}
 use Rattle.bech32_mended.specs.Mended.{EndsIn, mended as mended_of}
 use Rattle.bech32_mended.specs.Mistyped.{AreInside, HasNoListing, IsListingOf, IsRefusedFor}
 use Rattle.bech32_mended.proofs.Texts.{IsMendable, ends-lowered, mendable-from_accepts, mendable-from_listing, mended_text-from_ends}

@@ -4,13 +4,13 @@ use Rattle.std.specs.Str.{IsUtf8}
 use Rattle.bech32_gf.specs.Fe32.{value}
 use Rattle.bech32_gf.specs.declared.gf32.Fe32.{Fe32}
 use Rattle.bech32_checksum.specs.Code.{Code}
-use Rattle.bech32_correct.specs.Pattern.{locations}
+use Rattle.bech32_bch.specs.Pattern.{locations}
 use Rattle.bech32_corrector.specs.Carried.{of_checked}
 use Rattle.bech32_corrector.specs.Correction.{singleton_bound}
 use Rattle.bech32_decode.specs.Acceptance.{Accepts}
 use Rattle.bech32_decode.specs.Checked.{IsCheckedRefusal}
 use Rattle.bech32_encode.specs.Buffers.{IsPut}
-use Rattle.bech32_errors.specs.declared.error.CheckedHrpstringError.TheVariants.{Parse, Checksum as NotAccepted}
+use Rattle.bech32_refusals.specs.declared.error.CheckedHrpstringError.TheVariants.{Parse, Checksum as NotAccepted}
 use Rattle.bech32_mended.specs.Mistyped.{HasNoListing, IsListingOf, IsMendedText}
 use Rattle.bech32_c.specs.declared.refusal.Refusal.{Refusal}
 use Rattle.bech32_c.specs.declared.refusal.Refusal.TheVariants.{NotUtf8, Text, Checksum, NoCorrection, NoRoom}

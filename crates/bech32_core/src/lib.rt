@@ -2,7 +2,7 @@
 #![tactic(auto)]
 
 pub use bech32_checksum as checksum;
-pub use bech32_device as device;
+pub use devices as device;
 pub use bech32_encode as encode;
 pub use bech32_hrp as hrp;
 

@@ -5,7 +5,7 @@ use Rattle.std.proofs.Common.{◌≡◌, ◌≢◌, ◌<◌, ◌≤◌, ◌+◌,
 use Rattle.std.proofs.lemmas.Bool.Decides.{eqb_tells}
 use Rattle.std.proofs.lemmas.List.{take_more}
 use Rattle.bech32_poly.specs.Distinct.{IsNotAmong, IsOnce}
-use Rattle.bech32_correct.specs.Erasures.{AreErasures, has, with_erasures}
+use Rattle.bech32_bch.specs.Erasures.{AreErasures, has, with_erasures}
 
 -- what the test returns of a location that is not of the list
 not_of : (s : List ℕ) (i : ℕ) → has s i ≡ false → IsNotAmong i s

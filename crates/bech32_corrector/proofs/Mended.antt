@@ -7,7 +7,7 @@ use Rattle.bech32_poly.specs.Polynomial.{add, coefficient}
 use Rattle.bech32_poly.specs.Remainder.{IsRemainder}
 use Rattle.bech32_poly.proofs.Lists.{coefficient-add}
 use Rattle.bech32_poly.proofs.Remainder.{length-remainder_of, remainder_of-add, remainder_of-itself, remainder_of-same, remainder_unique, remainder_exists}
-use Rattle.bech32_correct.specs.Pattern.{HasRemainder, Mends}
+use Rattle.bech32_bch.specs.Pattern.{HasRemainder, Mends}
 
 module _ {F : Type 0} {f : Ops F} (fl : IsField f) (same : (x : F) → f.neg x ≡ x) where
   taken_twice : (x y : F) → f.add (f.add x y) y ≡ x

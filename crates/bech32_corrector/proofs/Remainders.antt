@@ -11,8 +11,8 @@ use Rattle.bech32_poly.specs.Remainder.{IsRemainder}
 use Rattle.bech32_poly.proofs.Remainder.{remainder_exists, remainder_unique}
 use Rattle.bech32_checksum.specs.Packed.{digit_of, digits}
 use Rattle.bech32_checksum.proofs.DigitRows.{coefficient-digits}
-use Rattle.bech32_correct.specs.Pattern.{HasRemainder}
-use Rattle.bech32_correct.proofs.Patterns.{values_from}
+use Rattle.bech32_bch.specs.Pattern.{HasRemainder}
+use Rattle.bech32_bch.proofs.Patterns.{values_from}
 
 -- one coefficient more
 pub values_from-more : {F : Type 0} (f : Ops F) (e : List (ℕ × F)) (place n : ℕ) → 0 < place

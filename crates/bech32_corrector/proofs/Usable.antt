@@ -6,7 +6,7 @@ use Rattle.bech32_gf.specs.declared.gf32.Fe32.{Fe32}
 use Rattle.bech32_poly.specs.Remainder.{monic}
 use Rattle.bech32_checksum.specs.Code.{Code}
 use Rattle.bech32_checksum.specs.Roots.{AreLawfulRoots}
-use Rattle.bech32_correct.specs.Search.{AreUsableRoots}
+use Rattle.bech32_bch.specs.Search.{AreUsableRoots}
 use Rattle.bech32_corrector.specs.Correction.{singleton_bound}
 
 module _ {K : Type 0} (o : Ops K) (embed : Fe32 → K) (one : embed fe32.one ≡ o.one) where

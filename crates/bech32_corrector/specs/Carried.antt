@@ -1,12 +1,12 @@
 -- The residue error that an error holds.
 use Rattle.std.specs.Prelude.{Option, Some, None}
-use Rattle.bech32_errors.specs.declared.error.InvalidResidueError.{InvalidResidueError}
-use Rattle.bech32_errors.specs.declared.error.ChecksumError.{ChecksumError}
-use Rattle.bech32_errors.specs.declared.error.ChecksumError.TheVariants.{CodeLength, InvalidResidue, InvalidLength}
-use Rattle.bech32_errors.specs.declared.error.CheckedHrpstringError.{CheckedHrpstringError}
-use Rattle.bech32_errors.specs.declared.error.CheckedHrpstringError.TheVariants as checked
-use Rattle.bech32_errors.specs.declared.error.SegwitHrpstringError.{SegwitHrpstringError}
-use Rattle.bech32_errors.specs.declared.error.SegwitHrpstringError.TheVariants as segwit
+use Rattle.bech32_refusals.specs.declared.error.InvalidResidueError.{InvalidResidueError}
+use Rattle.bech32_refusals.specs.declared.error.ChecksumError.{ChecksumError}
+use Rattle.bech32_refusals.specs.declared.error.ChecksumError.TheVariants.{CodeLength, InvalidResidue, InvalidLength}
+use Rattle.bech32_refusals.specs.declared.error.CheckedHrpstringError.{CheckedHrpstringError}
+use Rattle.bech32_refusals.specs.declared.error.CheckedHrpstringError.TheVariants as checked
+use Rattle.bech32_refusals.specs.declared.error.SegwitHrpstringError.{SegwitHrpstringError}
+use Rattle.bech32_refusals.specs.declared.error.SegwitHrpstringError.TheVariants as segwit
 
 abbrev pub of_checksum : ChecksumError → Option InvalidResidueError
 of_checksum (InvalidResidue e) = Some e

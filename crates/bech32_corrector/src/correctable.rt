@@ -2,12 +2,12 @@
 
 ghost use Rattle.std.specs.Prelude.{◌≡◌, ◌≤◌, ◌<◌, ◌⊎◌, [], Option, None, Some, MatchOption};
 ghost use Rattle.bech32_checksum.specs.Roots.{HasLawfulRoots};
-ghost use Rattle.bech32_errors.specs.ResidueRows.{residue_of};
-ghost use Rattle.bech32_errors.specs.declared.error.InvalidResidueError.{InvalidResidueError as ResidueError};
+ghost use Rattle.bech32_refusals.specs.ResidueRows.{residue_of};
+ghost use Rattle.bech32_refusals.specs.declared.error.InvalidResidueError.{InvalidResidueError as ResidueError};
 
 use crate::corrector::Corrector;
 use bech32_checksum::Checksum;
-use bech32_errors::{
+use bech32_refusals::{
     CheckedHrpstringError, ChecksumError, InvalidResidueError, SegwitHrpstringError,
 };
 use std::alloc::Allocator;

@@ -2,17 +2,17 @@
 
 ghost use Rattle.std.specs.Prelude.{◌≡◌, ◌≤◌, ℕ, List, length, IfOk, IfSome, IsOk, IsSome};
 ghost use Rattle.bech32_checksum.specs.Roots.{AreLawfulRoots};
-ghost use Rattle.bech32_correct.specs.Erasures.{AreErasures};
-ghost use Rattle.bech32_correct.specs.Listing.{IsListing, IsSound};
-ghost use Rattle.bech32_correct.specs.Pattern.{Mends, Solves};
-ghost use Rattle.bech32_correct.specs.Search.{locators};
+ghost use Rattle.bech32_bch.specs.Erasures.{AreErasures};
+ghost use Rattle.bech32_bch.specs.Listing.{IsListing, IsSound};
+ghost use Rattle.bech32_bch.specs.Pattern.{Mends, Solves};
+ghost use Rattle.bech32_bch.specs.Search.{locators};
 ghost use Rattle.bech32_corrector.specs.Correction.{singleton_bound};
 ghost use Rattle.bech32_gf.specs.Fe32 as fe32;
 ghost use Rattle.bech32_gf.specs.declared.gf32.Fe32.{Fe32 as Element};
 
 use crate::division::leaves_residue;
 use bech32_checksum::Checksum;
-use bech32_correct::{Roots, ShortVec, candidate};
+use bech32_bch::{Roots, ShortVec, candidate};
 use bech32_gf::gf32::Fe32;
 use bech32_poly::fieldvec::FieldVec;
 use std::alloc::{AllocError, Allocator};

@@ -4,13 +4,13 @@
 ghost use Rattle.std.specs.Prelude.{◌≡◌, ◌≤◌, ◌<◌, ◌↔◌, ℕ, IsTrue};
 ghost use Rattle.bech32_checksum.specs.Code.{IsResidueOf};
 ghost use Rattle.bech32_checksum.specs.Packed.{HasDigits, digit_of};
-ghost use Rattle.bech32_correct.specs.Pattern.{HasRemainder};
+ghost use Rattle.bech32_bch.specs.Pattern.{HasRemainder};
 ghost use Rattle.bech32_gf.specs.Fe32 as fe32;
 ghost use Rattle.bech32_poly.specs.Pattern.{pattern_polynomial};
 ghost use Rattle.bech32_poly.specs.Polynomial.{coefficient};
 
 use bech32_checksum::{Checksum, Engine, PackedFe32};
-use bech32_correct::{highest_place, value_at_place};
+use bech32_bch::{highest_place, value_at_place};
 use bech32_gf::gf32::Fe32;
 
 // An engine that was given the polynomial of a listed pattern, from its highest place down.

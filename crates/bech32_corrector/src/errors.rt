@@ -4,7 +4,7 @@ ghost use Rattle.std.specs.Prelude.{◌≡◌, List, drop, length, IfSome, Some}
 ghost use Rattle.std.specs.Iterator.{UpTo, YieldsFirst, item_count};
 ghost use Rattle.std.specs.Iterator.SizeHint.{IsWithinCount};
 
-use bech32_correct::ShortVec;
+use bech32_bch::ShortVec;
 use bech32_gf::gf32::Fe32;
 use std::alloc::{Allocator, Global};
 use std::iter::FusedIterator;

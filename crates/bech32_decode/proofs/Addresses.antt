@@ -22,17 +22,17 @@ use Rattle.bech32_decode.specs.Checked.{IsWithoutChecksum}
 use Rattle.bech32_decode.specs.Refusals.{HasValidChecksum, IsChecksumRefusal}
 use Rattle.bech32_decode.specs.Segwit.{segwit_code, IsLowerAddress, IsAddress, IsAddressText, IsVersioned, IsVersionRefusal, IsSegwitData, IsDataRefusal, IsUnread, IsWithoutVersion, IsOfWrongChecksum, IsOfWrongData, IsAddressRefusal, IsSegwitRefusal}
 use Rattle.bech32_decode.specs.SegwitParts.{IsSegwitOf, IsReadAs, IsReadBy, IsRefusedBy, IsWrongDataOf}
-use Rattle.bech32_errors.specs.SegwitRules.{IsProgramLength, IsLengthRefusal}
+use Rattle.bech32_refusals.specs.SegwitRules.{IsProgramLength, IsLengthRefusal}
 use Rattle.bech32_decode.specs.SegwitPadding.{IsPadded, IsPaddingRefusal}
 use Rattle.bech32_decode.specs.declared.address.SegwitHrpstring.{SegwitHrpstring}
 use Rattle.bech32_decode.specs.declared.checked.CheckedHrpstring.{CheckedHrpstring}
-use Rattle.bech32_errors.specs.declared.error.PaddingError.{PaddingError}
-use Rattle.bech32_errors.specs.declared.error.PaddingError.TheVariants.{TooMuch, NonZero}
-use Rattle.bech32_errors.specs.declared.error.SegwitHrpstringError.{SegwitHrpstringError}
-use Rattle.bech32_errors.specs.declared.error.SegwitHrpstringError.TheVariants.{Unchecked, NoData, TooLong, InvalidWitnessVersion, Padding, WitnessLength, Checksum, Memory}
+use Rattle.bech32_refusals.specs.declared.error.PaddingError.{PaddingError}
+use Rattle.bech32_refusals.specs.declared.error.PaddingError.TheVariants.{TooMuch, NonZero}
+use Rattle.bech32_refusals.specs.declared.error.SegwitHrpstringError.{SegwitHrpstringError}
+use Rattle.bech32_refusals.specs.declared.error.SegwitHrpstringError.TheVariants.{Unchecked, NoData, TooLong, InvalidWitnessVersion, Padding, WitnessLength, Checksum, Memory}
 use Rattle.bech32_decode.specs.declared.unchecked.UncheckedHrpstring.{UncheckedHrpstring}
-use Rattle.bech32_errors.specs.declared.segwit.WitnessLengthError.{WitnessLengthError}
-use Rattle.bech32_errors.specs.declared.segwit.WitnessLengthError.TheVariants.{TooShort, TooLong as ProgramTooLong, InvalidSegwitV0}
+use Rattle.bech32_refusals.specs.declared.segwit.WitnessLengthError.{WitnessLengthError}
+use Rattle.bech32_refusals.specs.declared.segwit.WitnessLengthError.TheVariants.{TooShort, TooLong as ProgramTooLong, InvalidSegwitV0}
 use Rattle.bech32_decode.proofs.Decoding.{accepted, not_valid}
 use Rattle.bech32_decode.proofs.Grammar.{only-from_IsText, text_refusal-none}
 use Rattle.bech32_decode.proofs.Padding.{to_fes-to_bytes, padded-to_fes}

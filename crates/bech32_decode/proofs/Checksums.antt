@@ -12,9 +12,9 @@ use Rattle.bech32_checksum.specs.Code.{Code}
 use Rattle.bech32_checksum.specs.Packed.{digit_of, digits}
 use Rattle.bech32_checksum.proofs.Digits.{length-tabulate}
 use Rattle.bech32_decode.specs.Acceptance.{Accepts}
-use Rattle.bech32_errors.specs.ResidueRows.{IsResidueError, actual_row, target_row}
+use Rattle.bech32_refusals.specs.ResidueRows.{IsResidueError, actual_row, target_row}
 use Rattle.bech32_decode.specs.Text.{IsInGrammar}
-use Rattle.bech32_errors.specs.declared.error.InvalidResidueError.{InvalidResidueError}
+use Rattle.bech32_refusals.specs.declared.error.InvalidResidueError.{InvalidResidueError}
 use Rattle.bech32_checksum.proofs.DigitRows.{coefficient-digits, digits-injective}
 
 module _ (code : Code) (d t : ℕ) (degree : length code.generator ≡ d) (row : code.target ≡ digits d t) where

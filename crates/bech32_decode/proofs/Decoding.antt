@@ -16,15 +16,15 @@ use Rattle.bech32_decode.specs.Acceptance.{IsAccepted, Accepts, IsDecoded}
 use Rattle.bech32_decode.specs.BeforeChecksum.{IsBeforeChecksum}
 use Rattle.bech32_decode.specs.Checked.{IsWithoutChecksum, IsAcceptedAs, IsCheckedRefusal}
 use Rattle.bech32_decode.specs.Refusals.{HasValidChecksum, IsChecksumRefusal, IsRefusedByBoth}
-use Rattle.bech32_errors.specs.ResidueRows.{IsResidueError, actual_row}
+use Rattle.bech32_refusals.specs.ResidueRows.{IsResidueError, actual_row}
 use Rattle.bech32_decode.specs.declared.checked.CheckedHrpstring.{CheckedHrpstring}
 use Rattle.bech32_decode.specs.declared.unchecked.UncheckedHrpstring.{UncheckedHrpstring}
-use Rattle.bech32_errors.specs.declared.error.CheckedHrpstringError.{CheckedHrpstringError}
-use Rattle.bech32_errors.specs.declared.error.CheckedHrpstringError.TheVariants.{Parse as ParseFailed, Checksum as ChecksumFailed}
-use Rattle.bech32_errors.specs.declared.error.ChecksumError.{ChecksumError}
-use Rattle.bech32_errors.specs.declared.error.ChecksumError.TheVariants.{CodeLength, InvalidLength, InvalidResidue}
-use Rattle.bech32_errors.specs.declared.error.InvalidResidueError.{InvalidResidueError}
-use Rattle.bech32_errors.proofs.Coefficients.{same_row}
+use Rattle.bech32_refusals.specs.declared.error.CheckedHrpstringError.{CheckedHrpstringError}
+use Rattle.bech32_refusals.specs.declared.error.CheckedHrpstringError.TheVariants.{Parse as ParseFailed, Checksum as ChecksumFailed}
+use Rattle.bech32_refusals.specs.declared.error.ChecksumError.{ChecksumError}
+use Rattle.bech32_refusals.specs.declared.error.ChecksumError.TheVariants.{CodeLength, InvalidLength, InvalidResidue}
+use Rattle.bech32_refusals.specs.declared.error.InvalidResidueError.{InvalidResidueError}
+use Rattle.bech32_refusals.proofs.Coefficients.{same_row}
 use Rattle.bech32_decode.proofs.Grammar.{only-from_IsText, text_refusal-none}
 
 pub accepted : (code : Code) (text hrp data_part : List ℕ) → IsText text hrp data_part → HasValidChecksum code (length text) hrp data_part → IsAccepted code text hrp data_part

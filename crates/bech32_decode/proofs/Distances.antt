@@ -17,9 +17,9 @@ use Rattle.bech32_hrp.specs.Hrp.{lowered}
 use Rattle.bech32_checksum.specs.Code.{Code}
 use Rattle.bech32_checksum.specs.Roots.{AreLawfulRoots}
 use Rattle.bech32_checksum.specs.TextPolynomial.{hrp_elements, text_polynomial}
-use Rattle.bech32_correct.specs.Distance.{places_that_differ}
-use Rattle.bech32_correct.proofs.Distance.{Tells, distance, places_that_differ-reverse}
-use Rattle.bech32_correct.proofs.Usable.{usable}
+use Rattle.bech32_bch.specs.Distance.{places_that_differ}
+use Rattle.bech32_bch.proofs.Distance.{Tells, distance, places_that_differ-reverse}
+use Rattle.bech32_bch.proofs.Usable.{usable}
 use Rattle.bech32_decode.specs.Acceptance.{IsAccepted}
 use Rattle.bech32_decode.specs.Distance.{AreSameOrFar, IsFarFromOthers, same_element}
 

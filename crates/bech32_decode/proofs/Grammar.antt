@@ -7,9 +7,9 @@ use Rattle.std.specs.Str.{IsUtf8}
 use Rattle.bech32_gf.specs.Alphabet.{is_data}
 use Rattle.bech32_hrp.specs.Hrp.{is_mixed_case, first_of, hrp_refusal}
 use Rattle.bech32_hrp.specs.declared.Error.{Error as HrpError}
-use Rattle.bech32_errors.specs.declared.error.CharError.{CharError}
-use Rattle.bech32_errors.specs.declared.error.CharError.TheVariants.{MixedCase}
-use Rattle.bech32_errors.specs.declared.error.UncheckedHrpstringError.{UncheckedHrpstringError}
+use Rattle.bech32_refusals.specs.declared.error.CharError.{CharError}
+use Rattle.bech32_refusals.specs.declared.error.CharError.TheVariants.{MixedCase}
+use Rattle.bech32_refusals.specs.declared.error.UncheckedHrpstringError.{UncheckedHrpstringError}
 use Rattle.bech32_decode.specs.Text.{IsText, IsInGrammar, text_refusal, as_char, as_hrp, mixed_case, bad_hrp, missing_separator, invalid_character, split_at_last}
 use Rattle.bech32_decode.proofs.Texts.{separator-at, split_at_last-at}
 use Rattle.bech32_hrp.proofs.HrpTexts.{hrp_refusal-none, IsHrp-from_refusal}

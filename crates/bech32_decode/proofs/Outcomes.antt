@@ -1,7 +1,7 @@
 -- What follows from the outcome of reading a text.
 use Rattle.std.proofs.Common.{◌≡◌, ℕ, List, ◌++◌, ◌∷◌, None, Some, Result, Ok, Err, length, MatchResult, IfOk, IsOk, ◌↔◌}
 use Rattle.std.specs.Str.{IsUtf8}
-use Rattle.bech32_errors.specs.declared.error.UncheckedHrpstringError.{UncheckedHrpstringError}
+use Rattle.bech32_refusals.specs.declared.error.UncheckedHrpstringError.{UncheckedHrpstringError}
 use Rattle.bech32_decode.specs.declared.unchecked.UncheckedHrpstring.{UncheckedHrpstring}
 use Rattle.bech32_hrp.specs.HrpBytes.{hrp_bytes}
 use Rattle.bech32_hrp.proofs.HrpParts.{hrp_bytes-ascii, IsAscii-from_list_all}

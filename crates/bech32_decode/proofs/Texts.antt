@@ -6,7 +6,7 @@ use Rattle.std.proofs.lemmas.Str.{IsUtf8-append, IsUtf8-encode, IsUtf8-from_asci
 use Rattle.std.proofs.Math.Utf8.{encode}
 use Rattle.std.specs.Str.{chars, IsUtf8}
 use Rattle.std.specs.Char.{IsScalar}
-use Rattle.bech32_errors.specs.declared.error.CharError.TheVariants.{InvalidChar}
+use Rattle.bech32_refusals.specs.declared.error.CharError.TheVariants.{InvalidChar}
 use Rattle.bech32_gf.specs.Alphabet.{is_of_alphabet, is_data}
 use Rattle.bech32_hrp.specs.Hrp.{first_of}
 use Rattle.bech32_decode.specs.Text.{last_stranger, split_at_last, before_byte, invalid_character, unless_separator}

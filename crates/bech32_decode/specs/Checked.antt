@@ -7,9 +7,9 @@ use Rattle.bech32_decode.specs.BeforeChecksum.{IsBeforeChecksum}
 use Rattle.bech32_decode.specs.Parts.{unchecked_hrp, unchecked_data, unchecked_length, checked_hrp, checked_part, checked_data, checked_length}
 use Rattle.bech32_decode.specs.Refusals.{IsChecksumRefusal}
 use Rattle.bech32_decode.specs.declared.checked.CheckedHrpstring.{CheckedHrpstring}
-use Rattle.bech32_errors.specs.declared.error.CheckedHrpstringError.{CheckedHrpstringError}
-use Rattle.bech32_errors.specs.declared.error.CheckedHrpstringError.TheVariants.{Parse, Checksum}
-use Rattle.bech32_errors.specs.declared.error.ChecksumError.{ChecksumError}
+use Rattle.bech32_refusals.specs.declared.error.CheckedHrpstringError.{CheckedHrpstringError}
+use Rattle.bech32_refusals.specs.declared.error.CheckedHrpstringError.TheVariants.{Parse, Checksum}
+use Rattle.bech32_refusals.specs.declared.error.ChecksumError.{ChecksumError}
 use Rattle.bech32_decode.specs.declared.unchecked.UncheckedHrpstring.{UncheckedHrpstring}
 
 -- the same text without its checksum

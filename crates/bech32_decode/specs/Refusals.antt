@@ -6,11 +6,11 @@ use Rattle.bech32_checksum.specs.Code.{Code, bech32, bech32m}
 use Rattle.bech32_checksum.specs.TextPolynomial.{text_polynomial}
 use Rattle.bech32_decode.specs.Text.{IsText}
 use Rattle.bech32_decode.specs.Acceptance.{Accepts}
-use Rattle.bech32_errors.specs.declared.error.ChecksumError.{ChecksumError}
-use Rattle.bech32_errors.specs.declared.error.ChecksumError.TheVariants.{CodeLength, InvalidLength, InvalidResidue}
+use Rattle.bech32_refusals.specs.declared.error.ChecksumError.{ChecksumError}
+use Rattle.bech32_refusals.specs.declared.error.ChecksumError.TheVariants.{CodeLength, InvalidLength, InvalidResidue}
 use Rattle.bech32_decode.specs.declared.unchecked.UncheckedHrpstring.{UncheckedHrpstring}
 use Rattle.bech32_decode.specs.Parts.{unchecked_part, unchecked_data, unchecked_length}
-use Rattle.bech32_errors.specs.ResidueRows.{IsResidueError}
+use Rattle.bech32_refusals.specs.ResidueRows.{IsResidueError}
 
 -- a text of n bytes with these parts is not longer than the code, has room for the checksum, and its polynomial leaves
 -- the target

@@ -11,12 +11,12 @@ use Rattle.bech32_checksum.specs.Encoded.{IsEncodedText}
 use Rattle.bech32_decode.specs.Acceptance.{IsAccepted}
 use Rattle.bech32_decode.specs.Refusals.{IsChecksumRefusal}
 use Rattle.bech32_decode.specs.BeforeChecksum.{IsBeforeChecksum}
-use Rattle.bech32_errors.specs.SegwitRules.{IsProgramLength, IsLengthRefusal}
+use Rattle.bech32_refusals.specs.SegwitRules.{IsProgramLength, IsLengthRefusal}
 use Rattle.bech32_decode.specs.SegwitPadding.{IsPadded, IsPaddingRefusal}
-use Rattle.bech32_errors.specs.declared.error.ChecksumError.{ChecksumError}
-use Rattle.bech32_errors.specs.declared.error.UncheckedHrpstringError.{UncheckedHrpstringError}
-use Rattle.bech32_errors.specs.declared.error.SegwitHrpstringError.{SegwitHrpstringError}
-use Rattle.bech32_errors.specs.declared.error.SegwitHrpstringError.TheVariants.{Unchecked, NoData, TooLong, InvalidWitnessVersion, Padding, WitnessLength, Checksum, Memory}
+use Rattle.bech32_refusals.specs.declared.error.ChecksumError.{ChecksumError}
+use Rattle.bech32_refusals.specs.declared.error.UncheckedHrpstringError.{UncheckedHrpstringError}
+use Rattle.bech32_refusals.specs.declared.error.SegwitHrpstringError.{SegwitHrpstringError}
+use Rattle.bech32_refusals.specs.declared.error.SegwitHrpstringError.TheVariants.{Unchecked, NoData, TooLong, InvalidWitnessVersion, Padding, WitnessLength, Checksum, Memory}
 
 -- ---- the addresses
 

@@ -2,8 +2,8 @@
 use Rattle.std.specs.Prelude.{◌≡◌, ◌≢◌, ◌<◌, ◌≤◌, ◌*◌, ◌/◌, ℕ, List, length, drop, replicate}
 use Rattle.bech32_gf.specs.declared.gf32.Fe32.{Fe32}
 use Rattle.bech32_bits.specs.Bits.{fe_bits}
-use Rattle.bech32_errors.specs.declared.error.PaddingError.{PaddingError}
-use Rattle.bech32_errors.specs.declared.error.PaddingError.TheVariants.{TooMuch, NonZero}
+use Rattle.bech32_refusals.specs.declared.error.PaddingError.{PaddingError}
+use Rattle.bech32_refusals.specs.declared.error.PaddingError.TheVariants.{TooMuch, NonZero}
 
 -- the bits of elements behind those of whole bytes
 abbrev pub padding : List Fe32 → List ℕ

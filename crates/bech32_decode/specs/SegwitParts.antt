@@ -11,9 +11,9 @@ use Rattle.bech32_decode.specs.Refusals.{IsValidBy, IsInvalidBy}
 use Rattle.bech32_decode.specs.Segwit.{IsSegwitData, IsDataRefusal}
 use Rattle.bech32_decode.specs.declared.address.SegwitHrpstring.{SegwitHrpstring}
 use Rattle.bech32_decode.specs.declared.checked.CheckedHrpstring.{CheckedHrpstring}
-use Rattle.bech32_errors.specs.declared.error.ChecksumError.{ChecksumError}
-use Rattle.bech32_errors.specs.declared.error.SegwitHrpstringError.{SegwitHrpstringError}
-use Rattle.bech32_errors.specs.declared.error.SegwitHrpstringError.TheVariants.{Checksum}
+use Rattle.bech32_refusals.specs.declared.error.ChecksumError.{ChecksumError}
+use Rattle.bech32_refusals.specs.declared.error.SegwitHrpstringError.{SegwitHrpstringError}
+use Rattle.bech32_refusals.specs.declared.error.SegwitHrpstringError.TheVariants.{Checksum}
 use Rattle.bech32_decode.specs.declared.unchecked.UncheckedHrpstring.{UncheckedHrpstring}
 
 -- the same text, with its version taken off, by the rules of segwit addresses

@@ -4,10 +4,10 @@ use Rattle.std.specs.Str.{chars}
 use Rattle.bech32_gf.specs.Alphabet.{is_of_alphabet, is_data}
 use Rattle.bech32_hrp.specs.Hrp.{IsHrp, is_mixed_case, first_of, hrp_refusal}
 use Rattle.bech32_hrp.specs.declared.Error.{Error as HrpError}
-use Rattle.bech32_errors.specs.declared.error.CharError.{CharError}
-use Rattle.bech32_errors.specs.declared.error.CharError.TheVariants.{MissingSeparator, InvalidChar, MixedCase}
-use Rattle.bech32_errors.specs.declared.error.UncheckedHrpstringError.{UncheckedHrpstringError}
-use Rattle.bech32_errors.specs.declared.error.UncheckedHrpstringError.TheVariants.{Char, Hrp}
+use Rattle.bech32_refusals.specs.declared.error.CharError.{CharError}
+use Rattle.bech32_refusals.specs.declared.error.CharError.TheVariants.{MissingSeparator, InvalidChar, MixedCase}
+use Rattle.bech32_refusals.specs.declared.error.UncheckedHrpstringError.{UncheckedHrpstringError}
+use Rattle.bech32_refusals.specs.declared.error.UncheckedHrpstringError.TheVariants.{Char, Hrp}
 
 -- the text is this human-readable part, `1`, and this data part
 pub record IsText (text hrp data_part : List ℕ) : Type 0 where

@@ -11,8 +11,8 @@ use crate::data_bytes::put_data_bytes;
 use crate::unchecked::UncheckedHrpstring;
 use crate::version::first_version;
 use bech32_checksum::{Bech32, Bech32m, Checksum};
-use bech32_errors::SegwitHrpstringError;
-use bech32_errors::segwit::{MAX_STRING_LENGTH, VERSION_0};
+use bech32_refusals::SegwitHrpstringError;
+use bech32_refusals::segwit::{MAX_STRING_LENGTH, VERSION_0};
 use bech32_gf::gf32::Fe32;
 use bech32_hrp::Hrp;
 

@@ -17,8 +17,8 @@ use crate::reader::AsciiToFe32Iter;
 use crate::unchecked::UncheckedHrpstring;
 use crate::version::{first_version, version_in};
 use bech32_checksum::Checksum;
-use bech32_errors::segwit::{self, MAX_STRING_LENGTH, WitnessLengthError};
-use bech32_errors::{CheckedHrpstringError, PaddingError, SegwitHrpstringError};
+use bech32_refusals::segwit::{self, MAX_STRING_LENGTH, WitnessLengthError};
+use bech32_refusals::{CheckedHrpstringError, PaddingError, SegwitHrpstringError};
 use bech32_gf::gf32::Fe32;
 use bech32_hrp::Hrp;
 
@@ -160,7 +160,7 @@ impl<'s> CheckedHrpstring<'s> {
 
     ghost use Rattle.bech32_decode.specs.Segwit.{IsDataRefusal};
     ghost use Rattle.bech32_decode.specs.SegwitParts.{IsSegwitOf};
-    ghost use Rattle.bech32_errors.specs.SegwitRules.{IsLengthRefusal, IsProgramLength};
+    ghost use Rattle.bech32_refusals.specs.SegwitRules.{IsLengthRefusal, IsProgramLength};
     ghost use Rattle.bech32_decode.specs.SegwitPadding.{IsPadded, IsPaddingRefusal};
 
     /// Tests the rules of segwit addresses, whatever checksum the text has, and takes the witness

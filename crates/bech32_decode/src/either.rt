@@ -6,7 +6,7 @@ ghost use Rattle.bech32_decode.specs.Refusals.{IsValidBy, IsInvalidBy};
 
 use crate::unchecked::UncheckedHrpstring;
 use bech32_checksum::Bech32m;
-use bech32_errors::ChecksumError;
+use bech32_refusals::ChecksumError;
 
 /// Tests the checksum as Bech32m and as Bech32, in one pass: they differ in the target alone.
 ///

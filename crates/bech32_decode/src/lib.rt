@@ -14,7 +14,7 @@ mod unchecked;
 mod version;
 
 pub use address::SegwitHrpstring;
-pub use bech32_errors::{
+pub use bech32_refusals::{
     CharError, CheckedHrpstringError, ChecksumError, CodeLengthError, InvalidResidueError,
     PaddingError, SegwitCodeLengthError, SegwitHrpstringError, UncheckedHrpstringError, segwit,
 };

@@ -15,7 +15,7 @@ use crate::checked::CheckedHrpstring;
 use crate::reader::AsciiToFe32Iter;
 use crate::version::version_in;
 use bech32_checksum::{Checksum, Engine};
-use bech32_errors::{
+use bech32_refusals::{
     CharError, ChecksumError, CodeLengthError, InvalidResidueError, UncheckedHrpstringError,
 };
 use bech32_gf::gf32::Fe32;

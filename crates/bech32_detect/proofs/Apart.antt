@@ -14,10 +14,10 @@ use Rattle.bech32_poly.proofs.Lists.{add-negative, coefficient-add, coefficient-
 use Rattle.bech32_poly.proofs.PatternSums.{coefficient-pattern_polynomial}
 use Rattle.bech32_poly.proofs.Remainder.{remainder_of-add, remainder_of-same, remainder_of-scale, remainder_unique}
 use Rattle.bech32_poly.proofs.Zero.{difference_zero}
-use Rattle.bech32_correct.specs.Distance.{places_that_differ}
-use Rattle.bech32_correct.specs.Pattern.{IsPattern, locations}
-use Rattle.bech32_correct.proofs.Distance.{Tells}
-use Rattle.bech32_correct.proofs.Patterns.{at_absent, at_first, at_rest}
+use Rattle.bech32_bch.specs.Distance.{places_that_differ}
+use Rattle.bech32_bch.specs.Pattern.{IsPattern, locations}
+use Rattle.bech32_bch.proofs.Distance.{Tells}
+use Rattle.bech32_bch.proofs.Patterns.{at_absent, at_first, at_rest}
 use Rattle.bech32_detect.specs.Detection.{DetectsFour}
 use Rattle.bech32_detect.proofs.Four.{leaves_nothing}
 

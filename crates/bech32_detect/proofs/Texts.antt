@@ -14,8 +14,8 @@ use Rattle.bech32_poly.proofs.Appended.{appended-append, appended-reverse}
 use Rattle.bech32_hrp.specs.Hrp.{lowered}
 use Rattle.bech32_checksum.specs.Code.{Code}
 use Rattle.bech32_checksum.specs.TextPolynomial.{hrp_elements, text_polynomial}
-use Rattle.bech32_correct.specs.Distance.{places_that_differ}
-use Rattle.bech32_correct.proofs.Distance.{Tells, places_that_differ-reverse}
+use Rattle.bech32_bch.specs.Distance.{places_that_differ}
+use Rattle.bech32_bch.proofs.Distance.{Tells, places_that_differ-reverse}
 use Rattle.bech32_decode.specs.Acceptance.{IsAccepted}
 use Rattle.bech32_decode.specs.Distance.{AreSameOrFar, same_element}
 use Rattle.bech32_detect.specs.Detection.{DetectsFour}

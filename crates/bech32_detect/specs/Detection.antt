@@ -1,7 +1,7 @@
 -- Which errors a generator detects (BIP-173, Checksum design).
 use Rattle.std.specs.Prelude.{◌≤◌, ℕ, List, [], length}
 use Rattle.bech32_gf.specs.Field.{Ops}
-use Rattle.bech32_correct.specs.Pattern.{HasRemainder, IsPattern}
+use Rattle.bech32_bch.specs.Pattern.{HasRemainder, IsPattern}
 
 -- no pattern of one to four errors at locations below n has remainder zero, by the generator with
 -- the lower coefficients g

@@ -17,7 +17,7 @@ ghost use Rattle.bech32_hrp.specs.HrpBytes.{hrp_bytes};
 use super::buffer::{put_byte, put_front, put_row, raise_front};
 use super::groups::put_bytes;
 use bech32_checksum::{Checksum, Engine};
-use bech32_device::Pieces;
+use devices::Pieces;
 use bech32_gf::gf32::Fe32;
 use bech32_hrp::Hrp;
 

@@ -18,7 +18,7 @@ use Rattle.bech32_hrp.proofs.Lowered.{lowered-lowered}
 use Rattle.bech32_checksum.specs.Code.{Code}
 use Rattle.bech32_checksum.specs.Encoded.{char_of_element, spelled}
 use Rattle.bech32_checksum.specs.TextPolynomial.{hrp_elements, text_polynomial}
-use Rattle.bech32_correct.specs.Pattern.{Mends}
+use Rattle.bech32_bch.specs.Pattern.{Mends}
 use Rattle.bech32_decode.specs.Acceptance.{IsAccepted}
 use Rattle.bech32_decode.specs.Text.{IsText}
 use Rattle.bech32_decode.proofs.Spelling.{characters-elements, lower_text, spelled-text}

@@ -1,7 +1,7 @@
 -- Erasures counted one after another.
 use Rattle.std.proofs.Common.{◌≡◌, ℕ, ◌+◌, ◌<◌, ◌≤◌, Bool, true, false, cond, List, [], ◌∷◌, ◌++◌, length, length-append, take, drop, get_or, sym, ap, ◌∙◌, refl, arith}
 use Rattle.std.proofs.lemmas.List.{take_more, take-append-drop}
-use Rattle.bech32_correct.specs.Erasures.{has, with_erasures}
+use Rattle.bech32_bch.specs.Erasures.{has, with_erasures}
 
 with_erasures-append : (s xs ys : List ℕ) → with_erasures s (xs ++ ys) ≡ with_erasures (with_erasures s xs) ys
 with_erasures-append s [] ys = refl

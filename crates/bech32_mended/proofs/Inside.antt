@@ -6,14 +6,14 @@ use Rattle.std.proofs.lemmas.List.{length-map}
 use Rattle.bech32_gf.specs.Field.{Ops, IsField}
 use Rattle.bech32_poly.specs.Distinct.{IsAmong}
 use Rattle.bech32_poly.specs.Pattern.{value_of_pattern_at}
-use Rattle.bech32_correct.specs.Listing.{IsSound}
-use Rattle.bech32_correct.specs.Erasures.{has, with_erasures}
-use Rattle.bech32_correct.specs.Pattern.{errors_outside, locations}
-use Rattle.bech32_correct.proofs.Alone.{mem_or_not}
-use Rattle.bech32_correct.proofs.Counting.{located_outside, outside}
-use Rattle.bech32_correct.proofs.Patterns.{all_located, at_absent, locations_listed, outside_count}
-use Rattle.bech32_correct.proofs.Places.{all_of, all_push, look, mem_split, once_fits}
-use Rattle.bech32_correct.proofs.Rising.{once_in_order}
+use Rattle.bech32_bch.specs.Listing.{IsSound}
+use Rattle.bech32_bch.specs.Erasures.{has, with_erasures}
+use Rattle.bech32_bch.specs.Pattern.{errors_outside, locations}
+use Rattle.bech32_bch.proofs.Alone.{mem_or_not}
+use Rattle.bech32_bch.proofs.Counting.{located_outside, outside}
+use Rattle.bech32_bch.proofs.Patterns.{all_located, at_absent, locations_listed, outside_count}
+use Rattle.bech32_bch.proofs.Places.{all_of, all_push, look, mem_split, once_fits}
+use Rattle.bech32_bch.proofs.Rising.{once_in_order}
 
 all_locations : {F : Type 0} (P : ℕ → Type 0) (e : List (ℕ × F)) → AllByRecursion (λ (p : ℕ × F). P p.0) e → AllByRecursion P (locations e)
 all_locations P [] h = tt

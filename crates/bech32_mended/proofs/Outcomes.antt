@@ -10,9 +10,9 @@ use Rattle.bech32_hrp.specs.Hrp.{lowered}
 use Rattle.bech32_checksum.specs.Code.{Code}
 use Rattle.bech32_checksum.specs.Encoded.{char_of_element}
 use Rattle.bech32_checksum.specs.TextPolynomial.{text_polynomial}
-use Rattle.bech32_correct.specs.Erasures.{with_erasures}
-use Rattle.bech32_correct.specs.Listing.{IsSound}
-use Rattle.bech32_correct.specs.Pattern.{Mends, Solves}
+use Rattle.bech32_bch.specs.Erasures.{with_erasures}
+use Rattle.bech32_bch.specs.Listing.{IsSound}
+use Rattle.bech32_bch.specs.Pattern.{Mends, Solves}
 use Rattle.bech32_corrector.specs.Carried.{of_checked, of_checksum}
 use Rattle.bech32_corrector.specs.Correction.{Correction}
 use Rattle.bech32_decode.specs.Acceptance.{Accepts}
@@ -22,11 +22,11 @@ use Rattle.bech32_decode.specs.Refusals.{IsChecksumRefusal, IsInvalidBy, IsValid
 use Rattle.bech32_decode.specs.Text.{IsText}
 use Rattle.bech32_decode.proofs.Decoding.{accepted}
 use Rattle.bech32_decode.specs.declared.unchecked.UncheckedHrpstring.{UncheckedHrpstring}
-use Rattle.bech32_errors.specs.ResidueRows.{IsResidueError, actual_row, residue_of, target_row}
-use Rattle.bech32_errors.specs.declared.error.CheckedHrpstringError.TheVariants.{Checksum}
-use Rattle.bech32_errors.specs.declared.error.ChecksumError.{ChecksumError}
-use Rattle.bech32_errors.specs.declared.error.ChecksumError.TheVariants.{CodeLength, InvalidLength, InvalidResidue}
-use Rattle.bech32_errors.specs.declared.error.InvalidResidueError.{InvalidResidueError}
+use Rattle.bech32_refusals.specs.ResidueRows.{IsResidueError, actual_row, residue_of, target_row}
+use Rattle.bech32_refusals.specs.declared.error.CheckedHrpstringError.TheVariants.{Checksum}
+use Rattle.bech32_refusals.specs.declared.error.ChecksumError.{ChecksumError}
+use Rattle.bech32_refusals.specs.declared.error.ChecksumError.TheVariants.{CodeLength, InvalidLength, InvalidResidue}
+use Rattle.bech32_refusals.specs.declared.error.InvalidResidueError.{InvalidResidueError}
 use Rattle.bech32_mended.specs.Mended.{mended}
 use Rattle.bech32_mended.specs.Mistyped.{AreInside, IsCorrectorOf, IsListingOf, IsReading, IsRefusedFor}
 use Rattle.bech32_mended.proofs.Accepted.{mended_accepted}

@@ -8,8 +8,8 @@ use Rattle.bech32_poly.specs.Polynomial.{IsSamePolynomial, add, appended, coeffi
 use Rattle.bech32_poly.specs.Remainder.{IsRemainder}
 use Rattle.bech32_poly.proofs.Lists.{coefficient-add}
 use Rattle.bech32_poly.proofs.PatternSums.{coefficient-pattern_polynomial}
-use Rattle.bech32_correct.specs.Pattern.{locations}
-use Rattle.bech32_correct.proofs.Patterns.{at_absent}
+use Rattle.bech32_bch.specs.Pattern.{locations}
+use Rattle.bech32_bch.proofs.Patterns.{at_absent}
 use Rattle.bech32_mended.specs.Mended.{mended}
 
 pub length-mended : {F : Type 0} (f : Ops F) (e : List (ℕ × F)) (xs : List F) → length (mended f e xs) ≡ length xs

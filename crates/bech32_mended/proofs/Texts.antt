@@ -11,7 +11,7 @@ use Rattle.bech32_hrp.specs.Hrp.{lowered}
 use Rattle.bech32_checksum.specs.Code.{Code}
 use Rattle.bech32_checksum.specs.Encoded.{char_of_element, spelled}
 use Rattle.bech32_checksum.specs.TextPolynomial.{text_polynomial}
-use Rattle.bech32_correct.specs.Erasures.{with_erasures}
+use Rattle.bech32_bch.specs.Erasures.{with_erasures}
 use Rattle.bech32_decode.specs.Acceptance.{Accepts, IsAccepted}
 use Rattle.bech32_decode.specs.Text.{IsText}
 use Rattle.bech32_decode.proofs.Spelling.{characters-elements, lower_text, spelled-text}

@@ -13,7 +13,7 @@ use Rattle.bech32_gf.specs.laws.FieldLaws.{zero_add}
 use Rattle.bech32_poly.specs.Pattern.{value_of_pattern_at}
 use Rattle.bech32_poly.proofs.Lists.{same_cons}
 use Rattle.bech32_checksum.specs.Encoded.{char_of_element}
-use Rattle.bech32_correct.proofs.Patterns.{at_absent, at_first}
+use Rattle.bech32_bch.proofs.Patterns.{at_absent, at_first}
 use Rattle.bech32_mended.specs.Mended.{EndsIn, mended}
 use Rattle.bech32_mended.proofs.Characters.{element_back, of_alphabet}
 use Rattle.bech32_mended.proofs.Sums.{length-mended}

@@ -8,9 +8,9 @@ use Rattle.bech32_poly.specs.Remainder.{IsRemainder}
 use Rattle.bech32_checksum.specs.Code.{Code}
 use Rattle.bech32_checksum.specs.Encoded.{spelled}
 use Rattle.bech32_checksum.specs.TextPolynomial.{text_polynomial}
-use Rattle.bech32_correct.specs.Erasures.{with_erasures}
-use Rattle.bech32_correct.specs.Listing.{IsSound}
-use Rattle.bech32_correct.specs.Pattern.{Solves}
+use Rattle.bech32_bch.specs.Erasures.{with_erasures}
+use Rattle.bech32_bch.specs.Listing.{IsSound}
+use Rattle.bech32_bch.specs.Pattern.{Solves}
 use Rattle.bech32_corrector.specs.Correction.{Correction}
 use Rattle.bech32_decode.specs.Acceptance.{Accepts}
 use Rattle.bech32_decode.specs.Text.{IsText}

@@ -7,9 +7,9 @@ ghost use Rattle.bech32_gf.specs.declared.gf32.Fe32.{Fe32 as Element};
 ghost use Rattle.bech32_poly.specs.FieldVec.{FitsInPlace};
 ghost use Rattle.bech32_checksum.specs.Code.{bech32, bech32m};
 ghost use Rattle.bech32_checksum.specs.Roots.{AreLawfulRoots};
-ghost use Rattle.bech32_correct.specs.Erasures.{with_erasures};
-ghost use Rattle.bech32_correct.specs.Listing.{IsSound};
-ghost use Rattle.bech32_correct.specs.Pattern.{Mends, Solves};
+ghost use Rattle.bech32_bch.specs.Erasures.{with_erasures};
+ghost use Rattle.bech32_bch.specs.Listing.{IsSound};
+ghost use Rattle.bech32_bch.specs.Pattern.{Mends, Solves};
 ghost use Rattle.bech32_corrector.specs.Carried.{of_checked};
 ghost use Rattle.bech32_corrector.specs.Correction.{singleton_bound};
 ghost use Rattle.bech32_decode.specs.Checked.{IsCheckedRefusal};
@@ -18,10 +18,10 @@ ghost use Rattle.bech32_mended.specs.Mistyped.{IsAnswer, IsCorrectorOf, IsReadin
 use crate::erasures::{are_below, are_more};
 use crate::no_memory::NoMemory;
 use bech32_checksum::{Bech32, Bech32m, Checksum};
-use bech32_correct::ShortVec;
+use bech32_bch::ShortVec;
 use bech32_corrector::{CorrectableError, Corrector, ErrorIterator};
 use bech32_decode::UncheckedHrpstring;
-use bech32_errors::{CheckedHrpstringError, ChecksumError};
+use bech32_refusals::{CheckedHrpstringError, ChecksumError};
 use bech32_gf::gf32::Fe32;
 
 /// Locations, of which 0 is the last character, and the element to add at each.

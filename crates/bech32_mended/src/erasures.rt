@@ -2,10 +2,10 @@
 
 ghost use Rattle.std.specs.Prelude.{◌↔◌, ◌<◌, ◌≤◌, [], length, IsTrue};
 ghost use Rattle.std.specs.List.{AllByRecursion};
-ghost use Rattle.bech32_correct.specs.Erasures.{with_erasures};
+ghost use Rattle.bech32_bch.specs.Erasures.{with_erasures};
 
 use crate::no_memory::NoMemory;
-use bech32_correct::{ShortVec, contains};
+use bech32_bch::{ShortVec, contains};
 
 /// Whether all locations are below the window.
 pub(crate) fn are_below(given: &[usize], window: usize) -> bool

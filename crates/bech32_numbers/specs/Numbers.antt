@@ -5,26 +5,26 @@ use Rattle.std.specs.Prelude.{◌<◌, ℕ}
 use Rattle.bech32_hrp.specs.declared.Error.{Error as HrpError}
 use Rattle.bech32_hrp.specs.declared.Error.TheVariants.{Empty, TooLong as HrpTooLong}
 use Rattle.bech32_hrp.specs.declared.Error.TheVariants.{NonAsciiChar, InvalidAsciiByte, MixedCase as HrpMixedCase, Fmt as HrpFmt}
-use Rattle.bech32_errors.specs.declared.error.CharError.{CharError}
-use Rattle.bech32_errors.specs.declared.error.CharError.TheVariants.{InvalidChar, MixedCase}
-use Rattle.bech32_errors.specs.declared.error.CharError.TheVariants.{MissingSeparator, NothingAfterSeparator}
-use Rattle.bech32_errors.specs.declared.error.UncheckedHrpstringError.{UncheckedHrpstringError}
-use Rattle.bech32_errors.specs.declared.error.UncheckedHrpstringError.TheVariants.{Char, Hrp}
-use Rattle.bech32_errors.specs.declared.error.ChecksumError.{ChecksumError}
-use Rattle.bech32_errors.specs.declared.error.ChecksumError.TheVariants.{CodeLength, InvalidLength, InvalidResidue}
-use Rattle.bech32_errors.specs.declared.error.CheckedHrpstringError.{CheckedHrpstringError}
-use Rattle.bech32_errors.specs.declared.error.CheckedHrpstringError.TheVariants.{Parse as NoText, Checksum as Refused}
-use Rattle.bech32_errors.specs.declared.error.PaddingError.{PaddingError}
-use Rattle.bech32_errors.specs.declared.error.PaddingError.TheVariants.{TooMuch, NonZero}
-use Rattle.bech32_errors.specs.declared.error.SegwitHrpstringError.{SegwitHrpstringError}
-use Rattle.bech32_errors.specs.declared.error.SegwitHrpstringError.TheVariants.{Unchecked, TooLong as LongAddress}
-use Rattle.bech32_errors.specs.declared.error.SegwitHrpstringError.TheVariants.{NoData, InvalidWitnessVersion}
-use Rattle.bech32_errors.specs.declared.error.SegwitHrpstringError.TheVariants.{Padding, WitnessLength}
-use Rattle.bech32_errors.specs.declared.error.SegwitHrpstringError.TheVariants.{Checksum as WrongChecksum}
-use Rattle.bech32_errors.specs.declared.error.SegwitHrpstringError.TheVariants.{Memory as ProgramMemory}
-use Rattle.bech32_errors.specs.declared.segwit.WitnessLengthError.{WitnessLengthError}
-use Rattle.bech32_errors.specs.declared.segwit.WitnessLengthError.TheVariants.{TooShort, TooLong as LongProgram}
-use Rattle.bech32_errors.specs.declared.segwit.WitnessLengthError.TheVariants.{InvalidSegwitV0}
+use Rattle.bech32_refusals.specs.declared.error.CharError.{CharError}
+use Rattle.bech32_refusals.specs.declared.error.CharError.TheVariants.{InvalidChar, MixedCase}
+use Rattle.bech32_refusals.specs.declared.error.CharError.TheVariants.{MissingSeparator, NothingAfterSeparator}
+use Rattle.bech32_refusals.specs.declared.error.UncheckedHrpstringError.{UncheckedHrpstringError}
+use Rattle.bech32_refusals.specs.declared.error.UncheckedHrpstringError.TheVariants.{Char, Hrp}
+use Rattle.bech32_refusals.specs.declared.error.ChecksumError.{ChecksumError}
+use Rattle.bech32_refusals.specs.declared.error.ChecksumError.TheVariants.{CodeLength, InvalidLength, InvalidResidue}
+use Rattle.bech32_refusals.specs.declared.error.CheckedHrpstringError.{CheckedHrpstringError}
+use Rattle.bech32_refusals.specs.declared.error.CheckedHrpstringError.TheVariants.{Parse as NoText, Checksum as Refused}
+use Rattle.bech32_refusals.specs.declared.error.PaddingError.{PaddingError}
+use Rattle.bech32_refusals.specs.declared.error.PaddingError.TheVariants.{TooMuch, NonZero}
+use Rattle.bech32_refusals.specs.declared.error.SegwitHrpstringError.{SegwitHrpstringError}
+use Rattle.bech32_refusals.specs.declared.error.SegwitHrpstringError.TheVariants.{Unchecked, TooLong as LongAddress}
+use Rattle.bech32_refusals.specs.declared.error.SegwitHrpstringError.TheVariants.{NoData, InvalidWitnessVersion}
+use Rattle.bech32_refusals.specs.declared.error.SegwitHrpstringError.TheVariants.{Padding, WitnessLength}
+use Rattle.bech32_refusals.specs.declared.error.SegwitHrpstringError.TheVariants.{Checksum as WrongChecksum}
+use Rattle.bech32_refusals.specs.declared.error.SegwitHrpstringError.TheVariants.{Memory as ProgramMemory}
+use Rattle.bech32_refusals.specs.declared.segwit.WitnessLengthError.{WitnessLengthError}
+use Rattle.bech32_refusals.specs.declared.segwit.WitnessLengthError.TheVariants.{TooShort, TooLong as LongProgram}
+use Rattle.bech32_refusals.specs.declared.segwit.WitnessLengthError.TheVariants.{InvalidSegwitV0}
 use Rattle.bech32.specs.declared.error.DecodeError.{DecodeError}
 use Rattle.bech32.specs.declared.error.DecodeError.TheVariants.{Parse, Checksum, Memory as DecodeMemory}
 use Rattle.bech32.specs.declared.error.EncodeError.{EncodeError}

@@ -12,7 +12,7 @@ use Rattle.bech32_encode.specs.Cased.{in_case, IsTextInCase}
 use Rattle.bech32_encode.proofs.Encoding.{IsAscii-encoded}
 use Rattle.bech32_encode.proofs.TextsLeft.{IsAscii-in_case}
 use Rattle.bech32_decode.specs.Segwit.{segwit_code}
-use Rattle.bech32_device.proofs.Through.{writes_through}
+use Rattle.devices.proofs.Through.{writes_through}
 use Rattle.bech32_segwit.specs.Unchecked.{IsFrontOfText, WritesFront, AppendsFront, AppendsPartOfFront}
 
 -- what was put of a text by one code, where that is the version's

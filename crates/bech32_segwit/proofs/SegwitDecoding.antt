@@ -6,7 +6,7 @@ use Rattle.bech32_hrp.specs.Hrp.{IsHrp, lowered}
 use Rattle.bech32_hrp.specs.HrpBytes.{hrp_bytes, lowered_bytes}
 use Rattle.bech32_hrp.specs.declared.Hrp.{Hrp}
 use Rattle.bech32_decode.specs.Segwit.{IsAddress, IsAddressText, IsSegwitRefusal}
-use Rattle.bech32_errors.specs.declared.error.SegwitHrpstringError.TheVariants.{Memory}
+use Rattle.bech32_refusals.specs.declared.error.SegwitHrpstringError.TheVariants.{Memory}
 use Rattle.bech32_segwit.specs.declared.error.DecodeError.{DecodeError}
 use Rattle.bech32_segwit.proofs.SegwitEncoding.{one_spelling}
 use Rattle.bech32_decode.proofs.Addresses.{parts-from_address, not_refused}

@@ -13,7 +13,7 @@ use Rattle.bech32_hrp.specs.declared.Hrp.{Hrp}
 use Rattle.bech32_checksum.specs.Encoded.{IsEncodedText}
 use Rattle.bech32_decode.specs.Segwit.{segwit_code, IsLowerAddress, IsAddress}
 use Rattle.bech32_segwit.specs.SegwitEncoding.{HasAddress, address_length, IsSegwitEncodeRefusal}
-use Rattle.bech32_errors.specs.SegwitRules.{IsProgramLength}
+use Rattle.bech32_refusals.specs.SegwitRules.{IsProgramLength}
 use Rattle.bech32_segwit.specs.declared.error.EncodeError.{EncodeError}
 use Rattle.bech32_segwit.specs.declared.error.EncodeError.TheVariants.{WitnessVersion, WitnessLength, TooLong, Fmt, Memory}
 use Rattle.bech32_decode.proofs.Addresses.{short, no_length_refusal}

@@ -4,7 +4,7 @@ use Rattle.bech32_gf.specs.declared.gf32.Fe32.{Fe32}
 use Rattle.bech32_bits.specs.Bits.{to_fes}
 use Rattle.bech32_hrp.specs.Hrp.{lowered}
 use Rattle.bech32_decode.specs.Segwit.{IsLowerAddress, IsAddress}
-use Rattle.bech32_errors.specs.SegwitRules.{IsProgramLength, IsLengthRefusal}
+use Rattle.bech32_refusals.specs.SegwitRules.{IsProgramLength, IsLengthRefusal}
 use Rattle.bech32_segwit.specs.declared.error.EncodeError.{EncodeError}
 use Rattle.bech32_segwit.specs.declared.error.EncodeError.TheVariants.{WitnessVersion, WitnessLength, TooLong, Fmt, Memory}
 

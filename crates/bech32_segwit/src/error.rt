@@ -44,7 +44,7 @@ impl From<SegwitHrpstringError> for DecodeError {
 
 impl From<AllocError> for DecodeError {
     ghost use Rattle.std.specs.Prelude.{◌≡◌};
-    ghost use Rattle.bech32_errors.specs.declared.error.SegwitHrpstringError.TheVariants.{Memory};
+    ghost use Rattle.bech32_refusals.specs.declared.error.SegwitHrpstringError.TheVariants.{Memory};
 
     ghost from_gives = { λ e r. r.0 ≡ Memory };
 

@@ -9,7 +9,7 @@ ghost use Rattle.bech32_segwit.specs.Unchecked.{IsFrontOfText, WritesFront, Appe
 use crate::VERSION_0;
 use bech32_checksum::{Bech32, Bech32m};
 use bech32_decode::segwit::MAX_STRING_LENGTH;
-use bech32_device::{ByteSink, FmtSink, Watched, write_all};
+use devices::{ByteSink, FmtSink, Watched, write_all};
 use bech32_encode::put_front_of_text;
 use bech32_gf::gf32::Fe32;
 use bech32_hrp::Hrp;

@@ -3,7 +3,7 @@ use Rattle.std.proofs.Common.{◌≡◌, ℕ, inr, List, refl}
 use Rattle.codex32.specs.Nearest.{IsProposeRefusal}
 use Rattle.codex32.specs.Strings.{IsStringRefusal}
 use Rattle.codex32.specs.declared.error.Codex32Error.{Codex32Error}
-use Rattle.bech32_lines.specs.Refused.{err}
+use Rattle.line_program.specs.Refused.{err}
 use Rattle.codex32_numbers.specs.Numbers.{number_of_codex32_error}
 use Rattle.c32.specs.Reply.{IsParseAnswer, IsProposeAnswer}
 

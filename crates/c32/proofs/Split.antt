@@ -1,6 +1,6 @@
 -- Lines that ask for nothing.
 use Rattle.std.proofs.Common.{◌≡◌, ℕ, Bool, true, false, ◌||◌, List, [], ◌∷◌, cond, ap, ◌∙◌, refl, None}
-use Rattle.bech32_lines.specs.Words.{words, is_empty, has_empty_word}
+use Rattle.line_program.specs.Words.{words, is_empty, has_empty_word}
 use Rattle.c32.specs.Request.{request_of_words, request_of}
 
 -- a line of these words

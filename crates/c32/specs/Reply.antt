@@ -4,8 +4,8 @@ use Rattle.codex32.specs.Nearest.{IsNearestText, IsProposeRefusal, read_text}
 use Rattle.codex32.specs.Strings.{IsString, IsStringRefusal, frame_refusal}
 use Rattle.codex32.specs.declared.error.Codex32Error.{Codex32Error}
 use Rattle.codex32_numbers.specs.Numbers.{number_of_codex32_error}
-use Rattle.bech32_lines.specs.Refused.{err}
-use Rattle.bech32_lines.specs.Reply.{IsReplyBy}
+use Rattle.line_program.specs.Refused.{err}
+use Rattle.line_program.specs.Reply.{IsReplyBy}
 use Rattle.c32.specs.Request.{Request, Parse, Propose, request_of}
 
 -- the parts of a codex32 string are said, which are the text's own characters: the threshold, the identifier, the share

@@ -1,7 +1,7 @@
 -- What a line asks for: its first word names a command, the second is its argument.
 use Rattle.std.specs.Prelude.{ℕ, if◌then◌else◌, List, [], ◌∷◌, codes, Option, Some, None}
 use Rattle.std.specs.Str.{bytes_eq}
-use Rattle.bech32_lines.specs.Words.{words, has_empty_word}
+use Rattle.line_program.specs.Words.{words, has_empty_word}
 use Rattle.c32.specs.declared.command.Command.{Command}
 use Rattle.c32.specs.declared.command.Command.TheVariants.{Parse as ParseCommand, Propose as ProposeCommand}
 

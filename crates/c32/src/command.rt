@@ -3,7 +3,7 @@
 ghost use Rattle.std.specs.Prelude.{◌≡◌, MatchOption, Some, None};
 ghost use Rattle.c32.specs.Request.{request_of, request_of_command};
 
-use bech32_lines::{first_word, only_word};
+use line_program::{first_word, only_word};
 
 /// What a line asks for, its argument as its word.
 #[derive(Clone, Copy, Debug)]

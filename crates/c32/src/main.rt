@@ -8,7 +8,7 @@ mod reply;
 mod run;
 
 use crate::run::run_on;
-use bech32_device::Watched;
+use devices::Watched;
 use std::process::ExitCode;
 
 fn main(rt: HostRuntime) -> ExitCode {

@@ -1,12 +1,12 @@
 //! Answers `parse`.
 
 ghost use Rattle.std.specs.Prelude.{◌≡◌, ◌+◌, ◌≤◌, vec_len, vec_capacity, OnOk, OnErr, IfErr};
-ghost use Rattle.bech32_lines.specs.Added.{Adds};
-ghost use Rattle.bech32_lines.specs.Refused.{err};
+ghost use Rattle.line_program.specs.Added.{Adds};
+ghost use Rattle.line_program.specs.Refused.{err};
 ghost use Rattle.codex32_numbers.specs.Numbers.{number_of_codex32_error};
 ghost use Rattle.c32.specs.Reply.{IsParseAnswer};
 
-use bech32_lines::append;
+use line_program::append;
 use codex32::{Codex32Error, Codex32Str};
 
 /// Adds the parts of a codex32 string, in the case of the text, or leaves all as it was.

@@ -1,8 +1,8 @@
-//! The replies to commands, by which `bech32_lines` replies to a line.
+//! The replies to commands, by which `line_program` replies to a line.
 
 ghost use Rattle.std.specs.Prelude.{◌≡◌, ◌+◌, ◌≤◌, vec_len, vec_capacity, OnOk, OnErr, IfErr};
-ghost use Rattle.bech32_lines.specs.Added.{Adds};
-ghost use Rattle.bech32_lines.specs.Refused.{err};
+ghost use Rattle.line_program.specs.Added.{Adds};
+ghost use Rattle.line_program.specs.Refused.{err};
 ghost use Rattle.codex32_numbers.specs.Numbers.{number_of_codex32_error};
 ghost use Rattle.c32.specs.Request.{Request, request_of, request_of_command};
 ghost use Rattle.c32.specs.Reply.{IsAnswer};
@@ -10,7 +10,7 @@ ghost use Rattle.c32.specs.Reply.{IsAnswer};
 use crate::command::Command;
 use crate::parse::parse;
 use crate::propose::propose;
-use bech32_lines::{Answers, Unanswered};
+use line_program::{Answers, Unanswered};
 use codex32::Codex32Error;
 use codex32_numbers::codex32_error_number;
 use std::alloc::Allocator;

@@ -1,15 +1,15 @@
 //! Answers the lines of a source, one after another.
 
 ghost use Rattle.std.specs.Prelude.{◌≡◌, ◌+◌, false, true, OnOk, IsErrOf};
-ghost use Rattle.bech32_lines.specs.Output.{IsAnswered, IsAnsweredSoFar, IsCutShort};
+ghost use Rattle.line_program.specs.Output.{IsAnswered, IsAnsweredSoFar, IsCutShort};
 ghost use Rattle.c32.specs.Reply.{IsReply};
 
 use crate::reply::Commands;
-use bech32_device::{ByteSink, ByteSource};
-use bech32_lines::RunError;
+use devices::{ByteSink, ByteSource};
+use line_program::RunError;
 use std::alloc::Global;
 
-/// Answers each line of a source, as [`bech32_lines::run_on`] does: writes its reply and a newline. It
+/// Answers each line of a source, as [`line_program::run_on`] does: writes its reply and a newline. It
 /// makes its buffers first, writes the replies to all lines that have ended before each further read,
 /// and flushes the sink once, at its end, unless writing failed.
 ///
@@ -50,5 +50,5 @@ pub fn run_on<S: ByteSource, K: ByteSink>(
     ensures source_same { S.is_same source.old source.new }
     ensures sink_same { K.is_same sink.old sink.new }
 {
-    bech32_lines::run_on(alloc, &Commands { alloc }, source, sink)
+    line_program::run_on(alloc, &Commands { alloc }, source, sink)
 }

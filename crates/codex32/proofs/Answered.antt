@@ -9,9 +9,9 @@ use Rattle.bech32_gf.specs.Fe32.{element_of, elements_of, ops}
 use Rattle.bech32_gf.specs.declared.gf32.Fe32.{Fe32}
 use Rattle.bech32_hrp.specs.Hrp.{lowered}
 use Rattle.bech32_checksum.specs.Encoded.{char_of_element, spelled}
-use Rattle.bech32_correct.specs.Erasures.{with_erasures}
-use Rattle.bech32_correct.specs.Listing.{IsSound}
-use Rattle.bech32_correct.specs.Pattern.{Mends, Solves}
+use Rattle.bech32_bch.specs.Erasures.{with_erasures}
+use Rattle.bech32_bch.specs.Listing.{IsSound}
+use Rattle.bech32_bch.specs.Pattern.{Mends, Solves}
 use Rattle.bech32_corrector.specs.Carried.{of_checksum}
 use Rattle.bech32_corrector.specs.Correction.{Correction}
 use Rattle.bech32_decode.specs.Parts.{unchecked_data, unchecked_length, unchecked_part}
@@ -20,10 +20,10 @@ use Rattle.bech32_decode.specs.Text.{IsText}
 use Rattle.bech32_decode.proofs.Grammar.{only-from_IsText}
 use Rattle.bech32_decode.proofs.Spelling.{spelled-text}
 use Rattle.bech32_decode.specs.declared.unchecked.UncheckedHrpstring.{UncheckedHrpstring}
-use Rattle.bech32_errors.specs.ResidueRows.{residue_of}
-use Rattle.bech32_errors.specs.declared.error.ChecksumError.{ChecksumError}
-use Rattle.bech32_errors.specs.declared.error.ChecksumError.TheVariants.{CodeLength, InvalidLength, InvalidResidue}
-use Rattle.bech32_errors.specs.declared.error.InvalidResidueError.{InvalidResidueError}
+use Rattle.bech32_refusals.specs.ResidueRows.{residue_of}
+use Rattle.bech32_refusals.specs.declared.error.ChecksumError.{ChecksumError}
+use Rattle.bech32_refusals.specs.declared.error.ChecksumError.TheVariants.{CodeLength, InvalidLength, InvalidResidue}
+use Rattle.bech32_refusals.specs.declared.error.InvalidResidueError.{InvalidResidueError}
 use Rattle.bech32_mended.specs.Mended.{EndsIn, mended}
 use Rattle.bech32_mended.specs.Mistyped.{HasNoListing, IsCorrectorOf, IsListingOf, IsReading}
 use Rattle.bech32_mended.proofs.Outcomes.{IsReadAs, context_there, listing-from_sound, reading-from_context}

@@ -13,11 +13,11 @@ use Rattle.bech32_gf.specs.laws.FieldLaws.{zero_add}
 use Rattle.bech32_poly.specs.Distinct.{IsAmong, IsNotAmong, IsOnce}
 use Rattle.bech32_poly.specs.Pattern.{value_of_pattern_at}
 use Rattle.bech32_poly.proofs.Lists.{same_cons}
-use Rattle.bech32_correct.specs.Distance.{places_that_differ}
-use Rattle.bech32_correct.specs.Erasures.{has, with_erasures}
-use Rattle.bech32_correct.specs.Pattern.{locations}
-use Rattle.bech32_correct.proofs.Patterns.{at_absent, at_first, at_rest}
-use Rattle.bech32_correct.proofs.Places.{look}
+use Rattle.bech32_bch.specs.Distance.{places_that_differ}
+use Rattle.bech32_bch.specs.Erasures.{has, with_erasures}
+use Rattle.bech32_bch.specs.Pattern.{locations}
+use Rattle.bech32_bch.proofs.Patterns.{at_absent, at_first, at_rest}
+use Rattle.bech32_bch.proofs.Places.{look}
 use Rattle.bech32_decode.specs.Distance.{same_element}
 use Rattle.bech32_mended.specs.Mended.{mended}
 use Rattle.codex32.specs.Nearest.{changed, read_data, unreadable}

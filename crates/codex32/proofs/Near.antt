@@ -21,16 +21,16 @@ use Rattle.bech32_hrp.specs.Hrp.{IsHrp, lowered}
 use Rattle.bech32_checksum.specs.Code.{Code}
 use Rattle.bech32_checksum.specs.Encoded.{char_of_element, spelled}
 use Rattle.bech32_checksum.specs.TextPolynomial.{text_polynomial}
-use Rattle.bech32_correct.specs.Distance.{places_that_differ}
-use Rattle.bech32_correct.specs.Erasures.{with_erasures}
-use Rattle.bech32_correct.specs.Listing.{IsSound}
-use Rattle.bech32_correct.specs.Pattern.{HasRemainder, Solves, errors_outside, locations}
-use Rattle.bech32_correct.proofs.Alone.{mem_or_not}
-use Rattle.bech32_correct.proofs.Candidates.{apart_inside}
-use Rattle.bech32_correct.proofs.Counting.{located_outside, outside, outside_located}
-use Rattle.bech32_correct.proofs.Patterns.{at_absent, locations_listed, outside_count}
-use Rattle.bech32_correct.proofs.Places.{mem_split, once_fits}
-use Rattle.bech32_correct.proofs.Solved.{once_outside}
+use Rattle.bech32_bch.specs.Distance.{places_that_differ}
+use Rattle.bech32_bch.specs.Erasures.{with_erasures}
+use Rattle.bech32_bch.specs.Listing.{IsSound}
+use Rattle.bech32_bch.specs.Pattern.{HasRemainder, Solves, errors_outside, locations}
+use Rattle.bech32_bch.proofs.Alone.{mem_or_not}
+use Rattle.bech32_bch.proofs.Candidates.{apart_inside}
+use Rattle.bech32_bch.proofs.Counting.{located_outside, outside, outside_located}
+use Rattle.bech32_bch.proofs.Patterns.{at_absent, locations_listed, outside_count}
+use Rattle.bech32_bch.proofs.Places.{mem_split, once_fits}
+use Rattle.bech32_bch.proofs.Solved.{once_outside}
 use Rattle.bech32_corrector.proofs.Remainders.{left_over}
 use Rattle.bech32_decode.specs.Acceptance.{Accepts, IsAccepted}
 use Rattle.bech32_decode.specs.Distance.{AreSameOrFar, same_element}

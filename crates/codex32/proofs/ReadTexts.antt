@@ -15,9 +15,9 @@ use Rattle.bech32_hrp.specs.Hrp.{first_of, hrp_refusal, is_lower, is_mixed_case,
 use Rattle.bech32_decode.specs.Text.{as_char, as_hrp, bad_hrp, invalid_character, last_stranger, missing_separator, mixed_case, split_at_last, text_refusal, unless_separator}
 use Rattle.bech32_decode.proofs.Letters.{is_data-more}
 use Rattle.bech32_decode.proofs.Texts.{invalid_character-at, separator-at, split_at_last-data}
-use Rattle.bech32_errors.specs.declared.error.CharError.{CharError}
-use Rattle.bech32_errors.specs.declared.error.CharError.TheVariants.{InvalidChar, MixedCase}
-use Rattle.bech32_errors.specs.declared.error.UncheckedHrpstringError.TheVariants.{Char}
+use Rattle.bech32_refusals.specs.declared.error.CharError.{CharError}
+use Rattle.bech32_refusals.specs.declared.error.CharError.TheVariants.{InvalidChar, MixedCase}
+use Rattle.bech32_refusals.specs.declared.error.UncheckedHrpstringError.TheVariants.{Char}
 use Rattle.codex32.specs.Nearest.{read_character, read_data, read_text}
 use Rattle.codex32.proofs.Locations.{count_data}
 use Rattle.codex32.proofs.Reading.{read_encoded}

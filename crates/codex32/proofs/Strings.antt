@@ -12,8 +12,8 @@ use Rattle.bech32_decode.specs.Text.{IsText, split_at_last, text_refusal}
 use Rattle.bech32_decode.proofs.Decoding.{not_valid}
 use Rattle.bech32_decode.proofs.Grammar.{none_first, only-from_IsText, text_refusal-none}
 use Rattle.bech32_decode.proofs.Texts.{split_at_last-at}
-use Rattle.bech32_errors.specs.declared.error.ChecksumError.{ChecksumError}
-use Rattle.bech32_errors.specs.declared.error.UncheckedHrpstringError.{UncheckedHrpstringError}
+use Rattle.bech32_refusals.specs.declared.error.ChecksumError.{ChecksumError}
+use Rattle.bech32_refusals.specs.declared.error.UncheckedHrpstringError.{UncheckedHrpstringError}
 use Rattle.codex32.specs.Code.{codex32}
 use Rattle.codex32.specs.Parts.{IsStringOf, identifier_of, payload_of, share_index_of, threshold_of}
 use Rattle.codex32.specs.Strings.{IsBodyRefusal, IsCodex32, IsString, IsStringRefusal, as_text, frame_refusal, header_fault, hrp_fault, is_ms, is_threshold, is_within, length_fault, part_fault, share_index_fault, threshold_fault}

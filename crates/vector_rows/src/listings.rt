@@ -7,7 +7,7 @@ use crate::rows::{no_row, word};
 use bech32_checksum::{Bech32, Bech32m, Checksum};
 use bech32_corrector::{CorrectableError, Corrector, ErrorIterator};
 use bech32_decode::CheckedHrpstring;
-use bech32_testing_codes::Degree13;
+use testing_codes::Degree13;
 use std::alloc::{AllocError, Global};
 
 // The numbers of a word, and none for `-`.

@@ -7,7 +7,7 @@
 //! applied to it. The others come from BIP-173 and BIP-350, or show one refusal each.
 
 use super::*;
-use bech32_lines::{REPLY_ROOM, Replies};
+use line_program::{REPLY_ROOM, Replies};
 use linked_list_allocator::LocalHeap;
 use std::alloc::{AllocError, Global};
 use std::process::Abort;

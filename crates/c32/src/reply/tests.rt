@@ -5,7 +5,7 @@
 //! which tries every pattern, and by the Rust crate bech32 0.12.0.
 
 use super::*;
-use bech32_lines::{REPLY_ROOM, Replies};
+use line_program::{REPLY_ROOM, Replies};
 use linked_list_allocator::LocalHeap;
 use std::alloc::{AllocError, Global};
 use std::test::Fail;

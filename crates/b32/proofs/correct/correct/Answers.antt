@@ -11,7 +11,7 @@ use Rattle.bech32_mended.specs.Mistyped.{HasNoListing, IsListingOf, IsAnswer as 
 use Rattle.bech32_mended.proofs.Texts.{ends-lowered, mendable-from_listing}
 use Rattle.b32.specs.Request.{code_of_name}
 use Rattle.b32.specs.Reply.{listed}
-use Rattle.bech32_lines.proofs.Pieces.{three-pieces}
+use Rattle.line_program.proofs.Pieces.{three-pieces}
 use Rattle.b32.proofs.CorrectReplies.{listing-size, locations-small, mended-size, new_text, says-fine, says-mended, says-none, says-refused, short-code, text-size}
 use Rattle.b32.proofs.correct.correct.Goals as goal
 

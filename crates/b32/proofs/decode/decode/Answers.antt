@@ -5,7 +5,7 @@ use Rattle.std.specs.Char.{to_ascii_lowercase}
 use Rattle.bech32_hrp.specs.HrpBytes.{hrp_bytes}
 use Rattle.bech32_hrp.specs.Hrp.{lowered}
 use Rattle.b32.specs.Hex.{hex_of}
-use Rattle.bech32_lines.proofs.Pieces.{three-pieces, four-pieces}
+use Rattle.line_program.proofs.Pieces.{three-pieces, four-pieces}
 use Rattle.b32.proofs.Sizes.{decoded-sizes, decode-reply-size}
 use Rattle.b32.proofs.decode.decode.Goals as goal
 

@@ -3,7 +3,7 @@ use Rattle.std.proofs.lemmas.Result.{err_from_is_err_and}
 use Rattle.bech32_bits.specs.Bits.{to_fes}
 use Rattle.bech32_checksum.specs.Encoded.{IsEncodedText}
 use Rattle.bech32_encode.specs.TextLength.{encoded_length_of}
-use Rattle.bech32_lines.proofs.Pieces.{two-pieces}
+use Rattle.line_program.proofs.Pieces.{two-pieces}
 use Rattle.b32.proofs.Sizes.{encoded-size}
 use Rattle.b32.proofs.Replies.{encode-text, encode-refused_hex}
 use Rattle.b32.proofs.encode.encode.Goals as goal

@@ -2,7 +2,7 @@ use Rattle.std.proofs.Common.{inl}
 use Rattle.std.proofs.lemmas.Result.{err_from_is_err_and, on_ok_weaker, IfErr-weaker}
 use Rattle.b32.specs.Numbers.{number_of}
 use Rattle.b32.specs.Request.{code_of_name}
-use Rattle.bech32_lines.specs.Refused.{err}
+use Rattle.line_program.specs.Refused.{err}
 use Rattle.b32.proofs.CorrectReplies.{says-at, says-refused_locations}
 use Rattle.b32.proofs.Replies.{Adds-weaker}
 use Rattle.b32.proofs.reply.answer.Goals as goal

@@ -6,7 +6,7 @@ use Rattle.std.specs.Fmt.{decimal}
 use Rattle.bech32_hrp.specs.Hrp.{lowered}
 use Rattle.bech32_hrp.specs.HrpBytes.{hrp_bytes}
 use Rattle.b32.specs.Hex.{AreBytes, hex_of}
-use Rattle.bech32_lines.proofs.Pieces.{three-pieces}
+use Rattle.line_program.proofs.Pieces.{three-pieces}
 use Rattle.b32.proofs.SegwitReplies.{address-sizes, segwit-decode-size, six-pieces}
 use Rattle.b32.proofs.segwit_decode.segwit_decode.Goals as goal
 

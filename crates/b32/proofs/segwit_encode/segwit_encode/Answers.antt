@@ -2,7 +2,7 @@ use Rattle.std.proofs.Common.{ℕ, ◌≤◌, List, ◌++◌, length, ap, ◌∙
 use Rattle.std.proofs.lemmas.Result.{err_from_is_err_and}
 use Rattle.bech32_decode.specs.Segwit.{IsLowerAddress}
 use Rattle.bech32_segwit.specs.SegwitEncoding.{IsSegwitEncodeRefusal}
-use Rattle.bech32_lines.proofs.Pieces.{two-pieces}
+use Rattle.line_program.proofs.Pieces.{two-pieces}
 use Rattle.b32.proofs.SegwitReplies.{says-refused_hex, says-bad_hrp, says-address, says-no_address}
 use Rattle.b32.proofs.segwit_encode.segwit_encode.Goals as goal
 

@@ -1,5 +1,5 @@
 use Rattle.std.proofs.Common.{rules, ◌≡◌, ◌∙◌, ℕ, true, false, List, ◌∷◌, length, ap, inl, inr, arith, eq-eqb}
-use Rattle.bech32_lines.proofs.Split.{length-zero}
+use Rattle.line_program.proofs.Split.{length-zero}
 use Rattle.b32.proofs.VersionWords.{no_first, no_digit, no_more, no_second_digit, one_digit, both_digits}
 use Rattle.b32.proofs.version_word.number_of_word.Goals.{then-tens-eq0-via-then-tens-eq0, then-tens-eq0-via-else-tens-eq0+then-not-is_empty}
 use Rattle.b32.proofs.version_word.number_of_word.Goals as goal

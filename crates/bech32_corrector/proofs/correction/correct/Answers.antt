@@ -5,11 +5,11 @@ use Rattle.bech32_gf.specs.laws.Fe32Laws.{is_field}
 use Rattle.bech32_poly.specs.Embedding.{Embeds}
 use Rattle.bech32_checksum.specs.Code.{Code}
 use Rattle.bech32_checksum.proofs.Digits.{length-tabulate}
-use Rattle.bech32_correct.specs.Listing.{IsSound}
-use Rattle.bech32_correct.specs.Pattern.{HasRemainder, Solves}
-use Rattle.bech32_correct.specs.Search.{locators}
-use Rattle.bech32_correct.proofs.Accepted.{passes_again, sound}
-use Rattle.bech32_correct.proofs.Candidates.{apart_inside}
+use Rattle.bech32_bch.specs.Listing.{IsSound}
+use Rattle.bech32_bch.specs.Pattern.{HasRemainder, Solves}
+use Rattle.bech32_bch.specs.Search.{locators}
+use Rattle.bech32_bch.proofs.Accepted.{passes_again, sound}
+use Rattle.bech32_bch.proofs.Candidates.{apart_inside}
 use Rattle.bech32_corrector.proofs.Mended.{mends}
 use Rattle.bech32_corrector.proofs.Remainders.{left_over, remainder_left}
 use Rattle.bech32_corrector.proofs.Usable.{usable_read}

@@ -1,7 +1,7 @@
 use Rattle.std.specs.Prelude.{true, false, OnOk}
 use Rattle.std.proofs.Common.{◌≡◌, ◌<◌, ◌+◌, ◌∷◌, [], ℕ, take, get_or, length, Result, Ok, Err, IfOk, ap, ◌∙◌, subst, arith}
-use Rattle.bech32_correct.specs.Erasures.{with_erasures}
-use Rattle.bech32_correct.specs.Search.{locators}
+use Rattle.bech32_bch.specs.Erasures.{with_erasures}
+use Rattle.bech32_bch.specs.Search.{locators}
 use Rattle.bech32_corrector.proofs.Added.{all_taken, length-with_some, take-with_erasures, with_erasures-more}
 use Rattle.bech32_corrector.proofs.corrector.extended.Goals as goal
 

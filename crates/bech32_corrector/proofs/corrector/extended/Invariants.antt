@@ -1,5 +1,5 @@
 use Rattle.std.proofs.Common.{◌≡◌, take}
-use Rattle.bech32_correct.specs.Erasures.{with_erasures}
+use Rattle.bech32_bch.specs.Erasures.{with_erasures}
 use Rattle.bech32_corrector.proofs.corrector.extended.Given as goal
 
 abbrev pub invariant-loop-place : goal.invariant-loop-place

@@ -3,8 +3,8 @@ use Rattle.bech32_gf.specs.Fe32 as fe32
 use Rattle.bech32_gf.specs.laws.Fe32Laws.{is_field}
 use Rattle.bech32_poly.specs.Pattern.{pattern_polynomial}
 use Rattle.bech32_checksum.specs.Code.{IsResidueOf}
-use Rattle.bech32_correct.proofs.Loops.{all_below}
-use Rattle.bech32_correct.proofs.Patterns.{values_from, whole_pattern}
+use Rattle.bech32_bch.proofs.Loops.{all_below}
+use Rattle.bech32_bch.proofs.Patterns.{values_from, whole_pattern}
 use Rattle.bech32_corrector.proofs.Remainders.{same_remainder, values_from-more}
 use Rattle.bech32_corrector.proofs.division.listed_engine.Goals as goal
 

@@ -2,7 +2,7 @@ use Rattle.std.proofs.Common.{◌≤◌, ◌+◌, ℕ}
 use Rattle.std.specs.List.{AllByRecursion}
 use Rattle.bech32_gf.specs.Fe32 as fe32
 use Rattle.bech32_checksum.specs.Code.{IsResidueOf}
-use Rattle.bech32_correct.proofs.Patterns.{values_from}
+use Rattle.bech32_bch.proofs.Patterns.{values_from}
 use Rattle.bech32_corrector.proofs.division.listed_engine.Given as goal
 
 abbrev pub invariant-loop-place : goal.invariant-loop-place

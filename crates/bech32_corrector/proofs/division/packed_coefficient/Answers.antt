@@ -1,7 +1,7 @@
 use Rattle.std.proofs.Common.{sym, ap, ◌∙◌, refl, arith}
 use Rattle.bech32_gf.specs.Fe32 as fe32
 use Rattle.bech32_checksum.proofs.DigitRows.{digit_of-past}
-use Rattle.bech32_errors.proofs.Coefficients.{element-digit_of}
+use Rattle.bech32_refusals.proofs.Coefficients.{element-digit_of}
 use Rattle.bech32_corrector.proofs.division.packed_coefficient.Goals as goal
 
 pub returns : goal.returns

@@ -2,7 +2,7 @@ use Rattle.std.proofs.Common.{◌≡◌, true, false, inr}
 use Rattle.bech32_decode.specs.Refusals.{IsChecksumRefusal}
 use Rattle.bech32_checksum.specs.Code.{bech32m}
 use Rattle.bech32_hrp.specs.HrpBytes.{hrp_bytes}
-use Rattle.bech32_errors.specs.declared.error.ChecksumError.TheVariants.{InvalidResidue}
+use Rattle.bech32_refusals.specs.declared.error.ChecksumError.TheVariants.{InvalidResidue}
 use Rattle.bech32_decode.proofs.Decoding.{matches-from_valid, valid-from_matches}
 use Rattle.bech32_decode.proofs.either.validate_either.Goals as goal
 

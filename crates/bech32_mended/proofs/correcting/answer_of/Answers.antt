@@ -1,9 +1,9 @@
 use Rattle.std.specs.List.{AllByRecursion}
 use Rattle.std.proofs.Common.{rules, ◌≡◌, ◌<◌, ℕ, true, false, [], subst, sym, ◌∙◌, refl}
 use Rattle.bech32_gf.specs.Fe32.{ops}
-use Rattle.bech32_correct.specs.Erasures.{with_erasures}
-use Rattle.bech32_correct.specs.Listing.{IsSound}
-use Rattle.bech32_correct.specs.Pattern.{Solves}
+use Rattle.bech32_bch.specs.Erasures.{with_erasures}
+use Rattle.bech32_bch.specs.Listing.{IsSound}
+use Rattle.bech32_bch.specs.Pattern.{Solves}
 use Rattle.bech32_corrector.specs.Correction.{singleton_bound}
 use Rattle.bech32_mended.proofs.Outcomes.{listing-from_sound}
 use Rattle.bech32_mended.proofs.correcting.answer_of.Goals as goal

@@ -1,6 +1,6 @@
 use Rattle.std.proofs.Common.{◌<◌, ℕ, length, ap, arith}
 use Rattle.bech32_decode.specs.Refusals.{IsInvalidBy}
-use Rattle.bech32_errors.specs.declared.error.ChecksumError.TheVariants.{InvalidResidue}
+use Rattle.bech32_refusals.specs.declared.error.ChecksumError.TheVariants.{InvalidResidue}
 use Rattle.bech32_mended.proofs.Outcomes.{context_there, reading-from_context, refusal-from_invalid}
 use Rattle.bech32_mended.proofs.correcting.corrector_of.Goals as goal
 

@@ -2,7 +2,7 @@ use Rattle.std.proofs.Common.{◌≤◌, ℕ, List, length, subst, sym, arith}
 use Rattle.bech32_gf.specs.Fe32.{ops}
 use Rattle.bech32_gf.specs.declared.gf32.Fe32.{Fe32}
 use Rattle.bech32_gf.specs.laws.Fe32Laws.{is_field}
-use Rattle.bech32_correct.specs.Pattern.{Mends}
+use Rattle.bech32_bch.specs.Pattern.{Mends}
 use Rattle.bech32_corrector.specs.Correction.{singleton_bound}
 use Rattle.bech32_mended.proofs.Inside.{listed_few}
 use Rattle.bech32_mended.proofs.correcting.listing_of.Goals as goal

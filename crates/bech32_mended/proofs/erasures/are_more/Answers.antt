@@ -1,5 +1,5 @@
 use Rattle.std.proofs.Common.{◌≡◌, ◌≢◌, ◌+◌, ◌<◌, ◌≤◌, ℕ, Bool, true, false, cond, [], ◌∷◌, ◌++◌, List, length, length-append, get_or, sym, ap, ◌∙◌, refl, arith}
-use Rattle.bech32_correct.specs.Erasures.{has, with_erasures}
+use Rattle.bech32_bch.specs.Erasures.{has, with_erasures}
 use Rattle.bech32_mended.proofs.Counted.{more_with, one_more}
 use Rattle.bech32_mended.proofs.erasures.are_more.Goals as goal
 

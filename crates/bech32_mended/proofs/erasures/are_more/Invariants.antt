@@ -1,5 +1,5 @@
 use Rattle.std.proofs.Common.{◌≡◌, ◌≤◌, [], length, take}
-use Rattle.bech32_correct.specs.Erasures.{with_erasures}
+use Rattle.bech32_bch.specs.Erasures.{with_erasures}
 use Rattle.bech32_mended.proofs.erasures.are_more.Given as goal
 
 abbrev pub invariant-loop-location : goal.invariant-loop-location

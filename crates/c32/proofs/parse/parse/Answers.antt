@@ -1,6 +1,6 @@
 use Rattle.std.proofs.Common.{◌≡◌, rules, ◌++◌, ◌∷◌, [], refl, inl, arith, codes, length-append}
 use Rattle.std.proofs.lemmas.Result.{err_from_is_err_and}
-use Rattle.bech32_lines.proofs.Pieces.{four-pieces}
+use Rattle.line_program.proofs.Pieces.{four-pieces}
 use Rattle.c32.proofs.Replies.{says-no_string}
 use Rattle.c32.proofs.Sizes.{payload-size, share_index-small}
 use Rattle.c32.proofs.parse.parse.Goals as goal

@@ -1,5 +1,5 @@
 use Rattle.std.proofs.Common.{◌≡◌, ◌∷◌, sym, codes}
-use Rattle.bech32_lines.specs.Words.{words}
+use Rattle.line_program.specs.Words.{words}
 use Rattle.b32.proofs.Split.{encode-no-checksum, encode-no-hex, decode-no-text}
 use Rattle.b32.proofs.SegwitSplit.{segwit-encode-no-hex, segwit-encode-no-version, segwit-decode-no-text}
 use Rattle.b32.proofs.command.Command.parse.Goals as goal

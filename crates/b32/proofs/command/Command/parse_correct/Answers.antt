@@ -1,5 +1,5 @@
 use Rattle.std.proofs.Common.{◌≡◌, ◌∷◌}
-use Rattle.bech32_lines.specs.Words.{words}
+use Rattle.line_program.specs.Words.{words}
 use Rattle.b32.proofs.CorrectSplit.{no-locations}
 use Rattle.b32.proofs.command.Command.parse_correct.Goals as goal
 

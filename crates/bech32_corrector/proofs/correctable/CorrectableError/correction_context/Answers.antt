@@ -1,7 +1,7 @@
 use Rattle.std.proofs.Common.{◌≡◌, ◌<◌, ◌⊎◌, [], Some, None, subst}
 use Rattle.std.specs.Prelude.{MatchOption}
-use Rattle.bech32_errors.specs.ResidueRows.{residue_of}
-use Rattle.bech32_errors.specs.declared.error.InvalidResidueError.{InvalidResidueError}
+use Rattle.bech32_refusals.specs.ResidueRows.{residue_of}
+use Rattle.bech32_refusals.specs.declared.error.InvalidResidueError.{InvalidResidueError}
 use Rattle.bech32_corrector.proofs.correctable.CorrectableError.correction_context.Goals as goal
 
 pub returns : goal.returns

@@ -2,8 +2,8 @@ use Rattle.std.specs.List.{AllByRecursion}
 use Rattle.std.proofs.Common.{◌≡◌, ◌<◌, ◌∙◌, ℕ, List, length, take, sym, ap, subst}
 use Rattle.bech32_gf.specs.declared.gf32.Fe32.{Fe32}
 use Rattle.bech32_poly.specs.FieldVec.{FitsInPlace}
-use Rattle.bech32_correct.specs.Erasures.{AreErasures, with_erasures}
-use Rattle.bech32_correct.specs.Search.{locators}
+use Rattle.bech32_bch.specs.Erasures.{AreErasures, with_erasures}
+use Rattle.bech32_bch.specs.Search.{locators}
 use Rattle.bech32_corrector.specs.Correction.{Correction}
 use Rattle.bech32_corrector.proofs.Added.{erasures_more}
 use Rattle.bech32_corrector.proofs.corrector.Corrector.add_erasures.Goals as goal

@@ -2,8 +2,8 @@ use Rattle.std.specs.Prelude.{◌≡◌, true, false}
 use Rattle.std.proofs.Common.{ℕ, List, subst}
 use Rattle.bech32_gf.specs.Fe32 as fe32
 use Rattle.bech32_gf.specs.declared.gf32.Fe32.{Fe32}
-use Rattle.bech32_correct.specs.Listing.{IsListing}
-use Rattle.bech32_correct.specs.Pattern.{Mends, Solves}
+use Rattle.bech32_bch.specs.Listing.{IsListing}
+use Rattle.bech32_bch.specs.Pattern.{Mends, Solves}
 use Rattle.bech32_corrector.specs.Correction.{Correction, singleton_bound}
 use Rattle.bech32_corrector.proofs.corrector.Corrector.bch_errors.Goals as goal
 

@@ -1,6 +1,6 @@
 use Rattle.std.proofs.Common.{◌≡◌, ◌∙◌, length, ap, sym, subst}
 use Rattle.std.proofs.lemmas.Result.{err_from_is_err_and}
-use Rattle.bech32_correct.proofs.Located.{length-locators}
+use Rattle.bech32_bch.proofs.Located.{length-locators}
 use Rattle.bech32_corrector.specs.Correction.{Correction}
 use Rattle.bech32_poly.specs.FieldVec.{FitsInPlace}
 use Rattle.bech32_corrector.proofs.corrector.CorrectorClone.clone.Goals as goal

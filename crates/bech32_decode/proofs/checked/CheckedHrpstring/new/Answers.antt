@@ -2,7 +2,7 @@ use Rattle.std.proofs.Common.{ap, sym, subst, ◌<◌}
 use Rattle.bech32_gf.specs.Fe32 as fe32
 use Rattle.bech32_poly.specs.Embedding.{Embeds}
 use Rattle.bech32_checksum.specs.Code.{Code}
-use Rattle.bech32_correct.proofs.Candidates.{apart_inside}
+use Rattle.bech32_bch.proofs.Candidates.{apart_inside}
 use Rattle.bech32_decode.proofs.Checksums.{accepts-degree_0}
 use Rattle.bech32_decode.proofs.Decoding.{accepted-from_checked}
 use Rattle.bech32_decode.proofs.Distances.{far_from_others, if_ok}

@@ -3,7 +3,7 @@ use Rattle.std.proofs.lemmas.List.{take_rest, length-map}
 use Rattle.std.proofs.lemmas.Result.{err_from_is_err_and}
 use Rattle.bech32_bits.specs.Bits.{to_bytes}
 use Rattle.bech32_gf.specs.Fe32.{element_of, elements_of}
-use Rattle.bech32_errors.specs.SegwitRules.{IsLengthRefusal}
+use Rattle.bech32_refusals.specs.SegwitRules.{IsLengthRefusal}
 use Rattle.bech32_decode.specs.SegwitPadding.{IsPaddingRefusal, IsPadded}
 use Rattle.bech32_decode.proofs.Addresses.{segwit-of}
 use Rattle.bech32_decode.proofs.checked.CheckedHrpstring.validate_segwit.Goals as goal

@@ -1,0 +1,10 @@
+use Rattle.std.proofs.Common.{◌≡◌, ◌+◌}
+use Rattle.bech32_gf.specs.Field.{power}
+use Rattle.bech32_bch.specs.Search.{AreSyndromes}
+use Rattle.bech32_bch.proofs.syndromes.syndromes.Given as goal
+
+abbrev pub invariant-loop : goal.invariant-loop
+invariant-loop g l = record {
+  so_far : AreSyndromes g.E.Field.ops g.E.ExtensionField.embed l.base l.start l.counter l.residue l.list;
+  next : l.x ≡ power g.E.Field.ops l.base (l.start + l.counter);
+}

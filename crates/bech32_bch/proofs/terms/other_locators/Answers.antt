@@ -1,0 +1,38 @@
+use Rattle.std.proofs.Common.{rules, ◌≡◌, ◌≢◌, ◌+◌, ◌<◌, ℕ, length, get_or, take, [], ◌∷◌, ◌++◌, arith, sym, ap, ◌∙◌, refl}
+use Rattle.std.proofs.lemmas.List.{length-append, take_more}
+use Rattle.bech32_gf.specs.Field.{power}
+use Rattle.bech32_bch.specs.Knock.{without}
+use Rattle.bech32_bch.specs.Search.{locators}
+use Rattle.bech32_bch.proofs.Loops.{get-locators, locators-more, other_more, other_same}
+use Rattle.bech32_bch.proofs.terms.other_locators.Goals.{then-places-k+in_ok-push, else-places-k}
+use Rattle.bech32_bch.proofs.terms.other_locators.Goals as goal
+
+pub loop-k-preserved : goal.loop-k-preserved
+loop-k-preserved g c =
+    let o = g.K.Field.ops in
+    let b = c.args.base in
+    let k : ℕ = c.loop-k.k in
+    let places = c.args.places.now in
+    let ms = take k places in
+    let x : ℕ = get_or places k 0 in
+    let within : k < length places = c.loop-k-test.true in
+    let more : take (k + 1) places ≡ ms ++ (x ∷ []) = take_more places k 0 within in
+    elim c.if-places-k.branch [
+      | then-places-k+in_ok-push w ↦
+          let other : x ≢ c.args.place = search rules in
+          let y = w.index-all-k.result in
+          let read : y ≡ power o b x = get-locators o b places c.args.all.now k y within c.requires w.index-all-k.is in
+          let pushed : c.if-places-k.others ≡ c.loop-k.others ++ (y ∷ []) = w.others-is ∙ w.in_ok-push.ensures.ok in
+          record {
+            so_far = pushed ∙ ap (λ u. u ++ (y ∷ [])) c.loop-k.invariant.so_far ∙ ap (λ u. locators o b (without c.args.place ms) ++ (u ∷ [])) read
+                ∙ sym (locators-more o b (without c.args.place ms) x)
+                ∙ ap (locators o b) (other_more c.args.place x ms (without c.args.place ms) refl other ∙ ap (without c.args.place) (sym more));
+            fits = omega (arith, ap (λ u. length u) pushed, length-append c.loop-k.others (y ∷ []), c.loop-k.invariant.fits);
+          }
+      | else-places-k w ↦
+          let same : x ≡ c.args.place = search rules in
+          record {
+            so_far = w.others-is ∙ c.loop-k.invariant.so_far ∙ ap (locators o b) (other_same c.args.place x ms (without c.args.place ms) refl same ∙ ap (without c.args.place) (sym more));
+            fits = omega (arith, ap (λ u. length u) w.others-is, c.loop-k.invariant.fits);
+          }
+    ]

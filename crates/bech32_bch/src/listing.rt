@@ -1,0 +1,49 @@
+//! The polynomial of a listed pattern, coefficient by coefficient.
+
+ghost use Rattle.std.specs.Prelude.{◌≡◌, ◌≤◌, ◌⊎◌};
+ghost use Rattle.std.specs.List.{AllByRecursion};
+ghost use Rattle.bech32_bch.specs.Pattern.{locations};
+ghost use Rattle.bech32_poly.specs.Distinct.{IsAmong};
+ghost use Rattle.bech32_poly.specs.Pattern.{value_of_pattern_at};
+
+use bech32_gf::field::Field;
+use bech32_poly::arithmetic::Arithmetic;
+
+/// The sum of the values that a listing has at a place.
+pub fn value_at_place<F: Field>(listing: &[(usize, F)], place: usize) -> F
+    ensures { result ≡ value_of_pattern_at F.ops listing.now place }
+{
+    let mut sum = F::zero();
+    let mut k = listing.len();
+    while k > 0 {
+        k -= 1;
+        let value = if listing[k].0 == place {
+            listing[k].1
+        } else {
+            F::zero()
+        };
+        sum = value.plus(sum);
+    }
+    sum
+}
+
+// The larger number.
+fn larger(a: usize, b: usize) -> usize
+    ensures first { a ≤ result }
+    ensures second { b ≤ result }
+    ensures either { (result ≡ a) ⊎ (result ≡ b) }
+{
+    if a < b { b } else { a }
+}
+
+/// The highest place of a listing, or 0 where there is none.
+pub fn highest_place<F: Field>(listing: &[(usize, F)]) -> usize
+    ensures bound { AllByRecursion (λ p. p.0 ≤ result) listing.now }
+    ensures attained { (result ≡ 0) ⊎ IsAmong result (locations listing.now) }
+{
+    let mut highest = 0;
+    for k in 0..listing.len() {
+        highest = larger(highest, listing[k].0);
+    }
+    highest
+}

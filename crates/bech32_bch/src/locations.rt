@@ -1,0 +1,148 @@
+//! Where the errors outside the erasures are.
+
+ghost use Rattle.std.specs.Prelude.{◌≡◌, ◌≤◌, ◌<◌, ◌+◌, ◌*◌, ◌++◌, ℕ, List, length, reverse, take, IsTrue, IfOk, IfSome, IsOk, MatchOption, OnOk};
+ghost use Rattle.bech32_bch.specs.Erasures.{AreErasures, has};
+ghost use Rattle.bech32_bch.specs.Search.{AreErrorLocations, AreLocationsOutside, AreSumsOf, HasLongOrder, locators, ordered, roots_below};
+ghost use Rattle.bech32_poly.specs.Distinct.{IsAmong};
+ghost use Rattle.bech32_poly.specs.FieldVec.{FitsInPlace};
+
+use crate::short_vec::ShortVec;
+use crate::terms::without_terms;
+use bech32_gf::field::Field;
+use bech32_poly::arithmetic::{Arithmetic, first_powers, total};
+use bech32_poly::fieldvec::FieldVec;
+use bech32_poly::lfsr::shortest_register;
+use std::alloc::{AllocError, Allocator};
+
+/// Whether a location is one of the list.
+pub fn contains(places: &[usize], place: usize) -> bool
+    ensures { result ≡ has places.now place }
+{
+    let mut found = false;
+    let mut i = places.len();
+    while i > 0 {
+        i -= 1;
+        if place == places[i] {
+            found = true;
+        }
+    }
+    found
+}
+
+// Whether a location of one list is one of the other.
+fn has_common(places: &[usize], others: &[usize]) -> bool
+    ensures yes { IsTrue result → (i : ℕ) × (IsAmong i places.now × IsAmong i others.now) }
+    ensures no { (i : ℕ) → IsAmong i places.now → IsAmong i others.now → IsTrue result }
+{
+    for place in places {
+        if contains(others, *place) {
+            return true;
+        }
+    }
+    false
+}
+
+// The first `degree` locations below the window at which the register vanishes, in rising order;
+// none where there are fewer.
+fn first_roots<K: Field, A: Allocator + Copy>(
+    alloc: A,
+    register: &FieldVec<K, A>,
+    base: K,
+    window: usize,
+    degree: usize,
+) -> Result<Option<ShortVec<usize, A>>, AllocError>
+    ensures roots { IfOk result (λ answer. MatchOption answer
+        (length (roots_below K.ops K.eq register.now base window) < degree)
+        (λ found. (length found ≡ degree) × (found ≡ take degree (roots_below K.ops K.eq register.now base window)))) }
+    ensures in_place { FitsInPlace (length register.now) → FitsInPlace degree → IsOk result }
+{
+    let mut terms = FieldVec::from_slice(alloc, register.as_slice())?;
+    let powers = first_powers(alloc, base, register.len())?;
+    let factors = powers.as_slice();
+    let mut found = ShortVec::new(alloc);
+    let mut place = 0;
+    while place < window && found.len() < degree {
+        if total(terms.as_slice()) == K::zero() {
+            found.push(place)?;
+        }
+        terms.multiply_each(factors);
+        place += 1;
+    }
+    if found.len() < degree {
+        return Ok(None);
+    }
+    Ok(Some(found))
+}
+
+// Goes on with a list by the items from the last to the first.
+fn push_turned<A: Allocator + Copy>(
+    list: &mut ShortVec<usize, A>,
+    items: &[usize],
+) -> Result<(), AllocError>
+    ensures turned { OnOk result (list.new ≡ list.old ++ reverse items.now) }
+    ensures in_place { FitsInPlace (length list.old + length items.now) → IsOk result }
+{
+    let mut i = items.len();
+    while i > 0 {
+        i -= 1;
+        list.push(items[i])?;
+    }
+    Ok(())
+}
+
+// Rising locations in the order of a listing: 0 first where it is one of them, the rest falling.
+fn in_order<A: Allocator + Copy>(
+    alloc: A,
+    rising: &[usize],
+) -> Result<ShortVec<usize, A>, AllocError>
+    ensures ordered { IfOk result (λ v. v ≡ ordered rising.now) }
+    ensures in_place { FitsInPlace (length rising.now) → IsOk result }
+{
+    let mut list = ShortVec::new(alloc);
+    if !rising.is_empty() && rising[0] == 0 {
+        list.push(0)?;
+        push_turned(&mut list, &rising[1..])?;
+    } else {
+        push_turned(&mut list, rising)?;
+    }
+    Ok(list)
+}
+
+/// The locations of the errors outside the erasures, for syndromes that are the sums of powers of
+/// a pattern with so few of them that twice their number and the erasures are no more than the
+/// syndromes; none where it is known already that there is no such pattern. `known` are the locators
+/// of the erasures.
+pub(crate) fn error_locations<K: Field, A: Allocator + Copy>(
+    alloc: A,
+    syndromes: &FieldVec<K, A>,
+    base: K,
+    window: usize,
+    erasures: &ShortVec<usize, A>,
+    known: &FieldVec<K, A>,
+) -> Result<Option<ShortVec<usize, A>>, AllocError>
+    requires order { HasLongOrder K.ops base window }
+    requires erased { AreErasures window erasures.now }
+    requires known { known.now ≡ locators K.ops base erasures.now }
+    requires room { length erasures.now ≤ length syndromes.now }
+    ensures listed { IfOk result (λ answer. IfSome answer (λ found.
+        AreErrorLocations window erasures.now (length syndromes.now) found)) }
+    ensures found { IfOk result (λ answer. (start : ℕ) (e : List (ℕ × K))
+        → AreSumsOf K.ops base start window erasures.now syndromes.now e
+        → MatchOption answer ⊥ (λ found. AreLocationsOutside erasures.now e found)) }
+    ensures in_place { length syndromes.now ≤ 6 → IsOk result }
+{
+    let room = syndromes.len() - erasures.len();
+    let left = without_terms(alloc, syndromes.as_slice(), known.as_slice())?;
+    let register = shortest_register(alloc, &left.as_slice()[..room])?;
+    let degree = register.len() - 1;
+    if room / 2 < degree {
+        return Ok(None);
+    }
+    let Some(rising) = first_roots(alloc, &register, base, window, degree)? else {
+        return Ok(None);
+    };
+    if has_common(rising.as_slice(), erasures.as_slice()) {
+        return Ok(None);
+    }
+    Ok(Some(in_order(alloc, rising.as_slice())?))
+}

@@ -1,0 +1,30 @@
+//! Syndromes: the values of a residue at the roots of the generator.
+
+ghost use Rattle.std.specs.Prelude.{IfOk, IsOk};
+ghost use Rattle.bech32_bch.specs.Search.{AreSyndromes};
+ghost use Rattle.bech32_poly.specs.FieldVec.{FitsInPlace};
+
+use bech32_gf::field::ExtensionField;
+use bech32_poly::arithmetic::{Arithmetic, embedded_value, power_of};
+use bech32_poly::fieldvec::FieldVec;
+use std::alloc::{AllocError, Allocator};
+
+/// The values of the residue at `count` powers of the base, from the exponent `start` on.
+pub(crate) fn syndromes<E: ExtensionField, A: Allocator + Copy>(
+    alloc: A,
+    residue: &[E::BaseField],
+    base: E,
+    start: usize,
+    count: usize,
+) -> Result<FieldVec<E, A>, AllocError>
+    ensures syndromes { IfOk result (λ s. AreSyndromes E.ops E.embed base start count residue.now s) }
+    ensures in_place { FitsInPlace count → IsOk result }
+{
+    let mut list = FieldVec::new(alloc);
+    let mut x = power_of(base, start);
+    for _ in 0..count {
+        list.push(embedded_value(residue, x))?;
+        x = base.times(x);
+    }
+    Ok(list)
+}

@@ -1,9 +1,0 @@
-use Rattle.std.proofs.Common.{◌≡◌, ◌≤◌, length, drop}
-use Rattle.bech32_correct.specs.Knock.{gap}
-use Rattle.bech32_correct.proofs.terms.distances.Given as goal
-
-abbrev pub invariant-loop-i : goal.invariant-loop-i
-invariant-loop-i g l = record { within : l.i ≤ length l.others; so_far : l.product ≡ gap g.K.Field.ops l.here (drop l.i l.others) }
-
-abbrev pub decreases-loop-i : goal.decreases-loop-i
-decreases-loop-i g l = l.i

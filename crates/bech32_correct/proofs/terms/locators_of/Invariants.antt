@@ -1,6 +1,0 @@
-use Rattle.std.proofs.Common.{◌≡◌, take}
-use Rattle.bech32_correct.specs.Search.{locators}
-use Rattle.bech32_correct.proofs.terms.locators_of.Given as goal
-
-abbrev pub invariant-loop-place : goal.invariant-loop-place
-invariant-loop-place g l = l.list ≡ locators g.K.Field.ops l.base (take l.place-index l.places)

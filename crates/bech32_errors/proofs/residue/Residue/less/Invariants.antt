@@ -1,6 +1,0 @@
-use Rattle.std.proofs.Common.{◌≡◌}
-use Rattle.bech32_errors.proofs.Sums.{partly}
-use Rattle.bech32_errors.proofs.residue.Residue.less.Given as goal
-
-abbrev pub invariant-loop-i : goal.invariant-loop-i
-invariant-loop-i l = l.digits ≡ partly l.i l.self.digits l.other.digits

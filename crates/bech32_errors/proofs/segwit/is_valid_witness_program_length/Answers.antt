@@ -1,5 +1,0 @@
-use Rattle.std.proofs.Common.{rules}
-use Rattle.bech32_errors.proofs.segwit.is_valid_witness_program_length.Goals as goal
-
-pub returns : goal.returns
-returns c = search rules

@@ -1,0 +1,5 @@
+use Rattle.std.proofs.Common.{rules}
+use Rattle.bech32_refusals.proofs.segwit.validate_witness_version.Goals as goal
+
+pub returns : goal.returns
+returns c = search rules

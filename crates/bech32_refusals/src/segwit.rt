@@ -1,0 +1,94 @@
+//! The rules of segwit addresses (BIP-173, Segwit address format; BIP-350).
+
+ghost use Rattle.std.specs.Prelude.{◌≡◌, ◌↔◌, ◌<◌, ◌≤◌, MatchResult, IsTrue};
+ghost use Rattle.bech32_gf.specs.Fe32.{value};
+ghost use Rattle.bech32_refusals.specs.SegwitRules.{IsProgramLength, IsLengthRefusal};
+
+use bech32_gf::gf32::Fe32;
+use thiserror::Error;
+
+/// The most characters of a segwit address (BIP-173, Segwit address format).
+///
+/// This is less than the code length of its checksum.
+pub const MAX_STRING_LENGTH: usize = 90;
+
+/// Segwit version 0.
+pub const VERSION_0: Fe32 = Fe32::Q;
+
+/// Segwit version 1 (taproot).
+pub const VERSION_1: Fe32 = Fe32::P;
+
+/// An element is not a witness version: it is above 16.
+#[derive(Clone, Copy, Debug, PartialEq, Eq, Drop, Error)]
+#[error("invalid segwit witness version: {} (bech32 character: '{}')", .0.to_u8(), .0.to_char())]
+pub struct InvalidWitnessVersionError(pub Fe32);
+
+/// Why a witness program is not of a lawful length.
+#[derive(Clone, Copy, Debug, PartialEq, Eq, Drop, Error)]
+pub enum WitnessLengthError {
+    /// It has less than 2 bytes.
+    #[error("witness program is less than 2 bytes long")]
+    TooShort,
+    /// It has more than 40 bytes.
+    #[error("witness program is more than 40 bytes long")]
+    TooLong,
+    /// It is of version 0, and has neither 20 nor 32 bytes.
+    #[error("the segwit v0 witness is not 20 or 32 bytes long")]
+    InvalidSegwitV0,
+}
+
+/// Whether an element is a witness version: from 0 to 16.
+pub fn is_valid_witness_version(witness_version: Fe32) -> bool
+    ensures { IsTrue result ↔ (value witness_version ≤ 16) }
+{
+    validate_witness_version(witness_version).is_ok()
+}
+
+/// Whether a witness program of this version may have so many bytes: 2 to 40, and 20 or 32 of
+/// version 0.
+pub fn is_valid_witness_program_length(length: usize, witness_version: Fe32) -> bool
+    ensures { IsTrue result ↔ IsProgramLength witness_version length }
+{
+    validate_witness_program_length(length, witness_version).is_ok()
+}
+
+/// Tests that an element is a witness version: from 0 to 16.
+///
+/// # Errors
+///
+/// The element, where it is above 16.
+pub fn validate_witness_version(witness_version: Fe32) -> Result<(), InvalidWitnessVersionError>
+    ensures { MatchResult result
+        (λ _. value witness_version ≤ 16)
+        (λ e. (16 < value witness_version) × (e.0 ≡ witness_version)) }
+{
+    if witness_version.to_u8() > 16 {
+        return Err(InvalidWitnessVersionError(witness_version));
+    }
+    Ok(())
+}
+
+/// Tests how many bytes a witness program of this version has.
+///
+/// # Errors
+///
+/// The first of: less than 2; more than 40; neither 20 nor 32 of version 0.
+pub fn validate_witness_program_length(
+    length: usize,
+    version: Fe32,
+) -> Result<(), WitnessLengthError>
+    ensures { MatchResult result
+        (λ _. IsProgramLength version length)
+        (λ e. IsLengthRefusal version length e) }
+{
+    if length < 2 {
+        return Err(WitnessLengthError::TooShort);
+    }
+    if length > 40 {
+        return Err(WitnessLengthError::TooLong);
+    }
+    if version.to_u8() == 0 && length != 20 && length != 32 {
+        return Err(WitnessLengthError::InvalidSegwitV0);
+    }
+    Ok(())
+}

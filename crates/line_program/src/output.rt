@@ -1,0 +1,42 @@
+//! Adds text to bytes that have room for it.
+
+ghost use Rattle.std.specs.Prelude.{◌≡◌, ◌+◌, ◌<◌, ◌≤◌, ◌++◌, length, vec_len, vec_capacity};
+ghost use Rattle.std.specs.Fmt.{decimal};
+ghost use Rattle.line_program.specs.Refused.{err};
+
+/// Adds bytes.
+pub fn append(out: &mut Vec<u8>, bytes: &[u8])
+    requires { vec_len out.old + length bytes.now ≤ vec_capacity out.old }
+    ensures items { out.new.items ≡ out.old.items ++ bytes.now }
+    ensures capacity { vec_capacity out.old ≤ vec_capacity out.new }
+{
+    let Ok(()) = out.extend_from_slice(bytes) else {
+        unreachable!()
+    };
+}
+
+/// Adds a number below 100 in decimal.
+pub fn append_number(out: &mut Vec<u8>, number: u8)
+    requires small { number < 100 }
+    requires room { vec_len out.old + 2 ≤ vec_capacity out.old }
+    ensures items { out.new.items ≡ out.old.items ++ decimal number }
+    ensures size { vec_len out.new ≤ vec_len out.old + 2 }
+    ensures capacity { vec_capacity out.old ≤ vec_capacity out.new }
+{
+    if number >= 10 {
+        append(out, &[b'0' + number / 10]);
+    }
+    append(out, &[b'0' + number % 10]);
+}
+
+/// Adds a refusal with this number, which is below 100.
+pub fn append_refusal(out: &mut Vec<u8>, number: u8)
+    requires small { number < 100 }
+    requires room { vec_len out.old + 6 ≤ vec_capacity out.old }
+    ensures items { out.new.items ≡ out.old.items ++ err number }
+    ensures size { vec_len out.new ≤ vec_len out.old + 6 }
+    ensures capacity { vec_capacity out.old ≤ vec_capacity out.new }
+{
+    append(out, b"err ");
+    append_number(out, number);
+}

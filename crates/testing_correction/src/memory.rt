@@ -1,0 +1,146 @@
+//! Out of memory.
+
+use super::compare::same;
+use super::listed::{Listing, are_within, gives};
+use bech32_checksum::{Bech32, Checksum};
+use bech32_corrector::{CorrectableError, Corrector, ErrorIterator};
+use bech32_decode::CheckedHrpstring;
+use bech32_gf::gf32::Fe32;
+use testing_codes::Degree13;
+use linked_list_allocator::LocalHeap;
+use std::alloc::{AllocError, Global};
+use std::test::Fail;
+
+// Whether just this was found, or nothing.
+fn is_found(found: Option<ErrorIterator<&LocalHeap>>, want: Option<Listing>) -> bool {
+    let Some(mut errors) = found else {
+        return want.is_none();
+    };
+    match want {
+        Some(want) => gives(&mut errors, want),
+        None => false,
+    }
+}
+
+// Whether just this is listed, or nothing is.
+fn lists<Ck: Checksum>(
+    corrector: &Corrector<Ck, &LocalHeap>,
+    want: Option<Listing>,
+) -> Result<bool, AllocError> {
+    let found = corrector.bch_errors()?;
+    Ok(is_found(found, want))
+}
+
+// What finds the errors in a text that a checksum refuses.
+fn corrector_in<'a, Ck: Checksum>(
+    heap: &'a LocalHeap,
+    text: &str,
+) -> Option<Corrector<Ck, &'a LocalHeap>> {
+    if !Ck::sanity_check() {
+        return None;
+    }
+    match CheckedHrpstring::new::<Ck>(text) {
+        Ok(_) => None,
+        Err(error) => error.correction_context::<Ck, _>(heap),
+    }
+}
+
+// Whether just the four errors are listed.
+fn lists_four(heap: &LocalHeap) -> Result<bool, AllocError> {
+    let want = [(44, Fe32::_0), (0, Fe32::W), (38, Fe32::X), (13, Fe32::X)];
+    let text = "ms1qtestsqxxxxxxxxxxxxxxxxxxxxxxxxq4nzvca9cmczlq";
+    let Some(mut corrector) = corrector_in::<Degree13>(heap, text) else {
+        return Ok(false);
+    };
+    if !are_within(&[44, 0], &corrector) {
+        return Ok(false);
+    }
+    corrector.add_erasures(&[44, 0])?;
+    lists(&corrector, Some(&want))
+}
+
+// The same with so many bytes of memory; no answer where they do not suffice.
+fn with_bytes(alloc: Global, bytes: usize) -> Result<Option<bool>, AllocError> {
+    let heap = LocalHeap::new(alloc, bytes)?;
+    Ok(lists_four(&heap).ok())
+}
+
+// How often there was too little memory, the right answer and the wrong one.
+fn answers(alloc: Global) -> Result<[u32; 3], AllocError> {
+    let (mut refused, mut right, mut wrong) = (0u32, 0u32, 0u32);
+    for size in 0..64usize {
+        match with_bytes(alloc, 16 * size)? {
+            None => refused = refused.saturating_add(1),
+            Some(true) => right = right.saturating_add(1),
+            Some(false) => wrong = wrong.saturating_add(1),
+        }
+    }
+    Ok([refused, right, wrong])
+}
+
+#[test]
+fn a_listing_or_want_of_memory(rt: HostRuntime) -> Result<(), Fail> {
+    let [refused, right, wrong] = answers(rt.alloc())?;
+    same(&rt, &(1 <= refused, 1 <= right, wrong), &(true, true, 0));
+    Ok(())
+}
+
+// Whether a clone lists just this, or nothing.
+fn clone_lists(
+    corrector: &Corrector<Bech32, &LocalHeap>,
+    want: Option<Listing>,
+) -> Result<bool, AllocError> {
+    lists(&corrector.clone()?, want)
+}
+
+// Addresses with two and three wrong characters.
+const ADDRESS: &str = "bc1qar0srrr7xfkvy5l64qlydnw9re59gtzzwf5mdx";
+
+const OTHER_ADDRESS: &str = "bc1q9r0srrr7xfkvy5l64qlydnw9re59gtzzwf5mdx";
+
+// The same with these erasures.
+fn is_listed(
+    heap: &LocalHeap,
+    text: &str,
+    erasures: &[usize],
+    want: Option<Listing>,
+) -> Result<bool, AllocError> {
+    let Some(mut corrector) = corrector_in::<Bech32>(heap, text) else {
+        return Ok(false);
+    };
+    if !are_within(erasures, &corrector) {
+        return Ok(false);
+    }
+    corrector.add_erasures(erasures)?;
+    clone_lists(&corrector, want)
+}
+
+#[test]
+fn six_coefficients_take_no_memory(rt: HostRuntime) -> Result<(), Fail> {
+    let heap = LocalHeap::new(rt.alloc(), 0)?;
+    let both = [(3, Fe32::Q), (0, Fe32::L)];
+    let rows: [(&str, &[usize], Option<Listing>); 11] = [
+        ("a12uel5q", &[], Some(&both[1..])),
+        ("a12uel5q", &[3], Some(&both)),
+        ("a12uel5q", &[3, 3], Some(&both)),
+        (
+            "a12uel5q",
+            &[0, 1, 2],
+            Some(&[(0, Fe32::L), (1, Fe32::Q), (2, Fe32::Q)]),
+        ),
+        ("a12uel5q", &[1, 2], None),
+        ("a12uel5q", &[0, 1, 2, 3], None),
+        ("a12uel5q", &[0, 1, 2, 3, 4, 5, 6], None),
+        ("b12uel5l", &[], Some(&[(6, Fe32::R)])),
+        (ADDRESS, &[], None),
+        (ADDRESS, &[0], Some(&[(0, Fe32::X), (20, Fe32::_3)])),
+        (
+            OTHER_ADDRESS,
+            &[37, 0, 20],
+            Some(&[(37, Fe32::C), (0, Fe32::X), (20, Fe32::_3)]),
+        ),
+    ];
+    let listed = rows.map(|(text, erasures, want)| is_listed(&heap, text, erasures, want).ok());
+    same(&rt, &listed, &[Some(true); 11]);
+    Ok(())
+}

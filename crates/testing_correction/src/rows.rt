@@ -1,0 +1,178 @@
+//! Texts of the standards, and of other checksums, with errors that are known.
+
+use super::compare::{same, same_items};
+use super::listed::{Corrected, Listing, is_listed_for};
+use bech32_checksum::{Bech32, Checksum, NoChecksum};
+use bech32_corrector::{CorrectableError, Corrector};
+use bech32_decode::{CheckedHrpstring, SegwitHrpstring};
+use bech32_refusals::CheckedHrpstringError;
+use bech32_gf::gf32::Fe32;
+use testing_codes::{Altered, Degree13, Tiny};
+use std::alloc::Global;
+use std::test::Fail;
+
+#[test]
+fn one_error_and_erasures(rt: HostRuntime) {
+    let (q, l) = (Fe32::Q, Fe32::L);
+    let rows: [(&[usize], Option<Listing>); 7] = [
+        (&[], Some(&[(0, l)])),
+        (&[3], Some(&[(3, q), (0, l)])),
+        (&[3, 3], Some(&[(3, q), (0, l)])),
+        (&[3, 0, 3, 0], Some(&[(3, q), (0, l)])),
+        (&[0, 1, 2], Some(&[(0, l), (1, q), (2, q)])),
+        (&[1, 2], None),
+        (&[0, 1, 2, 3], None),
+    ];
+    let listed = rows.map(|(erasures, want)| {
+        is_listed_for::<Bech32>(rt.alloc(), "a12uel5q", None, erasures, want)
+    });
+    same_items(&rt, &listed, &[true; 7]);
+}
+
+#[test]
+fn windows(rt: HostRuntime) {
+    let (q, l) = (Fe32::Q, Fe32::L);
+    let rows: [(&str, Option<usize>, &[usize], Option<Listing>); 7] = [
+        // An error in the human-readable part is past the six characters of the data part.
+        ("b12uel5l", None, &[], Some(&[(6, Fe32::R)])),
+        ("b12uel5l", Some(7), &[], Some(&[(6, Fe32::R)])),
+        ("b12uel5l", Some(6), &[], None),
+        ("a12uel5q", Some(0), &[], None),
+        ("a12uel5q", Some(1), &[], Some(&[(0, l)])),
+        ("a12uel5q", Some(4), &[3], Some(&[(3, q), (0, l)])),
+        ("!12uel5l", None, &[], Some(&[(8, Fe32::Z)])),
+    ];
+    let listed = rows.map(|(text, window, erasures, want)| {
+        is_listed_for::<Bech32>(rt.alloc(), text, window, erasures, want)
+    });
+    same_items(&rt, &listed, &[true; 7]);
+}
+
+// The code length is a window too.
+#[test]
+fn window_of_a_short_code(rt: HostRuntime) {
+    let rows: [(&str, Option<Listing>); 2] = [
+        ("!12uel5l", None),
+        ("b12uel5l", Some(&[(6, Fe32::R)])),
+    ];
+    let listed = rows.map(|(text, want)| {
+        is_listed_for::<Altered<24, 26, 8>>(rt.alloc(), text, None, &[], want)
+    });
+    same_items(&rt, &listed, &[true; 2]);
+}
+
+// Whether just this is listed for an address, or nothing is.
+fn is_listed_for_address(
+    alloc: Global,
+    text: &str,
+    erasures: &[usize],
+    want: Option<Listing>,
+) -> bool {
+    match SegwitHrpstring::new(text) {
+        Ok(_) => false,
+        Err(error) => Bech32::is_listed(alloc, &error, None, erasures, want),
+    }
+}
+
+#[test]
+fn addresses(rt: HostRuntime) {
+    let alloc = rt.alloc();
+    let (zero, three) = ((0, Fe32::X), (20, Fe32::_3));
+    let two_errors = "bc1qar0srrr7xfkvy5l64qlydnw9re59gtzzwf5mdx";
+    let three_errors = "bc1q9r0srrr7xfkvy5l64qlydnw9re59gtzzwf5mdx";
+    let all = [(37, Fe32::C), zero, three];
+    let listed = [
+        is_listed_for_address(alloc, two_errors, &[], None),
+        is_listed_for_address(alloc, two_errors, &[0], Some(&[zero, three])),
+        is_listed_for_address(alloc, three_errors, &[37, 0, 20], Some(&all)),
+    ];
+    same_items(&rt, &listed, &[true; 3]);
+}
+
+// Why Bech32 refuses a text.
+fn refusal(text: &str) -> Option<CheckedHrpstringError> {
+    CheckedHrpstring::new::<Bech32>(text).err()
+}
+
+#[test]
+fn residues_of_another_checksum(rt: HostRuntime) -> Result<(), Fail> {
+    let alloc = rt.alloc();
+    let error = refusal("a1quel5l").ok_or("it is accepted")?;
+    let listed = [
+        Bech32::is_listed(alloc, &error, None, &[], Some(&[(5, Fe32::_2)])),
+        // The residue is of degree 5.
+        <Tiny<2>>::is_listed(alloc, &error, None, &[], None),
+    ];
+    same_items(&rt, &listed, &[true; 2]);
+    let error = refusal("a12uel5q").ok_or("it is accepted")?;
+    let is_listed = <Tiny<2>>::is_listed(alloc, &error, None, &[], Some(&[(0, Fe32::L)]));
+    let corrector = corrector_of::<NoChecksum>(alloc, &error);
+    same_items(&rt, &[is_listed, corrector.is_none()], &[true; 2]);
+    Ok(())
+}
+
+#[test]
+fn four_errors(rt: HostRuntime) {
+    let (w, zero, x) = ((0, Fe32::W), (44, Fe32::_0), (38, Fe32::X));
+    let last = (13, Fe32::X);
+    let rows: [(&[usize], Option<Listing>); 2] = [
+        (&[], Some(&[w, zero, x, last])),
+        (&[44, 0], Some(&[zero, w, x, last])),
+    ];
+    let text = "ms1qtestsqxxxxxxxxxxxxxxxxxxxxxxxxq4nzvca9cmczlq";
+    let listed = rows.map(|(erasures, want)| {
+        is_listed_for::<Degree13>(rt.alloc(), text, None, erasures, want)
+    });
+    same_items(&rt, &listed, &[true; 2]);
+}
+
+#[test]
+fn eight_erasures(rt: HostRuntime) {
+    let want = [
+        (0, Fe32::W),
+        (1, Fe32::L),
+        (2, Fe32::Z),
+        (3, Fe32::C),
+        (4, Fe32::M),
+        (5, Fe32::C),
+        (6, Fe32::_9),
+        (7, Fe32::A),
+    ];
+    let rows: [(&[usize], Option<Listing>); 2] = [
+        (&[0, 1, 2, 3, 4, 5, 6, 7], Some(&want)),
+        (&[0, 1, 2, 3, 4, 5, 6, 7, 8], None),
+    ];
+    let text = "ms10testsxxxxxxxxxxxxxxxxxxxxxxxxxx4nzvcqqqqqqqq";
+    let listed = rows.map(|(erasures, want)| {
+        is_listed_for::<Degree13>(rt.alloc(), text, None, erasures, want)
+    });
+    same_items(&rt, &listed, &[true; 2]);
+}
+
+// The corrector of an error's residue, over the code length.
+fn corrector_of<Ck: Checksum>(
+    alloc: Global,
+    error: &impl CorrectableError,
+) -> Option<Corrector<Ck>> {
+    if !Ck::sanity_check() {
+        return None;
+    }
+    error.correction_context::<Ck, Global>(alloc)
+}
+
+// The bound of a corrector, and its window.
+fn bounds_of<Ck: Checksum>(found: Option<Corrector<Ck>>) -> Option<(usize, usize)> {
+    let corrector = found?;
+    Some((corrector.singleton_bound(), corrector.window()))
+}
+
+#[test]
+fn bounds(rt: HostRuntime) -> Result<(), Fail> {
+    let error = refusal("a12uel5q").ok_or("it is accepted")?;
+    let bounds = [
+        bounds_of(corrector_of::<Bech32>(rt.alloc(), &error)),
+        bounds_of(corrector_of::<Degree13>(rt.alloc(), &error)),
+    ];
+    same_items(&rt, &bounds, &[Some((3, 1023)), Some((8, 93))]);
+    Ok(())
+}

@@ -1,0 +1,275 @@
+ghost use Rattle.std.specs.Prelude.{ℕ, ◌≤◌, length, take, OnOk, OnErr};
+ghost use Rattle.std.specs.Io.KnownBytes.{Appends};
+
+use crate::compare::{same, same_items};
+use devices::{ByteSink, ByteSource, Watched, write_all};
+use std::io;
+use std::test::Fail;
+
+// Takes at most `step` bytes a call, and fails once `room` are taken.
+#[derive(Drop)]
+struct Narrow {
+    got: Vec<u8>,
+    room: usize,
+    step: usize,
+}
+
+impl io::Write for Narrow {
+    ghost use Rattle.std.specs.Prelude.{Some};
+
+    ghost contents = { λ w. Some w.got.items };
+
+    fn write(&mut self, buf: &[u8]) -> io::Result<usize> {
+        if self.got.len() >= self.room {
+            return Err(io::Error::from(io::ErrorKind::StorageFull));
+        }
+        let left = self.room - self.got.len();
+        let n = buf.len().min(self.step).min(left);
+        self.got.extend_from_slice(&buf[..n])?;
+        Ok(n)
+    }
+
+    fn flush(&mut self) -> io::Result<()> {
+        Ok(())
+    }
+}
+
+// Takes nothing, and returns `Ok(0)`.
+#[derive(Drop)]
+struct Full;
+
+impl io::Write for Full {
+    fn write(&mut self, _buf: &[u8]) -> io::Result<usize> {
+        Ok(0)
+    }
+
+    fn flush(&mut self) -> io::Result<()> {
+        Ok(())
+    }
+}
+
+// Takes all, and fails at its first flush.
+#[derive(Drop)]
+struct Clogged {
+    flushes: u8,
+}
+
+impl io::Write for Clogged {
+    fn write(&mut self, buf: &[u8]) -> io::Result<usize> {
+        Ok(buf.len())
+    }
+
+    fn flush(&mut self) -> io::Result<()> {
+        self.flushes = self.flushes.saturating_add(1);
+        if self.flushes == 1 {
+            return Err(io::Error::from(io::ErrorKind::StorageFull));
+        }
+        Ok(())
+    }
+}
+
+// Gives a byte a call, and fails once, after `good` calls.
+#[derive(Drop)]
+struct Hiccup<'a> {
+    left: &'a [u8],
+    good: Option<u8>,
+}
+
+impl<'a> io::Read for Hiccup<'a> {
+    ghost use Rattle.std.specs.Prelude.{Some};
+
+    ghost remaining = { λ r. Some r.left.now };
+
+    fn read(&mut self, buf: &mut [u8]) -> io::Result<usize> {
+        if let Some(good) = self.good {
+            self.good = good.checked_sub(1);
+            if good == 0 {
+                return Err(io::Error::from(io::ErrorKind::Interrupted));
+            }
+        }
+        let n = buf.len().min(self.left.len()).min(1);
+        buf[..n].copy_from_slice(&self.left[..n]);
+        self.left = &self.left[n..];
+        Ok(n)
+    }
+}
+
+// What a call returned, `None` for an error, and the mark after it; or that the device had failed
+// before and was asked nothing more.
+type Answer<T> = Option<(Option<T>, bool)>;
+
+// A read of at most four bytes, and the first of them.
+fn read_once<S: ByteSource>(source: &mut S) -> (Answer<usize>, u8) {
+    let mut buf = [0u8; 4];
+    if source.failed() {
+        return (None, 0);
+    }
+    let outcome = source.read(&mut buf).ok();
+    (Some((outcome, source.failed())), buf[0])
+}
+
+fn write_once<K: ByteSink>(sink: &mut K, buf: &[u8]) -> Answer<usize> {
+    if sink.failed() {
+        return None;
+    }
+    let outcome = sink.write(buf).ok();
+    Some((outcome, sink.failed()))
+}
+
+fn flush_once<K: ByteSink>(sink: &mut K) -> Answer<()> {
+    if sink.failed() {
+        return None;
+    }
+    let outcome = sink.flush().ok();
+    Some((outcome, sink.failed()))
+}
+
+// What is proved of a sink is known of the writer that it watched.
+fn write_to<W: io::Write>(writer: &mut W, bytes: &[u8]) -> io::Result<()>
+    ensures ok { OnOk result (Appends (W.contents writer.old) (W.contents writer.new) bytes.now) }
+    ensures beginning { OnErr result ((n : ℕ) × (n ≤ length bytes.now)
+        × Appends (W.contents writer.old) (W.contents writer.new) (take n bytes.now)) }
+{
+    let mut sink = Watched::new(writer);
+    write_all(&mut sink, bytes)
+}
+
+#[test]
+fn write_all_to_a_writer_that_fails(rt: HostRuntime) {
+    for room in 0..8usize {
+        let mut writer = Narrow {
+            got: Vec::new(rt.alloc()),
+            room,
+            step: 3,
+        };
+        let mut sink = Watched::new(&mut writer);
+        let marked_at_first = sink.failed();
+        let outcome = write_all(&mut sink, b"hello").map_err(|e| e.kind());
+        let marked = sink.failed();
+        let want = if room < 5 {
+            Err(io::ErrorKind::StorageFull)
+        } else {
+            Ok(())
+        };
+        same(
+            &rt,
+            &(room, marked_at_first, outcome, marked),
+            &(room, false, want, room < 5),
+        );
+        same_items(&rt, &writer.got, &b"hello"[..room.min(5)]);
+    }
+}
+
+#[test]
+fn write_all_to_a_vec(rt: HostRuntime) -> Result<(), Fail> {
+    let mut bytes = Vec::new(rt.alloc());
+    write_to(&mut bytes, b"hel")?;
+    write_to(&mut bytes, b"lo")?;
+    same_items(&rt, &bytes, b"hello");
+    Ok(())
+}
+
+#[test]
+fn write_that_fails_marks(rt: HostRuntime) {
+    let mut writer = Narrow {
+        got: Vec::new(rt.alloc()),
+        room: 4,
+        step: 3,
+    };
+    let mut sink = Watched::new(&mut writer);
+    let writes = [
+        write_once(&mut sink, b"hello"),
+        write_once(&mut sink, b"lo"),
+        write_once(&mut sink, b"o"),
+        write_once(&mut sink, b"o"),
+    ];
+    let flush = flush_once(&mut sink);
+    writer.room = 5;
+    let again = write_once(&mut Watched::new(&mut writer), b"o");
+    let want = [
+        Some((Some(3), false)),
+        Some((Some(1), false)),
+        Some((None, true)),
+        None,
+    ];
+    same_items(&rt, &writes, &want);
+    same(&rt, &(flush, again), &(None, Some((Some(1), false))));
+    same_items(&rt, &writer.got, b"hello");
+}
+
+#[test]
+fn write_that_takes_nothing_marks(rt: HostRuntime) {
+    let mut writer = Full;
+    let mut sink = Watched::new(&mut writer);
+    let writes = [
+        write_once(&mut sink, b""),
+        write_once(&mut sink, b"a"),
+        write_once(&mut sink, b""),
+    ];
+    let mut of_nothing = Watched::new(&mut writer);
+    let nothing = (write_all(&mut of_nothing, b"").is_ok(), of_nothing.failed());
+    let mut of_a_byte = Watched::new(&mut writer);
+    let outcome = write_all(&mut of_a_byte, b"a").map_err(|e| e.kind());
+    let byte = (outcome, of_a_byte.failed());
+    same_items(
+        &rt,
+        &writes,
+        &[Some((Some(0), false)), Some((Some(0), true)), None],
+    );
+    same(
+        &rt,
+        &(nothing, byte),
+        &((true, false), (Err(io::ErrorKind::WriteZero), true)),
+    );
+}
+
+#[test]
+fn flush_that_fails_marks(rt: HostRuntime) {
+    let mut writer = Clogged { flushes: 0 };
+    let mut sink = Watched::new(&mut writer);
+    let first = (write_once(&mut sink, b"ab"), flush_once(&mut sink));
+    let then = (flush_once(&mut sink), write_once(&mut sink, b"c"));
+    let mut again = Watched::new(&mut writer);
+    let last = (flush_once(&mut again), write_once(&mut again, b"c"));
+    same(&rt, &first, &(Some((Some(2), false)), Some((None, true))));
+    same(&rt, &then, &(None, None));
+    same(
+        &rt,
+        &last,
+        &(Some((Some(()), false)), Some((Some(1), false))),
+    );
+    same(&rt, &writer.flushes, &2);
+}
+
+#[test]
+fn read_that_fails_marks(rt: HostRuntime) {
+    let mut reader = Hiccup {
+        left: b"abc",
+        good: Some(1),
+    };
+    let mut source = Watched::new(&mut reader);
+    let marked_at_first = source.failed();
+    let reads = [
+        read_once(&mut source),
+        read_once(&mut source),
+        read_once(&mut source),
+    ];
+    let mut again = Watched::new(&mut reader);
+    let more = [
+        read_once(&mut again),
+        read_once(&mut again),
+        read_once(&mut again),
+    ];
+    let byte = |b: u8| (Some((Some(1), false)), b);
+    same(&rt, &marked_at_first, &false);
+    same_items(
+        &rt,
+        &reads,
+        &[byte(b'a'), (Some((None, true)), 0), (None, 0)],
+    );
+    same_items(
+        &rt,
+        &more,
+        &[byte(b'b'), byte(b'c'), (Some((Some(0), false)), 0)],
+    );
+}
