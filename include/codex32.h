@@ -74,8 +74,8 @@ uint32_t codex32_parse(const uint8_t *text, size_t text_length, uint32_t *thresh
 
 /*
  * Memory that a function may use: `size` bytes from `start` on, aligned to 16 bytes, in which the caller
- * keeps nothing. Afterwards it is the caller's again, and this the same, whatever was answered; should
- * the function ever keep it (no run is known to), `size` is 0.
+ * keeps nothing. Afterwards it is the caller's again, and this the same, with every number but 91. With
+ * 91 it is so too, or, should the function ever keep the memory (no run is known to), `size` is 0.
  */
 typedef struct {
     uint8_t *start;

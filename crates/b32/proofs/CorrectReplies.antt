@@ -8,14 +8,14 @@ use Rattle.bech32_gf.specs.declared.gf32.Fe32.{Fe32}
 use Rattle.bech32_hrp.specs.Hrp.{lowered}
 use Rattle.bech32_checksum.specs.Code.{Code, bech32, bech32m}
 use Rattle.bech32_checksum.specs.Encoded.{char_of_element}
-use Rattle.bech32_corrector.specs.Carried.{of_checked}
-use Rattle.bech32_corrector.specs.Correction.{singleton_bound}
+use Rattle.bech32_correction.specs.Carried.{of_checked}
+use Rattle.bech32_checksum.specs.Roots.{singleton_bound}
 use Rattle.bech32_decode.specs.Acceptance.{Accepts}
 use Rattle.bech32_decode.specs.Checked.{IsCheckedRefusal}
 use Rattle.bech32_refusals.specs.declared.error.CheckedHrpstringError.{CheckedHrpstringError}
-use Rattle.bech32_mended.specs.Mended.{mended}
-use Rattle.bech32_mended.specs.Mistyped.{HasNoListing, IsListingOf, IsMendedText}
-use Rattle.bech32_mended.proofs.Texts.{IsMendable, few-from_listing, mended_text-from_ends}
+use Rattle.bech32_correction.specs.MendedElements.{mended}
+use Rattle.bech32_correction.specs.Mistyped.{HasNoListing, IsListingOf, IsMendedText}
+use Rattle.bech32_correction.proofs.Texts.{IsMendable, few-from_listing, mended_text-from_ends}
 use Rattle.bech32_numbers.specs.Numbers.{number_of_checked_error}
 use Rattle.b32.specs.declared.command.ChecksumName.{ChecksumName}
 use Rattle.b32.specs.declared.command.ChecksumName.TheVariants.{Bech32, Bech32m}

@@ -1,7 +1,9 @@
 -- Why a run ended, in the words of `b32` and of `line_program`.
 use Rattle.std.specs.Prelude.{◌≡◌}
 use Rattle.line_program.specs.declared.error.RunError.{RunError as EarlyEnd}
-use Rattle.line_program.specs.declared.error.RunError.TheVariants.{Read as read_end, Write as write_end, Memory as memory_end}
+use Rattle.line_program.specs.declared.error.RunError.TheVariants.{Read as read_end}
+use Rattle.line_program.specs.declared.error.RunError.TheVariants.{Write as write_end}
+use Rattle.line_program.specs.declared.error.RunError.TheVariants.{Memory as memory_end}
 use Rattle.b32.specs.declared.error.RunError.{RunError}
 use Rattle.b32.specs.declared.error.RunError.TheVariants.{Read, Write, Memory}
 

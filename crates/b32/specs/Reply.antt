@@ -1,5 +1,6 @@
 -- What may be said of a line.
-use Rattle.std.specs.Prelude.{◌≡◌, ◌≤◌, ◌⊎◌, ◌%◌, ℕ, List, [], ◌∷◌, ◌++◌, length, codes, None, MatchOption}
+use Rattle.std.specs.Prelude.{◌≡◌, ◌≤◌, ◌⊎◌, ◌%◌, ℕ, List, [], ◌∷◌}
+use Rattle.std.specs.Prelude.{◌++◌, length, codes, None, MatchOption}
 use Rattle.std.specs.Fmt.{decimal}
 use Rattle.bech32_gf.specs.declared.gf32.Fe32.{Fe32}
 use Rattle.bech32_bits.specs.Bits.{to_fes}
@@ -8,9 +9,9 @@ use Rattle.bech32_hrp.specs.Hrp.{IsHrp, lowered, hrp_refusal}
 use Rattle.bech32_decode.specs.Acceptance.{Accepts, IsDecoded}
 use Rattle.bech32_decode.specs.Checked.{IsCheckedRefusal}
 use Rattle.bech32_checksum.specs.Encoded.{IsEncodedText, char_of_element}
-use Rattle.bech32_corrector.specs.Carried.{of_checked}
-use Rattle.bech32_corrector.specs.Correction.{singleton_bound}
-use Rattle.bech32_mended.specs.Mistyped.{HasNoListing, IsListingOf, IsMendedText}
+use Rattle.bech32_correction.specs.Carried.{of_checked}
+use Rattle.bech32_checksum.specs.Roots.{singleton_bound}
+use Rattle.bech32_correction.specs.Mistyped.{HasNoListing, IsListingOf, IsMendedText}
 use Rattle.bech32_encode.specs.TextLength.{encoded_length_of}
 use Rattle.bech32.specs.Refusals.{IsDecodeRefusal, IsEncodeRefusal}
 use Rattle.bech32_decode.specs.Segwit.{IsLowerAddress, IsAddress, IsAddressText, IsSegwitRefusal}
@@ -26,10 +27,11 @@ use Rattle.line_program.specs.Reply.{IsReplyBy}
 use Rattle.b32.specs.Hex.{AreBytes, bytes_of, hex_of}
 use Rattle.bech32_numbers.specs.Numbers.{number_of_checked_error, number_of_hrp_error}
 use Rattle.bech32_numbers.specs.Numbers.{number_of_decode_error, number_of_encode_error}
-use Rattle.bech32_numbers.specs.Numbers.{number_of_segwit_decode_error, number_of_segwit_encode_error}
+use Rattle.bech32_numbers.specs.Numbers.{number_of_segwit_decode_error}
+use Rattle.bech32_numbers.specs.Numbers.{number_of_segwit_encode_error}
 use Rattle.b32.specs.Locations.{AreLocations, BeginsWithLocation, IsNoListOfLocations}
-use Rattle.b32.specs.Request.{Request, Encode, Decode, SegwitEncode, SegwitDecode, Correct, CorrectAt}
-use Rattle.b32.specs.Request.{code_of_name, request_of}
+use Rattle.b32.specs.Request.{Request, Encode, Decode, SegwitEncode, SegwitDecode}
+use Rattle.b32.specs.Request.{Correct, CorrectAt, code_of_name, request_of}
 
 -- an answer, or out of memory for the bytes of a word in hex, whose digits are then in pairs
 abbrev pub OrNoMemory : List ℕ → (List ℕ → Type 0) → List ℕ → Type 0
@@ -94,7 +96,8 @@ pub record SaysNoAddress (hrp : List ℕ) (version : Fe32) (program said : List 
   pub is_refusal : IsSegwitEncodeRefusal hrp version program error
   pub spelling : said ≡ err (number_of_segwit_encode_error error)
 
--- the answer to `segwit-encode` with this version: bad hex is refused, then a bad human-readable part
+-- the answer to `segwit-encode` with this version: bad hex is refused, then
+-- a bad human-readable part
 abbrev pub IsVersionedAnswer : List ℕ → Fe32 → List ℕ → List ℕ → Type 0
 IsVersionedAnswer hrp version hex said =
     MatchOption (bytes_of hex)
@@ -118,7 +121,8 @@ pub record SaysProgram (text said : List ℕ) : Type 0 where
   pub is_hrp : IsHrp hrp
   pub are_bytes : AreBytes program
   pub is_address : IsAddress hrp version program text
-  pub spelling : said ≡ codes "ok " ++ (lowered hrp ++ (32 ∷ (decimal version.value ++ (32 ∷ hex_of program))))
+  pub spelling :
+      said ≡ codes "ok " ++ (lowered hrp ++ (32 ∷ (decimal version.value ++ (32 ∷ hex_of program))))
 
 -- it is said why a text is not an address, or that memory ran out for one
 pub record SaysNoProgram (text said : List ℕ) : Type 0 where
@@ -135,7 +139,8 @@ pub record SaysFine (code : Code) (text said : List ℕ) : Type 0 where
   pub accepted : Accepts code text
   pub spelling : said ≡ codes "fine"
 
--- the items of a listing: each location, a colon, the lower-case character of the element to add, and a space
+-- the items of a listing: each location, a colon, the lower-case character of the
+-- element to add, and a space
 abbrev pub listed : List (ℕ × Fe32) → List ℕ
 listed [] = []
 listed (p ∷ more) = (decimal p.0 ++ (58 ∷ char_of_element p.1 ∷ 32 ∷ [])) ++ listed more
@@ -175,14 +180,16 @@ IsCorrectAtAnswer code text word said =
     ⊎ ((given : List ℕ) × AreLocations word given × IsCorrectAnswer code text given said))
 
 -- the answer to a request
-abbrev pub IsAnswer : Request → List ℕ → Type 0
-IsAnswer (Encode checksum hrp hex) said = OrNoMemory hex (IsEncodeAnswer (code_of_name checksum) hrp hex) said
-IsAnswer (Decode text) said = IsDecodeAnswer text said
-IsAnswer (SegwitEncode hrp version hex) said = IsSegwitEncodeAnswer hrp version hex said
-IsAnswer (SegwitDecode text) said = IsSegwitDecodeAnswer text said
-IsAnswer (Correct checksum text) said = IsCorrectAnswer (code_of_name checksum) text [] said
-IsAnswer (CorrectAt checksum text word) said = IsCorrectAtAnswer (code_of_name checksum) text word said
+abbrev pub IsOutcome : Request → List ℕ → Type 0
+IsOutcome (Encode checksum hrp hex) said =
+    OrNoMemory hex (IsEncodeAnswer (code_of_name checksum) hrp hex) said
+IsOutcome (Decode text) said = IsDecodeAnswer text said
+IsOutcome (SegwitEncode hrp version hex) said = IsSegwitEncodeAnswer hrp version hex said
+IsOutcome (SegwitDecode text) said = IsSegwitDecodeAnswer text said
+IsOutcome (Correct checksum text) said = IsCorrectAnswer (code_of_name checksum) text [] said
+IsOutcome (CorrectAt checksum text word) said =
+    IsCorrectAtAnswer (code_of_name checksum) text word said
 
 -- what may be said of a line
 abbrev pub IsReply : List ℕ → List ℕ → Type 0
-IsReply line said = IsReplyBy request_of IsAnswer line said
+IsReply line said = IsReplyBy request_of IsOutcome line said

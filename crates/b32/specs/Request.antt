@@ -6,14 +6,16 @@ use Rattle.bech32_checksum.specs.Code.{Code, bech32, bech32m}
 use Rattle.b32.specs.declared.command.ChecksumName.{ChecksumName}
 use Rattle.b32.specs.declared.command.ChecksumName.TheVariants.{Bech32, Bech32m}
 use Rattle.b32.specs.declared.command.Command.{Command}
-use Rattle.b32.specs.declared.command.Command.TheVariants.{Encode as EncodeCommand, Decode as DecodeCommand}
+use Rattle.b32.specs.declared.command.Command.TheVariants.{Encode as EncodeCommand}
+use Rattle.b32.specs.declared.command.Command.TheVariants.{Decode as DecodeCommand}
 use Rattle.b32.specs.declared.command.Command.TheVariants.{SegwitEncode as SegwitEncodeCommand}
 use Rattle.b32.specs.declared.command.Command.TheVariants.{SegwitDecode as SegwitDecodeCommand}
-use Rattle.b32.specs.declared.command.Command.TheVariants.{Correct as CorrectCommand, CorrectAt as CorrectAtCommand}
+use Rattle.b32.specs.declared.command.Command.TheVariants.{Correct as CorrectCommand}
+use Rattle.b32.specs.declared.command.Command.TheVariants.{CorrectAt as CorrectAtCommand}
 use Rattle.line_program.specs.Words.{words, has_empty_word, is_empty}
 
--- the text of bytes, or the bytes of a text; the segwit address of a program, or the program of an address; a mistyped
--- text mended, with or without erasures; each argument as its word
+-- the text of bytes, or the bytes of a text; the segwit address of a program, or the program of an
+-- address; a mistyped text mended, with or without erasures; each argument as its word
 pub data Request : Type 0 where
   Encode : (checksum : ChecksumName) (hrp hex : List ℕ) → Request
   Decode : (text : List ℕ) → Request
@@ -71,12 +73,14 @@ correct_at_under (Some checksum) text locations = Some (CorrectAt checksum text 
 -- `correct CHECKSUM TEXT` and `correct CHECKSUM TEXT LOCATIONS`
 abbrev pub correct_request : List (List ℕ) → Option Request
 correct_request (checksum ∷ text ∷ []) = correct_under (checksum_of checksum) text
-correct_request (checksum ∷ text ∷ locations ∷ []) = correct_at_under (checksum_of checksum) text locations
+correct_request (checksum ∷ text ∷ locations ∷ []) =
+    correct_at_under (checksum_of checksum) text locations
 correct_request _ = None
 
 -- what the words behind `correct` ask for, of which none is empty
 abbrev pub correct_arguments : List (List ℕ) → Option Request
-correct_arguments arguments = if list_any is_empty arguments then None else correct_request arguments
+correct_arguments arguments =
+    if list_any is_empty arguments then None else correct_request arguments
 
 -- what words ask for
 abbrev pub request_of_words : List (List ℕ) → Option Request
@@ -100,4 +104,5 @@ request_of_command (DecodeCommand text) = Decode text.now
 request_of_command (SegwitEncodeCommand hrp version hex) = SegwitEncode hrp.now version.now hex.now
 request_of_command (SegwitDecodeCommand text) = SegwitDecode text.now
 request_of_command (CorrectCommand checksum text) = Correct checksum text.now
-request_of_command (CorrectAtCommand checksum text locations) = CorrectAt checksum text.now locations.now
+request_of_command (CorrectAtCommand checksum text locations) =
+    CorrectAt checksum text.now locations.now

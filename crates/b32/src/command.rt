@@ -104,7 +104,8 @@ impl<'a> Command<'a> {
     fn parse_correct(arguments: &'a str) -> Option<Command<'a>>
         ensures { MatchOption result
             (correct_arguments (words arguments.now) ≡ None)
-            (λ command. correct_arguments (words arguments.now) ≡ Some (request_of_command command)) }
+            (λ command.
+            correct_arguments (words arguments.now) ≡ Some (request_of_command command)) }
     {
         let (name, arguments) = first_word(arguments)?;
         let checksum = checksum_named(name)?;

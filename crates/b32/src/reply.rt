@@ -6,7 +6,7 @@ ghost use Rattle.b32.specs.Numbers.{number_of};
 ghost use Rattle.b32.specs.Request.{Request, request_of, request_of_command};
 ghost use Rattle.line_program.specs.Added.{Adds};
 ghost use Rattle.line_program.specs.Refused.{err};
-ghost use Rattle.b32.specs.Reply.{IsAnswer, IsReply};
+ghost use Rattle.b32.specs.Reply.{IsOutcome, IsReply};
 
 use crate::command::{ChecksumName, Command};
 use crate::correct::correct;
@@ -17,16 +17,20 @@ use crate::refusal::Refusal;
 use crate::segwit_decode::segwit_decode;
 use crate::segwit_encode::segwit_encode;
 use bech32::{Bech32, Bech32m};
-use line_program::{Answers, Replies, Unanswered};
+use line_program::{Execute, NotExecuted, Replies};
 use std::alloc::Allocator;
 
 /// Adds the answer to a command, or leaves all as it was.
-fn answer<A: Allocator + Copy>(alloc: A, command: Command, out: &mut Vec<u8>) -> Result<(), Refusal>
+fn execute_command<A: Allocator + Copy>(
+    alloc: A,
+    command: Command,
+    out: &mut Vec<u8>,
+) -> Result<(), Refusal>
     requires { vec_len out.old + 2047 ≤ vec_capacity out.old }
     ensures ok { OnOk result
-        (Adds (IsAnswer (request_of_command command.entry)) out.old.items out.new.items) }
+        (Adds (IsOutcome (request_of_command command.entry)) out.old.items out.new.items) }
     ensures err { IfErr result
-        (λ e. IsAnswer (request_of_command command.entry) (err (number_of e))) }
+        (λ e. IsOutcome (request_of_command command.entry) (err (number_of e))) }
     ensures same { OnErr result (out.new.items ≡ out.old.items) }
     ensures capacity { vec_capacity out.old ≤ vec_capacity out.new }
 {
@@ -56,20 +60,20 @@ pub struct Commands<A> {
     pub alloc: A,
 }
 
-impl<A: Allocator + Copy> Answers for Commands<A> {
+impl<A: Allocator + Copy> Execute for Commands<A> {
     ghost request = { Request };
 
     ghost request_of = { request_of };
 
-    ghost is_answer = { IsAnswer };
+    ghost is_outcome = { IsOutcome };
 
-    fn answer(&self, text: &str, out: &mut Vec<u8>) -> Result<(), Unanswered> {
+    fn execute(&self, text: &str, out: &mut Vec<u8>) -> Result<(), NotExecuted> {
         let Some(command) = Command::parse(text) else {
-            return Err(Unanswered::NoCommand);
+            return Err(NotExecuted::NoCommand);
         };
-        match answer(self.alloc, command, out) {
+        match execute_command(self.alloc, command, out) {
             Ok(()) => Ok(()),
-            Err(refusal) => Err(Unanswered::Refused(refusal.number())),
+            Err(refusal) => Err(NotExecuted::Refused(refusal.number())),
         }
     }
 }

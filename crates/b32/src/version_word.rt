@@ -37,7 +37,8 @@ fn number_of_word(word: &[u8]) -> Option<u8>
 
 /// The element whose value a word is, in decimal without leading zeros.
 pub fn version_of_word(word: &str) -> Option<Fe32>
-    ensures { MatchOption result (IsNoVersion word.now) (λ version. IsVersionWord word.now version) }
+    ensures { MatchOption result (IsNoVersion word.now)
+        (λ version. IsVersionWord word.now version) }
 {
     let number = number_of_word(word.as_bytes())?;
     if number > 31 {

@@ -42,7 +42,7 @@ accepted-from_spelled code hrp fes text lower e s fits =
       grammar = s.grammar;
       text_length = fits;
       data_length = omega arith;
-      leaves_target = subst (λ (q : List Fe32). IsRemainder ops code.generator q code.target) p e.is_checksum.leaves_target;
+      has_target = subst (λ (q : List Fe32). IsRemainder ops code.generator q code.target) p e.is_checksum.has_target;
     }
 
 -- the elements before the checksum are those that were encoded

@@ -9,7 +9,8 @@ use Rattle.bech32_encode.specs.TextLength.{encoded_length_of}
 use Rattle.bech32.specs.declared.error.DecodeError.{DecodeError}
 use Rattle.bech32.specs.declared.error.DecodeError.TheVariants.{Parse, Checksum, Memory}
 use Rattle.bech32.specs.declared.error.EncodeError.{EncodeError}
-use Rattle.bech32.specs.declared.error.EncodeError.TheVariants.{TooLong, Fmt, Memory as EncodeMemory}
+use Rattle.bech32.specs.declared.error.EncodeError.TheVariants.{TooLong, Fmt}
+use Rattle.bech32.specs.declared.error.EncodeError.TheVariants.{Memory as EncodeMemory}
 
 -- why a text is not decoded: it is not a text, no checksum accepts it, or out of memory where one
 -- does
@@ -23,6 +24,11 @@ IsDecodeRefusal text Memory = IsAcceptedByEither text
 abbrev pub IsEncodeRefusal : Code → List ℕ → List Fe32 → EncodeError → Type 0
 IsEncodeRefusal code hrp elements (TooLong e) =
     (code.code_length < encoded_length_of code hrp elements)
-    × (e ≡ record { encoded_length = encoded_length_of code hrp elements; code_length = code.code_length })
+    × (e ≡ record {
+      encoded_length =
+          encoded_length_of code hrp elements;
+      code_length = code.code_length;
+    })
 IsEncodeRefusal code hrp elements (Fmt e) = ⊥
-IsEncodeRefusal code hrp elements EncodeMemory = encoded_length_of code hrp elements ≤ code.code_length
+IsEncodeRefusal code hrp elements EncodeMemory =
+    encoded_length_of code hrp elements ≤ code.code_length

@@ -14,9 +14,11 @@ use Rattle.bech32.specs.declared.error.EncodeIoError.{EncodeIoError}
 use Rattle.bech32.specs.declared.error.EncodeIoError.TheVariants.{TooLong as IoTooLong, Write}
 
 -- a writer took the text of a human-readable part and bytes, and nothing else
-abbrev pub WritesText : {W : Type 0} → (W → List ℕ → W → Type 0) → W → W → Bool → Code → List ℕ → List ℕ → Type 0
+abbrev pub WritesText : {W : Type 0} → (W → List ℕ → W → Type 0) → W → W → Bool → Code → List ℕ
+    → List ℕ → Type 0
 WritesText takes old new upper code hrp bytes =
-    (text : List ℕ) × IsTextInCase upper code hrp (to_fes bytes) text × WritesInCalls takes old text new
+    (text : List ℕ) × IsTextInCase upper code hrp (to_fes bytes) text
+    × WritesInCalls takes old text new
 
 -- known bytes grew by that text
 abbrev pub AppendsText : Option (List ℕ) → Option (List ℕ) → Bool → Code → List ℕ → List ℕ → Type 0
@@ -24,7 +26,8 @@ AppendsText old new upper code hrp bytes =
     (text : List ℕ) × IsTextInCase upper code hrp (to_fes bytes) text × Appends old new text
 
 -- known bytes grew by a beginning of it
-abbrev pub AppendsBeginning : Option (List ℕ) → Option (List ℕ) → Bool → Code → List ℕ → List ℕ → Type 0
+abbrev pub AppendsBeginning : Option (List ℕ) → Option (List ℕ) → Bool → Code → List ℕ → List ℕ
+    → Type 0
 AppendsBeginning old new upper code hrp bytes =
     (text : List ℕ) × IsTextInCase upper code hrp (to_fes bytes) text
     × (n : ℕ) × (n ≤ length text) × Appends old new (take n text)
@@ -33,13 +36,19 @@ AppendsBeginning old new upper code hrp bytes =
 abbrev pub FailsWith : Bool → Type 0 → Type 0
 FailsWith failed P = (failed ≡ true) × P
 
--- the text of a human-readable part and elements is longer than the code, and these are the two lengths
+-- the text of a human-readable part and elements is longer than the code, and
+-- these are the two lengths
 abbrev pub IsTooLong : Code → List ℕ → List Fe32 → CodeLengthError → Type 0
 IsTooLong code hrp elements e =
     (code.code_length < encoded_length_of code hrp elements)
-    × (e ≡ record { encoded_length = encoded_length_of code hrp elements; code_length = code.code_length })
+    × (e ≡ record {
+      encoded_length =
+          encoded_length_of code hrp elements;
+      code_length = code.code_length;
+    })
 
--- why that text is not written: it is too long, and the sink was `kept`; or it is not, and the sink `failed`
+-- why that text is not written: it is too long, and the sink was `kept`; or it is
+-- not, and the sink `failed`
 abbrev pub IsFmtRefusal : Type 0 → Type 0 → Code → List ℕ → List Fe32 → EncodeError → Type 0
 IsFmtRefusal kept failed code hrp elements (TooLong e) = IsTooLong code hrp elements e × kept
 IsFmtRefusal kept failed code hrp elements (Fmt e) =

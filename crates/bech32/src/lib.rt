@@ -19,8 +19,10 @@ mod writers;
 
 pub use bech32_bits::ByteIterExt;
 pub use bech32_block::PrintImpl;
-pub use bech32_checksum::{Bech32, Bech32m, Checksum, NoChecksum};
-pub use bech32_corrector::CorrectableError;
+pub use bech32_checksum::{Bech32, Bech32m, Checksum, CorrectingChecksum, NoChecksum};
+pub use bech32_correction::{
+    CorrectError, CorrectableError, Correction, Mended, correct, correct_in,
+};
 use bech32_decode::{CheckedHrpstring, CodeLengthError, UncheckedHrpstring, validate_either};
 pub use bech32_encode::Fe32IterExt;
 use bech32_encode::{text_in, text_length};
@@ -98,7 +100,8 @@ pub fn decode(alloc: Global, s: &str) -> Result<(Hrp, Vec<u8>), DecodeError>
 /// above that too).
 pub fn encoded_length<Ck: Checksum>(hrp: Hrp, data: &[u8]) -> Result<usize, CodeLengthError>
     ensures { MatchResult result
-        (λ n. (n ≡ encoded_length_of Ck.code (hrp_bytes hrp) (to_fes «data».now)) × (n ≤ Ck.code.code_length))
+        (λ n. (n ≡ encoded_length_of Ck.code (hrp_bytes hrp) (to_fes «data».now))
+        × (n ≤ Ck.code.code_length))
         (λ e. (Ck.code.code_length < encoded_length_of Ck.code (hrp_bytes hrp) (to_fes «data».now))
         × (e.encoded_length ≡ encoded_length_of Ck.code (hrp_bytes hrp) (to_fes «data».now))
         × (e.code_length ≡ Ck.code.code_length)) }
@@ -124,9 +127,12 @@ pub fn encode_in<Ck: Checksum, A: Allocator>(
     hrp: Hrp,
     data: &[u8],
 ) -> Result<String<A>, EncodeError>
-    ensures text { IfOk result (λ s. IsEncodedText Ck.code (hrp_bytes hrp) (to_fes «data».now) (string_bytes s)) }
-    ensures fits { IsOk result → encoded_length_of Ck.code (hrp_bytes hrp) (to_fes «data».now) ≤ Ck.code.code_length }
-    ensures refused { IfErr result (λ e. IsEncodeRefusal Ck.code (hrp_bytes hrp) (to_fes «data».now) e) }
+    ensures text { IfOk result
+        (λ s. IsEncodedText Ck.code (hrp_bytes hrp) (to_fes «data».now) (string_bytes s)) }
+    ensures fits { IsOk result
+        → encoded_length_of Ck.code (hrp_bytes hrp) (to_fes «data».now) ≤ Ck.code.code_length }
+    ensures refused { IfErr result
+        (λ e. IsEncodeRefusal Ck.code (hrp_bytes hrp) (to_fes «data».now) e) }
 {
     encoded_length::<Ck>(hrp, data)?;
     let text = text_in::<Ck, A>(alloc, hrp, None, data)?;
@@ -135,9 +141,12 @@ pub fn encode_in<Ck: Checksum, A: Allocator>(
 
 /// Encodes as [`encode_in`] does, with memory of the global allocator.
 pub fn encode<Ck: Checksum>(alloc: Global, hrp: Hrp, data: &[u8]) -> Result<String, EncodeError>
-    ensures text { IfOk result (λ s. IsEncodedText Ck.code (hrp_bytes hrp) (to_fes «data».now) (string_bytes s)) }
-    ensures fits { IsOk result → encoded_length_of Ck.code (hrp_bytes hrp) (to_fes «data».now) ≤ Ck.code.code_length }
-    ensures refused { IfErr result (λ e. IsEncodeRefusal Ck.code (hrp_bytes hrp) (to_fes «data».now) e) }
+    ensures text { IfOk result
+        (λ s. IsEncodedText Ck.code (hrp_bytes hrp) (to_fes «data».now) (string_bytes s)) }
+    ensures fits { IsOk result
+        → encoded_length_of Ck.code (hrp_bytes hrp) (to_fes «data».now) ≤ Ck.code.code_length }
+    ensures refused { IfErr result
+        (λ e. IsEncodeRefusal Ck.code (hrp_bytes hrp) (to_fes «data».now) e) }
 {
     encode_in::<Ck, Global>(alloc, hrp, data)
 }
@@ -148,9 +157,12 @@ pub fn encode_lower_in<Ck: Checksum, A: Allocator>(
     hrp: Hrp,
     data: &[u8],
 ) -> Result<String<A>, EncodeError>
-    ensures text { IfOk result (λ s. IsEncodedText Ck.code (hrp_bytes hrp) (to_fes «data».now) (string_bytes s)) }
-    ensures fits { IsOk result → encoded_length_of Ck.code (hrp_bytes hrp) (to_fes «data».now) ≤ Ck.code.code_length }
-    ensures refused { IfErr result (λ e. IsEncodeRefusal Ck.code (hrp_bytes hrp) (to_fes «data».now) e) }
+    ensures text { IfOk result
+        (λ s. IsEncodedText Ck.code (hrp_bytes hrp) (to_fes «data».now) (string_bytes s)) }
+    ensures fits { IsOk result
+        → encoded_length_of Ck.code (hrp_bytes hrp) (to_fes «data».now) ≤ Ck.code.code_length }
+    ensures refused { IfErr result
+        (λ e. IsEncodeRefusal Ck.code (hrp_bytes hrp) (to_fes «data».now) e) }
 {
     encode_in::<Ck, A>(alloc, hrp, data)
 }
@@ -161,9 +173,12 @@ pub fn encode_lower<Ck: Checksum>(
     hrp: Hrp,
     data: &[u8],
 ) -> Result<String, EncodeError>
-    ensures text { IfOk result (λ s. IsEncodedText Ck.code (hrp_bytes hrp) (to_fes «data».now) (string_bytes s)) }
-    ensures fits { IsOk result → encoded_length_of Ck.code (hrp_bytes hrp) (to_fes «data».now) ≤ Ck.code.code_length }
-    ensures refused { IfErr result (λ e. IsEncodeRefusal Ck.code (hrp_bytes hrp) (to_fes «data».now) e) }
+    ensures text { IfOk result
+        (λ s. IsEncodedText Ck.code (hrp_bytes hrp) (to_fes «data».now) (string_bytes s)) }
+    ensures fits { IsOk result
+        → encoded_length_of Ck.code (hrp_bytes hrp) (to_fes «data».now) ≤ Ck.code.code_length }
+    ensures refused { IfErr result
+        (λ e. IsEncodeRefusal Ck.code (hrp_bytes hrp) (to_fes «data».now) e) }
 {
     encode_lower_in::<Ck, Global>(alloc, hrp, data)
 }
@@ -179,9 +194,12 @@ pub fn encode_upper_in<Ck: Checksum, A: Allocator>(
     hrp: Hrp,
     data: &[u8],
 ) -> Result<String<A>, EncodeError>
-    ensures text { IfOk result (λ s. IsTextInCase true Ck.code (hrp_bytes hrp) (to_fes «data».now) (string_bytes s)) }
-    ensures fits { IsOk result → encoded_length_of Ck.code (hrp_bytes hrp) (to_fes «data».now) ≤ Ck.code.code_length }
-    ensures refused { IfErr result (λ e. IsEncodeRefusal Ck.code (hrp_bytes hrp) (to_fes «data».now) e) }
+    ensures text { IfOk result
+        (λ s. IsTextInCase true Ck.code (hrp_bytes hrp) (to_fes «data».now) (string_bytes s)) }
+    ensures fits { IsOk result
+        → encoded_length_of Ck.code (hrp_bytes hrp) (to_fes «data».now) ≤ Ck.code.code_length }
+    ensures refused { IfErr result
+        (λ e. IsEncodeRefusal Ck.code (hrp_bytes hrp) (to_fes «data».now) e) }
 {
     let mut text = encode_in::<Ck, A>(alloc, hrp, data)?;
     text.make_ascii_uppercase();
@@ -194,9 +212,12 @@ pub fn encode_upper<Ck: Checksum>(
     hrp: Hrp,
     data: &[u8],
 ) -> Result<String, EncodeError>
-    ensures text { IfOk result (λ s. IsTextInCase true Ck.code (hrp_bytes hrp) (to_fes «data».now) (string_bytes s)) }
-    ensures fits { IsOk result → encoded_length_of Ck.code (hrp_bytes hrp) (to_fes «data».now) ≤ Ck.code.code_length }
-    ensures refused { IfErr result (λ e. IsEncodeRefusal Ck.code (hrp_bytes hrp) (to_fes «data».now) e) }
+    ensures text { IfOk result
+        (λ s. IsTextInCase true Ck.code (hrp_bytes hrp) (to_fes «data».now) (string_bytes s)) }
+    ensures fits { IsOk result
+        → encoded_length_of Ck.code (hrp_bytes hrp) (to_fes «data».now) ≤ Ck.code.code_length }
+    ensures refused { IfErr result
+        (λ e. IsEncodeRefusal Ck.code (hrp_bytes hrp) (to_fes «data».now) e) }
 {
     encode_upper_in::<Ck, Global>(alloc, hrp, data)
 }

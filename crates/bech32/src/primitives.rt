@@ -18,11 +18,15 @@ pub mod checksum {
     pub use bech32_checksum::{
         Bech32, Bech32m, Checksum, Engine, HrpFe32Iter, NoChecksum, PackedFe32, PackedNull,
     };
-    pub use bech32_detect::{detects_four, detects_four_in};
+    pub use bech32_detect::{accepted_texts_are_far, detects_four, detects_four_in};
 }
 
 /// Correction of mistyped texts.
 pub mod correction {
-    pub use bech32_corrector::{CorrectableError, Corrector, ErrorIterator};
+    pub use bech32_correction::{
+        CorrectError, CorrectableError, Correction, Corrector, ErrorIterator, Listing, Mended,
+        NoMemory, bech32_listing, bech32m_listing, correct, correct_in, listing_in,
+        listing_of_unchecked, mend, mended_in,
+    };
     pub use bech32_poly::fieldvec::NO_ALLOC_MAX_LENGTH;
 }

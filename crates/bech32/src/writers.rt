@@ -8,9 +8,9 @@ ghost use Rattle.bech32.specs.Writing.{WritesText, AppendsText, AppendsBeginning
 
 use crate::{EncodeError, EncodeIoError, encoded_length};
 use bech32_checksum::Checksum;
-use devices::{ByteSink, FmtSink, Watched, pieces_into_bytes, pieces_into_fmt};
 use bech32_encode::TextInPieces;
 use bech32_hrp::Hrp;
+use devices::{ByteSink, FmtSink, Watched, pieces_into_bytes, pieces_into_fmt};
 use std::{fmt, io};
 
 /// Encodes bytes under a human-readable part into a sink of text, in upper case or in lower case.
@@ -29,10 +29,13 @@ pub fn encode_into_fmt<Ck: Checksum, S: FmtSink>(
     upper: bool,
 ) -> Result<(), EncodeError>
     requires { S.has_failed sink.old ≡ false }
-    ensures ok { OnOk result (WritesText S.takes sink.old sink.new upper Ck.code (hrp_bytes hrp) «data».now) }
+    ensures ok { OnOk result
+        (WritesText S.takes sink.old sink.new upper Ck.code (hrp_bytes hrp) «data».now) }
     ensures ok_mark { OnOk result (S.has_failed sink.new ≡ false) }
-    ensures fits { IsOk result → encoded_length_of Ck.code (hrp_bytes hrp) (to_fes «data».now) ≤ Ck.code.code_length }
-    ensures refused { IfErr result (λ e. IsFmtRefusal (sink.new ≡ sink.old) (S.has_failed sink.new ≡ true)
+    ensures fits { IsOk result
+        → encoded_length_of Ck.code (hrp_bytes hrp) (to_fes «data».now) ≤ Ck.code.code_length }
+    ensures refused { IfErr result
+        (λ e. IsFmtRefusal (sink.new ≡ sink.old) (S.has_failed sink.new ≡ true)
         Ck.code (hrp_bytes hrp) (to_fes «data».now) e) }
     ensures same { S.is_same sink.old sink.new }
 {
@@ -58,12 +61,15 @@ pub fn encode_into_bytes<Ck: Checksum, S: ByteSink>(
 ) -> Result<(), EncodeIoError>
     requires { S.has_failed sink.old ≡ false }
     ensures ok { OnOk result
-        (AppendsText (S.contents sink.old) (S.contents sink.new) upper Ck.code (hrp_bytes hrp) «data».now) }
+        (AppendsText (S.contents sink.old) (S.contents sink.new)
+        upper Ck.code (hrp_bytes hrp) «data».now) }
     ensures ok_mark { OnOk result (S.has_failed sink.new ≡ false) }
-    ensures fits { IsOk result → encoded_length_of Ck.code (hrp_bytes hrp) (to_fes «data».now) ≤ Ck.code.code_length }
+    ensures fits { IsOk result
+        → encoded_length_of Ck.code (hrp_bytes hrp) (to_fes «data».now) ≤ Ck.code.code_length }
     ensures refused { IfErr result (λ e. IsIoRefusal (sink.new ≡ sink.old)
         (FailsWith (S.has_failed sink.new)
-        (AppendsBeginning (S.contents sink.old) (S.contents sink.new) upper Ck.code (hrp_bytes hrp) «data».now))
+        (AppendsBeginning (S.contents sink.old) (S.contents sink.new)
+        upper Ck.code (hrp_bytes hrp) «data».now))
         Ck.code (hrp_bytes hrp) (to_fes «data».now) e) }
     ensures uncounted { S.flushes sink.new ≡ S.flushes sink.old }
     ensures same { S.is_same sink.old sink.new }
@@ -87,7 +93,8 @@ pub fn encode_lower_to_fmt<Ck: Checksum, W: fmt::Write>(
 ) -> Result<(), EncodeError>
     ensures ok { OnOk result
         (WritesText W.write_str_gives fmt.old fmt.new false Ck.code (hrp_bytes hrp) «data».now) }
-    ensures fits { IsOk result → encoded_length_of Ck.code (hrp_bytes hrp) (to_fes «data».now) ≤ Ck.code.code_length }
+    ensures fits { IsOk result
+        → encoded_length_of Ck.code (hrp_bytes hrp) (to_fes «data».now) ≤ Ck.code.code_length }
     ensures refused { IfErr result (λ e. IsFmtRefusal (fmt.new ≡ fmt.old) ⊤
         Ck.code (hrp_bytes hrp) (to_fes «data».now) e) }
 {
@@ -103,7 +110,8 @@ pub fn encode_to_fmt<Ck: Checksum, W: fmt::Write>(
 ) -> Result<(), EncodeError>
     ensures ok { OnOk result
         (WritesText W.write_str_gives fmt.old fmt.new false Ck.code (hrp_bytes hrp) «data».now) }
-    ensures fits { IsOk result → encoded_length_of Ck.code (hrp_bytes hrp) (to_fes «data».now) ≤ Ck.code.code_length }
+    ensures fits { IsOk result
+        → encoded_length_of Ck.code (hrp_bytes hrp) (to_fes «data».now) ≤ Ck.code.code_length }
     ensures refused { IfErr result (λ e. IsFmtRefusal (fmt.new ≡ fmt.old) ⊤
         Ck.code (hrp_bytes hrp) (to_fes «data».now) e) }
 {
@@ -123,7 +131,8 @@ pub fn encode_upper_to_fmt<Ck: Checksum, W: fmt::Write>(
 ) -> Result<(), EncodeError>
     ensures ok { OnOk result
         (WritesText W.write_str_gives fmt.old fmt.new true Ck.code (hrp_bytes hrp) «data».now) }
-    ensures fits { IsOk result → encoded_length_of Ck.code (hrp_bytes hrp) (to_fes «data».now) ≤ Ck.code.code_length }
+    ensures fits { IsOk result
+        → encoded_length_of Ck.code (hrp_bytes hrp) (to_fes «data».now) ≤ Ck.code.code_length }
     ensures refused { IfErr result (λ e. IsFmtRefusal (fmt.new ≡ fmt.old) ⊤
         Ck.code (hrp_bytes hrp) (to_fes «data».now) e) }
 {
@@ -144,10 +153,13 @@ pub fn encode_lower_to_writer<Ck: Checksum, W: io::Write>(
     data: &[u8],
 ) -> Result<(), EncodeIoError>
     ensures ok { OnOk result
-        (AppendsText (W.contents w.old) (W.contents w.new) false Ck.code (hrp_bytes hrp) «data».now) }
-    ensures fits { IsOk result → encoded_length_of Ck.code (hrp_bytes hrp) (to_fes «data».now) ≤ Ck.code.code_length }
+        (AppendsText (W.contents w.old) (W.contents w.new)
+        false Ck.code (hrp_bytes hrp) «data».now) }
+    ensures fits { IsOk result
+        → encoded_length_of Ck.code (hrp_bytes hrp) (to_fes «data».now) ≤ Ck.code.code_length }
     ensures refused { IfErr result (λ e. IsIoRefusal (w.new ≡ w.old)
-        (AppendsBeginning (W.contents w.old) (W.contents w.new) false Ck.code (hrp_bytes hrp) «data».now)
+        (AppendsBeginning (W.contents w.old) (W.contents w.new)
+        false Ck.code (hrp_bytes hrp) «data».now)
         Ck.code (hrp_bytes hrp) (to_fes «data».now) e) }
 {
     let mut sink = Watched::new(w);
@@ -161,10 +173,13 @@ pub fn encode_to_writer<Ck: Checksum, W: io::Write>(
     data: &[u8],
 ) -> Result<(), EncodeIoError>
     ensures ok { OnOk result
-        (AppendsText (W.contents w.old) (W.contents w.new) false Ck.code (hrp_bytes hrp) «data».now) }
-    ensures fits { IsOk result → encoded_length_of Ck.code (hrp_bytes hrp) (to_fes «data».now) ≤ Ck.code.code_length }
+        (AppendsText (W.contents w.old) (W.contents w.new)
+        false Ck.code (hrp_bytes hrp) «data».now) }
+    ensures fits { IsOk result
+        → encoded_length_of Ck.code (hrp_bytes hrp) (to_fes «data».now) ≤ Ck.code.code_length }
     ensures refused { IfErr result (λ e. IsIoRefusal (w.new ≡ w.old)
-        (AppendsBeginning (W.contents w.old) (W.contents w.new) false Ck.code (hrp_bytes hrp) «data».now)
+        (AppendsBeginning (W.contents w.old) (W.contents w.new)
+        false Ck.code (hrp_bytes hrp) «data».now)
         Ck.code (hrp_bytes hrp) (to_fes «data».now) e) }
 {
     encode_lower_to_writer::<Ck, W>(w, hrp, data)
@@ -183,10 +198,13 @@ pub fn encode_upper_to_writer<Ck: Checksum, W: io::Write>(
     data: &[u8],
 ) -> Result<(), EncodeIoError>
     ensures ok { OnOk result
-        (AppendsText (W.contents w.old) (W.contents w.new) true Ck.code (hrp_bytes hrp) «data».now) }
-    ensures fits { IsOk result → encoded_length_of Ck.code (hrp_bytes hrp) (to_fes «data».now) ≤ Ck.code.code_length }
+        (AppendsText (W.contents w.old) (W.contents w.new)
+        true Ck.code (hrp_bytes hrp) «data».now) }
+    ensures fits { IsOk result
+        → encoded_length_of Ck.code (hrp_bytes hrp) (to_fes «data».now) ≤ Ck.code.code_length }
     ensures refused { IfErr result (λ e. IsIoRefusal (w.new ≡ w.old)
-        (AppendsBeginning (W.contents w.old) (W.contents w.new) true Ck.code (hrp_bytes hrp) «data».now)
+        (AppendsBeginning (W.contents w.old) (W.contents w.new)
+        true Ck.code (hrp_bytes hrp) «data».now)
         Ck.code (hrp_bytes hrp) (to_fes «data».now) e) }
 {
     let mut sink = Watched::new(w);

@@ -1,5 +1,6 @@
 -- What the steps of the corrector find.
-use Rattle.std.specs.Prelude.{◌≡◌, ◌≢◌, ◌↔◌, ℕ, ◌+◌, ◌*◌, ◌<◌, ◌≤◌, ◌++◌, ◌==◌, Bool, cond, List, [], ◌∷◌, map, drop, length, reverse}
+use Rattle.std.specs.Prelude.{◌≡◌, ◌≢◌, ◌↔◌, ℕ, ◌+◌, ◌*◌, ◌<◌, ◌≤◌, ◌++◌, ◌==◌}
+use Rattle.std.specs.Prelude.{Bool, cond, List, [], ◌∷◌, map, drop, length, reverse}
 use Rattle.std.specs.List.{AllByRecursion}
 use Rattle.bech32_gf.specs.Field.{Ops, IsOrder, power}
 use Rattle.bech32_poly.specs.Distinct.{IsAmong}
@@ -19,8 +20,10 @@ pub record HasLongOrder {K : Type 0} (o : Ops K) (b : K) (w : ℕ) : Type 0 wher
   pub is_order : IsOrder o b order
   pub long_enough : w ≤ order
 
--- so many powers of the base from the exponent `start` on are roots of the generator, which has no lower degree
-pub record AreUsableRoots {F K : Type 0} (f : Ops F) (o : Ops K) (embed : F → K) (g : List F) (b : K)
+-- so many powers of the base from the exponent `start` on are roots of the generator,
+-- which has no lower degree
+pub record AreUsableRoots {F K : Type 0} (f : Ops F)
+    (o : Ops K) (embed : F → K) (g : List F) (b : K)
     (start count w : ℕ) : Type 0 where
   pub order : HasLongOrder o b w
   pub few : count ≤ length g
@@ -31,22 +34,27 @@ abbrev pub locators : {K : Type 0} → Ops K → K → List ℕ → List K
 locators o b places = map (λ m. power o b m) places
 
 -- the items are the values of the residue at the powers of the base from the exponent `start` on
-pub record AreSyndromes {F K : Type 0} (o : Ops K) (embed : F → K) (b : K) (start count : ℕ) (residue : List F)
+pub record AreSyndromes {F K : Type 0} (o : Ops K)
+    (embed : F → K) (b : K) (start count : ℕ) (residue : List F)
     (items : List K) : Type 0 where
   pub size : length items ≡ count
-  pub values : (t : ℕ) → t < count → coefficient o items t ≡ value_in o embed residue (power o b (start + t))
+  pub values : (t : ℕ) → t < count
+      → coefficient o items t ≡ value_in o embed residue (power o b (start + t))
 
 -- the sequence without the terms at the locators: each item that as many items follow
 pub record IsKnockedOut {K : Type 0} (o : Ops K) (ys items left : List K) : Type 0 where
   pub size : length left ≡ length items
-  pub items_are : (t : ℕ) → length ys + t < length items → coefficient o left t ≡ knocks o ys (coefficient o items) t
+  pub items_are : (t : ℕ) → length ys + t < length items
+      → coefficient o left t ≡ knocks o ys (coefficient o items) t
 
 -- the items are the sums of powers of a pattern that has few errors outside the erasures
-pub record AreSumsOf {K : Type 0} (o : Ops K) (b : K) (start w : ℕ) (s : List ℕ) (items : List K) (e : List (ℕ × K))
+pub record AreSumsOf {K : Type 0} (o : Ops K) (b : K)
+    (start w : ℕ) (s : List ℕ) (items : List K) (e : List (ℕ × K))
     : Type 0 where
   pub pattern : IsPattern o w e
   pub sums : (t : ℕ) → t < length items
-      → coefficient o items t ≡ power_sum o (λ m. power o b m) (λ m. power o (power o b m) start) e t
+      → coefficient o items t
+      ≡ power_sum o (λ m. power o b m) (λ m. power o (power o b m) start) e t
   pub few : 2 * errors_outside s e + length s ≤ length items
 
 -- locations that may be those of errors outside the erasures
@@ -58,13 +66,15 @@ pub record AreErrorLocations (w : ℕ) (s : List ℕ) (bound : ℕ) (found : Lis
 
 -- they are the locations of the pattern outside the erasures
 abbrev pub AreLocationsOutside : {K : Type 0} → List ℕ → List (ℕ × K) → List ℕ → Type 0
-AreLocationsOutside s e found = (i : ℕ) → IsAmong i found ↔ (IsAmong i (locations e) × (IsAmong i s → ⊥))
+AreLocationsOutside s e found =
+    (i : ℕ) → IsAmong i found ↔ (IsAmong i (locations e) × (IsAmong i s → ⊥))
 
 -- the locations below w at which the register vanishes
 abbrev pub roots_below : {K : Type 0} → Ops K → (K → K → Bool) → List K → K → ℕ → List ℕ
 roots_below o same register b w = root_exponents o same register b 0 w
 
--- rising locations in the order of a listing: 0 first where it is the first, the rest from the last on
+-- rising locations in the order of a listing: 0 first where it is the first,
+-- the rest from the last on
 abbrev pub ordered : List ℕ → List ℕ
 ordered [] = []
 ordered (i ∷ rest) = cond (i == 0) (i ∷ reverse rest) (reverse (i ∷ rest))
@@ -84,12 +94,16 @@ pub record IsExplained {K : Type 0} (o : Ops K) (left known v : K) : Type 0 wher
   pub is : left ≡ o.mul v known
 
 -- each value explains what is left of the syndromes at its place
-abbrev pub AreExplained : {F K : Type 0} → Ops K → (F → K) → K → ℕ → List K → List ℕ → (ℕ → F) → Type 0
+abbrev pub AreExplained : {F K : Type 0} → Ops K → (F → K) → K → ℕ → List K → List ℕ → (ℕ → F)
+    → Type 0
 AreExplained o embed b start syndromes places v = (i : ℕ) → IsAmong i places
-    → IsExplained o (left_at o b (coefficient o syndromes) places i) (known_at o b start places i) (embed (v i))
+    → IsExplained o (left_at o b (coefficient o syndromes) places i)
+    (known_at o b start places i) (embed (v i))
 
--- a listing that the second division may yet refuse: the erasures and error locations, the values of these not zero
-pub record IsCandidate {F : Type 0} (f : Ops F) (w : ℕ) (s : List ℕ) (bound : ℕ) (items : List (ℕ × F)) : Type 0 where
+-- a listing that the second division may yet refuse: the erasures and error locations,
+-- the values of these not zero
+pub record IsCandidate {F : Type 0} (f : Ops F) (w : ℕ)
+    (s : List ℕ) (bound : ℕ) (items : List (ℕ × F)) : Type 0 where
   pub errors : List ℕ
   pub are_errors : AreErrorLocations w s bound errors
   pub placed : locations items ≡ s ++ errors

@@ -53,7 +53,8 @@ fn first_roots<K: Field, A: Allocator + Copy>(
 ) -> Result<Option<ShortVec<usize, A>>, AllocError>
     ensures roots { IfOk result (λ answer. MatchOption answer
         (length (roots_below K.ops K.eq register.now base window) < degree)
-        (λ found. (length found ≡ degree) × (found ≡ take degree (roots_below K.ops K.eq register.now base window)))) }
+        (λ found. (length found ≡ degree)
+        × (found ≡ take degree (roots_below K.ops K.eq register.now base window)))) }
     ensures in_place { FitsInPlace (length register.now) → FitsInPlace degree → IsOk result }
 {
     let mut terms = FieldVec::from_slice(alloc, register.as_slice())?;

@@ -17,7 +17,8 @@ pub(crate) fn syndromes<E: ExtensionField, A: Allocator + Copy>(
     start: usize,
     count: usize,
 ) -> Result<FieldVec<E, A>, AllocError>
-    ensures syndromes { IfOk result (λ s. AreSyndromes E.ops E.embed base start count residue.now s) }
+    ensures syndromes { IfOk result
+        (λ s. AreSyndromes E.ops E.embed base start count residue.now s) }
     ensures in_place { FitsInPlace count → IsOk result }
 {
     let mut list = FieldVec::new(alloc);

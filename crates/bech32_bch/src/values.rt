@@ -32,7 +32,8 @@ fn value_of_place<E: ExtensionField, A: Allocator + Copy>(
         → IsExplained E.ops (left_at E.ops base (coefficient E.ops syndromes.now) places.now place)
         (known_at E.ops base start places.now place) (E.embed v)
         → answer ≡ Some v) }
-    ensures in_place { FitsInPlace (length places.now) → FitsInPlace (length syndromes.now) → IsOk result }
+    ensures in_place { FitsInPlace (length places.now) → FitsInPlace (length syndromes.now)
+        → IsOk result }
 {
     let others = other_locators(alloc, base, places, all.as_slice(), place)?;
     let left = without_terms(alloc, syndromes.as_slice(), others.as_slice())?;
@@ -59,7 +60,8 @@ pub(crate) fn values<E: ExtensionField, A: Allocator + Copy>(
     given: usize,
 ) -> Result<Option<ShortVec<(usize, E::BaseField), A>>, AllocError>
     requires { length places.now ≤ length syndromes.now }
-    ensures placed { IfOk result (λ answer. IfSome answer (λ listing. locations listing ≡ places.now)) }
+    ensures placed { IfOk result
+        (λ answer. IfSome answer (λ listing. locations listing ≡ places.now)) }
     ensures not_zero { IfOk result (λ answer. IfSome answer (λ listing.
         AllByRecursion (λ p. p.1 ≢ E.BaseField.ops.zero) (drop given listing))) }
     ensures found { IfOk result (λ answer. (v : ℕ → E.BaseField)

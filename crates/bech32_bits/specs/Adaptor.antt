@@ -1,5 +1,6 @@
 -- What a call of an adaptor's `next` does, for an adaptor over a fused source.
-use Rattle.std.specs.Prelude.{◌≡◌, Bool, true, false, List, [], ◌∷◌, ◌++◌, length, Option, Some, None, MatchBool, IfNone}
+use Rattle.std.specs.Prelude.{◌≡◌, Bool, true, false, List, [], ◌∷◌, ◌++◌}
+use Rattle.std.specs.Prelude.{length, Option, Some, None, MatchBool, IfNone}
 use Rattle.std.specs.Iterator.{Yields, Drains, Count, size, count_unless}
 use Rattle.std.specs.Iterator.Adapters.{fuse_source, fuse_done}
 use Rattle.std.specs.declared.iter.Fuse.{Fuse}
@@ -12,9 +13,10 @@ fuse_can can s = fuse_done s ≡ false → can (fuse_source s)
 abbrev pub fuse_left : {S : Type 0} → (S → Count) → Fuse S → Count
 fuse_left left s = count_unless (fuse_done s) (left (fuse_source s))
 
--- calls led from s to t and gave xs; `was` and `ended` say whether `None` had come before them and has come after
--- them, and once it has come there is no call
-abbrev pub PullsUntilEnd : {S A : Type 0} → (S → Option A → S → Type 0) → Bool → S → List A → Bool → S → Type 0
+-- calls led from s to t and gave xs; `was` and `ended` say whether `None` had come before them and
+-- has come after them, and once it has come there is no call
+abbrev pub PullsUntilEnd : {S A : Type 0} → (S → Option A → S → Type 0) → Bool → S → List A → Bool
+    → S → Type 0
 PullsUntilEnd steps true s xs ended t = (xs ≡ []) × (ended ≡ true)
 PullsUntilEnd {S} steps false s xs ended t =
     (u : S) × Yields steps s xs u × MatchBool ended ((w : S) × steps u None w) (u ≡ t)
@@ -29,7 +31,8 @@ then_gives (Some y) ys = y ∷ ys
 -- so that each later call returns `None`, and the source is not asked. `gives s xs` is the list
 -- that the adaptor gives from s on, where its source goes on to give xs.
 pub record Adapts {S A U B : Type 0} (steps : S → Option A → S → Type 0)
-    (source : U → Fuse S) (gives : U → List A → List B) (s : U) (r : Option B) (t : U) : Type 0 where
+    (source : U → Fuse S) (gives : U → List A → List B)
+    (s : U) (r : Option B) (t : U) : Type 0 where
   pub taken : List A
   pub pulled : PullsUntilEnd steps (fuse_done (source s)) (fuse_source (source s)) taken
       (fuse_done (source t)) (fuse_source (source t))
@@ -43,5 +46,6 @@ abbrev pub IsExact : {S A : Type 0} → (S → Option A → S → Type 0) → (S
 IsExact {A = A} steps left s = (xs : List A) → Drains steps s xs → length xs ≡ size (left s)
 
 -- the same of a fused source
-abbrev pub IsExactFused : {S A : Type 0} → (S → Option A → S → Type 0) → (S → Count) → Fuse S → Type 0
+abbrev pub IsExactFused : {S A : Type 0} → (S → Option A → S → Type 0) → (S → Count) → Fuse S
+    → Type 0
 IsExactFused steps left s = fuse_done s ≡ false → IsExact steps left (fuse_source s)

@@ -1,5 +1,7 @@
--- Regrouping of bits: bytes as elements and back, on whole lists of bits (BIP-173, Segwit address format).
-use Rattle.std.specs.Prelude.{ℕ, zero, suc, ◌+◌, ◌*◌, ◌/◌, Bool, true, false, List, [], ◌∷◌, ◌++◌, replicate}
+-- Regrouping of bits: bytes as elements and back, on whole lists of bits
+-- (BIP-173, Segwit address format).
+use Rattle.std.specs.Prelude.{ℕ, zero, suc, ◌+◌, ◌*◌, ◌/◌, Bool, true}
+use Rattle.std.specs.Prelude.{false, List, [], ◌∷◌, ◌++◌, replicate}
 use Rattle.std.specs.List.{flat_map}
 use Rattle.std.specs.Int.{bit_at}
 use Rattle.bech32_gf.specs.Fe32.{element}
@@ -25,7 +27,8 @@ cut_in_fives (a ∷ []) = element (16 * a) ∷ []
 cut_in_fives (a ∷ b ∷ []) = element (16 * a + 8 * b) ∷ []
 cut_in_fives (a ∷ b ∷ c ∷ []) = element (16 * a + 8 * b + 4 * c) ∷ []
 cut_in_fives (a ∷ b ∷ c ∷ d ∷ []) = element (16 * a + 8 * b + 4 * c + 2 * d) ∷ []
-cut_in_fives (a ∷ b ∷ c ∷ d ∷ e ∷ rest) = element (16 * a + 8 * b + 4 * c + 2 * d + e) ∷ cut_in_fives rest
+cut_in_fives (a ∷ b ∷ c ∷ d ∷ e ∷ rest) =
+    element (16 * a + 8 * b + 4 * c + 2 * d + e) ∷ cut_in_fives rest
 
 -- bits cut in eights, with a last part shorter than eight dropped
 abbrev pub cut_in_eights : List ℕ → List ℕ
@@ -33,8 +36,8 @@ cut_in_eights (a ∷ b ∷ c ∷ d ∷ e ∷ f ∷ g ∷ h ∷ rest) =
     (128 * a + 64 * b + 32 * c + 16 * d + 8 * e + 4 * f + 2 * g + h) ∷ cut_in_eights rest
 cut_in_eights _ = []
 
--- bits cut in eights, with a last part filled with zeros: of seven zeros behind the bits it takes those that it lacks,
--- and the others are dropped
+-- bits cut in eights, with a last part filled with zeros: of seven zeros behind the bits it takes
+-- those that it lacks, and the others are dropped
 abbrev pub cut_in_eights_zeropad : List ℕ → List ℕ
 cut_in_eights_zeropad bs = cut_in_eights (bs ++ replicate 7 0)
 
@@ -43,12 +46,13 @@ abbrev pub cut_bytes : Bool → List ℕ → List ℕ
 cut_bytes true bs = cut_in_eights_zeropad bs
 cut_bytes false bs = cut_in_eights bs
 
--- the elements that stand for bytes: their bits in groups of five, padded with zeros (BIP-173, Segwit address format)
+-- the elements that stand for bytes: their bits in groups of five, padded with zeros
+-- (BIP-173, Segwit address format)
 abbrev pub to_fes : List ℕ → List Fe32
 to_fes bytes = cut_in_fives (byte_bits bytes)
 
--- the bytes that elements stand for: their bits in groups of eight, an incomplete group discarded (BIP-173, Segwit
--- address format, Decoding)
+-- the bytes that elements stand for: their bits in groups of eight, an incomplete group discarded
+-- (BIP-173, Segwit address format, Decoding)
 abbrev pub to_bytes : List Fe32 → List ℕ
 to_bytes fes = cut_in_eights (fe_bits fes)
 

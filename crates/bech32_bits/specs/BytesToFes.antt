@@ -16,13 +16,15 @@ abbrev pub fes_gives : {I : Type 0} → BytesToFes I → List ℕ → List Fe32
 fes_gives s bytes = cut_in_fives (bits s.count s.held ++ byte_bits bytes)
 
 -- a clone holds the same bits, over a clone of the source
-pub record IsFesClone {I : Type 0} (is_clone : Fuse I → Fuse I → Type 0) (s t : BytesToFes I) : Type 0 where
+pub record IsFesClone {I : Type 0} (is_clone : Fuse I → Fuse I → Type 0)
+    (s t : BytesToFes I) : Type 0 where
   pub source : is_clone (fes_source s) (fes_source t)
   pub held : t.held ≡ s.held
   pub count : t.count ≡ s.count
 
 -- what a call of `next` does
-abbrev pub fes_steps : {I : Type 0} → (I → Option ℕ → I → Type 0) → BytesToFes I → Option Fe32 → BytesToFes I → Type 0
+abbrev pub fes_steps : {I : Type 0} → (I → Option ℕ → I → Type 0) → BytesToFes I → Option Fe32
+    → BytesToFes I → Type 0
 fes_steps steps = Adapts steps fes_source fes_gives
 
 -- `next` may be called

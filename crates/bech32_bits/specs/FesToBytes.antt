@@ -20,14 +20,16 @@ abbrev pub bytes_padded : {I : Type 0} → FesToBytes I → Bool
 bytes_padded s = s.padded
 
 -- a clone holds the same bits, over a clone of the source, and treats a last part alike
-pub record IsBytesClone {I : Type 0} (is_clone : Fuse I → Fuse I → Type 0) (s t : FesToBytes I) : Type 0 where
+pub record IsBytesClone {I : Type 0}
+    (is_clone : Fuse I → Fuse I → Type 0) (s t : FesToBytes I) : Type 0 where
   pub source : is_clone (bytes_source s) (bytes_source t)
   pub held : t.held ≡ s.held
   pub count : t.count ≡ s.count
   pub padded : t.padded ≡ s.padded
 
 -- what a call of `next` does
-abbrev pub bytes_steps : {I : Type 0} → (I → Option Fe32 → I → Type 0) → FesToBytes I → Option ℕ → FesToBytes I → Type 0
+abbrev pub bytes_steps : {I : Type 0} → (I → Option Fe32 → I → Type 0) → FesToBytes I → Option ℕ
+    → FesToBytes I → Type 0
 bytes_steps steps = Adapts steps bytes_source bytes_gives
 
 -- `next` may be called

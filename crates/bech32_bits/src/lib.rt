@@ -84,7 +84,8 @@ impl<I: Iterator<Item = u8>> Iterator for BytesToFes<I> {
     fn size_hint(&self) -> (usize, Option<usize>)
         ensures lower { IsWithinCount result.0 (fes_left I.remaining self.now) }
         ensures upper { IfSome result.1 (UpTo (fes_left I.remaining self.now)) }
-        ensures rule { FollowsHint (fes_from self.now) (fuse_left I.remaining (fes_source self.now)) result }
+        ensures rule { FollowsHint (fes_from self.now)
+            (fuse_left I.remaining (fes_source self.now)) result }
     {
         fes_hint(self.bytes.size_hint(), self.count)
     }
@@ -246,7 +247,8 @@ impl<I: Iterator<Item = Fe32>> Iterator for FesToBytes<I> {
     fn next(&mut self) -> Option<u8>
         requires { bytes_can I.can_next self.old }
         ensures steps { bytes_steps I.next_gives self.old result self.new }
-        ensures goes { MakesProgress (bytes_can I.can_next) (bytes_left I.remaining) self.old result self.new }
+        ensures goes { MakesProgress (bytes_can I.can_next)
+            (bytes_left I.remaining) self.old result self.new }
         // Whether a last part is filled stays as it was.
         ensures padded { bytes_padded self.new ≡ bytes_padded self.old }
     {
@@ -275,7 +277,8 @@ impl<I: Iterator<Item = Fe32>> Iterator for FesToBytes<I> {
     fn size_hint(&self) -> (usize, Option<usize>)
         ensures lower { IsWithinCount result.0 (bytes_left I.remaining self.now) }
         ensures upper { IfSome result.1 (UpTo (bytes_left I.remaining self.now)) }
-        ensures rule { FollowsHint (bytes_from self.now) (fuse_left I.remaining (bytes_source self.now)) result }
+        ensures rule { FollowsHint (bytes_from self.now)
+            (fuse_left I.remaining (bytes_source self.now)) result }
     {
         bytes_hint(self.padded, self.fes.size_hint(), self.count)
     }

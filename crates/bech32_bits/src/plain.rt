@@ -80,7 +80,8 @@ fn padded_to_fives(mut all: Vec<u8>) -> Result<Vec<u8>, AllocError>
 fn five_at(all: &[u8], at: usize) -> Fe32
     requires { at + 5 ≤ length all.now }
     ensures { let bit = slice_index all.now in
-        result ≡ element (16 * bit at + 8 * bit (at + 1) + 4 * bit (at + 2) + 2 * bit (at + 3) + bit (at + 4)) }
+        result ≡ element
+        (16 * bit at + 8 * bit (at + 1) + 4 * bit (at + 2) + 2 * bit (at + 3) + bit (at + 4)) }
 {
     let mut number = 16 * all[at] as u16;
     number += 8 * all[at + 1] as u16;

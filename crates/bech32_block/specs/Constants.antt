@@ -5,9 +5,11 @@ use Rattle.bech32_checksum.specs.Code.{code_of}
 use Rattle.bech32_checksum.specs.PackingLaws.{KeepsPackingLaws}
 use Rattle.bech32_checksum.specs.Roots.{HasLawfulRoots}
 use Rattle.bech32_block.specs.Representation.{width_of}
-use Rattle.bech32_block.specs.Roots.{RootField, AreOfLongestSeries, HasAllRoots, code_of_written, roots_of}
+use Rattle.bech32_block.specs.Roots.{RootField, AreOfLongestSeries}
+use Rattle.bech32_block.specs.Roots.{HasAllRoots, code_of_written, roots_of}
 
--- the base, the first exponent and the last, the code length, the words of the generator and that of the target
+-- the base, the first exponent and the last, the code length, the words of the
+-- generator and that of the target
 pub record Constants (E : Type 0) : Type 0 where
   pub base : E
   pub start : ℕ
@@ -17,7 +19,8 @@ pub record Constants (E : Type 0) : Type 0 where
   pub target : ℕ
 
 -- the constants of the checksum with this generator and target
-pub record AreConstants {E : Type 0} (f : RootField E) (generator target : List Fe32) (c : Constants E)
+pub record AreConstants {E : Type 0} (f : RootField E)
+    (generator target : List Fe32) (c : Constants E)
     : Type 0 where
   pub degree : length generator ≢ 1
   pub split : HasAllRoots f generator
@@ -25,8 +28,10 @@ pub record AreConstants {E : Type 0} (f : RootField E) (generator target : List 
   pub series : AreOfLongestSeries f (roots_of f generator) c.base c.start c.end c.code_length
   -- what a checksum owes: the packing laws, that its code is that of the words, and lawful roots
   pub packing_laws :
-      KeepsPackingLaws (λ (n : ℕ). n) (width_of (length generator)) (length generator) c.words c.target
+      KeepsPackingLaws (λ (n : ℕ). n) (width_of (length generator))
+      (length generator) c.words c.target
   pub packed : code_of (λ (n : ℕ). n) c.code_length (length generator) c.words c.target
       ≡ code_of_written generator target c.code_length
   pub lawful_roots :
-      HasLawfulRoots f.ops f.embed (code_of_written generator target c.code_length) c.base c.start c.end
+      HasLawfulRoots f.ops f.embed
+      (code_of_written generator target c.code_length) c.base c.start c.end

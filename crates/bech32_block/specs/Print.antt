@@ -19,7 +19,8 @@ constants_of p = record {
 
 -- the text that it is shown as
 abbrev pub block_of : {E : Type 0} → (E → List ℕ) → PrintImpl E → List ℕ
-block_of code p = block_text code p.field.now p.name.now p.generator.now p.target.now (constants_of p)
+block_of code p =
+    block_text code p.field.now p.name.now p.generator.now p.target.now (constants_of p)
 
 -- the text is the block of the checksum with this name, generator and target
 pub record IsBlock {E : Type 0} (f : RootField E) (code : E → List ℕ) (field name : List ℕ)

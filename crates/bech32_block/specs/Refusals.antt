@@ -3,7 +3,8 @@ use Rattle.std.specs.Prelude.{◌≡◌, ◌≢◌, List, length}
 use Rattle.bech32_gf.specs.declared.gf32.Fe32.{Fe32}
 use Rattle.bech32_block.specs.Roots.{RootField, roots_of, HasAllRoots, HasNoExponents}
 use Rattle.bech32_block.specs.declared.error.PrintError.{PrintError}
-use Rattle.bech32_block.specs.declared.error.PrintError.TheVariants.{Degree, NotSplit, NotPowers, Memory}
+use Rattle.bech32_block.specs.declared.error.PrintError.TheVariants.{Degree, NotSplit}
+use Rattle.bech32_block.specs.declared.error.PrintError.TheVariants.{NotPowers, Memory}
 
 -- the first of: the degree is one; a root is missing; the first root of the longest series is not a
 -- power of its ratio. Out of memory is returned only for generators whose degree is not one.

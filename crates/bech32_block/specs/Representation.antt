@@ -7,7 +7,9 @@ width_of degree = if nat_le degree 6 then 6 else (if nat_le degree 12 then 12 el
 
 -- the smallest of these types into which so many elements fit
 abbrev pub representation : ℕ → List ℕ
-representation degree = if nat_le degree 6 then codes "u32" else (if nat_le degree 12 then codes "u64" else codes "u128")
+representation degree =
+    if nat_le degree 6 then codes "u32"
+    else (if nat_le degree 12 then codes "u64" else codes "u128")
 
 -- the number of its hexadecimal digits
 abbrev pub hex_digits : ℕ → ℕ

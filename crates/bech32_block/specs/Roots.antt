@@ -8,8 +8,9 @@ use Rattle.bech32_poly.specs.RootSearch.{root_exponents}
 use Rattle.bech32_checksum.specs.Code.{Code}
 use Rattle.bech32_block.specs.Series.{IsLongestSeries}
 
--- a field in which roots are looked for: its operations, the test whether elements are the same, where the elements of
--- a generator stand in it, and an element whose powers are all elements but zero, with its order
+-- a field in which roots are looked for: its operations, the test whether elements are the
+-- same, where the elements of a generator stand in it, and an element whose powers are all
+-- elements but zero, with its order
 pub record RootField (E : Type 0) : Type 0 where
   pub ops : Ops E
   pub same : E → E → Bool
@@ -17,24 +18,28 @@ pub record RootField (E : Type 0) : Type 0 where
   pub generator : E
   pub order : ℕ
 
--- the code of a generator and a target that are written with the highest coefficient first, the generator without its
--- leading one
+-- the code of a generator and a target that are written with the highest coefficient first, the
+-- generator without its leading one
 abbrev pub code_of_written : List Fe32 → List Fe32 → ℕ → Code
 code_of_written generator target code_length =
     record { generator = reverse generator; target = reverse target; code_length = code_length }
 
--- the exponents of the roots, as powers of the field's element, in rising order: each root that is not zero once
+-- the exponents of the roots, as powers of the field's element, in rising order: each
+-- root that is not zero once
 abbrev pub roots_of : {E : Type 0} → RootField E → List Fe32 → List ℕ
 roots_of f generator =
-    root_exponents f.ops f.same (map f.embed (monic fe32.ops (reverse generator))) f.generator 0 f.order
+    root_exponents f.ops f.same
+    (map f.embed (monic fe32.ops (reverse generator))) f.generator 0 f.order
 
 -- there are as many roots that are not zero as the degree
 abbrev pub HasAllRoots : {E : Type 0} → RootField E → List Fe32 → Type 0
 HasAllRoots f generator = length (roots_of f generator) ≡ length generator
 
--- The base is the ratio of the longest series of roots, the code length its order. The first exponent is the least of
--- the base's that gives the first root of the series, and the last one that of its last root.
-pub record AreOfLongestSeries {E : Type 0} (f : RootField E) (roots : List ℕ) (base : E) (start end code_length : ℕ)
+-- The base is the ratio of the longest series of roots, the code length its order. The first
+-- exponent is the least of the base's that gives the first root of the series, and the last
+-- one that of its last root.
+pub record AreOfLongestSeries {E : Type 0} (f : RootField E)
+    (roots : List ℕ) (base : E) (start end code_length : ℕ)
     : Type 0 where
   pub first : ℕ
   pub step : ℕ
@@ -52,4 +57,5 @@ pub record HasNoExponents {E : Type 0} (f : RootField E) (roots : List ℕ) : Ty
   pub step : ℕ
   pub count : ℕ
   pub is_longest : IsLongestSeries f.order roots first step count
-  pub no_power : (k : ℕ) → power f.ops (power f.ops f.generator step) k ≢ power f.ops f.generator first
+  pub no_power : (k : ℕ)
+      → power f.ops (power f.ops f.generator step) k ≢ power f.ops f.generator first

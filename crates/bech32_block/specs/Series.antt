@@ -6,14 +6,16 @@ use Rattle.std.specs.List.{Contains}
 abbrev pub term : ℕ → ℕ → ℕ → ℕ → ℕ
 term n first step k = (first + k * step) % n
 
--- so many roots r, rq, rq^2, .., pairwise different; q is not one. `roots` lists the exponents of all roots.
+-- so many roots r, rq, rq^2, .., pairwise different; q is not one. `roots` lists
+-- the exponents of all roots.
 pub record IsSeries (n : ℕ) (roots : List ℕ) (first step count : ℕ) : Type 0 where
   pub step_positive : 0 < step
   pub step_below : step < n
   pub are_roots : (k : ℕ) → k < count → Contains roots (term n first step k)
   pub different : (j k : ℕ) → j < k → k < count → term n first step j ≢ term n first step k
 
--- of two pairs of exponents one has the smaller first one, or the same first one and a second one that is not greater
+-- of two pairs of exponents one has the smaller first one, or the same first one and a
+-- second one that is not greater
 abbrev pub Before : ℕ → ℕ → ℕ → ℕ → Type 0
 Before first second first' second' = (first < first') ⊎ ((first ≡ first') × (second ≤ second'))
 
@@ -21,11 +23,13 @@ Before first second first' second' = (first < first') ⊎ ((first ≡ first') ×
 pub record IsLongestSeries (n : ℕ) (roots : List ℕ) (first step count : ℕ) : Type 0 where
   pub below : first < n
   pub series : IsSeries n roots first step count
-  pub longest : (first' step' count' : ℕ) → first' < n → IsSeries n roots first' step' count' → count' ≤ count
+  pub longest : (first' step' count' : ℕ) → first' < n → IsSeries n roots first' step' count'
+      → count' ≤ count
   pub earliest : (first' step' : ℕ) → first' < n → IsSeries n roots first' step' count
       → Before first (term n first step 1) first' (term n first' step' 1)
 
--- k is the least number, from 0 on, whose power of the element with the exponent `step` is the one with that exponent
+-- k is the least number, from 0 on, whose power of the element with the exponent `step` is
+-- the one with that exponent
 pub record IsLeastPower (n step exponent k : ℕ) : Type 0 where
   pub gives : (k * step) % n ≡ exponent
   pub least : (j : ℕ) → j < k → (j * step) % n ≢ exponent

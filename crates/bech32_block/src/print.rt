@@ -156,7 +156,8 @@ impl<E: Bech32Field> PrintImpl<'_, E> {
 
     #[tactic(auto, unfolding(crate::specs::Block::packing_text))]
     fn write_packing<W: fmt::Write>(&self, f: &mut fmt::Formatter<W>) -> fmt::Result
-        ensures { WritesOnOk W.write_str_gives f.old result (packing_text (length self.now.generator.now)) f.new }
+        ensures { WritesOnOk W.write_str_gives f.old result
+            (packing_text (length self.now.generator.now)) f.new }
     {
         write!(
             f,
@@ -190,7 +191,8 @@ impl<E: Bech32Field> PrintImpl<'_, E> {
 
     #[tactic(auto, unfolding(crate::specs::Block::base_text))]
     fn write_base<W: fmt::Write>(&self, f: &mut fmt::Formatter<W>) -> fmt::Result
-        ensures { WritesOnOk W.write_str_gives f.old result (base_text (E.rust_code self.now.roots.base)) f.new }
+        ensures { WritesOnOk W.write_str_gives f.old result
+            (base_text (E.rust_code self.now.roots.base)) f.new }
     {
         write!(
             f,

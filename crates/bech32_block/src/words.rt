@@ -36,7 +36,8 @@ impl Words {
         requires some { 0 < length generator.now }
         requires few { length generator.now ≤ 25 }
         requires as_many { length target.now ≡ length generator.now }
-        ensures laws { KeepsPackingLaws (λ (n : ℕ). n) (width_of (length generator.now)) (length generator.now)
+        ensures laws { KeepsPackingLaws (λ (n : ℕ). n)
+            (width_of (length generator.now)) (length generator.now)
             result.generator result.target }
         ensures packed { (code_length : ℕ) →
             code_of (λ (n : ℕ). n) code_length (length generator.now) result.generator result.target

@@ -18,7 +18,7 @@ use Rattle.bech32_bch.specs.Listing.{IsSound}
 use Rattle.bech32_bch.specs.Pattern.{HasRemainder, IsSamePattern, Solves, errors_outside, locations}
 use Rattle.bech32_bch.proofs.Places.{once_fits}
 use Rattle.bech32_bch.proofs.Rising.{once_in_order}
-use Rattle.bech32_corrector.specs.Carried.{of_checksum}
+use Rattle.bech32_correction.specs.Carried.{of_checksum}
 use Rattle.bech32_decode.specs.Acceptance.{Accepts}
 use Rattle.bech32_decode.specs.Checked.{IsRefusedByChecksum}
 use Rattle.bech32_decode.specs.Text.{IsInGrammar, text_refusal}
@@ -27,9 +27,10 @@ use Rattle.bech32_decode.proofs.Grammar.{only-from_IsText, text_refusal-none}
 use Rattle.bech32_encode.specs.Buffers.{IsPut}
 use Rattle.bech32_refusals.specs.declared.error.ChecksumError.{ChecksumError}
 use Rattle.bech32_refusals.specs.declared.error.ChecksumError.TheVariants.{CodeLength, InvalidLength, InvalidResidue}
-use Rattle.bech32_mended.specs.Mended.{EndsIn, mended as mended_of}
-use Rattle.bech32_mended.specs.Mistyped.{AreInside, HasNoListing, IsListingOf, IsRefusedFor}
-use Rattle.bech32_mended.proofs.Texts.{IsMendable, ends-lowered, mendable-from_accepts, mendable-from_listing, mended_text-from_ends}
+use Rattle.bech32_correction.specs.MendedElements.{EndsIn, mended as mended_of}
+use Rattle.bech32_correction.specs.Mistyped.{AreInside, HasNoListing, IsListingOf, IsRefusedFor, question_of}
+use Rattle.bech32_correction.proofs.Sound.{sound_of}
+use Rattle.bech32_correction.proofs.Texts.{IsMendable, ends-lowered, mendable-from_accepts, mendable-from_listing, mended_text-from_ends}
 use Rattle.bech32_c.specs.Correct.{CanMend, IsCorrectFault, IsListingFault, IsMendedBy, LacksRoomForMended, PutsMended, bound}
 use Rattle.bech32_c.specs.declared.refusal.Refusal.{Refusal}
 use Rattle.bech32_c.specs.declared.refusal.Refusal.TheVariants.{NotUtf8, Text, Checksum, NoCorrection, NoRoom}
@@ -120,9 +121,11 @@ module _ (text given : List ℕ) (code : Code) where
       let s = with_erasures [] given in
       let one = one_refused code text h.hrp h.data_part h.residue k.hrp k.data_part k.residue h.refused k.refused in
       let here : IsSound ops code.generator h.residue s (length k.data_part) bound a =
-      subst (λ (d : List ℕ). IsSound ops code.generator h.residue s (length d) bound a) one.0 h.sound in
+      subst (λ (d : List ℕ). IsSound ops code.generator h.residue s (length d) bound a) one.0
+      (sound_of code bound (question_of h.data_part h.residue given) a h.only) in
       one_length code.generator k.residue s (length k.data_part) bound a b
-      (sound-same code.generator h.residue k.residue one.1 s (length k.data_part) bound a here) k.sound less
+      (sound-same code.generator h.residue k.residue one.1 s (length k.data_part) bound a here)
+      (sound_of code bound (question_of k.data_part k.residue given) b k.only) less
 
   two_ways : (a b : List (ℕ × Fe32)) → IsMendedBy text given a code → IsMendedBy text given b code → length a < length b → ⊥
   two_ways a b (inl h) (inl k) less = let none : length b ≡ 0 = ap length k.1 in omega arith
@@ -144,10 +147,10 @@ module _ (text given : List ℕ) (code : Code) where
   no_solution listing (inl h) none = not_both code text none.hrp none.data_part none.residue h.0 none.refused
   no_solution listing (inr h) none =
       let s = with_erasures [] given in
-      let e = h.sound.pattern in
+      let e = h.only.pattern in
       let one = one_refused code text h.hrp h.data_part h.residue none.hrp none.data_part none.residue h.refused none.refused in
       let here : Solves ops code.generator h.residue s (length none.data_part) bound e =
-      subst (λ (d : List ℕ). Solves ops code.generator h.residue s (length d) bound e) one.0 h.sound.solves in
+      subst (λ (d : List ℕ). Solves ops code.generator h.residue s (length d) bound e) one.0 h.only.explains in
       none.none (subst (λ (d : List ℕ). AreInside d given) one.0 h.inside) e
       (solves-same code.generator h.residue none.residue one.1 s (length none.data_part) bound e here)
 

@@ -1,32 +1,50 @@
--- One more element of a run.
-use Rattle.std.proofs.Common.{◌≡◌, ◌<◌, ◌≤◌, ◌+◌, ℕ, List, [], ◌∷◌, All, length, length-take, take, get_or, get_or-take, map, sym, ap, ◌∙◌, subst, arith, ⊎_elim}
-use Rattle.std.proofs.lemmas.Bool.{cases_lt}
-use Rattle.std.proofs.lemmas.List.{take_more, map-append, get_or_default}
-use Rattle.bech32_gf.specs.Fe32.{element, one}
+-- Runs of elements.
+use Rattle.std.proofs.Common.{◌≡◌, ◌<◌, ◌≤◌, ◌+◌, ◌∙◌, ◌++◌, ℕ, suc, true, false, List, [], ◌∷◌, All, Any, length, take, drop, get_or, map, nat_le, refl, sym, ap, subst, arith, length-append, leb-true, leb-false, ⊎_elim}
+use Rattle.std.specs.List.{list_all}
+use Rattle.std.proofs.lemmas.Bool.{cases_Bool}
+use Rattle.std.proofs.lemmas.List.{take_more, map-append, take-append-drop, get_or_append_left, get_or-append-add}
+use Rattle.std.proofs.lemmas.List.Elements.{All-append}
+use Rattle.std.proofs.lemmas.List.Sums.{AllPass-from_list_all}
+use Rattle.bech32_gf.specs.Fe32.{element}
 use Rattle.bech32_gf.specs.declared.gf32.Fe32.{Fe32}
-use Rattle.bech32_poly.specs.Polynomial.{appended}
-use Rattle.bech32_poly.proofs.Appended.{appended-append}
-use Rattle.bech32_c.specs.Engine.{run_polynomial}
 
-module _ (values : List ℕ) (i v : ℕ) (within : i < length values) (read : v ≡ get_or values i 0) where
-  pub run-more : (fe : Fe32) → fe ≡ element v → run_polynomial (take (i + 1) values) ≡ fe ∷ run_polynomial (take i values)
-  run-more fe is =
-      ap run_polynomial (take_more values i 0 within)
-      ∙ ap (appended (one ∷ [])) (map-append element (take i values) (get_or values i 0 ∷ []))
-      ∙ appended-append (one ∷ []) (map element (take i values)) (element (get_or values i 0) ∷ [])
-      ∙ ap (λ (x : Fe32). x ∷ run_polynomial (take i values)) (sym (is ∙ ap element read))
+-- the elements of one more value
+pub elements-more : (values : List ℕ) (i v : ℕ) → i < length values → v ≡ get_or values i 0
+    → (fe : Fe32) → fe ≡ element v → map element (take (i + 1) values) ≡ map element (take i values) ++ fe ∷ []
+elements-more values i v within read fe is =
+    ap (map element) (take_more values i 0 within)
+    ∙ map-append element (take i values) (get_or values i 0 ∷ [])
+    ∙ ap (λ (x : Fe32). map element (take i values) ++ x ∷ []) (sym (is ∙ ap element read))
 
-  pub elements-more : v ≤ 31 → All (λ x. x ≤ 31) (take i values) → All (λ x. x ≤ 31) (take (i + 1) values)
-  elements-more small before k d h =
-      let size : length (take (i + 1) values) ≤ i + 1 = omega (arith, length-take (i + 1) values) in
-      let here : get_or (take (i + 1) values) k d ≡ get_or values k d = get_or-take (i + 1) values k d (omega arith) in
-      ⊎_elim
-      (λ (earlier : k < i).
-      let long : length (take i values) ≡ i = omega (arith, length-take i values) in
-      let there : get_or (take i values) k d ≡ get_or values k d = get_or-take i values k d earlier in
-      let was : get_or (take i values) k d ≤ 31 = before k d (omega arith) in
-      omega arith)
-      (λ (later : i ≤ k).
-      let same : i ≡ k = omega arith in
-      subst (λ (n : ℕ). n ≤ 31) (read ∙ get_or_default values i 0 d within ∙ ap (λ (n : ℕ). get_or values n d) same ∙ sym here) small)
-      (cases_lt k i)
+-- what a test of values tells
+pub all_elements : (values : List ℕ) → list_all (λ x. nat_le x 31) values ≡ true → All (λ x. x ≤ 31) values
+all_elements values h k d within = leb-true _ _ (AllPass-from_list_all (λ x. nat_le x 31) values h k d within)
+
+pub some_other : (values : List ℕ) → list_all (λ x. nat_le x 31) values ≡ false → Any (λ x. 31 < x) values
+some_other [] h = absurd cc
+some_other (v ∷ values) h =
+    ⊎_elim
+    (λ (small : nat_le v 31 ≡ true).
+    let (k, x, within, there, above) = some_other values (rw small at h) in
+    (suc k, x, omega arith, there, above))
+    (λ (other : nat_le v 31 ≡ false). (0, v, omega arith, refl, leb-false v 31 other))
+    (cases_Bool (nat_le v 31))
+
+-- a value among others, before and behind which there are more
+pub other_among : (all front values behind : List ℕ) → all ≡ front ++ (values ++ behind) → Any (λ x. 31 < x) values → Any (λ x. 31 < x) all
+other_among all front values behind parts other =
+    let (k, x, within, there, above) = other in (
+      length front + k,
+      x,
+      omega (arith, ap length parts, length-append front (values ++ behind), length-append values behind),
+      ap (λ (l : List ℕ). get_or l (length front + k) x) parts
+          ∙ get_or-append-add front (values ++ behind) k x
+          ∙ get_or_append_left values behind x k within ∙ there,
+      above,
+    )
+
+-- where the first ones are elements, and the others too, all are
+pub all_from_rest : (n : ℕ) (values : List ℕ) → list_all (λ x. nat_le x 31) (take n values) ≡ true
+    → All (λ x. x ≤ 31) (drop n values) → All (λ x. x ≤ 31) values
+all_from_rest n values first rest =
+    subst (All (λ x. x ≤ 31)) (take-append-drop n values) (All-append (λ x. x ≤ 31) (take n values) (drop n values) (all_elements (take n values) first) rest)

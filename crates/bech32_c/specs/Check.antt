@@ -5,11 +5,15 @@ use Rattle.bech32_checksum.specs.Code.{Code}
 use Rattle.bech32_decode.specs.Acceptance.{IsAccepted}
 use Rattle.bech32_decode.specs.Checked.{IsCheckedRefusal}
 use Rattle.bech32_refusals.specs.declared.error.CheckedHrpstringError.{CheckedHrpstringError}
-use Rattle.bech32_refusals.specs.declared.error.CheckedHrpstringError.TheVariants.{Parse, Checksum as NotAccepted}
+use Rattle.bech32_refusals.specs.declared.error.CheckedHrpstringError.TheVariants.{
+  Parse,
+  Checksum as NotAccepted,
+}
 use Rattle.bech32_c.specs.declared.refusal.Refusal.{Refusal}
 use Rattle.bech32_c.specs.declared.refusal.Refusal.TheVariants.{NotUtf8, Text, Checksum}
 
--- the checksum accepts the text, with a human-readable part and a data part of these lengths, the checksum not counted
+-- the checksum accepts the text, with a human-readable part and a data part of these
+-- lengths, the checksum not counted
 pub record IsCheckedAs (text : List ℕ) (hrp_length data_length : ℕ) (code : Code) : Type 0 where
   pub hrp : List ℕ
   pub data_part : List ℕ

@@ -12,6 +12,7 @@ code_of_number n = if n == 1 then Some bech32 else (if n == 2 then Some bech32m 
 abbrev pub ForChecksum : ℕ → (Code → Type 0) → Type 0
 ForChecksum n P = MatchOption (code_of_number n) ⊥ P
 
--- why the call with the checksum of a number is refused: the number is that of none, or what is wrong by that checksum
+-- why the call with the checksum of a number is refused: the number is that of none, or what
+-- is wrong by that checksum
 abbrev pub IsFaultBy : ℕ → (Code → Refusal → Type 0) → Refusal → Type 0
 IsFaultBy n IsFault e = MatchOption (code_of_number n) (e ≡ BadNumber) (λ code. IsFault code e)

@@ -3,13 +3,15 @@ use Rattle.std.specs.Prelude.{◌<◌, ◌≤◌, ◌⊎◌, ℕ, List, length}
 use Rattle.std.specs.Str.{IsUtf8}
 use Rattle.bech32_decode.specs.Acceptance.{IsDecoded}
 use Rattle.bech32.specs.Refusals.{IsDecodeRefusal}
-use Rattle.bech32.specs.declared.error.DecodeError.TheVariants.{Parse, Checksum as NoChecksumAccepts}
+use Rattle.bech32.specs.declared.error.DecodeError.TheVariants.{Parse}
+use Rattle.bech32.specs.declared.error.DecodeError.TheVariants.{Checksum as NoChecksumAccepts}
 use Rattle.bech32_encode.specs.Buffers.{IsPut}
 use Rattle.bech32_c.specs.declared.refusal.Refusal.{Refusal}
 use Rattle.bech32_c.specs.declared.refusal.Refusal.TheVariants.{NotUtf8, NoRoom, Text, Checksum}
 
 -- what is decoded of a text is put into a buffer for the human-readable part and one for the bytes
-pub record PutsDecoded (text hrp hrp' bytes bytes' : List ℕ) (hrp_count bytes_count : ℕ) : Type 0 where
+pub record PutsDecoded (text hrp hrp' bytes bytes' : List ℕ)
+    (hrp_count bytes_count : ℕ) : Type 0 where
   pub part : List ℕ
   pub found : List ℕ
   pub is_decoded : IsDecoded text part found

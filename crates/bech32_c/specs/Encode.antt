@@ -26,14 +26,17 @@ pub record HasText (code : Code) (hrp bytes : List ℕ) (room : ℕ) : Type 0 wh
   pub fits : encoded_length_of code hrp (to_fes bytes) ≤ code.code_length
   pub has_room : encoded_length_of code hrp (to_fes bytes) ≤ room
 
--- why the text of a human-readable part and bytes is not put into a buffer of so many bytes: it is longer than the
--- code, or than the buffer
+-- why the text of a human-readable part and bytes is not put into a buffer of so many bytes: it is
+-- longer than the code, or than the buffer
 abbrev pub IsTextFault : Code → List ℕ → List ℕ → ℕ → Refusal → Type 0
-IsTextFault code hrp bytes room (TooLong e) = IsEncodeRefusal code hrp (to_fes bytes) (TextTooLong e)
+IsTextFault code hrp bytes room (TooLong e) =
+    IsEncodeRefusal code hrp (to_fes bytes) (TextTooLong e)
 IsTextFault code hrp bytes room NoRoom =
-    (encoded_length_of code hrp (to_fes bytes) ≤ code.code_length) × (room < encoded_length_of code hrp (to_fes bytes))
+    (encoded_length_of code hrp (to_fes bytes) ≤ code.code_length)
+    × (room < encoded_length_of code hrp (to_fes bytes))
 IsTextFault code hrp bytes room _ = ⊥
 
 -- the same of bytes that may be no human-readable part, which is refused first
 abbrev pub IsEncodeFault : List ℕ → List ℕ → ℕ → Code → Refusal → Type 0
-IsEncodeFault hrp bytes room code e = IsPartFault hrp e ⊎ (IsHrp hrp × IsTextFault code hrp bytes room e)
+IsEncodeFault hrp bytes room code e =
+    IsPartFault hrp e ⊎ (IsHrp hrp × IsTextFault code hrp bytes room e)

@@ -11,8 +11,10 @@ use Rattle.bech32_c.specs.declared.refusal.Refusal.TheVariants.{BadNumber}
 abbrev pub run_polynomial : List ℕ → List Fe32
 run_polynomial values = appended (one ∷ []) (map element values)
 
--- all values are elements, and the packed remainder is that of their polynomial, with no bit beyond its coefficients
-pub record IsRunResidue {R : Type 0} (number : R → ℕ) (values : List ℕ) (residue : R) (code : Code) : Type 0 where
+-- all values are elements, and the packed remainder is that of their polynomial, with no
+-- bit beyond its coefficients
+pub record IsRunResidue {R : Type 0} (number : R → ℕ)
+    (values : List ℕ) (residue : R) (code : Code) : Type 0 where
   pub elements : All (λ x. x ≤ 31) values
   pub residue_is : IsResidueOf number code residue (run_polynomial values)
   pub fits : number residue < 2 ^ (5 * length code.generator)

@@ -2,13 +2,16 @@
 -- number that is that of no checksum or of no element, and 92 for a buffer that is too small.
 use Rattle.std.specs.Prelude.{ℕ}
 use Rattle.bech32.specs.declared.error.EncodeError.TheVariants.{TooLong as LongText}
-use Rattle.bech32_segwit.specs.declared.error.EncodeError.TheVariants.{WitnessVersion, TooLong as LongAddress}
-use Rattle.bech32_numbers.specs.Numbers.{number_of_hrp_error, number_of_text_error, number_of_checksum_error}
-use Rattle.bech32_numbers.specs.Numbers.{number_of_length_error, number_of_address_error, number_of_no_correction}
+use Rattle.bech32_segwit.specs.declared.error.EncodeError.TheVariants.{WitnessVersion}
+use Rattle.bech32_segwit.specs.declared.error.EncodeError.TheVariants.{TooLong as LongAddress}
+use Rattle.bech32_numbers.specs.Numbers.{number_of_hrp_error, number_of_text_error}
+use Rattle.bech32_numbers.specs.Numbers.{number_of_checksum_error, number_of_length_error}
+use Rattle.bech32_numbers.specs.Numbers.{number_of_address_error, number_of_no_correction}
 use Rattle.bech32_numbers.specs.Numbers.{number_of_encode_error, number_of_segwit_encode_error}
 use Rattle.bech32_c.specs.declared.refusal.Refusal.{Refusal}
-use Rattle.bech32_c.specs.declared.refusal.Refusal.TheVariants.{NotUtf8, BadNumber, NoRoom, NoCorrection}
-use Rattle.bech32_c.specs.declared.refusal.Refusal.TheVariants.{Hrp, TooLong, Text, Checksum, Version, ProgramLength}
+use Rattle.bech32_c.specs.declared.refusal.Refusal.TheVariants.{NotUtf8, BadNumber, NoRoom}
+use Rattle.bech32_c.specs.declared.refusal.Refusal.TheVariants.{NoCorrection, Hrp, TooLong, Text}
+use Rattle.bech32_c.specs.declared.refusal.Refusal.TheVariants.{Checksum, Version, ProgramLength}
 use Rattle.bech32_c.specs.declared.refusal.Refusal.TheVariants.{AddressTooLong, Address}
 
 -- of any refusal (91, out of memory, is never returned, since no call allocates)

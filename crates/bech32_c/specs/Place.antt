@@ -1,5 +1,6 @@
 -- Where the fault of a text stands, counted in bytes from 0, by the number of its refusal.
-use Rattle.std.specs.Prelude.{ℕ, Bool, if◌then◌else◌, ◌&&◌, ◌||◌, ◌==◌, ◌-◌, not, nat_le, min, max, List, length, take, Option, Some, None}
+use Rattle.std.specs.Prelude.{ℕ, Bool, if◌then◌else◌, ◌&&◌, ◌||◌, ◌==◌, ◌-◌, not}
+use Rattle.std.specs.Prelude.{nat_le, min, max, List, length, take, Option, Some, None}
 use Rattle.std.specs.List.{position_or_len, suffix_len}
 use Rattle.bech32_gf.specs.Alphabet.{is_of_alphabet}
 use Rattle.bech32_hrp.specs.Hrp.{is_lower, is_upper, is_graphic}
@@ -32,7 +33,8 @@ stranger_place text = end_of is_continuation (take (end_of is_of_alphabet text) 
 abbrev pub part_length : List ℕ → ℕ
 part_length text = end_of is_not_separator text - 1
 
--- the first letter with one of the other case before it, and the number of bytes where there is none
+-- the first letter with one of the other case before it, and the number of
+-- bytes where there is none
 abbrev pub case_place : List ℕ → ℕ
 case_place bytes = max (position_or_len is_lower bytes) (position_or_len is_upper bytes)
 
@@ -40,12 +42,14 @@ case_place bytes = max (position_or_len is_lower bytes) (position_or_len is_uppe
 abbrev pub part_place : List ℕ → ℕ
 part_place bytes = min (position_or_len (λ b. not (is_graphic b)) bytes) (case_place bytes)
 
--- by the number of a refusal: of the human-readable part its length (11, 12) or the first byte that may not stand there
--- (13 to 15), of the text the character at fault (21, 22) or its length (23, 31 to 33); of others nothing
+-- by the number of a refusal: of the human-readable part its length (11, 12) or the first byte that
+-- may not stand there (13 to 15), of the text the character at fault (21, 22) or its length (23, 31
+-- to 33); of others nothing
 abbrev pub place_of : List ℕ → ℕ → Option ℕ
 place_of text number =
     if number == 11 || number == 12 then Some (part_length text)
-    else (if number == 13 || number == 14 || number == 15 then Some (part_place (take (part_length text) text))
+    else (if number == 13 || number == 14 || number == 15
+    then Some (part_place (take (part_length text) text))
     else (if number == 21 then Some (stranger_place text)
     else (if number == 22 then Some (case_place text)
     else (if number == 23 || number == 31 || number == 32 || number == 33 then Some (length text)

@@ -7,18 +7,21 @@ use Rattle.bech32_hrp.specs.Hrp.{IsHrp, lowered}
 use Rattle.bech32_decode.specs.Segwit.{IsLowerAddress, IsAddress, IsSegwitRefusal}
 use Rattle.bech32_decode.specs.Text.{HasHrp}
 use Rattle.bech32_segwit.specs.SegwitEncoding.{HasAddress, address_length, IsSegwitEncodeRefusal}
-use Rattle.bech32_segwit.specs.declared.error.EncodeError.TheVariants.{WitnessVersion, WitnessLength}
+use Rattle.bech32_segwit.specs.declared.error.EncodeError.TheVariants.{WitnessVersion}
+use Rattle.bech32_segwit.specs.declared.error.EncodeError.TheVariants.{WitnessLength}
 use Rattle.bech32_segwit.specs.declared.error.EncodeError.TheVariants.{TooLong as LongAddress}
 use Rattle.bech32_encode.specs.Buffers.{IsPut}
 use Rattle.bech32_c.specs.Faults.{IsPartFault}
 use Rattle.bech32_c.specs.declared.refusal.Refusal.{Refusal}
 use Rattle.bech32_c.specs.declared.refusal.Refusal.TheVariants.{NotUtf8, BadNumber, NoRoom}
-use Rattle.bech32_c.specs.declared.refusal.Refusal.TheVariants.{Version, ProgramLength, AddressTooLong, Address}
+use Rattle.bech32_c.specs.declared.refusal.Refusal.TheVariants.{Version, ProgramLength}
+use Rattle.bech32_c.specs.declared.refusal.Refusal.TheVariants.{AddressTooLong, Address}
 
 -- ---- encoding
 
 -- the address of a human-readable part, a version and a program is put into a buffer
-pub record PutsAddress (hrp : List ℕ) (version : ℕ) (program old new : List ℕ) (count : ℕ) : Type 0 where
+pub record PutsAddress (hrp : List ℕ) (version : ℕ)
+    (program old new : List ℕ) (count : ℕ) : Type 0 where
   pub text : List ℕ
   pub is_hrp : IsHrp hrp
   pub small : version ≤ 31
@@ -32,26 +35,33 @@ pub record HasRoomFor (hrp : List ℕ) (version : ℕ) (program : List ℕ) (roo
   pub exists : HasAddress hrp (element version) program
   pub has_room : address_length hrp program ≤ room
 
--- why the address of a human-readable part, a version and a program is not put into a buffer of so many bytes: the
--- first fault
+-- why the address of a human-readable part, a version and a program is not put into a buffer of so
+-- many bytes: the first fault
 abbrev pub IsAddressFault : List ℕ → Fe32 → List ℕ → ℕ → Refusal → Type 0
-IsAddressFault hrp version program room (Version e) = IsSegwitEncodeRefusal hrp version program (WitnessVersion e)
-IsAddressFault hrp version program room (ProgramLength e) = IsSegwitEncodeRefusal hrp version program (WitnessLength e)
-IsAddressFault hrp version program room (AddressTooLong e) = IsSegwitEncodeRefusal hrp version program (LongAddress e)
-IsAddressFault hrp version program room NoRoom = HasAddress hrp version program × (room < address_length hrp program)
+IsAddressFault hrp version program room (Version e) =
+    IsSegwitEncodeRefusal hrp version program (WitnessVersion e)
+IsAddressFault hrp version program room (ProgramLength e) =
+    IsSegwitEncodeRefusal hrp version program (WitnessLength e)
+IsAddressFault hrp version program room (AddressTooLong e) =
+    IsSegwitEncodeRefusal hrp version program (LongAddress e)
+IsAddressFault hrp version program room NoRoom =
+    HasAddress hrp version program × (room < address_length hrp program)
 IsAddressFault hrp version program room _ = ⊥
 
--- the same of a number that may be no element, which is refused first, and of bytes that may be no human-readable part
+-- the same of a number that may be no element, which is refused first, and of bytes that may
+-- be no human-readable part
 abbrev pub IsSegwitEncodeFault : List ℕ → ℕ → List ℕ → ℕ → Refusal → Type 0
 IsSegwitEncodeFault hrp version program room e =
     ((31 < version) × (e ≡ BadNumber))
-    ⊎ ((version ≤ 31) × (IsPartFault hrp e ⊎ (IsHrp hrp × IsAddressFault hrp (element version) program room e)))
+    ⊎ ((version ≤ 31)
+    × (IsPartFault hrp e ⊎ (IsHrp hrp × IsAddressFault hrp (element version) program room e)))
 
 -- ---- decoding
 
--- the parts of an address, which has one spelling in each case, are put into a buffer for the human-readable part, in
--- the case of the text, a number and a buffer for the program
-pub record PutsProgram (text hrp hrp' program program' : List ℕ) (hrp_count version program_count : ℕ) : Type 0 where
+-- the parts of an address, which has one spelling in each case, are put into a buffer for the
+-- human-readable part, in the case of the text, a number and a buffer for the program
+pub record PutsProgram (text hrp hrp' program program' : List ℕ)
+    (hrp_count version program_count : ℕ) : Type 0 where
   pub part : List ℕ
   pub witness_version : Fe32
   pub found : List ℕ

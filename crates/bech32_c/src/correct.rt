@@ -7,8 +7,8 @@ ghost use Rattle.bech32_gf.specs.declared.gf32.Fe32.{Fe32 as Element};
 ghost use Rattle.bech32_bch.specs.Pattern.{locations as locations_of};
 ghost use Rattle.bech32_encode.specs.Buffers.{IsPut};
 ghost use Rattle.bech32_hrp.specs.Hrp.{lowered};
-ghost use Rattle.bech32_mended.specs.Mended.{EndsIn, mended as mended_of};
-ghost use Rattle.bech32_mended.specs.Mistyped.{IsAnswer};
+ghost use Rattle.bech32_correction.specs.MendedElements.{EndsIn, mended as mended_of};
+ghost use Rattle.bech32_correction.specs.Mistyped.{IsListing};
 ghost use Rattle.bech32_c.specs.Checksums.{ForChecksum, IsFaultBy};
 ghost use Rattle.bech32_c.specs.Correct.{CanMend, IsCorrectFault, IsListingFault, IsMendedBy, PutsMended, bound};
 ghost use Rattle.bech32_c.specs.Faults.{IsNumberOf};
@@ -17,31 +17,35 @@ use crate::checksum::{BECH32, BECH32M};
 use crate::input::text_of;
 use crate::refusal::Refusal;
 use bech32::Fe32;
-use bech32_mended::{Answer, Listing, NoMemory, bech32_correction, bech32m_correction, mend};
+use bech32_correction::{Correction, Listing, NoMemory, bech32_listing, bech32m_listing, mend};
 
 // What the checksum of a number finds for a text.
-fn answer_by(checksum: u32, bytes: &[u8], given: &[usize]) -> Result<Answer, Refusal>
+fn correction_by(
+    checksum: u32,
+    bytes: &[u8],
+    given: &[usize],
+) -> Result<Correction<Listing<NoMemory>>, Refusal>
     ensures { MatchResult result
-        (λ answer. ForChecksum checksum (λ code. IsAnswer code bound bytes.now given.now answer))
+        (λ answer. ForChecksum checksum (λ code. IsListing code bound bytes.now given.now answer))
         (λ e. IsFaultBy checksum (IsListingFault bytes.now given.now) e) }
 {
     match checksum {
-        BECH32 => Ok(bech32_correction(text_of(bytes)?, given)?),
-        BECH32M => Ok(bech32m_correction(text_of(bytes)?, given)?),
+        BECH32 => Ok(bech32_listing(text_of(bytes)?, given)?),
+        BECH32M => Ok(bech32m_listing(text_of(bytes)?, given)?),
         _ => Err(Refusal::BadNumber),
     }
 }
 
 // How the checksum of a number would have a text mended.
-fn listed_by(checksum: u32, bytes: &[u8], given: &[usize]) -> Result<Listing, Refusal>
+fn listed_by(checksum: u32, bytes: &[u8], given: &[usize]) -> Result<Listing<NoMemory>, Refusal>
     ensures { MatchResult result
         (λ listing. ForChecksum checksum (IsMendedBy bytes.now given.now listing))
         (λ e. IsFaultBy checksum (IsListingFault bytes.now given.now) e) }
 {
-    match answer_by(checksum, bytes, given)? {
-        Answer::Fine => Ok(Listing::new(NoMemory)),
-        Answer::Found(listing) => Ok(listing),
-        Answer::NotFound => Err(Refusal::NoCorrection),
+    match correction_by(checksum, bytes, given)? {
+        Correction::Accepted => Ok(Listing::new(NoMemory)),
+        Correction::Mended(listing) => Ok(listing),
+        Correction::Unexplained(()) => Err(Refusal::NoCorrection),
     }
 }
 
@@ -49,8 +53,10 @@ fn listed_by(checksum: u32, bytes: &[u8], given: &[usize]) -> Result<Listing, Re
 fn put_listing(listing: &[(usize, Fe32)], locations: &mut [usize], values: &mut [u8])
     requires locations { length listing.now ≤ length locations.old }
     requires values { length listing.now ≤ length values.old }
-    ensures locations { IsPut (locations_of listing.now) locations.old locations.new (length listing.now) }
-    ensures values { IsPut (map (λ p. value_of p.1) listing.now) values.old values.new (length listing.now) }
+    ensures locations { IsPut (locations_of listing.now)
+        locations.old locations.new (length listing.now) }
+    ensures values { IsPut (map (λ p. value_of p.1) listing.now)
+        values.old values.new (length listing.now) }
 {
     for i in 0..listing.len() {
         let (location, value) = listing[i];
@@ -63,7 +69,8 @@ fn put_listing(listing: &[(usize, Fe32)], locations: &mut [usize], values: &mut 
 // it.
 fn put_mended(buffer: &mut [u8], text: &[u8], listing: &[(usize, Fe32)])
     requires room { length text.now ≤ length buffer.old }
-    requires inside { (front : List ℕ) × ((elements : List Element) × EndsIn (lowered text.now) front elements
+    requires inside { (front : List ℕ)
+        × ((elements : List Element) × EndsIn (lowered text.now) front elements
         × AllByRecursion (λ p. p.0 < length elements) listing.now) }
     ensures { (front : List ℕ) (elements : List Element) → EndsIn (lowered text.now) front elements
         → AllByRecursion (λ p. p.0 < length elements) listing.now
@@ -86,7 +93,8 @@ fn corrected(
     mended: &mut [u8],
 ) -> Result<usize, Refusal>
     ensures value { IfOk result (λ n. ForChecksum checksum (PutsMended text.now erasures.now
-        locations.old locations.new values.old values.new n mended.old mended.new (length text.now))) }
+        locations.old locations.new values.old values.new n
+        mended.old mended.new (length text.now))) }
     ensures refused { IfErr result (λ e. IsFaultBy checksum (IsCorrectFault text.now erasures.now
         (length locations.old) (length values.old) (length mended.old)) e) }
     ensures same { OnErr result ((locations.new ≡ locations.old) × (values.new ≡ values.old)
@@ -133,13 +141,16 @@ pub extern "C" fn bech32_correct(
     mended_length: &mut usize,
 ) -> u32
     ensures value { result ≡ 0 → ForChecksum checksum (PutsMended text.now erasures.now
-        locations.old locations.new values.old values.new count.new mended.old mended.new mended_length.new) }
+        locations.old locations.new values.old values.new count.new
+        mended.old mended.new mended_length.new) }
     ensures accepts { ForChecksum checksum (CanMend text.now erasures.now
         (length locations.old) (length values.old) (length mended.old)) → result ≡ 0 }
-    ensures refused { result ≢ 0 → IsNumberOf (IsFaultBy checksum (IsCorrectFault text.now erasures.now
+    ensures refused { result ≢ 0
+        → IsNumberOf (IsFaultBy checksum (IsCorrectFault text.now erasures.now
         (length locations.old) (length values.old) (length mended.old))) result }
     ensures same { result ≢ 0 → (locations.new ≡ locations.old) × (values.new ≡ values.old)
-        × (count.new ≡ count.old) × (mended.new ≡ mended.old) × (mended_length.new ≡ mended_length.old) }
+        × (count.new ≡ count.old) × (mended.new ≡ mended.old)
+        × (mended_length.new ≡ mended_length.old) }
 {
     match corrected(checksum, text, erasures, locations, values, mended) {
         Ok(listed) => {

@@ -36,8 +36,10 @@ fn read(bytes: &[u8]) -> Result<CheckedHrpstring<'_>, Refusal>
 
 // Puts the human-readable part and the bytes of a text into buffers, and returns their lengths.
 fn decoded(text: &[u8], hrp: &mut [u8], bytes: &mut [u8]) -> Result<(usize, usize), Refusal>
-    ensures value { IfOk result (λ n. PutsDecoded text.now hrp.old hrp.new bytes.old bytes.new n.0 n.1) }
-    ensures refused { IfErr result (λ e. IsDecodeFault text.now (length hrp.old) (length bytes.old) e) }
+    ensures value { IfOk result
+        (λ n. PutsDecoded text.now hrp.old hrp.new bytes.old bytes.new n.0 n.1) }
+    ensures refused { IfErr result
+        (λ e. IsDecodeFault text.now (length hrp.old) (length bytes.old) e) }
     ensures same { OnErr result ((hrp.new ≡ hrp.old) × (bytes.new ≡ bytes.old)) }
 {
     let checked = read(text)?;
@@ -73,11 +75,14 @@ pub extern "C" fn bech32_decode(
     ensures value { result ≡ 0
         → PutsDecoded text.now hrp.old hrp.new bytes.old bytes.new hrp_length.new bytes_length.new }
     ensures accepts { CanDecode text.now (length hrp.old) (length bytes.old) → result ≡ 0 }
-    ensures refused { result ≢ 0 → IsNumberOf (IsDecodeFault text.now (length hrp.old) (length bytes.old)) result }
+    ensures refused { result ≢ 0
+        → IsNumberOf (IsDecodeFault text.now (length hrp.old) (length bytes.old)) result }
     ensures same { result ≢ 0 → (hrp.new ≡ hrp.old) × (hrp_length.new ≡ hrp_length.old)
         × (bytes.new ≡ bytes.old) × (bytes_length.new ≡ bytes_length.old) }
-    ensures back { (part : List ℕ) → (found : List ℕ) → IsHrp part → list_all (λ b. nat_lt b 256) found ≡ true
-        → IsEncodedText bech32m part (to_fes found) text.now ⊎ IsEncodedText bech32 part (to_fes found) text.now
+    ensures back { (part : List ℕ) → (found : List ℕ) → IsHrp part
+        → list_all (λ b. nat_lt b 256) found ≡ true
+        → IsEncodedText bech32m part (to_fes found) text.now
+        ⊎ IsEncodedText bech32 part (to_fes found) text.now
         → length text.now ≤ 1023 → length part ≤ length hrp.old → length found ≤ length bytes.old
         → (result ≡ 0) × IsPut (lowered part) hrp.old hrp.new hrp_length.new
         × IsPut found bytes.old bytes.new bytes_length.new }
@@ -133,10 +138,12 @@ pub extern "C" fn bech32_check(
     hrp_length: &mut usize,
     data_length: &mut usize,
 ) -> u32
-    ensures value { result ≡ 0 → ForChecksum checksum (IsCheckedAs text.now hrp_length.new data_length.new) }
+    ensures value { result ≡ 0
+        → ForChecksum checksum (IsCheckedAs text.now hrp_length.new data_length.new) }
     ensures accepts { ForChecksum checksum (λ code. Accepts code text.now) → result ≡ 0 }
     ensures refused { result ≢ 0 → IsNumberOf (IsFaultBy checksum (IsCheckFault text.now)) result }
-    ensures same { result ≢ 0 → (hrp_length.new ≡ hrp_length.old) × (data_length.new ≡ data_length.old) }
+    ensures same { result ≢ 0
+        → (hrp_length.new ≡ hrp_length.old) × (data_length.new ≡ data_length.old) }
 {
     match checked_by(checksum, text) {
         Ok((hrp_count, data_count)) => {

@@ -26,7 +26,8 @@ pub(crate) fn put_text<Ck: Checksum>(
     requires { length (hrp_bytes hrp.now) + 1 + length (option_to_list version ++ to_fes bytes.now)
         + length Ck.code.generator ≤ length text.old }
     ensures { (written : List ℕ)
-        × IsEncodedText Ck.code (hrp_bytes hrp.now) (option_to_list version ++ to_fes bytes.now) written
+        × IsEncodedText Ck.code (hrp_bytes hrp.now)
+        (option_to_list version ++ to_fes bytes.now) written
         × IsPut written text.old text.new result }
 {
     encode::put_text_of_bytes::<Ck>(hrp, version, bytes, text)
@@ -35,8 +36,10 @@ pub(crate) fn put_text<Ck: Checksum>(
 // Puts the text by one checksum, and returns its length.
 fn encoded<Ck: Checksum>(hrp: &[u8], bytes: &[u8], text: &mut [u8]) -> Result<usize, Refusal>
     requires { Ck.code.code_length ≤ 1023 }
-    ensures value { IfOk result (λ count. PutsText Ck.code hrp.now bytes.now text.old text.new count) }
-    ensures refused { IfErr result (λ e. IsEncodeFault hrp.now bytes.now (length text.old) Ck.code e) }
+    ensures value { IfOk result
+        (λ count. PutsText Ck.code hrp.now bytes.now text.old text.new count) }
+    ensures refused { IfErr result
+        (λ e. IsEncodeFault hrp.now bytes.now (length text.old) Ck.code e) }
     ensures same { OnErr result (text.new ≡ text.old) }
 {
     let part = part_of(hrp)?;
@@ -51,7 +54,8 @@ fn encoded<Ck: Checksum>(hrp: &[u8], bytes: &[u8], text: &mut [u8]) -> Result<us
 fn encoded_by(checksum: u32, hrp: &[u8], bytes: &[u8], text: &mut [u8]) -> Result<usize, Refusal>
     ensures value { IfOk result (λ count.
         ForChecksum checksum (λ code. PutsText code hrp.now bytes.now text.old text.new count)) }
-    ensures refused { IfErr result (λ e. IsFaultBy checksum (IsEncodeFault hrp.now bytes.now (length text.old)) e) }
+    ensures refused { IfErr result
+        (λ e. IsFaultBy checksum (IsEncodeFault hrp.now bytes.now (length text.old)) e) }
     ensures same { OnErr result (text.new ≡ text.old) }
 {
     match checksum {
@@ -79,10 +83,14 @@ pub extern "C" fn bech32_encode(
     text_length: &mut usize,
 ) -> u32
     ensures value { result ≡ 0
-        → ForChecksum checksum (λ code. PutsText code hrp.now bytes.now text.old text.new text_length.new) }
-    ensures accepts { ForChecksum checksum (λ code. HasText code hrp.now bytes.now (length text.old)) → result ≡ 0 }
+        → ForChecksum checksum
+        (λ code. PutsText code hrp.now bytes.now text.old text.new text_length.new) }
+    ensures accepts { ForChecksum checksum
+        (λ code. HasText code hrp.now bytes.now (length text.old))
+        → result ≡ 0 }
     ensures refused { result ≢ 0
-        → IsNumberOf (IsFaultBy checksum (IsEncodeFault hrp.now bytes.now (length text.old))) result }
+        → IsNumberOf
+        (IsFaultBy checksum (IsEncodeFault hrp.now bytes.now (length text.old))) result }
     ensures same { result ≢ 0 → (text.new ≡ text.old) × (text_length.new ≡ text_length.old) }
 {
     match encoded_by(checksum, hrp, bytes, text) {

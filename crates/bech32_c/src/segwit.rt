@@ -27,7 +27,8 @@ use bech32::{Bech32, Bech32m, Fe32, Hrp};
 // Tests that there is an address, and that a buffer of so many bytes has room for it.
 fn validate(hrp: Hrp, version: Fe32, program: &[u8], room: usize) -> Result<(), Refusal>
     ensures { MatchResult result
-        (λ _. HasAddress (hrp_bytes hrp) version program.now × (address_length (hrp_bytes hrp) program.now ≤ room))
+        (λ _. HasAddress (hrp_bytes hrp) version program.now
+        × (address_length (hrp_bytes hrp) program.now ≤ room))
         (λ e. IsAddressFault (hrp_bytes hrp) version program.now room e) }
 {
     validate_witness_version(version)?;
@@ -43,7 +44,8 @@ fn validate(hrp: Hrp, version: Fe32, program: &[u8], room: usize) -> Result<(), 
 fn put_address(hrp: &Hrp, version: Fe32, program: &[u8], text: &mut [u8]) -> usize
     requires { address_length (hrp_bytes hrp.now) program.now ≤ length text.old }
     ensures { (written : List ℕ)
-        × IsEncodedText (segwit_code version) (hrp_bytes hrp.now) (version ∷ to_fes program.now) written
+        × IsEncodedText (segwit_code version) (hrp_bytes hrp.now)
+        (version ∷ to_fes program.now) written
         × IsPut written text.old text.new result }
 {
     if version == VERSION_0 {
@@ -55,8 +57,10 @@ fn put_address(hrp: &Hrp, version: Fe32, program: &[u8], text: &mut [u8]) -> usi
 
 // Puts the address, and returns its length.
 fn encoded(hrp: &[u8], version: u32, program: &[u8], text: &mut [u8]) -> Result<usize, Refusal>
-    ensures value { IfOk result (λ count. PutsAddress hrp.now version program.now text.old text.new count) }
-    ensures refused { IfErr result (λ e. IsSegwitEncodeFault hrp.now version program.now (length text.old) e) }
+    ensures value { IfOk result
+        (λ count. PutsAddress hrp.now version program.now text.old text.new count) }
+    ensures refused { IfErr result
+        (λ e. IsSegwitEncodeFault hrp.now version program.now (length text.old) e) }
     ensures same { OnErr result (text.new ≡ text.old) }
 {
     let element = element_of(version)?;
@@ -84,7 +88,8 @@ pub extern "C" fn bech32_segwit_encode(
     text: &mut [u8],
     text_length: &mut usize,
 ) -> u32
-    ensures value { result ≡ 0 → PutsAddress hrp.now version program.now text.old text.new text_length.new }
+    ensures value { result ≡ 0
+        → PutsAddress hrp.now version program.now text.old text.new text_length.new }
     ensures accepts { HasRoomFor hrp.now version program.now (length text.old) → result ≡ 0 }
     ensures refused { result ≢ 0
         → IsNumberOf (IsSegwitEncodeFault hrp.now version program.now (length text.old)) result }
@@ -106,8 +111,10 @@ pub extern "C" fn bech32_segwit_encode(
 // Puts the human-readable part and the program of an address into buffers, and returns the length
 // of the one, the version, and the length of the other.
 fn decoded(text: &[u8], hrp: &mut [u8], program: &mut [u8]) -> Result<(usize, Fe32, usize), Refusal>
-    ensures value { IfOk result (λ n. PutsProgram text.now hrp.old hrp.new program.old program.new n.0 (value n.1) n.2) }
-    ensures refused { IfErr result (λ e. IsSegwitDecodeFault text.now (length hrp.old) (length program.old) e) }
+    ensures value { IfOk result
+        (λ n. PutsProgram text.now hrp.old hrp.new program.old program.new n.0 (value n.1) n.2) }
+    ensures refused { IfErr result
+        (λ e. IsSegwitDecodeFault text.now (length hrp.old) (length program.old) e) }
     ensures same { OnErr result ((hrp.new ≡ hrp.old) × (program.new ≡ program.old)) }
 {
     let address = SegwitHrpstring::new(text_of(text)?)?;
@@ -146,7 +153,8 @@ pub extern "C" fn bech32_segwit_decode(
     ensures accepts { CanDecodeAddress text.now (length hrp.old) (length program.old) → result ≡ 0 }
     ensures refused { result ≢ 0
         → IsNumberOf (IsSegwitDecodeFault text.now (length hrp.old) (length program.old)) result }
-    ensures same { result ≢ 0 → (hrp.new ≡ hrp.old) × (hrp_length.new ≡ hrp_length.old) × (version.new ≡ version.old)
+    ensures same { result ≢ 0
+        → (hrp.new ≡ hrp.old) × (hrp_length.new ≡ hrp_length.old) × (version.new ≡ version.old)
         × (program.new ≡ program.old) × (program_length.new ≡ program_length.old) }
 {
     match decoded(text, hrp, program) {

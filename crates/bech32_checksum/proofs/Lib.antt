@@ -5,7 +5,6 @@ pub mod EightTables
 pub mod HrpInput
 pub mod HrpPlaces
 pub mod Input
-pub mod LawfulRoots
 pub mod PackedRows
 pub mod PackedRuns
 pub mod PartialProduct

@@ -32,7 +32,7 @@ polynomial-split hrp fes checksum =
 
 leaves : (code : Code) (hrp : List ℕ) (fes checksum : List Fe32) → IsChecksumOf code hrp fes checksum
     → IsRemainder fe32.ops code.generator (appended (front (lowered hrp) fes) checksum) code.target
-leaves code hrp fes checksum is = subst (λ (p : List Fe32). IsRemainder fe32.ops code.generator p code.target) (polynomial-split hrp fes checksum) is.leaves_target
+leaves code hrp fes checksum is = subst (λ (p : List Fe32). IsRemainder fe32.ops code.generator p code.target) (polynomial-split hrp fes checksum) is.has_target
 
 -- there is one checksum, in whichever case the human-readable part is
 one_checksum : (code : Code) (hrp other : List ℕ) (fes xs ys : List Fe32) → lowered hrp ≡ lowered other → IsChecksumOf code hrp fes xs → IsChecksumOf code other fes ys → xs ≡ ys
@@ -57,7 +57,7 @@ in_other_case code hrp other fes text same a = record {
   checksum = a.checksum;
   is_checksum = record {
     size = a.is_checksum.size;
-    leaves_target = subst (λ (p : List Fe32). IsRemainder fe32.ops code.generator p code.target)
+    has_target = subst (λ (p : List Fe32). IsRemainder fe32.ops code.generator p code.target)
         (ap (λ (low : List ℕ). appended (front low fes) a.checksum) same ∙ sym (polynomial-split other fes a.checksum)) (leaves code hrp fes a.checksum a.is_checksum);
   };
   spelling = a.spelling ∙ ap (λ (low : List ℕ). low ++ (49 ∷ map char_of_element (fes ++ a.checksum))) same;
@@ -74,7 +74,7 @@ text_exists code hrp fes size =
         checksum = reverse row;
         is_checksum = record {
           size = length-reverse row ∙ held.short;
-          leaves_target = subst (λ (p : List Fe32). IsRemainder fe32.ops code.generator p code.target) (sym (polynomial-split hrp fes (reverse row)))
+          has_target = subst (λ (p : List Fe32). IsRemainder fe32.ops code.generator p code.target) (sym (polynomial-split hrp fes (reverse row)))
               (checksum_of_target is_field code.generator before code.target row (λ x. refl) size held);
         };
         spelling = refl;

@@ -15,13 +15,15 @@ abbrev pub spelled : List ℕ → List Fe32 → List ℕ
 spelled hrp elements = lowered hrp ++ (49 ∷ map char_of_element elements)
 
 -- the text of the elements and their checksum
-pub record IsEncodedText (code : Code) (hrp : List ℕ) (elements : List Fe32) (text : List ℕ) : Type 0 where
+pub record IsEncodedText (code : Code) (hrp : List ℕ)
+    (elements : List Fe32) (text : List ℕ) : Type 0 where
   pub checksum : List Fe32
   pub is_checksum : IsChecksumOf code hrp elements checksum
   pub spelling : text ≡ spelled hrp (elements ++ checksum)
 
 -- the elements of the human-readable part, the elements and their checksum
-pub record IsEncodedElements (code : Code) (hrp : List ℕ) (elements given : List Fe32) : Type 0 where
+pub record IsEncodedElements (code : Code) (hrp : List ℕ)
+    (elements given : List Fe32) : Type 0 where
   pub checksum : List Fe32
   pub is_checksum : IsChecksumOf code hrp elements checksum
   pub given_is : given ≡ hrp_elements hrp ++ (elements ++ checksum)

@@ -1,5 +1,6 @@
 -- Numbers as rows of digits of five bits, digit i for x^i, as BIP-173 (Checksum) packs a remainder.
-use Rattle.std.specs.Prelude.{◌≡◌, ◌<◌, ℕ, zero, suc, ◌+◌, ◌-◌, ◌/◌, ◌%◌, ◌^◌, ◌*◌, ◌==◌, List, [], ◌∷◌, length, map, reverse}
+use Rattle.std.specs.Prelude.{◌≡◌, ◌<◌, ℕ, zero, suc, ◌+◌, ◌-◌, ◌/◌, ◌%◌, ◌^◌}
+use Rattle.std.specs.Prelude.{◌*◌, ◌==◌, List, [], ◌∷◌, length, map, reverse}
 use Rattle.std.specs.Prelude.{bit_xor, if◌then◌else◌}
 use Rattle.bech32_gf.specs.Fe32.{element}
 use Rattle.bech32_gf.specs.declared.gf32.Fe32.{Fe32}
@@ -31,7 +32,8 @@ pub record Packs (values : List ℕ) (number : ℕ) : Type 0 where
 abbrev pub HasDigits : ℕ → ℕ → Type 0
 HasDigits n number = number < 2 ^ (5 * n)
 
--- the lowest n digits of a number are these elements, the one of x^0 first, and no bit is set above them
+-- the lowest n digits of a number are these elements, the one of x^0 first,
+-- and no bit is set above them
 pub record IsRowOf (n : ℕ) (elements : List Fe32) (number : ℕ) : Type 0 where
   pub elements_are : digits n number ≡ elements
   pub clear : HasDigits n number
@@ -39,7 +41,8 @@ pub record IsRowOf (n : ℕ) (elements : List Fe32) (number : ℕ) : Type 0 wher
 -- the sum of words, the one at place i for each set bit i of a number below n
 abbrev pub sum_of_words : (ℕ → ℕ) → ℕ → ℕ → ℕ
 sum_of_words word zero bits = 0
-sum_of_words word (suc n) bits = bit_xor (sum_of_words word n bits) (if (bits / 2 ^ n) % 2 == 1 then word n else 0)
+sum_of_words word (suc n) bits =
+    bit_xor (sum_of_words word n bits) (if (bits / 2 ^ n) % 2 == 1 then word n else 0)
 
 -- the highest of the n digits of a number
 abbrev pub highest_digit : ℕ → ℕ → ℕ

@@ -3,9 +3,11 @@ use Rattle.std.specs.Prelude.{◌≡◌, ◌≤◌, ℕ, suc, List, length, Some
 use Rattle.bech32_gf.specs.Fe32 as fe32
 use Rattle.bech32_checksum.specs.Packed.{digit_of, HasDigits}
 
--- Rows of `width` elements hold the lower coefficients of a generator of a degree, their products with 2, 4, 8 and 16,
--- and a target (the constants of BIP-173, Checksum); `number` is the number that a row stands for.
-pub record KeepsPackingLaws {R : Type 0} (number : R → ℕ) (width degree : ℕ) (words : List R) (target : R)
+-- Rows of `width` elements hold the lower coefficients of a generator of a degree, their
+-- products with 2, 4, 8 and 16, and a target (the constants of BIP-173, Checksum); `number` is
+-- the number that a row stands for.
+pub record KeepsPackingLaws {R : Type 0} (number : R → ℕ)
+    (width degree : ℕ) (words : List R) (target : R)
     : Type 0 where
   pub fits : degree ≤ width
   -- only the rows that hold nothing serve a generator of degree 0

@@ -6,14 +6,16 @@ ghost use Rattle.bech32_gf_ext.specs.Fe1024 as fe1024;
 ghost use Rattle.bech32_checksum.specs.laws.PackedLaws as packed;
 ghost use Rattle.bech32_checksum.specs.Code.{no_checksum, bech32, bech32m};
 ghost use Rattle.bech32_checksum.specs.laws.CodeLaws as codes;
+ghost use Rattle.bech32_checksum.specs.laws.RootLaws as roots;
+ghost use Rattle.bech32_checksum.specs.Roots.{HasLawfulRoots};
 
 mod eights;
 mod products;
 
 use self::eights::after_eight_by_tables;
 use self::products::product_with;
-use crate::Checksum;
 use crate::packed::PackedNull;
+use crate::{Checksum, CorrectingChecksum};
 use bech32_gf::gf32::Fe32;
 use bech32_gf_ext::{Fe32Ext, Fe1024};
 
@@ -42,6 +44,10 @@ impl Checksum for NoChecksum {
 
     ghost code = { no_checksum };
 
+    ghost bound = { 1 };
+
+    ghost lawful = { HasLawfulRoots fe32.ops (λ x. x) no_checksum fe32.one 0 0 };
+
     const ROOT_GENERATOR: Fe32 = Fe32::P;
 
     const ROOT_EXPONENTS_START: usize = 0;
@@ -63,6 +69,14 @@ impl Checksum for NoChecksum {
     ghost degree_law = { refl };
 
     ghost code_length_law = { refl };
+
+    ghost bound_law = { refl };
+
+    ghost lawful_law = { (λ h. h, λ h. h) };
+}
+
+impl CorrectingChecksum for NoChecksum {
+    ghost lawful_roots = { roots.no_checksum_roots };
 }
 
 // The generator of BIP-173, packed, and its products with 2, 4, 8 and 16.
@@ -98,6 +112,10 @@ impl Checksum for Bech32 {
 
     ghost code = { bech32 };
 
+    ghost bound = { 3 };
+
+    ghost lawful = { HasLawfulRoots fe1024.ops fe1024.embed bech32 roots.base 24 26 };
+
     const ROOT_GENERATOR: Fe1024 = BASE;
 
     const ROOT_EXPONENTS_START: usize = 24;
@@ -129,6 +147,14 @@ impl Checksum for Bech32 {
     ghost degree_law = { refl };
 
     ghost code_length_law = { refl };
+
+    ghost bound_law = { refl };
+
+    ghost lawful_law = { (λ h. h, λ h. h) };
+}
+
+impl CorrectingChecksum for Bech32 {
+    ghost lawful_roots = { roots.bech32_roots };
 }
 
 /// The checksum of BIP-350: that of BIP-173 with another target.
@@ -155,6 +181,10 @@ impl Checksum for Bech32m {
     ghost TARGET_RESIDUE = { 0x2bc830a3 };
 
     ghost code = { bech32m };
+
+    ghost bound = { 3 };
+
+    ghost lawful = { HasLawfulRoots fe1024.ops fe1024.embed bech32m roots.base 24 26 };
 
     const ROOT_GENERATOR: Fe1024 = BASE;
 
@@ -187,4 +217,12 @@ impl Checksum for Bech32m {
     ghost degree_law = { refl };
 
     ghost code_length_law = { refl };
+
+    ghost bound_law = { refl };
+
+    ghost lawful_law = { (λ h. h, λ h. h) };
+}
+
+impl CorrectingChecksum for Bech32m {
+    ghost lawful_roots = { roots.bech32m_roots };
 }

@@ -72,7 +72,8 @@ impl Iterator for HrpFe32Iter<'_> {
     fn size_hint(&self) -> (usize, Option<usize>)
         ensures lower { IsWithinCount result.0 (item_count hrp_fes_rest self.now) }
         ensures upper { IfSome result.1 (UpTo (item_count hrp_fes_rest self.now)) }
-        ensures exact { result ≡ (length (hrp_fes_rest self.now), Some (length (hrp_fes_rest self.now))) }
+        ensures exact { result
+            ≡ (length (hrp_fes_rest self.now), Some (length (hrp_fes_rest self.now))) }
     {
         let left = (2 * self.bytes.len() + 1).saturating_sub(self.place);
         (left, Some(left))

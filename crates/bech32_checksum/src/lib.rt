@@ -9,7 +9,7 @@ ghost use Rattle.bech32_hrp.specs.Hrp.{lowered};
 ghost use Rattle.bech32_checksum.specs.Packed.{HasDigits, IsRowOf, sum_of_words};
 ghost use Rattle.bech32_checksum.specs.Code.{Code, code_of, IsResidueOf, IsResidueAfter};
 ghost use Rattle.bech32_checksum.specs.PackingLaws.{KeepsPackingLaws};
-ghost use Rattle.bech32_checksum.specs.Roots.{HasLawfulRoots};
+ghost use Rattle.bech32_checksum.specs.Roots.{HasLawfulRoots, singleton_bound};
 
 mod checksums;
 mod hrp_fes;
@@ -52,6 +52,13 @@ pub trait Checksum {
     // The generator's lower coefficients, the target and the greatest length.
     ghost code: { Code };
 
+    // The number of roots that serve to find errors: twice the number of errors that are found, and
+    // that of the erasures, are together no more.
+    ghost bound: { ℕ };
+
+    // The roots are lawful, as `sanity_check` tests it.
+    ghost lawful: { Type 0 };
+
     /// The base whose powers are the roots of the generator that serve to find errors.
     const ROOT_GENERATOR: Self::CorrectionField;
 
@@ -83,7 +90,8 @@ pub trait Checksum {
         ensures row { IsRowOf CHECKSUM_LENGTH (scale fe32.ops element code.generator)
             (Self.MidstateRepr.number result) }
         ensures words { Self.MidstateRepr.number result ≡ sum_of_words
-            (λ i. Self.MidstateRepr.number (get_or GENERATOR_SH i TARGET_RESIDUE)) 5 (value element) }
+            (λ i. Self.MidstateRepr.number (get_or GENERATOR_SH i TARGET_RESIDUE))
+            5 (value element) }
     {
         let bits = element.to_u8();
         // The row of zeros.
@@ -133,8 +141,7 @@ pub trait Checksum {
     /// Whoever defines a checksum should call it in a test. That the words agree with one another
     /// needs none: it is among the laws that each implementation proves.
     final fn sanity_check() -> bool
-        ensures { IsTrue result ↔ HasLawfulRoots Self.CorrectionField.ops Self.CorrectionField.embed
-            code ROOT_GENERATOR ROOT_EXPONENTS_START ROOT_EXPONENTS_END }
+        ensures { IsTrue result ↔ lawful }
     {
         if Self::CHECKSUM_LENGTH == 0 {
             return true;
@@ -152,11 +159,23 @@ pub trait Checksum {
 
     // The code is that of the words, and so has these sizes.
     ghost code_law: { code
-        ≡ code_of Self.MidstateRepr.number CODE_LENGTH CHECKSUM_LENGTH GENERATOR_SH TARGET_RESIDUE };
+        ≡ code_of Self.MidstateRepr.number
+        CODE_LENGTH CHECKSUM_LENGTH GENERATOR_SH TARGET_RESIDUE };
 
     ghost degree_law: { length code.generator ≡ CHECKSUM_LENGTH };
 
     ghost code_length_law: { code.code_length ≡ CODE_LENGTH };
+
+    ghost bound_law: { bound ≡ singleton_bound ROOT_EXPONENTS_START ROOT_EXPONENTS_END };
+
+    ghost lawful_law: { lawful ↔ HasLawfulRoots Self.CorrectionField.ops Self.CorrectionField.embed
+        code ROOT_GENERATOR ROOT_EXPONENTS_START ROOT_EXPONENTS_END };
+}
+
+/// A checksum that is proved to have lawful roots, so that texts can be corrected by it: what
+/// [`Checksum::sanity_check`] tests is a law here.
+pub trait CorrectingChecksum: Checksum {
+    ghost lawful_roots: { Self.lawful };
 }
 
 /// Computes the remainder of a polynomial whose coefficients come one after another, the highest
@@ -177,7 +196,8 @@ impl<Ck: Checksum> Model for Engine<Ck> {
 
     ghost view = { λ engine. engine.residue };
 
-    ghost invariant = { λ engine. HasDigits Ck.CHECKSUM_LENGTH (Ck.MidstateRepr.number engine.residue) };
+    ghost invariant = { λ engine.
+        HasDigits Ck.CHECKSUM_LENGTH (Ck.MidstateRepr.number engine.residue) };
 
     ghost inverse = { λ residue. record { residue = residue } };
 }
@@ -197,7 +217,8 @@ impl<Ck: Checksum> Clone for Engine<Ck> {
 }
 
 impl<Ck: Checksum> Default for Engine<Ck> {
-    ghost is_default = { λ engine. IsResidueOf Ck.MidstateRepr.number Ck.code engine (fe32.one ∷ []) };
+    ghost is_default = { λ engine.
+        IsResidueOf Ck.MidstateRepr.number Ck.code engine (fe32.one ∷ []) };
 
     fn default() -> Self {
         Self::new()
@@ -260,7 +281,8 @@ impl<Ck: Checksum> Engine<Ck> {
     /// first, put in the target's place, make the target the polynomial's remainder.
     #[inline]
     pub fn input_target_residue(&mut self)
-        ensures { IsResidueAfter Ck.MidstateRepr.number Ck.code self.old (reverse Ck.code.target) self.new }
+        ensures { IsResidueAfter Ck.MidstateRepr.number Ck.code self.old
+            (reverse Ck.code.target) self.new }
     {
         for i in 0..Ck::CHECKSUM_LENGTH {
             let place = Ck::CHECKSUM_LENGTH - 1 - i;
@@ -291,7 +313,8 @@ impl<Ck: Checksum> Engine<Ck> {
     /// Takes the elements of a human-readable part: the high bits of each byte, a zero, the low
     /// bits of each (BIP-173, Checksum). The case of its letters does not count.
     pub fn input_hrp(&mut self, hrp: Hrp)
-        ensures { IsResidueAfter Ck.MidstateRepr.number Ck.code self.old (hrp_elements (hrp_bytes hrp)) self.new }
+        ensures { IsResidueAfter Ck.MidstateRepr.number Ck.code self.old
+            (hrp_elements (hrp_bytes hrp)) self.new }
     {
         self.input_high_bits(hrp.as_bytes());
         self.input_fe(Fe32::Q);

@@ -80,7 +80,8 @@ pub trait PackedFe32: Copy + PartialEq + Eq + BitXor<Self, Output = Self> {
 
     // It adds the elements at each place.
     ghost sum_law: { (x y r : Self) → Self.bitxor_gives x y r
-        → (n : ℕ) → digit_of (number r) n ≡ fe32.add (digit_of (number x) n) (digit_of (number y) n) };
+        → (n : ℕ)
+        → digit_of (number r) n ≡ fe32.add (digit_of (number x) n) (digit_of (number y) n) };
 
     ghost same_number_law: { (x y : Self) → number x ≡ number y → x ≡ y };
 

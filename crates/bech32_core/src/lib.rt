@@ -2,9 +2,9 @@
 #![tactic(auto)]
 
 pub use bech32_checksum as checksum;
-pub use devices as device;
 pub use bech32_encode as encode;
 pub use bech32_hrp as hrp;
+pub use devices as device;
 
 /// Iterators that regroup bits, and add checksums.
 pub mod iter {

@@ -73,7 +73,7 @@ address-from_read text a h =
           checksum = sum;
           is_checksum = record {
             size = length-map h.before.checksum element_of ∙ h.before.size;
-            leaves_target = subst (λ (l : List Fe32). IsRemainder ops (segwit_code v).generator (text_polynomial hrp l) (segwit_code v).target) all h.accepted.leaves_target;
+            has_target = subst (λ (l : List Fe32). IsRemainder ops (segwit_code v).generator (text_polynomial hrp l) (segwit_code v).target) all h.accepted.has_target;
           };
           spelling = lower_text text hrp h.data_part h.accepted.grammar ∙ ap (spelled hrp) all;
         };
@@ -139,7 +139,7 @@ address-parts hrp version program text lower a same e s =
         grammar = s.grammar;
         text_length = omega arith;
         data_length = omega arith;
-        leaves_target = subst (λ (q : List Fe32). IsRemainder ops code.generator q code.target) p e.is_checksum.leaves_target;
+        has_target = subst (λ (q : List Fe32). IsRemainder ops code.generator q code.target) p e.is_checksum.has_target;
       };
       lawful = record {
         text_length = omega arith;
@@ -245,7 +245,7 @@ module _ (text : List ℕ) (a : IsAddressIn text) where
       let version = same_version r.hrp r.data_part r.version r.others r.grammar r.versioned in
       let same = same_data r.hrp r.data_part r.grammar in
       let ok : HasValidChecksum (segwit_code a.version) (length text) a.part a.data_part =
-      (a.is_accepted.text_length, a.is_accepted.data_length, a.is_accepted.leaves_target) in
+      (a.is_accepted.text_length, a.is_accepted.data_length, a.is_accepted.has_target) in
       not_valid (segwit_code a.version) (length text) a.part a.data_part r.error
       (subst (λ (d : List ℕ). IsChecksumRefusal (segwit_code a.version) (length text) a.part d r.error) same.1
       (subst (λ (h : List ℕ). IsChecksumRefusal (segwit_code a.version) (length text) h r.data_part r.error) same.0

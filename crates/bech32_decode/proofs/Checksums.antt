@@ -22,8 +22,8 @@ module _ (code : Code) (d t : ℕ) (degree : length code.generator ≡ d) (row :
   length-target = ap length row ∙ length-tabulate d (digit_of t) ∙ sym degree
 
   -- at degree 0 each polynomial has the target as remainder
-  pub leaves_target-degree_0 : d ≡ 0 → (p : List Fe32) → IsRemainder fe32.ops code.generator p code.target
-  leaves_target-degree_0 e p =
+  pub has_target-degree_0 : d ≡ 0 → (p : List Fe32) → IsRemainder fe32.ops code.generator p code.target
+  has_target-degree_0 e p =
       let size = length-target in
       let there = remainder_exists is_field code.generator p in
       let short : length (remainder_of fe32.ops code.generator p) ≡ length code.generator = there.short in
@@ -35,13 +35,13 @@ module _ (code : Code) (d t : ℕ) (degree : length code.generator ≡ d) (row :
   pub accepts-degree_0 : (n : ℕ) → code.code_length ≡ n → d ≡ 0 → (text : List ℕ) → Accepts code text ↔ (IsInGrammar text × (length text ≤ n))
   accepts-degree_0 n size e text = (
     λ a. ((a.0, a.1, a.2.grammar), (let fits : length text ≤ code.code_length = a.2.text_length in omega arith)),
-    λ h. (h.0.0, h.0.1, record { grammar = h.0.2; text_length = (let fits : length text ≤ n = h.1 in omega arith); data_length = omega arith; leaves_target = leaves_target-degree_0 e _ }),
+    λ h. (h.0.0, h.0.1, record { grammar = h.0.2; text_length = (let fits : length text ≤ n = h.1 in omega arith); data_length = omega arith; has_target = has_target-degree_0 e _ }),
   )
 
   -- where the residue is the target
-  pub leaves_target : (residue : ℕ) (p : List Fe32) → residue ≡ t → IsRemainder fe32.ops code.generator p (digits (length code.generator) residue)
+  pub has_target : (residue : ℕ) (p : List Fe32) → residue ≡ t → IsRemainder fe32.ops code.generator p (digits (length code.generator) residue)
       → IsRemainder fe32.ops code.generator p code.target
-  leaves_target residue p e h =
+  has_target residue p e h =
       let same : digits (length code.generator) residue ≡ code.target = ap (λ k. digits k residue) degree ∙ ap (digits d) e ∙ sym row in
       subst (IsRemainder fe32.ops code.generator p) same h
 

@@ -28,7 +28,7 @@ use Rattle.bech32_refusals.proofs.Coefficients.{same_row}
 use Rattle.bech32_decode.proofs.Grammar.{only-from_IsText, text_refusal-none}
 
 pub accepted : (code : Code) (text hrp data_part : List ℕ) → IsText text hrp data_part → HasValidChecksum code (length text) hrp data_part → IsAccepted code text hrp data_part
-accepted code text hrp data_part is h = record { grammar = is; text_length = h.0; data_length = h.1; leaves_target = h.2 }
+accepted code text hrp data_part is h = record { grammar = is; text_length = h.0; data_length = h.1; has_target = h.2 }
 
 -- a text that is accepted is so by the parts that it has
 pub valid-from_accepts : (code : Code) (text hrp data_part : List ℕ) → IsText text hrp data_part → Accepts code text → HasValidChecksum code (length text) hrp data_part
@@ -36,7 +36,7 @@ valid-from_accepts code text hrp data_part is a =
     let (h, d, yes_) = a in
     let same = only-from_IsText text hrp data_part is h d yes_.grammar.split yes_.grammar.data_bytes in
     subst (λ (x : List ℕ). HasValidChecksum code (length text) x data_part) same.0
-    (subst (λ (x : List ℕ). HasValidChecksum code (length text) h x) same.1 (yes_.text_length, yes_.data_length, yes_.leaves_target))
+    (subst (λ (x : List ℕ). HasValidChecksum code (length text) h x) same.1 (yes_.text_length, yes_.data_length, yes_.has_target))
 
 -- there is one remainder
 pub one_remainder : (low p r s : List Fe32) → IsRemainder ops low p r → IsRemainder ops low p s → r ≡ s

@@ -4,7 +4,6 @@ pub mod Checksums
 pub mod DataBytes
 pub mod DataEnds
 pub mod Decoding
-pub mod Distances
 pub mod Grammar
 pub mod Letters
 pub mod Outcomes

@@ -7,13 +7,14 @@ use Rattle.bech32_checksum.specs.Code.{Code, bech32, bech32m}
 use Rattle.bech32_checksum.specs.TextPolynomial.{text_polynomial}
 use Rattle.bech32_decode.specs.Text.{IsText}
 
--- the text is in the grammar with these parts, is not longer than the code, has room for the checksum, and its
--- polynomial has the target as remainder
+-- the text is in the grammar with these parts, is not longer than the code, has room for the
+-- checksum, and its polynomial has the target as remainder
 pub record IsAccepted (code : Code) (text hrp data_part : List ℕ) : Type 0 where
   pub grammar : IsText text hrp data_part
   pub text_length : length text ≤ code.code_length
   pub data_length : length code.generator ≤ length data_part
-  pub leaves_target : IsRemainder ops code.generator (text_polynomial hrp (elements_of data_part)) code.target
+  pub has_target :
+      IsRemainder ops code.generator (text_polynomial hrp (elements_of data_part)) code.target
 
 -- the checksum accepts the text
 abbrev pub Accepts : Code → List ℕ → Type 0
@@ -23,8 +24,8 @@ Accepts code text = (hrp : List ℕ) × (data_part : List ℕ) × IsAccepted cod
 abbrev pub IsAcceptedByEither : List ℕ → Type 0
 IsAcceptedByEither text = Accepts bech32m text ⊎ Accepts bech32 text
 
--- Bech32m or Bech32 accepts the text with this human-readable part, and these are the bytes of the elements before its
--- checksum
+-- Bech32m or Bech32 accepts the text with this human-readable part, and these are the bytes of the
+-- elements before its checksum
 pub record IsDecoded (text hrp bytes : List ℕ) : Type 0 where
   pub data_part : List ℕ
   pub accepted : IsAccepted bech32m text hrp data_part ⊎ IsAccepted bech32 text hrp data_part

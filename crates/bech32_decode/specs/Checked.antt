@@ -4,7 +4,8 @@ use Rattle.bech32_checksum.specs.Code.{Code}
 use Rattle.bech32_decode.specs.Text.{IsText, text_refusal}
 use Rattle.bech32_decode.specs.Acceptance.{IsAccepted}
 use Rattle.bech32_decode.specs.BeforeChecksum.{IsBeforeChecksum}
-use Rattle.bech32_decode.specs.Parts.{unchecked_hrp, unchecked_data, unchecked_length, checked_hrp, checked_part, checked_data, checked_length}
+use Rattle.bech32_decode.specs.Parts.{unchecked_hrp, unchecked_data, unchecked_length}
+use Rattle.bech32_decode.specs.Parts.{checked_hrp, checked_part, checked_data, checked_length}
 use Rattle.bech32_decode.specs.Refusals.{IsChecksumRefusal}
 use Rattle.bech32_decode.specs.declared.checked.CheckedHrpstring.{CheckedHrpstring}
 use Rattle.bech32_refusals.specs.declared.error.CheckedHrpstringError.{CheckedHrpstringError}
@@ -13,7 +14,8 @@ use Rattle.bech32_refusals.specs.declared.error.ChecksumError.{ChecksumError}
 use Rattle.bech32_decode.specs.declared.unchecked.UncheckedHrpstring.{UncheckedHrpstring}
 
 -- the same text without its checksum
-pub record IsWithoutChecksum (code : Code) (u : UncheckedHrpstring) (c : CheckedHrpstring) : Type 0 where
+pub record IsWithoutChecksum (code : Code)
+    (u : UncheckedHrpstring) (c : CheckedHrpstring) : Type 0 where
   pub hrp : checked_hrp c ≡ unchecked_hrp u
   pub characters : IsBeforeChecksum code (unchecked_data u) (checked_data c)
   pub text_length : checked_length c ≡ unchecked_length u

@@ -1,7 +1,6 @@
 pub mod Acceptance
 pub mod BeforeChecksum
 pub mod Checked
-pub mod Distance
 pub mod Parts
 pub mod Readers
 pub mod Refusals

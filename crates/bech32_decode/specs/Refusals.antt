@@ -7,13 +7,15 @@ use Rattle.bech32_checksum.specs.TextPolynomial.{text_polynomial}
 use Rattle.bech32_decode.specs.Text.{IsText}
 use Rattle.bech32_decode.specs.Acceptance.{Accepts}
 use Rattle.bech32_refusals.specs.declared.error.ChecksumError.{ChecksumError}
-use Rattle.bech32_refusals.specs.declared.error.ChecksumError.TheVariants.{CodeLength, InvalidLength, InvalidResidue}
+use Rattle.bech32_refusals.specs.declared.error.ChecksumError.TheVariants.{CodeLength}
+use Rattle.bech32_refusals.specs.declared.error.ChecksumError.TheVariants.{InvalidLength}
+use Rattle.bech32_refusals.specs.declared.error.ChecksumError.TheVariants.{InvalidResidue}
 use Rattle.bech32_decode.specs.declared.unchecked.UncheckedHrpstring.{UncheckedHrpstring}
 use Rattle.bech32_decode.specs.Parts.{unchecked_part, unchecked_data, unchecked_length}
 use Rattle.bech32_refusals.specs.ResidueRows.{IsResidueError}
 
--- a text of n bytes with these parts is not longer than the code, has room for the checksum, and its polynomial leaves
--- the target
+-- a text of n bytes with these parts is not longer than the code, has room for the checksum, and
+-- its polynomial has the target as remainder
 abbrev pub HasValidChecksum : Code → ℕ → List ℕ → List ℕ → Type 0
 HasValidChecksum code n hrp data_part =
     (n ≤ code.code_length) × (length code.generator ≤ length data_part)
@@ -35,7 +37,8 @@ IsValidBy code u = HasValidChecksum code (unchecked_length u) (unchecked_part u)
 
 -- why it is not
 abbrev pub IsInvalidBy : Code → UncheckedHrpstring → ChecksumError → Type 0
-IsInvalidBy code u e = IsChecksumRefusal code (unchecked_length u) (unchecked_part u) (unchecked_data u) e
+IsInvalidBy code u e =
+    IsChecksumRefusal code (unchecked_length u) (unchecked_part u) (unchecked_data u) e
 
 -- Bech32m refuses the text by this error, and Bech32 does not accept it
 pub record IsRefusedByBoth (text : List ℕ) (e : ChecksumError) : Type 0 where

@@ -1,5 +1,6 @@
 -- Segwit addresses (BIP-173, Segwit address format; BIP-350), and why a text is none.
-use Rattle.std.specs.Prelude.{◌≡◌, ◌≢◌, ◌<◌, ◌≤◌, ◌⊎◌, ℕ, if◌then◌else◌, ◌==◌, List, [], ◌∷◌, map, length, Some}
+use Rattle.std.specs.Prelude.{◌≡◌, ◌≢◌, ◌<◌, ◌≤◌, ◌⊎◌, ℕ, if◌then◌else◌}
+use Rattle.std.specs.Prelude.{◌==◌, List, [], ◌∷◌, map, length, Some}
 use Rattle.std.specs.Char.{to_ascii_uppercase}
 use Rattle.bech32_gf.specs.Fe32.{elements_of}
 use Rattle.bech32_gf.specs.declared.gf32.Fe32.{Fe32}
@@ -16,7 +17,16 @@ use Rattle.bech32_decode.specs.SegwitPadding.{IsPadded, IsPaddingRefusal}
 use Rattle.bech32_refusals.specs.declared.error.ChecksumError.{ChecksumError}
 use Rattle.bech32_refusals.specs.declared.error.UncheckedHrpstringError.{UncheckedHrpstringError}
 use Rattle.bech32_refusals.specs.declared.error.SegwitHrpstringError.{SegwitHrpstringError}
-use Rattle.bech32_refusals.specs.declared.error.SegwitHrpstringError.TheVariants.{Unchecked, NoData, TooLong, InvalidWitnessVersion, Padding, WitnessLength, Checksum, Memory}
+use Rattle.bech32_refusals.specs.declared.error.SegwitHrpstringError.TheVariants.{
+  Unchecked,
+  NoData,
+  TooLong,
+  InvalidWitnessVersion,
+  Padding,
+  WitnessLength,
+  Checksum,
+  Memory,
+}
 
 -- ---- the addresses
 
@@ -40,7 +50,8 @@ pub record IsAddress (hrp : List ℕ) (version : Fe32) (program text : List ℕ)
 -- the text is the address of some human-readable part, version and program
 abbrev pub IsAddressText : List ℕ → Type 0
 IsAddressText text =
-    (hrp : List ℕ) × (version : Fe32) × (program : List ℕ) × IsHrp hrp × IsAddress hrp version program text
+    (hrp : List ℕ) × (version : Fe32) × (program : List ℕ) × IsHrp hrp
+    × IsAddress hrp version program text
 
 -- the text is the address of these parts
 abbrev pub IsDecodedAddress : List ℕ → List ℕ → Fe32 → List ℕ → Type 0
@@ -49,7 +60,8 @@ IsDecodedAddress text hrp version program = IsHrp hrp × IsAddress hrp version p
 -- each address of these parts, in either case, is the text but for its case
 abbrev pub IsOneSpelling : List ℕ → List ℕ → Fe32 → List ℕ → Type 0
 IsOneSpelling text hrp version program =
-    (h : List ℕ) → (t : List ℕ) → lowered h ≡ lowered hrp → IsAddress h version program t → lowered t ≡ lowered text
+    (h : List ℕ) → (t : List ℕ) → lowered h ≡ lowered hrp → IsAddress h version program t
+    → lowered t ≡ lowered text
 
 -- ---- the elements before a checksum
 
@@ -61,7 +73,8 @@ pub record IsVersioned (fes : List Fe32) (version : Fe32) (others : List Fe32) :
 -- why they do not begin with a version: the first of two faults
 abbrev pub IsVersionRefusal : List Fe32 → SegwitHrpstringError → Type 0
 IsVersionRefusal fes NoData = fes ≡ []
-IsVersionRefusal fes (InvalidWitnessVersion v) = (others : List Fe32) × (fes ≡ v ∷ others) × (16 < v.value)
+IsVersionRefusal fes (InvalidWitnessVersion v) =
+    (others : List Fe32) × (fes ≡ v ∷ others) × (16 < v.value)
 IsVersionRefusal fes (Unchecked e) = ⊥
 IsVersionRefusal fes (TooLong n) = ⊥
 IsVersionRefusal fes (Padding e) = ⊥
@@ -80,11 +93,14 @@ pub record IsSegwitData (n : ℕ) (version : Fe32) (program : List Fe32) : Type 
 abbrev pub IsDataRefusal : ℕ → List Fe32 → SegwitHrpstringError → Type 0
 IsDataRefusal n fes NoData = fes ≡ []
 IsDataRefusal n fes (TooLong m) = (fes ≢ []) × (90 < n) × (m ≡ n)
-IsDataRefusal n fes (InvalidWitnessVersion v) = (n ≤ 90) × IsVersionRefusal fes (InvalidWitnessVersion v)
+IsDataRefusal n fes (InvalidWitnessVersion v) =
+    (n ≤ 90) × IsVersionRefusal fes (InvalidWitnessVersion v)
 IsDataRefusal n fes (Padding e) =
-    (n ≤ 90) × (version : Fe32) × (program : List Fe32) × IsVersioned fes version program × IsPaddingRefusal program e
+    (n ≤ 90) × (version : Fe32) × (program : List Fe32) × IsVersioned fes version program
+    × IsPaddingRefusal program e
 IsDataRefusal n fes (WitnessLength e) =
-    (n ≤ 90) × (version : Fe32) × (program : List Fe32) × IsVersioned fes version program × IsPadded program
+    (n ≤ 90) × (version : Fe32) × (program : List Fe32) × IsVersioned fes version program
+    × IsPadded program
     × IsLengthRefusal version (length (to_bytes program)) e
 IsDataRefusal n fes (Unchecked e) = ⊥
 IsDataRefusal n fes (Checksum e) = ⊥
@@ -106,7 +122,8 @@ pub record IsWithoutVersion (text : List ℕ) (e : SegwitHrpstringError) : Type 
   pub refusal : IsVersionRefusal (elements_of data_part) e
 
 -- it begins with one, and the checksum of that version is refused
-pub record IsOfWrongChecksum (code : Fe32 → Code) (text : List ℕ) (e : SegwitHrpstringError) : Type 0 where
+pub record IsOfWrongChecksum (code : Fe32 → Code)
+    (text : List ℕ) (e : SegwitHrpstringError) : Type 0 where
   pub hrp : List ℕ
   pub data_part : List ℕ
   pub grammar : IsText text hrp data_part
@@ -118,7 +135,8 @@ pub record IsOfWrongChecksum (code : Fe32 → Code) (text : List ℕ) (e : Segwi
   pub refusal : IsChecksumRefusal (code version) (length text) hrp data_part error
 
 -- the checksum is right, and what stands before it is not the data of an address
-pub record IsOfWrongData (code : Fe32 → Code) (text : List ℕ) (e : SegwitHrpstringError) : Type 0 where
+pub record IsOfWrongData (code : Fe32 → Code)
+    (text : List ℕ) (e : SegwitHrpstringError) : Type 0 where
   pub hrp : List ℕ
   pub data_part : List ℕ
   pub version : Fe32
@@ -132,9 +150,11 @@ pub record IsOfWrongData (code : Fe32 → Code) (text : List ℕ) (e : SegwitHrp
 -- why a text is refused: the first of four faults
 abbrev pub IsAddressRefusal : (Fe32 → Code) → List ℕ → SegwitHrpstringError → Type 0
 IsAddressRefusal code text e =
-    IsUnread text e ⊎ IsWithoutVersion text e ⊎ IsOfWrongChecksum code text e ⊎ IsOfWrongData code text e
+    IsUnread text e ⊎ IsWithoutVersion text e ⊎ IsOfWrongChecksum code text e
+    ⊎ IsOfWrongData code text e
 
 -- why a text is not an address: it is too long, or the first of those
 abbrev pub IsSegwitRefusal : List ℕ → SegwitHrpstringError → Type 0
 IsSegwitRefusal text e =
-    ((90 < length text) × (e ≡ TooLong (length text))) ⊎ ((length text ≤ 90) × IsAddressRefusal segwit_code text e)
+    ((90 < length text) × (e ≡ TooLong (length text)))
+    ⊎ ((length text ≤ 90) × IsAddressRefusal segwit_code text e)

@@ -17,4 +17,5 @@ pub record IsPadded (fes : List Fe32) : Type 0 where
 -- why they are not: the first of two faults
 abbrev pub IsPaddingRefusal : List Fe32 → PaddingError → Type 0
 IsPaddingRefusal fes TooMuch = 4 < length (padding fes)
-IsPaddingRefusal fes NonZero = (length (padding fes) ≤ 4) × (padding fes ≢ replicate (length (padding fes)) 0)
+IsPaddingRefusal fes NonZero =
+    (length (padding fes) ≤ 4) × (padding fes ≢ replicate (length (padding fes)) 0)

@@ -6,7 +6,8 @@ use Rattle.bech32_checksum.specs.Code.{Code}
 use Rattle.bech32_decode.specs.Acceptance.{IsAccepted}
 use Rattle.bech32_decode.specs.BeforeChecksum.{IsBeforeChecksum}
 use Rattle.bech32_decode.specs.Checked.{IsWithoutChecksum}
-use Rattle.bech32_decode.specs.Parts.{checked_hrp, checked_data, checked_length, address_hrp, address_part, address_version, address_data}
+use Rattle.bech32_decode.specs.Parts.{checked_hrp, checked_data, checked_length, address_hrp}
+use Rattle.bech32_decode.specs.Parts.{address_part, address_version, address_data}
 use Rattle.bech32_decode.specs.Refusals.{IsValidBy, IsInvalidBy}
 use Rattle.bech32_decode.specs.Segwit.{IsSegwitData, IsDataRefusal}
 use Rattle.bech32_decode.specs.declared.address.SegwitHrpstring.{SegwitHrpstring}
@@ -41,13 +42,15 @@ pub record IsReadBy (code : Code) (u : UncheckedHrpstring) (a : SegwitHrpstring)
   pub segwit : IsSegwitOf checked a
 
 -- the checksum of u is refused
-pub record IsRefusedBy (code : Code) (u : UncheckedHrpstring) (e : SegwitHrpstringError) : Type 0 where
+pub record IsRefusedBy (code : Code) (u : UncheckedHrpstring)
+    (e : SegwitHrpstringError) : Type 0 where
   pub error : ChecksumError
   pub is : e ≡ Checksum error
   pub refusal : IsInvalidBy code u error
 
 -- the checksum of u is right, and what stands before it is not the data of an address
-pub record IsWrongDataOf (code : Code) (u : UncheckedHrpstring) (e : SegwitHrpstringError) : Type 0 where
+pub record IsWrongDataOf (code : Code) (u : UncheckedHrpstring)
+    (e : SegwitHrpstringError) : Type 0 where
   pub valid : IsValidBy code u
   pub checked : CheckedHrpstring
   pub without : IsWithoutChecksum code u checked

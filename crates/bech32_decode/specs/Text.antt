@@ -1,11 +1,14 @@
--- Texts (BIP-173, Bech32): a human-readable part, the separator `1`, and a data part; and why a list of bytes is none.
-use Rattle.std.specs.Prelude.{◌≡◌, ℕ, if◌then◌else◌, List, [], ◌∷◌, ◌++◌, Option, Some, None, ◌==◌, true, false}
+-- Texts (BIP-173, Bech32): a human-readable part, the separator `1`, and a data part; and
+-- why a list of bytes is none.
+use Rattle.std.specs.Prelude.{◌≡◌, ℕ, if◌then◌else◌, List, [], ◌∷◌, ◌++◌}
+use Rattle.std.specs.Prelude.{Option, Some, None, ◌==◌, true, false}
 use Rattle.std.specs.Str.{chars}
 use Rattle.bech32_gf.specs.Alphabet.{is_of_alphabet, is_data}
 use Rattle.bech32_hrp.specs.Hrp.{IsHrp, is_mixed_case, first_of, hrp_refusal}
 use Rattle.bech32_hrp.specs.declared.Error.{Error as HrpError}
 use Rattle.bech32_refusals.specs.declared.error.CharError.{CharError}
-use Rattle.bech32_refusals.specs.declared.error.CharError.TheVariants.{MissingSeparator, InvalidChar, MixedCase}
+use Rattle.bech32_refusals.specs.declared.error.CharError.TheVariants.{MissingSeparator}
+use Rattle.bech32_refusals.specs.declared.error.CharError.TheVariants.{InvalidChar, MixedCase}
 use Rattle.bech32_refusals.specs.declared.error.UncheckedHrpstringError.{UncheckedHrpstringError}
 use Rattle.bech32_refusals.specs.declared.error.UncheckedHrpstringError.TheVariants.{Char, Hrp}
 
@@ -33,7 +36,8 @@ abbrev pub unless_separator : Option ℕ → Option CharError
 unless_separator None = None
 unless_separator (Some c) = if c == 49 then None else Some (InvalidChar c)
 
--- the last character that is not of the alphabet, where it is no `1`: it stands after the last `1`, or there is no `1`
+-- the last character that is not of the alphabet, where it is no `1`: it stands after the
+-- last `1`, or there is no `1`
 abbrev pub invalid_character : List ℕ → Option CharError
 invalid_character text = unless_separator (last_stranger (chars text))
 

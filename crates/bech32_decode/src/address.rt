@@ -11,10 +11,10 @@ use crate::data_bytes::put_data_bytes;
 use crate::unchecked::UncheckedHrpstring;
 use crate::version::first_version;
 use bech32_checksum::{Bech32, Bech32m, Checksum};
-use bech32_refusals::SegwitHrpstringError;
-use bech32_refusals::segwit::{MAX_STRING_LENGTH, VERSION_0};
 use bech32_gf::gf32::Fe32;
 use bech32_hrp::Hrp;
+use bech32_refusals::SegwitHrpstringError;
+use bech32_refusals::segwit::{MAX_STRING_LENGTH, VERSION_0};
 
 /// A segwit address in its parts: the human-readable part, the witness version, and the data part
 /// without version and checksum. It borrows the text.
@@ -60,7 +60,9 @@ impl<'s> SegwitHrpstring<'s> {
 
     // What `new` returns.
     fn read(s: &'s str) -> Result<Self, SegwitHrpstringError>
-        ensures { MatchResult result (λ a. IsReadAs segwit_code s.now a) (λ e. IsSegwitRefusal s.now e) }
+        ensures { MatchResult result
+            (λ a. IsReadAs segwit_code s.now a)
+            (λ e. IsSegwitRefusal s.now e) }
     {
         if s.len() > MAX_STRING_LENGTH {
             return Err(SegwitHrpstringError::TooLong(s.len()));
@@ -87,7 +89,8 @@ impl<'s> SegwitHrpstring<'s> {
     /// neither 20 nor 32 in version 0.
     pub fn new(s: &'s str) -> Result<Self, SegwitHrpstringError>
         ensures parts { IfOk result (λ a. IsReadAs segwit_code s.now a) }
-        ensures address { IfOk result (λ a. IsAddress (address_part a) (address_version a) (address_program a) s.now) }
+        ensures address { IfOk result
+            (λ a. IsAddress (address_part a) (address_version a) (address_program a) s.now) }
         ensures accepts { IsOk result ↔ IsAddressText s.now }
         ensures refused { IfErr result (λ e. IsSegwitRefusal s.now e) }
     {

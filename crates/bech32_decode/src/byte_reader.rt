@@ -50,7 +50,8 @@ impl<'s> Iterator for ByteIter<'s> {
     fn size_hint(&self) -> (usize, Option<usize>)
         ensures lower { IsWithinCount result.0 (item_count bytes_to_come self.now) }
         ensures upper { IfSome result.1 (UpTo (item_count bytes_to_come self.now)) }
-        ensures exact { result ≡ (length (bytes_to_come self.now), Some (length (bytes_to_come self.now))) }
+        ensures exact { result
+            ≡ (length (bytes_to_come self.now), Some (length (bytes_to_come self.now))) }
     {
         (self.len(), Some(self.len()))
     }

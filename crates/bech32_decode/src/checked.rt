@@ -3,9 +3,7 @@
 ghost use Rattle.std.specs.Prelude.{◌≡◌, ◌↔◌, ◌≤◌, ◌<◌, ◌+◌, ◌++◌, ◌-◌, true, length, drop, MatchOption, MatchResult, IfOk, IfErr, IsOk};
 ghost use Rattle.bech32_gf.specs.Alphabet.{is_data};
 ghost use Rattle.bech32_gf.specs.Fe32.{elements_of};
-ghost use Rattle.bech32_checksum.specs.Roots.{HasLawfulRoots};
 ghost use Rattle.bech32_decode.specs.Acceptance.{Accepts};
-ghost use Rattle.bech32_decode.specs.Distance.{IsFarFromOthers};
 ghost use Rattle.bech32_decode.specs.Readers.{bytes_to_come, elements_left};
 ghost use Rattle.bech32_decode.specs.Text.{IsInGrammar};
 ghost use Rattle.bech32_decode.specs.Version.{version_of};
@@ -17,10 +15,10 @@ use crate::reader::AsciiToFe32Iter;
 use crate::unchecked::UncheckedHrpstring;
 use crate::version::{first_version, version_in};
 use bech32_checksum::Checksum;
-use bech32_refusals::segwit::{self, MAX_STRING_LENGTH, WitnessLengthError};
-use bech32_refusals::{CheckedHrpstringError, PaddingError, SegwitHrpstringError};
 use bech32_gf::gf32::Fe32;
 use bech32_hrp::Hrp;
+use bech32_refusals::segwit::{self, MAX_STRING_LENGTH, WitnessLengthError};
+use bech32_refusals::{CheckedHrpstringError, PaddingError, SegwitHrpstringError};
 
 /// A text in its parts: the human-readable part, and the data part without its checksum. It borrows
 /// the text.
@@ -53,7 +51,9 @@ impl<'s> CheckedHrpstring<'s> {
 
     // What `new` returns.
     fn read<Ck: Checksum>(s: &'s str) -> Result<Self, CheckedHrpstringError>
-        ensures { MatchResult result (λ c. IsAcceptedAs Ck.code s.now c) (λ e. IsCheckedRefusal Ck.code s.now e) }
+        ensures { MatchResult result
+            (λ c. IsAcceptedAs Ck.code s.now c)
+            (λ e. IsCheckedRefusal Ck.code s.now e) }
     {
         let unchecked = UncheckedHrpstring::new(s)?;
         let checked = unchecked.validate_and_remove_checksum::<Ck>()?;
@@ -61,10 +61,6 @@ impl<'s> CheckedHrpstring<'s> {
     }
 
     /// Reads a text that the checksum accepts.
-    ///
-    /// Where the roots are lawful and the degree is above 0, two texts that are read, of one
-    /// human-readable part and one length, have the same elements or differ in more than
-    /// `ROOT_EXPONENTS_END - ROOT_EXPONENTS_START + 1` places: in more than 3 for Bech32 and Bech32m.
     ///
     /// # Errors
     ///
@@ -77,12 +73,6 @@ impl<'s> CheckedHrpstring<'s> {
         // At degree 0 grammar and length alone decide.
         ensures no_checksum { Ck.CHECKSUM_LENGTH ≡ 0
             → IsOk result ↔ (IsInGrammar s.now × (length s.now ≤ Ck.CODE_LENGTH)) }
-        // The bound is the singleton bound: the number of exponents from the first to the last.
-        ensures distance { IfOk result (λ c. 0 < Ck.CHECKSUM_LENGTH
-            → HasLawfulRoots Ck.CorrectionField.ops Ck.CorrectionField.embed Ck.code
-            Ck.ROOT_GENERATOR Ck.ROOT_EXPONENTS_START Ck.ROOT_EXPONENTS_END
-            → IsFarFromOthers Ck.code s.now (checked_part c)
-            (Ck.ROOT_EXPONENTS_END - Ck.ROOT_EXPONENTS_START + 1)) }
     {
         Self::read::<Ck>(s)
     }
@@ -174,7 +164,8 @@ impl<'s> CheckedHrpstring<'s> {
     pub fn validate_segwit(self) -> Result<SegwitHrpstring<'s>, SegwitHrpstringError>
         ensures { MatchResult result
             (λ a. IsSegwitOf self.entry a)
-            (λ e. IsDataRefusal (checked_length self.entry) (elements_of (checked_data self.entry)) e) }
+            (λ e.
+            IsDataRefusal (checked_length self.entry) (elements_of (checked_data self.entry)) e) }
     {
         if self.ascii.is_empty() {
             return Err(SegwitHrpstringError::NoData);

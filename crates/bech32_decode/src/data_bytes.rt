@@ -11,7 +11,7 @@ use bech32_gf::gf32::Fe32;
 
 // The elements of the first eight characters.
 #[inline]
-fn first_eight(characters: &[u8]) -> [Fe32; 8]
+pub(crate) fn first_eight(characters: &[u8]) -> [Fe32; 8]
     requires data { is_data characters.now ≡ true }
     requires enough { 8 ≤ length characters.now }
     ensures { result ≡ elements_of (take 8 characters.now) }
@@ -59,7 +59,8 @@ fn put_group(characters: &[u8], at: usize, buffer: &mut [u8])
 fn put_groups(characters: &[u8], buffer: &mut [u8])
     requires data { is_data characters.now ≡ true }
     requires room { length characters.now / 8 * 5 ≤ length buffer.old }
-    ensures { buffer.new ≡ to_bytes (elements_of (take (length characters.now / 8 * 8) characters.now))
+    ensures { buffer.new
+        ≡ to_bytes (elements_of (take (length characters.now / 8 * 8) characters.now))
         ++ drop (length characters.now / 8 * 5) buffer.old }
 {
     for group in 0..characters.len() / 8 {

@@ -10,6 +10,7 @@ mod checked;
 mod data_bytes;
 mod either;
 mod reader;
+mod residue;
 mod unchecked;
 mod version;
 

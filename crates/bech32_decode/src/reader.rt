@@ -47,7 +47,8 @@ impl<'s> Iterator for AsciiToFe32Iter<'s> {
     fn size_hint(&self) -> (usize, Option<usize>)
         ensures lower { IsWithinCount result.0 (item_count elements_left self.now) }
         ensures upper { IfSome result.1 (UpTo (item_count elements_left self.now)) }
-        ensures exact { result ≡ (length (elements_left self.now), Some (length (elements_left self.now))) }
+        ensures exact { result
+            ≡ (length (elements_left self.now), Some (length (elements_left self.now))) }
     {
         (self.rest.len(), Some(self.rest.len()))
     }

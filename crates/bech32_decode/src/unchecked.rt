@@ -1,25 +1,22 @@
 //! A text whose characters were tested, and its checksum not.
 
-ghost use Rattle.std.specs.Prelude.{◌≡◌, ◌↔◌, ◌<◌, ◌≤◌, ◌-◌, ◌*◌, ◌^◌, ℕ, true, List, length, drop, ◌++◌, ◌∷◌, None, Some, MatchResult, MatchOption, IfOk, IsOk, IsTrue};
+ghost use Rattle.std.specs.Prelude.{◌≡◌, ◌↔◌, ◌≤◌, ℕ, true, List, length, drop, ◌++◌, ◌∷◌, None, Some, MatchResult, MatchOption, IfOk, IsOk, IsTrue};
 ghost use Rattle.std.specs.Char.{IsScalar};
 ghost use Rattle.bech32_gf.specs.Alphabet.{is_data};
 ghost use Rattle.bech32_gf.specs.Fe32.{elements_of};
-ghost use Rattle.bech32_checksum.specs.Code.{IsResidueOf};
-ghost use Rattle.bech32_hrp.specs.HrpBytes.{hrp_bytes};
-ghost use Rattle.bech32_checksum.specs.TextPolynomial.{text_polynomial};
 ghost use Rattle.bech32_decode.specs.Version.{version_of};
 ghost use Rattle.bech32_decode.specs.Text.{IsText, IsInGrammar, invalid_character, split_at_last, text_refusal};
 
 use crate::characters::{data_start, has_both_cases};
 use crate::checked::CheckedHrpstring;
-use crate::reader::AsciiToFe32Iter;
+use crate::residue::residue_of;
 use crate::version::version_in;
-use bech32_checksum::{Checksum, Engine};
+use bech32_checksum::Checksum;
+use bech32_gf::gf32::Fe32;
+use bech32_hrp::Hrp;
 use bech32_refusals::{
     CharError, ChecksumError, CodeLengthError, InvalidResidueError, UncheckedHrpstringError,
 };
-use bech32_gf::gf32::Fe32;
-use bech32_hrp::Hrp;
 
 /// A text in its parts: the human-readable part, and the data part with the checksum in it, which
 /// was not tested. It borrows the text.
@@ -29,6 +26,7 @@ pub struct UncheckedHrpstring<'s> {
     data_part_ascii: &'s [u8],
     hrpstring_length: usize,
     pub ghost of_alphabet: { is_data data_part_ascii.now ≡ true },
+    pub ghost fits: { length data_part_ascii.now ≤ hrpstring_length },
 }
 
 // The refusal of a text by a character, which is not a surrogate.
@@ -56,21 +54,6 @@ fn before_separator(s: &str) -> Result<Option<&str>, CharError>
         return Err(refusal_by(c));
     }
     Ok(Some(front.as_str()))
-}
-
-// The remainder of a text's polynomial, packed.
-fn residue_of<Ck: Checksum>(hrp: Hrp, data_part: &[u8]) -> Ck::MidstateRepr
-    requires { is_data data_part.now ≡ true }
-    ensures residue { let polynomial = text_polynomial (hrp_bytes hrp) (elements_of data_part.now) in
-        IsResidueOf Ck.MidstateRepr.number Ck.code result polynomial }
-    ensures clear { Ck.MidstateRepr.number result < 2 ^ (5 * Ck.CHECKSUM_LENGTH) }
-{
-    let mut engine = Engine::<Ck>::new();
-    engine.input_hrp(hrp);
-    for fe in AsciiToFe32Iter::new(data_part) {
-        engine.input_fe(fe);
-    }
-    *engine.residue()
 }
 
 impl<'s> UncheckedHrpstring<'s> {
@@ -112,7 +95,9 @@ impl<'s> UncheckedHrpstring<'s> {
             × (unchecked_length u ≡ length s.now)) }
         ensures only { IfOk result (λ u. (h : List ℕ) → (d : List ℕ) → IsText s.now h d
             → (h ≡ unchecked_part u) × (d ≡ unchecked_data u)) }
-        ensures refused { MatchResult result (λ u. text_refusal s.now ≡ None) (λ e. text_refusal s.now ≡ Some e) }
+        ensures refused { MatchResult result
+            (λ u. text_refusal s.now ≡ None)
+            (λ e. text_refusal s.now ≡ Some e) }
         ensures accepts { IsOk result ↔ IsInGrammar s.now }
     {
         Self::read(s)

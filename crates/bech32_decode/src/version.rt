@@ -6,9 +6,9 @@ ghost use Rattle.bech32_gf.specs.Alphabet.{is_data};
 ghost use Rattle.bech32_gf.specs.Fe32.{elements_of};
 ghost use Rattle.bech32_decode.specs.Version.{version_of};
 
+use bech32_gf::gf32::Fe32;
 use bech32_refusals::SegwitHrpstringError;
 use bech32_refusals::segwit::is_valid_witness_version;
-use bech32_gf::gf32::Fe32;
 
 /// The element of the first character, where it is at most 16 (BIP-173, Segwit address format).
 #[inline]

@@ -17,7 +17,7 @@ use Rattle.bech32_checksum.specs.TextPolynomial.{hrp_elements, text_polynomial}
 use Rattle.bech32_bch.specs.Distance.{places_that_differ}
 use Rattle.bech32_bch.proofs.Distance.{Tells, places_that_differ-reverse}
 use Rattle.bech32_decode.specs.Acceptance.{IsAccepted}
-use Rattle.bech32_decode.specs.Distance.{AreSameOrFar, same_element}
+use Rattle.bech32_detect.specs.Distance.{AreSameOrFar, same_element}
 use Rattle.bech32_detect.specs.Detection.{DetectsFour}
 use Rattle.bech32_detect.specs.Texts.{AreTextsFar}
 use Rattle.bech32_detect.proofs.Apart.{detected}
@@ -49,8 +49,8 @@ pub texts_far : (code : Code) (n : ℕ) → DetectsFour fe32.ops code.generator 
 texts_far code n detects text hrp data_part other other_hrp other_data is other_is same_hrp same_length short = step
     (detected is_field same_element same_element-tells code.generator (reverse xs) (reverse ys) (above_data hrp) code.target n detects
     (length-reverse xs ∙ sizes ∙ sym (length-reverse ys)) (omega (arith, length-reverse xs, length-map data_part element_of, short))
-    (subst (λ p. IsRemainder fe32.ops code.generator p code.target) (text_polynomial-reverse hrp xs) is.leaves_target)
-    (subst (λ p. IsRemainder fe32.ops code.generator p code.target) (text_polynomial-reverse other_hrp ys ∙ ap (λ u. reverse ys ++ u) (above_data-lowered hrp other_hrp same_hrp)) other_is.leaves_target))
+    (subst (λ p. IsRemainder fe32.ops code.generator p code.target) (text_polynomial-reverse hrp xs) is.has_target)
+    (subst (λ p. IsRemainder fe32.ops code.generator p code.target) (text_polynomial-reverse other_hrp ys ∙ ap (λ u. reverse ys ++ u) (above_data-lowered hrp other_hrp same_hrp)) other_is.has_target))
   where
     xs : List Fe32
     xs = elements_of data_part

@@ -34,7 +34,8 @@ pub record HasTermsAdded (g : List Fe32) (n : ℕ) (v : Fe32) (old new : List �
 -- the rows of zero and of all these remainders of values that are not zero, and no other
 pub record AreTermRows (g : List Fe32) (n : ℕ) (rows : List ℕ) : Type 0 where
   pub nothing : HasRow (length g) rows (zeros fe32.ops (length g))
-  pub each : (v : Fe32) → v ≢ fe32.zero → (i : ℕ) → 0 < i → i < n → HasRow (length g) rows (term fe32.ops g i v)
+  pub each : (v : Fe32) → v ≢ fe32.zero → (i : ℕ) → 0 < i → i < n
+      → HasRow (length g) rows (term fe32.ops g i v)
   pub no_other : (number : ℕ) → Contains rows number
       → IsRowOf (length g) (zeros fe32.ops (length g)) number
       ⊎ ((v : Fe32) × (v ≢ fe32.zero) × IsTermRow g n v number)

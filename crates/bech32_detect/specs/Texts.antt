@@ -4,11 +4,11 @@ use Rattle.bech32_gf.specs.Fe32.{elements_of}
 use Rattle.bech32_hrp.specs.Hrp.{lowered}
 use Rattle.bech32_checksum.specs.Code.{Code}
 use Rattle.bech32_decode.specs.Acceptance.{IsAccepted}
-use Rattle.bech32_decode.specs.Distance.{AreSameOrFar}
+use Rattle.bech32_detect.specs.Distance.{AreSameOrFar}
 
--- Any two texts that the checksum accepts, with the same human-readable part, in lower case, of the same length, and
--- with data parts of at most n characters, have the same elements in these, those of the checksum among them, or
--- elements that differ in more places than the bound.
+-- Any two texts that the checksum accepts, with the same human-readable part, in lower case, of the
+-- same length, and with data parts of at most n characters, have the same elements in these, those
+-- of the checksum among them, or elements that differ in more places than the bound.
 abbrev pub AreTextsFar : Code → ℕ → ℕ → Type 0
 AreTextsFar code n bound = (text hrp data_part other other_hrp other_data : List ℕ)
     → IsAccepted code text hrp data_part → IsAccepted code other other_hrp other_data

@@ -7,9 +7,11 @@ ghost use Rattle.bech32_poly.specs.Polynomial.{coefficient};
 ghost use Rattle.bech32_detect.specs.Detection.{DetectsFour};
 ghost use Rattle.bech32_detect.specs.Texts.{AreTextsFar};
 
+mod distance;
 mod rows;
 mod search;
 
+pub use self::distance::accepted_texts_are_far;
 use bech32_checksum::{Checksum, Engine};
 use rows::{row_of, term_rows};
 use search::has_three;
@@ -45,7 +47,8 @@ fn decided_in<Ck: Checksum, A: Allocator>(alloc: A, n: usize) -> Result<bool, Al
 /// If memory runs out. At `n` = 0 nothing is allocated.
 pub fn detects_four_in<Ck: Checksum, A: Allocator>(alloc: A, n: usize) -> Result<bool, AllocError>
     requires { 0 < (coefficient fe32.ops Ck.code.generator 0).value }
-    ensures value { IfOk result (λ answer. IsTrue answer ↔ DetectsFour fe32.ops Ck.code.generator n) }
+    ensures value { IfOk result
+        (λ answer. IsTrue answer ↔ DetectsFour fe32.ops Ck.code.generator n) }
     ensures texts { IfOk result (λ answer. IsTrue answer → AreTextsFar Ck.code n 4) }
 {
     decided_in::<Ck, A>(alloc, n)
@@ -54,7 +57,8 @@ pub fn detects_four_in<Ck: Checksum, A: Allocator>(alloc: A, n: usize) -> Result
 /// Decides as [`detects_four_in`] does, with memory of the global allocator.
 pub fn detects_four<Ck: Checksum>(alloc: Global, n: usize) -> Result<bool, AllocError>
     requires { 0 < (coefficient fe32.ops Ck.code.generator 0).value }
-    ensures value { IfOk result (λ answer. IsTrue answer ↔ DetectsFour fe32.ops Ck.code.generator n) }
+    ensures value { IfOk result
+        (λ answer. IsTrue answer ↔ DetectsFour fe32.ops Ck.code.generator n) }
     ensures texts { IfOk result (λ answer. IsTrue answer → AreTextsFar Ck.code n 4) }
 {
     detects_four_in::<Ck, Global>(alloc, n)

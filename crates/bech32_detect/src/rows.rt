@@ -28,7 +28,8 @@ fn push_terms<Ck: Checksum, A: Allocator>(
     value: Fe32,
     n: usize,
 ) -> Result<(), AllocError>
-    ensures { IfOk result (λ _. HasTermsAdded Ck.code.generator n value rows.old.items rows.new.items) }
+    ensures { IfOk result
+        (λ _. HasTermsAdded Ck.code.generator n value rows.old.items rows.new.items) }
 {
     let mut engine = Engine::<Ck>::zero();
     engine.input_fe(value);

@@ -139,9 +139,9 @@ module _ (code : Code) (size : length code.target ≡ length code.generator) whe
       length-reverse (remainder_of fe32.ops code.generator (appended p (reverse code.target)))
       ∙ length-remainder_of is_field code.generator (appended p (reverse code.target))
 
-  leaves_target : (p : List Fe32) → IsRemainder fe32.ops code.generator (appended p (checksum_of code p)) code.target
+  has_target : (p : List Fe32) → IsRemainder fe32.ops code.generator (appended p (checksum_of code p)) code.target
   unfolding checksum_of
-  leaves_target p =
+  has_target p =
       checksum_of_target is_field code.generator p code.target _ (λ x. refl) size (remainder_exists is_field code.generator (appended p (reverse code.target)))
 
   checksum_of-elements : (xs : List Fe32) → IsChecksumOfElements code xs (checksum_of code (appended (fe32.one ∷ []) xs))
@@ -149,7 +149,7 @@ module _ (code : Code) (size : length code.target ≡ length code.generator) whe
       let c : List Fe32 = checksum_of code (appended (fe32.one ∷ []) xs) in
       record {
         size = length-checksum_of (appended (fe32.one ∷ []) xs);
-        leaves_target = subst (λ p. IsRemainder fe32.ops code.generator p code.target) (sym (appended-append (fe32.one ∷ []) xs c)) (leaves_target (appended (fe32.one ∷ []) xs));
+        has_target = subst (λ p. IsRemainder fe32.ops code.generator p code.target) (sym (appended-append (fe32.one ∷ []) xs c)) (has_target (appended (fe32.one ∷ []) xs));
       }
 
   pub checksum_of-hrp : (hrp : List ℕ) (xs : List Fe32) → IsChecksumOf code hrp xs (checksum_of code (text_polynomial hrp xs))
@@ -158,10 +158,10 @@ module _ (code : Code) (size : length code.target ≡ length code.generator) whe
       let front : List Fe32 = appended (fe32.one ∷ []) (hrp_elements hrp) in
       record {
         size = length-checksum_of (text_polynomial hrp xs);
-        leaves_target = subst (λ p. IsRemainder fe32.ops code.generator p code.target)
+        has_target = subst (λ p. IsRemainder fe32.ops code.generator p code.target)
             (ap (λ p. appended p c) (appended-append (fe32.one ∷ []) (hrp_elements hrp) xs)
             ∙ sym (appended-append front xs c) ∙ sym (appended-append (fe32.one ∷ []) (hrp_elements hrp) (xs ++ c)))
-            (leaves_target (text_polynomial hrp xs));
+            (has_target (text_polynomial hrp xs));
       }
 
   module _ {R : Type 0} (number : R → ℕ) (residue : R) where

@@ -130,7 +130,7 @@ encoded_pieces number code degree wide target hrp version fes residue row size s
       checksum = reverse left;
       is_checksum = record {
         size = length-reverse left ∙ length-tabulate size (digit_of (number row)) ∙ is ∙ sym wide;
-        leaves_target = subst (λ q. IsRemainder fe32.ops code.generator q code.target) (polynomial-parts hrp version fes (reverse left))
+        has_target = subst (λ q. IsRemainder fe32.ops code.generator q code.target) (polynomial-parts hrp version fes (reverse left))
             (checksum_of_target is_field code.generator p code.target left (λ x. refl) target held);
       };
       spelling = spelled-parts hrp version fes (reverse left);

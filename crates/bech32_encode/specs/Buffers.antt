@@ -12,7 +12,9 @@ pub record IsPutAsFits (bytes old new : List ℕ) (count : ℕ) : Type 0 where
   pub buffer : new ≡ take (length old) (bytes ++ drop (length bytes) old)
   pub count_is : count ≡ min (length bytes) (length old)
 
--- these bytes were put behind those that a buffer and their count showed before, whichever they were
+-- these bytes were put behind those that a buffer and their count showed
+-- before, whichever they were
 abbrev pub PutsBehind : List ℕ → List ℕ → ℕ → List ℕ → ℕ → Type 0
 PutsBehind bytes old before new after =
-    (front start : List ℕ) → IsPutAsFits front start old before → IsPutAsFits (front ++ bytes) start new after
+    (front start : List ℕ) → IsPutAsFits front start old before
+    → IsPutAsFits (front ++ bytes) start new after

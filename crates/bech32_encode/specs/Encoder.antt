@@ -21,7 +21,8 @@ abbrev pub encoder_version : {I Ck : Type 0} → Encoder I Ck → Option Fe32
 encoder_version e = e.version
 
 -- an iterator over the encoder's version and elements, of which nothing was asked yet
-pub record IsFreshOver {I Ck : Type 0} (e : Encoder I Ck) (source : Fuse (WitnessVersionIter I)) : Type 0 where
+pub record IsFreshOver {I Ck : Type 0} (e : Encoder I Ck)
+    (source : Fuse (WitnessVersionIter I)) : Type 0 where
   pub fresh : fuse_done source ≡ false
   pub version : version_of (fuse_source source) ≡ encoder_version e
   pub elements : fuse_source (version_source (fuse_source source)) ≡ encoder_elements e

@@ -1,5 +1,6 @@
 -- What is still to come of a text that is put into a buffer piece by piece.
-use Rattle.std.specs.Prelude.{ℕ, Bool, true, false, List, [], ◌++◌, map, Option, None, option_to_list}
+use Rattle.std.specs.Prelude.{ℕ, Bool, true, false, List, [], ◌++◌}
+use Rattle.std.specs.Prelude.{map, Option, None, option_to_list}
 use Rattle.bech32_gf.specs.declared.gf32.Fe32.{Fe32}
 use Rattle.bech32_bits.specs.Bits.{to_fes}
 use Rattle.bech32_checksum.specs.Code.{Code}
@@ -18,8 +19,10 @@ abbrev pub checksum_left : {R : Type 0} → (R → ℕ) → Code → Bool → R 
 checksum_left number code true residue = then_checksum number code residue None []
 checksum_left number code false residue = []
 
--- unless the text has ended: a front, the elements of bytes, and the checksum of what left a residue and of them
+-- unless the text has ended: a front, the elements of bytes, and the checksum of what
+-- left a residue and of them
 abbrev pub text_left : {R : Type 0} → (R → ℕ) → Code → Bool → Bool → List ℕ → R → List ℕ → List ℕ
 text_left number code true upper front residue bytes = []
 text_left number code false upper front residue bytes =
-    in_case upper (front ++ map char_of_element (then_checksum number code residue None (to_fes bytes)))
+    in_case upper
+    (front ++ map char_of_element (then_checksum number code residue None (to_fes bytes)))

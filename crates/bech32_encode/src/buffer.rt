@@ -51,7 +51,8 @@ fn put_element<Ck: Checksum>(
     buffer: &mut [u8],
 ) -> usize
     ensures text { PutsBehind (char_of_element element ∷ []) buffer.old count buffer.new result }
-    ensures residue { IsResidueAfter Ck.MidstateRepr.number Ck.code engine.old (element ∷ []) engine.new }
+    ensures residue { IsResidueAfter Ck.MidstateRepr.number Ck.code engine.old
+        (element ∷ []) engine.new }
 {
     engine.input_fe(element);
     put_byte(element.to_char() as u8, count, buffer)
@@ -65,8 +66,10 @@ pub(super) fn put_version<Ck: Checksum>(
     count: usize,
     buffer: &mut [u8],
 ) -> usize
-    ensures text { PutsBehind (map char_of_element (option_to_list version)) buffer.old count buffer.new result }
-    ensures residue { IsResidueAfter Ck.MidstateRepr.number Ck.code engine.old (option_to_list version) engine.new }
+    ensures text { PutsBehind (map char_of_element (option_to_list version))
+        buffer.old count buffer.new result }
+    ensures residue { IsResidueAfter Ck.MidstateRepr.number Ck.code engine.old
+        (option_to_list version) engine.new }
 {
     match version {
         Some(version) => put_element(version, engine, count, buffer),
@@ -143,8 +146,10 @@ pub(super) fn put_rest<Ck: Checksum>(
     count: usize,
     buffer: &mut [u8],
 ) -> usize
-    ensures text { PutsBehind (map char_of_element (to_fes bytes.now)) buffer.old count buffer.new result }
-    ensures residue { IsResidueAfter Ck.MidstateRepr.number Ck.code engine.old (to_fes bytes.now) engine.new }
+    ensures text { PutsBehind (map char_of_element (to_fes bytes.now))
+        buffer.old count buffer.new result }
+    ensures residue { IsResidueAfter Ck.MidstateRepr.number Ck.code engine.old
+        (to_fes bytes.now) engine.new }
 {
     let elements = bytes.iter().copied().bytes_to_fes();
     put_elements(elements, engine, count, buffer)

@@ -43,7 +43,8 @@ impl<'hrp, I: Iterator<Item = Fe32>, Ck: Checksum> ByteIter<'hrp, I, Ck> {
         ensures more { ⟦<ByteIter<'hrp, I, Ck> as Adaptor>⟧.more result
             ≡ ⟦<CharIter<'hrp, I, Ck> as Adaptor>⟧.more chars.entry }
         // A whole walk gives what a whole walk of the characters gives.
-        ensures walk { (bytes : List ℕ) → Drains ⟦<ByteIter<'hrp, I, Ck> as Iterator>⟧.next_gives result bytes
+        ensures walk { (bytes : List ℕ)
+            → Drains ⟦<ByteIter<'hrp, I, Ck> as Iterator>⟧.next_gives result bytes
             → Drains ⟦<CharIter<'hrp, I, Ck> as Iterator>⟧.next_gives chars.entry bytes }
         // The same, as chains of iterators follow it.
         ensures runs { EachRunFrom ⟦<ByteIter<'hrp, I, Ck> as Iterator>⟧.next_gives result (λ p.
@@ -61,7 +62,8 @@ impl<'hrp, I: Iterator<Item = Fe32>, Ck: Checksum> Iterator for ByteIter<'hrp, I
 
     ghost can_next = { λ s. ⟦<CharIter<'hrp, I, Ck> as Iterator>⟧.can_next s.chars };
 
-    ghost next_gives = { λ s r t. ⟦<CharIter<'hrp, I, Ck> as Iterator>⟧.next_gives s.chars r t.chars };
+    ghost next_gives = { λ s r t.
+        ⟦<CharIter<'hrp, I, Ck> as Iterator>⟧.next_gives s.chars r t.chars };
 
     ghost remaining = { λ s. ⟦<CharIter<'hrp, I, Ck> as Iterator>⟧.remaining s.chars };
 
@@ -71,8 +73,10 @@ impl<'hrp, I: Iterator<Item = Fe32>, Ck: Checksum> Iterator for ByteIter<'hrp, I
     }
 
     fn size_hint(&self) -> (usize, Option<usize>)
-        ensures lower { IsWithinCount result.0 (⟦<ByteIter<'hrp, I, Ck> as Iterator>⟧.remaining self.now) }
-        ensures upper { IfSome result.1 (UpTo (⟦<ByteIter<'hrp, I, Ck> as Iterator>⟧.remaining self.now)) }
+        ensures lower { IsWithinCount result.0
+            (⟦<ByteIter<'hrp, I, Ck> as Iterator>⟧.remaining self.now) }
+        ensures upper { IfSome result.1
+            (UpTo (⟦<ByteIter<'hrp, I, Ck> as Iterator>⟧.remaining self.now)) }
         ensures rule { FollowsHint (λ n. n + ⟦<ByteIter<'hrp, I, Ck> as Adaptor>⟧.more self.now)
             (fuse_left ⟦<WitnessVersionIter<I> as Iterator>⟧.remaining
             (⟦<ByteIter<'hrp, I, Ck> as Adaptor>⟧.source self.now)) result }

@@ -68,8 +68,10 @@ impl<I: Iterator<Item = Fe32>, Ck: Checksum> Iterator for Checksummed<I, Ck> {
     }
 
     fn size_hint(&self) -> (usize, Option<usize>)
-        ensures lower { IsWithinCount result.0 (⟦<Checksummed<I, Ck> as Iterator>⟧.remaining self.now) }
-        ensures upper { IfSome result.1 (UpTo (⟦<Checksummed<I, Ck> as Iterator>⟧.remaining self.now)) }
+        ensures lower { IsWithinCount result.0
+            (⟦<Checksummed<I, Ck> as Iterator>⟧.remaining self.now) }
+        ensures upper { IfSome result.1
+            (UpTo (⟦<Checksummed<I, Ck> as Iterator>⟧.remaining self.now)) }
         ensures rule { FollowsHint (λ n. n + ⟦<Checksummed<I, Ck> as Adaptor>⟧.more self.now)
             (fuse_left I.remaining (⟦<Checksummed<I, Ck> as Adaptor>⟧.source self.now)) result }
     {
@@ -85,10 +87,12 @@ impl<I: Iterator<Item = Fe32>, Ck: Checksum> FusedIterator for Checksummed<I, Ck
 impl<I: Clone, Ck: Checksum> Clone for Checksummed<I, Ck> {
     ghost use Rattle.bech32_encode.specs.Clones.{IsAdaptorClone};
 
-    ghost is_clone = { IsAdaptorClone ⟦<Fuse<I> as Clone>⟧.is_clone ⟦<Checksummed<I, Ck> as Adaptor>⟧.source
+    ghost is_clone = { IsAdaptorClone ⟦<Fuse<I> as Clone>⟧.is_clone
+        ⟦<Checksummed<I, Ck> as Adaptor>⟧.source
         ⟦<Checksummed<I, Ck> as Adaptor>⟧.gives ⟦<Checksummed<I, Ck> as Adaptor>⟧.more };
 
-    ghost is_infallible = { λ s. ⟦<Fuse<I> as Clone>⟧.is_infallible (⟦<Checksummed<I, Ck> as Adaptor>⟧.source s) };
+    ghost is_infallible = { λ s.
+        ⟦<Fuse<I> as Clone>⟧.is_infallible (⟦<Checksummed<I, Ck> as Adaptor>⟧.source s) };
 
     fn clone(&self) -> Result<Self, AllocError> {
         Ok(Checksummed {
@@ -112,9 +116,11 @@ impl<I: Iterator<Item = Fe32>, Ck: Checksum> Checksummed<I, Ck> {
         ensures gives { (xs : List Element) → EndsInChecksum (IsChecksumOfElements Ck.code) xs
             (⟦<Checksummed<I, Ck> as Adaptor>⟧.gives result xs) }
         // A whole walk gives what a whole walk of the elements gives, and their checksum.
-        ensures walk { EachWalkGives I.next_gives elements ⟦<Checksummed<I, Ck> as Iterator>⟧.next_gives result
+        ensures walk { EachWalkGives I.next_gives elements
+            ⟦<Checksummed<I, Ck> as Iterator>⟧.next_gives result
             (EndsInChecksum (IsChecksumOfElements Ck.code)) }
-        ensures runs { EachRunGives I.next_gives elements ⟦<Checksummed<I, Ck> as Iterator>⟧.next_gives result
+        ensures runs { EachRunGives I.next_gives elements
+            ⟦<Checksummed<I, Ck> as Iterator>⟧.next_gives result
             (EndsInChecksum (IsChecksumOfElements Ck.code)) }
     {
         let elements = elements.fuse();
@@ -130,12 +136,15 @@ impl<I: Iterator<Item = Fe32>, Ck: Checksum> Checksummed<I, Ck> {
     pub fn new_hrp(hrp: Hrp, elements: I) -> Checksummed<I, Ck>
         ensures source { fuse_source (⟦<Checksummed<I, Ck> as Adaptor>⟧.source result) ≡ elements }
         ensures fresh { fuse_done (⟦<Checksummed<I, Ck> as Adaptor>⟧.source result) ≡ false }
-        ensures gives { (xs : List Element) → EndsInChecksum (IsChecksumOf Ck.code (hrp_bytes hrp)) xs
+        ensures gives { (xs : List Element)
+            → EndsInChecksum (IsChecksumOf Ck.code (hrp_bytes hrp)) xs
             (⟦<Checksummed<I, Ck> as Adaptor>⟧.gives result xs) }
         // A whole walk gives what a whole walk of the elements gives, and their checksum.
-        ensures walk { EachWalkGives I.next_gives elements ⟦<Checksummed<I, Ck> as Iterator>⟧.next_gives result
+        ensures walk { EachWalkGives I.next_gives elements
+            ⟦<Checksummed<I, Ck> as Iterator>⟧.next_gives result
             (EndsInChecksum (IsChecksumOf Ck.code (hrp_bytes hrp))) }
-        ensures runs { EachRunGives I.next_gives elements ⟦<Checksummed<I, Ck> as Iterator>⟧.next_gives result
+        ensures runs { EachRunGives I.next_gives elements
+            ⟦<Checksummed<I, Ck> as Iterator>⟧.next_gives result
             (EndsInChecksum (IsChecksumOf Ck.code (hrp_bytes hrp))) }
     {
         let mut engine = Engine::new();
@@ -154,9 +163,11 @@ impl<I: Iterator<Item = Fe32>, Ck: Checksum> Checksummed<I, Ck> {
         ensures elements { self.new.elements ≡ self.old.elements }
         ensures gives { ⟦<Checksummed<I, Ck> as Adaptor>⟧.gives self.old []
             ≡ then_gives result (⟦<Checksummed<I, Ck> as Adaptor>⟧.gives self.new []) }
-        ensures nothing_left { IfNone result (⟦<Checksummed<I, Ck> as Adaptor>⟧.gives self.new [] ≡ []) }
+        ensures nothing_left { IfNone result
+            (⟦<Checksummed<I, Ck> as Adaptor>⟧.gives self.new [] ≡ []) }
         ensures goes { IfSome result (λ _.
-            ⟦<Checksummed<I, Ck> as Adaptor>⟧.more self.new < ⟦<Checksummed<I, Ck> as Adaptor>⟧.more self.old) }
+            ⟦<Checksummed<I, Ck> as Adaptor>⟧.more self.new
+            < ⟦<Checksummed<I, Ck> as Adaptor>⟧.more self.old) }
     {
         match self.tail {
             Some(left) => self.next_of_residue(left),

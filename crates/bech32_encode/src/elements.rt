@@ -34,7 +34,8 @@ impl<'hrp, I, Ck: Checksum> Adaptor for Fe32Iter<'hrp, I, Ck> {
 
     type Given = Fe32;
 
-    ghost source = { λ s. ⟦<Checksummed<WitnessVersionIter<I>, Ck> as Adaptor>⟧.source s.checksummed };
+    ghost source = { λ s.
+        ⟦<Checksummed<WitnessVersionIter<I>, Ck> as Adaptor>⟧.source s.checksummed };
 
     ghost gives = { λ s xs. hrp_fes_rest s.hrp
         ++ ⟦<Checksummed<WitnessVersionIter<I>, Ck> as Adaptor>⟧.gives s.checksummed xs };
@@ -50,16 +51,19 @@ impl<'hrp, I: Iterator<Item = Fe32>, Ck: Checksum> Fe32Iter<'hrp, I, Ck> {
 
     /// The elements of the human-readable part, the elements and their checksum.
     pub fn new(hrp: &'hrp Hrp, elements: WitnessVersionIter<I>) -> Self
-        ensures source { fuse_source (⟦<Fe32Iter<'hrp, I, Ck> as Adaptor>⟧.source result) ≡ elements }
+        ensures source { fuse_source (⟦<Fe32Iter<'hrp, I, Ck> as Adaptor>⟧.source result)
+            ≡ elements }
         ensures fresh { fuse_done (⟦<Fe32Iter<'hrp, I, Ck> as Adaptor>⟧.source result) ≡ false }
         ensures gives { (xs : List Element) → IsEncodedElements Ck.code (hrp_bytes hrp.now) xs
             (⟦<Fe32Iter<'hrp, I, Ck> as Adaptor>⟧.gives result xs) }
         // A whole walk gives what a whole walk of the elements gives, between those of the part and
         // the checksum.
         ensures walk { EachWalkGives (version_steps I.next_gives) elements
-            ⟦<Fe32Iter<'hrp, I, Ck> as Iterator>⟧.next_gives result (IsEncodedElements Ck.code (hrp_bytes hrp.now)) }
+            ⟦<Fe32Iter<'hrp, I, Ck> as Iterator>⟧.next_gives result
+            (IsEncodedElements Ck.code (hrp_bytes hrp.now)) }
         ensures runs { EachRunGives (version_steps I.next_gives) elements
-            ⟦<Fe32Iter<'hrp, I, Ck> as Iterator>⟧.next_gives result (IsEncodedElements Ck.code (hrp_bytes hrp.now)) }
+            ⟦<Fe32Iter<'hrp, I, Ck> as Iterator>⟧.next_gives result
+            (IsEncodedElements Ck.code (hrp_bytes hrp.now)) }
     {
         Fe32Iter {
             hrp: HrpFe32Iter::new(hrp),
@@ -76,13 +80,16 @@ impl<'hrp, I: Iterator<Item = Fe32>, Ck: Checksum> Iterator for Fe32Iter<'hrp, I
     ghost use Rattle.bech32_checksum.specs.HrpFes.{hrp_fes_rest};
     ghost use Rattle.bech32_encode.specs.WitnessVersion.{version_steps};
 
-    ghost can_next = { λ s. ⟦<Checksummed<WitnessVersionIter<I>, Ck> as Iterator>⟧.can_next s.checksummed };
+    ghost can_next = { λ s.
+        ⟦<Checksummed<WitnessVersionIter<I>, Ck> as Iterator>⟧.can_next s.checksummed };
 
-    ghost next_gives = { Adapts (version_steps I.next_gives) ⟦<Fe32Iter<'hrp, I, Ck> as Adaptor>⟧.source
+    ghost next_gives = { Adapts (version_steps I.next_gives)
+        ⟦<Fe32Iter<'hrp, I, Ck> as Adaptor>⟧.source
         ⟦<Fe32Iter<'hrp, I, Ck> as Adaptor>⟧.gives };
 
     ghost remaining = { λ s. count_map (λ n. n + ⟦<Fe32Iter<'hrp, I, Ck> as Adaptor>⟧.more s)
-        (fuse_left ⟦<WitnessVersionIter<I> as Iterator>⟧.remaining (⟦<Fe32Iter<'hrp, I, Ck> as Adaptor>⟧.source s)) };
+        (fuse_left ⟦<WitnessVersionIter<I> as Iterator>⟧.remaining
+        (⟦<Fe32Iter<'hrp, I, Ck> as Adaptor>⟧.source s)) };
 
     #[inline]
     fn next(&mut self) -> Option<Fe32> {
@@ -93,8 +100,10 @@ impl<'hrp, I: Iterator<Item = Fe32>, Ck: Checksum> Iterator for Fe32Iter<'hrp, I
     }
 
     fn size_hint(&self) -> (usize, Option<usize>)
-        ensures lower { IsWithinCount result.0 (⟦<Fe32Iter<'hrp, I, Ck> as Iterator>⟧.remaining self.now) }
-        ensures upper { IfSome result.1 (UpTo (⟦<Fe32Iter<'hrp, I, Ck> as Iterator>⟧.remaining self.now)) }
+        ensures lower { IsWithinCount result.0
+            (⟦<Fe32Iter<'hrp, I, Ck> as Iterator>⟧.remaining self.now) }
+        ensures upper { IfSome result.1
+            (UpTo (⟦<Fe32Iter<'hrp, I, Ck> as Iterator>⟧.remaining self.now)) }
         ensures rule { FollowsHint (λ n. n + ⟦<Fe32Iter<'hrp, I, Ck> as Adaptor>⟧.more self.now)
             (fuse_left ⟦<WitnessVersionIter<I> as Iterator>⟧.remaining
             (⟦<Fe32Iter<'hrp, I, Ck> as Adaptor>⟧.source self.now)) result }

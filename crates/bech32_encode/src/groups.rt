@@ -103,7 +103,8 @@ fn put_groups<Ck: Checksum>(
     count: usize,
     buffer: &mut [u8],
 ) -> usize
-    ensures text { PutsBehind (map char_of_element (to_fes (take (length bytes.now / 5 * 5) bytes.now)))
+    ensures text { PutsBehind
+        (map char_of_element (to_fes (take (length bytes.now / 5 * 5) bytes.now)))
         buffer.old count buffer.new result }
     ensures residue { IsResidueAfter Ck.MidstateRepr.number Ck.code engine.old
         (to_fes (take (length bytes.now / 5 * 5) bytes.now)) engine.new }
@@ -123,8 +124,10 @@ pub(super) fn put_bytes<Ck: Checksum>(
     count: usize,
     buffer: &mut [u8],
 ) -> usize
-    ensures text { PutsBehind (map char_of_element (to_fes bytes.now)) buffer.old count buffer.new result }
-    ensures residue { IsResidueAfter Ck.MidstateRepr.number Ck.code engine.old (to_fes bytes.now) engine.new }
+    ensures text { PutsBehind (map char_of_element (to_fes bytes.now))
+        buffer.old count buffer.new result }
+    ensures residue { IsResidueAfter Ck.MidstateRepr.number Ck.code engine.old
+        (to_fes bytes.now) engine.new }
 {
     let end = put_groups(bytes, engine, count, buffer);
     put_rest(&bytes[bytes.len() / 5 * 5..], engine, end, buffer)

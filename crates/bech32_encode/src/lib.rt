@@ -78,8 +78,10 @@ impl<'hrp, I: Iterator<Item = Fe32>, Ck: Checksum> Encoder<'hrp, I, Ck> {
     /// there is one, the elements and their checksum (BIP-173, Bech32).
     #[inline]
     pub fn chars(self) -> CharIter<'hrp, I, Ck>
-        ensures fresh { IsFreshOver self.entry (⟦<CharIter<'hrp, I, Ck> as Adaptor>⟧.source result) }
-        ensures gives { (xs : List Element) → IsEncodedText Ck.code (hrp_bytes (encoder_hrp self.entry)) xs
+        ensures fresh { IsFreshOver self.entry
+            (⟦<CharIter<'hrp, I, Ck> as Adaptor>⟧.source result) }
+        ensures gives { (xs : List Element)
+            → IsEncodedText Ck.code (hrp_bytes (encoder_hrp self.entry)) xs
             (⟦<CharIter<'hrp, I, Ck> as Adaptor>⟧.gives result xs) }
         // A whole walk gives the text of what a whole walk of the elements gives.
         ensures walk { EachWalkGives I.next_gives (encoder_elements self.entry)
@@ -100,8 +102,10 @@ impl<'hrp, I: Iterator<Item = Fe32>, Ck: Checksum> Encoder<'hrp, I, Ck> {
     /// The bytes of the text: those of `chars`.
     #[inline]
     pub fn bytes(self) -> ByteIter<'hrp, I, Ck>
-        ensures fresh { IsFreshOver self.entry (⟦<ByteIter<'hrp, I, Ck> as Adaptor>⟧.source result) }
-        ensures gives { (xs : List Element) → IsEncodedText Ck.code (hrp_bytes (encoder_hrp self.entry)) xs
+        ensures fresh { IsFreshOver self.entry
+            (⟦<ByteIter<'hrp, I, Ck> as Adaptor>⟧.source result) }
+        ensures gives { (xs : List Element)
+            → IsEncodedText Ck.code (hrp_bytes (encoder_hrp self.entry)) xs
             (⟦<ByteIter<'hrp, I, Ck> as Adaptor>⟧.gives result xs) }
         // A whole walk gives the text of what a whole walk of the elements gives.
         ensures walk { EachWalkGives I.next_gives (encoder_elements self.entry)
@@ -120,8 +124,10 @@ impl<'hrp, I: Iterator<Item = Fe32>, Ck: Checksum> Encoder<'hrp, I, Ck> {
     /// their checksum: what the checksum covers, and it (BIP-173, Checksum).
     #[inline]
     pub fn fes(self) -> Fe32Iter<'hrp, I, Ck>
-        ensures fresh { IsFreshOver self.entry (⟦<Fe32Iter<'hrp, I, Ck> as Adaptor>⟧.source result) }
-        ensures gives { (xs : List Element) → IsEncodedElements Ck.code (hrp_bytes (encoder_hrp self.entry)) xs
+        ensures fresh { IsFreshOver self.entry
+            (⟦<Fe32Iter<'hrp, I, Ck> as Adaptor>⟧.source result) }
+        ensures gives { (xs : List Element)
+            → IsEncodedElements Ck.code (hrp_bytes (encoder_hrp self.entry)) xs
             (⟦<Fe32Iter<'hrp, I, Ck> as Adaptor>⟧.gives result xs) }
         // A whole walk gives what a whole walk of the elements gives, between those of the part and
         // the checksum.

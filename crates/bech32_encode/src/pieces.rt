@@ -17,9 +17,9 @@ ghost use Rattle.bech32_hrp.specs.HrpBytes.{hrp_bytes};
 use super::buffer::{put_byte, put_front, put_row, raise_front};
 use super::groups::put_bytes;
 use bech32_checksum::{Checksum, Engine};
-use devices::Pieces;
 use bech32_gf::gf32::Fe32;
 use bech32_hrp::Hrp;
+use devices::Pieces;
 
 // How many bytes go into a piece at most. Eight elements stand for each five of them, so that none
 // is cut.
@@ -43,7 +43,8 @@ pub struct TextInPieces<'a, Ck: Checksum> {
 // An engine that was given a human-readable part, and a version where there is one.
 fn engine_after<Ck: Checksum>(hrp: &Hrp, version: Option<Fe32>) -> Engine<Ck>
     ensures { IsResidueOf Ck.MidstateRepr.number Ck.code result
-        (appended (appended (fe32.one ∷ []) (hrp_elements (hrp_bytes hrp.now))) (option_to_list version)) }
+        (appended (appended (fe32.one ∷ []) (hrp_elements (hrp_bytes hrp.now)))
+        (option_to_list version)) }
 {
     let mut engine = Engine::new();
     engine.input_hrp(*hrp);
@@ -55,7 +56,8 @@ fn engine_after<Ck: Checksum>(hrp: &Hrp, version: Option<Fe32>) -> Engine<Ck>
 
 // Puts the character of a version, where there is one.
 fn put_optional(version: Option<Fe32>, count: usize, buffer: &mut [u8]) -> usize
-    ensures { PutsBehind (map char_of_element (option_to_list version)) buffer.old count buffer.new result }
+    ensures { PutsBehind (map char_of_element (option_to_list version))
+        buffer.old count buffer.new result }
 {
     match version {
         Some(version) => put_byte(version.to_char() as u8, count, buffer),
@@ -65,7 +67,8 @@ fn put_optional(version: Option<Fe32>, count: usize, buffer: &mut [u8]) -> usize
 
 // Puts the human-readable part, `1` and the version, where they were not put before.
 fn put_start(begun: bool, hrp: &Hrp, version: Option<Fe32>, buffer: &mut [u8]) -> usize
-    ensures { PutsBehind (front_left begun (hrp_bytes hrp.now) version) buffer.old 0 buffer.new result }
+    ensures { PutsBehind (front_left begun (hrp_bytes hrp.now) version)
+        buffer.old 0 buffer.new result }
 {
     if begun {
         return 0;
@@ -81,7 +84,8 @@ fn put_end<Ck: Checksum>(
     count: usize,
     buffer: &mut [u8],
 ) -> usize
-    ensures text { PutsBehind (map char_of_element (checksum_left Ck.MidstateRepr.number Ck.code last engine.old))
+    ensures text { PutsBehind
+        (map char_of_element (checksum_left Ck.MidstateRepr.number Ck.code last engine.old))
         buffer.old count buffer.new result }
     ensures kept { last ≡ false → engine.new ≡ engine.old }
 {
@@ -96,7 +100,8 @@ fn put_end<Ck: Checksum>(
 impl<'a, Ck: Checksum> TextInPieces<'a, Ck> {
     /// The text from its beginning on.
     pub fn new(hrp: &Hrp, version: Option<Fe32>, bytes: &'a [u8], upper: bool) -> Self
-        ensures { IsTextInCase upper Ck.code (hrp_bytes hrp.now) (option_to_list version ++ to_fes bytes.now)
+        ensures { IsTextInCase upper Ck.code (hrp_bytes hrp.now)
+            (option_to_list version ++ to_fes bytes.now)
             (⟦<TextInPieces<'a, Ck> as Pieces>⟧.to_come result) }
     {
         TextInPieces {

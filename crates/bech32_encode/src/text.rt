@@ -53,7 +53,8 @@ pub fn put_text_of_bytes<Ck: Checksum>(
     buffer: &mut [u8],
 ) -> usize
     ensures { (text : List ℕ)
-        × IsEncodedText Ck.code (hrp_bytes hrp.now) (option_to_list version ++ to_fes bytes.now) text
+        × IsEncodedText Ck.code (hrp_bytes hrp.now)
+        (option_to_list version ++ to_fes bytes.now) text
         × IsPutAsFits text buffer.old buffer.new result }
 {
     let mut engine = Engine::<Ck>::new();
@@ -75,7 +76,8 @@ pub fn put_front_of_text<Ck: Checksum>(
     buffer: &mut [u8],
 ) -> usize
     ensures { (text : List ℕ)
-        × IsTextInCase upper Ck.code (hrp_bytes hrp.now) (option_to_list version ++ to_fes bytes.now) text
+        × IsTextInCase upper Ck.code (hrp_bytes hrp.now)
+        (option_to_list version ++ to_fes bytes.now) text
         × (take result buffer.new ≡ take (length buffer.old) text)
         × (result ≡ min (length text) (length buffer.old)) }
 {
@@ -97,7 +99,8 @@ pub fn text_in<Ck: Checksum, A: Allocator>(
     data: &[u8],
 ) -> Result<String<A>, AllocError>
     ensures { IfOk result (λ s.
-        IsEncodedText Ck.code (hrp_bytes hrp) (option_to_list version ++ to_fes «data».now) (string_bytes s)) }
+        IsEncodedText Ck.code (hrp_bytes hrp)
+        (option_to_list version ++ to_fes «data».now) (string_bytes s)) }
 {
     let length = length_with_version::<Ck>(&hrp, version, data.len());
     let mut text = vec![in alloc; 0u8; length]?;

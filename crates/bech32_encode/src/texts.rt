@@ -54,7 +54,8 @@ impl<'hrp, I, Ck: Checksum> Adaptor for CharIter<'hrp, I, Ck> {
 
     type Given = char;
 
-    ghost source = { λ s. ⟦<Checksummed<WitnessVersionIter<I>, Ck> as Adaptor>⟧.source s.checksummed };
+    ghost source = { λ s.
+        ⟦<Checksummed<WitnessVersionIter<I>, Ck> as Adaptor>⟧.source s.checksummed };
 
     ghost gives = { λ s xs. text_from s.hrp.now s.place
         (⟦<Checksummed<WitnessVersionIter<I>, Ck> as Adaptor>⟧.gives s.checksummed xs) };
@@ -70,15 +71,18 @@ impl<'hrp, I: Iterator<Item = Fe32>, Ck: Checksum> CharIter<'hrp, I, Ck> {
 
     /// The characters of the text of the elements and their checksum.
     pub fn new(hrp: &'hrp Hrp, elements: WitnessVersionIter<I>) -> Self
-        ensures source { fuse_source (⟦<CharIter<'hrp, I, Ck> as Adaptor>⟧.source result) ≡ elements }
+        ensures source { fuse_source (⟦<CharIter<'hrp, I, Ck> as Adaptor>⟧.source result)
+            ≡ elements }
         ensures fresh { fuse_done (⟦<CharIter<'hrp, I, Ck> as Adaptor>⟧.source result) ≡ false }
         ensures gives { (xs : List Element) → IsEncodedText Ck.code (hrp_bytes hrp.now) xs
             (⟦<CharIter<'hrp, I, Ck> as Adaptor>⟧.gives result xs) }
         // A whole walk gives the text of what a whole walk of the elements gives.
         ensures walk { EachWalkGives (version_steps I.next_gives) elements
-            ⟦<CharIter<'hrp, I, Ck> as Iterator>⟧.next_gives result (IsEncodedText Ck.code (hrp_bytes hrp.now)) }
+            ⟦<CharIter<'hrp, I, Ck> as Iterator>⟧.next_gives result
+            (IsEncodedText Ck.code (hrp_bytes hrp.now)) }
         ensures runs { EachRunGives (version_steps I.next_gives) elements
-            ⟦<CharIter<'hrp, I, Ck> as Iterator>⟧.next_gives result (IsEncodedText Ck.code (hrp_bytes hrp.now)) }
+            ⟦<CharIter<'hrp, I, Ck> as Iterator>⟧.next_gives result
+            (IsEncodedText Ck.code (hrp_bytes hrp.now)) }
     {
         CharIter {
             hrp: hrp.as_bytes(),
@@ -114,13 +118,16 @@ impl<'hrp, I: Iterator<Item = Fe32>, Ck: Checksum> Iterator for CharIter<'hrp, I
     ghost use Rattle.bech32_bits.specs.Adaptor.{Adapts, fuse_left};
     ghost use Rattle.bech32_encode.specs.WitnessVersion.{version_steps};
 
-    ghost can_next = { λ s. ⟦<Checksummed<WitnessVersionIter<I>, Ck> as Iterator>⟧.can_next s.checksummed };
+    ghost can_next = { λ s.
+        ⟦<Checksummed<WitnessVersionIter<I>, Ck> as Iterator>⟧.can_next s.checksummed };
 
-    ghost next_gives = { λ s r t. Adapts (version_steps I.next_gives) ⟦<CharIter<'hrp, I, Ck> as Adaptor>⟧.source
+    ghost next_gives = { λ s r t.
+        Adapts (version_steps I.next_gives) ⟦<CharIter<'hrp, I, Ck> as Adaptor>⟧.source
         ⟦<CharIter<'hrp, I, Ck> as Adaptor>⟧.gives s r t × IfSome r (λ c. c < 128) };
 
     ghost remaining = { λ s. count_map (λ n. n + ⟦<CharIter<'hrp, I, Ck> as Adaptor>⟧.more s)
-        (fuse_left ⟦<WitnessVersionIter<I> as Iterator>⟧.remaining (⟦<CharIter<'hrp, I, Ck> as Adaptor>⟧.source s)) };
+        (fuse_left ⟦<WitnessVersionIter<I> as Iterator>⟧.remaining
+        (⟦<CharIter<'hrp, I, Ck> as Adaptor>⟧.source s)) };
 
     #[inline]
     fn next(&mut self) -> Option<char> {
@@ -131,8 +138,10 @@ impl<'hrp, I: Iterator<Item = Fe32>, Ck: Checksum> Iterator for CharIter<'hrp, I
     }
 
     fn size_hint(&self) -> (usize, Option<usize>)
-        ensures lower { IsWithinCount result.0 (⟦<CharIter<'hrp, I, Ck> as Iterator>⟧.remaining self.now) }
-        ensures upper { IfSome result.1 (UpTo (⟦<CharIter<'hrp, I, Ck> as Iterator>⟧.remaining self.now)) }
+        ensures lower { IsWithinCount result.0
+            (⟦<CharIter<'hrp, I, Ck> as Iterator>⟧.remaining self.now) }
+        ensures upper { IfSome result.1
+            (UpTo (⟦<CharIter<'hrp, I, Ck> as Iterator>⟧.remaining self.now)) }
         ensures rule { FollowsHint (λ n. n + ⟦<CharIter<'hrp, I, Ck> as Adaptor>⟧.more self.now)
             (fuse_left ⟦<WitnessVersionIter<I> as Iterator>⟧.remaining
             (⟦<CharIter<'hrp, I, Ck> as Adaptor>⟧.source self.now)) result }

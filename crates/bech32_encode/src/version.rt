@@ -52,7 +52,8 @@ impl<I: Iterator<Item = Fe32>> Iterator for WitnessVersionIter<I> {
 
     ghost next_gives = { version_steps I.next_gives };
 
-    ghost remaining = { λ s. count_map (λ n. n + version_more s) (fuse_left I.remaining (version_source s)) };
+    ghost remaining = { λ s.
+        count_map (λ n. n + version_more s) (fuse_left I.remaining (version_source s)) };
 
     #[inline]
     fn next(&mut self) -> Option<Fe32>
@@ -61,7 +62,8 @@ impl<I: Iterator<Item = Fe32>> Iterator for WitnessVersionIter<I> {
         ensures goes { MakesProgress ⟦<WitnessVersionIter<I> as Iterator>⟧.can_next
             ⟦<WitnessVersionIter<I> as Iterator>⟧.remaining self.old result self.new }
         // While the version is to come, no element is asked for.
-        ensures waits { IfSome (version_of self.old) (λ _. version_source self.new ≡ version_source self.old) }
+        ensures waits { IfSome (version_of self.old)
+            (λ _. version_source self.new ≡ version_source self.old) }
     {
         match self.version {
             Some(version) => {
@@ -73,8 +75,10 @@ impl<I: Iterator<Item = Fe32>> Iterator for WitnessVersionIter<I> {
     }
 
     fn size_hint(&self) -> (usize, Option<usize>)
-        ensures lower { IsWithinCount result.0 (⟦<WitnessVersionIter<I> as Iterator>⟧.remaining self.now) }
-        ensures upper { IfSome result.1 (UpTo (⟦<WitnessVersionIter<I> as Iterator>⟧.remaining self.now)) }
+        ensures lower { IsWithinCount result.0
+            (⟦<WitnessVersionIter<I> as Iterator>⟧.remaining self.now) }
+        ensures upper { IfSome result.1
+            (UpTo (⟦<WitnessVersionIter<I> as Iterator>⟧.remaining self.now)) }
         ensures rule { FollowsHint (λ n. n + version_more self.now)
             (fuse_left I.remaining (version_source self.now)) result }
     {

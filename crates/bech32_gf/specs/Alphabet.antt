@@ -1,5 +1,6 @@
 -- The characters of the data part (BIP-173, section Bech32).
-use Rattle.std.specs.Prelude.{ℕ, Bool, List, Some, None, codes, ◌==◌, ◌<◌, position, unwrap_or, slice_index}
+use Rattle.std.specs.Prelude.{ℕ, Bool, List, Some, None, codes, ◌==◌}
+use Rattle.std.specs.Prelude.{◌<◌, position, unwrap_or, slice_index}
 use Rattle.std.specs.List.{list_any, list_all, position_or_len}
 use Rattle.std.specs.Char.{to_ascii_lowercase}
 use Rattle.std.proofs.Common.{arith, ltb}
@@ -21,7 +22,10 @@ pub value_of-lt : (c : ℕ) → value_of c < 32
 unfolding value_of
 value_of-lt c =
     let n = position_or_len (λ a. a == to_ascii_lowercase c) alphabet in
-    cond_both (ltb n 32) (Some n) None (λ o. unwrap_or o 0 < 32) (λ e. ltb-true n 32 e) (λ e. omega arith)
+    cond_both (ltb n 32) (Some n) None
+    (λ o. unwrap_or o 0 < 32)
+    (λ e. ltb-true n 32 e)
+    (λ e. omega arith)
 
 -- the lower-case character of a value below 32
 abbrev pub char_of : ℕ → ℕ

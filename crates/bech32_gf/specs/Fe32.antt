@@ -17,7 +17,10 @@ value x = x.value
 -- two elements of one value are equal
 pub path : (x y : Fe32) → x.value ≡ y.value → x ≡ y
 path x y e =
-    λ i. record { value = e i; in_field = is_prop→PathP (λ j. e j < 32) (λ j. le_prop) x.in_field y.in_field i }
+    λ i. record {
+      value = e i;
+      in_field = is_prop→PathP (λ j. e j < 32) (λ j. le_prop) x.in_field y.in_field i;
+    }
 
 pub mod_32-lt : (n : ℕ) → n % 32 < 32
 mod_32-lt n = omega arith
@@ -27,10 +30,16 @@ abbrev pub element : ℕ → Fe32
 element n = record { value = n % 32; in_field = mod_32-lt n }
 
 abbrev pub add : Fe32 → Fe32 → Fe32
-add x y = record { value = bit_xor x.value y.value; in_field = xor_lt 5 x.value y.value x.in_field y.in_field }
+add x y = record {
+  value = bit_xor x.value y.value;
+  in_field = xor_lt 5 x.value y.value x.in_field y.in_field;
+}
 
 abbrev pub mul : Fe32 → Fe32 → Fe32
-mul x y = record { value = product x.value y.value; in_field = product-lt x.value y.value x.in_field y.in_field }
+mul x y = record {
+  value = product x.value y.value;
+  in_field = product-lt x.value y.value x.in_field y.in_field;
+}
 
 abbrev pub inv : Fe32 → Fe32
 inv x = record { value = inverse x.value; in_field = inverse-lt x.value x.in_field }

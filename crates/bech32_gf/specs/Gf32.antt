@@ -1,10 +1,12 @@
--- The field of 32 elements on their values, 0 to 31 (BIP-173, section Checksum design), whose modulus is x^5 + x^3 + 1.
+-- The field of 32 elements on their values, 0 to 31 (BIP-173, section Checksum design), whose
+-- modulus is x^5 + x^3 + 1.
 use Rattle.std.specs.Prelude.{ℕ, zero, suc, ◌+◌, ◌*◌, ◌/◌, ◌%◌, ◌^◌, ◌==◌, if◌then◌else◌, bit_xor}
 
 -- the sum of a shifted by i, for each set bit i of b below n
 abbrev pub shifted_sum : ℕ → ℕ → ℕ → ℕ
 shifted_sum zero a b = 0
-shifted_sum (suc i) a b = bit_xor (shifted_sum i a b) (if (b / 2 ^ i) % 2 == 1 then a * 2 ^ i else 0)
+shifted_sum (suc i) a b =
+    bit_xor (shifted_sum i a b) (if (b / 2 ^ i) % 2 == 1 then a * 2 ^ i else 0)
 
 -- n, reduced by 41 from bit k + 4 down to five bits
 abbrev pub reduced : ℕ → ℕ → ℕ

@@ -23,7 +23,8 @@ power_after o s n = o.mul (next_of s) (power o (base_of s) n)
 
 -- the next power is given, and the one behind it is then the next
 abbrev pub GivesNextPower : {F : Type 0} → Ops F → Powers F → Option F → Powers F → Type 0
-GivesNextPower o s r t = (r ≡ Some (next_of s)) × (base_of t ≡ base_of s) × (next_of t ≡ o.mul (next_of s) (base_of s))
+GivesNextPower o s r t =
+    (r ≡ Some (next_of s)) × (base_of t ≡ base_of s) × (next_of t ≡ o.mul (next_of s) (base_of s))
 
 -- so many elements, x first and each y times the one before
 abbrev pub multiplied : {F : Type 0} → Ops F → F → F → ℕ → List F

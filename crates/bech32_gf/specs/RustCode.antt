@@ -4,7 +4,8 @@ use Rattle.std.specs.Char.{to_ascii_uppercase, is_ascii_digit}
 use Rattle.bech32_gf.specs.Alphabet.{char_of}
 use Rattle.bech32_gf.specs.declared.gf32.Fe32.{Fe32}
 
--- the name of the constant of a character: the character in upper case, behind an underscore if it is a digit
+-- the name of the constant of a character: the character in upper case, behind an
+-- underscore if it is a digit
 abbrev pub constant_name : ℕ → List ℕ
 constant_name c = if is_ascii_digit c then codes "_" ++ c ∷ [] else to_ascii_uppercase c ∷ []
 

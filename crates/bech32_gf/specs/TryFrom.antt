@@ -2,7 +2,8 @@
 use Rattle.std.specs.Prelude.{◌≡◌, ◌≤◌, ◌≤ℤ◌, ℤ, pos, Result, MatchResult}
 use Rattle.bech32_gf.specs.declared.gf32.Fe32.{Fe32}
 use Rattle.bech32_gf.specs.declared.gf32.conversions.TryFromError.{TryFromError}
-use Rattle.bech32_gf.specs.declared.gf32.conversions.TryFromError.TheVariants.{NotAByte, InvalidByte}
+use Rattle.bech32_gf.specs.declared.gf32.conversions.TryFromError.TheVariants.{NotAByte}
+use Rattle.bech32_gf.specs.declared.gf32.conversions.TryFromError.TheVariants.{InvalidByte}
 
 -- an integer is refused because it is not a byte, or because it is a byte from 32 on, which is told
 abbrev pub IsRefusal : ℤ → TryFromError → Type 0

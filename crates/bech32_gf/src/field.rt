@@ -164,7 +164,8 @@ pub trait Field: Copy
 
     ghost can_sub_assign_law: { (x y : Self) → Self.can_sub_assign x y };
 
-    ghost sub_assign_law: { (x y r : Self) → Self.sub_assign_gives x y r → r ≡ ops.add x (ops.neg y) };
+    ghost sub_assign_law: { (x y r : Self) → Self.sub_assign_gives x y r
+        → r ≡ ops.add x (ops.neg y) };
 
     ghost can_mul_law: { (x y : Self) → Self.can_mul x y };
 
@@ -176,11 +177,13 @@ pub trait Field: Copy
 
     ghost can_div_law: { (x y : Self) → y ≢ ops.zero → Self.can_div x y };
 
-    ghost div_law: { (x y r : Self) → y ≢ ops.zero → Self.div_gives x y r → r ≡ ops.mul x (ops.inv y) };
+    ghost div_law: { (x y r : Self) → y ≢ ops.zero → Self.div_gives x y r
+        → r ≡ ops.mul x (ops.inv y) };
 
     ghost can_div_assign_law: { (x y : Self) → y ≢ ops.zero → Self.can_div_assign x y };
 
-    ghost div_assign_law: { (x y r : Self) → y ≢ ops.zero → Self.div_assign_gives x y r → r ≡ ops.mul x (ops.inv y) };
+    ghost div_assign_law: { (x y r : Self) → y ≢ ops.zero → Self.div_assign_gives x y r
+        → r ≡ ops.mul x (ops.inv y) };
 
     ghost can_neg_law: { (x : Self) → Self.can_neg x };
 
@@ -188,7 +191,8 @@ pub trait Field: Copy
 
     ghost can_sum_law: { (xs : List Self) → Self.can_sum xs };
 
-    ghost sum_law: { (xs : List Self) (r : Self) → Self.sum_gives xs r → r ≡ fold ops.add ops.zero xs };
+    ghost sum_law: { (xs : List Self) (r : Self) → Self.sum_gives xs r
+        → r ≡ fold ops.add ops.zero xs };
 
     // A sum takes every item.
     ghost sum_complete_law: { (r : Self) → Self.is_complete r };
@@ -265,7 +269,8 @@ pub trait ExtensionField: Field + From<Self::BaseField> {
 
     ghost embed_add_law: { KeepsSums Self.BaseField.ops Self.ops embed };
 
-    ghost embed_neg_law: { (x : Self.BaseField) → embed (Self.BaseField.ops.neg x) ≡ Self.ops.neg (embed x) };
+    ghost embed_neg_law: { (x : Self.BaseField)
+        → embed (Self.BaseField.ops.neg x) ≡ Self.ops.neg (embed x) };
 
     ghost embed_mul_law: { KeepsProducts Self.BaseField.ops Self.ops embed };
 

@@ -34,7 +34,8 @@ const POWERS: [u8; 31] = [
 // logarithms undo them.
 fn tables()
     ensures begin { slice_index POWERS 0 ≡ 1 }
-    ensures step { (i : ℕ) → i < 30 → slice_index POWERS (i + 1) ≡ product 2 (slice_index POWERS i) }
+    ensures step { (i : ℕ) → i < 30
+        → slice_index POWERS (i + 1) ≡ product 2 (slice_index POWERS i) }
     ensures logarithm { (i : ℕ) → i < 31 → slice_index LOG (slice_index POWERS i) ≡ i }
     ensures power { (v : ℕ) → 0 < v → v < 32 → slice_index POWERS (slice_index LOG v) ≡ v }
 {}

@@ -48,7 +48,8 @@ module _ {F : Type 0} {o : Ops F} (l : IsField o) (even : HasCharacteristicTwo o
   pub assoc₁ : (a b c d e f g h i : F)
       → product₁ o (product₀ o a b c d e f) (product₁ o a b c d e f) (product₂ o a b c d e f) g h i
       ≡ product₁ o a b c (product₀ o d e f g h i) (product₁ o d e f g h i) (product₂ o d e f g h i)
-  assoc₁ a b c d e f g h i = simp (product₀, product₁, product₂, linear, square, cube, ring, even_sums, l, even)
+  assoc₁ a b c d e f g h i =
+      simp (product₀, product₁, product₂, linear, square, cube, ring, even_sums, l, even)
 
   pub assoc₂ : (a b c d e f g h i : F)
       → product₂ o (product₀ o a b c d e f) (product₁ o a b c d e f) (product₂ o a b c d e f) g h i
@@ -98,19 +99,24 @@ module _ {F : Type 0} {o : Ops F} (l : IsField o) (even : HasCharacteristicTwo o
   constant₂ a b = simp (product₂, square, ring, l)
 
   pub inverse₀ : (a b c n : F)
-      → product₀ o a b c (o.mul (adjugate₀ o a b c) n) (o.mul (adjugate₁ o a b c) n) (o.mul (adjugate₂ o a b c) n)
+      → product₀ o a b c (o.mul (adjugate₀ o a b c) n)
+      (o.mul (adjugate₁ o a b c) n) (o.mul (adjugate₂ o a b c) n)
       ≡ o.mul (norm o a b c) n
   inverse₀ a b c n = simp (product₀, cube, norm, adjugate₀, adjugate₁, adjugate₂, ring, l)
 
   pub inverse₁ : (a b c n : F)
-      → product₁ o a b c (o.mul (adjugate₀ o a b c) n) (o.mul (adjugate₁ o a b c) n) (o.mul (adjugate₂ o a b c) n)
+      → product₁ o a b c (o.mul (adjugate₀ o a b c) n)
+      (o.mul (adjugate₁ o a b c) n) (o.mul (adjugate₂ o a b c) n)
       ≡ o.zero
-  inverse₁ a b c n = simp (product₁, linear, cube, adjugate₀, adjugate₁, adjugate₂, ring, even_sums, l, even)
+  inverse₁ a b c n =
+      simp (product₁, linear, cube, adjugate₀, adjugate₁, adjugate₂, ring, even_sums, l, even)
 
   pub inverse₂ : (a b c n : F)
-      → product₂ o a b c (o.mul (adjugate₀ o a b c) n) (o.mul (adjugate₁ o a b c) n) (o.mul (adjugate₂ o a b c) n)
+      → product₂ o a b c (o.mul (adjugate₀ o a b c) n)
+      (o.mul (adjugate₁ o a b c) n) (o.mul (adjugate₂ o a b c) n)
       ≡ o.zero
-  inverse₂ a b c n = simp (product₂, square, adjugate₀, adjugate₁, adjugate₂, ring, even_sums, l, even)
+  inverse₂ a b c n =
+      simp (product₂, square, adjugate₀, adjugate₁, adjugate₂, ring, even_sums, l, even)
 
   -- the product of the two conjugates
   pub conjugates₀ : (a b c : F) → product₀ o a (o.add b c) b a c (o.add b c) ≡ adjugate₀ o a b c
@@ -122,10 +128,13 @@ module _ {F : Type 0} {o : Ops F} (l : IsField o) (even : HasCharacteristicTwo o
   pub conjugates₂ : (a b c : F) → product₂ o a (o.add b c) b a c (o.add b c) ≡ adjugate₂ o a b c
   conjugates₂ a b c = simp (product₂, square, adjugate₂, ring, even_sums, l, even)
 
-  pub norm₁ : (a b c : F) → product₁ o a b c (adjugate₀ o a b c) (adjugate₁ o a b c) (adjugate₂ o a b c) ≡ o.zero
-  norm₁ a b c = simp (product₁, linear, cube, adjugate₀, adjugate₁, adjugate₂, ring, even_sums, l, even)
+  pub norm₁ : (a b c : F)
+      → product₁ o a b c (adjugate₀ o a b c) (adjugate₁ o a b c) (adjugate₂ o a b c) ≡ o.zero
+  norm₁ a b c =
+      simp (product₁, linear, cube, adjugate₀, adjugate₁, adjugate₂, ring, even_sums, l, even)
 
-  pub norm₂ : (a b c : F) → product₂ o a b c (adjugate₀ o a b c) (adjugate₁ o a b c) (adjugate₂ o a b c) ≡ o.zero
+  pub norm₂ : (a b c : F)
+      → product₂ o a b c (adjugate₀ o a b c) (adjugate₁ o a b c) (adjugate₂ o a b c) ≡ o.zero
   norm₂ a b c = simp (product₂, square, adjugate₀, adjugate₁, adjugate₂, ring, even_sums, l, even)
 
   pub square₀ : (a b c : F) → product₀ o a b c a b c ≡ o.mul a a
@@ -138,5 +147,6 @@ module _ {F : Type 0} {o : Ops F} (l : IsField o) (even : HasCharacteristicTwo o
   square₂ a b c = simp (product₂, square, ring, even_sums, l, even)
 
   -- the norm of a multiple
-  pub norm-multiple : (a b c n : F) → norm o (o.mul n a) (o.mul n b) (o.mul n c) ≡ o.mul (norm o a b c) (o.mul n (o.mul n n))
+  pub norm-multiple : (a b c n : F)
+      → norm o (o.mul n a) (o.mul n b) (o.mul n c) ≡ o.mul (norm o a b c) (o.mul n (o.mul n n))
   norm-multiple a b c n = simp (product₀, cube, norm, adjugate₀, adjugate₁, adjugate₂, ring, l)

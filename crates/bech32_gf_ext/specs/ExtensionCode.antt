@@ -12,4 +12,5 @@ fe1024_code x = codes "Fe32Ext { inner: [" ++ two_code (fe1024.low x) (fe1024.hi
 -- a triple, as Rust code
 abbrev pub fe32768_code : Fe32Ext 3 → List ℕ
 fe32768_code x =
-    codes "Fe32Ext { inner: [" ++ two_code (fe32768.low x) (fe32768.middle x) ++ codes ", " ++ fe32_code (fe32768.high x) ++ codes "] }"
+    codes "Fe32Ext { inner: [" ++ two_code (fe32768.low x) (fe32768.middle x) ++ codes ", "
+    ++ fe32_code (fe32768.high x) ++ codes "] }"

@@ -24,7 +24,8 @@ high x = coefficient x 2
 
 -- the sum, place by place
 unfoldable pub add : Fe32Ext 3 → Fe32Ext 3 → Fe32Ext 3
-add x y = triple (fe32.add (low x) (low y)) (fe32.add (middle x) (middle y)) (fe32.add (high x) (high y))
+add x y =
+    triple (fe32.add (low x) (low y)) (fe32.add (middle x) (middle y)) (fe32.add (high x) (high y))
 
 -- the product of the polynomials, with z^3 replaced by z + 1
 unfoldable pub mul : Fe32Ext 3 → Fe32Ext 3 → Fe32Ext 3

@@ -12,10 +12,15 @@ use Rattle.bech32_gf.specs.Fe32 as fe32
 -- two elements of the same coefficients are equal
 pub path : {n : ℕ} (x y : Fe32Ext n) → x.inner ≡ y.inner → x ≡ y
 path {n} x y e =
-    λ i. record { inner = e i; full = is_prop→PathP (λ j. length (e j) ≡ n) (λ j. hedberg ℕ_discrete (length (e j)) n) x.full y.full i }
+    λ i. record {
+      inner = e i;
+      full = is_prop→PathP (λ j. length (e j) ≡ n)
+          (λ j. hedberg ℕ_discrete (length (e j)) n) x.full y.full i;
+    }
 
 -- two lists of elements with the same values are equal
-pub same_values : (xs ys : List Fe32) → map (λ (x : Fe32). x.value) xs ≡ map (λ (x : Fe32). x.value) ys → xs ≡ ys
+pub same_values : (xs ys : List Fe32)
+    → map (λ (x : Fe32). x.value) xs ≡ map (λ (x : Fe32). x.value) ys → xs ≡ ys
 same_values [] [] h = refl
 same_values [] (y ∷ ys) h = cc
 same_values (x ∷ xs) [] h = cc
@@ -35,7 +40,8 @@ path_of_values x y h = path x y (same_values x.inner y.inner h)
 abbrev pub coefficient : {n : ℕ} → Fe32Ext n → ℕ → Fe32
 coefficient x k = slice_index_or x.inner k fe32.zero
 
-pub length-scaled : {n : ℕ} (x : Fe32Ext n) (a : Fe32) → length (map (λ (b : Fe32). fe32.mul b a) x.inner) ≡ n
+pub length-scaled : {n : ℕ} (x : Fe32Ext n) (a : Fe32)
+    → length (map (λ (b : Fe32). fe32.mul b a) x.inner) ≡ n
 length-scaled x a = length-map x.inner (λ (b : Fe32). fe32.mul b a) ∙ x.full
 
 -- the product with an element of GF(32), place by place

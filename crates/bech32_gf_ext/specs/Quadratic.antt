@@ -53,7 +53,8 @@ module _ {F : Type 0} {o : Ops F} (l : IsField o) (even : HasCharacteristicTwo o
   pub constant₁ : (a b : F) → product₁ o a o.zero b o.zero ≡ o.zero
   constant₁ a b = simp (product₀, product₁, ring, l)
 
-  pub inverse₀ : (a b n : F) → product₀ o a b (o.mul (o.add a b) n) (o.mul b n) ≡ o.mul (norm o a b) n
+  pub inverse₀ : (a b n : F)
+      → product₀ o a b (o.mul (o.add a b) n) (o.mul b n) ≡ o.mul (norm o a b) n
   inverse₀ a b n = simp (product₀, product₁, norm, ring, l)
 
   pub inverse₁ : (a b n : F) → product₁ o a b (o.mul (o.add a b) n) (o.mul b n) ≡ o.zero

@@ -77,7 +77,8 @@ impl<const DEG: usize> Sum<Fe32Ext<DEG>> for Fe32Ext<DEG>
 where
     Fe32Ext<DEG>: Arithmetic,
 {
-    ghost sum_gives = { λ xs r. r ≡ fold ⟦<Fe32Ext<DEG> as Arithmetic>⟧.sum ⟦<Fe32Ext<DEG> as Arithmetic>⟧.zero xs };
+    ghost sum_gives = { λ xs r.
+        r ≡ fold ⟦<Fe32Ext<DEG> as Arithmetic>⟧.sum ⟦<Fe32Ext<DEG> as Arithmetic>⟧.zero xs };
 
     fn sum<I: Iterator<Item = Fe32Ext<DEG>>>(iter: I) -> Fe32Ext<DEG> {
         sum_of_all(iter)

@@ -110,7 +110,8 @@ impl TryFrom<Fe1024> for Fe32 {
 
     type Error = ();
 
-    ghost try_from_gives = { λ x r. MatchResult r (λ a. retract x ≡ Some a) (λ _. retract x ≡ None) };
+    ghost try_from_gives = { λ x r.
+        MatchResult r (λ a. retract x ≡ Some a) (λ _. retract x ≡ None) };
 
     fn try_from(element: Fe1024) -> Result<Fe32, ()> {
         let (low_part, high_part) = element.parts();

@@ -137,7 +137,8 @@ impl TryFrom<Fe32768> for Fe32 {
 
     type Error = ();
 
-    ghost try_from_gives = { λ x r. MatchResult r (λ a. retract x ≡ Some a) (λ _. retract x ≡ None) };
+    ghost try_from_gives = { λ x r.
+        MatchResult r (λ a. retract x ≡ Some a) (λ _. retract x ≡ None) };
 
     fn try_from(element: Fe32768) -> Result<Fe32, ()> {
         let (low_part, middle_part, high_part) = element.parts();

@@ -1,11 +1,13 @@
 -- Human-readable parts (BIP-173, Bech32): which texts are one, and why another is not.
-use Rattle.std.specs.Prelude.{◌≡◌, ℕ, ◌≤◌, Bool, true, false, if◌then◌else◌, ◌&&◌, ◌||◌, ◌==◌, nat_lt, nat_le}
+use Rattle.std.specs.Prelude.{◌≡◌, ℕ, ◌≤◌, Bool, true, false, if◌then◌else◌}
+use Rattle.std.specs.Prelude.{◌&&◌, ◌||◌, ◌==◌, nat_lt, nat_le}
 use Rattle.std.specs.Prelude.{List, [], ◌∷◌, ◌++◌, ◌-◌, length, replicate, map, Option, Some, None}
 use Rattle.std.specs.Char.{to_ascii_lowercase}
 use Rattle.std.specs.List.{list_any, list_all}
 use Rattle.std.specs.Str.{chars}
 use Rattle.bech32_hrp.specs.declared.Error.{Error}
-use Rattle.bech32_hrp.specs.declared.Error.TheVariants.{Empty, TooLong, NonAsciiChar, InvalidAsciiByte, MixedCase}
+use Rattle.bech32_hrp.specs.declared.Error.TheVariants.{Empty, TooLong, NonAsciiChar}
+use Rattle.bech32_hrp.specs.declared.Error.TheVariants.{InvalidAsciiByte, MixedCase}
 
 -- whether a byte is an ASCII lower-case letter
 abbrev pub is_lower : ℕ → Bool
@@ -42,7 +44,8 @@ first_of (Some x) o = Some x
 
 -- whether the character is a letter and one of the other case stands before it
 abbrev pub bad_case : List ℕ → ℕ → Bool
-bad_case before c = (is_lower c && list_any is_upper before) || (is_upper c && list_any is_lower before)
+bad_case before c =
+    (is_lower c && list_any is_upper before) || (is_upper c && list_any is_lower before)
 
 -- what is wrong with a character behind those of `before`, if anything
 abbrev pub bad_after : List ℕ → ℕ → Option Error
@@ -67,9 +70,11 @@ length_fault n = if nat_lt 83 n then Some (TooLong n) else None
 -- why a text is not a human-readable part: the first fault, in this order
 abbrev pub hrp_refusal : List ℕ → Option Error
 hrp_refusal text =
-    first_of (empty_fault (length text)) (first_of (length_fault (length text)) (first_bad [] (chars text)))
+    first_of (empty_fault (length text))
+    (first_of (length_fault (length text)) (first_bad [] (chars text)))
 
--- the bytes are a human-readable part: 1 to 83 of them, each from 33 to 126, in one case (BIP-173, Bech32)
+-- the bytes are a human-readable part: 1 to 83 of them, each from 33 to 126, in
+-- one case (BIP-173, Bech32)
 pub record IsHrp (bytes : List ℕ) : Type 0 where
   pub not_empty : 1 ≤ length bytes
   pub not_long : length bytes ≤ 83

@@ -17,7 +17,9 @@ lowered_bytes h = lowered (hrp_bytes h)
 -- not
 abbrev pub IsParsed : List ℕ → Result Hrp Error → Type 0
 IsParsed text r =
-    MatchResult r (λ h. (hrp_refusal text ≡ None) × (hrp_bytes h ≡ text)) (λ e. hrp_refusal text ≡ Some e)
+    MatchResult r
+    (λ h. (hrp_refusal text ≡ None) × (hrp_bytes h ≡ text))
+    (λ e. hrp_refusal text ≡ Some e)
 
 -- what reading a text in pieces returns where a usize cannot count its bytes: it is too long, with
 -- the highest count

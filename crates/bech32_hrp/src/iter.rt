@@ -61,7 +61,8 @@ impl<'b> Iterator for ByteIter<'b> {
     fn size_hint(&self) -> (usize, Option<usize>)
         ensures lower { IsWithinCount result.0 (item_count bytes_to_come self.now) }
         ensures upper { IfSome result.1 (UpTo (item_count bytes_to_come self.now)) }
-        ensures exact { result ≡ (length (bytes_to_come self.now), Some (length (bytes_to_come self.now))) }
+        ensures exact { result
+            ≡ (length (bytes_to_come self.now), Some (length (bytes_to_come self.now))) }
     {
         (self.len(), Some(self.len()))
     }
@@ -109,7 +110,8 @@ impl<'b> Iterator for CharIter<'b> {
     fn size_hint(&self) -> (usize, Option<usize>)
         ensures lower { IsWithinCount result.0 (item_count chars_to_come self.now) }
         ensures upper { IfSome result.1 (UpTo (item_count chars_to_come self.now)) }
-        ensures exact { result ≡ (length (chars_to_come self.now), Some (length (chars_to_come self.now))) }
+        ensures exact { result
+            ≡ (length (chars_to_come self.now), Some (length (chars_to_come self.now))) }
     {
         self.bytes.size_hint()
     }

@@ -378,7 +378,8 @@ impl PartialOrd for Hrp {
 
     ghost partial_cmp = { as_partial_cmp (on lowered_bytes (slice_cmp nat_cmp)) };
 
-    ghost laws = { partial_order_from_own_ties (Prim.search (comparing, rules)) (Prim.search (comparing, rules)) };
+    ghost laws = { partial_order_from_own_ties (Prim.search (comparing, rules))
+        (Prim.search (comparing, rules)) };
 
     fn partial_cmp(&self, other: &Hrp) -> Option<Ordering> {
         Some(self.cmp(other))

@@ -61,7 +61,10 @@ impl<'b> Iterator for LowercaseByteIter<'b> {
         ensures lower { IsWithinCount result.0 (item_count lower_bytes_to_come self.now) }
         ensures upper { IfSome result.1 (UpTo (item_count lower_bytes_to_come self.now)) }
         ensures exact { result
-            ≡ (length (lower_bytes_to_come self.now), Some (length (lower_bytes_to_come self.now))) }
+            ≡ (
+              length (lower_bytes_to_come self.now),
+              Some (length (lower_bytes_to_come self.now)),
+            ) }
     {
         (self.len(), Some(self.len()))
     }
@@ -109,7 +112,10 @@ impl<'b> Iterator for LowercaseCharIter<'b> {
         ensures lower { IsWithinCount result.0 (item_count lower_chars_to_come self.now) }
         ensures upper { IfSome result.1 (UpTo (item_count lower_chars_to_come self.now)) }
         ensures exact { result
-            ≡ (length (lower_chars_to_come self.now), Some (length (lower_chars_to_come self.now))) }
+            ≡ (
+              length (lower_chars_to_come self.now),
+              Some (length (lower_chars_to_come self.now)),
+            ) }
     {
         self.bytes.size_hint()
     }

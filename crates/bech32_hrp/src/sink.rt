@@ -48,8 +48,10 @@ impl HrpSink {
     ///
     /// Those of [`Hrp::parse`].
     pub fn finish(&self) -> Result<Hrp, Error>
-        ensures parsed { (text : List ℕ) → Holds self.now text → length text < 2 ^ 64 → IsParsed text result }
-        ensures long { (text : List ℕ) → Holds self.now text → 2 ^ 64 ≤ length text → IsBeyondCount result }
+        ensures parsed { (text : List ℕ) → Holds self.now text → length text < 2 ^ 64
+            → IsParsed text result }
+        ensures long { (text : List ℕ) → Holds self.now text → 2 ^ 64 ≤ length text
+            → IsBeyondCount result }
     {
         if self.length > MAX_HRP_LEN {
             return Err(Error::TooLong(self.length));

@@ -4,43 +4,65 @@
 use Rattle.std.specs.Prelude.{◌<◌, ℕ}
 use Rattle.bech32_hrp.specs.declared.Error.{Error as HrpError}
 use Rattle.bech32_hrp.specs.declared.Error.TheVariants.{Empty, TooLong as HrpTooLong}
-use Rattle.bech32_hrp.specs.declared.Error.TheVariants.{NonAsciiChar, InvalidAsciiByte, MixedCase as HrpMixedCase, Fmt as HrpFmt}
+use Rattle.bech32_hrp.specs.declared.Error.TheVariants.{NonAsciiChar, InvalidAsciiByte}
+use Rattle.bech32_hrp.specs.declared.Error.TheVariants.{MixedCase as HrpMixedCase, Fmt as HrpFmt}
 use Rattle.bech32_refusals.specs.declared.error.CharError.{CharError}
 use Rattle.bech32_refusals.specs.declared.error.CharError.TheVariants.{InvalidChar, MixedCase}
-use Rattle.bech32_refusals.specs.declared.error.CharError.TheVariants.{MissingSeparator, NothingAfterSeparator}
+use Rattle.bech32_refusals.specs.declared.error.CharError.TheVariants.{MissingSeparator}
+use Rattle.bech32_refusals.specs.declared.error.CharError.TheVariants.{NothingAfterSeparator}
 use Rattle.bech32_refusals.specs.declared.error.UncheckedHrpstringError.{UncheckedHrpstringError}
 use Rattle.bech32_refusals.specs.declared.error.UncheckedHrpstringError.TheVariants.{Char, Hrp}
 use Rattle.bech32_refusals.specs.declared.error.ChecksumError.{ChecksumError}
-use Rattle.bech32_refusals.specs.declared.error.ChecksumError.TheVariants.{CodeLength, InvalidLength, InvalidResidue}
+use Rattle.bech32_refusals.specs.declared.error.ChecksumError.TheVariants.{CodeLength}
+use Rattle.bech32_refusals.specs.declared.error.ChecksumError.TheVariants.{InvalidLength}
+use Rattle.bech32_refusals.specs.declared.error.ChecksumError.TheVariants.{InvalidResidue}
 use Rattle.bech32_refusals.specs.declared.error.CheckedHrpstringError.{CheckedHrpstringError}
-use Rattle.bech32_refusals.specs.declared.error.CheckedHrpstringError.TheVariants.{Parse as NoText, Checksum as Refused}
+use Rattle.bech32_refusals.specs.declared.error.CheckedHrpstringError.TheVariants.{
+  Parse as NoText,
+  Checksum as Refused,
+}
 use Rattle.bech32_refusals.specs.declared.error.PaddingError.{PaddingError}
 use Rattle.bech32_refusals.specs.declared.error.PaddingError.TheVariants.{TooMuch, NonZero}
 use Rattle.bech32_refusals.specs.declared.error.SegwitHrpstringError.{SegwitHrpstringError}
-use Rattle.bech32_refusals.specs.declared.error.SegwitHrpstringError.TheVariants.{Unchecked, TooLong as LongAddress}
-use Rattle.bech32_refusals.specs.declared.error.SegwitHrpstringError.TheVariants.{NoData, InvalidWitnessVersion}
-use Rattle.bech32_refusals.specs.declared.error.SegwitHrpstringError.TheVariants.{Padding, WitnessLength}
-use Rattle.bech32_refusals.specs.declared.error.SegwitHrpstringError.TheVariants.{Checksum as WrongChecksum}
-use Rattle.bech32_refusals.specs.declared.error.SegwitHrpstringError.TheVariants.{Memory as ProgramMemory}
+use Rattle.bech32_refusals.specs.declared.error.SegwitHrpstringError.TheVariants.{
+  Unchecked,
+  TooLong as LongAddress,
+  NoData,
+  InvalidWitnessVersion,
+  Padding,
+  WitnessLength,
+  Checksum as WrongChecksum,
+  Memory as ProgramMemory,
+}
 use Rattle.bech32_refusals.specs.declared.segwit.WitnessLengthError.{WitnessLengthError}
-use Rattle.bech32_refusals.specs.declared.segwit.WitnessLengthError.TheVariants.{TooShort, TooLong as LongProgram}
-use Rattle.bech32_refusals.specs.declared.segwit.WitnessLengthError.TheVariants.{InvalidSegwitV0}
+use Rattle.bech32_refusals.specs.declared.segwit.WitnessLengthError.TheVariants.{
+  TooShort,
+  TooLong as LongProgram,
+  InvalidSegwitV0,
+}
 use Rattle.bech32.specs.declared.error.DecodeError.{DecodeError}
-use Rattle.bech32.specs.declared.error.DecodeError.TheVariants.{Parse, Checksum, Memory as DecodeMemory}
+use Rattle.bech32.specs.declared.error.DecodeError.TheVariants.{Parse, Checksum}
+use Rattle.bech32.specs.declared.error.DecodeError.TheVariants.{Memory as DecodeMemory}
 use Rattle.bech32.specs.declared.error.EncodeError.{EncodeError}
-use Rattle.bech32.specs.declared.error.EncodeError.TheVariants.{TooLong, Fmt, Memory as EncodeMemory}
+use Rattle.bech32.specs.declared.error.EncodeError.TheVariants.{TooLong, Fmt}
+use Rattle.bech32.specs.declared.error.EncodeError.TheVariants.{Memory as EncodeMemory}
 use Rattle.bech32_segwit.specs.declared.error.DecodeError.{DecodeError as SegwitDecodeError}
 use Rattle.bech32_segwit.specs.declared.error.EncodeError.{EncodeError as SegwitEncodeError}
-use Rattle.bech32_segwit.specs.declared.error.EncodeError.TheVariants.{WitnessVersion, WitnessLength as NoProgramLength}
-use Rattle.bech32_segwit.specs.declared.error.EncodeError.TheVariants.{TooLong as NoAddressLength, Fmt as AddressFmt}
-use Rattle.bech32_segwit.specs.declared.error.EncodeError.TheVariants.{Memory as AddressMemory}
+use Rattle.bech32_segwit.specs.declared.error.EncodeError.TheVariants.{
+  WitnessVersion,
+  WitnessLength as NoProgramLength,
+  TooLong as NoAddressLength,
+  Fmt as AddressFmt,
+  Memory as AddressMemory,
+}
 
 -- a number of one or two digits, and not 0, which is not a refusal's
 pub record IsSmall (number : ℕ) : Type 0 where
   pub above : 0 < number
   pub below : number < 100
 
--- of a human-readable part that is refused; the last comes of a value that does not print, which no command reads
+-- of a human-readable part that is refused; the last comes of a value that does not
+-- print, which no command reads
 abbrev pub number_of_hrp_error : HrpError → ℕ
 number_of_hrp_error Empty = 11
 number_of_hrp_error (HrpTooLong n) = 12

@@ -17,7 +17,8 @@ abbrev pub push : {F : Type 0} → F → List F → List F
 push a [] = []
 push a (b ∷ r) = a ∷ push b r
 
--- the remainder of a + x r, where r is one: what its highest coefficient has of the monic polynomial is taken off
+-- the remainder of a + x r, where r is one: what its highest coefficient has of the
+-- monic polynomial is taken off
 abbrev pub step : {F : Type 0} → Ops F → List F → List F → F → List F
 step o low r a = add o (push a r) (scale o (o.neg (top a r)) low)
 

@@ -27,4 +27,5 @@ inside embed (p ∷ e) = (p.0, embed p.1) ∷ inside embed e
 abbrev pub power_sum : {K : Type 0} → Ops K → (ℕ → K) → (ℕ → K) → List (ℕ × K) → ℕ → K
 power_sum o locator weight [] t = o.zero
 power_sum o locator weight (p ∷ e) t =
-    o.add (o.mul (o.mul p.1 (weight p.0)) (power o (locator p.0) t)) (power_sum o locator weight e t)
+    o.add (o.mul (o.mul p.1 (weight p.0)) (power o (locator p.0) t))
+    (power_sum o locator weight e t)

@@ -1,5 +1,5 @@
--- Polynomials over a field, as lists of coefficients: place i for x^i, the constant one first. Zeros at the high end do
--- not matter.
+-- Polynomials over a field, as lists of coefficients: place i for x^i, the constant one first.
+-- Zeros at the high end do not matter.
 use Rattle.std.specs.Prelude.{◌≡◌, ◌<◌, ℕ, List, [], ◌∷◌, length, slice_index_or}
 use Rattle.bech32_gf.specs.Field.{Ops}
 

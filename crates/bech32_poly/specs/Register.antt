@@ -1,5 +1,6 @@
 -- Registers: each item from one place on is minus a sum of multiples of the items before it.
-use Rattle.std.specs.Prelude.{◌≡◌, ℕ, zero, suc, ◌+◌, ◌-◌, ◌<◌, ◌≤◌, List, [], ◌∷◌, ◌++◌, length, take, drop, Option, Some}
+use Rattle.std.specs.Prelude.{◌≡◌, ℕ, zero, suc, ◌+◌, ◌-◌, ◌<◌, ◌≤◌, List, []}
+use Rattle.std.specs.Prelude.{◌∷◌, ◌++◌, length, take, drop, Option, Some}
 use Rattle.bech32_gf.specs.Field.{Ops}
 use Rattle.bech32_poly.specs.Polynomial.{coefficient}
 
@@ -8,7 +9,8 @@ abbrev pub back_sum : {F : Type 0} → Ops F → List F → (ℕ → F) → ℕ 
 back_sum o [] s n = o.zero
 back_sum o (c ∷ cs) s n = o.add (o.mul c (s (n - 1))) (back_sum o cs s (n - 1))
 
--- the register with these coefficients generates the items: each from place `length cs` on is minus that sum
+-- the register with these coefficients generates the items: each from place
+-- `length cs` on is minus that sum
 pub record Generates {F : Type 0} (o : Ops F) (cs items : List F) : Type 0 where
   pub fits : length cs ≤ length items
   pub follows : (n : ℕ) → length cs ≤ n → n < length items
@@ -39,15 +41,18 @@ pub record Register (F : Type 0) : Type 0 where
 abbrev pub to_come : {F : Type 0} → Ops F → Register F → ℕ → F
 to_come o r n = item_at o r.coefficients r.coming n
 
--- the items to come are these, and then each is minus the sum of coefficient times earlier item, without end
+-- the items to come are these, and then each is minus the sum of coefficient times
+-- earlier item, without end
 pub record GivesAllOf {F : Type 0} (o : Ops F) (items : List F) (r : Register F) : Type 0 where
   pub begins : (n : ℕ) → n < length items → to_come o r n ≡ coefficient o items n
-  pub follows : (n : ℕ) → length items ≤ n → to_come o r n ≡ o.neg (back_sum o r.coefficients (to_come o r) n)
+  pub follows : (n : ℕ) → length items ≤ n
+      → to_come o r n ≡ o.neg (back_sum o r.coefficients (to_come o r) n)
 
 -- an iterator gives the first item to come, and those after it stay to come
 abbrev pub GivesNext : {F : Type 0} → Ops F → Register F → Option F → Register F → Type 0
 GivesNext o s r t =
-    (r ≡ Some (to_come o s 0)) × (t.coefficients ≡ s.coefficients) × ((n : ℕ) → to_come o t n ≡ to_come o s (n + 1))
+    (r ≡ Some (to_come o s 0)) × (t.coefficients ≡ s.coefficients)
+    × ((n : ℕ) → to_come o t n ≡ to_come o s (n + 1))
 
 -- a ring of items from one place on
 abbrev pub from_place : {F : Type 0} → ℕ → List F → List F

@@ -25,9 +25,11 @@ pub record Annihilates {F : Type 0} (o : Ops F) (s : ℕ → F) (n len : ℕ) (r
   pub monic : top_of o r ≡ o.one
   pub windows : (t : ℕ) → t + len < n → act o r s t ≡ o.zero
 
--- a shortest register for the items, from its last coefficient to the one that stands before the item itself
+-- a shortest register for the items, from its last coefficient to the one that
+-- stands before the item itself
 pub record IsShortestWindow {F : Type 0} (o : Ops F) (items r : List F) : Type 0 where
   pub len : ℕ
   pub within : len ≤ length items
   pub generates : Annihilates o (coefficient o items) (length items) len r
-  pub least : (m : ℕ) (q : List F) → m ≤ length items → Annihilates o (coefficient o items) (length items) m q → len ≤ m
+  pub least : (m : ℕ) (q : List F) → m ≤ length items
+      → Annihilates o (coefficient o items) (length items) m q → len ≤ m

@@ -106,7 +106,8 @@ impl<F: Field, A: Allocator + Copy> FieldVec<F, A> {
     /// Adds a multiple of `source`, shifted up.
     pub fn add_multiple(&mut self, factor: F, source: &[F], shift: usize)
         requires { shift + length source.now ≤ length self.old }
-        ensures { self.new ≡ add F.ops self.old (scale F.ops factor (shifted F.ops shift source.now)) }
+        ensures { self.new
+            ≡ add F.ops self.old (scale F.ops factor (shifted F.ops shift source.now)) }
     {
         add_multiple(self.inner.as_mut_slice(), factor, source, shift);
     }
@@ -147,7 +148,8 @@ impl<F: Field, A: Allocator + Copy> Clone for FieldVec<F, A> {
 // Adds a multiple of `source`, shifted up.
 pub(crate) fn add_multiple<F: Field>(target: &mut [F], factor: F, source: &[F], shift: usize)
     requires { shift + length source.now ≤ length target.old }
-    ensures { target.new ≡ add F.ops target.old (scale F.ops factor (shifted F.ops shift source.now)) }
+    ensures { target.new
+        ≡ add F.ops target.old (scale F.ops factor (shifted F.ops shift source.now)) }
 {
     for i in 0..source.len() {
         target[shift + i] = target[shift + i].plus(factor.times(source[i]));

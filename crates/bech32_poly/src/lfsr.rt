@@ -25,7 +25,10 @@ pub struct LfsrIter<F: Field, A: Allocator + Copy = Global> {
 impl<F: Field, A: Allocator + Copy> Model for LfsrIter<F, A> {
     ghost Value = { Register F };
 
-    ghost view = { λ a. record { coefficients = a.coefficients; coming = from_place a.start a.ring } };
+    ghost view = { λ a. record {
+      coefficients = a.coefficients;
+      coming = from_place a.start a.ring;
+    } };
 
     ghost invariant = { λ a. (length a.ring ≡ length a.coefficients)
         × (0 < length a.ring → a.start < length a.ring) };
@@ -64,7 +67,8 @@ impl<F: Field, A: Allocator + Copy> LfsrIter<F, A> {
     // The item that comes behind those of the ring.
     fn following(&self) -> F
         requires { 0 < length self.now.coefficients }
-        ensures { result ≡ F.ops.neg (back_sum F.ops self.now.coefficients (coefficient F.ops self.now.coming)
+        ensures { result
+            ≡ F.ops.neg (back_sum F.ops self.now.coefficients (coefficient F.ops self.now.coming)
             (length self.now.coefficients)) }
     {
         let (near, far) = self.coefficients.as_slice().split_at(self.start);
@@ -127,7 +131,8 @@ impl<F: Field, A: Allocator + Copy> Clone for LfsrIter<F, A> {
 // The sum of the first coefficient times the last item, the second times the one before it, ..
 fn weighted<F: Field>(coefficients: &[F], items: &[F]) -> F
     requires { length coefficients.now ≡ length items.now }
-    ensures { result ≡ back_sum F.ops coefficients.now (coefficient F.ops items.now) (length items.now) }
+    ensures { result
+        ≡ back_sum F.ops coefficients.now (coefficient F.ops items.now) (length items.now) }
 {
     let mut sum = F::zero();
     let mut i = coefficients.len();

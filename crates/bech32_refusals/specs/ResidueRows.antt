@@ -28,7 +28,8 @@ has_same_rows =
     (on target_row (pointwise (on value ◌==◌)))
 
 -- the error carries the remainder of a polynomial, which is not the target, and the target
-pub record IsResidueError (code : Code) (polynomial : List Fe32) (e : InvalidResidueError) : Type 0 where
+pub record IsResidueError (code : Code) (polynomial : List Fe32)
+    (e : InvalidResidueError) : Type 0 where
   pub remainder : List Fe32
   pub is_remainder : IsRemainder ops code.generator polynomial remainder
   pub not_target : remainder ≢ code.target

@@ -96,7 +96,8 @@ impl PartialEq for InvalidResidueError {
     fn eq(&self, other: &InvalidResidueError) -> bool
         ensures value { result ≡ has_same_rows self.now other.now }
         // As polynomials.
-        ensures polynomials { IsTrue result ↔ (IsSamePolynomial ops (actual_row self.now) (actual_row other.now)
+        ensures polynomials { IsTrue result
+            ↔ (IsSamePolynomial ops (actual_row self.now) (actual_row other.now)
             × IsSamePolynomial ops (target_row self.now) (target_row other.now)) }
     {
         self.is_same(other)
@@ -125,8 +126,10 @@ impl InvalidResidueError {
     pub fn new<R: PackedFe32>(actual: &R, target: &R) -> Self
         requires actual_fits { R.number actual.now < 2 ^ (5 * R.WIDTH) }
         requires target_fits { R.number target.now < 2 ^ (5 * R.WIDTH) }
-        ensures actual { (n : ℕ) → coefficient ops (actual_row result) n ≡ digit_of (R.number actual.now) n }
-        ensures target { (n : ℕ) → coefficient ops (target_row result) n ≡ digit_of (R.number target.now) n }
+        ensures actual { (n : ℕ)
+            → coefficient ops (actual_row result) n ≡ digit_of (R.number actual.now) n }
+        ensures target { (n : ℕ)
+            → coefficient ops (target_row result) n ≡ digit_of (R.number target.now) n }
     {
         InvalidResidueError {
             actual: Residue::new(actual),

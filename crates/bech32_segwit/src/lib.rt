@@ -129,7 +129,8 @@ fn text_of_version_in<A: Allocator>(
     program: &[u8],
 ) -> Result<String<A>, AllocError>
     ensures { let elements = version ∷ to_fes «program».now in
-        IfOk result (λ s. IsEncodedText (segwit_code version) (hrp_bytes hrp) elements (string_bytes s)) }
+        IfOk result
+        (λ s. IsEncodedText (segwit_code version) (hrp_bytes hrp) elements (string_bytes s)) }
 {
     if version == VERSION_0 {
         text_in::<Bech32, A>(alloc, hrp, Some(version), program)
@@ -145,8 +146,10 @@ fn encoded_in<A: Allocator>(
     version: Fe32,
     program: &[u8],
 ) -> Result<String<A>, EncodeError>
-    ensures text { IfOk result (λ s. IsLowerAddress (hrp_bytes hrp) version «program».now (string_bytes s)) }
-    ensures refused { IfErr result (λ e. IsSegwitEncodeRefusal (hrp_bytes hrp) version «program».now e) }
+    ensures text { IfOk result
+        (λ s. IsLowerAddress (hrp_bytes hrp) version «program».now (string_bytes s)) }
+    ensures refused { IfErr result
+        (λ e. IsSegwitEncodeRefusal (hrp_bytes hrp) version «program».now e) }
 {
     validate(hrp, version, program)?;
     let text = text_of_version_in(alloc, hrp, version, program)?;
@@ -169,7 +172,8 @@ pub fn encode_in<A: Allocator>(
     witness_program: &[u8],
 ) -> Result<String<A>, EncodeError>
     ensures text { IfOk result
-        (λ s. IsLowerAddress (hrp_bytes hrp) witness_version «witness_program».now (string_bytes s)) }
+        (λ s.
+        IsLowerAddress (hrp_bytes hrp) witness_version «witness_program».now (string_bytes s)) }
     ensures exists { HasAddress (hrp_bytes hrp) witness_version «witness_program».now
         → IsOkUnless result EncodeError.Memory }
     ensures refused { IfErr result
@@ -188,7 +192,8 @@ pub fn encode(
     witness_program: &[u8],
 ) -> Result<String, EncodeError>
     ensures text { IfOk result
-        (λ s. IsLowerAddress (hrp_bytes hrp) witness_version «witness_program».now (string_bytes s)) }
+        (λ s.
+        IsLowerAddress (hrp_bytes hrp) witness_version «witness_program».now (string_bytes s)) }
     ensures exists { HasAddress (hrp_bytes hrp) witness_version «witness_program».now
         → IsOkUnless result EncodeError.Memory }
     ensures refused { IfErr result

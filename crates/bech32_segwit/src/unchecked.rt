@@ -9,17 +9,18 @@ ghost use Rattle.bech32_segwit.specs.Unchecked.{IsFrontOfText, WritesFront, Appe
 use crate::VERSION_0;
 use bech32_checksum::{Bech32, Bech32m};
 use bech32_decode::segwit::MAX_STRING_LENGTH;
-use devices::{ByteSink, FmtSink, Watched, write_all};
 use bech32_encode::put_front_of_text;
 use bech32_gf::gf32::Fe32;
 use bech32_hrp::Hrp;
+use devices::{ByteSink, FmtSink, Watched, write_all};
 use std::{fmt, io};
 
 // Puts the first 90 characters of the text by the checksum of the version, and returns how many
 // there are.
 fn put_front(hrp: Hrp, version: Fe32, program: &[u8], upper: bool, buffer: &mut [u8]) -> usize
     requires { length buffer.old ≡ 90 }
-    ensures front { IsFrontOfText upper (hrp_bytes hrp) version «program».now (take result buffer.new) }
+    ensures front { IsFrontOfText upper (hrp_bytes hrp)
+        version «program».now (take result buffer.new) }
     ensures bound { result ≤ 90 }
 {
     if version == VERSION_0 {
@@ -45,7 +46,8 @@ pub fn encode_into_fmt_unchecked<S: FmtSink>(
 ) -> fmt::Result
     requires { S.has_failed sink.old ≡ false }
     ensures ok { OnOk result
-        (WritesFront S.takes sink.old sink.new upper (hrp_bytes hrp) witness_version «witness_program».now) }
+        (WritesFront S.takes sink.old sink.new upper
+        (hrp_bytes hrp) witness_version «witness_program».now) }
     ensures ok_mark { OnOk result (S.has_failed sink.new ≡ false) }
     ensures err_mark { OnErr result (S.has_failed sink.new ≡ true) }
     ensures same { S.is_same sink.old sink.new }
@@ -72,11 +74,13 @@ pub fn encode_into_bytes_unchecked<S: ByteSink>(
 ) -> io::Result<()>
     requires { S.has_failed sink.old ≡ false }
     ensures ok { OnOk result
-        (AppendsFront (S.contents sink.old) (S.contents sink.new) upper (hrp_bytes hrp) witness_version «witness_program».now) }
+        (AppendsFront (S.contents sink.old) (S.contents sink.new)
+        upper (hrp_bytes hrp) witness_version «witness_program».now) }
     ensures ok_mark { OnOk result (S.has_failed sink.new ≡ false) }
     ensures err_mark { OnErr result (S.has_failed sink.new ≡ true) }
     ensures beginning { OnErr result
-        (AppendsPartOfFront (S.contents sink.old) (S.contents sink.new) upper (hrp_bytes hrp) witness_version «witness_program».now) }
+        (AppendsPartOfFront (S.contents sink.old) (S.contents sink.new)
+        upper (hrp_bytes hrp) witness_version «witness_program».now) }
     ensures uncounted { S.flushes sink.new ≡ S.flushes sink.old }
     ensures same { S.is_same sink.old sink.new }
 {
@@ -93,7 +97,8 @@ fn front_to_fmt<W: fmt::Write>(
     upper: bool,
 ) -> fmt::Result
     ensures { OnOk result
-        (WritesFront W.write_str_gives fmt.old fmt.new upper (hrp_bytes hrp) version «program».now) }
+        (WritesFront W.write_str_gives fmt.old fmt.new upper
+        (hrp_bytes hrp) version «program».now) }
 {
     let mut sink = Watched::new(fmt);
     encode_into_fmt_unchecked(&mut sink, hrp, version, program, upper)
@@ -107,9 +112,11 @@ fn front_to_writer<W: io::Write>(
     upper: bool,
 ) -> io::Result<()>
     ensures ok { OnOk result
-        (AppendsFront (W.contents w.old) (W.contents w.new) upper (hrp_bytes hrp) version «program».now) }
+        (AppendsFront (W.contents w.old) (W.contents w.new)
+        upper (hrp_bytes hrp) version «program».now) }
     ensures beginning { OnErr result
-        (AppendsPartOfFront (W.contents w.old) (W.contents w.new) upper (hrp_bytes hrp) version «program».now) }
+        (AppendsPartOfFront (W.contents w.old) (W.contents w.new)
+        upper (hrp_bytes hrp) version «program».now) }
 {
     let mut sink = Watched::new(w);
     encode_into_bytes_unchecked(&mut sink, hrp, version, program, upper)
@@ -123,7 +130,8 @@ pub fn encode_to_fmt_unchecked<W: fmt::Write>(
     witness_program: &[u8],
 ) -> fmt::Result
     ensures { OnOk result
-        (WritesFront W.write_str_gives fmt.old fmt.new false (hrp_bytes hrp) witness_version «witness_program».now) }
+        (WritesFront W.write_str_gives fmt.old fmt.new false
+        (hrp_bytes hrp) witness_version «witness_program».now) }
 {
     encode_lower_to_fmt_unchecked(fmt, hrp, witness_version, witness_program)
 }
@@ -141,7 +149,8 @@ pub fn encode_lower_to_fmt_unchecked<W: fmt::Write>(
     witness_program: &[u8],
 ) -> fmt::Result
     ensures { OnOk result
-        (WritesFront W.write_str_gives fmt.old fmt.new false (hrp_bytes hrp) witness_version «witness_program».now) }
+        (WritesFront W.write_str_gives fmt.old fmt.new false
+        (hrp_bytes hrp) witness_version «witness_program».now) }
 {
     front_to_fmt(fmt, hrp, witness_version, witness_program, false)
 }
@@ -159,7 +168,8 @@ pub fn encode_upper_to_fmt_unchecked<W: fmt::Write>(
     witness_program: &[u8],
 ) -> fmt::Result
     ensures { OnOk result
-        (WritesFront W.write_str_gives fmt.old fmt.new true (hrp_bytes hrp) witness_version «witness_program».now) }
+        (WritesFront W.write_str_gives fmt.old fmt.new true
+        (hrp_bytes hrp) witness_version «witness_program».now) }
 {
     front_to_fmt(fmt, hrp, witness_version, witness_program, true)
 }

@@ -8,8 +8,8 @@ use Rattle.line_program.specs.Refused.{err}
 use Rattle.line_program.specs.Reply.{IsReplyBy}
 use Rattle.c32.specs.Request.{Request, Parse, Propose, request_of}
 
--- the parts of a codex32 string are said, which are the text's own characters: the threshold, the identifier, the share
--- index and the payload
+-- the parts of a codex32 string are said, which are the text's own characters: the threshold, the
+-- identifier, the share index and the payload
 pub record SaysParts (text said : List ℕ) : Type 0 where
   pub hrp : List ℕ
   pub threshold : ℕ
@@ -18,7 +18,8 @@ pub record SaysParts (text said : List ℕ) : Type 0 where
   pub payload : List ℕ
   pub checksum : List ℕ
   pub is_string : IsString text hrp threshold identifier share_index payload checksum
-  pub spelling : said ≡ codes "ok " ++ (threshold ∷ 32 ∷ (identifier ++ (32 ∷ share_index ∷ 32 ∷ payload)))
+  pub spelling :
+      said ≡ codes "ok " ++ (threshold ∷ 32 ∷ (identifier ++ (32 ∷ share_index ∷ 32 ∷ payload)))
 
 -- it is said why a text is none
 pub record SaysNoString (text said : List ℕ) : Type 0 where
@@ -36,14 +37,15 @@ pub record SaysNearest (text said : List ℕ) : Type 0 where
   pub is_nearest : IsNearestText text nearest
   pub spelling : said ≡ codes "some " ++ nearest
 
--- said is that there is none, of a text that has its grammar, its length and its human-readable part right
+-- said is that there is none, of a text that has its grammar, its length and its
+-- human-readable part right
 pub record SaysNone (text said : List ℕ) : Type 0 where
   pub none : (nearest : List ℕ) → IsNearestText text nearest → ⊥
   pub framed : frame_refusal (read_text text) ≡ None
   pub spelling : said ≡ codes "none"
 
--- it is said why no nearest text is looked for: what is wrong with the text, or, where it has its grammar, its length and
--- its human-readable part right, out of memory
+-- it is said why no nearest text is looked for: what is wrong with the text, or, where it has its
+-- grammar, its length and its human-readable part right, out of memory
 pub record SaysNotLooked (text said : List ℕ) : Type 0 where
   pub error : Codex32Error
   pub is_refusal : IsProposeRefusal text error
@@ -54,10 +56,10 @@ abbrev pub IsProposeAnswer : List ℕ → List ℕ → Type 0
 IsProposeAnswer text said = SaysNearest text said ⊎ (SaysNone text said ⊎ SaysNotLooked text said)
 
 -- the answer to a request
-abbrev pub IsAnswer : Request → List ℕ → Type 0
-IsAnswer (Parse text) said = IsParseAnswer text said
-IsAnswer (Propose text) said = IsProposeAnswer text said
+abbrev pub IsOutcome : Request → List ℕ → Type 0
+IsOutcome (Parse text) said = IsParseAnswer text said
+IsOutcome (Propose text) said = IsProposeAnswer text said
 
 -- what may be said of a line
 abbrev pub IsReply : List ℕ → List ℕ → Type 0
-IsReply line said = IsReplyBy request_of IsAnswer line said
+IsReply line said = IsReplyBy request_of IsOutcome line said

@@ -3,7 +3,8 @@ use Rattle.std.specs.Prelude.{ℕ, if◌then◌else◌, List, [], ◌∷◌, cod
 use Rattle.std.specs.Str.{bytes_eq}
 use Rattle.line_program.specs.Words.{words, has_empty_word}
 use Rattle.c32.specs.declared.command.Command.{Command}
-use Rattle.c32.specs.declared.command.Command.TheVariants.{Parse as ParseCommand, Propose as ProposeCommand}
+use Rattle.c32.specs.declared.command.Command.TheVariants.{Parse as ParseCommand}
+use Rattle.c32.specs.declared.command.Command.TheVariants.{Propose as ProposeCommand}
 
 -- the parts of a codex32 string; the nearest text to a damaged one
 pub data Request : Type 0 where

@@ -6,8 +6,8 @@ ghost use Rattle.line_program.specs.Refused.{err};
 ghost use Rattle.codex32_numbers.specs.Numbers.{number_of_codex32_error};
 ghost use Rattle.c32.specs.Reply.{IsParseAnswer};
 
-use line_program::append;
 use codex32::{Codex32Error, Codex32Str};
+use line_program::append;
 
 /// Adds the parts of a codex32 string, in the case of the text, or leaves all as it was.
 pub fn parse(text: &str, out: &mut Vec<u8>) -> Result<(), Codex32Error>

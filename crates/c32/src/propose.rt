@@ -6,8 +6,8 @@ ghost use Rattle.line_program.specs.Refused.{err};
 ghost use Rattle.codex32_numbers.specs.Numbers.{number_of_codex32_error};
 ghost use Rattle.c32.specs.Reply.{IsProposeAnswer};
 
-use line_program::append;
 use codex32::{Codex32Error, propose_in};
+use line_program::append;
 use std::alloc::Allocator;
 
 /// Adds the nearest text to a damaged one, or that there is none, or leaves all as it was.

@@ -27,7 +27,8 @@ module _ (F : RattleType) (I : F.Denot → Fml) where
   -- fields of which I holds, in memory
   abbrev pub fields_with : ℕ → ℕ → Fml
   fields_with b o =
-      fex (List Val) (λ vs. fsep (cell_at full_share F.mir vs b o) (fex F.Denot (λ i. fsep (F.own_val i vs) (I i))))
+      fex (List Val) (λ vs.
+      fsep (cell_at full_share F.mir vs b o) (fex F.Denot (λ i. fsep (F.own_val i vs) (I i))))
 
   -- they are reached with the thread's token, and I holds again afterwards
   abbrev pub behind_a_ref : Ptr → Lft → Fml

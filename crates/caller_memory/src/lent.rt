@@ -37,7 +37,8 @@ impl Lent {
 
     fn take(&self, size: usize, align: usize) -> Option<Memory>
         ensures { IfSome result (λ m. (m ≡ lent_memory self.now)
-            × (size ≤ memory_size (lent_memory self.now) / 16 * 16) × (size < 2 ^ 63) × (align ≤ 16)) }
+            × (size ≤ memory_size (lent_memory self.now) / 16 * 16) × (size < 2 ^ 63)
+            × (align ≤ 16)) }
     {
         if align > ALIGN || size > isize::MAX as usize || size > self.size / ALIGN * ALIGN {
             return None;

@@ -52,7 +52,8 @@ impl Memory {
 
     // The number of bytes, the memory again, and memory of no bytes.
     fn parts(self) -> (usize, (Memory, Memory))
-        ensures { (result.0 ≡ memory_size self) × (result.1.0 ≡ self) × (memory_size result.1.1 ≡ 0) }
+        ensures { (result.0 ≡ memory_size self) × (result.1.0 ≡ self)
+            × (memory_size result.1.1 ≡ 0) }
     {
         let Memory { start, size } = self;
         (size, (Memory { start, size }, Memory { start, size: 0 }))

@@ -15,11 +15,13 @@ pub(crate) struct Slot {
 impl Owns for Slot {
     ghost Value = { Held };
 
-    ghost shr_at = { λ r. behind_a_ref Fields (λ i. fex (IfSome i.memory (λ m. m ≡ r)) (λ _. ftrue)) };
+    ghost shr_at = { λ r.
+        behind_a_ref Fields (λ i. fex (IfSome i.memory (λ m. m ≡ r)) (λ _. ftrue)) };
 }
 
 impl Move for Slot {
-    ghost own_val = { λ r vs. fex Inside (λ i. fsep (Fields.own_val i vs) (fex (IfSome i.memory (λ m. m ≡ r)) (λ _. ftrue))) };
+    ghost own_val = { λ r vs. fex Inside
+        (λ i. fsep (Fields.own_val i vs) (fex (IfSome i.memory (λ m. m ≡ r)) (λ _. ftrue))) };
 }
 
 impl Slot {

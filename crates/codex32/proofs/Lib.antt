@@ -1,6 +1,4 @@
 pub mod Answered
-pub mod Ascii
-pub mod LawfulRoots
 pub mod Locations
 pub mod Near
 pub mod Proposed

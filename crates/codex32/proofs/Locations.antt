@@ -18,8 +18,8 @@ use Rattle.bech32_bch.specs.Erasures.{has, with_erasures}
 use Rattle.bech32_bch.specs.Pattern.{locations}
 use Rattle.bech32_bch.proofs.Patterns.{at_absent, at_first, at_rest}
 use Rattle.bech32_bch.proofs.Places.{look}
-use Rattle.bech32_decode.specs.Distance.{same_element}
-use Rattle.bech32_mended.specs.Mended.{mended}
+use Rattle.bech32_detect.specs.Distance.{same_element}
+use Rattle.bech32_correction.specs.MendedElements.{mended}
 use Rattle.codex32.specs.Nearest.{changed, read_data, unreadable}
 
 -- a character as it is read

@@ -31,22 +31,23 @@ use Rattle.bech32_bch.proofs.Counting.{located_outside, outside, outside_located
 use Rattle.bech32_bch.proofs.Patterns.{at_absent, locations_listed, outside_count}
 use Rattle.bech32_bch.proofs.Places.{mem_split, once_fits}
 use Rattle.bech32_bch.proofs.Solved.{once_outside}
-use Rattle.bech32_corrector.proofs.Remainders.{left_over}
+use Rattle.bech32_correction.proofs.Remainders.{left_over}
 use Rattle.bech32_decode.specs.Acceptance.{Accepts, IsAccepted}
-use Rattle.bech32_decode.specs.Distance.{AreSameOrFar, same_element}
+use Rattle.bech32_detect.specs.Distance.{AreSameOrFar, same_element}
 use Rattle.bech32_decode.specs.Text.{IsText}
-use Rattle.bech32_decode.proofs.Distances.{far_from_others}
+use Rattle.bech32_detect.proofs.Distances.{data_fits, far_from_others}
 use Rattle.bech32_decode.proofs.Grammar.{only-from_IsText}
 use Rattle.bech32_decode.proofs.Spelling.{characters-elements, spelled-text}
-use Rattle.bech32_mended.specs.Mended.{mended}
-use Rattle.bech32_mended.specs.Mistyped.{IsRefusedFor}
-use Rattle.bech32_mended.proofs.Accepted.{front, in_parts, lowered_parts}
-use Rattle.bech32_mended.proofs.Sums.{appended-mended, length-mended}
-use Rattle.bech32_mended.proofs.Texts.{mendable-from_accepts}
+use Rattle.bech32_correction.specs.MendedElements.{mended}
+use Rattle.bech32_correction.specs.Mistyped.{IsRefusedFor, question_of}
+use Rattle.bech32_correction.proofs.Sound.{sound_of}
+use Rattle.bech32_correction.proofs.Accepted.{front, in_parts, lowered_parts}
+use Rattle.bech32_correction.proofs.Sums.{appended-mended, length-mended}
+use Rattle.bech32_correction.proofs.Texts.{mendable-from_accepts}
 use Rattle.codex32.specs.Code.{codex32}
 use Rattle.codex32.specs.Nearest.{IsListed, IsNearestText, IsUnlisted, changed, read_data, read_text, unreadable}
 use Rattle.codex32.specs.Strings.{frame_refusal}
-use Rattle.codex32.proofs.LawfulRoots.{base, codex32_roots}
+use Rattle.codex32.specs.laws.RootLaws.{base, codex32_roots}
 use Rattle.codex32.proofs.Locations.{again, changed-once, changed_outside, count_data, count_read, differences, differences-below, differences-once, differences-values, erasures_are, few_apart, located, mended-differences, unreadable-below, unreadable-once}
 use Rattle.codex32.proofs.Separated.{AreParts, one_split, parts-from}
 
@@ -66,7 +67,7 @@ spelled_leaves : (code : Code) (hrp : List ℕ) (ys : List Fe32) → IsHrp hrp �
 spelled_leaves code hrp ys ok a =
     subst (λ (p : List Fe32). IsRemainder ops code.generator p code.target)
     (ap (text_polynomial (lowered hrp)) (characters-elements ys) ∙ lowered_parts hrp ys)
-    (accepted_spelled code hrp ys ok a).leaves_target
+    (accepted_spelled code hrp ys ok a).has_target
 
 -- ---- the differences between a text and an accepted one solve its residue
 
@@ -184,7 +185,8 @@ module _ (text hrp damaged : List ℕ) (parts : AreParts text hrp damaged) where
       let (same_hrp, same_data) = same_parts is.hrp is.data_part is.refused.grammar in
       let erased : with_erasures [] (unreadable damaged) ≡ unreadable damaged = erasures_are (unreadable damaged) (unreadable-once damaged) in
       let sound : IsSound ops codex32.generator is.residue (unreadable damaged) (length is.data_part) 8 listing =
-      subst (λ (s : List ℕ). IsSound ops codex32.generator is.residue s (length is.data_part) 8 listing) erased is.sound in
+      subst (λ (s : List ℕ). IsSound ops codex32.generator is.residue s (length is.data_part) 8 listing) erased
+      (sound_of codex32 8 (question_of is.data_part is.residue (unreadable damaged)) listing is.only) in
       let most : length (changed damaged (mended ops listing (elements_of (read_data damaged)))) ≤ errors_outside (unreadable damaged) sound.pattern =
       few_changed codex32.generator is.residue (length is.data_part) 8 damaged listing sound in
       let few : 2 * errors_outside (unreadable damaged) sound.pattern + length (unreadable damaged) ≤ 8 = sound.solves.few in
@@ -254,7 +256,8 @@ module _ (text hrp damaged : List ℕ) (parts : AreParts text hrp damaged) where
       let apart : AreSameOrFar 8 (elements_of (map char_of_element n.elements)) (elements_of (map char_of_element m.elements)) =
       far_from_others fe1024_laws.is_field into (apart_inside fe1024.embed fe1024.retract fe1024_laws.retract-embed) codex32 base 9 16 codex32_roots (spelled hrp n.elements) (lowered hrp)
       (map char_of_element n.elements) (spelled hrp m.elements) (lowered hrp) (map char_of_element m.elements)
-      (accepted_spelled codex32 hrp n.elements ok n.accepted) (accepted_spelled codex32 hrp m.elements ok m.accepted) refl lengths in
+      (accepted_spelled codex32 hrp n.elements ok n.accepted) (accepted_spelled codex32 hrp m.elements ok m.accepted) refl lengths
+      (data_fits codex32 (spelled hrp n.elements) (lowered hrp) (map char_of_element n.elements) (accepted_spelled codex32 hrp n.elements ok n.accepted)) in
       let near : AreSameOrFar 8 n.elements m.elements =
       subst (λ (ys : List Fe32). AreSameOrFar 8 ys m.elements) (characters-elements n.elements)
       (subst (λ (zs : List Fe32). AreSameOrFar 8 (elements_of (map char_of_element n.elements)) zs) (characters-elements m.elements) apart) in

@@ -1,6 +1,6 @@
 -- From the parts of the text that was read to the nearest text.
 use Rattle.std.specs.List.{AllByRecursion}
-use Rattle.std.proofs.Common.{◌≡◌, ◌-◌, ◌+◌, ◌<◌, ◌≤◌, ◌++◌, ℕ, List, [], ◌∷◌, None, length, take, drop, length-append, append_assoc, subst, sym, ap, ◌∙◌, refl, arith}
+use Rattle.std.proofs.Common.{◌≡◌, ◌-◌, ◌+◌, ◌<◌, ◌≤◌, ◌++◌, ℕ, List, [], ◌∷◌, Option, None, Some, MatchOption, length, take, drop, length-append, append_assoc, subst, sym, ap, ◌∙◌, refl, arith}
 use Rattle.std.proofs.lemmas.List.{drop_at, length-drop, take_all}
 use Rattle.bech32_gf.specs.Fe32.{elements_of, ops}
 use Rattle.bech32_gf.specs.declared.gf32.Fe32.{Fe32}
@@ -8,8 +8,8 @@ use Rattle.bech32_checksum.specs.Encoded.{spelled}
 use Rattle.bech32_decode.specs.Parts.{unchecked_data, unchecked_length, unchecked_part}
 use Rattle.bech32_decode.specs.Text.{IsText}
 use Rattle.bech32_decode.specs.declared.unchecked.UncheckedHrpstring.{UncheckedHrpstring}
-use Rattle.bech32_mended.specs.Mended.{mended}
-use Rattle.codex32.specs.Nearest.{IsListed, IsNearestText, IsUnlisted, read_data, read_text, unreadable}
+use Rattle.bech32_correction.specs.MendedElements.{mended}
+use Rattle.codex32.specs.Nearest.{IsListed, IsMendedAt, IsNearestText, IsUnlisted, read_data, read_text, unreadable}
 use Rattle.codex32.specs.Strings.{frame_refusal}
 use Rattle.codex32.proofs.Locations.{count_data, unreadable-below}
 use Rattle.codex32.proofs.Near.{nearest-from_listed, none-from_unlisted}
@@ -108,11 +108,17 @@ module _ (text read : List ℕ) (u : UncheckedHrpstring) (is : IsTaken text read
   framed_text : frame_refusal (read_text text) ≡ None
   framed_text = subst (λ (t : List ℕ). frame_refusal t ≡ None) is.same is.framed
 
-  pub answer_from_listed : (places answer : List ℕ) (listing : List (ℕ × Fe32)) → IsPlaced text (unchecked_part u) (unchecked_data u) places → IsListed read places listing
+  answer_from_listed : (places answer : List ℕ) (listing : List (ℕ × Fe32)) → IsPlaced text (unchecked_part u) (unchecked_data u) places → IsListed read places listing
       → answer ≡ spelled (unchecked_part u) (mended ops listing (elements_of (unchecked_data u))) → (frame_refusal (read_text text) ≡ None) × IsNearestText text answer
   answer_from_listed places answer listing at listed spelling =
       (framed_text, nearest_of text read (unchecked_part u) (unchecked_data u) places answer listing is.same at listed spelling)
 
-  pub answer_from_unlisted : (places : List ℕ) → IsPlaced text (unchecked_part u) (unchecked_data u) places → IsUnlisted read places
+  answer_from_unlisted : (places : List ℕ) → IsPlaced text (unchecked_part u) (unchecked_data u) places → IsUnlisted read places
       → (frame_refusal (read_text text) ≡ None) × ((nearest : List ℕ) → IsNearestText text nearest → ⊥)
   answer_from_unlisted places at unlisted = (framed_text, none_of text read (unchecked_part u) (unchecked_data u) places is.same at unlisted)
+
+  pub answer_from_found : {S : Type 0} (bytes : S → List ℕ) (places : List ℕ) (found : Option S) → IsPlaced text (unchecked_part u) (unchecked_data u) places
+      → MatchOption found (IsUnlisted read places) (λ s. IsMendedAt read places (bytes s))
+      → (frame_refusal (read_text text) ≡ None) × MatchOption found ((nearest : List ℕ) → IsNearestText text nearest → ⊥) (λ s. IsNearestText text (bytes s))
+  answer_from_found bytes places None at h = answer_from_unlisted places at h
+  answer_from_found bytes places (Some s) at h = answer_from_listed places (bytes s) h.listing at h.listed (h.spelling (unchecked_part u) (unchecked_data u) is.grammar)

@@ -200,7 +200,7 @@ string_framed text hrp threshold identifier share_index payload checksum u is =
     is.accepted.grammar is.is_ms
 
 body_refuted : (text hrp data_part : List ℕ) (e : Codex32Error) → IsAccepted codex32 text hrp data_part → header_fault data_part ≡ None → IsBodyRefusal text hrp data_part e → ⊥
-body_refuted text hrp data_part (Checksum e) is none h = not_valid codex32 (length text) hrp data_part e h (is.text_length, is.data_length, is.leaves_target)
+body_refuted text hrp data_part (Checksum e) is none h = not_valid codex32 (length text) hrp data_part e h (is.text_length, is.data_length, is.has_target)
 body_refuted text hrp data_part (Text e) is none h = absurd (let k = sym none ∙ h.1 in cc)
 body_refuted text hrp data_part Length is none h = absurd (let k = sym none ∙ h.1 in cc)
 body_refuted text hrp data_part Hrp is none h = absurd (let k = sym none ∙ h.1 in cc)

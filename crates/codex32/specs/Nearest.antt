@@ -1,12 +1,14 @@
 -- The nearest text to a damaged one (BIP-93, Error Correction).
-use Rattle.std.specs.Prelude.{◌≡◌, ◌⊎◌, ◌≤◌, ◌<◌, ◌+◌, ◌*◌, ◌==◌, ◌||◌, if◌then◌else◌, ℕ, List, [], ◌∷◌, ◌++◌, map, length, Option, None, Some}
-use Rattle.bech32_gf.specs.Fe32.{element_of}
+use Rattle.std.specs.Prelude.{◌≡◌, ◌⊎◌, ◌≤◌, ◌<◌, ◌+◌, ◌*◌, ◌==◌, ◌||◌, if◌then◌else◌}
+use Rattle.std.specs.Prelude.{ℕ, List, [], ◌∷◌, ◌++◌, map, length, Option, None, Some}
+use Rattle.bech32_gf.specs.Fe32.{element_of, elements_of, ops}
 use Rattle.bech32_gf.specs.declared.gf32.Fe32.{Fe32}
 use Rattle.bech32_checksum.specs.Encoded.{spelled}
 use Rattle.bech32_decode.specs.Acceptance.{Accepts}
-use Rattle.bech32_decode.specs.Distance.{same_element}
+use Rattle.bech32_detect.specs.Distance.{same_element}
 use Rattle.bech32_decode.specs.Text.{IsText, split_at_last}
-use Rattle.bech32_mended.specs.Mistyped.{HasNoListing, IsListingOf}
+use Rattle.bech32_correction.specs.MendedElements.{mended}
+use Rattle.bech32_correction.specs.Mistyped.{HasNoListing, IsListingOf}
 use Rattle.codex32.specs.Code.{codex32}
 use Rattle.codex32.specs.Strings.{frame_refusal}
 use Rattle.codex32.specs.declared.error.Codex32Error.{Codex32Error}
@@ -40,8 +42,9 @@ changed (c ∷ cs) [] = []
 changed (c ∷ cs) (x ∷ xs) =
     if c == 63 || same_element (element_of c) x then changed cs xs else length cs ∷ changed cs xs
 
--- The nearest text: in lower case, with the same human-readable part and as many elements, accepted by the checksum;
--- and twice the number of the characters that are changed, with the number of the unreadable ones, is at most 8.
+-- The nearest text: in lower case, with the same human-readable part and as many elements, accepted
+-- by the checksum; and twice the number of the characters that are changed, with the number of the
+-- unreadable ones, is at most 8.
 pub record IsNearestText (text nearest : List ℕ) : Type 0 where
   pub hrp : List ℕ
   pub damaged : List ℕ
@@ -53,20 +56,29 @@ pub record IsNearestText (text nearest : List ℕ) : Type 0 where
   pub accepted : Accepts codex32 nearest
   pub few : 2 * length (changed damaged elements) + length (unreadable damaged) ≤ 8
 
--- why no nearest text is looked for: what is wrong with the text as it is read, but for its checksum; or, where nothing
--- of that is, out of memory. The former is never `Memory`.
+-- why no nearest text is looked for: what is wrong with the text as it is read, but for its
+-- checksum; or, where nothing of that is, out of memory. The former is never `Memory`.
 abbrev pub IsProposeRefusal : List ℕ → Codex32Error → Type 0
 IsProposeRefusal text e =
-    ((e ≡ Memory) × (frame_refusal (read_text text) ≡ None)) ⊎ (frame_refusal (read_text text) ≡ Some e)
+    ((e ≡ Memory) × (frame_refusal (read_text text) ≡ None))
+    ⊎ (frame_refusal (read_text text) ≡ Some e)
 
 -- ---- on the way
 
--- the values to add to the elements of a text as it was read: none where the checksum accepts it and at most 8
--- characters are unreadable, else the listing
+-- the values to add to the elements of a text as it was read: none where the checksum accepts it
+-- and at most 8 characters are unreadable, else the listing
 abbrev pub IsListed : List ℕ → List ℕ → List (ℕ × Fe32) → Type 0
 IsListed text given listing =
-    ((listing ≡ []) × Accepts codex32 text × (length given ≤ 8)) ⊎ IsListingOf codex32 8 text given listing
+    ((listing ≡ []) × Accepts codex32 text × (length given ≤ 8))
+    ⊎ IsListingOf codex32 8 text given listing
 
 -- there is no listing
 abbrev pub IsUnlisted : List ℕ → List ℕ → Type 0
 IsUnlisted text given = (8 < length given) ⊎ HasNoListing codex32 8 text given
+
+-- the text in lower case with the values of such a listing added
+pub record IsMendedAt (text given answer : List ℕ) : Type 0 where
+  pub listing : List (ℕ × Fe32)
+  pub listed : IsListed text given listing
+  pub spelling : (hrp data_part : List ℕ) → IsText text hrp data_part
+      → answer ≡ spelled hrp (mended ops listing (elements_of data_part))

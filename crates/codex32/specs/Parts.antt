@@ -19,4 +19,5 @@ payload_of s = s.payload.now
 pub record IsStringOf (text : List ℕ) (s : Codex32Str) : Type 0 where
   pub hrp : List ℕ
   pub checksum : List ℕ
-  pub is_string : IsString text hrp (threshold_of s) (identifier_of s) (share_index_of s) (payload_of s) checksum
+  pub is_string : IsString text hrp (threshold_of s)
+      (identifier_of s) (share_index_of s) (payload_of s) checksum

@@ -1,5 +1,6 @@
 -- Codex32 strings (BIP-93, codex32), and why a text is none.
-use Rattle.std.specs.Prelude.{◌≡◌, ◌⊎◌, ◌≤◌, ◌==◌, ◌&&◌, ◌||◌, not, nat_le, if◌then◌else◌, ℕ, Bool, true, List, [], ◌∷◌, ◌++◌, length, slice_index, Option, None, Some}
+use Rattle.std.specs.Prelude.{◌≡◌, ◌⊎◌, ◌≤◌, ◌==◌, ◌&&◌, ◌||◌, not, nat_le, if◌then◌else◌, ℕ, Bool}
+use Rattle.std.specs.Prelude.{true, List, [], ◌∷◌, ◌++◌, length, slice_index, Option, None, Some}
 use Rattle.std.specs.Char.{to_ascii_lowercase}
 use Rattle.std.specs.Str.{bytes_eq}
 use Rattle.bech32_hrp.specs.Hrp.{first_of, lowered}
@@ -9,7 +10,8 @@ use Rattle.bech32_decode.specs.Text.{IsText, split_at_last, text_refusal}
 use Rattle.bech32_refusals.specs.declared.error.UncheckedHrpstringError.{UncheckedHrpstringError}
 use Rattle.codex32.specs.Code.{codex32}
 use Rattle.codex32.specs.declared.error.Codex32Error.{Codex32Error}
-use Rattle.codex32.specs.declared.error.Codex32Error.TheVariants.{Text, Length, Hrp, Checksum, Threshold, ShareIndex}
+use Rattle.codex32.specs.declared.error.Codex32Error.TheVariants.{Text, Length, Hrp, Checksum}
+use Rattle.codex32.specs.declared.error.Codex32Error.TheVariants.{Threshold, ShareIndex}
 
 -- whether a human-readable part is `ms`, in either case (BIP-93, codex32)
 abbrev pub is_ms : List ℕ → Bool
@@ -23,12 +25,14 @@ is_within n = nat_le 48 n && nat_le n 93
 abbrev pub is_threshold : ℕ → Bool
 is_threshold c = c == 48 || (nat_le 50 c && nat_le c 57)
 
--- The text is a codex32 string of these parts: the human-readable part `ms`; in the data part a threshold, four
--- characters of an identifier, a share index, the payload and the 13 characters of the checksum; the share index of the
--- threshold `0` is `s`; 48 to 93 characters in all (BIP-93, codex32 and Unshared Secret).
+-- The text is a codex32 string of these parts: the human-readable part `ms`; in the data part a
+-- threshold, four characters of an identifier, a share index, the payload and the 13 characters of
+-- the checksum; the share index of the threshold `0` is `s`; 48 to 93 characters in all (BIP-93,
+-- codex32 and Unshared Secret).
 pub record IsString (text hrp : List ℕ) (threshold : ℕ) (identifier : List ℕ) (share_index : ℕ)
     (payload checksum : List ℕ) : Type 0 where
-  pub accepted : IsAccepted codex32 text hrp (threshold ∷ (identifier ++ (share_index ∷ (payload ++ checksum))))
+  pub accepted : IsAccepted codex32 text hrp
+      (threshold ∷ (identifier ++ (share_index ∷ (payload ++ checksum))))
   pub is_ms : is_ms hrp ≡ true
   pub long : 48 ≤ length text
   pub identifier_length : length identifier ≡ 4
@@ -61,19 +65,23 @@ abbrev pub hrp_fault : Option (List ℕ × List ℕ) → Option Codex32Error
 hrp_fault None = None
 hrp_fault (Some p) = part_fault p.0
 
--- what is wrong with a text but for its checksum, the first of: the grammar, the length, the human-readable part
+-- what is wrong with a text but for its checksum, the first of: the grammar, the
+-- length, the human-readable part
 abbrev pub frame_refusal : List ℕ → Option Codex32Error
 frame_refusal text =
-    first_of (as_text (text_refusal text)) (first_of (length_fault (length text)) (hrp_fault (split_at_last text)))
+    first_of (as_text (text_refusal text))
+    (first_of (length_fault (length text)) (hrp_fault (split_at_last text)))
 
 abbrev pub threshold_fault : ℕ → Option Codex32Error
 threshold_fault c = if is_threshold c then None else Some Threshold
 
 -- the threshold is `0`, and the share index is not `s`
 abbrev pub share_index_fault : ℕ → ℕ → Option Codex32Error
-share_index_fault threshold c = if threshold == 48 && not (to_ascii_lowercase c == 115) then Some ShareIndex else None
+share_index_fault threshold c =
+    if threshold == 48 && not (to_ascii_lowercase c == 115) then Some ShareIndex else None
 
--- what is wrong with the first characters of a data part, the first of: the threshold, the share index
+-- what is wrong with the first characters of a data part, the first of: the
+-- threshold, the share index
 abbrev pub header_fault : List ℕ → Option Codex32Error
 header_fault data_part =
     first_of (threshold_fault (slice_index data_part 0))
@@ -81,8 +89,10 @@ header_fault data_part =
 
 -- what is wrong with a text of these parts, the first of: the checksum, the first characters
 abbrev pub IsBodyRefusal : List ℕ → List ℕ → List ℕ → Codex32Error → Type 0
-IsBodyRefusal text hrp data_part (Checksum e) = IsChecksumRefusal codex32 (length text) hrp data_part e
-IsBodyRefusal text hrp data_part e = IsAccepted codex32 text hrp data_part × (header_fault data_part ≡ Some e)
+IsBodyRefusal text hrp data_part (Checksum e) =
+    IsChecksumRefusal codex32 (length text) hrp data_part e
+IsBodyRefusal text hrp data_part e =
+    IsAccepted codex32 text hrp data_part × (header_fault data_part ≡ Some e)
 
 -- a text is refused for its checksum or its first characters, where nothing before these is wrong
 pub record IsLaterRefusal (text : List ℕ) (e : Codex32Error) : Type 0 where

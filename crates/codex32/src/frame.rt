@@ -42,7 +42,8 @@ pub(crate) fn validate_outline(count: usize, hrp: &[u8]) -> Result<(), Codex32Er
 /// either case.
 pub(crate) fn framed(text: &str) -> Result<UncheckedHrpstring<'_>, Codex32Error>
     ensures { MatchResult result
-        (λ u. (frame_refusal text.now ≡ None) × IsText text.now (unchecked_part u) (unchecked_data u)
+        (λ u. (frame_refusal text.now ≡ None)
+        × IsText text.now (unchecked_part u) (unchecked_data u)
         × (unchecked_length u ≡ length text.now))
         (λ e. frame_refusal text.now ≡ Some e) }
 {

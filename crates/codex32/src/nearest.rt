@@ -1,16 +1,11 @@
 //! The nearest text to a damaged one.
 
-ghost use Rattle.std.specs.Prelude.{◌≡◌, ◌<◌, ◌≤◌, ℕ, [], List, length, None, Some, IfOk, IfSome, MatchOption, MatchResult, string_bytes};
-ghost use Rattle.std.specs.List.{AllByRecursion};
-ghost use Rattle.bech32_gf.specs.Fe32.{elements_of, ops};
-ghost use Rattle.bech32_checksum.specs.Encoded.{spelled};
-ghost use Rattle.bech32_decode.specs.Parts.{unchecked_data, unchecked_length, unchecked_part};
-ghost use Rattle.bech32_decode.specs.Refusals.{IsValidBy};
-ghost use Rattle.bech32_decode.specs.Text.{IsText};
-ghost use Rattle.bech32_mended.specs.Mended.{mended};
-ghost use Rattle.bech32_mended.specs.Mistyped.{HasNoListing, IsCorrectorOf, IsListingOf, IsReading};
-ghost use Rattle.codex32.specs.Code.{codex32};
-ghost use Rattle.codex32.specs.Nearest.{IsListed, IsNearestText, IsProposeRefusal, IsUnlisted, read_text};
+ghost use Rattle.std.specs.Prelude.{◌≡◌, ◌≤◌, ℕ, List, length, None, IfOk, MatchOption, MatchResult, string_bytes};
+ghost use Rattle.bech32_decode.specs.Parts.{unchecked_data, unchecked_length};
+ghost use Rattle.bech32_correction.specs.Mistyped.{IsReadAs};
+ghost use Rattle.bech32_correction.specs.declared.error.CorrectError.TheVariants.{Refused};
+ghost use Rattle.bech32_refusals.specs.declared.error.CheckedHrpstringError.{CheckedHrpstringError as Refusal};
+ghost use Rattle.codex32.specs.Nearest.{IsListed, IsMendedAt, IsNearestText, IsProposeRefusal, IsUnlisted, read_text};
 ghost use Rattle.codex32.specs.Strings.{frame_refusal};
 
 use crate::checksum::Codex32;
@@ -18,110 +13,65 @@ use crate::damaged::validate_damaged;
 use crate::error::Codex32Error;
 use crate::frame::framed;
 use crate::unreadable::{read_in, unreadable_in};
-use bech32::Fe32;
-use bech32::primitives::correction::{CorrectableError, Corrector, ErrorIterator};
+use bech32::primitives::correction::{
+    CorrectError, Correction, Listing, listing_of_unchecked, mended_in,
+};
 use bech32::primitives::decode::UncheckedHrpstring;
-use bech32_mended::mend;
 use std::alloc::{AllocError, Allocator, Global};
 
-// Locations, of which 0 is the last character, and the element to add at each.
-type Listing<A> = Vec<(usize, Fe32), A>;
-
-// What finds the errors of a text that the checksum refuses; none where it accepts the text. It holds
-// the allocator by reference, so that the prover knows its size.
-fn corrector_of<'a, A: Allocator>(
-    alloc: &'a A,
-    unchecked: &UncheckedHrpstring<'_>,
-) -> Option<Corrector<Codex32, &'a A>>
-    requires short { unchecked_length unchecked.now ≤ 93 }
-    requires long { 13 ≤ length (unchecked_data unchecked.now) }
-    requires window { length (unchecked_data unchecked.now) ≤ 93 }
-    ensures fresh { IfSome result (λ c. c.erasures ≡ []) }
-    ensures window { IfSome result (λ c. c.window ≡ length (unchecked_data unchecked.now)) }
-    ensures reading { (text : List ℕ) → IsText text (unchecked_part unchecked.now) (unchecked_data unchecked.now)
-        → unchecked_length unchecked.now ≡ length text → IsReading codex32 text result }
+// The error of a text that is not refused.
+fn memory_of(e: CorrectError) -> AllocError
+    requires { (refusal : Refusal) → e ≡ Refused refusal → ⊥ }
 {
-    let Err(refusal) = unchecked.validate_checksum::<Codex32>() else {
-        return None;
-    };
-    refusal.correction_context_within(alloc, unchecked.data_part_ascii().len())
-}
-
-// The errors that an iterator has left, in a list.
-fn listed_in<'a, A: Allocator + Copy>(
-    alloc: A,
-    errors: ErrorIterator<&'a A>,
-) -> Result<Listing<A>, AllocError>
-    ensures { IfOk result (λ listing. listing.items ≡ errors.entry) }
-{
-    let mut listing = Vec::new(alloc);
-    for error in errors {
-        listing.push(error)?;
-    }
-    Ok(listing)
-}
-
-// The listing of the pattern that solves a corrector's residue, with the given locations as erasures.
-fn found_in<'a, A: Allocator + Copy>(
-    alloc: &'a A,
-    mut corrector: Corrector<Codex32, &'a A>,
-    given: &[usize],
-) -> Result<Option<Listing<A>>, AllocError>
-    requires fresh { corrector.erasures ≡ [] }
-    requires inside { AllByRecursion (λ i. i < corrector.window) given.now }
-    ensures { IfOk result (λ found. (text : List ℕ) → IsCorrectorOf codex32 text corrector.entry → MatchOption found
-        (HasNoListing codex32 8 text given.now)
-        (λ listing. IsListingOf codex32 8 text given.now listing.items)) }
-{
-    corrector.add_erasures(given)?;
-    match corrector.bch_errors()? {
-        Some(errors) => Ok(Some(listed_in(*alloc, errors)?)),
-        None => Ok(None),
+    match e {
+        CorrectError::Memory => AllocError,
+        CorrectError::Refused(_) => unreachable!(),
     }
 }
 
 // What is to be added to the elements of a text that was read, where the characters at the given
-// locations are unreadable.
-fn listing_in<A: Allocator + Copy>(
-    alloc: &A,
+// locations are unreadable. It holds the allocator by reference, so that the prover knows the size of
+// a corrector.
+fn unreadable_listing_in<'a, A: Allocator>(
+    alloc: &'a A,
     unchecked: &UncheckedHrpstring<'_>,
     given: &[usize],
-) -> Result<Option<Listing<A>>, AllocError>
+) -> Result<Option<Listing<&'a A>>, AllocError>
     requires short { unchecked_length unchecked.now ≤ 93 }
     requires long { 13 ≤ length (unchecked_data unchecked.now) }
-    requires window { length (unchecked_data unchecked.now) ≤ 93 }
-    requires inside { AllByRecursion (λ i. i < length (unchecked_data unchecked.now)) given.now }
-    ensures { IfOk result (λ found. (text : List ℕ)
-        → IsText text (unchecked_part unchecked.now) (unchecked_data unchecked.now)
-        → unchecked_length unchecked.now ≡ length text
-        → MatchOption found (IsUnlisted text given.now) (λ listing. IsListed text given.now listing.items)) }
+    ensures { IfOk result (λ found. (text : List ℕ) → IsReadAs text unchecked.now
+        → MatchOption found (IsUnlisted text given.now)
+        (λ listing. IsListed text given.now listing)) }
 {
     if given.len() > 8 {
         return Ok(None);
     }
-    match corrector_of(alloc, unchecked) {
-        Some(corrector) => found_in(alloc, corrector, given),
-        None => Ok(Some(Vec::new(*alloc))),
+    match listing_of_unchecked::<Codex32, &'a A>(alloc, unchecked, given) {
+        Ok(Correction::Accepted) => Ok(Some(Listing::new(alloc))),
+        Ok(Correction::Mended(listing)) => Ok(Some(listing)),
+        Ok(Correction::Unexplained(_)) => Ok(None),
+        Err(e) => Err(memory_of(e)),
     }
 }
 
-// The text in lower case, with each listed value added to the element at its location.
-fn mended_in<A: Allocator>(
-    alloc: A,
-    text: &str,
-    listing: &[(usize, Fe32)],
-) -> Result<String<A>, AllocError>
-    requires { (hrp : List ℕ) × (data_part : List ℕ) × IsText text.now hrp data_part
-        × AllByRecursion (λ p. p.0 < length data_part) listing.now }
-    ensures { IfOk result (λ s. (hrp data_part : List ℕ) → IsText text.now hrp data_part
-        → string_bytes s ≡ spelled hrp (mended ops listing.now (elements_of data_part))) }
+// The text in lower case that is mended by that listing, where there is one.
+fn nearest_read_in<A: Allocator + Copy>(
+    alloc: &A,
+    read: &str,
+    unchecked: &UncheckedHrpstring<'_>,
+    given: &[usize],
+) -> Result<Option<String<A>>, AllocError>
+    requires short { unchecked_length unchecked.now ≤ 93 }
+    requires long { 13 ≤ length (unchecked_data unchecked.now) }
+    requires read { IsReadAs read.now unchecked.now }
+    ensures { IfOk result (λ answer. MatchOption answer (IsUnlisted read.now given.now)
+        (λ s. IsMendedAt read.now given.now (string_bytes s))) }
 {
-    let mut lower = String::from_str(alloc, text)?;
-    lower.make_ascii_lowercase();
-    let mut bytes = lower.into_bytes();
-    mend(bytes.as_mut_slice(), listing);
-    // All of it is ASCII: what the call requires is proved.
-    Ok(unsafe { String::from_utf8_unchecked(bytes) })
+    let Some(listing) = unreadable_listing_in(alloc, unchecked, given)? else {
+        return Ok(None);
+    };
+    let mended = mended_in(*alloc, read, listing.as_slice())?;
+    Ok(Some(mended))
 }
 
 // The nearest text, or why none is looked for.
@@ -137,10 +87,8 @@ fn proposed_in<A: Allocator + Copy>(alloc: A, text: &str) -> Result<Option<Strin
     let unchecked = framed(&read)?;
     let start = text.len() - unchecked.data_part_ascii().len();
     let places = unreadable_in(alloc, &text.as_bytes()[start..])?;
-    match listing_in(&alloc, &unchecked, &places)? {
-        Some(listing) => Ok(Some(mended_in(alloc, &read, &listing)?)),
-        None => Ok(None),
-    }
+    let nearest = nearest_read_in(&alloc, &read, &unchecked, &places)?;
+    Ok(nearest)
 }
 
 /// The nearest text to a damaged codex32 string, with memory from `alloc`. Each `?` behind the last

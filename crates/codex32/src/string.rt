@@ -58,7 +58,9 @@ impl<'s> Codex32Str<'s> {
 
     // A text in its parts, or its first fault.
     fn read(text: &'s str) -> Result<Self, Codex32Error>
-        ensures { MatchResult result (λ s. IsStringOf text.now s) (λ e. IsStringRefusal text.now e) }
+        ensures { MatchResult result
+            (λ s. IsStringOf text.now s)
+            (λ e. IsStringRefusal text.now e) }
     {
         let unchecked = framed(text)?;
         unchecked.validate_checksum::<Codex32>()?;

@@ -27,7 +27,8 @@ fn digit_of(c: char) -> u32
 
 // A codex32 string as a C program is told of it.
 fn parts_of(bytes: &[u8]) -> Result<Parts, Refusal>
-    ensures value { IfOk result (λ p. IsParsed bytes.now p.threshold p.share_index p.payload_length) }
+    ensures value { IfOk result
+        (λ p. IsParsed bytes.now p.threshold p.share_index p.payload_length) }
     ensures accepts { IsCodex32 bytes.now → IsOk result }
     ensures refused { IfErr result (λ e. IsParseFault bytes.now e) }
 {
@@ -55,10 +56,12 @@ pub extern "C" fn codex32_parse(
     share_index: &mut u32,
     payload_length: &mut usize,
 ) -> u32
-    ensures value { result ≡ 0 → IsParsed text.now threshold.new share_index.new payload_length.new }
+    ensures value { result ≡ 0
+        → IsParsed text.now threshold.new share_index.new payload_length.new }
     ensures accepts { IsCodex32 text.now → result ≡ 0 }
     ensures refused { result ≢ 0 → IsNumberOf (IsParseFault text.now) result }
-    ensures same { result ≢ 0 → (threshold.new ≡ threshold.old) × (share_index.new ≡ share_index.old)
+    ensures same { result ≢ 0
+        → (threshold.new ≡ threshold.old) × (share_index.new ≡ share_index.old)
         × (payload_length.new ≡ payload_length.old) }
 {
     match parts_of(text) {

@@ -1,16 +1,17 @@
 //! Proposes the nearest text to a damaged codex32 string.
 
-ghost use Rattle.std.specs.Prelude.{◌≡◌, ◌≢◌, ◌⊎◌, ◌≤◌, length, None, IfErr, IfOk, OnErr};
+ghost use Rattle.std.specs.Prelude.{◌≡◌, ◌≢◌, ◌⊎◌, ◌≤◌, ℕ, length, None, IfErr, IfOk, MatchResult, OnErr};
 ghost use Rattle.std.specs.Str.{IsUtf8};
 ghost use Rattle.caller_memory.specs.Memory.{memory_size};
-ghost use Rattle.codex32.specs.Nearest.{read_text};
+ghost use Rattle.codex32.specs.Nearest.{IsNearestText, read_text};
 ghost use Rattle.codex32.specs.Strings.{frame_refusal};
 ghost use Rattle.codex32_c.specs.Faults.{IsNumberOf};
-ghost use Rattle.codex32_c.specs.Propose.{IsProposeFault, PutsNearest};
+ghost use Rattle.codex32_c.specs.Propose.{GivesBack, IsProposeFault, PutsNearest};
 
 use crate::buffer::put;
 use crate::input::text_of;
 use crate::refusal::Refusal;
+use arrayvec::ArrayString;
 use bumpalo::Bump;
 use caller_memory::{Lent, Memory};
 use codex32::{Codex32Error, propose_in, validate_damaged};
@@ -21,74 +22,82 @@ const PAGE: usize = 4096;
 
 const BESIDE: usize = 64;
 
-// Puts the nearest text at the front of a buffer, and returns its length.
-fn nearest_in<A: Allocator + Copy>(
-    alloc: A,
-    bytes: &[u8],
-    proposed: &mut [u8],
-) -> Result<usize, Refusal>
-    ensures value { IfOk result (λ count. PutsNearest bytes.now proposed.old proposed.new count) }
-    ensures refused { IfErr result (λ e. IsProposeFault bytes.now (length proposed.old) e) }
-    ensures same { OnErr result (proposed.new ≡ proposed.old) }
+// The most characters that a codex32 string has.
+const LONGEST: usize = 93;
+
+// A copy, in place, of a text that is at most as long as a codex32 string.
+fn in_place(text: &str) -> ArrayString<LONGEST>
+    requires { length text.now ≤ 93 }
+    ensures { result.bytes ≡ text.now }
+{
+    let mut copy = ArrayString::new();
+    copy.push_str(text);
+    copy
+}
+
+// The nearest text.
+fn nearest_in<A: Allocator + Copy>(alloc: A, bytes: &[u8]) -> Result<ArrayString<LONGEST>, Refusal>
+    ensures value { IfOk result (λ nearest. IsNearestText bytes.now nearest.bytes) }
+    ensures refused { IfErr result (λ e. (room : ℕ) → IsProposeFault bytes.now room e) }
 {
     let text = text_of(bytes)?;
-    let nearest = match propose_in(alloc, text)? {
-        Some(nearest) => nearest,
-        None => return Err(Refusal::NoNearest),
-    };
-    let found = nearest.as_bytes();
-    if found.len() > proposed.len() {
-        return Err(Refusal::NoRoom);
+    match propose_in(alloc, text)? {
+        Some(nearest) => Ok(in_place(&nearest)),
+        None => Err(Refusal::NoNearest),
     }
-    put(proposed, found);
-    Ok(found.len())
 }
 
 // The same with so many bytes of lent memory, once the text was tested.
-fn nearest_over(
-    lent: &Lent,
-    size: usize,
-    bytes: &[u8],
-    proposed: &mut [u8],
-) -> Result<usize, Refusal>
+fn nearest_over(lent: &Lent, size: usize, bytes: &[u8]) -> Result<ArrayString<LONGEST>, Refusal>
     requires { IsUtf8 bytes.now × (frame_refusal (read_text bytes.now) ≡ None) }
-    ensures value { IfOk result (λ count. PutsNearest bytes.now proposed.old proposed.new count) }
-    ensures refused { IfErr result (λ e. IsProposeFault bytes.now (length proposed.old) e) }
-    ensures same { OnErr result (proposed.new ≡ proposed.old) }
+    ensures value { IfOk result (λ nearest. IsNearestText bytes.now nearest.bytes) }
+    ensures refused { IfErr result (λ e. (room : ℕ) → IsProposeFault bytes.now room e) }
 {
     let pages = size.saturating_add(16) / PAGE;
     let Ok(arena) = Bump::try_with_capacity(lent, (pages * PAGE).saturating_sub(BESIDE)) else {
         return Err(Refusal::Text(Codex32Error::Memory));
     };
-    nearest_in(&arena, bytes, proposed)
+    nearest_in(&arena, bytes)
 }
 
-// The same with memory that comes back.
-fn nearest_with(memory: &mut Memory, bytes: &[u8], proposed: &mut [u8]) -> Result<usize, Refusal>
+// The same with memory that comes back; if it does not, this is out of memory.
+fn nearest_with(memory: &mut Memory, bytes: &[u8]) -> Result<ArrayString<LONGEST>, Refusal>
     requires { IsUtf8 bytes.now × (frame_refusal (read_text bytes.now) ≡ None) }
-    ensures value { IfOk result (λ count. PutsNearest bytes.now proposed.old proposed.new count) }
-    ensures refused { IfErr result (λ e. IsProposeFault bytes.now (length proposed.old) e) }
-    ensures same { OnErr result (proposed.new ≡ proposed.old) }
-    ensures memory { (memory.new ≡ memory.old) ⊎ (memory_size memory.new ≡ 0) }
+    ensures value { IfOk result (λ nearest. IsNearestText bytes.now nearest.bytes) }
+    ensures refused { IfErr result (λ e. (room : ℕ) → IsProposeFault bytes.now room e) }
+    ensures memory { MatchResult result
+        (λ _. memory.new ≡ memory.old)
+        (λ e. GivesBack memory.old memory.new e) }
 {
     let (size, whole) = memory.take().with_size();
     let lent = Lent::new(whole);
-    let answer = nearest_over(&lent, size, bytes, proposed);
-    if let Some(whole) = lent.into_memory() {
-        *memory = whole;
+    let nearest = nearest_over(&lent, size, bytes);
+    match lent.into_memory() {
+        Some(whole) => {
+            *memory = whole;
+            nearest
+        }
+        None => Err(Refusal::Text(Codex32Error::Memory)),
     }
-    answer
 }
 
-// The same of any text, which is tested before anything is allocated.
+// Puts the nearest text to any text, which is tested before anything is allocated, at the front of a
+// buffer, and returns its length.
 fn nearest_of(memory: &mut Memory, bytes: &[u8], proposed: &mut [u8]) -> Result<usize, Refusal>
     ensures value { IfOk result (λ count. PutsNearest bytes.now proposed.old proposed.new count) }
     ensures refused { IfErr result (λ e. IsProposeFault bytes.now (length proposed.old) e) }
     ensures same { OnErr result (proposed.new ≡ proposed.old) }
-    ensures memory { (memory.new ≡ memory.old) ⊎ (memory_size memory.new ≡ 0) }
+    ensures memory { MatchResult result
+        (λ _. memory.new ≡ memory.old)
+        (λ e. GivesBack memory.old memory.new e) }
 {
     validate_damaged(text_of(bytes)?)?;
-    nearest_with(memory, bytes, proposed)
+    let nearest = nearest_with(memory, bytes)?;
+    if nearest.len() > proposed.len() {
+        return Err(Refusal::NoRoom);
+    }
+    put(proposed, nearest.as_str().as_bytes());
+    Ok(nearest.len())
 }
 
 /// Puts the nearest text to a damaged codex32 string at the front of `proposed`, as [`propose_in`] has
@@ -99,7 +108,8 @@ fn nearest_of(memory: &mut Memory, bytes: &[u8], proposed: &mut [u8]) -> Result<
 /// Answers the number of the first of: a text that is not UTF-8 (2); the first fault of its grammar
 /// (21 to 23, 11 to 15), its length (82) and its human-readable part (81), all before any memory is
 /// taken; no such text (34); a buffer that is too small (92). Where `memory` does not suffice, 91 in
-/// place of 0, 34 or 92.
+/// place of 0, 34 or 92. With every other number `memory` is as it was; with 91 it is so too, or has no
+/// bytes.
 #[unsafe(no_mangle)]
 pub extern "C" fn codex32_propose(
     text: &[u8],
@@ -107,10 +117,14 @@ pub extern "C" fn codex32_propose(
     proposed: &mut [u8],
     proposed_length: &mut usize,
 ) -> u32
-    ensures value { result ≡ 0 → PutsNearest text.now proposed.old proposed.new proposed_length.new }
-    ensures refused { result ≢ 0 → IsNumberOf (IsProposeFault text.now (length proposed.old)) result }
-    ensures same { result ≢ 0 → (proposed.new ≡ proposed.old) × (proposed_length.new ≡ proposed_length.old) }
-    ensures memory { (memory.new ≡ memory.old) ⊎ (memory_size memory.new ≡ 0) }
+    ensures value { result ≡ 0
+        → PutsNearest text.now proposed.old proposed.new proposed_length.new }
+    ensures refused { result ≢ 0
+        → IsNumberOf (IsProposeFault text.now (length proposed.old)) result }
+    ensures same { result ≢ 0
+        → (proposed.new ≡ proposed.old) × (proposed_length.new ≡ proposed_length.old) }
+    ensures memory { (memory.new ≡ memory.old)
+        ⊎ ((result ≡ 91) × (memory_size memory.new ≡ 0)) }
 {
     match nearest_of(memory, text, proposed) {
         Ok(count) => {

@@ -1,5 +1,6 @@
 -- What a call does to the failed mark of a device.
-use Rattle.std.specs.Prelude.{◌≡◌, ◌≤◌, ℕ, Bool, true, List, length, drop, Result, Ok, Err, ◌==◌, ◌&&◌, nat_lt}
+use Rattle.std.specs.Prelude.{◌≡◌, ◌≤◌, ℕ, Bool, true, List, length}
+use Rattle.std.specs.Prelude.{drop, Result, Ok, Err, ◌==◌, ◌&&◌, nat_lt}
 use Rattle.std.specs.IoError.{error_kind}
 use Rattle.std.specs.declared.io.Error.{Error}
 use Rattle.std.specs.declared.io.ErrorKind.TheVariants.{WriteZero}
@@ -15,7 +16,8 @@ IsErrorOfWrite (Ok taken) e = (taken ≡ 0) × (error_kind e ≡ WriteZero)
 IsErrorOfWrite (Err own) e = e ≡ own
 
 -- the last write was given what was left of the bytes, and it is why not all were taken
-pub record IsErrorOfLastWrite {K : Type 0} (write_gives : K → List ℕ → Result ℕ Error → K → Type 0) (bytes : List ℕ) (after : K) (e : Error) : Type 0 where
+pub record IsErrorOfLastWrite {K : Type 0} (write_gives : K → List ℕ → Result ℕ Error → K → Type 0)
+    (bytes : List ℕ) (after : K) (e : Error) : Type 0 where
   pub before : K
   pub at : ℕ
   pub within : at ≤ length bytes

@@ -267,7 +267,8 @@ impl<'a, D: WriteDevice> ByteSink for Watched<'a, D> {
 
     ghost flushes = { flush_count };
 
-    ghost write_gives = { λ s bytes returned t. D.write_gives (device_of s) bytes returned (device_of t) };
+    ghost write_gives = { λ s bytes returned t.
+        D.write_gives (device_of s) bytes returned (device_of t) };
 
     // Past the last flush that can be counted, the device stays as it is.
     ghost flush_gives = { λ s returned t.
@@ -311,7 +312,8 @@ impl<'a, D: FmtDevice> FmtSink for Watched<'a, D> {
 
     ghost takes = { λ s piece t. D.takes (device_of s) piece (device_of t) };
 
-    ghost piece_gives = { λ s piece returned t. D.piece_gives (device_of s) piece returned (device_of t) };
+    ghost piece_gives = { λ s piece returned t.
+        D.piece_gives (device_of s) piece returned (device_of t) };
 
     ghost has_failed = { is_marked };
 

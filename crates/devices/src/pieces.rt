@@ -57,7 +57,8 @@ pub fn pieces_into_fmt<P: Pieces, S: FmtSink>(pieces: &mut P, sink: &mut S) -> f
 /// Where the sink failed, and only there, as [`write_all`] says. It took a beginning of the text.
 pub fn pieces_into_bytes<P: Pieces, K: ByteSink>(pieces: &mut P, sink: &mut K) -> io::Result<()>
     requires { K.has_failed sink.old ≡ false }
-    ensures ok { OnOk result (Appends (K.contents sink.old) (K.contents sink.new) (P.to_come pieces.old)) }
+    ensures ok { OnOk result
+        (Appends (K.contents sink.old) (K.contents sink.new) (P.to_come pieces.old)) }
     ensures ok_mark { OnOk result (K.has_failed sink.new ≡ false) }
     ensures err_mark { OnErr result (K.has_failed sink.new ≡ true) }
     ensures beginning { OnErr result ((n : ℕ) × (n ≤ length (P.to_come pieces.old))

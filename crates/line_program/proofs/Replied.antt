@@ -8,27 +8,27 @@ use Rattle.line_program.specs.Added.{Adds}
 use Rattle.line_program.specs.Refused.{err}
 use Rattle.line_program.specs.Reply.{IsReplyBy}
 
-module _ {Request : Type 0} (request_of : List ℕ → Option Request) (IsAnswer : Request → List ℕ → Type 0) (line : List ℕ) (short : length line ≤ 4096) where
+module _ {Request : Type 0} (request_of : List ℕ → Option Request) (IsOutcome : Request → List ℕ → Type 0) (line : List ℕ) (short : length line ≤ 4096) where
   -- of one that is not UTF-8
-  pub bytes-reply : (IsUtf8 line → ⊥) → IsReplyBy request_of IsAnswer line (err 2)
+  pub bytes-reply : (IsUtf8 line → ⊥) → IsReplyBy request_of IsOutcome line (err 2)
   bytes-reply u = rw (le-ltb 4096 (length line) short, false_from_ne_true (is_utf8 line) (λ t. u (IsUtf8-from_is_utf8 line t))) refl
 
   -- of one that asks for nothing
-  pub no_command-reply : IsUtf8 line → request_of line ≡ None → IsReplyBy request_of IsAnswer line (err 3)
+  pub no_command-reply : IsUtf8 line → request_of line ≡ None → IsReplyBy request_of IsOutcome line (err 3)
   no_command-reply u none = rw (le-ltb 4096 (length line) short, is_utf8-from_IsUtf8 line u, none) refl
 
   -- of one that asks for something
-  pub answer-reply : (said : List ℕ) → IsUtf8 line → IsSomeAnd (request_of line) (λ request. IsAnswer request said) → IsReplyBy request_of IsAnswer line said
-  answer-reply said u h = rw (le-ltb 4096 (length line) short, is_utf8-from_IsUtf8 line u) (cases (request_of line) h)
+  pub outcome-reply : (said : List ℕ) → IsUtf8 line → IsSomeAnd (request_of line) (λ request. IsOutcome request said) → IsReplyBy request_of IsOutcome line said
+  outcome-reply said u h = rw (le-ltb 4096 (length line) short, is_utf8-from_IsUtf8 line u) (cases (request_of line) h)
     where
-      cases : (asked : Option Request) → IsSomeAnd asked (λ request. IsAnswer request said) → MatchOption asked (said ≡ err 3) (λ request. IsAnswer request said)
+      cases : (asked : Option Request) → IsSomeAnd asked (λ request. IsOutcome request said) → MatchOption asked (said ≡ err 3) (λ request. IsOutcome request said)
       cases None p = absurd p
       cases (Some request) p = p
 
   -- what an answer adds
-  pub answer-adds : (old new : List ℕ) → IsUtf8 line → IsSomeAnd (request_of line) (λ request. Adds (IsAnswer request) old new) → Adds (IsReplyBy request_of IsAnswer line) old new
-  answer-adds old new u h = cases (request_of line) refl h
+  pub outcome-adds : (old new : List ℕ) → IsUtf8 line → IsSomeAnd (request_of line) (λ request. Adds (IsOutcome request) old new) → Adds (IsReplyBy request_of IsOutcome line) old new
+  outcome-adds old new u h = cases (request_of line) refl h
     where
-      cases : (asked : Option Request) → request_of line ≡ asked → IsSomeAnd asked (λ request. Adds (IsAnswer request) old new) → Adds (IsReplyBy request_of IsAnswer line) old new
+      cases : (asked : Option Request) → request_of line ≡ asked → IsSomeAnd asked (λ request. Adds (IsOutcome request) old new) → Adds (IsReplyBy request_of IsOutcome line) old new
       cases None e p = absurd p
-      cases (Some request) e p = record { said = p.said; says = answer-reply p.said u (rw e p.says); size = p.size; added = p.added }
+      cases (Some request) e p = record { said = p.said; says = outcome-reply p.said u (rw e p.says); size = p.size; added = p.added }

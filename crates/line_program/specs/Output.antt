@@ -7,7 +7,8 @@ use Rattle.line_program.specs.Lines.{lines_of, ended_lines}
 abbrev pub IsOutput : (List ℕ → List ℕ → Type 0) → List (List ℕ) → List ℕ → Type 0
 IsOutput IsReply [] out = out ≡ []
 IsOutput IsReply (line ∷ lines) out =
-    (said : List ℕ) × (rest : List ℕ) × IsReply line said × (out ≡ said ++ 10 ∷ rest) × IsOutput IsReply lines rest
+    (said : List ℕ) × (rest : List ℕ) × IsReply line said × (out ≡ said ++ 10 ∷ rest)
+    × IsOutput IsReply lines rest
 
 -- nothing, or a front of the reply to the first of some lines
 abbrev pub IsFront : (List ℕ → List ℕ → Type 0) → List (List ℕ) → List ℕ → Type 0
@@ -16,7 +17,8 @@ IsFront IsReply (line ∷ lines) out =
     (out ≡ []) ⊎ ((said : List ℕ) × (n : ℕ) × IsReply line said × (out ≡ take n (said ++ 10 ∷ [])))
 
 -- a beginning of an output: the replies to the first lines, and a front of the one to the next
-pub record IsBeginning (IsReply : List ℕ → List ℕ → Type 0) (lines : List (List ℕ)) (out : List ℕ) : Type 0 where
+pub record IsBeginning (IsReply : List ℕ → List ℕ → Type 0)
+    (lines : List (List ℕ)) (out : List ℕ) : Type 0 where
   pub answered : List (List ℕ)
   pub others : List (List ℕ)
   pub split : lines ≡ answered ++ others
@@ -26,8 +28,8 @@ pub record IsBeginning (IsReply : List ℕ → List ℕ → Type 0) (lines : Lis
   pub is_front : IsFront IsReply others front
   pub out_is : out ≡ replies ++ front
 
--- Bytes left a source and others went out to a sink, where those are known: what may be said of a line, what the source
--- had left before and after, and what had gone out before and after.
+-- Bytes left a source and others went out to a sink, where those are known: what may be said of a
+-- line, what the source had left before and after, and what had gone out before and after.
 module _ (IsReply : List ℕ → List ℕ → Type 0) (source source' sink sink' : Option (List ℕ)) where
   -- the source is at its end, and each line was answered
   pub record IsAnswered : Type 0 where

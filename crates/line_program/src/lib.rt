@@ -2,15 +2,15 @@
 //! and replies put together. What is said of a line is the program's own ([`Replies`]).
 #![tactic(auto)]
 
-mod answers;
 mod error;
+mod execute;
 mod lines;
 mod output;
 mod replies;
 mod words;
 
-pub use answers::{Answers, Unanswered};
 pub use error::RunError;
+pub use execute::{Execute, NotExecuted};
 pub use lines::{run, run_on};
 pub use output::{append, append_number, append_refusal};
 pub use replies::{LINE_LIMIT, REPLY_ROOM, Replies};

@@ -55,7 +55,8 @@ impl Lines {
     /// Writes the replies that are gathered.
     fn write_out<K: ByteSink>(&mut self, sink: &mut K) -> Result<(), RunError>
         requires { K.has_failed sink.old ≡ false }
-        ensures ok { OnOk result (Appends (K.contents sink.old) (K.contents sink.new) self.old.out.items) }
+        ensures ok { OnOk result
+            (Appends (K.contents sink.old) (K.contents sink.new) self.old.out.items) }
         ensures ok_mark { OnOk result (K.has_failed sink.new ≡ false) }
         ensures none_left { OnOk result (self.new.out.items ≡ []) }
         ensures err { OnErr result ((n : ℕ)
@@ -78,7 +79,8 @@ impl Lines {
     /// Writes what is gathered where there may be no room for a reply behind it.
     fn make_room<K: ByteSink>(&mut self, sink: &mut K) -> Result<(), RunError>
         requires { K.has_failed sink.old ≡ false }
-        ensures ok { OnOk result ((out : List ℕ) × Appends (K.contents sink.old) (K.contents sink.new) out
+        ensures ok { OnOk result
+            ((out : List ℕ) × Appends (K.contents sink.old) (K.contents sink.new) out
             × (self.old.out.items ≡ out ++ self.new.out.items)) }
         ensures ok_mark { OnOk result (K.has_failed sink.new ≡ false) }
         ensures room { OnOk result (vec_len self.new.out ≤ 14336) }
@@ -115,7 +117,7 @@ impl Lines {
     }
 
     /// Gathers that reply, where there is room for it or the replies before it are written.
-    fn answer<P: Replies, K: ByteSink>(
+    fn reply_to<P: Replies, K: ByteSink>(
         &mut self,
         program: &P,
         piece: &[u8],
@@ -165,7 +167,7 @@ impl Lines {
     {
         let mut rest = bytes;
         'lines: while let Some(end) = memchr(b'\n', rest) {
-            self.answer(program, &rest[..end], sink)?;
+            self.reply_to(program, &rest[..end], sink)?;
             rest = &rest[end + 1..];
         }
         self.keep(rest);
@@ -192,7 +194,7 @@ impl Lines {
         if self.line.is_empty() {
             return Ok(());
         }
-        self.answer(program, b"", sink)?;
+        self.reply_to(program, b"", sink)?;
         self.write_out(sink)
     }
 }
@@ -232,7 +234,8 @@ pub fn run_on<P: Replies, S: ByteSource, K: ByteSink>(
 ) -> Result<(), RunError>
     requires source_unmarked { S.has_failed source.old ≡ false }
     requires sink_unmarked { K.has_failed sink.old ≡ false }
-    ensures ok { OnOk result (IsAnswered P.is_reply (S.remaining source.old) (S.remaining source.new)
+    ensures ok { OnOk result
+        (IsAnswered P.is_reply (S.remaining source.old) (S.remaining source.new)
         (K.contents sink.old) (K.contents sink.new)) }
     ensures read { IsErrOf result RunError.Read
         → IsAnsweredSoFar P.is_reply (S.remaining source.old) (S.remaining source.new)
@@ -287,7 +290,8 @@ pub fn run<P: Replies, R: io::Read, W: io::Write>(
     reader: &mut R,
     writer: &mut W,
 ) -> Result<(), RunError>
-    ensures ok { OnOk result (IsAnswered P.is_reply (R.remaining reader.old) (R.remaining reader.new)
+    ensures ok { OnOk result
+        (IsAnswered P.is_reply (R.remaining reader.old) (R.remaining reader.new)
         (W.contents writer.old) (W.contents writer.new)) }
     ensures read { IsErrOf result RunError.Read
         → IsAnsweredSoFar P.is_reply (R.remaining reader.old) (R.remaining reader.new)

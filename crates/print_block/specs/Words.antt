@@ -17,7 +17,8 @@ pub record AreElementsOf (word : List ℕ) (elements : List Fe32) : Type 0 where
   pub elements_are : elements ≡ map element_of word
 
 -- the text is the block of this name, with the generator and the target of these words
-pub record IsBlockOfWords {E : Type 0} (f : RootField E) (code : E → List ℕ) (field name generator target text : List ℕ)
+pub record IsBlockOfWords {E : Type 0} (f : RootField E)
+    (code : E → List ℕ) (field name generator target text : List ℕ)
     : Type 0 where
   pub generator_elements : List Fe32
   pub target_elements : List Fe32

@@ -1,9 +1,9 @@
 use crate::compare::{same, same_items};
 use bech32::{Bech32, Bech32m, Checksum, Hrp, decode, encode};
 use bech32_bits::plain::plain_to_fes;
-use testing_plain::{PlainChecksum, accepts, encoded_text};
 use std::alloc::Global;
 use std::process::Abort;
+use testing_plain::{PlainChecksum, accepts, encoded_text};
 
 // Texts in and out of the grammar, with right and wrong checksums.
 const TEXTS: [&str; 18] = [

@@ -5,9 +5,9 @@ use bech32_encode::Fe32IterExt;
 use bech32_gf::gf32::Fe32;
 use bech32_gf_ext::Fe32Ext;
 use bech32_hrp::Hrp;
-use testing_codes::{Degree8, Degree13};
 use std::alloc::{AllocError, Global};
 use std::process::Abort;
+use testing_codes::{Degree8, Degree13};
 
 // The row of the block with the constants that `Degree8` is declared by, down to the words.
 fn front_of_degree_8(rt: &impl Abort, alloc: Global) -> String {

@@ -27,7 +27,7 @@ fn is_refused(rt: &impl Abort, alloc: Global, bytes: usize) -> bool {
 }
 
 #[test]
-fn a_block_or_want_of_memory(rt: HostRuntime) {
+fn a_block_or_out_of_memory(rt: HostRuntime) {
     let (mut wanting, mut whole) = (0u32, 0u32);
     for size in 0..64usize {
         assert!(rt; is_refused(&rt, rt.alloc(), 16 * size));

@@ -10,9 +10,9 @@ use bech32_encode::{Checksummed, Fe32IterExt};
 use bech32_gf::gf32::Fe32;
 use bech32_hrp::Hrp;
 use bech32_poly::polynomial::remainder;
-use testing_codes::{Degree8, Degree13};
 use std::alloc::{AllocError, Global};
 use std::test::Fail;
+use testing_codes::{Degree8, Degree13};
 
 // The lower coefficients of the generator of both checksums: 18, 29, 21, 20, 22, 29.
 const LOW: [Fe32; 6] = [Fe32::J, Fe32::A, Fe32::_4, Fe32::_5, Fe32::K, Fe32::A];

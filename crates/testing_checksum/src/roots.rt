@@ -5,8 +5,9 @@ ghost use Rattle.bech32_gf.specs.Fe32 as fe32;
 ghost use Rattle.bech32_gf_ext.specs.Fe1024.{pair};
 ghost use Rattle.bech32_checksum.specs.Code.{bech32};
 ghost use Rattle.bech32_checksum.specs.laws.CodeLaws as codes;
-ghost use Rattle.bech32_checksum.specs.Roots.{HasLawfulRoots};
+ghost use Rattle.bech32_checksum.specs.Roots.{HasLawfulRoots, singleton_bound};
 ghost use Rattle.testing_checksum.specs.TestWords.{words_1, words_1_keep, code_1};
+ghost use Rattle.bech32_gf_ext.specs.Fe1024 as fe1024;
 
 use crate::compare::{same, same_items};
 use bech32_checksum::{Bech32, Bech32m, Checksum, NoChecksum};
@@ -41,6 +42,11 @@ impl Checksum for OtherBase {
 
     ghost code = { bech32 };
 
+    ghost bound = { 3 };
+
+    ghost lawful = { HasLawfulRoots fe1024.ops fe1024.embed
+        bech32 (pair fe32.one fe32.zero) 24 26 };
+
     const ROOT_GENERATOR: Fe1024 = Fe32Ext {
         inner: [Fe32::P, Fe32::Q],
     };
@@ -64,6 +70,10 @@ impl Checksum for OtherBase {
     ghost degree_law = { refl };
 
     ghost code_length_law = { refl };
+
+    ghost bound_law = { refl };
+
+    ghost lawful_law = { (λ h. h, λ h. h) };
 }
 
 // The generator x + 1, for texts of one character: each power of the base 1 is a root.
@@ -91,6 +101,10 @@ impl<const LAST: usize> Checksum for Degree1<LAST> {
 
     ghost code = { code_1 };
 
+    ghost bound = { singleton_bound 3 LAST };
+
+    ghost lawful = { HasLawfulRoots fe32.ops (λ x. x) code_1 fe32.one 3 LAST };
+
     const ROOT_GENERATOR: Fe32 = Fe32::P;
 
     const ROOT_EXPONENTS_START: usize = 3;
@@ -112,6 +126,10 @@ impl<const LAST: usize> Checksum for Degree1<LAST> {
     ghost degree_law = { refl };
 
     ghost code_length_law = { refl };
+
+    ghost bound_law = { refl };
+
+    ghost lawful_law = { (λ h. h, λ h. h) };
 }
 
 // How many roots stand in a row.

@@ -16,7 +16,9 @@ words_8_keep = keeps 12 8 words_8 1 refl
 
 -- the same of degree 13
 abbrev pub words_13 : List ℕ
-words_13 = 0x19dc500ce73fde210 ∷ 0x1bfae00def77fe529 ∷ 0x1fbd920fffe7bee52 ∷ 0x1739640bdeee3fdad ∷ 0x07729a039cfc75f5a ∷ []
+words_13 =
+    0x19dc500ce73fde210 ∷ 0x1bfae00def77fe529 ∷ 0x1fbd920fffe7bee52
+    ∷ 0x1739640bdeee3fdad ∷ 0x07729a039cfc75f5a ∷ []
 
 pub words_13_keep : KeepsPackingLaws (λ (x : ℕ). x) 25 13 words_13 0x10ce0795c2fd1e62a
 unfolding product

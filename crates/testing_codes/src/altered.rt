@@ -5,6 +5,8 @@ ghost use Rattle.bech32_gf.specs.Fe32 as fe32;
 ghost use Rattle.bech32_gf_ext.specs.Fe1024.{pair};
 ghost use Rattle.bech32_checksum.specs.laws.CodeLaws as codes;
 ghost use Rattle.testing_codes.specs.TestWords.{code_6};
+ghost use Rattle.bech32_gf_ext.specs.Fe1024 as fe1024;
+ghost use Rattle.bech32_checksum.specs.Roots.{HasLawfulRoots, singleton_bound};
 
 use bech32_checksum::Checksum;
 use bech32_gf::gf32::Fe32;
@@ -38,6 +40,11 @@ impl<const FIRST: usize, const LAST: usize, const LONGEST: usize> Checksum
 
     ghost code = { code_6 LONGEST };
 
+    ghost bound = { singleton_bound FIRST LAST };
+
+    ghost lawful = { HasLawfulRoots fe1024.ops fe1024.embed
+        (code_6 LONGEST) (pair fe32.one (fe32.element 6)) FIRST LAST };
+
     const ROOT_GENERATOR: Fe1024 = Fe32Ext {
         inner: [Fe32::P, Fe32::X],
     };
@@ -61,4 +68,8 @@ impl<const FIRST: usize, const LAST: usize, const LONGEST: usize> Checksum
     ghost degree_law = { refl };
 
     ghost code_length_law = { refl };
+
+    ghost bound_law = { refl };
+
+    ghost lawful_law = { (λ h. h, λ h. h) };
 }

@@ -3,6 +3,7 @@
 ghost use Rattle.std.specs.Prelude.{refl};
 ghost use Rattle.bech32_gf.specs.Fe32 as fe32;
 ghost use Rattle.testing_codes.specs.TestWords.{words_2, words_2_keep, code_2};
+ghost use Rattle.bech32_checksum.specs.Roots.{HasLawfulRoots, singleton_bound};
 
 use bech32_checksum::Checksum;
 use bech32_gf::gf32::Fe32;
@@ -33,6 +34,10 @@ impl<const LAST: usize> Checksum for Tiny<LAST> {
 
     ghost code = { code_2 };
 
+    ghost bound = { singleton_bound 1 LAST };
+
+    ghost lawful = { HasLawfulRoots fe32.ops (λ x. x) code_2 (fe32.element 2) 1 LAST };
+
     const ROOT_GENERATOR: Fe32 = Fe32::Z;
 
     const ROOT_EXPONENTS_START: usize = 1;
@@ -54,4 +59,8 @@ impl<const LAST: usize> Checksum for Tiny<LAST> {
     ghost degree_law = { refl };
 
     ghost code_length_law = { refl };
+
+    ghost bound_law = { refl };
+
+    ghost lawful_law = { (λ h. h, λ h. h) };
 }

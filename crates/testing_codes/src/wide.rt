@@ -6,6 +6,9 @@ ghost use Rattle.bech32_gf_ext.specs.Fe1024.{pair};
 ghost use Rattle.bech32_gf_ext.specs.Fe32768.{triple};
 ghost use Rattle.testing_codes.specs.TestWords.{words_8, words_8_keep, code_8};
 ghost use Rattle.testing_codes.specs.TestWords.{words_13, words_13_keep, code_13};
+ghost use Rattle.bech32_gf_ext.specs.Fe1024 as fe1024;
+ghost use Rattle.bech32_gf_ext.specs.Fe32768 as fe32768;
+ghost use Rattle.bech32_checksum.specs.Roots.{HasLawfulRoots};
 
 use bech32_checksum::Checksum;
 use bech32_gf::gf32::Fe32;
@@ -36,6 +39,11 @@ impl Checksum for Degree8 {
 
     ghost code = { code_8 };
 
+    ghost bound = { 3 };
+
+    ghost lawful = { HasLawfulRoots fe32768.ops fe32768.embed
+        code_8 (triple (element 11) (element 8) (element 15)) 1056 1058 };
+
     const ROOT_GENERATOR: Fe32768 = Fe32Ext {
         inner: [Fe32::T, Fe32::G, Fe32::_0],
     };
@@ -65,6 +73,10 @@ impl Checksum for Degree8 {
     ghost degree_law = { refl };
 
     ghost code_length_law = { refl };
+
+    ghost bound_law = { refl };
+
+    ghost lawful_law = { (λ h. h, λ h. h) };
 }
 
 /// The checksum of codex32 (BIP-93), of degree 13, in a `u128`.
@@ -91,6 +103,11 @@ impl Checksum for Degree13 {
     ghost TARGET_RESIDUE = { 0x10ce0795c2fd1e62a };
 
     ghost code = { code_13 };
+
+    ghost bound = { 8 };
+
+    ghost lawful = { HasLawfulRoots fe1024.ops fe1024.embed
+        code_13 (pair (element 5) (element 5)) 9 16 };
 
     const ROOT_GENERATOR: Fe1024 = Fe32Ext {
         inner: [Fe32::_9, Fe32::_9],
@@ -121,4 +138,8 @@ impl Checksum for Degree13 {
     ghost degree_law = { refl };
 
     ghost code_length_law = { refl };
+
+    ghost bound_law = { refl };
+
+    ghost lawful_law = { (λ h. h, λ h. h) };
 }

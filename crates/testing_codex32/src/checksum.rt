@@ -6,10 +6,12 @@ ghost use Rattle.bech32_gf.specs.Fe32.{element};
 ghost use Rattle.bech32_gf_ext.specs.Fe1024.{pair};
 ghost use Rattle.bech32_checksum.specs.Code.{code_of};
 ghost use Rattle.codex32.specs.laws.CodeLaws as codes;
+ghost use Rattle.bech32_gf_ext.specs.Fe1024 as fe1024;
+ghost use Rattle.bech32_checksum.specs.Roots.{HasLawfulRoots};
 
 use super::compare::{same, same_items};
 use bech32_checksum::Checksum;
-use bech32_corrector::{CorrectableError, Corrector, ErrorIterator};
+use bech32_correction::{CorrectableError, Correction, Corrector, ErrorIterator, correct};
 use bech32_decode::CheckedHrpstring;
 use bech32_gf::gf32::Fe32;
 use bech32_gf_ext::{Fe32Ext, Fe1024};
@@ -45,6 +47,12 @@ impl Checksum for Longer {
 
     ghost code = { code_of (λ x. x) 94 13 codes.words 0x10ce0795c2fd1e62a };
 
+    ghost bound = { 8 };
+
+    ghost lawful = { HasLawfulRoots fe1024.ops fe1024.embed
+        (code_of (λ x. x) 94 13 codes.words 0x10ce0795c2fd1e62a)
+        (pair (element 5) (element 5)) 9 16 };
+
     const ROOT_GENERATOR: Fe1024 = Fe32Ext {
         inner: [Fe32::_9, Fe32::_9],
     };
@@ -74,6 +82,10 @@ impl Checksum for Longer {
     ghost degree_law = { refl };
 
     ghost code_length_law = { refl };
+
+    ghost bound_law = { refl };
+
+    ghost lawful_law = { (λ h. h, λ h. h) };
 }
 
 // Of codex32 it is proved.
@@ -257,4 +269,25 @@ fn each_single_error(rt: HostRuntime) {
         }
     }
     same(&rt, &count, &1395);
+}
+
+// Whether the checksum corrects a text to this one.
+fn is_corrected(alloc: Global, text: &str, erasures: &[usize], want: &str) -> bool {
+    match correct::<Codex32>(alloc, text, erasures) {
+        Ok(Correction::Mended(mended)) => mended.text.as_str() == want,
+        _ => false,
+    }
+}
+
+#[test]
+fn texts_corrected_by_one_call(rt: HostRuntime) {
+    let four = "ms1qtestsqxxxxxxxxxxxxxxxxxxxxxxxxq4nzvca9cmczlq";
+    let eight = "ms10testsxxxxxxxxxxxxxxxxxxxxxxxxxx4nzvcqqqqqqqq";
+    let corrected = [
+        is_corrected(rt.alloc(), four, &[], TEXT),
+        is_corrected(rt.alloc(), four, &[44, 0], TEXT),
+        is_corrected(rt.alloc(), eight, &[0, 1, 2, 3, 4, 5, 6, 7], TEXT),
+        is_corrected(rt.alloc(), eight, &[0, 1, 2, 3, 4, 5, 6, 7, 8], TEXT),
+    ];
+    same_items(&rt, &corrected, &[true, true, true, false]);
 }

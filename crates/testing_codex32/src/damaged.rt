@@ -1,8 +1,8 @@
 //! Refusals of damaged texts, with no memory.
 
 use super::compare::same;
-use bech32_refusals::{CharError, UncheckedHrpstringError};
 use bech32_hrp::Error as HrpError;
+use bech32_refusals::{CharError, UncheckedHrpstringError};
 use codex32::{Codex32Error, propose_in, validate_damaged};
 use linked_list_allocator::LocalHeap;
 use std::alloc::Allocator;

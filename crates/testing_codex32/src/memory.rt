@@ -41,7 +41,7 @@ fn answers(alloc: Global, text: &str) -> Result<[u32; 3], AllocError> {
 }
 
 #[test]
-fn the_text_or_want_of_memory(rt: HostRuntime) -> Result<(), Fail> {
+fn the_text_or_out_of_memory(rt: HostRuntime) -> Result<(), Fail> {
     let texts = [
         WANT,
         "ms1qtestsqxxxxxxxxxxxxxxxxxxxxxxxxq4nzvca9cmczlq",

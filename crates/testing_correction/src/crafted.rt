@@ -3,10 +3,10 @@
 use super::compare::same;
 use super::listed::Corrected;
 use bech32_checksum::Bech32;
-use bech32_refusals::InvalidResidueError;
 use bech32_gf::gf32::Fe32;
-use testing_codes::Tiny;
+use bech32_refusals::InvalidResidueError;
 use std::alloc::Global;
+use testing_codes::Tiny;
 
 // The product of the two factors of the generator of Bech32 of which the powers 25 and 26 of the
 // base are roots, the constant term first.

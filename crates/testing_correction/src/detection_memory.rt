@@ -2,10 +2,10 @@
 
 use super::compare::same;
 use bech32_detect::detects_four_in;
-use testing_codes::Tiny;
 use linked_list_allocator::LocalHeap;
 use std::alloc::{AllocError, Global};
 use std::test::Fail;
+use testing_codes::Tiny;
 
 // What is returned with so many bytes of memory; nothing where they do not suffice.
 fn with_bytes(alloc: Global, bytes: usize) -> Result<Option<bool>, AllocError> {
@@ -27,7 +27,7 @@ fn answers(alloc: Global) -> Result<[u32; 3], AllocError> {
 }
 
 #[test]
-fn an_answer_or_want_of_memory(rt: HostRuntime) -> Result<(), Fail> {
+fn an_answer_or_out_of_memory(rt: HostRuntime) -> Result<(), Fail> {
     let [refused, right, wrong] = answers(rt.alloc())?;
     same(&rt, &(1 <= refused, 1 <= right, wrong), &(true, true, 0));
     Ok(())

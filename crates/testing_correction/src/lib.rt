@@ -1,4 +1,4 @@
-//! Tests of `bech32_corrector` and `bech32_detect`.
+//! Tests of `bech32_correction` and `bech32_detect`.
 #![tactic(auto)]
 
 #[cfg(test)]
@@ -13,5 +13,7 @@ mod detection_memory;
 mod listed;
 #[cfg(test)]
 mod memory;
+#[cfg(test)]
+mod one_call;
 #[cfg(test)]
 mod rows;

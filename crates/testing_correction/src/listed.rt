@@ -4,11 +4,11 @@ ghost use Rattle.std.specs.Prelude.{◌<◌, IsTrue};
 ghost use Rattle.std.specs.List.{AllByRecursion};
 
 use bech32_checksum::{Bech32, Bech32m, Checksum};
-use bech32_corrector::{CorrectableError, Corrector, ErrorIterator};
+use bech32_correction::{CorrectableError, Corrector, ErrorIterator};
 use bech32_decode::CheckedHrpstring;
 use bech32_gf::gf32::Fe32;
-use testing_codes::{Altered, Degree13, Tiny};
 use std::alloc::{Allocator, Global};
+use testing_codes::{Altered, Degree13, Tiny};
 
 /// Locations with the values to add there.
 pub type Listing<'a> = &'a [(usize, Fe32)];

@@ -3,13 +3,13 @@
 use super::compare::same;
 use super::listed::{Listing, are_within, gives};
 use bech32_checksum::{Bech32, Checksum};
-use bech32_corrector::{CorrectableError, Corrector, ErrorIterator};
+use bech32_correction::{CorrectableError, Corrector, ErrorIterator};
 use bech32_decode::CheckedHrpstring;
 use bech32_gf::gf32::Fe32;
-use testing_codes::Degree13;
 use linked_list_allocator::LocalHeap;
 use std::alloc::{AllocError, Global};
 use std::test::Fail;
+use testing_codes::Degree13;
 
 // Whether just this was found, or nothing.
 fn is_found(found: Option<ErrorIterator<&LocalHeap>>, want: Option<Listing>) -> bool {
@@ -79,7 +79,7 @@ fn answers(alloc: Global) -> Result<[u32; 3], AllocError> {
 }
 
 #[test]
-fn a_listing_or_want_of_memory(rt: HostRuntime) -> Result<(), Fail> {
+fn a_listing_or_out_of_memory(rt: HostRuntime) -> Result<(), Fail> {
     let [refused, right, wrong] = answers(rt.alloc())?;
     same(&rt, &(1 <= refused, 1 <= right, wrong), &(true, true, 0));
     Ok(())

@@ -16,10 +16,10 @@ use bech32_checksum::{Bech32, Bech32m, Checksum, HrpFe32Iter, NoChecksum};
 use bech32_encode::{Checksummed, Encoder, Fe32IterExt, WitnessVersionIter, put_text};
 use bech32_gf::gf32::Fe32;
 use bech32_hrp::Hrp;
-use testing_tools::iterators::{Many, TwoItems, TwoOfFive};
 use std::alloc::Global;
 use std::process::Abort;
 use std::{iter, slice};
+use testing_tools::iterators::{Many, TwoItems, TwoOfFive};
 
 // The bounds on how many more items come, where those are exact.
 fn exactly(left: usize) -> (usize, Option<usize>) {

@@ -1,10 +1,10 @@
 use crate::compare::{same, same_items};
 use bech32_gf::field::{Bech32Field, ExtensionField, Field, MultiplicativeOrder};
 use bech32_gf::gf32::Fe32;
-use testing_tools::code::Code;
-use testing_tools::seven::Seven;
 use std::alloc::{AllocError, Global};
 use std::test::Fail;
+use testing_tools::code::Code;
+use testing_tools::seven::Seven;
 
 #[test]
 fn multiples_by_any_integer(rt: HostRuntime) {

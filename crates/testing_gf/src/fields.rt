@@ -7,8 +7,8 @@ use crate::compare::{same, same_items};
 use bech32_gf::field::{ExtensionField, Field, MultiplicativeOrder};
 use bech32_gf::gf32::Fe32;
 use bech32_gf_ext::{Fe1024, Fe32768};
-use testing_tools::seven::Seven;
 use std::process::Abort;
+use testing_tools::seven::Seven;
 
 // x^2 - y^2, which is (x + y)(x - y).
 fn difference_of_squares<F: Field>(x: F, y: F) -> F

@@ -8,8 +8,8 @@ use crate::compare::{same, same_items};
 use bech32_gf::field::{Bech32Field, ExtensionField, Field, MultiplicativeOrder};
 use bech32_gf::gf32::Fe32;
 use bech32_gf_ext::{Fe1024, Fe32768};
-use testing_tools::code::Code;
 use std::test::Fail;
+use testing_tools::code::Code;
 
 // The order of an element, unless it is zero.
 fn order_of<F: Field>(x: F) -> Option<usize> {

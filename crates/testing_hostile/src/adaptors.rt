@@ -5,8 +5,8 @@ use bech32::primitives::encode::WitnessVersionIter;
 use bech32::primitives::hrp::Error;
 use bech32::primitives::iter::Checksummed;
 use bech32::{Bech32, Fe32, Fe32IterExt, Hrp};
-use testing_tools::iterators::TwoItems;
 use std::process::Abort;
+use testing_tools::iterators::TwoItems;
 
 // The text of the two under `a`, which does not depend on how often they are asked for.
 const TEXT: &str = "a144mh9z97";

@@ -9,9 +9,9 @@ use bech32::{
     Bech32, Bech32m, DecodeError, EncodeError, Fe32, Hrp, PrintImpl, decode_in, encode_in,
     encode_lower_in, encode_upper_in,
 };
-use testing_tools::memory::Refusing;
 use codex32::{Codex32Error, propose_in};
 use std::alloc::{Allocator, Global};
+use testing_tools::memory::Refusing;
 
 // The program of the first address in BIP-173's examples, and the address; a program of version 1.
 const PROGRAM: [u8; 20] = [

@@ -7,9 +7,9 @@ use bech32::primitives::LfsrIter;
 use bech32::primitives::correction::{Corrector, ErrorIterator};
 use bech32::primitives::decode::{CheckedHrpstring, CheckedHrpstringError};
 use bech32::{Checksum, CorrectableError, Fe32};
-use testing_tools::memory::Refusing;
-use testing_codes::Degree13;
 use std::alloc::{AllocError, Global};
+use testing_codes::Degree13;
+use testing_tools::memory::Refusing;
 
 // A string of codex32 with four errors, and its listing with the erasures 44 and 0.
 const FOUR_ERRORS: &str = "ms1qtestsqxxxxxxxxxxxxxxxxxxxxxxxxq4nzvca9cmczlq";

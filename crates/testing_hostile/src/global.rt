@@ -5,8 +5,8 @@ use crate::compare::same_items;
 use bech32::primitives::hrp::Error;
 use bech32::primitives::iter::plain::{plain_to_bytes, plain_to_fes};
 use bech32::{Fe32, Hrp};
-use testing_plain::{PlainChecksum, accepts, encoded_text};
 use std::alloc::AllocError;
+use testing_plain::{PlainChecksum, accepts, encoded_text};
 
 #[test]
 fn plain_regrouping(rt: HostRuntime) {

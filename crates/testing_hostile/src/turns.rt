@@ -1,9 +1,9 @@
 //! Calls whose requests for memory are refused, one at a time.
 
 use crate::compare::same;
-use testing_tools::memory::Refusing;
 use std::alloc::Global;
 use std::process::Abort;
+use testing_tools::memory::Refusing;
 
 /// What a call returns, beside its answer where memory is ample.
 #[derive(Clone, Copy, PartialEq, Eq, Debug)]

@@ -9,12 +9,12 @@ use crate::compare::{same, same_items};
 use bech32_bits::plain::{plain_to_bytes, plain_to_fes};
 use bech32_bits::{ByteIterExt, BytesToFes, FesToBytes};
 use bech32_gf::gf32::Fe32;
-use testing_tools::iterators::{Many, TwoItems, TwoOfFive};
 use std::alloc::{AllocError, Global};
 use std::iter::{self, Copied};
 use std::process::Abort;
 use std::slice::Iter;
 use std::test::Fail;
+use testing_tools::iterators::{Many, TwoItems, TwoOfFive};
 
 // The elements that come, where `None` comes after them however often one asks.
 fn all_fes<I: Iterator<Item = u8>>(

@@ -36,6 +36,6 @@ is_checksum k hrp elements rest h =
     subst (λ p. IsRemainder fe32.ops code.generator p rest) (sym (polynomial-parts hrp elements (reverse code.target))) h in
     record {
       size = length-reverse rest ∙ h.short;
-      leaves_target = subst (λ p. IsRemainder fe32.ops code.generator p code.target) (polynomial-parts hrp elements (reverse rest))
+      has_target = subst (λ p. IsRemainder fe32.ops code.generator p code.target) (polynomial-parts hrp elements (reverse rest))
           (checksum_of_target is_field code.generator front code.target rest (λ x. refl) (length-target k) held);
     }

@@ -54,13 +54,10 @@ impl PlainChecksum {
     }
 
     // Whether a polynomial, the constant term first, has the target as remainder.
-    pub(crate) fn leaves_target(
-        self,
-        alloc: Global,
-        polynomial: &[Fe32],
-    ) -> Result<bool, AllocError>
+    pub(crate) fn has_target(self, alloc: Global, polynomial: &[Fe32]) -> Result<bool, AllocError>
         ensures { IfOk result (λ b. IsTrue b
-            ↔ IsRemainder ops (code_of_name self).generator polynomial.now (code_of_name self).target) }
+            ↔ IsRemainder ops (code_of_name self).generator polynomial.now
+            (code_of_name self).target) }
     {
         let rest = remainder(alloc, polynomial, &self.generator())?;
         let target = self.target();

@@ -51,7 +51,8 @@ pub fn encoded_text(
     hrp: &Hrp,
     elements: &[Fe32],
 ) -> Result<Vec<u8>, AllocError>
-    ensures { IfOk result (λ v. IsEncodedText (code_of_name checksum) (hrp_bytes hrp.now) elements.now v.items) }
+    ensures { IfOk result
+        (λ v. IsEncodedText (code_of_name checksum) (hrp_bytes hrp.now) elements.now v.items) }
 {
     let appended = checksum.checksum_of(alloc, hrp.as_bytes(), elements)?;
     let mut all = Vec::from_slice(alloc, elements)?;

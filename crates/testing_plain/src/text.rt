@@ -48,7 +48,7 @@ pub(crate) fn accepts_at(
         return Ok(false);
     }
     let polynomial = polynomial_of_text(alloc, &text[..at], &elements(alloc, data_part)?)?;
-    checksum.leaves_target(alloc, &polynomial)
+    checksum.has_target(alloc, &polynomial)
 }
 
 // The text of elements, checksum included, under a human-readable part.

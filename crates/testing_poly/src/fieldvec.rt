@@ -72,7 +72,7 @@ fn seven_in_place(rt: HostRuntime) -> Result<(), Fail> {
 }
 
 #[test]
-fn twenty_or_want_of_memory(rt: HostRuntime) -> Result<(), Fail> {
+fn twenty_or_out_of_memory(rt: HostRuntime) -> Result<(), Fail> {
     let mut seen = [0u32; 3];
     for size in 0..64usize {
         let kind = match fitting(rt.alloc(), 16 * size, 20)? {

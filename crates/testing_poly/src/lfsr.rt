@@ -4,10 +4,10 @@ use super::compare::{same, same_items};
 use bech32_gf::field::Field;
 use bech32_gf::gf32::Fe32;
 use bech32_poly::lfsr::LfsrIter;
-use testing_tools::seven::Seven;
 use linked_list_allocator::LocalHeap;
 use std::alloc::{AllocError, Global};
 use std::test::Fail;
+use testing_tools::seven::Seven;
 
 // The first items of a register of a list.
 fn items(alloc: Global, list: &[Fe32], count: usize) -> Result<Vec<Fe32>, AllocError>
@@ -175,7 +175,7 @@ fn made_with(alloc: Global, bytes: usize) -> Result<(bool, bool), AllocError> {
 }
 
 #[test]
-fn twenty_items_or_want_of_memory(rt: HostRuntime) -> Result<(), Fail> {
+fn twenty_items_or_out_of_memory(rt: HostRuntime) -> Result<(), Fail> {
     let (mut refused, mut cloned) = (0u32, 0u32);
     for size in 0..64usize {
         match made_with(rt.alloc(), 16 * size)? {

@@ -3,10 +3,10 @@ use bech32_gf::field::Field;
 use bech32_gf::gf32::Fe32;
 use bech32_gf_ext::{Fe32Ext, Fe1024};
 use bech32_poly::polynomial::{Polynomial, RootIter, evaluate, remainder};
-use testing_tools::seven::Seven;
 use linked_list_allocator::LocalHeap;
 use std::alloc::{AllocError, Global};
 use std::test::Fail;
+use testing_tools::seven::Seven;
 
 // The generator of Bech32: its lower coefficients are 18, 29, 21, 20, 22, 29.
 const GENERATOR: [Fe32; 7] = [
@@ -201,7 +201,7 @@ fn add(counts: &mut [u32; 7], more: [u32; 7]) {
 }
 
 #[test]
-fn twenty_coefficients_or_want_of_memory(rt: HostRuntime) -> Result<(), Fail> {
+fn twenty_coefficients_or_out_of_memory(rt: HostRuntime) -> Result<(), Fail> {
     let (mut counts, mut vectors) = ([0u32; 7], 0u32);
     for size in 0..64usize {
         let (calls, vector) = refused(rt.alloc(), 16 * size)?;

@@ -2,10 +2,10 @@ use super::compare::same;
 use bech32_gf::field::Field;
 use bech32_gf::gf32::Fe32;
 use bech32_poly::polynomial::{Polynomial, remainder};
-use testing_tools::seven::Seven;
 use linked_list_allocator::LocalHeap;
 use std::alloc::{AllocError, Global};
 use std::test::Fail;
+use testing_tools::seven::Seven;
 
 // The lower coefficients of the generator of Bech32: 18, 29, 21, 20, 22, 29 (BIP-173, Checksum).
 const LOW: [Fe32; 6] = [Fe32::J, Fe32::A, Fe32::_4, Fe32::_5, Fe32::K, Fe32::A];
@@ -100,7 +100,7 @@ fn leaves_nine(alloc: Global, bytes: usize) -> Result<Option<bool>, AllocError> 
 // The divisor, the sum of x^0 to x^40, divides x^41 - 1: so x^41 to x^49 leave x^0 to x^8, and the
 // powers below cancel.
 #[test]
-fn vector_or_want_of_memory(rt: HostRuntime) -> Result<(), Fail> {
+fn vector_or_out_of_memory(rt: HostRuntime) -> Result<(), Fail> {
     let mut refused = 0u32;
     for size in 0..16usize {
         match leaves_nine(rt.alloc(), 16 * size)? {

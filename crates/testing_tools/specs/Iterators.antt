@@ -11,7 +11,8 @@ times_asked s = s.calls
 -- the first two times an item comes, and the third time none
 abbrev pub GivesTwoItems : {T : Type 0} → TwoItems T → Option T → TwoItems T → Type 0
 GivesTwoItems s r t =
-    (times_asked s < 2 → IsSome r × (times_asked t ≡ times_asked s + 1)) × (2 ≤ times_asked s → IsNone r)
+    (times_asked s < 2 → IsSome r × (times_asked t ≡ times_asked s + 1))
+    × (2 ≤ times_asked s → IsNone r)
 
 -- how many items were given
 abbrev pub count_given : {T : Type 0} → TwoOfFive T → ℕ

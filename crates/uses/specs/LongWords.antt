@@ -7,7 +7,9 @@ use Rattle.bech32_checksum.specs.PackingLaws.{KeepsPackingLaws}
 
 -- the generator, packed, and its products with 2, 4, 8 and 16
 abbrev pub words : List ℕ
-words = 0x3d59d273535ea62d897 ∷ 0x7a9becb6361c6c51507 ∷ 0x543f9b7e6c38d8a2a0e ∷ 0x0c577eaeccf1990d13c ∷ 0x1887f74f8dc71b10651 ∷ []
+words =
+    0x3d59d273535ea62d897 ∷ 0x7a9becb6361c6c51507 ∷ 0x543f9b7e6c38d8a2a0e
+    ∷ 0x0c577eaeccf1990d13c ∷ 0x1887f74f8dc71b10651 ∷ []
 
 -- they are the packing laws of 15 elements in a word of 25, and so is the target: this is computed
 pub words_keep : KeepsPackingLaws (λ (x : ℕ). x) 25 15 words 0x43381e570bf4798ab26

@@ -5,33 +5,35 @@ ghost use Rattle.std.specs.Prelude.{◌≡◌, IfSome};
 use crate::compare::{same, same_items};
 use bech32::primitives::correction::{Corrector, NO_ALLOC_MAX_LENGTH};
 use bech32::primitives::decode::CheckedHrpstring;
-use bech32::{Bech32, Checksum, CorrectableError, Fe32, segwit};
+use bech32::{
+    Bech32, CorrectableError, CorrectingChecksum, Correction, Fe32, Mended, correct, segwit,
+};
 use std::alloc::Global;
 use std::process::Abort;
 use std::test::Fail;
 
-// The corrector of what Bech32 refuses by this error, where the error carries a residue.
-fn corrector_of<E: CorrectableError>(alloc: Global, error: &E) -> Option<Corrector<Bech32, Global>>
-    ensures { IfSome result (λ c. c.window ≡ 1023) }
+// The corrector of what a checksum refuses by this error, where the error carries a residue.
+fn corrector_by<Ck: CorrectingChecksum, E: CorrectableError>(
+    alloc: Global,
+    error: &E,
+) -> Option<Corrector<Ck, Global>>
+    ensures { IfSome result (λ c. c.window ≡ Ck.CODE_LENGTH) }
 {
-    if !Bech32::sanity_check() {
-        return None;
-    }
-    error.correction_context::<Bech32, Global>(alloc)
+    error.correction_context::<Ck, Global>(alloc)
 }
 
 fn corrector_of_text(alloc: Global, text: &str) -> Option<Corrector<Bech32, Global>>
     ensures { IfSome result (λ c. c.window ≡ 1023) }
 {
     let error = CheckedHrpstring::new::<Bech32>(text).err()?;
-    corrector_of(alloc, &error)
+    corrector_by::<Bech32, _>(alloc, &error)
 }
 
 fn corrector_of_address(alloc: Global, address: &str) -> Option<Corrector<Bech32, Global>>
     ensures { IfSome result (λ c. c.window ≡ 1023) }
 {
     let error = segwit::decode(alloc, address).err()?;
-    corrector_of(alloc, &error)
+    corrector_by::<Bech32, _>(alloc, &error)
 }
 
 // Fails where a corrector lists other than these: the erasures, and then the errors.
@@ -64,4 +66,25 @@ fn corrects_an_address(rt: HostRuntime) -> Result<(), Fail> {
     same(&rt, &(corrector.window(), NO_ALLOC_MAX_LENGTH), &(1023, 7));
     corrector.add_erasures(&[0])?;
     lists(&rt, alloc, &corrector, &[(0, Fe32::X), (20, Fe32::_3)])
+}
+
+// How Bech32 corrects a text.
+fn corrected(alloc: Global, text: &str, erasures: &[usize]) -> Option<Mended> {
+    match correct::<Bech32>(alloc, text, erasures) {
+        Ok(Correction::Mended(mended)) => Some(mended),
+        _ => None,
+    }
+}
+
+#[test]
+fn corrects_by_one_call(rt: HostRuntime) {
+    let mistyped = "BC1QAR0SRRR7XFKVY5L64QLYDNW9RE59GTZZWF5MDX";
+    let mended = corrected(rt.alloc(), mistyped, &[0]).expect(&rt, "a correction");
+    let right = "bc1qar0srrr7xfkvy5l643lydnw9re59gtzzwf5mdq";
+    same(&rt, &mended.text.as_str(), &right);
+    same_items(
+        &rt,
+        mended.listing.as_slice(),
+        &[(0, Fe32::X), (20, Fe32::_3)],
+    );
 }

@@ -1,11 +1,10 @@
 //! The front page: encoding, decoding, and a correction.
 
 use crate::compare::{same, same_items};
-use bech32::primitives::correction::Corrector;
 use bech32::primitives::decode::{CheckedHrpstring, SegwitHrpstring};
 use bech32::{
-    Bech32, Bech32m, Checksum, CorrectableError, DecodeError, Fe32, Hrp, NoChecksum, decode,
-    encode, encode_to_fmt, hrp, segwit,
+    Bech32, Bech32m, Correction, Fe32, Hrp, Mended, NoChecksum, correct, decode, encode,
+    encode_to_fmt, hrp, segwit,
 };
 use std::alloc::Global;
 use std::test::Fail;
@@ -27,33 +26,21 @@ fn encodes_and_decodes(rt: HostRuntime) -> Result<(), Fail> {
     Ok(())
 }
 
-// Why a text is refused.
-fn refusal(alloc: Global, text: &str) -> Option<DecodeError> {
-    decode(alloc, text).err()
-}
-
-// The corrector of a text that Bech32m refuses, where only its checksum is wrong.
-fn corrector_of(alloc: Global, text: &str) -> Option<Corrector<Bech32m, Global>> {
-    let error = refusal(alloc, text)?;
-    if !Bech32m::sanity_check() {
-        return None;
+// How Bech32m corrects a text.
+fn corrected(alloc: Global, text: &str) -> Option<Mended> {
+    match correct::<Bech32m>(alloc, text, &[]) {
+        Ok(Correction::Mended(mended)) => Some(mended),
+        _ => None,
     }
-    error.correction_context::<Bech32m, Global>(alloc)
-}
-
-// What is to be added to it, and where, counted from the last character.
-fn corrections(alloc: Global, text: &str) -> Result<Vec<(usize, Fe32)>, Fail> {
-    let corrector = corrector_of(alloc, text).ok_or("no residue")?;
-    let errors = corrector.bch_errors()?.ok_or("no pattern")?;
-    Ok(errors.collect(alloc)?)
 }
 
 #[test]
 fn corrects(rt: HostRuntime) -> Result<(), Fail> {
     // The last character should be `u`: that is to be added to the `q`, which is zero.
     let mistyped = "abc14w46h2at4w46h2at4w46h2at4w46h2at958ngq";
-    let listing = corrections(rt.alloc(), mistyped)?;
-    same_items(&rt, &listing, &[(0, Fe32::U)]);
+    let mended = corrected(rt.alloc(), mistyped).ok_or("no correction")?;
+    same(&rt, &mended.text.as_str(), &STRING);
+    same_items(&rt, mended.listing.as_slice(), &[(0, Fe32::U)]);
     Ok(())
 }
 

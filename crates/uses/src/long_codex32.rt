@@ -5,6 +5,8 @@ ghost use Rattle.std.specs.Prelude.{refl};
 ghost use Rattle.bech32_gf.specs.Fe32.{element};
 ghost use Rattle.bech32_gf_ext.specs.Fe1024.{pair};
 ghost use Rattle.uses.specs.LongWords.{words, words_keep, long_code};
+ghost use Rattle.bech32_gf_ext.specs.Fe1024 as fe1024;
+ghost use Rattle.bech32_checksum.specs.Roots.{HasLawfulRoots};
 
 use bech32::primitives::gf32_ext::Fe32Ext;
 use bech32::{Checksum, Fe32, Fe1024};
@@ -35,6 +37,11 @@ impl Checksum for LongCodex32 {
 
     ghost code = { long_code };
 
+    ghost bound = { 8 };
+
+    ghost lawful = { HasLawfulRoots fe1024.ops fe1024.embed
+        long_code (pair (element 25) (element 6)) 1019 1026 };
+
     const ROOT_GENERATOR: Fe1024 = Fe32Ext {
         inner: [Fe32::E, Fe32::X],
     };
@@ -64,4 +71,8 @@ impl Checksum for LongCodex32 {
     ghost degree_law = { refl };
 
     ghost code_length_law = { refl };
+
+    ghost bound_law = { refl };
+
+    ghost lawful_law = { (λ h. h, λ h. h) };
 }

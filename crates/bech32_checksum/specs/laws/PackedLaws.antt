@@ -1,6 +1,8 @@
 -- The laws of packed rows, and of a checksum's packed words by a test.
-use Rattle.std.specs.Prelude.{◌≡◌, ◌<◌, ◌≤◌, ◌*◌, ◌/◌, ◌%◌, ◌^◌, ◌==◌, ◌↔◌, ℕ, zero, suc, List, [], ◌∷◌, Bool, true, Some, IsTrue, slice_get, nat_lt, bit_xor, length}
-use Rattle.std.proofs.Common.{refl, sym, ◌∙◌, ap, arith, ◌&&◌, ⊎_elim, subst, eq-eqb, lt_of_lt_of_le}
+use Rattle.std.specs.Prelude.{◌≡◌, ◌<◌, ◌≤◌, ◌*◌, ◌/◌, ◌%◌, ◌^◌, ◌==◌, ◌↔◌, ℕ, zero, suc, List, []}
+use Rattle.std.specs.Prelude.{◌∷◌, Bool, true, Some, IsTrue, slice_get, nat_lt, bit_xor, length}
+use Rattle.std.proofs.Common.{refl, sym, ◌∙◌, ap, arith, ◌&&◌}
+use Rattle.std.proofs.Common.{⊎_elim, subst, eq-eqb, lt_of_lt_of_le}
 use Rattle.std.proofs.lemmas.Bool.{eqb-true, ltb-true, cases_lt}
 use Rattle.std.proofs.lemmas.Nat.{xor_shr, xor_mod}
 use Rattle.std.proofs.Math.Nat.{div-eq_of_lt, zero-div}
@@ -30,9 +32,12 @@ clear : (d : ℕ) (words : List ℕ) → are_shifts d words ≡ true
 clear d [] h i w e = cc
 clear d (v ∷ words) h zero w e =
     let same : v ≡ w = cc in
-    subst (λ x. x < 2 ^ (5 * d)) same (ltb-true v (2 ^ (5 * d)) (and_left (nat_lt v (2 ^ (5 * d))) _ h))
+    subst (λ x. x < 2 ^ (5 * d)) same
+    (ltb-true v (2 ^ (5 * d)) (and_left (nat_lt v (2 ^ (5 * d))) _ h))
 clear d (v ∷ words) h (suc i) w e =
-    clear d words (and_right (next_is_shift d v words) (are_shifts d words) (and_right (nat_lt v (2 ^ (5 * d))) _ h)) i w e
+    clear d words (and_right (next_is_shift d v words) (are_shifts d words)
+    (and_right (nat_lt v (2 ^ (5 * d))) _ h))
+    i w e
 
 past : (d w n : ℕ) → w < 2 ^ (5 * d) → d ≤ n → w / 2 ^ (5 * n) % 32 ≡ 0
 past d w n h over =
@@ -54,7 +59,8 @@ first_shift : (d w v : ℕ) (words : List ℕ) → are_shifts d (w ∷ v ∷ wor
     → (n : ℕ) → digit_of v n ≡ fe32.mul (digit_of w n) fe32.generator
 first_shift d w v words h n =
     let next : next_is_shift d w (v ∷ words) ≡ true =
-    and_left (next_is_shift d w (v ∷ words)) (are_shifts d (v ∷ words)) (and_right (nat_lt w (2 ^ (5 * d))) _ h) in
+    and_left (next_is_shift d w (v ∷ words)) (are_shifts d (v ∷ words))
+    (and_right (nat_lt w (2 ^ (5 * d))) _ h) in
     digit_shift d w v n
     (ltb-true w (2 ^ (5 * d)) (and_left (nat_lt w (2 ^ (5 * d))) _ h))
     (ltb-true v (2 ^ (5 * d)) (and_left (nat_lt v (2 ^ (5 * d))) (is_shift d w v) next))
@@ -69,18 +75,24 @@ shift d (x ∷ y ∷ words) h zero w v e f n =
     let first : x ≡ w = cc in
     let second : y ≡ v = cc in
     subst (λ b. digit_of b n ≡ fe32.mul (digit_of w n) fe32.generator) second
-    (subst (λ a. digit_of y n ≡ fe32.mul (digit_of a n) fe32.generator) first (first_shift d x y words h n))
+    (subst (λ a. digit_of y n ≡ fe32.mul (digit_of a n) fe32.generator)
+    first (first_shift d x y words h n))
 shift d (x ∷ y ∷ words) h (suc i) w v e f n =
-    shift d (y ∷ words) (and_right (next_is_shift d x (y ∷ words)) (are_shifts d (y ∷ words)) (and_right (nat_lt x (2 ^ (5 * d))) _ h)) i w v e f n
+    shift d (y ∷ words)
+    (and_right (next_is_shift d x (y ∷ words))
+    (are_shifts d (y ∷ words)) (and_right (nat_lt x (2 ^ (5 * d))) _ h))
+    i w v e f n
 
 pub number_eq : (x y : ℕ) → IsTrue (x == y) ↔ (x ≡ y)
 number_eq x y = (λ h. eqb-true x y h, λ e. eq-eqb x y e)
 
 -- xor adds the digits at each place
-pub xor_digits : (x y r : ℕ) → r ≡ bit_xor x y → (n : ℕ) → digit_of r n ≡ fe32.add (digit_of x n) (digit_of y n)
+pub xor_digits : (x y r : ℕ) → r ≡ bit_xor x y → (n : ℕ)
+    → digit_of r n ≡ fe32.add (digit_of x n) (digit_of y n)
 xor_digits x y r h n =
     ap (λ m. digit_of m n) h
-    ∙ fe32.path _ _ (ap (λ w. w % 32) (xor_shr x y (5 * n)) ∙ xor_mod (x / 2 ^ (5 * n)) (y / 2 ^ (5 * n)) 5)
+    ∙ fe32.path _ _
+    (ap (λ w. w % 32) (xor_shr x y (5 * n)) ∙ xor_mod (x / 2 ^ (5 * n)) (y / 2 ^ (5 * n)) 5)
 
 -- a row of zeros is its own product with the generator of the field
 pub zero_shift : (n : ℕ) → digit_of 0 n ≡ fe32.mul (digit_of 0 n) fe32.generator
@@ -92,7 +104,9 @@ zero_shift n =
 -- whether words of d elements, in rows of `width`, keep the packing laws with a target
 abbrev pub are_packed : ℕ → ℕ → List ℕ → ℕ → Bool
 are_packed width d words target =
-    nat_lt 0 d && (nat_lt d (suc width) && ((length words == 5) && (are_shifts d words && nat_lt target (2 ^ (5 * d)))))
+    nat_lt 0 d
+    && (nat_lt d (suc width)
+    && ((length words == 5) && (are_shifts d words && nat_lt target (2 ^ (5 * d)))))
 
 -- by that test they do
 pub keeps : (width d : ℕ) (words : List ℕ) (target : ℕ) → are_packed width d words target ≡ true

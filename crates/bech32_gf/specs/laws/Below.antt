@@ -1,5 +1,6 @@
 -- A test of each number below a bound, and what it says of one number.
-use Rattle.std.proofs.Common.{◌≡◌, ◌<◌, ◌≤◌, ℕ, zero, suc, Bool, true, false, ◌&&◌, arith, refl, subst, sym, ⊎_elim}
+use Rattle.std.proofs.Common.{◌≡◌, ◌<◌, ◌≤◌, ℕ, zero, suc, Bool, true}
+use Rattle.std.proofs.Common.{false, ◌&&◌, arith, refl, subst, sym, ⊎_elim}
 use Rattle.std.proofs.Math.Nat.{eq-or-lt_of_le}
 
 -- whether a test holds of each number below n
@@ -27,7 +28,8 @@ each_below-at (suc n) p h i lt =
 -- the same for two and for three numbers
 pub each_below-at₂ : (n : ℕ) (p : ℕ → ℕ → Bool) → each_below n (λ i. each_below n (p i)) ≡ true
     → (i j : ℕ) → i < n → j < n → p i j ≡ true
-each_below-at₂ n p h i j hi hj = each_below-at n (p i) (each_below-at n (λ k. each_below n (p k)) h i hi) j hj
+each_below-at₂ n p h i j hi hj =
+    each_below-at n (p i) (each_below-at n (λ k. each_below n (p k)) h i hi) j hj
 
 pub each_below-at₃ : (n : ℕ) (p : ℕ → ℕ → ℕ → Bool)
     → each_below n (λ i. each_below n (λ j. each_below n (p i j))) ≡ true

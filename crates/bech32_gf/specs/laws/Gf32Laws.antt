@@ -7,21 +7,27 @@ use Rattle.bech32_gf.specs.laws.Below.{each_below-at, each_below-at₂, each_bel
 
 pub product-lt : (a b : ℕ) → a < 32 → b < 32 → product a b < 32
 unfolding product
-product-lt a b ha hb = ltb-true _ _ (each_below-at₂ 32 (λ a b. nat_lt (product a b) 32) refl a b ha hb)
+product-lt a b ha hb =
+    ltb-true _ _ (each_below-at₂ 32 (λ a b. nat_lt (product a b) 32) refl a b ha hb)
 
 pub product_comm : (a b : ℕ) → a < 32 → b < 32 → product a b ≡ product b a
 unfolding product
-product_comm a b ha hb = eqb-true _ _ (each_below-at₂ 32 (λ a b. product a b == product b a) refl a b ha hb)
+product_comm a b ha hb =
+    eqb-true _ _ (each_below-at₂ 32 (λ a b. product a b == product b a) refl a b ha hb)
 
-pub product_assoc : (a b c : ℕ) → a < 32 → b < 32 → c < 32 → product (product a b) c ≡ product a (product b c)
+pub product_assoc : (a b c : ℕ) → a < 32 → b < 32 → c < 32
+    → product (product a b) c ≡ product a (product b c)
 unfolding product
 product_assoc a b c ha hb hc =
-    eqb-true _ _ (each_below-at₃ 32 (λ a b c. product (product a b) c == product a (product b c)) refl a b c ha hb hc)
+    eqb-true _ _ (each_below-at₃ 32 (λ a b c. product (product a b) c == product a (product b c))
+    refl a b c ha hb hc)
 
-pub product-xor : (a b c : ℕ) → a < 32 → b < 32 → c < 32 → product a (bit_xor b c) ≡ bit_xor (product a b) (product a c)
+pub product-xor : (a b c : ℕ) → a < 32 → b < 32 → c < 32
+    → product a (bit_xor b c) ≡ bit_xor (product a b) (product a c)
 unfolding product
 product-xor a b c ha hb hc =
-    eqb-true _ _ (each_below-at₃ 32 (λ a b c. product a (bit_xor b c) == bit_xor (product a b) (product a c)) refl a b c ha hb hc)
+    eqb-true _ _ (each_below-at₃ 32
+    (λ a b c. product a (bit_xor b c) == bit_xor (product a b) (product a c)) refl a b c ha hb hc)
 
 pub product-one : (a : ℕ) → a < 32 → product a 1 ≡ a
 unfolding product
@@ -35,7 +41,8 @@ pub product-inverse : (a : ℕ) → a < 32 → a ≢ 0 → product a (inverse a)
 unfolding product product_of inverse
 product-inverse zero ha h = absurd (omega arith)
 product-inverse (suc n) ha h =
-    eqb-true _ _ (each_below-at 31 (λ n. product (suc n) (inverse (suc n)) == 1) refl n (omega arith))
+    eqb-true _ _
+    (each_below-at 31 (λ n. product (suc n) (inverse (suc n)) == 1) refl n (omega arith))
 
 pub product_of-order : (a : ℕ) → a < 32 → a ≢ 0 → product_of a 31 ≡ 1
 unfolding product product_of

@@ -1,5 +1,6 @@
 -- The field of 32768 elements keeps the laws of a field, and GF(32) is embedded in it.
-use Rattle.std.specs.Prelude.{◌≡◌, ◌≢◌, ◌<◌, ◌==◌, ◌&&◌, Bool, true, false, List, [], ◌∷◌, length, slice_index_or, nat_lt, Some, None, replicate, if◌then◌else◌}
+use Rattle.std.specs.Prelude.{◌≡◌, ◌≢◌, ◌<◌, ◌==◌, ◌&&◌, Bool, true, false, List, [], ◌∷◌, length}
+use Rattle.std.specs.Prelude.{slice_index_or, nat_lt, Some, None, replicate, if◌then◌else◌}
 use Rattle.std.proofs.Common.{refl, ap, sym, ◌∙◌, arith}
 use Rattle.std.proofs.lemmas.Bool.{eqb-true, ltb-true, and_parts}
 use Rattle.bech32_gf.specs.Field.{IsField, IsCharacteristic, power}
@@ -13,13 +14,15 @@ use Rattle.bech32_gf.specs.laws.Fe32Laws as fe32_laws
 use Rattle.bech32_gf_ext.specs.laws.Fe32Squares.{even}
 use Rattle.bech32_gf_ext.specs.Fe32Ext.{path, path_of_values}
 use Rattle.bech32_gf_ext.specs.Fe32768 as fe32768
-use Rattle.bech32_gf_ext.specs.Fe32768.{triple, low, middle, high, norm, embed, retract, add, mul, inv}
+use Rattle.bech32_gf_ext.specs.Fe32768.{triple, low, middle, high, norm}
+use Rattle.bech32_gf_ext.specs.Fe32768.{embed, retract, add, mul, inv}
 use Rattle.bech32_gf.specs.Gf32.{product}
 use Rattle.bech32_gf.specs.declared.gf32.Fe32.{Fe32}
 use Rattle.bech32_gf_ext.specs.declared.Fe32Ext.{Fe32Ext}
 
 three : (xs : List Fe32) → length xs ≡ 3
-    → xs ≡ slice_index_or xs 0 fe32.zero ∷ slice_index_or xs 1 fe32.zero ∷ slice_index_or xs 2 fe32.zero ∷ []
+    → xs ≡ slice_index_or xs 0 fe32.zero ∷ slice_index_or xs 1 fe32.zero
+    ∷ slice_index_or xs 2 fe32.zero ∷ []
 three [] h = absurd (omega arith)
 three (x ∷ []) h = absurd (omega arith)
 three (x ∷ y ∷ []) h = absurd (omega arith)
@@ -47,7 +50,8 @@ same_or_not x y =
 
 -- a norm is not zero where that of a multiple is not
 not_zero-by_multiple : (a b c n : Fe32)
-    → cubic.norm fe32.ops (fe32.mul n a) (fe32.mul n b) (fe32.mul n c) ≢ fe32.zero → cubic.norm fe32.ops a b c ≢ fe32.zero
+    → cubic.norm fe32.ops (fe32.mul n a) (fe32.mul n b) (fe32.mul n c) ≢ fe32.zero
+    → cubic.norm fe32.ops a b c ≢ fe32.zero
 not_zero-by_multiple a b c n h e =
     h (cubic.norm-multiple fe32_laws.is_field even a b c n
     ∙ ap (λ (w : Fe32). fe32.mul w (fe32.mul n (fe32.mul n n))) e
@@ -57,14 +61,16 @@ monic₂ : (a b : Fe32) → cubic.norm fe32.ops a b fe32.one ≢ fe32.zero
 monic₂ a b e =
     let positive : 0 < norm₃ a.value b.value 1 =
     ltb-true 0 (norm₃ a.value b.value 1)
-    (each_below-at₂ 32 (λ a b. nat_lt 0 (norm₃ a b 1)) norm₃-monic₂ a.value b.value a.in_field b.in_field) in
+    (each_below-at₂ 32 (λ a b. nat_lt 0 (norm₃ a b 1))
+    norm₃-monic₂ a.value b.value a.in_field b.in_field) in
     let none : norm₃ a.value b.value 1 ≡ 0 = ap (λ (y : Fe32). y.value) e in
     omega arith
 
 monic₁ : (a : Fe32) → cubic.norm fe32.ops a fe32.one fe32.zero ≢ fe32.zero
 monic₁ a e =
     let positive : 0 < norm₃ a.value 1 0 =
-    ltb-true 0 (norm₃ a.value 1 0) (each_below-at 32 (λ a. nat_lt 0 (norm₃ a 1 0)) norm₃-monic₁ a.value a.in_field) in
+    ltb-true 0 (norm₃ a.value 1 0)
+    (each_below-at 32 (λ a. nat_lt 0 (norm₃ a 1 0)) norm₃-monic₁ a.value a.in_field) in
     let none : norm₃ a.value 1 0 ≡ 0 = ap (λ (y : Fe32). y.value) e in
     omega arith
 
@@ -86,12 +92,14 @@ norm-not_zero x h =
     (fe32_laws.is_field.same_or_not (middle x) fe32.zero)
     (fe32_laws.is_field.same_or_not (high x) fe32.zero)
   where
-    by_last : Dec (low x ≡ fe32.zero) → Dec (middle x ≡ fe32.zero) → Dec (high x ≡ fe32.zero) → norm x ≢ fe32.zero
+    by_last : Dec (low x ≡ fe32.zero) → Dec (middle x ≡ fe32.zero) → Dec (high x ≡ fe32.zero)
+        → norm x ≢ fe32.zero
     by_last a b (no some) =
         let n = fe32.inv (high x) in
         not_zero-by_multiple (low x) (middle x) (high x) n
         (λ e. monic₂ (fe32.mul n (low x)) (fe32.mul n (middle x))
-        (ap (cubic.norm fe32.ops (fe32.mul n (low x)) (fe32.mul n (middle x))) (sym (inv-mul (high x) some)) ∙ e))
+        (ap (cubic.norm fe32.ops (fe32.mul n (low x)) (fe32.mul n (middle x)))
+        (sym (inv-mul (high x) some)) ∙ e))
     by_last a (no some) (yes c) =
         let n = fe32.inv (middle x) in
         not_zero-by_multiple (low x) (middle x) (high x) n
@@ -124,9 +132,12 @@ is_field = record {
       (fe32_laws.is_field.add_zero (high x)) ∙ parts x;
   add_neg = λ x. same_parts (even (low x)) (even (middle x)) (even (high x));
   mul_assoc = λ x y z. same_parts
-      (cubic.assoc₀ fe32_laws.is_field even (low x) (middle x) (high x) (low y) (middle y) (high y) (low z) (middle z) (high z))
-      (cubic.assoc₁ fe32_laws.is_field even (low x) (middle x) (high x) (low y) (middle y) (high y) (low z) (middle z) (high z))
-      (cubic.assoc₂ fe32_laws.is_field even (low x) (middle x) (high x) (low y) (middle y) (high y) (low z) (middle z) (high z));
+      (cubic.assoc₀ fe32_laws.is_field even
+      (low x) (middle x) (high x) (low y) (middle y) (high y) (low z) (middle z) (high z))
+      (cubic.assoc₁ fe32_laws.is_field even
+      (low x) (middle x) (high x) (low y) (middle y) (high y) (low z) (middle z) (high z))
+      (cubic.assoc₂ fe32_laws.is_field even
+      (low x) (middle x) (high x) (low y) (middle y) (high y) (low z) (middle z) (high z));
   mul_comm = λ x y. same_parts
       (cubic.comm₀ fe32_laws.is_field even (low x) (middle x) (high x) (low y) (middle y) (high y))
       (cubic.comm₁ fe32_laws.is_field even (low x) (middle x) (high x) (low y) (middle y) (high y))
@@ -136,11 +147,15 @@ is_field = record {
       (cubic.one₁ fe32_laws.is_field even (low x) (middle x) (high x))
       (cubic.one₂ fe32_laws.is_field even (low x) (middle x) (high x)) ∙ parts x;
   distrib = λ x y z. same_parts
-      (cubic.distrib₀ fe32_laws.is_field even (low x) (middle x) (high x) (low y) (middle y) (high y) (low z) (middle z) (high z))
-      (cubic.distrib₁ fe32_laws.is_field even (low x) (middle x) (high x) (low y) (middle y) (high y) (low z) (middle z) (high z))
-      (cubic.distrib₂ fe32_laws.is_field even (low x) (middle x) (high x) (low y) (middle y) (high y) (low z) (middle z) (high z));
+      (cubic.distrib₀ fe32_laws.is_field even
+      (low x) (middle x) (high x) (low y) (middle y) (high y) (low z) (middle z) (high z))
+      (cubic.distrib₁ fe32_laws.is_field even
+      (low x) (middle x) (high x) (low y) (middle y) (high y) (low z) (middle z) (high z))
+      (cubic.distrib₂ fe32_laws.is_field even
+      (low x) (middle x) (high x) (low y) (middle y) (high y) (low z) (middle z) (high z));
   mul_inv = λ x h. same_parts
-      (cubic.inverse₀ fe32_laws.is_field even (low x) (middle x) (high x) (fe32.inv (norm x)) ∙ fe32_laws.is_field.mul_inv (norm x) (norm-not_zero x h))
+      (cubic.inverse₀ fe32_laws.is_field even (low x) (middle x) (high x) (fe32.inv (norm x))
+      ∙ fe32_laws.is_field.mul_inv (norm x) (norm-not_zero x h))
       (cubic.inverse₁ fe32_laws.is_field even (low x) (middle x) (high x) (fe32.inv (norm x)))
       (cubic.inverse₂ fe32_laws.is_field even (low x) (middle x) (high x) (fe32.inv (norm x)));
   one_not_zero = λ h. fe32_laws.is_field.one_not_zero (ap low h);
@@ -151,12 +166,15 @@ is_field = record {
 pub embed-add : (a b : Fe32) → embed (fe32.add a b) ≡ add (embed a) (embed b)
 unfolding add
 embed-add a b =
-    same_parts refl (sym (fe32_laws.is_field.add_zero fe32.zero)) (sym (fe32_laws.is_field.add_zero fe32.zero))
+    same_parts refl (sym (fe32_laws.is_field.add_zero fe32.zero))
+    (sym (fe32_laws.is_field.add_zero fe32.zero))
 
 pub embed-mul : (a b : Fe32) → embed (fe32.mul a b) ≡ mul (embed a) (embed b)
 unfolding mul
 embed-mul a b =
-    same_parts (sym (cubic.constant₀ fe32_laws.is_field even a b)) (sym (cubic.constant₁ fe32_laws.is_field even a b)) (sym (cubic.constant₂ fe32_laws.is_field even a b))
+    same_parts (sym (cubic.constant₀ fe32_laws.is_field even a b))
+    (sym (cubic.constant₁ fe32_laws.is_field even a b))
+    (sym (cubic.constant₂ fe32_laws.is_field even a b))
 
 pub retract-embed : (a : Fe32) → retract (embed a) ≡ Some a
 retract-embed a = refl

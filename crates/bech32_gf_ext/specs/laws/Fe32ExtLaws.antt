@@ -8,7 +8,8 @@ use Rattle.bech32_gf.specs.declared.gf32.Fe32.{Fe32}
 use Rattle.bech32_gf_ext.specs.declared.Fe32Ext.{Fe32Ext}
 
 -- they are where their coefficients have the same values
-pub eq_is_equal : {n : ℕ} (x y : Fe32Ext n) → IsTrue (pointwise (λ (a b : Fe32). a.value == b.value) x.inner y.inner) ↔ (x ≡ y)
+pub eq_is_equal : {n : ℕ} (x y : Fe32Ext n)
+    → IsTrue (pointwise (λ (a b : Fe32). a.value == b.value) x.inner y.inner) ↔ (x ≡ y)
 eq_is_equal {n} x y =
     let told = pointwise_decides fe32_laws.eq_is_equal x.inner y.inner in
     (λ h. path x y (told.0 h), λ e. told.1 (ap (λ (z : Fe32Ext n). z.inner) e))

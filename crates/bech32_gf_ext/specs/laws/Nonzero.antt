@@ -8,7 +8,8 @@ use Rattle.bech32_gf.specs.Gf32.{product}
 abbrev pub norm₂ : ℕ → ℕ → ℕ
 norm₂ a b = bit_xor (bit_xor (product a a) (product a b)) (product b b)
 
-pub norm₂-not_zero : each_below 32 (λ a. each_below 32 (λ b. (a + b == 0) || nat_lt 0 (norm₂ a b))) ≡ true
+pub norm₂-not_zero :
+    each_below 32 (λ a. each_below 32 (λ b. (a + b == 0) || nat_lt 0 (norm₂ a b))) ≡ true
 unfolding product
 norm₂-not_zero = refl
 

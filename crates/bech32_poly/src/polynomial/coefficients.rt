@@ -69,9 +69,11 @@ impl<F: Field, A: Allocator + Copy> Polynomial<F, A> {
     ///
     /// If memory runs out.
     pub fn multiply(&self, other: &Self) -> Result<Self, AllocError>
-        ensures product { IfOk result (λ p. IsSamePolynomial F.ops p (multiply F.ops self.now other.now)) }
+        ensures product { IfOk result
+            (λ p. IsSamePolynomial F.ops p (multiply F.ops self.now other.now)) }
         ensures size { IfOk result (λ p. length p ≡ length self.now + (length other.now - 1)) }
-        ensures in_place { FitsInPlace (length self.now) → length self.now + length other.now ≤ 8 → IsOk result }
+        ensures in_place { FitsInPlace (length self.now) → length self.now + length other.now ≤ 8
+            → IsOk result }
     {
         let (p, q) = (self.list.as_slice(), other.list.as_slice());
         let mut list = FieldVec::new(self.list.allocator());

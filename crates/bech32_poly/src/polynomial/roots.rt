@@ -74,7 +74,12 @@ struct Search<E: Field, A: Allocator + Copy> {
 impl<E: Field, A: Allocator + Copy> Model for Search<E, A> {
     ghost Value = { RootSearch E };
 
-    ghost view = { λ a. record { terms = a.terms; factors = a.factors; next = a.next; end = a.end } };
+    ghost view = { λ a. record {
+      terms = a.terms;
+      factors = a.factors;
+      next = a.next;
+      end = a.end;
+    } };
 
     ghost invariant = { λ a. length a.factors ≡ length a.terms };
 }
@@ -88,7 +93,8 @@ impl<E: ExtensionField, A: Allocator + Copy> Search<E, A> {
         end: usize,
     ) -> Result<Self, AllocError>
         ensures roots { IfOk result (λ s.
-            left_of E.ops E.eq s ≡ root_exponents E.ops E.eq (map E.embed polynomial.now) base start end) }
+            left_of E.ops E.eq s
+            ≡ root_exponents E.ops E.eq (map E.embed polynomial.now) base start end) }
         ensures in_place { FitsInPlace (length polynomial.now) → IsOk result }
     {
         let first = power_of(base, start);
@@ -139,7 +145,8 @@ impl<E: Field, A: Allocator + Copy> Search<E, A> {
     // Whether the power by the next exponent is a root; goes on to the one behind it.
     fn step(&mut self) -> bool
         requires { self.old.next < self.old.end }
-        ensures found { result ≡ E.eq (value_after E.ops self.old.terms self.old.factors 0) E.ops.zero }
+        ensures found { result
+            ≡ E.eq (value_after E.ops self.old.terms self.old.factors 0) E.ops.zero }
         ensures terms { self.new.terms ≡ multiplied_each E.ops self.old.terms self.old.factors }
         ensures factors { self.new.factors ≡ self.old.factors }
         ensures next { self.new.next ≡ self.old.next + 1 }

@@ -77,7 +77,7 @@ fn known_texts_in(rt: &impl Abort, alloc: Global, bytes: usize) -> (bool, bool) 
 }
 
 #[test]
-fn known_texts_or_want_of_memory(rt: HostRuntime) {
+fn known_texts_or_out_of_memory(rt: HostRuntime) {
     let mut refused = (0u32, 0u32);
     for size in 0..16usize {
         let (lower, upper) = known_texts_in(&rt, rt.alloc(), 16 * size);

@@ -1,7 +1,7 @@
 use Rattle.std.proofs.Common.{◌≡◌, ◌≤◌, ◌∙◌, ◌+◌, ℕ, List, ◌++◌, [], ◌∷◌, take, length, length-append, ap, sym, subst, arith}
 use Rattle.std.proofs.lemmas.List.{take_more}
 use Rattle.bech32_gf.specs.declared.gf32.Fe32.{Fe32}
-use Rattle.bech32_mended.proofs.Values.{all_at}
+use Rattle.bech32_correction.proofs.Values.{all_at}
 use Rattle.b32.specs.Reply.{listed}
 use Rattle.b32.proofs.CorrectReplies.{listed-more}
 use Rattle.b32.proofs.correct.append_listing.Goals as goal

@@ -5,7 +5,7 @@ use Rattle.bech32_gf.specs.Fe32.{ops}
 use Rattle.bech32_gf.specs.declared.gf32.Fe32.{Fe32}
 use Rattle.bech32_hrp.specs.Hrp.{lowered}
 use Rattle.bech32_checksum.specs.Encoded.{char_of_element}
-use Rattle.bech32_mended.specs.Mended.{EndsIn, mended}
+use Rattle.bech32_correction.specs.MendedElements.{EndsIn, mended}
 use Rattle.b32.proofs.correct.append_mended.Goals as goal
 
 -- bytes with a text in lower case behind them end as that does

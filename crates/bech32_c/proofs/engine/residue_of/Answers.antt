@@ -1,32 +1,40 @@
-use Rattle.std.proofs.Common.{◌≤◌, ◌<◌, ◌*◌, ◌^◌, ℕ, List, All, length, arith, sym, subst, take_all}
+use Rattle.std.proofs.Common.{◌∙◌, ◌<◌, ◌*◌, ◌^◌, ◌++◌, [], ◌∷◌, ℕ, List, map, ap, sym, subst, append-nil}
+use Rattle.std.proofs.lemmas.List.{map-append}
+use Rattle.std.proofs.lemmas.Result.{err_from_is_err_and}
 use Rattle.bech32_gf.specs.declared.gf32.Fe32.{Fe32}
+use Rattle.bech32_gf.specs.Fe32.{element, one}
+use Rattle.bech32_poly.specs.Polynomial.{appended}
 use Rattle.bech32_checksum.specs.Code.{IsResidueOf}
-use Rattle.bech32_c.specs.Engine.{run_polynomial}
-use Rattle.bech32_c.proofs.Runs.{run-more, elements-more}
+use Rattle.bech32_checksum.proofs.ResidueRuns.{residue_then}
+use Rattle.bech32_c.proofs.Runs.{other_among}
 use Rattle.bech32_c.proofs.engine.residue_of.Goals as goal
 
-pub loop-value-preserved : goal.loop-value-preserved
-loop-value-preserved g c =
-    let values = c.args.values.now in
-    let i = c.loop-value.value-index in
-    let (small, is) = c.in_ok-element_of.ensures in
-    record {
-      elements = elements-more values i c.from.result c.loop-value-test.true c.from.ensures small c.loop-value.invariant.elements;
-      residue = subst (λ (p : List Fe32). IsResidueOf g.Ck.MidstateRepr.PackedFe32.number g.Ck.Checksum.code c.input_fe.new.self p)
-          (sym (run-more values i c.from.result c.loop-value-test.true c.from.ensures c.in_ok-element_of.field-0 is))
-          (c.input_fe.ensures _ c.loop-value.invariant.residue);
-    }
+pub returns-in_err-input_each : goal.returns-in_err-input_each
+returns-in_err-input_each g c =
+    let p = err_from_is_err_and c.from_residual-in_err-input_each.result c.from_residual-in_err-input_each.ensures.1 in
+    let (_, taken, parts, held) = c.in_ok-left.ensures in
+    let left = c.in_ok-left.left.now in
+    let fault = c.in_err-input_each.ensures in
+    rw p.1 (rw p.2 (
+      other_among c.args.values.now taken left []
+          (parts ∙ ap (λ (l : List ℕ). taken ++ l) (sym (append-nil left))) fault.0,
+      fault.1,
+    ))
 
 pub returns : goal.returns
 returns g c =
-    let values = c.args.values.now in
-    let i = c.loop-value.value-index in
-    let all : length values ≤ i = omega arith in
-    let whole = take_all i values all in
+    let number = g.Ck.MidstateRepr.PackedFe32.number in
+    let code = g.Ck.Checksum.code in
+    let laws = g.met.Ck.Checksum in
+    let (elements, taken, parts, held) = c.in_ok-left.ensures in
+    let left = c.in_ok-left.left.now in
+    let (others, more) = c.in_ok-input_each.ensures in
+    let engine = c.input_each.new.engine in
+    let all = ap (map element) parts ∙ map-append element taken left in
     rw c.residue.ensures.value (record {
-      elements = subst (λ (l : List ℕ). All (λ x. x ≤ 31) l) whole c.loop-value.invariant.elements;
-      residue_is = subst (λ (l : List ℕ). IsResidueOf g.Ck.MidstateRepr.PackedFe32.number g.Ck.Checksum.code c.loop-value.engine (run_polynomial l)) whole
-          c.loop-value.invariant.residue;
-      fits = subst (λ (n : ℕ). g.Ck.MidstateRepr.PackedFe32.number c.loop-value.engine < 2 ^ (5 * n))
-          (sym g.met.Ck.Checksum.degree_law) (subst (λ r. g.Ck.MidstateRepr.PackedFe32.number r < 2 ^ (5 * g.Ck.Checksum.CHECKSUM_LENGTH)) c.residue.ensures.value c.residue.ensures.clear);
+      elements = elements others;
+      residue_is = subst (λ (l : List Fe32). IsResidueOf number code engine (appended (one ∷ []) l)) (sym all)
+          (residue_then number code _ _ _ (map element taken) (map element left) held more (one ∷ []) c.new-engine.ensures);
+      fits = subst (λ (n : ℕ). number engine < 2 ^ (5 * n)) (sym laws.degree_law)
+          (subst (λ r. number r < 2 ^ (5 * g.Ck.Checksum.CHECKSUM_LENGTH)) c.residue.ensures.value c.residue.ensures.clear);
     })

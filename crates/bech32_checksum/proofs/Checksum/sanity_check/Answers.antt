@@ -10,6 +10,7 @@ false_where_not false is not = (λ h. absurd (let e : false ≡ true = h in cc),
 
 pub returns-then-end-start : goal.returns-then-end-start
 returns-then-end-start g c =
+    let law = g.met.Self.Checksum.lawful_law in
     let code = g.Self.Checksum.code in
     let degree = g.Self.Checksum.CHECKSUM_LENGTH in
     let code_length = g.Self.Checksum.CODE_LENGTH in
@@ -26,12 +27,13 @@ returns-then-end-start g c =
           inr (omega arith)
     ] in
     let some : degree ≢ 0 = omega arith in
-    false_where_not false refl
-    (not_lawful_by_exponents g.Self.CorrectionField.Field.ops g.Self.CorrectionField.ExtensionField.embed code g.Self.Checksum.ROOT_GENERATOR start end degree code_length
-    g.met.Self.Checksum.degree_law g.met.Self.Checksum.code_length_law some wrong)
+    false_where_not false refl (λ lawful.
+    not_lawful_by_exponents g.Self.CorrectionField.Field.ops g.Self.CorrectionField.ExtensionField.embed code g.Self.Checksum.ROOT_GENERATOR start end degree code_length
+    g.met.Self.Checksum.degree_law g.met.Self.Checksum.code_length_law some wrong (law.0 lawful))
 
 pub returns-then-order_is_long_enough : goal.returns-then-order_is_long_enough
 returns-then-order_is_long_enough g c =
+    let law = g.met.Self.Checksum.lawful_law in
     let code = g.Self.Checksum.code in
     let degree = g.Self.Checksum.CHECKSUM_LENGTH in
     let code_length = g.Self.Checksum.CODE_LENGTH in
@@ -48,10 +50,11 @@ returns-then-order_is_long_enough g c =
     lawful_by_roots g.Self.CorrectionField.Field.ops g.Self.CorrectionField.ExtensionField.embed code g.Self.Checksum.ROOT_GENERATOR start end degree code_length
     g.met.Self.Checksum.degree_law g.met.Self.Checksum.code_length_law
     some ordered few (c.order_is_long_enough.ensures.0 c.if-order_is_long_enough.true) in
-    (λ h. same.0 (c.powers_are_roots.ensures.0 h), λ lawful. c.powers_are_roots.ensures.1 (same.1 lawful))
+    (λ h. law.1 (same.0 (c.powers_are_roots.ensures.0 h)), λ lawful. c.powers_are_roots.ensures.1 (same.1 (law.0 lawful)))
 
 pub returns-else-order_is_long_enough : goal.returns-else-order_is_long_enough
 returns-else-order_is_long_enough g c =
+    let law = g.met.Self.Checksum.lawful_law in
     let code = g.Self.Checksum.code in
     let degree = g.Self.Checksum.CHECKSUM_LENGTH in
     let code_length = g.Self.Checksum.CODE_LENGTH in
@@ -60,7 +63,8 @@ returns-else-order_is_long_enough g c =
     let degree_read : c.CHECKSUM_LENGTH.result ≡ degree = c.CHECKSUM_LENGTH.ensures in
     let some : degree ≢ 0 = omega arith in
     let off : c.order_is_long_enough.result ≡ false = c.if-order_is_long_enough.false in
-    false_where_not c.order_is_long_enough.result off
-    (not_lawful_by_order g.Self.CorrectionField.Field.ops g.Self.CorrectionField.ExtensionField.embed code g.Self.Checksum.ROOT_GENERATOR start end degree code_length
+    false_where_not c.order_is_long_enough.result off (λ lawful.
+    not_lawful_by_order g.Self.CorrectionField.Field.ops g.Self.CorrectionField.ExtensionField.embed code g.Self.Checksum.ROOT_GENERATOR start end degree code_length
     g.met.Self.Checksum.degree_law g.met.Self.Checksum.code_length_law
-    some (λ long. let on : c.order_is_long_enough.result ≡ true = c.order_is_long_enough.ensures.1 long in cc))
+    some (λ long. let on : c.order_is_long_enough.result ≡ true = c.order_is_long_enough.ensures.1 long in cc)
+    (law.0 lawful))

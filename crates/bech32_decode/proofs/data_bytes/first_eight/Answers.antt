@@ -1,5 +1,6 @@
 use Rattle.std.proofs.Common.{arith}
-use Rattle.bech32_decode.proofs.DataBytes.{is_data-at, elements-first_eight}
+use Rattle.bech32_gf.specs.Fe32.{element_of}
+use Rattle.bech32_decode.proofs.DataBytes.{is_data-at, map-first_eight}
 use Rattle.bech32_decode.proofs.data_bytes.first_eight.Goals as goal
 
 pub from_char_unchecked-requires : goal.from_char_unchecked-requires
@@ -28,5 +29,5 @@ from_char_unchecked-requires-8 c = is_data-at c.args.characters.now 7 c.requires
 
 pub returns : goal.returns
 returns c =
-    let all = elements-first_eight c.args.characters.now c.requires.enough in
+    let all = map-first_eight element_of c.args.characters.now c.requires.enough in
     cc

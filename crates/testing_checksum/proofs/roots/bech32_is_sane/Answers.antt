@@ -1,4 +1,4 @@
-use Rattle.bech32_checksum.proofs.LawfulRoots.{bech32_roots}
+use Rattle.bech32_checksum.specs.laws.RootLaws.{bech32_roots}
 use Rattle.testing_checksum.proofs.roots.bech32_is_sane.Goals as goal
 
 pub returns : goal.returns

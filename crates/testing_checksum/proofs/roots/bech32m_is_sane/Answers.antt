@@ -1,4 +1,4 @@
-use Rattle.bech32_checksum.proofs.LawfulRoots.{bech32m_roots}
+use Rattle.bech32_checksum.specs.laws.RootLaws.{bech32m_roots}
 use Rattle.testing_checksum.proofs.roots.bech32m_is_sane.Goals as goal
 
 pub returns : goal.returns

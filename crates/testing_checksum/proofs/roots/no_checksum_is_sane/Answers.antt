@@ -1,4 +1,4 @@
-use Rattle.bech32_checksum.proofs.LawfulRoots.{no_checksum_roots}
+use Rattle.bech32_checksum.specs.laws.RootLaws.{no_checksum_roots}
 use Rattle.testing_checksum.proofs.roots.no_checksum_is_sane.Goals as goal
 
 pub returns : goal.returns

@@ -1,4 +1,4 @@
-use Rattle.std.proofs.Common.{◌≡◌, ℕ, false, ◌∙◌, sym, ap, List, ◌++◌, ◌∷◌, refl}
+use Rattle.std.proofs.Common.{◌≡◌, ℕ, false, ◌∙◌, sym, ap, List, ◌++◌, ◌∷◌, length, length-append, refl, arith}
 use Rattle.bech32_gf.specs.Alphabet.{is_data}
 use Rattle.bech32_hrp.specs.Hrp.{is_mixed_case}
 use Rattle.bech32_hrp.specs.HrpBytes.{hrp_bytes}
@@ -9,7 +9,11 @@ pub invariant_of-result : goal.invariant_of-result
 invariant_of-result c =
     let found = rw c.in-Some.is at (c.in_ok-before.ensures.1) in
     let (behind, e, d, cut) = found in
-    record { of_alphabet = ap is_data (behind-slice c.as_bytes-bytes.result.now c.args.s.now c.in-Some.front.now behind c.as_bytes-bytes.ensures.value e) ∙ d }
+    let same = behind-slice c.as_bytes-bytes.result.now c.args.s.now c.in-Some.front.now behind c.as_bytes-bytes.ensures.value e in
+    record {
+      of_alphabet = ap is_data same ∙ d;
+      fits = omega (arith, ap length same, ap length e, length-append c.in-Some.front.now (49 ∷ behind));
+    }
 
 pub returns : goal.returns
 returns c =

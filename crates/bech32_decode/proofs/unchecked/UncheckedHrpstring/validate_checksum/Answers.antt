@@ -3,7 +3,7 @@ use mathlib.Core.Bool.{not}
 use Rattle.std.proofs.Common.{lt_of_lt_of_le}
 use Rattle.std.proofs.Math.Pow.{pow_mono}
 use Rattle.bech32_checksum.specs.Code.{Code}
-use Rattle.bech32_decode.proofs.Checksums.{leaves_target, leaves_target-degree_0, residue_error}
+use Rattle.bech32_decode.proofs.Checksums.{has_target, has_target-degree_0, residue_error}
 use Rattle.bech32_decode.proofs.unchecked.UncheckedHrpstring.validate_checksum.Goals as goal
 
 -- what fits the degree fits the width
@@ -25,7 +25,7 @@ returns-then-CHECKSUM_LENGTH-eq0 g c =
     let size = laws.code_length_law in
     let longest = c.CODE_LENGTH.ensures in
     let none : g.Ck.Checksum.CHECKSUM_LENGTH ≡ 0 = sym c.CHECKSUM_LENGTH.ensures ∙ c.if-CHECKSUM_LENGTH-eq0.true in
-    (omega arith, omega arith, leaves_target-degree_0 g.Ck.Checksum.code _ _ degree (ap (λ (k : Code). k.target) laws.code_law) none _)
+    (omega arith, omega arith, has_target-degree_0 g.Ck.Checksum.code _ _ degree (ap (λ (k : Code). k.target) laws.code_law) none _)
 
 pub returns-then-self-CHECKSUM_LENGTH : goal.returns-then-self-CHECKSUM_LENGTH
 returns-then-self-CHECKSUM_LENGTH g c =
@@ -71,6 +71,6 @@ returns g c =
     let same = (g.met.Ck.MidstateRepr.PackedFe32.eq_law residue c.TARGET_RESIDUE.result).0 (equal _ c.if-ne.ensures) ∙ c.TARGET_RESIDUE.ensures in (
       omega arith,
       omega arith,
-      leaves_target g.Ck.Checksum.code _ _ degree (ap (λ (k : Code). k.target) laws.code_law) (g.Ck.MidstateRepr.PackedFe32.number residue) _ (ap g.Ck.MidstateRepr.PackedFe32.number same)
+      has_target g.Ck.Checksum.code _ _ degree (ap (λ (k : Code). k.target) laws.code_law) (g.Ck.MidstateRepr.PackedFe32.number residue) _ (ap g.Ck.MidstateRepr.PackedFe32.number same)
           c.residue_of-residue.ensures.residue,
     )

@@ -4,7 +4,7 @@ use Rattle.bech32_decode.specs.Refusals.{HasValidChecksum}
 use Rattle.bech32_decode.proofs.Decoding.{accepted}
 use Rattle.codex32.specs.Code.{codex32}
 use Rattle.codex32.specs.Strings.{header_fault}
-use Rattle.codex32.proofs.Ascii.{ascii_text}
+use Rattle.bech32_correction.proofs.Ascii.{ascii_text}
 use Rattle.codex32.proofs.Strings.{framed-from, string_of}
 use Rattle.codex32.proofs.string.Codex32Str.read.Goals as goal
 

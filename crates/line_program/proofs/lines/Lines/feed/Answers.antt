@@ -10,15 +10,15 @@ use Rattle.line_program.proofs.Known.{Appends-then}
 use Rattle.line_program.proofs.Outputs.{cut-within, gathered-more, turn}
 use Rattle.line_program.proofs.lines.Lines.feed.Goals as goal
 
-pub returns-in_err-answer-clause-err : goal.returns-in_err-answer-clause-err
-returns-in_err-answer-clause-err g c =
+pub returns-in_err-reply_to-clause-err : goal.returns-in_err-reply_to-clause-err
+returns-in_err-reply_to-clause-err g c =
     let R = g.P.Replies.is_reply in
     let p = err_from_is_err_and c.from_residual.result c.from_residual.ensures.1 in
     rw p.1 (λ before e.
     let (gone, split, so_far) = c.lines.invariant.answered in
     let (kept, written, appended, is) = so_far before e in
     let gathered = c.lines.self.out.items in
-    let (n, more) = c.in_err-answer.ensures.err in (
+    let (n, more) = c.in_err-reply_to.ensures.err in (
       written ++ take n gathered,
       Appends-then _ _ _ written _ appended more,
       subst (λ (bs : List ℕ). IsBeginning R (ended_from before bs) (written ++ take n gathered)) (sym split)
@@ -34,16 +34,16 @@ lines-preserved g c =
     let found : IsFirstByte (is_byte 10) rest (Some c.in-Some.end) = c.in-Some.ensures in
     record {
       unmarked = search rules;
-      unflushed = c.answer.ensures.unflushed ∙ c.lines.invariant.unflushed;
-      same = g.met.K.ByteSink.transitive _ _ _ c.lines.invariant.same c.answer.ensures.same;
+      unflushed = c.reply_to.ensures.unflushed ∙ c.lines.invariant.unflushed;
+      same = g.met.K.ByteSink.transitive _ _ _ c.lines.invariant.same c.reply_to.ensures.same;
       answered = (
         gone ++ (piece ++ 10 ∷ []),
         rw take_rest (split-turn _ gone rest piece (drop (c.in-Some.end + 1) rest) split (at_newline rest c.in-Some.end found)),
         λ before e.
             let (kept, written, appended, is) = so_far before e in
-            let (said, reply, out, more, made) = c.in_ok-answer.ensures.ok _ kept in
+            let (said, reply, out, more, made) = c.in_ok-reply_to.ensures.ok _ kept in
             let gathered = c.lines.self.out.items in (
-              c.in_ok-answer.ensures.next ∙ ap (λ (t : List ℕ). take 4097 t) (sym (rest-turn before gone piece)),
+              c.in_ok-reply_to.ensures.next ∙ ap (λ (t : List ℕ). take 4097 t) (sym (rest-turn before gone piece)),
               written ++ out,
               Appends-then _ _ _ written out appended more,
               subst (IsOutput R (ended_from before (gone ++ (piece ++ 10 ∷ [])))) (gathered-more written gathered (said ++ 10 ∷ []) out _ made)

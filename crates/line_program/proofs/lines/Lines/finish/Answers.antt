@@ -8,12 +8,12 @@ use Rattle.line_program.proofs.Known.{Appends-then}
 use Rattle.line_program.proofs.Outputs.{beginning-longer, beginning-whole, cut-last, output-one}
 use Rattle.line_program.proofs.lines.Lines.finish.Goals as goal
 
-pub returns-in_err-answer-clause-err : goal.returns-in_err-answer-clause-err
-returns-in_err-answer-clause-err g c =
+pub returns-in_err-reply_to-clause-err : goal.returns-in_err-reply_to-clause-err
+returns-in_err-reply_to-clause-err g c =
     let R = g.P.Replies.is_reply in
     let p = err_from_is_err_and c.from_residual.result c.from_residual.ensures.1 in
     rw p.1 (λ before e.
-    let (n, more) = c.in_err-answer.ensures.err in
+    let (n, more) = c.in_err-reply_to.ensures.err in
     let nothing : take n c.args.self.now.out.items ≡ [] = ap (λ (l : List ℕ). take n l) c.requires.none_left ∙ take_all n [] (omega arith) in (
       take n c.args.self.now.out.items,
       more,
@@ -30,11 +30,11 @@ pub returns-clause-ok : goal.returns-clause-ok
 returns-clause-ok g c = on_ok_weaker c.write_out.result
     (λ more before e.
     let R = g.P.Replies.is_reply in
-    let (said, is', out, appended, made) = c.in_ok-answer.ensures.ok before e in
+    let (said, is', out, appended, made) = c.in_ok-reply_to.ensures.ok before e in
     let is = subst (λ (l : List ℕ). R l said) (append-nil before) is' in
     let some : 0 < length c.args.self.now.line.items = search rules in
     let one = last-some before _ e some in
-    let gathered = c.answer.new.self.out.items in (
+    let gathered = c.reply_to.new.self.out.items in (
       out ++ gathered,
       Appends-then _ _ _ out gathered appended more,
       subst (λ (xs : List (List ℕ)). IsOutput R xs (out ++ gathered)) (sym one)
@@ -47,11 +47,11 @@ returns-clause-err g c = on_err_weaker c.write_out.result
     (λ h before e.
     let R = g.P.Replies.is_reply in
     let (n, more) = h in
-    let (said, is', out, appended, made) = c.in_ok-answer.ensures.ok before e in
+    let (said, is', out, appended, made) = c.in_ok-reply_to.ensures.ok before e in
     let is = subst (λ (l : List ℕ). R l said) (append-nil before) is' in
     let some : 0 < length c.args.self.now.line.items = search rules in
     let one = last-some before _ e some in
-    let gathered = c.answer.new.self.out.items in (
+    let gathered = c.reply_to.new.self.out.items in (
       out ++ take n gathered,
       Appends-then _ _ _ out (take n gathered) appended more,
       λ xs a p.

@@ -1,0 +1,15 @@
+pub mod Accepted
+pub mod Added
+pub mod Ascii
+pub mod Characters
+pub mod Counted
+pub mod Inside
+pub mod MendedText
+pub mod Mends
+pub mod Outcomes
+pub mod Remainders
+pub mod Sound
+pub mod Sums
+pub mod Texts
+pub mod Usable
+pub mod Values

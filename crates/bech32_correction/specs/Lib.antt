@@ -1,0 +1,4 @@
+pub mod Carried
+pub mod MendedElements
+pub mod Mistyped
+pub mod Question

@@ -1,0 +1,229 @@
+//! What a checksum says of a mistyped text.
+
+ghost use Rattle.std.specs.Prelude.{◌≡◌, ◌≤◌, ◌<◌, ℕ, [], List, length, None, Err, IfOk, IsOk, MatchOption, MatchResult};
+ghost use Rattle.std.specs.List.{AllByRecursion};
+ghost use Rattle.bech32_checksum.specs.Code.{bech32, bech32m};
+ghost use Rattle.bech32_bch.specs.Erasures.{with_erasures};
+ghost use Rattle.bech32_correction.specs.Carried.{of_checksum};
+ghost use Rattle.bech32_correction.specs.Mistyped.{HasNoListing, IsCorrectRefusal, IsCorrectorOf, IsListedCorrection, IsListing, IsListingOf, IsReadAs, IsReadRefusal, IsReading, IsRefusal};
+ghost use Rattle.bech32_correction.specs.Question.{IsAnswerTo};
+ghost use Rattle.bech32_correction.specs.declared.error.CorrectError.TheVariants.{Memory, Refused};
+ghost use Rattle.bech32_decode.specs.Refusals.{IsInvalidBy};
+
+use crate::corrector::Corrector;
+use crate::erasures::{are_below, distinct_in};
+use crate::error::CorrectError;
+use crate::no_memory::NoMemory;
+use bech32_bch::ShortVec;
+use bech32_checksum::{Bech32, Bech32m, Checksum, CorrectingChecksum};
+use bech32_decode::UncheckedHrpstring;
+use bech32_gf::gf32::Fe32;
+use bech32_refusals::{CheckedHrpstringError, ChecksumError};
+use std::alloc::{AllocError, Allocator, Global};
+
+/// Locations, of which 0 is the last character, and the element to add at each.
+pub type Listing<A = Global> = ShortVec<(usize, Fe32), A>;
+
+/// What a checksum says of a text.
+#[derive(Drop)]
+pub enum Correction<M, C = ()> {
+    /// It accepts the text.
+    Accepted,
+    /// It accepts the text with this correction, the only one within the bound on errors.
+    Mended(M),
+    /// There is no correction within the bound on errors. The corrector of the text, with no erasures
+    /// yet, may look further.
+    Unexplained(C),
+}
+
+// What finds the errors of a text that the checksum refuses for its residue; none where it accepts the
+// text.
+pub(crate) fn corrector_of<Ck: Checksum, A: Allocator + Copy>(
+    alloc: A,
+    unchecked: &UncheckedHrpstring<'_>,
+) -> Result<Option<Corrector<Ck, A>>, ChecksumError>
+    requires { Ck.lawful }
+    ensures { MatchResult result
+        (λ found. (text : List ℕ) → IsReadAs text unchecked.now → IsReading Ck.code text found)
+        (λ e. IsInvalidBy Ck.code unchecked.now e × (of_checksum e ≡ None)) }
+{
+    let Err(refusal) = unchecked.validate_checksum::<Ck>() else {
+        return Ok(None);
+    };
+    match refusal {
+        ChecksumError::InvalidResidue(error) => {
+            let window = unchecked.data_part_ascii().len();
+            Ok(Some(Corrector::new(alloc, error.residue(), window)))
+        }
+        refusal => Err(refusal),
+    }
+}
+
+// The listing that answers a corrector, with the given locations as erasures.
+fn listing_of<Ck: Checksum, A: Allocator + Copy>(
+    alloc: A,
+    corrector: &Corrector<Ck, A>,
+    given: &[usize],
+) -> Result<Option<Listing<A>>, AllocError>
+    requires { AllByRecursion (λ i. i < corrector.now.window) given.now }
+    ensures answer { IfOk result (λ answer. IsAnswerTo Ck.code Ck.bound
+        (record {
+          residue = corrector.now.residue;
+          window = corrector.now.window;
+          erasures = with_erasures [] given.now;
+        }) answer) }
+    ensures in_place { length Ck.code.generator ≤ 6 → IsOk result }
+{
+    let most = corrector.singleton_bound();
+    let Some(erasures) = distinct_in(alloc, given, most)? else {
+        return Ok(None);
+    };
+    let erased = corrector.with(erasures)?;
+    erased.listing()
+}
+
+// The listing that corrects the text of which this is the corrector. None where a given location is
+// not in the data part, too.
+pub(crate) fn correction_of<Ck: Checksum, A: Allocator + Copy>(
+    alloc: A,
+    corrector: &Corrector<Ck, A>,
+    given: &[usize],
+) -> Result<Option<Listing<A>>, AllocError>
+    ensures answer { IfOk result (λ found. (text : List ℕ)
+        → IsCorrectorOf Ck.code text corrector.now
+        → MatchOption found (HasNoListing Ck.code Ck.bound text given.now)
+        (λ listing. IsListingOf Ck.code Ck.bound text given.now listing)) }
+    ensures in_place { length Ck.code.generator ≤ 6 → IsOk result }
+{
+    if !are_below(given, corrector.window()) {
+        return Ok(None);
+    }
+    listing_of(alloc, corrector, given)
+}
+
+// What a checksum with lawful roots says of a text that was read.
+fn correction_by<Ck: Checksum, A: Allocator + Copy>(
+    alloc: A,
+    unchecked: &UncheckedHrpstring<'_>,
+    erasures: &[usize],
+) -> Result<Correction<Listing<A>, Corrector<Ck, A>>, CorrectError>
+    requires { Ck.lawful }
+    ensures value { MatchResult result
+        (λ answer. (text : List ℕ) → IsReadAs text unchecked.now
+        → IsListedCorrection Ck.code Ck.bound text erasures.now answer)
+        (λ e. IsReadRefusal Ck.code unchecked.now e) }
+    ensures in_place { length Ck.code.generator ≤ 6 → result ≡ Err Memory → ⊥ }
+{
+    let Some(corrector) = corrector_of::<Ck, A>(alloc, unchecked)? else {
+        return Ok(Correction::Accepted);
+    };
+    match correction_of(alloc, &corrector, erasures)? {
+        Some(listing) => Ok(Correction::Mended(listing)),
+        None => Ok(Correction::Unexplained(corrector)),
+    }
+}
+
+/// What a checksum says of a text that was read, where the given locations are erasures: whether it
+/// accepts the text, and else how the text is corrected.
+///
+/// # Errors
+///
+/// The checksum's refusal of the text, but for a wrong checksum; where memory runs out, that. For a
+/// checksum of at most six characters no memory is taken.
+pub fn listing_of_unchecked<Ck: CorrectingChecksum, A: Allocator + Copy>(
+    alloc: A,
+    unchecked: &UncheckedHrpstring<'_>,
+    erasures: &[usize],
+) -> Result<Correction<Listing<A>, Corrector<Ck, A>>, CorrectError>
+    ensures value { MatchResult result
+        (λ answer. (text : List ℕ) → IsReadAs text unchecked.now
+        → IsListedCorrection Ck.code Ck.bound text erasures.now answer)
+        (λ e. IsReadRefusal Ck.code unchecked.now e) }
+    ensures in_place { length Ck.code.generator ≤ 6 → result ≡ Err Memory → ⊥ }
+{
+    correction_by::<Ck, A>(alloc, unchecked, erasures)
+}
+
+/// What a checksum says of a text, where the given locations are erasures: whether it accepts the text,
+/// and else the only listing within the bound on errors that corrects it.
+///
+/// # Errors
+///
+/// As [`CheckedHrpstring::new`](bech32_decode::CheckedHrpstring::new), but for a wrong checksum; where
+/// memory runs out, that.
+pub fn listing_in<Ck: CorrectingChecksum, A: Allocator + Copy>(
+    alloc: A,
+    text: &str,
+    erasures: &[usize],
+) -> Result<Correction<Listing<A>, Corrector<Ck, A>>, CorrectError>
+    ensures value { MatchResult result
+        (λ answer. IsListedCorrection Ck.code Ck.bound text.now erasures.now answer)
+        (λ e. IsCorrectRefusal Ck.code text.now e) }
+    ensures in_place { length Ck.code.generator ≤ 6 → result ≡ Err Memory → ⊥ }
+{
+    let unchecked = UncheckedHrpstring::new(text)?;
+    listing_of_unchecked::<Ck, A>(alloc, &unchecked, erasures)
+}
+
+// The refusal of a text, where memory was enough.
+fn refusal_of(e: CorrectError) -> CheckedHrpstringError
+    requires { e ≡ Memory → ⊥ }
+    ensures { e ≡ Refused result }
+{
+    match e {
+        CorrectError::Refused(refusal) => refusal,
+        CorrectError::Memory => unreachable!(),
+    }
+}
+
+// What is said without memory, which was enough, and without the corrector.
+fn in_place<Ck: Checksum>(
+    said: Result<Correction<Listing<NoMemory>, Corrector<Ck, NoMemory>>, CorrectError>,
+) -> Result<Correction<Listing<NoMemory>>, CheckedHrpstringError>
+    requires { said ≡ Err Memory → ⊥ }
+    ensures { (text given : List ℕ) → MatchResult said
+        (λ answer. IsListedCorrection Ck.code Ck.bound text given answer)
+        (λ e. IsCorrectRefusal Ck.code text e)
+        → MatchResult result
+        (λ answer. IsListing Ck.code Ck.bound text given answer)
+        (λ e. IsRefusal Ck.code text e) }
+{
+    match said {
+        Ok(Correction::Accepted) => Ok(Correction::Accepted),
+        Ok(Correction::Mended(listing)) => Ok(Correction::Mended(listing)),
+        Ok(Correction::Unexplained(_)) => Ok(Correction::Unexplained(())),
+        Err(e) => Err(refusal_of(e)),
+    }
+}
+
+/// What Bech32 says of a text, where the given locations are erasures. It takes no memory.
+///
+/// # Errors
+///
+/// As [`CheckedHrpstring::new`](bech32_decode::CheckedHrpstring::new), but for a wrong checksum.
+pub fn bech32_listing(
+    text: &str,
+    erasures: &[usize],
+) -> Result<Correction<Listing<NoMemory>>, CheckedHrpstringError>
+    ensures { MatchResult result
+        (λ answer. IsListing bech32 3 text.now erasures.now answer)
+        (λ e. IsRefusal bech32 text.now e) }
+{
+    in_place(listing_in::<Bech32, NoMemory>(NoMemory, text, erasures))
+}
+
+/// The same for Bech32m.
+///
+/// # Errors
+///
+/// As [`bech32_listing`].
+pub fn bech32m_listing(
+    text: &str,
+    erasures: &[usize],
+) -> Result<Correction<Listing<NoMemory>>, CheckedHrpstringError>
+    ensures { MatchResult result
+        (λ answer. IsListing bech32m 3 text.now erasures.now answer)
+        (λ e. IsRefusal bech32m text.now e) }
+{
+    in_place(listing_in::<Bech32m, NoMemory>(NoMemory, text, erasures))
+}

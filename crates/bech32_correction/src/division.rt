@@ -1,0 +1,74 @@
+//! The second division: whether a listed pattern has the residue as remainder, by the checksum's
+//! own engine.
+
+ghost use Rattle.std.specs.Prelude.{◌≡◌, ◌≤◌, ◌<◌, ◌↔◌, ℕ, IsTrue};
+ghost use Rattle.bech32_checksum.specs.Code.{IsResidueOf};
+ghost use Rattle.bech32_checksum.specs.Packed.{HasDigits, digit_of};
+ghost use Rattle.bech32_bch.specs.Pattern.{HasRemainder};
+ghost use Rattle.bech32_gf.specs.Fe32 as fe32;
+ghost use Rattle.bech32_poly.specs.Pattern.{pattern_polynomial};
+ghost use Rattle.bech32_poly.specs.Polynomial.{coefficient};
+
+use bech32_bch::{highest_place, value_at_place};
+use bech32_checksum::{Checksum, Engine, PackedFe32};
+use bech32_gf::gf32::Fe32;
+
+// An engine that was given the polynomial of a listed pattern, from its highest place down.
+fn listed_engine<Ck: Checksum>(listing: &[(usize, Fe32)]) -> Engine<Ck>
+    ensures { IsResidueOf Ck.MidstateRepr.number Ck.code result
+        (pattern_polynomial fe32.ops listing.now) }
+{
+    let mut engine = Engine::<Ck>::zero();
+    let mut place = highest_place(listing);
+    engine.input_fe(value_at_place(listing, place));
+    while place > 0 {
+        place -= 1;
+        engine.input_fe(value_at_place(listing, place));
+    }
+    engine
+}
+
+// The coefficient that a packed row has at a place.
+fn packed_coefficient<R: PackedFe32>(row: &R, place: usize) -> Fe32
+    requires { HasDigits R.WIDTH (R.number row.now) }
+    ensures { result ≡ digit_of (R.number row.now) place }
+{
+    if place >= R::WIDTH {
+        return Fe32::Q;
+    }
+    Fe32::from_low_bits(row.unpack(place))
+}
+
+// The coefficient that a list has at a place.
+fn listed_coefficient(list: &[Fe32], place: usize) -> Fe32
+    ensures { result ≡ coefficient fe32.ops list.now place }
+{
+    if place < list.len() {
+        list[place]
+    } else {
+        Fe32::Q
+    }
+}
+
+// Whether a packed row has the coefficients of a list.
+fn is_same<R: PackedFe32>(row: &R, list: &[Fe32]) -> bool
+    requires { HasDigits R.WIDTH (R.number row.now) }
+    ensures { IsTrue result
+        ↔ ((n : ℕ) → digit_of (R.number row.now) n ≡ coefficient fe32.ops list.now n) }
+{
+    let size = R::WIDTH.max(list.len());
+    for place in 0..size {
+        if packed_coefficient(row, place) != listed_coefficient(list, place) {
+            return false;
+        }
+    }
+    true
+}
+
+/// Whether the polynomial of a listed pattern has the residue as remainder.
+pub(crate) fn has_residue<Ck: Checksum>(listing: &[(usize, Fe32)], residue: &[Fe32]) -> bool
+    ensures { IsTrue result ↔ HasRemainder fe32.ops Ck.code.generator residue.now listing.now }
+{
+    let engine = listed_engine::<Ck>(listing);
+    is_same(engine.residue(), residue)
+}

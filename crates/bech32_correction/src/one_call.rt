@@ -1,0 +1,127 @@
+//! A mistyped text corrected by one call.
+
+ghost use Rattle.std.specs.Prelude.{◌≡◌, ℕ, List, IfOk, MatchResult, string_bytes};
+ghost use Rattle.bech32_gf.specs.Fe32.{elements_of, ops};
+ghost use Rattle.bech32_checksum.specs.Encoded.{spelled};
+ghost use Rattle.bech32_correction.specs.MendedElements.{mended};
+ghost use Rattle.bech32_correction.specs.Mistyped.{IsCorrectRefusal, IsCorrectionBy, IsCorrectorOf, IsMendedBy, IsPlacedIn, IsReadAs, IsReadRefusal};
+ghost use Rattle.bech32_decode.specs.Text.{IsText};
+
+use crate::correcting::{Correction, Listing, correction_of, corrector_of};
+use crate::corrector::Corrector;
+use crate::error::CorrectError;
+use crate::mending::mended_in;
+use bech32_checksum::{Checksum, CorrectingChecksum};
+use bech32_decode::UncheckedHrpstring;
+use std::alloc::{AllocError, Allocator, Global};
+
+/// How a text is corrected: a [`Listing`], and the corrected text.
+#[derive(Drop)]
+pub struct MendedBy<L, S> {
+    /// Locations in characters from the last, which is 0, and the element that is added at each: the
+    /// erasures as they were given, then the errors, 0 first where it is one of them, the others
+    /// falling.
+    pub listing: L,
+    /// The corrected text, in lower case.
+    pub text: S,
+}
+
+/// How a text is corrected, with memory of an allocator.
+pub type Mended<A = Global> = MendedBy<Listing<A>, String<A>>;
+
+// The text with the listing added.
+fn mended_by<A: Allocator + Copy>(
+    alloc: A,
+    text: &str,
+    listing: Listing<A>,
+) -> Result<Mended<A>, AllocError>
+    requires { IsPlacedIn text.now listing }
+    ensures same { IfOk result (λ m. m.listing ≡ listing) }
+    ensures spelling { IfOk result (λ m. (hrp data_part : List ℕ) → IsText text.now hrp data_part
+        → string_bytes m.text ≡ spelled hrp (mended ops listing (elements_of data_part))) }
+{
+    let text = mended_in(alloc, text, listing.as_slice())?;
+    Ok(MendedBy { listing, text })
+}
+
+// What a checksum with lawful roots says of a text that was read.
+fn corrected_by<Ck: Checksum, A: Allocator + Copy>(
+    alloc: A,
+    text: &str,
+    unchecked: &UncheckedHrpstring<'_>,
+    erasures: &[usize],
+) -> Result<Correction<Mended<A>, Corrector<Ck, A>>, CorrectError>
+    requires lawful { Ck.lawful }
+    requires read { IsReadAs text.now unchecked.now }
+    ensures { MatchResult result
+        (λ answer. IsCorrectionBy
+        (λ m. IsMendedBy Ck.code Ck.bound text.now erasures.now
+        m.listing (string_bytes m.text))
+        (λ c. IsCorrectorOf Ck.code text.now c)
+        Ck.code Ck.bound text.now erasures.now answer)
+        (λ e. IsReadRefusal Ck.code unchecked.now e) }
+{
+    let Some(corrector) = corrector_of::<Ck, A>(alloc, unchecked)? else {
+        return Ok(Correction::Accepted);
+    };
+    match correction_of(alloc, &corrector, erasures)? {
+        Some(listing) => {
+            let mended = mended_by(alloc, text, listing)?;
+            Ok(Correction::Mended(mended))
+        }
+        None => Ok(Correction::Unexplained(corrector)),
+    }
+}
+
+/// What a checksum says of a text, with memory from `alloc`; [`correct`] says more.
+///
+/// # Errors
+///
+/// Those of [`correct`].
+pub fn correct_in<Ck: CorrectingChecksum, A: Allocator + Copy>(
+    alloc: A,
+    text: &str,
+    erasures: &[usize],
+) -> Result<Correction<Mended<A>, Corrector<Ck, A>>, CorrectError>
+    ensures { MatchResult result
+        (λ answer. IsCorrectionBy
+        (λ m. IsMendedBy Ck.code Ck.bound text.now erasures.now
+        m.listing (string_bytes m.text))
+        (λ c. IsCorrectorOf Ck.code text.now c)
+        Ck.code Ck.bound text.now erasures.now answer)
+        (λ e. IsCorrectRefusal Ck.code text.now e) }
+{
+    let unchecked = UncheckedHrpstring::new(text)?;
+    corrected_by::<Ck, A>(alloc, text, &unchecked, erasures)
+}
+
+/// What a checksum says of a text (BIP-173, Checksum design): that it accepts it; else the only
+/// correction of the data part with so few wrong characters outside `erasures` that twice their
+/// number, with that of the erasures, is at most the bound (3 for [`Bech32`](bech32_checksum::Bech32)
+/// and [`Bech32m`](bech32_checksum::Bech32m): one wrong character, or three erasures); or that there
+/// is none.
+///
+/// `erasures` are locations that are known to be wrong, in characters from the last, which is 0; one
+/// that is given twice counts once. Where one is not in the data part, or they are more than the
+/// bound, there is no correction.
+///
+/// A correction is a guess: with more wrong characters than the bound allows it may be another text
+/// than the one that was meant. Compare it with the source before it is used.
+///
+/// # Errors
+///
+/// As [`CheckedHrpstring::new`](bech32_decode::CheckedHrpstring::new), but for a wrong checksum; where
+/// memory runs out, that.
+pub fn correct<Ck: CorrectingChecksum>(
+    alloc: Global,
+    text: &str,
+    erasures: &[usize],
+) -> Result<Correction<Mended, Corrector<Ck>>, CorrectError>
+    ensures { MatchResult result
+        (λ answer. IsCorrectionBy (λ m. IsMendedBy Ck.code Ck.bound text.now erasures.now
+        m.listing (string_bytes m.text)) (λ c. IsCorrectorOf Ck.code text.now c)
+        Ck.code Ck.bound text.now erasures.now answer)
+        (λ e. IsCorrectRefusal Ck.code text.now e) }
+{
+    correct_in::<Ck, Global>(alloc, text, erasures)
+}

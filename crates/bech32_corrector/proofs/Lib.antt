@@ -1,4 +1,0 @@
-pub mod Added
-pub mod Mended
-pub mod Remainders
-pub mod Usable

@@ -1,0 +1,79 @@
+-- Accepted texts of one human-readable part and one length have the same elements, or differ in many places.
+use Rattle.std.specs.Prelude.{false, true}
+use Rattle.std.proofs.Common.{◌≡◌, ◌≢◌, ◌⊎◌, ◌<◌, ◌≤◌, ◌+◌, ◌-◌, ◌/◌, ◌++◌, ℕ, suc, List, [], ◌∷◌, map, length, length-append, reverse, inl, inr, sym, ap, subst, ◌∙◌, arith}
+use Rattle.std.proofs.lemmas.Bool.Decides.{eqb_tells}
+use Rattle.std.proofs.lemmas.List.{length-map, length-reverse, reverse-reverse}
+use Rattle.std.specs.Char.{to_ascii_lowercase}
+use Rattle.bech32_gf.specs.Field.{Ops, IsField}
+use Rattle.bech32_gf.specs.Fe32 as fe32
+use Rattle.bech32_gf.specs.Fe32.{element_of, elements_of}
+use Rattle.bech32_gf.specs.laws.Fe32Laws.{is_field}
+use Rattle.bech32_gf.specs.declared.gf32.Fe32.{Fe32}
+use Rattle.bech32_poly.specs.Embedding.{Embeds}
+use Rattle.bech32_poly.specs.Polynomial.{appended}
+use Rattle.bech32_poly.specs.Remainder.{IsRemainder}
+use Rattle.bech32_poly.proofs.Appended.{appended-append, appended-reverse}
+use Rattle.bech32_hrp.specs.Hrp.{lowered}
+use Rattle.bech32_checksum.specs.Code.{Code}
+use Rattle.bech32_checksum.specs.Roots.{AreLawfulRoots}
+use Rattle.bech32_checksum.specs.TextPolynomial.{hrp_elements, text_polynomial}
+use Rattle.bech32_bch.specs.Distance.{places_that_differ}
+use Rattle.bech32_bch.proofs.Distance.{Tells, distance, places_that_differ-reverse}
+use Rattle.bech32_bch.proofs.Usable.{usable}
+use Rattle.bech32_decode.specs.Acceptance.{IsAccepted}
+use Rattle.bech32_detect.specs.Distance.{AreSameOrFar, same_element}
+use Rattle.bech32_detect.specs.Texts.{AreTextsFar}
+
+same_element-tells : Tells same_element
+same_element-tells x y = step (eqb_tells x.value y.value)
+  where
+    step : ((same_element x y ≡ true) × (x.value ≡ y.value)) ⊎ ((same_element x y ≡ false) × (x.value ≢ y.value)) → ((same_element x y ≡ true) × (x ≡ y)) ⊎ ((same_element x y ≡ false) × (x ≢ y))
+    step (inl h) = inl (h.0, fe32.path x y h.1)
+    step (inr h) = inr (h.0, λ e. h.1 (ap (λ (z : Fe32). z.value) e))
+
+-- the coefficients of a text above those of its data part
+abbrev above_data : List ℕ → List Fe32
+above_data hrp = appended (fe32.one ∷ []) (hrp_elements hrp)
+
+text_polynomial-reverse : (hrp : List ℕ) (elements : List Fe32) → text_polynomial hrp elements ≡ reverse elements ++ above_data hrp
+text_polynomial-reverse hrp elements = appended-append (fe32.one ∷ []) (hrp_elements hrp) elements ∙ appended-reverse (above_data hrp) elements
+
+above_data-lowered : (hrp other : List ℕ) → lowered other ≡ lowered hrp → above_data other ≡ above_data hrp
+above_data-lowered hrp other e =
+    ap (λ (low : List ℕ). appended (fe32.one ∷ []) (map (λ b. fe32.element (b / 32)) low ++ (fe32.zero ∷ map fe32.element low))) e
+
+-- how many elements an accepted text has
+elements_count : (code : Code) (text hrp data_part : List ℕ) → IsAccepted code text hrp data_part → length text ≡ length (lowered hrp) + suc (length (elements_of data_part))
+elements_count code text hrp data_part is =
+    omega (arith, ap (λ (u : List ℕ). length u) is.grammar.split, length-append hrp (49 ∷ data_part), length-map hrp to_ascii_lowercase, length-map data_part element_of)
+
+-- an accepted text's data part is no longer than the code
+pub data_fits : (code : Code) (text hrp data_part : List ℕ) → IsAccepted code text hrp data_part → length data_part ≤ code.code_length
+data_fits code text hrp data_part is =
+    let whole : length text ≡ length hrp + length (49 ∷ data_part) = ap (λ (u : List ℕ). length u) is.grammar.split ∙ length-append hrp (49 ∷ data_part) in
+    omega (arith, whole, is.text_length)
+
+module _ {K : Type 0} {o : Ops K} (l : IsField o) {embed : Fe32 → K} (into : Embeds fe32.ops o embed) (apart : (x y : Fe32) → embed x ≡ embed y → x ≡ y) where
+  pub far_from_others : (code : Code) (base : K) (start end : ℕ) → AreLawfulRoots o embed code base start end → AreTextsFar code code.code_length (end - start + 1)
+  far_from_others code base start end lawful text hrp data_part other other_hrp other_data is other_is same_hrp same_length fits = step
+      (distance is_field l into same_element same_element-tells base start (end - start + 1) code.code_length code.generator (reverse xs) (reverse ys) (above_data hrp) code.target apart
+      (usable fe32.ops o embed into.one base start end lawful.order code.code_length code.generator lawful.not_zero lawful.is_order lawful.long_enough lawful.ordered lawful.few lawful.are_roots)
+      (length-reverse xs ∙ sizes ∙ sym (length-reverse ys)) within
+      (subst (λ p. IsRemainder fe32.ops code.generator p code.target) (text_polynomial-reverse hrp xs) is.has_target)
+      (subst (λ p. IsRemainder fe32.ops code.generator p code.target) (text_polynomial-reverse other_hrp ys ∙ ap (λ u. reverse ys ++ u) (above_data-lowered hrp other_hrp same_hrp)) other_is.has_target))
+    where
+      xs : List Fe32
+      xs = elements_of data_part
+
+      ys : List Fe32
+      ys = elements_of other_data
+
+      sizes : length xs ≡ length ys
+      sizes = omega (arith, elements_count code text hrp data_part is, elements_count code other other_hrp other_data other_is, same_length, ap (λ (u : List ℕ). length u) same_hrp)
+
+      within : length (reverse xs) ≤ code.code_length
+      within = omega (arith, length-reverse xs, elements_count code text hrp data_part is, is.text_length)
+
+      step : (reverse xs ≡ reverse ys) ⊎ (end - start + 1 < places_that_differ same_element (reverse xs) (reverse ys)) → AreSameOrFar (end - start + 1) xs ys
+      step (inl e) = inl (sym (reverse-reverse xs) ∙ ap reverse e ∙ reverse-reverse ys)
+      step (inr h) = inr (omega (arith, h, places_that_differ-reverse same_element xs ys sizes))

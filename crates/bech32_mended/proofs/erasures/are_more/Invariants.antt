@@ -1,6 +1,0 @@
-use Rattle.std.proofs.Common.{◌≡◌, ◌≤◌, [], length, take}
-use Rattle.bech32_bch.specs.Erasures.{with_erasures}
-use Rattle.bech32_mended.proofs.erasures.are_more.Given as goal
-
-abbrev pub invariant-loop-location : goal.invariant-loop-location
-invariant-loop-location l = record { so_far : l.different ≡ with_erasures [] (take l.location-index l.given); few : length l.different ≤ l.most }

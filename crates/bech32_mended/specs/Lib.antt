@@ -1,2 +1,0 @@
-pub mod Mended
-pub mod Mistyped
