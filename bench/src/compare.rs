@@ -1,6 +1,7 @@
-//! Compares the replies of both sides on texts and bytes of many kinds.
+//! Compares the replies of the library, the crate and C on texts and bytes of many kinds.
 
-use crate::ours::{self, BECH32, BECH32M};
+use crate::calls::{self, Calls, BECH32, BECH32M, LIMIT, OURS};
+use crate::random::Numbers;
 use crate::theirs;
 use crate::workloads;
 use crate::Reply;
@@ -40,41 +41,6 @@ const TEXTS: [&str; 20] = [
     "BC1SW50QGDZ25K",
 ];
 
-// A generator of numbers, the same in each run.
-struct Numbers(u64);
-
-impl Numbers {
-    fn below(&mut self, n: u64) -> u64 {
-        self.0 = self
-            .0
-            .wrapping_mul(6364136223846793005)
-            .wrapping_add(1442695040888963407);
-        (self.0 >> 33) % n
-    }
-
-    fn bytes(&mut self, most: u64) -> Vec<u8> {
-        let n = self.below(most + 1);
-        (0..n).map(|_| self.below(256) as u8).collect()
-    }
-
-    fn part(&mut self) -> String {
-        let n = 1 + self.below(12);
-        (0..n)
-            .map(|_| (33 + self.below(94)) as u8 as char)
-            .collect()
-    }
-
-    // Changes up to three characters, or leaves the text as it is.
-    fn mistyped(&mut self, text: &str) -> String {
-        let mut bytes = text.as_bytes().to_vec();
-        for _ in 0..self.below(4) {
-            let place = self.below(bytes.len() as u64) as usize;
-            bytes[place] = (32 + self.below(96)) as u8;
-        }
-        String::from_utf8(bytes).unwrap()
-    }
-}
-
 // The texts that a human-readable part and bytes have, in both cases.
 fn texts(numbers: &mut Numbers) -> Vec<String> {
     let (part, bytes) = (numbers.part(), numbers.bytes(60));
@@ -96,27 +62,49 @@ fn texts(numbers: &mut Numbers) -> Vec<String> {
 pub struct Compared {
     /// How many replies.
     pub replies: u64,
+    /// How many of them have the place of a fault.
+    pub places: u64,
     /// The numbers of the refusals among them.
     pub refusals: BTreeSet<u32>,
     /// Those that differ.
     pub different: Vec<String>,
 }
 
+// The replies of the three sides, of which two are called as from C.
+fn of_all(of_c: impl Fn(&'static Calls) -> Reply, theirs: Reply) -> [Reply; 3] {
+    [of_c(&OURS), theirs, of_c(&LIMIT)]
+}
+
 impl Compared {
-    fn check(&mut self, what: String, ours: Reply, theirs: Reply) {
+    fn check(&mut self, what: String, replies: [Reply; 3]) {
         self.replies += 1;
-        if ours != theirs {
-            self.different.push(format!("{what}: {ours:?}, {theirs:?}"));
+        self.refusals.extend(replies[1].clone().err());
+        if replies.iter().any(|reply| *reply != replies[1]) {
+            self.different.push(format!("{what}: {replies:?}"));
         }
-        self.refusals.extend(theirs.err());
+    }
+
+    // The number and the place of a text's fault, of which the crate has no place.
+    fn fault(&mut self, text: &[u8]) {
+        for checksum in [BECH32, BECH32M] {
+            let faults = [&OURS, &LIMIT].map(|calls| calls.fault(checksum, text));
+            self.replies += 1;
+            self.places += u64::from(faults[0].1 != usize::MAX);
+            if faults[0] != faults[1] {
+                self.different
+                    .push(format!("fault {checksum} {text:?}: {faults:?}"));
+            }
+        }
     }
 
     fn written(&mut self, part: &str, bytes: &[u8]) {
         for checksum in [BECH32, BECH32M] {
             self.check(
                 format!("encode {checksum} {part:?} {bytes:?}"),
-                ours::replies::encode(checksum, part, bytes),
-                theirs::replies::encode(checksum, part, bytes),
+                of_all(
+                    |calls| calls::replies::encode(calls, checksum, part, bytes),
+                    theirs::replies::encode(checksum, part, bytes),
+                ),
             );
         }
     }
@@ -124,8 +112,10 @@ impl Compared {
     fn address(&mut self, part: &str, version: u32, program: &[u8]) {
         self.check(
             format!("segwit_encode {part:?} {version} {program:?}"),
-            ours::replies::segwit_encode(part, version, program),
-            theirs::replies::segwit_encode(part, version, program),
+            of_all(
+                |calls| calls::replies::segwit_encode(calls, part, version, program),
+                theirs::replies::segwit_encode(part, version, program),
+            ),
         );
     }
 
@@ -133,8 +123,10 @@ impl Compared {
         for checksum in [BECH32, BECH32M] {
             self.check(
                 format!("residue {checksum} {values:?}"),
-                ours::replies::residue(checksum, values),
-                theirs::replies::residue(checksum, values),
+                of_all(
+                    |calls| calls::replies::residue(calls, checksum, values),
+                    theirs::replies::residue(checksum, values),
+                ),
             );
         }
     }
@@ -143,8 +135,10 @@ impl Compared {
         for checksum in [BECH32, BECH32M] {
             self.check(
                 format!("correct {checksum} {text:?} {erasures:?}"),
-                ours::replies::correct(checksum, text, erasures),
-                theirs::replies::correct(checksum, text, erasures),
+                of_all(
+                    |calls| calls::replies::correct(calls, checksum, text, erasures),
+                    theirs::replies::correct(checksum, text, erasures),
+                ),
             );
         }
     }
@@ -152,21 +146,36 @@ impl Compared {
     fn read(&mut self, text: &str) {
         self.check(
             format!("decode {text:?}"),
-            ours::replies::decode(text),
-            theirs::replies::decode(text),
+            of_all(
+                |calls| calls::replies::decode(calls, text),
+                theirs::replies::decode(text),
+            ),
         );
         self.check(
             format!("segwit_decode {text:?}"),
-            ours::replies::segwit_decode(text),
-            theirs::replies::segwit_decode(text),
+            of_all(
+                |calls| calls::replies::segwit_decode(calls, text),
+                theirs::replies::segwit_decode(text),
+            ),
         );
         for checksum in [BECH32, BECH32M] {
             self.check(
                 format!("check {checksum} {text:?}"),
-                ours::replies::check(checksum, text),
-                theirs::replies::check(checksum, text),
+                of_all(
+                    |calls| calls::replies::check(calls, checksum, text),
+                    theirs::replies::check(checksum, text),
+                ),
             );
         }
+        self.fault(text.as_bytes());
+    }
+
+    // Texts with one byte changed to any, most of which are not UTF-8 then.
+    fn damaged(&mut self, numbers: &mut Numbers, text: &str) {
+        let mut bytes = text.as_bytes().to_vec();
+        let place = numbers.below(bytes.len() as u64) as usize;
+        bytes[place] = numbers.below(256) as u8;
+        self.fault(&bytes);
     }
 }
 
@@ -175,10 +184,13 @@ impl Compared {
 pub fn compare(rounds: u64) -> Compared {
     let (mut numbers, mut compared) = (Numbers(1), Compared::default());
     for operation in workloads::operations() {
-        let [ours, theirs] = operation.replies;
-        let refused = operation.name.contains("no pattern");
-        assert!(ours.is_ok() != refused, "{}", operation.name);
-        compared.check(operation.name.to_string(), ours, theirs);
+        let replies = operation.sides.map(|side| side.reply);
+        assert!(
+            replies[0].is_err() == operation.is_refused,
+            "{}",
+            operation.name
+        );
+        compared.check(operation.name, replies);
     }
     for part in PARTS {
         compared.written(part, &[0]);
@@ -202,6 +214,7 @@ pub fn compare(rounds: u64) -> Compared {
         for text in texts(&mut numbers) {
             let text = numbers.mistyped(&text);
             compared.read(&text);
+            compared.damaged(&mut numbers, &text);
             let erasures: BTreeSet<usize> = (0..numbers.below(5))
                 .map(|_| numbers.below(12) as usize)
                 .collect();

@@ -1,19 +1,22 @@
-//! Measures the static library `bech32_c` beside the Rust crate bech32.
+//! Measures the static library `bech32_c` beside the Rust crate bech32 and the C of `bench/limit`.
 //!
-//!     bench compare ROUNDS           replies of both sides, refusals by number; fails where two differ
+//!     bench compare ROUNDS           replies of all sides, refusals by number; fails where two differ
 //!     bench time                     nanoseconds of a call, least and median of the rounds
 //!     bench list                     the operations
-//!     bench count ours|theirs N K    K calls of operation N, for a count of instructions
+//!     bench count SIDE N K           K calls of operation N, for a count of instructions: SIDE is
+//!                                    ours, crate or limit
 //!     bench written fmt|bytes SIZE K K texts of SIZE bytes written by the crate, for the same
 //!     bench kinds                    what is corrected beside Bech32's own texts, with the name of its row
 //!     bench corrected KIND K         the crate's K corrections of it, for the same
-//!     bench table TIMES COUNTS       the table of two files
+//!     bench table TIMES COUNTS       the table of two files, of good input and corrections
+//!     bench bad TIMES COUNTS         the same of bad input
 //!     bench chart TIMES COUNTS       their chart
 
+mod calls;
 mod compare;
 mod corrections;
 mod numbers;
-mod ours;
+mod random;
 mod report;
 mod theirs;
 mod workloads;
@@ -33,35 +36,51 @@ fn nanoseconds(call: &mut dyn FnMut(), calls: u64) -> f64 {
     start.elapsed().as_nanos() as f64 / calls as f64
 }
 
-// The least and the median of the rounds of each side, which take turns.
-fn times(ours: &mut dyn FnMut(), theirs: &mut dyn FnMut()) -> [f64; 4] {
+// How many calls take the slowest side ten milliseconds at least.
+fn calls_of_a_round(sides: &mut [workloads::Side; 3]) -> u64 {
     let mut calls = 1;
-    while nanoseconds(theirs, calls) * (calls as f64) < 1e7 {
+    while sides
+        .iter_mut()
+        .all(|side| nanoseconds(&mut side.call, calls) * (calls as f64) < 1e7)
+    {
         calls *= 2;
     }
-    let mut rounds = [vec![], vec![]];
+    calls
+}
+
+// The least and the median of the rounds of each side, which take turns.
+fn times(sides: &mut [workloads::Side; 3]) -> [[f64; 2]; 3] {
+    let calls = calls_of_a_round(sides);
+    let mut rounds = [vec![], vec![], vec![]];
     for _ in 0..ROUNDS {
-        rounds[0].push(nanoseconds(ours, calls));
-        rounds[1].push(nanoseconds(theirs, calls));
+        for (side, round) in sides.iter_mut().zip(&mut rounds) {
+            round.push(nanoseconds(&mut side.call, calls));
+        }
     }
-    for side in &mut rounds {
-        side.sort_by(f64::total_cmp);
-    }
-    [
-        rounds[0][0],
-        rounds[0][ROUNDS / 2],
-        rounds[1][0],
-        rounds[1][ROUNDS / 2],
-    ]
+    rounds.map(|mut round| {
+        round.sort_by(f64::total_cmp);
+        [round[0], round[ROUNDS / 2]]
+    })
+}
+
+fn time(mut operation: workloads::Operation) {
+    let times = times(&mut operation.sides);
+    let columns = times.iter().flatten().map(|t| format!("\t{t:.1}"));
+    println!(
+        "{}\t{}{}",
+        operation.name,
+        operation.good.unwrap_or("-"),
+        columns.collect::<String>()
+    );
 }
 
 fn count(words: &[String]) {
     let (at, calls): (usize, u64) = (words[3].parse().unwrap(), words[4].parse().unwrap());
     let mut operation = workloads::operations().swap_remove(at);
-    let call = match words[2].as_str() {
-        "ours" => &mut operation.ours,
-        _ => &mut operation.theirs,
-    };
+    let side = ["ours", "crate", "limit"]
+        .iter()
+        .position(|s| *s == words[2]);
+    let call = &mut operation.sides[side.unwrap()].call;
     for _ in 0..calls {
         call();
     }
@@ -81,19 +100,15 @@ fn main() {
                 eprintln!("different: {what}");
             }
             eprintln!(
-                "{} replies compared, {} different; refusals {:?}",
+                "{} replies compared, {} different; {} places; refusals {:?}",
                 compared.replies,
                 compared.different.len(),
+                compared.places,
                 compared.refusals
             );
             assert!(compared.different.is_empty());
         }
-        Some("time") => {
-            for mut o in workloads::operations() {
-                let [a, b, c, d] = times(&mut o.ours, &mut o.theirs);
-                println!("{}\t{a:.1}\t{b:.1}\t{c:.1}\t{d:.1}", o.name);
-            }
-        }
+        Some("time") => workloads::operations().into_iter().for_each(time),
         Some("list") => workloads::operations()
             .iter()
             .for_each(|o| println!("{}", o.name)),
@@ -112,7 +127,8 @@ fn main() {
             );
         }
         Some("table") => print!("{}", report::table(&rows(&words))),
+        Some("bad") => print!("{}", report::table_of_bad(&rows(&words))),
         Some("chart") => print!("{}", report::chart(&rows(&words))),
-        _ => panic!("compare, time, list, count, written, kinds, corrected, table or chart"),
+        _ => panic!("compare, time, list, count, written, kinds, corrected, table, bad or chart"),
     }
 }

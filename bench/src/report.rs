@@ -1,78 +1,112 @@
-//! The table and the chart of what was measured.
+//! The tables and the chart of what was measured.
 
 use std::fmt::Write;
 
-/// What was measured of an operation: nanoseconds (the least and the median of the rounds) and
-/// instructions of one call, ours and the crate's. No instructions where valgrind is not there.
+/// What was measured of an operation, each of ours, the crate's and C's: nanoseconds (the least and the
+/// median of the rounds) and instructions of one call. No instructions where valgrind is not there.
 pub struct Row {
     pub name: String,
-    pub ours: [f64; 2],
-    pub theirs: [f64; 2],
-    pub instructions: Option<[f64; 2]>,
+    /// Of bad input the row of good input that it is compared with.
+    pub good: String,
+    pub nanoseconds: [[f64; 2]; 3],
+    pub instructions: Option<[f64; 3]>,
 }
 
 impl Row {
-    // Ours over the crate's: of instructions where they were counted, since they are steady.
-    fn ratio(&self) -> f64 {
-        match self.instructions {
-            Some([ours, theirs]) => ours / theirs,
-            None => self.ours[0] / self.theirs[0],
-        }
+    fn is_good(&self) -> bool {
+        self.good == "-"
     }
+
+    // Instructions where they were counted, since they are steady, else the least times.
+    fn costs(&self) -> [f64; 3] {
+        self.instructions
+            .unwrap_or(self.nanoseconds.map(|least| least[0]))
+    }
+
+    // Ours over the crate's.
+    fn ratio(&self) -> f64 {
+        self.costs()[0] / self.costs()[1]
+    }
+
+    // Ours over C's.
+    fn left(&self) -> f64 {
+        self.costs()[0] / self.costs()[2]
+    }
+
+    // Ours over ours of the row of good input.
+    fn of_good(&self, rows: &[Row]) -> Option<f64> {
+        let good = rows.iter().find(|row| row.name == self.good)?;
+        Some(self.costs()[0] / good.costs()[0])
+    }
+
+    fn columns(&self) -> String {
+        let times = self.nanoseconds;
+        let times = times.map(|[least, median]| format!("{least:.0}, {median:.0}"));
+        let counts = match self.instructions {
+            Some(counts) => counts.map(|n| format!("{n:.0}")),
+            None => [(); 3].map(|_| "not counted".to_string()),
+        };
+        format!(
+            "{}|{}|{}|{:.2}|{:.2}",
+            self.name,
+            times.join("|"),
+            counts.join("|"),
+            self.ratio(),
+            self.left()
+        )
+    }
+}
+
+fn numbers<const N: usize>(columns: &[&str]) -> [f64; N] {
+    std::array::from_fn(|i| columns[i].parse().unwrap())
 }
 
 /// Reads the lines of `time`, and those of the counts, both with tabs between their columns.
 pub fn read(times: &str, counts: &str) -> Vec<Row> {
-    let numbers = |line: &str| -> (String, Vec<f64>) {
-        let mut columns = line.split('\t');
-        let name = columns.next().unwrap_or("").to_string();
-        (name, columns.filter_map(|c| c.parse().ok()).collect())
-    };
+    let columns = |line: &'_ str| -> Vec<String> { line.split('\t').map(str::to_string).collect() };
+    let counts: Vec<Vec<String>> = counts.lines().map(columns).collect();
     times
         .lines()
         .map(|line| {
-            let (name, n) = numbers(line);
-            let counted = counts
-                .lines()
-                .map(numbers)
-                .find(|(other, _)| *other == name);
+            let line: Vec<&str> = line.split('\t').collect();
+            let counted = counts.iter().find(|counted| counted[0] == line[0]);
+            let [a, b, c, d, e, f] = numbers(&line[2..]);
             Row {
-                name,
-                ours: [n[0], n[1]],
-                theirs: [n[2], n[3]],
-                instructions: counted.map(|(_, c)| [c[0], c[1]]),
+                name: line[0].to_string(),
+                good: line[1].to_string(),
+                nanoseconds: [[a, b], [c, d], [e, f]],
+                instructions: counted
+                    .map(|n| numbers(&n[1..].iter().map(String::as_str).collect::<Vec<_>>())),
             }
         })
         .collect()
 }
 
-/// The table in Markdown, with the ratio in its last column.
+const HEADS: &str = "|operation|ours, ns|crate, ns|C, ns|ours, instructions|crate, instructions|C, instructions|ours / crate|ours / C|";
+
+/// The table in Markdown of the rows that are not of bad input.
 pub fn table(rows: &[Row]) -> String {
-    let mut text = String::from(
-        "| operation | ours, ns (least, median) | crate, ns (least, median) | ours, instructions | crate, instructions | ratio |\n|---|---|---|---|---|---|\n",
-    );
-    for row in rows {
-        let counts = match row.instructions {
-            Some([ours, theirs]) => format!("{ours:.0} | {theirs:.0}"),
-            None => "not counted | not counted".to_string(),
-        };
-        writeln!(
-            text,
-            "| {} | {:.0}, {:.0} | {:.0}, {:.0} | {counts} | {:.2} |",
-            row.name,
-            row.ours[0],
-            row.ours[1],
-            row.theirs[0],
-            row.theirs[1],
-            row.ratio()
-        )
-        .unwrap();
+    let mut text = format!("{HEADS}\n{}\n", "|---".repeat(9) + "|");
+    for row in rows.iter().filter(|row| row.is_good()) {
+        writeln!(text, "|{}|", row.columns()).unwrap();
     }
     text
 }
 
-/// A bar for the ratio of each operation, with a line at 1.
+/// That of bad input, with ours over ours of good input in its last column.
+pub fn table_of_bad(rows: &[Row]) -> String {
+    let mut text = format!("{HEADS}bad / good|\n{}\n", "|---".repeat(10) + "|");
+    for row in rows.iter().filter(|row| !row.is_good()) {
+        let of_good = row.of_good(rows).unwrap();
+        writeln!(text, "|{}|{of_good:.2}|", row.columns()).unwrap();
+    }
+    text
+}
+
+/// A bar for the ratio of each operation that is not on bad input, a mark on it where C's is, and a line
+/// at 1.
 pub fn chart(rows: &[Row]) -> String {
+    let rows: Vec<&Row> = rows.iter().filter(|row| row.is_good()).collect();
     let (left, scale, step) = (330.0, 330.0, 26.0);
     let height = 30.0 + step * rows.len() as f64;
     let mut svg = format!(
@@ -83,11 +117,12 @@ pub fn chart(rows: &[Row]) -> String {
         let color = if ratio <= 1.0 { "#2a7f62" } else { "#b5541c" };
         writeln!(
             svg,
-            "<text x=\"{:.0}\" y=\"{:.0}\" text-anchor=\"end\">{}</text>\n<rect x=\"{left:.0}\" y=\"{y:.0}\" width=\"{:.1}\" height=\"18\" fill=\"{color}\"/>\n<text x=\"{:.1}\" y=\"{:.0}\">{ratio:.2}</text>",
+            "<text x=\"{:.0}\" y=\"{:.0}\" text-anchor=\"end\">{}</text>\n<rect x=\"{left:.0}\" y=\"{y:.0}\" width=\"{:.1}\" height=\"18\" fill=\"{color}\"/>\n<rect x=\"{:.1}\" y=\"{y:.0}\" width=\"2\" height=\"18\" fill=\"black\"/>\n<text x=\"{:.1}\" y=\"{:.0}\">{ratio:.2}</text>",
             left - 8.0,
             y + 14.0,
             row.name,
             scale * ratio,
+            left + scale * ratio / row.left(),
             left + scale * ratio + 6.0,
             y + 14.0
         )

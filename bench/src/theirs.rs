@@ -1,6 +1,6 @@
 //! The same calls of the Rust crate.
 
-use crate::ours::{BECH32, BECH32M};
+use crate::calls::{BECH32, BECH32M};
 use crate::Reply;
 use bech32::primitives::checksum::Engine;
 use bech32::primitives::correction::CorrectableError;
