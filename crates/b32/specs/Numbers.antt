@@ -1,5 +1,5 @@
 -- The numbers of refusals: those of `bech32_numbers`, with 4 and 5 for words that are not read, and
--- 91 for want of memory; 1 to 3 are those of `line_program`.
+-- 91 for out of memory; 1 to 3 are those of `line_program`.
 use Rattle.std.specs.Prelude.{ℕ}
 use Rattle.bech32_numbers.specs.Numbers.{number_of_hrp_error, number_of_decode_error}
 use Rattle.bech32_numbers.specs.Numbers.{number_of_encode_error, number_of_checked_error}
