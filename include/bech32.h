@@ -2,18 +2,19 @@
  * Bech32 (BIP-173) and Bech32m (BIP-350): texts and segwit addresses, written and read.
  *
  * The library is proved: each function does what is said here of every input, ends, and reads and
- * writes no memory but the caller's, within the lengths that are given. It takes no memory, keeps
- * nothing between calls, and needs no start-up; it calls memcpy, memmove and memset alone. Any
- * number of threads may call it.
+ * writes no memory but the caller's, within the lengths that are given. It takes no memory but what a
+ * caller lends to bech32_nearest, keeps nothing between calls, and needs no start-up; it calls memcpy,
+ * memmove and memset alone. Any number of threads may call it.
  *
  * Each function answers BECH32_OK, or the number of a refusal (below). On a refusal it writes
- * nothing, but for the place of bech32_fault: the buffers and the lengths stay as they were. Else what
- * it writes stands at the front of the buffer, and the bytes behind it stay as they were. Nothing is
- * ended by a zero byte.
+ * nothing, but for the place of bech32_fault and what stands in lent memory: the buffers and the
+ * lengths stay as they were. Else what it writes stands at the front of the buffer, and the bytes
+ * behind it stay as they were. Nothing is ended by a zero byte.
  *
  * A buffer is a pointer and the number of bytes it has room for. No pointer may be null, not even
  * that of an empty text or buffer, and nothing that a function writes to may overlap with anything
- * else that it is given. These two, and that the lengths are true, are all that a caller owes.
+ * else that it is given. These two, that the lengths are true, and what is said of lent memory, are
+ * all that a caller owes.
  *
  * Lengths are in bytes, which are characters where the text is accepted or written.
  *
@@ -50,10 +51,14 @@ extern "C" {
 #define BECH32_MAX_SEGWIT_PROGRAM 40u   /* a witness program */
 #define BECH32_MAX_LISTED 3u            /* the locations of a correction */
 
+/* The most errors that bech32_nearest looks for. */
+#define BECH32_MAX_ERRORS 2u
+
 /* Answers. */
 #define BECH32_OK 0u
 #define BECH32_NOT_UTF8 2u              /* a text or a human-readable part is not UTF-8 */
-#define BECH32_BAD_NUMBER 4u            /* the number of no checksum, or an element above 31 */
+#define BECH32_BAD_NUMBER 4u            /* the number of no checksum, an element above 31, or more
+                                           than BECH32_MAX_ERRORS errors */
 #define BECH32_HRP_EMPTY 11u            /* the human-readable part is empty */
 #define BECH32_HRP_TOO_LONG 12u         /* it has more than 83 bytes */
 #define BECH32_HRP_NOT_ASCII 13u        /* it has a character that is not ASCII */
@@ -77,6 +82,7 @@ extern "C" {
 #define BECH32_ENCODED_TOO_LONG 51u     /* the text would have more than 1023 characters */
 #define BECH32_ENCODED_BAD_VERSION 52u  /* the witness version is above 16 */
 #define BECH32_ENCODED_ADDRESS_TOO_LONG 53u /* the address would have more than 90 characters */
+#define BECH32_NO_MEMORY 91u            /* the lent memory did not suffice */
 #define BECH32_NO_ROOM 92u              /* a buffer is too small */
 
 /*
@@ -178,6 +184,38 @@ uint32_t bech32_correct(uint32_t checksum, const uint8_t *text, size_t text_leng
                         const size_t *erasures, size_t erasures_length, size_t *locations,
                         size_t locations_room, uint8_t *values, size_t values_room, size_t *count,
                         uint8_t *mended, size_t mended_room, size_t *mended_length);
+
+/*
+ * Memory that a function may use: `size` bytes from `start` on, aligned to 16 bytes, in which the caller
+ * keeps nothing. Afterwards it is the caller's again, and this the same, with every number but 91. With
+ * 91 it is so too, or, should the function ever keep the memory (no run is known to), `size` is 0.
+ */
+typedef struct {
+    uint8_t *start;
+    size_t size;
+} bech32_memory;
+
+/* So many bytes suffice for the near texts of an address (tested); for many texts, lend more. */
+#define BECH32_NEAREST_MEMORY(text_length) (16384u + 8u * (text_length))
+
+/*
+ * Lists the texts near to a mistyped one: all that a checksum (BECH32_BECH32 or BECH32_BECH32M) accepts
+ * and that differ from it in at most `errors` characters of the data part, 0 to BECH32_MAX_ERRORS, outside
+ * `erasures`. These are the locations of at most three characters that are known to be wrong; location 0
+ * is the last character. Where there are more, or one is not in the data part, no text is near.
+ *
+ * The texts, in lower case, are put into `texts` one behind another: *count texts of text_length bytes
+ * each. *count may be 0. Where the checksum accepts the text, it is itself the first. Without erasures
+ * there is at most one where the data part has up to 89 characters, as in each segwit address; with them,
+ * or in longer texts, there may be many. None may be what was meant: show them, and ask.
+ *
+ * Refusals, the first that applies: 4; 2; 21, 22, 23, 11 to 15; 31, 32; 92; and 91 in place of 0 or 92
+ * where `memory` does not suffice. Should the function ever keep the memory (above), `texts` may have
+ * changed; but for that, it is as it was.
+ */
+uint32_t bech32_nearest(uint32_t checksum, const uint8_t *text, size_t text_length,
+                        const size_t *erasures, size_t erasures_length, size_t errors,
+                        bech32_memory *memory, uint8_t *texts, size_t texts_room, size_t *count);
 
 #ifdef __cplusplus
 }

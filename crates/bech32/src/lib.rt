@@ -21,7 +21,8 @@ pub use bech32_bits::ByteIterExt;
 pub use bech32_block::PrintImpl;
 pub use bech32_checksum::{Bech32, Bech32m, Checksum, CorrectingChecksum, NoChecksum};
 pub use bech32_correction::{
-    CorrectError, CorrectableError, Correction, Mended, correct, correct_in,
+    CorrectError, CorrectableError, Correction, Mended, NearTexts, correct, correct_in, nearest,
+    nearest_in,
 };
 use bech32_decode::{CheckedHrpstring, CodeLengthError, UncheckedHrpstring, validate_either};
 pub use bech32_encode::Fe32IterExt;

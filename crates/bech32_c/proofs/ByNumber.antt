@@ -1,5 +1,5 @@
 -- The checksum of a number, and calls that are refused by it.
-use Rattle.std.proofs.Common.{◌≡◌, ℕ, Option, Some, None, MatchOption}
+use Rattle.std.proofs.Common.{◌≡◌, ℕ, Option, Some, None, MatchOption, refl}
 use Rattle.bech32_checksum.specs.Code.{Code}
 use Rattle.bech32_c.specs.Checksums.{code_of_number, ForChecksum, IsFaultBy}
 use Rattle.bech32_c.specs.declared.refusal.Refusal.{Refusal}
@@ -49,3 +49,21 @@ module _ (P : Code → Type 0) (IsFault : Code → Refusal → Type 0) (e : Refu
   -- what is wrong by any checksum of which something holds
   pub wrong_by : (n : ℕ) → ForChecksum n P → IsFaultBy n IsFault e
   wrong_by n = wrong_of (code_of_number n)
+
+module _ (P : Code → Type 0) (A B : Code → Refusal → Type 0) (e : Refusal) (more : (code : Code) → P code → A code e → B code e) where
+  fault_with_of : (o : Option Code) → MatchOption o ⊥ P → MatchOption o (e ≡ BadNumber) (λ code. A code e) → MatchOption o (e ≡ BadNumber) (λ code. B code e)
+  fault_with_of None h f = absurd h
+  fault_with_of (Some code) h f = more code h f
+
+  -- the same of which something else holds too
+  pub fault_with : (n : ℕ) → ForChecksum n P → IsFaultBy n A e → IsFaultBy n B e
+  fault_with n = fault_with_of (code_of_number n)
+
+module _ (IsFault : Code → Refusal → Type 0) (wrong : (code : Code) → IsFault code BadNumber) where
+  number_of_any : (o : Option Code) → MatchOption o (BadNumber ≡ BadNumber) (λ code. IsFault code BadNumber)
+  number_of_any None = refl
+  number_of_any (Some code) = wrong code
+
+  -- a number that is wrong by any checksum
+  pub wrong_number : (n : ℕ) → IsFaultBy n IsFault BadNumber
+  wrong_number n = number_of_any (code_of_number n)

@@ -4,9 +4,11 @@ pub mod ByNumber
 pub mod Checking
 pub mod Decoding
 pub mod Encoding
+pub mod Joined
 pub mod Letters
 pub mod Listings
 pub mod Mending
+pub mod Near
 pub mod Places
 pub mod Puts
 pub mod Runs

@@ -3,7 +3,6 @@ use Rattle.std.specs.Prelude.{map}
 use Rattle.std.specs.List.{AllByRecursion}
 use Rattle.std.proofs.Common.{◌≡◌, ◌<◌, ◌≤◌, ◌+◌, ◌⊎◌, ℕ, List, [], ◌∷◌, ◌++◌, None, Some, length, length-append, inl, inr, sym, ap, subst, ◌∙◌, arith}
 use Rattle.std.proofs.lemmas.List.{length-map}
-use Rattle.std.specs.Str.{IsUtf8}
 use Rattle.bech32_gf.specs.Fe32.{elements_of, ops, value}
 use Rattle.bech32_gf.specs.declared.gf32.Fe32.{Fe32}
 use Rattle.bech32_poly.specs.Distinct.{IsAmong}
@@ -31,7 +30,7 @@ use Rattle.bech32_correction.specs.MendedElements.{EndsIn, mended as mended_of}
 use Rattle.bech32_correction.specs.Mistyped.{AreInside, HasNoListing, IsListingOf, IsRefusedFor, question_of}
 use Rattle.bech32_correction.proofs.Sound.{sound_of}
 use Rattle.bech32_correction.proofs.Texts.{IsMendable, ends-lowered, mendable-from_accepts, mendable-from_listing, mended_text-from_ends}
-use Rattle.bech32_c.specs.Correct.{CanMend, IsCorrectFault, IsListingFault, IsMendedBy, LacksRoomForMended, PutsMended, bound}
+use Rattle.bech32_c.specs.Correct.{CanMend, IsCorrectFault, IsListingFault, IsMendedBy, IsReadFault, LacksRoomForMended, PutsMended, bound}
 use Rattle.bech32_c.specs.declared.refusal.Refusal.{Refusal}
 use Rattle.bech32_c.specs.declared.refusal.Refusal.TheVariants.{NotUtf8, Text, Checksum, NoCorrection, NoRoom}
 use Rattle.bech32_c.proofs.Letters.{IsUtf8-from_text}
@@ -173,6 +172,11 @@ module _ (text given : List ℕ) (code : Code) where
   no_correct_fault m n r NoCorrection can h = no_solution can.listing can.mended_by h
   no_correct_fault m n r NoRoom can h = no_room_fault m n r can h
   no_correct_fault m n r _ can h = h
+
+-- why no residue is read is why the text is not to be mended
+pub unread_there : (text given : List ℕ) (e : Refusal) (code : Code) → IsReadFault text code e → IsListingFault text given code e
+unread_there text given NoCorrection code h = absurd h
+unread_there text given _ code h = h
 
 -- why a text is not to be mended is why nothing is put
 pub fault_there : (text given : List ℕ) (m n r : ℕ) (e : Refusal) (code : Code) → IsListingFault text given code e → IsCorrectFault text given m n r code e

@@ -62,15 +62,19 @@ pub record LacksRoomForMended (text given : List ℕ)
   pub lacks : (places_room < length listing)
       ⊎ ((values_room < length listing) ⊎ (text_room < length text))
 
--- why a text is not to be mended: the bytes are not a text, the text is refused and not for its
--- residue, or no pattern in the data part solves that
-abbrev pub IsListingFault : List ℕ → List ℕ → Code → Refusal → Type 0
-IsListingFault text given code NotUtf8 = ¬ (IsUtf8 text)
-IsListingFault text given code (Text e) = IsUtf8 text × IsCheckedRefusal code text (Parse e)
-IsListingFault text given code (Checksum e) =
+-- why no residue of a text is read: the bytes are not a text, or the text is refused, and not for
+-- its residue
+abbrev pub IsReadFault : List ℕ → Code → Refusal → Type 0
+IsReadFault text code NotUtf8 = ¬ (IsUtf8 text)
+IsReadFault text code (Text e) = IsUtf8 text × IsCheckedRefusal code text (Parse e)
+IsReadFault text code (Checksum e) =
     IsUtf8 text × IsCheckedRefusal code text (NotAccepted e) × (of_checked (NotAccepted e) ≡ None)
+IsReadFault text code _ = ⊥
+
+-- why a text is not to be mended: no residue is read, or no pattern in the data part solves it
+abbrev pub IsListingFault : List ℕ → List ℕ → Code → Refusal → Type 0
 IsListingFault text given code NoCorrection = HasNoListing code bound text given
-IsListingFault text given code _ = ⊥
+IsListingFault text given code e = IsReadFault text code e
 
 -- why nothing is put into buffers of these sizes
 abbrev pub IsCorrectFault : List ℕ → List ℕ → ℕ → ℕ → ℕ → Code → Refusal → Type 0

@@ -1,5 +1,6 @@
 -- The numbers of refusals: those of `bech32_numbers`, with 2 for bytes that are not a text, 4 for a
--- number that is that of no checksum or of no element, and 92 for a buffer that is too small.
+-- number that is not taken, 91 for lent memory that does not suffice, and 92 for a buffer that is
+-- too small.
 use Rattle.std.specs.Prelude.{ℕ}
 use Rattle.bech32.specs.declared.error.EncodeError.TheVariants.{TooLong as LongText}
 use Rattle.bech32_segwit.specs.declared.error.EncodeError.TheVariants.{WitnessVersion}
@@ -10,16 +11,18 @@ use Rattle.bech32_numbers.specs.Numbers.{number_of_address_error, number_of_no_c
 use Rattle.bech32_numbers.specs.Numbers.{number_of_encode_error, number_of_segwit_encode_error}
 use Rattle.bech32_c.specs.declared.refusal.Refusal.{Refusal}
 use Rattle.bech32_c.specs.declared.refusal.Refusal.TheVariants.{NotUtf8, BadNumber, NoRoom}
-use Rattle.bech32_c.specs.declared.refusal.Refusal.TheVariants.{NoCorrection, Hrp, TooLong, Text}
+use Rattle.bech32_c.specs.declared.refusal.Refusal.TheVariants.{NoCorrection, Memory}
+use Rattle.bech32_c.specs.declared.refusal.Refusal.TheVariants.{Hrp, TooLong, Text}
 use Rattle.bech32_c.specs.declared.refusal.Refusal.TheVariants.{Checksum, Version, ProgramLength}
 use Rattle.bech32_c.specs.declared.refusal.Refusal.TheVariants.{AddressTooLong, Address}
 
--- of any refusal (91, out of memory, is never returned, since no call allocates)
+-- of any refusal
 abbrev pub number_of : Refusal → ℕ
 number_of NotUtf8 = 2
 number_of BadNumber = 4
 number_of NoRoom = 92
 number_of NoCorrection = number_of_no_correction
+number_of Memory = 91
 number_of (Hrp e) = number_of_hrp_error e
 number_of (TooLong e) = number_of_encode_error (LongText e)
 number_of (Text e) = number_of_text_error e

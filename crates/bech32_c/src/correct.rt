@@ -10,7 +10,7 @@ ghost use Rattle.bech32_hrp.specs.Hrp.{lowered};
 ghost use Rattle.bech32_correction.specs.MendedElements.{EndsIn, mended as mended_of};
 ghost use Rattle.bech32_correction.specs.Mistyped.{IsListing};
 ghost use Rattle.bech32_c.specs.Checksums.{ForChecksum, IsFaultBy};
-ghost use Rattle.bech32_c.specs.Correct.{CanMend, IsCorrectFault, IsListingFault, IsMendedBy, PutsMended, bound};
+ghost use Rattle.bech32_c.specs.Correct.{CanMend, IsCorrectFault, IsListingFault, IsMendedBy, IsReadFault, PutsMended, bound};
 ghost use Rattle.bech32_c.specs.Faults.{IsNumberOf};
 
 use crate::checksum::{BECH32, BECH32M};
@@ -19,15 +19,15 @@ use crate::refusal::Refusal;
 use bech32::Fe32;
 use bech32_correction::{Correction, Listing, NoMemory, bech32_listing, bech32m_listing, mend};
 
-// What the checksum of a number finds for a text.
-fn correction_by(
+/// What the checksum of a number finds for a text.
+pub(crate) fn correction_by(
     checksum: u32,
     bytes: &[u8],
     given: &[usize],
 ) -> Result<Correction<Listing<NoMemory>>, Refusal>
     ensures { MatchResult result
         (λ answer. ForChecksum checksum (λ code. IsListing code bound bytes.now given.now answer))
-        (λ e. IsFaultBy checksum (IsListingFault bytes.now given.now) e) }
+        (λ e. IsFaultBy checksum (IsReadFault bytes.now) e) }
 {
     match checksum {
         BECH32 => Ok(bech32_listing(text_of(bytes)?, given)?),

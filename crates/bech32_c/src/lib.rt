@@ -3,7 +3,7 @@
 //!
 //! Each call returns 0, or the number of a refusal (`specs/Numbers.antt`). What it writes stands at
 //! the front of the caller's buffers; behind it nothing changes, and on a refusal nothing changes
-//! at all. No call allocates.
+//! at all. No call takes any memory but what a caller lends to `bech32_nearest`.
 //!
 //! A `&[u8]` or a `&mut [u8]` is a pointer and then a length to C, and a `&mut` a pointer. None of
 //! these pointers may be null, and what one points to may not overlap with what a `&mut` does.
@@ -17,6 +17,7 @@ pub mod encode;
 pub mod engine;
 pub mod fault;
 mod input;
+pub mod nearest;
 mod refusal;
 pub mod segwit;
 #[cfg(test)]

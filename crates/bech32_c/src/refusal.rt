@@ -9,7 +9,7 @@ use bech32::primitives::decode::{
 };
 use bech32::primitives::hrp;
 use bech32::primitives::segwit::{InvalidWitnessVersionError, WitnessLengthError};
-use bech32::{EncodeError, segwit};
+use bech32::{CorrectError, EncodeError, segwit};
 use bech32_numbers::{
     NO_CORRECTION, address_error_number, checksum_error_number, encode_error_number,
     hrp_error_number, length_error_number, segwit_encode_error_number, text_error_number,
@@ -26,6 +26,8 @@ pub enum Refusal {
     NoRoom,
     /// No correction mends the text.
     NoCorrection,
+    /// Lent memory does not suffice.
+    Memory,
     /// A human-readable part is none.
     Hrp(hrp::Error),
     /// The text would be longer than the checksum's code.
@@ -55,6 +57,7 @@ impl Refusal {
             Refusal::BadNumber => 4,
             Refusal::NoRoom => 92,
             Refusal::NoCorrection => NO_CORRECTION,
+            Refusal::Memory => 91,
             Refusal::Hrp(e) => hrp_error_number(e),
             Refusal::TooLong(e) => encode_error_number(EncodeError::TooLong(e)),
             Refusal::Text(e) => text_error_number(e),
@@ -128,6 +131,19 @@ impl From<CheckedHrpstringError> for Refusal {
         match e {
             CheckedHrpstringError::Parse(e) => Refusal::Text(e),
             CheckedHrpstringError::Checksum(e) => Refusal::Checksum(e),
+        }
+    }
+}
+
+impl From<CorrectError> for Refusal {
+    ghost use Rattle.bech32_c.specs.Nearest.{refusal_of_correct};
+
+    ghost from_gives = { λ e r. r ≡ refusal_of_correct e };
+
+    fn from(e: CorrectError) -> Refusal {
+        match e {
+            CorrectError::Refused(e) => Refusal::from(e),
+            CorrectError::Memory => Refusal::Memory,
         }
     }
 }

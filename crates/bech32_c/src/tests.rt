@@ -1,3 +1,5 @@
+mod near;
+
 use crate::correct::bech32_correct;
 use crate::decode::{bech32_check, bech32_decode};
 use crate::encode::bech32_encode;

@@ -32,7 +32,7 @@ use Rattle.bech32_correction.specs.Mistyped.{AreInside, HasNoListing, IsCorrectR
 use Rattle.bech32_correction.specs.declared.correcting.Correction.{Correction}
 use Rattle.bech32_correction.specs.declared.error.CorrectError.{CorrectError}
 use Rattle.bech32_correction.specs.declared.error.CorrectError.TheVariants.{Memory, Refused}
-use Rattle.bech32_correction.proofs.Accepted.{mended_accepted}
+use Rattle.bech32_correction.proofs.Accepted.{mended_accepted, read-from_refused}
 use Rattle.bech32_correction.proofs.Inside.{all-with_erasures, listed_inside}
 use Rattle.bech32_correction.proofs.Sound.{sound_of}
 
@@ -77,7 +77,7 @@ listing-from_only code bound text given hrp data_part residue listing is inside 
   mends = (
     lowered hrp,
     map char_of_element (mended ops listing (elements_of data_part)),
-    mended_accepted code text hrp data_part residue listing is
+    mended_accepted code text hrp data_part residue listing (read-from_refused code text hrp data_part residue is)
         (listed_inside is_field code.generator residue (with_erasures [] given) (length data_part) bound listing
         (sound_of code bound (question_of data_part residue given) listing only)
         (all-with_erasures (λ i. i < length data_part) [] given tt inside)) only.mends,

@@ -7,6 +7,7 @@ ghost use Rattle.bech32_bch.specs.Search.{locators};
 ghost use Rattle.bech32_correction.specs.Question.{IsAnswerTo};
 
 use crate::division::has_residue;
+use crate::single::correct_single;
 use bech32_bch::{Roots, ShortVec, candidate};
 use bech32_checksum::Checksum;
 use bech32_gf::gf32::Fe32;
@@ -22,9 +23,8 @@ pub(crate) fn bound<Ck: Checksum>() -> usize
     Ck::ROOT_EXPONENTS_END - Ck::ROOT_EXPONENTS_START + 1
 }
 
-/// The errors below the window, and the elements at the erasures, that explain the residue. `known`
-/// are the locators of the erasures.
-pub(crate) fn correct<Ck: Checksum, A: Allocator + Copy>(
+// What `correct` answers, by the generator's roots: for any bound and any erasures.
+fn correct_by_roots<Ck: Checksum, A: Allocator + Copy>(
     alloc: A,
     window: usize,
     residue: &[Fe32],
@@ -53,4 +53,29 @@ pub(crate) fn correct<Ck: Checksum, A: Allocator + Copy>(
     } else {
         Ok(None)
     }
+}
+
+/// The errors below the window, and the elements at the erasures, that explain the residue. `known`
+/// are the locators of the erasures.
+pub(crate) fn correct<Ck: Checksum, A: Allocator + Copy>(
+    alloc: A,
+    window: usize,
+    residue: &[Fe32],
+    erasures: &ShortVec<usize, A>,
+    known: &FieldVec<Ck::CorrectionField, A>,
+) -> Result<Option<ShortVec<(usize, Fe32), A>>, AllocError>
+    requires lawful { AreLawfulRoots Ck.CorrectionField.ops Ck.CorrectionField.embed Ck.code
+        Ck.ROOT_GENERATOR Ck.ROOT_EXPONENTS_START Ck.ROOT_EXPONENTS_END }
+    requires within { window ≤ Ck.CODE_LENGTH }
+    requires erased { AreErasures window erasures.now }
+    requires known { known.now ≡ locators Ck.CorrectionField.ops Ck.ROOT_GENERATOR erasures.now }
+    ensures answer { IfOk result (λ answer. IsAnswerTo Ck.code Ck.bound
+        (record { residue = residue.now; window = window; erasures = erasures.now }) answer) }
+    ensures in_place { length Ck.code.generator ≤ 6 → IsOk result }
+{
+    let most = bound::<Ck>();
+    if erasures.len() == 0 && most >= 2 && most <= 3 {
+        return correct_single::<Ck, A>(alloc, window, residue);
+    }
+    correct_by_roots::<Ck, A>(alloc, window, residue, erasures, known)
 }

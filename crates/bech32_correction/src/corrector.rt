@@ -5,10 +5,13 @@ ghost use Rattle.std.specs.List.{AllByRecursion};
 ghost use Rattle.bech32_checksum.specs.Roots.{AreLawfulRoots};
 ghost use Rattle.bech32_bch.specs.Erasures.{AreErasures, with_erasures};
 ghost use Rattle.bech32_bch.specs.Search.{locators};
+ghost use Rattle.bech32_correction.specs.NearestSteps.{IsTakenOff};
 ghost use Rattle.bech32_correction.specs.Question.{IsAnswerTo, Question};
+ghost use Rattle.bech32_gf.specs.Fe32 as fe32;
 ghost use Rattle.bech32_poly.specs.FieldVec.{FitsInPlace};
 
 use crate::correction::{bound, correct};
+use crate::division::residue_without;
 use crate::errors::{ErrorIterator, ShortIter};
 use bech32_bch::{ShortVec, contains, locators_of};
 use bech32_checksum::Checksum;
@@ -186,6 +189,31 @@ impl<Ck: Checksum, A: Allocator + Copy> Corrector<Ck, A> {
             Some(items) => Ok(Some(ShortIter { items, given: 0 })),
             None => Ok(None),
         }
+    }
+
+    // The erasures.
+    pub(crate) fn erasures(&self) -> &[usize]
+        ensures value { result.now ≡ self.now.erasures }
+        ensures lawful { AreErasures self.now.window self.now.erasures }
+    {
+        self.erasures.as_slice()
+    }
+
+    // The allocator.
+    pub(crate) fn allocator(&self) -> A {
+        self.erasures.allocator()
+    }
+
+    // The corrector of what is left of the residue where an error is taken off.
+    pub(crate) fn without_error(&self, error: (usize, Fe32)) -> Result<Self, AllocError>
+        ensures window { IfOk result (λ left. left.window ≡ self.now.window) }
+        ensures erasures { IfOk result (λ left. left.erasures ≡ self.now.erasures) }
+        ensures residue { IfOk result (λ left.
+            IsTakenOff fe32.ops Ck.code.generator self.now.residue error left.residue) }
+    {
+        let mut left = self.clone()?;
+        left.residue = residue_without::<Ck>(&self.residue, error);
+        Ok(left)
     }
 }
 

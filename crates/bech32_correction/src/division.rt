@@ -1,10 +1,11 @@
 //! The second division: whether a listed pattern has the residue as remainder, by the checksum's
 //! own engine.
 
-ghost use Rattle.std.specs.Prelude.{◌≡◌, ◌≤◌, ◌<◌, ◌↔◌, ℕ, IsTrue};
+ghost use Rattle.std.specs.Prelude.{◌≡◌, ◌≤◌, ◌<◌, ◌↔◌, ℕ, length, IsTrue};
 ghost use Rattle.bech32_checksum.specs.Code.{IsResidueOf};
 ghost use Rattle.bech32_checksum.specs.Packed.{HasDigits, digit_of};
 ghost use Rattle.bech32_bch.specs.Pattern.{HasRemainder};
+ghost use Rattle.bech32_correction.specs.NearestSteps.{IsTakenOff};
 ghost use Rattle.bech32_gf.specs.Fe32 as fe32;
 ghost use Rattle.bech32_poly.specs.Pattern.{pattern_polynomial};
 ghost use Rattle.bech32_poly.specs.Polynomial.{coefficient};
@@ -12,6 +13,7 @@ ghost use Rattle.bech32_poly.specs.Polynomial.{coefficient};
 use bech32_bch::{highest_place, value_at_place};
 use bech32_checksum::{Checksum, Engine, PackedFe32};
 use bech32_gf::gf32::Fe32;
+use bech32_refusals::MAX_DEGREE;
 
 // An engine that was given the polynomial of a listed pattern, from its highest place down.
 fn listed_engine<Ck: Checksum>(listing: &[(usize, Fe32)]) -> Engine<Ck>
@@ -28,8 +30,8 @@ fn listed_engine<Ck: Checksum>(listing: &[(usize, Fe32)]) -> Engine<Ck>
     engine
 }
 
-// The coefficient that a packed row has at a place.
-fn packed_coefficient<R: PackedFe32>(row: &R, place: usize) -> Fe32
+/// The coefficient that a packed row has at a place.
+pub(crate) fn packed_coefficient<R: PackedFe32>(row: &R, place: usize) -> Fe32
     requires { HasDigits R.WIDTH (R.number row.now) }
     ensures { result ≡ digit_of (R.number row.now) place }
 {
@@ -39,8 +41,8 @@ fn packed_coefficient<R: PackedFe32>(row: &R, place: usize) -> Fe32
     Fe32::from_low_bits(row.unpack(place))
 }
 
-// The coefficient that a list has at a place.
-fn listed_coefficient(list: &[Fe32], place: usize) -> Fe32
+/// The coefficient that a list has at a place.
+pub(crate) fn listed_coefficient(list: &[Fe32], place: usize) -> Fe32
     ensures { result ≡ coefficient fe32.ops list.now place }
 {
     if place < list.len() {
@@ -63,6 +65,23 @@ fn is_same<R: PackedFe32>(row: &R, list: &[Fe32]) -> bool
         }
     }
     true
+}
+
+/// What is left of a residue where one error is taken off; an element is its own negative.
+pub(crate) fn residue_without<Ck: Checksum>(
+    residue: &[Fe32],
+    error: (usize, Fe32),
+) -> [Fe32; MAX_DEGREE]
+    requires { length residue.now ≤ 25 }
+    ensures { IsTakenOff fe32.ops Ck.code.generator residue.now error result }
+{
+    let engine = listed_engine::<Ck>(&[error]);
+    let row = engine.residue();
+    let mut left = [Fe32::Q; MAX_DEGREE];
+    for place in 0..MAX_DEGREE {
+        left[place] = listed_coefficient(residue, place) + packed_coefficient(row, place);
+    }
+    left
 }
 
 /// Whether the polynomial of a listed pattern has the residue as remainder.

@@ -11,8 +11,11 @@ mod erasures;
 mod error;
 mod errors;
 mod mending;
+mod near_patterns;
+mod near_texts;
 mod no_memory;
 mod one_call;
+mod single;
 
 pub use self::correctable::CorrectableError;
 pub use self::correcting::{
@@ -22,5 +25,7 @@ pub use self::corrector::Corrector;
 pub use self::error::CorrectError;
 pub use self::errors::ErrorIterator;
 pub use self::mending::{mend, mended_in};
+pub use self::near_patterns::Listings;
+pub use self::near_texts::{NearTexts, nearest, nearest_in};
 pub use self::no_memory::NoMemory;
 pub use self::one_call::{Mended, MendedBy, correct, correct_in};

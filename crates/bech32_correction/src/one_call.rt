@@ -29,8 +29,8 @@ pub struct MendedBy<L, S> {
 /// How a text is corrected, with memory of an allocator.
 pub type Mended<A = Global> = MendedBy<Listing<A>, String<A>>;
 
-// The text with the listing added.
-fn mended_by<A: Allocator + Copy>(
+/// The text with the listing added.
+pub(crate) fn mended_by<A: Allocator + Copy>(
     alloc: A,
     text: &str,
     listing: Listing<A>,

@@ -6,7 +6,7 @@ use Rattle.bech32_gf.specs.laws.Fe32Laws.{is_field}
 use Rattle.bech32_gf.specs.declared.gf32.Fe32.{Fe32}
 use Rattle.bech32_poly.specs.Polynomial.{coefficient}
 use Rattle.bech32_poly.specs.Remainder.{IsRemainder}
-use Rattle.bech32_poly.proofs.Remainder.{remainder_exists}
+use Rattle.bech32_poly.proofs.Remainder.{remainder_exists, remainder_unique}
 use Rattle.bech32_poly.specs.Division.{remainder_of}
 use Rattle.bech32_checksum.specs.Code.{Code}
 use Rattle.bech32_checksum.specs.Packed.{digit_of, digits}
@@ -58,3 +58,12 @@ module _ (code : Code) (d t : ℕ) (degree : length code.generator ≡ d) (row :
     actual = λ i. actual i ∙ sym (coefficient-digits d residue i small);
     target = λ i. wanted i ∙ sym (coefficient-digits d t i small') ∙ ap (λ (xs : List Fe32). coefficient fe32.ops xs i) (sym row);
   }
+
+  -- so that the target is not the remainder
+  pub no_target : (residue : ℕ) (p : List Fe32) → residue < 2 ^ (5 * d) → t < 2 ^ (5 * d) → residue ≢ t
+      → IsRemainder fe32.ops code.generator p (digits (length code.generator) residue)
+      → IsRemainder fe32.ops code.generator p code.target → ⊥
+  no_target residue p small small' ne h wanted =
+      let found : digits (length code.generator) residue ≡ remainder_of fe32.ops code.generator p = remainder_unique is_field code.generator p _ h in
+      let same : code.target ≡ remainder_of fe32.ops code.generator p = remainder_unique is_field code.generator p _ wanted in
+      ne (digits-injective d residue t small small' (ap (λ k. digits k residue) (sym degree) ∙ found ∙ sym same ∙ row))

@@ -5,7 +5,6 @@ use Rattle.std.specs.Str.{IsUtf8}
 use Rattle.bech32_gf.specs.Fe32.{ops, elements_of}
 use Rattle.bech32_gf.specs.laws.Fe32Laws.{is_field}
 use Rattle.bech32_gf.specs.declared.gf32.Fe32.{Fe32}
-use Rattle.bech32_poly.specs.Polynomial.{IsSamePolynomial, coefficient}
 use Rattle.bech32_poly.specs.Remainder.{IsRemainder}
 use Rattle.bech32_poly.proofs.Remainder.{remainder_unique}
 use Rattle.bech32_bits.specs.Bits.{to_bytes}
@@ -16,15 +15,12 @@ use Rattle.bech32_decode.specs.Acceptance.{IsAccepted, Accepts, IsDecoded}
 use Rattle.bech32_decode.specs.BeforeChecksum.{IsBeforeChecksum}
 use Rattle.bech32_decode.specs.Checked.{IsWithoutChecksum, IsAcceptedAs, IsCheckedRefusal}
 use Rattle.bech32_decode.specs.Refusals.{HasValidChecksum, IsChecksumRefusal, IsRefusedByBoth}
-use Rattle.bech32_refusals.specs.ResidueRows.{IsResidueError, actual_row}
 use Rattle.bech32_decode.specs.declared.checked.CheckedHrpstring.{CheckedHrpstring}
 use Rattle.bech32_decode.specs.declared.unchecked.UncheckedHrpstring.{UncheckedHrpstring}
 use Rattle.bech32_refusals.specs.declared.error.CheckedHrpstringError.{CheckedHrpstringError}
 use Rattle.bech32_refusals.specs.declared.error.CheckedHrpstringError.TheVariants.{Parse as ParseFailed, Checksum as ChecksumFailed}
 use Rattle.bech32_refusals.specs.declared.error.ChecksumError.{ChecksumError}
 use Rattle.bech32_refusals.specs.declared.error.ChecksumError.TheVariants.{CodeLength, InvalidLength, InvalidResidue}
-use Rattle.bech32_refusals.specs.declared.error.InvalidResidueError.{InvalidResidueError}
-use Rattle.bech32_refusals.proofs.Coefficients.{same_row}
 use Rattle.bech32_decode.proofs.Grammar.{only-from_IsText, text_refusal-none}
 
 pub accepted : (code : Code) (text hrp data_part : List ℕ) → IsText text hrp data_part → HasValidChecksum code (length text) hrp data_part → IsAccepted code text hrp data_part
@@ -47,17 +43,6 @@ pub not_valid : (code : Code) (n : ℕ) (hrp data_part : List ℕ) (e : Checksum
 not_valid code n hrp data_part (CodeLength e) r v = let a : code.code_length < n = r.0 in let b : n ≤ code.code_length = v.0 in absurd (omega arith)
 not_valid code n hrp data_part InvalidLength r v = let a : length data_part < length code.generator = r.1 in let b : length code.generator ≤ length data_part = v.1 in absurd (omega arith)
 not_valid code n hrp data_part (InvalidResidue e) r v = r.2.not_target (one_remainder code.generator _ _ _ r.2.is_remainder v.2)
-
--- the polynomials of Bech32 and Bech32m differ in the target alone
-pub matches-from_valid : (p : List Fe32) (e : InvalidResidueError) → IsResidueError bech32m p e → IsRemainder ops bech32.generator p bech32.target
-    → IsSamePolynomial ops (actual_row e) bech32.target
-matches-from_valid p e r v n = r.actual n ∙ ap (λ (xs : List Fe32). coefficient ops xs n) (one_remainder bech32m.generator p _ _ r.is_remainder v)
-
-pub valid-from_matches : (p : List Fe32) (e : InvalidResidueError) → IsResidueError bech32m p e → IsSamePolynomial ops (actual_row e) bech32.target
-    → IsRemainder ops bech32.generator p bech32.target
-valid-from_matches p e r same =
-    let row : r.remainder ≡ bech32.target = same_row r.remainder bech32.target r.is_remainder.short (λ n. sym (r.actual n) ∙ same n) in
-    subst (IsRemainder ops bech32.generator p) row r.is_remainder
 
 pub refused_by_both : (text hrp data_part : List ℕ) (e : ChecksumError) → IsText text hrp data_part
     → IsChecksumRefusal bech32m (length text) hrp data_part e → (HasValidChecksum bech32 (length text) hrp data_part → ⊥) → IsRefusedByBoth text e

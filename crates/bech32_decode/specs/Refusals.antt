@@ -31,6 +31,11 @@ IsChecksumRefusal code n hrp data_part (InvalidResidue e) =
     (n ≤ code.code_length) × (length code.generator ≤ length data_part)
     × IsResidueError code (text_polynomial hrp (elements_of data_part)) e
 
+-- a text that was read is not longer than the code, and has room for the checksum
+abbrev pub HasLengthsOf : Code → UncheckedHrpstring → Type 0
+HasLengthsOf code u =
+    (unchecked_length u ≤ code.code_length) × (length code.generator ≤ length (unchecked_data u))
+
 -- the checksum of a text that was read is right
 abbrev pub IsValidBy : Code → UncheckedHrpstring → Type 0
 IsValidBy code u = HasValidChecksum code (unchecked_length u) (unchecked_part u) (unchecked_data u)

@@ -4,9 +4,10 @@ ghost use Rattle.std.specs.Prelude.{◌⊎◌, MatchResult};
 ghost use Rattle.bech32_checksum.specs.Code.{bech32, bech32m};
 ghost use Rattle.bech32_decode.specs.Refusals.{IsValidBy, IsInvalidBy};
 
+use crate::residue::residue_of;
 use crate::unchecked::UncheckedHrpstring;
-use bech32_checksum::Bech32m;
-use bech32_refusals::ChecksumError;
+use bech32_checksum::{Bech32, Bech32m, Checksum};
+use bech32_refusals::{ChecksumError, InvalidResidueError};
 
 /// Tests the checksum as Bech32m and as Bech32, in one pass: they differ in the target alone.
 ///
@@ -18,8 +19,10 @@ pub fn validate_either(unchecked: &UncheckedHrpstring<'_>) -> Result<(), Checksu
         (λ _. IsValidBy bech32m unchecked.now ⊎ IsValidBy bech32 unchecked.now)
         (λ e. IsInvalidBy bech32m unchecked.now e × ¬ IsValidBy bech32 unchecked.now) }
 {
-    match unchecked.validate_checksum::<Bech32m>() {
-        Err(ChecksumError::InvalidResidue(e)) if e.matches_bech32_checksum() => Ok(()),
-        outcome => outcome,
+    unchecked.validate_lengths::<Bech32m>()?;
+    let residue = residue_of::<Bech32m>(unchecked.hrp(), unchecked.data_part_ascii());
+    if residue == Bech32m::TARGET_RESIDUE || residue == Bech32::TARGET_RESIDUE {
+        return Ok(());
     }
+    Err(ChecksumError::InvalidResidue(InvalidResidueError::new(&residue, &Bech32m::TARGET_RESIDUE)))
 }

@@ -59,7 +59,7 @@ fn before_separator(s: &str) -> Result<Option<&str>, CharError>
 impl<'s> UncheckedHrpstring<'s> {
     ghost use Rattle.bech32_decode.specs.Checked.{IsWithoutChecksum};
     ghost use Rattle.bech32_decode.specs.Parts.{unchecked_hrp, unchecked_part, unchecked_data, unchecked_length};
-    ghost use Rattle.bech32_decode.specs.Refusals.{IsValidBy, IsInvalidBy};
+    ghost use Rattle.bech32_decode.specs.Refusals.{HasLengthsOf, IsValidBy, IsInvalidBy};
 
     // A text in its parts, or its first fault.
     fn read(s: &'s str) -> Result<Self, UncheckedHrpstringError>
@@ -146,6 +146,25 @@ impl<'s> UncheckedHrpstring<'s> {
         Some(version)
     }
 
+    // Tests that the text is not longer than the code, and its data part has room for the checksum.
+    #[inline]
+    pub(crate) fn validate_lengths<Ck: Checksum>(&self) -> Result<(), ChecksumError>
+        ensures { MatchResult result
+            (λ _. HasLengthsOf Ck.code self.now)
+            (λ e. IsInvalidBy Ck.code self.now e × ¬ HasLengthsOf Ck.code self.now) }
+    {
+        if self.hrpstring_length > Ck::CODE_LENGTH {
+            return Err(ChecksumError::CodeLength(CodeLengthError {
+                encoded_length: self.hrpstring_length,
+                code_length: Ck::CODE_LENGTH,
+            }));
+        }
+        if self.data_part_ascii.len() < Ck::CHECKSUM_LENGTH {
+            return Err(ChecksumError::InvalidLength);
+        }
+        Ok(())
+    }
+
     /// Tests the checksum of the data part. A checksum of degree 0 asks nothing of it.
     ///
     /// # Errors
@@ -157,17 +176,9 @@ impl<'s> UncheckedHrpstring<'s> {
             (λ _. IsValidBy Ck.code self.now)
             (λ e. IsInvalidBy Ck.code self.now e) }
     {
-        if self.hrpstring_length > Ck::CODE_LENGTH {
-            return Err(ChecksumError::CodeLength(CodeLengthError {
-                encoded_length: self.hrpstring_length,
-                code_length: Ck::CODE_LENGTH,
-            }));
-        }
+        self.validate_lengths::<Ck>()?;
         if Ck::CHECKSUM_LENGTH == 0 {
             return Ok(());
-        }
-        if self.data_part_ascii.len() < Ck::CHECKSUM_LENGTH {
-            return Err(ChecksumError::InvalidLength);
         }
         let residue = residue_of::<Ck>(self.hrp, self.data_part_ascii);
         if residue != Ck::TARGET_RESIDUE {

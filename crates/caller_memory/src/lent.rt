@@ -6,7 +6,13 @@ ghost use Rattle.caller_memory.specs.Ownership.{block_token};
 
 use crate::memory::{ALIGN, Memory, Returned};
 use crate::slot::Slot;
+use bumpalo::Bump;
 use std::alloc::{AllocError, Allocator};
+
+// An arena asks for whole pages, without what it keeps beside them.
+const PAGE: usize = 4096;
+
+const BESIDE: usize = 64;
 
 /// An allocator that has one block to give: all of a caller's memory.
 pub struct Lent {
@@ -33,6 +39,12 @@ impl Lent {
     {
         let Lent { slot, size: _ } = self;
         slot.into_inner()
+    }
+
+    /// An arena over all pages of the memory.
+    pub fn arena(&self) -> Result<Bump<&Lent>, AllocError> {
+        let pages = self.size.saturating_add(16) / PAGE;
+        Bump::try_with_capacity(self, (pages * PAGE).saturating_sub(BESIDE))
     }
 
     fn take(&self, size: usize, align: usize) -> Option<Memory>

@@ -12,15 +12,9 @@ use crate::buffer::put;
 use crate::input::text_of;
 use crate::refusal::Refusal;
 use arrayvec::ArrayString;
-use bumpalo::Bump;
 use caller_memory::{Lent, Memory};
 use codex32::{Codex32Error, propose_in, validate_damaged};
 use std::alloc::Allocator;
-
-// The arena asks for whole pages, without what it keeps beside them.
-const PAGE: usize = 4096;
-
-const BESIDE: usize = 64;
 
 // The most characters that a codex32 string has.
 const LONGEST: usize = 93;
@@ -47,14 +41,13 @@ fn nearest_in<A: Allocator + Copy>(alloc: A, bytes: &[u8]) -> Result<ArrayString
     }
 }
 
-// The same with so many bytes of lent memory, once the text was tested.
-fn nearest_over(lent: &Lent, size: usize, bytes: &[u8]) -> Result<ArrayString<LONGEST>, Refusal>
+// The same with lent memory, once the text was tested.
+fn nearest_over(lent: &Lent, bytes: &[u8]) -> Result<ArrayString<LONGEST>, Refusal>
     requires { IsUtf8 bytes.now × (frame_refusal (read_text bytes.now) ≡ None) }
     ensures value { IfOk result (λ nearest. IsNearestText bytes.now nearest.bytes) }
     ensures refused { IfErr result (λ e. (room : ℕ) → IsProposeFault bytes.now room e) }
 {
-    let pages = size.saturating_add(16) / PAGE;
-    let Ok(arena) = Bump::try_with_capacity(lent, (pages * PAGE).saturating_sub(BESIDE)) else {
+    let Ok(arena) = lent.arena() else {
         return Err(Refusal::Text(Codex32Error::Memory));
     };
     nearest_in(&arena, bytes)
@@ -69,9 +62,8 @@ fn nearest_with(memory: &mut Memory, bytes: &[u8]) -> Result<ArrayString<LONGEST
         (λ _. memory.new ≡ memory.old)
         (λ e. GivesBack memory.old memory.new e) }
 {
-    let (size, whole) = memory.take().with_size();
-    let lent = Lent::new(whole);
-    let nearest = nearest_over(&lent, size, bytes);
+    let lent = Lent::new(memory.take());
+    let nearest = nearest_over(&lent, bytes);
     match lent.into_memory() {
         Some(whole) => {
             *memory = whole;

@@ -14,6 +14,10 @@ mod listed;
 #[cfg(test)]
 mod memory;
 #[cfg(test)]
+mod near_texts;
+#[cfg(test)]
+mod nearest;
+#[cfg(test)]
 mod one_call;
 #[cfg(test)]
 mod rows;

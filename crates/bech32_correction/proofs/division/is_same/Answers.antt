@@ -1,15 +1,10 @@
-use Rattle.std.proofs.Common.{◌≡◌, ◌≤◌, ℕ, List, [], ◌∷◌, length, zero, suc, sym, ◌∙◌, refl, arith}
+use Rattle.std.proofs.Common.{sym, ◌∙◌, refl, arith}
 use Rattle.std.proofs.Math.Decide.{dec_lt}
 use Rattle.bech32_gf.specs.Fe32 as fe32
 use Rattle.bech32_gf.specs.declared.gf32.Fe32.{Fe32}
-use Rattle.bech32_poly.specs.Polynomial.{coefficient}
 use Rattle.bech32_checksum.proofs.DigitRows.{digit_of-past}
+use Rattle.bech32_correction.proofs.OneError.{behind}
 use Rattle.bech32_correction.proofs.division.is_same.Goals as goal
-
-behind : (p : List Fe32) (n : ℕ) → length p ≤ n → coefficient fe32.ops p n ≡ fe32.zero
-behind [] n h = refl
-behind (a ∷ p) zero h = absurd (omega arith)
-behind (a ∷ p) (suc n) h = behind p n (omega arith)
 
 pub returns : goal.returns
 returns g c = (

@@ -22,18 +22,9 @@ pub returns-then-CHECKSUM_LENGTH-eq0 : goal.returns-then-CHECKSUM_LENGTH-eq0
 returns-then-CHECKSUM_LENGTH-eq0 g c =
     let laws = g.met.Ck.Checksum in
     let degree = laws.degree_law in
-    let size = laws.code_length_law in
-    let longest = c.CODE_LENGTH.ensures in
+    let lengths = c.in_ok-validate_lengths.ensures in
     let none : g.Ck.Checksum.CHECKSUM_LENGTH ≡ 0 = sym c.CHECKSUM_LENGTH.ensures ∙ c.if-CHECKSUM_LENGTH-eq0.true in
-    (omega arith, omega arith, has_target-degree_0 g.Ck.Checksum.code _ _ degree (ap (λ (k : Code). k.target) laws.code_law) none _)
-
-pub returns-then-self-CHECKSUM_LENGTH : goal.returns-then-self-CHECKSUM_LENGTH
-returns-then-self-CHECKSUM_LENGTH g c =
-    let degree = g.met.Ck.Checksum.degree_law in
-    let size = g.met.Ck.Checksum.code_length_law in
-    let longest = c.CODE_LENGTH.ensures in
-    let count = c.CHECKSUM_LENGTH.ensures in
-    (omega arith, omega arith)
+    (lengths.0, lengths.1, has_target-degree_0 g.Ck.Checksum.code _ _ degree (ap (λ (k : Code). k.target) laws.code_law) none _)
 
 pub new-requires-clause-actual_fits : goal.new-requires-clause-actual_fits
 new-requires-clause-actual_fits g c = wider _ g.Ck.Checksum.CHECKSUM_LENGTH _ c.residue_of-residue.ensures.clear g.met.Ck.Checksum.packing_laws.fits
@@ -47,14 +38,12 @@ returns-then-ne g c =
     let laws = g.met.Ck.Checksum in
     let words = g.met.Ck.MidstateRepr.PackedFe32 in
     let degree = laws.degree_law in
-    let size = laws.code_length_law in
-    let longest = c.CODE_LENGTH.ensures in
-    let count = c.CHECKSUM_LENGTH.ensures in
+    let lengths = c.in_ok-validate_lengths.ensures in
     let residue = c.residue_of-residue.result in
     let target = g.Ck.Checksum.TARGET_RESIDUE in
     let differs : residue ≢ target = λ e. not_equal _ c.if-ne.ensures ((words.eq_law residue c.TARGET_RESIDUE.result).1 (e ∙ sym c.TARGET_RESIDUE.ensures)) in (
-      omega arith,
-      omega arith,
+      lengths.0,
+      lengths.1,
       residue_error g.Ck.Checksum.code _ _ degree (ap (λ (k : Code). k.target) laws.code_law) (g.Ck.MidstateRepr.PackedFe32.number residue) _ c.new.result
           c.residue_of-residue.ensures.clear laws.packing_laws.target_clear (λ e. differs (words.same_number_law residue target e)) c.residue_of-residue.ensures.residue
           c.new.ensures.actual (rw c.TARGET_RESIDUE-then-ne.ensures at c.new.ensures.target),
@@ -64,13 +53,11 @@ pub returns : goal.returns
 returns g c =
     let laws = g.met.Ck.Checksum in
     let degree = laws.degree_law in
-    let size = laws.code_length_law in
-    let longest = c.CODE_LENGTH.ensures in
-    let count = c.CHECKSUM_LENGTH.ensures in
+    let lengths = c.in_ok-validate_lengths.ensures in
     let residue = c.residue_of-residue.result in
     let same = (g.met.Ck.MidstateRepr.PackedFe32.eq_law residue c.TARGET_RESIDUE.result).0 (equal _ c.if-ne.ensures) ∙ c.TARGET_RESIDUE.ensures in (
-      omega arith,
-      omega arith,
+      lengths.0,
+      lengths.1,
       has_target g.Ck.Checksum.code _ _ degree (ap (λ (k : Code). k.target) laws.code_law) (g.Ck.MidstateRepr.PackedFe32.number residue) _ (ap g.Ck.MidstateRepr.PackedFe32.number same)
           c.residue_of-residue.ensures.residue,
     )

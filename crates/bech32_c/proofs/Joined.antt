@@ -1,0 +1,84 @@
+-- Lists that are made of the items of another, put at the front of a buffer one behind another.
+use Rattle.std.specs.Prelude.{flat_map}
+use borrow.Rule.Slice.PartMut.{put_mid}
+use Rattle.std.proofs.Common.{◌≡◌, ℕ, ◌+◌, ◌-◌, ◌<◌, ◌≤◌, List, [], ◌++◌, length, length-append, length-drop, take, drop, get_or, append_assoc, sym, ap, ◌∙◌, refl, arith}
+use Rattle.std.proofs.lemmas.List.{append-nil, drop-drop, drop_all, drop_at, flat_map_more, take-append-drop, take_all, take_at, take_more, take_rest}
+use Rattle.std.proofs.lemmas.List.Concat.{flat_map-append}
+use Rattle.bech32_encode.specs.Buffers.{IsPut}
+
+-- what a buffer holds after a write to all that is behind a place
+put_end : (end : ℕ) (b c : List ℕ) → put_mid end (length b - end) b c ≡ take end b ++ c
+put_end end b c =
+    ap (λ (l : List ℕ). take end b ++ (c ++ l)) (drop_all (length b - end) (drop end b) (omega (arith, length-drop end b)))
+    ∙ ap (λ (l : List ℕ). take end b ++ l) (append-nil c)
+
+module _ {A : Type 0} (f : A → List ℕ) (items : List A) where
+  -- one more
+  pub joined_more : (i : ℕ) (d : A) → i < length items → flat_map f (take (i + 1) items) ≡ flat_map f (take i items) ++ f (get_or items i d)
+  joined_more i d less = ap (flat_map f) (take_more items i d less) ∙ sym (flat_map_more f [] (take i items) (get_or items i d))
+
+  joined_front : (n : ℕ) → length (flat_map f (take n items)) ≤ length (flat_map f items)
+  joined_front n =
+      let both : length (flat_map f items) ≡ length (flat_map f (take n items)) + length (flat_map f (drop n items)) =
+      ap (λ (l : List A). length (flat_map f l)) (sym (take-append-drop n items))
+      ∙ ap length (flat_map-append f (take n items) (drop n items))
+      ∙ length-append (flat_map f (take n items)) (flat_map f (drop n items)) in
+      omega (arith, both)
+
+  -- one more has room
+  pub joined_room : (i : ℕ) (d : A) → i < length items → length (flat_map f (take i items)) + length (f (get_or items i d)) ≤ length (flat_map f items)
+  joined_room i d less =
+      let size : length (flat_map f (take (i + 1) items)) ≡ length (flat_map f (take i items)) + length (f (get_or items i d)) =
+      ap length (joined_more i d less) ∙ length-append (flat_map f (take i items)) (f (get_or items i d)) in
+      omega (arith, size, joined_front (i + 1))
+
+  -- it is put behind the others
+  pub put_joined : (old b c : List ℕ) (i end : ℕ) (d : A) → i < length items → end ≡ length (flat_map f (take i items)) → b ≡ flat_map f (take i items) ++ drop end old
+      → c ≡ f (get_or items i d) ++ drop (length (f (get_or items i d))) (drop end b)
+      → take end b ++ c ≡ flat_map f (take (i + 1) items) ++ drop (end + length (f (get_or items i d))) old
+  put_joined old b c i end d less size is put =
+      let front : List ℕ = flat_map f (take i items) in
+      let x : List ℕ = f (get_or items i d) in
+      let one : take end b ≡ front = ap (take end) is ∙ take_at front (drop end old) end (sym size) in
+      let other : drop end b ≡ drop end old = ap (drop end) is ∙ drop_at front (drop end old) end (sym size) in
+      ap (λ (l : List ℕ). l ++ c) one
+      ∙ ap (λ (l : List ℕ). front ++ l) (put ∙ ap (λ (l : List ℕ). x ++ drop (length x) l) other ∙ ap (λ (l : List ℕ). x ++ l) (drop-drop (length x) end old))
+      ∙ sym (append_assoc front x (drop (end + length x) old))
+      ∙ ap (λ (l : List ℕ). l ++ drop (end + length x) old) (sym (joined_more i d less))
+
+  module _ (i : ℕ) (d : A) (end : ℕ) (x : List ℕ) (less : i < length items) (same : x ≡ f (get_or items i d)) (size : end ≡ length (flat_map f (take i items))) where
+    pub next_size : end + length x ≡ length (flat_map f (take (i + 1) items))
+    next_size =
+        let more : length (flat_map f (take (i + 1) items)) ≡ length (flat_map f (take i items)) + length (f (get_or items i d)) =
+        ap length (joined_more i d less) ∙ length-append (flat_map f (take i items)) (f (get_or items i d)) in
+        let one : length x ≡ length (f (get_or items i d)) = ap length same in
+        omega (arith, more, one, size)
+
+    pub next_room : (b : List ℕ) → length (flat_map f items) ≤ length b → length x ≤ length (take (length b - end) (drop end b))
+    next_room b room =
+        let rest : length (take (length b - end) (drop end b)) ≡ length b - end = ap length (take_rest b end) ∙ length-drop end b in
+        let all : length (flat_map f (take (i + 1) items)) ≤ length (flat_map f items) = joined_front (i + 1) in
+        let next : end + length x ≡ length (flat_map f (take (i + 1) items)) = next_size in
+        omega (arith, rest, all, next, room)
+
+    pub put_next : (old b c : List ℕ) → b ≡ flat_map f (take i items) ++ drop end old → c ≡ x ++ drop (length x) (take (length b - end) (drop end b))
+        → put_mid end (length b - end) b c ≡ flat_map f (take (i + 1) items) ++ drop (end + length x) old
+    put_next old b c is put =
+        let made : List ℕ = f (get_or items i d) in
+        let one : c ≡ made ++ drop (length made) (drop end b) =
+        put ∙ ap (λ (l : List ℕ). x ++ drop (length x) l) (take_rest b end) ∙ ap (λ (y : List ℕ). y ++ drop (length y) (drop end b)) same in
+        put_end end b c
+        ∙ put_joined old b c i end d less size is one
+        ∙ ap (λ (y : List ℕ). flat_map f (take (i + 1) items) ++ drop (end + length y) old) (sym same)
+
+  -- all of them
+  pub put_all_joined : (old b : List ℕ) (i end : ℕ) → i ≡ length items → length (flat_map f items) ≤ length old → end ≡ length (flat_map f (take i items))
+      → b ≡ flat_map f (take i items) ++ drop end old → IsPut (flat_map f items) old b (length (flat_map f items))
+  put_all_joined old b i end at room size is =
+      let all : take i items ≡ items = take_all i items (omega (arith, at)) in
+      let count : end ≡ length (flat_map f items) = size ∙ ap (λ (l : List A). length (flat_map f l)) all in
+      record {
+        fits = room;
+        buffer = is ∙ ap (λ (l : List A). flat_map f l ++ drop end old) all ∙ ap (λ (n : ℕ). flat_map f items ++ drop n old) count;
+        count_is = refl;
+      }

@@ -1,0 +1,218 @@
+use crate::nearest::bech32_nearest;
+use crate::tests::{BEFORE, LENGTH_BEFORE, holds, is_untouched, same};
+use caller_memory::Memory;
+use std::alloc::{AllocError, Global};
+use std::process::Abort;
+
+// A call of `bech32_nearest` without its buffers.
+#[derive(Clone, Copy)]
+struct Asked<'a> {
+    checksum: u32,
+    text: &'a [u8],
+    erasures: &'a [usize],
+    errors: usize,
+}
+
+// What it returns with this memory and a buffer of so many bytes, and what the count and the buffer
+// hold then.
+fn near(memory: &mut Memory, asked: Asked<'_>, room: usize) -> (u32, (usize, [u8; 128])) {
+    let (mut count, mut buffer) = (LENGTH_BEFORE, [BEFORE; 128]);
+    let (front, _) = buffer.split_at_mut(room.min(128));
+    let number = bech32_nearest(
+        asked.checksum,
+        asked.text,
+        asked.erasures,
+        asked.errors,
+        memory,
+        front,
+        &mut count,
+    );
+    (number, (count, buffer))
+}
+
+// The number that it returns, where nothing is written, and all of so many bytes of memory come back.
+fn near_number(
+    rt: &impl Abort,
+    alloc: Global,
+    size: usize,
+    asked: Asked<'_>,
+    room: usize,
+) -> Result<u32, AllocError> {
+    let mut memory = Memory::leaked(alloc, size)?;
+    let (number, (count, buffer)) = near(&mut memory, asked, room);
+    is_untouched(rt, &buffer, count);
+    same(rt, &memory.with_size().0, &size);
+    Ok(number)
+}
+
+// It puts so many texts, these one behind another, and writes nothing behind them.
+fn puts_near(
+    rt: &impl Abort,
+    memory: &mut Memory,
+    asked: Asked<'_>,
+    room: usize,
+    want: (usize, &[u8]),
+) {
+    let (number, (count, buffer)) = near(memory, asked, room);
+    same(rt, &number, &0);
+    same(rt, &count, &want.0);
+    holds(rt, &buffer, want.1.len(), want.1);
+}
+
+// The number of bytes that `include/bech32.h` states for a text of so many.
+fn near_memory(text: &[u8]) -> usize {
+    16384 + 8 * text.len().min(1023)
+}
+
+// It does so with a buffer of more room and of as much, again in the same memory, which comes back.
+fn lists(
+    rt: &impl Abort,
+    alloc: Global,
+    asked: Asked<'_>,
+    want: (usize, &[u8]),
+) -> Result<(), AllocError> {
+    let size = near_memory(asked.text);
+    let mut memory = Memory::leaked(alloc, size)?;
+    for room in [128, want.1.len()] {
+        puts_near(rt, &mut memory, asked, room, want);
+    }
+    same(rt, &memory.with_size().0, &size);
+    Ok(())
+}
+
+#[test]
+fn lists_near_texts(rt: HostRuntime) -> Result<(), AllocError> {
+    // The first and the second text are of BIP-173. What is near was found by going through all
+    // patterns.
+    let rows: [(u32, &[u8], &[usize], usize, usize, &[u8]); 9] = [
+        (
+            1,
+            b"BC1QW5Q8D6QEJXTDG4Y5R3ZARVARY0C5XW7KV8F3T5",
+            &[],
+            2,
+            1,
+            b"bc1qw508d6qejxtdg4y5r3zarvary0c5xw7kv8f3t4",
+        ),
+        (
+            1,
+            b"tb1qrp33g0q5c5txsp9arysrx4k6zdkfs4nce4xj0gdcccefvpysxf3q0sl5q8",
+            &[],
+            2,
+            1,
+            b"tb1qrp33g0q5c5txsp9arysrx4k6zdkfs4nce4xj0gdcccefvpysxf3q0sl5k7",
+        ),
+        (1, b"A12UEL5L", &[], 0, 1, b"a12uel5l"),
+        (1, b"a12uel5q", &[], 0, 0, b""),
+        (1, b"a12uel5q", &[0], 0, 1, b"a12uel5l"),
+        (1, b"a12uel5q", &[0, 1, 2, 3], 2, 0, b""),
+        (1, b"a12uel5q", &[6], 2, 0, b""),
+        (2, b"a1lqfn3a", &[2, 2], 1, 1, b"a1lqfn3a"),
+        (
+            1,
+            b"split1checkupstagehan",
+            &[3, 8, 1],
+            2,
+            3,
+            b"split1checkuysyvg6h8nsplit1czecku5stag5hnnsplit15hecku0atag7hzn",
+        ),
+    ];
+    for (checksum, text, erasures, errors, count, want) in rows {
+        let asked = Asked {
+            checksum,
+            text,
+            erasures,
+            errors,
+        };
+        lists(&rt, rt.alloc(), asked, (count, want))?;
+    }
+    Ok(())
+}
+
+// A refusal of a number or of the text needs no memory.
+#[test]
+fn refuses_to_list(rt: HostRuntime) -> Result<(), AllocError> {
+    let rows: [(u32, &[u8], usize, u32); 12] = [
+        (0, b"\xff", 2, 4),
+        (3, b"a12uel5l", 0, 4),
+        (1, b"a12uel5l", 3, 4),
+        (2, b"\xff", usize::MAX, 4),
+        (1, b"\xff", 2, 2),
+        (1, b"1qqqqqq", 2, 11),
+        (1, b" 1nwldj5", 2, 14),
+        (1, b"a12uel5l\r", 2, 21),
+        (2, b"pQ", 2, 22),
+        (2, b"qpzry", 2, 23),
+        (1, b"a1", 2, 32),
+        (2, b"a1qqqqq", 0, 32),
+    ];
+    for (checksum, text, errors, want) in rows {
+        let asked = Asked {
+            checksum,
+            text,
+            erasures: &[0],
+            errors,
+        };
+        let number = near_number(&rt, rt.alloc(), 0, asked, 128)?;
+        same(&rt, &number, &want);
+    }
+    Ok(())
+}
+
+// A text with two wrong characters, near to one.
+const NEAR: Asked<'static> = Asked {
+    checksum: 1,
+    text: b"BC1QW5Q8D6QEJXTDG4Y5R3ZARVARY0C5XW7KV8F3T5",
+    erasures: &[],
+    errors: 2,
+};
+
+#[test]
+fn lists_into_small_buffers(rt: HostRuntime) -> Result<(), AllocError> {
+    let size = near_memory(NEAR.text);
+    for room in [0, 41] {
+        same(&rt, &near_number(&rt, rt.alloc(), size, NEAR, room)?, &92);
+    }
+    Ok(())
+}
+
+#[test]
+fn lists_with_too_little_memory(rt: HostRuntime) -> Result<(), AllocError> {
+    for size in [0, 16, 41] {
+        same(&rt, &near_number(&rt, rt.alloc(), size, NEAR, 128)?, &91);
+    }
+    Ok(())
+}
+
+// The number with so many bytes of memory, which come back: 0 with the near text, or else nothing is
+// written.
+fn number_within(rt: &impl Abort, alloc: Global, size: usize) -> Result<u32, AllocError> {
+    let mut memory = Memory::leaked(alloc, size)?;
+    let (number, (count, buffer)) = near(&mut memory, NEAR, 128);
+    if number == 0 {
+        same(rt, &count, &1);
+        holds(
+            rt,
+            &buffer,
+            42,
+            b"bc1qw508d6qejxtdg4y5r3zarvary0c5xw7kv8f3t4",
+        );
+    } else {
+        is_untouched(rt, &buffer, count);
+    }
+    same(rt, &memory.with_size().0, &size);
+    Ok(number)
+}
+
+// From some size on memory suffices, at the latest from the stated one.
+#[test]
+fn lists_or_wants_memory(rt: HostRuntime) -> Result<(), AllocError> {
+    let enough = near_memory(NEAR.text);
+    let mut before = 91;
+    for size in (0..enough).step_by(256).chain([enough]) {
+        let number = number_within(&rt, rt.alloc(), size)?;
+        assert!(rt; number == 0 || number == before);
+        before = number;
+    }
+    same(&rt, &before, &0);
+    Ok(())
+}
