@@ -77,21 +77,11 @@ const page = (version) => {
 
 // ---- the package
 
-// Whether the module has the function that finds two wrong characters, and it takes what the glue gives it.
-const hasNearest = () => {
-  const module = new WebAssembly.Module(wasm('bech32_c.lowered'));
-  const { bech32_nearest: nearest, bech32_correct: correct } = new WebAssembly.Instance(module, {}).exports;
-  return nearest !== undefined && nearest.length === correct.length;
-};
-
 const packageFiles = () => {
-  const more = hasNearest();
-  const files = {
-    'index.js': read('src', 'index.js') + (more ? 'export const { nearest } = it;\n' : ''),
-    'index.d.ts': read('src', 'index.d.ts') + (more ? read('src', 'nearest.d.ts') : ''),
-    'modules.js': modulesSource(), 'package.json': read('package.json'), 'README.md': read('README.md'),
-  };
-  for (const name of ['library.js', 'calls.js', 'instance.js', 'reasons.js']) files[name] = read('src', name);
+  const files = { 'modules.js': modulesSource(), 'package.json': read('package.json'), 'README.md': read('README.md') };
+  for (const name of ['index.js', 'index.d.ts', 'library.js', 'calls.js', 'instance.js', 'reasons.js']) {
+    files[name] = read('src', name);
+  }
   const licence = path.join(HERE, '..', 'LICENSE');
   if (fs.existsSync(licence)) files.LICENSE = fs.readFileSync(licence, 'utf8');
   return files;

@@ -166,19 +166,30 @@ const headed = (name, { places: { length } }) => {
   return `${name}, with ${length === 1 ? 'one character' : `${length} characters`} changed`;
 };
 
+// What each checksum offers for a text: `mend` returns the corrections.
 const textOffers = (library, mend, { characters, filled, unread }) =>
   CHECKSUMS.flatMap(([checksum, name]) => {
     const { value } = tried(() => mend(checksum, filled, unread));
-    if (!value) return [];
-    const pair = compared(characters, value.text);
-    const kind = kindOf(library, value.text, library.check(checksum, value.text), name);
-    return [{ ...pair, heading: headed(name, pair), said: kind.said, isAddress: kind.isAddress }];
+    return (value ?? []).map(({ text }) => {
+      const pair = compared(characters, text);
+      const kind = kindOf(library, text, library.check(checksum, text), name);
+      return { ...pair, heading: headed(name, pair), said: kind.said, isAddress: kind.isAddress };
+    });
   }).sort((a, b) => b.isAddress - a.isAddress);
 
-const nothingFound = (unread, hasNearest) => {
+// The correction; where there is none, the texts with one wrong character more, while they are at most five with half
+// weight for those that cannot be read: further ones say nothing.
+const correctionsOf = (library, it) => {
+  const found = textOffers(library, (...given) => [library.correct(...given)].filter(Boolean), it);
+  if (found.length || ![0, 2].includes(it.unread.length)) return found;
+  const errors = 2 - it.unread.length / 2;
+  return textOffers(library, (...given) => library.nearest(...given, errors), it);
+};
+
+const nothingFound = (unread) => {
   if (unread > BOUND.text) return `There is no correction: at most ${BOUND.text} such characters can be found.`;
-  if (unread > 1) return 'There is no correction: whatever these characters are, others are wrong.';
-  const changes = unread === 1 ? 'this character and one more' : hasNearest ? 'one character or two' : 'one character';
+  if (unread === 3) return 'There is no correction: whatever these characters are, others are wrong.';
+  const changes = ['one character or two', 'this character and one more', 'these characters and one more'][unread];
   return `There is no correction: no change of ${changes} makes the checksum right.`;
 };
 
@@ -203,9 +214,8 @@ const wrongText = (library, text) => {
   if (later && later.code !== 'WRONG_CHECKSUM') return refused(text, later, faults, it.unread);
   if (faults.length === 0) faults.push('The checksum is wrong, that of Bech32m and that of Bech32.');
   const isTooMuch = it.unread.length > BOUND.text;
-  let offers = isTooMuch ? [] : textOffers(library, library.correct, it);
-  if (!isTooMuch && offers.length === 0 && library.nearest) offers = textOffers(library, library.nearest, it);
-  return offered(text, it, faults, offers, nothingFound(it.unread.length, Boolean(library.nearest)));
+  const offers = isTooMuch ? [] : correctionsOf(library, it);
+  return offered(text, it, faults, offers, nothingFound(it.unread.length));
 };
 
 const ofText = (library, text) => rightText(library, text) ?? wrongText(library, text);

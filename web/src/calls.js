@@ -17,6 +17,9 @@ const CODEX32_MEMORY = 16384 + 8 * MAX_CODEX32;
 // Room for the locations of a correction: bech32_correct lists three at most.
 const MAX_LISTED = 8;
 
+// Room for near texts, and the memory that they are worked out in.
+const NEAR_ROOM = 16384, NEAR_MEMORY = 65536;
+
 // A human-readable part of more bytes is too long, and so is each text of more bytes of data. What does not fit here is
 // left out, and the refusal is the same.
 const HRP_ROOM = 96, BYTES_ROOM = 1024;
@@ -27,6 +30,7 @@ const BECH32_REGIONS = {
   text: TEXT_ROOM, hrp: HRP_ROOM, bytes: BYTES_ROOM, erasures: SIZE * MAX_TEXT,
   hrpOut: MAX_HRP, hrpLength: SIZE, out: MAX_TEXT, outLength: SIZE, version: SIZE,
   locations: SIZE * MAX_LISTED, values: MAX_LISTED, count: SIZE,
+  memory: 2 * SIZE, lent: NEAR_MEMORY, near: NEAR_ROOM,
 };
 const CODEX32_REGIONS = {
   text: TEXT_ROOM, threshold: SIZE, shareIndex: SIZE, payloadLength: SIZE,
@@ -39,19 +43,8 @@ export const bech32Calls = (module) => {
   const p = (region) => it.pointer(region);
   const textOut = () => it.text('out', it.size('outLength'));
 
-  // bech32_correct, and each function that takes the same. Erasures are locations, of which 0 is the last character.
-  const mends = (name) => (checksum, text, erasures = []) => {
-    const { length, isWhole } = it.putText('text', text);
-    if (!isWhole) return { number: TEXT_TOO_LONG };
-    const given = it.putSizes('erasures', [...new Set(erasures)].slice(0, MAX_TEXT));
-    const number = it.call(name, checksum, p('text'), length, p('erasures'), given, p('locations'), BigInt(MAX_LISTED),
-      p('values'), BigInt(MAX_LISTED), p('count'), p('out'), BigInt(MAX_TEXT), p('outLength'));
-    if (number) return { number };
-    const values = it.copy('values', it.size('count'));
-    const errors = Array.from(values, (value, i) => ({ location: it.size('locations', i), value }));
-    return { number, errors, text: textOut() };
-  };
-  const isLikeCorrect = (name) => it.arity(name) !== undefined && it.arity(name) === it.arity('bech32_correct');
+  // Erasures are locations, of which 0 is the last character.
+  const putErasures = (erasures) => it.putSizes('erasures', [...new Set(erasures)].slice(0, MAX_TEXT));
 
   return {
     encode(checksum, hrp, bytes) {
@@ -89,9 +82,28 @@ export const bech32Calls = (module) => {
       const hrp = it.text('hrpOut', it.size('hrpLength'));
       return { number, hrp, version: it.number('version'), program: it.copy('out', it.size('outLength')) };
     },
-    correct: mends('bech32_correct'),
-    // Not every library has it, and one that takes other arguments is not called.
-    ...(isLikeCorrect('bech32_nearest') && { nearest: mends('bech32_nearest') }),
+    correct(checksum, text, erasures = []) {
+      const { length, isWhole } = it.putText('text', text);
+      if (!isWhole) return { number: TEXT_TOO_LONG };
+      const given = putErasures(erasures);
+      const number = it.call('bech32_correct', checksum, p('text'), length, p('erasures'), given, p('locations'),
+        BigInt(MAX_LISTED), p('values'), BigInt(MAX_LISTED), p('count'), p('out'), BigInt(MAX_TEXT), p('outLength'));
+      if (number) return { number };
+      const values = it.copy('values', it.size('count'));
+      const errors = Array.from(values, (value, i) => ({ location: it.size('locations', i), value }));
+      return { number, errors, text: textOut() };
+    },
+    nearest(checksum, text, erasures, errors) {
+      const { length, isWhole } = it.putText('text', text);
+      if (!isWhole) return { number: TEXT_TOO_LONG };
+      const given = putErasures(erasures);
+      it.putSizes('memory', [it.at.lent, NEAR_MEMORY]);
+      const number = it.call('bech32_nearest', checksum, p('text'), length, p('erasures'), given, BigInt(errors),
+        p('memory'), p('near'), BigInt(NEAR_ROOM), p('count'));
+      if (number) return { number };
+      const size = Number(length), all = it.text('near', it.size('count') * size);
+      return { number, texts: Array.from({ length: it.size('count') }, (_, i) => all.slice(i * size, (i + 1) * size)) };
+    },
     wipe: () => it.wipe(),
   };
 };

@@ -49,6 +49,16 @@ export function check(checksum: Checksum, text: string): { hrp: string; data: st
  */
 export function correct(checksum: Checksum, text: string, places?: Iterable<number>): Correction | null;
 
+/**
+ * All texts that the checksum accepts and that differ from this one in at most `errors` characters of the data part (0 to
+ * 2; 2 where it is left out) outside `places`; a right text is the first of its own. Texts of at most 89 characters with
+ * two wrong ones and no `places` have one at most, the right one. No list where `places` has more than three. With two
+ * places and two errors it takes some seconds. Throws `Refused`, and `RangeError` where the texts are too many to list.
+ */
+export function nearest(
+  checksum: Checksum, text: string, places?: Iterable<number>, errors?: 0 | 1 | 2,
+): readonly Correction[];
+
 export const segwit: {
   /** The address of a witness version, from 0 to 16, and a program. Throws `Refused`. */
   encode(hrp: string, version: number, program: Uint8Array): string;

@@ -18,7 +18,7 @@ export class Refused extends Error {
   }
 }
 
-const NO_CORRECTION = 34;
+const NO_CORRECTION = 34, NO_MEMORY = 91, NO_ROOM = 92;
 
 const text = (it, what = 'the text') => {
   if (typeof it !== 'string') throw new TypeError(`${what} is no string`);
@@ -85,15 +85,26 @@ const segwitCalls = (calls) => ({
   },
 });
 
-// A call that mends a text; `places` are those of characters known to be wrong.
-const mending = (call) => (checksum, given, places = []) => {
-  const number = numberOf(checksum);
-  const known = placesOf(places, text(given).length);
-  const answer = call(number, given, known.map((place) => given.length - 1 - place));
-  if (answer.number === NO_CORRECTION) return null;
-  accepted(answer, (n) => reasons.text(n, given, number));
-  return { text: answer.text, changes: changesOf(given, answer.text, new Set(answer.errors.length ? known : [])) };
-};
+// The calls that mend a text; `places` are those of characters known to be wrong.
+const mendingCalls = (calls) => ({
+  correct(checksum, given, places = []) {
+    const number = numberOf(checksum);
+    const known = placesOf(places, text(given).length);
+    const answer = calls.correct(number, given, known.map((place) => given.length - 1 - place));
+    if (answer.number === NO_CORRECTION) return null;
+    accepted(answer, (n) => reasons.text(n, given, number));
+    return { text: answer.text, changes: changesOf(given, answer.text, new Set(answer.errors.length ? known : [])) };
+  },
+  nearest(checksum, given, places = [], errors = 2) {
+    const number = numberOf(checksum);
+    const known = placesOf(places, text(given).length);
+    if (![0, 1, 2].includes(errors)) throw new RangeError('the number of errors is none of 0, 1 and 2');
+    const answer = calls.nearest(number, given, known.map((place) => given.length - 1 - place), errors);
+    if ([NO_MEMORY, NO_ROOM].includes(answer.number)) throw new RangeError('there are more near texts than can be listed');
+    accepted(answer, (n) => reasons.text(n, given, number));
+    return answer.texts.map((it) => ({ text: it, changes: changesOf(given, it, new Set(known)) }));
+  },
+});
 
 const codex32Functions = (calls) => ({
   parse(given) {
@@ -115,8 +126,7 @@ export const library = (bech32Module, codex32Module) => {
   return {
     ...textCalls(calls),
     segwit: segwitCalls(calls),
-    correct: mending(calls.correct),
-    ...(calls.nearest && { nearest: mending(calls.nearest) }),
+    ...mendingCalls(calls),
     codex32: codex32Functions(codex32),
     wipe: calls.wipe,
   };

@@ -101,8 +101,16 @@ test('characters that cannot be read', () => {
 
 test('two wrong characters', () => {
   const found = said(at(at(V0, 11, 'q'), 20, 'q'));
+  assert.deepEqual(found.offers.map(({ text, places, heading }) => [text, places, heading]), [[V0, [11, 20], 'Bech32 address, with 2 characters changed']]);
+  assert.match(found.caution, /^A correction is a guess/);
+  const unread = said(at(at(at(V0, 11, 'q'), 20, '?'), 30, '?'));
+  assert.deepEqual(unread.offers.map(({ text, places }) => [text, places]), [[V0, [11, 20, 30]]]);
+});
+
+test('three wrong characters', () => {
+  const found = said(at(at(at(V0, 11, 'q'), 20, 'q'), 30, 'q'));
   assert.equal(found.offers, undefined);
-  assert.deepEqual(found.said, ['There is no correction: no change of one character makes the checksum right.']);
+  assert.deepEqual(found.said, ['There is no correction: no change of one character or two makes the checksum right.']);
 });
 
 test('characters that are no data, and a 1 in a known text', () => {

@@ -1,8 +1,8 @@
 // Corrections against brute force: every single change of a text is tried by the checksum as the standard defines it.
 import test from 'node:test';
 import assert from 'node:assert/strict';
-import { codex32, correct } from '../out/package/index.js';
-import { ALPHABET, accepts, acceptsCodex32, changedAt, changedOnce, numbersFrom } from './reference.mjs';
+import { codex32, correct, nearest } from '../out/package/index.js';
+import { ALPHABET, accepts, acceptsCodex32, added, changedAt, changedOnce, effectOf, numbersFrom, residueOf } from './reference.mjs';
 
 const TEXTS = [
   ['bech32', 'a12uel5l'],
@@ -80,6 +80,47 @@ test('three characters that cannot be read are found, and one of them with one e
       assert.equal(correct(checksum, damaged, [place]).text, text);
     }
   }
+});
+
+// All texts with two changes at most that a checksum accepts, by what each change adds to the remainder.
+const nearBySums = (checksum, damaged) => {
+  const length = damaged.length - damaged.lastIndexOf('1') - 1, residue = residueOf(checksum, damaged);
+  const changes = [];
+  for (let location = 0; location < length; location++) {
+    for (let value = 1; value < 32; value++) changes.push({ location, value, effect: effectOf(location, value) });
+  }
+  const found = residue === 0 ? [damaged] : [], byEffect = new Map(changes.map((change) => [change.effect, change]));
+  for (const one of changes) {
+    if (one.effect === residue) found.push(added(damaged, one));
+    const other = byEffect.get(one.effect ^ residue);
+    if (other && other.location < one.location) found.push(added(added(damaged, one), other));
+  }
+  return found;
+};
+
+test('the nearest texts are those that sums of two changes give', (t) => {
+  const below = numbersFrom(5);
+  let answered = 0;
+  for (const [checksum, text] of TEXTS) {
+    assert.deepEqual(nearest(checksum, text), [{ text, changes: [] }]);
+    for (const errors of [1, 2, 2, 2, 3, 3, 3]) {
+      const damaged = changedAt(text, errors, below);
+      const found = nearest(checksum, damaged).map((it) => it.text);
+      assert.deepEqual(found, nearBySums(checksum, damaged), damaged);
+      if (errors < 3) assert.deepEqual(found, [text]);
+      else assert.ok(!found.includes(text));
+      answered += found.length;
+    }
+  }
+  t.diagnostic(`${answered} of ${7 * TEXTS.length} texts have an answer`);
+});
+
+test('all texts of three damaged characters are listed, in the order of their last change', () => {
+  const [checksum, text] = TEXTS[0];
+  const places = [3, 4, 5, 6];
+  assert.deepEqual(nearest(checksum, text, places, 0), []);
+  assert.deepEqual(nearest(checksum, 'a12qqq5l', [3, 4, 5], 0).map((it) => it.text), [text]);
+  assert.throws(() => nearest(checksum, text, [], 3), RangeError);
 });
 
 test('places are told in rising order, with those that were right after all', () => {

@@ -98,17 +98,10 @@ test('arguments stand in regions of their own', () => {
   assert.throws(() => new Instance(modules[0], { a: 1 << 24 }), RangeError);
 });
 
-test('nearest is offered where the module has it in the form that is known, and not else', () => {
-  const withNearest = (make) => (exports) => {
-    if (exports.bech32_correct) exports.bech32_nearest = make(exports.bech32_correct);
+test('near texts that are too many for their room are refused, and not cut', () => {
+  const it = withInstances(() => library(...modules), (exports) => {
+    if (exports.bech32_nearest) exports.bech32_nearest = () => 92;
     return exports;
-  };
-  const plain = library(...modules);
-  const hasIt = 'bech32_nearest' in new WebAssembly.Instance(modules[0], {}).exports;
-  if (!hasIt) assert.equal(plain.nearest, undefined);
-  const same = (correct) => Object.defineProperty((...given) => correct(...given), 'length', { value: correct.length });
-  const it = withInstances(() => library(...modules), withNearest(same));
-  assert.equal(it.nearest('bech32', `${ADDRESS.slice(0, -1)}q`).text, ADDRESS);
-  const other = (correct) => Object.defineProperty((...given) => correct(...given), 'length', { value: correct.length + 1 });
-  assert.equal(withInstances(() => library(...modules), withNearest(other)).nearest, undefined);
+  });
+  assert.throws(() => it.nearest('bech32', ADDRESS), RangeError);
 });

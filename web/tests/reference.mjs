@@ -23,12 +23,15 @@ const expanded = (hrp) => {
   return [...codes.map((c) => c >> 5), 0, ...codes.map((c) => c & 31)];
 };
 
-/** Whether a checksum accepts a text in lower case, which is in the grammar. */
-export const accepts = (checksum, text) => {
+/** What the remainder of a text in lower case, which is in the grammar, differs by from that of a right one. */
+export const residueOf = (checksum, text) => {
   const separator = text.lastIndexOf('1');
   const data = Array.from(text.slice(separator + 1), (c) => ALPHABET.indexOf(c));
-  return remainder([...expanded(text.slice(0, separator)), ...data]) === TARGETS[checksum];
+  return remainder([...expanded(text.slice(0, separator)), ...data]) ^ TARGETS[checksum];
 };
+
+/** Whether a checksum accepts such a text. */
+export const accepts = (checksum, text) => residueOf(checksum, text) === 0;
 
 const CODEX32_GENERATOR = [0x19dc500ce73fde210n, 0x1bfae00def77fe529n, 0x1fbd920fffe7bee52n, 0x1739640bdeee3fdadn, 0x07729a039cfc75f5an];
 const CODEX32_TARGET = 0x10ce0795c2fd1e62an;

@@ -18,7 +18,7 @@ character at fault where there is one. What is proved is the library; this packa
 
 from . import codex32, errors, segwit
 from .errors import Refused
-from .texts import Checksum, Correction, Decoded, Parts, check, correct, decode, encode
+from .texts import Checksum, Correction, Decoded, Parts, check, correct, decode, encode, nearest
 
 __version__ = "0.1.0"
 
@@ -34,5 +34,6 @@ __all__ = [
     "decode",
     "encode",
     "errors",
+    "nearest",
     "segwit",
 ]

@@ -63,10 +63,28 @@ correct = _function(
     *(_NUMBER, *_IN, ctypes.POINTER(_SIZE), _SIZE),
     *(ctypes.POINTER(_SIZE), _SIZE, _BYTES, _SIZE, _SIZE_OUT, *_OUT),
 )
+nearest = _function(
+    _BECH32,
+    "bech32_nearest",
+    *(_NUMBER, *_IN, ctypes.POINTER(_SIZE), _SIZE, _SIZE),
+    *(ctypes.POINTER(Memory), _BYTES, _SIZE, _SIZE_OUT),
+)
 codex32_parse = _function(_CODEX32, "codex32_parse", *_IN, _NUMBER_OUT, _NUMBER_OUT, _SIZE_OUT)
 codex32_propose = _function(
     _CODEX32, "codex32_propose", *_IN, ctypes.POINTER(Memory), *_OUT
 )
+
+
+class Lent:
+    """Memory that a call is lent."""
+
+    def __init__(self, size: int) -> None:
+        self._bytes = ctypes.create_string_buffer(size + 15)
+        self.memory = Memory((ctypes.addressof(self._bytes) + 15) // 16 * 16, size)
+
+    def wipe(self) -> None:
+        """Puts zeros into all of it."""
+        ctypes.memset(self._bytes, 0, len(self._bytes))
 
 
 class Buffer:

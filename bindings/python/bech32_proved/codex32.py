@@ -8,7 +8,7 @@ import ctypes
 from typing import NamedTuple, Optional
 
 from . import _library
-from ._library import Buffer, Memory, given, refuse, utf8
+from ._library import Buffer, Lent, given, refuse, utf8
 
 # Where the parts stand in a string.
 _IDENTIFIER = slice(4, 8)
@@ -66,19 +66,17 @@ def propose(text: str) -> Optional[str]:
     or `NotMs`.
     """
     data = utf8(text)
-    size = 16384 + 8 * len(data)
-    lent = ctypes.create_string_buffer(size + 15)
-    memory = Memory((ctypes.addressof(lent) + 15) // 16 * 16, size)
+    lent = Lent(16384 + 8 * len(data))
     proposed = Buffer(_MAX_TEXT)
     try:
-        number = _library.codex32_propose(*given(data), ctypes.byref(memory), *proposed.out)
+        number = _library.codex32_propose(*given(data), ctypes.byref(lent.memory), *proposed.out)
         if number == _NO_NEAREST:
             return None
         if number != 0:
             refuse(number, text, _as_read(data))
         return proposed.text()
     finally:
-        ctypes.memset(lent, 0, len(lent))
+        lent.wipe()
         proposed.wipe()
 
 

@@ -2,10 +2,19 @@
 
 import ctypes
 from enum import Enum
-from typing import Iterable, NamedTuple, Tuple
+from typing import Any, Iterable, List, NamedTuple, Tuple
 
 from . import _library
-from ._library import Buffer, Octets, given, octets, refuse, utf8
+from ._library import Buffer, Lent, Octets, given, octets, refuse, utf8
+
+# The characters of the elements from 0 to 31.
+_CHARACTERS = "qpzry9x8gf2tvdw0s3jn54khce6mua7l"
+
+# The bytes that near texts are looked for in, at first and at most. Their texts get a quarter more.
+_LEAST_MEMORY, _MOST_MEMORY = 1 << 16, 1 << 28
+
+# The lent memory does not suffice, and a buffer is too small.
+_TOO_LITTLE = (91, 92)
 
 
 class Checksum(Enum):
@@ -46,7 +55,7 @@ class Correction(NamedTuple):
 
     errors: Tuple[Tuple[int, int], ...]
     """The locations that were wrong, 0 that of the last character, with the element, from 0 to 31, that
-    was added there by exclusive or: the erasures first. None where the text was right."""
+    was added there by exclusive or: the erasures first. `correct` lists none where the text was right."""
 
 
 def encode(hrp: str, data: Octets, checksum: Checksum = Checksum.BECH32M) -> str:
@@ -101,22 +110,20 @@ def correct(text: str, checksum: Checksum, erasures: Iterable[int] = ()) -> Corr
     the last character.
 
     It is the one correction of the characters behind the separator where twice the errors outside the
-    erasures, with the erasures, are three at most. It may not be what was meant: show it, and ask.
+    erasures, with the erasures, are three at most. It may not be what was meant: show it, and ask. `nearest`
+    finds two wrong characters.
 
     Raises what `check` does, but `NoCorrection` in place of `WrongChecksum`, where there is no such
     correction or an erasure is not behind the separator.
     """
     data = utf8(text)
-    # A location that no text has is one past the end of any.
-    known = [n if 0 <= n < _library.MAX_SIZE else _library.MAX_SIZE for n in erasures]
     room = _library.MAX_LISTED
     locations, count = (ctypes.c_size_t * room)(), ctypes.c_size_t()
     values, mended = ctypes.create_string_buffer(room), Buffer(_library.MAX_TEXT)
     number = _library.correct(
         Checksum(checksum).value,
         *given(data),
-        (ctypes.c_size_t * max(len(known), 1))(*known),
-        len(known),
+        *_locations(erasures),
         *(locations, room, values, room, ctypes.byref(count)),
         *mended.out,
     )
@@ -124,3 +131,64 @@ def correct(text: str, checksum: Checksum, erasures: Iterable[int] = ()) -> Corr
         refuse(number, text, data)
     listed = zip(locations[: count.value], values.raw[: count.value])
     return Correction(mended.text(), tuple(listed))
+
+
+def nearest(
+    text: str, checksum: Checksum, erasures: Iterable[int] = (), errors: int = 2
+) -> List[Correction]:
+    """Lists the texts near to a mistyped one: all that the checksum accepts and that differ from it in at
+    most `errors` characters, 0 to 2, behind the separator and outside `erasures`, the locations of
+    characters that are known to be wrong; 0 is the last character. There may be none.
+
+    Of a text of at most 89 characters, two errors without erasures have one answer at most, the right one
+    where two characters are wrong. It may not be what was meant: of texts of 62 characters at random, some
+    15 of 10,000 have one. Show it, and ask. With two erasures and two errors a call may take seconds.
+
+    The order is that of the highest location of a change outside the erasures, then that of the element
+    added there, then that of the next such location. A text without such changes is first: one that the
+    checksum accepts is the first of its own list. The list is empty where an erasure is not behind the
+    separator, or where there are more than three.
+
+    Raises what `check` does, but for `WrongChecksum`; `ValueError` of more than two errors, and
+    `MemoryError` where the texts are too many for 256 MB.
+    """
+    if errors not in range(3):
+        raise ValueError("the number of errors is none of 0, 1 and 2")
+    data, known = utf8(text), list(erasures)
+    number_of_errors = ctypes.c_size_t(errors)
+    asked = (Checksum(checksum).value, *given(data), *_locations(known), number_of_errors)
+    memory = _LEAST_MEMORY
+    number, found = _nearest_within(memory, len(data), asked)
+    while number in _TOO_LITTLE and memory < _MOST_MEMORY:
+        memory *= 2
+        number, found = _nearest_within(memory, len(data), asked)
+    if number in _TOO_LITTLE:
+        raise MemoryError("there are more near texts than can be listed")
+    if number != 0:
+        refuse(number, text, data)
+    return [Correction(near, _changes(text, near, known)) for near in found]
+
+
+def _locations(erasures: Iterable[int]) -> Tuple[Any, int]:
+    # Locations as a function takes them. One that no text has is one past the end of any.
+    known = [n if 0 <= n < _library.MAX_SIZE else _library.MAX_SIZE for n in erasures]
+    return (ctypes.c_size_t * max(len(known), 1))(*known), len(known)
+
+
+def _nearest_within(memory: int, length: int, asked: Tuple[Any, ...]) -> Tuple[int, List[str]]:
+    # What the library answers with so much memory, and the near texts.
+    lent, room, count = Lent(memory), memory // 4, ctypes.c_size_t()
+    texts = ctypes.create_string_buffer(room)
+    number = _library.nearest(*asked, ctypes.byref(lent.memory), texts, room, ctypes.byref(count))
+    found = texts[: count.value * length].decode("ascii")
+    return number, [found[n : n + length] for n in range(0, len(found), max(length, 1))]
+
+
+def _changes(text: str, near: str, erasures: List[int]) -> Tuple[Tuple[int, int], ...]:
+    # What is added to a text to give a near one, in the order of `correct`: at the erasures, at location 0,
+    # and then from the highest location down.
+    pairs = list(zip(reversed(text.lower()), reversed(near)))
+    others = [0, *range(len(pairs) - 1, 0, -1)]
+    changed = [n for n in others if pairs[n][0] != pairs[n][1]]
+    values = [[_CHARACTERS.find(character) for character in pair] for pair in pairs]
+    return tuple((n, values[n][0] ^ values[n][1]) for n in dict.fromkeys([*erasures, *changed]))

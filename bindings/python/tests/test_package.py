@@ -2,9 +2,10 @@
 
 import doctest
 import unittest
+from unittest import mock
 
 import bech32_proved
-from bech32_proved import Checksum, check, codex32, correct, decode, encode, errors, segwit
+from bech32_proved import Checksum, check, codex32, correct, decode, encode, errors, nearest, segwit, texts
 
 PROGRAM = bytes.fromhex("751e76e8199196d454941c45d1b3a323f1433bd6")
 
@@ -50,6 +51,20 @@ REFUSED = [
     ("<b>a12uel5l</b>", errors.InvalidCharacter, 14),
     ("a12ue\ud800l5l", errors.NotUnicode, 5),
     ("q" * 1_000_000, errors.NoSeparator, None),
+]
+
+# Texts with two wrong characters, what is added to them, and the one near text, by Bech32.
+NEAR = [
+    (
+        "bc1qqq08d6qejxtdg4y5r3zarvary0c5xw7kv8f3t4",
+        ((37, 14), (36, 20)),
+        "bc1qw508d6qejxtdg4y5r3zarvary0c5xw7kv8f3t4",
+    ),
+    (
+        "bc1qar0srrr7xfkvy5l64qlydnw9re59gtzzwf5mdx",
+        ((0, 6), (20, 17)),
+        "bc1qar0srrr7xfkvy5l643lydnw9re59gtzzwf5mdq",
+    ),
 ]
 
 # Texts that are no address.
@@ -130,6 +145,54 @@ class Texts(unittest.TestCase):
         with self.assertRaises(errors.InvalidCharacter) as raised:
             correct("x1b4n0q5v", Checksum.BECH32)
         self.assertEqual(str(raised.exception), "a character behind the separator may not stand there, at character 2")
+
+    def test_lists_near_texts(self):
+        for text, listed, near in NEAR:
+            with self.subTest(text):
+                self.assertEqual(nearest(text, Checksum.BECH32), [(near, listed)])
+                self.assertEqual(nearest(text.upper(), Checksum.BECH32), [(near, listed)])
+                self.assertEqual(nearest(text, Checksum.BECH32, errors=1), [])
+                # The first of the two is known to be wrong.
+                known = [listed[0][0]]
+                self.assertEqual(nearest(text, Checksum.BECH32, known, 1), [(near, listed)])
+                self.assertEqual(correct(text, Checksum.BECH32, known), (near, listed))
+        for text in BECH32:
+            with self.subTest(text):
+                self.assertEqual(nearest(text, Checksum.BECH32)[0], (text.lower(), ()))
+                known = nearest(text, Checksum.BECH32, iter([1, 0, 1]), 0)
+                self.assertEqual(known, [(text.lower(), ((1, 0), (0, 0)))])
+        damaged = ("a12qqq5l", Checksum.BECH32, (4, 3, 2), 0)
+        self.assertEqual(nearest(*damaged), [("a12uel5l", ((4, 28), (3, 25), (2, 31)))])
+        found = nearest("a1" + "z" * 1021, Checksum.BECH32)
+        self.assertEqual([it.errors for it in found], [((597, 28), (91, 7)), ((737, 28), (184, 1))])
+        for it in found:
+            self.assertEqual(check(it.text, Checksum.BECH32).hrp, "a")
+        found = nearest("split1checkupstagehan", Checksum.BECH32, [3, 8, 1])
+        near = ["split1checkuysyvg6h8n", "split1czecku5stag5hnn", "split15hecku0atag7hzn"]
+        self.assertEqual([it.text for it in found], near)
+
+    def test_takes_more_memory_for_near_texts(self):
+        text, listed, near = NEAR[0]
+        with mock.patch.object(texts, "_LEAST_MEMORY", 16):
+            self.assertEqual(nearest(text, Checksum.BECH32), [(near, listed)])
+            self.assertRaises(errors.MixedCase, nearest, "a12ueL5q", Checksum.BECH32)
+            with mock.patch.object(texts, "_MOST_MEMORY", 32):
+                self.assertRaises(MemoryError, nearest, text, Checksum.BECH32)
+
+    def test_lists_no_near_texts(self):
+        for erasures in [(0, 1, 2, 3), (6,), (-1,), (2**64,), (2**64 - 1,)]:
+            with self.subTest(erasures):
+                self.assertEqual(nearest("a12uel5l", Checksum.BECH32, erasures), [])
+        for count in [-1, 3, 2**64]:
+            self.assertRaises(ValueError, nearest, "a12uel5l", Checksum.BECH32, (), count)
+        self.assertRaises(TypeError, nearest, b"a12uel5l", Checksum.BECH32)
+        self.assertRaises(TypeError, nearest, "a12uel5l", Checksum.BECH32, (), 1.0)
+        for text, error, place in REFUSED:
+            if error is errors.WrongChecksum:
+                continue
+            with self.subTest(text[:90]), self.assertRaises(error) as raised:
+                nearest(text, Checksum.BECH32)
+            self.assertEqual((raised.exception.text, raised.exception.place), (text, place))
 
     def test_wants_texts_and_bytes(self):
         self.assertRaises(TypeError, decode, b"a12uel5l")

@@ -77,7 +77,7 @@ mod text;
 
 pub use checksum::{Bech32, Bech32m, Checksum};
 #[cfg(feature = "correct")]
-pub use correction::{correct, Correction};
+pub use correction::{correct, nearest, Correction};
 pub use fault::{fault, Fault};
 pub use fe32::Fe32;
 pub use iter::{ByteIterExt, Fe32IterExt};
@@ -106,7 +106,7 @@ pub mod primitives {
     /// Mistyped texts mended.
     #[cfg(feature = "correct")]
     pub mod correction {
-        pub use crate::correction::{correct, Correction};
+        pub use crate::correction::{correct, nearest, Correction};
     }
 
     /// Texts read, and why they are refused.
@@ -146,7 +146,7 @@ pub mod primitives {
     }
 }
 
-// The examples of README.md are tested with those of the documentation.
-#[cfg(doctest)]
+// The examples of README.md, which correct texts too, are tested with those of the documentation.
+#[cfg(all(doctest, feature = "correct"))]
 #[doc = include_str!("../README.md")]
 struct Readme;

@@ -7,6 +7,14 @@
 use crate::Refusal;
 
 mod c {
+    /// Memory that a function may use.
+    #[cfg(feature = "correct")]
+    #[repr(C)]
+    pub struct Memory {
+        pub start: *mut u8,
+        pub size: usize,
+    }
+
     extern "C" {
         pub fn bech32_encode(
             checksum: u32,
@@ -91,7 +99,36 @@ mod c {
             mended_room: usize,
             mended_length: *mut usize,
         ) -> u32;
+
+        #[cfg(feature = "correct")]
+        pub fn bech32_nearest(
+            checksum: u32,
+            text: *const u8,
+            text_length: usize,
+            erasures: *const usize,
+            erasures_length: usize,
+            errors: usize,
+            memory: *mut Memory,
+            texts: *mut u8,
+            texts_room: usize,
+            count: *mut usize,
+        ) -> u32;
     }
+}
+
+/// Memory that a call is lent, sixteen bytes of it, aligned to as many.
+#[cfg(feature = "correct")]
+#[derive(Clone, Copy)]
+#[repr(C, align(16))]
+pub struct Block([u8; Block::SIZE]);
+
+#[cfg(feature = "correct")]
+impl Block {
+    /// Its bytes.
+    pub const SIZE: usize = 16;
+
+    /// Zeros.
+    pub const ZEROS: Block = Block([0; Block::SIZE]);
 }
 
 // What a call answered, where it did not refuse.
@@ -255,4 +292,40 @@ pub fn correct(
         )
     };
     answered(number, (count, mended_length))
+}
+
+/// Puts the texts near to a text into a buffer, one behind another, and answers how many there are.
+/// The memory is for the call's own use.
+#[cfg(feature = "correct")]
+pub fn nearest(
+    checksum: u32,
+    text: &[u8],
+    erasures: &[usize],
+    errors: usize,
+    memory: &mut [Block],
+    texts: &mut [u8],
+) -> Result<usize, Refusal> {
+    let mut count = 0;
+    let mut lent = c::Memory {
+        start: memory.as_mut_ptr().cast(),
+        size: std::mem::size_of_val(memory),
+    };
+    // SAFETY: as in `encode`. The lent memory is that of the slice, which nothing else covers, is
+    // aligned by the type of its items, and may hold any bytes afterwards; the library keeps nothing
+    // between calls, so it is the slice's again even where `lent` says that it has none left.
+    let number = unsafe {
+        c::bech32_nearest(
+            checksum,
+            text.as_ptr(),
+            text.len(),
+            erasures.as_ptr(),
+            erasures.len(),
+            errors,
+            &mut lent,
+            texts.as_mut_ptr(),
+            texts.len(),
+            &mut count,
+        )
+    };
+    answered(number, count)
 }

@@ -61,7 +61,7 @@ macro_rules! refusals {
 
 refusals! {
     NotUtf8 = 2, "a text or a human-readable part is not UTF-8";
-    BadNumber = 4, "the number of no checksum, or an element above 31";
+    BadNumber = 4, "the number of no checksum, an element above 31, or more than two errors";
     HrpEmpty = 11, "the human-readable part is empty";
     HrpTooLong = 12, "the human-readable part has more than 83 bytes";
     HrpNotAscii = 13, "the human-readable part has a character that is not ASCII";
@@ -85,6 +85,7 @@ refusals! {
     EncodedTooLong = 51, "the text would have more than 1023 characters";
     EncodedBadVersion = 52, "the witness version is above 16";
     EncodedAddressTooLong = 53, "the address would have more than 90 characters";
+    NoMemory = 91, "the lent memory did not suffice";
     NoRoom = 92, "a buffer is too small";
 }
 

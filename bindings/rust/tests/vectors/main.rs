@@ -305,7 +305,10 @@ fn has_the_numbers_of_the_header() {
     let known = Refusal::ALL
         .iter()
         .map(|refusal| (refusal.number(), name(refusal)));
-    let known: Vec<(u32, String)> = known.filter(|(n, _)| *n != 34 || has_correction).collect();
+    let of_corrections = [34, 91];
+    let known: Vec<(u32, String)> = known
+        .filter(|(n, _)| has_correction || !of_corrections.contains(n))
+        .collect();
     assert_eq!(known, defined);
     for refusal in Refusal::ALL {
         assert_eq!(Refusal::from_number(refusal.number()), Some(*refusal));
@@ -316,7 +319,31 @@ fn has_the_numbers_of_the_header() {
 #[cfg(feature = "correct")]
 mod corrections {
     use super::{number, rows};
-    use bech32_proved::{correct, Bech32, Bech32m};
+    use bech32_proved::primitives::decode::CheckedHrpstring;
+    use bech32_proved::{correct, nearest, Bech32, Bech32m, Checksum, Correction, Refusal};
+
+    // A text with two wrong characters, what is added to it, and the one near text, by Bech32.
+    type Near = (&'static str, &'static [(usize, u8)], &'static str);
+
+    const NEAR: [Near; 2] = [
+        (
+            "bc1qar0srrr7xfkvy5l64qlydnw9re59gtzzwf5mdx",
+            &[(0, 6), (20, 17)],
+            "bc1qar0srrr7xfkvy5l643lydnw9re59gtzzwf5mdq",
+        ),
+        (
+            "bc1qqq08d6qejxtdg4y5r3zarvary0c5xw7kv8f3t4",
+            &[(37, 14), (36, 20)],
+            "bc1qw508d6qejxtdg4y5r3zarvary0c5xw7kv8f3t4",
+        ),
+    ];
+
+    // A text and the listing of a correction.
+    fn parts(correction: &Correction) -> (&str, Vec<(usize, u8)>) {
+        let errors = correction.bch_errors();
+        let errors = errors.map(|(l, v)| (l, v.to_u8())).collect();
+        (correction.as_str(), errors)
+    }
 
     #[test]
     fn mends_texts() {
@@ -326,13 +353,7 @@ mod corrections {
                 assert_eq!(number(correction), 34);
                 continue;
             };
-            let correction = correction.unwrap();
-            assert_eq!(correction.as_str(), mended);
-            let found: Vec<_> = correction
-                .bch_errors()
-                .map(|(l, v)| (l, v.to_u8()))
-                .collect();
-            assert_eq!(found, listed);
+            assert_eq!(parts(&correction.unwrap()), (mended, listed.to_vec()));
         }
     }
 
@@ -359,6 +380,96 @@ mod corrections {
                 wanted,
                 "{text} {erasures:?}"
             );
+        }
+    }
+
+    // Where there is one correction, it is the one near text.
+    #[test]
+    fn near_texts_of_few_errors() {
+        for (text, erasures, _, mended) in rows::CORRECTIONS {
+            let errors = (3 - erasures.len()) / 2;
+            let found = nearest::<Bech32>(text, erasures, errors).unwrap();
+            let wanted = correct::<Bech32>(text, erasures).ok();
+            assert_eq!(wanted.is_some(), mended.is_some());
+            assert_eq!(found, Vec::from_iter(wanted), "{text} {erasures:?}");
+        }
+    }
+
+    #[test]
+    fn near_texts_of_two_errors() {
+        for (text, listed, near) in NEAR {
+            let found = nearest::<Bech32>(text, &[], 2).unwrap();
+            let found: Vec<_> = found.iter().map(parts).collect();
+            assert_eq!(found, [(near, listed.to_vec())]);
+            let upper_case = text.to_uppercase();
+            let again = nearest::<Bech32>(&upper_case, &[], 2).unwrap();
+            assert!(again.iter().map(parts).eq(found));
+            assert_eq!(nearest::<Bech32>(text, &[], 1), Ok(vec![]));
+        }
+    }
+
+    // An accepted text is the first of its own list.
+    fn is_first<Ck: Checksum>(text: &str) {
+        let alone = nearest::<Ck>(text, &[], 0).unwrap();
+        let own = text.to_lowercase();
+        assert!(alone.iter().map(parts).eq([(own.as_str(), vec![])]));
+        let known = nearest::<Ck>(text, &[1, 0, 1], 0).unwrap();
+        let zeros = vec![(1, 0), (0, 0)];
+        assert!(known.iter().map(parts).eq([(own.as_str(), zeros)]));
+        let found = nearest::<Ck>(text, &[], 2).unwrap();
+        assert_eq!(found.first(), alone.first());
+        assert!(found.len() == 1 || text.len() > 89);
+    }
+
+    #[test]
+    fn accepted_texts_are_first() {
+        rows::BECH32
+            .iter()
+            .for_each(|text| is_first::<Bech32>(text));
+        rows::BECH32M
+            .iter()
+            .for_each(|text| is_first::<Bech32m>(text));
+    }
+
+    #[test]
+    fn near_texts_in_their_order() {
+        let text = format!("a1{}", "z".repeat(1021));
+        let found = nearest::<Bech32>(&text, &[], 2).unwrap();
+        let listed: Vec<_> = found.iter().map(|near| parts(near).1).collect();
+        assert_eq!(listed, [[(597, 28), (91, 7)], [(737, 28), (184, 1)]]);
+        for near in &found {
+            assert_eq!(number(CheckedHrpstring::new::<Bech32>(near.as_str())), 0);
+        }
+        let found = nearest::<Bech32>("split1checkupstagehan", &[3, 8, 1], 2).unwrap();
+        let texts: Vec<&str> = found.iter().map(Correction::as_str).collect();
+        assert_eq!(
+            texts,
+            [
+                "split1checkuysyvg6h8n",
+                "split1czecku5stag5hnn",
+                "split15hecku0atag7hzn"
+            ]
+        );
+    }
+
+    #[test]
+    fn near_texts_that_are_none() {
+        for (text, erasures, errors, wanted) in [
+            ("b12uel5l", [].as_slice(), 2, Ok(0)),
+            ("a12uel5l", &[6], 0, Ok(0)),
+            ("a12uel5l", &[usize::MAX], 2, Ok(0)),
+            ("a12uel5l", &[0, 1, 2, 3], 2, Ok(0)),
+            ("a12uel5l", &[3, 3, 3, 3], 0, Ok(1)),
+            ("a12qqq5l", &[4, 3, 2], 0, Ok(1)),
+            ("a12ueL5q", &[], 3, Err(Refusal::BadNumber)),
+            ("a12uel5l", &[], usize::MAX, Err(Refusal::BadNumber)),
+            ("a12ueL5q", &[], 2, Err(Refusal::MixedCase)),
+            ("a12uel5", &[], 0, Err(Refusal::NoChecksum)),
+            ("", &[], 2, Err(Refusal::NoSeparator)),
+        ] {
+            let found = nearest::<Bech32>(text, erasures, errors);
+            let count = found.map(|found| found.len());
+            assert_eq!(count, wanted, "{text} {erasures:?} {errors}");
         }
     }
 }
