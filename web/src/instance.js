@@ -15,6 +15,20 @@ export class Stopped extends Error {
   }
 }
 
+const PAGE = 65536;
+
+// Makes a memory as large as that, page by page of WebAssembly. Where addresses have 64 bits, a number of pages is a BigInt.
+const enlarge = (memory, size) => {
+  const pages = Math.ceil((size - memory.buffer.byteLength) / PAGE);
+  if (pages <= 0) return;
+  try {
+    memory.grow(pages);
+  } catch (cause) {
+    if (!(cause instanceof TypeError)) throw cause;
+    memory.grow(BigInt(pages));
+  }
+};
+
 // The constants of a module just started: all between the first byte of its memory that is not zero and the last.
 const constantsOf = (bytes, end) => {
   let from = 0, to = end;
@@ -39,16 +53,17 @@ export class Instance {
   #start() {
     this.#exports = new WebAssembly.Instance(this.#module, {}).exports;
     const { memory, __heap_base: base } = this.#exports;
-    this.bytes = new Uint8Array(memory.buffer);
-    this.view = new DataView(memory.buffer);
+    const own = aligned(Number(base.value));
+    let end = own;
     this.at = {};
-    let end = aligned(Number(base.value));
-    this.#constants = constantsOf(this.bytes, end);
     for (const [name, size] of Object.entries(this.#sizes)) {
       this.at[name] = end;
       end = aligned(end + size);
     }
-    if (end > this.bytes.length) throw new RangeError('the memory of the module is too small for the arguments');
+    enlarge(memory, end);
+    this.bytes = new Uint8Array(memory.buffer);
+    this.view = new DataView(memory.buffer);
+    this.#constants = constantsOf(this.bytes, own);
   }
 
   /** How many arguments a function takes; undefined where the module has no function of that name. */

@@ -101,7 +101,7 @@ test('characters that cannot be read', () => {
 
 test('two wrong characters', () => {
   const found = said(at(at(V0, 11, 'q'), 20, 'q'));
-  assert.deepEqual(found.offers.map(({ text, places, heading }) => [text, places, heading]), [[V0, [11, 20], 'Bech32 address, with 2 characters changed']]);
+  assert.deepEqual(found.offers.map(({ text, places, heading }) => [text, places, heading]), [[V0, [11, 20], 'Bech32, with 2 characters changed']]);
   assert.match(found.caution, /^A correction is a guess/);
   const unread = said(at(at(at(V0, 11, 'q'), 20, '?'), 30, '?'));
   assert.deepEqual(unread.offers.map(({ text, places }) => [text, places]), [[V0, [11, 20, 30]]]);

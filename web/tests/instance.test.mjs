@@ -53,10 +53,12 @@ test('a codex32 string is wiped from the memory after each call', () => withInst
 test('wipe leaves the memory of the other module as it was at first', () => withInstances((started) => {
   const it = library(...modules);
   const fresh = FRESH[0];
+  // The memory was made larger, by zeros.
+  const isFresh = (memory) => memory.subarray(0, fresh.length).equals(fresh) && memory.subarray(fresh.length).every((byte) => byte === 0);
   it.correct('bech32', `${ADDRESS.slice(0, -1)}q`);
-  assert.ok(!memoryOf(started[0]).equals(fresh));
+  assert.ok(!isFresh(memoryOf(started[0])));
   it.wipe();
-  assert.ok(memoryOf(started[0]).equals(fresh));
+  assert.ok(isFresh(memoryOf(started[0])));
   assert.equal(it.segwit.decode(ADDRESS).version, 0);
 }));
 
@@ -95,7 +97,7 @@ test('a codex32 string is wiped where the call stops', () => {
 test('arguments stand in regions of their own', () => {
   const it = new Instance(modules[0], { a: 5, b: 1, c: 4096 });
   assert.ok(it.at.a % 16 === 0 && it.at.b >= it.at.a + 5 && it.at.c >= it.at.b + 1);
-  assert.throws(() => new Instance(modules[0], { a: 1 << 24 }), RangeError);
+  assert.throws(() => new Instance(modules[0], { a: 2 ** 40 }), RangeError);
 });
 
 test('near texts that are too many for their room are refused, and not cut', () => {

@@ -1,22 +1,7 @@
 //! Answers each line of standard input.
 #![tactic(auto)]
 
-mod append;
-mod command;
-mod correct;
-mod decode;
-mod encode;
-mod error;
-mod hex_word;
-mod location_word;
-mod refusal;
-mod reply;
-mod run;
-mod segwit_decode;
-mod segwit_encode;
-mod version_word;
-
-use crate::run::run_on;
+use b32_replies::run::run_on;
 use bech32::primitives::device::Watched;
 use std::process::ExitCode;
 

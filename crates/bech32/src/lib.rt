@@ -21,8 +21,7 @@ pub use bech32_bits::ByteIterExt;
 pub use bech32_block::PrintImpl;
 pub use bech32_checksum::{Bech32, Bech32m, Checksum, CorrectingChecksum, NoChecksum};
 pub use bech32_correction::{
-    CorrectError, CorrectableError, Correction, Mended, NearTexts, correct, correct_in, nearest,
-    nearest_in,
+    CorrectError, CorrectableError, Correction, Mended, correct, correct_in,
 };
 use bech32_decode::{CheckedHrpstring, CodeLengthError, UncheckedHrpstring, validate_either};
 pub use bech32_encode::Fe32IterExt;
@@ -30,6 +29,9 @@ use bech32_encode::{text_in, text_length};
 pub use bech32_gf::gf32::Fe32;
 pub use bech32_gf_ext::{Fe1024, Fe32768};
 pub use bech32_hrp::Hrp;
+pub use bech32_near::{NearTexts, nearest, nearest_in};
+pub use bech32_near_listings::nearest_listings;
+pub use bech32_near_patterns::Listings;
 pub use bech32_segwit as segwit;
 pub use error::{DecodeError, EncodeError, EncodeIoError};
 use std::alloc::{AllocError, Allocator, Global};

@@ -6,4 +6,3 @@ pub mod Refusals
 pub mod Representation
 pub mod Roots
 pub mod Series
-pub mod Words

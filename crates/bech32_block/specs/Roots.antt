@@ -5,7 +5,6 @@ use Rattle.bech32_gf.specs.Fe32 as fe32
 use Rattle.bech32_gf.specs.declared.gf32.Fe32.{Fe32}
 use Rattle.bech32_poly.specs.Remainder.{monic}
 use Rattle.bech32_poly.specs.RootSearch.{root_exponents}
-use Rattle.bech32_checksum.specs.Code.{Code}
 use Rattle.bech32_block.specs.Series.{IsLongestSeries}
 
 -- a field in which roots are looked for: its operations, the test whether elements are the
@@ -17,12 +16,6 @@ pub record RootField (E : Type 0) : Type 0 where
   pub embed : Fe32 → E
   pub generator : E
   pub order : ℕ
-
--- the code of a generator and a target that are written with the highest coefficient first, the
--- generator without its leading one
-abbrev pub code_of_written : List Fe32 → List Fe32 → ℕ → Code
-code_of_written generator target code_length =
-    record { generator = reverse generator; target = reverse target; code_length = code_length }
 
 -- the exponents of the roots, as powers of the field's element, in rising order: each
 -- root that is not zero once

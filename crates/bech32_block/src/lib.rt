@@ -8,7 +8,6 @@ mod print;
 mod roots;
 mod series;
 mod text;
-mod words;
 
 pub use self::error::PrintError;
 pub use self::named::NamedField;

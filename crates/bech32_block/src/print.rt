@@ -12,10 +12,10 @@ use crate::hex::Hex;
 use crate::named::NamedField;
 use crate::roots::Roots;
 use crate::text::{Characters, Code, Reversed, WordLines, digits_of_degree, type_of_degree};
-use crate::words::Words;
 use bech32_gf::field::{Bech32Field, ExtensionField};
 use bech32_gf::gf32::Fe32;
 use bech32_gf_ext::Fe1024;
+use bech32_words::Words;
 use std::alloc::{Allocator, Global};
 use std::fmt;
 

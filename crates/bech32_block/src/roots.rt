@@ -6,7 +6,8 @@ ghost use Rattle.bech32_poly.specs.Embedding.{value_in};
 ghost use Rattle.bech32_poly.specs.Remainder.{monic};
 ghost use Rattle.bech32_checksum.specs.Roots.{HasLawfulRoots};
 ghost use Rattle.bech32_block.specs.Refusals.{IsPrintRefusal};
-ghost use Rattle.bech32_block.specs.Roots.{RootField, AreOfLongestSeries, HasAllRoots, code_of_written, roots_of};
+ghost use Rattle.bech32_block.specs.Roots.{RootField, AreOfLongestSeries, HasAllRoots, roots_of};
+ghost use Rattle.bech32_words.specs.Words.{code_of_written};
 
 use crate::error::PrintError;
 use crate::series::{least_power, longest_series, period};

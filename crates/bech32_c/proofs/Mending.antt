@@ -90,25 +90,25 @@ module _ (code : Code) (text : List ℕ) where
   one_refused : (h d : List ℕ) (residue : List Fe32) (h' d' : List ℕ) (residue' : List Fe32) → IsRefusedFor code text h d residue → IsRefusedFor code text h' d' residue'
       → (d ≡ d') × IsSamePolynomial ops residue residue'
   one_refused h d residue h' d' residue' a b =
-      let same = only-from_IsText text h' d' b.grammar h d a.grammar.split a.grammar.data_bytes in
-      let left : IsRemainder ops code.generator (text_polynomial h' (elements_of d')) a.remainder =
-      subst (λ (x : List ℕ). IsRemainder ops code.generator (text_polynomial x (elements_of d')) a.remainder) same.0
-      (subst (λ (x : List ℕ). IsRemainder ops code.generator (text_polynomial h (elements_of x)) a.remainder) same.1 a.is_remainder) in
-      let one : a.remainder ≡ b.remainder = one_remainder code.generator (text_polynomial h' (elements_of d')) a.remainder b.remainder left b.is_remainder in
-      (same.1, λ i. a.residue_is i ∙ ap (λ (r : List Fe32). coefficient ops (add ops r code.target) i) one ∙ sym (b.residue_is i))
+      let same = only-from_IsText text h' d' b.read.grammar h d a.read.grammar.split a.read.grammar.data_bytes in
+      let left : IsRemainder ops code.generator (text_polynomial h' (elements_of d')) a.read.remainder =
+      subst (λ (x : List ℕ). IsRemainder ops code.generator (text_polynomial x (elements_of d')) a.read.remainder) same.0
+      (subst (λ (x : List ℕ). IsRemainder ops code.generator (text_polynomial h (elements_of x)) a.read.remainder) same.1 a.read.is_remainder) in
+      let one : a.read.remainder ≡ b.read.remainder = one_remainder code.generator (text_polynomial h' (elements_of d')) a.read.remainder b.read.remainder left b.read.is_remainder in
+      (same.1, λ i. a.read.residue_is i ∙ ap (λ (r : List Fe32). coefficient ops (add ops r code.target) i) one ∙ sym (b.read.residue_is i))
 
   not_both : (h d : List ℕ) (residue : List Fe32) → Accepts code text → IsRefusedFor code text h d residue → ⊥
   not_both h d residue a r =
-      r.not_target (one_remainder code.generator (text_polynomial h (elements_of d)) r.remainder code.target r.is_remainder (valid-from_accepts code text h d r.grammar a).2)
+      r.not_target (one_remainder code.generator (text_polynomial h (elements_of d)) r.read.remainder code.target r.read.is_remainder (valid-from_accepts code text h d r.read.grammar a).2)
 
   no_other_refusal : (h d : List ℕ) (residue : List Fe32) (e : ChecksumError) → IsRefusedFor code text h d residue → IsRefusedByChecksum code text e → of_checksum e ≡ None → ⊥
   no_other_refusal h d residue (CodeLength e) a r none =
-      let over : code.code_length < length text = r.refusal.0 in let fits : length text ≤ code.code_length = a.text_length in omega arith
+      let over : code.code_length < length text = r.refusal.0 in let fits : length text ≤ code.code_length = a.read.text_length in omega arith
   no_other_refusal h d residue InvalidLength a r none =
-      let same = only-from_IsText text r.hrp r.data_part r.grammar h d a.grammar.split a.grammar.data_bytes in
+      let same = only-from_IsText text r.hrp r.data_part r.grammar h d a.read.grammar.split a.read.grammar.data_bytes in
       let one : length d ≡ length r.data_part = ap length same.1 in
       let short : length r.data_part < length code.generator = r.refusal.1 in
-      let room : length code.generator ≤ length d = a.data_length in
+      let room : length code.generator ≤ length d = a.read.data_length in
       omega arith
   no_other_refusal h d residue (InvalidResidue e) a r none = absurd (cc)
 
@@ -134,7 +134,7 @@ module _ (text given : List ℕ) (code : Code) where
 
   in_grammar : (listing : List (ℕ × Fe32)) → IsMendedBy text given listing code → IsInGrammar text
   in_grammar listing (inl h) = (h.0.0, h.0.1, h.0.2.grammar)
-  in_grammar listing (inr h) = (h.hrp, h.data_part, h.refused.grammar)
+  in_grammar listing (inr h) = (h.hrp, h.data_part, h.refused.read.grammar)
 
   no_checksum_fault : (listing : List (ℕ × Fe32)) (e : ChecksumError) → IsMendedBy text given listing code → IsRefusedByChecksum code text e
       → of_checksum e ≡ None → ⊥

@@ -14,7 +14,7 @@ use Rattle.bech32_decode.specs.Acceptance.{Accepts}
 use Rattle.bech32_encode.specs.Buffers.{IsPut}
 use Rattle.bech32_correction.specs.MendedElements.{mended}
 use Rattle.bech32_correction.specs.Mistyped.{IsListing, IsMendedText, IsRefusedFor}
-use Rattle.bech32_correction.specs.NearTexts.{AreNearTexts}
+use Rattle.bech32_near.specs.NearTexts.{AreNearTexts}
 use Rattle.bech32_correction.specs.declared.correcting.Correction.{Correction}
 use Rattle.bech32_correction.specs.declared.correcting.Correction.TheVariants.{Accepted, Mended, Unexplained}
 use Rattle.bech32_correction.proofs.Sums.{length-mended}
@@ -48,14 +48,7 @@ read_refused text hrp data_part residue code r = record {
   hrp = hrp;
   data_part = data_part;
   residue = residue;
-  read = record {
-    grammar = r.grammar;
-    text_length = r.text_length;
-    data_length = r.data_length;
-    remainder = r.remainder;
-    is_remainder = r.is_remainder;
-    residue_is = r.residue_is;
-  };
+  read = r.read;
 }
 
 pub read_listed : (text given : List ℕ) (answer : Correction (List (ℕ × Fe32)) (Unit {0})) (code : Code) → IsListing code bound text given answer → IsRead text code

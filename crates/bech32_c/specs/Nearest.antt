@@ -3,7 +3,8 @@ use Rattle.std.specs.Prelude.{◌≡◌, ◌<◌, ◌≤◌, ◌*◌, ◌⊎◌,
 use Rattle.bech32_gf.specs.declared.gf32.Fe32.{Fe32}
 use Rattle.bech32_checksum.specs.Code.{Code}
 use Rattle.bech32_encode.specs.Buffers.{IsPut}
-use Rattle.bech32_correction.specs.NearTexts.{AreNearTexts, HasResidue}
+use Rattle.bech32_near.specs.NearTexts.{AreNearTexts}
+use Rattle.bech32_correction.specs.Mistyped.{HasResidue}
 use Rattle.bech32_correction.specs.declared.error.CorrectError.{CorrectError}
 use Rattle.bech32_correction.specs.declared.error.CorrectError.TheVariants.{
   Memory as OutOfMemory,

@@ -1,7 +1,7 @@
 //! Lists the texts near to a mistyped one.
 
 ghost use Rattle.std.specs.Prelude.{◌≡◌, ◌≢◌, ◌<◌, ◌≤◌, ◌*◌, ◌⊎◌, ℕ, length, map, flat_map, string_bytes, true, false, IfErr, IfOk, MatchResult, OnErr};
-ghost use Rattle.bech32_correction.specs.NearTexts.{AreNearTexts};
+ghost use Rattle.bech32_near.specs.NearTexts.{AreNearTexts};
 ghost use Rattle.bech32_encode.specs.Buffers.{IsPut};
 ghost use Rattle.caller_memory.specs.Memory.{memory_size};
 ghost use Rattle.bech32_c.specs.Checksums.{ForChecksum, IsFaultBy};

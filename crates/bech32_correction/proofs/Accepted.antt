@@ -22,8 +22,7 @@ use Rattle.bech32_bch.specs.Pattern.{Mends}
 use Rattle.bech32_decode.specs.Acceptance.{IsAccepted}
 use Rattle.bech32_decode.specs.Text.{IsText}
 use Rattle.bech32_decode.proofs.Spelling.{characters-elements, lower_text, spelled-text}
-use Rattle.bech32_correction.specs.Mistyped.{IsRefusedFor}
-use Rattle.bech32_correction.specs.NearTexts.{HasResidue}
+use Rattle.bech32_correction.specs.Mistyped.{HasResidue}
 use Rattle.bech32_correction.specs.MendedElements.{mended}
 use Rattle.bech32_correction.proofs.Sums.{IsRemainder-same, appended-mended, length-mended}
 
@@ -57,17 +56,6 @@ length-lowered_text text hrp data_part is = sym (ap length (lower_text text hrp 
 length-characters : (listing : List (ℕ × Fe32)) (data_part : List ℕ) → length (map char_of_element (mended ops listing (elements_of data_part))) ≡ length data_part
 length-characters listing data_part =
     length-map (mended ops listing (elements_of data_part)) char_of_element ∙ length-mended ops listing (elements_of data_part) ∙ length-map data_part element_of
-
--- a text that is refused for its residue has it
-pub read-from_refused : (code : Code) (text hrp data_part : List ℕ) (residue : List Fe32) → IsRefusedFor code text hrp data_part residue → HasResidue code text hrp data_part residue
-read-from_refused code text hrp data_part residue is = record {
-  grammar = is.grammar;
-  text_length = is.text_length;
-  data_length = is.data_length;
-  remainder = is.remainder;
-  is_remainder = is.is_remainder;
-  residue_is = is.residue_is;
-}
 
 module _ (code : Code) (text hrp data_part : List ℕ) (residue : List Fe32) (listing : List (ℕ × Fe32)) (is : HasResidue code text hrp data_part residue)
     (inside : AllByRecursion (λ (p : ℕ × Fe32). p.0 < length data_part) listing) (mends : Mends ops code.generator code.target residue listing) where

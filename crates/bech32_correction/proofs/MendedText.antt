@@ -63,9 +63,9 @@ pub mended_by : (code : Code) (bound : ℕ) (text given new : List ℕ) (listing
     → ((hrp data_part : List ℕ) → IsText text hrp data_part → new ≡ spelled hrp (mended ops listing (elements_of data_part)))
     → IsMendedBy code bound text given listing new
 mended_by code bound text given new listing is spelling =
-    let same : new ≡ spelled is.hrp (mended ops listing (elements_of is.data_part)) = spelling is.hrp is.data_part is.refused.grammar in
+    let same : new ≡ spelled is.hrp (mended ops listing (elements_of is.data_part)) = spelling is.hrp is.data_part is.refused.read.grammar in
     record {
       listed = is;
-      text_is = record { hrp = is.hrp; data_part = is.data_part; grammar = is.refused.grammar; spelling = same };
+      text_is = record { hrp = is.hrp; data_part = is.data_part; grammar = is.refused.read.grammar; spelling = same };
       accepted = subst (Accepts code) (sym same) is.mends;
     }

@@ -28,7 +28,7 @@ module _ {F : Type 0} {f : Ops F} (fl : IsField f) where
   one_item (suc i) v = refl
 
   -- the remainder of one error is its value times that of the power of x
-  remainder_of-single : (g : List F) (i : ℕ) (v : F) (row : List F) → IsRemainder f g (monomial f i f.one) row → remainder_of f g (pattern_polynomial f ((i, v) ∷ [])) ≡ scale f v row
+  pub remainder_of-single : (g : List F) (i : ℕ) (v : F) (row : List F) → IsRemainder f g (monomial f i f.one) row → remainder_of f g (pattern_polynomial f ((i, v) ∷ [])) ≡ scale f v row
   remainder_of-single g i v row is =
       ap (remainder_of f g) (one_item i v ∙ monomial-scale i v) ∙ remainder_of-scale fl g v (monomial f i f.one) ∙ ap (scale f v) (sym (remainder_unique fl g (monomial f i f.one) row is))
 

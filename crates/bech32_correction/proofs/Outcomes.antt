@@ -32,7 +32,7 @@ use Rattle.bech32_correction.specs.Mistyped.{AreInside, HasNoListing, IsCorrectR
 use Rattle.bech32_correction.specs.declared.correcting.Correction.{Correction}
 use Rattle.bech32_correction.specs.declared.error.CorrectError.{CorrectError}
 use Rattle.bech32_correction.specs.declared.error.CorrectError.TheVariants.{Memory, Refused}
-use Rattle.bech32_correction.proofs.Accepted.{mended_accepted, read-from_refused}
+use Rattle.bech32_correction.proofs.Accepted.{mended_accepted}
 use Rattle.bech32_correction.proofs.Inside.{all-with_erasures, listed_inside}
 use Rattle.bech32_correction.proofs.Sound.{sound_of}
 
@@ -55,13 +55,15 @@ accepted-from_valid code text u is v = (
 pub refused_for : (code : Code) (text : List ℕ) (u : UncheckedHrpstring) (e : InvalidResidueError) → IsReadAs text u → IsInvalidBy code u (InvalidResidue e)
     → IsRefusedFor code text (unchecked_part u) (unchecked_data u) (residue_of e)
 refused_for code text u e is v = record {
-  grammar = is.grammar;
-  text_length = subst (λ (n : ℕ). n ≤ code.code_length) is.text_length v.0;
-  data_length = v.1;
-  remainder = v.2.remainder;
-  is_remainder = v.2.is_remainder;
+  read = record {
+    grammar = is.grammar;
+    text_length = subst (λ (n : ℕ). n ≤ code.code_length) is.text_length v.0;
+    data_length = v.1;
+    remainder = v.2.remainder;
+    is_remainder = v.2.is_remainder;
+    residue_is = residue_carried code (text_polynomial (unchecked_part u) (elements_of (unchecked_data u))) e v.2;
+  };
   not_target = v.2.not_target;
-  residue_is = residue_carried code (text_polynomial (unchecked_part u) (elements_of (unchecked_data u))) e v.2;
 }
 
 pub listing-from_only : (code : Code) (bound : ℕ) (text given hrp data_part : List ℕ) (residue : List Fe32) (listing : List (ℕ × Fe32))
@@ -77,7 +79,7 @@ listing-from_only code bound text given hrp data_part residue listing is inside 
   mends = (
     lowered hrp,
     map char_of_element (mended ops listing (elements_of data_part)),
-    mended_accepted code text hrp data_part residue listing (read-from_refused code text hrp data_part residue is)
+    mended_accepted code text hrp data_part residue listing is.read
         (listed_inside is_field code.generator residue (with_erasures [] given) (length data_part) bound listing
         (sound_of code bound (question_of data_part residue given) listing only)
         (all-with_erasures (λ i. i < length data_part) [] given tt inside)) only.mends,

@@ -64,7 +64,7 @@ pub mendable-from_listing : (code : Code) (bound : ℕ) (text given : List ℕ) 
 mendable-from_listing code bound text given listing is = record {
   hrp = is.hrp;
   data_part = is.data_part;
-  grammar = is.refused.grammar;
+  grammar = is.refused.read.grammar;
   inside = subst (λ (n : ℕ). AllByRecursion (λ (p : ℕ × Fe32). p.0 < n) listing) (sym (length-map is.data_part element_of))
       (listed_inside is_field code.generator is.residue (with_erasures [] given) (length is.data_part) bound listing
       (sound_of code bound (question_of is.data_part is.residue given) listing is.only)

@@ -1,8 +1,7 @@
 pub mod Carried
+pub mod Equations
 pub mod MendedElements
 pub mod Mistyped
-pub mod NearTexts
-pub mod Nearest
-pub mod NearestSteps
 pub mod Multiple
 pub mod Question
+pub mod TakenOff

@@ -32,9 +32,9 @@ pub record IsReadAs (text : List ℕ) (u : UncheckedHrpstring) : Type 0 where
   pub grammar : IsText text (unchecked_part u) (unchecked_data u)
   pub text_length : unchecked_length u ≡ length text
 
--- the checksum refuses a text of these parts for its residue alone, which is the remainder of the
--- text's polynomial less the target (in this field a difference is a sum)
-pub record IsRefusedFor (code : Code)
+-- the text has these parts and is within the checksum's lengths; the remainder of its polynomial
+-- less the target is the residue (in this field a difference is a sum)
+pub record HasResidue (code : Code)
     (text hrp data_part : List ℕ) (residue : List Fe32) : Type 0 where
   pub grammar : IsText text hrp data_part
   pub text_length : length text ≤ code.code_length
@@ -42,8 +42,13 @@ pub record IsRefusedFor (code : Code)
   pub remainder : List Fe32
   pub is_remainder :
       IsRemainder ops code.generator (text_polynomial hrp (elements_of data_part)) remainder
-  pub not_target : remainder ≢ code.target
   pub residue_is : IsSamePolynomial ops residue (add ops remainder code.target)
+
+-- the checksum refuses such a text, for its residue alone
+pub record IsRefusedFor (code : Code)
+    (text hrp data_part : List ℕ) (residue : List Fe32) : Type 0 where
+  pub read : HasResidue code text hrp data_part residue
+  pub not_target : read.remainder ≢ code.target
 
 -- each location is that of a character of the data part, of which location 0 is the last
 abbrev pub AreInside : List ℕ → List ℕ → Type 0

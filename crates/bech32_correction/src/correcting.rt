@@ -36,9 +36,13 @@ pub enum Correction<M, C = ()> {
     Unexplained(C),
 }
 
-// What finds the errors of a text that the checksum refuses for its residue; none where it accepts the
-// text.
-pub(crate) fn corrector_of<Ck: Checksum, A: Allocator + Copy>(
+/// What finds the errors of a text that the checksum refuses for its residue; none where it accepts the
+/// text.
+///
+/// # Errors
+///
+/// The checksum's refusal of the text, but for a wrong checksum.
+pub fn corrector_of<Ck: Checksum, A: Allocator + Copy>(
     alloc: A,
     unchecked: &UncheckedHrpstring<'_>,
 ) -> Result<Option<Corrector<Ck, A>>, ChecksumError>
@@ -78,6 +82,9 @@ fn listing_of<Ck: Checksum, A: Allocator + Copy>(
     let Some(erasures) = distinct_in(alloc, given, most)? else {
         return Ok(None);
     };
+    if most - erasures.len() < 2 {
+        return corrector.filled_listing(erasures);
+    }
     let erased = corrector.with(erasures)?;
     erased.listing()
 }
@@ -101,6 +108,23 @@ pub(crate) fn correction_of<Ck: Checksum, A: Allocator + Copy>(
     listing_of(alloc, corrector, given)
 }
 
+// What a corrector says of the text that it is of.
+fn correction_with<Ck: Checksum, A: Allocator + Copy>(
+    alloc: A,
+    corrector: Corrector<Ck, A>,
+    erasures: &[usize],
+) -> Result<Correction<Listing<A>, Corrector<Ck, A>>, AllocError>
+    ensures value { IfOk result (λ answer. (text : List ℕ)
+        → IsCorrectorOf Ck.code text corrector
+        → IsListedCorrection Ck.code Ck.bound text erasures.now answer) }
+    ensures in_place { length Ck.code.generator ≤ 6 → IsOk result }
+{
+    match correction_of(alloc, &corrector, erasures)? {
+        Some(listing) => Ok(Correction::Mended(listing)),
+        None => Ok(Correction::Unexplained(corrector)),
+    }
+}
+
 // What a checksum with lawful roots says of a text that was read.
 fn correction_by<Ck: Checksum, A: Allocator + Copy>(
     alloc: A,
@@ -117,10 +141,8 @@ fn correction_by<Ck: Checksum, A: Allocator + Copy>(
     let Some(corrector) = corrector_of::<Ck, A>(alloc, unchecked)? else {
         return Ok(Correction::Accepted);
     };
-    match correction_of(alloc, &corrector, erasures)? {
-        Some(listing) => Ok(Correction::Mended(listing)),
-        None => Ok(Correction::Unexplained(corrector)),
-    }
+    let said = correction_with(alloc, corrector, erasures)?;
+    Ok(said)
 }
 
 /// What a checksum says of a text that was read, where the given locations are erasures: whether it

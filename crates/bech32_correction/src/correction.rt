@@ -7,6 +7,7 @@ ghost use Rattle.bech32_bch.specs.Search.{locators};
 ghost use Rattle.bech32_correction.specs.Question.{IsAnswerTo};
 
 use crate::division::has_residue;
+use crate::erased::correct_erased;
 use crate::single::correct_single;
 use bech32_bch::{Roots, ShortVec, candidate};
 use bech32_checksum::Checksum;
@@ -74,8 +75,12 @@ pub(crate) fn correct<Ck: Checksum, A: Allocator + Copy>(
     ensures in_place { length Ck.code.generator ≤ 6 → IsOk result }
 {
     let most = bound::<Ck>();
-    if erasures.len() == 0 && most >= 2 && most <= 3 {
+    let erased = erasures.len();
+    if erased == 0 && most >= 2 && most <= 3 {
         return correct_single::<Ck, A>(alloc, window, residue);
+    }
+    if erased <= most && most - erased < 2 {
+        return correct_erased::<Ck, A>(alloc, window, residue, erasures);
     }
     correct_by_roots::<Ck, A>(alloc, window, residue, erasures, known)
 }

@@ -1,17 +1,18 @@
 //! What finds the errors in a text.
 
-ghost use Rattle.std.specs.Prelude.{◌≡◌, ◌≤◌, ◌<◌, ◌∷◌, [], take, length, IfOk, IsOk, OnErr, OnOk};
+ghost use Rattle.std.specs.Prelude.{◌≡◌, ◌≤◌, ◌<◌, ◌+◌, ◌∷◌, [], take, length, IfOk, IsOk, OnErr, OnOk};
 ghost use Rattle.std.specs.List.{AllByRecursion};
 ghost use Rattle.bech32_checksum.specs.Roots.{AreLawfulRoots};
 ghost use Rattle.bech32_bch.specs.Erasures.{AreErasures, with_erasures};
 ghost use Rattle.bech32_bch.specs.Search.{locators};
-ghost use Rattle.bech32_correction.specs.NearestSteps.{IsTakenOff};
+ghost use Rattle.bech32_correction.specs.TakenOff.{IsTakenOff};
 ghost use Rattle.bech32_correction.specs.Question.{IsAnswerTo, Question};
 ghost use Rattle.bech32_gf.specs.Fe32 as fe32;
 ghost use Rattle.bech32_poly.specs.FieldVec.{FitsInPlace};
 
 use crate::correction::{bound, correct};
 use crate::division::residue_without;
+use crate::erased::correct_erased;
 use crate::errors::{ErrorIterator, ShortIter};
 use bech32_bch::{ShortVec, contains, locators_of};
 use bech32_checksum::Checksum;
@@ -75,8 +76,8 @@ impl<Ck: Checksum, A: Allocator + Copy> fmt::Debug for Corrector<Ck, A> {
 }
 
 impl<Ck: Checksum, A: Allocator + Copy> Corrector<Ck, A> {
-    // A corrector of a residue, with no erasures.
-    pub(crate) fn new(alloc: A, residue: [Fe32; MAX_DEGREE], window: usize) -> Self
+    /// A corrector of a residue, with no erasures.
+    pub fn new(alloc: A, residue: [Fe32; MAX_DEGREE], window: usize) -> Self
         requires lawful { AreLawfulRoots Ck.CorrectionField.ops Ck.CorrectionField.embed Ck.code
             Ck.ROOT_GENERATOR Ck.ROOT_EXPONENTS_START Ck.ROOT_EXPONENTS_END }
         requires within { window ≤ Ck.CODE_LENGTH }
@@ -138,8 +139,12 @@ impl<Ck: Checksum, A: Allocator + Copy> Corrector<Ck, A> {
         }
     }
 
-    // A corrector of the same residue with these erasures.
-    pub(crate) fn with(&self, erasures: ShortVec<usize, A>) -> Result<Self, AllocError>
+    /// A corrector of the same residue with these erasures.
+    ///
+    /// # Errors
+    ///
+    /// If memory runs out. Seven erasures need none.
+    pub fn with(&self, erasures: ShortVec<usize, A>) -> Result<Self, AllocError>
         requires { AreErasures self.now.window erasures }
         ensures ok { IfOk result (λ c. c ≡ record {
           residue = self.now.residue;
@@ -160,14 +165,37 @@ impl<Ck: Checksum, A: Allocator + Copy> Corrector<Ck, A> {
         })
     }
 
-    // The errors as `bch_errors` lists them, in a vector.
-    pub(crate) fn listing(&self) -> Result<Option<ShortVec<(usize, Fe32), A>>, AllocError>
+    /// The errors as [`bch_errors`](Self::bch_errors) lists them, in a vector.
+    ///
+    /// # Errors
+    ///
+    /// Those of [`bch_errors`](Self::bch_errors).
+    pub fn listing(&self) -> Result<Option<ShortVec<(usize, Fe32), A>>, AllocError>
         ensures answer { IfOk result (λ answer. IsAnswerTo Ck.code Ck.bound self.now answer) }
         ensures in_place { length Ck.code.generator ≤ 6 → IsOk result }
     {
         let alloc = self.erasures.allocator();
         let (window, residue) = (self.window, &self.residue);
         correct::<Ck, A>(alloc, window, residue, &self.erasures, &self.known)
+    }
+
+    // What is listed with erasures that use up the bound. It takes none of their locators.
+    pub(crate) fn filled_listing(
+        &self,
+        erasures: ShortVec<usize, A>,
+    ) -> Result<Option<ShortVec<(usize, Fe32), A>>, AllocError>
+        requires erased { AreErasures self.now.window erasures }
+        requires few { length erasures ≤ Ck.bound }
+        requires full { Ck.bound < length erasures + 2 }
+        ensures answer { IfOk result (λ answer. IsAnswerTo Ck.code Ck.bound (record {
+          residue = self.now.residue;
+          window = self.now.window;
+          erasures = erasures;
+        }) answer) }
+        ensures in_place { length Ck.code.generator ≤ 6 → IsOk result }
+    {
+        let alloc = erasures.allocator();
+        correct_erased::<Ck, A>(alloc, self.window, &self.residue, &erasures)
     }
 
     /// The errors that explain the residue, and the elements at the erasures: the one pattern below
@@ -191,21 +219,25 @@ impl<Ck: Checksum, A: Allocator + Copy> Corrector<Ck, A> {
         }
     }
 
-    // The erasures.
-    pub(crate) fn erasures(&self) -> &[usize]
+    /// The erasures, in the order in which they were added.
+    pub fn erasures(&self) -> &[usize]
         ensures value { result.now ≡ self.now.erasures }
         ensures lawful { AreErasures self.now.window self.now.erasures }
     {
         self.erasures.as_slice()
     }
 
-    // The allocator.
-    pub(crate) fn allocator(&self) -> A {
+    /// The allocator.
+    pub fn allocator(&self) -> A {
         self.erasures.allocator()
     }
 
-    // The corrector of what is left of the residue where an error is taken off.
-    pub(crate) fn without_error(&self, error: (usize, Fe32)) -> Result<Self, AllocError>
+    /// The corrector of what is left of the residue where an error is taken off.
+    ///
+    /// # Errors
+    ///
+    /// If memory runs out. Seven erasures need none.
+    pub fn without_error(&self, error: (usize, Fe32)) -> Result<Self, AllocError>
         ensures window { IfOk result (λ left. left.window ≡ self.now.window) }
         ensures erasures { IfOk result (λ left. left.erasures ≡ self.now.erasures) }
         ensures residue { IfOk result (λ left.

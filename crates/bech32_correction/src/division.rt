@@ -5,7 +5,7 @@ ghost use Rattle.std.specs.Prelude.{◌≡◌, ◌≤◌, ◌<◌, ◌↔◌, �
 ghost use Rattle.bech32_checksum.specs.Code.{IsResidueOf};
 ghost use Rattle.bech32_checksum.specs.Packed.{HasDigits, digit_of};
 ghost use Rattle.bech32_bch.specs.Pattern.{HasRemainder};
-ghost use Rattle.bech32_correction.specs.NearestSteps.{IsTakenOff};
+ghost use Rattle.bech32_correction.specs.TakenOff.{IsTakenOff};
 ghost use Rattle.bech32_gf.specs.Fe32 as fe32;
 ghost use Rattle.bech32_poly.specs.Pattern.{pattern_polynomial};
 ghost use Rattle.bech32_poly.specs.Polynomial.{coefficient};

@@ -8,7 +8,7 @@ use bech32_bch::{ShortVec, contains};
 use std::alloc::{AllocError, Allocator};
 
 /// Whether all locations are below the window.
-pub(crate) fn are_below(given: &[usize], window: usize) -> bool
+pub fn are_below(given: &[usize], window: usize) -> bool
     ensures { IsTrue result ↔ AllByRecursion (λ i. i < window) given.now }
 {
     for location in given {
@@ -20,8 +20,12 @@ pub(crate) fn are_below(given: &[usize], window: usize) -> bool
 }
 
 /// The given locations, each once, in the order in which they came first. None where there are more
-/// than `most` of them. Up to six need no memory.
-pub(crate) fn distinct_in<A: Allocator + Copy>(
+/// than `most` of them.
+///
+/// # Errors
+///
+/// If memory runs out. Up to six need none.
+pub fn distinct_in<A: Allocator + Copy>(
     alloc: A,
     given: &[usize],
     most: usize,

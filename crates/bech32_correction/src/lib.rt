@@ -7,25 +7,24 @@ mod correcting;
 mod correction;
 mod corrector;
 mod division;
+mod erased;
 mod erasures;
 mod error;
 mod errors;
 mod mending;
-mod near_patterns;
-mod near_texts;
 mod no_memory;
 mod one_call;
 mod single;
 
 pub use self::correctable::CorrectableError;
 pub use self::correcting::{
-    Correction, Listing, bech32_listing, bech32m_listing, listing_in, listing_of_unchecked,
+    Correction, Listing, bech32_listing, bech32m_listing, corrector_of, listing_in,
+    listing_of_unchecked,
 };
 pub use self::corrector::Corrector;
+pub use self::erasures::{are_below, distinct_in};
 pub use self::error::CorrectError;
 pub use self::errors::ErrorIterator;
 pub use self::mending::{mend, mended_in};
-pub use self::near_patterns::Listings;
-pub use self::near_texts::{NearTexts, nearest, nearest_in};
 pub use self::no_memory::NoMemory;
-pub use self::one_call::{Mended, MendedBy, correct, correct_in};
+pub use self::one_call::{Mended, MendedBy, correct, correct_in, mended_by};

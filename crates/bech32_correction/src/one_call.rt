@@ -30,7 +30,11 @@ pub struct MendedBy<L, S> {
 pub type Mended<A = Global> = MendedBy<Listing<A>, String<A>>;
 
 /// The text with the listing added.
-pub(crate) fn mended_by<A: Allocator + Copy>(
+///
+/// # Errors
+///
+/// If memory runs out.
+pub fn mended_by<A: Allocator + Copy>(
     alloc: A,
     text: &str,
     listing: Listing<A>,
@@ -42,6 +46,28 @@ pub(crate) fn mended_by<A: Allocator + Copy>(
 {
     let text = mended_in(alloc, text, listing.as_slice())?;
     Ok(MendedBy { listing, text })
+}
+
+// How a text is corrected, by its corrector.
+fn mended_with<Ck: Checksum, A: Allocator + Copy>(
+    alloc: A,
+    text: &str,
+    corrector: Corrector<Ck, A>,
+    erasures: &[usize],
+) -> Result<Correction<Mended<A>, Corrector<Ck, A>>, AllocError>
+    requires { IsCorrectorOf Ck.code text.now corrector }
+    ensures { IfOk result (λ answer. IsCorrectionBy
+        (λ m. IsMendedBy Ck.code Ck.bound text.now erasures.now m.listing (string_bytes m.text))
+        (λ c. IsCorrectorOf Ck.code text.now c)
+        Ck.code Ck.bound text.now erasures.now answer) }
+{
+    match correction_of(alloc, &corrector, erasures)? {
+        Some(listing) => {
+            let mended = mended_by(alloc, text, listing)?;
+            Ok(Correction::Mended(mended))
+        }
+        None => Ok(Correction::Unexplained(corrector)),
+    }
 }
 
 // What a checksum with lawful roots says of a text that was read.
@@ -64,13 +90,8 @@ fn corrected_by<Ck: Checksum, A: Allocator + Copy>(
     let Some(corrector) = corrector_of::<Ck, A>(alloc, unchecked)? else {
         return Ok(Correction::Accepted);
     };
-    match correction_of(alloc, &corrector, erasures)? {
-        Some(listing) => {
-            let mended = mended_by(alloc, text, listing)?;
-            Ok(Correction::Mended(mended))
-        }
-        None => Ok(Correction::Unexplained(corrector)),
-    }
+    let said = mended_with(alloc, text, corrector, erasures)?;
+    Ok(said)
 }
 
 /// What a checksum says of a text, with memory from `alloc`; [`correct`] says more.

@@ -39,7 +39,7 @@ use Rattle.bech32_detect.proofs.Distances.{data_fits, far_from_others}
 use Rattle.bech32_decode.proofs.Grammar.{only-from_IsText}
 use Rattle.bech32_decode.proofs.Spelling.{characters-elements, spelled-text}
 use Rattle.bech32_correction.specs.MendedElements.{mended}
-use Rattle.bech32_correction.specs.Mistyped.{IsRefusedFor, question_of}
+use Rattle.bech32_correction.specs.Mistyped.{HasResidue, IsRefusedFor, question_of}
 use Rattle.bech32_correction.proofs.Sound.{sound_of}
 use Rattle.bech32_correction.proofs.Accepted.{front, in_parts, lowered_parts}
 use Rattle.bech32_correction.proofs.Sums.{appended-mended, length-mended}
@@ -71,7 +71,7 @@ spelled_leaves code hrp ys ok a =
 
 -- ---- the differences between a text and an accepted one solve its residue
 
-module _ (code : Code) (text hrp data_part : List ℕ) (residue : List Fe32) (is : IsRefusedFor code text hrp data_part residue)
+module _ (code : Code) (text hrp data_part : List ℕ) (residue : List Fe32) (is : HasResidue code text hrp data_part residue)
     (ys : List Fe32) (sizes : length (elements_of data_part) ≡ length ys) (leaves : IsRemainder ops code.generator (appended (front (lowered hrp)) ys) code.target) where
   explains : HasRemainder ops code.generator residue (differences (elements_of data_part) ys)
   explains = left_over is_field code.generator residue (differences (elements_of data_part) ys) same
@@ -182,7 +182,7 @@ module _ (text hrp damaged : List ℕ) (parts : AreParts text hrp damaged) where
       (subst (λ (v : List ℕ). Accepts codex32 (spelled m.hrp (mended ops [] (elements_of v)))) same_data m.accepts))
       (omega (arith, nothing, few)))
   nearest-from_listed listing (inr is) =
-      let (same_hrp, same_data) = same_parts is.hrp is.data_part is.refused.grammar in
+      let (same_hrp, same_data) = same_parts is.hrp is.data_part is.refused.read.grammar in
       let erased : with_erasures [] (unreadable damaged) ≡ unreadable damaged = erasures_are (unreadable damaged) (unreadable-once damaged) in
       let sound : IsSound ops codex32.generator is.residue (unreadable damaged) (length is.data_part) 8 listing =
       subst (λ (s : List ℕ). IsSound ops codex32.generator is.residue s (length is.data_part) 8 listing) erased
@@ -223,7 +223,7 @@ module _ (text hrp damaged : List ℕ) (parts : AreParts text hrp damaged) where
   none-from_unlisted (inl many) nearest n = let near = near-from nearest n in let few = near.few in omega (arith, many, few)
   none-from_unlisted (inr none) nearest n =
       let near = near-from nearest n in
-      let (same_hrp, same_data) = same_parts none.hrp none.data_part none.refused.grammar in
+      let (same_hrp, same_data) = same_parts none.hrp none.data_part none.refused.read.grammar in
       let refused : IsRefusedFor codex32 (read_text text) hrp (read_data damaged) none.residue =
       subst (λ (u : List ℕ). IsRefusedFor codex32 (read_text text) u (read_data damaged) none.residue) same_hrp
       (subst (λ (v : List ℕ). IsRefusedFor codex32 (read_text text) none.hrp v none.residue) same_data none.refused) in
@@ -238,7 +238,7 @@ module _ (text hrp damaged : List ℕ) (parts : AreParts text hrp damaged) where
           values = differences-values (elements_of (read_data damaged)) near.elements;
           once = differences-once (elements_of (read_data damaged)) near.elements;
         };
-        remainder = explains codex32 (read_text text) hrp (read_data damaged) none.residue refused near.elements sizes (spelled_leaves codex32 hrp near.elements parts.grammar.is_hrp near.accepted);
+        remainder = explains codex32 (read_text text) hrp (read_data damaged) none.residue refused.read near.elements sizes (spelled_leaves codex32 hrp near.elements parts.grammar.is_hrp near.accepted);
         few = omega (arith, outer, few);
       } in
       let erased : with_erasures [] (unreadable damaged) ≡ unreadable damaged = erasures_are (unreadable damaged) (unreadable-once damaged) in

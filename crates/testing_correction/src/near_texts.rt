@@ -2,7 +2,8 @@
 
 use super::compare::same_items;
 use bech32_checksum::{Bech32, Bech32m, NoChecksum};
-use bech32_correction::{CorrectError, Mended, NearTexts, NoMemory, nearest, nearest_in};
+use bech32_correction::{CorrectError, Mended, NoMemory};
+use bech32_near::{NearTexts, nearest, nearest_in};
 use std::alloc::{Allocator, Global};
 
 // An address of BIP-173, and the same with two wrong characters.

@@ -3,9 +3,11 @@
 use super::compare::same;
 use super::listed::{Listing, are_within};
 use bech32_checksum::{Bech32, Checksum};
-use bech32_correction::{CorrectableError, Corrector, Listings};
+use bech32_correction::{CorrectableError, Corrector};
 use bech32_decode::CheckedHrpstring;
 use bech32_gf::gf32::Fe32;
+use bech32_near_listings::nearest_listings;
+use bech32_near_patterns::Listings;
 use linked_list_allocator::LocalHeap;
 use std::alloc::{AllocError, Global};
 use std::test::Fail;
@@ -55,7 +57,7 @@ fn are_nearest(
         return Ok(false);
     }
     corrector.add_erasures(erasures)?;
-    Ok(are(&corrector.nearest(errors)?, want))
+    Ok(are(&nearest_listings(&corrector, errors)?, want))
 }
 
 // The same of a short text whose last character is wrong; None where there is too little memory.
@@ -126,7 +128,7 @@ fn answers(alloc: Global, want: &[Listing]) -> Result<[u32; 3], AllocError> {
 }
 
 #[test]
-fn listings_or_want_of_memory(rt: HostRuntime) -> Result<(), Fail> {
+fn listings_or_out_of_memory(rt: HostRuntime) -> Result<(), Fail> {
     let two: Listing = &[(0, Fe32::X), (20, Fe32::_3)];
     let [refused, right, wrong] = answers(rt.alloc(), &[two])?;
     same(&rt, &(1 <= refused, 1 <= right, wrong), &(true, true, 0));

@@ -1,6 +1,9 @@
 //! Comparisons that end a test where they fail.
 
-use std::fmt::Debug;
+ghost use Rattle.std.specs.Iterator.{IsFinite};
+
+use std::alloc::Global;
+use std::fmt::{Debug, Display};
 use std::process::Abort;
 
 /// Fails where the two differ.
@@ -11,4 +14,24 @@ pub fn same<T: PartialEq + Debug>(rt: &impl Abort, got: &T, want: &T) {
 /// Fails where the two differ.
 pub fn same_items<T: PartialEq + Debug>(rt: &impl Abort, got: &[T], want: &[T]) {
     assert_eq!(rt; got, want);
+}
+
+/// Fails where a value prints another text.
+pub fn says<T: Display>(rt: &impl Abort, alloc: Global, value: &T, want: &str) {
+    let text = format!(in alloc; "{value}").expect(rt, "memory");
+    assert_eq!(rt; text.as_str(), want);
+}
+
+/// Fails where an iterator gives other items than these.
+pub fn gives<T: PartialEq + Debug + Drop, I: Iterator<Item = T>>(
+    rt: &impl Abort,
+    alloc: Global,
+    items: I,
+    want: &[T],
+)
+    requires can { I.can_next items }
+    requires finite { IsFinite (I.remaining items) }
+{
+    let found: Vec<T> = items.collect(alloc).expect(rt, "memory");
+    same_items(rt, &found, want);
 }

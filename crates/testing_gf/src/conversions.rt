@@ -1,6 +1,5 @@
-use crate::compare::same;
+use crate::compare::{same, says};
 use bech32_gf::gf32::{Fe32, TryFromError};
-use std::test::Fail;
 
 // What came of an integer: an element, or the byte from 32 on that is none, or nothing that is told
 // where it is not a byte.
@@ -54,19 +53,22 @@ fn elements_of_signed_integers(rt: HostRuntime) {
 }
 
 #[test]
-fn values_and_texts_of_elements(rt: HostRuntime) -> Result<(), Fail> {
+fn values_and_texts_of_elements(rt: HostRuntime) {
+    let alloc = rt.alloc();
     same(&rt, &u8::from(Fe32::L), &31);
-    let shown = format!(in rt.alloc(); "{}{:>3}{:?}", Fe32::Z, Fe32::_9, Fe32::P)?;
-    same(&rt, &shown.as_str(), &"z  9Fe32 { value: 1 }");
-    let refused = format!(in rt.alloc(); "{}", TryFromError::InvalidByte(32))?;
+    let shown = format!(in alloc; "{}{:>3}{:?}", Fe32::Z, Fe32::_9, Fe32::P);
+    same(
+        &rt,
+        &shown.expect(&rt, "memory").as_str(),
+        &"z  9Fe32 { value: 1 }",
+    );
     let want = "tried to interpret a byte as a GF32 element but it is not below 32: 32";
-    same(&rt, &refused.as_str(), &want);
-    Ok(())
+    says(&rt, alloc, &TryFromError::InvalidByte(32), want);
 }
 
 #[test]
-fn elements_in_order_of_their_characters(rt: HostRuntime) -> Result<(), Fail> {
-    let text: String = Fe32::iter_alpha().map(|x| x.to_char()).collect(rt.alloc())?;
+fn elements_in_order_of_their_characters(rt: HostRuntime) {
+    let text: Result<String, _> = Fe32::iter_alpha().map(|x| x.to_char()).collect(rt.alloc());
+    let text = text.expect(&rt, "memory");
     same(&rt, &text.as_str(), &"acdefghjklmnpqrstuvwxyz023456789");
-    Ok(())
 }

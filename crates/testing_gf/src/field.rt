@@ -1,8 +1,6 @@
-use crate::compare::{same, same_items};
+use crate::compare::{same, same_items, says};
 use bech32_gf::field::{Bech32Field, ExtensionField, Field, MultiplicativeOrder};
 use bech32_gf::gf32::Fe32;
-use std::alloc::{AllocError, Global};
-use std::test::Fail;
 use testing_tools::code::Code;
 use testing_tools::seven::Seven;
 
@@ -22,44 +20,51 @@ fn multiples_by_any_integer(rt: HostRuntime) {
 }
 
 #[test]
-fn powers_by_any_integer(rt: HostRuntime) -> Result<(), Fail> {
-    same_items(
-        &rt,
-        &[Fe32::Q.powi(31), Fe32::Q.powi(0)],
-        &[Fe32::Q, Fe32::P],
-    );
-    let z = Fe32::from_char('z')?;
-    assert_ne!(rt; z, Fe32::Q);
-    for (n, power) in [
-        (-1, Fe32::_5),
-        (0, Fe32::P),
-        (31, Fe32::P),
-        (i64::MIN, Fe32::W),
-        (i64::MAX, Fe32::D),
-    ] {
-        same(&rt, &(n, z.powi(n)), &(n, power));
-    }
-    let three = Seven::new(3);
-    assert_ne!(rt; three, Seven::ZERO);
-    for (n, power) in [(-1, 5), (-2, 4), (6, 1), (i64::MIN, 4), (i64::MAX, 3)] {
-        same(&rt, &(n, three.powi(n)), &(n, Seven::new(power)));
-    }
-    let inverses = (three.multiplicative_inverse(), z.multiplicative_inverse());
-    same(&rt, &inverses, &(Seven::new(5), Fe32::_5));
-    Ok(())
+fn powers_by_any_integer(rt: HostRuntime) {
+    let of_zero = [Fe32::Q.powi(31), Fe32::Q.powi(0)];
+    same_items(&rt, &of_zero, &[Fe32::Q, Fe32::P]);
+    let z = Fe32::from_char('z').expect(&rt, "an element");
+    assert!(rt; z != Fe32::Q);
+    let powers = [
+        z.powi(-1),
+        z.powi(0),
+        z.powi(31),
+        z.powi(i64::MIN),
+        z.powi(i64::MAX),
+    ];
+    let want = [Fe32::_5, Fe32::P, Fe32::P, Fe32::W, Fe32::D];
+    same_items(&rt, &powers, &want);
+    same(&rt, &z.multiplicative_inverse(), &Fe32::_5);
 }
 
-// The order of an element, unless it is zero.
-fn order_of<F: Field>(x: F) -> Option<usize> {
+#[test]
+fn powers_of_numbers_by_any_integer(rt: HostRuntime) {
+    let three = Seven::new(3);
+    assert!(rt; three != Seven::ZERO);
+    let powers = [
+        three.powi(-1),
+        three.powi(-2),
+        three.powi(6),
+        three.powi(i64::MIN),
+        three.powi(i64::MAX),
+    ];
+    let want = [
+        Seven::new(5),
+        Seven::new(4),
+        Seven::new(1),
+        Seven::new(4),
+        Seven::new(3),
+    ];
+    same_items(&rt, &powers, &want);
+    same(&rt, &three.multiplicative_inverse(), &Seven::new(5));
+}
+
+/// The order of an element, unless it is zero.
+pub fn order_of<F: Field>(x: F) -> Option<usize> {
     if x == F::ZERO {
         return None;
     }
     Some(x.multiplicative_order())
-}
-
-// The same of a number modulo 7.
-fn order_of_number(number: u8) -> Option<usize> {
-    order_of(Seven::new(number))
 }
 
 #[test]
@@ -72,8 +77,16 @@ fn orders_of_all_elements(rt: HostRuntime) {
         };
         same(&rt, &(x, order_of(x)), &(x, order));
     }
-    let orders = [1, 2, 3, 4, 5, 6].map(order_of_number);
-    same(&rt, &orders, &[1, 3, 6, 3, 6, 2].map(Some));
+    let orders = [
+        order_of(Seven::new(1)),
+        order_of(Seven::new(2)),
+        order_of(Seven::new(3)),
+        order_of(Seven::new(4)),
+        order_of(Seven::new(5)),
+        order_of(Seven::new(6)),
+    ];
+    let want = [Some(1), Some(3), Some(6), Some(3), Some(6), Some(2)];
+    same(&rt, &orders, &want);
 }
 
 #[test]
@@ -93,16 +106,16 @@ fn walks_over_powers(rt: HostRuntime) {
 }
 
 #[test]
-fn walks_over_ranges_of_powers(rt: HostRuntime) -> Result<(), Fail> {
+fn walks_over_ranges_of_powers(rt: HostRuntime) {
     let powers = Fe32::_5.powers_range(0, 30);
-    let text: String = powers.map(|power| power.to_char()).collect(rt.alloc())?;
+    let text: Result<String, _> = powers.map(|power| power.to_char()).collect(rt.alloc());
+    let text = text.expect(&rt, "memory");
     same(&rt, &text.as_str(), &"p529kt3uw8hlmecvxr470na6djfsgyz");
     let mut last = Fe32::Z.powers_range(31, 32);
     let got = [last.next(), last.next(), last.next(), last.next()];
     same(&rt, &got, &[Some(Fe32::P), Some(Fe32::Z), None, None]);
     let farthest = Fe32::Z.powers_range(usize::MAX, usize::MAX).next();
     same(&rt, &farthest, &Some(Fe32::X));
-    Ok(())
 }
 
 #[test]
@@ -134,20 +147,10 @@ fn constants_of_the_field_of_32(rt: HostRuntime) {
     same(&rt, &Fe32::NAME, &"Fe32");
 }
 
-// Whether this is the Rust code of an element.
-fn is_code(alloc: Global, x: Fe32, code: &str) -> Result<bool, AllocError> {
-    let shown = format!(in alloc; "{}", Code(x))?;
-    Ok(shown.as_str() == code)
-}
-
 #[test]
-fn rust_code_of_elements(rt: HostRuntime) -> Result<(), Fail> {
+fn rust_code_of_elements(rt: HostRuntime) {
     let alloc = rt.alloc();
-    let codes = [
-        is_code(alloc, Fe32::Z, "Fe32::Z")?,
-        is_code(alloc, Fe32::_9, "Fe32::_9")?,
-        is_code(alloc, Fe32::Q, "Fe32::Q")?,
-    ];
-    same(&rt, &codes, &[true; 3]);
-    Ok(())
+    says(&rt, alloc, &Code(Fe32::Z), "Fe32::Z");
+    says(&rt, alloc, &Code(Fe32::_9), "Fe32::_9");
+    says(&rt, alloc, &Code(Fe32::Q), "Fe32::Q");
 }

@@ -64,27 +64,26 @@ fn general_code_at_the_field_of_32(rt: HostRuntime) {
     same(&rt, &there_and_back::<Fe32>(Fe32::C), &Some(Fe32::C));
 }
 
+// Fails where general code at an extension field gives other values.
+fn general_code_at<E: ExtensionField<BaseField = Fe32>>(rt: &impl Abort, x: E, y: E, order: usize) {
+    same(rt, &difference_of_squares(x, y), &((x + y) * (x - y)));
+    same(rt, &order_of_generator::<E>(), &order);
+    let sum = sum_of_powers(E::GENERATOR, order.saturating_sub(1));
+    same(rt, &sum, &E::ZERO);
+    same(rt, &there_and_back::<E>(Fe32::C), &Some(Fe32::C));
+}
+
 #[test]
 fn general_code_at_pairs(rt: HostRuntime) {
     let x = Fe1024::new([Fe32::M, Fe32::E]);
     let y = Fe1024::new([Fe32::J, Fe32::C]);
-    same(&rt, &difference_of_squares(x, y), &((x + y) * (x - y)));
-    same(&rt, &order_of_generator::<Fe1024>(), &1023);
-    same(&rt, &sum_of_powers(Fe1024::GENERATOR, 1022), &Fe1024::ZERO);
-    same(&rt, &there_and_back::<Fe1024>(Fe32::C), &Some(Fe32::C));
+    general_code_at(&rt, x, y, 1023);
 }
 
 #[test]
 fn general_code_at_triples(rt: HostRuntime) {
     let (x, y) = (Fe32768::EXT_ELEM, Fe32768::GENERATOR);
-    same(&rt, &difference_of_squares(x, y), &((x + y) * (x - y)));
-    same(&rt, &order_of_generator::<Fe32768>(), &32767);
-    same(
-        &rt,
-        &sum_of_powers(Fe32768::GENERATOR, 32766),
-        &Fe32768::ZERO,
-    );
-    same(&rt, &there_and_back::<Fe32768>(Fe32::C), &Some(Fe32::C));
+    general_code_at(&rt, x, y, 32767);
 }
 
 #[test]

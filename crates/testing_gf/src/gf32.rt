@@ -1,7 +1,6 @@
 use crate::compare::{same, same_items};
 use bech32_gf::gf32::{Fe32, FromCharError, plain};
 use std::process::Abort;
-use std::test::Fail;
 
 // The characters of the elements, in order of their values.
 const LOWER_CASE: &[u8; 32] = b"qpzry9x8gf2tvdw0s3jn54khce6mua7l";
@@ -135,7 +134,7 @@ fn other_characters(rt: HostRuntime) {
 }
 
 #[test]
-fn texts_of_refusals(rt: HostRuntime) -> Result<(), Fail> {
+fn texts_of_refusals(rt: HostRuntime) {
     for (error, want) in [
         (
             FromCharError::Invalid('b'),
@@ -146,9 +145,9 @@ fn texts_of_refusals(rt: HostRuntime) -> Result<(), Fail> {
             "tried to interpret a character as a GF32 element but it is not ASCII: é",
         ),
     ] {
-        same(&rt, &error.to_string(rt.alloc())?.as_str(), &want);
+        let text = error.to_string(rt.alloc()).expect(&rt, "memory");
+        same(&rt, &text.as_str(), &want);
     }
-    Ok(())
 }
 
 // The product of two elements, as a character, and that by the definition.

@@ -4,20 +4,12 @@ ghost use Rattle.std.specs.Prelude.{◌≢◌};
 ghost use Rattle.bech32_gf_ext.specs.Fe1024 as pairs;
 ghost use Rattle.bech32_gf_ext.specs.Fe32768 as triples;
 
-use crate::compare::{same, same_items};
+use crate::compare::{same, same_items, says};
+use crate::field::order_of;
 use bech32_gf::field::{Bech32Field, ExtensionField, Field, MultiplicativeOrder};
 use bech32_gf::gf32::Fe32;
 use bech32_gf_ext::{Fe1024, Fe32768};
-use std::test::Fail;
 use testing_tools::code::Code;
-
-// The order of an element, unless it is zero.
-fn order_of<F: Field>(x: F) -> Option<usize> {
-    if x == F::ZERO {
-        return None;
-    }
-    Some(x.multiplicative_order())
-}
 
 #[test]
 fn orders(rt: HostRuntime) {
@@ -113,18 +105,14 @@ fn operator_forms_of_pairs(rt: HostRuntime) {
     let sum = Fe1024::new([Fe32::F, Fe32::P]);
     let product = Fe1024::new([Fe32::P, Fe32::_9]);
     let factor = Fe32::A;
-    for (got, want) in [
-        ([x + y, x + &y, &x + y, &x + &y], sum),
-        ([x - y, x - &y, &x - y, &x - &y], sum),
-        ([x * y, x * &y, &x * y, &x * &y], product),
-        ([product / y, product / &y, &product / y, &product / &y], x),
-        (
-            [x * factor, x * &factor, &x * factor, &x * &factor],
-            x * Fe1024::from(factor),
-        ),
-    ] {
-        same(&rt, &got, &[want; 4]);
-    }
+    let scaled = x * Fe1024::from(factor);
+    same(&rt, &[x + y, x + &y, &x + y, &x + &y], &[sum; 4]);
+    same(&rt, &[x - y, x - &y, &x - y, &x - &y], &[sum; 4]);
+    same(&rt, &[x * y, x * &y, &x * y, &x * &y], &[product; 4]);
+    let quotients = [product / y, product / &y, &product / y, &product / &y];
+    same(&rt, &quotients, &[x; 4]);
+    let multiples = [x * factor, x * &factor, &x * factor, &x * &factor];
+    same(&rt, &multiples, &[scaled; 4]);
     same(&rt, &assigned_pairs(x, y), &[sum, x, product, x, x]);
 }
 
@@ -156,18 +144,14 @@ fn operator_forms_of_triples(rt: HostRuntime) {
     let sum = Fe32768::new([Fe32::_8, Fe32::M, Fe32::Y]);
     let product = Fe32768::new([Fe32::_5, Fe32::_4, Fe32::N]);
     let factor = Fe32::A;
-    for (got, want) in [
-        ([x + y, x + &y, &x + y, &x + &y], sum),
-        ([x - y, x - &y, &x - y, &x - &y], sum),
-        ([x * y, x * &y, &x * y, &x * &y], product),
-        ([product / y, product / &y, &product / y, &product / &y], x),
-        (
-            [x * factor, x * &factor, &x * factor, &x * &factor],
-            x * Fe32768::from(factor),
-        ),
-    ] {
-        same(&rt, &got, &[want; 4]);
-    }
+    let scaled = x * Fe32768::from(factor);
+    same(&rt, &[x + y, x + &y, &x + y, &x + &y], &[sum; 4]);
+    same(&rt, &[x - y, x - &y, &x - y, &x - &y], &[sum; 4]);
+    same(&rt, &[x * y, x * &y, &x * y, &x * &y], &[product; 4]);
+    let quotients = [product / y, product / &y, &product / y, &product / &y];
+    same(&rt, &quotients, &[x; 4]);
+    let multiples = [x * factor, x * &factor, &x * factor, &x * &factor];
+    same(&rt, &multiples, &[scaled; 4]);
     same(&rt, &assigned_triples(x, y), &[sum, x, product, x, x]);
 }
 
@@ -182,26 +166,24 @@ fn negatives_and_sums(rt: HostRuntime) {
 }
 
 #[test]
-fn printed(rt: HostRuntime) -> Result<(), Fail> {
+fn printed(rt: HostRuntime) {
     let pair = Fe1024::new([Fe32::P, Fe32::X]);
     let triple = Fe32768::new([Fe32::_9, Fe32::Q, Fe32::L]);
-    let text = format!(in rt.alloc(); "{pair} {pair:?} {triple} {triple:?}")?;
-    same(&rt, &text.as_str(), &"px px 9ql 9ql");
+    let text = format!(in rt.alloc(); "{pair} {pair:?} {triple} {triple:?}");
+    same(&rt, &text.expect(&rt, "memory").as_str(), &"px px 9ql 9ql");
     let names = [
         <Fe1024 as Bech32Field>::NAME,
         <Fe32768 as Bech32Field>::NAME,
     ];
     same_items(&rt, &names, &["Fe1024", "Fe32768"]);
-    Ok(())
 }
 
 #[test]
-fn rust_code(rt: HostRuntime) -> Result<(), Fail> {
+fn rust_code(rt: HostRuntime) {
+    let alloc = rt.alloc();
     let pair = Code(Fe1024::new([Fe32::P, Fe32::X]));
+    says(&rt, alloc, &pair, "Fe32Ext { inner: [Fe32::P, Fe32::X] }");
     let triple = Code(Fe32768::new([Fe32::_9, Fe32::Q, Fe32::L]));
-    let code = format!(in rt.alloc(); "{pair}; {triple}")?;
-    let want =
-        "Fe32Ext { inner: [Fe32::P, Fe32::X] }; Fe32Ext { inner: [Fe32::_9, Fe32::Q, Fe32::L] }";
-    same(&rt, &code.as_str(), &want);
-    Ok(())
+    let code = "Fe32Ext { inner: [Fe32::_9, Fe32::Q, Fe32::L] }";
+    says(&rt, alloc, &triple, code);
 }

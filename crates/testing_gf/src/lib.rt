@@ -1,4 +1,4 @@
-//! Tests of `bech32_gf` and `bech32_gf_ext`, and of code over any field.
+//! Tests of `bech32_gf`, `bech32_gf_ext` and `bech32_poly`, and of code over any field.
 #![tactic(auto)]
 
 #[cfg(test)]
@@ -10,8 +10,16 @@ mod field;
 #[cfg(test)]
 mod fields;
 #[cfg(test)]
+mod fieldvec;
+#[cfg(test)]
 mod gf32;
 #[cfg(test)]
 mod gf32_ext;
 #[cfg(test)]
+mod lfsr;
+#[cfg(test)]
 mod operators;
+#[cfg(test)]
+mod polynomial;
+#[cfg(test)]
+mod remainder;

@@ -3,27 +3,26 @@ ghost use Rattle.bech32_gf.specs.Fe32.{zero};
 
 use crate::compare::{same, same_items};
 use bech32_gf::gf32::Fe32;
-use std::test::Fail;
+use std::process::Abort;
 
-// The operands of the tests, by their characters.
-fn operands() -> Result<(Fe32, Fe32), Fail> {
-    Ok((Fe32::from_char('9')?, Fe32::from_char('x')?))
+// The element of a character.
+fn element(rt: &impl Abort, c: char) -> Fe32 {
+    Fe32::from_char(c).expect(rt, "an element")
 }
 
 #[test]
-fn every_form_of_each_operator(rt: HostRuntime) -> Result<(), Fail> {
-    let (x, y) = operands()?;
-    assert_ne!(rt; y, Fe32::Q);
-    for (got, want) in [
-        ([x + y, x + &y, &x + y, &x + &y], Fe32::R),
-        ([x - y, x - &y, &x - y, &x - &y], Fe32::R),
-        ([x * y, x * &y, &x * y, &x * &y], Fe32::_7),
-        ([x / y, x / &y, &x / y, &x / &y], Fe32::_4),
-    ] {
-        same(&rt, &got, &[want; 4]);
-    }
+fn every_form_of_each_operator(rt: HostRuntime) {
+    let (x, y) = (element(&rt, '9'), element(&rt, 'x'));
+    assert!(rt; y != Fe32::Q);
+    let got = [
+        [x + y, x + &y, &x + y, &x + &y],
+        [x - y, x - &y, &x - y, &x - &y],
+        [x * y, x * &y, &x * y, &x * &y],
+        [x / y, x / &y, &x / y, &x / &y],
+    ];
+    let want = [[Fe32::R; 4], [Fe32::R; 4], [Fe32::_7; 4], [Fe32::_4; 4]];
+    same_items(&rt, &got, &want);
     same_items(&rt, &[-x, Fe32::default()], &[x, Fe32::Q]);
-    Ok(())
 }
 
 // What x is after each assigning operator, by value and borrowed.
@@ -51,9 +50,9 @@ fn assigned(mut x: Fe32, y: Fe32) -> [Fe32; 8]
 }
 
 #[test]
-fn every_form_of_each_assigning_operator(rt: HostRuntime) -> Result<(), Fail> {
-    let (first, y) = operands()?;
-    assert_ne!(rt; y, Fe32::Q);
+fn every_form_of_each_assigning_operator(rt: HostRuntime) {
+    let (first, y) = (element(&rt, '9'), element(&rt, 'x'));
+    assert!(rt; y != Fe32::Q);
     let (sum, product) = (Fe32::R, Fe32::_7);
     let got = assigned(first, y);
     same(
@@ -61,18 +60,16 @@ fn every_form_of_each_assigning_operator(rt: HostRuntime) -> Result<(), Fail> {
         &got,
         &[sum, first, product, first, sum, first, product, first],
     );
-    Ok(())
 }
 
 #[test]
-fn sums_and_quotients(rt: HostRuntime) -> Result<(), Fail> {
-    let (x, y) = operands()?;
-    assert_ne!(rt; x, Fe32::Q);
+fn sums_and_quotients(rt: HostRuntime) {
+    let (x, y) = (element(&rt, '9'), element(&rt, 'x'));
+    assert!(rt; x != Fe32::Q);
     let sums = [
         [x, y, Fe32::R].iter().copied().sum::<Fe32>(),
         Fe32::iter_alpha().sum::<Fe32>(),
     ];
     same_items(&rt, &sums, &[Fe32::Q; 2]);
     same_items(&rt, &[y / x, Fe32::Q / x], &[Fe32::E, Fe32::Q]);
-    Ok(())
 }

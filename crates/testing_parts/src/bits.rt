@@ -5,7 +5,7 @@ ghost use Rattle.std.specs.Iterator.{IsFinite};
 ghost use Rattle.bech32_gf.specs.declared.gf32.Fe32.{Fe32};
 ghost use Rattle.bech32_bits.specs.Bits.{to_fes, to_bytes, to_bytes_zeropad};
 
-use crate::compare::{same, same_items};
+use crate::compare::{gives, same, same_items};
 use bech32_bits::plain::{plain_to_bytes, plain_to_fes};
 use bech32_bits::{ByteIterExt, BytesToFes, FesToBytes};
 use bech32_gf::gf32::Fe32;
@@ -13,43 +13,44 @@ use std::alloc::{AllocError, Global};
 use std::iter::{self, Copied};
 use std::process::Abort;
 use std::slice::Iter;
-use std::test::Fail;
 use testing_tools::iterators::{Many, TwoItems, TwoOfFive};
 
-// The elements that come, where `None` comes after them however often one asks.
+// Fails where other elements come, or more after `None`, however often one asks.
 fn all_fes<I: Iterator<Item = u8>>(
     rt: &impl Abort,
     alloc: Global,
     mut fes: BytesToFes<I>,
-) -> Result<Vec<Fe32>, AllocError>
+    want: &[Fe32],
+)
     requires can { ⟦<BytesToFes<I> as Iterator>⟧.can_next fes }
     requires finite { IsFinite (⟦<BytesToFes<I> as Iterator>⟧.remaining fes) }
 {
     let mut all = Vec::new(alloc);
     while let Some(fe) = fes.next() {
-        all.push(fe)?;
+        all.push(fe).expect(rt, "memory");
     }
     let again = [fes.next(), fes.next(), fes.next()];
     same(rt, &again, &[None; 3]);
-    Ok(all)
+    same_items(rt, &all, want);
 }
 
-// The bytes that come, where `None` comes after them however often one asks.
+// Fails where other bytes come, or more after `None`, however often one asks.
 fn all_bytes<I: Iterator<Item = Fe32>>(
     rt: &impl Abort,
     alloc: Global,
     mut bytes: FesToBytes<I>,
-) -> Result<Vec<u8>, AllocError>
+    want: &[u8],
+)
     requires can { ⟦<FesToBytes<I> as Iterator>⟧.can_next bytes }
     requires finite { IsFinite (⟦<FesToBytes<I> as Iterator>⟧.remaining bytes) }
 {
     let mut all = Vec::new(alloc);
     while let Some(byte) = bytes.next() {
-        all.push(byte)?;
+        all.push(byte).expect(rt, "memory");
     }
     let again = [bytes.next(), bytes.next(), bytes.next()];
     same(rt, &again, &[None; 3]);
-    Ok(all)
+    same_items(rt, &all, want);
 }
 
 // The elements of a slice.
@@ -106,6 +107,19 @@ fn bytes_step(
     (bytes.len(), bytes.size_hint(), bytes.next())
 }
 
+// Fails where other bytes of elements come, or where another number of them is said to be left
+// before each.
+fn bytes_are(rt: &impl Abort, fes: &[Fe32], padded: bool, rows: &[(usize, Option<u8>)]) {
+    let mut bytes = FesToBytes::new(fes.iter().copied(), padded);
+    for &(left, byte) in rows {
+        same(
+            rt,
+            &bytes_step(&mut bytes),
+            &(left, (left, Some(left)), byte),
+        );
+    }
+}
+
 #[test]
 fn one_byte(rt: HostRuntime) {
     let mut fes = [0xabu8].iter().copied().bytes_to_fes();
@@ -123,21 +137,14 @@ fn one_byte(rt: HostRuntime) {
 
 #[test]
 fn one_byte_back(rt: HostRuntime) {
-    let mut bytes = FesToBytes::new([Fe32::_4, Fe32::V].iter().copied(), false);
-    for (left, byte) in [(1, Some(0xab)), (0, None), (0, None)] {
-        same(
-            &rt,
-            &bytes_step(&mut bytes),
-            &(left, (left, Some(left)), byte),
-        );
-    }
+    let rows = [(1, Some(0xab)), (0, None), (0, None)];
+    bytes_are(&rt, &[Fe32::_4, Fe32::V], false, &rows);
 }
 
 #[test]
-fn eight_elements(rt: HostRuntime) -> Result<(), Fail> {
-    let fes = fes_of(rt.alloc(), &[0x75, 0x1e, 0x76, 0xe8, 0x19])?;
+fn eight_elements(rt: HostRuntime) {
+    let fes = fes_of(rt.alloc(), &[0x75, 0x1e, 0x76, 0xe8, 0x19]).expect(&rt, "memory");
     same(&rt, &fes.len(), &8);
-    let mut bytes = FesToBytes::new(fes.iter().copied(), false);
     let rows = [
         (5, Some(0x75)),
         (4, Some(0x1e)),
@@ -146,78 +153,73 @@ fn eight_elements(rt: HostRuntime) -> Result<(), Fail> {
         (1, Some(0x19)),
         (0, None),
     ];
-    for (left, byte) in rows {
-        same(
-            &rt,
-            &bytes_step(&mut bytes),
-            &(left, (left, Some(left)), byte),
-        );
-    }
-    Ok(())
+    bytes_are(&rt, &fes, false, &rows);
 }
 
 #[test]
-fn incomplete_bytes(rt: HostRuntime) -> Result<(), Fail> {
+fn incomplete_bytes(rt: HostRuntime) {
     let nine = [Fe32::L; 9];
     same(&rt, &FesToBytes::new(nine.iter().copied(), false).len(), &5);
-    same_items(&rt, &bytes_of(rt.alloc(), &nine)?, &[0xff; 5]);
-    let mut none = FesToBytes::new([Fe32::L].iter().copied(), false);
-    for _ in 0..2 {
-        same(&rt, &bytes_step(&mut none), &(0, (0, Some(0)), None));
-    }
-    Ok(())
+    same_items(
+        &rt,
+        &bytes_of(rt.alloc(), &nine).expect(&rt, "memory"),
+        &[0xff; 5],
+    );
+    bytes_are(&rt, &[Fe32::L], false, &[(0, None), (0, None)]);
 }
 
 #[test]
-fn elements_of_two_bytes(rt: HostRuntime) -> Result<(), Fail> {
+fn elements_of_two_bytes(rt: HostRuntime) {
     let alloc = rt.alloc();
     let want = [Fe32::_4, Fe32::W, Fe32::_4, Fe32::S];
     for upper in [None, Some(2), Some(usize::MAX)] {
         let fes = TwoItems::new(0xab, upper).bytes_to_fes();
-        same_items(&rt, &all_fes(&rt, alloc, fes)?, &want);
+        all_fes(&rt, alloc, fes, &want);
     }
-    let fes = TwoOfFive::new(0xab).bytes_to_fes();
-    same_items(&rt, &all_fes(&rt, alloc, fes)?, &want);
-    Ok(())
+    all_fes(&rt, alloc, TwoOfFive::new(0xab).bytes_to_fes(), &want);
 }
 
 #[test]
-fn bytes_of_two_elements(rt: HostRuntime) -> Result<(), Fail> {
+fn bytes_of_two_elements(rt: HostRuntime) {
     let alloc = rt.alloc();
     let rows: [(bool, &[u8]); 2] = [(false, &[0xad]), (true, &[0xad, 0x40])];
     for (padded, want) in rows {
         for upper in [None, Some(usize::MAX)] {
             let bytes = FesToBytes::new(TwoItems::new(Fe32::_4, upper), padded);
-            same_items(&rt, &all_bytes(&rt, alloc, bytes)?, want);
+            all_bytes(&rt, alloc, bytes, want);
         }
         let bytes = FesToBytes::new(TwoOfFive::new(Fe32::_4), padded);
-        same_items(&rt, &all_bytes(&rt, alloc, bytes)?, want);
+        all_bytes(&rt, alloc, bytes, want);
     }
-    Ok(())
 }
 
 #[test]
 fn size_hints_of_elements(rt: HostRuntime) {
     let mut fes = TwoItems::new(0xab, None).bytes_to_fes();
-    same(&rt, &fes.size_hint(), &(0, None));
-    assert!(rt; fes.next().is_some());
-    same(&rt, &fes.size_hint(), &(1, None));
+    let found = (fes.size_hint(), fes.next().is_some(), fes.size_hint());
+    same(&rt, &found, &((0, None), true, (1, None)));
+}
 
+#[test]
+fn size_hints_of_elements_below_a_great_number(rt: HostRuntime) {
     let mut fes = TwoItems::new(0xab, Some(usize::MAX)).bytes_to_fes();
-    same(&rt, &fes.size_hint(), &(0, None));
-    for _ in 0..3 {
-        assert!(rt; fes.next().is_some());
-    }
-    same(&rt, &fes.size_hint(), &(1, None));
-    assert!(rt; fes.next().is_some());
-    same(&rt, &fes.size_hint(), &(0, Some(0)));
+    let first = (fes.size_hint(), fes.next().is_some());
+    let others = [fes.next().is_some(), fes.next().is_some()];
+    let last = (fes.size_hint(), fes.next().is_some(), fes.size_hint());
+    same(&rt, &first, &((0, None), true));
+    same(&rt, &others, &[true; 2]);
+    same(&rt, &last, &((1, None), true, (0, Some(0))));
+}
 
+#[test]
+fn size_hints_of_fewer_elements_than_said(rt: HostRuntime) {
     let mut fes = TwoOfFive::new(0xab).bytes_to_fes();
-    same(&rt, &fes.size_hint(), &(8, Some(8)));
-    for _ in 0..4 {
-        assert!(rt; fes.next().is_some());
-    }
-    same(&rt, &fes.size_hint(), &(0, Some(0)));
+    let first = (fes.size_hint(), fes.next().is_some());
+    let others = [fes.next().is_some(), fes.next().is_some()];
+    let last = (fes.next().is_some(), fes.size_hint());
+    same(&rt, &first, &((8, Some(8)), true));
+    same(&rt, &others, &[true; 2]);
+    same(&rt, &last, &(true, (0, Some(0))));
 }
 
 #[test]
@@ -266,26 +268,19 @@ fn very_many_items(rt: HostRuntime) {
 }
 
 #[test]
-fn endless_items(rt: HostRuntime) -> Result<(), Fail> {
-    let alloc = rt.alloc();
-    let fes: Vec<Fe32> = iter::repeat(0xab).bytes_to_fes().take(6).collect(alloc)?;
+fn endless_items(rt: HostRuntime) {
+    let fes = iter::repeat(0xab).bytes_to_fes();
     let want = [Fe32::_4, Fe32::W, Fe32::_4, Fe32::_6, Fe32::H, Fe32::_2];
-    same_items(&rt, &fes, &want);
-    Ok(())
-}
-
-// The first bytes of endless elements.
-fn six_bytes(alloc: Global, padded: bool) -> Result<Vec<u8>, AllocError> {
-    let bytes = FesToBytes::new(iter::repeat(Fe32::_4), padded);
-    bytes.take(6).collect(alloc)
+    gives(&rt, rt.alloc(), fes.take(6), &want);
 }
 
 #[test]
-fn endless_elements(rt: HostRuntime) -> Result<(), Fail> {
-    let want = [0xad, 0x6b, 0x5a, 0xd6, 0xb5, 0xad];
-    same_items(&rt, &six_bytes(rt.alloc(), false)?, &want);
-    same_items(&rt, &six_bytes(rt.alloc(), true)?, &want);
-    Ok(())
+fn endless_elements(rt: HostRuntime) {
+    for padded in [false, true] {
+        let bytes = FesToBytes::new(iter::repeat(Fe32::_4), padded);
+        let want = [0xad, 0x6b, 0x5a, 0xd6, 0xb5, 0xad];
+        gives(&rt, rt.alloc(), bytes.take(6), &want);
+    }
 }
 
 #[test]
@@ -327,67 +322,52 @@ fn byte(i: u32, j: u32) -> u8 {
 }
 
 #[test]
-fn same_as_plain(rt: HostRuntime) -> Result<(), Fail> {
+fn same_as_plain(rt: HostRuntime) {
     for i in 0..256u32 {
         let bytes = [0u32, 1, 2, 3, 4, 5].map(|j| byte(i, j));
         for length in 0..=6usize {
-            let first = bytes.get(..length).ok_or("too long")?;
-            same(
-                &rt,
-                &(i, length, agree(rt.alloc(), first)?),
-                &(i, length, true),
-            );
+            let first = bytes.get(..length).expect(&rt, "too long");
+            let agreed = agree(rt.alloc(), first).expect(&rt, "memory");
+            same(&rt, &(i, length, agreed), &(i, length, true));
         }
     }
-    Ok(())
 }
 
 #[test]
-fn one_at_a_time(rt: HostRuntime) -> Result<(), Fail> {
+fn one_at_a_time(rt: HostRuntime) {
     let mut fes = Vec::new(rt.alloc());
-    push_fes(&[0xab], &mut fes)?;
-    push_fes(&[], &mut fes)?;
-    push_fes(&[0xab], &mut fes)?;
+    push_fes(&[0xab], &mut fes).expect(&rt, "memory");
+    push_fes(&[], &mut fes).expect(&rt, "memory");
+    push_fes(&[0xab], &mut fes).expect(&rt, "memory");
     same_items(&rt, &fes, &[Fe32::_4, Fe32::V, Fe32::_4, Fe32::V]);
-    let back = there_and_back(rt.alloc(), &[0xab, 0xcd])?;
+    let back = there_and_back(rt.alloc(), &[0xab, 0xcd]).expect(&rt, "memory");
     same_items(&rt, &back, &[0xab, 0xcd]);
-    Ok(())
 }
 
 #[test]
-fn filled_bytes(rt: HostRuntime) -> Result<(), Fail> {
+fn filled_bytes(rt: HostRuntime) {
     let bytes = FesToBytes::new([0xabu8].iter().copied().bytes_to_fes(), true);
-    same_items(&rt, &all_bytes(&rt, rt.alloc(), bytes)?, &[0xab, 0]);
-
-    let nine = [Fe32::L; 9];
-    let mut bytes = FesToBytes::new(nine.iter().copied(), true);
-    for left in [6, 5, 4, 3, 2] {
-        same(
-            &rt,
-            &bytes_step(&mut bytes),
-            &(left, (left, Some(left)), Some(0xff)),
-        );
-    }
-    same(&rt, &bytes_step(&mut bytes), &(1, (1, Some(1)), Some(0xf8)));
-    same(&rt, &bytes_step(&mut bytes), &(0, (0, Some(0)), None));
-
-    let mut one = FesToBytes::new([Fe32::L].iter().copied(), true);
-    for (left, byte) in [(1, Some(0xf8)), (0, None), (0, None)] {
-        same(
-            &rt,
-            &bytes_step(&mut one),
-            &(left, (left, Some(left)), byte),
-        );
-    }
-    Ok(())
+    all_bytes(&rt, rt.alloc(), bytes, &[0xab, 0]);
+    let rows = [
+        (6, Some(0xff)),
+        (5, Some(0xff)),
+        (4, Some(0xff)),
+        (3, Some(0xff)),
+        (2, Some(0xff)),
+        (1, Some(0xf8)),
+        (0, None),
+    ];
+    bytes_are(&rt, &[Fe32::L; 9], true, &rows);
+    let rows = [(1, Some(0xf8)), (0, None), (0, None)];
+    bytes_are(&rt, &[Fe32::L], true, &rows);
 }
 
 // A clone goes on where the iterator stands, and leaves it there.
 #[test]
-fn clones(rt: HostRuntime) -> Result<(), Fail> {
+fn clones(rt: HostRuntime) {
     let mut fes = [0xabu8].iter().copied().bytes_to_fes();
     same(&rt, &fes.next(), &Some(Fe32::_4));
-    let mut other = fes.clone()?;
+    let mut other = fes.clone().expect(&rt, "memory");
     for _ in 0..2 {
         same(&rt, &fes_step(&mut other), &fes_step(&mut fes));
     }
@@ -395,9 +375,8 @@ fn clones(rt: HostRuntime) -> Result<(), Fail> {
     let three = [Fe32::_4, Fe32::V, Fe32::L];
     let mut bytes = FesToBytes::new(three.iter().copied(), true);
     same(&rt, &bytes.next(), &Some(0xab));
-    let mut other = bytes.clone()?;
+    let mut other = bytes.clone().expect(&rt, "memory");
     for _ in 0..2 {
         same(&rt, &bytes_step(&mut other), &bytes_step(&mut bytes));
     }
-    Ok(())
 }

@@ -4,7 +4,6 @@ ghost use Rattle.std.specs.Io.KnownBytes.{Appends};
 use crate::compare::{same, same_items};
 use devices::{ByteSink, ByteSource, Watched, write_all};
 use std::io;
-use std::test::Fail;
 
 // Takes at most `step` bytes a call, and fails once `room` are taken.
 #[derive(Drop)]
@@ -124,6 +123,14 @@ fn flush_once<K: ByteSink>(sink: &mut K) -> Answer<()> {
     Some((outcome, sink.failed()))
 }
 
+// What a call returned, where an error is told by its kind.
+fn by_kind(outcome: io::Result<()>) -> Result<(), io::ErrorKind> {
+    match outcome {
+        Ok(()) => Ok(()),
+        Err(error) => Err(error.kind()),
+    }
+}
+
 // What is proved of a sink is known of the writer that it watched.
 fn write_to<W: io::Write>(writer: &mut W, bytes: &[u8]) -> io::Result<()>
     ensures ok { OnOk result (Appends (W.contents writer.old) (W.contents writer.new) bytes.now) }
@@ -144,7 +151,7 @@ fn write_all_to_a_writer_that_fails(rt: HostRuntime) {
         };
         let mut sink = Watched::new(&mut writer);
         let marked_at_first = sink.failed();
-        let outcome = write_all(&mut sink, b"hello").map_err(|e| e.kind());
+        let outcome = by_kind(write_all(&mut sink, b"hello"));
         let marked = sink.failed();
         let want = if room < 5 {
             Err(io::ErrorKind::StorageFull)
@@ -161,12 +168,11 @@ fn write_all_to_a_writer_that_fails(rt: HostRuntime) {
 }
 
 #[test]
-fn write_all_to_a_vec(rt: HostRuntime) -> Result<(), Fail> {
+fn write_all_to_a_vec(rt: HostRuntime) {
     let mut bytes = Vec::new(rt.alloc());
-    write_to(&mut bytes, b"hel")?;
-    write_to(&mut bytes, b"lo")?;
+    write_to(&mut bytes, b"hel").expect(&rt, "it is written");
+    write_to(&mut bytes, b"lo").expect(&rt, "it is written");
     same_items(&rt, &bytes, b"hello");
-    Ok(())
 }
 
 #[test]
@@ -209,7 +215,7 @@ fn write_that_takes_nothing_marks(rt: HostRuntime) {
     let mut of_nothing = Watched::new(&mut writer);
     let nothing = (write_all(&mut of_nothing, b"").is_ok(), of_nothing.failed());
     let mut of_a_byte = Watched::new(&mut writer);
-    let outcome = write_all(&mut of_a_byte, b"a").map_err(|e| e.kind());
+    let outcome = by_kind(write_all(&mut of_a_byte, b"a"));
     let byte = (outcome, of_a_byte.failed());
     same_items(
         &rt,

@@ -1,13 +1,12 @@
-use crate::compare::{same, same_items};
+use crate::compare::{same, same_items, says};
 use bech32_hrp::{BC, BCRT, Error, Hrp, TB};
-use std::alloc::{AllocError, Global};
+use std::alloc::Global;
 use std::cmp::Ordering;
-use std::fmt;
 use std::hash::{DefaultHasher, Hash, Hasher};
 use std::process::Abort;
-use std::test::Fail;
 
-fn part(rt: &impl Abort, text: &str) -> Hrp {
+/// A human-readable part; fails where the text is none.
+pub fn part(rt: &impl Abort, text: &str) -> Hrp {
     Hrp::parse(text).expect(rt, "it is a human-readable part")
 }
 
@@ -24,14 +23,15 @@ fn read(text: &str) -> Result<usize, Error> {
 
 // The same of a text and so many times another one behind it.
 fn read_behind(
+    rt: &impl Abort,
     alloc: Global,
     first: &str,
     piece: &str,
     count: usize,
-) -> Result<Result<usize, Error>, AllocError> {
-    let pieces = piece.repeat(alloc, count)?;
-    let text = format!(in alloc; "{first}{pieces}")?;
-    Ok(read(&text))
+) -> Result<usize, Error> {
+    let pieces = piece.repeat(alloc, count).expect(rt, "memory");
+    let text = format!(in alloc; "{first}{pieces}").expect(rt, "memory");
+    read(&text)
 }
 
 // The parts that each of the five questions takes: segwit, mainnet, testnet, signet, regtest.
@@ -46,14 +46,14 @@ fn networks(hrp: &Hrp) -> [bool; 5] {
 }
 
 #[test]
-fn refuses_by_length(rt: HostRuntime) -> Result<(), Fail> {
+fn refuses_by_length(rt: HostRuntime) {
     let alloc = rt.alloc();
     let got = [
         read(""),
-        read_behind(alloc, "", "a", 83)?,
-        read_behind(alloc, "", "a", 84)?,
-        read_behind(alloc, "", "é", 42)?,
-        read_behind(alloc, " ", "a", 83)?,
+        read_behind(&rt, alloc, "", "a", 83),
+        read_behind(&rt, alloc, "", "a", 84),
+        read_behind(&rt, alloc, "", "é", 42),
+        read_behind(&rt, alloc, " ", "a", 83),
     ];
     let too_long = Err(Error::TooLong(84));
     same_items(
@@ -61,7 +61,6 @@ fn refuses_by_length(rt: HostRuntime) -> Result<(), Fail> {
         &got,
         &[Err(Error::Empty), Ok(83), too_long, too_long, too_long],
     );
-    Ok(())
 }
 
 #[test]
@@ -80,21 +79,18 @@ fn refuses_at_the_first_bad_character(rt: HostRuntime) {
 }
 
 #[test]
-fn keeps_the_parsed_case(rt: HostRuntime) -> Result<(), Fail> {
+fn keeps_the_parsed_case(rt: HostRuntime) {
     let hrp = part(&rt, "~ABC!1");
-    let shown = format!(in rt.alloc(); "{hrp}")?;
     same_items(&rt, hrp.as_bytes(), b"~ABC!1");
-    same_items(&rt, &[hrp.as_str(), shown.as_str()], &["~ABC!1", "~ABC!1"]);
-    same(&rt, &hrp.len(), &6);
-    Ok(())
+    same(&rt, &(hrp.as_str(), hrp.len()), &("~ABC!1", 6));
+    says(&rt, rt.alloc(), &hrp, "~ABC!1");
 }
 
 // Fails where one of the 83 fronts of a text shows otherwise than it is written.
 fn shows_each_front(rt: &impl Abort, alloc: Global, text: &str) {
     let mut front = String::from_str(alloc, text).expect(rt, "memory");
     for _ in 0..83 {
-        let shown = message(alloc, &part(rt, &front)).expect(rt, "memory");
-        same(rt, &shown, &front);
+        says(rt, alloc, &part(rt, &front), &front);
         front.pop();
     }
 }
@@ -146,12 +142,8 @@ fn knows_the_networks(rt: HostRuntime) {
     }
 }
 
-fn message<T: fmt::Display>(alloc: Global, value: &T) -> Result<String, AllocError> {
-    format!(in alloc; "{value}")
-}
-
 #[test]
-fn tells_the_fault(rt: HostRuntime) -> Result<(), Fail> {
+fn tells_the_fault(rt: HostRuntime) {
     for (error, want) in [
         (
             Error::TooLong(84),
@@ -166,7 +158,6 @@ fn tells_the_fault(rt: HostRuntime) -> Result<(), Fail> {
         (Error::MixedCase, "hrp cannot mix upper and lower case"),
         (Error::Fmt, "formatting failed"),
     ] {
-        same(&rt, &message(rt.alloc(), &error)?.as_str(), &want);
+        says(&rt, rt.alloc(), &error, want);
     }
-    Ok(())
 }

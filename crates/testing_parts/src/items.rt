@@ -1,13 +1,9 @@
 use crate::compare::{same, same_items};
+use crate::hrp::part;
 use bech32_hrp::{ByteIter, CharIter, Hrp, LowercaseByteIter, LowercaseCharIter};
 use linked_list_allocator::LocalHeap;
-use std::alloc::{AllocError, Global};
+use std::alloc::Global;
 use std::process::Abort;
-use std::test::Fail;
-
-fn part(rt: &impl Abort, text: &str) -> Hrp {
-    Hrp::parse(text).expect(rt, "it is a human-readable part")
-}
 
 fn unchecked(rt: &impl Abort, text: &str) -> Hrp {
     assert!(rt; text.len() <= 83);
@@ -133,8 +129,8 @@ fn gives_characters(rt: HostRuntime) {
 }
 
 #[test]
-fn keeps_other_bytes_as_x(rt: HostRuntime) -> Result<(), Fail> {
-    let longest = "~".repeat(rt.alloc(), 83)?;
+fn keeps_other_bytes_as_x(rt: HostRuntime) {
+    let longest = "~".repeat(rt.alloc(), 83).expect(&rt, "memory");
     for (text, want) in [
         ("", ""),
         ("bc", "bc"),
@@ -151,44 +147,40 @@ fn keeps_other_bytes_as_x(rt: HostRuntime) -> Result<(), Fail> {
     let empty = unchecked(&rt, "");
     same_lengths(&rt, &four_of(&empty), 0);
     same(&rt, &front(&mut four_of(&empty)), &ENDED);
-    Ok(())
 }
 
 #[test]
-fn lowers_the_text(rt: HostRuntime) -> Result<(), Fail> {
+fn lowers_the_text(rt: HostRuntime) {
     for (text, want) in [("AB", "ab"), ("bc", "bc"), ("~A1[@", "~a1[@")] {
         let hrp = part(&rt, text);
-        same(&rt, &hrp.to_lowercase(rt.alloc())?.as_str(), &want);
+        same(
+            &rt,
+            &hrp.to_lowercase(rt.alloc()).expect(&rt, "memory").as_str(),
+            &want,
+        );
         same(&rt, &hrp.as_str(), &text);
     }
-    Ok(())
 }
 
 // Whether a part in lower case is a text; `None` where a heap of so many bytes has no memory for it.
-fn is_lowered(
-    alloc: Global,
-    bytes: usize,
-    hrp: &Hrp,
-    want: &str,
-) -> Result<Option<bool>, AllocError> {
-    let heap = LocalHeap::new(alloc, bytes)?;
+fn is_lowered(rt: &impl Abort, alloc: Global, bytes: usize, hrp: &Hrp, want: &str) -> Option<bool> {
+    let heap = LocalHeap::new(alloc, bytes).expect(rt, "memory");
     match hrp.to_lowercase_in(&heap) {
-        Ok(text) => Ok(Some(text.as_str() == want)),
-        Err(_) => Ok(None),
+        Ok(text) => Some(text.as_str() == want),
+        Err(_) => None,
     }
 }
 
 #[test]
-fn lowers_the_text_or_wants_memory(rt: HostRuntime) -> Result<(), Fail> {
+fn lowers_the_text_or_wants_memory(rt: HostRuntime) {
     let hrp = part(&rt, "ABCDEFGHIJKLMNOPQRSTUVWXYZ0123456789");
     let want = "abcdefghijklmnopqrstuvwxyz0123456789";
     let mut refused = 0u32;
     for size in 0..16usize {
-        match is_lowered(rt.alloc(), 16 * size, &hrp, want)? {
+        match is_lowered(&rt, rt.alloc(), 16 * size, &hrp, want) {
             Some(is_lowered) => same(&rt, &is_lowered, &true),
             None => refused = refused.saturating_add(1),
         }
     }
     assert!(rt; 1 <= refused && refused < 16);
-    Ok(())
 }

@@ -3,7 +3,6 @@ use bech32_hrp::{Error, Hrp, HrpSink};
 use std::fmt;
 use std::fmt::Write;
 use std::process::Abort;
-use std::test::Fail;
 
 // Prints these pieces.
 #[derive(Drop)]
@@ -67,12 +66,12 @@ fn reads_pieces(rt: HostRuntime) {
 }
 
 #[test]
-fn reads_pieces_by_their_length(rt: HostRuntime) -> Result<(), Fail> {
+fn reads_pieces_by_their_length(rt: HostRuntime) {
     let alloc = rt.alloc();
-    let longest = "a".repeat(alloc, 83)?;
-    let longer = "a".repeat(alloc, 84)?;
-    let accents = "é".repeat(alloc, 21)?;
-    let cut = "a".repeat(alloc, 82)?;
+    let longest = "a".repeat(alloc, 83).expect(&rt, "memory");
+    let longer = "a".repeat(alloc, 84).expect(&rt, "memory");
+    let accents = "é".repeat(alloc, 21).expect(&rt, "memory");
+    let cut = "a".repeat(alloc, 82).expect(&rt, "memory");
     let too_long = Err(Error::TooLong(84));
     both(&rt, &[&longest], Ok(&longest));
     both(&rt, &[&cut, "a"], Ok(&longest));
@@ -82,7 +81,6 @@ fn reads_pieces_by_their_length(rt: HostRuntime) -> Result<(), Fail> {
     both(&rt, &[&accents, &accents], too_long);
     both(&rt, &[&cut, "é"], too_long);
     both(&rt, &[&longer, &longer, "B"], Err(Error::TooLong(169)));
-    Ok(())
 }
 
 // A value that prints these pieces and then fails is no part.
@@ -91,14 +89,13 @@ fn does_not_print(rt: &impl Abort, pieces: &[&str]) {
 }
 
 #[test]
-fn tells_that_a_value_does_not_print(rt: HostRuntime) -> Result<(), Fail> {
-    let longer = "a".repeat(rt.alloc(), 84)?;
+fn tells_that_a_value_does_not_print(rt: HostRuntime) {
+    let longer = "a".repeat(rt.alloc(), 84).expect(&rt, "memory");
     does_not_print(&rt, &[]);
     does_not_print(&rt, &["ab"]);
     does_not_print(&rt, &["a", "B"]);
     does_not_print(&rt, &["é"]);
     does_not_print(&rt, &[&longer]);
-    Ok(())
 }
 
 #[test]

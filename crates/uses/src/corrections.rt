@@ -6,7 +6,8 @@ use crate::compare::{same, same_items};
 use bech32::primitives::correction::{Corrector, NO_ALLOC_MAX_LENGTH};
 use bech32::primitives::decode::CheckedHrpstring;
 use bech32::{
-    Bech32, CorrectableError, CorrectingChecksum, Correction, Fe32, Mended, correct, segwit,
+    Bech32, CorrectableError, CorrectingChecksum, Correction, Fe32, Mended, correct, nearest,
+    segwit,
 };
 use std::alloc::Global;
 use std::process::Abort;
@@ -87,4 +88,19 @@ fn corrects_by_one_call(rt: HostRuntime) {
         mended.listing.as_slice(),
         &[(0, Fe32::X), (20, Fe32::_3)],
     );
+}
+
+// Whether this is the only text that Bech32 accepts with at most two other characters.
+fn is_only_near(alloc: Global, mistyped: &str, text: &str) -> bool {
+    match nearest::<Bech32>(alloc, mistyped, &[], 2) {
+        Ok(near) => near.texts.len() == 1 && near.texts[0].text.as_str() == text,
+        Err(_) => false,
+    }
+}
+
+#[test]
+fn finds_two_wrong_characters(rt: HostRuntime) {
+    let mistyped = "bc1qar0srrr7xfkvy5l64qlydnw9re59gtzzwf5mdx";
+    let right = "bc1qar0srrr7xfkvy5l643lydnw9re59gtzzwf5mdq";
+    same(&rt, &is_only_near(rt.alloc(), mistyped, right), &true);
 }

@@ -1,15 +1,8 @@
 use Rattle.std.proofs.Common.{rules}
 use Rattle.bech32_correction.proofs.correcting.correction_by.Goals as goal
 
-pub returns-in-Some-2-clause-value : goal.returns-in-Some-2-clause-value
-returns-in-Some-2-clause-value g c = λ text is.
-    rw c.in-Some-2.is at (c.in_ok-listing.ensures.answer text (rw c.in-Some.is at (c.in_ok-corrector.ensures text is)))
-
-pub returns-in-None-clause-value : goal.returns-in-None-clause-value
-returns-in-None-clause-value g c = λ text is. (
-  rw c.in-None.is at (c.in_ok-listing.ensures.answer text (rw c.in-Some.is at (c.in_ok-corrector.ensures text is))),
-  rw c.in-Some.is at (c.in_ok-corrector.ensures text is),
-)
+pub returns-clause-value : goal.returns-clause-value
+returns-clause-value g c = λ text is. c.in_ok-said.ensures.value text (rw c.in-Some.is at (c.in_ok-corrector.ensures text is))
 
 pub returns-in_default-clause-value : goal.returns-in_default-clause-value
 returns-in_default-clause-value g c = λ text is. rw c.in_default.is at (c.in_ok-corrector.ensures text is)
@@ -17,5 +10,5 @@ returns-in_default-clause-value g c = λ text is. rw c.in_default.is at (c.in_ok
 pub corrector_of-requires : goal.corrector_of-requires
 corrector_of-requires g c = (search rules, c.requires)
 
-pub correction_of-requires : goal.correction_of-requires
-correction_of-requires g c = (search rules, search rules)
+pub correction_with-requires : goal.correction_with-requires
+correction_with-requires g c = (search rules, search rules)

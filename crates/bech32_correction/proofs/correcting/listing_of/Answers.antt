@@ -22,6 +22,26 @@ with-requires g c =
 pub listing-requires : goal.listing-requires
 listing-requires g c = search rules
 
+pub filled_listing-requires : goal.filled_listing-requires
+filled_listing-requires g c =
+    let given = c.args.given.now in
+    let window : ℕ = c.args.corrector.now.window in
+    let distinct : c.in-Some.erasures ≡ with_erasures [] given = (rw c.in-Some.is at c.in_ok-erasures.ensures.value).0 in
+    let few : length c.in-Some.erasures ≤ c.singleton_bound-most.result = (rw c.in-Some.is at c.in_ok-erasures.ensures.value).1 in (
+      search rules,
+      (
+        search rules,
+        (
+          search rules,
+          (
+            subst (λ (s : List ℕ). AreErasures window s) (sym distinct)
+                (erasures_more window [] given (record { once = tt; below = tt }) c.requires),
+            (omega (arith, few, c.singleton_bound-most.ensures.value), omega (arith, few, c.singleton_bound-most.ensures.value)),
+          ),
+        ),
+      ),
+    )
+
 pub returns-clause-answer : goal.returns-clause-answer
 returns-clause-answer g c =
     let given = c.args.given.now in
@@ -50,3 +70,10 @@ pub returns-in_err-erased-clause-in_place : goal.returns-in_err-erased-clause-in
 returns-in_err-erased-clause-in_place g c = λ short.
     let few : length c.in-Some.erasures ≤ c.singleton_bound-most.result = (rw c.in-Some.is at c.in_ok-erasures.ensures.value).1 in
     refused (c.in_err-erased.ensures.in_place (omega (arith, short, few, c.singleton_bound-most.ensures.few)))
+
+pub returns-then-most-len-lt2-clause-answer : goal.returns-then-most-len-lt2-clause-answer
+returns-then-most-len-lt2-clause-answer g c =
+    let given = c.args.given.now in
+    let distinct : c.in-Some.erasures ≡ with_erasures [] given = (rw c.in-Some.is at c.in_ok-erasures.ensures.value).0 in
+    subst (λ (s : List ℕ). IfOk c.filled_listing.result (λ answer. IsAnswerTo g.Ck.Checksum.code g.Ck.Checksum.bound (record { residue = c.args.corrector.now.residue; window = c.args.corrector.now.window; erasures = s }) answer))
+    distinct c.filled_listing.ensures.answer

@@ -7,7 +7,7 @@ use Rattle.bech32_poly.specs.Polynomial.{coefficient}
 use Rattle.bech32_checksum.specs.Code.{IsResidueOf}
 use Rattle.bech32_checksum.specs.Packed.{digit_of}
 use Rattle.bech32_refusals.proofs.Coefficients.{coefficient-replicate, rest-less}
-use Rattle.bech32_correction.proofs.NearestElements.{one_more, taken_off}
+use Rattle.bech32_correction.proofs.TakenOff.{one_more, taken_off}
 use Rattle.bech32_correction.proofs.division.residue_without.Goals as goal
 
 pub packed_coefficient-requires : goal.packed_coefficient-requires

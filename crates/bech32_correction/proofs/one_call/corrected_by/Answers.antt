@@ -1,40 +1,11 @@
-use Rattle.std.specs.Prelude.{string_bytes}
-use Rattle.std.proofs.Common.{rules, ℕ, List, subst, sym}
-use Rattle.bech32_gf.specs.declared.gf32.Fe32.{Fe32}
-use Rattle.bech32_correction.specs.Mistyped.{IsMendedBy}
-use Rattle.bech32_correction.proofs.MendedText.{mended_by, placed-from_listing}
+use Rattle.std.proofs.Common.{rules}
 use Rattle.bech32_correction.proofs.one_call.corrected_by.Goals as goal
 
 pub corrector_of-requires : goal.corrector_of-requires
 corrector_of-requires g c = (search rules, c.requires.lawful)
 
-pub correction_of-requires : goal.correction_of-requires
-correction_of-requires g c = (search rules, search rules)
-
-pub mended_by-requires : goal.mended_by-requires
-mended_by-requires g c =
-    let text = c.args.text.now in
-    let is = rw c.in-Some-2.is at (c.in_ok-listing.ensures.answer text (rw c.in-Some.is at (c.in_ok-corrector.ensures text c.requires.read))) in
-    (search rules, placed-from_listing g.Ck.Checksum.code g.Ck.Checksum.bound text c.args.erasures.now c.in-Some-2.listing is)
-
-pub returns-in-None : goal.returns-in-None
-returns-in-None g c =
-    let text = c.args.text.now in (
-      rw c.in-None.is at (c.in_ok-listing.ensures.answer text (rw c.in-Some.is at (c.in_ok-corrector.ensures text c.requires.read))),
-      rw c.in-Some.is at (c.in_ok-corrector.ensures text c.requires.read),
-    )
+pub mended_with-requires : goal.mended_with-requires
+mended_with-requires g c = (search rules, (search rules, rw c.in-Some.is at (c.in_ok-corrector.ensures c.args.text.now c.requires.read)))
 
 pub returns-in_default : goal.returns-in_default
 returns-in_default g c = rw c.in_default.is at (c.in_ok-corrector.ensures c.args.text.now c.requires.read)
-
-pub returns-in_ok-mended-in-Some-2 : goal.returns-in_ok-mended-in-Some-2
-returns-in_ok-mended-in-Some-2 g c =
-    let code = g.Ck.Checksum.code in
-    let bound = g.Ck.Checksum.bound in
-    let text = c.args.text.now in
-    let given = c.args.erasures.now in
-    let is = rw c.in-Some-2.is at (c.in_ok-listing.ensures.answer text (rw c.in-Some.is at (c.in_ok-corrector.ensures text c.requires.read))) in
-    let made = c.in_ok-mended-in-Some-2.ensures in
-    let new = string_bytes c.in_ok-mended-in-Some-2.mended.text in
-    subst (λ (l : List (ℕ × Fe32)). IsMendedBy code bound text given l new) (sym made.same)
-    (mended_by code bound text given new c.in-Some-2.listing is made.spelling)

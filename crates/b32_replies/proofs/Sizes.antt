@@ -1,0 +1,72 @@
+-- No reply is longer than its room.
+use Rattle.std.proofs.Common.{◌≡◌, ℕ, ◌+◌, ◌-◌, ◌*◌, ◌≤◌, ◌<◌, inl, inr, List, [], ◌∷◌, ◌++◌, map, length, take, ap, ◌∙◌, refl, arith, length-append, codes}
+use Rattle.std.proofs.lemmas.List.{length-map, length-take}
+use Rattle.hex.proofs.HexLemmas.{length-encode_with}
+use Rattle.hex.specs.Hex.{lower_digits}
+use Rattle.bech32_bits.specs.Bits.{bits, cut_in_eights, fe_bits, to_bytes, to_fes}
+use Rattle.bech32_checksum.specs.Code.{Code, bech32, bech32m}
+use Rattle.bech32_hrp.specs.Hrp.{lowered}
+use Rattle.bech32_decode.specs.Acceptance.{IsAccepted, IsDecoded}
+use Rattle.std.specs.Char.{to_ascii_lowercase}
+use Rattle.bech32_checksum.specs.Encoded.{IsEncodedText, char_of_element}
+use Rattle.bech32_encode.specs.TextLength.{encoded_length_of}
+use Rattle.b32_replies.specs.Hex.{hex_of}
+
+-- ---- bits
+
+-- each byte takes eight bits
+length-eights : (bs : List ℕ) → 8 * length (cut_in_eights bs) ≤ length bs
+length-eights (a ∷ b ∷ c ∷ d ∷ e ∷ f ∷ g ∷ h ∷ rest) = let ih = length-eights rest in omega arith
+length-eights [] = omega arith
+length-eights (a ∷ []) = omega arith
+length-eights (a ∷ b ∷ []) = omega arith
+length-eights (a ∷ b ∷ c ∷ []) = omega arith
+length-eights (a ∷ b ∷ c ∷ d ∷ []) = omega arith
+length-eights (a ∷ b ∷ c ∷ d ∷ e ∷ []) = omega arith
+length-eights (a ∷ b ∷ c ∷ d ∷ e ∷ f ∷ []) = omega arith
+length-eights (a ∷ b ∷ c ∷ d ∷ e ∷ f ∷ g ∷ []) = omega arith
+
+-- each element gives five bits
+length-fe_bits : (fes : _) → length (fe_bits fes) ≡ 5 * length fes
+length-fe_bits [] = refl
+length-fe_bits (x ∷ xs) = let ih = length-fe_bits xs in omega (arith, length-append (bits 5 x.value) (fe_bits xs))
+
+-- eight elements give five bytes at most
+mapped-size : (f : ℕ → _) (xs bytes : List ℕ) → bytes ≡ to_bytes (map f xs) → 8 * length bytes ≤ 5 * length xs
+mapped-size f xs bytes e =
+    omega (arith, ap length e, length-eights (fe_bits (map f xs)), length-fe_bits (map f xs), length-map xs f)
+
+-- ---- texts and bytes
+
+-- the word for bytes
+pub length-hex_of : (bytes : List ℕ) → length (hex_of bytes) ≤ 2 * length bytes + 1
+length-hex_of [] = omega arith
+length-hex_of (b ∷ bs) = omega (arith, length-encode_with lower_digits (b ∷ bs))
+
+-- the parts of a text that a checksum with so long a code accepts
+accepted-sizes : (code : Code) (text hrp data_part : List ℕ) → code.code_length ≤ 1023 → IsAccepted code text hrp data_part → (length hrp ≤ 83) × (length data_part < 1023)
+accepted-sizes code text hrp data_part n h = (
+  h.grammar.is_hrp.not_long,
+  let whole = ap length h.grammar.split ∙ length-append hrp (49 ∷ data_part) in omega (arith, h.text_length, whole),
+)
+
+-- the parts of a decoded text
+pub decoded-sizes : (text hrp bytes : List ℕ) → IsDecoded text hrp bytes → (length hrp ≤ 83) × (length bytes ≤ 639)
+decoded-sizes text hrp bytes h =
+    let parts : (length hrp ≤ 83) × (length h.data_part < 1023) =
+    elim h.accepted [ inl a ↦ accepted-sizes bech32m text hrp h.data_part (omega arith) a | inr a ↦ accepted-sizes bech32 text hrp h.data_part (omega arith) a ] in
+    let size = mapped-size _ (take (length h.data_part - 6) h.data_part) bytes h.bytes_are in
+    (parts.0, omega (arith, parts.1, size, length-take (length h.data_part - 6) h.data_part))
+
+-- the reply to a text that is decoded
+pub decode-reply-size : (text hrp bytes : List ℕ) → IsDecoded text hrp bytes → length (codes "ok " ++ (lowered hrp ++ (32 ∷ hex_of bytes))) ≤ 2047
+decode-reply-size text hrp bytes h =
+    let (part, rest) = decoded-sizes text hrp bytes h in
+    omega (arith, part, rest, length-hex_of bytes, length-append (codes "ok ") (lowered hrp ++ (32 ∷ hex_of bytes)), length-append (lowered hrp) (32 ∷ hex_of bytes), length-map hrp to_ascii_lowercase)
+
+-- a text that is no longer than a code
+pub encoded-size : (code : Code) (hrp bytes text : List ℕ) → code.code_length ≤ 1023 → encoded_length_of code hrp (to_fes bytes) ≤ code.code_length
+    → IsEncodedText code hrp (to_fes bytes) text → length text ≤ 1023
+encoded-size code hrp bytes text n fits h =
+    let all = to_fes bytes ++ h.checksum in
+    omega (arith, n, fits, h.is_checksum.size, ap length h.spelling, length-append (lowered hrp) (49 ∷ map char_of_element all), length-map hrp to_ascii_lowercase, length-map all char_of_element, length-append (to_fes bytes) h.checksum)

@@ -1,0 +1,23 @@
+-- The numbers of refusals: those of `bech32_numbers`, with 4 and 5 for words that are not read, and
+-- 91 for out of memory; 1 to 3 are those of `line_program`.
+use Rattle.std.specs.Prelude.{ℕ}
+use Rattle.bech32_numbers.specs.Numbers.{number_of_hrp_error, number_of_decode_error}
+use Rattle.bech32_numbers.specs.Numbers.{number_of_encode_error, number_of_checked_error}
+use Rattle.bech32_numbers.specs.Numbers.{number_of_segwit_decode_error}
+use Rattle.bech32_numbers.specs.Numbers.{number_of_segwit_encode_error}
+use Rattle.b32_replies.specs.declared.refusal.Refusal.{Refusal}
+use Rattle.b32_replies.specs.declared.refusal.Refusal.TheVariants.{BadNumber, BadHex, Hrp}
+use Rattle.b32_replies.specs.declared.refusal.Refusal.TheVariants.{Encode, Decode, SegwitEncode}
+use Rattle.b32_replies.specs.declared.refusal.Refusal.TheVariants.{SegwitDecode, Correct, Memory}
+
+-- of any refusal
+abbrev pub number_of : Refusal → ℕ
+number_of BadNumber = 4
+number_of BadHex = 5
+number_of (Hrp e) = number_of_hrp_error e
+number_of (Encode e) = number_of_encode_error e
+number_of (Decode e) = number_of_decode_error e
+number_of (SegwitEncode e) = number_of_segwit_encode_error e
+number_of (SegwitDecode e) = number_of_segwit_decode_error e
+number_of (Correct e) = number_of_checked_error e
+number_of Memory = 91

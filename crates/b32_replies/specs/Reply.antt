@@ -1,0 +1,195 @@
+-- What may be said of a line.
+use Rattle.std.specs.Prelude.{◌≡◌, ◌≤◌, ◌⊎◌, ◌%◌, ℕ, List, [], ◌∷◌}
+use Rattle.std.specs.Prelude.{◌++◌, length, codes, None, MatchOption}
+use Rattle.std.specs.Fmt.{decimal}
+use Rattle.bech32_gf.specs.declared.gf32.Fe32.{Fe32}
+use Rattle.bech32_bits.specs.Bits.{to_fes}
+use Rattle.bech32_checksum.specs.Code.{Code}
+use Rattle.bech32_hrp.specs.Hrp.{IsHrp, lowered, hrp_refusal}
+use Rattle.bech32_decode.specs.Acceptance.{Accepts, IsDecoded}
+use Rattle.bech32_decode.specs.Checked.{IsCheckedRefusal}
+use Rattle.bech32_checksum.specs.Encoded.{IsEncodedText, char_of_element}
+use Rattle.bech32_correction.specs.Carried.{of_checked}
+use Rattle.bech32_checksum.specs.Roots.{singleton_bound}
+use Rattle.bech32_correction.specs.Mistyped.{HasNoListing, IsListingOf, IsMendedText}
+use Rattle.bech32_encode.specs.TextLength.{encoded_length_of}
+use Rattle.bech32.specs.Refusals.{IsDecodeRefusal, IsEncodeRefusal}
+use Rattle.bech32_decode.specs.Segwit.{IsLowerAddress, IsAddress, IsAddressText, IsSegwitRefusal}
+use Rattle.bech32_segwit.specs.SegwitEncoding.{IsSegwitEncodeRefusal}
+use Rattle.bech32.specs.declared.error.DecodeError.{DecodeError}
+use Rattle.bech32.specs.declared.error.EncodeError.{EncodeError}
+use Rattle.bech32_refusals.specs.declared.error.CheckedHrpstringError.{CheckedHrpstringError}
+use Rattle.bech32_refusals.specs.declared.error.SegwitHrpstringError.TheVariants.{Memory}
+use Rattle.bech32_segwit.specs.declared.error.DecodeError.{DecodeError as SegwitDecodeError}
+use Rattle.bech32_segwit.specs.declared.error.EncodeError.{EncodeError as SegwitEncodeError}
+use Rattle.line_program.specs.Refused.{err}
+use Rattle.line_program.specs.Reply.{IsReplyBy}
+use Rattle.b32_replies.specs.Hex.{AreBytes, bytes_of, hex_of}
+use Rattle.bech32_numbers.specs.Numbers.{number_of_checked_error, number_of_hrp_error}
+use Rattle.bech32_numbers.specs.Numbers.{number_of_decode_error, number_of_encode_error}
+use Rattle.bech32_numbers.specs.Numbers.{number_of_segwit_decode_error}
+use Rattle.bech32_numbers.specs.Numbers.{number_of_segwit_encode_error}
+use Rattle.b32_replies.specs.Locations.{AreLocations, BeginsWithLocation, IsNoListOfLocations}
+use Rattle.b32_replies.specs.Request.{Request, Encode, Decode, SegwitEncode, SegwitDecode}
+use Rattle.b32_replies.specs.Request.{Correct, CorrectAt, code_of_name, request_of}
+
+-- an answer, or out of memory for the bytes of a word in hex, whose digits are then in pairs
+abbrev pub OrNoMemory : List ℕ → (List ℕ → Type 0) → List ℕ → Type 0
+OrNoMemory hex Says said = Says said ⊎ ((length hex % 2 ≡ 0) × (said ≡ err 91))
+
+-- the text of a human-readable part and bytes is said
+pub record SaysText (code : Code) (hrp bytes said : List ℕ) : Type 0 where
+  pub text : List ℕ
+  pub is_text : IsEncodedText code hrp (to_fes bytes) text
+  pub fits : encoded_length_of code hrp (to_fes bytes) ≤ code.code_length
+  pub spelling : said ≡ codes "ok " ++ text
+
+-- it is said why they have no text
+pub record SaysNoText (code : Code) (hrp bytes said : List ℕ) : Type 0 where
+  pub error : EncodeError
+  pub is_refusal : IsEncodeRefusal code hrp (to_fes bytes) error
+  pub spelling : said ≡ err (number_of_encode_error error)
+
+-- the answer to `encode`: bad hex is refused, then a bad human-readable part
+abbrev pub IsEncodeAnswer : Code → List ℕ → List ℕ → List ℕ → Type 0
+IsEncodeAnswer code hrp hex said =
+    MatchOption (bytes_of hex)
+    (said ≡ err 5)
+    (λ bytes. MatchOption (hrp_refusal hrp)
+    (SaysText code hrp bytes said ⊎ SaysNoText code hrp bytes said)
+    (λ error. said ≡ err (number_of_hrp_error error)))
+
+-- the human-readable part of a text is said, in lower case, and its bytes
+pub record SaysBytes (text said : List ℕ) : Type 0 where
+  pub hrp : List ℕ
+  pub bytes : List ℕ
+  pub is_decoded : IsDecoded text hrp bytes
+  pub spelling : said ≡ codes "ok " ++ (lowered hrp ++ (32 ∷ hex_of bytes))
+
+-- it is said why a text is not decoded: out of memory only for one that is accepted
+pub record SaysNoBytes (text said : List ℕ) : Type 0 where
+  pub error : DecodeError
+  pub is_refusal : IsDecodeRefusal text error
+  pub spelling : said ≡ err (number_of_decode_error error)
+
+-- the answer to `decode`
+abbrev pub IsDecodeAnswer : List ℕ → List ℕ → Type 0
+IsDecodeAnswer text said = SaysBytes text said ⊎ SaysNoBytes text said
+
+-- the word is the number of a version, in decimal
+abbrev pub IsVersionWord : List ℕ → Fe32 → Type 0
+IsVersionWord word version = word ≡ decimal version.value
+
+-- it is that of none
+abbrev pub IsNoVersion : List ℕ → Type 0
+IsNoVersion word = (version : Fe32) → IsVersionWord word version → ⊥
+
+-- the address of a human-readable part, a version and a program is said
+pub record SaysAddress (hrp : List ℕ) (version : Fe32) (program said : List ℕ) : Type 0 where
+  pub text : List ℕ
+  pub is_address : IsLowerAddress hrp version program text
+  pub spelling : said ≡ codes "ok " ++ text
+
+-- it is said why there is none
+pub record SaysNoAddress (hrp : List ℕ) (version : Fe32) (program said : List ℕ) : Type 0 where
+  pub error : SegwitEncodeError
+  pub is_refusal : IsSegwitEncodeRefusal hrp version program error
+  pub spelling : said ≡ err (number_of_segwit_encode_error error)
+
+-- the answer to `segwit-encode` with this version: bad hex is refused, then
+-- a bad human-readable part
+abbrev pub IsVersionedAnswer : List ℕ → Fe32 → List ℕ → List ℕ → Type 0
+IsVersionedAnswer hrp version hex said =
+    MatchOption (bytes_of hex)
+    (said ≡ err 5)
+    (λ program. MatchOption (hrp_refusal hrp)
+    (SaysAddress hrp version program said ⊎ SaysNoAddress hrp version program said)
+    (λ error. said ≡ err (number_of_hrp_error error)))
+
+-- and with any word: a bad number is refused first, and then memory for the bytes may run out
+abbrev pub IsSegwitEncodeAnswer : List ℕ → List ℕ → List ℕ → List ℕ → Type 0
+IsSegwitEncodeAnswer hrp word hex said =
+    (IsNoVersion word × (said ≡ err 4))
+    ⊎ ((version : Fe32) × IsVersionWord word version
+    × OrNoMemory hex (IsVersionedAnswer hrp version hex) said)
+
+-- the human-readable part of an address is said, in lower case, its version and its program
+pub record SaysProgram (text said : List ℕ) : Type 0 where
+  pub hrp : List ℕ
+  pub version : Fe32
+  pub program : List ℕ
+  pub is_hrp : IsHrp hrp
+  pub are_bytes : AreBytes program
+  pub is_address : IsAddress hrp version program text
+  pub spelling :
+      said ≡ codes "ok " ++ (lowered hrp ++ (32 ∷ (decimal version.value ++ (32 ∷ hex_of program))))
+
+-- it is said why a text is not an address, or that memory ran out for one
+pub record SaysNoProgram (text said : List ℕ) : Type 0 where
+  pub error : SegwitDecodeError
+  pub is_refusal : IsSegwitRefusal text error.0 ⊎ ((error.0 ≡ Memory) × IsAddressText text)
+  pub spelling : said ≡ err (number_of_segwit_decode_error error)
+
+-- the answer to `segwit-decode`
+abbrev pub IsSegwitDecodeAnswer : List ℕ → List ℕ → Type 0
+IsSegwitDecodeAnswer text said = SaysProgram text said ⊎ SaysNoProgram text said
+
+-- said is that the checksum accepts the text
+pub record SaysFine (code : Code) (text said : List ℕ) : Type 0 where
+  pub accepted : Accepts code text
+  pub spelling : said ≡ codes "fine"
+
+-- the items of a listing: each location, a colon, the lower-case character of the
+-- element to add, and a space
+abbrev pub listed : List (ℕ × Fe32) → List ℕ
+listed [] = []
+listed (p ∷ more) = (decimal p.0 ++ (58 ∷ char_of_element p.1 ∷ 32 ∷ [])) ++ listed more
+
+-- said is how the text is to be mended, and the mended text, which the checksum accepts
+pub record SaysMended (code : Code) (text given said : List ℕ) : Type 0 where
+  pub listing : List (ℕ × Fe32)
+  pub is_listing : IsListingOf code (singleton_bound 24 26) text given listing
+  pub mended_text : List ℕ
+  pub is_mended : IsMendedText listing text mended_text
+  pub accepted : Accepts code mended_text
+  pub spelling : said ≡ codes "ok " ++ (listed listing ++ mended_text)
+
+-- said is that no pattern in the data part solves the residue
+pub record SaysNone (code : Code) (text given said : List ℕ) : Type 0 where
+  pub none : HasNoListing code (singleton_bound 24 26) text given
+  pub spelling : said ≡ codes "none"
+
+-- it is said why the text is refused, which is not for its residue
+pub record SaysRefused (code : Code) (text said : List ℕ) : Type 0 where
+  pub error : CheckedHrpstringError
+  pub is_refusal : IsCheckedRefusal code text error
+  pub no_residue : of_checked error ≡ None
+  pub spelling : said ≡ err (number_of_checked_error error)
+
+-- the answer to `correct`, where these locations are the erasures
+abbrev pub IsCorrectAnswer : Code → List ℕ → List ℕ → List ℕ → Type 0
+IsCorrectAnswer code text given said =
+    SaysFine code text said ⊎ (SaysMended code text given said
+    ⊎ (SaysNone code text given said ⊎ SaysRefused code text said))
+
+-- the same where a word lists the locations: the first bad number is refused, or memory for those
+-- before it runs out
+abbrev pub IsCorrectAtAnswer : Code → List ℕ → List ℕ → List ℕ → Type 0
+IsCorrectAtAnswer code text word said =
+    (IsNoListOfLocations word × (said ≡ err 4)) ⊎ ((BeginsWithLocation word × (said ≡ err 91))
+    ⊎ ((given : List ℕ) × AreLocations word given × IsCorrectAnswer code text given said))
+
+-- the answer to a request
+abbrev pub IsOutcome : Request → List ℕ → Type 0
+IsOutcome (Encode checksum hrp hex) said =
+    OrNoMemory hex (IsEncodeAnswer (code_of_name checksum) hrp hex) said
+IsOutcome (Decode text) said = IsDecodeAnswer text said
+IsOutcome (SegwitEncode hrp version hex) said = IsSegwitEncodeAnswer hrp version hex said
+IsOutcome (SegwitDecode text) said = IsSegwitDecodeAnswer text said
+IsOutcome (Correct checksum text) said = IsCorrectAnswer (code_of_name checksum) text [] said
+IsOutcome (CorrectAt checksum text word) said =
+    IsCorrectAtAnswer (code_of_name checksum) text word said
+
+-- what may be said of a line
+abbrev pub IsReply : List ℕ → List ℕ → Type 0
+IsReply line said = IsReplyBy request_of IsOutcome line said

@@ -1,0 +1,123 @@
+//! Reads a line as a command with its arguments.
+
+ghost use Rattle.std.specs.Prelude.{◌≡◌, MatchOption, Some, None};
+ghost use Rattle.line_program.specs.Words.{words};
+ghost use Rattle.b32_replies.specs.Request.{checksum_of, correct_arguments, request_of, request_of_command};
+
+use line_program::{first_word, only_word};
+
+/// The checksum that a command names.
+#[derive(Clone, Copy, Debug, PartialEq, Eq)]
+pub enum ChecksumName {
+    /// `bech32` (BIP-173).
+    Bech32,
+    /// `bech32m` (BIP-350).
+    Bech32m,
+}
+
+/// What a line asks for, each argument as its word.
+#[derive(Clone, Copy, Debug)]
+pub enum Command<'a> {
+    /// `encode CHECKSUM HRP HEX`: the text of bytes.
+    Encode {
+        checksum: ChecksumName,
+        hrp: &'a str,
+        hex: &'a str,
+    },
+    /// `decode TEXT`: the bytes of a text.
+    Decode {
+        text: &'a str,
+    },
+    /// `segwit-encode HRP VERSION HEX`: the segwit address of a program.
+    SegwitEncode {
+        hrp: &'a str,
+        version: &'a str,
+        hex: &'a str,
+    },
+    /// `segwit-decode TEXT`: the version and the program of a segwit address.
+    SegwitDecode {
+        text: &'a str,
+    },
+    /// `correct CHECKSUM TEXT`: a mistyped text mended.
+    Correct {
+        checksum: ChecksumName,
+        text: &'a str,
+    },
+    /// `correct CHECKSUM TEXT LOCATIONS`: the same, where characters are known to be wrong.
+    CorrectAt {
+        checksum: ChecksumName,
+        text: &'a str,
+        locations: &'a str,
+    },
+}
+
+/// The checksum of this name.
+fn checksum_named(word: &str) -> Option<ChecksumName>
+    ensures { result ≡ checksum_of word.now }
+{
+    match word {
+        "bech32" => Some(ChecksumName::Bech32),
+        "bech32m" => Some(ChecksumName::Bech32m),
+        _ => None,
+    }
+}
+
+impl<'a> Command<'a> {
+    /// Reads a line. Its words stand between single spaces, and none is empty.
+    pub fn parse(line: &'a str) -> Option<Command<'a>>
+        ensures { MatchOption result
+            (request_of line.now ≡ None)
+            (λ command. request_of line.now ≡ Some (request_of_command command)) }
+    {
+        let (name, arguments) = first_word(line)?;
+        match name {
+            "encode" => {
+                let (checksum, arguments) = first_word(arguments)?;
+                let (hrp, hex) = first_word(arguments)?;
+                Some(Command::Encode {
+                    checksum: checksum_named(checksum)?,
+                    hrp,
+                    hex: only_word(hex)?,
+                })
+            }
+            "decode" => Some(Command::Decode {
+                text: only_word(arguments)?,
+            }),
+            "segwit-encode" => {
+                let (hrp, arguments) = first_word(arguments)?;
+                let (version, hex) = first_word(arguments)?;
+                Some(Command::SegwitEncode {
+                    hrp,
+                    version,
+                    hex: only_word(hex)?,
+                })
+            }
+            "segwit-decode" => Some(Command::SegwitDecode {
+                text: only_word(arguments)?,
+            }),
+            "correct" => Command::parse_correct(arguments),
+            _ => None,
+        }
+    }
+
+    // Reads what stands behind `correct`.
+    fn parse_correct(arguments: &'a str) -> Option<Command<'a>>
+        ensures { MatchOption result
+            (correct_arguments (words arguments.now) ≡ None)
+            (λ command.
+            correct_arguments (words arguments.now) ≡ Some (request_of_command command)) }
+    {
+        let (name, arguments) = first_word(arguments)?;
+        let checksum = checksum_named(name)?;
+        let Some((text, locations)) = first_word(arguments) else {
+            let text = only_word(arguments)?;
+            return Some(Command::Correct { checksum, text });
+        };
+        let locations = only_word(locations)?;
+        Some(Command::CorrectAt {
+            checksum,
+            text,
+            locations,
+        })
+    }
+}

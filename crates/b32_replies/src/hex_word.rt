@@ -1,0 +1,61 @@
+//! Bytes as a word: `-` for no bytes, else a pair of hex digits for each.
+
+ghost use Rattle.std.specs.Prelude.{◌≡◌, ◌⊎◌, ◌+◌, ◌*◌, ◌%◌, ◌≤◌, ◌++◌, if◌then◌else◌, length};
+ghost use Rattle.std.specs.Prelude.{vec_len, vec_capacity, MatchResult, Some, None};
+ghost use Rattle.std.specs.Result.{result_ok};
+ghost use Rattle.hex.specs.Hex.{decode_of, encode_lower};
+ghost use Rattle.b32_replies.specs.Hex.{AreBytes, bytes_of, hex_of};
+
+use crate::refusal::Refusal;
+use line_program::append;
+use std::alloc::Allocator;
+
+/// Puts the bytes of pairs of hex digits, in either case, and returns whether all are digits.
+fn put_bytes(bytes: &mut [u8], digits: &str) -> bool
+    requires { length digits.now ≡ 2 * length bytes.old }
+    ensures { result_ok (decode_of digits.now) ≡ (if result then Some bytes.new else None) }
+{
+    hex::decode_to_slice(digits, bytes).is_ok()
+}
+
+/// The bytes that a word stands for. Memory is needed only where its digits are in pairs.
+pub fn bytes_of_word<A: Allocator>(alloc: A, word: &str) -> Result<Vec<u8, A>, Refusal>
+    ensures { MatchResult result
+        (λ bytes. bytes_of word.now ≡ Some bytes.items)
+        (λ e. ((e ≡ Refusal.Memory) × (length word.now % 2 ≡ 0))
+        ⊎ ((e ≡ Refusal.BadHex) × (bytes_of word.now ≡ None))) }
+{
+    if word == "-" {
+        return Ok(Vec::new(alloc));
+    }
+    if word.len() % 2 != 0 {
+        return Err(Refusal::BadHex);
+    }
+    let Ok(mut bytes) = vec![in alloc; 0u8; word.len() / 2] else {
+        return Err(Refusal::Memory);
+    };
+    if !put_bytes(bytes.as_mut_slice(), word) {
+        return Err(Refusal::BadHex);
+    }
+    Ok(bytes)
+}
+
+/// Adds the word for bytes, in lower case.
+pub fn append_hex(out: &mut Vec<u8>, bytes: &[u8])
+    requires { vec_len out.old + (2 * length bytes.now + 1) ≤ vec_capacity out.old }
+    ensures items { out.new.items ≡ out.old.items ++ hex_of bytes.now }
+    ensures bytes { AreBytes bytes.now }
+    ensures capacity { vec_capacity out.old ≤ vec_capacity out.new }
+{
+    if bytes.is_empty() {
+        append(out, b"-");
+        return;
+    }
+    let front = out.len();
+    let Ok(()) = out.resize(front + 2 * bytes.len(), 0) else {
+        unreachable!()
+    };
+    let Ok(()) = hex::encode_to_slice(bytes, &mut out.as_mut_slice()[front..]) else {
+        unreachable!()
+    };
+}

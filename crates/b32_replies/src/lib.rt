@@ -1,0 +1,17 @@
+//! The replies of the program `b32` to the lines of its input.
+#![tactic(auto)]
+
+mod append;
+mod command;
+mod correct;
+mod decode;
+mod encode;
+pub mod error;
+mod hex_word;
+mod location_word;
+mod refusal;
+pub mod reply;
+pub mod run;
+mod segwit_decode;
+mod segwit_encode;
+mod version_word;

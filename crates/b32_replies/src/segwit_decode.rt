@@ -1,0 +1,37 @@
+//! Answers `segwit-decode`.
+
+ghost use Rattle.std.specs.Prelude.{◌≡◌, ◌+◌, ◌≤◌, vec_len, vec_capacity, OnOk, OnErr, IfErr};
+ghost use Rattle.b32_replies.specs.Numbers.{number_of};
+ghost use Rattle.line_program.specs.Added.{Adds};
+ghost use Rattle.line_program.specs.Refused.{err};
+ghost use Rattle.b32_replies.specs.Reply.{IsSegwitDecodeAnswer};
+
+use crate::append::append_lowered;
+use crate::hex_word::append_hex;
+use crate::refusal::Refusal;
+use bech32::segwit;
+use line_program::{append, append_number};
+use std::alloc::Allocator;
+
+/// Adds the human-readable part, the version and the program of a segwit address, or leaves all as
+/// it was.
+pub fn segwit_decode<A: Allocator + Copy>(
+    alloc: A,
+    text: &str,
+    out: &mut Vec<u8>,
+) -> Result<(), Refusal>
+    requires { vec_len out.old + 2047 ≤ vec_capacity out.old }
+    ensures ok { OnOk result (Adds (IsSegwitDecodeAnswer text.now) out.old.items out.new.items) }
+    ensures err { IfErr result (λ e. IsSegwitDecodeAnswer text.now (err (number_of e))) }
+    ensures same { OnErr result (out.new.items ≡ out.old.items) }
+    ensures capacity { vec_capacity out.old ≤ vec_capacity out.new }
+{
+    let (hrp, version, program) = segwit::decode_in(alloc, text)?;
+    append(out, b"ok ");
+    append_lowered(out, hrp.as_bytes());
+    append(out, b" ");
+    append_number(out, version.to_u8());
+    append(out, b" ");
+    append_hex(out, program.as_slice());
+    Ok(())
+}

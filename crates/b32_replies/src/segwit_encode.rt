@@ -1,0 +1,41 @@
+//! Answers `segwit-encode`.
+
+ghost use Rattle.std.specs.Prelude.{◌≡◌, ◌+◌, ◌≤◌, vec_len, vec_capacity, OnOk, OnErr, IfErr};
+ghost use Rattle.b32_replies.specs.Numbers.{number_of};
+ghost use Rattle.line_program.specs.Added.{Adds};
+ghost use Rattle.line_program.specs.Refused.{err};
+ghost use Rattle.b32_replies.specs.Reply.{IsSegwitEncodeAnswer};
+
+use crate::hex_word::bytes_of_word;
+use crate::refusal::Refusal;
+use crate::version_word::version_of_word;
+use bech32::{Hrp, segwit};
+use line_program::append;
+use std::alloc::Allocator;
+
+/// Adds the segwit address of a program, or leaves all as it was.
+pub fn segwit_encode<A: Allocator + Copy>(
+    alloc: A,
+    hrp: &str,
+    version: &str,
+    hex: &str,
+    out: &mut Vec<u8>,
+) -> Result<(), Refusal>
+    requires { vec_len out.old + 2047 ≤ vec_capacity out.old }
+    ensures ok { OnOk result
+        (Adds (IsSegwitEncodeAnswer hrp.now version.now hex.now) out.old.items out.new.items) }
+    ensures err { IfErr result
+        (λ e. IsSegwitEncodeAnswer hrp.now version.now hex.now (err (number_of e))) }
+    ensures same { OnErr result (out.new.items ≡ out.old.items) }
+    ensures capacity { vec_capacity out.old ≤ vec_capacity out.new }
+{
+    let Some(version) = version_of_word(version) else {
+        return Err(Refusal::BadNumber);
+    };
+    let program = bytes_of_word(alloc, hex)?;
+    let hrp = Hrp::parse(hrp)?;
+    let text = segwit::encode_in(alloc, hrp, version, program.as_slice())?;
+    append(out, b"ok ");
+    append(out, text.as_bytes());
+    Ok(())
+}

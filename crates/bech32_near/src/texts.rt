@@ -1,0 +1,219 @@
+//! All texts near a mistyped one.
+
+ghost use Rattle.std.specs.Prelude.{◌≡◌, ◌<◌, ◌≤◌, ℕ, [], List, None, length, map, IfOk, MatchResult, string_bytes};
+ghost use Rattle.std.specs.List.{AllByRecursion};
+ghost use Rattle.bech32_gf.specs.Fe32.{ops};
+ghost use Rattle.bech32_bch.specs.Erasures.{with_erasures};
+ghost use Rattle.bech32_correction.specs.Carried.{of_checksum};
+ghost use Rattle.bech32_correction.specs.Mistyped.{IsCorrectRefusal, IsMendedText, IsPlacedIn, IsReadAs, IsReadRefusal};
+ghost use Rattle.bech32_near_patterns.specs.Nearest.{AreNearest, DetectsFour};
+ghost use Rattle.bech32_near.specs.NearTexts.{AreNearestListings, AreNearTexts, IsSearch, IsSearcherOf};
+ghost use Rattle.bech32_decode.specs.Acceptance.{Accepts};
+ghost use Rattle.bech32_decode.specs.Refusals.{IsInvalidBy};
+
+use bech32_bch::ShortVec;
+use bech32_checksum::{Checksum, CorrectingChecksum};
+use bech32_correction::{
+    CorrectError, Corrector, Listing, Mended, are_below, corrector_of, distinct_in, mended_by,
+};
+use bech32_decode::UncheckedHrpstring;
+use bech32_gf::gf32::Fe32;
+use bech32_near_listings::nearest_listings;
+use bech32_near_patterns::Listings;
+use bech32_refusals::{ChecksumError, MAX_DEGREE};
+use std::alloc::{AllocError, Allocator, Global};
+
+/// The texts near a text, and what may look further.
+#[derive(Drop)]
+pub struct NearTexts<T, C> {
+    /// The texts, each with the listing that mends the given one to it.
+    pub texts: T,
+    /// The corrector of the given text, with no erasures yet. None where the checksum has no
+    /// characters.
+    pub corrector: Option<C>,
+}
+
+// The corrector of a text that was read and that the checksum accepts; none where the checksum has no
+// characters.
+fn searcher_of_accepted<Ck: Checksum, A: Allocator + Copy>(
+    alloc: A,
+    unchecked: &UncheckedHrpstring<'_>,
+) -> Option<Corrector<Ck, A>>
+    requires lawful { Ck.lawful }
+    requires read { (text : List ℕ) × IsReadAs text unchecked.now × Accepts Ck.code text }
+    ensures { (text : List ℕ) → IsReadAs text unchecked.now → Accepts Ck.code text
+        → IsSearch Ck.code text result }
+{
+    if Ck::CHECKSUM_LENGTH == 0 {
+        return None;
+    }
+    let window = unchecked.data_part_ascii().len();
+    Some(Corrector::new(alloc, [Fe32::Q; MAX_DEGREE], window))
+}
+
+// The corrector of a text that was read, whether or not the checksum accepts it; none where the
+// checksum has no characters.
+fn searcher_of<Ck: Checksum, A: Allocator + Copy>(
+    alloc: A,
+    unchecked: &UncheckedHrpstring<'_>,
+) -> Result<Option<Corrector<Ck, A>>, ChecksumError>
+    requires lawful { Ck.lawful }
+    requires read { (text : List ℕ) × IsReadAs text unchecked.now }
+    ensures { MatchResult result
+        (λ found. (text : List ℕ) → IsReadAs text unchecked.now → IsSearch Ck.code text found)
+        (λ e. IsInvalidBy Ck.code unchecked.now e × (of_checksum e ≡ None)) }
+{
+    match corrector_of::<Ck, A>(alloc, unchecked)? {
+        Some(corrector) => Ok(Some(corrector)),
+        None => Ok(searcher_of_accepted(alloc, unchecked)),
+    }
+}
+
+// The listings of the corrector, with the given locations as erasures.
+fn listings_of<Ck: Checksum, A: Allocator + Copy>(
+    alloc: A,
+    corrector: &Corrector<Ck, A>,
+    given: &[usize],
+    errors: usize,
+) -> Result<Listings<A>, AllocError>
+    requires { AllByRecursion (λ i. i < corrector.now.window) given.now }
+    ensures all { IfOk result (λ listings. AreNearest Ck.code Ck.bound
+        (record {
+          residue = corrector.now.residue;
+          window = corrector.now.window;
+          erasures = with_erasures [] given.now;
+        }) errors listings.items) }
+    ensures one { IfOk result (λ listings.
+        DetectsFour ops Ck.code.generator corrector.now.window → given.now ≡ [] → errors ≤ 2
+        → length listings.items ≤ 1) }
+{
+    let most = corrector.singleton_bound();
+    let Some(erasures) = distinct_in(alloc, given, most)? else {
+        return Ok(Vec::new(alloc));
+    };
+    let erased = corrector.with(erasures)?;
+    nearest_listings(&erased, errors)
+}
+
+// The listings of the text of which this is the corrector. None where a given location is not in
+// the data part.
+fn listings_within<Ck: Checksum, A: Allocator + Copy>(
+    alloc: A,
+    corrector: &Corrector<Ck, A>,
+    given: &[usize],
+    errors: usize,
+) -> Result<Listings<A>, AllocError>
+    ensures { IfOk result (λ listings. (text : List ℕ) → 0 < length Ck.code.generator
+        → IsSearcherOf Ck.code text corrector.now
+        → AreNearestListings Ck.code Ck.bound text given.now errors listings.items) }
+{
+    if !are_below(given, corrector.window()) {
+        return Ok(Vec::new(alloc));
+    }
+    listings_of(alloc, corrector, given, errors)
+}
+
+// Each listing with the text that it mends.
+fn mended_all<A: Allocator + Copy>(
+    alloc: A,
+    text: &str,
+    listings: &Listings<A>,
+) -> Result<Vec<Mended<A>, A>, AllocError>
+    requires { AllByRecursion (λ listing. IsPlacedIn text.now listing) listings.now.items }
+    ensures same { IfOk result (λ texts. map (λ m. m.listing) texts.items ≡ listings.now.items) }
+    ensures each { IfOk result (λ texts.
+        AllByRecursion (λ m. IsMendedText m.listing text.now (string_bytes m.text)) texts.items) }
+{
+    let mut texts = Vec::new(alloc);
+    for found in listings {
+        let listing: Listing<A> = ShortVec::from_slice(alloc, found.as_slice())?;
+        let mended = mended_by(alloc, text, listing)?;
+        texts.push(mended)?;
+    }
+    Ok(texts)
+}
+
+// The texts near a text that was read, by a checksum with lawful roots.
+fn nearest_by<Ck: Checksum, A: Allocator + Copy>(
+    alloc: A,
+    text: &str,
+    unchecked: &UncheckedHrpstring<'_>,
+    erasures: &[usize],
+    errors: usize,
+) -> Result<NearTexts<Vec<Mended<A>, A>, Corrector<Ck, A>>, CorrectError>
+    requires lawful { Ck.lawful }
+    requires read { IsReadAs text.now unchecked.now }
+    ensures { MatchResult result
+        (λ near. AreNearTexts Ck.code Ck.bound text.now erasures.now errors
+        (map (λ m. (m.listing, string_bytes m.text)) near.texts.items)
+        × IsSearch Ck.code text.now near.corrector)
+        (λ e. IsReadRefusal Ck.code unchecked.now e) }
+{
+    let Some(corrector) = searcher_of::<Ck, A>(alloc, unchecked)? else {
+        return Ok(NearTexts {
+            texts: Vec::new(alloc),
+            corrector: None,
+        });
+    };
+    let listings = listings_within(alloc, &corrector, erasures, errors)?;
+    let texts = mended_all(alloc, text, &listings)?;
+    Ok(NearTexts {
+        texts,
+        corrector: Some(corrector),
+    })
+}
+
+/// The texts near a text, with memory from `alloc`; [`nearest`] says more.
+///
+/// # Errors
+///
+/// Those of [`nearest`].
+pub fn nearest_in<Ck: CorrectingChecksum, A: Allocator + Copy>(
+    alloc: A,
+    text: &str,
+    erasures: &[usize],
+    errors: usize,
+) -> Result<NearTexts<Vec<Mended<A>, A>, Corrector<Ck, A>>, CorrectError>
+    ensures { MatchResult result
+        (λ near. AreNearTexts Ck.code Ck.bound text.now erasures.now errors
+        (map (λ m. (m.listing, string_bytes m.text)) near.texts.items)
+        × IsSearch Ck.code text.now near.corrector)
+        (λ e. IsCorrectRefusal Ck.code text.now e) }
+{
+    let unchecked = UncheckedHrpstring::new(text)?;
+    nearest_by::<Ck, A>(alloc, text, &unchecked, erasures, errors)
+}
+
+/// All texts that the checksum accepts, and that differ from this one in at most `errors`
+/// characters of the data part outside `erasures`: the human-readable part and the length are the
+/// same. Each is in lower case, with the listing that mends this text to it, in the order of
+/// [`nearest_listings`]; where the checksum accepts this text, it is itself the first.
+///
+/// `erasures` are locations that are known to be wrong, in characters from the last, which is 0; one
+/// that is given twice counts once. Where one is not in the data part, or they are more than the
+/// bound, there are no texts; nor for a checksum of no characters.
+///
+/// It is meant for up to two errors: [`nearest_listings`] says what time more of them take. Where
+/// the checksum detects four errors in the data part (BIP-173, Checksum design: Bech32 in up to 89
+/// characters), two errors without erasures have one text at most.
+///
+/// A text that is found is a guess: compare it with the source before it is used.
+///
+/// # Errors
+///
+/// As [`CheckedHrpstring::new`](bech32_decode::CheckedHrpstring::new), but for a wrong checksum; where
+/// memory runs out, that.
+pub fn nearest<Ck: CorrectingChecksum>(
+    alloc: Global,
+    text: &str,
+    erasures: &[usize],
+    errors: usize,
+) -> Result<NearTexts<Vec<Mended>, Corrector<Ck>>, CorrectError>
+    ensures { MatchResult result
+        (λ near. AreNearTexts Ck.code Ck.bound text.now erasures.now errors
+        (map (λ m. (m.listing, string_bytes m.text)) near.texts.items)
+        × IsSearch Ck.code text.now near.corrector)
+        (λ e. IsCorrectRefusal Ck.code text.now e) }
+{
+    nearest_in::<Ck, Global>(alloc, text, erasures, errors)
+}

@@ -1,0 +1,43 @@
+//! All patterns of few errors that explain a residue (BIP-173, Checksum design).
+#![tactic(auto)]
+
+ghost use Rattle.std.specs.Prelude.{◌≡◌, ◌≤◌, [], length, IfOk};
+ghost use Rattle.bech32_near_patterns.specs.Nearest.{AreNearest, DetectsFour};
+ghost use Rattle.bech32_gf.specs.Fe32 as fe32;
+
+use bech32_checksum::Checksum;
+use bech32_correction::Corrector;
+use bech32_near_patterns::{Listings, are_few, gather};
+use std::alloc::{AllocError, Allocator};
+
+/// All patterns below the corrector's window that explain its residue with at most so many errors
+/// outside the erasures, each listed as [`bch_errors`](Corrector::bch_errors) lists its one: those
+/// with a lower highest error first, then those with a lower value there, and so on; a pattern with
+/// no errors outside the erasures is the first. None where there are more erasures than the
+/// [`singleton_bound`](Corrector::singleton_bound).
+///
+/// It is meant for up to two errors: without erasures, two of them take one search by erasures for
+/// each location of the window. Where twice the other errors, the erasures and 1 are more than the
+/// bound, each value of an error is tried by itself: each such error takes 31 times as many searches
+/// again as there are locations. Any greater number is allowed, and takes as long.
+///
+/// # Errors
+///
+/// Where memory runs out: for the listings, and as of [`bch_errors`](Corrector::bch_errors).
+pub fn nearest_listings<Ck: Checksum, A: Allocator + Copy>(
+    corrector: &Corrector<Ck, A>,
+    errors: usize,
+) -> Result<Listings<A>, AllocError>
+    ensures all { IfOk result (λ listings.
+        AreNearest Ck.code Ck.bound corrector.now errors listings.items) }
+    ensures one { IfOk result (λ listings.
+        DetectsFour fe32.ops Ck.code.generator corrector.now.window
+        → corrector.now.erasures ≡ [] → errors ≤ 2 → length listings.items ≤ 1) }
+{
+    let mut found = Vec::new(corrector.allocator());
+    if !are_few(corrector, 0, 0) {
+        return Ok(found);
+    }
+    gather(corrector, corrector.window(), errors, &mut found)?;
+    Ok(found)
+}

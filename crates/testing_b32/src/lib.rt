@@ -1,0 +1,7 @@
+//! Tests of the replies of `b32`, and of its runs over readers and writers that fail.
+#![tactic(auto)]
+
+#[cfg(test)]
+mod replies;
+#[cfg(test)]
+mod runs;

@@ -1,0 +1,166 @@
+ghost use Rattle.std.specs.Prelude.{◌<◌, length};
+
+use crate::compare::{gives, same, same_items};
+use bech32_gf::field::Field;
+use bech32_gf::gf32::Fe32;
+use bech32_poly::lfsr::LfsrIter;
+use linked_list_allocator::LocalHeap;
+use std::alloc::{AllocError, Global};
+use std::process::Abort;
+use testing_tools::seven::Seven;
+
+// Fails where the first items of a register of a list are other ones.
+fn begins(rt: &impl Abort, alloc: Global, list: &[Fe32], want: &[Fe32])
+    requires { 0 < length list.now }
+{
+    let register = LfsrIter::berlekamp_massey(alloc, list).expect(rt, "memory");
+    gives(rt, alloc, register.take(want.len()), want);
+}
+
+// How many coefficients a register of a list has.
+fn length_of(rt: &impl Abort, alloc: Global, list: &[Fe32]) -> usize
+    requires { 0 < length list.now }
+{
+    let register = LfsrIter::berlekamp_massey(alloc, list).expect(rt, "memory");
+    register.coefficients().len()
+}
+
+#[test]
+fn one_recurrence(rt: HostRuntime) {
+    let (p, q) = (Fe32::P, Fe32::Q);
+    let want = [p, p, q, p, p, q, p, p, q, p];
+    begins(&rt, rt.alloc(), &[p, p, q], &want);
+}
+
+#[test]
+fn powers(rt: HostRuntime) {
+    let want = [Fe32::J, Fe32::J.powi(2), Fe32::J.powi(3)];
+    begins(&rt, rt.alloc(), &[Fe32::J], &want);
+}
+
+#[test]
+fn zeros(rt: HostRuntime) {
+    begins(&rt, rt.alloc(), &[Fe32::Q], &[Fe32::Q; 3]);
+}
+
+#[test]
+fn lengths(rt: HostRuntime) {
+    let alloc = rt.alloc();
+    let (p, q) = (Fe32::P, Fe32::Q);
+    let lengths = [
+        length_of(&rt, alloc, &[q]),
+        length_of(&rt, alloc, &[q, p]),
+        length_of(&rt, alloc, &[q, q, p]),
+    ];
+    same(&rt, &lengths, &[0, 2, 3]);
+}
+
+#[test]
+fn clone_goes_on(rt: HostRuntime) {
+    let list = [Fe32::Y, Fe32::H, Fe32::Q, Fe32::Q];
+    let mut register = LfsrIter::berlekamp_massey(rt.alloc(), &list).expect(&rt, "memory");
+    same_items(&rt, register.coefficients(), &[Fe32::Q, Fe32::Q]);
+    let first = [register.next(), register.next()];
+    same(&rt, &first, &[Some(Fe32::Y), Some(Fe32::H)]);
+    let copy = register.clone().expect(&rt, "memory");
+    same_items(&rt, copy.coefficients(), &[Fe32::Q, Fe32::Q]);
+    gives(&rt, rt.alloc(), copy.take(8), &[Fe32::Q; 8]);
+    gives(&rt, rt.alloc(), register.take(8), &[Fe32::Q; 8]);
+}
+
+#[test]
+fn integers_modulo_seven(rt: HostRuntime) {
+    let list = [Seven::new(1), Seven::new(3), Seven::new(2)];
+    let register = LfsrIter::berlekamp_massey(rt.alloc(), &list).expect(&rt, "memory");
+    same_items(&rt, register.coefficients(), &[Seven::new(4)]);
+    let register = LfsrIter::berlekamp_massey(rt.alloc(), &list).expect(&rt, "memory");
+    let powers = [1, 3, 2, 6, 4, 5, 1].map(Seven::new);
+    gives(&rt, rt.alloc(), register.take(7), &powers);
+}
+
+// Twenty items.
+const TWENTY: [Fe32; 20] = [
+    Fe32::P,
+    Fe32::Z,
+    Fe32::R,
+    Fe32::Y,
+    Fe32::_9,
+    Fe32::X,
+    Fe32::_8,
+    Fe32::G,
+    Fe32::F,
+    Fe32::_2,
+    Fe32::T,
+    Fe32::V,
+    Fe32::D,
+    Fe32::W,
+    Fe32::_0,
+    Fe32::S,
+    Fe32::_3,
+    Fe32::J,
+    Fe32::N,
+    Fe32::_5,
+];
+
+const EIGHT: [Fe32; 8] = [
+    Fe32::P,
+    Fe32::Q,
+    Fe32::Q,
+    Fe32::P,
+    Fe32::Z,
+    Fe32::X,
+    Fe32::R,
+    Fe32::Y,
+];
+
+// Whether a register of these items and its clone have the same coefficients.
+fn is_cloned(rt: &impl Abort, heap: &LocalHeap, items: &[Fe32]) -> bool
+    requires { 0 < length items.now }
+{
+    let register = LfsrIter::berlekamp_massey_in(heap, items).expect(rt, "memory");
+    let copy = register.clone().expect(rt, "memory");
+    register.coefficients() == copy.coefficients()
+}
+
+// Fails where a register of these items and its clone differ, or use other memory of a heap.
+fn uses(rt: &impl Abort, alloc: Global, items: &[Fe32], want: usize) {
+    assert!(rt; !items.is_empty());
+    let heap = LocalHeap::new(alloc, 1 << 10).expect(rt, "memory");
+    let is_cloned = is_cloned(rt, &heap, items);
+    same(rt, &(is_cloned, heap.used()), &(true, want));
+}
+
+#[test]
+fn six_items_take_no_memory(rt: HostRuntime) {
+    for count in 1..=6usize {
+        let items = EIGHT.get(..count).expect(&rt, "too many");
+        uses(&rt, rt.alloc(), items, 0);
+    }
+}
+
+// A register of twenty items and its clone: whether each could be made.
+fn made(heap: &LocalHeap) -> (bool, bool) {
+    match LfsrIter::berlekamp_massey_in(heap, &TWENTY) {
+        Ok(register) => (true, register.clone().is_ok()),
+        Err(_) => (false, false),
+    }
+}
+
+// The same on a heap of so many bytes.
+fn made_with(alloc: Global, bytes: usize) -> Result<(bool, bool), AllocError> {
+    let heap = LocalHeap::new(alloc, bytes)?;
+    Ok(made(&heap))
+}
+
+#[test]
+fn twenty_items_or_out_of_memory(rt: HostRuntime) {
+    let (mut refused, mut cloned) = (0u32, 0u32);
+    for size in 0..64usize {
+        match made_with(rt.alloc(), 16 * size).expect(&rt, "memory") {
+            (false, _) => refused = refused.saturating_add(1),
+            (true, true) => cloned = cloned.saturating_add(1),
+            (true, false) => {}
+        }
+    }
+    assert!(rt; 1 <= refused && refused < 64 && 1 <= cloned);
+}

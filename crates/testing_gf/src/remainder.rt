@@ -1,0 +1,80 @@
+use crate::compare::{same, same_items};
+use bech32_gf::field::Field;
+use bech32_gf::gf32::Fe32;
+use bech32_poly::polynomial::{Polynomial, remainder};
+use linked_list_allocator::LocalHeap;
+use std::alloc::{AllocError, Global};
+use std::process::Abort;
+use testing_tools::seven::Seven;
+
+// The lower coefficients of the generator of Bech32: 18, 29, 21, 20, 22, 29 (BIP-173, Checksum).
+const LOW: [Fe32; 6] = [Fe32::J, Fe32::A, Fe32::_4, Fe32::_5, Fe32::K, Fe32::A];
+
+// Fails where a vector of coefficients leaves others.
+fn leaves<F: Field>(rt: &impl Abort, alloc: Global, list: &[F], low: &[F], want: &[F]) {
+    let rest = remainder(alloc, list, low).expect(rt, "memory");
+    same_items(rt, &rest, want);
+}
+
+// Fails where a polynomial leaves others, with no zeros at the high end.
+fn polynomial_leaves<F: Field>(rt: &impl Abort, polynomial: &Polynomial<F>, low: &[F], want: &[F]) {
+    let rest = polynomial.remainder(low).expect(rt, "memory");
+    same_items(rt, rest.coefficients(), want);
+}
+
+// Fails where a list of coefficients leaves others, or its polynomial those of another polynomial.
+fn both(rt: &impl Abort, alloc: Global, list: &[Fe32], low: &[Fe32], want: &[Fe32]) {
+    leaves(rt, alloc, list, low, want);
+    let polynomial = Polynomial::from_slice(alloc, list).expect(rt, "memory");
+    let wanted = Polynomial::from_slice(alloc, want).expect(rt, "memory");
+    polynomial_leaves(rt, &polynomial, low, wanted.coefficients());
+}
+
+// A power of x at the degree leaves the lower coefficients, a short polynomial itself, and all is
+// divided by one.
+#[test]
+fn by_a_generator(rt: HostRuntime) {
+    let alloc = rt.alloc();
+    let q = Fe32::Q;
+    both(&rt, alloc, &[q, q, q, q, q, q, Fe32::P], &LOW, &LOW);
+    let short = [Fe32::_3, Fe32::P];
+    both(&rt, alloc, &short, &LOW, &[Fe32::_3, Fe32::P, q, q, q, q]);
+    both(&rt, alloc, &[Fe32::A, Fe32::C, Fe32::E], &[], &[]);
+    both(&rt, alloc, &[], &LOW, &[q; 6]);
+}
+
+// Worked by hand: with x^2 = 2x + 1, x^3 = 5x + 2 and x^4 = 5x + 5; and the value at 4.
+#[test]
+fn modulo_seven(rt: HostRuntime) {
+    let list = [5, 4, 3, 2, 1].map(Seven::new);
+    let (low, rest) = ([6, 5].map(Seven::new), [3, 4].map(Seven::new));
+    leaves(&rt, rt.alloc(), &list, &low, &rest);
+    let polynomial = Polynomial::from_slice(rt.alloc(), &list).expect(&rt, "memory");
+    polynomial_leaves(&rt, &polynomial, &low, &rest);
+    polynomial_leaves(&rt, &polynomial, &[Seven::new(3)], &[Seven::new(5)]);
+}
+
+// Whether x^0 to x^49 leave x^0 to x^8 on a heap of so many bytes; `None` where memory is refused.
+fn leaves_nine(alloc: Global, bytes: usize) -> Result<Option<bool>, AllocError> {
+    let heap = LocalHeap::new(alloc, bytes)?;
+    let mut want = [Fe32::Q; 40];
+    want[..9].copy_from_slice(&[Fe32::P; 9]);
+    match remainder(&heap, &[Fe32::P; 50], &[Fe32::P; 40]) {
+        Ok(rest) => Ok(Some(rest.as_slice() == want.as_slice())),
+        Err(_) => Ok(None),
+    }
+}
+
+// The divisor, the sum of x^0 to x^40, divides x^41 - 1: so x^41 to x^49 leave x^0 to x^8, and the
+// powers below cancel.
+#[test]
+fn vector_or_out_of_memory(rt: HostRuntime) {
+    let mut refused = 0u32;
+    for size in 0..16usize {
+        match leaves_nine(rt.alloc(), 16 * size).expect(&rt, "memory") {
+            Some(leaves) => same(&rt, &leaves, &true),
+            None => refused = refused.saturating_add(1),
+        }
+    }
+    assert!(rt; 1 <= refused && refused < 8);
+}
