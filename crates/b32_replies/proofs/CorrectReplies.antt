@@ -1,6 +1,6 @@
 -- What may be said of a mistyped text.
 use Rattle.std.specs.List.{AllByRecursion}
-use Rattle.std.proofs.Common.{◌≡◌, ◌⊎◌, ℕ, ◌+◌, ◌<◌, ◌≤◌, inl, inr, List, [], ◌∷◌, ◌++◌, map, length, length-append, append_assoc, append-nil, sym, ap, ◌∙◌, refl, arith, codes, None, ⊎_elim}
+use Rattle.std.proofs.Common.{◌≡◌, ℕ, ◌+◌, ◌<◌, ◌≤◌, inl, inr, List, [], ◌∷◌, ◌++◌, map, length, length-append, append_assoc, append-nil, sym, ap, ◌∙◌, refl, arith, codes, take, None}
 use Rattle.std.proofs.lemmas.List.{length-map}
 use Rattle.std.specs.Fmt.{decimal}
 use Rattle.bech32_gf.specs.Fe32.{elements_of, element_of, ops}
@@ -8,8 +8,9 @@ use Rattle.bech32_gf.specs.declared.gf32.Fe32.{Fe32}
 use Rattle.bech32_hrp.specs.Hrp.{lowered}
 use Rattle.bech32_checksum.specs.Code.{Code, bech32, bech32m}
 use Rattle.bech32_checksum.specs.Encoded.{char_of_element}
-use Rattle.bech32_correction.specs.Carried.{of_checked}
+use Rattle.bech32_corrector.specs.Carried.{of_checked}
 use Rattle.bech32_checksum.specs.Roots.{singleton_bound}
+use Rattle.bech32_bch.specs.Erasures.{with_erasures}
 use Rattle.bech32_decode.specs.Acceptance.{Accepts}
 use Rattle.bech32_decode.specs.Checked.{IsCheckedRefusal}
 use Rattle.bech32_refusals.specs.declared.error.CheckedHrpstringError.{CheckedHrpstringError}
@@ -20,12 +21,13 @@ use Rattle.bech32_numbers.specs.Numbers.{number_of_checked_error}
 use Rattle.b32_replies.specs.declared.command.ChecksumName.{ChecksumName}
 use Rattle.b32_replies.specs.declared.command.ChecksumName.TheVariants.{Bech32, Bech32m}
 use Rattle.b32_replies.specs.declared.refusal.Refusal.{Refusal}
-use Rattle.b32_replies.specs.declared.refusal.Refusal.TheVariants.{BadNumber, Memory}
-use Rattle.b32_replies.specs.Locations.{AreLocations, BeginsWithLocation, IsNoListOfLocations}
+use Rattle.b32_replies.specs.declared.refusal.Refusal.TheVariants.{BadNumber}
+use Rattle.b32_replies.specs.Locations.{AreLocations, IsNoListOfLocations}
 use Rattle.b32_replies.specs.Numbers.{number_of}
 use Rattle.b32_replies.specs.Request.{code_of_name}
 use Rattle.line_program.specs.Refused.{err}
 use Rattle.b32_replies.specs.Reply.{listed, IsCorrectAnswer, IsCorrectAtAnswer}
+use Rattle.b32_replies.proofs.FewLocations.{says-given}
 
 -- both codes are short
 bech32-short : bech32.code_length ≤ 1023
@@ -112,14 +114,12 @@ says-refused code text given e is none = inr (inr (inr (record { error = e; is_r
 -- ---- where a word lists the locations
 
 -- a word that is refused
-pub says-refused_locations : (code : Code) (text word : List ℕ) (e : Refusal) → ((e ≡ BadNumber) × IsNoListOfLocations word) ⊎ ((e ≡ Memory) × BeginsWithLocation word)
-    → IsCorrectAtAnswer code text word (err (number_of e))
-says-refused_locations code text word e h =
-    ⊎_elim
-    (λ (bad : (e ≡ BadNumber) × IsNoListOfLocations word). inl (bad.1, ap (λ (x : Refusal). err (number_of x)) bad.0))
-    (λ (want : (e ≡ Memory) × BeginsWithLocation word). inr (inl (want.1, ap (λ (x : Refusal). err (number_of x)) want.0)))
-    h
+pub says-refused_locations : (code : Code) (text word : List ℕ) (e : Refusal) → (e ≡ BadNumber) × IsNoListOfLocations word → IsCorrectAtAnswer code text word (err (number_of e))
+says-refused_locations code text word e h = inl (h.1, ap (λ (x : Refusal). err (number_of x)) h.0)
 
 -- and one that is read
-pub says-at : (code : Code) (text word given said : List ℕ) → AreLocations word given → IsCorrectAnswer code text given said → IsCorrectAtAnswer code text word said
-says-at code text word given said are h = inr (inr (given, are, h))
+pub says-at : (code : Code) (text word few said : List ℕ) → (given : List ℕ) × AreLocations word given × (few ≡ take 4 (with_erasures [] given))
+    → IsCorrectAnswer code text few said → IsCorrectAtAnswer code text word said
+says-at code text word few said read h =
+    let (given, are, is) = read in
+    inr (given, are, says-given code text few given is said h)

@@ -1,5 +1,6 @@
 pub mod CorrectReplies
 pub mod CorrectSplit
+pub mod FewLocations
 pub mod LocationLists
 pub mod LocationWords
 pub mod Replies

@@ -1,6 +1,6 @@
 -- No reply is longer than its room.
-use Rattle.std.proofs.Common.{◌≡◌, ℕ, ◌+◌, ◌-◌, ◌*◌, ◌≤◌, ◌<◌, inl, inr, List, [], ◌∷◌, ◌++◌, map, length, take, ap, ◌∙◌, refl, arith, length-append, codes}
-use Rattle.std.proofs.lemmas.List.{length-map, length-take}
+use Rattle.std.proofs.Common.{◌≡◌, ℕ, ◌+◌, ◌-◌, ◌*◌, ◌≤◌, ◌<◌, inl, inr, List, [], ◌∷◌, ◌++◌, map, length, drop, take, ap, ◌∙◌, refl, arith, length-append, codes}
+use Rattle.std.proofs.lemmas.List.{length-map, length-take, take_at}
 use Rattle.hex.proofs.HexLemmas.{length-encode_with}
 use Rattle.hex.specs.Hex.{lower_digits}
 use Rattle.bech32_bits.specs.Bits.{bits, cut_in_eights, fe_bits, to_bytes, to_fes}
@@ -9,6 +9,7 @@ use Rattle.bech32_hrp.specs.Hrp.{lowered}
 use Rattle.bech32_decode.specs.Acceptance.{IsAccepted, IsDecoded}
 use Rattle.std.specs.Char.{to_ascii_lowercase}
 use Rattle.bech32_checksum.specs.Encoded.{IsEncodedText, char_of_element}
+use Rattle.bech32_encode.specs.Buffers.{IsPutAsFits}
 use Rattle.bech32_encode.specs.TextLength.{encoded_length_of}
 use Rattle.b32_replies.specs.Hex.{hex_of}
 
@@ -70,3 +71,8 @@ pub encoded-size : (code : Code) (hrp bytes text : List ℕ) → code.code_lengt
 encoded-size code hrp bytes text n fits h =
     let all = to_fes bytes ++ h.checksum in
     omega (arith, n, fits, h.is_checksum.size, ap length h.spelling, length-append (lowered hrp) (49 ∷ map char_of_element all), length-map hrp to_ascii_lowercase, length-map all char_of_element, length-append (to_fes bytes) h.checksum)
+
+-- a buffer of the text's own length holds the text
+pub put_exactly : (text old new : List ℕ) (count : ℕ) → IsPutAsFits text old new count → length text ≡ length old → new ≡ text
+put_exactly text old new count put size =
+    put.buffer ∙ take_at text (drop (length text) old) (length old) size

@@ -1,5 +1,5 @@
 -- A word that lists locations: numbers up to 1022 in decimal, with commas between them.
-use Rattle.std.specs.Prelude.{◌≡◌, ◌≤◌, ◌==◌, ℕ, List, ◌∷◌, map}
+use Rattle.std.specs.Prelude.{◌≡◌, ◌≤◌, ◌==◌, ℕ, List, map}
 use Rattle.std.specs.Fmt.{decimal}
 use Rattle.std.specs.List.{AllByRecursion, slice_split}
 
@@ -15,10 +15,3 @@ pub record AreLocations (word given : List ℕ) : Type 0 where
 -- it lists none
 abbrev pub IsNoListOfLocations : List ℕ → Type 0
 IsNoListOfLocations word = (given : List ℕ) → AreLocations word given → ⊥
-
--- the first piece is a location
-pub record BeginsWithLocation (word : List ℕ) : Type 0 where
-  pub location : ℕ
-  pub others : List (List ℕ)
-  pub pieces_are : pieces word ≡ decimal location ∷ others
-  pub below : location ≤ 1022

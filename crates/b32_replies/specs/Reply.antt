@@ -9,7 +9,7 @@ use Rattle.bech32_hrp.specs.Hrp.{IsHrp, lowered, hrp_refusal}
 use Rattle.bech32_decode.specs.Acceptance.{Accepts, IsDecoded}
 use Rattle.bech32_decode.specs.Checked.{IsCheckedRefusal}
 use Rattle.bech32_checksum.specs.Encoded.{IsEncodedText, char_of_element}
-use Rattle.bech32_correction.specs.Carried.{of_checked}
+use Rattle.bech32_corrector.specs.Carried.{of_checked}
 use Rattle.bech32_checksum.specs.Roots.{singleton_bound}
 use Rattle.bech32_correction.specs.Mistyped.{HasNoListing, IsListingOf, IsMendedText}
 use Rattle.bech32_encode.specs.TextLength.{encoded_length_of}
@@ -29,7 +29,7 @@ use Rattle.bech32_numbers.specs.Numbers.{number_of_checked_error, number_of_hrp_
 use Rattle.bech32_numbers.specs.Numbers.{number_of_decode_error, number_of_encode_error}
 use Rattle.bech32_numbers.specs.Numbers.{number_of_segwit_decode_error}
 use Rattle.bech32_numbers.specs.Numbers.{number_of_segwit_encode_error}
-use Rattle.b32_replies.specs.Locations.{AreLocations, BeginsWithLocation, IsNoListOfLocations}
+use Rattle.b32_replies.specs.Locations.{AreLocations, IsNoListOfLocations}
 use Rattle.b32_replies.specs.Request.{Request, Encode, Decode, SegwitEncode, SegwitDecode}
 use Rattle.b32_replies.specs.Request.{Correct, CorrectAt, code_of_name, request_of}
 
@@ -172,12 +172,11 @@ IsCorrectAnswer code text given said =
     SaysFine code text said ⊎ (SaysMended code text given said
     ⊎ (SaysNone code text given said ⊎ SaysRefused code text said))
 
--- the same where a word lists the locations: the first bad number is refused, or memory for those
--- before it runs out
+-- the same where a word lists the locations: a word that lists none is refused
 abbrev pub IsCorrectAtAnswer : Code → List ℕ → List ℕ → List ℕ → Type 0
 IsCorrectAtAnswer code text word said =
-    (IsNoListOfLocations word × (said ≡ err 4)) ⊎ ((BeginsWithLocation word × (said ≡ err 91))
-    ⊎ ((given : List ℕ) × AreLocations word given × IsCorrectAnswer code text given said))
+    (IsNoListOfLocations word × (said ≡ err 4))
+    ⊎ ((given : List ℕ) × AreLocations word given × IsCorrectAnswer code text given said)
 
 -- the answer to a request
 abbrev pub IsOutcome : Request → List ℕ → Type 0

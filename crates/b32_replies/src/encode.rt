@@ -1,6 +1,11 @@
 //! Answers `encode`.
 
-ghost use Rattle.std.specs.Prelude.{◌≡◌, ◌+◌, ◌≤◌, vec_len, vec_capacity, OnOk, OnErr, IfErr};
+ghost use Rattle.std.specs.Prelude.{◌≡◌, ◌+◌, ◌≤◌, ◌++◌, ℕ, List, length, vec_len, vec_capacity, IfErr, MatchResult, OnOk, OnErr};
+ghost use Rattle.bech32_bits.specs.Bits.{to_fes};
+ghost use Rattle.bech32_checksum.specs.Encoded.{IsEncodedText};
+ghost use Rattle.bech32_encode.specs.TextLength.{encoded_length_of};
+ghost use Rattle.bech32_hrp.specs.HrpBytes.{hrp_bytes};
+ghost use Rattle.bech32.specs.Refusals.{IsEncodeRefusal};
 ghost use Rattle.b32_replies.specs.Numbers.{number_of};
 ghost use Rattle.line_program.specs.Added.{Adds};
 ghost use Rattle.line_program.specs.Refused.{err};
@@ -8,9 +13,47 @@ ghost use Rattle.b32_replies.specs.Reply.{OrNoMemory, IsEncodeAnswer};
 
 use crate::hex_word::bytes_of_word;
 use crate::refusal::Refusal;
-use bech32::{Checksum, Hrp, encode_in};
+use bech32::primitives::encode::put_text_of_bytes;
+use bech32::{Checksum, EncodeError, Hrp, encoded_length};
 use line_program::append;
 use std::alloc::Allocator;
+
+/// The length of the text of bytes, where the checksum allows as much.
+fn length_of<Ck: Checksum>(hrp: Hrp, bytes: &[u8]) -> Result<usize, EncodeError>
+    ensures { MatchResult result
+        (λ n. (n ≡ encoded_length_of Ck.code (hrp_bytes hrp) (to_fes bytes.now))
+        × (n ≤ Ck.code.code_length))
+        (λ e. IsEncodeRefusal Ck.code (hrp_bytes hrp) (to_fes bytes.now) e) }
+{
+    Ok(encoded_length::<Ck>(hrp, bytes)?)
+}
+
+/// Puts the text of bytes into a buffer that has just its length.
+fn put_text<Ck: Checksum>(hrp: &Hrp, bytes: &[u8], buffer: &mut [u8])
+    requires size { length buffer.old
+        ≡ encoded_length_of Ck.code (hrp_bytes hrp.now) (to_fes bytes.now) }
+    requires short { length buffer.old ≤ 1023 }
+    ensures { IsEncodedText Ck.code (hrp_bytes hrp.now) (to_fes bytes.now) buffer.new }
+{
+    put_text_of_bytes::<Ck>(hrp, None, bytes, buffer);
+}
+
+/// Adds the text of bytes, which has this length.
+fn append_text<Ck: Checksum>(out: &mut Vec<u8>, hrp: &Hrp, bytes: &[u8], count: usize)
+    requires size { count ≡ encoded_length_of Ck.code (hrp_bytes hrp.now) (to_fes bytes.now) }
+    requires short { count ≤ 1023 }
+    requires room { vec_len out.old + count ≤ vec_capacity out.old }
+    ensures text { (text : List ℕ)
+        × IsEncodedText Ck.code (hrp_bytes hrp.now) (to_fes bytes.now) text
+        × (out.new.items ≡ out.old.items ++ text) }
+    ensures capacity { vec_capacity out.old ≤ vec_capacity out.new }
+{
+    let front = out.len();
+    let Ok(()) = out.resize(front + count, 0) else {
+        unreachable!()
+    };
+    put_text::<Ck>(hrp, bytes, &mut out.as_mut_slice()[front..]);
+}
 
 /// Adds the text of bytes under a human-readable part, or leaves all as it was.
 pub fn encode<Ck: Checksum, A: Allocator + Copy>(
@@ -30,8 +73,8 @@ pub fn encode<Ck: Checksum, A: Allocator + Copy>(
 {
     let bytes = bytes_of_word(alloc, hex)?;
     let hrp = Hrp::parse(hrp)?;
-    let text = encode_in::<Ck, A>(alloc, hrp, bytes.as_slice())?;
+    let count = length_of::<Ck>(hrp, bytes.as_slice())?;
     append(out, b"ok ");
-    append(out, text.as_bytes());
+    append_text::<Ck>(out, &hrp, bytes.as_slice(), count);
     Ok(())
 }

@@ -1,12 +1,14 @@
 //! Locations as a word: numbers up to 1022, in decimal, with commas between them.
 
-ghost use Rattle.std.specs.Prelude.{◌≡◌, ◌≢◌, ◌⊎◌, ◌<◌, ◌≤◌, ℕ, MatchOption, MatchResult};
+ghost use Rattle.std.specs.Prelude.{◌≡◌, ◌≢◌, ◌<◌, ◌≤◌, ℕ, List, [], ◌∷◌, length, take, MatchOption, MatchResult};
 ghost use Rattle.std.specs.Fmt.{decimal};
-ghost use Rattle.b32_replies.specs.Locations.{AreLocations, BeginsWithLocation, IsNoListOfLocations};
+ghost use Rattle.bech32_bch.specs.Erasures.{with_erasures};
+ghost use Rattle.b32_replies.specs.Locations.{AreLocations, IsNoListOfLocations};
 
 use crate::refusal::Refusal;
 use crate::version_word::digit_value;
-use std::alloc::Allocator;
+use bech32_bch::{ShortVec, contains};
+use bech32_correction::NoMemory;
 
 /// The highest location in a text.
 const MOST: usize = 1022;
@@ -31,32 +33,40 @@ fn location_of_word(word: &[u8]) -> Option<usize>
     Some(number)
 }
 
-/// The locations that a word lists.
-pub fn locations_of_word<A: Allocator + Copy>(
-    alloc: A,
-    word: &str,
-) -> Result<Vec<usize, A>, Refusal>
-    ensures { MatchResult result
-        (λ given. AreLocations word.now given.items)
-        (λ e. ((e ≡ Refusal.BadNumber) × IsNoListOfLocations word.now)
-        ⊎ ((e ≡ Refusal.Memory) × BeginsWithLocation word.now)) }
+/// Adds a location behind different ones, unless it is one of them, or they are four.
+fn add_location(few: &mut ShortVec<usize, NoMemory>, location: usize)
+    requires { length few.old ≤ 4 }
+    ensures { few.new ≡ take 4 (with_erasures few.old (location ∷ [])) }
 {
-    let mut given = Vec::new(alloc);
+    if few.len() == 4 {
+        return;
+    }
+    if contains(few.as_slice(), location) {
+        return;
+    }
+    few.push(location).unwrap();
+}
+
+/// The different locations that a word lists, in the order in which they come first; of more than
+/// four the first four, which are more than any correction takes.
+pub fn locations_of_word(word: &str) -> Result<ShortVec<usize, NoMemory>, Refusal>
+    ensures { MatchResult result
+        (λ few. (given : List ℕ) × AreLocations word.now given
+        × (few ≡ take 4 (with_erasures [] given)))
+        (λ e. (e ≡ Refusal.BadNumber) × IsNoListOfLocations word.now) }
+{
+    let mut few = ShortVec::new(NoMemory);
     let mut rest = word;
     'pieces: while let Some((piece, others)) = rest.split_once(',') {
         let Some(location) = location_of_word(piece.as_bytes()) else {
             return Err(Refusal::BadNumber);
         };
-        if given.push(location).is_err() {
-            return Err(Refusal::Memory);
-        }
+        add_location(&mut few, location);
         rest = others;
     }
     let Some(location) = location_of_word(rest.as_bytes()) else {
         return Err(Refusal::BadNumber);
     };
-    if given.push(location).is_err() {
-        return Err(Refusal::Memory);
-    }
-    Ok(given)
+    add_location(&mut few, location);
+    Ok(few)
 }

@@ -48,7 +48,7 @@ fn execute_command<A: Allocator + Copy>(
             text,
             locations,
         } => {
-            let given = locations_of_word(alloc, locations)?;
+            let given = locations_of_word(locations)?;
             correct(checksum, text, given.as_slice(), out)
         }
     }

@@ -20,9 +20,8 @@ mod writers;
 pub use bech32_bits::ByteIterExt;
 pub use bech32_block::PrintImpl;
 pub use bech32_checksum::{Bech32, Bech32m, Checksum, CorrectingChecksum, NoChecksum};
-pub use bech32_correction::{
-    CorrectError, CorrectableError, Correction, Mended, correct, correct_in,
-};
+pub use bech32_correction::{CorrectError, Correction, Mended, correct, correct_in};
+pub use bech32_corrector::CorrectableError;
 use bech32_decode::{CheckedHrpstring, CodeLengthError, UncheckedHrpstring, validate_either};
 pub use bech32_encode::Fe32IterExt;
 use bech32_encode::{text_in, text_length};

@@ -24,9 +24,9 @@ pub mod checksum {
 /// Correction of mistyped texts.
 pub mod correction {
     pub use bech32_correction::{
-        CorrectError, CorrectableError, Correction, Corrector, ErrorIterator, Listing, Mended,
-        NoMemory, bech32_listing, bech32m_listing, correct, correct_in, listing_in,
-        listing_of_unchecked, mend, mended_in,
+        CorrectError, Correction, Listing, Mended, NoMemory, bech32_listing, bech32m_listing,
+        correct, correct_in, listing_in, listing_of_unchecked, mend, mended_in,
     };
+    pub use bech32_corrector::{CorrectableError, Corrector, ErrorIterator};
     pub use bech32_poly::fieldvec::NO_ALLOC_MAX_LENGTH;
 }

@@ -4,6 +4,7 @@ ghost use Rattle.std.specs.Prelude.{◌≡◌, ◌≢◌, ◌≤◌, ◌<◌, �
 ghost use Rattle.std.specs.List.{AllByRecursion};
 ghost use Rattle.bech32_gf.specs.Fe32.{ops, value as value_of};
 ghost use Rattle.bech32_gf.specs.declared.gf32.Fe32.{Fe32 as Element};
+ghost use Rattle.bech32_checksum.specs.Code.{bech32, bech32m};
 ghost use Rattle.bech32_bch.specs.Pattern.{locations as locations_of};
 ghost use Rattle.bech32_encode.specs.Buffers.{IsPut};
 ghost use Rattle.bech32_hrp.specs.Hrp.{lowered};
@@ -19,6 +20,39 @@ use crate::refusal::Refusal;
 use bech32::Fe32;
 use bech32_correction::{Correction, Listing, NoMemory, bech32_listing, bech32m_listing, mend};
 
+// What Bech32 finds for a text. Out of line: together, each call would clear the locals of both
+// checksums.
+#[inline(never)]
+fn bech32_correction(
+    bytes: &[u8],
+    given: &[usize],
+) -> Result<Correction<Listing<NoMemory>>, Refusal>
+    ensures { MatchResult result
+        (λ answer. IsListing bech32 bound bytes.now given.now answer)
+        (λ e. IsReadFault bytes.now bech32 e) }
+{
+    match bech32_listing(text_of(bytes)?, given) {
+        Ok(answer) => Ok(answer),
+        Err(e) => Err(Refusal::from(e)),
+    }
+}
+
+// The same by Bech32m.
+#[inline(never)]
+fn bech32m_correction(
+    bytes: &[u8],
+    given: &[usize],
+) -> Result<Correction<Listing<NoMemory>>, Refusal>
+    ensures { MatchResult result
+        (λ answer. IsListing bech32m bound bytes.now given.now answer)
+        (λ e. IsReadFault bytes.now bech32m e) }
+{
+    match bech32m_listing(text_of(bytes)?, given) {
+        Ok(answer) => Ok(answer),
+        Err(e) => Err(Refusal::from(e)),
+    }
+}
+
 /// What the checksum of a number finds for a text.
 pub(crate) fn correction_by(
     checksum: u32,
@@ -30,8 +64,8 @@ pub(crate) fn correction_by(
         (λ e. IsFaultBy checksum (IsReadFault bytes.now) e) }
 {
     match checksum {
-        BECH32 => Ok(bech32_listing(text_of(bytes)?, given)?),
-        BECH32M => Ok(bech32m_listing(text_of(bytes)?, given)?),
+        BECH32 => bech32_correction(bytes, given),
+        BECH32M => bech32m_correction(bytes, given),
         _ => Err(Refusal::BadNumber),
     }
 }

@@ -3,6 +3,7 @@
 ghost use Rattle.std.specs.Prelude.{◌≡◌, ◌<◌};
 ghost use Rattle.bech32_c.specs.Numbers.{number_of};
 
+use crate::input::NotText;
 use bech32::primitives::decode::{
     CheckedHrpstringError, ChecksumError, CodeLengthError, SegwitCodeLengthError,
     SegwitHrpstringError, UncheckedHrpstringError,
@@ -79,6 +80,16 @@ impl Refusal {
         ensures some { 0 < result }
     {
         u32::from(self.small_number())
+    }
+}
+
+impl From<NotText> for Refusal {
+    ghost use Rattle.bech32_c.specs.declared.refusal.Refusal.TheVariants.{NotUtf8};
+
+    ghost from_gives = { λ _ r. r ≡ NotUtf8 };
+
+    fn from(_: NotText) -> Refusal {
+        Refusal::NotUtf8
     }
 }
 

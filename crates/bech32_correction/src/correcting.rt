@@ -4,18 +4,17 @@ ghost use Rattle.std.specs.Prelude.{◌≡◌, ◌≤◌, ◌<◌, ℕ, [], List
 ghost use Rattle.std.specs.List.{AllByRecursion};
 ghost use Rattle.bech32_checksum.specs.Code.{bech32, bech32m};
 ghost use Rattle.bech32_bch.specs.Erasures.{with_erasures};
-ghost use Rattle.bech32_correction.specs.Carried.{of_checksum};
+ghost use Rattle.bech32_corrector.specs.Carried.{of_checksum};
 ghost use Rattle.bech32_correction.specs.Mistyped.{HasNoListing, IsCorrectRefusal, IsCorrectorOf, IsListedCorrection, IsListing, IsListingOf, IsReadAs, IsReadRefusal, IsReading, IsRefusal};
-ghost use Rattle.bech32_correction.specs.Question.{IsAnswerTo};
+ghost use Rattle.bech32_direct.specs.Question.{IsAnswerTo};
 ghost use Rattle.bech32_correction.specs.declared.error.CorrectError.TheVariants.{Memory, Refused};
 ghost use Rattle.bech32_decode.specs.Refusals.{IsInvalidBy};
 
-use crate::corrector::Corrector;
-use crate::erasures::{are_below, distinct_in};
 use crate::error::CorrectError;
 use crate::no_memory::NoMemory;
 use bech32_bch::ShortVec;
 use bech32_checksum::{Bech32, Bech32m, Checksum, CorrectingChecksum};
+use bech32_corrector::{Corrector, are_below, distinct_in};
 use bech32_decode::UncheckedHrpstring;
 use bech32_gf::gf32::Fe32;
 use bech32_refusals::{CheckedHrpstringError, ChecksumError};

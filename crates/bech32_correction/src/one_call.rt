@@ -8,10 +8,10 @@ ghost use Rattle.bech32_correction.specs.Mistyped.{IsCorrectRefusal, IsCorrectio
 ghost use Rattle.bech32_decode.specs.Text.{IsText};
 
 use crate::correcting::{Correction, Listing, correction_of, corrector_of};
-use crate::corrector::Corrector;
 use crate::error::CorrectError;
 use crate::mending::mended_in;
 use bech32_checksum::{Checksum, CorrectingChecksum};
+use bech32_corrector::Corrector;
 use bech32_decode::UncheckedHrpstring;
 use std::alloc::{AllocError, Allocator, Global};
 

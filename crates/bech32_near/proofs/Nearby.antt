@@ -33,11 +33,11 @@ use Rattle.bech32_correction.specs.MendedElements.{mended}
 use Rattle.bech32_correction.specs.Mistyped.{AreInside, HasResidue, IsCorrectorOf, IsMendedText, IsPlacedIn, IsRefusedFor, question_of}
 use Rattle.bech32_near_patterns.specs.Nearest.{AreNearest, AreRising, DetectsFour, IsEarlier, IsListed, IsNear, IsNearListing}
 use Rattle.bech32_near.specs.NearTexts.{AreNearTexts, AreNearestListings, BeginsWith, IsNearText, IsSearch, IsSearched, IsSearcherOf, differences_outside}
-use Rattle.bech32_correction.specs.Question.{Question}
+use Rattle.bech32_direct.specs.Question.{Question}
 use Rattle.bech32_correction.proofs.Accepted.{front, in_parts, mended_accepted}
-use Rattle.bech32_correction.proofs.Added.{erasures_more}
+use Rattle.bech32_corrector.proofs.Added.{erasures_more}
 use Rattle.bech32_near.proofs.Differing.{differences, few_outside, is_pattern, mended_to, none_differ, residue_left}
-use Rattle.bech32_correction.proofs.Mends.{mends}
+use Rattle.bech32_direct.proofs.Mends.{mends}
 use Rattle.bech32_near_patterns.proofs.NearestListing.{each_below}
 use Rattle.bech32_near_patterns.proofs.NearestPatterns.{gathered_of}
 

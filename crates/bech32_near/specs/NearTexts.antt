@@ -15,7 +15,7 @@ use Rattle.bech32_decode.specs.Acceptance.{Accepts, IsAccepted}
 use Rattle.bech32_decode.specs.Text.{IsText}
 use Rattle.bech32_correction.specs.Mistyped.{AreInside, HasResidue, IsMendedText, question_of}
 use Rattle.bech32_near_patterns.specs.Nearest.{AreNearest, DetectsFour}
-use Rattle.bech32_correction.specs.Question.{Question}
+use Rattle.bech32_direct.specs.Question.{Question}
 
 -- the checksum has characters, and each given location is that of one of the data part
 abbrev pub IsSearched : Code → List ℕ → List ℕ → Type 0

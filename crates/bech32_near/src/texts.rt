@@ -4,7 +4,7 @@ ghost use Rattle.std.specs.Prelude.{◌≡◌, ◌<◌, ◌≤◌, ℕ, [], List
 ghost use Rattle.std.specs.List.{AllByRecursion};
 ghost use Rattle.bech32_gf.specs.Fe32.{ops};
 ghost use Rattle.bech32_bch.specs.Erasures.{with_erasures};
-ghost use Rattle.bech32_correction.specs.Carried.{of_checksum};
+ghost use Rattle.bech32_corrector.specs.Carried.{of_checksum};
 ghost use Rattle.bech32_correction.specs.Mistyped.{IsCorrectRefusal, IsMendedText, IsPlacedIn, IsReadAs, IsReadRefusal};
 ghost use Rattle.bech32_near_patterns.specs.Nearest.{AreNearest, DetectsFour};
 ghost use Rattle.bech32_near.specs.NearTexts.{AreNearestListings, AreNearTexts, IsSearch, IsSearcherOf};
@@ -13,9 +13,8 @@ ghost use Rattle.bech32_decode.specs.Refusals.{IsInvalidBy};
 
 use bech32_bch::ShortVec;
 use bech32_checksum::{Checksum, CorrectingChecksum};
-use bech32_correction::{
-    CorrectError, Corrector, Listing, Mended, are_below, corrector_of, distinct_in, mended_by,
-};
+use bech32_correction::{CorrectError, Listing, Mended, corrector_of, mended_by};
+use bech32_corrector::{Corrector, are_below, distinct_in};
 use bech32_decode::UncheckedHrpstring;
 use bech32_gf::gf32::Fe32;
 use bech32_near_listings::nearest_listings;

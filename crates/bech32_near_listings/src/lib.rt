@@ -6,7 +6,7 @@ ghost use Rattle.bech32_near_patterns.specs.Nearest.{AreNearest, DetectsFour};
 ghost use Rattle.bech32_gf.specs.Fe32 as fe32;
 
 use bech32_checksum::Checksum;
-use bech32_correction::Corrector;
+use bech32_corrector::Corrector;
 use bech32_near_patterns::{Listings, are_few, gather};
 use std::alloc::{AllocError, Allocator};
 

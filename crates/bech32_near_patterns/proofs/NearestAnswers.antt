@@ -12,11 +12,11 @@ use Rattle.bech32_gf.specs.laws.Fe32Laws.{is_field}
 use Rattle.bech32_poly.specs.Distinct.{IsAmong}
 use Rattle.bech32_bch.specs.Erasures.{AreErasures, has, with_erasures}
 use Rattle.bech32_checksum.specs.Code.{Code}
-use Rattle.bech32_correction.specs.TakenOff.{IsTakenOff}
+use Rattle.bech32_direct.specs.TakenOff.{IsTakenOff}
 use Rattle.bech32_near_patterns.specs.Nearest.{AreNearest, DetectsFour, IsEarlier}
 use Rattle.bech32_near_patterns.specs.Steps.{AreAdded, AreAll, CanBeHighest, HasHighest, HasHighestAt, IsGathered, IsTried, raised, with_highest}
-use Rattle.bech32_correction.specs.Question.{IsAnswerTo, Question}
-use Rattle.bech32_correction.proofs.Added.{erasures_more}
+use Rattle.bech32_direct.specs.Question.{IsAnswerTo, Question}
+use Rattle.bech32_corrector.proofs.Added.{erasures_more}
 use Rattle.bech32_near_patterns.proofs.NearestAdded.{IsAnswer, erased_not, erased_one, erasures_first, with_value}
 use Rattle.bech32_near_patterns.proofs.NearestAlone.{at_most_one}
 use Rattle.bech32_near_patterns.proofs.Elements.{lowest}

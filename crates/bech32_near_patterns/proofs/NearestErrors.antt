@@ -14,7 +14,7 @@ use Rattle.bech32_bch.specs.Listing.{IsInOrder}
 use Rattle.bech32_bch.specs.Pattern.{HasRemainder, locations}
 use Rattle.bech32_bch.proofs.Patterns.{at_rest}
 use Rattle.bech32_bch.proofs.Places.{drop_first, locations-append, mem_left, mem_split}
-use Rattle.bech32_correction.specs.TakenOff.{IsTakenOff}
+use Rattle.bech32_direct.specs.TakenOff.{IsTakenOff}
 use Rattle.bech32_near_patterns.specs.Nearest.{IsEarlier}
 use Rattle.bech32_near_patterns.specs.Steps.{HasHighest, IsErrorBelow, IsGathered, raised, with_highest}
 use Rattle.bech32_near_patterns.proofs.NearestListing.{each_below, each_lower, at-erased, at-highest, gathered_above, length-placed, same_remains, take_first}

@@ -20,7 +20,7 @@ use Rattle.bech32_bch.proofs.Rising.{once_in_order}
 use Rattle.bech32_near_patterns.specs.Nearest.{IsEarlier, IsListed, IsNear, IsNearListing, IsNearestList}
 use Rattle.bech32_near_patterns.specs.Steps.{AreAll, IsErrorBelow, IsGathered, with_highest}
 use Rattle.bech32_near_patterns.proofs.NearestListing.{all_weaker, each_higher, each_location, located_below, located_outside, lower_gathered, put_all, put_in_order, same_remains}
-use Rattle.bech32_correction.proofs.Remainders.{left_over}
+use Rattle.bech32_direct.proofs.Remainders.{left_over}
 
 -- two that come before one another are the same
 never_both : (x y : ℕ) → ComesBefore x y → ComesBefore y x → ⊥

@@ -7,13 +7,13 @@ ghost use Rattle.bech32_bch.specs.Erasures.{AreErasures, has, with_erasures};
 ghost use Rattle.bech32_near_patterns.specs.Nearest.{IsEarlier};
 ghost use Rattle.bech32_near_patterns.specs.Steps.{AreAdded, HasHighest, HasHighestAt};
 ghost use Rattle.bech32_near_patterns.specs.Steps.{IsGathered, IsTried, raised, with_highest};
-ghost use Rattle.bech32_correction.specs.Question.{IsAnswerTo, Question};
+ghost use Rattle.bech32_direct.specs.Question.{IsAnswerTo, Question};
 ghost use Rattle.bech32_gf.specs.Fe32 as fe32;
 ghost use Rattle.bech32_gf.specs.declared.gf32.Fe32.{Fe32 as Element};
 
 use bech32_bch::{ShortVec, contains};
 use bech32_checksum::Checksum;
-use bech32_correction::Corrector;
+use bech32_corrector::Corrector;
 use bech32_gf::gf32::Fe32;
 use std::alloc::{AllocError, Allocator, Global};
 

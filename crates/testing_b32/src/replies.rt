@@ -54,7 +54,7 @@ fn refused_at_first(
 #[test]
 fn each_request_refused(rt: HostRuntime) -> Result<(), AllocError> {
     // Each takes more memory than the smallest heap has.
-    let rows: [(&[u8], &[u8]); 5] = [
+    let rows: [(&[u8], &[u8]); 4] = [
         (
             b"encode bech32m test ff1e76e8199196d454941c45d1b3a323f1433bd6",
             b"ok test1lu08d6qejxtdg4y5r3zarvary0c5xw7kmz4lky\n",
@@ -71,10 +71,23 @@ fn each_request_refused(rt: HostRuntime) -> Result<(), AllocError> {
             b"segwit-decode BC1QW508D6QEJXTDG4Y5R3ZARVARY0C5XW7KV8F3T4",
             b"ok bc 0 751e76e8199196d454941c45d1b3a323f1433bd6\n",
         ),
-        (b"correct bech32 a12uel5q 3", b"ok 3:q 0:l a12uel5l\n"),
     ];
     for (line, want) in rows {
         refused_at_first(&rt, rt.alloc(), line, want)?;
+    }
+    Ok(())
+}
+
+#[test]
+fn corrections_take_no_memory(rt: HostRuntime) -> Result<(), AllocError> {
+    let rows: [(&[u8], &[u8]); 3] = [
+        (b"correct bech32 a12uel5q", b"ok 0:l a12uel5l\n"),
+        (b"correct bech32 a12uel5q 3", b"ok 3:q 0:l a12uel5l\n"),
+        (b"correct bech32 a12uel5q 0,1,2,3,4,5,6,7,8,9,10", b"none\n"),
+    ];
+    for (line, want) in rows {
+        let (_, is_answered) = replies_with(rt.alloc(), 0, line, want)?;
+        assert!(rt; is_answered);
     }
     Ok(())
 }

@@ -11,7 +11,8 @@ ghost use Rattle.bech32_checksum.specs.Roots.{HasLawfulRoots};
 
 use super::compare::{same, same_items};
 use bech32_checksum::Checksum;
-use bech32_correction::{CorrectableError, Correction, Corrector, ErrorIterator, correct};
+use bech32_correction::{Correction, correct};
+use bech32_corrector::{CorrectableError, Corrector, ErrorIterator};
 use bech32_decode::CheckedHrpstring;
 use bech32_gf::gf32::Fe32;
 use bech32_gf_ext::{Fe32Ext, Fe1024};

@@ -4,7 +4,7 @@ ghost use Rattle.std.specs.Prelude.{◌<◌, IsTrue};
 ghost use Rattle.std.specs.List.{AllByRecursion};
 
 use bech32_checksum::{Bech32, Bech32m, Checksum};
-use bech32_correction::{CorrectableError, Corrector, ErrorIterator};
+use bech32_corrector::{CorrectableError, Corrector, ErrorIterator};
 use bech32_decode::CheckedHrpstring;
 use bech32_gf::gf32::Fe32;
 use std::alloc::{Allocator, Global};

@@ -3,7 +3,7 @@
 use super::compare::same;
 use super::listed::{Listing, are_within, gives};
 use bech32_checksum::{Bech32, Checksum};
-use bech32_correction::{CorrectableError, Corrector, ErrorIterator};
+use bech32_corrector::{CorrectableError, Corrector, ErrorIterator};
 use bech32_decode::CheckedHrpstring;
 use bech32_gf::gf32::Fe32;
 use linked_list_allocator::LocalHeap;

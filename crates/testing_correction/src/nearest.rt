@@ -3,7 +3,7 @@
 use super::compare::same;
 use super::listed::{Listing, are_within};
 use bech32_checksum::{Bech32, Checksum};
-use bech32_correction::{CorrectableError, Corrector};
+use bech32_corrector::{CorrectableError, Corrector};
 use bech32_decode::CheckedHrpstring;
 use bech32_gf::gf32::Fe32;
 use bech32_near_listings::nearest_listings;

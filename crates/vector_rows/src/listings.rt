@@ -5,7 +5,7 @@ ghost use Rattle.std.specs.List.{AllByRecursion};
 
 use crate::rows::{no_row, word};
 use bech32_checksum::{Bech32, Bech32m, Checksum};
-use bech32_correction::{CorrectableError, Corrector, ErrorIterator};
+use bech32_corrector::{CorrectableError, Corrector, ErrorIterator};
 use bech32_decode::CheckedHrpstring;
 use std::alloc::{AllocError, Global};
 use testing_codes::Degree13;

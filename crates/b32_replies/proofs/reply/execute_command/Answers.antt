@@ -44,7 +44,7 @@ returns-in_ok-given-in-CorrectAt-clause-ok g c =
     let text = c.in-CorrectAt.text.now in
     let word = c.in-CorrectAt.locations.now in
     rw c.in-CorrectAt.is (on_ok_weaker c.correct-in-CorrectAt.result
-    (Adds-weaker _ _ _ _ (λ said h. says-at code text word c.in_ok-given-in-CorrectAt.given.items said c.in_ok-given-in-CorrectAt.ensures (rw c.as_slice.ensures.value at h)))
+    (Adds-weaker _ _ _ _ (λ said h. says-at code text word c.in_ok-given-in-CorrectAt.given said c.in_ok-given-in-CorrectAt.ensures (rw c.as_slice.ensures at h)))
     c.correct-in-CorrectAt.ensures.ok)
 
 pub returns-in_ok-given-in-CorrectAt-clause-err : goal.returns-in_ok-given-in-CorrectAt-clause-err
@@ -53,5 +53,5 @@ returns-in_ok-given-in-CorrectAt-clause-err g c =
     let text = c.in-CorrectAt.text.now in
     let word = c.in-CorrectAt.locations.now in
     rw c.in-CorrectAt.is (IfErr-weaker c.correct-in-CorrectAt.result _ _
-    (λ e h. says-at code text word c.in_ok-given-in-CorrectAt.given.items (err (number_of e)) c.in_ok-given-in-CorrectAt.ensures (rw c.as_slice.ensures.value at h))
+    (λ e h. says-at code text word c.in_ok-given-in-CorrectAt.given (err (number_of e)) c.in_ok-given-in-CorrectAt.ensures (rw c.as_slice.ensures at h))
     c.correct-in-CorrectAt.ensures.err)

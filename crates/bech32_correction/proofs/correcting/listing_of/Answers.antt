@@ -1,8 +1,8 @@
 use Rattle.std.proofs.Common.{rules, ◌≡◌, ◌≤◌, ℕ, List, [], true, false, length, subst, sym, ap, ◌∙◌, arith}
 use Rattle.std.specs.Prelude.{IfOk}
 use Rattle.bech32_bch.specs.Erasures.{AreErasures, with_erasures}
-use Rattle.bech32_correction.specs.Question.{IsAnswerTo, Question}
-use Rattle.bech32_correction.proofs.Added.{erasures_more}
+use Rattle.bech32_direct.specs.Question.{IsAnswerTo, Question}
+use Rattle.bech32_corrector.proofs.Added.{erasures_more}
 use Rattle.bech32_correction.proofs.Outcomes.{too_many}
 use Rattle.bech32_correction.proofs.correcting.listing_of.Goals as goal
 

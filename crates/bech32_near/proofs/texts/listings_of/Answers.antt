@@ -6,7 +6,7 @@ use Rattle.bech32_gf.specs.declared.gf32.Fe32.{Fe32}
 use Rattle.bech32_gf.specs.laws.Fe32Laws.{is_field}
 use Rattle.bech32_bch.specs.Erasures.{AreErasures, with_erasures}
 use Rattle.bech32_near_patterns.specs.Nearest.{AreNearest, DetectsFour}
-use Rattle.bech32_correction.specs.Question.{Question}
+use Rattle.bech32_direct.specs.Question.{Question}
 use Rattle.bech32_near.proofs.Nearby.{given_erasures, one_of}
 use Rattle.bech32_near_patterns.proofs.NearestPatterns.{no_nearest}
 use Rattle.bech32_near.proofs.texts.listings_of.Goals as goal

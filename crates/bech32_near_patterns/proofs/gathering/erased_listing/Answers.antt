@@ -1,7 +1,7 @@
 use Rattle.std.specs.Prelude.{IfOk}
 use Rattle.std.proofs.Common.{rules, ◌≡◌, ◌∷◌, [], sym, ap, subst, ◌∙◌}
 use Rattle.bech32_bch.specs.Erasures.{with_erasures}
-use Rattle.bech32_correction.specs.Question.{IsAnswerTo, Question}
+use Rattle.bech32_direct.specs.Question.{IsAnswerTo, Question}
 use Rattle.bech32_near_patterns.proofs.NearestAnswers.{same_question}
 use Rattle.bech32_near_patterns.proofs.gathering.erased_listing.Goals as goal
 

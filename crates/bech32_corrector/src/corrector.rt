@@ -1,0 +1,288 @@
+//! What finds the errors in a text.
+
+ghost use Rattle.std.specs.Prelude.{◌≡◌, ◌≤◌, ◌<◌, ◌+◌, ◌∷◌, [], take, length, IfOk, IsOk, OnErr, OnOk};
+ghost use Rattle.std.specs.List.{AllByRecursion};
+ghost use Rattle.bech32_checksum.specs.Roots.{AreLawfulRoots};
+ghost use Rattle.bech32_bch.specs.Erasures.{AreErasures, with_erasures};
+ghost use Rattle.bech32_bch.specs.Search.{locators};
+ghost use Rattle.bech32_direct.specs.TakenOff.{IsTakenOff};
+ghost use Rattle.bech32_direct.specs.Question.{IsAnswerTo, Question};
+ghost use Rattle.bech32_gf.specs.Fe32 as fe32;
+ghost use Rattle.bech32_poly.specs.FieldVec.{FitsInPlace};
+
+use crate::correction::{bound, correct};
+use crate::errors::{ErrorIterator, ShortIter};
+use bech32_bch::{ShortVec, contains, locators_of};
+use bech32_checksum::Checksum;
+use bech32_direct::{correct_erased, residue_without};
+use bech32_gf::field::Field;
+use bech32_gf::gf32::Fe32;
+use bech32_poly::fieldvec::FieldVec;
+use bech32_refusals::MAX_DEGREE;
+use std::alloc::{AllocError, Allocator, Global};
+use std::fmt;
+use std::marker::{Model, PhantomData};
+
+/// Finds the errors in a text from the residue that it leaves: the remainder of its polynomial less
+/// the checksum's target. Location 0 is the last character.
+#[derive(Drop)]
+pub struct Corrector<Ck: Checksum, A: Allocator + Copy = Global> {
+    erasures: ShortVec<usize, A>,
+    // The locators of the erasures.
+    known: FieldVec<Ck::CorrectionField, A>,
+    residue: [Fe32; MAX_DEGREE],
+    window: usize,
+    of: PhantomData<Ck>,
+}
+
+impl<Ck: Checksum, A: Allocator + Copy> Model for Corrector<Ck, A> {
+    ghost Value = { Question };
+
+    ghost view = { λ a. record { residue = a.residue; window = a.window; erasures = a.erasures } };
+
+    ghost invariant = { λ a. (a.window ≤ Ck.CODE_LENGTH) × AreErasures a.window a.erasures
+        × (a.known ≡ locators Ck.CorrectionField.ops Ck.ROOT_GENERATOR a.erasures)
+        × AreLawfulRoots Ck.CorrectionField.ops Ck.CorrectionField.embed Ck.code
+        Ck.ROOT_GENERATOR Ck.ROOT_EXPONENTS_START Ck.ROOT_EXPONENTS_END };
+}
+
+/// A clone allocates nothing up to seven erasures.
+impl<Ck: Checksum, A: Allocator + Copy> Clone for Corrector<Ck, A> {
+    ghost is_clone = { λ v w. v ≡ w };
+
+    ghost is_infallible = { λ v. FitsInPlace (length v.erasures) };
+
+    fn clone(&self) -> Result<Self, AllocError> {
+        Ok(Corrector {
+            erasures: self.erasures.clone()?,
+            known: self.known.clone()?,
+            residue: self.residue,
+            window: self.window,
+            of: PhantomData,
+        })
+    }
+}
+
+/// Shows what contracts see: the residue, the window and the erasures.
+impl<Ck: Checksum, A: Allocator + Copy> fmt::Debug for Corrector<Ck, A> {
+    fn fmt<W: fmt::Write>(&self, f: &mut fmt::Formatter<W>) -> fmt::Result {
+        f.debug_struct("Corrector")
+            .field("residue", &self.residue)
+            .field("window", &self.window)
+            .field("erasures", &self.erasures.as_slice())
+            .finish()
+    }
+}
+
+impl<Ck: Checksum, A: Allocator + Copy> Corrector<Ck, A> {
+    /// A corrector of a residue, with no erasures.
+    pub fn new(alloc: A, residue: [Fe32; MAX_DEGREE], window: usize) -> Self
+        requires lawful { AreLawfulRoots Ck.CorrectionField.ops Ck.CorrectionField.embed Ck.code
+            Ck.ROOT_GENERATOR Ck.ROOT_EXPONENTS_START Ck.ROOT_EXPONENTS_END }
+        requires within { window ≤ Ck.CODE_LENGTH }
+        ensures { result ≡ record { residue = residue; window = window; erasures = [] } }
+    {
+        Corrector {
+            erasures: ShortVec::new(alloc),
+            known: FieldVec::new(alloc),
+            residue,
+            window,
+            of: PhantomData,
+        }
+    }
+
+    /// The number of roots of the generator that serve to find errors: as many erasures have one
+    /// answer, and half as many errors. It is at most the degree.
+    pub fn singleton_bound(&self) -> usize
+        ensures value { result ≡ Ck.bound }
+        ensures few { result ≤ length Ck.code.generator }
+    {
+        // Tells the proof what is true of every corrector.
+        let _ = &self.window;
+        bound::<Ck>()
+    }
+
+    /// Below this, in characters from the last, all errors are looked for.
+    pub fn window(&self) -> usize
+        ensures value { result ≡ self.now.window }
+        ensures within { result ≤ Ck.CODE_LENGTH }
+    {
+        self.window
+    }
+
+    /// Adds locations that are known to be wrong; one that is there already is not added again.
+    ///
+    /// # Errors
+    ///
+    /// If memory runs out; the erasures are then as before. Seven need none.
+    pub fn add_erasures(&mut self, locations: &[usize]) -> Result<(), AllocError>
+        requires { AllByRecursion (λ i. i < self.old.window) locations.now }
+        ensures residue { self.new.residue ≡ self.old.residue }
+        ensures window { self.new.window ≡ self.old.window }
+        ensures ok { OnOk result
+            (self.new.erasures ≡ with_erasures self.old.erasures locations.now) }
+        ensures err { OnErr result (self.new ≡ self.old) }
+        ensures in_place { FitsInPlace (length (with_erasures self.old.erasures locations.now))
+            → IsOk result }
+    {
+        let before = self.erasures.len();
+        match extended(&mut self.erasures, Ck::ROOT_GENERATOR, locations) {
+            Ok(known) => {
+                self.known = known;
+                Ok(())
+            }
+            Err(e) => {
+                self.erasures.truncate(before);
+                Err(e)
+            }
+        }
+    }
+
+    /// A corrector of the same residue with these erasures.
+    ///
+    /// # Errors
+    ///
+    /// If memory runs out. Seven erasures need none.
+    pub fn with(&self, erasures: ShortVec<usize, A>) -> Result<Self, AllocError>
+        requires { AreErasures self.now.window erasures }
+        ensures ok { IfOk result (λ c. c ≡ record {
+          residue = self.now.residue;
+          window = self.now.window;
+          erasures = erasures;
+        }) }
+        ensures in_place { FitsInPlace (length erasures) → IsOk result }
+    {
+        let (residue, window) = (self.residue, self.window);
+        let alloc = erasures.allocator();
+        let known = locators_of(alloc, Ck::ROOT_GENERATOR, erasures.as_slice())?;
+        Ok(Corrector {
+            erasures,
+            known,
+            residue,
+            window,
+            of: PhantomData,
+        })
+    }
+
+    /// The errors as [`bch_errors`](Self::bch_errors) lists them, in a vector.
+    ///
+    /// # Errors
+    ///
+    /// Those of [`bch_errors`](Self::bch_errors).
+    pub fn listing(&self) -> Result<Option<ShortVec<(usize, Fe32), A>>, AllocError>
+        ensures answer { IfOk result (λ answer. IsAnswerTo Ck.code Ck.bound self.now answer) }
+        ensures in_place { length Ck.code.generator ≤ 6 → IsOk result }
+    {
+        let alloc = self.erasures.allocator();
+        let (window, residue) = (self.window, &self.residue);
+        correct::<Ck, A>(alloc, window, residue, &self.erasures, &self.known)
+    }
+
+    /// What [`listing`](Self::listing) is with these erasures instead, which use up the bound: no
+    /// error stands outside them, and none of their locators is made.
+    ///
+    /// # Errors
+    ///
+    /// Those of [`bch_errors`](Self::bch_errors).
+    pub fn filled_listing(
+        &self,
+        erasures: ShortVec<usize, A>,
+    ) -> Result<Option<ShortVec<(usize, Fe32), A>>, AllocError>
+        requires erased { AreErasures self.now.window erasures }
+        requires few { length erasures ≤ Ck.bound }
+        requires full { Ck.bound < length erasures + 2 }
+        ensures answer { IfOk result (λ answer. IsAnswerTo Ck.code Ck.bound (record {
+          residue = self.now.residue;
+          window = self.now.window;
+          erasures = erasures;
+        }) answer) }
+        ensures in_place { length Ck.code.generator ≤ 6 → IsOk result }
+    {
+        let alloc = erasures.allocator();
+        correct_erased::<Ck, A>(alloc, self.window, &self.residue, &erasures)
+    }
+
+    /// The errors that explain the residue, and the elements at the erasures: the one pattern below
+    /// the window that has the residue as remainder and has so few errors outside the erasures that
+    /// twice their number and that of the erasures are at most the
+    /// [`singleton_bound`](Self::singleton_bound). `None` where there is no such pattern.
+    ///
+    /// # Errors
+    ///
+    /// If memory runs out. For a checksum of at most six characters nothing is allocated.
+    pub fn bch_errors(&self) -> Result<Option<ErrorIterator<A>>, AllocError>
+        ensures lawful { Ck.lawful }
+        ensures answer { IfOk result (λ answer. IsAnswerTo Ck.code Ck.bound self.now answer) }
+        ensures in_place { length Ck.code.generator ≤ 6 → IsOk result }
+    {
+        // Tells the proof what is true of every corrector.
+        let _ = &self.window;
+        match self.listing()? {
+            Some(items) => Ok(Some(ShortIter { items, given: 0 })),
+            None => Ok(None),
+        }
+    }
+
+    /// The erasures, in the order in which they were added.
+    pub fn erasures(&self) -> &[usize]
+        ensures value { result.now ≡ self.now.erasures }
+        ensures lawful { AreErasures self.now.window self.now.erasures }
+    {
+        self.erasures.as_slice()
+    }
+
+    /// The allocator.
+    pub fn allocator(&self) -> A {
+        self.erasures.allocator()
+    }
+
+    /// The corrector of what is left of the residue where an error is taken off.
+    ///
+    /// # Errors
+    ///
+    /// If memory runs out. Seven erasures need none.
+    pub fn without_error(&self, error: (usize, Fe32)) -> Result<Self, AllocError>
+        ensures window { IfOk result (λ left. left.window ≡ self.now.window) }
+        ensures erasures { IfOk result (λ left. left.erasures ≡ self.now.erasures) }
+        ensures residue { IfOk result (λ left.
+            IsTakenOff fe32.ops Ck.code.generator self.now.residue error left.residue) }
+    {
+        let mut left = self.clone()?;
+        left.residue = residue_without::<Ck>(&self.residue, error);
+        Ok(left)
+    }
+}
+
+// Puts a location behind the erasures where it is not one of them.
+fn add_erasure<A: Allocator + Copy>(
+    erasures: &mut ShortVec<usize, A>,
+    place: usize,
+) -> Result<(), AllocError>
+    ensures ok { OnOk result (erasures.new ≡ with_erasures erasures.old (place ∷ [])) }
+    ensures err { OnErr result (erasures.new ≡ erasures.old) }
+    ensures in_place { FitsInPlace (length (with_erasures erasures.old (place ∷ [])))
+        → IsOk result }
+{
+    if contains(erasures.as_slice(), place) {
+        return Ok(());
+    }
+    erasures.push(place)
+}
+
+// Puts those that are not there behind the erasures, and gives the locators of all. Where memory
+// runs out, some of them may be there.
+fn extended<K: Field, A: Allocator + Copy>(
+    erasures: &mut ShortVec<usize, A>,
+    base: K,
+    more: &[usize],
+) -> Result<FieldVec<K, A>, AllocError>
+    ensures front { take (length erasures.old) erasures.new ≡ erasures.old }
+    ensures ok { OnOk result (erasures.new ≡ with_erasures erasures.old more.now) }
+    ensures locators { IfOk result (λ known. known ≡ locators K.ops base erasures.new) }
+    ensures in_place { FitsInPlace (length (with_erasures erasures.old more.now)) → IsOk result }
+{
+    for place in more {
+        add_erasure(erasures, *place)?;
+    }
+    locators_of(erasures.allocator(), base, erasures.as_slice())
+}

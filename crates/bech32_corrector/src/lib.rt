@@ -1,0 +1,14 @@
+//! What finds the errors, and the elements at the erasures, that explain the residue of a text that a
+//! checksum refuses (BIP-173, Checksum design).
+#![tactic(auto)]
+
+mod correctable;
+mod correction;
+mod corrector;
+mod erasures;
+mod errors;
+
+pub use self::correctable::CorrectableError;
+pub use self::corrector::Corrector;
+pub use self::erasures::{are_below, distinct_in};
+pub use self::errors::ErrorIterator;

@@ -1,0 +1,10 @@
+pub mod Elimination
+pub mod ErasedPatterns
+pub mod Mends
+pub mod OneError
+pub mod Only
+pub mod Powers
+pub mod Remainders
+pub mod Screen
+pub mod TakenOff
+pub mod Usable

@@ -1,0 +1,58 @@
+use Rattle.std.specs.Prelude.{slice_index, true, false}
+use Rattle.std.proofs.Common.{◌≡◌, ◌≤◌, ◌∙◌, ℕ, suc, List, length, sym, subst, ap, refl, arith}
+use Rattle.bech32_gf.specs.Fe32 as fe32
+use Rattle.bech32_gf.specs.declared.gf32.Fe32.{Fe32}
+use Rattle.bech32_gf.specs.laws.Fe32Laws.{is_field}
+use Rattle.bech32_poly.specs.Embedding.{Embeds}
+use Rattle.bech32_poly.specs.Pattern.{value_of_pattern_at}
+use Rattle.bech32_poly.specs.Polynomial.{coefficient}
+use Rattle.bech32_checksum.specs.Code.{Code}
+use Rattle.bech32_checksum.proofs.Digits.{length-tabulate}
+use Rattle.bech32_bch.specs.Pattern.{HasRemainder}
+use Rattle.bech32_bch.proofs.Candidates.{apart_inside}
+use Rattle.bech32_direct.specs.Equations.{placed}
+use Rattle.bech32_direct.specs.Question.{IsOnlyListing}
+use Rattle.bech32_direct.proofs.ErasedPatterns.{erased_pattern, only_erased}
+use Rattle.bech32_direct.proofs.Only.{only_listing}
+use Rattle.bech32_direct.proofs.Usable.{usable_read}
+use Rattle.bech32_direct.proofs.erased.correct_erased.Goals as goal
+
+pub returns-in_default-clause-answer : goal.returns-in_default-clause-answer
+returns-in_default-clause-answer g c = λ e h.
+    let generator = g.Ck.Checksum.code.generator in
+    let residue = c.args.residue.now in
+    let s = c.args.erasures.now in
+    (rw c.in_default.is at c.erased_values.ensures) (λ i. value_of_pattern_at fe32.ops e (slice_index s i))
+    (subst (λ (l : List ℕ). HasRemainder fe32.ops generator residue (placed l (λ i. value_of_pattern_at fe32.ops e (slice_index s i)) (length l))) (sym c.as_slice.ensures)
+    (erased_pattern is_field generator residue s c.args.window g.Ck.Checksum.bound e c.requires.erased c.requires.full h))
+
+pub returns-clause-answer : goal.returns-clause-answer
+returns-clause-answer g c =
+    let o = g.Ck.CorrectionField.Field.ops in
+    let embed = g.Ck.CorrectionField.ExtensionField.embed in
+    let code = g.Ck.Checksum.code in
+    let residue = c.args.residue.now in
+    let s = c.args.erasures.now in
+    let value : ℕ → Fe32 = λ i. coefficient fe32.ops c.in-Some.values (suc i) in
+    let into : Embeds fe32.ops o embed = record { one = g.met.Ck.CorrectionField.ExtensionField.embed_one_law; add = g.met.Ck.CorrectionField.ExtensionField.embed_add_law; mul = g.met.Ck.CorrectionField.ExtensionField.embed_mul_law } in
+    let apart = apart_inside embed g.Ck.CorrectionField.ExtensionField.retract g.met.Ck.CorrectionField.ExtensionField.retract_law in
+    let usable = usable_read o embed g.met.Ck.CorrectionField.ExtensionField.embed_one_law
+    code g.Ck.Checksum.ROOT_GENERATOR g.Ck.Checksum.ROOT_GENERATOR g.Ck.Checksum.ROOT_EXPONENTS_START g.Ck.Checksum.ROOT_EXPONENTS_START g.Ck.Checksum.ROOT_EXPONENTS_END g.Ck.Checksum.bound
+    c.args.window refl refl g.met.Ck.Checksum.bound_law
+    c.requires.lawful (subst (λ n. c.args.window ≤ n) (sym g.met.Ck.Checksum.code_length_law) c.requires.within) in
+    let size : length code.target ≡ length code.generator =
+    ap (λ (k : Code). length k.target) g.met.Ck.Checksum.code_law ∙ length-tabulate g.Ck.Checksum.CHECKSUM_LENGTH _ ∙ sym g.met.Ck.Checksum.degree_law in
+    let found : HasRemainder fe32.ops code.generator residue (placed s value (length s)) =
+    subst (λ (l : List ℕ). HasRemainder fe32.ops code.generator residue (placed l value (length l))) c.as_slice.ensures (rw c.in-Some.is at c.erased_values.ensures) in
+    let listed : c.in_ok-listing.listing ≡ placed s value (length s) =
+    c.in_ok-listing.ensures.items ∙ ap (λ (l : List ℕ). placed l value (length l)) c.as_slice-2.ensures in
+    subst (λ (l : List (ℕ × Fe32)). IsOnlyListing code g.Ck.Checksum.bound (record { residue = residue; window = c.args.window; erasures = s }) l) (sym listed)
+    (only_listing g.met.Ck.CorrectionField.Field.laws into apart g.Ck.Checksum.ROOT_GENERATOR g.Ck.Checksum.ROOT_EXPONENTS_START g.Ck.Checksum.bound c.args.window code residue s (placed s value (length s))
+    usable c.requires.erased (only_erased fe32.ops c.args.window g.Ck.Checksum.bound s value c.requires.few) size found)
+
+refused : {P : Type 0} → false ≡ true → P
+refused h = absurd (cc h)
+
+pub returns-in_err-listing-clause-in_place : goal.returns-in_err-listing-clause-in_place
+returns-in_err-listing-clause-in_place g c = λ few.
+    refused (c.in_err-listing.ensures.in_place (omega (arith, few, c.requires.few, c.requires.lawful.few, g.met.Ck.Checksum.bound_law, ap (λ (l : List ℕ). length l) c.as_slice-2.ensures)))

@@ -1,0 +1,4 @@
+pub mod Equations
+pub mod Multiple
+pub mod Question
+pub mod TakenOff

@@ -1,0 +1,311 @@
+//! Erasures that use up the bound: no error stands outside them, and the elements at them solve linear
+//! equations, one for each place of the residue.
+
+ghost use Rattle.std.specs.Prelude.{◌≡◌, ◌≢◌, ◌≤◌, ◌<◌, ◌+◌, ◌*◌, ◌↔◌, ℕ, suc, length, slice_index, IfOk, IsOk, IsTrue, MatchOption};
+ghost use Rattle.bech32_gf.specs.Fe32 as fe32;
+ghost use Rattle.bech32_gf.specs.declared.gf32.Fe32.{Fe32 as Element};
+ghost use Rattle.bech32_checksum.specs.Code.{IsResidueOf};
+ghost use Rattle.bech32_checksum.specs.Packed.{HasDigits, digit_of};
+ghost use Rattle.bech32_checksum.specs.Roots.{AreLawfulRoots};
+ghost use Rattle.bech32_bch.specs.Erasures.{AreErasures};
+ghost use Rattle.bech32_bch.specs.Pattern.{HasRemainder};
+ghost use Rattle.bech32_direct.specs.Equations.{AreCancelled, IsEliminated, entry, placed, weighted};
+ghost use Rattle.bech32_direct.specs.Question.{IsAnswerTo};
+ghost use Rattle.bech32_poly.specs.Division.{remainder_of};
+ghost use Rattle.bech32_poly.specs.FieldVec.{FitsInPlace};
+ghost use Rattle.bech32_poly.specs.Pattern.{monomial};
+ghost use Rattle.bech32_poly.specs.Polynomial.{coefficient};
+
+use crate::division::{listed_coefficient, packed_coefficient};
+use bech32_bch::ShortVec;
+use bech32_checksum::{Checksum, Engine, PackedFe32};
+use bech32_gf::gf32::Fe32;
+use bech32_refusals::MAX_DEGREE;
+use std::alloc::{AllocError, Allocator};
+
+// The residue and as many erasures as there may be.
+const MAX_ROWS: usize = 26;
+
+// The coefficients of an equation's unknown, one for each place of the residue.
+#[derive(Clone, Copy)]
+struct Row {
+    items: [Fe32; MAX_DEGREE],
+}
+
+// An engine that was given x to the power of so many eights.
+fn eights_of_x<Ck: Checksum>(eights: usize) -> Engine<Ck>
+    ensures { IsResidueOf Ck.MidstateRepr.number Ck.code result
+        (monomial fe32.ops (8 * eights) fe32.one) }
+{
+    let mut power = Engine::<Ck>::new();
+    for eight in 0..eights {
+        power.input_eight([Fe32::Q; 8]);
+    }
+    power
+}
+
+// An engine that was given the power of x at a location.
+fn power_of_x<Ck: Checksum>(location: usize) -> Engine<Ck>
+    ensures { IsResidueOf Ck.MidstateRepr.number Ck.code result
+        (monomial fe32.ops location fe32.one) }
+{
+    let mut power = eights_of_x::<Ck>(location / 8);
+    for more in 0..location % 8 {
+        power.input_fe(Fe32::Q);
+    }
+    power
+}
+
+// The first elements of a packed row.
+fn unpacked<R: PackedFe32>(row: &R, size: usize) -> Row
+    requires digits { HasDigits R.WIDTH (R.number row.now) }
+    requires size { size ≤ 25 }
+    ensures { (place : ℕ) → place < size
+        → coefficient fe32.ops result.items place ≡ digit_of (R.number row.now) place }
+{
+    let mut items = [Fe32::Q; MAX_DEGREE];
+    for place in 0..size {
+        items[place] = packed_coefficient(row, place);
+    }
+    Row { items }
+}
+
+// The remainder of the power of x at a location.
+fn row_of<Ck: Checksum>(location: usize) -> Row
+    ensures { (place : ℕ) → place < length Ck.code.generator
+        → coefficient fe32.ops result.items place
+        ≡ coefficient fe32.ops
+        (remainder_of fe32.ops Ck.code.generator (monomial fe32.ops location fe32.one)) place }
+{
+    let power = power_of_x::<Ck>(location);
+    unpacked(power.residue(), Ck::CHECKSUM_LENGTH)
+}
+
+// The first coefficients of a list.
+fn first_of(list: &[Fe32], size: usize) -> Row
+    requires { size ≤ 25 }
+    ensures { (place : ℕ) → place < size
+        → coefficient fe32.ops result.items place ≡ coefficient fe32.ops list.now place }
+{
+    let mut items = [Fe32::Q; MAX_DEGREE];
+    for place in 0..size {
+        items[place] = listed_coefficient(list, place);
+    }
+    Row { items }
+}
+
+// Whether all coefficients of a list from a place on are zero.
+fn ends_at(list: &[Fe32], end: usize) -> bool
+    ensures { IsTrue result
+        ↔ ((n : ℕ) → end ≤ n → coefficient fe32.ops list.now n ≡ fe32.zero) }
+{
+    for place in end..list.len() {
+        if list[place] != Fe32::Q {
+            return false;
+        }
+    }
+    true
+}
+
+// The residue, and the remainders of the powers of x at the erasures.
+fn rows_of<Ck: Checksum>(residue: &[Fe32], erasures: &[usize]) -> [Row; MAX_ROWS]
+    requires { length erasures.now ≤ 25 }
+    ensures first { (place : ℕ) → place < length Ck.code.generator
+        → entry result 0 place ≡ coefficient fe32.ops residue.now place }
+    ensures others { (i place : ℕ) → i < length erasures.now → place < length Ck.code.generator
+        → entry result (suc i) place
+        ≡ coefficient fe32.ops (remainder_of fe32.ops Ck.code.generator
+        (monomial fe32.ops (slice_index erasures.now i) fe32.one)) place }
+{
+    let zero = Row {
+        items: [Fe32::Q; MAX_DEGREE],
+    };
+    let mut rows = [zero; MAX_ROWS];
+    rows[0] = first_of(residue, Ck::CHECKSUM_LENGTH);
+    for i in 0..erasures.len() {
+        rows[i + 1] = row_of::<Ck>(erasures[i]);
+    }
+    rows
+}
+
+// The first place below the size at which a list is not zero; the size where there is none.
+fn pivot_below(list: &[Fe32], size: usize) -> usize
+    ensures within { result ≤ size }
+    ensures before { (n : ℕ) → n < result → coefficient fe32.ops list.now n ≡ fe32.zero }
+    ensures found { result < size → coefficient fe32.ops list.now result ≢ fe32.zero }
+{
+    for place in 0..size {
+        if listed_coefficient(list, place) != Fe32::Q {
+            return place;
+        }
+    }
+    size
+}
+
+// By what the second row has to be multiplied to be the first one at a place.
+fn factor_at(list: &Row, row: &Row, place: usize) -> Fe32
+    requires within { place < 25 }
+    requires not_zero { coefficient fe32.ops row.now.items place ≢ fe32.zero }
+    ensures { result ≡ fe32.mul (coefficient fe32.ops list.now.items place)
+        (fe32.inv (coefficient fe32.ops row.now.items place)) }
+{
+    list.items[place] / row.items[place]
+}
+
+// A row and a multiple of another one added up. The other one is zero before the pivot, and the sum
+// is zero at the pivot.
+fn with_multiple(list: &Row, row: &Row, factor: Fe32, pivot: usize, size: usize) -> Row
+    requires size { size ≤ 25 }
+    requires pivot { pivot < size }
+    requires before { (n : ℕ) → n < pivot → coefficient fe32.ops row.now.items n ≡ fe32.zero }
+    requires cleared { fe32.add (coefficient fe32.ops list.now.items pivot)
+        (fe32.mul factor (coefficient fe32.ops row.now.items pivot)) ≡ fe32.zero }
+    ensures { (place : ℕ) → place < size → coefficient fe32.ops result.items place
+        ≡ fe32.add (coefficient fe32.ops list.now.items place)
+        (fe32.mul factor (coefficient fe32.ops row.now.items place)) }
+{
+    let mut items = list.items;
+    items[pivot] = Fe32::Q;
+    for place in pivot + 1..size {
+        items[place] = list.items[place] + factor * row.items[place];
+    }
+    Row { items }
+}
+
+// Adds a multiple of the last row to each row before it, so that one place of these is zero, and
+// gives the factors. An element is its own negative.
+fn eliminate(rows: &mut [Row], last: usize, size: usize) -> [Fe32; MAX_DEGREE]
+    requires room { last < length rows.old }
+    requires last { last ≤ 25 }
+    requires size { size ≤ 25 }
+    ensures { IsEliminated fe32.ops (entry rows.old) (entry rows.new) last size
+        (coefficient fe32.ops result) }
+{
+    let row = rows[last];
+    let mut factors = [Fe32::Q; MAX_DEGREE];
+    let pivot = pivot_below(&row.items, size);
+    if pivot == size {
+        return factors;
+    }
+    for i in 0..last {
+        let factor = factor_at(&rows[i], &row, pivot);
+        factors[i] = factor;
+        rows[i] = with_multiple(&rows[i], &row, factor, pivot, size);
+    }
+    factors
+}
+
+// The sum of the first values, each times its factor. The first value is 1.
+fn weighted_sum(values: &[Fe32; MAX_ROWS], factors: &[Fe32; MAX_DEGREE], count: usize) -> Fe32
+    requires some { 0 < count }
+    requires most { count ≤ 25 }
+    requires one { coefficient fe32.ops values.now 0 ≡ fe32.one }
+    ensures { result
+        ≡ weighted fe32.ops (coefficient fe32.ops values.now)
+        (coefficient fe32.ops factors.now) count }
+{
+    let mut sum = factors[0];
+    for i in 1..count {
+        sum = sum + values[i] * factors[i];
+    }
+    sum
+}
+
+// The value 1 of the first row, where that row is zero.
+fn first_alone(row: &Row, size: usize) -> Option<[Fe32; MAX_ROWS]>
+    ensures { MatchOption result
+        (((place : ℕ) → place < size → coefficient fe32.ops row.now.items place ≡ fe32.zero) → ⊥)
+        (λ values. (coefficient fe32.ops values 0 ≡ fe32.one)
+        × ((place : ℕ) → place < size → coefficient fe32.ops row.now.items place ≡ fe32.zero)) }
+{
+    if pivot_below(&row.items, size) < size {
+        return None;
+    }
+    let mut values = [Fe32::Q; MAX_ROWS];
+    values[0] = Fe32::P;
+    Some(values)
+}
+
+// Values by which the rows up to the last have to be multiplied for their sum to be zero, the first
+// value being 1; none where there are none. The rows are changed.
+fn values_of(rows: &mut [Row], last: usize, size: usize) -> Option<[Fe32; MAX_ROWS]>
+    requires room { last < length rows.old }
+    requires last { last ≤ 25 }
+    requires size { size ≤ 25 }
+    ensures { MatchOption result
+        ((value : ℕ → Element) → value 0 ≡ fe32.one
+        → AreCancelled fe32.ops (entry rows.old) (suc last) size value → ⊥)
+        (λ values. (coefficient fe32.ops values 0 ≡ fe32.one)
+        × AreCancelled fe32.ops (entry rows.old) (suc last) size (coefficient fe32.ops values)) }
+{
+    if last == 0 {
+        return first_alone(&rows[0], size);
+    }
+    let factors = eliminate(rows, last, size);
+    let Some(mut values) = values_of(rows, last - 1, size) else {
+        return None;
+    };
+    values[last] = weighted_sum(&values, &factors, last);
+    Some(values)
+}
+
+// Values that the pattern of the erasures needs for the residue to be its remainder, behind a first
+// one; none where there are none.
+fn erased_values<Ck: Checksum>(residue: &[Fe32], erasures: &[usize]) -> Option<[Fe32; MAX_ROWS]>
+    requires { length erasures.now ≤ length Ck.code.generator }
+    ensures { MatchOption result
+        ((value : ℕ → Element) → HasRemainder fe32.ops Ck.code.generator residue.now
+        (placed erasures.now value (length erasures.now)) → ⊥)
+        (λ values. HasRemainder fe32.ops Ck.code.generator residue.now
+        (placed erasures.now (λ i. coefficient fe32.ops values (suc i)) (length erasures.now))) }
+{
+    let size = Ck::CHECKSUM_LENGTH;
+    if !ends_at(residue, size) {
+        return None;
+    }
+    let mut rows = rows_of::<Ck>(residue, erasures);
+    values_of(&mut rows, erasures.len(), size)
+}
+
+// The locations, each with the value one place further than its own.
+fn listing_of<A: Allocator + Copy>(
+    alloc: A,
+    locations: &[usize],
+    values: &[Fe32; MAX_ROWS],
+) -> Result<ShortVec<(usize, Fe32), A>, AllocError>
+    requires { length locations.now ≤ 25 }
+    ensures items { IfOk result (λ listing. listing ≡ placed locations.now
+        (λ i. coefficient fe32.ops values.now (suc i)) (length locations.now)) }
+    ensures in_place { FitsInPlace (length locations.now) → IsOk result }
+{
+    let mut listing = ShortVec::new(alloc);
+    for i in 0..locations.len() {
+        listing.push((locations[i], values[i + 1]))?;
+    }
+    Ok(listing)
+}
+
+/// The elements at the erasures, if any, that explain the residue, where the bound allows no error
+/// outside the erasures.
+pub fn correct_erased<Ck: Checksum, A: Allocator + Copy>(
+    alloc: A,
+    window: usize,
+    residue: &[Fe32],
+    erasures: &ShortVec<usize, A>,
+) -> Result<Option<ShortVec<(usize, Fe32), A>>, AllocError>
+    requires lawful { AreLawfulRoots Ck.CorrectionField.ops Ck.CorrectionField.embed Ck.code
+        Ck.ROOT_GENERATOR Ck.ROOT_EXPONENTS_START Ck.ROOT_EXPONENTS_END }
+    requires within { window ≤ Ck.CODE_LENGTH }
+    requires erased { AreErasures window erasures.now }
+    requires few { length erasures.now ≤ Ck.bound }
+    requires full { Ck.bound < length erasures.now + 2 }
+    ensures answer { IfOk result (λ answer. IsAnswerTo Ck.code Ck.bound
+        (record { residue = residue.now; window = window; erasures = erasures.now }) answer) }
+    ensures in_place { length Ck.code.generator ≤ 6 → IsOk result }
+{
+    let Some(values) = erased_values::<Ck>(residue, erasures.as_slice()) else {
+        return Ok(None);
+    };
+    let listing = listing_of(alloc, erasures.as_slice(), &values)?;
+    Ok(Some(listing))
+}

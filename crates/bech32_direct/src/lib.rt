@@ -1,0 +1,11 @@
+//! Patterns that explain a residue, found directly: one error, or as many erasures as the bound
+//! allows (BIP-173, Checksum design).
+#![tactic(auto)]
+
+mod division;
+mod erased;
+mod single;
+
+pub use self::division::{is_same, listed_engine, residue_without};
+pub use self::erased::correct_erased;
+pub use self::single::correct_single;
