@@ -1,6 +1,7 @@
 pub mod CorrectReplies
 pub mod CorrectSplit
 pub mod FewLocations
+pub mod HexWords
 pub mod LocationLists
 pub mod LocationWords
 pub mod Replies

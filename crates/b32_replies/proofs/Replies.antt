@@ -1,17 +1,20 @@
 -- What may be said of a line.
-use Rattle.std.proofs.Common.{◌≡◌, ◌⊎◌, ℕ, ◌≤◌, ◌%◌, inl, inr, ⊎_elim, List, ◌++◌, length, refl, sym, ap, subst, codes, Some, None}
+use Rattle.std.proofs.Common.{◌≡◌, ℕ, ◌≤◌, inl, inr, List, ◌++◌, refl, sym, subst, codes, Some, None}
 use Rattle.bech32_bits.specs.Bits.{to_fes}
 use Rattle.bech32_checksum.specs.Code.{Code}
+use Rattle.bech32.specs.Refusals.{IsEncodeRefusal}
+use Rattle.bech32.specs.declared.error.EncodeError.{EncodeError}
 use Rattle.bech32_hrp.specs.Hrp.{hrp_refusal}
+use Rattle.bech32_hrp.specs.declared.Error.{Error as HrpError}
 use Rattle.bech32_checksum.specs.Encoded.{IsEncodedText}
 use Rattle.bech32_encode.specs.TextLength.{encoded_length_of}
 use Rattle.b32_replies.specs.Hex.{bytes_of}
 use Rattle.b32_replies.specs.Numbers.{number_of}
 use Rattle.b32_replies.specs.declared.refusal.Refusal.{Refusal}
-use Rattle.b32_replies.specs.declared.refusal.Refusal.TheVariants.{BadHex, Memory}
+use Rattle.b32_replies.specs.declared.refusal.Refusal.TheVariants.{BadHex, Encode, Hrp}
 use Rattle.line_program.specs.Added.{Adds}
 use Rattle.line_program.specs.Refused.{err}
-use Rattle.b32_replies.specs.Reply.{OrNoMemory, IsEncodeAnswer}
+use Rattle.b32_replies.specs.Reply.{IsEncodeAnswer}
 
 -- ---- the answer to `encode`
 
@@ -23,13 +26,20 @@ encode-text code hrp hex bytes text b h is fits =
     rw (b, h) (inl (record { text = text; is_text = is; fits = fits; spelling = refl }))
 
 -- a word in hex that is refused
-pub encode-refused_hex : (code : Code) (hrp hex : List ℕ) (e : Refusal) → ((e ≡ Memory) × (length hex % 2 ≡ 0)) ⊎ ((e ≡ BadHex) × (bytes_of hex ≡ None))
-    → OrNoMemory hex (IsEncodeAnswer code hrp hex) (err (number_of e))
-encode-refused_hex code hrp hex e h =
-    ⊎_elim
-    (λ (m : (e ≡ Memory) × (length hex % 2 ≡ 0)). inr (m.1, ap (λ (x : Refusal). err (number_of x)) m.0))
-    (λ (b : (e ≡ BadHex) × (bytes_of hex ≡ None)). subst (λ (x : Refusal). OrNoMemory hex (IsEncodeAnswer code hrp hex) (err (number_of x))) (sym b.0) (inl (rw b.1 refl)))
-    h
+pub encode-refused_hex : (code : Code) (hrp hex : List ℕ) (e : Refusal) → (e ≡ BadHex) × (bytes_of hex ≡ None)
+    → IsEncodeAnswer code hrp hex (err (number_of e))
+encode-refused_hex code hrp hex e b =
+    subst (λ (x : Refusal). IsEncodeAnswer code hrp hex (err (number_of x))) (sym b.0) (rw b.1 refl)
+
+-- a human-readable part that is refused
+pub encode-refused_part : (code : Code) (hrp hex bytes : List ℕ) (e : HrpError) → bytes_of hex ≡ Some bytes → hrp_refusal hrp ≡ Some e
+    → IsEncodeAnswer code hrp hex (err (number_of (Hrp e)))
+encode-refused_part code hrp hex bytes e b h = rw (b, h) refl
+
+-- a text that is not written
+pub encode-refused_text : (code : Code) (hrp hex bytes : List ℕ) (e : EncodeError) → bytes_of hex ≡ Some bytes → hrp_refusal hrp ≡ None
+    → IsEncodeRefusal code hrp (to_fes bytes) e → IsEncodeAnswer code hrp hex (err (number_of (Encode e)))
+encode-refused_text code hrp hex bytes e b h r = rw (b, h) (inr (record { error = e; is_refusal = r; spelling = refl }))
 
 -- ---- the answer
 

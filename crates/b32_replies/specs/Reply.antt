@@ -180,8 +180,7 @@ IsCorrectAtAnswer code text word said =
 
 -- the answer to a request
 abbrev pub IsOutcome : Request → List ℕ → Type 0
-IsOutcome (Encode checksum hrp hex) said =
-    OrNoMemory hex (IsEncodeAnswer (code_of_name checksum) hrp hex) said
+IsOutcome (Encode checksum hrp hex) said = IsEncodeAnswer (code_of_name checksum) hrp hex said
 IsOutcome (Decode text) said = IsDecodeAnswer text said
 IsOutcome (SegwitEncode hrp version hex) said = IsSegwitEncodeAnswer hrp version hex said
 IsOutcome (SegwitDecode text) said = IsSegwitDecodeAnswer text said

@@ -1,6 +1,6 @@
 //! Answers `encode`.
 
-ghost use Rattle.std.specs.Prelude.{◌≡◌, ◌+◌, ◌≤◌, ◌++◌, ℕ, List, length, vec_len, vec_capacity, IfErr, MatchResult, OnOk, OnErr};
+ghost use Rattle.std.specs.Prelude.{◌≡◌, ◌+◌, ◌≤◌, ◌++◌, ℕ, List, length, vec_len, vec_capacity, IfErr, IfOk, MatchResult, OnOk, OnErr};
 ghost use Rattle.bech32_bits.specs.Bits.{to_fes};
 ghost use Rattle.bech32_checksum.specs.Encoded.{IsEncodedText};
 ghost use Rattle.bech32_encode.specs.TextLength.{encoded_length_of};
@@ -9,23 +9,35 @@ ghost use Rattle.bech32.specs.Refusals.{IsEncodeRefusal};
 ghost use Rattle.b32_replies.specs.Numbers.{number_of};
 ghost use Rattle.line_program.specs.Added.{Adds};
 ghost use Rattle.line_program.specs.Refused.{err};
-ghost use Rattle.b32_replies.specs.Reply.{OrNoMemory, IsEncodeAnswer};
+ghost use Rattle.b32_replies.specs.Reply.{IsEncodeAnswer};
 
-use crate::hex_word::bytes_of_word;
+use crate::hex_word::put_bytes_of_word;
 use crate::refusal::Refusal;
-use bech32::primitives::encode::put_text_of_bytes;
-use bech32::{Checksum, EncodeError, Hrp, encoded_length};
+use bech32::primitives::decode::CodeLengthError;
+use bech32::primitives::encode::{put_text_of_bytes, text_length};
+use bech32::{Checksum, EncodeError, Hrp};
 use line_program::append;
-use std::alloc::Allocator;
 
-/// The length of the text of bytes, where the checksum allows as much.
-fn length_of<Ck: Checksum>(hrp: Hrp, bytes: &[u8]) -> Result<usize, EncodeError>
-    ensures { MatchResult result
-        (λ n. (n ≡ encoded_length_of Ck.code (hrp_bytes hrp) (to_fes bytes.now))
+/// No text of 1,023 characters has more bytes.
+const ROOM: usize = 640;
+
+/// The length of the text of so many bytes, where the checksum allows as much.
+fn length_of<Ck: Checksum>(hrp: &Hrp, size: usize) -> Result<usize, EncodeError>
+    requires { Ck.code.code_length ≤ 1023 }
+    ensures value { (bytes : List ℕ) → size ≡ length bytes → MatchResult result
+        (λ n. (n ≡ encoded_length_of Ck.code (hrp_bytes hrp.now) (to_fes bytes))
         × (n ≤ Ck.code.code_length))
-        (λ e. IsEncodeRefusal Ck.code (hrp_bytes hrp) (to_fes bytes.now) e) }
+        (λ e. IsEncodeRefusal Ck.code (hrp_bytes hrp.now) (to_fes bytes) e) }
+    ensures fits { IfOk result (λ n. (n ≤ 1023) × (size ≤ 640)) }
 {
-    Ok(encoded_length::<Ck>(hrp, bytes)?)
+    let count = text_length::<Ck>(hrp, size);
+    if count > Ck::CODE_LENGTH {
+        return Err(EncodeError::TooLong(CodeLengthError {
+            encoded_length: count,
+            code_length: Ck::CODE_LENGTH,
+        }));
+    }
+    Ok(count)
 }
 
 /// Puts the text of bytes into a buffer that has just its length.
@@ -56,25 +68,21 @@ fn append_text<Ck: Checksum>(out: &mut Vec<u8>, hrp: &Hrp, bytes: &[u8], count: 
 }
 
 /// Adds the text of bytes under a human-readable part, or leaves all as it was.
-pub fn encode<Ck: Checksum, A: Allocator + Copy>(
-    alloc: A,
-    hrp: &str,
-    hex: &str,
-    out: &mut Vec<u8>,
-) -> Result<(), Refusal>
+pub fn encode<Ck: Checksum>(hrp: &str, hex: &str, out: &mut Vec<u8>) -> Result<(), Refusal>
     requires short { Ck.code.code_length ≤ 1023 }
     requires room { vec_len out.old + 2047 ≤ vec_capacity out.old }
     ensures ok { OnOk result
         (Adds (IsEncodeAnswer Ck.code hrp.now hex.now) out.old.items out.new.items) }
     ensures err { IfErr result
-        (λ e. OrNoMemory hex.now (IsEncodeAnswer Ck.code hrp.now hex.now) (err (number_of e))) }
+        (λ e. IsEncodeAnswer Ck.code hrp.now hex.now (err (number_of e))) }
     ensures same { OnErr result (out.new.items ≡ out.old.items) }
     ensures capacity { vec_capacity out.old ≤ vec_capacity out.new }
 {
-    let bytes = bytes_of_word(alloc, hex)?;
+    let mut room = [0u8; ROOM];
+    let size = put_bytes_of_word(hex, &mut room)?;
     let hrp = Hrp::parse(hrp)?;
-    let count = length_of::<Ck>(hrp, bytes.as_slice())?;
+    let count = length_of::<Ck>(&hrp, size)?;
     append(out, b"ok ");
-    append_text::<Ck>(out, &hrp, bytes.as_slice(), count);
+    append_text::<Ck>(out, &hrp, &room[..size], count);
     Ok(())
 }

@@ -36,8 +36,8 @@ fn execute_command<A: Allocator + Copy>(
 {
     match command {
         Command::Encode { checksum, hrp, hex } => match checksum {
-            ChecksumName::Bech32 => encode::<Bech32, A>(alloc, hrp, hex, out),
-            ChecksumName::Bech32m => encode::<Bech32m, A>(alloc, hrp, hex, out),
+            ChecksumName::Bech32 => encode::<Bech32>(hrp, hex, out),
+            ChecksumName::Bech32m => encode::<Bech32m>(hrp, hex, out),
         },
         Command::Decode { text } => decode(alloc, text, out),
         Command::SegwitEncode { hrp, version, hex } => segwit_encode(alloc, hrp, version, hex, out),

@@ -54,11 +54,7 @@ fn refused_at_first(
 #[test]
 fn each_request_refused(rt: HostRuntime) -> Result<(), AllocError> {
     // Each takes more memory than the smallest heap has.
-    let rows: [(&[u8], &[u8]); 4] = [
-        (
-            b"encode bech32m test ff1e76e8199196d454941c45d1b3a323f1433bd6",
-            b"ok test1lu08d6qejxtdg4y5r3zarvary0c5xw7kmz4lky\n",
-        ),
+    let rows: [(&[u8], &[u8]); 3] = [
         (
             b"decode TB1VT82HPZY9SWH27Q5PSTZQKDGR02GN8F9CJJL2L",
             b"ok tb 62ceab84442c1d7578140c162059a81bd4899d25\n",
@@ -79,8 +75,12 @@ fn each_request_refused(rt: HostRuntime) -> Result<(), AllocError> {
 }
 
 #[test]
-fn corrections_take_no_memory(rt: HostRuntime) -> Result<(), AllocError> {
-    let rows: [(&[u8], &[u8]); 3] = [
+fn texts_and_corrections_take_no_memory(rt: HostRuntime) -> Result<(), AllocError> {
+    let rows: [(&[u8], &[u8]); 4] = [
+        (
+            b"encode bech32m test ff1e76e8199196d454941c45d1b3a323f1433bd6",
+            b"ok test1lu08d6qejxtdg4y5r3zarvary0c5xw7kmz4lky\n",
+        ),
         (b"correct bech32 a12uel5q", b"ok 0:l a12uel5l\n"),
         (b"correct bech32 a12uel5q 3", b"ok 3:q 0:l a12uel5l\n"),
         (b"correct bech32 a12uel5q 0,1,2,3,4,5,6,7,8,9,10", b"none\n"),

@@ -1,4 +1,3 @@
-use Rattle.std.proofs.Common.{inl}
 use Rattle.std.proofs.lemmas.Result.{err_from_is_err_and, on_ok_weaker, IfErr-weaker}
 use Rattle.b32_replies.specs.Numbers.{number_of}
 use Rattle.b32_replies.specs.Request.{code_of_name}
@@ -8,12 +7,10 @@ use Rattle.b32_replies.proofs.Replies.{Adds-weaker}
 use Rattle.b32_replies.proofs.reply.execute_command.Goals as goal
 
 pub returns-in-Bech32-clause-ok : goal.returns-in-Bech32-clause-ok
-returns-in-Bech32-clause-ok g c =
-    rw c.in-Encode.is (rw c.in-Bech32.is (on_ok_weaker c.encode.result (Adds-weaker _ _ _ _ (λ said h. inl h)) c.encode.ensures.ok))
+returns-in-Bech32-clause-ok g c = rw c.in-Encode.is (rw c.in-Bech32.is c.encode.ensures.ok)
 
 pub returns-in-Bech32m-clause-ok : goal.returns-in-Bech32m-clause-ok
-returns-in-Bech32m-clause-ok g c =
-    rw c.in-Encode.is (rw c.in-Bech32m.is (on_ok_weaker c.encode-in-Bech32m.result (Adds-weaker _ _ _ _ (λ said h. inl h)) c.encode-in-Bech32m.ensures.ok))
+returns-in-Bech32m-clause-ok g c = rw c.in-Encode.is (rw c.in-Bech32m.is c.encode-in-Bech32m.ensures.ok)
 
 pub returns-in-Decode-clause-ok : goal.returns-in-Decode-clause-ok
 returns-in-Decode-clause-ok g c = rw c.in-Decode.is c.decode.ensures.ok
