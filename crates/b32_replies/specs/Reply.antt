@@ -1,6 +1,6 @@
 -- What may be said of a line.
-use Rattle.std.specs.Prelude.{◌≡◌, ◌≤◌, ◌⊎◌, ◌%◌, ℕ, List, [], ◌∷◌}
-use Rattle.std.specs.Prelude.{◌++◌, length, codes, None, MatchOption}
+use Rattle.std.specs.Prelude.{◌≡◌, ◌≤◌, ◌⊎◌, ℕ, List, [], ◌∷◌}
+use Rattle.std.specs.Prelude.{◌++◌, codes, None, MatchOption}
 use Rattle.std.specs.Fmt.{decimal}
 use Rattle.bech32_gf.specs.declared.gf32.Fe32.{Fe32}
 use Rattle.bech32_bits.specs.Bits.{to_fes}
@@ -24,7 +24,7 @@ use Rattle.bech32_segwit.specs.declared.error.DecodeError.{DecodeError as Segwit
 use Rattle.bech32_segwit.specs.declared.error.EncodeError.{EncodeError as SegwitEncodeError}
 use Rattle.line_program.specs.Refused.{err}
 use Rattle.line_program.specs.Reply.{IsReplyBy}
-use Rattle.b32_replies.specs.Hex.{AreBytes, bytes_of, hex_of}
+use Rattle.b32_replies.specs.Hex.{AreBytes, IsHex, bytes_of, hex_of}
 use Rattle.bech32_numbers.specs.Numbers.{number_of_checked_error, number_of_hrp_error}
 use Rattle.bech32_numbers.specs.Numbers.{number_of_decode_error, number_of_encode_error}
 use Rattle.bech32_numbers.specs.Numbers.{number_of_segwit_decode_error}
@@ -33,9 +33,9 @@ use Rattle.b32_replies.specs.Locations.{AreLocations, IsNoListOfLocations}
 use Rattle.b32_replies.specs.Request.{Request, Encode, Decode, SegwitEncode, SegwitDecode}
 use Rattle.b32_replies.specs.Request.{Correct, CorrectAt, code_of_name, request_of}
 
--- an answer, or out of memory for the bytes of a word in hex, whose digits are then in pairs
+-- an answer, or out of memory for the bytes that a word stands for
 abbrev pub OrNoMemory : List ℕ → (List ℕ → Type 0) → List ℕ → Type 0
-OrNoMemory hex Says said = Says said ⊎ ((length hex % 2 ≡ 0) × (said ≡ err 91))
+OrNoMemory hex Says said = Says said ⊎ (IsHex hex × (said ≡ err 91))
 
 -- the text of a human-readable part and bytes is said
 pub record SaysText (code : Code) (hrp bytes said : List ℕ) : Type 0 where

@@ -6,7 +6,7 @@ ghost use Rattle.std.specs.Char.{is_ascii_hexdigit};
 ghost use Rattle.std.specs.List.{list_all};
 ghost use Rattle.std.specs.Result.{result_ok};
 ghost use Rattle.hex.specs.Hex.{decode_of, encode_lower};
-ghost use Rattle.b32_replies.specs.Hex.{AreBytes, bytes_of, hex_of};
+ghost use Rattle.b32_replies.specs.Hex.{AreBytes, IsHex, bytes_of, hex_of};
 
 use crate::refusal::Refusal;
 use line_program::append;
@@ -20,11 +20,11 @@ fn put_bytes(bytes: &mut [u8], digits: &str) -> bool
     hex::decode_to_slice(digits, bytes).is_ok()
 }
 
-/// The bytes that a word stands for. Memory is needed only where its digits are in pairs.
+/// The bytes that a word stands for. Memory is needed only where it stands for some.
 pub fn bytes_of_word<A: Allocator>(alloc: A, word: &str) -> Result<Vec<u8, A>, Refusal>
     ensures { MatchResult result
         (λ bytes. bytes_of word.now ≡ Some bytes.items)
-        (λ e. ((e ≡ Refusal.Memory) × (length word.now % 2 ≡ 0))
+        (λ e. ((e ≡ Refusal.Memory) × IsHex word.now)
         ⊎ ((e ≡ Refusal.BadHex) × (bytes_of word.now ≡ None))) }
 {
     if word == "-" {
@@ -33,7 +33,8 @@ pub fn bytes_of_word<A: Allocator>(alloc: A, word: &str) -> Result<Vec<u8, A>, R
     if word.len() % 2 != 0 {
         return Err(Refusal::BadHex);
     }
-    let Ok(mut bytes) = vec![in alloc; 0u8; word.len() / 2] else {
+    let size = size_of_digits(word)?;
+    let Ok(mut bytes) = vec![in alloc; 0u8; size] else {
         return Err(Refusal::Memory);
     };
     if !put_bytes(bytes.as_mut_slice(), word) {
