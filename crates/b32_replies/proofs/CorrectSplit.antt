@@ -1,8 +1,9 @@
 -- Lines of `correct`.
 use Rattle.std.specs.List.{list_any}
-use Rattle.std.proofs.Common.{◌≡◌, ℕ, Bool, true, false, ◌||◌, cond, List, [], ◌∷◌, refl, ap, ◌∙◌, None, codes}
+use Rattle.std.proofs.Common.{◌≡◌, ℕ, Bool, true, false, cond, List, [], ◌∷◌, refl, ap, ◌∙◌, None, codes}
 use Rattle.line_program.specs.Words.{words, is_empty}
 use Rattle.b32_replies.specs.Request.{correct_arguments, correct_request, request_of, request_of_words}
+use Rattle.line_program.proofs.NoRequest.{or-last}
 use Rattle.line_program.proofs.Split.{words-some}
 
 -- such a line asks for what its arguments ask for
@@ -12,11 +13,6 @@ correct-line line arguments e = ap (λ (all : List (List ℕ)). cond (list_any i
 none_either_way : (b : Bool) (arguments : List (List ℕ)) → correct_request arguments ≡ None → cond b None (correct_request arguments) ≡ None
 none_either_way true arguments e = refl
 none_either_way false arguments e = e
-
-or-last : (a b : Bool) → a || (b || true) ≡ true
-or-last true b = refl
-or-last false true = refl
-or-last false false = refl
 
 -- a third argument that is no single word, or an empty one
 pub no-locations : (arguments locations checksum text : List ℕ) → words arguments ≡ checksum ∷ text ∷ words locations

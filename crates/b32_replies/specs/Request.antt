@@ -14,7 +14,7 @@ use Rattle.b32_replies.specs.declared.command.Command.TheVariants.{
 }
 use Rattle.b32_replies.specs.declared.command.Command.TheVariants.{Correct as CorrectCommand}
 use Rattle.b32_replies.specs.declared.command.Command.TheVariants.{CorrectAt as CorrectAtCommand}
-use Rattle.line_program.specs.Words.{words, has_empty_word, is_empty}
+use Rattle.line_program.specs.Words.{is_empty, request_by}
 
 -- the text of bytes, or the bytes of a text; the segwit address of a program, or the program of an
 -- address; a mistyped text mended, with or without erasures; each argument as its word
@@ -97,7 +97,7 @@ request_of_words (name ∷ arguments) =
 
 -- what a line asks for, which has no empty word
 abbrev pub request_of : List ℕ → Option Request
-request_of line = if has_empty_word line then None else request_of_words (words line)
+request_of line = request_by request_of_words line
 
 -- what a command asks for
 abbrev pub request_of_command : Command → Request

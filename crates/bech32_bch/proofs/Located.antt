@@ -1,7 +1,7 @@
 -- A shortest register of the syndromes of a pattern with few errors vanishes at their locations, and at no others.
-use Rattle.std.specs.Prelude.{◌↔◌, ◌≢◌, IsTrue, Bool}
+use Rattle.std.specs.Prelude.{◌↔◌, ◌≢◌, IsTrue, Bool, IfSome, MatchOption}
 use Rattle.std.specs.List.{AllByRecursion}
-use Rattle.std.proofs.Common.{◌≡◌, ℕ, suc, ◌+◌, ◌-◌, ◌*◌, ◌<◌, ◌≤◌, List, [], ◌∷◌, zero, map, length, get_or, take, subst, sym, ap, ◌∙◌, refl, arith}
+use Rattle.std.proofs.Common.{◌≡◌, ℕ, suc, ◌+◌, ◌-◌, ◌*◌, ◌<◌, ◌≤◌, List, [], ◌∷◌, zero, map, length, get_or, take, Option, Some, None, ◌⊎◌, inl, inr, subst, sym, ap, ◌∙◌, refl, arith}
 use Rattle.std.proofs.Math.Decide.{dec_lt}
 use Rattle.std.proofs.lemmas.List.{take_all, length-take-le}
 use Rattle.bech32_gf.specs.Field.{Ops, IsField, value_at, power}
@@ -60,7 +60,7 @@ module _ {K : Type 0} {o : Ops K} (l : IsField o) (same : K → K → Bool) (tel
 
   module _ (b : K) (w : ℕ) (s : List ℕ) (items left r : List K) (room degree : ℕ) (steps : Steps b w s items left r room degree) where
     -- locations at which the register vanishes, none of them erased, may be those of errors
-    pub may_be_errors : 2 * degree ≤ room → (found : List ℕ) → length found ≡ degree → found ≡ take degree (roots_below o same r b w)
+    may_be_errors : 2 * degree ≤ room → (found : List ℕ) → length found ≡ degree → found ≡ take degree (roots_below o same r b w)
         → ((i : ℕ) → IsAmong i found → IsAmong i s → ⊥) → AreErrorLocations w s (length items) (ordered found)
     may_be_errors half found size is apart = record {
       in_order = ordered_in_order found (subst IsRising (sym is) (take_rises degree (roots_below o same r b w) (roots_rise r b w)));
@@ -68,6 +68,16 @@ module _ {K : Type 0} {o : Ops K} (l : IsField o) (same : K → K → Bool) (tel
       outside = all_of (λ i. IsAmong i s → ⊥) (ordered found) (λ i m. apart i ((ordered_among found i).0 m));
       few = omega (arith, length-ordered found, steps.room_is);
     }
+
+    -- what a search for the locations answers
+    abbrev Answers : Option (List ℕ) → Type 0
+    Answers answer = MatchOption answer
+        ((length (roots_below o same r b w) < degree) ⊎ ((i : ℕ) × (IsAmong i (take degree (roots_below o same r b w)) × IsAmong i s)))
+        (λ found. (found ≡ ordered (take degree (roots_below o same r b w))) × ((length (take degree (roots_below o same r b w)) ≡ degree) × ((i : ℕ) → IsAmong i (take degree (roots_below o same r b w)) → IsAmong i s → ⊥)))
+
+    pub may_be_located : 2 * degree ≤ room → (answer : Option (List ℕ)) → Answers answer → IfSome answer (λ found. AreErrorLocations w s (length items) found)
+    may_be_located half None h = tt
+    may_be_located half (Some found) h = subst (AreErrorLocations w s (length items)) (sym h.0) (may_be_errors half (take degree (roots_below o same r b w)) h.1.0 refl h.1.1)
 
     module _ (start : ℕ) (e : List (ℕ × K)) (h : AreSumsOf o b start w s items e) where
       -- the locations of the pattern outside the erasures
@@ -125,7 +135,7 @@ module _ {K : Type 0} {o : Ops K} (l : IsField o) (same : K → K → Bool) (tel
       pub half_enough : 2 * degree ≤ room
       half_enough = omega (arith, basis.few, located.short, len_is)
 
-      pub roots_enough : degree ≤ length (roots_below o same r b w)
+      roots_enough : degree ≤ length (roots_below o same r b w)
       roots_enough = omega (arith, many, located.short, len_is)
 
       among_found : (found : List ℕ) → found ≡ take degree (roots_below o same r b w) → (i : ℕ) → IsAmong i found ↔ IsAmong i (outside s e)
@@ -133,14 +143,19 @@ module _ {K : Type 0} {o : Ops K} (l : IsField o) (same : K → K → Bool) (tel
           let all : found ≡ roots_below o same r b w = is ∙ take_all degree (roots_below o same r b w) most in
           ((λ m. among_ms i (subst (IsAmong i) all m)), (λ m. subst (IsAmong i) (sym all) (ms_among i m)))
 
-      pub none_erased : (found : List ℕ) → found ≡ take degree (roots_below o same r b w) → (i : ℕ) → IsAmong i found → IsAmong i s → ⊥
+      none_erased : (found : List ℕ) → found ≡ take degree (roots_below o same r b w) → (i : ℕ) → IsAmong i found → IsAmong i s → ⊥
       none_erased found is i m k = (outside_located s e i ((among_found found is i).0 m)).1 k
 
-      pub errors_found : (found : List ℕ) → found ≡ take degree (roots_below o same r b w) → AreLocationsOutside s e (ordered found)
+      errors_found : (found : List ℕ) → found ≡ take degree (roots_below o same r b w) → AreLocationsOutside s e (ordered found)
       errors_found found is i = (
         (λ m. outside_located s e i ((among_found found is i).0 ((ordered_among found i).0 m))),
         (λ h. (ordered_among found i).1 ((among_found found is i).1 (located_outside s e i h.0 h.1))),
       )
+
+      pub located_or_none : (answer : Option (List ℕ)) → Answers answer → MatchOption answer ⊥ (λ found. AreLocationsOutside s e found)
+      located_or_none None (inl few) = absurd (omega (arith, few, roots_enough))
+      located_or_none None (inr h) = none_erased (take degree (roots_below o same r b w)) refl h.0 h.1.0 h.1.1
+      located_or_none (Some found) h = subst (AreLocationsOutside s e) (sym h.0) (errors_found (take degree (roots_below o same r b w)) refl)
 
   pub prepared : (b : K) (w : ℕ) (s : List ℕ) (items items' known known' left left' r r' : List K) (room degree n m : ℕ)
       → HasLongOrder o b w → AreErasures w s → known ≡ locators o b s → length s ≤ length items

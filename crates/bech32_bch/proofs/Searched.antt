@@ -1,7 +1,8 @@
 -- One location after another, as a search for roots finds them.
 use Rattle.std.specs.Prelude.{Bool, true, false}
 use Rattle.std.proofs.Common.{◌≡◌, ℕ, zero, suc, ◌+◌, ◌<◌, ◌≤◌, List, [], ◌∷◌, ◌++◌, length, take, sym, ap, ◌∙◌, refl, arith}
-use Rattle.std.proofs.lemmas.List.{append-nil, append_assoc}
+use Rattle.std.proofs.Math.Decide.{dec_lt}
+use Rattle.std.proofs.lemmas.List.{append-nil, append_assoc, take_all}
 use Rattle.bech32_gf.specs.Field.{Ops, IsField}
 use Rattle.bech32_poly.specs.RootSearch.{RootSearch, left_of, multiplied_each, total_of, value_after}
 use Rattle.bech32_poly.proofs.RootTerms.{search_over, stepped_found, stepped_missed, value_after-now}
@@ -14,7 +15,7 @@ taken (x ∷ xs) ys zero e = absurd (omega (arith, e))
 taken (x ∷ xs) ys (suc n) e = ap (λ u. x ∷ u) (taken xs ys n (omega (arith, e)))
 
 -- the first of all that is found
-pub first_found : (found left roots : List ℕ) (n : ℕ) → found ++ left ≡ roots → length found ≡ n → found ≡ take n roots
+first_found : (found left roots : List ℕ) (n : ℕ) → found ++ left ≡ roots → length found ≡ n → found ≡ take n roots
 first_found found left roots n whole size = taken found left n size ∙ ap (take n) whole
 
 module _ {K : Type 0} {o : Ops K} (l : IsField o) (same : K → K → Bool) where
@@ -45,8 +46,12 @@ module _ {K : Type 0} {o : Ops K} (l : IsField o) (same : K → K → Bool) wher
       ∙ ap (λ u. found ++ u) (sym (stepped_missed l same (searching terms factors place window) (searching terms' factors place' window) is_root none more (root_told terms factors sum z is_root size summed zero_is told) stepped refl next refl))
       ∙ whole
 
-  -- where the window ends, all are found
-  pub all_found : (terms factors : List K) (place window n : ℕ) (found roots : List ℕ) → window ≤ place → length found < n → found ++ left_of o same (searching terms factors place window) ≡ roots → length roots < n
-  all_found terms factors place window n found roots over few whole =
-      let all : found ≡ roots = sym (append-nil found) ∙ ap (λ u. found ++ u) (sym (search_over l same (searching terms factors place window) over)) ∙ whole in
-      omega (arith, ap (λ u. length u) all, few)
+  -- where the window ends or enough are found, the first of all are found
+  pub stopped : (terms factors : List K) (place window n : ℕ) (found roots : List ℕ) → (length found < n → window ≤ place) → length found ≤ n
+      → found ++ left_of o same (searching terms factors place window) ≡ roots → found ≡ take n roots
+  stopped terms factors place window n found roots over few whole = elim (dec_lt (length found) n) [
+    | yes k ↦
+        let all : found ≡ roots = sym (append-nil found) ∙ ap (λ u. found ++ u) (sym (search_over l same (searching terms factors place window) (over k))) ∙ whole in
+        all ∙ sym (take_all n roots (omega (arith, ap (λ u. length u) all, few)))
+    | no k ↦ first_found found (left_of o same (searching terms factors place window)) roots n whole (omega (arith, few, k))
+  ]

@@ -1,11 +1,14 @@
 //! The one listing that may explain a residue, over any field and an extension of it.
 
-ghost use Rattle.std.specs.Prelude.{◌≡◌, ◌≤◌, ◌+◌, ◌++◌, ℕ, List, length, IfOk, IfSome, IsOk, MatchOption};
+ghost use Rattle.std.specs.Prelude.{◌≡◌, ◌≢◌, ◌≤◌, ◌+◌, ◌++◌, ℕ, List, length, drop, map, IfOk, IfSome, IsOk, MatchOption};
+ghost use Rattle.std.specs.List.{AllByRecursion};
 ghost use Rattle.bech32_bch.specs.Erasures.{AreErasures};
 ghost use Rattle.bech32_bch.specs.Listing.{IsListing};
-ghost use Rattle.bech32_bch.specs.Pattern.{Solves};
-ghost use Rattle.bech32_bch.specs.Search.{AreUsableRoots, HasLongOrder, IsCandidate, locators};
+ghost use Rattle.bech32_bch.specs.Pattern.{IsPattern, Solves, locations};
+ghost use Rattle.bech32_bch.specs.Search.{AreExplained, AreSumsOf, AreUsableRoots, HasLongOrder, IsCandidate, locators};
+ghost use Rattle.bech32_poly.specs.Distinct.{IsAmong};
 ghost use Rattle.bech32_poly.specs.FieldVec.{FitsInPlace};
+ghost use Rattle.bech32_poly.specs.Pattern.{inside};
 
 use crate::locations::error_locations;
 use crate::short_vec::ShortVec;
@@ -35,14 +38,69 @@ fn joined<A: Allocator + Copy>(
     ensures joined { IfOk result (λ list. list ≡ first.now ++ second.now) }
     ensures in_place { FitsInPlace (length first.now + length second.now) → IsOk result }
 {
-    let mut list = ShortVec::new(alloc);
-    for x in first {
-        list.push(*x)?;
-    }
-    for x in second {
-        list.push(*x)?;
-    }
+    let mut list = ShortVec::from_slice(alloc, first)?;
+    list.push_all(second)?;
     Ok(list)
+}
+
+// The listing of the erasures and the errors that were found outside them; none if one has no
+// value, or an error that was found the value zero.
+fn listed<E: ExtensionField, A: Allocator + Copy>(
+    alloc: A,
+    list: &FieldVec<E, A>,
+    roots: Roots<E>,
+    erasures: &ShortVec<usize, A>,
+    found: &ShortVec<usize, A>,
+) -> Result<Option<ShortVec<(usize, E::BaseField), A>>, AllocError>
+    requires { length erasures.now + length found.now ≤ length list.now }
+    ensures placed { IfOk result (λ answer. IfSome answer (λ listing.
+        locations listing ≡ erasures.now ++ found.now)) }
+    ensures not_zero { IfOk result (λ answer. IfSome answer (λ listing. AllByRecursion
+        (λ p. p.1 ≢ E.BaseField.ops.zero) (drop (length erasures.now) listing))) }
+    ensures found { IfOk result (λ answer. (v : ℕ → E.BaseField) → AreExplained
+        E.ops E.embed roots.base roots.start list.now (erasures.now ++ found.now) v
+        → ((i : ℕ) → IsAmong i (drop (length erasures.now) (erasures.now ++ found.now))
+        → v i ≢ E.BaseField.ops.zero)
+        → MatchOption answer ⊥ (λ listing.
+        listing ≡ map (λ i. (i, v i)) (erasures.now ++ found.now))) }
+    ensures in_place { FitsInPlace (length list.now) → IsOk result }
+{
+    let places = joined(alloc, erasures.as_slice(), found.as_slice())?;
+    values(
+        alloc,
+        list,
+        roots.base,
+        roots.start,
+        places.as_slice(),
+        erasures.len(),
+    )
+}
+
+// The listing that alone can be that of a pattern with these syndromes.
+fn candidate_of<E: ExtensionField, A: Allocator + Copy>(
+    alloc: A,
+    list: &FieldVec<E, A>,
+    roots: Roots<E>,
+    window: usize,
+    erasures: &ShortVec<usize, A>,
+    known: &FieldVec<E, A>,
+) -> Result<Option<ShortVec<(usize, E::BaseField), A>>, AllocError>
+    requires order { HasLongOrder E.ops roots.base window }
+    requires erased { AreErasures window erasures.now }
+    requires known { known.now ≡ locators E.ops roots.base erasures.now }
+    requires room { length erasures.now ≤ length list.now }
+    ensures listed { IfOk result (λ answer. IfSome answer (λ listing.
+        IsCandidate E.BaseField.ops window erasures.now (length list.now) listing)) }
+    ensures found { IfOk result (λ answer. (e : List (ℕ × E.BaseField))
+        → IsPattern E.BaseField.ops window e
+        → AreSumsOf E.ops roots.base roots.start window erasures.now list.now (inside E.embed e)
+        → MatchOption answer ⊥ (λ listing. IsListing E.BaseField.ops erasures.now e listing)) }
+    ensures in_place { length list.now ≤ 6 → IsOk result }
+{
+    let Some(found) = error_locations(alloc, list, roots.base, window, erasures, known)? else {
+        return Ok(None);
+    };
+    listed(alloc, list, roots, erasures, &found)
 }
 
 /// The listing that alone can be that of a pattern that solves: the erasures and the errors outside
@@ -75,16 +133,5 @@ pub fn candidate<E: ExtensionField, A: Allocator + Copy>(
         return Ok(None);
     }
     let list = syndromes(alloc, residue, roots.base, roots.start, roots.count)?;
-    let Some(found) = error_locations(alloc, &list, roots.base, window, erasures, known)? else {
-        return Ok(None);
-    };
-    let places = joined(alloc, erasures.as_slice(), found.as_slice())?;
-    values(
-        alloc,
-        &list,
-        roots.base,
-        roots.start,
-        places.as_slice(),
-        erasures.len(),
-    )
+    candidate_of(alloc, &list, roots, window, erasures, known)
 }

@@ -42,10 +42,19 @@ impl<T: Copy + Default, A: Allocator + Copy> ShortVec<T, A> {
         ensures in_place { FitsInPlace (length items.now) → IsOk result }
     {
         let mut copy = Self::new(alloc);
-        for item in items {
-            copy.push(*item)?;
-        }
+        copy.push_all(items)?;
         Ok(copy)
+    }
+
+    // Adds items at the end. It allocates nothing where they fit in place too.
+    pub(crate) fn push_all(&mut self, items: &[T]) -> Result<(), AllocError>
+        ensures ok { OnOk result (self.new ≡ self.old ++ items.now) }
+        ensures in_place { FitsInPlace (length self.old + length items.now) → IsOk result }
+    {
+        for item in items {
+            self.push(*item)?;
+        }
+        Ok(())
     }
 
     /// Adds an item at the end. It allocates nothing where that one fits in place too.

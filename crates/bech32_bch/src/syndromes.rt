@@ -1,6 +1,6 @@
 //! Syndromes: the values of a residue at the roots of the generator.
 
-ghost use Rattle.std.specs.Prelude.{IfOk, IsOk};
+ghost use Rattle.std.specs.Prelude.{◌≡◌, length, IfOk, IsOk};
 ghost use Rattle.bech32_bch.specs.Search.{AreSyndromes};
 ghost use Rattle.bech32_poly.specs.FieldVec.{FitsInPlace};
 
@@ -19,6 +19,7 @@ pub(crate) fn syndromes<E: ExtensionField, A: Allocator + Copy>(
 ) -> Result<FieldVec<E, A>, AllocError>
     ensures syndromes { IfOk result
         (λ s. AreSyndromes E.ops E.embed base start count residue.now s) }
+    ensures size { IfOk result (λ s. length s ≡ count) }
     ensures in_place { FitsInPlace count → IsOk result }
 {
     let mut list = FieldVec::new(alloc);

@@ -1,8 +1,9 @@
 //! The values of a pattern at given locations.
 
-ghost use Rattle.std.specs.Prelude.{◌≡◌, ◌≢◌, ◌≤◌, ◌<◌, ℕ, Some, length, map, drop, IfOk, IfSome, IsOk, MatchOption};
+ghost use Rattle.std.specs.Prelude.{◌≡◌, ◌≢◌, ◌≤◌, ◌<◌, ℕ, Some, [], length, map, drop, IsTrue, IfOk, IfSome, IsOk, MatchOption, slice_index};
 ghost use Rattle.std.specs.List.{AllByRecursion};
-ghost use Rattle.bech32_bch.specs.Knock.{without};
+ghost use Rattle.bech32_gf.specs.Field.{power};
+ghost use Rattle.bech32_bch.specs.Knock.{gap, knocks};
 ghost use Rattle.bech32_bch.specs.Pattern.{locations};
 ghost use Rattle.bech32_bch.specs.Search.{AreExplained, IsExplained, known_at, left_at, locators};
 ghost use Rattle.bech32_poly.specs.Distinct.{IsAmong};
@@ -16,7 +17,47 @@ use bech32_poly::arithmetic::{Arithmetic, power_of};
 use bech32_poly::fieldvec::FieldVec;
 use std::alloc::{AllocError, Allocator};
 
-// The value at `place`, where all places at which something is wrong are given.
+// The value that is left at a locator, where the terms at the others are taken out.
+fn value_of_left<E: ExtensionField>(
+    left: &[E],
+    here: E,
+    start: usize,
+    others: &[E],
+) -> Option<E::BaseField>
+    requires { 0 < length left.now }
+    ensures { (v : E.BaseField)
+        → IsExplained E.ops (coefficient E.ops left.now 0)
+        (E.ops.mul (power E.ops here start) (gap E.ops here others.now)) (E.embed v)
+        → result ≡ Some v }
+{
+    let known = power_of(here, start).times(distances(here, others));
+    if known.is_zero() {
+        return None;
+    }
+    left[0].times(known.multiplicative_inverse()).to_base()
+}
+
+// The value that the syndromes have at a locator, where all others are given.
+fn value_beside<E: ExtensionField, A: Allocator + Copy>(
+    alloc: A,
+    syndromes: &FieldVec<E, A>,
+    here: E,
+    start: usize,
+    others: &[E],
+) -> Result<Option<E::BaseField>, AllocError>
+    requires { 0 < length syndromes.now }
+    ensures value { IfOk result (λ answer. (v : E.BaseField)
+        → length others.now < length syndromes.now
+        → IsExplained E.ops (knocks E.ops others.now (coefficient E.ops syndromes.now) 0)
+        (E.ops.mul (power E.ops here start) (gap E.ops here others.now)) (E.embed v)
+        → answer ≡ Some v) }
+    ensures in_place { FitsInPlace (length syndromes.now) → IsOk result }
+{
+    let left = without_terms(alloc, syndromes.as_slice(), others)?;
+    Ok(value_of_left(left.as_slice(), here, start, others))
+}
+
+// The value at the k-th place, where all places at which something is wrong are given.
 fn value_of_place<E: ExtensionField, A: Allocator + Copy>(
     alloc: A,
     syndromes: &FieldVec<E, A>,
@@ -24,29 +65,64 @@ fn value_of_place<E: ExtensionField, A: Allocator + Copy>(
     start: usize,
     places: &[usize],
     all: &FieldVec<E, A>,
-    place: usize,
+    k: usize,
 ) -> Result<Option<E::BaseField>, AllocError>
-    requires few { length (without place places.now) < length syndromes.now }
+    requires few { length places.now ≤ length syndromes.now }
+    requires at { k < length places.now }
     requires locators { all.now ≡ locators E.ops base places.now }
     ensures value { IfOk result (λ answer. (v : E.BaseField)
-        → IsExplained E.ops (left_at E.ops base (coefficient E.ops syndromes.now) places.now place)
-        (known_at E.ops base start places.now place) (E.embed v)
+        → IsExplained E.ops
+        (left_at E.ops base (coefficient E.ops syndromes.now) places.now (slice_index places.now k))
+        (known_at E.ops base start places.now (slice_index places.now k)) (E.embed v)
         → answer ≡ Some v) }
     ensures in_place { FitsInPlace (length places.now) → FitsInPlace (length syndromes.now)
         → IsOk result }
 {
+    let place = places[k];
     let others = other_locators(alloc, base, places, all.as_slice(), place)?;
-    let left = without_terms(alloc, syndromes.as_slice(), others.as_slice())?;
-    let here = power_of(base, place);
-    let known = power_of(here, start).times(distances(here, others.as_slice()));
-    if known.is_zero() {
-        return Ok(None);
-    }
-    Ok(
-        left.as_slice()[0]
-            .times(known.multiplicative_inverse())
-            .to_base(),
+    value_beside(
+        alloc,
+        syndromes,
+        power_of(base, place),
+        start,
+        others.as_slice(),
     )
+}
+
+// Lists the places with their values; whether each has one, and none behind the first `given` is
+// zero.
+fn push_values<E: ExtensionField, A: Allocator + Copy>(
+    syndromes: &FieldVec<E, A>,
+    base: E,
+    start: usize,
+    places: &[usize],
+    all: &FieldVec<E, A>,
+    given: usize,
+    listing: &mut ShortVec<(usize, E::BaseField), A>,
+) -> Result<bool, AllocError>
+    requires few { length places.now ≤ length syndromes.now }
+    requires locators { all.now ≡ locators E.ops base places.now }
+    requires empty { listing.old ≡ [] }
+    ensures placed { IfOk result (λ done. IsTrue done → locations listing.new ≡ places.now) }
+    ensures not_zero { IfOk result (λ done. IsTrue done
+        → AllByRecursion (λ p. p.1 ≢ E.BaseField.ops.zero) (drop given listing.new)) }
+    ensures found { IfOk result (λ done. (v : ℕ → E.BaseField)
+        → AreExplained E.ops E.embed base start syndromes.now places.now v
+        → ((i : ℕ) → IsAmong i (drop given places.now) → v i ≢ E.BaseField.ops.zero)
+        → IsTrue done × (listing.new ≡ map (λ i. (i, v i)) places.now)) }
+    ensures in_place { FitsInPlace (length syndromes.now) → IsOk result }
+{
+    for k in 0..places.len() {
+        let alloc = listing.allocator();
+        let Some(v) = value_of_place(alloc, syndromes, base, start, places, all, k)? else {
+            return Ok(false);
+        };
+        if k >= given && v.is_zero() {
+            return Ok(false);
+        }
+        listing.push((places[k], v))?;
+    }
+    Ok(true)
 }
 
 /// The places with their values; none if one has no value, or the value zero where it is not among
@@ -72,16 +148,16 @@ pub(crate) fn values<E: ExtensionField, A: Allocator + Copy>(
 {
     let locators = locators_of(alloc, base, places)?;
     let mut listing = ShortVec::new(alloc);
-    for k in 0..places.len() {
-        let place = places[k];
-        let Some(v) = value_of_place(alloc, syndromes, base, start, places, &locators, place)?
-        else {
-            return Ok(None);
-        };
-        if k >= given && v.is_zero() {
-            return Ok(None);
-        }
-        listing.push((place, v))?;
+    if push_values(
+        syndromes,
+        base,
+        start,
+        places,
+        &locators,
+        given,
+        &mut listing,
+    )? {
+        return Ok(Some(listing));
     }
-    Ok(Some(listing))
+    Ok(None)
 }

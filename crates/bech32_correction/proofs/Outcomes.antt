@@ -15,7 +15,7 @@ use Rattle.bech32_checksum.specs.Encoded.{char_of_element}
 use Rattle.bech32_checksum.specs.TextPolynomial.{text_polynomial}
 use Rattle.bech32_bch.specs.Erasures.{with_erasures}
 use Rattle.bech32_bch.specs.Pattern.{Solves}
-use Rattle.bech32_corrector.specs.Carried.{of_checksum}
+use Rattle.bech32_solver.specs.Carried.{of_checksum}
 use Rattle.bech32_direct.specs.Question.{Explains, IsAnswerTo, IsOnlyListing, Question}
 use Rattle.bech32_decode.specs.Acceptance.{Accepts}
 use Rattle.bech32_decode.specs.Parts.{unchecked_data, unchecked_length, unchecked_part}

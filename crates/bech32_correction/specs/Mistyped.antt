@@ -18,7 +18,8 @@ use Rattle.bech32_decode.specs.Text.{IsText}
 use Rattle.bech32_decode.specs.declared.unchecked.UncheckedHrpstring.{UncheckedHrpstring}
 use Rattle.bech32_refusals.specs.declared.error.CheckedHrpstringError.{CheckedHrpstringError}
 use Rattle.bech32_refusals.specs.declared.error.CheckedHrpstringError.TheVariants.{Checksum, Parse}
-use Rattle.bech32_corrector.specs.Carried.{of_checked, of_checksum}
+use Rattle.bech32_solver.specs.Carried.{of_checksum}
+use Rattle.bech32_corrector.specs.Carried.{of_checked}
 use Rattle.bech32_correction.specs.MendedElements.{mended}
 use Rattle.bech32_direct.specs.Question.{Explains, IsOnlyListing, Question}
 use Rattle.bech32_correction.specs.declared.correcting.Correction.{Correction}

@@ -1,14 +1,12 @@
 //! What a checksum says of a mistyped text.
 
-ghost use Rattle.std.specs.Prelude.{◌≡◌, ◌≤◌, ◌<◌, ℕ, [], List, length, None, Err, IfOk, IsOk, MatchOption, MatchResult};
-ghost use Rattle.std.specs.List.{AllByRecursion};
+ghost use Rattle.std.specs.Prelude.{◌≡◌, ◌≤◌, ℕ, [], List, length, None, Err, IfOk, IsOk, MatchOption, MatchResult};
 ghost use Rattle.bech32_checksum.specs.Code.{bech32, bech32m};
-ghost use Rattle.bech32_bch.specs.Erasures.{with_erasures};
-ghost use Rattle.bech32_corrector.specs.Carried.{of_checksum};
+ghost use Rattle.bech32_solver.specs.Carried.{of_checksum};
 ghost use Rattle.bech32_correction.specs.Mistyped.{HasNoListing, IsCorrectRefusal, IsCorrectorOf, IsListedCorrection, IsListing, IsListingOf, IsReadAs, IsReadRefusal, IsReading, IsRefusal};
-ghost use Rattle.bech32_direct.specs.Question.{IsAnswerTo};
 ghost use Rattle.bech32_correction.specs.declared.error.CorrectError.TheVariants.{Memory, Refused};
-ghost use Rattle.bech32_decode.specs.Refusals.{IsInvalidBy};
+ghost use Rattle.bech32_decode.specs.Refusals.{IsInvalidBy, IsValidBy};
+ghost use Rattle.bech32_refusals.specs.declared.error.ChecksumError.TheVariants.{InvalidResidue};
 
 use crate::error::CorrectError;
 use crate::no_memory::NoMemory;
@@ -17,7 +15,7 @@ use bech32_checksum::{Bech32, Bech32m, Checksum, CorrectingChecksum};
 use bech32_corrector::{Corrector, are_below, distinct_in};
 use bech32_decode::UncheckedHrpstring;
 use bech32_gf::gf32::Fe32;
-use bech32_refusals::{CheckedHrpstringError, ChecksumError};
+use bech32_refusals::{CheckedHrpstringError, ChecksumError, InvalidResidueError};
 use std::alloc::{AllocError, Allocator, Global};
 
 /// Locations, of which 0 is the last character, and the element to add at each.
@@ -35,6 +33,29 @@ pub enum Correction<M, C = ()> {
     Unexplained(C),
 }
 
+/// The residue error of a text that the checksum refuses for its residue; none where it accepts the text.
+///
+/// # Errors
+///
+/// The checksum's refusal of the text, but for a wrong checksum.
+pub fn residue_error_in<Ck: Checksum>(
+    unchecked: &UncheckedHrpstring<'_>,
+) -> Result<Option<InvalidResidueError>, ChecksumError>
+    ensures { MatchResult result
+        (λ found. MatchOption found
+        (IsValidBy Ck.code unchecked.now)
+        (λ e. IsInvalidBy Ck.code unchecked.now (InvalidResidue e)))
+        (λ e. IsInvalidBy Ck.code unchecked.now e × (of_checksum e ≡ None)) }
+{
+    let Err(refusal) = unchecked.validate_checksum::<Ck>() else {
+        return Ok(None);
+    };
+    match refusal {
+        ChecksumError::InvalidResidue(error) => Ok(Some(error)),
+        refusal => Err(refusal),
+    }
+}
+
 /// What finds the errors of a text that the checksum refuses for its residue; none where it accepts the
 /// text.
 ///
@@ -50,42 +71,14 @@ pub fn corrector_of<Ck: Checksum, A: Allocator + Copy>(
         (λ found. (text : List ℕ) → IsReadAs text unchecked.now → IsReading Ck.code text found)
         (λ e. IsInvalidBy Ck.code unchecked.now e × (of_checksum e ≡ None)) }
 {
-    let Err(refusal) = unchecked.validate_checksum::<Ck>() else {
-        return Ok(None);
-    };
-    match refusal {
-        ChecksumError::InvalidResidue(error) => {
+    match residue_error_in::<Ck>(unchecked) {
+        Ok(Some(error)) => {
             let window = unchecked.data_part_ascii().len();
             Ok(Some(Corrector::new(alloc, error.residue(), window)))
         }
-        refusal => Err(refusal),
+        Ok(None) => Ok(None),
+        Err(refusal) => Err(refusal),
     }
-}
-
-// The listing that answers a corrector, with the given locations as erasures.
-fn listing_of<Ck: Checksum, A: Allocator + Copy>(
-    alloc: A,
-    corrector: &Corrector<Ck, A>,
-    given: &[usize],
-) -> Result<Option<Listing<A>>, AllocError>
-    requires { AllByRecursion (λ i. i < corrector.now.window) given.now }
-    ensures answer { IfOk result (λ answer. IsAnswerTo Ck.code Ck.bound
-        (record {
-          residue = corrector.now.residue;
-          window = corrector.now.window;
-          erasures = with_erasures [] given.now;
-        }) answer) }
-    ensures in_place { length Ck.code.generator ≤ 6 → IsOk result }
-{
-    let most = corrector.singleton_bound();
-    let Some(erasures) = distinct_in(alloc, given, most)? else {
-        return Ok(None);
-    };
-    if most - erasures.len() < 2 {
-        return corrector.filled_listing(erasures);
-    }
-    let erased = corrector.with(erasures)?;
-    erased.listing()
 }
 
 // The listing that corrects the text of which this is the corrector. None where a given location is
@@ -104,44 +97,15 @@ pub(crate) fn correction_of<Ck: Checksum, A: Allocator + Copy>(
     if !are_below(given, corrector.window()) {
         return Ok(None);
     }
-    listing_of(alloc, corrector, given)
-}
-
-// What a corrector says of the text that it is of.
-fn correction_with<Ck: Checksum, A: Allocator + Copy>(
-    alloc: A,
-    corrector: Corrector<Ck, A>,
-    erasures: &[usize],
-) -> Result<Correction<Listing<A>, Corrector<Ck, A>>, AllocError>
-    ensures value { IfOk result (λ answer. (text : List ℕ)
-        → IsCorrectorOf Ck.code text corrector
-        → IsListedCorrection Ck.code Ck.bound text erasures.now answer) }
-    ensures in_place { length Ck.code.generator ≤ 6 → IsOk result }
-{
-    match correction_of(alloc, &corrector, erasures)? {
-        Some(listing) => Ok(Correction::Mended(listing)),
-        None => Ok(Correction::Unexplained(corrector)),
-    }
-}
-
-// What a checksum with lawful roots says of a text that was read.
-fn correction_by<Ck: Checksum, A: Allocator + Copy>(
-    alloc: A,
-    unchecked: &UncheckedHrpstring<'_>,
-    erasures: &[usize],
-) -> Result<Correction<Listing<A>, Corrector<Ck, A>>, CorrectError>
-    requires { Ck.lawful }
-    ensures value { MatchResult result
-        (λ answer. (text : List ℕ) → IsReadAs text unchecked.now
-        → IsListedCorrection Ck.code Ck.bound text erasures.now answer)
-        (λ e. IsReadRefusal Ck.code unchecked.now e) }
-    ensures in_place { length Ck.code.generator ≤ 6 → result ≡ Err Memory → ⊥ }
-{
-    let Some(corrector) = corrector_of::<Ck, A>(alloc, unchecked)? else {
-        return Ok(Correction::Accepted);
+    let most = corrector.singleton_bound();
+    let Some(erasures) = distinct_in(alloc, given, most)? else {
+        return Ok(None);
     };
-    let said = correction_with(alloc, corrector, erasures)?;
-    Ok(said)
+    if most - erasures.len() < 2 {
+        return corrector.filled_listing(erasures);
+    }
+    let erased = corrector.with(erasures)?;
+    erased.listing()
 }
 
 /// What a checksum says of a text that was read, where the given locations are erasures: whether it
@@ -162,7 +126,13 @@ pub fn listing_of_unchecked<Ck: CorrectingChecksum, A: Allocator + Copy>(
         (λ e. IsReadRefusal Ck.code unchecked.now e) }
     ensures in_place { length Ck.code.generator ≤ 6 → result ≡ Err Memory → ⊥ }
 {
-    correction_by::<Ck, A>(alloc, unchecked, erasures)
+    let Some(corrector) = corrector_of::<Ck, A>(alloc, unchecked)? else {
+        return Ok(Correction::Accepted);
+    };
+    match correction_of(alloc, &corrector, erasures)? {
+        Some(listing) => Ok(Correction::Mended(listing)),
+        None => Ok(Correction::Unexplained(corrector)),
+    }
 }
 
 /// What a checksum says of a text, where the given locations are erasures: whether it accepts the text,

@@ -1,19 +1,11 @@
 -- The residue error that an error holds.
-use Rattle.std.specs.Prelude.{Option, Some, None}
+use Rattle.std.specs.Prelude.{Option, None}
 use Rattle.bech32_refusals.specs.declared.error.InvalidResidueError.{InvalidResidueError}
-use Rattle.bech32_refusals.specs.declared.error.ChecksumError.{ChecksumError}
-use Rattle.bech32_refusals.specs.declared.error.ChecksumError.TheVariants.{CodeLength}
-use Rattle.bech32_refusals.specs.declared.error.ChecksumError.TheVariants.{InvalidResidue}
-use Rattle.bech32_refusals.specs.declared.error.ChecksumError.TheVariants.{InvalidLength}
+use Rattle.bech32_solver.specs.Carried.{of_checksum}
 use Rattle.bech32_refusals.specs.declared.error.CheckedHrpstringError.{CheckedHrpstringError}
 use Rattle.bech32_refusals.specs.declared.error.CheckedHrpstringError.TheVariants as checked
 use Rattle.bech32_refusals.specs.declared.error.SegwitHrpstringError.{SegwitHrpstringError}
 use Rattle.bech32_refusals.specs.declared.error.SegwitHrpstringError.TheVariants as segwit
-
-abbrev pub of_checksum : ChecksumError → Option InvalidResidueError
-of_checksum (InvalidResidue e) = Some e
-of_checksum (CodeLength e) = None
-of_checksum InvalidLength = None
 
 abbrev pub of_checked : CheckedHrpstringError → Option InvalidResidueError
 of_checked (checked.Checksum e) = of_checksum e

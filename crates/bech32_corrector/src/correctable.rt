@@ -9,6 +9,7 @@ use bech32_checksum::Checksum;
 use bech32_refusals::{
     CheckedHrpstringError, ChecksumError, InvalidResidueError, SegwitHrpstringError,
 };
+use bech32_solver::residue_error_of;
 use std::alloc::Allocator;
 
 /// An error that may carry the residue of a text, from which its errors are found.
@@ -69,15 +70,12 @@ impl CorrectableError for InvalidResidueError {
 }
 
 impl CorrectableError for ChecksumError {
-    ghost use Rattle.bech32_corrector.specs.Carried.{of_checksum};
+    ghost use Rattle.bech32_solver.specs.Carried.{of_checksum};
 
     ghost carried = { of_checksum };
 
     fn residue_error(&self) -> Option<&InvalidResidueError> {
-        match self {
-            ChecksumError::InvalidResidue(e) => Some(e),
-            _ => None,
-        }
+        residue_error_of(self)
     }
 }
 

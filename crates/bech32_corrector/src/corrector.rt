@@ -1,6 +1,6 @@
 //! What finds the errors in a text.
 
-ghost use Rattle.std.specs.Prelude.{◌≡◌, ◌≤◌, ◌<◌, ◌+◌, ◌∷◌, [], take, length, IfOk, IsOk, OnErr, OnOk};
+ghost use Rattle.std.specs.Prelude.{◌≡◌, ◌≤◌, ◌<◌, ◌+◌, [], length, IfOk, IsOk, OnErr, OnOk};
 ghost use Rattle.std.specs.List.{AllByRecursion};
 ghost use Rattle.bech32_checksum.specs.Roots.{AreLawfulRoots};
 ghost use Rattle.bech32_bch.specs.Erasures.{AreErasures, with_erasures};
@@ -10,15 +10,14 @@ ghost use Rattle.bech32_direct.specs.Question.{IsAnswerTo, Question};
 ghost use Rattle.bech32_gf.specs.Fe32 as fe32;
 ghost use Rattle.bech32_poly.specs.FieldVec.{FitsInPlace};
 
-use crate::correction::{bound, correct};
 use crate::errors::{ErrorIterator, ShortIter};
-use bech32_bch::{ShortVec, contains, locators_of};
+use bech32_bch::{ShortVec, locators_of};
 use bech32_checksum::Checksum;
 use bech32_direct::{correct_erased, residue_without};
-use bech32_gf::field::Field;
 use bech32_gf::gf32::Fe32;
 use bech32_poly::fieldvec::FieldVec;
 use bech32_refusals::MAX_DEGREE;
+use bech32_solver::{bound, correct, extended};
 use std::alloc::{AllocError, Allocator, Global};
 use std::fmt;
 use std::marker::{Model, PhantomData};
@@ -251,38 +250,4 @@ impl<Ck: Checksum, A: Allocator + Copy> Corrector<Ck, A> {
         left.residue = residue_without::<Ck>(&self.residue, error);
         Ok(left)
     }
-}
-
-// Puts a location behind the erasures where it is not one of them.
-fn add_erasure<A: Allocator + Copy>(
-    erasures: &mut ShortVec<usize, A>,
-    place: usize,
-) -> Result<(), AllocError>
-    ensures ok { OnOk result (erasures.new ≡ with_erasures erasures.old (place ∷ [])) }
-    ensures err { OnErr result (erasures.new ≡ erasures.old) }
-    ensures in_place { FitsInPlace (length (with_erasures erasures.old (place ∷ [])))
-        → IsOk result }
-{
-    if contains(erasures.as_slice(), place) {
-        return Ok(());
-    }
-    erasures.push(place)
-}
-
-// Puts those that are not there behind the erasures, and gives the locators of all. Where memory
-// runs out, some of them may be there.
-fn extended<K: Field, A: Allocator + Copy>(
-    erasures: &mut ShortVec<usize, A>,
-    base: K,
-    more: &[usize],
-) -> Result<FieldVec<K, A>, AllocError>
-    ensures front { take (length erasures.old) erasures.new ≡ erasures.old }
-    ensures ok { OnOk result (erasures.new ≡ with_erasures erasures.old more.now) }
-    ensures locators { IfOk result (λ known. known ≡ locators K.ops base erasures.new) }
-    ensures in_place { FitsInPlace (length (with_erasures erasures.old more.now)) → IsOk result }
-{
-    for place in more {
-        add_erasure(erasures, *place)?;
-    }
-    locators_of(erasures.allocator(), base, erasures.as_slice())
 }

@@ -3,7 +3,6 @@
 #![tactic(auto)]
 
 mod correctable;
-mod correction;
 mod corrector;
 mod erasures;
 mod errors;

@@ -26,48 +26,29 @@ use Rattle.bech32_bch.proofs.Patterns.{all_located, at_absent, at_listed, locati
 use Rattle.bech32_bch.proofs.Places.{all_push, look, mem_left, mem_right, once-append}
 use Rattle.bech32_bch.proofs.Rising.{once_in_order}
 use Rattle.bech32_decode.specs.Acceptance.{Accepts, IsAccepted}
+use Rattle.bech32_decode.specs.Parts.{unchecked_data, unchecked_part}
+use Rattle.bech32_decode.specs.Refusals.{IsInvalidBy}
 use Rattle.bech32_decode.specs.Text.{IsText}
+use Rattle.bech32_decode.specs.declared.unchecked.UncheckedHrpstring.{UncheckedHrpstring}
+use Rattle.bech32_refusals.specs.ResidueRows.{residue_of}
+use Rattle.bech32_refusals.specs.declared.error.ChecksumError.TheVariants.{InvalidResidue}
+use Rattle.bech32_refusals.specs.declared.error.InvalidResidueError.{InvalidResidueError}
 use Rattle.bech32_decode.proofs.Grammar.{only-from_IsText}
 use Rattle.bech32_decode.proofs.Spelling.{lower_text}
 use Rattle.bech32_correction.specs.MendedElements.{mended}
-use Rattle.bech32_correction.specs.Mistyped.{AreInside, HasResidue, IsCorrectorOf, IsMendedText, IsPlacedIn, IsRefusedFor, question_of}
+use Rattle.bech32_correction.specs.Mistyped.{AreInside, HasResidue, IsMendedText, IsPlacedIn, IsReadAs, question_of}
 use Rattle.bech32_near_patterns.specs.Nearest.{AreNearest, AreRising, DetectsFour, IsEarlier, IsListed, IsNear, IsNearListing}
-use Rattle.bech32_near.specs.NearTexts.{AreNearTexts, AreNearestListings, BeginsWith, IsNearText, IsSearch, IsSearched, IsSearcherOf, differences_outside}
+use Rattle.bech32_near.specs.NearTexts.{AreNearTexts, AreNearestListings, BeginsWith, IsNearText, IsSearch, IsSearched, IsSearcherOf, LeavesResidue, differences_outside}
 use Rattle.bech32_direct.specs.Question.{Question}
 use Rattle.bech32_correction.proofs.Accepted.{front, in_parts, mended_accepted}
-use Rattle.bech32_corrector.proofs.Added.{erasures_more}
+use Rattle.bech32_correction.proofs.Outcomes.{refused_for, some_degree}
+use Rattle.bech32_solver.proofs.Added.{erasures_more}
 use Rattle.bech32_near.proofs.Differing.{differences, few_outside, is_pattern, mended_to, none_differ, residue_left}
 use Rattle.bech32_direct.proofs.Mends.{mends}
 use Rattle.bech32_near_patterns.proofs.NearestListing.{each_below}
 use Rattle.bech32_near_patterns.proofs.NearestPatterns.{gathered_of}
 
 -- ---- correctors
-
-no_elements : (xs : List Fe32) → length xs ≡ 0 → xs ≡ []
-no_elements [] h = refl
-no_elements (x ∷ xs) h = absurd (omega (arith, h))
-
--- a checksum of no characters refuses no text for its residue
-pub some_characters : (code : Code) (text hrp data_part : List ℕ) (residue : List Fe32) → length code.target ≡ length code.generator → IsRefusedFor code text hrp data_part residue → 0 < length code.generator
-some_characters code text hrp data_part residue size is = elim (dec_lt 0 (length code.generator)) [
-  | yes some ↦ some
-  | no none ↦
-      let short : length is.read.remainder ≡ length code.generator = is.read.is_remainder.short in
-      absurd (is.not_target (no_elements is.read.remainder (omega arith) ∙ sym (no_elements code.target (omega arith))))
-]
-
--- a corrector of a refused text searches it
-pub search-from_corrector : (code : Code) (text : List ℕ) (c : Question) → length code.target ≡ length code.generator → IsCorrectorOf code text c → IsSearch code text (Some c)
-search-from_corrector code text c size is = (
-  some_characters code text is.hrp is.data_part c.residue size is.refused,
-  record {
-    hrp = is.hrp;
-    data_part = is.data_part;
-    read = is.refused.read;
-    window = is.window;
-    fresh = is.fresh;
-  },
-)
 
 -- an accepted text leaves no residue
 pub read-from_accepted : (code : Code) (text hrp data_part : List ℕ) (residue : List Fe32) → ((n : ℕ) → coefficient ops residue n ≡ fe32.zero) → IsAccepted code text hrp data_part
@@ -89,26 +70,43 @@ all_zero [] h n = refl
 all_zero (x ∷ xs) h zero = fe32.path x fe32.zero (eqb-true x.value 0 (and_parts (eqb x.value 0) (are_zero xs) h).0)
 all_zero (x ∷ xs) h (suc n) = all_zero xs (and_parts (eqb x.value 0) (are_zero xs) h).1 n
 
-pub search-from_accepted : (code : Code) (text hrp data_part : List ℕ) (residue : List Fe32) (window : ℕ) (c : Question) → c ≡ record { residue = residue; window = window; erasures = [] }
-    → are_zero residue ≡ true → 0 < length code.generator → IsText text hrp data_part → Accepts code text → window ≡ length data_part → IsSearch code text (Some c)
-search-from_accepted code text hrp data_part residue window c whole zeros some grammar (h, d, is) at =
-    let parts = only-from_IsText text h d is.grammar hrp data_part grammar.split grammar.data_bytes in
+pub leaves-from_accepted : (code : Code) (text : List ℕ) (residue : List Fe32) → are_zero residue ≡ true → Accepts code text → LeavesResidue code text residue
+leaves-from_accepted code text residue zeros (hrp, data_part, is) =
+    (hrp, data_part, read-from_accepted code text hrp data_part residue (all_zero residue zeros) is, λ none. (hrp, data_part, is))
+
+-- a refused text leaves the residue that its refusal holds
+pub leaves-from_error : (code : Code) (text : List ℕ) (u : UncheckedHrpstring) (e : InvalidResidueError) (residue : List Fe32) → length code.target ≡ length code.generator
+    → IsReadAs text u → IsInvalidBy code u (InvalidResidue e) → residue ≡ residue_of e → LeavesResidue code text residue
+leaves-from_error code text u e residue size is v same = (
+  unchecked_part u,
+  unchecked_data u,
+  subst (HasResidue code text (unchecked_part u) (unchecked_data u)) (sym same) (refused_for code text u e is v).read,
+  λ none. absurd (omega (arith, some_degree code u e size v, none)),
+)
+
+-- the corrector of what a text leaves searches it
+pub search-from_residue : (code : Code) (text : List ℕ) (u : UncheckedHrpstring) (residue : List Fe32) (window : ℕ) (c : Question) → c ≡ record { residue = residue; window = window; erasures = [] }
+    → 0 < length code.generator → IsReadAs text u → LeavesResidue code text residue → window ≡ length (unchecked_data u) → IsSearch code text (Some c)
+search-from_residue code text u residue window c whole some is (hrp, data_part, has, accepts) at =
+    let parts = only-from_IsText text hrp data_part has.grammar (unchecked_part u) (unchecked_data u) is.grammar.split is.grammar.data_bytes in
     subst (λ (q : Question). IsSearch code text (Some q)) (sym whole) (
       some,
       record {
-        hrp = h;
-        data_part = d;
-        read = read-from_accepted code text h d residue (all_zero residue zeros) is;
+        hrp = hrp;
+        data_part = data_part;
+        read = has;
         window = at ∙ ap length parts.1;
         fresh = refl;
       },
     )
 
--- an accepted text is no longer than the code
-pub fits_code : (code : Code) (text hrp data_part : List ℕ) (n w : ℕ) → code.code_length ≡ n → IsText text hrp data_part → Accepts code text → w ≡ length data_part → w ≤ n
-fits_code code text hrp data_part n w limit grammar (h, d, is) at =
-    let whole : length text ≡ length hrp + length (49 ∷ data_part) = ap (λ (u : List ℕ). length u) grammar.split ∙ length-append hrp (49 ∷ data_part) in
-    let fits : length text ≤ code.code_length = is.text_length in
+-- the data part of a text that leaves a residue is no longer than the code
+pub fits_code : (code : Code) (text : List ℕ) (u : UncheckedHrpstring) (residue : List Fe32) (n w : ℕ) → code.code_length ≡ n → IsReadAs text u → LeavesResidue code text residue
+    → w ≡ length (unchecked_data u) → w ≤ n
+fits_code code text u residue n w limit is (hrp, data_part, has, accepts) at =
+    let whole : length text ≡ length (unchecked_part u) + length (49 ∷ unchecked_data u) =
+    ap (λ (t : List ℕ). length t) is.grammar.split ∙ length-append (unchecked_part u) (49 ∷ unchecked_data u) in
+    let fits : length text ≤ code.code_length = has.text_length in
     omega arith
 
 -- ---- listings

@@ -79,6 +79,12 @@ pub record AreNearTexts (code : Code) (bound : ℕ)
   pub itself : IsNearText code bound text given errors text
       → BeginsWith (lowered text) (map (λ m. m.1) found)
 
+-- the text leaves this residue, and a checksum of no characters accepts it
+abbrev pub LeavesResidue : Code → List ℕ → List Fe32 → Type 0
+LeavesResidue code text residue =
+    (hrp : List ℕ) × (data_part : List ℕ) × HasResidue code text hrp data_part residue
+    × (length code.generator ≡ 0 → Accepts code text)
+
 -- a corrector of the text: it has the residue, which may be zero, searches the data part, and has
 -- no erasures yet
 pub record IsSearcherOf (code : Code) (text : List ℕ) (corrector : Question) : Type 0 where

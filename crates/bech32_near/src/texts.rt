@@ -1,19 +1,15 @@
 //! All texts near a mistyped one.
 
-ghost use Rattle.std.specs.Prelude.{◌≡◌, ◌<◌, ◌≤◌, ℕ, [], List, None, length, map, IfOk, MatchResult, string_bytes};
+ghost use Rattle.std.specs.Prelude.{◌≡◌, ◌<◌, ℕ, List, None, length, map, IfOk, MatchResult, string_bytes};
 ghost use Rattle.std.specs.List.{AllByRecursion};
-ghost use Rattle.bech32_gf.specs.Fe32.{ops};
-ghost use Rattle.bech32_bch.specs.Erasures.{with_erasures};
-ghost use Rattle.bech32_corrector.specs.Carried.{of_checksum};
+ghost use Rattle.bech32_solver.specs.Carried.{of_checksum};
 ghost use Rattle.bech32_correction.specs.Mistyped.{IsCorrectRefusal, IsMendedText, IsPlacedIn, IsReadAs, IsReadRefusal};
-ghost use Rattle.bech32_near_patterns.specs.Nearest.{AreNearest, DetectsFour};
-ghost use Rattle.bech32_near.specs.NearTexts.{AreNearestListings, AreNearTexts, IsSearch, IsSearcherOf};
-ghost use Rattle.bech32_decode.specs.Acceptance.{Accepts};
+ghost use Rattle.bech32_near.specs.NearTexts.{AreNearestListings, AreNearTexts, IsSearch, IsSearcherOf, LeavesResidue};
 ghost use Rattle.bech32_decode.specs.Refusals.{IsInvalidBy};
 
 use bech32_bch::ShortVec;
 use bech32_checksum::{Checksum, CorrectingChecksum};
-use bech32_correction::{CorrectError, Listing, Mended, corrector_of, mended_by};
+use bech32_correction::{CorrectError, Listing, Mended, mended_by, residue_error_in};
 use bech32_corrector::{Corrector, are_below, distinct_in};
 use bech32_decode::UncheckedHrpstring;
 use bech32_gf::gf32::Fe32;
@@ -32,22 +28,20 @@ pub struct NearTexts<T, C> {
     pub corrector: Option<C>,
 }
 
-// The corrector of a text that was read and that the checksum accepts; none where the checksum has no
-// characters.
-fn searcher_of_accepted<Ck: Checksum, A: Allocator + Copy>(
-    alloc: A,
+// The residue of a text that was read, which is zero where the checksum accepts it.
+fn residue_in<Ck: Checksum>(
     unchecked: &UncheckedHrpstring<'_>,
-) -> Option<Corrector<Ck, A>>
-    requires lawful { Ck.lawful }
-    requires read { (text : List ℕ) × IsReadAs text unchecked.now × Accepts Ck.code text }
-    ensures { (text : List ℕ) → IsReadAs text unchecked.now → Accepts Ck.code text
-        → IsSearch Ck.code text result }
+) -> Result<[Fe32; MAX_DEGREE], ChecksumError>
+    ensures { MatchResult result
+        (λ residue. (text : List ℕ) → IsReadAs text unchecked.now
+        → LeavesResidue Ck.code text residue)
+        (λ e. IsInvalidBy Ck.code unchecked.now e × (of_checksum e ≡ None)) }
 {
-    if Ck::CHECKSUM_LENGTH == 0 {
-        return None;
+    match residue_error_in::<Ck>(unchecked) {
+        Ok(Some(error)) => Ok(error.residue()),
+        Ok(None) => Ok([Fe32::Q; MAX_DEGREE]),
+        Err(refusal) => Err(refusal),
     }
-    let window = unchecked.data_part_ascii().len();
-    Some(Corrector::new(alloc, [Fe32::Q; MAX_DEGREE], window))
 }
 
 // The corrector of a text that was read, whether or not the checksum accepts it; none where the
@@ -62,36 +56,12 @@ fn searcher_of<Ck: Checksum, A: Allocator + Copy>(
         (λ found. (text : List ℕ) → IsReadAs text unchecked.now → IsSearch Ck.code text found)
         (λ e. IsInvalidBy Ck.code unchecked.now e × (of_checksum e ≡ None)) }
 {
-    match corrector_of::<Ck, A>(alloc, unchecked)? {
-        Some(corrector) => Ok(Some(corrector)),
-        None => Ok(searcher_of_accepted(alloc, unchecked)),
+    let residue = residue_in::<Ck>(unchecked)?;
+    if Ck::CHECKSUM_LENGTH == 0 {
+        return Ok(None);
     }
-}
-
-// The listings of the corrector, with the given locations as erasures.
-fn listings_of<Ck: Checksum, A: Allocator + Copy>(
-    alloc: A,
-    corrector: &Corrector<Ck, A>,
-    given: &[usize],
-    errors: usize,
-) -> Result<Listings<A>, AllocError>
-    requires { AllByRecursion (λ i. i < corrector.now.window) given.now }
-    ensures all { IfOk result (λ listings. AreNearest Ck.code Ck.bound
-        (record {
-          residue = corrector.now.residue;
-          window = corrector.now.window;
-          erasures = with_erasures [] given.now;
-        }) errors listings.items) }
-    ensures one { IfOk result (λ listings.
-        DetectsFour ops Ck.code.generator corrector.now.window → given.now ≡ [] → errors ≤ 2
-        → length listings.items ≤ 1) }
-{
-    let most = corrector.singleton_bound();
-    let Some(erasures) = distinct_in(alloc, given, most)? else {
-        return Ok(Vec::new(alloc));
-    };
-    let erased = corrector.with(erasures)?;
-    nearest_listings(&erased, errors)
+    let window = unchecked.data_part_ascii().len();
+    Ok(Some(Corrector::new(alloc, residue, window)))
 }
 
 // The listings of the text of which this is the corrector. None where a given location is not in
@@ -109,7 +79,12 @@ fn listings_within<Ck: Checksum, A: Allocator + Copy>(
     if !are_below(given, corrector.window()) {
         return Ok(Vec::new(alloc));
     }
-    listings_of(alloc, corrector, given, errors)
+    let most = corrector.singleton_bound();
+    let Some(erasures) = distinct_in(alloc, given, most)? else {
+        return Ok(Vec::new(alloc));
+    };
+    let erased = corrector.with(erasures)?;
+    nearest_listings(&erased, errors)
 }
 
 // Each listing with the text that it mends.

@@ -7,7 +7,7 @@ ghost use Rattle.bech32_gf.specs.Fe32 as fe32;
 
 use bech32_checksum::Checksum;
 use bech32_corrector::Corrector;
-use bech32_near_patterns::{Listings, are_few, gather};
+use bech32_near_patterns::{Listings, gathered};
 use std::alloc::{AllocError, Allocator};
 
 /// All patterns below the corrector's window that explain its residue with at most so many errors
@@ -34,10 +34,5 @@ pub fn nearest_listings<Ck: Checksum, A: Allocator + Copy>(
         DetectsFour fe32.ops Ck.code.generator corrector.now.window
         → corrector.now.erasures ≡ [] → errors ≤ 2 → length listings.items ≤ 1) }
 {
-    let mut found = Vec::new(corrector.allocator());
-    if !are_few(corrector, 0, 0) {
-        return Ok(found);
-    }
-    gather(corrector, corrector.window(), errors, &mut found)?;
-    Ok(found)
+    gathered(corrector, corrector.window(), errors)
 }

@@ -1,5 +1,5 @@
 -- What the steps of a search for the nearest patterns rest on.
-use Rattle.std.specs.Prelude.{◌==◌, ◌≢◌, ◌↔◌, IsOk, IsTrue, OnOk, Result, Ok, Err, Option, Some, None, Bool, true, false, cond}
+use Rattle.std.specs.Prelude.{◌==◌, ◌≢◌, ◌↔◌, IfOk, IsOk, IsTrue, OnOk, Result, Ok, Err, Option, Some, None, Bool, true, false, cond}
 use Rattle.std.specs.List.{AllByRecursion}
 use Rattle.std.proofs.Common.{◌≡◌, ℕ, zero, suc, ◌+◌, ◌*◌, ◌<◌, ◌≤◌, List, [], ◌∷◌, ◌++◌, map, take, drop, get_or, length, ◌⊎◌, inl, inr, subst, sym, ap, ◌∙◌, refl, arith, append_assoc, length-take}
 use Rattle.std.proofs.Math.Decide.{dec_lt}
@@ -16,7 +16,7 @@ use Rattle.bech32_direct.specs.TakenOff.{IsTakenOff}
 use Rattle.bech32_near_patterns.specs.Nearest.{AreNearest, DetectsFour, IsEarlier}
 use Rattle.bech32_near_patterns.specs.Steps.{AreAdded, AreAll, CanBeHighest, HasHighest, HasHighestAt, IsGathered, IsTried, raised, with_highest}
 use Rattle.bech32_direct.specs.Question.{IsAnswerTo, Question}
-use Rattle.bech32_corrector.proofs.Added.{erasures_more}
+use Rattle.bech32_solver.proofs.Added.{erasures_more}
 use Rattle.bech32_near_patterns.proofs.NearestAdded.{IsAnswer, erased_not, erased_one, erasures_first, with_value}
 use Rattle.bech32_near_patterns.proofs.NearestAlone.{at_most_one}
 use Rattle.bech32_near_patterns.proofs.Elements.{lowest}
@@ -196,6 +196,25 @@ module _ (code : Code) (bound : ℕ) (q : Question) (errors limit : ℕ) (start 
 pub none_nearest : (code : Code) (bound : ℕ) (q : Question) (errors : ℕ) (found : List (List (ℕ × Fe32))) → found ≡ [] → bound < length q.erasures → AreNearest code bound q errors found
 none_nearest code bound q errors found none many =
     subst (λ (u : List (List (ℕ × Fe32))). AreNearest code bound q errors u) (sym none) (no_nearest is_field fe32.value code.generator q.residue q.erasures q.window bound errors many)
+
+-- what was gathered is all that is asked for
+module _ {R E : Type 0} (items : R → List (List (ℕ × Fe32))) (code : Code) (bound : ℕ) (q : Question) (errors limit : ℕ) (window : limit ≡ q.window) where
+  pub all_gathered : (r : Result R E) → AreErasures q.window q.erasures
+      → IfOk r (λ l. limit ≤ q.window → length q.erasures ≤ bound → AreAdded (IsEarlier fe32.ops fe32.value q.erasures) (IsGathered fe32.ops code.generator q.residue q.erasures limit errors) [] (items l))
+      → IfOk r (λ l. bound < length q.erasures → items l ≡ []) → IfOk r (λ l. AreNearest code bound q errors (items l))
+  all_gathered (Ok l) lawful all none = elim (dec_lt bound (length q.erasures)) [
+    | yes many ↦ none_nearest code bound q errors (items l) (none many) many
+    | no n ↦ (let few : length q.erasures ≤ bound = omega (arith, n) in are_nearest code bound q errors limit [] (items l) window refl (all (omega (arith, window)) few) lawful few)
+  ]
+  all_gathered (Err e) lawful all none = tt
+
+  pub one_gathered : (r : Result R E)
+      → IfOk r (λ l. limit ≤ q.window → length q.erasures ≤ bound → AreAdded (IsEarlier fe32.ops fe32.value q.erasures) (IsGathered fe32.ops code.generator q.residue q.erasures limit errors) [] (items l))
+      → IfOk r (λ l. DetectsFour fe32.ops code.generator q.window → q.erasures ≡ [] → errors ≤ 2 → length (items l) ≤ 1)
+  one_gathered (Ok l) all = λ detects bare few.
+      let none : length q.erasures ≤ bound = omega (arith, ap (λ u. length u) bare) in
+      are_one code bound q errors limit [] (items l) window refl (all (omega (arith, window)) none) detects bare few
+  one_gathered (Err e) all = tt
 
 -- what holds where a call succeeds
 pub of_ok : {T E P : Type 0} (r : Result T E) → OnOk r P → IsOk r → P

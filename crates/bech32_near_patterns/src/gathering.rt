@@ -28,8 +28,8 @@ fn fits(errors: usize, erasures: usize, bound: usize) -> bool
     erasures <= bound && errors <= (bound - erasures) / 2
 }
 
-/// Whether so many errors, and so many erasures more than the corrector has, are within its bound.
-pub fn are_few<Ck: Checksum, A: Allocator + Copy>(
+// Whether so many errors, and so many erasures more than the corrector has, are within its bound.
+fn are_few<Ck: Checksum, A: Allocator + Copy>(
     corrector: &Corrector<Ck, A>,
     errors: usize,
     more: usize,
@@ -293,21 +293,45 @@ fn push_with<Ck: Checksum, A: Allocator + Copy>(
     Ok(())
 }
 
-/// Puts all listings with at most so many errors, all below the limit, behind those that were found.
+/// All listings with at most so many errors, all below the limit, which is at most the window. None
+/// where there are more erasures than the bound.
 ///
 /// # Errors
 ///
-/// If memory runs out; some listings may then have been put.
+/// If memory runs out.
+pub fn gathered<Ck: Checksum, A: Allocator + Copy>(
+    corrector: &Corrector<Ck, A>,
+    limit: usize,
+    errors: usize,
+) -> Result<Listings<A>, AllocError>
+    ensures all { IfOk result (λ found. limit ≤ corrector.now.window
+        → length corrector.now.erasures ≤ Ck.bound
+        → AreAdded (IsEarlier fe32.ops fe32.value corrector.now.erasures)
+        (IsGathered fe32.ops Ck.code.generator corrector.now.residue corrector.now.erasures
+        limit errors)
+        [] found.items) }
+    ensures none { IfOk result
+        (λ found. Ck.bound < length corrector.now.erasures → found.items ≡ []) }
+    ensures lawful { AreErasures corrector.now.window corrector.now.erasures }
+{
+    let mut found = Vec::new(corrector.allocator());
+    if !are_few(corrector, 0, 0) {
+        return Ok(found);
+    }
+    gather(corrector, limit, errors, &mut found)?;
+    Ok(found)
+}
+
+// Puts all listings with at most so many errors, all below the limit, behind those that were found.
 #[cycle(gather)]
-pub fn gather<Ck: Checksum, A: Allocator + Copy>(
+fn gather<Ck: Checksum, A: Allocator + Copy>(
     corrector: &Corrector<Ck, A>,
     limit: usize,
     errors: usize,
     found: &mut Listings<A>,
 ) -> Result<(), AllocError>
-    requires few { length corrector.now.erasures ≤ Ck.bound }
-    requires within { limit ≤ corrector.now.window }
-    ensures { OnOk result (AreAdded (IsEarlier fe32.ops fe32.value corrector.now.erasures)
+    ensures { length corrector.now.erasures ≤ Ck.bound → limit ≤ corrector.now.window
+        → OnOk result (AreAdded (IsEarlier fe32.ops fe32.value corrector.now.erasures)
         (IsGathered fe32.ops Ck.code.generator corrector.now.residue corrector.now.erasures
         limit errors)
         found.old.items found.new.items) }
@@ -315,7 +339,9 @@ pub fn gather<Ck: Checksum, A: Allocator + Copy>(
     if are_few(corrector, errors, 0) {
         return add_answer(corrector, limit, errors, found);
     }
-    let others = errors - 1;
+    let Some(others) = errors.checked_sub(1) else {
+        return Ok(());
+    };
     add_answer(corrector, 0, 0, found)?;
     for place in 0..limit {
         gather_at(corrector, place, others, found)?;
@@ -331,9 +357,8 @@ fn gather_at<Ck: Checksum, A: Allocator + Copy>(
     others: usize,
     found: &mut Listings<A>,
 ) -> Result<(), AllocError>
-    requires few { length corrector.now.erasures ≤ Ck.bound }
-    requires within { place < corrector.now.window }
-    ensures { OnOk result (AreAdded (IsEarlier fe32.ops fe32.value corrector.now.erasures)
+    ensures { length corrector.now.erasures ≤ Ck.bound → place < corrector.now.window
+        → OnOk result (AreAdded (IsEarlier fe32.ops fe32.value corrector.now.erasures)
         (HasHighestAt fe32.ops Ck.code.generator corrector.now.residue corrector.now.erasures
         place others)
         found.old.items found.new.items) }
@@ -363,11 +388,9 @@ fn gather_with<Ck: Checksum, A: Allocator + Copy>(
     others: usize,
     found: &mut Listings<A>,
 ) -> Result<(), AllocError>
-    requires few { length corrector.now.erasures ≤ Ck.bound }
-    requires within { error.0 < corrector.now.window }
-    requires outside { has corrector.now.erasures error.0 ≡ false }
-    requires not_zero { error.1 ≢ fe32.zero }
-    ensures { OnOk result (AreAdded (IsEarlier fe32.ops fe32.value corrector.now.erasures)
+    ensures { length corrector.now.erasures ≤ Ck.bound → error.0 < corrector.now.window
+        → has corrector.now.erasures error.0 ≡ false → error.1 ≢ fe32.zero
+        → OnOk result (AreAdded (IsEarlier fe32.ops fe32.value corrector.now.erasures)
         (HasHighest fe32.ops Ck.code.generator corrector.now.residue corrector.now.erasures
         error others)
         found.old.items found.new.items) }

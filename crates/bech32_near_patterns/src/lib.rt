@@ -4,4 +4,4 @@
 
 mod gathering;
 
-pub use self::gathering::{Listings, are_few, gather};
+pub use self::gathering::{Listings, gathered};

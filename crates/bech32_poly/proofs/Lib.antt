@@ -3,6 +3,7 @@ pub mod Below
 pub mod Embedding
 pub mod Lists
 pub mod LongDivision
+pub mod Loops
 pub mod Massey
 pub mod PatternSums
 pub mod Products

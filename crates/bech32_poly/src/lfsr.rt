@@ -47,13 +47,18 @@ impl<F: Field, A: Allocator + Copy> LfsrIter<F, A> {
         ensures goes_on { IfOk result (λ r. GivesAllOf F.ops items.now r) }
         ensures in_place { length items.now ≤ 6 → IsOk result }
     {
-        let register = shortest_register(alloc, items)?;
-        let length = register.len() - 1;
-        Ok(LfsrIter {
-            coefficients: turned_copy(alloc, &register.as_slice()[..length])?,
-            ring: FieldVec::from_slice(alloc, &items[..length])?,
-            start: 0,
-        })
+        let coefficients = match shortest_coefficients(alloc, items) {
+            Ok(coefficients) => coefficients,
+            Err(refusal) => return Err(refusal),
+        };
+        match FieldVec::from_slice(alloc, &items[..coefficients.len()]) {
+            Ok(ring) => Ok(LfsrIter {
+                coefficients,
+                ring,
+                start: 0,
+            }),
+            Err(refusal) => Err(refusal),
+        }
     }
 
     /// The coefficients c1, c2, ..: each item from the place of their number on is minus the sum
@@ -120,11 +125,18 @@ impl<F: Field, A: Allocator + Copy> Clone for LfsrIter<F, A> {
     ghost is_infallible = { λ v. FitsInPlace (length v.coefficients) };
 
     fn clone(&self) -> Result<Self, AllocError> {
-        Ok(LfsrIter {
-            coefficients: self.coefficients.clone()?,
-            ring: self.ring.clone()?,
-            start: self.start,
-        })
+        let coefficients = match self.coefficients.clone() {
+            Ok(coefficients) => coefficients,
+            Err(refusal) => return Err(refusal),
+        };
+        match self.ring.clone() {
+            Ok(ring) => Ok(LfsrIter {
+                coefficients,
+                ring,
+                start: self.start,
+            }),
+            Err(refusal) => Err(refusal),
+        }
     }
 }
 
@@ -191,6 +203,18 @@ pub(crate) fn turned_copy<F: Field, A: Allocator + Copy>(
         copy.push(source[i])?;
     }
     Ok(copy)
+}
+
+// The coefficients of a shortest register for the items.
+fn shortest_coefficients<F: Field, A: Allocator + Copy>(
+    alloc: A,
+    items: &[F],
+) -> Result<FieldVec<F, A>, AllocError>
+    ensures shortest { IfOk result (λ cs. IsShortest F.ops cs items.now) }
+    ensures in_place { length items.now ≤ 6 → IsOk result }
+{
+    let register = shortest_register(alloc, items)?;
+    turned_copy(alloc, &register.as_slice()[..register.len() - 1])
 }
 
 // The register of one place.

@@ -1,12 +1,11 @@
--- What may be said of a line.
+-- What may be said of a request. Of lines that ask for nothing `line_program` says it.
 use Rattle.std.specs.Prelude.{◌≡◌, ◌⊎◌, ℕ, List, ◌∷◌, ◌++◌, codes, None}
 use Rattle.codex32.specs.Nearest.{IsNearestText, IsProposeRefusal, read_text}
 use Rattle.codex32.specs.Strings.{IsString, IsStringRefusal, frame_refusal}
 use Rattle.codex32.specs.declared.error.Codex32Error.{Codex32Error}
 use Rattle.codex32_numbers.specs.Numbers.{number_of_codex32_error}
 use Rattle.line_program.specs.Refused.{err}
-use Rattle.line_program.specs.Reply.{IsReplyBy}
-use Rattle.c32.specs.Request.{Request, Parse, Propose, request_of}
+use Rattle.c32.specs.Request.{Request, Parse, Propose}
 
 -- the parts of a codex32 string are said, which are the text's own characters: the threshold, the
 -- identifier, the share index and the payload
@@ -59,7 +58,3 @@ IsProposeAnswer text said = SaysNearest text said ⊎ (SaysNone text said ⊎ Sa
 abbrev pub IsOutcome : Request → List ℕ → Type 0
 IsOutcome (Parse text) said = IsParseAnswer text said
 IsOutcome (Propose text) said = IsProposeAnswer text said
-
--- what may be said of a line
-abbrev pub IsReply : List ℕ → List ℕ → Type 0
-IsReply line said = IsReplyBy request_of IsOutcome line said

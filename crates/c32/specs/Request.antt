@@ -1,7 +1,7 @@
 -- What a line asks for: its first word names a command, the second is its argument.
 use Rattle.std.specs.Prelude.{ℕ, if◌then◌else◌, List, [], ◌∷◌, codes, Option, Some, None}
 use Rattle.std.specs.Str.{bytes_eq}
-use Rattle.line_program.specs.Words.{words, has_empty_word}
+use Rattle.line_program.specs.Words.{request_by}
 use Rattle.c32.specs.declared.command.Command.{Command}
 use Rattle.c32.specs.declared.command.Command.TheVariants.{Parse as ParseCommand}
 use Rattle.c32.specs.declared.command.Command.TheVariants.{Propose as ProposeCommand}
@@ -25,7 +25,7 @@ request_of_words _ = None
 
 -- what a line asks for, which has no empty word
 abbrev pub request_of : List ℕ → Option Request
-request_of line = if has_empty_word line then None else request_of_words (words line)
+request_of line = request_by request_of_words line
 
 -- what a command asks for
 abbrev pub request_of_command : Command → Request

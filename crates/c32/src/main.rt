@@ -5,22 +5,17 @@ mod command;
 mod parse;
 mod propose;
 mod reply;
-mod run;
 
-use crate::run::run_on;
-use devices::Watched;
+use crate::reply::Commands;
+use line_program::run;
 use std::process::ExitCode;
 
 fn main(rt: HostRuntime) -> ExitCode {
-    let mut input = rt.stdin();
-    let mut output = rt.stdout();
-    let mut source = Watched::new(&mut input);
-    let mut sink = Watched::new(&mut output);
-    match run_on(rt.alloc(), &mut source, &mut sink) {
-        Ok(()) => ExitCode::SUCCESS,
-        Err(e) => {
-            let _ = eprintln!(rt; "c32: {e}");
-            ExitCode::FAILURE
-        }
+    let commands = Commands { alloc: rt.alloc() };
+    let (mut input, mut output) = (rt.stdin(), rt.stdout());
+    if let Err(e) = run(rt.alloc(), &commands, &mut input, &mut output) {
+        let _ = eprintln!(rt; "c32: {e}");
+        return ExitCode::FAILURE;
     }
+    ExitCode::SUCCESS
 }

@@ -1,6 +1,7 @@
 pub mod Ended
 pub mod Kept
 pub mod Known
+pub mod NoRequest
 pub mod Outputs
 pub mod Pieces
 pub mod Replied

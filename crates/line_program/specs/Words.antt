@@ -1,5 +1,6 @@
 -- The words of a line: they are separated by exactly one space.
-use Rattle.std.specs.Prelude.{ℕ, Bool, true, false, ◌==◌, List, [], ◌∷◌}
+use Rattle.std.specs.Prelude.{ℕ, Bool, true, false, ◌==◌, if◌then◌else◌, List, [], ◌∷◌}
+use Rattle.std.specs.Prelude.{Option, None}
 use Rattle.std.specs.List.{slice_split, list_any}
 
 -- what stands before, between and behind the spaces
@@ -14,3 +15,8 @@ is_empty (b ∷ bs) = false
 -- whether a line has an empty word
 abbrev pub has_empty_word : List ℕ → Bool
 has_empty_word line = list_any is_empty (words line)
+
+-- what a line asks for, by what its words ask for: nothing where one of them is empty
+abbrev pub request_by : {Request : Type 0} → (List (List ℕ) → Option Request) → List ℕ
+    → Option Request
+request_by of_words line = if has_empty_word line then None else of_words (words line)

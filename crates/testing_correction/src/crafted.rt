@@ -1,7 +1,7 @@
 //! Residues that no mistyped text need leave.
 
 use super::compare::same;
-use super::listed::Corrected;
+use super::listed::{corrector_of, is_listed_by};
 use bech32_checksum::Bech32;
 use bech32_gf::gf32::Fe32;
 use bech32_refusals::InvalidResidueError;
@@ -37,7 +37,7 @@ fn error_of(residue: u32) -> Option<InvalidResidueError> {
 // Whether Bech32 lists just this for a residue without erasures, or nothing.
 fn is_listed(alloc: Global, residue: u32, want: Option<&[(usize, Fe32)]>) -> bool {
     match error_of(residue) {
-        Some(error) => Bech32::is_listed(alloc, &error, None, &[], want),
+        Some(error) => is_listed_by(corrector_of::<Bech32>(alloc, &error, None), &[], want),
         None => false,
     }
 }
@@ -115,16 +115,21 @@ fn two_coefficients(rt: HostRuntime) {
     same(&rt, &unlisted, &(31 * 31));
 }
 
+// Whether the checksum of degree 1 lists nothing for the residue of an error.
+fn is_unlisted_with(alloc: Global, error: &InvalidResidueError, erasures: &[usize]) -> bool {
+    is_listed_by(corrector_of::<Tiny<1>>(alloc, error, None), erasures, None)
+}
+
 // The residue x + 2 vanishes at the element 2, the one root that serves, and not at the other.
 #[test]
 fn one_root_of_two(rt: HostRuntime) {
     let alloc = rt.alloc();
     // The coefficients 2 and 1 beside the target 1.
     let error = InvalidResidueError::new(&0x23u32, &1u32);
-    let is_unlisted = <Tiny<1>>::is_listed(alloc, &error, None, &[], None);
+    let is_unlisted = is_unlisted_with(alloc, &error, &[]);
     let mut unlisted = 0u32;
     for place in 0..31usize {
-        if <Tiny<1>>::is_listed(alloc, &error, None, &[place], None) {
+        if is_unlisted_with(alloc, &error, &[place]) {
             unlisted = unlisted.saturating_add(1);
         }
     }

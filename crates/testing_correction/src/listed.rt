@@ -3,12 +3,11 @@
 ghost use Rattle.std.specs.Prelude.{◌<◌, IsTrue};
 ghost use Rattle.std.specs.List.{AllByRecursion};
 
-use bech32_checksum::{Bech32, Bech32m, Checksum};
+use bech32_checksum::Checksum;
 use bech32_corrector::{CorrectableError, Corrector, ErrorIterator};
 use bech32_decode::CheckedHrpstring;
 use bech32_gf::gf32::Fe32;
 use std::alloc::{Allocator, Global};
-use testing_codes::{Altered, Degree13, Tiny};
 
 /// Locations with the values to add there.
 pub type Listing<'a> = &'a [(usize, Fe32)];
@@ -78,8 +77,8 @@ fn lists<Ck: Checksum>(corrector: &Corrector<Ck>, want: Option<Listing>) -> bool
     }
 }
 
-// Whether just this is listed with these erasures, or nothing is; not where there is no corrector.
-fn is_listed_by<Ck: Checksum>(
+/// Whether just this is listed with these erasures, or nothing is; not where there is no corrector.
+pub fn is_listed_by<Ck: Checksum>(
     found: Option<Corrector<Ck>>,
     erasures: &[usize],
     want: Option<Listing>,
@@ -90,22 +89,8 @@ fn is_listed_by<Ck: Checksum>(
     is_given(&mut corrector, erasures) && lists(&corrector, want)
 }
 
-/// A checksum whose corrections are tested. That a corrector fits in memory is known of one over a
-/// checksum that is named, so each has the call for itself.
-pub trait Corrected: Checksum {
-    /// Whether just this is listed for the residue of an error, or nothing is; the window is the code
-    /// length where none is given.
-    fn is_listed(
-        alloc: Global,
-        error: &impl CorrectableError,
-        window: Option<usize>,
-        erasures: &[usize],
-        want: Option<Listing>,
-    ) -> bool;
-}
-
-// The corrector of an error's residue.
-fn corrector_of<Ck: Checksum>(
+/// The corrector of an error's residue; the window is the code length where none is given.
+pub fn corrector_of<Ck: Checksum>(
     alloc: Global,
     error: &impl CorrectableError,
     window: Option<usize>,
@@ -117,108 +102,14 @@ fn corrector_of<Ck: Checksum>(
     error.correction_context_within::<Ck, Global>(alloc, window)
 }
 
-impl Corrected for Bech32 {
-    fn is_listed(
-        alloc: Global,
-        error: &impl CorrectableError,
-        window: Option<usize>,
-        erasures: &[usize],
-        want: Option<Listing>,
-    ) -> bool {
-        is_listed_by(corrector_of::<Bech32>(alloc, error, window), erasures, want)
-    }
-}
-
-impl Corrected for Bech32m {
-    fn is_listed(
-        alloc: Global,
-        error: &impl CorrectableError,
-        window: Option<usize>,
-        erasures: &[usize],
-        want: Option<Listing>,
-    ) -> bool {
-        is_listed_by(
-            corrector_of::<Bech32m>(alloc, error, window),
-            erasures,
-            want,
-        )
-    }
-}
-
-impl Corrected for Degree13 {
-    fn is_listed(
-        alloc: Global,
-        error: &impl CorrectableError,
-        window: Option<usize>,
-        erasures: &[usize],
-        want: Option<Listing>,
-    ) -> bool {
-        is_listed_by(
-            corrector_of::<Degree13>(alloc, error, window),
-            erasures,
-            want,
-        )
-    }
-}
-
-impl Corrected for Tiny<1> {
-    fn is_listed(
-        alloc: Global,
-        error: &impl CorrectableError,
-        window: Option<usize>,
-        erasures: &[usize],
-        want: Option<Listing>,
-    ) -> bool {
-        is_listed_by(
-            corrector_of::<Tiny<1>>(alloc, error, window),
-            erasures,
-            want,
-        )
-    }
-}
-
-impl Corrected for Tiny<2> {
-    fn is_listed(
-        alloc: Global,
-        error: &impl CorrectableError,
-        window: Option<usize>,
-        erasures: &[usize],
-        want: Option<Listing>,
-    ) -> bool {
-        is_listed_by(
-            corrector_of::<Tiny<2>>(alloc, error, window),
-            erasures,
-            want,
-        )
-    }
-}
-
-impl Corrected for Altered<24, 26, 8> {
-    fn is_listed(
-        alloc: Global,
-        error: &impl CorrectableError,
-        window: Option<usize>,
-        erasures: &[usize],
-        want: Option<Listing>,
-    ) -> bool {
-        is_listed_by(
-            corrector_of::<Altered<24, 26, 8>>(alloc, error, window),
-            erasures,
-            want,
-        )
-    }
-}
-
-/// Whether just this is listed for a text that the checksum refuses, or nothing is.
-pub fn is_listed_for<Ck: Corrected>(
+/// The corrector of a text that the checksum refuses.
+pub fn corrector_for<Ck: Checksum>(
     alloc: Global,
     text: &str,
     window: Option<usize>,
-    erasures: &[usize],
-    want: Option<Listing>,
-) -> bool {
+) -> Option<Corrector<Ck>> {
     match CheckedHrpstring::new::<Ck>(text) {
-        Ok(_) => false,
-        Err(error) => Ck::is_listed(alloc, &error, window, erasures, want),
+        Ok(_) => None,
+        Err(error) => corrector_of::<Ck>(alloc, &error, window),
     }
 }

@@ -1,7 +1,7 @@
 //! Texts of the standards, and of other checksums, with errors that are known.
 
 use super::compare::{same, same_items};
-use super::listed::{Corrected, Listing, is_listed_for};
+use super::listed::{Listing, corrector_for, corrector_of, is_listed_by};
 use bech32_checksum::{Bech32, Checksum, NoChecksum};
 use bech32_corrector::{CorrectableError, Corrector};
 use bech32_decode::{CheckedHrpstring, SegwitHrpstring};
@@ -24,7 +24,11 @@ fn one_error_and_erasures(rt: HostRuntime) {
         (&[0, 1, 2, 3], None),
     ];
     let listed = rows.map(|(erasures, want)| {
-        is_listed_for::<Bech32>(rt.alloc(), "a12uel5q", None, erasures, want)
+        is_listed_by(
+            corrector_for::<Bech32>(rt.alloc(), "a12uel5q", None),
+            erasures,
+            want,
+        )
     });
     same_items(&rt, &listed, &[true; 7]);
 }
@@ -43,7 +47,11 @@ fn windows(rt: HostRuntime) {
         ("!12uel5l", None, &[], Some(&[(8, Fe32::Z)])),
     ];
     let listed = rows.map(|(text, window, erasures, want)| {
-        is_listed_for::<Bech32>(rt.alloc(), text, window, erasures, want)
+        is_listed_by(
+            corrector_for::<Bech32>(rt.alloc(), text, window),
+            erasures,
+            want,
+        )
     });
     same_items(&rt, &listed, &[true; 7]);
 }
@@ -56,9 +64,23 @@ fn window_of_a_short_code(rt: HostRuntime) {
         ("b12uel5l", Some(&[(6, Fe32::R)])),
     ];
     let listed = rows.map(|(text, want)| {
-        is_listed_for::<Altered<24, 26, 8>>(rt.alloc(), text, None, &[], want)
+        is_listed_by(
+            corrector_for::<Altered<24, 26, 8>>(rt.alloc(), text, None),
+            &[],
+            want,
+        )
     });
     same_items(&rt, &listed, &[true; 2]);
+}
+
+// Whether just this is listed for an error of Bech32, or nothing is.
+fn is_listed_of(
+    alloc: Global,
+    error: &impl CorrectableError,
+    erasures: &[usize],
+    want: Option<Listing>,
+) -> bool {
+    is_listed_by(corrector_of::<Bech32>(alloc, error, None), erasures, want)
 }
 
 // Whether just this is listed for an address, or nothing is.
@@ -70,7 +92,7 @@ fn is_listed_for_address(
 ) -> bool {
     match SegwitHrpstring::new(text) {
         Ok(_) => false,
-        Err(error) => Bech32::is_listed(alloc, &error, None, erasures, want),
+        Err(error) => is_listed_of(alloc, &error, erasures, want),
     }
 }
 
@@ -94,19 +116,28 @@ fn refusal(text: &str) -> Option<CheckedHrpstringError> {
     CheckedHrpstring::new::<Bech32>(text).err()
 }
 
+// Whether a checksum of degree 2 lists just this for the residue of an error, or nothing.
+fn is_listed_of_degree_two(
+    alloc: Global,
+    error: &CheckedHrpstringError,
+    want: Option<Listing>,
+) -> bool {
+    is_listed_by(corrector_of::<Tiny<2>>(alloc, error, None), &[], want)
+}
+
 #[test]
 fn residues_of_another_checksum(rt: HostRuntime) -> Result<(), Fail> {
     let alloc = rt.alloc();
     let error = refusal("a1quel5l").ok_or("it is accepted")?;
     let listed = [
-        Bech32::is_listed(alloc, &error, None, &[], Some(&[(5, Fe32::_2)])),
+        is_listed_of(alloc, &error, &[], Some(&[(5, Fe32::_2)])),
         // The residue is of degree 5.
-        <Tiny<2>>::is_listed(alloc, &error, None, &[], None),
+        is_listed_of_degree_two(alloc, &error, None),
     ];
     same_items(&rt, &listed, &[true; 2]);
     let error = refusal("a12uel5q").ok_or("it is accepted")?;
-    let is_listed = <Tiny<2>>::is_listed(alloc, &error, None, &[], Some(&[(0, Fe32::L)]));
-    let corrector = corrector_of::<NoChecksum>(alloc, &error);
+    let is_listed = is_listed_of_degree_two(alloc, &error, Some(&[(0, Fe32::L)]));
+    let corrector = corrector_of::<NoChecksum>(alloc, &error, None);
     same_items(&rt, &[is_listed, corrector.is_none()], &[true; 2]);
     Ok(())
 }
@@ -121,7 +152,11 @@ fn four_errors(rt: HostRuntime) {
     ];
     let text = "ms1qtestsqxxxxxxxxxxxxxxxxxxxxxxxxq4nzvca9cmczlq";
     let listed = rows.map(|(erasures, want)| {
-        is_listed_for::<Degree13>(rt.alloc(), text, None, erasures, want)
+        is_listed_by(
+            corrector_for::<Degree13>(rt.alloc(), text, None),
+            erasures,
+            want,
+        )
     });
     same_items(&rt, &listed, &[true; 2]);
 }
@@ -144,20 +179,13 @@ fn eight_erasures(rt: HostRuntime) {
     ];
     let text = "ms10testsxxxxxxxxxxxxxxxxxxxxxxxxxx4nzvcqqqqqqqq";
     let listed = rows.map(|(erasures, want)| {
-        is_listed_for::<Degree13>(rt.alloc(), text, None, erasures, want)
+        is_listed_by(
+            corrector_for::<Degree13>(rt.alloc(), text, None),
+            erasures,
+            want,
+        )
     });
     same_items(&rt, &listed, &[true; 2]);
-}
-
-// The corrector of an error's residue, over the code length.
-fn corrector_of<Ck: Checksum>(
-    alloc: Global,
-    error: &impl CorrectableError,
-) -> Option<Corrector<Ck>> {
-    if !Ck::sanity_check() {
-        return None;
-    }
-    error.correction_context::<Ck, Global>(alloc)
 }
 
 // The bound of a corrector, and its window.
@@ -170,8 +198,8 @@ fn bounds_of<Ck: Checksum>(found: Option<Corrector<Ck>>) -> Option<(usize, usize
 fn bounds(rt: HostRuntime) -> Result<(), Fail> {
     let error = refusal("a12uel5q").ok_or("it is accepted")?;
     let bounds = [
-        bounds_of(corrector_of::<Bech32>(rt.alloc(), &error)),
-        bounds_of(corrector_of::<Degree13>(rt.alloc(), &error)),
+        bounds_of(corrector_of::<Bech32>(rt.alloc(), &error, None)),
+        bounds_of(corrector_of::<Degree13>(rt.alloc(), &error, None)),
     ];
     same_items(&rt, &bounds, &[Some((3, 1023)), Some((8, 93))]);
     Ok(())

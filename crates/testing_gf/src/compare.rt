@@ -23,7 +23,7 @@ pub fn says<T: Display>(rt: &impl Abort, alloc: Global, value: &T, want: &str) {
 }
 
 /// Fails where an iterator gives other items than these.
-pub fn gives<T: PartialEq + Debug + Drop, I: Iterator<Item = T>>(
+pub fn gives<T: PartialEq + Debug + Copy, I: Iterator<Item = T>>(
     rt: &impl Abort,
     alloc: Global,
     items: I,

@@ -13,7 +13,7 @@ fn outcome(answer: Result<Fe32, TryFromError>) -> Result<Fe32, Option<u8>> {
 
 #[test]
 fn elements_of_unsigned_integers(rt: HostRuntime) {
-    for (got, want) in [
+    for row in [
         (Fe32::try_from(0u8), Ok(Fe32::Q)),
         (Fe32::try_from(31u8), Ok(Fe32::L)),
         (Fe32::try_from(32u8), Err(Some(32))),
@@ -27,14 +27,17 @@ fn elements_of_unsigned_integers(rt: HostRuntime) {
         (Fe32::try_from(u64::MAX), Err(None)),
         (Fe32::try_from(31u128), Ok(Fe32::L)),
         (Fe32::try_from(u128::MAX), Err(None)),
-    ] {
+    ]
+    .iter()
+    {
+        let (got, want) = *row;
         same(&rt, &outcome(got), &want);
     }
 }
 
 #[test]
 fn elements_of_signed_integers(rt: HostRuntime) {
-    for (got, want) in [
+    for row in [
         (Fe32::try_from(31i8), Ok(Fe32::L)),
         (Fe32::try_from(127i8), Err(Some(127))),
         (Fe32::try_from(-1i8), Err(None)),
@@ -47,7 +50,10 @@ fn elements_of_signed_integers(rt: HostRuntime) {
         (Fe32::try_from(31i128), Ok(Fe32::L)),
         (Fe32::try_from(32i128), Err(Some(32))),
         (Fe32::try_from(i128::MIN), Err(None)),
-    ] {
+    ]
+    .iter()
+    {
+        let (got, want) = *row;
         same(&rt, &outcome(got), &want);
     }
 }

@@ -6,15 +6,19 @@ use testing_tools::seven::Seven;
 
 #[test]
 fn multiples_by_any_integer(rt: HostRuntime) {
-    for (n, multiple) in [
+    for row in [
         (-3, Fe32::Z),
         (0, Fe32::Q),
         (i64::MIN, Fe32::Q),
         (i64::MAX, Fe32::Z),
-    ] {
+    ]
+    .iter()
+    {
+        let (n, multiple) = *row;
         same(&rt, &(n, Fe32::Z.muli(n)), &(n, multiple));
     }
-    for (n, multiple) in [(-2, 1), (0, 0), (5, 1), (i64::MIN, 4), (i64::MAX, 0)] {
+    for row in [(-2, 1), (0, 0), (5, 1), (i64::MIN, 4), (i64::MAX, 0)].iter() {
+        let (n, multiple) = *row;
         same(&rt, &(n, Seven::new(3).muli(n)), &(n, Seven::new(multiple)));
     }
 }
@@ -91,16 +95,29 @@ fn orders_of_all_elements(rt: HostRuntime) {
 
 #[test]
 fn walks_over_powers(rt: HostRuntime) {
-    let mut powers = Fe32::Z.powers();
-    let first = [powers.next(), powers.next()];
-    let mut powers = Fe32::Z.powers();
-    let later = [powers.nth(31), powers.next(), powers.nth(0)];
+    let (mut powers, mut others) = (Fe32::Z.powers(), Fe32::Z.powers());
     let mut zeros = Fe32::Q.powers();
-    let of_zero = [zeros.nth(0), zeros.nth(2)];
-    same(&rt, &first, &[Some(Fe32::P), Some(Fe32::Z)]);
-    same(&rt, &later, &[Some(Fe32::P), Some(Fe32::Z), Some(Fe32::Y)]);
-    same(&rt, &of_zero, &[Some(Fe32::P), Some(Fe32::Q)]);
-    same(&rt, &Fe32::Z.powers().nth(usize::MAX), &Some(Fe32::X));
+    let found = [
+        powers.next(),
+        powers.next(),
+        others.nth(31),
+        others.next(),
+        others.nth(0),
+        Fe32::Z.powers().nth(usize::MAX),
+        zeros.nth(0),
+        zeros.nth(2),
+    ];
+    let want = [
+        Some(Fe32::P),
+        Some(Fe32::Z),
+        Some(Fe32::P),
+        Some(Fe32::Z),
+        Some(Fe32::Y),
+        Some(Fe32::X),
+        Some(Fe32::P),
+        Some(Fe32::Q),
+    ];
+    same_items(&rt, &found, &want);
     let last = Seven::new(3).powers().nth(usize::MAX);
     same(&rt, &last, &Some(Seven::new(6)));
 }
@@ -112,10 +129,15 @@ fn walks_over_ranges_of_powers(rt: HostRuntime) {
     let text = text.expect(&rt, "memory");
     same(&rt, &text.as_str(), &"p529kt3uw8hlmecvxr470na6djfsgyz");
     let mut last = Fe32::Z.powers_range(31, 32);
-    let got = [last.next(), last.next(), last.next(), last.next()];
-    same(&rt, &got, &[Some(Fe32::P), Some(Fe32::Z), None, None]);
-    let farthest = Fe32::Z.powers_range(usize::MAX, usize::MAX).next();
-    same(&rt, &farthest, &Some(Fe32::X));
+    let got = [
+        last.next(),
+        last.next(),
+        last.next(),
+        last.next(),
+        Fe32::Z.powers_range(usize::MAX, usize::MAX).next(),
+    ];
+    let want = [Some(Fe32::P), Some(Fe32::Z), None, None, Some(Fe32::X)];
+    same_items(&rt, &got, &want);
 }
 
 #[test]

@@ -85,36 +85,43 @@ const POWERS_OF_20: &[u8; 31] = b"p529kt3uw8hlmecvxr470na6djfsgyz";
 
 #[test]
 fn constants_by_name_and_value(rt: HostRuntime) {
-    for (value, element) in (0u8..32).zip(ELEMENTS.iter()) {
+    for i in 0..32usize {
+        let (value, element) = (i as u8, ELEMENTS[i]);
         let got = (element.to_u8(), Fe32::from_low_bits(value));
-        same(&rt, &got, &(value, *element));
+        same(&rt, &got, &(value, element));
     }
 }
 
 // Fails where the characters are not those of the elements.
 fn reads_elements(rt: &impl Abort, characters: &[u8; 32]) {
-    for (element, c) in ELEMENTS.iter().zip(characters) {
-        same(rt, &Fe32::from_char(char::from(*c)), &Ok(*element));
+    for i in 0..32usize {
+        let element = Fe32::from_char(char::from(characters[i]));
+        same(rt, &element, &Ok(ELEMENTS[i]));
     }
 }
 
 #[test]
 fn alphabet_in_both_cases(rt: HostRuntime) {
-    for (element, c) in ELEMENTS.iter().zip(LOWER_CASE.iter()) {
-        same(&rt, &element.to_char(), &char::from(*c));
+    for i in 0..32usize {
+        same(&rt, &ELEMENTS[i].to_char(), &char::from(LOWER_CASE[i]));
     }
-    for characters in [LOWER_CASE, UPPER_CASE] {
-        reads_elements(&rt, characters);
+    reads_elements(&rt, LOWER_CASE);
+    reads_elements(&rt, UPPER_CASE);
+}
+
+// Fails where the characters of the elements give others unchecked.
+fn same_unchecked(rt: &impl Abort, characters: &[u8; 32]) {
+    for c in characters.iter() {
+        let checked = Fe32::from_char(*c as char);
+        assert!(rt; checked.is_ok());
+        same(rt, &Ok(Fe32::from_char_unchecked(*c)), &checked);
     }
 }
 
 #[test]
 fn unchecked_characters(rt: HostRuntime) {
-    for c in LOWER_CASE.iter().chain(UPPER_CASE.iter()) {
-        let checked = Fe32::from_char(*c as char);
-        assert!(rt; checked.is_ok());
-        same(&rt, &Ok(Fe32::from_char_unchecked(*c)), &checked);
-    }
+    same_unchecked(&rt, LOWER_CASE);
+    same_unchecked(&rt, UPPER_CASE);
 }
 
 #[test]
@@ -125,17 +132,17 @@ fn low_bits(rt: HostRuntime) {
 
 #[test]
 fn other_characters(rt: HostRuntime) {
-    for c in ['b', 'i', 'o', '1', 'B', ' ', '\u{7f}'] {
-        same(&rt, &Fe32::from_char(c), &Err(FromCharError::Invalid(c)));
+    for c in ['b', 'i', 'o', '1', 'B', ' ', '\u{7f}'].iter() {
+        same(&rt, &Fe32::from_char(*c), &Err(FromCharError::Invalid(*c)));
     }
-    for c in ['é', '\u{80}', 'ƀ', '💥'] {
-        same(&rt, &Fe32::from_char(c), &Err(FromCharError::NotAscii(c)));
+    for c in ['é', '\u{80}', 'ƀ', '💥'].iter() {
+        same(&rt, &Fe32::from_char(*c), &Err(FromCharError::NotAscii(*c)));
     }
 }
 
 #[test]
 fn texts_of_refusals(rt: HostRuntime) {
-    for (error, want) in [
+    for row in [
         (
             FromCharError::Invalid('b'),
             "tried to interpret a character as a GF32 element but it is not of the alphabet: b",
@@ -144,7 +151,10 @@ fn texts_of_refusals(rt: HostRuntime) {
             FromCharError::NotAscii('é'),
             "tried to interpret a character as a GF32 element but it is not ASCII: é",
         ),
-    ] {
+    ]
+    .iter()
+    {
+        let (error, want) = *row;
         let text = error.to_string(rt.alloc()).expect(&rt, "memory");
         same(&rt, &text.as_str(), &want);
     }
@@ -157,16 +167,16 @@ fn product(a: Fe32, b: Fe32) -> (Fe32, Fe32, char, char) {
 
 // Fails where a product of an element is not that of its row.
 fn same_row(rt: &impl Abort, a: Fe32, row: &[u8; 32]) {
-    for (b, c) in ELEMENTS.iter().zip(row) {
-        let c = char::from(*c);
-        same(rt, &product(a, *b), &(a, *b, c, c));
+    for i in 0..32usize {
+        let (b, c) = (ELEMENTS[i], char::from(row[i]));
+        same(rt, &product(a, b), &(a, b, c, c));
     }
 }
 
 #[test]
 fn all_products(rt: HostRuntime) {
-    for (a, row) in ELEMENTS.iter().zip(PRODUCTS) {
-        same_row(&rt, *a, row);
+    for i in 0..32usize {
+        same_row(&rt, ELEMENTS[i], PRODUCTS[i]);
     }
 }
 

@@ -106,14 +106,19 @@ fn operator_forms_of_pairs(rt: HostRuntime) {
     let product = Fe1024::new([Fe32::P, Fe32::_9]);
     let factor = Fe32::A;
     let scaled = x * Fe1024::from(factor);
-    same(&rt, &[x + y, x + &y, &x + y, &x + &y], &[sum; 4]);
-    same(&rt, &[x - y, x - &y, &x - y, &x - &y], &[sum; 4]);
-    same(&rt, &[x * y, x * &y, &x * y, &x * &y], &[product; 4]);
-    let quotients = [product / y, product / &y, &product / y, &product / &y];
-    same(&rt, &quotients, &[x; 4]);
-    let multiples = [x * factor, x * &factor, &x * factor, &x * &factor];
-    same(&rt, &multiples, &[scaled; 4]);
-    same(&rt, &assigned_pairs(x, y), &[sum, x, product, x, x]);
+    let found = [
+        [x + y, x + &y, &x + y, &x + &y],
+        [x - y, x - &y, &x - y, &x - &y],
+        [x * y, x * &y, &x * y, &x * &y],
+        [product / y, product / &y, &product / y, &product / &y],
+        [x * factor, x * &factor, &x * factor, &x * &factor],
+    ];
+    same_items(
+        &rt,
+        &found,
+        &[[sum; 4], [sum; 4], [product; 4], [x; 4], [scaled; 4]],
+    );
+    same_items(&rt, &assigned_pairs(x, y), &[sum, x, product, x, x]);
 }
 
 // What a triple is after assigning operators, each by value and borrowed.
@@ -145,14 +150,19 @@ fn operator_forms_of_triples(rt: HostRuntime) {
     let product = Fe32768::new([Fe32::_5, Fe32::_4, Fe32::N]);
     let factor = Fe32::A;
     let scaled = x * Fe32768::from(factor);
-    same(&rt, &[x + y, x + &y, &x + y, &x + &y], &[sum; 4]);
-    same(&rt, &[x - y, x - &y, &x - y, &x - &y], &[sum; 4]);
-    same(&rt, &[x * y, x * &y, &x * y, &x * &y], &[product; 4]);
-    let quotients = [product / y, product / &y, &product / y, &product / &y];
-    same(&rt, &quotients, &[x; 4]);
-    let multiples = [x * factor, x * &factor, &x * factor, &x * &factor];
-    same(&rt, &multiples, &[scaled; 4]);
-    same(&rt, &assigned_triples(x, y), &[sum, x, product, x, x]);
+    let found = [
+        [x + y, x + &y, &x + y, &x + &y],
+        [x - y, x - &y, &x - y, &x - &y],
+        [x * y, x * &y, &x * y, &x * &y],
+        [product / y, product / &y, &product / y, &product / &y],
+        [x * factor, x * &factor, &x * factor, &x * &factor],
+    ];
+    same_items(
+        &rt,
+        &found,
+        &[[sum; 4], [sum; 4], [product; 4], [x; 4], [scaled; 4]],
+    );
+    same_items(&rt, &assigned_triples(x, y), &[sum, x, product, x, x]);
 }
 
 #[test]

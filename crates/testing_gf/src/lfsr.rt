@@ -113,21 +113,30 @@ const EIGHT: [Fe32; 8] = [
     Fe32::Y,
 ];
 
-// Whether a register of these items and its clone have the same coefficients.
-fn is_cloned(rt: &impl Abort, heap: &LocalHeap, items: &[Fe32]) -> bool
+// Whether a clone has the same coefficients; `None` where there is no memory for it.
+fn is_cloned(register: &LfsrIter<Fe32, &LocalHeap>) -> Option<bool> {
+    match register.clone() {
+        Ok(copy) => Some(register.coefficients() == copy.coefficients()),
+        Err(_) => None,
+    }
+}
+
+// Whether there is memory for a register of these items, and what comes of its clone then.
+fn made(heap: &LocalHeap, items: &[Fe32]) -> (bool, Option<bool>)
     requires { 0 < length items.now }
 {
-    let register = LfsrIter::berlekamp_massey_in(heap, items).expect(rt, "memory");
-    let copy = register.clone().expect(rt, "memory");
-    register.coefficients() == copy.coefficients()
+    match LfsrIter::berlekamp_massey_in(heap, items) {
+        Ok(register) => (true, is_cloned(&register)),
+        Err(_) => (false, None),
+    }
 }
 
 // Fails where a register of these items and its clone differ, or use other memory of a heap.
 fn uses(rt: &impl Abort, alloc: Global, items: &[Fe32], want: usize) {
     assert!(rt; !items.is_empty());
     let heap = LocalHeap::new(alloc, 1 << 10).expect(rt, "memory");
-    let is_cloned = is_cloned(rt, &heap, items);
-    same(rt, &(is_cloned, heap.used()), &(true, want));
+    let made = made(&heap, items);
+    same(rt, &(made, heap.used()), &((true, Some(true)), want));
 }
 
 #[test]
@@ -138,18 +147,10 @@ fn six_items_take_no_memory(rt: HostRuntime) {
     }
 }
 
-// A register of twenty items and its clone: whether each could be made.
-fn made(heap: &LocalHeap) -> (bool, bool) {
-    match LfsrIter::berlekamp_massey_in(heap, &TWENTY) {
-        Ok(register) => (true, register.clone().is_ok()),
-        Err(_) => (false, false),
-    }
-}
-
-// The same on a heap of so many bytes.
-fn made_with(alloc: Global, bytes: usize) -> Result<(bool, bool), AllocError> {
+// The same of twenty items on a heap of so many bytes.
+fn made_with(alloc: Global, bytes: usize) -> Result<(bool, Option<bool>), AllocError> {
     let heap = LocalHeap::new(alloc, bytes)?;
-    Ok(made(&heap))
+    Ok(made(&heap, &TWENTY))
 }
 
 #[test]
@@ -158,8 +159,11 @@ fn twenty_items_or_out_of_memory(rt: HostRuntime) {
     for size in 0..64usize {
         match made_with(rt.alloc(), 16 * size).expect(&rt, "memory") {
             (false, _) => refused = refused.saturating_add(1),
-            (true, true) => cloned = cloned.saturating_add(1),
-            (true, false) => {}
+            (true, Some(is_cloned)) => {
+                same(&rt, &is_cloned, &true);
+                cloned = cloned.saturating_add(1);
+            }
+            (true, None) => {}
         }
     }
     assert!(rt; 1 <= refused && refused < 64 && 1 <= cloned);

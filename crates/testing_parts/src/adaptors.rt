@@ -4,9 +4,9 @@ ghost use Rattle.std.specs.Prelude.{◌≡◌};
 ghost use Rattle.std.specs.Iterator.{IsFinite};
 ghost use Rattle.bech32_encode.specs.Encoder.{encoder_elements};
 
-use crate::compare::{begins, gives, hints};
-use bech32_checksum::Checksum;
-use bech32_encode::{Checksummed, Encoder, Fe32IterExt};
+use crate::compare::{begins, counts_down, gives, same};
+use bech32_checksum::{Bech32, Checksum};
+use bech32_encode::{ByteIter, CharIter, Checksummed, Encoder, Fe32Iter};
 use bech32_gf::gf32::Fe32;
 use bech32_hrp::Hrp;
 use std::alloc::Global;
@@ -26,24 +26,60 @@ pub fn encoder_behind<'a, I: Iterator<Item = Fe32>, Ck: Checksum>(
     ensures { encoder_elements result ≡ elements }
 {
     let (hrp, version) = front;
-    let encoder = elements.with_checksum::<Ck>(hrp);
+    let encoder = Encoder::new(elements, hrp);
     match version {
         Some(version) => encoder.with_witness_version(version),
         None => encoder,
     }
 }
 
-/// Fails where the elements of an encoder are other ones.
-pub fn encodes<I: Iterator<Item = Fe32>, Ck: Checksum>(
+// The elements of a text by Bech32.
+fn elements_behind<'a, I: Iterator<Item = Fe32>>(
+    front: Front<'a>,
+    elements: I,
+) -> Fe32Iter<'a, I, Bech32> {
+    encoder_behind::<I, Bech32>(front, elements).fes()
+}
+
+// The characters that an encoder gives.
+fn characters_of<'a, I: Iterator<Item = Fe32>>(
+    encoder: Encoder<'a, I, Bech32>,
+) -> CharIter<'a, I, Bech32> {
+    encoder.chars()
+}
+
+// The bytes that it gives.
+fn bytes_of<'a, I: Iterator<Item = Fe32>>(
+    encoder: Encoder<'a, I, Bech32>,
+) -> ByteIter<'a, I, Bech32> {
+    encoder.bytes()
+}
+
+/// The bounds on the elements of a text by Bech32.
+pub fn hint_of_elements<I: Iterator<Item = Fe32> + Drop>(front: Front<'_>, elements: I) -> Hint {
+    elements_behind(front, elements).size_hint()
+}
+
+/// The bounds on its characters.
+pub fn hint_of_characters<I: Iterator<Item = Fe32> + Drop>(front: Front<'_>, elements: I) -> Hint {
+    characters_of(encoder_behind(front, elements)).size_hint()
+}
+
+/// The bounds on its bytes.
+pub fn hint_of_bytes<I: Iterator<Item = Fe32> + Drop>(front: Front<'_>, elements: I) -> Hint {
+    bytes_of(encoder_behind(front, elements)).size_hint()
+}
+
+/// Fails where the elements of a text by Bech32 are other ones, or miscounted.
+pub fn elements_count_down<I: Iterator<Item = Fe32> + Drop>(
     rt: &impl Abort,
-    alloc: Global,
-    encoder: Encoder<'_, I, Ck>,
+    front: Front<'_>,
+    elements: I,
     want: &[Fe32],
 )
-    requires can { I.can_next (encoder_elements encoder) }
-    requires finite { IsFinite (I.remaining (encoder_elements encoder)) }
+    requires always { (s : I) → I.can_next s }
 {
-    gives(rt, alloc, encoder.fes(), want);
+    counts_down(rt, &mut elements_behind(front, elements), want);
 }
 
 /// Fails where the elements of a text are other ones.
@@ -57,7 +93,12 @@ pub fn elements_are<I: Iterator<Item = Fe32>, Ck: Checksum>(
     requires can { I.can_next elements }
     requires finite { IsFinite (I.remaining elements) }
 {
-    encodes(rt, alloc, encoder_behind::<I, Ck>(front, elements), want);
+    gives(
+        rt,
+        alloc,
+        encoder_behind::<I, Ck>(front, elements).fes(),
+        want,
+    );
 }
 
 /// Fails where the characters of a text are other ones.
@@ -131,7 +172,7 @@ pub fn checksummed_under<I: Iterator<Item = Fe32>, Ck: Checksum>(
 }
 
 /// Fails where the bounds on the elements of a text are other ones, or the first of them.
-pub fn elements_begin<I: Iterator<Item = Fe32> + Drop, Ck: Checksum>(
+pub fn elements_begin<I: Iterator<Item = Fe32> + Drop>(
     rt: &impl Abort,
     alloc: Global,
     front: Front<'_>,
@@ -144,14 +185,14 @@ pub fn elements_begin<I: Iterator<Item = Fe32> + Drop, Ck: Checksum>(
     begins(
         rt,
         alloc,
-        encoder_behind::<I, Ck>(front, elements).fes(),
+        encoder_behind::<I, Bech32>(front, elements).fes(),
         hint,
         want,
     );
 }
 
 /// Fails where the bounds on the characters of a text are other ones, or the first of them.
-pub fn characters_begin<I: Iterator<Item = Fe32> + Drop, Ck: Checksum>(
+pub fn characters_begin<I: Iterator<Item = Fe32> + Drop>(
     rt: &impl Abort,
     alloc: Global,
     front: Front<'_>,
@@ -164,7 +205,7 @@ pub fn characters_begin<I: Iterator<Item = Fe32> + Drop, Ck: Checksum>(
     begins(
         rt,
         alloc,
-        encoder_behind::<I, Ck>(front, elements).chars(),
+        encoder_behind::<I, Bech32>(front, elements).chars(),
         hint,
         want,
     );
@@ -172,7 +213,7 @@ pub fn characters_begin<I: Iterator<Item = Fe32> + Drop, Ck: Checksum>(
 
 /// Fails where the bounds on elements with their checksum behind them are other ones, or the first
 /// of them.
-pub fn checksummed_begin<I: Iterator<Item = Fe32> + Drop, Ck: Checksum>(
+pub fn checksummed_begin<I: Iterator<Item = Fe32> + Drop>(
     rt: &impl Abort,
     alloc: Global,
     elements: I,
@@ -181,37 +222,13 @@ pub fn checksummed_begin<I: Iterator<Item = Fe32> + Drop, Ck: Checksum>(
 )
     requires can { I.can_next elements }
 {
-    begins(rt, alloc, Checksummed::<I, Ck>::new(elements), hint, want);
-}
-
-/// Fails where the bounds on the elements of a text are other ones.
-pub fn hint_of_elements<I: Iterator<Item = Fe32> + Drop, Ck: Checksum>(
-    rt: &impl Abort,
-    front: Front<'_>,
-    elements: I,
-    hint: Hint,
-) {
-    hints(rt, &encoder_behind::<I, Ck>(front, elements).fes(), hint);
-}
-
-/// Fails where the bounds on the characters of a text are other ones.
-pub fn hint_of_characters<I: Iterator<Item = Fe32> + Drop, Ck: Checksum>(
-    rt: &impl Abort,
-    front: Front<'_>,
-    elements: I,
-    hint: Hint,
-) {
-    hints(rt, &encoder_behind::<I, Ck>(front, elements).chars(), hint);
-}
-
-/// Fails where the bounds on the bytes of a text are other ones.
-pub fn hint_of_bytes<I: Iterator<Item = Fe32> + Drop, Ck: Checksum>(
-    rt: &impl Abort,
-    front: Front<'_>,
-    elements: I,
-    hint: Hint,
-) {
-    hints(rt, &encoder_behind::<I, Ck>(front, elements).bytes(), hint);
+    begins(
+        rt,
+        alloc,
+        Checksummed::<I, Bech32>::new(elements),
+        hint,
+        want,
+    );
 }
 
 /// Fails where the bounds on elements with their checksum behind them are other ones.
@@ -220,5 +237,5 @@ pub fn hint_of_checksummed<I: Iterator<Item = Fe32> + Drop, Ck: Checksum>(
     elements: I,
     hint: Hint,
 ) {
-    hints(rt, &Checksummed::<I, Ck>::new(elements), hint);
+    same(rt, &Checksummed::<I, Ck>::new(elements).size_hint(), &hint);
 }

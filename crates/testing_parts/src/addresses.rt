@@ -1,8 +1,8 @@
-use crate::compare::{same, same_items};
+use crate::compare::{gives, same, same_items};
 use bech32_checksum::{Bech32, Bech32m, Checksum};
 use bech32_decode::segwit::WitnessLengthError;
 use bech32_decode::{
-    ByteIter, CharError, CheckedHrpstring, ChecksumError, PaddingError, SegwitHrpstring,
+    CharError, CheckedHrpstring, ChecksumError, PaddingError, SegwitHrpstring,
     SegwitHrpstringError, UncheckedHrpstring, UncheckedHrpstringError,
 };
 use bech32_gf::gf32::Fe32;
@@ -13,85 +13,97 @@ use std::process::Abort;
 const ADDRESS: &str = "bc1qar0srrr7xfkvy5l643lydnw9re59gtzzwf5mdq";
 
 // Addresses of BIP-173 and BIP-350: the human-readable part in the case of the text, the version,
-// the program in hexadecimal, and whether that part is one of those that BIP-173 asks for.
-const ADDRESSES: [(&str, &str, Fe32, &str, bool); 6] = [
+// the program, and whether that part is one of those that BIP-173 asks for.
+const ADDRESSES: [(&str, &str, Fe32, &[u8], bool); 6] = [
     (
         "BC1QW508D6QEJXTDG4Y5R3ZARVARY0C5XW7KV8F3T4",
         "BC",
         Fe32::Q,
-        "751e76e8199196d454941c45d1b3a323f1433bd6",
+        &[
+            0x75, 0x1e, 0x76, 0xe8, 0x19, 0x91, 0x96, 0xd4, 0x54, 0x94, 0x1c, 0x45, 0xd1, 0xb3,
+            0xa3, 0x23, 0xf1, 0x43, 0x3b, 0xd6,
+        ],
         true,
     ),
     (
         "tb1qrp33g0q5c5txsp9arysrx4k6zdkfs4nce4xj0gdcccefvpysxf3q0sl5k7",
         "tb",
         Fe32::Q,
-        "1863143c14c5166804bd19203356da136c985678cd4d27a1b8c6329604903262",
+        &[
+            0x18, 0x63, 0x14, 0x3c, 0x14, 0xc5, 0x16, 0x68, 0x04, 0xbd, 0x19, 0x20, 0x33, 0x56,
+            0xda, 0x13, 0x6c, 0x98, 0x56, 0x78, 0xcd, 0x4d, 0x27, 0xa1, 0xb8, 0xc6, 0x32, 0x96,
+            0x04, 0x90, 0x32, 0x62,
+        ],
         true,
     ),
     (
         "bc1pw508d6qejxtdg4y5r3zarvary0c5xw7kw508d6qejxtdg4y5r3zarvary0c5xw7kt5nd6y",
         "bc",
         Fe32::P,
-        "751e76e8199196d454941c45d1b3a323f1433bd6751e76e8199196d454941c45d1b3a323f1433bd6",
+        &[
+            0x75, 0x1e, 0x76, 0xe8, 0x19, 0x91, 0x96, 0xd4, 0x54, 0x94, 0x1c, 0x45, 0xd1, 0xb3,
+            0xa3, 0x23, 0xf1, 0x43, 0x3b, 0xd6, 0x75, 0x1e, 0x76, 0xe8, 0x19, 0x91, 0x96, 0xd4,
+            0x54, 0x94, 0x1c, 0x45, 0xd1, 0xb3, 0xa3, 0x23, 0xf1, 0x43, 0x3b, 0xd6,
+        ],
         true,
     ),
-    ("BC1SW50QGDZ25J", "BC", Fe32::S, "751e", true),
+    ("BC1SW50QGDZ25J", "BC", Fe32::S, &[0x75, 0x1e], true),
     (
         "bc1zw508d6qejxtdg4y5r3zarvaryvaxxpcs",
         "bc",
         Fe32::Z,
-        "751e76e8199196d454941c45d1b3a323",
+        &[
+            0x75, 0x1e, 0x76, 0xe8, 0x19, 0x91, 0x96, 0xd4, 0x54, 0x94, 0x1c, 0x45, 0xd1, 0xb3,
+            0xa3, 0x23,
+        ],
         true,
     ),
     (
         "tc1p0xlxvlhemja6c4dqv22uapctqupfhlxm9h8z3k2e72q4k9hcz7vq5zuyut",
         "tc",
         Fe32::P,
-        "79be667ef9dcbbac55a06295ce870b07029bfcdb2dce28d959f2815b16f81798",
+        &[
+            0x79, 0xbe, 0x66, 0x7e, 0xf9, 0xdc, 0xbb, 0xac, 0x55, 0xa0, 0x62, 0x95, 0xce, 0x87,
+            0x0b, 0x07, 0x02, 0x9b, 0xfc, 0xdb, 0x2d, 0xce, 0x28, 0xd9, 0x59, 0xf2, 0x81, 0x5b,
+            0x16, 0xf8, 0x17, 0x98,
+        ],
         false,
     ),
 ];
 
-// The bytes of a program in hexadecimal.
-fn hexadecimal(rt: &impl Abort, alloc: Global, bytes: ByteIter<'_>) -> String {
-    let mut text = String::new(alloc);
-    for byte in bytes {
-        let digits = format!(in alloc; "{byte:02x}").expect(rt, "memory");
-        text.push_str(&digits).expect(rt, "memory");
-    }
-    text
-}
-
 // Fails where an address is read otherwise.
-fn reads(rt: &impl Abort, alloc: Global, row: (&str, &str, Fe32, &str, bool)) {
-    let (text, part, version, program, has_valid_hrp) = row;
+fn reads(rt: &impl Abort, alloc: Global, row: &(&str, &str, Fe32, &[u8], bool)) {
+    let (text, part, version, program, has_valid_hrp) = *row;
     let address = SegwitHrpstring::new(text).expect(rt, "an address");
-    same(rt, &address.hrp().as_str(), &part);
     let found = (address.witness_version(), address.has_valid_hrp());
     same(rt, &found, &(version, has_valid_hrp));
-    let bytes = hexadecimal(rt, alloc, address.byte_iter());
-    same(rt, &bytes.as_str(), &program);
+    same(rt, &address.hrp().as_str(), &part);
+    gives(rt, alloc, address.byte_iter(), program);
+}
+
+// Fails where the characters of a program are other ones.
+fn reads_characters(rt: &impl Abort) {
+    let address = SegwitHrpstring::new(ADDRESS).expect(rt, "an address");
+    let program = b"ar0srrr7xfkvy5l643lydnw9re59gtzz".as_slice();
+    let found = address.data_part_ascii_no_witver_no_checksum();
+    same_items(rt, found, program);
 }
 
 #[test]
 fn reads_known_addresses(rt: HostRuntime) {
-    for row in ADDRESSES {
+    for row in ADDRESSES.iter() {
         reads(&rt, rt.alloc(), row);
     }
-    let address = SegwitHrpstring::new(ADDRESS).expect(&rt, "an address");
-    let program = b"ar0srrr7xfkvy5l643lydnw9re59gtzz".as_slice();
-    let found = address.data_part_ascii_no_witver_no_checksum();
-    same_items(&rt, found, program);
+    reads_characters(&rt);
 }
 
 // The refusal of a text whose remainder is wrong.
 fn wrong_residue<Ck: Checksum>(rt: &impl Abort, text: &str) -> SegwitHrpstringError {
     let unchecked = UncheckedHrpstring::new(text).expect(rt, "a text");
-    match unchecked.validate_checksum::<Ck>() {
-        Err(ChecksumError::InvalidResidue(e)) => ChecksumError::InvalidResidue(e).into(),
-        _ => panic!(rt; "its remainder is right"),
-    }
+    let refusal = unchecked.validate_checksum::<Ck>().err();
+    let error = refusal.expect(rt, "it is refused");
+    assert!(rt; matches!(error, ChecksumError::InvalidResidue(_)));
+    error.into()
 }
 
 // Fails where a text is read as an address, or refused otherwise.
@@ -107,7 +119,9 @@ fn refuses_wrong_remainders(rt: &impl Abort) {
         "bc1p0xlxvlhemja6c4dqv22uapctqupfhlxm9h8z3k2e72q4k9hcz7vqh2y7hd",
         "BC1S0XLXVLHEMJA6C4DQV22UAPCTQUPFHLXM9H8Z3K2E72Q4K9HCZ7VQ54WELL",
         "bc1gmk9yu",
-    ] {
+    ]
+    .iter()
+    {
         refuses(rt, text, wrong_residue::<Bech32m>(rt, text));
     }
     let of_version_0 = "bc1qw508d6qejxtdg4y5r3zarvary0c5xw7kemeawh";
@@ -117,7 +131,7 @@ fn refuses_wrong_remainders(rt: &impl Abort) {
 
 // Fails where a program of a wrong length, or with wrong bits behind it, is refused otherwise.
 fn refuses_programs(rt: &impl Abort) {
-    for (text, error) in [
+    let rows: [(&str, SegwitHrpstringError); 5] = [
         ("bc1pw5dgrnzv", WitnessLengthError::TooShort.into()),
         (
             "bc1p0xlxvlhemja6c4dqv22uapctqupfhlxm9h8z3k2e72q4k9hcz7v8n0nx0muaewav253zgeav",
@@ -135,8 +149,9 @@ fn refuses_programs(rt: &impl Abort) {
             "tb1p0xlxvlhemja6c4dqv22uapctqupfhlxm9h8z3k2e72q4k9hcz7vpggkg4j",
             PaddingError::NonZero.into(),
         ),
-    ] {
-        refuses(rt, text, error);
+    ];
+    for row in rows.iter() {
+        refuses(rt, row.0, row.1);
     }
 }
 
@@ -144,7 +159,7 @@ fn refuses_programs(rt: &impl Abort) {
 fn refuses_texts_in_order(rt: HostRuntime) {
     refuses_wrong_remainders(&rt);
     refuses_programs(&rt);
-    for (text, error) in [
+    let rows: [(&str, SegwitHrpstringError); 7] = [
         (
             "a1lqfn3a",
             SegwitHrpstringError::InvalidWitnessVersion(Fe32::L),
@@ -170,8 +185,9 @@ fn refuses_texts_in_order(rt: HostRuntime) {
             "BC130XLXVLHEMJA6C4DQV22UAPCTQUPFHLXM9H8Z3K2E72Q4K9HCZ7VQ7ZWS8R",
             SegwitHrpstringError::InvalidWitnessVersion(Fe32::_3),
         ),
-    ] {
-        refuses(&rt, text, error);
+    ];
+    for row in rows.iter() {
+        refuses(&rt, row.0, row.1);
     }
 }
 
@@ -195,7 +211,7 @@ fn refuses_texts_by_bech32_in_order(rt: HostRuntime) {
     let of_bech32m = "BC1SW50QGDZ25J";
     let error = wrong_residue::<Bech32>(&rt, of_bech32m);
     refuses_by_bech32(&rt, of_bech32m, error);
-    for (text, error) in [
+    let rows: [(&str, SegwitHrpstringError); 5] = [
         ("a12uel5l", SegwitHrpstringError::NoData),
         ("a1", SegwitHrpstringError::NoData),
         (
@@ -210,8 +226,9 @@ fn refuses_texts_by_bech32_in_order(rt: HostRuntime) {
             "BC1QR508D6QEJXTDG4Y5R3ZARVARYV98GJ9P",
             WitnessLengthError::InvalidSegwitV0.into(),
         ),
-    ] {
-        refuses_by_bech32(&rt, text, error);
+    ];
+    for row in rows.iter() {
+        refuses_by_bech32(&rt, row.0, row.1);
     }
 }
 
@@ -252,7 +269,7 @@ fn tests_length(rt: &impl Abort, text: &str, version: Fe32, error: Option<Witnes
 fn tests_padding_and_length(rt: HostRuntime) {
     let too_much = Some(PaddingError::TooMuch);
     let non_zero = Some(PaddingError::NonZero);
-    for (text, padding) in [
+    for row in [
         ("a1lqfn3a", None),
         ("a1qy52hkn", too_much),
         ("a1qq43hjaz", None),
@@ -267,7 +284,10 @@ fn tests_padding_and_length(rt: HostRuntime) {
         ("a1yyyyyyyfsyl5s", non_zero),
         ("a1ggggggguzulx0", None),
         ("a1llllllllm6su8m", None),
-    ] {
+    ]
+    .iter()
+    {
+        let (text, padding) = *row;
         tests_padding(&rt, text, padding);
     }
     let invalid = Some(WitnessLengthError::InvalidSegwitV0);

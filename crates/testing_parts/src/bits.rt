@@ -5,7 +5,7 @@ ghost use Rattle.std.specs.Iterator.{IsFinite};
 ghost use Rattle.bech32_gf.specs.declared.gf32.Fe32.{Fe32};
 ghost use Rattle.bech32_bits.specs.Bits.{to_fes, to_bytes, to_bytes_zeropad};
 
-use crate::compare::{gives, same, same_items};
+use crate::compare::{clone_of, exactly, gives, same, same_items, step};
 use bech32_bits::plain::{plain_to_bytes, plain_to_fes};
 use bech32_bits::{ByteIterExt, BytesToFes, FesToBytes};
 use bech32_gf::gf32::Fe32;
@@ -123,16 +123,21 @@ fn bytes_are(rt: &impl Abort, fes: &[Fe32], padded: bool, rows: &[(usize, Option
 #[test]
 fn one_byte(rt: HostRuntime) {
     let mut fes = [0xabu8].iter().copied().bytes_to_fes();
-    let rows = [
-        (2, Some(Fe32::from_low_bits(21))),
-        (1, Some(Fe32::from_low_bits(12))),
-        (0, None),
-        (0, None),
-        (0, None),
+    let found = [
+        fes_step(&mut fes),
+        fes_step(&mut fes),
+        fes_step(&mut fes),
+        fes_step(&mut fes),
+        fes_step(&mut fes),
     ];
-    for (left, fe) in rows {
-        same(&rt, &fes_step(&mut fes), &(left, (left, Some(left)), fe));
-    }
+    let want = [
+        (2, exactly(2), Some(Fe32::from_low_bits(21))),
+        (1, exactly(1), Some(Fe32::from_low_bits(12))),
+        (0, exactly(0), None),
+        (0, exactly(0), None),
+        (0, exactly(0), None),
+    ];
+    same_items(&rt, &found, &want);
 }
 
 #[test]
@@ -183,7 +188,8 @@ fn elements_of_two_bytes(rt: HostRuntime) {
 fn bytes_of_two_elements(rt: HostRuntime) {
     let alloc = rt.alloc();
     let rows: [(bool, &[u8]); 2] = [(false, &[0xad]), (true, &[0xad, 0x40])];
-    for (padded, want) in rows {
+    for row in rows.iter() {
+        let (padded, want) = *row;
         for upper in [None, Some(usize::MAX)] {
             let bytes = FesToBytes::new(TwoItems::new(Fe32::_4, upper), padded);
             all_bytes(&rt, alloc, bytes, want);
@@ -235,14 +241,13 @@ fn size_hints_of_bytes(rt: HostRuntime) {
     }
 
     let mut bytes = FesToBytes::new(TwoOfFive::new(Fe32::_4), false);
-    let rows = [(3, Some(0xad)), (2, None), (0, None)];
-    for (left, byte) in rows {
-        same(
-            &rt,
-            &(bytes.size_hint(), bytes.next()),
-            &((left, Some(left)), byte),
-        );
-    }
+    let found = [step(&mut bytes), step(&mut bytes), step(&mut bytes)];
+    let want = [
+        (exactly(3), Some(0xad)),
+        (exactly(2), None),
+        (exactly(0), None),
+    ];
+    same_items(&rt, &found, &want);
 }
 
 #[test]
@@ -289,7 +294,8 @@ fn size_hints_of_endless_items(rt: HostRuntime) {
     same(&rt, &fes.next(), &Some(Fe32::_4));
     same(&rt, &fes.size_hint(), &(usize::MAX, None));
     // Five eighths of the greatest number, since the lower bound of `repeat` is no greater.
-    for (padded, least) in [(false, 11529215046068469759), (true, 11529215046068469760)] {
+    for row in [(false, 11529215046068469759), (true, 11529215046068469760)].iter() {
+        let (padded, least) = *row;
         let bytes = FesToBytes::new(iter::repeat(Fe32::_4), padded);
         same(&rt, &bytes.size_hint(), &(least, None));
     }
@@ -367,16 +373,18 @@ fn filled_bytes(rt: HostRuntime) {
 fn clones(rt: HostRuntime) {
     let mut fes = [0xabu8].iter().copied().bytes_to_fes();
     same(&rt, &fes.next(), &Some(Fe32::_4));
-    let mut other = fes.clone().expect(&rt, "memory");
-    for _ in 0..2 {
-        same(&rt, &fes_step(&mut other), &fes_step(&mut fes));
-    }
+    let mut other = clone_of(&rt, &fes);
+    let found = [fes_step(&mut other), fes_step(&mut other)];
+    same_items(&rt, &found, &[fes_step(&mut fes), fes_step(&mut fes)]);
 
     let three = [Fe32::_4, Fe32::V, Fe32::L];
     let mut bytes = FesToBytes::new(three.iter().copied(), true);
     same(&rt, &bytes.next(), &Some(0xab));
-    let mut other = bytes.clone().expect(&rt, "memory");
-    for _ in 0..2 {
-        same(&rt, &bytes_step(&mut other), &bytes_step(&mut bytes));
-    }
+    let mut other = clone_of(&rt, &bytes);
+    let found = [bytes_step(&mut other), bytes_step(&mut other)];
+    same_items(
+        &rt,
+        &found,
+        &[bytes_step(&mut bytes), bytes_step(&mut bytes)],
+    );
 }

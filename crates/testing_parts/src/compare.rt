@@ -23,7 +23,7 @@ pub fn says<T: Display>(rt: &impl Abort, alloc: Global, value: &T, want: &str) {
 }
 
 /// Fails where an iterator gives other items than these.
-pub fn gives<T: PartialEq + Debug + Drop, I: Iterator<Item = T>>(
+pub fn gives<T: PartialEq + Debug + Copy, I: Iterator<Item = T>>(
     rt: &impl Abort,
     alloc: Global,
     items: I,
@@ -36,13 +36,8 @@ pub fn gives<T: PartialEq + Debug + Drop, I: Iterator<Item = T>>(
     same_items(rt, &found, want);
 }
 
-/// Fails where an iterator says otherwise how many items come.
-pub fn hints<I: Iterator>(rt: &impl Abort, items: &I, want: (usize, Option<usize>)) {
-    same(rt, &items.size_hint(), &want);
-}
-
 /// Fails where an iterator says otherwise how many items come, or begins with other ones.
-pub fn begins<T: PartialEq + Debug + Drop, I: Iterator<Item = T> + Drop>(
+pub fn begins<T: PartialEq + Debug + Copy, I: Iterator<Item = T> + Drop>(
     rt: &impl Abort,
     alloc: Global,
     items: I,
@@ -51,8 +46,13 @@ pub fn begins<T: PartialEq + Debug + Drop, I: Iterator<Item = T> + Drop>(
 )
     requires { I.can_next items }
 {
-    hints(rt, &items, hint);
+    same(rt, &items.size_hint(), &hint);
     gives(rt, alloc, items.take(want.len()), want);
+}
+
+/// The bounds on how many more items come, where those are exact.
+pub fn exactly(left: usize) -> (usize, Option<usize>) {
+    (left, Some(left))
 }
 
 /// The bounds on how many more items come, and the next item.
@@ -60,4 +60,28 @@ pub fn step<T, I: Iterator<Item = T>>(items: &mut I) -> ((usize, Option<usize>),
     requires { I.can_next items.old }
 {
     (items.size_hint(), items.next())
+}
+
+/// Fails where an iterator gives other items than these, or more behind them, or says otherwise how
+/// many are left.
+pub fn counts_down<T: PartialEq + Debug + Copy, I: Iterator<Item = T>>(
+    rt: &impl Abort,
+    items: &mut I,
+    want: &[T],
+)
+    requires always { (s : I) → I.can_next s }
+{
+    let mut left = want.len();
+    for item in want {
+        same(rt, &step(items), &(exactly(left), Some(*item)));
+        left = left.saturating_sub(1);
+    }
+    for _ in 0..3 {
+        same(rt, &step(items), &(exactly(0), None));
+    }
+}
+
+/// A clone; fails where there is no memory for it.
+pub fn clone_of<T: Clone>(rt: &impl Abort, value: &T) -> T {
+    value.clone().expect(rt, "memory")
 }

@@ -115,11 +115,12 @@ fn write_once<K: ByteSink>(sink: &mut K, buf: &[u8]) -> Answer<usize> {
     Some((outcome, sink.failed()))
 }
 
-fn flush_once<K: ByteSink>(sink: &mut K) -> Answer<()> {
+// The same of a flush, which takes no bytes.
+fn flush_once<K: ByteSink>(sink: &mut K) -> Answer<usize> {
     if sink.failed() {
         return None;
     }
-    let outcome = sink.flush().ok();
+    let outcome = sink.flush().ok().map(|()| 0);
     Some((outcome, sink.failed()))
 }
 
@@ -129,6 +130,17 @@ fn by_kind(outcome: io::Result<()>) -> Result<(), io::ErrorKind> {
         Ok(()) => Ok(()),
         Err(error) => Err(error.kind()),
     }
+}
+
+// What writing all to a new sink over a writer returned, and the mark before and after it.
+fn write_all_once<W: io::Write>(
+    writer: &mut W,
+    bytes: &[u8],
+) -> (bool, Result<(), io::ErrorKind>, bool) {
+    let mut sink = Watched::new(writer);
+    let marked_at_first = sink.failed();
+    let outcome = by_kind(write_all(&mut sink, bytes));
+    (marked_at_first, outcome, sink.failed())
 }
 
 // What is proved of a sink is known of the writer that it watched.
@@ -149,20 +161,13 @@ fn write_all_to_a_writer_that_fails(rt: HostRuntime) {
             room,
             step: 3,
         };
-        let mut sink = Watched::new(&mut writer);
-        let marked_at_first = sink.failed();
-        let outcome = by_kind(write_all(&mut sink, b"hello"));
-        let marked = sink.failed();
+        let found = write_all_once(&mut writer, b"hello");
         let want = if room < 5 {
-            Err(io::ErrorKind::StorageFull)
+            (false, Err(io::ErrorKind::StorageFull), true)
         } else {
-            Ok(())
+            (false, Ok(()), false)
         };
-        same(
-            &rt,
-            &(room, marked_at_first, outcome, marked),
-            &(room, false, want, room < 5),
-        );
+        same(&rt, &(room, found), &(room, want));
         same_items(&rt, &writer.got, &b"hello"[..room.min(5)]);
     }
 }
@@ -182,14 +187,7 @@ fn write_that_fails_marks(rt: HostRuntime) {
         room: 4,
         step: 3,
     };
-    let mut sink = Watched::new(&mut writer);
-    let writes = [
-        write_once(&mut sink, b"hello"),
-        write_once(&mut sink, b"lo"),
-        write_once(&mut sink, b"o"),
-        write_once(&mut sink, b"o"),
-    ];
-    let flush = flush_once(&mut sink);
+    let first = write_five(&mut writer);
     writer.room = 5;
     let again = write_once(&mut Watched::new(&mut writer), b"o");
     let want = [
@@ -197,10 +195,22 @@ fn write_that_fails_marks(rt: HostRuntime) {
         Some((Some(1), false)),
         Some((None, true)),
         None,
+        None,
     ];
-    same_items(&rt, &writes, &want);
-    same(&rt, &(flush, again), &(None, Some((Some(1), false))));
+    same(&rt, &(first, again), &(want, Some((Some(1), false))));
     same_items(&rt, &writer.got, b"hello");
+}
+
+// Four writes and a flush of a new sink over a writer.
+fn write_five(writer: &mut Narrow) -> [Answer<usize>; 5] {
+    let mut sink = Watched::new(writer);
+    [
+        write_once(&mut sink, b"hello"),
+        write_once(&mut sink, b"lo"),
+        write_once(&mut sink, b"o"),
+        write_once(&mut sink, b"o"),
+        flush_once(&mut sink),
+    ]
 }
 
 #[test]
@@ -212,37 +222,40 @@ fn write_that_takes_nothing_marks(rt: HostRuntime) {
         write_once(&mut sink, b"a"),
         write_once(&mut sink, b""),
     ];
-    let mut of_nothing = Watched::new(&mut writer);
-    let nothing = (write_all(&mut of_nothing, b"").is_ok(), of_nothing.failed());
-    let mut of_a_byte = Watched::new(&mut writer);
-    let outcome = by_kind(write_all(&mut of_a_byte, b"a"));
-    let byte = (outcome, of_a_byte.failed());
     same_items(
         &rt,
         &writes,
         &[Some((Some(0), false)), Some((Some(0), true)), None],
     );
-    same(
-        &rt,
-        &(nothing, byte),
-        &((true, false), (Err(io::ErrorKind::WriteZero), true)),
-    );
+    let found = [
+        write_all_once(&mut writer, b""),
+        write_all_once(&mut writer, b"a"),
+    ];
+    let want = [
+        (false, Ok(()), false),
+        (false, Err(io::ErrorKind::WriteZero), true),
+    ];
+    same_items(&rt, &found, &want);
 }
 
 #[test]
 fn flush_that_fails_marks(rt: HostRuntime) {
     let mut writer = Clogged { flushes: 0 };
     let mut sink = Watched::new(&mut writer);
-    let first = (write_once(&mut sink, b"ab"), flush_once(&mut sink));
-    let then = (flush_once(&mut sink), write_once(&mut sink, b"c"));
+    let first = [
+        write_once(&mut sink, b"ab"),
+        flush_once(&mut sink),
+        flush_once(&mut sink),
+        write_once(&mut sink, b"c"),
+    ];
     let mut again = Watched::new(&mut writer);
-    let last = (flush_once(&mut again), write_once(&mut again, b"c"));
-    same(&rt, &first, &(Some((Some(2), false)), Some((None, true))));
-    same(&rt, &then, &(None, None));
-    same(
+    let last = [flush_once(&mut again), write_once(&mut again, b"c")];
+    let want = [Some((Some(2), false)), Some((None, true)), None, None];
+    same_items(&rt, &first, &want);
+    same_items(
         &rt,
         &last,
-        &(Some((Some(()), false)), Some((Some(1), false))),
+        &[Some((Some(0), false)), Some((Some(1), false))],
     );
     same(&rt, &writer.flushes, &2);
 }
@@ -253,29 +266,25 @@ fn read_that_fails_marks(rt: HostRuntime) {
         left: b"abc",
         good: Some(1),
     };
-    let mut source = Watched::new(&mut reader);
+    let found = [read_thrice(&mut reader), read_thrice(&mut reader)];
+    let first = [byte(b'a'), (Some((None, true)), 0), (None, 0)];
+    let then = [byte(b'b'), byte(b'c'), (Some((Some(0), false)), 0)];
+    same_items(&rt, &found, &[(false, first), (false, then)]);
+}
+
+// A read that gave a byte.
+fn byte(b: u8) -> (Answer<usize>, u8) {
+    (Some((Some(1), false)), b)
+}
+
+// The mark of a new source over a reader, and three reads of it.
+fn read_thrice(reader: &mut Hiccup<'_>) -> (bool, [(Answer<usize>, u8); 3]) {
+    let mut source = Watched::new(reader);
     let marked_at_first = source.failed();
     let reads = [
         read_once(&mut source),
         read_once(&mut source),
         read_once(&mut source),
     ];
-    let mut again = Watched::new(&mut reader);
-    let more = [
-        read_once(&mut again),
-        read_once(&mut again),
-        read_once(&mut again),
-    ];
-    let byte = |b: u8| (Some((Some(1), false)), b);
-    same(&rt, &marked_at_first, &false);
-    same_items(
-        &rt,
-        &reads,
-        &[byte(b'a'), (Some((None, true)), 0), (None, 0)],
-    );
-    same_items(
-        &rt,
-        &more,
-        &[byte(b'b'), byte(b'c'), (Some((Some(0), false)), 0)],
-    );
+    (marked_at_first, reads)
 }

@@ -4,10 +4,10 @@ mod checksum_rows;
 
 use crate::adaptors::{
     bytes_are, characters_are, characters_begin, checksummed_are, checksummed_begin,
-    checksummed_under, elements_are, elements_begin, encodes, hint_of_bytes, hint_of_characters,
-    hint_of_checksummed, hint_of_elements,
+    checksummed_under, elements_are, elements_begin, elements_count_down, hint_of_bytes,
+    hint_of_characters, hint_of_checksummed, hint_of_elements,
 };
-use crate::compare::{gives, hints, same, same_items, step};
+use crate::compare::{counts_down, exactly, gives, same, same_items, step};
 use crate::hrp::part;
 use bech32_bits::{ByteIterExt, BytesToFes};
 use bech32_checksum::{Bech32, Bech32m, Checksum, HrpFe32Iter, NoChecksum};
@@ -19,11 +19,6 @@ use std::process::Abort;
 use std::{iter, slice};
 use testing_tools::iterators::{Many, TwoItems, TwoOfFive};
 
-// The bounds on how many more items come, where those are exact.
-fn exactly(left: usize) -> (usize, Option<usize>) {
-    (left, Some(left))
-}
-
 // The element of a character; fails where there is none.
 fn element(rt: &impl Abort, c: u8) -> Fe32 {
     Fe32::from_char(c as char).expect(rt, "an element")
@@ -33,54 +28,50 @@ fn element(rt: &impl Abort, c: u8) -> Fe32 {
 fn elements_of_a_part(rt: HostRuntime) {
     let hrp = part(&rt, "AB");
     let mut fes = HrpFe32Iter::new(&hrp);
-    let rows = [
-        (5, Some(Fe32::R)),
-        (4, Some(Fe32::R)),
-        (3, Some(Fe32::Q)),
-        (2, Some(Fe32::P)),
-        (1, Some(Fe32::Z)),
-        (0, None),
-        (0, None),
-    ];
-    for (left, fe) in rows {
-        same(&rt, &(fes.size_hint(), fes.next()), &(exactly(left), fe));
-    }
+    let want = [Fe32::R, Fe32::R, Fe32::Q, Fe32::P, Fe32::Z];
+    counts_down(&rt, &mut fes, &want);
 }
 
 #[test]
 fn elements_of_no_data(rt: HostRuntime) {
     let none: [Fe32; 0] = [];
     let hrp = part(&rt, "a");
-    let mut fes = none.iter().copied().with_checksum::<Bech32>(&hrp).fes();
-    // The characters `rqp2uel5l`.
-    let rows = [
-        Some(Fe32::R),
-        Some(Fe32::Q),
-        Some(Fe32::P),
-        Some(Fe32::_2),
-        Some(Fe32::U),
-        Some(Fe32::E),
-        Some(Fe32::L),
-        Some(Fe32::_5),
-        Some(Fe32::L),
-        None,
-        None,
-        None,
-    ];
-    for fe in rows {
-        let (_, found) = step(&mut fes);
-        same(&rt, &found, &fe);
-    }
+    elements_count_down(&rt, (&hrp, None), none.iter().copied(), &RQP2UEL5L);
 }
+
+// The characters `rqp2uel5l`.
+const RQP2UEL5L: [Fe32; 9] = [
+    Fe32::R,
+    Fe32::Q,
+    Fe32::P,
+    Fe32::_2,
+    Fe32::U,
+    Fe32::E,
+    Fe32::L,
+    Fe32::_5,
+    Fe32::L,
+];
+
+// The characters `rrqpzlx4wxqs`: those of the text `ab1lx4wxqs`.
+const RRQPZLX4WXQS: [Fe32; 12] = [
+    Fe32::R,
+    Fe32::R,
+    Fe32::Q,
+    Fe32::P,
+    Fe32::Z,
+    Fe32::L,
+    Fe32::X,
+    Fe32::_4,
+    Fe32::W,
+    Fe32::X,
+    Fe32::Q,
+    Fe32::S,
+];
 
 // Fails where the bounds on the elements of a text are other ones.
 fn bounds_of_a_text(rt: &impl Abort, hrp: &Hrp) {
     let one = [Fe32::L];
-    let mut fes = one.iter().copied().with_checksum::<Bech32>(hrp).fes();
-    for left in [12, 11, 10, 9, 8, 7, 6, 5, 4, 3, 2, 1, 0, 0] {
-        let (bounds, fe) = step(&mut fes);
-        same(rt, &(bounds, fe.is_some()), &(exactly(left), left > 0));
-    }
+    elements_count_down(rt, (hrp, None), one.iter().copied(), &RRQPZLX4WXQS);
 }
 
 const TWO: [Fe32; 2] = [Fe32::L, Fe32::Q];
@@ -88,25 +79,20 @@ const TWO: [Fe32; 2] = [Fe32::L, Fe32::Q];
 // Fails where the bounds on elements behind a version are other ones.
 fn bounds_behind_a_version(rt: &impl Abort) {
     let mut fes = WitnessVersionIter::new(Some(Fe32::P), TWO.iter().copied());
-    let rows = [
-        (3, Some(Fe32::P)),
-        (2, Some(Fe32::L)),
-        (1, Some(Fe32::Q)),
-        (0, None),
-        (0, None),
-    ];
-    for (left, fe) in rows {
-        same(rt, &(fes.size_hint(), fes.next()), &(exactly(left), fe));
-    }
+    counts_down(rt, &mut fes, &[Fe32::P, Fe32::L, Fe32::Q]);
+}
+
+// The same without one.
+fn bounds_without_a_version(rt: &impl Abort) {
+    let mut fes = WitnessVersionIter::new(None, TWO.iter().copied());
+    counts_down(rt, &mut fes, &TWO);
 }
 
 #[test]
 fn size_hints(rt: HostRuntime) {
     let hrp = part(&rt, "ab");
     bounds_of_a_text(&rt, &hrp);
-    let mut fes = WitnessVersionIter::new(None, TWO.iter().copied());
-    let found = (fes.size_hint(), fes.next());
-    same(&rt, &found, &(exactly(2), Some(Fe32::L)));
+    bounds_without_a_version(&rt);
     bounds_behind_a_version(&rt);
 }
 
@@ -258,26 +244,40 @@ fn elements_of_a_part_and_two_elements(rt: HostRuntime) {
 fn elements_with_a_version(rt: HostRuntime) {
     let alloc = rt.alloc();
     let hrp = part(&rt, "a");
-    let encoder = Encoder::<_, Bech32m>::new(TwoItems::new(Fe32::_4, None), &hrp);
-    let encoder = encoder.with_witness_version(Fe32::P);
     let want = elements_of(&rt, alloc, b"rqpp44pr9lq9");
-    encodes(&rt, alloc, encoder, &want);
+    let two = TwoItems::new(Fe32::_4, None);
+    elements_are::<_, Bech32m>(&rt, alloc, (&hrp, Some(Fe32::P)), two, &want);
 }
 
 #[test]
 fn bounds_that_are_not_exact(rt: HostRuntime) {
     let hrp = part(&rt, "ab");
-    let fes = WitnessVersionIter::new(Some(Fe32::Q), TwoItems::new(Fe32::_4, None));
-    hints(&rt, &fes, (1, None));
-    let fes = WitnessVersionIter::new(Some(Fe32::Q), Many::new(Fe32::_4, usize::MAX));
-    hints(&rt, &fes, (usize::MAX, None));
+    let (two, many) = (
+        TwoItems::new(Fe32::_4, None),
+        Many::new(Fe32::_4, usize::MAX),
+    );
+    let found = [
+        WitnessVersionIter::new(Some(Fe32::Q), two).size_hint(),
+        WitnessVersionIter::new(Some(Fe32::Q), many).size_hint(),
+    ];
+    same_items(&rt, &found, &[(1, None), (usize::MAX, None)]);
+    same_items(
+        &rt,
+        &bounds_of_texts(&hrp),
+        &[(9, None), (9, None), exactly(16)],
+    );
+}
 
+// The bounds on the characters and the bytes of a text, and on the elements of another.
+fn bounds_of_texts(hrp: &Hrp) -> [(usize, Option<usize>); 3] {
+    let front = (hrp, None);
     let two = TwoItems::new(Fe32::_4, None);
-    hint_of_characters::<_, Bech32>(&rt, (&hrp, None), two, (9, None));
-    let two = TwoItems::new(Fe32::_4, Some(usize::MAX));
-    hint_of_bytes::<_, Bech32>(&rt, (&hrp, None), two, (9, None));
-    let two = TwoOfFive::new(Fe32::_4);
-    hint_of_elements::<_, Bech32>(&rt, (&hrp, None), two, exactly(16));
+    let most = TwoItems::new(Fe32::_4, Some(usize::MAX));
+    [
+        hint_of_characters(front, two),
+        hint_of_bytes(front, most),
+        hint_of_elements(front, TwoOfFive::new(Fe32::_4)),
+    ]
 }
 
 #[test]
@@ -306,11 +306,11 @@ fn endless_elements(rt: HostRuntime) {
     let front = (&hrp, None);
     let endless = (usize::MAX, None);
     let want = ['a', 'b', '1', '4', '4', '4', '4', '4'];
-    characters_begin::<_, Bech32>(&rt, alloc, front, iter::repeat(Fe32::_4), endless, &want);
+    characters_begin(&rt, alloc, front, iter::repeat(Fe32::_4), endless, &want);
     let want = elements_of(&rt, alloc, b"rrqpz44");
-    elements_begin::<_, Bech32>(&rt, alloc, front, iter::repeat(Fe32::_4), endless, &want);
+    elements_begin(&rt, alloc, front, iter::repeat(Fe32::_4), endless, &want);
     let fes = iter::repeat(Fe32::_4);
-    checksummed_begin::<_, Bech32>(&rt, alloc, fes, endless, &[Fe32::_4; 6]);
+    checksummed_begin(&rt, alloc, fes, endless, &[Fe32::_4; 6]);
 }
 
 #[test]

@@ -10,7 +10,7 @@ use bech32_checksum::{Bech32, Bech32m, Checksum, Engine, NoChecksum, PackedFe32,
 use bech32_gf::gf32::Fe32;
 use bech32_hrp::Hrp;
 use bech32_poly::polynomial::remainder;
-use std::alloc::{AllocError, Global};
+use std::alloc::Global;
 use std::process::Abort;
 use testing_codes::{Degree8, Degree13};
 
@@ -107,38 +107,53 @@ fn checksum_of_a_part(rt: HostRuntime) {
     same(&rt, &found, &['2', 'u', 'e', 'l', '5', 'l']);
 }
 
+// Forty elements, and the polynomial of degree 40 whose other coefficients they are, the highest
+// first.
+fn forty() -> ([Fe32; 40], [Fe32; 41]) {
+    let mut elements = [Fe32::Q; 40];
+    let mut polynomial = [Fe32::P; 41];
+    for i in 0..40usize {
+        let element = Fe32::from_low_bits(i as u8);
+        elements[i] = element;
+        polynomial[39 - i] = element;
+    }
+    (elements, polynomial)
+}
+
+// Whether the lowest places of a row are these elements.
+fn has_places<R: PackedFe32>(row: R, elements: &[Fe32]) -> bool
+    requires { length elements.now ≤ R.WIDTH }
+{
+    for place in 0..elements.len() {
+        if Fe32::from_low_bits(row.unpack(place)) != elements[place] {
+            return false;
+        }
+    }
+    true
+}
+
 // Whether an engine that was given 40 elements holds the remainder by long division.
-fn agrees<Ck: Checksum>(alloc: Global, low: &[Fe32]) -> Result<bool, AllocError>
+fn agrees<Ck: Checksum>(rt: &impl Abort, alloc: Global, low: &[Fe32]) -> bool
     requires { length low.now ≤ Ck.MidstateRepr.WIDTH }
 {
-    let mut polynomial = Vec::new(alloc);
-    for i in 0..40 {
-        polynomial.push(Fe32::from_low_bits(i))?;
-    }
+    let (elements, polynomial) = forty();
     let mut engine = Engine::<Ck>::new();
-    input_all(&mut engine, &polynomial);
-
-    polynomial.reverse();
-    polynomial.push(Fe32::P)?;
-    let rest = remainder(alloc, &polynomial, low)?;
-    let mut held = Vec::new(alloc);
-    for place in 0..low.len() {
-        held.push(Fe32::from_low_bits(engine.residue().unpack(place)))?;
-    }
-    Ok(held == rest)
+    input_all(&mut engine, &elements);
+    let rest = remainder(alloc, &polynomial, low).expect(rt, "memory");
+    rest.len() == low.len() && has_places(*engine.residue(), &rest)
 }
 
 #[test]
 fn same_as_long_division(rt: HostRuntime) {
     let alloc = rt.alloc();
     let agreed = [
-        agrees::<Bech32>(alloc, &LOW).ok(),
-        agrees::<Bech32m>(alloc, &LOW).ok(),
-        agrees::<Degree8>(alloc, &LOW_8).ok(),
-        agrees::<Degree13>(alloc, &LOW_13).ok(),
-        agrees::<NoChecksum>(alloc, &[]).ok(),
+        agrees::<Bech32>(&rt, alloc, &LOW),
+        agrees::<Bech32m>(&rt, alloc, &LOW),
+        agrees::<Degree8>(&rt, alloc, &LOW_8),
+        agrees::<Degree13>(&rt, alloc, &LOW_13),
+        agrees::<NoChecksum>(&rt, alloc, &[]),
     ];
-    same(&rt, &agreed, &[Some(true); 5]);
+    same_items(&rt, &agreed, &[true; 5]);
 }
 
 // No element changes the remainder by the polynomial 1.

@@ -65,7 +65,7 @@ fn refuses_by_length(rt: HostRuntime) {
 
 #[test]
 fn refuses_at_the_first_bad_character(rt: HostRuntime) {
-    for (text, error) in [
+    for row in [
         ("a b", Error::InvalidAsciiByte(0x20)),
         ("a\u{7f}B", Error::InvalidAsciiByte(0x7f)),
         ("aB", Error::MixedCase),
@@ -73,7 +73,10 @@ fn refuses_at_the_first_bad_character(rt: HostRuntime) {
         ("aBé", Error::MixedCase),
         ("é", Error::NonAsciiChar('é')),
         ("aéB", Error::NonAsciiChar('é')),
-    ] {
+    ]
+    .iter()
+    {
+        let (text, error) = *row;
         same(&rt, &(text, read(text)), &(text, Err(error)));
     }
 }
@@ -131,20 +134,23 @@ fn spells_the_networks(rt: HostRuntime) {
 
 #[test]
 fn knows_the_networks(rt: HostRuntime) {
-    for (hrp, want) in [
+    for row in [
         (BC, [true, true, false, false, false]),
         (TB, [true, false, true, true, false]),
         (BCRT, [false, false, false, false, true]),
         (part(&rt, "b"), [false; 5]),
         (part(&rt, "BC"), [true, true, false, false, false]),
-    ] {
+    ]
+    .iter()
+    {
+        let (hrp, want) = *row;
         same(&rt, &(hrp, networks(&hrp)), &(hrp, want));
     }
 }
 
 #[test]
 fn tells_the_fault(rt: HostRuntime) {
-    for (error, want) in [
+    for row in [
         (
             Error::TooLong(84),
             "hrp is too long, found 84 characters, must be <= 83",
@@ -157,7 +163,10 @@ fn tells_the_fault(rt: HostRuntime) {
         ),
         (Error::MixedCase, "hrp cannot mix upper and lower case"),
         (Error::Fmt, "formatting failed"),
-    ] {
+    ]
+    .iter()
+    {
+        let (error, want) = *row;
         says(&rt, rt.alloc(), &error, want);
     }
 }

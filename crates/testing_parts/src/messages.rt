@@ -23,7 +23,7 @@ fn tells_too_long(rt: &impl Abort, alloc: Global) {
 
 #[test]
 fn tells_why_a_text_is_no_address(rt: HostRuntime) {
-    for (error, message) in [
+    for row in [
         (
             UncheckedHrpstringError::Char(CharError::MixedCase).into(),
             "parsing unchecked hrpstring failed: character error: mixed-case strings not allowed",
@@ -56,7 +56,10 @@ fn tells_why_a_text_is_no_address(rt: HostRuntime) {
             ChecksumError::InvalidLength.into(),
             "invalid checksum: the checksummed string is not a valid length",
         ),
-    ] {
+    ]
+    .iter()
+    {
+        let (error, message) = *row;
         says::<SegwitHrpstringError>(&rt, rt.alloc(), &error, message);
     }
     tells_too_long(&rt, rt.alloc());
@@ -64,7 +67,7 @@ fn tells_why_a_text_is_no_address(rt: HostRuntime) {
 
 #[test]
 fn tells_why_a_text_is_not_accepted(rt: HostRuntime) {
-    for (text, message) in [
+    for row in [
         (
             "a1b",
             "parse failed: character error: invalid character (code=b)",
@@ -73,7 +76,10 @@ fn tells_why_a_text_is_not_accepted(rt: HostRuntime) {
             "a1",
             "invalid checksum: the checksummed string is not a valid length",
         ),
-    ] {
+    ]
+    .iter()
+    {
+        let (text, message) = *row;
         let error = CheckedHrpstring::new::<Bech32>(text).err();
         let error = error.expect(&rt, "it is refused");
         says(&rt, rt.alloc(), &error, message);
@@ -86,7 +92,7 @@ fn tells_which_rule_is_broken(rt: HostRuntime) {
     let error = InvalidWitnessVersionError(Fe32::_3);
     let message = "invalid segwit witness version: 17 (bech32 character: '3')";
     says(&rt, alloc, &error, message);
-    for (error, message) in [
+    for row in [
         (
             WitnessLengthError::TooShort,
             "witness program is less than 2 bytes long",
@@ -99,7 +105,10 @@ fn tells_which_rule_is_broken(rt: HostRuntime) {
             WitnessLengthError::InvalidSegwitV0,
             "the segwit v0 witness is not 20 or 32 bytes long",
         ),
-    ] {
+    ]
+    .iter()
+    {
+        let (error, message) = *row;
         says(&rt, alloc, &error, message);
     }
 }

@@ -65,22 +65,29 @@ fn reads_pieces(rt: HostRuntime) {
     both(&rt, &["ab", "é", "B"], Err(Error::NonAsciiChar('é')));
 }
 
+// Texts of 82 to 84 letters, and one of 21 accented letters, which is half as long as the last.
+const CUT: &str =
+    "aaaaaaaaaaaaaaaaaaaaaaaaaaaaaaaaaaaaaaaaaaaaaaaaaaaaaaaaaaaaaaaaaaaaaaaaaaaaaaaaaa";
+
+const LONGEST: &str =
+    "aaaaaaaaaaaaaaaaaaaaaaaaaaaaaaaaaaaaaaaaaaaaaaaaaaaaaaaaaaaaaaaaaaaaaaaaaaaaaaaaaaa";
+
+const LONGER: &str =
+    "aaaaaaaaaaaaaaaaaaaaaaaaaaaaaaaaaaaaaaaaaaaaaaaaaaaaaaaaaaaaaaaaaaaaaaaaaaaaaaaaaaaa";
+
+const ACCENTS: &str = "ééééééééééééééééééééé";
+
 #[test]
 fn reads_pieces_by_their_length(rt: HostRuntime) {
-    let alloc = rt.alloc();
-    let longest = "a".repeat(alloc, 83).expect(&rt, "memory");
-    let longer = "a".repeat(alloc, 84).expect(&rt, "memory");
-    let accents = "é".repeat(alloc, 21).expect(&rt, "memory");
-    let cut = "a".repeat(alloc, 82).expect(&rt, "memory");
     let too_long = Err(Error::TooLong(84));
-    both(&rt, &[&longest], Ok(&longest));
-    both(&rt, &[&cut, "a"], Ok(&longest));
-    both(&rt, &[&longer], too_long);
-    both(&rt, &[&longest, "a"], too_long);
-    both(&rt, &[" ", &longest], too_long);
-    both(&rt, &[&accents, &accents], too_long);
-    both(&rt, &[&cut, "é"], too_long);
-    both(&rt, &[&longer, &longer, "B"], Err(Error::TooLong(169)));
+    both(&rt, &[LONGEST], Ok(LONGEST));
+    both(&rt, &[CUT, "a"], Ok(LONGEST));
+    both(&rt, &[LONGER], too_long);
+    both(&rt, &[LONGEST, "a"], too_long);
+    both(&rt, &[" ", LONGEST], too_long);
+    both(&rt, &[ACCENTS, ACCENTS], too_long);
+    both(&rt, &[CUT, "é"], too_long);
+    both(&rt, &[LONGER, LONGER, "B"], Err(Error::TooLong(169)));
 }
 
 // A value that prints these pieces and then fails is no part.
@@ -90,12 +97,11 @@ fn does_not_print(rt: &impl Abort, pieces: &[&str]) {
 
 #[test]
 fn tells_that_a_value_does_not_print(rt: HostRuntime) {
-    let longer = "a".repeat(rt.alloc(), 84).expect(&rt, "memory");
     does_not_print(&rt, &[]);
     does_not_print(&rt, &["ab"]);
     does_not_print(&rt, &["a", "B"]);
     does_not_print(&rt, &["é"]);
-    does_not_print(&rt, &[&longer]);
+    does_not_print(&rt, &[LONGER]);
 }
 
 #[test]

@@ -42,7 +42,7 @@ fn letters(rt: &impl Abort, alloc: Global, count: usize, behind: &str) -> String
 
 #[test]
 fn refuses_characters_in_order(rt: HostRuntime) {
-    for (text, error) in [
+    for row in [
         ("abcdef", CharError::InvalidChar('b')),
         ("qpzry", CharError::MissingSeparator),
         ("Q1q", CharError::MixedCase),
@@ -52,18 +52,24 @@ fn refuses_characters_in_order(rt: HostRuntime) {
         ("aB1qqqqqq", CharError::MixedCase),
         ("A1q", CharError::MixedCase),
         ("a1qqqqqb", CharError::InvalidChar('b')),
-    ] {
+    ]
+    .iter()
+    {
+        let (text, error) = *row;
         refuses(&rt, text, UncheckedHrpstringError::Char(error));
     }
     let long = letters(&rt, rt.alloc(), 84, "1");
-    for (text, error) in [
+    for row in [
         ("1qqqqqq", hrp::Error::Empty),
         ("1", hrp::Error::Empty),
         ("é1qqqqqq", hrp::Error::NonAsciiChar('é')),
         ("a 1q", hrp::Error::InvalidAsciiByte(0x20)),
         ("a\x7f1q", hrp::Error::InvalidAsciiByte(0x7f)),
         (long.as_str(), hrp::Error::TooLong(84)),
-    ] {
+    ]
+    .iter()
+    {
+        let (text, error) = *row;
         refuses(&rt, text, UncheckedHrpstringError::Hrp(error));
     }
 }
@@ -183,7 +189,8 @@ fn takes_untested_checksums_off(rt: HostRuntime) {
 
 #[test]
 fn accepts_by_grammar_and_length_at_degree_0(rt: HostRuntime) {
-    for (text, data_part) in [("a1", ""), ("a1qpz", "qpz")] {
+    for row in [("a1", ""), ("a1qpz", "qpz")].iter() {
+        let (text, data_part) = *row;
         let checked = accepted::<NoChecksum>(&rt, text);
         let found = checked.data_part_ascii_no_checksum();
         same_items(&rt, found, data_part.as_bytes());
@@ -207,14 +214,17 @@ fn reads_elements_and_bytes(rt: HostRuntime) {
 fn counts_elements_to_come(rt: HostRuntime) {
     let checked = accepted::<Bech32>(&rt, "a1qpzre5gzdl");
     let mut elements = checked.fe32_iter();
-    for (element, left) in [
+    for row in [
         (Some(Fe32::Q), 3),
         (Some(Fe32::P), 2),
         (Some(Fe32::Z), 1),
         (Some(Fe32::R), 0),
         (None, 0),
         (None, 0),
-    ] {
+    ]
+    .iter()
+    {
+        let (element, left) = *row;
         let found = (elements.next(), elements.len(), elements.size_hint());
         same(&rt, &found, &(element, left, (left, Some(left))));
     }
@@ -225,7 +235,8 @@ fn counts_bytes_to_come(rt: HostRuntime) {
     let checked = accepted::<Bech32>(&rt, "a1qpzre5gzdl");
     let mut bytes = checked.byte_iter();
     same(&rt, &bytes.size_hint(), &(2, Some(2)));
-    for (byte, left) in [(Some(0x00), 1), (Some(0x44), 0), (None, 0), (None, 0)] {
+    for row in [(Some(0x00), 1), (Some(0x44), 0), (None, 0), (None, 0)].iter() {
+        let (byte, left) = *row;
         let found = (bytes.next(), bytes.len(), bytes.size_hint());
         same(&rt, &found, &(byte, left, (left, Some(left))));
     }

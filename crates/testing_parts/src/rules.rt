@@ -8,13 +8,16 @@ use bech32_gf::gf32::Fe32;
 
 #[test]
 fn knows_versions(rt: HostRuntime) {
-    for (version, refusal) in [
+    for row in [
         (VERSION_0, None),
         (VERSION_1, None),
         (Fe32::S, None),
         (Fe32::_3, Some(InvalidWitnessVersionError(Fe32::_3))),
         (Fe32::L, Some(InvalidWitnessVersionError(Fe32::L))),
-    ] {
+    ]
+    .iter()
+    {
+        let (version, refusal) = *row;
         let found = (
             is_valid_witness_version(version),
             validate_witness_version(version).err(),
@@ -28,7 +31,7 @@ fn knows_program_lengths(rt: HostRuntime) {
     let too_short = Some(WitnessLengthError::TooShort);
     let too_long = Some(WitnessLengthError::TooLong);
     let invalid = Some(WitnessLengthError::InvalidSegwitV0);
-    for (length, of_version_0, of_version_1) in [
+    for row in [
         (0, too_short, too_short),
         (1, too_short, too_short),
         (2, invalid, None),
@@ -38,8 +41,12 @@ fn knows_program_lengths(rt: HostRuntime) {
         (32, None, None),
         (40, invalid, None),
         (41, too_long, too_long),
-    ] {
-        for (version, refusal) in [(VERSION_0, of_version_0), (VERSION_1, of_version_1)] {
+    ]
+    .iter()
+    {
+        let (length, of_version_0, of_version_1) = *row;
+        for row in [(VERSION_0, of_version_0), (VERSION_1, of_version_1)].iter() {
+            let (version, refusal) = *row;
             let found = (
                 is_valid_witness_program_length(length, version),
                 validate_witness_program_length(length, version).err(),

@@ -43,9 +43,10 @@ impl<E: ExtensionField, A: Allocator + Copy> RootIter<E, A> {
             left ≡ root_exponents E.ops E.eq (map E.embed polynomial.now) base start end) }
         ensures in_place { FitsInPlace (length polynomial.now) → IsOk result }
     {
-        Ok(RootIter {
-            search: Search::new(polynomial, base, start, end)?,
-        })
+        match Search::new(polynomial, base, start, end) {
+            Ok(search) => Ok(RootIter { search }),
+            Err(refusal) => Err(refusal),
+        }
     }
 }
 

@@ -35,3 +35,6 @@ loop-preserved g c =
 pub returns-in_err-push-clause-in_place : goal.returns-in_err-push-clause-in_place
 returns-in_err-push-clause-in_place g c = λ fits.
     absurd (cc (c.in_err-push.ensures.in_place (omega (arith, c.loop.invariant.so_far.size, fits))))
+
+pub returns-clause-size : goal.returns-clause-size
+returns-clause-size g c = omega (arith, c.loop.invariant.so_far.size)

@@ -1,4 +1,4 @@
-use Rattle.std.proofs.Common.{◌≡◌, ◌<◌, ◌-◌, length, get_or, ap, ◌∙◌, arith}
+use Rattle.std.proofs.Common.{◌≡◌, ◌<◌, ◌-◌, length, get_or, ap, refl, ◌∙◌, arith}
 use Rattle.std.proofs.lemmas.List.{length-set}
 use Rattle.bech32_bch.proofs.Loops.{knock_left, knock_next}
 use Rattle.bech32_bch.proofs.terms.knock_out.Goals as goal
@@ -20,3 +20,12 @@ loop-i-preserved g c =
       done = knock_next o c.args.y here next c.plus.result first items c.set.new.self i (omega arith) within c.loop-i.invariant.size c.loop-i.invariant.done c.loop-i.invariant.left at_here at_next made c.set.ensures;
       left = knock_left o c.plus.result first items c.set.new.self i (omega arith) c.loop-i.invariant.left c.set.ensures;
     }
+
+pub loop-i-init : goal.loop-i-init
+loop-i-init g c = record { size = refl; done = λ t low. absurd (omega (arith, low)); left = λ t high. refl }
+
+pub returns-clause-size : goal.returns-clause-size
+returns-clause-size g c = c.loop-i.invariant.size
+
+pub returns-clause-knocked : goal.returns-clause-knocked
+returns-clause-knocked g c = λ t low. c.loop-i.invariant.done t (omega (arith, low))

@@ -1,8 +1,10 @@
+use Rattle.std.specs.Prelude.{true, false}
 use Rattle.std.proofs.Common.{rules, ◌≡◌, ◌≢◌, ◌+◌, ◌<◌, ℕ, length, get_or, take, [], ◌∷◌, ◌++◌, arith, sym, ap, ◌∙◌, refl}
-use Rattle.std.proofs.lemmas.List.{length-append, take_more}
+use Rattle.std.proofs.lemmas.List.{length-append, take_all, take_more}
 use Rattle.bech32_gf.specs.Field.{power}
 use Rattle.bech32_bch.specs.Knock.{without}
 use Rattle.bech32_bch.specs.Search.{locators}
+use Rattle.bech32_bch.proofs.Located.{length-locators}
 use Rattle.bech32_bch.proofs.Loops.{get-locators, locators-more, other_more, other_same}
 use Rattle.bech32_bch.proofs.terms.other_locators.Goals.{then-places-k+in_ok-push, else-places-k}
 use Rattle.bech32_bch.proofs.terms.other_locators.Goals as goal
@@ -36,3 +38,16 @@ loop-k-preserved g c =
             fits = omega (arith, ap (λ u. length u) w.others-is, c.loop-k.invariant.fits);
           }
     ]
+
+refused : {P : Type 0} → false ≡ true → P
+refused h = absurd (cc h)
+
+pub bounds-all-k : goal.bounds-all-k
+bounds-all-k g c = omega (arith, ap (λ u. length u) c.requires, length-locators g.K.Field.ops c.args.base c.args.places.now)
+
+pub returns-in_err-push-clause-in_place : goal.returns-in_err-push-clause-in_place
+returns-in_err-push-clause-in_place g c = λ few. refused (c.in_err-push.ensures.in_place (omega (arith, c.loop-k.invariant.fits, few)))
+
+pub returns-clause-locators : goal.returns-clause-locators
+returns-clause-locators g c =
+    c.loop-k.invariant.so_far ∙ ap (λ u. locators g.K.Field.ops c.args.base (without c.args.place u)) (take_all c.loop-k.k c.args.places.now (omega arith))

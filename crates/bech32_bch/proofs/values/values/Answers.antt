@@ -1,74 +1,24 @@
-use Rattle.std.proofs.Common.{rules, ◌≡◌, ◌≢◌, ◌+◌, ◌≤◌, ℕ, length, map, get_or, take, drop, [], ◌∷◌, ◌++◌, arith, subst, sym, ap, ◌∙◌}
-use Rattle.std.specs.Prelude.{Option, Some, None, true, false}
-use Rattle.std.specs.List.{AllByRecursion}
-use Rattle.std.proofs.lemmas.List.{take_all, take_more}
-use Rattle.bech32_bch.specs.Pattern.{locations}
-use Rattle.bech32_bch.proofs.Alone.{length-without_mem}
-use Rattle.bech32_bch.proofs.Places.{mem_at, mem_drop, all_drop_more, locations-append, map_push, length-locations, length_take}
-use Rattle.bech32_bch.proofs.values.values.Goals.{else-k-given-via-then-k-given+else-is_zero, else-k-given-via-else-k-given}
+use Rattle.std.specs.Prelude.{true, false}
+use Rattle.std.proofs.Common.{◌≡◌, arith, sym, ◌∙◌}
 use Rattle.bech32_bch.proofs.values.values.Goals as goal
-
-none_some : {A : Type 0} (a : Option A) (x : A) → a ≡ Some x → a ≡ None → ⊥
-none_some a x e f = let k : Some x ≡ None = sym e ∙ f in absurd (cc k)
-
-some_same : {A : Type 0} (a : Option A) (x y : A) → a ≡ Some x → a ≡ Some y → y ≡ x
-some_same a x y e f = let k : Some y ≡ Some x = sym f ∙ e in cc k
 
 refused : {P : Type 0} → false ≡ true → P
 refused h = absurd (cc h)
 
-pub value_of_place-requires : goal.value_of_place-requires
-value_of_place-requires g c =
-    let x : ℕ = get_or c.args.places.now c.loop-k.k 0 in (
-      search rules,
-      (
-        omega (arith, length-without_mem x c.args.places.now (mem_at c.args.places.now c.loop-k.k 0 c.loop-k-test.true), c.requires),
-        c.in_ok-locators.ensures.locators,
-      ),
-    )
-
-pub returns-in_default-clause-found : goal.returns-in_default-clause-found
-returns-in_default-clause-found g c = λ v explained not_zero.
-    let x : ℕ = get_or c.args.places.now c.loop-k.k 0 in
-    let some : c.in_ok-v.field-0 ≡ Some (v x) = c.in_ok-v.ensures.value (v x) (explained x (mem_at c.args.places.now c.loop-k.k 0 (omega arith))) in
-    none_some c.in_ok-v.field-0 (v x) some c.in_default.is
-
-pub returns-then-is_zero-clause-found : goal.returns-then-is_zero-clause-found
-returns-then-is_zero-clause-found g c = λ v explained not_zero.
-    let x : ℕ = get_or c.args.places.now c.loop-k.k 0 in
-    let some : c.in_ok-v.field-0 ≡ Some (v x) = c.in_ok-v.ensures.value (v x) (explained x (mem_at c.args.places.now c.loop-k.k 0 (omega arith))) in
-    let none : c.in-Some.v ≡ g.E.BaseField.Field.ops.zero = c.is_zero.ensures.0 c.if-is_zero.true in
-    let same : v x ≡ g.E.BaseField.Field.ops.zero = sym (some_same c.in_ok-v.field-0 (v x) c.in-Some.v some c.in-Some.is) ∙ none in
-    not_zero x (mem_drop c.args.places.now c.args.given c.loop-k.k 0 (omega arith) (omega arith)) same
-
-pub returns-in_err-push-clause-in_place : goal.returns-in_err-push-clause-in_place
-returns-in_err-push-clause-in_place g c = λ fits.
-    let size : length c.loop-k.listing ≡ c.loop-k.k = length-locations c.loop-k.listing ∙ ap (λ u. length u) c.loop-k.invariant.placed ∙ length_take c.args.places.now c.loop-k.k (omega arith) in
-    refused (c.in_err-push.ensures.in_place (omega (arith, size, fits, c.requires)))
-
-pub loop-k-preserved : goal.loop-k-preserved
-loop-k-preserved g c =
-    let k : ℕ = c.loop-k.k in
-    let places = c.args.places.now in
-    let x : ℕ = get_or places k 0 in
-    let w = c.in-Some.v in
-    let before = c.loop-k.listing in
-    let items : c.push.new.self ≡ before ++ ((x, w) ∷ []) = c.in_ok-push.ensures.ok in
-    let more : take (k + 1) places ≡ take k places ++ (x ∷ []) = take_more places k 0 (omega arith) in
-    let size : length before ≡ k = length-locations before ∙ ap (λ u. length u) c.loop-k.invariant.placed ∙ length_take places k (omega arith) in
-    let here : c.args.given ≤ length before → w ≢ g.E.BaseField.Field.ops.zero = λ le. elim c.else-k-given.branch [
-      | else-k-given-via-then-k-given+else-is_zero b ↦ (λ z. refused (sym b.if-is_zero.false ∙ b.is_zero.ensures.1 z))
-      | else-k-given-via-else-k-given b ↦ absurd (omega (arith, size, le, b.if-k-given.false))
-    ] in
-    record {
-      placed = ap locations items ∙ locations-append before ((x, w) ∷ []) ∙ ap (λ u. u ++ (x ∷ [])) c.loop-k.invariant.placed ∙ sym more;
-      not_zero = subst (λ u. AllByRecursion (λ p. p.1 ≢ g.E.BaseField.Field.ops.zero) (drop c.args.given u)) (sym items) (all_drop_more (λ p. p.1 ≢ g.E.BaseField.Field.ops.zero) c.args.given before (x, w) c.loop-k.invariant.not_zero here);
-      explained = λ v explained not_zero.
-          let some : c.in_ok-v.field-0 ≡ Some (v x) = c.in_ok-v.ensures.value (v x) (explained x (mem_at places k 0 (omega arith))) in
-          let same : w ≡ v x = some_same c.in_ok-v.field-0 (v x) w some c.in-Some.is in
-          items ∙ ap (λ u. u ++ ((x, w) ∷ [])) (c.loop-k.invariant.explained v explained not_zero) ∙ ap (λ u. map (λ i. (i, v i)) (take k places) ++ ((x, u) ∷ [])) same ∙ sym (map_push (λ i. (i, v i)) (take k places) x) ∙ ap (map (λ i. (i, v i))) (sym more);
-    }
-
 pub returns-clause-found : goal.returns-clause-found
-returns-clause-found g c = λ v explained not_zero.
-    c.loop-k.invariant.explained v explained not_zero ∙ ap (map (λ i. (i, v i))) (take_all c.loop-k.k c.args.places.now (omega arith))
+returns-clause-found g c = λ v explained not_zero. refused (sym c.if-branch.false ∙ (c.in_ok-push_values.ensures.found v explained not_zero).0)
+
+pub returns-then-branch-clause-placed : goal.returns-then-branch-clause-placed
+returns-then-branch-clause-placed g c = c.in_ok-push_values.ensures.placed c.if-branch.true
+
+pub returns-then-branch-clause-not_zero : goal.returns-then-branch-clause-not_zero
+returns-then-branch-clause-not_zero g c = c.in_ok-push_values.ensures.not_zero c.if-branch.true
+
+pub returns-then-branch-clause-found : goal.returns-then-branch-clause-found
+returns-then-branch-clause-found g c = λ v explained not_zero. (c.in_ok-push_values.ensures.found v explained not_zero).1
+
+pub returns-in_err-locators-clause-in_place : goal.returns-in_err-locators-clause-in_place
+returns-in_err-locators-clause-in_place g c = λ fits. refused (c.in_err-locators.ensures.in_place (omega (arith, fits, c.requires)))
+
+pub returns-in_err-push_values-clause-in_place : goal.returns-in_err-push_values-clause-in_place
+returns-in_err-push_values-clause-in_place g c = λ fits. refused (c.in_err-push_values.ensures.in_place fits)

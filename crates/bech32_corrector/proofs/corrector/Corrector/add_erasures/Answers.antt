@@ -5,7 +5,7 @@ use Rattle.bech32_poly.specs.FieldVec.{FitsInPlace}
 use Rattle.bech32_bch.specs.Erasures.{AreErasures, with_erasures}
 use Rattle.bech32_bch.specs.Search.{locators}
 use Rattle.bech32_direct.specs.Question.{Question}
-use Rattle.bech32_corrector.proofs.Added.{erasures_more}
+use Rattle.bech32_solver.proofs.Added.{erasures_more}
 use Rattle.bech32_corrector.proofs.corrector.Corrector.add_erasures.Goals as goal
 
 pub invariant_of-self : goal.invariant_of-self

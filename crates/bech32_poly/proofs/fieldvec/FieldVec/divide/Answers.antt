@@ -1,15 +1,7 @@
-use Rattle.std.proofs.Common.{◌≡◌, ◌++◌, List, length, take, subst, sym, ap, ◌∙◌, arith}
-use Rattle.std.specs.List.{refill}
-use Rattle.std.proofs.lemmas.List.{drop_all, take_all, append-nil}
+use Rattle.std.proofs.Common.{◌≡◌, length, subst, sym, ap, ◌∙◌}
 use Rattle.bech32_poly.specs.Remainder.{IsRemainder}
+use Rattle.bech32_poly.proofs.Loops.{written_over}
 use Rattle.bech32_poly.proofs.fieldvec.FieldVec.divide.Goals as goal
-
--- a list that is written over as it is long
-written_over : {F : Type 0} (xs ws : List F) → length ws ≡ length xs → refill (length xs) xs ws ≡ ws
-written_over xs ws same =
-    ap (λ u. take (length xs) (ws ++ u)) (drop_all (length ws) xs (omega arith))
-    ∙ ap (take (length xs)) (append-nil ws)
-    ∙ take_all (length xs) ws (omega arith)
 
 pub returns : goal.returns
 returns g c =

@@ -1,27 +1,32 @@
-use Rattle.std.proofs.Common.{◌≡◌, ◌-◌, ℕ, List, length, reverse, take, sym, ap, subst, ◌∙◌, arith}
-use Rattle.bech32_gf.specs.Field.{Ops, IsField}
-use Rattle.bech32_poly.specs.Window.{IsShortestWindow}
-use Rattle.bech32_poly.specs.Register.{IsShortest}
-use Rattle.bech32_poly.proofs.Registers.{shortest_register_is, length-shortest_register}
+use Rattle.std.proofs.Common.{◌≡◌, ◌≤◌, ℕ, List, length, take, ap, ◌∙◌, arith}
+use Rattle.std.proofs.lemmas.List.{length-take-le}
+use Rattle.bech32_gf.specs.Field.{Ops}
+use Rattle.bech32_poly.specs.Register.{Generates}
 use Rattle.bech32_poly.proofs.Sequences.{goes_on}
 use Rattle.bech32_poly.proofs.lfsr.LfsrIter.berlekamp_massey_in.Goals as goal
 
--- the register, turned round by the code
-turned : {F : Type 0} {o : Ops F} (l : IsField o) (items r r' cs : List F) (n : ℕ) → n ≡ length r → r' ≡ r → IsShortestWindow o items r → cs ≡ reverse (take (n - 1) r') → IsShortest o cs items
-turned {o = o} l items r r' cs n size same h is =
-    subst (λ u. IsShortest o u items) (sym (is ∙ ap (λ u. reverse (take (n - 1) u)) same)) (shortest_register_is l items r (n - 1) (omega (arith, h.generates.degree)) h)
+-- as many of the first items as there are coefficients
+as_many : {F : Type 0} {o : Ops F} (cs items : List F) (n : ℕ) → Generates o cs items → n ≡ length cs → length (take n items) ≡ length cs
+as_many cs items n h size = length-take-le n items (omega (arith, size, h.fits)) ∙ size
 
-pub returns-clause-shortest : goal.returns-clause-shortest
-returns-clause-shortest g c =
-    turned g.met.F.Field.laws c.args.items.now c.in_ok-register.register c.as_slice.result.now c.in_ok-turned_copy.field-0 c.len-length.result
-    c.len-length.ensures c.as_slice.ensures c.in_ok-register.ensures.shortest c.in_ok-turned_copy.ensures.copy
+few_are : {F : Type 0} {o : Ops F} (cs items : List F) (n : ℕ) → Generates o cs items → n ≡ length cs → length items ≤ 6 → length (take n items) ≤ 7
+few_are cs items n h size few = omega (arith, as_many cs items n h size, h.fits)
 
-pub returns-clause-goes_on : goal.returns-clause-goes_on
-returns-clause-goes_on g c =
-    let o = g.F.Field.ops in
-    let cs = c.in_ok-turned_copy.field-0 in
-    let short : IsShortest o cs c.args.items.now = turned g.met.F.Field.laws c.args.items.now c.in_ok-register.register c.as_slice.result.now cs c.len-length.result
-    c.len-length.ensures c.as_slice.ensures c.in_ok-register.ensures.shortest c.in_ok-turned_copy.ensures.copy in
-    let size : c.len-length.result - 1 ≡ length cs =
-    length-shortest_register o c.in_ok-register.register c.as_slice.result.now cs c.len-length.result c.len-length.ensures c.as_slice.ensures c.in_ok-turned_copy.ensures.copy in
-    goes_on o cs c.args.items.now c.in_ok-from_slice.field-0 short.generates (c.in_ok-from_slice.ensures.ok ∙ ap (λ n. take n c.args.items.now) size)
+pub returns-in-Err-clause-in_place : goal.returns-in-Err-clause-in_place
+returns-in-Err-clause-in_place g c = λ few. absurd (cc (c.in-Err.ensures.in_place few))
+
+pub returns-in-Err-from_slice-clause-in_place : goal.returns-in-Err-from_slice-clause-in_place
+returns-in-Err-from_slice-clause-in_place g c = λ few.
+    absurd (cc (c.in-Err-from_slice.ensures.in_place (few_are c.in-Ok.coefficients c.args.items.now c.len.result c.in-Ok.ensures.shortest.generates c.len.ensures few)))
+
+pub invariant_of-result : goal.invariant_of-result
+invariant_of-result g c =
+    (ap (λ u. length u) c.in-Ok-from_slice.ensures.ok ∙ as_many c.in-Ok.coefficients c.args.items.now c.len.result c.in-Ok.ensures.shortest.generates c.len.ensures, λ some. some)
+
+pub returns-in-Ok-from_slice-clause-shortest : goal.returns-in-Ok-from_slice-clause-shortest
+returns-in-Ok-from_slice-clause-shortest g c = c.in-Ok.ensures.shortest
+
+pub returns-in-Ok-from_slice-clause-goes_on : goal.returns-in-Ok-from_slice-clause-goes_on
+returns-in-Ok-from_slice-clause-goes_on g c =
+    goes_on g.F.Field.ops c.in-Ok.coefficients c.args.items.now c.in-Ok-from_slice.ring c.in-Ok.ensures.shortest.generates
+    (c.in-Ok-from_slice.ensures.ok ∙ ap (λ n. take n c.args.items.now) c.len.ensures)

@@ -1,4 +1,4 @@
-use Rattle.std.proofs.Common.{◌≡◌, ◌<◌, suc, ◌+◌, length, get_or, Some, refl, inl, inr, sym, ap, subst, ◌∙◌, arith}
+use Rattle.std.proofs.Common.{rules, ◌≡◌, ◌≤◌, length-set, ◌<◌, suc, ◌+◌, length, get_or, Some, refl, inl, inr, sym, ap, subst, ◌∙◌, arith}
 use Rattle.bech32_poly.specs.Polynomial.{coefficient}
 use Rattle.bech32_poly.specs.Register.{GivesNext, back_sum, from_place}
 use Rattle.bech32_poly.proofs.Rings.{gives_next_at, gives_zero}
@@ -32,3 +32,36 @@ returns-clause-steps g c =
           subst (λ v. GivesNext o v (Some item) c.if-self-length.self) c.self.view_is (subst (λ v. GivesNext o (record { coefficients = c.self.inside.coefficients; coming = from_place c.self.inside.start c.self.inside.ring }) (Some item) v) (sym w.self-is) (gives_next_at g.met.F.Field.laws c.self.inside.coefficients c.self.inside.ring c.set.new.self c.self.inside.start (c.self.inside.start + 1) _ c.following-following.result
           c.self.invariant.0 within read comes c.set.ensures (inl next)))
     ]
+
+pub offset_bounds-as_slice-self-inside : goal.offset_bounds-as_slice-self-inside
+offset_bounds-as_slice-self-inside g c =
+    let some : 0 < length c.self.inside.ring = omega (arith, c.len-length.ensures) in
+    let within : c.self.inside.start ≤ length c.as_slice.result.now = omega (arith, c.self.invariant.1 some, ap (λ u. length u) c.as_slice.ensures) in
+    search rules
+
+pub bounds-as_slice-self-inside : goal.bounds-as_slice-self-inside
+bounds-as_slice-self-inside g c =
+    let some : 0 < length c.self.inside.ring = omega (arith, c.len-length.ensures) in
+    omega (arith, c.self.invariant.1 some, ap (λ u. length u) c.as_slice.ensures)
+
+pub set-requires : goal.set-requires
+set-requires g c =
+    let some : 0 < length c.self.inside.ring = omega (arith, c.len-length.ensures) in
+    let within : c.self.inside.start < length c.self.inside.ring = c.self.invariant.1 some in
+    search rules
+
+pub overflow_add-self : goal.overflow_add-self
+overflow_add-self g c =
+    let some : 0 < length c.self.inside.ring = omega (arith, c.len-length.ensures) in
+    omega (arith, c.self.invariant.1 some, c.as_slice.type_inv.0, ap (λ u. length u) c.as_slice.ensures)
+
+pub invariant_of-self : goal.invariant_of-self
+invariant_of-self g c =
+    (ap (λ u. length u) c.set.ensures ∙ length-set c.self.inside.ring c.self.inside.start c.following-following.result ∙ c.self.invariant.0, λ some. some)
+
+pub invariant_of-self-else-self-length : goal.invariant_of-self-else-self-length
+invariant_of-self-else-self-length g c =
+    let same : length c.set.new.self ≡ length c.self.inside.ring = ap (λ u. length u) c.set.ensures ∙ length-set c.self.inside.ring c.self.inside.start c.following-following.result in
+    let some : 0 < length c.self.inside.ring = omega (arith, c.len-length.ensures) in
+    let within : c.self.inside.start < length c.self.inside.ring = c.self.invariant.1 some in
+    (same ∙ c.self.invariant.0, λ _. omega (arith, same, within, c.if-self-length.false, c.len-length.ensures))

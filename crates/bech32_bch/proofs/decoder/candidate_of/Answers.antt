@@ -1,0 +1,57 @@
+use Rattle.std.proofs.Common.{◌≡◌, length, Option, Some, None, Result, Ok, Err, IfOk, IfSome, arith}
+use Rattle.std.specs.Prelude.{MatchOption, true, false}
+use Rattle.bech32_poly.specs.Embedding.{Embeds}
+use Rattle.bech32_poly.specs.Pattern.{inside, value_of_pattern_at}
+use Rattle.bech32_bch.proofs.Candidates.{explained, found_values, listing_of}
+use Rattle.bech32_bch.proofs.decoder.candidate_of.Goals as goal
+
+refused : {P : Type 0} → false ≡ true → P
+refused h = absurd (cc h)
+
+map_ok : {T E : Type 0} (r : Result T E) (P Q : T → Type 0) → ((t : T) → P t → Q t) → IfOk r P → IfOk r Q
+map_ok (Ok t) P Q f h = f t h
+map_ok (Err e) P Q f h = h
+
+map_some : {A : Type 0} (a : Option A) (N : Type 0) (P Q : A → Type 0) → ((x : A) → P x → Q x) → MatchOption a N P → MatchOption a N Q
+map_some (Some x) N P Q f h = f x h
+map_some None N P Q f h = h
+
+both_ok : {A E : Type 0} (r : Result (Option A) E) (P Q R : A → Type 0) → ((x : A) → P x → Q x → R x) → IfOk r (λ a. IfSome a P) → IfOk r (λ a. IfSome a Q) → IfOk r (λ a. IfSome a R)
+both_ok (Ok (Some x)) P Q R f h k = f x h k
+both_ok (Ok None) P Q R f h k = h
+both_ok (Err e) P Q R f h k = h
+
+pub returns-in_err-found-clause-in_place : goal.returns-in_err-found-clause-in_place
+returns-in_err-found-clause-in_place g c = λ few. refused (c.in_err-found.ensures.in_place few)
+
+pub returns-in_default-clause-found : goal.returns-in_default-clause-found
+returns-in_default-clause-found g c = λ e pattern sums.
+    rw c.in_default.is at (c.in_ok-found.ensures.found c.args.roots.start (inside g.E.ExtensionField.embed e) sums)
+
+pub returns-clause-listed : goal.returns-clause-listed
+returns-clause-listed g c =
+    let may = rw c.in-Some.is at c.in_ok-found.ensures.listed in
+    both_ok c.listed.result _ _ _ (λ listing placed values. record { errors = c.in-Some.found; are_errors = may; placed = placed; values = values }) c.listed.ensures.placed c.listed.ensures.not_zero
+
+pub returns-clause-found : goal.returns-clause-found
+returns-clause-found g c =
+    let f = g.E.BaseField.Field.ops in
+    let fl = g.met.E.BaseField.Field.laws in
+    let l = g.met.E.Field.laws in
+    let o = g.E.Field.ops in
+    let embed = g.E.ExtensionField.embed in
+    let into : Embeds f o embed = record { one = g.met.E.ExtensionField.embed_one_law; add = g.met.E.ExtensionField.embed_add_law; mul = g.met.E.ExtensionField.embed_mul_law } in
+    let s = c.args.erasures.now in
+    let b = c.args.roots.base in
+    let start = c.args.roots.start in
+    let items = c.args.list.now in
+    let found = c.in-Some.found in
+    let may = rw c.in-Some.is at c.in_ok-found.ensures.listed in
+    map_ok c.listed.result _ _ (λ answer values e pattern sums.
+    let are = rw c.in-Some.is at (c.in_ok-found.ensures.found start (inside embed e) sums) in
+    map_some answer ⊥ _ _ (λ listing is. listing_of fl l into c.args.window s found e pattern are (length items) listing may is)
+    (values (value_of_pattern_at f e) (explained fl l into b start c.args.window s items found c.requires.order c.requires.erased may e sums are) (found_values fl l into c.args.window s found e pattern are)))
+    c.listed.ensures.found
+
+pub returns-clause-in_place : goal.returns-clause-in_place
+returns-clause-in_place g c = λ few. c.listed.ensures.in_place (omega (arith, few))

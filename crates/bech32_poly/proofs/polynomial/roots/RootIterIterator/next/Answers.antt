@@ -1,0 +1,8 @@
+use Rattle.std.proofs.Common.{subst}
+use Rattle.std.specs.Iterator.{YieldsFirst}
+use Rattle.bech32_poly.specs.RootSearch.{left_of}
+use Rattle.bech32_poly.proofs.polynomial.roots.RootIterIterator.next.Goals as goal
+
+pub returns-clause-steps : goal.returns-clause-steps
+returns-clause-steps g c =
+    subst (λ v. YieldsFirst (λ left. left) v c.next_root.result (left_of g.E.Field.ops g.E.PartialEq.eq c.next_root.new.self)) c.self.view_is c.next_root.ensures

@@ -1,0 +1,11 @@
+//! The pattern that explains a residue, found as the erasures allow: directly, or by the generator's
+//! roots (BIP-173, Checksum design).
+#![tactic(auto)]
+
+mod carried;
+mod correction;
+mod erasures;
+
+pub use self::carried::residue_error_of;
+pub use self::correction::{bound, correct, is_filled};
+pub use self::erasures::extended;
