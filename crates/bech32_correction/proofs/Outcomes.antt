@@ -1,7 +1,6 @@
 -- What follows of a text from what its checksum and the corrector answer.
-use Rattle.std.proofs.Common.{◌≡◌, ℕ, ◌<◌, ◌≤◌, List, [], ◌∷◌, map, length, Option, None, Some, MatchOption, MatchResult, Result, Ok, Err, subst, sym, ap, ◌∙◌, refl, arith}
+use Rattle.std.proofs.Common.{◌≡◌, ℕ, ◌<◌, ◌≤◌, List, [], ◌∷◌, map, length, None, Some, MatchResult, Result, Ok, Err, subst, sym, ap, ◌∙◌, refl, arith}
 use Rattle.std.specs.List.{AllByRecursion}
-use Rattle.std.specs.Prelude.{IfOk}
 use Rattle.std.proofs.Math.Decide.{dec_lt}
 use Rattle.bech32_gf.specs.Fe32 as fe32
 use Rattle.bech32_gf.specs.Fe32.{elements_of, ops}
@@ -14,9 +13,9 @@ use Rattle.bech32_checksum.specs.Code.{Code}
 use Rattle.bech32_checksum.specs.Encoded.{char_of_element}
 use Rattle.bech32_checksum.specs.TextPolynomial.{text_polynomial}
 use Rattle.bech32_bch.specs.Erasures.{with_erasures}
-use Rattle.bech32_bch.specs.Pattern.{Solves}
 use Rattle.bech32_solver.specs.Carried.{of_checksum}
-use Rattle.bech32_direct.specs.Question.{Explains, IsAnswerTo, IsOnlyListing, Question}
+use Rattle.bech32_direct.specs.Question.{Explains, IsOnlyListing, Question}
+use Rattle.bech32_corrector.specs.Given.{IsAnswerWith}
 use Rattle.bech32_decode.specs.Acceptance.{Accepts}
 use Rattle.bech32_decode.specs.Parts.{unchecked_data, unchecked_length, unchecked_part}
 use Rattle.bech32_decode.specs.Refusals.{IsChecksumRefusal, IsInvalidBy, IsValidBy}
@@ -86,29 +85,25 @@ listing-from_only code bound text given hrp data_part residue listing is inside 
   );
 }
 
--- what a corrector's listing, or that there is none, says of the text
-pub explained : {E : Type 0} (code : Code) (bound : ℕ) (given : List ℕ) (corrector : Question) (r : Result (Option (List (ℕ × Fe32))) E)
-    → AllByRecursion (λ i. i < corrector.window) given
-    → IfOk r (λ answer. IsAnswerTo code bound (record { residue = corrector.residue; window = corrector.window; erasures = with_erasures [] given }) answer)
-    → IfOk r (λ found. (text : List ℕ) → IsCorrectorOf code text corrector → MatchOption found
-    (HasNoListing code bound text given) (λ listing. IsListingOf code bound text given listing))
-explained code bound given corrector (Ok (Some listing)) inside only = λ text is.
+-- what a listing of the text's corrector says of the text
+pub listed : (code : Code) (bound : ℕ) (text given : List ℕ) (corrector : Question) (listing : List (ℕ × Fe32)) → IsCorrectorOf code text corrector
+    → IsAnswerWith code bound corrector given (Some listing) → IsListingOf code bound text given listing
+listed code bound text given corrector listing is (inside, only) =
     listing-from_only code bound text given is.hrp is.data_part corrector.residue listing is.refused
     (subst (λ (n : ℕ). AllByRecursion (λ i. i < n) given) is.window inside)
     (subst (λ (n : ℕ). IsOnlyListing code bound (record { residue = corrector.residue; window = n; erasures = with_erasures [] given }) listing) is.window only)
-explained code bound given corrector (Ok None) inside none = λ text is. record {
+
+-- what it says that there is none
+pub none_listed : (code : Code) (bound : ℕ) (text given : List ℕ) (corrector : Question) → IsCorrectorOf code text corrector
+    → IsAnswerWith code bound corrector given None → HasNoListing code bound text given
+none_listed code bound text given corrector is none = record {
   hrp = is.hrp;
   data_part = is.data_part;
   residue = corrector.residue;
   refused = is.refused;
-  none = λ within e explains. none e
+  none = λ within e explains. none (subst (λ (n : ℕ). AllByRecursion (λ i. i < n) given) (sym is.window) within) e
       (subst (λ (n : ℕ). Explains code bound (record { residue = corrector.residue; window = n; erasures = with_erasures [] given }) e) (sym is.window) explains);
 }
-explained code bound given corrector (Err e) inside answer = tt
-
--- more different erasures than the bound leave no pattern that solves
-pub too_many : (g residue : List Fe32) (s : List ℕ) (w bound : ℕ) (e : List (ℕ × Fe32)) → bound < length s → Solves ops g residue s w bound e → ⊥
-too_many g residue s w bound e more h = let few = h.few in omega arith
 
 -- what a corrector with this residue holds
 pub of_residue : (residue residue' : List Fe32) (window : ℕ) (v : Question) → v ≡ record { residue = residue; window = window; erasures = [] } → residue ≡ residue'
@@ -176,9 +171,3 @@ pub of_text : (code : Code) (bound : ℕ) (text given : List ℕ) (u : Unchecked
     → MatchResult r (λ answer. IsListedCorrection code bound text given answer) (λ e. IsCorrectRefusal code text e)
 of_text code bound text given u (Ok answer) is h = h text is
 of_text code bound text given u (Err e) is h = refusal_of_text code text u e is h
-
--- a refusal of a text that was read is one of the text
-pub of_read : {R : Type 0} (code : Code) (text : List ℕ) (u : UncheckedHrpstring) (r : Result R CorrectError) (P : R → Type 0) → IsReadAs text u
-    → MatchResult r P (λ e. IsReadRefusal code u e) → MatchResult r P (λ e. IsCorrectRefusal code text e)
-of_read code text u (Ok answer) P is h = h
-of_read code text u (Err e) P is h = refusal_of_text code text u e is h

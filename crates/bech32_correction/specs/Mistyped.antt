@@ -1,6 +1,6 @@
 -- What a checksum says of a mistyped text: that it accepts it, how to correct it, or that there is
 -- no correction.
-use Rattle.std.specs.Prelude.{◌≡◌, ◌≢◌, ◌<◌, ◌≤◌, ℕ, List, [], length, Option, Some, None}
+use Rattle.std.specs.Prelude.{◌≡◌, ◌≢◌, ◌<◌, ◌≤◌, ℕ, List, [], length, None}
 use Rattle.std.specs.List.{AllByRecursion}
 use Rattle.bech32_gf.specs.Fe32.{elements_of, ops}
 use Rattle.bech32_gf.specs.declared.gf32.Fe32.{Fe32}
@@ -88,11 +88,6 @@ pub record IsCorrectorOf (code : Code) (text : List ℕ) (corrector : Question) 
   pub refused : IsRefusedFor code text hrp data_part corrector.residue
   pub window : corrector.window ≡ length data_part
   pub fresh : corrector.erasures ≡ []
-
--- the checksum accepts the text, or it has a corrector
-abbrev pub IsReading : Code → List ℕ → Option Question → Type 0
-IsReading code text None = Accepts code text
-IsReading code text (Some corrector) = IsCorrectorOf code text corrector
 
 -- the text in lower case, with each listed value added to the element at its location
 pub record IsMendedText (listing : List (ℕ × Fe32)) (text mended_text : List ℕ) : Type 0 where

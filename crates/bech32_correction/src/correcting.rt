@@ -1,9 +1,9 @@
 //! What a checksum says of a mistyped text.
 
-ghost use Rattle.std.specs.Prelude.{◌≡◌, ◌≤◌, ℕ, [], List, length, None, Err, IfOk, IsOk, MatchOption, MatchResult};
+ghost use Rattle.std.specs.Prelude.{◌≡◌, ◌≤◌, ℕ, List, length, None, Err, MatchOption, MatchResult};
 ghost use Rattle.bech32_checksum.specs.Code.{bech32, bech32m};
 ghost use Rattle.bech32_solver.specs.Carried.{of_checksum};
-ghost use Rattle.bech32_correction.specs.Mistyped.{HasNoListing, IsCorrectRefusal, IsCorrectorOf, IsListedCorrection, IsListing, IsListingOf, IsReadAs, IsReadRefusal, IsReading, IsRefusal};
+ghost use Rattle.bech32_correction.specs.Mistyped.{IsCorrectRefusal, IsListedCorrection, IsListing, IsReadAs, IsReadRefusal, IsRefusal};
 ghost use Rattle.bech32_correction.specs.declared.error.CorrectError.TheVariants.{Memory, Refused};
 ghost use Rattle.bech32_decode.specs.Refusals.{IsInvalidBy, IsValidBy};
 ghost use Rattle.bech32_refusals.specs.declared.error.ChecksumError.TheVariants.{InvalidResidue};
@@ -12,11 +12,11 @@ use crate::error::CorrectError;
 use crate::no_memory::NoMemory;
 use bech32_bch::ShortVec;
 use bech32_checksum::{Bech32, Bech32m, Checksum, CorrectingChecksum};
-use bech32_corrector::{Corrector, are_below, distinct_in};
+use bech32_corrector::Corrector;
 use bech32_decode::UncheckedHrpstring;
 use bech32_gf::gf32::Fe32;
 use bech32_refusals::{CheckedHrpstringError, ChecksumError, InvalidResidueError};
-use std::alloc::{AllocError, Allocator, Global};
+use std::alloc::{Allocator, Global};
 
 /// Locations, of which 0 is the last character, and the element to add at each.
 pub type Listing<A = Global> = ShortVec<(usize, Fe32), A>;
@@ -56,58 +56,6 @@ pub fn residue_error_in<Ck: Checksum>(
     }
 }
 
-/// What finds the errors of a text that the checksum refuses for its residue; none where it accepts the
-/// text.
-///
-/// # Errors
-///
-/// The checksum's refusal of the text, but for a wrong checksum.
-pub fn corrector_of<Ck: Checksum, A: Allocator + Copy>(
-    alloc: A,
-    unchecked: &UncheckedHrpstring<'_>,
-) -> Result<Option<Corrector<Ck, A>>, ChecksumError>
-    requires { Ck.lawful }
-    ensures { MatchResult result
-        (λ found. (text : List ℕ) → IsReadAs text unchecked.now → IsReading Ck.code text found)
-        (λ e. IsInvalidBy Ck.code unchecked.now e × (of_checksum e ≡ None)) }
-{
-    match residue_error_in::<Ck>(unchecked) {
-        Ok(Some(error)) => {
-            let window = unchecked.data_part_ascii().len();
-            Ok(Some(Corrector::new(alloc, error.residue(), window)))
-        }
-        Ok(None) => Ok(None),
-        Err(refusal) => Err(refusal),
-    }
-}
-
-// The listing that corrects the text of which this is the corrector. None where a given location is
-// not in the data part, too.
-pub(crate) fn correction_of<Ck: Checksum, A: Allocator + Copy>(
-    alloc: A,
-    corrector: &Corrector<Ck, A>,
-    given: &[usize],
-) -> Result<Option<Listing<A>>, AllocError>
-    ensures answer { IfOk result (λ found. (text : List ℕ)
-        → IsCorrectorOf Ck.code text corrector.now
-        → MatchOption found (HasNoListing Ck.code Ck.bound text given.now)
-        (λ listing. IsListingOf Ck.code Ck.bound text given.now listing)) }
-    ensures in_place { length Ck.code.generator ≤ 6 → IsOk result }
-{
-    if !are_below(given, corrector.window()) {
-        return Ok(None);
-    }
-    let most = corrector.singleton_bound();
-    let Some(erasures) = distinct_in(alloc, given, most)? else {
-        return Ok(None);
-    };
-    if most - erasures.len() < 2 {
-        return corrector.filled_listing(erasures);
-    }
-    let erased = corrector.with(erasures)?;
-    erased.listing()
-}
-
 /// What a checksum says of a text that was read, where the given locations are erasures: whether it
 /// accepts the text, and else how the text is corrected.
 ///
@@ -126,10 +74,12 @@ pub fn listing_of_unchecked<Ck: CorrectingChecksum, A: Allocator + Copy>(
         (λ e. IsReadRefusal Ck.code unchecked.now e) }
     ensures in_place { length Ck.code.generator ≤ 6 → result ≡ Err Memory → ⊥ }
 {
-    let Some(corrector) = corrector_of::<Ck, A>(alloc, unchecked)? else {
+    let Some(error) = residue_error_in::<Ck>(unchecked)? else {
         return Ok(Correction::Accepted);
     };
-    match correction_of(alloc, &corrector, erasures)? {
+    let window = unchecked.data_part_ascii().len();
+    let corrector = Corrector::<Ck, A>::new(alloc, error.residue(), window);
+    match corrector.listing_with(erasures)? {
         Some(listing) => Ok(Correction::Mended(listing)),
         None => Ok(Correction::Unexplained(corrector)),
     }

@@ -9,8 +9,8 @@ mod no_memory;
 mod one_call;
 
 pub use self::correcting::{
-    Correction, Listing, bech32_listing, bech32m_listing, corrector_of, listing_in,
-    listing_of_unchecked, residue_error_in,
+    Correction, Listing, bech32_listing, bech32m_listing, listing_in, listing_of_unchecked,
+    residue_error_in,
 };
 pub use self::error::CorrectError;
 pub use self::mending::{mend, mended_in};

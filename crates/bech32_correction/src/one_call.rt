@@ -4,15 +4,14 @@ ghost use Rattle.std.specs.Prelude.{◌≡◌, ℕ, List, IfOk, MatchResult, str
 ghost use Rattle.bech32_gf.specs.Fe32.{elements_of, ops};
 ghost use Rattle.bech32_checksum.specs.Encoded.{spelled};
 ghost use Rattle.bech32_correction.specs.MendedElements.{mended};
-ghost use Rattle.bech32_correction.specs.Mistyped.{IsCorrectRefusal, IsCorrectionBy, IsCorrectorOf, IsMendedBy, IsPlacedIn, IsReadAs, IsReadRefusal};
+ghost use Rattle.bech32_correction.specs.Mistyped.{IsCorrectRefusal, IsCorrectionBy, IsCorrectorOf, IsMendedBy, IsPlacedIn};
 ghost use Rattle.bech32_decode.specs.Text.{IsText};
 
-use crate::correcting::{Correction, Listing, correction_of, corrector_of};
+use crate::correcting::{Correction, Listing, listing_in};
 use crate::error::CorrectError;
 use crate::mending::mended_in;
-use bech32_checksum::{Checksum, CorrectingChecksum};
+use bech32_checksum::CorrectingChecksum;
 use bech32_corrector::Corrector;
-use bech32_decode::UncheckedHrpstring;
 use std::alloc::{AllocError, Allocator, Global};
 
 /// How a text is corrected: a [`Listing`], and the corrected text.
@@ -48,52 +47,6 @@ pub fn mended_by<A: Allocator + Copy>(
     Ok(MendedBy { listing, text })
 }
 
-// How a text is corrected, by its corrector.
-fn mended_with<Ck: Checksum, A: Allocator + Copy>(
-    alloc: A,
-    text: &str,
-    corrector: Corrector<Ck, A>,
-    erasures: &[usize],
-) -> Result<Correction<Mended<A>, Corrector<Ck, A>>, AllocError>
-    requires { IsCorrectorOf Ck.code text.now corrector }
-    ensures { IfOk result (λ answer. IsCorrectionBy
-        (λ m. IsMendedBy Ck.code Ck.bound text.now erasures.now m.listing (string_bytes m.text))
-        (λ c. IsCorrectorOf Ck.code text.now c)
-        Ck.code Ck.bound text.now erasures.now answer) }
-{
-    match correction_of(alloc, &corrector, erasures)? {
-        Some(listing) => {
-            let mended = mended_by(alloc, text, listing)?;
-            Ok(Correction::Mended(mended))
-        }
-        None => Ok(Correction::Unexplained(corrector)),
-    }
-}
-
-// What a checksum with lawful roots says of a text that was read.
-fn corrected_by<Ck: Checksum, A: Allocator + Copy>(
-    alloc: A,
-    text: &str,
-    unchecked: &UncheckedHrpstring<'_>,
-    erasures: &[usize],
-) -> Result<Correction<Mended<A>, Corrector<Ck, A>>, CorrectError>
-    requires lawful { Ck.lawful }
-    requires read { IsReadAs text.now unchecked.now }
-    ensures { MatchResult result
-        (λ answer. IsCorrectionBy
-        (λ m. IsMendedBy Ck.code Ck.bound text.now erasures.now
-        m.listing (string_bytes m.text))
-        (λ c. IsCorrectorOf Ck.code text.now c)
-        Ck.code Ck.bound text.now erasures.now answer)
-        (λ e. IsReadRefusal Ck.code unchecked.now e) }
-{
-    let Some(corrector) = corrector_of::<Ck, A>(alloc, unchecked)? else {
-        return Ok(Correction::Accepted);
-    };
-    let said = mended_with(alloc, text, corrector, erasures)?;
-    Ok(said)
-}
-
 /// What a checksum says of a text, with memory from `alloc`; [`correct`] says more.
 ///
 /// # Errors
@@ -112,8 +65,11 @@ pub fn correct_in<Ck: CorrectingChecksum, A: Allocator + Copy>(
         Ck.code Ck.bound text.now erasures.now answer)
         (λ e. IsCorrectRefusal Ck.code text.now e) }
 {
-    let unchecked = UncheckedHrpstring::new(text)?;
-    corrected_by::<Ck, A>(alloc, text, &unchecked, erasures)
+    match listing_in::<Ck, A>(alloc, text, erasures)? {
+        Correction::Accepted => Ok(Correction::Accepted),
+        Correction::Mended(listing) => Ok(Correction::Mended(mended_by(alloc, text, listing)?)),
+        Correction::Unexplained(corrector) => Ok(Correction::Unexplained(corrector)),
+    }
 }
 
 /// What a checksum says of a text (BIP-173, Checksum design): that it accepts it; else the only

@@ -1,15 +1,17 @@
 //! What finds the errors in a text.
 
-ghost use Rattle.std.specs.Prelude.{◌≡◌, ◌≤◌, ◌<◌, ◌+◌, [], length, IfOk, IsOk, OnErr, OnOk};
+ghost use Rattle.std.specs.Prelude.{◌≡◌, ◌≤◌, ◌<◌, [], length, IfOk, IsOk, MatchOption, OnErr, OnOk};
 ghost use Rattle.std.specs.List.{AllByRecursion};
 ghost use Rattle.bech32_checksum.specs.Roots.{AreLawfulRoots};
 ghost use Rattle.bech32_bch.specs.Erasures.{AreErasures, with_erasures};
 ghost use Rattle.bech32_bch.specs.Search.{locators};
 ghost use Rattle.bech32_direct.specs.TakenOff.{IsTakenOff};
 ghost use Rattle.bech32_direct.specs.Question.{IsAnswerTo, Question};
+ghost use Rattle.bech32_corrector.specs.Given.{AreWithin, IsAnswerWith, with_given};
 ghost use Rattle.bech32_gf.specs.Fe32 as fe32;
 ghost use Rattle.bech32_poly.specs.FieldVec.{FitsInPlace};
 
+use crate::erasures::distinct_below;
 use crate::errors::{ErrorIterator, ShortIter};
 use bech32_bch::{ShortVec, locators_of};
 use bech32_checksum::Checksum;
@@ -137,30 +139,33 @@ impl<Ck: Checksum, A: Allocator + Copy> Corrector<Ck, A> {
         }
     }
 
-    /// A corrector of the same residue with these erasures.
+    /// A corrector of the same residue with these locations as erasures, each once, in the order in
+    /// which they came first. `None` where one is not below the window, or they are more than the
+    /// [`singleton_bound`](Self::singleton_bound).
     ///
     /// # Errors
     ///
-    /// If memory runs out. Seven erasures need none.
-    pub fn with(&self, erasures: ShortVec<usize, A>) -> Result<Self, AllocError>
-        requires { AreErasures self.now.window erasures }
-        ensures ok { IfOk result (λ c. c ≡ record {
-          residue = self.now.residue;
-          window = self.now.window;
-          erasures = erasures;
-        }) }
-        ensures in_place { FitsInPlace (length erasures) → IsOk result }
+    /// If memory runs out. For a checksum of at most six characters nothing is allocated.
+    pub fn with(&self, given: &[usize]) -> Result<Option<Self>, AllocError>
+        ensures value { IfOk result (λ found. MatchOption found
+            (AreWithin self.now.window Ck.bound given.now → ⊥)
+            (λ c. AreWithin self.now.window Ck.bound given.now
+            × (c ≡ with_given self.now given.now))) }
+        ensures in_place { length Ck.code.generator ≤ 6 → IsOk result }
     {
         let (residue, window) = (self.residue, self.window);
-        let alloc = erasures.allocator();
+        let (alloc, most) = (self.allocator(), bound::<Ck>());
+        let Some(erasures) = distinct_below(alloc, given, window, most)? else {
+            return Ok(None);
+        };
         let known = locators_of(alloc, Ck::ROOT_GENERATOR, erasures.as_slice())?;
-        Ok(Corrector {
+        Ok(Some(Corrector {
             erasures,
             known,
             residue,
             window,
             of: PhantomData,
-        })
+        }))
     }
 
     /// The errors as [`bch_errors`](Self::bch_errors) lists them, in a vector.
@@ -177,28 +182,33 @@ impl<Ck: Checksum, A: Allocator + Copy> Corrector<Ck, A> {
         correct::<Ck, A>(alloc, window, residue, &self.erasures, &self.known)
     }
 
-    /// What [`listing`](Self::listing) is with these erasures instead, which use up the bound: no
-    /// error stands outside them, and none of their locators is made.
+    /// What [`listing`](Self::listing) is with these locations as erasures in place of its own. `None`,
+    /// too, where one is not below the window.
     ///
     /// # Errors
     ///
     /// Those of [`bch_errors`](Self::bch_errors).
-    pub fn filled_listing(
+    pub fn listing_with(
         &self,
-        erasures: ShortVec<usize, A>,
+        given: &[usize],
     ) -> Result<Option<ShortVec<(usize, Fe32), A>>, AllocError>
-        requires erased { AreErasures self.now.window erasures }
-        requires few { length erasures ≤ Ck.bound }
-        requires full { Ck.bound < length erasures + 2 }
-        ensures answer { IfOk result (λ answer. IsAnswerTo Ck.code Ck.bound (record {
-          residue = self.now.residue;
-          window = self.now.window;
-          erasures = erasures;
-        }) answer) }
+        ensures answer { IfOk result (λ answer.
+            IsAnswerWith Ck.code Ck.bound self.now given.now answer) }
         ensures in_place { length Ck.code.generator ≤ 6 → IsOk result }
     {
-        let alloc = erasures.allocator();
-        correct_erased::<Ck, A>(alloc, self.window, &self.residue, &erasures)
+        let most = self.singleton_bound();
+        let Some(erasures) = distinct_below(self.allocator(), given, self.window(), most)? else {
+            return Ok(None);
+        };
+        if most - erasures.len() < 2 {
+            // No error can stand beside them: their locators are not needed.
+            let alloc = self.allocator();
+            return correct_erased::<Ck, A>(alloc, self.window, &self.residue, &erasures);
+        }
+        match self.with(given)? {
+            Some(erased) => erased.listing(),
+            None => Ok(None),
+        }
     }
 
     /// The errors that explain the residue, and the elements at the erasures: the one pattern below

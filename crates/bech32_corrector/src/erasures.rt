@@ -2,13 +2,14 @@
 
 ghost use Rattle.std.specs.Prelude.{◌≡◌, ◌↔◌, ◌<◌, ◌≤◌, [], length, IfOk, IsOk, IsTrue, MatchOption};
 ghost use Rattle.std.specs.List.{AllByRecursion};
-ghost use Rattle.bech32_bch.specs.Erasures.{with_erasures};
+ghost use Rattle.bech32_bch.specs.Erasures.{AreErasures, with_erasures};
+ghost use Rattle.bech32_corrector.specs.Given.{AreWithin};
 
 use bech32_bch::{ShortVec, contains};
 use std::alloc::{AllocError, Allocator};
 
-/// Whether all locations are below the window.
-pub fn are_below(given: &[usize], window: usize) -> bool
+// Whether all locations are below the window.
+fn are_below(given: &[usize], window: usize) -> bool
     ensures { IsTrue result ↔ AllByRecursion (λ i. i < window) given.now }
 {
     for location in given {
@@ -19,13 +20,9 @@ pub fn are_below(given: &[usize], window: usize) -> bool
     true
 }
 
-/// The given locations, each once, in the order in which they came first. None where there are more
-/// than `most` of them.
-///
-/// # Errors
-///
-/// If memory runs out. Up to six need none.
-pub fn distinct_in<A: Allocator + Copy>(
+// The given locations, each once, in the order in which they came first. None where there are more
+// than `most` of them. Up to six need no memory.
+fn distinct_in<A: Allocator + Copy>(
     alloc: A,
     given: &[usize],
     most: usize,
@@ -46,4 +43,28 @@ pub fn distinct_in<A: Allocator + Copy>(
         distinct.push(*location)?;
     }
     Ok(Some(distinct))
+}
+
+/// The given locations, each once, in the order in which they came first. None where one is not below
+/// the window, or there are more than `most` of them.
+///
+/// # Errors
+///
+/// If memory runs out. Up to six need none.
+pub(crate) fn distinct_below<A: Allocator + Copy>(
+    alloc: A,
+    given: &[usize],
+    window: usize,
+    most: usize,
+) -> Result<Option<ShortVec<usize, A>>, AllocError>
+    ensures value { IfOk result (λ answer. MatchOption answer
+        (AreWithin window most given.now → ⊥)
+        (λ distinct. AreWithin window most given.now × AreErasures window distinct
+        × (distinct ≡ with_erasures [] given.now))) }
+    ensures in_place { most ≤ 6 → IsOk result }
+{
+    if !are_below(given, window) {
+        return Ok(None);
+    }
+    distinct_in(alloc, given, most)
 }

@@ -9,5 +9,4 @@ mod errors;
 
 pub use self::correctable::CorrectableError;
 pub use self::corrector::Corrector;
-pub use self::erasures::{are_below, distinct_in};
 pub use self::errors::ErrorIterator;

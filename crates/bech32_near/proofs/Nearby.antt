@@ -35,6 +35,7 @@ use Rattle.bech32_refusals.specs.declared.error.ChecksumError.TheVariants.{Inval
 use Rattle.bech32_refusals.specs.declared.error.InvalidResidueError.{InvalidResidueError}
 use Rattle.bech32_decode.proofs.Grammar.{only-from_IsText}
 use Rattle.bech32_decode.proofs.Spelling.{lower_text}
+use Rattle.bech32_corrector.specs.Given.{AreWithin}
 use Rattle.bech32_correction.specs.MendedElements.{mended}
 use Rattle.bech32_correction.specs.Mistyped.{AreInside, HasResidue, IsMendedText, IsPlacedIn, IsReadAs, question_of}
 use Rattle.bech32_near_patterns.specs.Nearest.{AreNearest, AreRising, DetectsFour, IsEarlier, IsListed, IsNear, IsNearListing}
@@ -46,7 +47,7 @@ use Rattle.bech32_solver.proofs.Added.{erasures_more}
 use Rattle.bech32_near.proofs.Differing.{differences, few_outside, is_pattern, mended_to, none_differ, residue_left}
 use Rattle.bech32_direct.proofs.Mends.{mends}
 use Rattle.bech32_near_patterns.proofs.NearestListing.{each_below}
-use Rattle.bech32_near_patterns.proofs.NearestPatterns.{gathered_of}
+use Rattle.bech32_near_patterns.proofs.NearestPatterns.{gathered_of, no_nearest}
 
 -- ---- correctors
 
@@ -386,16 +387,23 @@ module _ (code : Code) (bound errors : ℕ) (text given : List ℕ) (c : Questio
     one = λ detects no few. one (subst (λ (n : ℕ). DetectsFour ops code.generator n) (sym is.window) detects) no few;
   }
 
-  pub listings-from_none : (AllByRecursion (λ i. i < c.window) given → ⊥) → listings ≡ [] → AreNearestListings code bound text given errors listings
-  listings-from_none outside none = record {
+  pub listings-from_outside : (AreWithin c.window bound given → ⊥) → listings ≡ [] → AreNearestListings code bound text given errors listings
+  listings-from_outside outside none = record {
     hrp = is.hrp;
     data_part = is.data_part;
     residue = c.residue;
     read = is.read;
-    nearest = λ s. absurd (outside (subst (λ (n : ℕ). AllByRecursion (λ i. i < n) given) (sym is.window) s.1));
+    nearest = λ s. subst (λ u. AreNearest code bound (question_of is.data_part c.residue given) errors u) (sym none)
+        (no_nearest is_field fe32.value code.generator c.residue (with_erasures [] given) (length is.data_part) bound errors (more s.1));
     none = λ k. none;
     one = λ detects no few. omega (arith, ap (λ u. length u) none);
   }
+    where
+      more : AreInside is.data_part given → bound < length (with_erasures [] given)
+      more inside = elim (dec_lt bound (length (with_erasures [] given))) [
+        | yes m ↦ m
+        | no few ↦ absurd (outside (subst (λ (n : ℕ). AllByRecursion (λ i. i < n) given) (sym is.window) inside, omega (arith, few)))
+      ]
 
 -- ---- of what a call returned
 

@@ -5,11 +5,8 @@ use Rattle.std.specs.List.{AllByRecursion}
 use Rattle.bech32_gf.specs.Fe32.{elements_of, ops}
 use Rattle.bech32_gf.specs.declared.gf32.Fe32.{Fe32}
 use Rattle.bech32_poly.specs.Distinct.{IsAmong}
-use Rattle.bech32_poly.specs.Polynomial.{IsSamePolynomial, add}
-use Rattle.bech32_poly.specs.Remainder.{IsRemainder}
 use Rattle.bech32_hrp.specs.Hrp.{lowered}
 use Rattle.bech32_checksum.specs.Code.{Code}
-use Rattle.bech32_checksum.specs.TextPolynomial.{text_polynomial}
 use Rattle.bech32_bch.specs.Erasures.{has, with_erasures}
 use Rattle.bech32_decode.specs.Acceptance.{Accepts, IsAccepted}
 use Rattle.bech32_decode.specs.Text.{IsText}

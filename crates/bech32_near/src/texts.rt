@@ -10,7 +10,7 @@ ghost use Rattle.bech32_decode.specs.Refusals.{IsInvalidBy};
 use bech32_bch::ShortVec;
 use bech32_checksum::{Checksum, CorrectingChecksum};
 use bech32_correction::{CorrectError, Listing, Mended, mended_by, residue_error_in};
-use bech32_corrector::{Corrector, are_below, distinct_in};
+use bech32_corrector::Corrector;
 use bech32_decode::UncheckedHrpstring;
 use bech32_gf::gf32::Fe32;
 use bech32_near_listings::nearest_listings;
@@ -44,26 +44,6 @@ fn residue_in<Ck: Checksum>(
     }
 }
 
-// The corrector of a text that was read, whether or not the checksum accepts it; none where the
-// checksum has no characters.
-fn searcher_of<Ck: Checksum, A: Allocator + Copy>(
-    alloc: A,
-    unchecked: &UncheckedHrpstring<'_>,
-) -> Result<Option<Corrector<Ck, A>>, ChecksumError>
-    requires lawful { Ck.lawful }
-    requires read { (text : List ℕ) × IsReadAs text unchecked.now }
-    ensures { MatchResult result
-        (λ found. (text : List ℕ) → IsReadAs text unchecked.now → IsSearch Ck.code text found)
-        (λ e. IsInvalidBy Ck.code unchecked.now e × (of_checksum e ≡ None)) }
-{
-    let residue = residue_in::<Ck>(unchecked)?;
-    if Ck::CHECKSUM_LENGTH == 0 {
-        return Ok(None);
-    }
-    let window = unchecked.data_part_ascii().len();
-    Ok(Some(Corrector::new(alloc, residue, window)))
-}
-
 // The listings of the text of which this is the corrector. None where a given location is not in
 // the data part.
 fn listings_within<Ck: Checksum, A: Allocator + Copy>(
@@ -76,15 +56,10 @@ fn listings_within<Ck: Checksum, A: Allocator + Copy>(
         → IsSearcherOf Ck.code text corrector.now
         → AreNearestListings Ck.code Ck.bound text given.now errors listings.items) }
 {
-    if !are_below(given, corrector.window()) {
-        return Ok(Vec::new(alloc));
+    match corrector.with(given)? {
+        Some(erased) => nearest_listings(&erased, errors),
+        None => Ok(Vec::new(alloc)),
     }
-    let most = corrector.singleton_bound();
-    let Some(erasures) = distinct_in(alloc, given, most)? else {
-        return Ok(Vec::new(alloc));
-    };
-    let erased = corrector.with(erasures)?;
-    nearest_listings(&erased, errors)
 }
 
 // Each listing with the text that it mends.
@@ -107,36 +82,6 @@ fn mended_all<A: Allocator + Copy>(
     Ok(texts)
 }
 
-// The texts near a text that was read, by a checksum with lawful roots.
-fn nearest_by<Ck: Checksum, A: Allocator + Copy>(
-    alloc: A,
-    text: &str,
-    unchecked: &UncheckedHrpstring<'_>,
-    erasures: &[usize],
-    errors: usize,
-) -> Result<NearTexts<Vec<Mended<A>, A>, Corrector<Ck, A>>, CorrectError>
-    requires lawful { Ck.lawful }
-    requires read { IsReadAs text.now unchecked.now }
-    ensures { MatchResult result
-        (λ near. AreNearTexts Ck.code Ck.bound text.now erasures.now errors
-        (map (λ m. (m.listing, string_bytes m.text)) near.texts.items)
-        × IsSearch Ck.code text.now near.corrector)
-        (λ e. IsReadRefusal Ck.code unchecked.now e) }
-{
-    let Some(corrector) = searcher_of::<Ck, A>(alloc, unchecked)? else {
-        return Ok(NearTexts {
-            texts: Vec::new(alloc),
-            corrector: None,
-        });
-    };
-    let listings = listings_within(alloc, &corrector, erasures, errors)?;
-    let texts = mended_all(alloc, text, &listings)?;
-    Ok(NearTexts {
-        texts,
-        corrector: Some(corrector),
-    })
-}
-
 /// The texts near a text, with memory from `alloc`; [`nearest`] says more.
 ///
 /// # Errors
@@ -155,7 +100,21 @@ pub fn nearest_in<Ck: CorrectingChecksum, A: Allocator + Copy>(
         (λ e. IsCorrectRefusal Ck.code text.now e) }
 {
     let unchecked = UncheckedHrpstring::new(text)?;
-    nearest_by::<Ck, A>(alloc, text, &unchecked, erasures, errors)
+    let residue = residue_in::<Ck>(&unchecked)?;
+    if Ck::CHECKSUM_LENGTH == 0 {
+        return Ok(NearTexts {
+            texts: Vec::new(alloc),
+            corrector: None,
+        });
+    }
+    let window = unchecked.data_part_ascii().len();
+    let corrector = Corrector::<Ck, A>::new(alloc, residue, window);
+    let listings = listings_within(alloc, &corrector, erasures, errors)?;
+    let texts = mended_all(alloc, text, &listings)?;
+    Ok(NearTexts {
+        texts,
+        corrector: Some(corrector),
+    })
 }
 
 /// All texts that the checksum accepts, and that differ from this one in at most `errors`

@@ -1,7 +1,7 @@
 -- What each step puts behind the listings that were found before.
 use Rattle.std.specs.Prelude.{◌≢◌, IfSome, IsSome}
 use Rattle.std.specs.List.{AllByRecursion}
-use Rattle.std.proofs.Common.{◌≡◌, ℕ, zero, suc, ◌+◌, ◌*◌, ◌<◌, ◌≤◌, List, [], ◌∷◌, ◌++◌, map, drop, length, Option, None, Some, ◌⊎◌, inl, inr, subst, sym, ap, ◌∙◌, arith}
+use Rattle.std.proofs.Common.{◌≡◌, ℕ, suc, ◌+◌, ◌*◌, ◌<◌, ◌≤◌, List, [], ◌∷◌, ◌++◌, map, drop, length, Option, None, Some, ◌⊎◌, inl, inr, subst, sym, ap, ◌∙◌, arith}
 use Rattle.std.proofs.Math.Decide.{dec_lt}
 use Rattle.std.proofs.lemmas.List.{length-append}
 use Rattle.bech32_gf.specs.Field.{Ops, IsField}

@@ -16,7 +16,10 @@ use Rattle.bech32_direct.specs.TakenOff.{IsTakenOff}
 use Rattle.bech32_near_patterns.specs.Nearest.{AreNearest, DetectsFour, IsEarlier}
 use Rattle.bech32_near_patterns.specs.Steps.{AreAdded, AreAll, CanBeHighest, HasHighest, HasHighestAt, IsGathered, IsTried, raised, with_highest}
 use Rattle.bech32_direct.specs.Question.{IsAnswerTo, Question}
-use Rattle.bech32_solver.proofs.Added.{erasures_more}
+use Rattle.bech32_solver.proofs.Added.{erasures_more, with_erasures-append}
+use Rattle.bech32_corrector.specs.Given.{IsAnswerWith, with_given}
+use Rattle.bech32_corrector.proofs.Different.{erasures_are}
+use Rattle.bech32_bch.proofs.Places.{all_push}
 use Rattle.bech32_near_patterns.proofs.NearestAdded.{IsAnswer, erased_not, erased_one, erasures_first, with_value}
 use Rattle.bech32_near_patterns.proofs.NearestAlone.{at_most_one}
 use Rattle.bech32_near_patterns.proofs.Elements.{lowest}
@@ -42,12 +45,27 @@ erased_answer rank s place window code bound residue answer erased within out h 
     subst (λ (t : List ℕ). IsAnswer is_field rank code.generator residue s window bound t answer) (ap (λ b. cond b s (s ++ (place ∷ []))) out)
     (answer_of rank s code bound (record { residue = residue; window = window; erasures = with_erasures s (place ∷ []) }) answer (erasures_more window s (place ∷ []) erased (within, tt)) h)
 
-pub same_question : (q : Question) (residue : List Fe32) (window : ℕ) (erasures : List ℕ) → q.residue ≡ residue → q.window ≡ window → q.erasures ≡ erasures
-    → q ≡ record { residue = residue; window = window; erasures = erasures }
-same_question q residue window erasures a b c =
-    ap (λ (u : List Fe32). record { residue = u; window = q.window; erasures = q.erasures }) a
-    ∙ ap (λ (u : ℕ). record { residue = residue; window = u; erasures = q.erasures }) b
-    ∙ ap (λ (u : List ℕ). record { residue = residue; window = window; erasures = u }) c
+-- a corrector's listing with one more location behind its erasures
+pub one_more : {E : Type 0} (code : Code) (bound : ℕ) (q : Question) (place : ℕ) (given : List ℕ) (r : Result (Option (List (ℕ × Fe32))) E) → given ≡ q.erasures ++ (place ∷ [])
+    → AreErasures q.window q.erasures → place < q.window → IfOk r (λ answer. IsAnswerWith code bound q given answer)
+    → IfOk r (λ answer. IsAnswerTo code bound (record { residue = q.residue; window = q.window; erasures = with_erasures q.erasures (place ∷ []) }) answer)
+one_more {E} code bound q place given r is erased within h = said r h
+  where
+    inside : AllByRecursion (λ i. i < q.window) given
+    inside = subst (λ (s : List ℕ). AllByRecursion (λ i. i < q.window) s) (sym is) (all_push (λ (i : ℕ). i < q.window) q.erasures place erased.below within)
+
+    same : with_erasures [] given ≡ with_erasures q.erasures (place ∷ [])
+    same = ap (with_erasures []) is ∙ with_erasures-append [] q.erasures (place ∷ []) ∙ ap (λ (s : List ℕ). with_erasures s (place ∷ [])) (erasures_are q.erasures erased.once)
+
+    moved : (answer : Option (List (ℕ × Fe32))) → IsAnswerTo code bound (with_given q given) answer
+        → IsAnswerTo code bound (record { residue = q.residue; window = q.window; erasures = with_erasures q.erasures (place ∷ []) }) answer
+    moved answer = subst (λ (s : List ℕ). IsAnswerTo code bound (record { residue = q.residue; window = q.window; erasures = s }) answer) same
+
+    said : (r : Result (Option (List (ℕ × Fe32))) E) → IfOk r (λ answer. IsAnswerWith code bound q given answer)
+        → IfOk r (λ answer. IsAnswerTo code bound (record { residue = q.residue; window = q.window; erasures = with_erasures q.erasures (place ∷ []) }) answer)
+    said (Ok None) h = moved None (h inside)
+    said (Ok (Some listing)) h = moved (Some listing) h.1
+    said (Err e) h = tt
 
 pub nothing_in : {A : Type 0} (xs : List A) → length xs ≡ 0 → xs ≡ []
 nothing_in [] e = refl

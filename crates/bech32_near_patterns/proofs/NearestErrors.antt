@@ -1,13 +1,13 @@
 -- Listings with a further error, by the residue that it leaves or as one more erasure.
 use Rattle.std.specs.Prelude.{◌==◌, ◌≢◌, cond}
 use Rattle.std.specs.List.{AllByRecursion}
-use Rattle.std.proofs.Common.{◌≡◌, ℕ, zero, ◌+◌, ◌<◌, ◌≤◌, List, [], ◌∷◌, ◌++◌, length, take, drop, inl, inr, subst, sym, ap, ◌∙◌, refl, arith, append_assoc}
+use Rattle.std.proofs.Common.{◌≡◌, ℕ, ◌<◌, ◌≤◌, List, [], ◌∷◌, ◌++◌, length, take, drop, inl, inr, subst, sym, ap, ◌∙◌, refl, arith, append_assoc}
 use Rattle.std.proofs.Math.Decide.{dec_lt}
 use Rattle.bech32_gf.specs.Field.{Ops, IsField}
 use Rattle.bech32_poly.specs.Distinct.{IsAmong}
 use Rattle.bech32_poly.specs.Division.{remainder_of}
 use Rattle.bech32_poly.specs.Pattern.{monomial, pattern_polynomial, value_of_pattern_at}
-use Rattle.bech32_poly.specs.Polynomial.{add, coefficient}
+use Rattle.bech32_poly.specs.Polynomial.{coefficient}
 use Rattle.bech32_poly.proofs.Lists.{add_comm, coefficient-add}
 use Rattle.bech32_poly.proofs.Remainder.{remainder_exists, remainder_of-add, remainder_unique}
 use Rattle.bech32_bch.specs.Listing.{IsInOrder}

@@ -1,14 +1,14 @@
 -- Listings with an error at the highest location.
 use Rattle.std.specs.Prelude.{◌==◌, ◌≢◌, Bool, true, false, cond}
 use Rattle.std.specs.List.{AllByRecursion}
-use Rattle.std.proofs.Common.{◌≡◌, ℕ, zero, suc, ◌+◌, ◌<◌, ◌≤◌, List, [], ◌∷◌, ◌++◌, length, take, ◌⊎◌, inl, inr, subst, sym, ap, ◌∙◌, refl, arith}
+use Rattle.std.proofs.Common.{◌≡◌, ℕ, suc, ◌<◌, ◌≤◌, List, [], ◌∷◌, ◌++◌, length, take, ◌⊎◌, inl, inr, subst, sym, ap, ◌∙◌, refl, arith}
 use Rattle.std.proofs.lemmas.Bool.Decides.{eqb_tells}
 use Rattle.bech32_gf.specs.Field.{Ops, IsField}
 use Rattle.bech32_gf.specs.laws.Ring.{ring}
 use Rattle.bech32_poly.specs.Distinct.{IsAmong}
 use Rattle.bech32_poly.specs.Division.{remainder_of}
 use Rattle.bech32_poly.specs.Pattern.{pattern_polynomial, value_of_pattern_at}
-use Rattle.bech32_poly.specs.Polynomial.{add, coefficient}
+use Rattle.bech32_poly.specs.Polynomial.{coefficient}
 use Rattle.bech32_poly.proofs.PatternSums.{remainder_of-pattern}
 use Rattle.bech32_poly.proofs.Remainder.{remainder_exists, remainder_unique}
 use Rattle.bech32_bch.specs.Listing.{ComesBefore, IsInOrder}

@@ -202,12 +202,9 @@ fn erased_listing<Ck: Checksum, A: Allocator + Copy>(
           erasures = with_erasures corrector.now.erasures (place ∷ []);
         }) answer) }
 {
-    if corrector.window() <= place {
-        return Ok(None);
-    }
-    let mut wider = corrector.clone()?;
-    wider.add_erasures(&[place])?;
-    wider.listing()
+    let mut wider = ShortVec::from_slice(corrector.allocator(), corrector.erasures())?;
+    wider.push(place)?;
+    corrector.listing_with(wider.as_slice())
 }
 
 // Whether an element is zero.

@@ -1,10 +1,10 @@
 -- The locations of unreadable characters, and of changed ones.
 use Rattle.std.specs.List.{AllByRecursion}
 use Rattle.std.specs.Prelude.{◌≢◌, ◌||◌}
-use Rattle.std.proofs.Common.{◌≡◌, ℕ, suc, ◌+◌, ◌<◌, ◌≤◌, Bool, true, false, cond, eqb, List, [], ◌∷◌, ◌++◌, length, ◌⊎◌, inl, inr, refl, sym, ap, subst, ◌∙◌, arith}
+use Rattle.std.proofs.Common.{◌≡◌, ℕ, suc, ◌+◌, ◌<◌, ◌≤◌, Bool, true, false, cond, eqb, List, [], ◌∷◌, length, ◌⊎◌, inl, inr, refl, sym, ap, subst, ◌∙◌, arith}
 use Rattle.std.proofs.lemmas.Bool.{both_ways, cond-false, eq-eqb, eqb-true, or_from, or_parts}
 use Rattle.std.proofs.lemmas.Bool.Decides.{eqb_tells}
-use Rattle.std.proofs.lemmas.List.{length-map, append-nil, append_assoc}
+use Rattle.std.proofs.lemmas.List.{length-map}
 use Rattle.bech32_gf.specs.Fe32 as fe32
 use Rattle.bech32_gf.specs.Fe32.{element_of, elements_of, ops}
 use Rattle.bech32_gf.specs.declared.gf32.Fe32.{Fe32}
@@ -14,7 +14,6 @@ use Rattle.bech32_poly.specs.Distinct.{IsAmong, IsNotAmong, IsOnce}
 use Rattle.bech32_poly.specs.Pattern.{value_of_pattern_at}
 use Rattle.bech32_poly.proofs.Lists.{same_cons}
 use Rattle.bech32_bch.specs.Distance.{places_that_differ}
-use Rattle.bech32_bch.specs.Erasures.{has, with_erasures}
 use Rattle.bech32_bch.specs.Pattern.{locations}
 use Rattle.bech32_bch.proofs.Patterns.{at_absent, at_first, at_rest}
 use Rattle.bech32_bch.proofs.Places.{look}
@@ -77,31 +76,6 @@ changed-once (c ∷ cs) (y ∷ ys) =
     step : (b : Bool) → IsNotAmong (length cs) (changed cs ys) → IsOnce (changed cs ys) → IsOnce (cond b (changed cs ys) (length cs ∷ changed cs ys))
     step true n h = h
     step false n h = (n, h)
-
--- locations of which none stands twice are the erasures themselves
-not_has : (s : List ℕ) (i : ℕ) (more : List ℕ) → IsOnce (s ++ (i ∷ more)) → has s i ≡ false
-not_has [] i more h = refl
-not_has (m ∷ s) i more h = step (eqb_tells i m) (not_has s i more h.1)
-  where
-    last : (t : List ℕ) → IsNotAmong m (t ++ (i ∷ more)) → m ≢ i
-    last [] n = n.0
-    last (u ∷ t) n = last t n.1
-
-    step : ((eqb i m ≡ true) × (i ≡ m)) ⊎ ((eqb i m ≡ false) × (i ≢ m)) → has s i ≡ false → cond (eqb i m) true (has s i) ≡ false
-    step (inl e) r = absurd (last s h.0 (sym e.1))
-    step (inr e) r = cond-false (eqb i m) true (has s i) e.0 ∙ r
-
-erasures_after : (s more : List ℕ) → IsOnce (s ++ more) → with_erasures s more ≡ s ++ more
-erasures_after s [] h = sym (append-nil s)
-erasures_after s (i ∷ more) h =
-    let new : has s i ≡ false = not_has s i more h in
-    let moved : (s ++ (i ∷ [])) ++ more ≡ s ++ (i ∷ more) = append_assoc s (i ∷ []) more in
-    ap (λ (b : Bool). with_erasures (cond b s (s ++ (i ∷ []))) more) new
-    ∙ erasures_after (s ++ (i ∷ [])) more (subst IsOnce (sym moved) h)
-    ∙ moved
-
-pub erasures_are : (s : List ℕ) → IsOnce s → with_erasures [] s ≡ s
-erasures_are s h = erasures_after [] s h
 
 -- ---- elements that differ
 

@@ -38,6 +38,7 @@ use Rattle.bech32_decode.specs.Text.{IsText}
 use Rattle.bech32_detect.proofs.Distances.{data_fits, far_from_others}
 use Rattle.bech32_decode.proofs.Grammar.{only-from_IsText}
 use Rattle.bech32_decode.proofs.Spelling.{characters-elements, spelled-text}
+use Rattle.bech32_corrector.proofs.Different.{erasures_are}
 use Rattle.bech32_correction.specs.MendedElements.{mended}
 use Rattle.bech32_correction.specs.Mistyped.{HasResidue, IsRefusedFor, question_of}
 use Rattle.bech32_correction.proofs.Sound.{sound_of}
@@ -48,7 +49,7 @@ use Rattle.codex32.specs.Code.{codex32}
 use Rattle.codex32.specs.Nearest.{IsListed, IsNearestText, IsUnlisted, changed, read_data, read_text, unreadable}
 use Rattle.codex32.specs.Strings.{frame_refusal}
 use Rattle.codex32.specs.laws.RootLaws.{base, codex32_roots}
-use Rattle.codex32.proofs.Locations.{again, changed-once, changed_outside, count_data, count_read, differences, differences-below, differences-once, differences-values, erasures_are, few_apart, located, mended-differences, unreadable-below, unreadable-once}
+use Rattle.codex32.proofs.Locations.{again, changed-once, changed_outside, count_data, count_read, differences, differences-below, differences-once, differences-values, few_apart, located, mended-differences, unreadable-below, unreadable-once}
 use Rattle.codex32.proofs.Separated.{AreParts, one_split, parts-from}
 
 -- ---- accepted texts of elements

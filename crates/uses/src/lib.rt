@@ -15,7 +15,8 @@ mod corrections;
 mod front;
 #[cfg(test)]
 mod lazy;
-pub mod long_codex32;
+#[cfg(test)]
+mod long_codex32;
 #[cfg(test)]
 mod own_checksum;
 #[cfg(test)]

@@ -1,14 +1,32 @@
-use Rattle.std.proofs.Common.{rules}
-use Rattle.bech32_correction.proofs.Outcomes.{of_read}
+use Rattle.std.specs.Prelude.{string_bytes}
+use Rattle.std.proofs.Common.{rules, ℕ, List, subst, sym}
+use Rattle.bech32_gf.specs.declared.gf32.Fe32.{Fe32}
+use Rattle.bech32_correction.specs.Mistyped.{IsListingOf, IsMendedBy}
+use Rattle.bech32_correction.proofs.MendedText.{mended_by, placed-from_listing}
 use Rattle.bech32_correction.proofs.one_call.correct_in.Goals as goal
 
-pub corrected_by-requires : goal.corrected_by-requires
-corrected_by-requires g c =
-    let parts = c.in_ok-unchecked.ensures.parts in
-    (search rules, (search rules, (g.met.Ck.CorrectingChecksum.lawful_roots, record { grammar = parts.0; text_length = parts.1 })))
+pub mended_by-requires : goal.mended_by-requires
+mended_by-requires g c =
+    let code = g.Ck.Checksum.code in
+    let text = c.args.text.now in
+    let given = c.args.erasures.now in
+    let is : IsListingOf code g.Ck.Checksum.bound text given c.in-Mended.listing = rw c.in-Mended.is at c.in_ok-listing_in.ensures.value in
+    (search rules, placed-from_listing code g.Ck.Checksum.bound text given c.in-Mended.listing is)
 
-pub returns : goal.returns
-returns g c =
-    let parts = c.in_ok-unchecked.ensures.parts in
-    of_read g.Ck.Checksum.code c.args.text.now c.in_ok-unchecked.unchecked c.corrected_by.result _
-    (record { grammar = parts.0; text_length = parts.1 }) c.corrected_by.ensures
+pub returns-in-Accepted : goal.returns-in-Accepted
+returns-in-Accepted g c = rw c.in-Accepted.is at c.in_ok-listing_in.ensures.value
+
+pub returns-in_ok-mended_by-in-Mended : goal.returns-in_ok-mended_by-in-Mended
+returns-in_ok-mended_by-in-Mended g c =
+    let code = g.Ck.Checksum.code in
+    let bound = g.Ck.Checksum.bound in
+    let text = c.args.text.now in
+    let given = c.args.erasures.now in
+    let is : IsListingOf code bound text given c.in-Mended.listing = rw c.in-Mended.is at c.in_ok-listing_in.ensures.value in
+    let made = c.in_ok-mended_by-in-Mended.ensures in
+    let new = string_bytes c.in_ok-mended_by-in-Mended.field-0.text in
+    subst (λ (l : List (ℕ × Fe32)). IsMendedBy code bound text given l new) (sym made.same)
+    (mended_by code bound text given new c.in-Mended.listing is made.spelling)
+
+pub returns-in-Unexplained : goal.returns-in-Unexplained
+returns-in-Unexplained g c = rw c.in-Unexplained.is at c.in_ok-listing_in.ensures.value

@@ -1,7 +1,6 @@
 use Rattle.std.specs.Prelude.{◌≢◌, false}
 use Rattle.std.proofs.Common.{rules, ◌≡◌, ◌≤◌, ◌<◌, ◌+◌, ◌*◌, ℕ, length, sym, ap, subst, ◌∙◌, arith}
 use Rattle.bech32_gf.specs.Fe32 as fe32
-use Rattle.bech32_gf.specs.declared.gf32.Fe32.{Fe32}
 use Rattle.bech32_gf.specs.laws.Fe32Laws.{is_field}
 use Rattle.bech32_bch.specs.Erasures.{has}
 use Rattle.bech32_near_patterns.specs.Nearest.{IsEarlier}

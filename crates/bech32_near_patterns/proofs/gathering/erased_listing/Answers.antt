@@ -1,20 +1,11 @@
-use Rattle.std.specs.Prelude.{IfOk}
-use Rattle.std.proofs.Common.{rules, ◌≡◌, ◌∷◌, [], sym, ap, subst, ◌∙◌}
-use Rattle.bech32_bch.specs.Erasures.{with_erasures}
-use Rattle.bech32_direct.specs.Question.{IsAnswerTo, Question}
-use Rattle.bech32_near_patterns.proofs.NearestAnswers.{same_question}
+use Rattle.std.proofs.Common.{◌≡◌, ◌∷◌, ◌++◌, [], ap, ◌∙◌}
+use Rattle.bech32_near_patterns.proofs.NearestAnswers.{one_more}
 use Rattle.bech32_near_patterns.proofs.gathering.erased_listing.Goals as goal
 
 pub returns : goal.returns
 returns g c = λ within.
     let q = c.args.corrector.now in
-    let same = c.in_ok-wider.ensures.cases in
-    let is : c.add_erasures.new.self ≡ record { residue = q.residue; window = q.window; erasures = with_erasures q.erasures (c.args.place ∷ []) } =
-    same_question c.add_erasures.new.self q.residue q.window (with_erasures q.erasures (c.args.place ∷ []))
-    (c.in_ok-add_erasures.ensures.residue ∙ sym (ap (λ (u : Question). u.residue) same))
-    (c.in_ok-add_erasures.ensures.window ∙ sym (ap (λ (u : Question). u.window) same))
-    (c.in_ok-add_erasures.ensures.ok ∙ sym (ap (λ (u : Question). with_erasures u.erasures (c.args.place ∷ [])) same)) in
-    subst (λ (u : Question). IfOk c.listing.result (λ answer. IsAnswerTo g.Ck.Checksum.code g.Ck.Checksum.bound u answer)) is c.listing.ensures.answer
-
-pub listing-requires : goal.listing-requires
-listing-requires g c = search rules
+    let given : c.push.new.self ≡ q.erasures ++ c.args.place ∷ [] =
+    c.in_ok-push.ensures.ok ∙ ap (λ s. s ++ c.args.place ∷ []) (c.in_ok-wider.ensures.ok ∙ c.erasures.ensures.value) in
+    one_more g.Ck.Checksum.code g.Ck.Checksum.bound q c.args.place c.as_slice.result.now c.listing_with.result (c.as_slice.ensures ∙ given) c.erasures.ensures.lawful within
+    c.listing_with.ensures.answer

@@ -1,4 +1,4 @@
-use Rattle.std.proofs.Common.{rules, ◌≡◌, ◌≤◌, ℕ, List, [], length, subst, arith}
+use Rattle.std.proofs.Common.{rules, ◌≤◌, ℕ, List, length, subst, arith}
 use Rattle.bech32_gf.specs.Fe32 as fe32
 use Rattle.bech32_gf.specs.declared.gf32.Fe32.{Fe32}
 use Rattle.bech32_near_patterns.specs.Nearest.{IsEarlier}
