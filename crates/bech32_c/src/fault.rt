@@ -1,130 +1,13 @@
 //! Says where the fault of a text stands.
 
-ghost use Rattle.std.specs.Prelude.{◌≡◌, ◌≢◌, ◌≤◌, not, length, position, unwrap_or};
-ghost use Rattle.bech32_hrp.specs.Hrp.{is_graphic, is_lower, is_upper};
+ghost use Rattle.std.specs.Prelude.{◌≡◌, ◌≢◌, unwrap_or};
 ghost use Rattle.bech32_decode.specs.Acceptance.{Accepts};
-ghost use Rattle.bech32_c.specs.Check.{IsCheckFault};
-ghost use Rattle.bech32_c.specs.Checksums.{ForChecksum, IsFaultBy};
-ghost use Rattle.bech32_c.specs.Faults.{IsNumberOf};
-ghost use Rattle.bech32_c.specs.Place.{case_place, end_of, is_of, part_length, part_place, place_of, stranger_place};
+ghost use Rattle.bech32_calls.specs.Check.{IsCheckFault};
+ghost use Rattle.bech32_calls.specs.Checksums.{ForChecksum, IsFaultBy};
+ghost use Rattle.bech32_calls.specs.Faults.{IsNumberOf};
+ghost use Rattle.bech32_calls.specs.Place.{place_of};
 
-use crate::decode::checked_by;
-use bech32::Fe32;
-
-// A kind of bytes that may stand at the end of a text.
-#[derive(Clone, Copy)]
-enum Kind {
-    // Characters of the alphabet, in either case.
-    Data,
-    // Bytes of a character of several, other than its first (UTF-8).
-    Continuation,
-    // Bytes that are not the separator.
-    NotSeparator,
-}
-
-impl Kind {
-    // Whether a byte is of this kind.
-    fn has(self, b: u8) -> bool
-        ensures { result ≡ is_of self b }
-    {
-        match self {
-            Kind::Data => Fe32::from_char(char::from(b)).is_ok(),
-            Kind::Continuation => (128..=191).contains(&b),
-            Kind::NotSeparator => b != b'1',
-        }
-    }
-}
-
-// Where the bytes at the end of a text begin that are of a kind.
-fn end_of(kind: Kind, text: &[u8]) -> usize
-    ensures { result ≡ end_of (is_of kind) text.now }
-{
-    let mut end = text.len();
-    while end > 0 && kind.has(text[end - 1]) {
-        end -= 1;
-    }
-    end
-}
-
-// The first byte of the last character that is not of the alphabet.
-fn stranger_place(text: &[u8]) -> usize
-    ensures { result ≡ stranger_place text.now }
-{
-    let end = end_of(Kind::Data, text);
-    end_of(Kind::Continuation, &text[..end]).saturating_sub(1)
-}
-
-// The length of what stands before the last `1`.
-fn part_length(text: &[u8]) -> usize
-    ensures value { result ≡ part_length text.now }
-    ensures bound { result ≤ length text.now }
-{
-    end_of(Kind::NotSeparator, text).saturating_sub(1)
-}
-
-// The first lower-case letter.
-fn first_lower(bytes: &[u8]) -> Option<usize>
-    ensures { result ≡ position is_lower bytes.now }
-{
-    bytes.iter().position(|b| (97..=122).contains(b))
-}
-
-// The first upper-case letter.
-fn first_upper(bytes: &[u8]) -> Option<usize>
-    ensures { result ≡ position is_upper bytes.now }
-{
-    bytes.iter().position(|b| (65..=90).contains(b))
-}
-
-// The first byte that is not from 33 to 126.
-fn first_not_graphic(bytes: &[u8]) -> Option<usize>
-    ensures { result ≡ position (λ b. not (is_graphic b)) bytes.now }
-{
-    bytes.iter().position(|b| !(33..=126).contains(b))
-}
-
-// The first letter with one of the other case before it, and the number of bytes where there is none.
-fn case_place(bytes: &[u8]) -> usize
-    ensures { result ≡ case_place bytes.now }
-{
-    let end = bytes.len();
-    let lower = first_lower(bytes).unwrap_or(end);
-    lower.max(first_upper(bytes).unwrap_or(end))
-}
-
-// The first byte that may not stand in a human-readable part, behind those before it.
-fn part_place(part: &[u8]) -> usize
-    ensures { result ≡ part_place part.now }
-{
-    let place = first_not_graphic(part).unwrap_or(part.len());
-    place.min(case_place(part))
-}
-
-// Where the fault of a text stands that is refused by this number.
-fn place_of(text: &[u8], number: u32) -> Option<usize>
-    ensures { result ≡ place_of text.now number }
-{
-    match number {
-        11 | 12 => Some(part_length(text)),
-        13 | 14 | 15 => Some(part_place(&text[..part_length(text)])),
-        21 => Some(stranger_place(text)),
-        22 => Some(case_place(text)),
-        23 | 31 | 32 | 33 => Some(text.len()),
-        _ => None,
-    }
-}
-
-// The number of the refusal of a text by the checksum of a number, and 0 where it is accepted.
-fn number_of(checksum: u32, text: &[u8]) -> u32
-    ensures value { result ≡ 0 → ForChecksum checksum (λ code. Accepts code text.now) }
-    ensures accepts { ForChecksum checksum (λ code. Accepts code text.now) → result ≡ 0 }
-    ensures refused { result ≢ 0 → IsNumberOf (IsFaultBy checksum (IsCheckFault text.now)) result }
-{
-    match checked_by(checksum, text) {
-        Ok(_) => 0,
-        Err(refusal) => refusal.number(),
-    }
-}
+use bech32_calls::fault::{number_of, place_of};
 
 /// Answers what [`bech32_check`](crate::decode::bech32_check) returns to a text, and sets `place`
 /// to where its fault stands, counted in bytes from 0: of a character that may not stand there, its

@@ -1,24 +1,21 @@
 //! Bech32 for C programs: the calls of `bech32` over numbers and bytes, as `include/bech32.h`
 //! declares them.
 //!
-//! Each call returns 0, or the number of a refusal (`specs/Numbers.antt`). What it writes stands at
-//! the front of the caller's buffers; behind it nothing changes, and on a refusal nothing changes
-//! at all. No call takes any memory but what a caller lends to `bech32_nearest`.
+//! Each call returns 0, or the number of a refusal (`specs/Numbers.antt` of `bech32_calls`, which
+//! does the work). What it writes stands at the front of the caller's buffers; behind it nothing
+//! changes, and on a refusal nothing changes at all. No call takes any memory but what a caller
+//! lends to `bech32_nearest`.
 //!
 //! A `&[u8]` or a `&mut [u8]` is a pointer and then a length to C, and a `&mut` a pointer. None of
 //! these pointers may be null, and what one points to may not overlap with what a `&mut` does.
 #![tactic(auto)]
 
-mod buffer;
-mod checksum;
 pub mod correct;
 pub mod decode;
 pub mod encode;
 pub mod engine;
 pub mod fault;
-mod input;
 pub mod nearest;
-mod refusal;
 pub mod segwit;
 #[cfg(test)]
 mod tests;

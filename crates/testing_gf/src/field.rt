@@ -123,11 +123,15 @@ fn walks_over_powers(rt: HostRuntime) {
 }
 
 #[test]
-fn walks_over_ranges_of_powers(rt: HostRuntime) {
+fn characters_of_a_range_of_powers(rt: HostRuntime) {
     let powers = Fe32::_5.powers_range(0, 30);
     let text: Result<String, _> = powers.map(|power| power.to_char()).collect(rt.alloc());
     let text = text.expect(&rt, "memory");
     same(&rt, &text.as_str(), &"p529kt3uw8hlmecvxr470na6djfsgyz");
+}
+
+#[test]
+fn walks_over_ranges_of_powers(rt: HostRuntime) {
     let mut last = Fe32::Z.powers_range(31, 32);
     let got = [
         last.next(),

@@ -14,15 +14,24 @@ fn two(rt: &impl Abort, alloc: Global) -> FieldVec<Fe32> {
     vector
 }
 
+// Fails where a clone has other elements.
+fn clone_has(rt: &impl Abort, vector: &FieldVec<Fe32>, want: &[Fe32]) {
+    let copy = vector.clone().expect(rt, "memory");
+    same_items(rt, copy.as_slice(), want);
+}
+
+#[test]
+fn no_elements(rt: HostRuntime) {
+    same(&rt, &FieldVec::<Fe32>::new(rt.alloc()).is_empty(), &true);
+}
+
 #[test]
 fn elements(rt: HostRuntime) {
-    same(&rt, &FieldVec::<Fe32>::new(rt.alloc()).is_empty(), &true);
     let vector = two(&rt, rt.alloc());
     same(&rt, &(vector.len(), vector.is_empty()), &(2, false));
-    let copy = vector.clone().expect(&rt, "memory");
     let want = [Fe32::J, Fe32::Z];
     same_items(&rt, vector.as_slice(), &want);
-    same_items(&rt, copy.as_slice(), &want);
+    clone_has(&rt, &vector, &want);
 }
 
 // How many elements a vector has that could be cloned.
@@ -33,15 +42,20 @@ fn length_of(made: Result<FieldVec<Fe32, &LocalHeap>, AllocError>) -> Option<usi
     }
 }
 
+// Appends so many elements to a vector, as far as there is memory.
+fn fill(vector: &mut FieldVec<Fe32, &LocalHeap>, count: usize) {
+    for _ in 0..count {
+        if vector.push(Fe32::P).is_err() {
+            return;
+        }
+    }
+}
+
 // Appends so many elements to a vector, as far as there is memory: how many fit, how many its clone
 // has where that fits too, and how much memory the two use.
 fn filled(heap: &LocalHeap, count: usize) -> (usize, Option<usize>, usize) {
     let mut vector = FieldVec::new(heap);
-    for _ in 0..count {
-        if vector.push(Fe32::P).is_err() {
-            break;
-        }
-    }
+    fill(&mut vector, count);
     let copy: Result<_, _> = vector.clone();
     let used = heap.used();
     (vector.len(), length_of(copy), used)
@@ -80,5 +94,6 @@ fn twenty_or_out_of_memory(rt: HostRuntime) {
         };
         seen[kind] = seen[kind].saturating_add(1);
     }
-    assert!(rt; seen.iter().all(|count| 1 <= *count));
+    let [whole, without_clone, less] = seen;
+    assert!(rt; 1 <= whole && 1 <= without_clone && 1 <= less);
 }

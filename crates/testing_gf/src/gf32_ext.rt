@@ -12,17 +12,21 @@ use bech32_gf_ext::{Fe1024, Fe32768};
 use testing_tools::code::Code;
 
 #[test]
-fn orders(rt: HostRuntime) {
+fn orders_of_pairs(rt: HostRuntime) {
     let x = Fe1024::new([Fe32::K, Fe32::L]);
-    let of_pairs = [order_of(x), order_of(x.powi(3)), order_of(x.powi(341))];
-    same(&rt, &of_pairs, &[Some(1023), Some(341), Some(3)]);
-    let x = Fe32768::new([Fe32::A, Fe32::C, Fe32::Q]);
-    let of_triples = [order_of(x), order_of(x.powi(7)), order_of(x.powi(341))];
-    same(&rt, &of_triples, &[Some(32767), Some(4681), Some(1057)]);
+    let orders = [order_of(x), order_of(x.powi(3)), order_of(x.powi(341))];
+    same(&rt, &orders, &[Some(1023), Some(341), Some(3)]);
 }
 
 #[test]
-fn constants(rt: HostRuntime) {
+fn orders_of_triples(rt: HostRuntime) {
+    let x = Fe32768::new([Fe32::A, Fe32::C, Fe32::Q]);
+    let orders = [order_of(x), order_of(x.powi(7)), order_of(x.powi(341))];
+    same(&rt, &orders, &[Some(32767), Some(4681), Some(1057)]);
+}
+
+#[test]
+fn constants_of_pairs(rt: HostRuntime) {
     let pairs = [Fe1024::GENERATOR, Fe1024::default(), Fe1024::POLYNOMIAL];
     let z_squared = Fe1024::EXT_ELEM.powi(2);
     let wanted_pairs = [
@@ -31,6 +35,10 @@ fn constants(rt: HostRuntime) {
         z_squared,
     ];
     same(&rt, &pairs, &wanted_pairs);
+}
+
+#[test]
+fn constants_of_triples(rt: HostRuntime) {
     let triples = [Fe32768::GENERATOR, Fe32768::default(), Fe32768::POLYNOMIAL];
     let z_cubed = Fe32768::EXT_ELEM.powi(3);
     let wanted_triples = [
@@ -39,42 +47,45 @@ fn constants(rt: HostRuntime) {
         z_cubed,
     ];
     same(&rt, &triples, &wanted_triples);
-    let x = Fe1024::new([Fe32::P, Fe32::X]);
-    assert!(rt; x != Fe1024::ZERO);
-    same(
-        &rt,
-        &x.multiplicative_inverse(),
-        &Fe1024::new([Fe32::_7, Fe32::F]),
-    );
 }
 
 #[test]
-fn embedded_and_back(rt: HostRuntime) {
-    same(
-        &rt,
-        &Fe1024::from(Fe32::Z),
-        &Fe1024::new([Fe32::Z, Fe32::Q]),
-    );
-    same(
-        &rt,
-        &Fe32768::from(Fe32::Z),
-        &Fe32768::new([Fe32::Z, Fe32::Q, Fe32::Q]),
-    );
-    let third_alone = Fe32768::new([Fe32::P, Fe32::Q, Fe32::P]);
+fn inverse_of_a_pair(rt: HostRuntime) {
+    let x = Fe1024::new([Fe32::P, Fe32::X]);
+    assert!(rt; x != Fe1024::ZERO);
+    let inverse = Fe1024::new([Fe32::_7, Fe32::F]);
+    same(&rt, &x.multiplicative_inverse(), &inverse);
+}
+
+#[test]
+fn embedded(rt: HostRuntime) {
+    let pair = Fe1024::new([Fe32::Z, Fe32::Q]);
+    same(&rt, &Fe1024::from(Fe32::Z), &pair);
+    let triple = Fe32768::new([Fe32::Z, Fe32::Q, Fe32::Q]);
+    same(&rt, &Fe32768::from(Fe32::Z), &triple);
+}
+
+#[test]
+fn back_from_pairs(rt: HostRuntime) {
     let back = [
         Fe32::try_from(Fe1024::from(Fe32::L)),
-        Fe32::try_from(Fe32768::from(Fe32::L)),
         Fe32::try_from(Fe1024::POLYNOMIAL),
+    ];
+    same(&rt, &back, &[Ok(Fe32::L), Err(())]);
+    let base = Fe1024::from(Fe32::A).to_base();
+    same(&rt, &base, &Some(Fe32::A));
+}
+
+#[test]
+fn back_from_triples(rt: HostRuntime) {
+    let third_alone = Fe32768::new([Fe32::P, Fe32::Q, Fe32::P]);
+    let back = [
+        Fe32::try_from(Fe32768::from(Fe32::L)),
         Fe32::try_from(Fe32768::POLYNOMIAL),
         Fe32::try_from(third_alone),
     ];
-    same(
-        &rt,
-        &back,
-        &[Ok(Fe32::L), Ok(Fe32::L), Err(()), Err(()), Err(())],
-    );
-    let bases = [Fe1024::from(Fe32::A).to_base(), Fe32768::EXT_ELEM.to_base()];
-    same_items(&rt, &bases, &[Some(Fe32::A), None]);
+    same(&rt, &back, &[Ok(Fe32::L), Err(()), Err(())]);
+    same(&rt, &Fe32768::EXT_ELEM.to_base(), &None);
 }
 
 // What a pair is after assigning operators, each by value and borrowed.
@@ -96,6 +107,31 @@ fn assigned_pairs(mut z: Fe1024, y: Fe1024) -> [Fe1024; 5]
     [sum, difference, product, quotient, z]
 }
 
+// Each form of the sum and the difference of two pairs.
+fn sums_of_pairs(x: Fe1024, y: Fe1024) -> [[Fe1024; 4]; 2] {
+    [
+        [x + y, x + &y, &x + y, &x + &y],
+        [x - y, x - &y, &x - y, &x - &y],
+    ]
+}
+
+// Each form of the product of two pairs.
+fn products_of_pairs(x: Fe1024, y: Fe1024) -> [Fe1024; 4] {
+    [x * y, x * &y, &x * y, &x * &y]
+}
+
+// Each form of the quotient of two pairs.
+fn quotients_of_pairs(x: Fe1024, y: Fe1024) -> [Fe1024; 4]
+    requires { y ≢ pairs.zero }
+{
+    [x / y, x / &y, &x / y, &x / &y]
+}
+
+// Each form of the product of a pair and an element.
+fn scaled_pairs(x: Fe1024, factor: Fe32) -> [Fe1024; 4] {
+    [x * factor, x * &factor, &x * factor, &x * &factor]
+}
+
 // Each form of each operator, at a line of the table.
 #[test]
 fn operator_forms_of_pairs(rt: HostRuntime) {
@@ -104,20 +140,14 @@ fn operator_forms_of_pairs(rt: HostRuntime) {
     assert!(rt; y != Fe1024::ZERO);
     let sum = Fe1024::new([Fe32::F, Fe32::P]);
     let product = Fe1024::new([Fe32::P, Fe32::_9]);
-    let factor = Fe32::A;
-    let scaled = x * Fe1024::from(factor);
+    same(&rt, &sums_of_pairs(x, y), &[[sum; 4]; 2]);
+    let scaled = x * Fe1024::from(Fe32::A);
     let found = [
-        [x + y, x + &y, &x + y, &x + &y],
-        [x - y, x - &y, &x - y, &x - &y],
-        [x * y, x * &y, &x * y, &x * &y],
-        [product / y, product / &y, &product / y, &product / &y],
-        [x * factor, x * &factor, &x * factor, &x * &factor],
+        products_of_pairs(x, y),
+        quotients_of_pairs(product, y),
+        scaled_pairs(x, Fe32::A),
     ];
-    same_items(
-        &rt,
-        &found,
-        &[[sum; 4], [sum; 4], [product; 4], [x; 4], [scaled; 4]],
-    );
+    same(&rt, &found, &[[product; 4], [x; 4], [scaled; 4]]);
     same_items(&rt, &assigned_pairs(x, y), &[sum, x, product, x, x]);
 }
 
@@ -140,6 +170,31 @@ fn assigned_triples(mut z: Fe32768, y: Fe32768) -> [Fe32768; 5]
     [sum, difference, product, quotient, z]
 }
 
+// Each form of the sum and the difference of two triples.
+fn sums_of_triples(x: Fe32768, y: Fe32768) -> [[Fe32768; 4]; 2] {
+    [
+        [x + y, x + &y, &x + y, &x + &y],
+        [x - y, x - &y, &x - y, &x - &y],
+    ]
+}
+
+// Each form of the product of two triples.
+fn products_of_triples(x: Fe32768, y: Fe32768) -> [Fe32768; 4] {
+    [x * y, x * &y, &x * y, &x * &y]
+}
+
+// Each form of the quotient of two triples.
+fn quotients_of_triples(x: Fe32768, y: Fe32768) -> [Fe32768; 4]
+    requires { y ≢ triples.zero }
+{
+    [x / y, x / &y, &x / y, &x / &y]
+}
+
+// Each form of the product of a triple and an element.
+fn scaled_triples(x: Fe32768, factor: Fe32) -> [Fe32768; 4] {
+    [x * factor, x * &factor, &x * factor, &x * &factor]
+}
+
 // Each form of each operator, at a line of the table.
 #[test]
 fn operator_forms_of_triples(rt: HostRuntime) {
@@ -148,20 +203,14 @@ fn operator_forms_of_triples(rt: HostRuntime) {
     assert!(rt; y != Fe32768::ZERO);
     let sum = Fe32768::new([Fe32::_8, Fe32::M, Fe32::Y]);
     let product = Fe32768::new([Fe32::_5, Fe32::_4, Fe32::N]);
-    let factor = Fe32::A;
-    let scaled = x * Fe32768::from(factor);
+    same(&rt, &sums_of_triples(x, y), &[[sum; 4]; 2]);
+    let scaled = x * Fe32768::from(Fe32::A);
     let found = [
-        [x + y, x + &y, &x + y, &x + &y],
-        [x - y, x - &y, &x - y, &x - &y],
-        [x * y, x * &y, &x * y, &x * &y],
-        [product / y, product / &y, &product / y, &product / &y],
-        [x * factor, x * &factor, &x * factor, &x * &factor],
+        products_of_triples(x, y),
+        quotients_of_triples(product, y),
+        scaled_triples(x, Fe32::A),
     ];
-    same_items(
-        &rt,
-        &found,
-        &[[sum; 4], [sum; 4], [product; 4], [x; 4], [scaled; 4]],
-    );
+    same(&rt, &found, &[[product; 4], [x; 4], [scaled; 4]]);
     same_items(&rt, &assigned_triples(x, y), &[sum, x, product, x, x]);
 }
 
@@ -176,16 +225,19 @@ fn negatives_and_sums(rt: HostRuntime) {
 }
 
 #[test]
-fn printed(rt: HostRuntime) {
+fn printed_pairs(rt: HostRuntime) {
     let pair = Fe1024::new([Fe32::P, Fe32::X]);
+    let text = format!(in rt.alloc(); "{pair} {pair:?}");
+    same(&rt, &text.expect(&rt, "memory").as_str(), &"px px");
+    same(&rt, &<Fe1024 as Bech32Field>::NAME, &"Fe1024");
+}
+
+#[test]
+fn printed_triples(rt: HostRuntime) {
     let triple = Fe32768::new([Fe32::_9, Fe32::Q, Fe32::L]);
-    let text = format!(in rt.alloc(); "{pair} {pair:?} {triple} {triple:?}");
-    same(&rt, &text.expect(&rt, "memory").as_str(), &"px px 9ql 9ql");
-    let names = [
-        <Fe1024 as Bech32Field>::NAME,
-        <Fe32768 as Bech32Field>::NAME,
-    ];
-    same_items(&rt, &names, &["Fe1024", "Fe32768"]);
+    let text = format!(in rt.alloc(); "{triple} {triple:?}");
+    same(&rt, &text.expect(&rt, "memory").as_str(), &"9ql 9ql");
+    same(&rt, &<Fe32768 as Bech32Field>::NAME, &"Fe32768");
 }
 
 #[test]

@@ -55,25 +55,50 @@ fn lengths(rt: HostRuntime) {
     same(&rt, &lengths, &[0, 2, 3]);
 }
 
+// Fails where eight items of a register are not all zero.
+fn gives_zeros(rt: &impl Abort, alloc: Global, register: LfsrIter<Fe32>) {
+    gives(rt, alloc, register.take(8), &[Fe32::Q; 8]);
+}
+
+// Fails where a register or its clone has other coefficients, or goes on by other items than zeros.
+fn both_give_zeros(
+    rt: &impl Abort,
+    alloc: Global,
+    register: LfsrIter<Fe32>,
+    coefficients: &[Fe32],
+) {
+    let copy = register.clone().expect(rt, "memory");
+    same_items(rt, copy.coefficients(), coefficients);
+    gives_zeros(rt, alloc, copy);
+    gives_zeros(rt, alloc, register);
+}
+
 #[test]
 fn clone_goes_on(rt: HostRuntime) {
     let list = [Fe32::Y, Fe32::H, Fe32::Q, Fe32::Q];
     let mut register = LfsrIter::berlekamp_massey(rt.alloc(), &list).expect(&rt, "memory");
-    same_items(&rt, register.coefficients(), &[Fe32::Q, Fe32::Q]);
+    let zeros = [Fe32::Q; 2];
+    same_items(&rt, register.coefficients(), &zeros);
     let first = [register.next(), register.next()];
     same(&rt, &first, &[Some(Fe32::Y), Some(Fe32::H)]);
-    let copy = register.clone().expect(&rt, "memory");
-    same_items(&rt, copy.coefficients(), &[Fe32::Q, Fe32::Q]);
-    gives(&rt, rt.alloc(), copy.take(8), &[Fe32::Q; 8]);
-    gives(&rt, rt.alloc(), register.take(8), &[Fe32::Q; 8]);
+    both_give_zeros(&rt, rt.alloc(), register, &zeros);
+}
+
+// The register of 1, 3 and 2 modulo 7.
+fn register_of_powers(rt: &impl Abort, alloc: Global) -> LfsrIter<Seven> {
+    let list = [Seven::new(1), Seven::new(3), Seven::new(2)];
+    LfsrIter::berlekamp_massey(alloc, &list).expect(rt, "memory")
+}
+
+#[test]
+fn coefficients_modulo_seven(rt: HostRuntime) {
+    let register = register_of_powers(&rt, rt.alloc());
+    same_items(&rt, register.coefficients(), &[Seven::new(4)]);
 }
 
 #[test]
 fn integers_modulo_seven(rt: HostRuntime) {
-    let list = [Seven::new(1), Seven::new(3), Seven::new(2)];
-    let register = LfsrIter::berlekamp_massey(rt.alloc(), &list).expect(&rt, "memory");
-    same_items(&rt, register.coefficients(), &[Seven::new(4)]);
-    let register = LfsrIter::berlekamp_massey(rt.alloc(), &list).expect(&rt, "memory");
+    let register = register_of_powers(&rt, rt.alloc());
     let powers = [1, 3, 2, 6, 4, 5, 1].map(Seven::new);
     gives(&rt, rt.alloc(), register.take(7), &powers);
 }
@@ -113,10 +138,15 @@ const EIGHT: [Fe32; 8] = [
     Fe32::Y,
 ];
 
+// Whether a register has these coefficients.
+fn has(register: &LfsrIter<Fe32, &LocalHeap>, coefficients: &[Fe32]) -> bool {
+    register.coefficients() == coefficients
+}
+
 // Whether a clone has the same coefficients; `None` where there is no memory for it.
 fn is_cloned(register: &LfsrIter<Fe32, &LocalHeap>) -> Option<bool> {
     match register.clone() {
-        Ok(copy) => Some(register.coefficients() == copy.coefficients()),
+        Ok(copy) => Some(has(&copy, register.coefficients())),
         Err(_) => None,
     }
 }

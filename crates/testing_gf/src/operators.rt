@@ -10,18 +10,30 @@ fn element(rt: &impl Abort, c: char) -> Fe32 {
     Fe32::from_char(c).expect(rt, "an element")
 }
 
+// Each form of the sum and the difference.
+fn sums(x: Fe32, y: Fe32) -> [[Fe32; 4]; 2] {
+    [
+        [x + y, x + &y, &x + y, &x + &y],
+        [x - y, x - &y, &x - y, &x - &y],
+    ]
+}
+
+// Each form of the product and the quotient.
+fn products(x: Fe32, y: Fe32) -> [[Fe32; 4]; 2]
+    requires { y ≢ zero }
+{
+    [
+        [x * y, x * &y, &x * y, &x * &y],
+        [x / y, x / &y, &x / y, &x / &y],
+    ]
+}
+
 #[test]
 fn every_form_of_each_operator(rt: HostRuntime) {
     let (x, y) = (element(&rt, '9'), element(&rt, 'x'));
     assert!(rt; y != Fe32::Q);
-    let got = [
-        [x + y, x + &y, &x + y, &x + &y],
-        [x - y, x - &y, &x - y, &x - &y],
-        [x * y, x * &y, &x * y, &x * &y],
-        [x / y, x / &y, &x / y, &x / &y],
-    ];
-    let want = [[Fe32::R; 4], [Fe32::R; 4], [Fe32::_7; 4], [Fe32::_4; 4]];
-    same_items(&rt, &got, &want);
+    same(&rt, &sums(x, y), &[[Fe32::R; 4]; 2]);
+    same(&rt, &products(x, y), &[[Fe32::_7; 4], [Fe32::_4; 4]]);
     same_items(&rt, &[-x, Fe32::default()], &[x, Fe32::Q]);
 }
 

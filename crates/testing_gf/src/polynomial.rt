@@ -19,25 +19,34 @@ const GENERATOR: [Fe32; 7] = [
     Fe32::P,
 ];
 
+// Fails where the polynomial of a list has other coefficients, another degree or another leading
+// coefficient.
+fn is_trimmed(
+    rt: &impl Abort,
+    alloc: Global,
+    list: &[Fe32],
+    coefficients: &[Fe32],
+    leading: (usize, Fe32),
+) {
+    let polynomial = Polynomial::from_slice(alloc, list).expect(rt, "memory");
+    same_items(rt, polynomial.coefficients(), coefficients);
+    let got = (polynomial.degree(), polynomial.leading_coefficient());
+    same(rt, &got, &leading);
+}
+
 #[test]
 fn zeros_at_the_high_end(rt: HostRuntime) {
     let list = [Fe32::Z, Fe32::Q, Fe32::P, Fe32::Q, Fe32::Q];
-    let polynomial = Polynomial::from_slice(rt.alloc(), &list).expect(&rt, "memory");
-    same_items(&rt, polynomial.coefficients(), &list[..3]);
-    let got = (polynomial.degree(), polynomial.leading_coefficient());
-    same(&rt, &got, &(2, Fe32::P));
+    is_trimmed(&rt, rt.alloc(), &list, &list[..3], (2, Fe32::P));
 }
 
 #[test]
 fn zeros_alone(rt: HostRuntime) {
-    let zero = Polynomial::from_slice(rt.alloc(), &[Fe32::Q, Fe32::Q]).expect(&rt, "memory");
-    same(&rt, &zero.coefficients().len(), &0);
-    let got = (zero.degree(), zero.leading_coefficient());
-    same(&rt, &got, &(0, Fe32::Q));
+    is_trimmed(&rt, rt.alloc(), &[Fe32::Q, Fe32::Q], &[], (0, Fe32::Q));
 }
 
-// Whether a polynomial was made that has these coefficients.
-fn has<F: Field>(made: Result<Polynomial<F>, AllocError>, want: &[F]) -> bool {
+/// Whether a polynomial was made that has these coefficients.
+pub fn has<F: Field>(made: Result<Polynomial<F>, AllocError>, want: &[F]) -> bool {
     match made {
         Ok(polynomial) => polynomial.coefficients() == want,
         Err(_) => false,
@@ -58,14 +67,15 @@ fn are_right(p: &Polynomial<Seven>, q: &Polynomial<Seven>) -> [bool; 6] {
     ]
 }
 
+// A polynomial of two coefficients.
+fn of_two(rt: &impl Abort, alloc: Global, list: [u8; 2]) -> Polynomial<Seven> {
+    Polynomial::from_slice(alloc, &list.map(Seven::new)).expect(rt, "memory")
+}
+
 #[test]
 fn products(rt: HostRuntime) {
-    let p = Polynomial::from_slice(rt.alloc(), &[Seven::new(1), Seven::new(2)]).expect(
-        &rt, "memory",
-    );
-    let q = Polynomial::from_slice(rt.alloc(), &[Seven::new(3), Seven::new(4)]).expect(
-        &rt, "memory",
-    );
+    let p = of_two(&rt, rt.alloc(), [1, 2]);
+    let q = of_two(&rt, rt.alloc(), [3, 4]);
     same(&rt, &are_right(&p, &q), &[true; 6]);
 }
 
@@ -78,11 +88,14 @@ const BASE: Fe1024 = Fe32Ext {
     inner: [Fe32::P, Fe32::X],
 };
 
-// Fails where the exponents of the generator's roots from `start` to below `end` are other ones.
+// The walk over the generator's roots from `start` to below `end`.
+fn roots(rt: &impl Abort, alloc: Global, start: usize, end: usize) -> RootIter<Fe1024> {
+    RootIter::new(&generator(rt, alloc), BASE, start, end).expect(rt, "memory")
+}
+
+// Fails where the exponents of these roots are other ones.
 fn has_roots(rt: &impl Abort, alloc: Global, start: usize, end: usize, want: &[usize]) {
-    let generator = generator(rt, alloc);
-    let roots = RootIter::new(&generator, BASE, start, end).expect(rt, "memory");
-    gives(rt, alloc, roots, want);
+    gives(rt, alloc, roots(rt, alloc, start, end), want);
 }
 
 #[test]
@@ -93,14 +106,22 @@ fn roots_of_a_generator(rt: HostRuntime) {
     has_roots(&rt, alloc, 26, 26, &[]);
 }
 
-#[test]
-fn values_of_a_generator(rt: HostRuntime) {
-    let generator = generator(&rt, rt.alloc());
-    let got = [
+// The values of the generator at one of its roots and at one.
+fn two_values(rt: &impl Abort, alloc: Global) -> [Fe1024; 2] {
+    let generator = generator(rt, alloc);
+    [
         evaluate(&generator, BASE.powi(24)),
         evaluate(&generator, Fe1024::ONE),
-    ];
-    let sum = Fe32::J + Fe32::A + Fe32::_4 + Fe32::_5 + Fe32::K + Fe32::A + Fe32::P;
+    ]
+}
+
+#[test]
+fn values_of_a_generator(rt: HostRuntime) {
+    let mut sum = Fe32::Q;
+    for coefficient in GENERATOR.iter() {
+        sum += *coefficient;
+    }
+    let got = two_values(&rt, rt.alloc());
     same(&rt, &got, &[Fe1024::ZERO, Fe1024::from(sum)]);
 }
 
@@ -109,19 +130,45 @@ fn outcome<T: Drop>(heap: &LocalHeap, made: Result<T, AllocError>) -> (bool, boo
     (made.is_err(), heap.used() > 0)
 }
 
+// The same of a call that makes a polynomial.
+fn of_polynomial(
+    heap: &LocalHeap,
+    made: Result<Polynomial<Fe32, &LocalHeap>, AllocError>,
+) -> (bool, bool) {
+    outcome(heap, made)
+}
+
+// The same of the products with itself.
+fn of_products(
+    heap: &LocalHeap,
+    polynomial: &Polynomial<Fe32, &LocalHeap>,
+    end: usize,
+) -> [(bool, bool); 2] {
+    [
+        of_polynomial(heap, polynomial.multiply(polynomial)),
+        of_polynomial(heap, polynomial.multiply_below(polynomial, end)),
+    ]
+}
+
+// The same of the walk over its roots.
+fn of_roots(heap: &LocalHeap, polynomial: &Polynomial<Fe32, &LocalHeap>) -> (bool, bool) {
+    outcome(heap, RootIter::new(polynomial, Fe1024::GENERATOR, 0, 9))
+}
+
 // The same of each call that allocates, for a polynomial and a list.
 fn outcomes(
     heap: &LocalHeap,
     polynomial: &Polynomial<Fe32, &LocalHeap>,
     list: &[Fe32],
 ) -> [(bool, bool); 6] {
+    let [product, below] = of_products(heap, polynomial, list.len());
     [
-        outcome(heap, polynomial.clone()),
-        outcome(heap, polynomial.reversed()),
-        outcome(heap, polynomial.multiply(polynomial)),
-        outcome(heap, polynomial.multiply_below(polynomial, list.len())),
-        outcome(heap, polynomial.remainder(list)),
-        outcome(heap, RootIter::new(polynomial, Fe1024::GENERATOR, 0, 9)),
+        of_polynomial(heap, polynomial.clone()),
+        of_polynomial(heap, polynomial.reversed()),
+        product,
+        below,
+        of_polynomial(heap, polynomial.remainder(list)),
+        of_roots(heap, polynomial),
     ]
 }
 

@@ -1,4 +1,5 @@
 use crate::compare::{same, same_items};
+use crate::polynomial::has;
 use bech32_gf::field::Field;
 use bech32_gf::gf32::Fe32;
 use bech32_poly::polynomial::{Polynomial, remainder};
@@ -16,18 +17,13 @@ fn leaves<F: Field>(rt: &impl Abort, alloc: Global, list: &[F], low: &[F], want:
     same_items(rt, &rest, want);
 }
 
-// Fails where a polynomial leaves others, with no zeros at the high end.
-fn polynomial_leaves<F: Field>(rt: &impl Abort, polynomial: &Polynomial<F>, low: &[F], want: &[F]) {
-    let rest = polynomial.remainder(low).expect(rt, "memory");
-    same_items(rt, rest.coefficients(), want);
-}
-
-// Fails where a list of coefficients leaves others, or its polynomial those of another polynomial.
+// Fails where a list of coefficients leaves others, or its polynomial those of another polynomial,
+// with no zeros at the high end.
 fn both(rt: &impl Abort, alloc: Global, list: &[Fe32], low: &[Fe32], want: &[Fe32]) {
     leaves(rt, alloc, list, low, want);
     let polynomial = Polynomial::from_slice(alloc, list).expect(rt, "memory");
     let wanted = Polynomial::from_slice(alloc, want).expect(rt, "memory");
-    polynomial_leaves(rt, &polynomial, low, wanted.coefficients());
+    assert!(rt; has(polynomial.remainder(low), wanted.coefficients()));
 }
 
 // A power of x at the degree leaves the lower coefficients, a short polynomial itself, and all is
@@ -35,23 +31,31 @@ fn both(rt: &impl Abort, alloc: Global, list: &[Fe32], low: &[Fe32], want: &[Fe3
 #[test]
 fn by_a_generator(rt: HostRuntime) {
     let alloc = rt.alloc();
-    let q = Fe32::Q;
-    both(&rt, alloc, &[q, q, q, q, q, q, Fe32::P], &LOW, &LOW);
-    let short = [Fe32::_3, Fe32::P];
-    both(&rt, alloc, &short, &LOW, &[Fe32::_3, Fe32::P, q, q, q, q]);
+    let (q, low) = (Fe32::Q, LOW);
+    both(&rt, alloc, &[q, q, q, q, q, q, Fe32::P], &low, &low);
+    let short = [Fe32::_3, Fe32::P, q, q, q, q];
+    both(&rt, alloc, &short[..2], &low, &short);
     both(&rt, alloc, &[Fe32::A, Fe32::C, Fe32::E], &[], &[]);
-    both(&rt, alloc, &[], &LOW, &[q; 6]);
+    both(&rt, alloc, &[], &low, &[q; 6]);
 }
 
-// Worked by hand: with x^2 = 2x + 1, x^3 = 5x + 2 and x^4 = 5x + 5; and the value at 4.
+// Worked by hand: with x^2 = 2x + 1, x^3 = 5x + 2 and x^4 = 5x + 5.
 #[test]
-fn modulo_seven(rt: HostRuntime) {
+fn vector_modulo_seven(rt: HostRuntime) {
     let list = [5, 4, 3, 2, 1].map(Seven::new);
     let (low, rest) = ([6, 5].map(Seven::new), [3, 4].map(Seven::new));
     leaves(&rt, rt.alloc(), &list, &low, &rest);
+}
+
+// The same of the polynomial; and the value at 4.
+#[test]
+fn modulo_seven(rt: HostRuntime) {
+    let list = [5, 4, 3, 2, 1].map(Seven::new);
     let polynomial = Polynomial::from_slice(rt.alloc(), &list).expect(&rt, "memory");
-    polynomial_leaves(&rt, &polynomial, &low, &rest);
-    polynomial_leaves(&rt, &polynomial, &[Seven::new(3)], &[Seven::new(5)]);
+    let (low, rest) = ([6, 5].map(Seven::new), [3, 4].map(Seven::new));
+    let value = has(polynomial.remainder(&[Seven::new(3)]), &[Seven::new(5)]);
+    let remainder = has(polynomial.remainder(&low), &rest);
+    same(&rt, &(remainder, value), &(true, true));
 }
 
 // Whether x^0 to x^49 leave x^0 to x^8 on a heap of so many bytes; `None` where memory is refused.

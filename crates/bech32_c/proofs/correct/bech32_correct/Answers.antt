@@ -1,7 +1,7 @@
 use Rattle.std.proofs.Common.{length}
-use Rattle.bech32_c.specs.Correct.{CanMend, IsCorrectFault}
-use Rattle.bech32_c.proofs.ByNumber.{no_fault_by}
-use Rattle.bech32_c.proofs.Mending.{no_correct_fault}
+use Rattle.bech32_calls.specs.Correct.{CanMend, IsCorrectFault}
+use Rattle.bech32_calls.proofs.ByNumber.{no_fault_by}
+use Rattle.bech32_calls.proofs.Mending.{no_correct_fault}
 use Rattle.bech32_c.proofs.correct.bech32_correct.Goals as goal
 
 pub returns-in-Err-clause-accepts : goal.returns-in-Err-clause-accepts

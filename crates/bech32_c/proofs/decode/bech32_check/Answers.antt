@@ -1,7 +1,7 @@
 use Rattle.bech32_decode.specs.Acceptance.{Accepts}
-use Rattle.bech32_c.specs.Check.{IsCheckFault}
-use Rattle.bech32_c.proofs.ByNumber.{no_fault_by}
-use Rattle.bech32_c.proofs.Checking.{no_check_fault}
+use Rattle.bech32_calls.specs.Check.{IsCheckFault}
+use Rattle.bech32_calls.proofs.ByNumber.{no_fault_by}
+use Rattle.bech32_calls.proofs.Checking.{no_check_fault}
 use Rattle.bech32_c.proofs.decode.bech32_check.Goals as goal
 
 pub returns-in-Err-clause-accepts : goal.returns-in-Err-clause-accepts

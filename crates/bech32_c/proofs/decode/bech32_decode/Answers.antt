@@ -1,6 +1,6 @@
 use Rattle.std.proofs.Common.{length, refl}
-use Rattle.bech32_c.proofs.Back.{no_back_fault, put-back}
-use Rattle.bech32_c.proofs.Decoding.{no_decode_fault}
+use Rattle.bech32_calls.proofs.Back.{no_back_fault, put-back}
+use Rattle.bech32_calls.proofs.Decoding.{no_decode_fault}
 use Rattle.bech32_c.proofs.decode.bech32_decode.Goals as goal
 
 pub returns-in-Ok-clause-back : goal.returns-in-Ok-clause-back

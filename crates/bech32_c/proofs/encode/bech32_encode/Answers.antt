@@ -1,7 +1,7 @@
 use Rattle.std.proofs.Common.{length}
-use Rattle.bech32_c.specs.Encode.{HasText, IsEncodeFault}
-use Rattle.bech32_c.proofs.ByNumber.{no_fault_by}
-use Rattle.bech32_c.proofs.Encoding.{no_encode_fault}
+use Rattle.bech32_calls.specs.Encode.{HasText, IsEncodeFault}
+use Rattle.bech32_calls.proofs.ByNumber.{no_fault_by}
+use Rattle.bech32_calls.proofs.Encoding.{no_encode_fault}
 use Rattle.bech32_c.proofs.encode.bech32_encode.Goals as goal
 
 pub returns-in-Err-clause-accepts : goal.returns-in-Err-clause-accepts

@@ -1,5 +1,5 @@
 use Rattle.std.proofs.Common.{length}
-use Rattle.bech32_c.proofs.Addresses.{no_segwit_decode_fault}
+use Rattle.bech32_calls.proofs.Addresses.{no_segwit_decode_fault}
 use Rattle.bech32_c.proofs.segwit.bech32_segwit_decode.Goals as goal
 
 pub returns-in-Err-clause-accepts : goal.returns-in-Err-clause-accepts

@@ -1,5 +1,5 @@
 use Rattle.std.proofs.Common.{length, refl}
-use Rattle.bech32_c.proofs.Addresses.{no_segwit_encode_fault, put-spelling, room-from_address}
+use Rattle.bech32_calls.proofs.Addresses.{no_segwit_encode_fault, put-spelling, room-from_address}
 use Rattle.bech32_c.proofs.segwit.bech32_segwit_encode.Goals as goal
 
 pub returns-in-Ok-clause-spelling : goal.returns-in-Ok-clause-spelling

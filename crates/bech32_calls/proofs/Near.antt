@@ -1,0 +1,147 @@
+-- Near texts put into a buffer, and why none are.
+use Rattle.std.specs.Prelude.{map, flat_map}
+use Rattle.std.specs.List.{AllByRecursion}
+use Rattle.std.proofs.Common.{◌≡◌, ◌<◌, ◌≤◌, ◌+◌, ◌*◌, ℕ, List, [], ◌∷◌, ◌++◌, length, length-append, suc-mul, zero-mul, sym, ap, subst, ◌∙◌, refl, arith}
+use Rattle.std.proofs.lemmas.List.{length-map}
+use Rattle.bech32_gf.specs.Fe32.{element_of, elements_of, ops}
+use Rattle.bech32_gf.specs.declared.gf32.Fe32.{Fe32}
+use Rattle.bech32_poly.specs.Polynomial.{add}
+use Rattle.std.specs.Char.{to_ascii_lowercase}
+use Rattle.bech32_hrp.specs.Hrp.{lowered}
+use Rattle.bech32_checksum.specs.Code.{Code}
+use Rattle.bech32_checksum.specs.Encoded.{char_of_element}
+use Rattle.bech32_decode.specs.Acceptance.{Accepts}
+use Rattle.bech32_encode.specs.Buffers.{IsPut}
+use Rattle.bech32_correction.specs.MendedElements.{mended}
+use Rattle.bech32_correction.specs.Mistyped.{IsListing, IsMendedText, IsRefusedFor}
+use Rattle.bech32_near.specs.NearTexts.{AreNearTexts}
+use Rattle.bech32_correction.specs.declared.correcting.Correction.{Correction}
+use Rattle.bech32_correction.specs.declared.correcting.Correction.TheVariants.{Accepted, Mended, Unexplained}
+use Rattle.bech32_correction.proofs.Sums.{length-mended}
+use Rattle.bech32_calls.specs.Checksums.{ForChecksum, IsFaultBy}
+use Rattle.bech32_calls.specs.Correct.{IsReadFault, bound}
+use Rattle.bech32_calls.specs.Nearest.{IsNearFault, IsRead, IsSearchFault, PutsNear, joined}
+use Rattle.bech32_calls.specs.declared.refusal.Refusal.{Refusal}
+use Rattle.bech32_calls.specs.declared.refusal.Refusal.TheVariants.{BadNumber, Memory, NoRoom}
+use Rattle.bech32_calls.proofs.ByNumber.{more_for, out_for, wrong_by}
+use Rattle.bech32_calls.proofs.Puts.{put-same}
+
+-- ---- a residue is read
+
+read_accepted : (text : List ℕ) (code : Code) → Accepts code text → IsRead text code
+read_accepted text code a = record {
+  hrp = a.0;
+  data_part = a.1;
+  residue = add ops code.target code.target;
+  read = record {
+    grammar = a.2.grammar;
+    text_length = a.2.text_length;
+    data_length = a.2.data_length;
+    remainder = code.target;
+    is_remainder = a.2.has_target;
+    residue_is = λ i. refl;
+  };
+}
+
+read_refused : (text hrp data_part : List ℕ) (residue : List Fe32) (code : Code) → IsRefusedFor code text hrp data_part residue → IsRead text code
+read_refused text hrp data_part residue code r = record {
+  hrp = hrp;
+  data_part = data_part;
+  residue = residue;
+  read = r.read;
+}
+
+pub read_listed : (text given : List ℕ) (answer : Correction (List (ℕ × Fe32)) (Unit {0})) (code : Code) → IsListing code bound text given answer → IsRead text code
+read_listed text given Accepted code h = read_accepted text code h
+read_listed text given (Mended listing) code h = read_refused text h.hrp h.data_part h.residue code h.refused
+read_listed text given (Unexplained u) code h = read_refused text h.0.hrp h.0.data_part h.0.residue code h.0.refused
+
+-- ---- why nothing is put
+
+pub near_unread : (text given : List ℕ) (errors room : ℕ) (e : Refusal) → errors ≤ 2 → (code : Code) → IsReadFault text code e → IsNearFault text given errors room code e
+near_unread text given errors room BadNumber few code h = absurd h
+near_unread text given errors room Memory few code h = absurd h
+near_unread text given errors room NoRoom few code h = absurd h
+near_unread text given errors room _ few code h = (few, h)
+
+pub near_unfound : (text given : List ℕ) (errors room : ℕ) (e : Refusal) → errors ≤ 2 → (code : Code) → IsRead text code → IsSearchFault text code e → IsNearFault text given errors room code e
+near_unfound text given errors room BadNumber few code read h = absurd h
+near_unfound text given errors room Memory few code read h = (few, read)
+near_unfound text given errors room NoRoom few code read h = absurd h
+near_unfound text given errors room _ few code read h = (few, h)
+
+-- ---- what is put
+
+mended_length : (listing : List (ℕ × Fe32)) (text new : List ℕ) → IsMendedText listing text new → length new ≡ length text
+mended_length listing text new m =
+    let xs : List Fe32 = mended ops listing (elements_of m.data_part) in
+    let whole : length text ≡ length m.hrp + length (49 ∷ m.data_part) = ap length m.grammar.split ∙ length-append m.hrp (49 ∷ m.data_part) in
+    let part : length (lowered m.hrp) ≡ length m.hrp = length-map m.hrp to_ascii_lowercase in
+    let characters : length (map char_of_element xs) ≡ length m.data_part =
+    length-map xs char_of_element ∙ length-mended ops listing (elements_of m.data_part) ∙ length-map m.data_part element_of in
+    let both : length new ≡ length (lowered m.hrp) + length (49 ∷ map char_of_element xs) = ap length m.spelling ∙ length-append (lowered m.hrp) (49 ∷ map char_of_element xs) in
+    omega (arith, whole, part, characters, both)
+
+joined_length : (code : Code) (text : List ℕ) (found : List (List (ℕ × Fe32) × List ℕ)) → AllByRecursion (λ m. IsMendedText m.0 text m.1 × Accepts code m.1) found
+    → length (joined found) ≡ length found * length text
+joined_length code text [] all = sym (zero-mul (length text))
+joined_length code text (m ∷ ms) all =
+    let here : length m.1 ≡ length text = mended_length m.0 text m.1 all.0.0 in
+    let rest : length (joined ms) ≡ length ms * length text = joined_length code text ms all.1 in
+    let both : length (m.1 ++ joined ms) ≡ length m.1 + length (joined ms) = length-append m.1 (joined ms) in
+    let sum : length (m.1 ++ joined ms) ≡ length ms * length text + length text = omega (arith, here, rest, both) in
+    sum ∙ sym (suc-mul (length ms) (length text))
+
+joined_map : {A : Type 0} (f : A → List (ℕ × Fe32) × List ℕ) (near : List A) → joined (map f near) ≡ flat_map (λ m. (f m).1) near
+joined_map f [] = refl
+joined_map f (m ∷ ms) = ap (λ (l : List ℕ). (f m).1 ++ l) (joined_map f ms)
+
+module _ {A : Type 0} (f : A → List (ℕ × Fe32) × List ℕ) (text given : List ℕ) (errors : ℕ) (near : List A) (code : Code) (are : AreNearTexts code bound text given errors (map f near)) where
+  -- their length
+  pub near_length : length (flat_map (λ m. (f m).1) near) ≡ length near * length text
+  near_length =
+      sym (ap length (joined_map f near)) ∙ joined_length code text (map f near) are.each ∙ ap (λ (n : ℕ). n * length text) (length-map near f)
+
+  pub puts_near : (old new : List ℕ) (count : ℕ) → errors ≤ 2 → count ≡ length near
+      → IsPut (flat_map (λ m. (f m).1) near) old new (length (flat_map (λ m. (f m).1) near)) → PutsNear text given errors old new count code
+  puts_near old new count few counted put = record {
+    few = few;
+    found = map f near;
+    near = are;
+    count_is = counted ∙ sym (length-map near f);
+    put = put-same (flat_map (λ m. (f m).1) near) (joined (map f near)) old new (length (flat_map (λ m. (f m).1) near)) (count * length text)
+        (sym (joined_map f near)) (near_length ∙ ap (λ (n : ℕ). n * length text) (sym counted)) put;
+  }
+
+  pub near_lacks : (room : ℕ) → errors ≤ 2 → room < length near * length text → IsNearFault text given errors room code NoRoom
+  near_lacks room few lacks = (
+    few,
+    record {
+      found = map f near;
+      near = are;
+      lacks = subst (λ (n : ℕ). room < n) (sym (ap length (joined_map f near) ∙ near_length)) lacks;
+    },
+  )
+
+-- ---- the same by the checksum of a number, for a copy of the list
+
+module _ {A : Type 0} (f : A → List (ℕ × Fe32) × List ℕ) (n : ℕ) (text given : List ℕ) (errors : ℕ) (near items : List A) (same : near ≡ items)
+    (are : ForChecksum n (λ code. AreNearTexts code bound text given errors (map f items))) where
+  these : ForChecksum n (λ code. AreNearTexts code bound text given errors (map f near))
+  these = subst (λ (l : List A). ForChecksum n (λ code. AreNearTexts code bound text given errors (map f l))) (sym same) are
+
+  pub near_length_by : length (flat_map (λ m. (f m).1) near) ≡ length near * length text
+  near_length_by =
+      out_for (λ code. AreNearTexts code bound text given errors (map f near)) (length (flat_map (λ m. (f m).1) near) ≡ length near * length text)
+      (λ code h. near_length f text given errors near code h) n these
+
+  pub puts_near_by : (old new : List ℕ) (count : ℕ) → errors ≤ 2 → count ≡ length near
+      → IsPut (flat_map (λ m. (f m).1) near) old new (length (flat_map (λ m. (f m).1) near)) → ForChecksum n (PutsNear text given errors old new count)
+  puts_near_by old new count few counted put =
+      more_for (λ code. AreNearTexts code bound text given errors (map f near)) (PutsNear text given errors old new count)
+      (λ code h. puts_near f text given errors near code h old new count few counted put) n these
+
+  pub near_lacks_by : (room : ℕ) → errors ≤ 2 → room < length near * length text → IsFaultBy n (IsNearFault text given errors room) NoRoom
+  near_lacks_by room few lacks =
+      wrong_by (λ code. AreNearTexts code bound text given errors (map f near)) (IsNearFault text given errors room) NoRoom
+      (λ code h. near_lacks f text given errors near code h room few lacks) n these

@@ -1,0 +1,70 @@
+-- The texts near a mistyped one put into a buffer, and why none are.
+use Rattle.std.specs.Prelude.{◌≡◌, ◌<◌, ◌≤◌, ◌*◌, ◌⊎◌, ℕ, List, length, flat_map}
+use Rattle.bech32_gf.specs.declared.gf32.Fe32.{Fe32}
+use Rattle.bech32_checksum.specs.Code.{Code}
+use Rattle.bech32_encode.specs.Buffers.{IsPut}
+use Rattle.bech32_near.specs.NearTexts.{AreNearTexts}
+use Rattle.bech32_correction.specs.Mistyped.{HasResidue}
+use Rattle.bech32_correction.specs.declared.error.CorrectError.{CorrectError}
+use Rattle.bech32_correction.specs.declared.error.CorrectError.TheVariants.{
+  Memory as OutOfMemory,
+  Refused,
+}
+use Rattle.caller_memory.specs.Memory.{memory_size}
+use Rattle.caller_memory.specs.declared.memory.Memory.{Memory as Lendable}
+use Rattle.bech32_calls.specs.Check.{refusal_of_checked}
+use Rattle.bech32_calls.specs.Correct.{IsReadFault, bound}
+use Rattle.bech32_calls.specs.declared.refusal.Refusal.{Refusal}
+use Rattle.bech32_calls.specs.declared.refusal.Refusal.TheVariants.{BadNumber, Memory, NoRoom}
+
+-- the texts of mended ones, one behind another
+abbrev pub joined : List (List (ℕ × Fe32) × List ℕ) → List ℕ
+joined found = flat_map (λ m. m.1) found
+
+-- so many texts near this one, which are all, are put into a buffer, one behind another; they are
+-- asked for with two errors at most, and each has the length of this one
+pub record PutsNear (text given : List ℕ) (errors : ℕ)
+    (old new : List ℕ) (count : ℕ) (code : Code) : Type 0 where
+  pub few : errors ≤ 2
+  pub found : List (List (ℕ × Fe32) × List ℕ)
+  pub near : AreNearTexts code bound text given errors found
+  pub count_is : count ≡ length found
+  pub put : IsPut (joined found) old new (count * length text)
+
+-- they do not fit in a buffer of so many bytes
+pub record LacksRoomForNear (text given : List ℕ) (errors room : ℕ) (code : Code) : Type 0 where
+  pub found : List (List (ℕ × Fe32) × List ℕ)
+  pub near : AreNearTexts code bound text given errors found
+  pub lacks : room < length (joined found)
+
+-- the residue of a text is read
+pub record IsRead (text : List ℕ) (code : Code) : Type 0 where
+  pub hrp : List ℕ
+  pub data_part : List ℕ
+  pub residue : List Fe32
+  pub read : HasResidue code text hrp data_part residue
+
+-- why nothing is put into a buffer of so many bytes: more than two errors are asked for; else no
+-- residue of the text is read; or one is, and the memory or the buffer does not suffice
+abbrev pub IsNearFault : List ℕ → List ℕ → ℕ → ℕ → Code → Refusal → Type 0
+IsNearFault text given errors room code BadNumber = 2 < errors
+IsNearFault text given errors room code Memory = (errors ≤ 2) × IsRead text code
+IsNearFault text given errors room code NoRoom =
+    (errors ≤ 2) × LacksRoomForNear text given errors room code
+IsNearFault text given errors room code e = (errors ≤ 2) × IsReadFault text code e
+
+-- with a refusal lent memory is as it was; or the refusal is out of memory, and it has no bytes
+abbrev pub GivesBack : Lendable → Lendable → Refusal → Type 0
+GivesBack old new e = (new ≡ old) ⊎ ((e ≡ Memory) × (memory_size new ≡ 0))
+
+-- ---- on the way
+
+-- the refusal that an error is answered by
+abbrev pub refusal_of_correct : CorrectError → Refusal
+refusal_of_correct (Refused e) = refusal_of_checked e
+refusal_of_correct OutOfMemory = Memory
+
+-- why no texts are found: no residue of the text is read, or the memory does not suffice
+abbrev pub IsSearchFault : List ℕ → Code → Refusal → Type 0
+IsSearchFault text code Memory = Unit {0}
+IsSearchFault text code e = IsReadFault text code e

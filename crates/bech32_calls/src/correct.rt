@@ -1,0 +1,162 @@
+//! Mends mistyped texts.
+
+ghost use Rattle.std.specs.Prelude.{◌≡◌, ◌≤◌, ◌<◌, ℕ, List, length, map, IfErr, IfOk, MatchResult, OnErr};
+ghost use Rattle.std.specs.List.{AllByRecursion};
+ghost use Rattle.bech32_gf.specs.Fe32.{ops, value as value_of};
+ghost use Rattle.bech32_gf.specs.declared.gf32.Fe32.{Fe32 as Element};
+ghost use Rattle.bech32_checksum.specs.Code.{bech32, bech32m};
+ghost use Rattle.bech32_bch.specs.Pattern.{locations as locations_of};
+ghost use Rattle.bech32_encode.specs.Buffers.{IsPut};
+ghost use Rattle.bech32_hrp.specs.Hrp.{lowered};
+ghost use Rattle.bech32_correction.specs.MendedElements.{EndsIn, mended as mended_of};
+ghost use Rattle.bech32_correction.specs.Mistyped.{IsListing};
+ghost use Rattle.bech32_calls.specs.Checksums.{ForChecksum, IsFaultBy};
+ghost use Rattle.bech32_calls.specs.Correct.{IsCorrectFault, IsListingFault, IsMendedBy, IsReadFault, PutsMended, bound};
+
+use crate::checksum::{BECH32, BECH32M};
+use crate::input::text_of;
+use crate::refusal::Refusal;
+use bech32::Fe32;
+use bech32_correction::{Correction, Listing, NoMemory, bech32_listing, bech32m_listing, mend};
+
+// What Bech32 finds for a text. Out of line: together, each call would clear the locals of both
+// checksums.
+#[inline(never)]
+fn bech32_correction(
+    bytes: &[u8],
+    given: &[usize],
+) -> Result<Correction<Listing<NoMemory>>, Refusal>
+    ensures { MatchResult result
+        (λ answer. IsListing bech32 bound bytes.now given.now answer)
+        (λ e. IsReadFault bytes.now bech32 e) }
+{
+    match bech32_listing(text_of(bytes)?, given) {
+        Ok(answer) => Ok(answer),
+        Err(e) => Err(Refusal::from(e)),
+    }
+}
+
+// The same by Bech32m.
+#[inline(never)]
+fn bech32m_correction(
+    bytes: &[u8],
+    given: &[usize],
+) -> Result<Correction<Listing<NoMemory>>, Refusal>
+    ensures { MatchResult result
+        (λ answer. IsListing bech32m bound bytes.now given.now answer)
+        (λ e. IsReadFault bytes.now bech32m e) }
+{
+    match bech32m_listing(text_of(bytes)?, given) {
+        Ok(answer) => Ok(answer),
+        Err(e) => Err(Refusal::from(e)),
+    }
+}
+
+/// What the checksum of a number finds for a text.
+pub(crate) fn correction_by(
+    checksum: u32,
+    bytes: &[u8],
+    given: &[usize],
+) -> Result<Correction<Listing<NoMemory>>, Refusal>
+    ensures { MatchResult result
+        (λ answer. ForChecksum checksum (λ code. IsListing code bound bytes.now given.now answer))
+        (λ e. IsFaultBy checksum (IsReadFault bytes.now) e) }
+{
+    match checksum {
+        BECH32 => bech32_correction(bytes, given),
+        BECH32M => bech32m_correction(bytes, given),
+        _ => Err(Refusal::BadNumber),
+    }
+}
+
+// How the checksum of a number would have a text mended.
+fn listed_by(checksum: u32, bytes: &[u8], given: &[usize]) -> Result<Listing<NoMemory>, Refusal>
+    ensures { MatchResult result
+        (λ listing. ForChecksum checksum (IsMendedBy bytes.now given.now listing))
+        (λ e. IsFaultBy checksum (IsListingFault bytes.now given.now) e) }
+{
+    match correction_by(checksum, bytes, given)? {
+        Correction::Accepted => Ok(Listing::new(NoMemory)),
+        Correction::Mended(listing) => Ok(listing),
+        Correction::Unexplained(()) => Err(Refusal::NoCorrection),
+    }
+}
+
+// Puts the locations and the values of a listing at the fronts of buffers that have room for them.
+fn put_listing(listing: &[(usize, Fe32)], locations: &mut [usize], values: &mut [u8])
+    requires locations { length listing.now ≤ length locations.old }
+    requires values { length listing.now ≤ length values.old }
+    ensures locations { IsPut (locations_of listing.now)
+        locations.old locations.new (length listing.now) }
+    ensures values { IsPut (map (λ p. value_of p.1) listing.now)
+        values.old values.new (length listing.now) }
+{
+    for i in 0..listing.len() {
+        let (location, value) = listing[i];
+        locations[i] = location;
+        values[i] = value.to_u8();
+    }
+}
+
+// Puts a text in lower case, with a listing's values added, at the front of a buffer that has room
+// for it.
+fn put_mended(buffer: &mut [u8], text: &[u8], listing: &[(usize, Fe32)])
+    requires room { length text.now ≤ length buffer.old }
+    requires inside { (front : List ℕ)
+        × ((elements : List Element) × EndsIn (lowered text.now) front elements
+        × AllByRecursion (λ p. p.0 < length elements) listing.now) }
+    ensures { (front : List ℕ) (elements : List Element) → EndsIn (lowered text.now) front elements
+        → AllByRecursion (λ p. p.0 < length elements) listing.now
+        → (t : List ℕ) × EndsIn t front (mended_of ops listing.now elements)
+        × IsPut t buffer.old buffer.new (length text.now) }
+{
+    let mended = &mut buffer[..text.len()];
+    mended.copy_from_slice(text);
+    mended.make_ascii_lowercase();
+    mend(mended, listing);
+}
+
+/// Mends a mistyped text by the checksum of a number, and returns how many locations are listed, at
+/// most three: 0 where the checksum accepts the text. `erasures` are the locations of characters
+/// that are known to be wrong; location 0 is the last character. The listed locations, the erasures
+/// first, are put at the front of `locations`, the elements to add there, from 0 to 31 each, at the
+/// front of `values`, and the mended text, in lower case and as long as the text, at the front of
+/// `mended`.
+///
+/// # Errors
+///
+/// The first of: a number that is neither 1 nor 2; a text that is not UTF-8; its first fault, but
+/// for a wrong checksum; no such few errors in the data part that mend it, or an erasure that is
+/// not in it; a buffer that is too small.
+pub fn corrected(
+    checksum: u32,
+    text: &[u8],
+    erasures: &[usize],
+    locations: &mut [usize],
+    values: &mut [u8],
+    mended: &mut [u8],
+) -> Result<usize, Refusal>
+    ensures value { IfOk result (λ n. ForChecksum checksum (PutsMended text.now erasures.now
+        locations.old locations.new values.old values.new n
+        mended.old mended.new (length text.now))) }
+    ensures refused { IfErr result (λ e. IsFaultBy checksum (IsCorrectFault text.now erasures.now
+        (length locations.old) (length values.old) (length mended.old)) e) }
+    ensures same { OnErr result ((locations.new ≡ locations.old) × (values.new ≡ values.old)
+        × (mended.new ≡ mended.old)) }
+{
+    let found = listed_by(checksum, text, erasures)?;
+    let listing = found.as_slice();
+    let count = listing.len();
+    if count > locations.len() {
+        return Err(Refusal::NoRoom);
+    }
+    if count > values.len() {
+        return Err(Refusal::NoRoom);
+    }
+    if text.len() > mended.len() {
+        return Err(Refusal::NoRoom);
+    }
+    put_listing(listing, locations, values);
+    put_mended(mended, text, listing);
+    Ok(count)
+}

@@ -1,0 +1,76 @@
+//! Encodes bytes.
+
+ghost use Rattle.std.specs.Prelude.{◌≡◌, ◌≤◌, ◌+◌, ◌++◌, ℕ, List, length, option_to_list, IfOk, IfErr, OnErr};
+ghost use Rattle.bech32_bits.specs.Bits.{to_fes};
+ghost use Rattle.bech32_checksum.specs.Encoded.{IsEncodedText};
+ghost use Rattle.bech32_hrp.specs.HrpBytes.{hrp_bytes};
+ghost use Rattle.bech32_encode.specs.Buffers.{IsPut};
+ghost use Rattle.bech32_calls.specs.Checksums.{ForChecksum, IsFaultBy};
+ghost use Rattle.bech32_calls.specs.Encode.{PutsText, IsEncodeFault};
+
+use crate::checksum::{BECH32, BECH32M};
+use crate::input::part_of;
+use crate::refusal::Refusal;
+use bech32::primitives::encode;
+use bech32::{Bech32, Bech32m, Checksum, Fe32, Hrp, encoded_length};
+
+/// Puts the text of a human-readable part, a witness version where there is one, and bytes into a
+/// buffer that has room for it, and returns its length.
+pub(crate) fn put_text<Ck: Checksum>(
+    hrp: &Hrp,
+    version: Option<Fe32>,
+    bytes: &[u8],
+    text: &mut [u8],
+) -> usize
+    requires { length (hrp_bytes hrp.now) + 1 + length (option_to_list version ++ to_fes bytes.now)
+        + length Ck.code.generator ≤ length text.old }
+    ensures { (written : List ℕ)
+        × IsEncodedText Ck.code (hrp_bytes hrp.now)
+        (option_to_list version ++ to_fes bytes.now) written
+        × IsPut written text.old text.new result }
+{
+    encode::put_text_of_bytes::<Ck>(hrp, version, bytes, text)
+}
+
+// Puts the text by one checksum, and returns its length.
+fn encoded<Ck: Checksum>(hrp: &[u8], bytes: &[u8], text: &mut [u8]) -> Result<usize, Refusal>
+    requires { Ck.code.code_length ≤ 1023 }
+    ensures value { IfOk result
+        (λ count. PutsText Ck.code hrp.now bytes.now text.old text.new count) }
+    ensures refused { IfErr result
+        (λ e. IsEncodeFault hrp.now bytes.now (length text.old) Ck.code e) }
+    ensures same { OnErr result (text.new ≡ text.old) }
+{
+    let part = part_of(hrp)?;
+    let count = encoded_length::<Ck>(part, bytes)?;
+    if count > text.len() {
+        return Err(Refusal::NoRoom);
+    }
+    Ok(put_text::<Ck>(&part, None, bytes, text))
+}
+
+/// Puts the text of a human-readable part and bytes by the checksum of a number, in lower case, at
+/// the front of a buffer, and returns its length, at most 1023.
+///
+/// # Errors
+///
+/// The first of: a number that is neither 1 nor 2; a human-readable part that is not UTF-8, or is
+/// none; a text of more than 1023 characters, or of more than the buffer has room for.
+pub fn encoded_by(
+    checksum: u32,
+    hrp: &[u8],
+    bytes: &[u8],
+    text: &mut [u8],
+) -> Result<usize, Refusal>
+    ensures value { IfOk result (λ count.
+        ForChecksum checksum (λ code. PutsText code hrp.now bytes.now text.old text.new count)) }
+    ensures refused { IfErr result
+        (λ e. IsFaultBy checksum (IsEncodeFault hrp.now bytes.now (length text.old)) e) }
+    ensures same { OnErr result (text.new ≡ text.old) }
+{
+    match checksum {
+        BECH32 => encoded::<Bech32>(hrp, bytes, text),
+        BECH32M => encoded::<Bech32m>(hrp, bytes, text),
+        _ => Err(Refusal::BadNumber),
+    }
+}

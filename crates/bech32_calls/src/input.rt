@@ -1,0 +1,55 @@
+//! Reads what a C program gives: texts, human-readable parts, elements.
+
+ghost use Rattle.std.specs.Prelude.{◌≡◌, ◌≤◌, ◌<◌, MatchResult};
+ghost use Rattle.std.specs.Str.{IsUtf8};
+ghost use Rattle.bech32_gf.specs.Fe32.{element};
+ghost use Rattle.bech32_hrp.specs.Hrp.{IsHrp};
+ghost use Rattle.bech32_hrp.specs.HrpBytes.{hrp_bytes};
+ghost use Rattle.bech32_calls.specs.Faults.{IsPartFault};
+
+use crate::refusal::Refusal;
+use bech32::{Fe32, Hrp};
+
+/// Bytes are not UTF-8. It is small, unlike a refusal, so that a text is returned quickly.
+#[derive(Clone, Copy)]
+pub struct NotText;
+
+/// The text of bytes.
+#[inline]
+pub fn text_of(bytes: &[u8]) -> Result<&str, NotText>
+    ensures { MatchResult result
+        (λ text. (text.now ≡ bytes.now) × IsUtf8 bytes.now)
+        (λ _. ¬ (IsUtf8 bytes.now)) }
+{
+    if bytes.is_ascii() {
+        // ASCII is UTF-8: what the call requires is proved.
+        return Ok(unsafe { str::from_utf8_unchecked(bytes) });
+    }
+    match str::from_utf8(bytes) {
+        Ok(text) => Ok(text),
+        Err(_) => Err(NotText),
+    }
+}
+
+/// The human-readable part of bytes.
+pub fn part_of(bytes: &[u8]) -> Result<Hrp, Refusal>
+    ensures { MatchResult result
+        (λ hrp. IsHrp bytes.now × (hrp_bytes hrp ≡ bytes.now))
+        (λ e. IsPartFault bytes.now e) }
+{
+    let text = text_of(bytes)?;
+    let hrp = Hrp::parse(text)?;
+    Ok(hrp)
+}
+
+/// The element of a number, which is one up to 31.
+pub fn element_of(number: u32) -> Result<Fe32, Refusal>
+    ensures { MatchResult result
+        (λ fe. (number ≤ 31) × (fe ≡ element number))
+        (λ e. (31 < number) × (e ≡ Refusal.BadNumber)) }
+{
+    if number > 31 {
+        return Err(Refusal::BadNumber);
+    }
+    Ok(Fe32::from_low_bits(number as u8))
+}

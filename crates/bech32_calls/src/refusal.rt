@@ -1,0 +1,200 @@
+//! Why a call writes nothing, and the numbers of refusals.
+
+ghost use Rattle.std.specs.Prelude.{◌≡◌, ◌<◌};
+ghost use Rattle.bech32_calls.specs.Numbers.{number_of};
+
+use crate::input::NotText;
+use bech32::primitives::decode::{
+    CheckedHrpstringError, ChecksumError, CodeLengthError, SegwitCodeLengthError,
+    SegwitHrpstringError, UncheckedHrpstringError,
+};
+use bech32::primitives::hrp;
+use bech32::primitives::segwit::{InvalidWitnessVersionError, WitnessLengthError};
+use bech32::{CorrectError, EncodeError, segwit};
+use bech32_numbers::{
+    NO_CORRECTION, address_error_number, checksum_error_number, encode_error_number,
+    hrp_error_number, length_error_number, segwit_encode_error_number, text_error_number,
+};
+
+/// Why a call writes nothing.
+#[derive(Clone, Copy)]
+pub enum Refusal {
+    /// The bytes of a text are not UTF-8.
+    NotUtf8,
+    /// A number is that of no checksum, or of no element.
+    BadNumber,
+    /// A buffer is too small.
+    NoRoom,
+    /// No correction mends the text.
+    NoCorrection,
+    /// Lent memory does not suffice.
+    Memory,
+    /// A human-readable part is none.
+    Hrp(hrp::Error),
+    /// The text would be longer than the checksum's code.
+    TooLong(CodeLengthError),
+    /// The text is not in the grammar.
+    Text(UncheckedHrpstringError),
+    /// No checksum that is asked for accepts the text.
+    Checksum(ChecksumError),
+    /// The witness version is above 16.
+    Version(InvalidWitnessVersionError),
+    /// The witness program is not of a lawful length.
+    ProgramLength(WitnessLengthError),
+    /// The segwit address would have more than 90 characters.
+    AddressTooLong(SegwitCodeLengthError),
+    /// The text is not a segwit address.
+    Address(SegwitHrpstringError),
+}
+
+impl Refusal {
+    // The number, which has two digits at most.
+    fn small_number(self) -> u8
+        ensures value { result ≡ number_of self }
+        ensures some { 0 < result }
+    {
+        match self {
+            Refusal::NotUtf8 => 2,
+            Refusal::BadNumber => 4,
+            Refusal::NoRoom => 92,
+            Refusal::NoCorrection => NO_CORRECTION,
+            Refusal::Memory => 91,
+            Refusal::Hrp(e) => hrp_error_number(e),
+            Refusal::TooLong(e) => encode_error_number(EncodeError::TooLong(e)),
+            Refusal::Text(e) => text_error_number(e),
+            Refusal::Checksum(e) => checksum_error_number(e),
+            Refusal::Version(e) => {
+                segwit_encode_error_number(segwit::EncodeError::WitnessVersion(e))
+            }
+            Refusal::ProgramLength(e) => length_error_number(e),
+            Refusal::AddressTooLong(e) => {
+                segwit_encode_error_number(segwit::EncodeError::TooLong(e))
+            }
+            Refusal::Address(e) => address_error_number(e),
+        }
+    }
+
+    /// The number that a call returns.
+    pub fn number(self) -> u32
+        ensures value { result ≡ number_of self }
+        ensures some { 0 < result }
+    {
+        u32::from(self.small_number())
+    }
+}
+
+impl From<NotText> for Refusal {
+    ghost use Rattle.bech32_calls.specs.declared.refusal.Refusal.TheVariants.{NotUtf8};
+
+    ghost from_gives = { λ _ r. r ≡ NotUtf8 };
+
+    fn from(_: NotText) -> Refusal {
+        Refusal::NotUtf8
+    }
+}
+
+impl From<hrp::Error> for Refusal {
+    ghost use Rattle.bech32_calls.specs.declared.refusal.Refusal.TheVariants.{Hrp};
+
+    ghost from_gives = { λ e r. r ≡ Hrp e };
+
+    fn from(e: hrp::Error) -> Refusal {
+        Refusal::Hrp(e)
+    }
+}
+
+impl From<CodeLengthError> for Refusal {
+    ghost use Rattle.bech32_calls.specs.declared.refusal.Refusal.TheVariants.{TooLong};
+
+    ghost from_gives = { λ e r. r ≡ TooLong e };
+
+    fn from(e: CodeLengthError) -> Refusal {
+        Refusal::TooLong(e)
+    }
+}
+
+impl From<UncheckedHrpstringError> for Refusal {
+    ghost use Rattle.bech32_calls.specs.declared.refusal.Refusal.TheVariants.{Text};
+
+    ghost from_gives = { λ e r. r ≡ Text e };
+
+    fn from(e: UncheckedHrpstringError) -> Refusal {
+        Refusal::Text(e)
+    }
+}
+
+impl From<ChecksumError> for Refusal {
+    ghost use Rattle.bech32_calls.specs.declared.refusal.Refusal.TheVariants.{Checksum};
+
+    ghost from_gives = { λ e r. r ≡ Checksum e };
+
+    fn from(e: ChecksumError) -> Refusal {
+        Refusal::Checksum(e)
+    }
+}
+
+impl From<CheckedHrpstringError> for Refusal {
+    ghost use Rattle.bech32_calls.specs.Check.{refusal_of_checked};
+
+    ghost from_gives = { λ e r. r ≡ refusal_of_checked e };
+
+    fn from(e: CheckedHrpstringError) -> Refusal {
+        match e {
+            CheckedHrpstringError::Parse(e) => Refusal::Text(e),
+            CheckedHrpstringError::Checksum(e) => Refusal::Checksum(e),
+        }
+    }
+}
+
+impl From<CorrectError> for Refusal {
+    ghost use Rattle.bech32_calls.specs.Nearest.{refusal_of_correct};
+
+    ghost from_gives = { λ e r. r ≡ refusal_of_correct e };
+
+    fn from(e: CorrectError) -> Refusal {
+        match e {
+            CorrectError::Refused(e) => Refusal::from(e),
+            CorrectError::Memory => Refusal::Memory,
+        }
+    }
+}
+
+impl From<InvalidWitnessVersionError> for Refusal {
+    ghost use Rattle.bech32_calls.specs.declared.refusal.Refusal.TheVariants.{Version};
+
+    ghost from_gives = { λ e r. r ≡ Version e };
+
+    fn from(e: InvalidWitnessVersionError) -> Refusal {
+        Refusal::Version(e)
+    }
+}
+
+impl From<WitnessLengthError> for Refusal {
+    ghost use Rattle.bech32_calls.specs.declared.refusal.Refusal.TheVariants.{ProgramLength};
+
+    ghost from_gives = { λ e r. r ≡ ProgramLength e };
+
+    fn from(e: WitnessLengthError) -> Refusal {
+        Refusal::ProgramLength(e)
+    }
+}
+
+impl From<SegwitCodeLengthError> for Refusal {
+    ghost use Rattle.bech32_calls.specs.declared.refusal.Refusal.TheVariants.{AddressTooLong};
+
+    ghost from_gives = { λ e r. r ≡ AddressTooLong e };
+
+    fn from(e: SegwitCodeLengthError) -> Refusal {
+        Refusal::AddressTooLong(e)
+    }
+}
+
+impl From<SegwitHrpstringError> for Refusal {
+    ghost use Rattle.bech32_calls.specs.declared.refusal.Refusal.TheVariants.{Address};
+
+    ghost from_gives = { λ e r. r ≡ Address e };
+
+    fn from(e: SegwitHrpstringError) -> Refusal {
+        Refusal::Address(e)
+    }
+}
