@@ -17,6 +17,7 @@ pub mod checksum {
     pub use bech32_block::{NamedField, PrintError, PrintImpl};
     pub use bech32_checksum::{
         Bech32, Bech32m, Checksum, Engine, HrpFe32Iter, NoChecksum, PackedFe32, PackedNull,
+        RootField,
     };
     pub use bech32_detect::{accepted_texts_are_far, detects_four, detects_four_in};
 }

@@ -14,13 +14,13 @@ use crate::locations::error_locations;
 use crate::short_vec::ShortVec;
 use crate::syndromes::syndromes;
 use crate::values::values;
-use bech32_gf::field::ExtensionField;
+use bech32_poly::arithmetic::Extension;
 use bech32_poly::fieldvec::FieldVec;
 use std::alloc::{AllocError, Allocator};
 
 /// So many powers of a base, from one exponent on.
 #[derive(Clone, Copy)]
-pub struct Roots<E: ExtensionField> {
+pub struct Roots<E: Extension> {
     /// The base.
     pub base: E,
     /// The first exponent.
@@ -45,7 +45,7 @@ fn joined<A: Allocator + Copy>(
 
 // The listing of the erasures and the errors that were found outside them; none if one has no
 // value, or an error that was found the value zero.
-fn listed<E: ExtensionField, A: Allocator + Copy>(
+fn listed<E: Extension, A: Allocator + Copy>(
     alloc: A,
     list: &FieldVec<E, A>,
     roots: Roots<E>,
@@ -56,11 +56,11 @@ fn listed<E: ExtensionField, A: Allocator + Copy>(
     ensures placed { IfOk result (λ answer. IfSome answer (λ listing.
         locations listing ≡ erasures.now ++ found.now)) }
     ensures not_zero { IfOk result (λ answer. IfSome answer (λ listing. AllByRecursion
-        (λ p. p.1 ≢ E.BaseField.ops.zero) (drop (length erasures.now) listing))) }
+        (λ p. p.1 ≢ E.base.zero) (drop (length erasures.now) listing))) }
     ensures found { IfOk result (λ answer. (v : ℕ → E.BaseField) → AreExplained
         E.ops E.embed roots.base roots.start list.now (erasures.now ++ found.now) v
         → ((i : ℕ) → IsAmong i (drop (length erasures.now) (erasures.now ++ found.now))
-        → v i ≢ E.BaseField.ops.zero)
+        → v i ≢ E.base.zero)
         → MatchOption answer ⊥ (λ listing.
         listing ≡ map (λ i. (i, v i)) (erasures.now ++ found.now))) }
     ensures in_place { FitsInPlace (length list.now) → IsOk result }
@@ -77,7 +77,7 @@ fn listed<E: ExtensionField, A: Allocator + Copy>(
 }
 
 // The listing that alone can be that of a pattern with these syndromes.
-fn candidate_of<E: ExtensionField, A: Allocator + Copy>(
+fn candidate_of<E: Extension, A: Allocator + Copy>(
     alloc: A,
     list: &FieldVec<E, A>,
     roots: Roots<E>,
@@ -90,11 +90,11 @@ fn candidate_of<E: ExtensionField, A: Allocator + Copy>(
     requires known { known.now ≡ locators E.ops roots.base erasures.now }
     requires room { length erasures.now ≤ length list.now }
     ensures listed { IfOk result (λ answer. IfSome answer (λ listing.
-        IsCandidate E.BaseField.ops window erasures.now (length list.now) listing)) }
+        IsCandidate E.base window erasures.now (length list.now) listing)) }
     ensures found { IfOk result (λ answer. (e : List (ℕ × E.BaseField))
-        → IsPattern E.BaseField.ops window e
+        → IsPattern E.base window e
         → AreSumsOf E.ops roots.base roots.start window erasures.now list.now (inside E.embed e)
-        → MatchOption answer ⊥ (λ listing. IsListing E.BaseField.ops erasures.now e listing)) }
+        → MatchOption answer ⊥ (λ listing. IsListing E.base erasures.now e listing)) }
     ensures in_place { length list.now ≤ 6 → IsOk result }
 {
     let Some(found) = error_locations(alloc, list, roots.base, window, erasures, known)? else {
@@ -110,7 +110,7 @@ fn candidate_of<E: ExtensionField, A: Allocator + Copy>(
 /// # Errors
 ///
 /// If memory runs out. For at most six roots nothing is allocated.
-pub fn candidate<E: ExtensionField, A: Allocator + Copy>(
+pub fn candidate<E: Extension, A: Allocator + Copy>(
     alloc: A,
     roots: Roots<E>,
     window: usize,
@@ -122,11 +122,11 @@ pub fn candidate<E: ExtensionField, A: Allocator + Copy>(
     requires erased { AreErasures window erasures.now }
     requires known { known.now ≡ locators E.ops roots.base erasures.now }
     ensures listed { IfOk result (λ answer. IfSome answer (λ listing.
-        IsCandidate E.BaseField.ops window erasures.now roots.count listing)) }
+        IsCandidate E.base window erasures.now roots.count listing)) }
     ensures found { IfOk result (λ answer. (g : List E.BaseField) (e : List (ℕ × E.BaseField))
-        → AreUsableRoots E.BaseField.ops E.ops E.embed g roots.base roots.start roots.count window
-        → Solves E.BaseField.ops g residue.now erasures.now window roots.count e
-        → MatchOption answer ⊥ (λ listing. IsListing E.BaseField.ops erasures.now e listing)) }
+        → AreUsableRoots E.base E.ops E.embed g roots.base roots.start roots.count window
+        → Solves E.base g residue.now erasures.now window roots.count e
+        → MatchOption answer ⊥ (λ listing. IsListing E.base erasures.now e listing)) }
     ensures in_place { roots.count ≤ 6 → IsOk result }
 {
     if erasures.len() > roots.count {

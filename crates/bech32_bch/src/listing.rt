@@ -6,11 +6,10 @@ ghost use Rattle.bech32_bch.specs.Pattern.{locations};
 ghost use Rattle.bech32_poly.specs.Distinct.{IsAmong};
 ghost use Rattle.bech32_poly.specs.Pattern.{value_of_pattern_at};
 
-use bech32_gf::field::Field;
 use bech32_poly::arithmetic::Arithmetic;
 
 /// The sum of the values that a listing has at a place.
-pub fn value_at_place<F: Field>(listing: &[(usize, F)], place: usize) -> F
+pub fn value_at_place<F: Arithmetic>(listing: &[(usize, F)], place: usize) -> F
     ensures { result ≡ value_of_pattern_at F.ops listing.now place }
 {
     let mut sum = F::zero();
@@ -37,7 +36,7 @@ fn larger(a: usize, b: usize) -> usize
 }
 
 /// The highest place of a listing, or 0 where there is none.
-pub fn highest_place<F: Field>(listing: &[(usize, F)]) -> usize
+pub fn highest_place<F: Arithmetic>(listing: &[(usize, F)]) -> usize
     ensures bound { AllByRecursion (λ p. p.0 ≤ result) listing.now }
     ensures attained { (result ≡ 0) ⊎ IsAmong result (locations listing.now) }
 {

@@ -10,7 +10,6 @@ ghost use Rattle.bech32_poly.specs.Window.{IsShortestWindow};
 
 use crate::short_vec::ShortVec;
 use crate::terms::without_terms;
-use bech32_gf::field::Field;
 use bech32_poly::arithmetic::{Arithmetic, first_powers, total};
 use bech32_poly::fieldvec::FieldVec;
 use bech32_poly::lfsr::shortest_register;
@@ -46,7 +45,7 @@ fn has_common(places: &[usize], others: &[usize]) -> bool
 
 // Finds the locations at which the terms add up to zero, the first `degree` of them: the terms are
 // those of a polynomial at location 0, and the factors lead from one location to the next.
-fn push_roots<K: Field, A: Allocator + Copy>(
+fn push_roots<K: Arithmetic, A: Allocator + Copy>(
     terms: &mut FieldVec<K, A>,
     factors: &[K],
     window: usize,
@@ -61,7 +60,7 @@ fn push_roots<K: Field, A: Allocator + Copy>(
 {
     let mut place = 0;
     while place < window && found.len() < degree {
-        if total(terms.as_slice()) == K::zero() {
+        if total(terms.as_slice()).equals(K::zero()) {
             found.push(place)?;
         }
         terms.multiply_each(factors);
@@ -72,7 +71,7 @@ fn push_roots<K: Field, A: Allocator + Copy>(
 
 // Finds the first `degree` locations below the window at which the register vanishes, in rising
 // order; all where there are fewer.
-fn find_roots<K: Field, A: Allocator + Copy>(
+fn find_roots<K: Arithmetic, A: Allocator + Copy>(
     alloc: A,
     register: &FieldVec<K, A>,
     base: K,
@@ -92,7 +91,7 @@ fn find_roots<K: Field, A: Allocator + Copy>(
 
 // The first `degree` locations below the window at which the register vanishes, in rising order;
 // none where there are fewer.
-fn first_roots<K: Field, A: Allocator + Copy>(
+fn first_roots<K: Arithmetic, A: Allocator + Copy>(
     alloc: A,
     register: &FieldVec<K, A>,
     base: K,
@@ -180,7 +179,7 @@ fn in_order_outside<A: Allocator + Copy>(
 
 // The first `degree` locations at which the register vanishes, in the order of a listing; none
 // where there are fewer, or one of them is an erasure.
-fn locations_of<K: Field, A: Allocator + Copy>(
+fn locations_of<K: Arithmetic, A: Allocator + Copy>(
     alloc: A,
     register: &FieldVec<K, A>,
     base: K,
@@ -205,7 +204,7 @@ fn locations_of<K: Field, A: Allocator + Copy>(
 
 // The shortest register of the first `room` syndromes that are left where the terms at the known
 // locators are taken out.
-fn register_without<K: Field, A: Allocator + Copy>(
+fn register_without<K: Arithmetic, A: Allocator + Copy>(
     alloc: A,
     syndromes: &[K],
     known: &[K],
@@ -225,7 +224,7 @@ fn register_without<K: Field, A: Allocator + Copy>(
 /// a pattern with so few of them that twice their number and the erasures are no more than the
 /// syndromes; none where it is known already that there is no such pattern. `known` are the locators
 /// of the erasures.
-pub(crate) fn error_locations<K: Field, A: Allocator + Copy>(
+pub(crate) fn error_locations<K: Arithmetic, A: Allocator + Copy>(
     alloc: A,
     syndromes: &FieldVec<K, A>,
     base: K,

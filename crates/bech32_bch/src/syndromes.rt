@@ -4,13 +4,12 @@ ghost use Rattle.std.specs.Prelude.{◌≡◌, length, IfOk, IsOk};
 ghost use Rattle.bech32_bch.specs.Search.{AreSyndromes};
 ghost use Rattle.bech32_poly.specs.FieldVec.{FitsInPlace};
 
-use bech32_gf::field::ExtensionField;
-use bech32_poly::arithmetic::{Arithmetic, embedded_value, power_of};
+use bech32_poly::arithmetic::{Arithmetic, Extension, embedded_value};
 use bech32_poly::fieldvec::FieldVec;
 use std::alloc::{AllocError, Allocator};
 
 /// The values of the residue at `count` powers of the base, from the exponent `start` on.
-pub(crate) fn syndromes<E: ExtensionField, A: Allocator + Copy>(
+pub(crate) fn syndromes<E: Extension, A: Allocator + Copy>(
     alloc: A,
     residue: &[E::BaseField],
     base: E,
@@ -23,7 +22,7 @@ pub(crate) fn syndromes<E: ExtensionField, A: Allocator + Copy>(
     ensures in_place { FitsInPlace count → IsOk result }
 {
     let mut list = FieldVec::new(alloc);
-    let mut x = power_of(base, start);
+    let mut x = base.power(start);
     for _ in 0..count {
         list.push(embedded_value(residue, x))?;
         x = base.times(x);

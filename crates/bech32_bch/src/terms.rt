@@ -7,13 +7,12 @@ ghost use Rattle.bech32_bch.specs.Search.{IsKnockedOut, locators};
 ghost use Rattle.bech32_poly.specs.FieldVec.{FitsInPlace};
 ghost use Rattle.bech32_poly.specs.Polynomial.{coefficient};
 
-use bech32_gf::field::Field;
-use bech32_poly::arithmetic::{Arithmetic, power_of};
+use bech32_poly::arithmetic::Arithmetic;
 use bech32_poly::fieldvec::FieldVec;
 use std::alloc::{AllocError, Allocator};
 
 /// The locators of locations: the powers of the base by them.
-pub fn locators_of<K: Field, A: Allocator + Copy>(
+pub fn locators_of<K: Arithmetic, A: Allocator + Copy>(
     alloc: A,
     base: K,
     places: &[usize],
@@ -23,13 +22,13 @@ pub fn locators_of<K: Field, A: Allocator + Copy>(
 {
     let mut list = FieldVec::new(alloc);
     for place in places {
-        list.push(power_of(base, *place))?;
+        list.push(base.power(*place))?;
     }
     Ok(list)
 }
 
 /// The locators of the places other than one.
-pub(crate) fn other_locators<K: Field, A: Allocator + Copy>(
+pub(crate) fn other_locators<K: Arithmetic, A: Allocator + Copy>(
     alloc: A,
     base: K,
     places: &[usize],
@@ -50,7 +49,7 @@ pub(crate) fn other_locators<K: Field, A: Allocator + Copy>(
 }
 
 // Takes the term at the locator `y` out of the items. The last item says nothing any more.
-fn knock_out<K: Field, A: Allocator + Copy>(items: &mut FieldVec<K, A>, y: K)
+fn knock_out<K: Arithmetic, A: Allocator + Copy>(items: &mut FieldVec<K, A>, y: K)
     ensures size { length items.new ≡ length items.old }
     ensures knocked { (t : ℕ) → suc t < length items.old
         → coefficient K.ops items.new t ≡ knock K.ops y (coefficient K.ops items.old) t }
@@ -63,7 +62,7 @@ fn knock_out<K: Field, A: Allocator + Copy>(items: &mut FieldVec<K, A>, y: K)
 }
 
 // Takes the terms at all locators out.
-fn knock_all<K: Field, A: Allocator + Copy>(items: &mut FieldVec<K, A>, locators: &[K])
+fn knock_all<K: Arithmetic, A: Allocator + Copy>(items: &mut FieldVec<K, A>, locators: &[K])
     ensures { IsKnockedOut K.ops locators.now items.old items.new }
 {
     let mut i = locators.len();
@@ -74,7 +73,7 @@ fn knock_all<K: Field, A: Allocator + Copy>(items: &mut FieldVec<K, A>, locators
 }
 
 /// The syndromes without the terms at the locators.
-pub(crate) fn without_terms<K: Field, A: Allocator + Copy>(
+pub(crate) fn without_terms<K: Arithmetic, A: Allocator + Copy>(
     alloc: A,
     syndromes: &[K],
     locators: &[K],
@@ -88,7 +87,7 @@ pub(crate) fn without_terms<K: Field, A: Allocator + Copy>(
 }
 
 /// The product of the differences of a locator from the others.
-pub(crate) fn distances<K: Field>(here: K, others: &[K]) -> K
+pub(crate) fn distances<K: Arithmetic>(here: K, others: &[K]) -> K
     ensures { result ≡ gap K.ops here others.now }
 {
     let mut product = K::one();

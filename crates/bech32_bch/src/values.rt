@@ -12,13 +12,12 @@ ghost use Rattle.bech32_poly.specs.Polynomial.{coefficient};
 
 use crate::short_vec::ShortVec;
 use crate::terms::{distances, locators_of, other_locators, without_terms};
-use bech32_gf::field::{ExtensionField, Field};
-use bech32_poly::arithmetic::{Arithmetic, power_of};
+use bech32_poly::arithmetic::{Arithmetic, Extension};
 use bech32_poly::fieldvec::FieldVec;
 use std::alloc::{AllocError, Allocator};
 
 // The value that is left at a locator, where the terms at the others are taken out.
-fn value_of_left<E: ExtensionField>(
+fn value_of_left<E: Extension>(
     left: &[E],
     here: E,
     start: usize,
@@ -30,15 +29,15 @@ fn value_of_left<E: ExtensionField>(
         (E.ops.mul (power E.ops here start) (gap E.ops here others.now)) (E.embed v)
         → result ≡ Some v }
 {
-    let known = power_of(here, start).times(distances(here, others));
+    let known = here.power(start).times(distances(here, others));
     if known.is_zero() {
         return None;
     }
-    left[0].times(known.multiplicative_inverse()).to_base()
+    left[0].times(known.inverse()).lower()
 }
 
 // The value that the syndromes have at a locator, where all others are given.
-fn value_beside<E: ExtensionField, A: Allocator + Copy>(
+fn value_beside<E: Extension, A: Allocator + Copy>(
     alloc: A,
     syndromes: &FieldVec<E, A>,
     here: E,
@@ -58,7 +57,7 @@ fn value_beside<E: ExtensionField, A: Allocator + Copy>(
 }
 
 // The value at the k-th place, where all places at which something is wrong are given.
-fn value_of_place<E: ExtensionField, A: Allocator + Copy>(
+fn value_of_place<E: Extension, A: Allocator + Copy>(
     alloc: A,
     syndromes: &FieldVec<E, A>,
     base: E,
@@ -83,7 +82,7 @@ fn value_of_place<E: ExtensionField, A: Allocator + Copy>(
     value_beside(
         alloc,
         syndromes,
-        power_of(base, place),
+        base.power(place),
         start,
         others.as_slice(),
     )
@@ -91,7 +90,7 @@ fn value_of_place<E: ExtensionField, A: Allocator + Copy>(
 
 // Lists the places with their values; whether each has one, and none behind the first `given` is
 // zero.
-fn push_values<E: ExtensionField, A: Allocator + Copy>(
+fn push_values<E: Extension, A: Allocator + Copy>(
     syndromes: &FieldVec<E, A>,
     base: E,
     start: usize,
@@ -105,10 +104,10 @@ fn push_values<E: ExtensionField, A: Allocator + Copy>(
     requires empty { listing.old ≡ [] }
     ensures placed { IfOk result (λ done. IsTrue done → locations listing.new ≡ places.now) }
     ensures not_zero { IfOk result (λ done. IsTrue done
-        → AllByRecursion (λ p. p.1 ≢ E.BaseField.ops.zero) (drop given listing.new)) }
+        → AllByRecursion (λ p. p.1 ≢ E.base.zero) (drop given listing.new)) }
     ensures found { IfOk result (λ done. (v : ℕ → E.BaseField)
         → AreExplained E.ops E.embed base start syndromes.now places.now v
-        → ((i : ℕ) → IsAmong i (drop given places.now) → v i ≢ E.BaseField.ops.zero)
+        → ((i : ℕ) → IsAmong i (drop given places.now) → v i ≢ E.base.zero)
         → IsTrue done × (listing.new ≡ map (λ i. (i, v i)) places.now)) }
     ensures in_place { FitsInPlace (length syndromes.now) → IsOk result }
 {
@@ -117,7 +116,7 @@ fn push_values<E: ExtensionField, A: Allocator + Copy>(
         let Some(v) = value_of_place(alloc, syndromes, base, start, places, all, k)? else {
             return Ok(false);
         };
-        if k >= given && v.is_zero() {
+        if k >= given && E::is_base_zero(v) {
             return Ok(false);
         }
         listing.push((places[k], v))?;
@@ -127,7 +126,7 @@ fn push_values<E: ExtensionField, A: Allocator + Copy>(
 
 /// The places with their values; none if one has no value, or the value zero where it is not among
 /// the first `given`.
-pub(crate) fn values<E: ExtensionField, A: Allocator + Copy>(
+pub(crate) fn values<E: Extension, A: Allocator + Copy>(
     alloc: A,
     syndromes: &FieldVec<E, A>,
     base: E,
@@ -139,10 +138,10 @@ pub(crate) fn values<E: ExtensionField, A: Allocator + Copy>(
     ensures placed { IfOk result
         (λ answer. IfSome answer (λ listing. locations listing ≡ places.now)) }
     ensures not_zero { IfOk result (λ answer. IfSome answer (λ listing.
-        AllByRecursion (λ p. p.1 ≢ E.BaseField.ops.zero) (drop given listing))) }
+        AllByRecursion (λ p. p.1 ≢ E.base.zero) (drop given listing))) }
     ensures found { IfOk result (λ answer. (v : ℕ → E.BaseField)
         → AreExplained E.ops E.embed base start syndromes.now places.now v
-        → ((i : ℕ) → IsAmong i (drop given places.now) → v i ≢ E.BaseField.ops.zero)
+        → ((i : ℕ) → IsAmong i (drop given places.now) → v i ≢ E.base.zero)
         → MatchOption answer ⊥ (λ listing. listing ≡ map (λ i. (i, v i)) places.now)) }
     ensures in_place { FitsInPlace (length syndromes.now) → IsOk result }
 {

@@ -13,7 +13,7 @@ use crate::error::PrintError;
 use crate::series::{least_power, longest_series, period};
 use bech32_gf::field::{ExtensionField, Field};
 use bech32_gf::gf32::Fe32;
-use bech32_poly::arithmetic::{Arithmetic, Embedding, power_of};
+use bech32_poly::arithmetic::{Arithmetic, Extension};
 use std::alloc::{AllocError, Allocator};
 
 /// Where the roots of a generator are: the exponents of a base from `start` to `end`, and the order
@@ -112,7 +112,7 @@ impl<E: ExtensionField<BaseField = Fe32>> Roots<E> {
             None => return Err(PrintError::NotPowers),
         };
         Ok(Roots {
-            base: power_of(E::GENERATOR, series.step),
+            base: E::GENERATOR.power(series.step),
             start,
             end: start + (series.length - 1),
             code_length: period(order, series.step),

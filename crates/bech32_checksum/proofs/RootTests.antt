@@ -1,16 +1,10 @@
--- The value of a generator by Horner's rule, and the powers that a walk gives.
-use Rattle.std.proofs.Common.{◌≡◌, ◌≢◌, ◌↔◌, ◌⊎◌, ◌<◌, ◌≤◌, ◌+◌, ◌-◌, ℕ, zero, suc, List, [], ◌∷◌, ◌++◌, length, get_or, drop, map, refl, sym, ◌∙◌, ap, subst, arith}
+-- The value of a generator by Horner's rule, and what is asked of roots.
+use Rattle.std.proofs.Common.{◌≡◌, ◌≢◌, ◌↔◌, ◌⊎◌, ◌<◌, ◌≤◌, ◌+◌, ◌-◌, ℕ, zero, suc, List, [], ◌∷◌, length, get_or, drop, map, refl, sym, ◌∙◌, ap, subst, arith}
 use Rattle.std.proofs.Math.Decide.{dec_lt}
-use Rattle.std.specs.Iterator.{Yields, YieldsFirst}
 use Rattle.std.proofs.Math.Nat.{mod-eq_of_lt}
-use Rattle.std.proofs.Math.Seq.{get_or-append_seam}
-use Rattle.std.proofs.lemmas.List.{length-append}
-use Rattle.std.proofs.lemmas.List.FromFn.{length-map-range_with_len, get_or-map-range_with_len}
 use Rattle.bech32_gf.specs.Field.{Ops, IsField, power, value_at}
 use Rattle.bech32_gf.specs.laws.FieldLaws.{mul_zero}
 use Rattle.bech32_gf.specs.Fe32 as fe32
-use Rattle.bech32_gf.specs.Powers.{powers_of, left_of}
-use Rattle.bech32_gf.specs.declared.field.PowersRange.{PowersRange}
 use Rattle.bech32_gf.specs.declared.gf32.Fe32.{Fe32}
 use Rattle.bech32_poly.specs.Remainder.{monic}
 use Rattle.bech32_checksum.specs.Packed.{digit_of, digits}
@@ -52,73 +46,28 @@ coefficient_of_digit low degree word i v is below small value =
     ∙ get_or-tabulate degree (digit_of word) i fe32.zero below
     ∙ fe32.path _ _ (sym value ∙ sym (mod-eq_of_lt small))
 
--- ---- walks over powers
-
--- what a walk gave, and what is left after it, is what was left before it
-given_then_left : {S A : Type 0} (left : S → List A) (s : S) (xs : List A) (t : S) → Yields (YieldsFirst left) s xs t → left s ≡ xs ++ left t
-given_then_left left s [] t h = ap left h
-given_then_left left s (x ∷ xs) t h = h.1 ∙ ap (λ ys. x ∷ ys) (given_then_left left h.0 xs t h.2)
-
-module _ {F : Type 0} (o : Ops F) (x : F) where
-  -- an element that a walk over powers gives after others is the power behind theirs
-  power_behind : (start count : ℕ) (before : List F) (y : F) (after : List F)
-      → powers_of o x start count ≡ before ++ y ∷ after
-      → (length before < count) × (y ≡ power o x (start + length before))
-  power_behind start count before y after e =
-      let size : count ≡ length before + suc (length after) =
-      sym (length-map-range_with_len (power o x) start count) ∙ ap (λ ys. length ys) e ∙ length-append before (y ∷ after) in
-      let within : length before < count = omega arith in (
-        within,
-        sym (get_or-append_seam before y after y)
-            ∙ sym (ap (λ ys. get_or ys (length before) y) e)
-            ∙ get_or-map-range_with_len (power o x) start count (length before) (start + length before) y within refl,
-      )
-
--- the powers of the base are what a walk over them gave, and then what is left
-pub powers_walked : {F : Type 0} (o : Ops F) {x base : F} {first start last end : ℕ} (range walk at : PowersRange F) (given left : List F)
-    → x ≡ base → first ≡ start → last ≡ end
-    → left_of o range ≡ powers_of o x first (last - first + 1) → walk ≡ range
-    → Yields (YieldsFirst (left_of o)) walk given at → left_of o at ≡ left
-    → powers_of o base start (end - start + 1) ≡ given ++ left
-powers_walked {F} o {x} {base} {first} {start} {last} {end} range walk at given left p q r all same steps rest =
-    let constants : powers_of o x first (last - first + 1) ≡ powers_of o base start (end - start + 1) = λ k. powers_of o (p k) (q k) (r k - q k + 1) in
-    sym constants ∙ sym all ∙ ap (left_of o) (sym same) ∙ given_then_left (left_of o) walk given at steps ∙ ap (λ (ys : List F). given ++ ys) rest
+-- ---- powers one after another
 
 -- `value` is the value of a polynomial, of which the powers of the base between two exponents are to be roots
-module _ {F : Type 0} (o : Ops F) (value : F → F) (base : F) (start end : ℕ) where
-  -- each of them is one
-  abbrev pub AreRoots : Type 0
-  AreRoots = (e : ℕ) → start ≤ e → e ≤ end → value (power o base e) ≡ o.zero
+module _ {F : Type 0} (o : Ops F) (value : F → F) (base : F) (start : ℕ) where
+  -- those below an exponent are
+  abbrev pub AreRootsBelow : ℕ → Type 0
+  AreRootsBelow n = (e : ℕ) → start ≤ e → e < n → value (power o base e) ≡ o.zero
 
-  -- those that were given are
-  abbrev pub AreRootsSoFar : List F → Type 0
-  AreRootsSoFar given = (k : ℕ) → k < length given → value (power o base (start + k)) ≡ o.zero
+  -- one more
+  root_or_before : (n e : ℕ) → value (power o base n) ≡ o.zero → AreRootsBelow n → start ≤ e → e ≤ n → value (power o base e) ≡ o.zero
+  root_or_before n e root before low high = elim (dec_lt e n) [
+    | yes below ↦ before e low below
+    | no last ↦
+        let same : n ≡ e = omega arith in
+        subst (λ k. value (power o base k) ≡ o.zero) same root
+  ]
 
-  pub roots_more : (given : List F) (y : F) (left : List F) → powers_of o base start (end - start + 1) ≡ given ++ y ∷ left
-      → value y ≡ o.zero → AreRootsSoFar given → AreRootsSoFar (given ++ y ∷ [])
-  roots_more given y left e root before k h =
-      let size : length (given ++ y ∷ []) ≡ length given + 1 = length-append given (y ∷ []) in
-      elim (dec_lt k (length given)) [
-        | yes below ↦ before k below
-        | no last ↦
-            let same : length given ≡ k = omega arith in
-            subst (λ n. value (power o base (start + n)) ≡ o.zero) same
-            (subst (λ z. value z ≡ o.zero) (power_behind o base start (end - start + 1) given y left e).1 root)
-      ]
+  pub roots_more : (n : ℕ) → value (power o base n) ≡ o.zero → AreRootsBelow n → AreRootsBelow (n + 1)
+  roots_more n root before e low high = root_or_before n e root before low (omega arith)
 
-  pub root_missing : start ≤ end → (given : List F) (y : F) (left : List F) → powers_of o base start (end - start + 1) ≡ given ++ y ∷ left
-      → value y ≢ o.zero → AreRoots → ⊥
-  root_missing ordered given y left e not all =
-      let (within, is) = power_behind o base start (end - start + 1) given y left e in
-      let low : start ≤ start + length given = omega arith in
-      let high : start + length given ≤ end = omega arith in
-      not (subst (λ z. value z ≡ o.zero) (sym is) (all (start + length given) low high))
-
-  pub roots_all : (given : List F) → powers_of o base start (end - start + 1) ≡ given → AreRootsSoFar given → AreRoots
-  roots_all given e so_far n low high =
-      let size : length given ≡ end - start + 1 = ap (λ (ys : List F). length ys) (sym e) ∙ length-map-range_with_len (power o base) start (end - start + 1) in
-      let place : start + (n - start) ≡ n = omega arith in
-      subst (λ i. value (power o base i) ≡ o.zero) place (so_far (n - start) (omega arith))
+  pub roots_all : (n : ℕ) → value (power o base n) ≡ o.zero → AreRootsBelow n → (e : ℕ) → start ≤ e → e ≤ n → value (power o base e) ≡ o.zero
+  roots_all n root before e low high = root_or_before n e root before low high
 
 -- ---- all that is asked of roots
 

@@ -1,21 +1,44 @@
 //! Whether the roots of a checksum are lawful.
 
-ghost use Rattle.std.specs.Prelude.{◌≡◌, ◌≤◌, ◌↔◌, IsTrue};
+ghost use Rattle.std.specs.Prelude.{◌≡◌, ◌≤◌, ◌↔◌, IsTrue, refl};
+ghost use Rattle.bech32_gf.specs.Fe32 as fe32;
+ghost use Rattle.bech32_gf.specs.Field.{power};
+ghost use Rattle.bech32_poly.specs.Embedding.{Embeds};
 ghost use Rattle.bech32_checksum.specs.Roots.{generator_at, HasOrderFrom, PowersAreRoots};
 
 use crate::{Checksum, PackedFe32};
-use bech32_gf::field::{Field, MultiplicativeOrder};
+use bech32_gf::field::ExtensionField;
 use bech32_gf::gf32::Fe32;
+use bech32_poly::arithmetic::{Arithmetic, Extension};
+
+/// A field in which errors are located and their values found. Each [`ExtensionField`] of the field
+/// of 32 elements is one.
+pub trait RootField: Extension<BaseField = Fe32> {
+    // The base field's operations are those of `Fe32`.
+    ghost base_law: { Self.base ≡ fe32.ops };
+
+    ghost embeds_law: { Embeds fe32.ops Self.ops Self.embed };
+}
+
+impl<E: ExtensionField<BaseField = Fe32>> RootField for E {
+    ghost base_law = { refl };
+
+    ghost embeds_law = { record {
+      one = E.embed_one_law;
+      add = E.embed_add_law;
+      mul = E.embed_mul_law;
+    } };
+}
 
 // The value of the generator at an element, by Horner's rule.
 fn generator_value<Ck: Checksum>(x: Ck::CorrectionField) -> Ck::CorrectionField
     ensures { result ≡ generator_at Ck.CorrectionField.ops Ck.CorrectionField.embed Ck.code x }
 {
     let word = Ck::GENERATOR_SH[0];
-    let mut value = Ck::CorrectionField::ONE;
+    let mut value = Ck::CorrectionField::one();
     for place in (0..Ck::CHECKSUM_LENGTH).rev() {
         let coefficient = Fe32::from_low_bits(word.unpack(place));
-        value = Ck::CorrectionField::from(coefficient) + x * value;
+        value = Ck::CorrectionField::lift(coefficient).plus(x.times(value));
     }
     value
 }
@@ -25,7 +48,15 @@ pub(super) fn order_is_long_enough<Ck: Checksum>() -> bool
     ensures { IsTrue result ↔ HasOrderFrom Ck.CorrectionField.ops Ck.ROOT_GENERATOR Ck.CODE_LENGTH }
 {
     let base = Ck::ROOT_GENERATOR;
-    base != Ck::CorrectionField::ZERO && Ck::CODE_LENGTH <= base.multiplicative_order()
+    !base.is_zero() && Ck::CODE_LENGTH <= base.order()
+}
+
+// Whether the power of the base by an exponent is a root of the generator.
+fn is_root<Ck: Checksum>(exponent: usize) -> bool
+    ensures { IsTrue result ↔ (generator_at Ck.CorrectionField.ops Ck.CorrectionField.embed Ck.code
+        (power Ck.CorrectionField.ops Ck.ROOT_GENERATOR exponent) ≡ Ck.CorrectionField.ops.zero) }
+{
+    generator_value::<Ck>(Ck::ROOT_GENERATOR.power(exponent)).is_zero()
 }
 
 /// Whether each power of the base from the first exponent to the last is a root of the generator.
@@ -34,11 +65,10 @@ pub(super) fn powers_are_roots<Ck: Checksum>() -> bool
     ensures { IsTrue result ↔ PowersAreRoots Ck.CorrectionField.ops Ck.CorrectionField.embed
         Ck.code Ck.ROOT_GENERATOR Ck.ROOT_EXPONENTS_START Ck.ROOT_EXPONENTS_END }
 {
-    let base = Ck::ROOT_GENERATOR;
-    for x in base.powers_range(Ck::ROOT_EXPONENTS_START, Ck::ROOT_EXPONENTS_END) {
-        if generator_value::<Ck>(x) != Ck::CorrectionField::ZERO {
+    for exponent in Ck::ROOT_EXPONENTS_START..Ck::ROOT_EXPONENTS_END {
+        if !is_root::<Ck>(exponent) {
             return false;
         }
     }
-    true
+    is_root::<Ck>(Ck::ROOT_EXPONENTS_END)
 }

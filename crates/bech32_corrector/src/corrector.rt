@@ -145,13 +145,14 @@ impl<Ck: Checksum, A: Allocator + Copy> Corrector<Ck, A> {
     ///
     /// # Errors
     ///
-    /// If memory runs out. For a checksum of at most six characters nothing is allocated.
+    /// If memory runs out. Seven erasures need none, nor does a checksum of at most six characters.
     pub fn with(&self, given: &[usize]) -> Result<Option<Self>, AllocError>
         ensures value { IfOk result (λ found. MatchOption found
             (AreWithin self.now.window Ck.bound given.now → ⊥)
             (λ c. AreWithin self.now.window Ck.bound given.now
             × (c ≡ with_given self.now given.now))) }
         ensures in_place { length Ck.code.generator ≤ 6 → IsOk result }
+        ensures few { FitsInPlace (length (with_erasures [] given.now)) → IsOk result }
     {
         let (residue, window) = (self.residue, self.window);
         let (alloc, most) = (self.allocator(), bound::<Ck>());

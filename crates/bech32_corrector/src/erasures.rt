@@ -2,6 +2,7 @@
 
 ghost use Rattle.std.specs.Prelude.{◌≡◌, ◌↔◌, ◌<◌, ◌≤◌, [], length, IfOk, IsOk, IsTrue, MatchOption};
 ghost use Rattle.std.specs.List.{AllByRecursion};
+ghost use Rattle.bech32_poly.specs.FieldVec.{FitsInPlace};
 ghost use Rattle.bech32_bch.specs.Erasures.{AreErasures, with_erasures};
 ghost use Rattle.bech32_corrector.specs.Given.{AreWithin};
 
@@ -21,7 +22,7 @@ fn are_below(given: &[usize], window: usize) -> bool
 }
 
 // The given locations, each once, in the order in which they came first. None where there are more
-// than `most` of them. Up to six need no memory.
+// than `most` of them. Seven need no memory, nor where they may be six at most.
 fn distinct_in<A: Allocator + Copy>(
     alloc: A,
     given: &[usize],
@@ -31,6 +32,7 @@ fn distinct_in<A: Allocator + Copy>(
         (most < length (with_erasures [] given.now))
         (λ distinct. (distinct ≡ with_erasures [] given.now) × (length distinct ≤ most))) }
     ensures in_place { most ≤ 6 → IsOk result }
+    ensures few { FitsInPlace (length (with_erasures [] given.now)) → IsOk result }
 {
     let mut distinct = ShortVec::new(alloc);
     for location in given {
@@ -50,7 +52,7 @@ fn distinct_in<A: Allocator + Copy>(
 ///
 /// # Errors
 ///
-/// If memory runs out. Up to six need none.
+/// If memory runs out. Seven need none, nor where they may be six at most.
 pub(crate) fn distinct_below<A: Allocator + Copy>(
     alloc: A,
     given: &[usize],
@@ -62,6 +64,7 @@ pub(crate) fn distinct_below<A: Allocator + Copy>(
         (λ distinct. AreWithin window most given.now × AreErasures window distinct
         × (distinct ≡ with_erasures [] given.now))) }
     ensures in_place { most ≤ 6 → IsOk result }
+    ensures few { FitsInPlace (length (with_erasures [] given.now)) → IsOk result }
 {
     if !are_below(given, window) {
         return Ok(None);

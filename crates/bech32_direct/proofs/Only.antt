@@ -1,6 +1,6 @@
 -- The listing of a pattern that has the residue as remainder within the bound is the only one.
 use Rattle.std.specs.Prelude.{◌↔◌, ◌≢◌}
-use Rattle.std.proofs.Common.{◌≡◌, ◌+◌, ◌<◌, ◌≤◌, ℕ, List, [], ◌∷◌, ◌++◌, length, sym, subst, ◌∙◌, refl, arith}
+use Rattle.std.proofs.Common.{◌≡◌, ◌<◌, ◌≤◌, ℕ, List, [], ◌∷◌, ◌++◌, length, sym, subst, ◌∙◌, refl, arith}
 use Rattle.std.proofs.Math.Decide.{dec_lt}
 use Rattle.bech32_gf.specs.Field.{Ops, IsField}
 use Rattle.bech32_gf.specs.Fe32.{ops, zero}

@@ -1,5 +1,5 @@
 -- The polynomial that screens a residue.
-use Rattle.std.proofs.Common.{◌≡◌, ◌-◌, ℕ, zero, suc, List, [], ◌∷◌, length, sym, ap, ◌∙◌, refl, arith}
+use Rattle.std.proofs.Common.{◌≡◌, ℕ, zero, suc, List, [], ◌∷◌, length, sym, ap, ◌∙◌, refl, arith}
 use Rattle.bech32_gf.specs.Field.{Ops, IsField}
 use Rattle.bech32_gf.specs.laws.Ring.{ring}
 use Rattle.bech32_poly.specs.Division.{push, remainder_of, step, top}

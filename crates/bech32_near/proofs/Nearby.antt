@@ -26,7 +26,7 @@ use Rattle.bech32_bch.proofs.Patterns.{all_located, at_absent, at_listed, locati
 use Rattle.bech32_bch.proofs.Places.{all_push, look, mem_left, mem_right, once-append}
 use Rattle.bech32_bch.proofs.Rising.{once_in_order}
 use Rattle.bech32_decode.specs.Acceptance.{Accepts, IsAccepted}
-use Rattle.bech32_decode.specs.Parts.{unchecked_data, unchecked_part}
+use Rattle.bech32_decode.specs.Parts.{unchecked_data, unchecked_length, unchecked_part}
 use Rattle.bech32_decode.specs.Refusals.{IsInvalidBy}
 use Rattle.bech32_decode.specs.Text.{IsText}
 use Rattle.bech32_decode.specs.declared.unchecked.UncheckedHrpstring.{UncheckedHrpstring}
@@ -84,6 +84,10 @@ leaves-from_error code text u e residue size is v same = (
   subst (HasResidue code text (unchecked_part u) (unchecked_data u)) (sym same) (refused_for code text u e is v).read,
   λ none. absurd (omega (arith, some_degree code u e size v, none)),
 )
+
+-- a text that was read
+pub reading : (text : List ℕ) (u : UncheckedHrpstring) → IsText text (unchecked_part u) (unchecked_data u) × (unchecked_length u ≡ length text) → IsReadAs text u
+reading text u parts = record { grammar = parts.0; text_length = parts.1 }
 
 -- the corrector of what a text leaves searches it
 pub search-from_residue : (code : Code) (text : List ℕ) (u : UncheckedHrpstring) (residue : List Fe32) (window : ℕ) (c : Question) → c ≡ record { residue = residue; window = window; erasures = [] }

@@ -10,7 +10,6 @@ ghost use Rattle.bech32_poly.specs.Window.{shifted};
 
 use crate::arithmetic::Arithmetic;
 use crate::polynomial::divide;
-use bech32_gf::field::Field;
 use smallvec::SmallVec;
 use std::alloc::{AllocError, Allocator, Global};
 use std::marker::Model;
@@ -20,11 +19,11 @@ pub const NO_ALLOC_MAX_LENGTH: usize = 7;
 
 /// Elements of a field, the first [`NO_ALLOC_MAX_LENGTH`] in place.
 #[derive(Drop)]
-pub struct FieldVec<F: Field, A: Allocator + Copy = Global> {
+pub struct FieldVec<F: Copy, A: Allocator + Copy = Global> {
     inner: SmallVec<F, NO_ALLOC_MAX_LENGTH, A>,
 }
 
-impl<F: Field, A: Allocator + Copy> Model for FieldVec<F, A> {
+impl<F: Copy, A: Allocator + Copy> Model for FieldVec<F, A> {
     ghost Value = { List F };
 
     ghost view = { λ a. a.inner.items };
@@ -32,7 +31,7 @@ impl<F: Field, A: Allocator + Copy> Model for FieldVec<F, A> {
     ghost invariant = { λ a. 7 ≤ a.inner.capacity };
 }
 
-impl<F: Field, A: Allocator + Copy> FieldVec<F, A> {
+impl<F: Copy + Default, A: Allocator + Copy> FieldVec<F, A> {
     /// No elements.
     pub fn new(alloc: A) -> Self
         ensures { result ≡ [] }
@@ -103,6 +102,13 @@ impl<F: Field, A: Allocator + Copy> FieldVec<F, A> {
         self.inner.as_mut_slice()[index] = x;
     }
 
+    /// The allocator.
+    pub fn allocator(&self) -> A {
+        *self.inner.allocator()
+    }
+}
+
+impl<F: Arithmetic, A: Allocator + Copy> FieldVec<F, A> {
     /// Adds a multiple of `source`, shifted up.
     pub fn add_multiple(&mut self, factor: F, source: &[F], shift: usize)
         requires { shift + length source.now ≤ length self.old }
@@ -128,14 +134,9 @@ impl<F: Field, A: Allocator + Copy> FieldVec<F, A> {
     {
         divide(self.inner.as_mut_slice(), polynomial, low);
     }
-
-    /// The allocator.
-    pub fn allocator(&self) -> A {
-        *self.inner.allocator()
-    }
 }
 
-impl<F: Field, A: Allocator + Copy> Clone for FieldVec<F, A> {
+impl<F: Copy + Default, A: Allocator + Copy> Clone for FieldVec<F, A> {
     ghost is_clone = { λ v w. v ≡ w };
 
     ghost is_infallible = { λ v. FitsInPlace (length v) };
@@ -146,7 +147,7 @@ impl<F: Field, A: Allocator + Copy> Clone for FieldVec<F, A> {
 }
 
 // Adds a multiple of `source`, shifted up.
-pub(crate) fn add_multiple<F: Field>(target: &mut [F], factor: F, source: &[F], shift: usize)
+pub(crate) fn add_multiple<F: Arithmetic>(target: &mut [F], factor: F, source: &[F], shift: usize)
     requires { shift + length source.now ≤ length target.old }
     ensures { target.new
         ≡ add F.ops target.old (scale F.ops factor (shifted F.ops shift source.now)) }
@@ -157,7 +158,7 @@ pub(crate) fn add_multiple<F: Field>(target: &mut [F], factor: F, source: &[F], 
 }
 
 // Multiplies each element by that at the same place of `factors`.
-fn multiply_each<F: Field>(items: &mut [F], factors: &[F])
+fn multiply_each<F: Arithmetic>(items: &mut [F], factors: &[F])
     requires { length factors.now ≡ length items.old }
     ensures { items.new ≡ multiplied_each F.ops items.old factors.now }
 {

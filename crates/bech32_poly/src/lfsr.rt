@@ -8,21 +8,20 @@ ghost use Rattle.bech32_poly.specs.Window.{act, shifted, IsShortestWindow};
 
 use crate::arithmetic::Arithmetic;
 use crate::fieldvec::FieldVec;
-use bech32_gf::field::Field;
 use std::alloc::{AllocError, Allocator, Global};
 use std::marker::Model;
 
 /// A shortest register for a list of elements, as an iterator over the list's items and then
 /// those that the register goes on with, without an end.
 #[derive(Drop)]
-pub struct LfsrIter<F: Field, A: Allocator + Copy = Global> {
+pub struct LfsrIter<F: Copy, A: Allocator + Copy = Global> {
     coefficients: FieldVec<F, A>,
     // The next items, one for each coefficient: a ring, whose first one stands at `start`.
     ring: FieldVec<F, A>,
     start: usize,
 }
 
-impl<F: Field, A: Allocator + Copy> Model for LfsrIter<F, A> {
+impl<F: Copy, A: Allocator + Copy> Model for LfsrIter<F, A> {
     ghost Value = { Register F };
 
     ghost view = { λ a. record {
@@ -34,7 +33,7 @@ impl<F: Field, A: Allocator + Copy> Model for LfsrIter<F, A> {
         × (0 < length a.ring → a.start < length a.ring) };
 }
 
-impl<F: Field, A: Allocator + Copy> LfsrIter<F, A> {
+impl<F: Arithmetic, A: Allocator + Copy> LfsrIter<F, A> {
     /// A shortest register for the items, which are one at least. Its vectors take their memory
     /// from `alloc`; for six items none is needed.
     ///
@@ -82,7 +81,7 @@ impl<F: Field, A: Allocator + Copy> LfsrIter<F, A> {
     }
 }
 
-impl<F: Field> LfsrIter<F> {
+impl<F: Arithmetic> LfsrIter<F> {
     /// A shortest register for the items, which are one at least.
     ///
     /// # Errors
@@ -98,7 +97,7 @@ impl<F: Field> LfsrIter<F> {
     }
 }
 
-impl<F: Field, A: Allocator + Copy> Iterator for LfsrIter<F, A> {
+impl<F: Arithmetic, A: Allocator + Copy> Iterator for LfsrIter<F, A> {
     type Item = F;
 
     ghost next_gives = { GivesNext F.ops };
@@ -119,7 +118,7 @@ impl<F: Field, A: Allocator + Copy> Iterator for LfsrIter<F, A> {
     }
 }
 
-impl<F: Field, A: Allocator + Copy> Clone for LfsrIter<F, A> {
+impl<F: Copy + Default, A: Allocator + Copy> Clone for LfsrIter<F, A> {
     ghost is_clone = { λ v w. v ≡ w };
 
     ghost is_infallible = { λ v. FitsInPlace (length v.coefficients) };
@@ -141,7 +140,7 @@ impl<F: Field, A: Allocator + Copy> Clone for LfsrIter<F, A> {
 }
 
 // The sum of the first coefficient times the last item, the second times the one before it, ..
-fn weighted<F: Field>(coefficients: &[F], items: &[F]) -> F
+fn weighted<F: Arithmetic>(coefficients: &[F], items: &[F]) -> F
     requires { length coefficients.now ≡ length items.now }
     ensures { result
         ≡ back_sum F.ops coefficients.now (coefficient F.ops items.now) (length items.now) }
@@ -156,7 +155,7 @@ fn weighted<F: Field>(coefficients: &[F], items: &[F]) -> F
 }
 
 // The register's window that begins at `start`.
-fn window_sum<F: Field>(register: &[F], items: &[F], start: usize) -> F
+fn window_sum<F: Arithmetic>(register: &[F], items: &[F], start: usize) -> F
     requires { start + length register.now ≤ length items.now }
     ensures { result ≡ act F.ops register.now (coefficient F.ops items.now) start }
 {
@@ -170,7 +169,7 @@ fn window_sum<F: Field>(register: &[F], items: &[F], start: usize) -> F
 }
 
 // A copy with zeros put in below it.
-pub(crate) fn shifted_copy<F: Field, A: Allocator + Copy>(
+pub(crate) fn shifted_copy<F: Arithmetic, A: Allocator + Copy>(
     alloc: A,
     source: &[F],
     shift: usize,
@@ -189,7 +188,7 @@ pub(crate) fn shifted_copy<F: Field, A: Allocator + Copy>(
 }
 
 // A copy from its last element to its first.
-pub(crate) fn turned_copy<F: Field, A: Allocator + Copy>(
+pub(crate) fn turned_copy<F: Copy + Default, A: Allocator + Copy>(
     alloc: A,
     source: &[F],
 ) -> Result<FieldVec<F, A>, AllocError>
@@ -206,7 +205,7 @@ pub(crate) fn turned_copy<F: Field, A: Allocator + Copy>(
 }
 
 // The coefficients of a shortest register for the items.
-fn shortest_coefficients<F: Field, A: Allocator + Copy>(
+fn shortest_coefficients<F: Arithmetic, A: Allocator + Copy>(
     alloc: A,
     items: &[F],
 ) -> Result<FieldVec<F, A>, AllocError>
@@ -218,7 +217,7 @@ fn shortest_coefficients<F: Field, A: Allocator + Copy>(
 }
 
 // The register of one place.
-fn one<F: Field, A: Allocator + Copy>(alloc: A) -> Result<FieldVec<F, A>, AllocError>
+fn one<F: Arithmetic, A: Allocator + Copy>(alloc: A) -> Result<FieldVec<F, A>, AllocError>
     ensures items { IfOk result (λ v. v ≡ F.ops.one ∷ []) }
     ensures in_place { IsOk result }
 {
@@ -233,7 +232,7 @@ fn one<F: Field, A: Allocator + Copy>(alloc: A) -> Result<FieldVec<F, A>, AllocE
 /// # Errors
 ///
 /// If memory runs out.
-pub fn shortest_register<F: Field, A: Allocator + Copy>(
+pub fn shortest_register<F: Arithmetic, A: Allocator + Copy>(
     alloc: A,
     items: &[F],
 ) -> Result<FieldVec<F, A>, AllocError>
@@ -251,7 +250,7 @@ pub fn shortest_register<F: Field, A: Allocator + Copy>(
         if miss.is_zero() {
             right += 1;
         } else {
-            let factor = miss.times(old_miss.multiplicative_inverse()).negated();
+            let factor = miss.times(old_miss.inverse()).negated();
             if right < length {
                 register.add_multiple(factor, old.as_slice(), length - 1 - right);
                 right += 1;

@@ -6,7 +6,7 @@ ghost use Rattle.bech32_bch.specs.Search.{locators};
 ghost use Rattle.bech32_poly.specs.FieldVec.{FitsInPlace};
 
 use bech32_bch::{ShortVec, contains, locators_of};
-use bech32_gf::field::Field;
+use bech32_poly::arithmetic::Arithmetic;
 use bech32_poly::fieldvec::FieldVec;
 use std::alloc::{AllocError, Allocator};
 
@@ -31,7 +31,7 @@ fn add_erasure<A: Allocator + Copy>(
 /// # Errors
 ///
 /// If memory runs out; some of them may then be there. Seven erasures need none.
-pub fn extended<K: Field, A: Allocator + Copy>(
+pub fn extended<K: Arithmetic, A: Allocator + Copy>(
     erasures: &mut ShortVec<usize, A>,
     base: K,
     more: &[usize],

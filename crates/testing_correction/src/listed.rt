@@ -3,6 +3,7 @@
 ghost use Rattle.std.specs.Prelude.{◌<◌, IsTrue};
 ghost use Rattle.std.specs.List.{AllByRecursion};
 
+use bech32_bch::ShortVec;
 use bech32_checksum::Checksum;
 use bech32_corrector::{CorrectableError, Corrector, ErrorIterator};
 use bech32_decode::CheckedHrpstring;
@@ -77,7 +78,44 @@ fn lists<Ck: Checksum>(corrector: &Corrector<Ck>, want: Option<Listing>) -> bool
     }
 }
 
-/// Whether just this is listed with these erasures, or nothing is; not where there is no corrector.
+// The same of another corrector with these erasures; there is none where they are too many.
+fn with_lists<Ck: Checksum>(
+    corrector: &Corrector<Ck>,
+    erasures: &[usize],
+    want: Option<Listing>,
+) -> bool {
+    match corrector.with(erasures) {
+        Ok(Some(erased)) => lists(&erased, want),
+        Ok(None) => want.is_none(),
+        Err(_) => false,
+    }
+}
+
+// Whether the vector holds just this, or there is none.
+fn is_listing(found: Option<ShortVec<(usize, Fe32)>>, want: Option<Listing>) -> bool {
+    let Some(listing) = found else {
+        return want.is_none();
+    };
+    match want {
+        Some(want) => listing.as_slice() == want,
+        None => false,
+    }
+}
+
+// Whether just this is listed with these erasures in place of its own, or nothing is.
+fn lists_with<Ck: Checksum>(
+    corrector: &Corrector<Ck>,
+    erasures: &[usize],
+    want: Option<Listing>,
+) -> bool {
+    match corrector.listing_with(erasures) {
+        Ok(found) => is_listing(found, want),
+        Err(_) => false,
+    }
+}
+
+/// Whether just this is listed with these erasures, or nothing is, in each of the three ways to give
+/// them; not where there is no corrector.
 pub fn is_listed_by<Ck: Checksum>(
     found: Option<Corrector<Ck>>,
     erasures: &[usize],
@@ -86,7 +124,10 @@ pub fn is_listed_by<Ck: Checksum>(
     let Some(mut corrector) = found else {
         return false;
     };
-    is_given(&mut corrector, erasures) && lists(&corrector, want)
+    with_lists(&corrector, erasures, want)
+        && lists_with(&corrector, erasures, want)
+        && is_given(&mut corrector, erasures)
+        && lists(&corrector, want)
 }
 
 /// The corrector of an error's residue; the window is the code length where none is given.

@@ -93,6 +93,19 @@ fn clone_lists(
     lists(&corrector.clone()?, want)
 }
 
+// Whether the corrector with these erasures lists just this, or nothing; there is none where they are
+// too many.
+fn with_lists<Ck: Checksum>(
+    corrector: &Corrector<Ck, &LocalHeap>,
+    erasures: &[usize],
+    want: Option<Listing>,
+) -> Result<bool, AllocError> {
+    match corrector.with(erasures)? {
+        Some(erased) => lists(&erased, want),
+        None => Ok(want.is_none()),
+    }
+}
+
 // Addresses with two and three wrong characters.
 const ADDRESS: &str = "bc1qar0srrr7xfkvy5l64qlydnw9re59gtzzwf5mdx";
 
@@ -111,8 +124,9 @@ fn is_listed(
     if !are_within(erasures, &corrector) {
         return Ok(false);
     }
+    let is_first = with_lists(&corrector, erasures, want)?;
     corrector.add_erasures(erasures)?;
-    clone_lists(&corrector, want)
+    Ok(is_first && clone_lists(&corrector, want)?)
 }
 
 #[test]

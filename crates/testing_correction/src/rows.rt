@@ -204,3 +204,37 @@ fn bounds(rt: HostRuntime) -> Result<(), Fail> {
     same_items(&rt, &bounds, &[Some((3, 1023)), Some((8, 93))]);
     Ok(())
 }
+
+// Whether there is no corrector with this erasure, and nothing is listed with it.
+fn is_past_the_window<Ck: Checksum>(corrector: &Corrector<Ck>, erasure: usize) -> bool {
+    let given = [erasure];
+    match (corrector.with(&given), corrector.listing_with(&given)) {
+        (Ok(erased), Ok(listing)) => erased.is_none() && listing.is_none(),
+        _ => false,
+    }
+}
+
+// The same of the corrector of a text.
+fn is_past_the_window_of<Ck: Checksum>(found: Option<Corrector<Ck>>, erasure: usize) -> bool {
+    match found {
+        Some(corrector) => is_past_the_window(&corrector, erasure),
+        None => false,
+    }
+}
+
+#[test]
+fn erasures_past_the_window(rt: HostRuntime) {
+    let rows: [(Option<usize>, usize, bool); 6] = [
+        (Some(4), 3, false),
+        (Some(4), 4, true),
+        (Some(4), usize::MAX, true),
+        (Some(0), 0, true),
+        (None, 1022, false),
+        (None, 1023, true),
+    ];
+    let past = rows.map(|(window, erasure, want)| {
+        let found = corrector_for::<Bech32>(rt.alloc(), "a12uel5q", window);
+        is_past_the_window_of(found, erasure) == want
+    });
+    same_items(&rt, &past, &[true; 6]);
+}

@@ -5,27 +5,26 @@ ghost use Rattle.bech32_poly.specs.FieldVec.{FitsInPlace};
 ghost use Rattle.bech32_poly.specs.Polynomial.{BeginsAs, IsSamePolynomial, coefficient, multiply};
 ghost use Rattle.bech32_poly.specs.Remainder.{IsRemainder};
 
-use crate::arithmetic::{Arithmetic, Embedding};
+use crate::arithmetic::{Arithmetic, Extension};
 use crate::fieldvec::FieldVec;
 use crate::lfsr::{shifted_copy, turned_copy};
-use bech32_gf::field::{ExtensionField, Field};
 use std::alloc::{AllocError, Allocator, Global};
 use std::marker::Model;
 
 /// A polynomial over a field: a list of coefficients, the constant one first. Zeros at the high
 /// end do not matter. Up to seven coefficients need no memory.
 #[derive(Drop)]
-pub struct Polynomial<F: Field, A: Allocator + Copy = Global> {
+pub struct Polynomial<F: Copy, A: Allocator + Copy = Global> {
     list: FieldVec<F, A>,
 }
 
-impl<F: Field, A: Allocator + Copy> Model for Polynomial<F, A> {
+impl<F: Copy, A: Allocator + Copy> Model for Polynomial<F, A> {
     ghost Value = { List F };
 
     ghost view = { λ a. a.list };
 }
 
-impl<F: Field, A: Allocator + Copy> Polynomial<F, A> {
+impl<F: Arithmetic, A: Allocator + Copy> Polynomial<F, A> {
     /// The polynomial with these coefficients, the constant one first. The coefficients of a
     /// remainder, in that order, make its polynomial too.
     ///
@@ -129,7 +128,9 @@ impl<F: Field, A: Allocator + Copy> Polynomial<F, A> {
         list.divide(self.list.as_slice(), low);
         Ok(Polynomial { list })
     }
+}
 
+impl<F: Copy + Default, A: Allocator + Copy> Polynomial<F, A> {
     // The coefficients as they were given.
     pub(crate) fn as_slice(&self) -> &[F]
         ensures { result.now ≡ self.now }
@@ -143,7 +144,7 @@ impl<F: Field, A: Allocator + Copy> Polynomial<F, A> {
     }
 }
 
-impl<F: Field, A: Allocator + Copy> Clone for Polynomial<F, A> {
+impl<F: Copy + Default, A: Allocator + Copy> Clone for Polynomial<F, A> {
     ghost is_clone = { λ p q. p ≡ q };
 
     ghost is_infallible = { λ p. FitsInPlace (length p) };
@@ -156,7 +157,7 @@ impl<F: Field, A: Allocator + Copy> Clone for Polynomial<F, A> {
 }
 
 /// The value of a polynomial at an element of an extension of its field.
-pub fn evaluate<E: ExtensionField, A: Allocator + Copy>(
+pub fn evaluate<E: Extension, A: Allocator + Copy>(
     polynomial: &Polynomial<E::BaseField, A>,
     x: E,
 ) -> E
@@ -166,7 +167,7 @@ pub fn evaluate<E: ExtensionField, A: Allocator + Copy>(
 }
 
 // How many coefficients there are without the zeros at the high end.
-fn trimmed_length<F: Field>(p: &[F]) -> usize
+fn trimmed_length<F: Arithmetic>(p: &[F]) -> usize
     ensures within { result ≤ length p.now }
     ensures above { (n : ℕ) → result ≤ n → coefficient F.ops p.now n ≡ F.ops.zero }
     ensures leads { 0 < result → coefficient F.ops p.now (result - 1) ≢ F.ops.zero }
@@ -179,14 +180,14 @@ fn trimmed_length<F: Field>(p: &[F]) -> usize
 }
 
 // The coefficient at a place, which is zero behind the list.
-fn coefficient_of<F: Field>(p: &[F], n: usize) -> F
+fn coefficient_of<F: Arithmetic>(p: &[F], n: usize) -> F
     ensures { result ≡ coefficient F.ops p.now n }
 {
     if n < p.len() { p[n] } else { F::zero() }
 }
 
 /// The value of a polynomial at `x`, by the coefficients from the highest one down.
-pub fn embedded_value<E: ExtensionField>(p: &[E::BaseField], x: E) -> E
+pub fn embedded_value<E: Extension>(p: &[E::BaseField], x: E) -> E
     ensures { result ≡ value_at E.ops x (map E.embed p.now) }
 {
     let mut sum = E::zero();
@@ -199,7 +200,7 @@ pub fn embedded_value<E: ExtensionField>(p: &[E::BaseField], x: E) -> E
 }
 
 // The coefficient of a product at a place.
-fn product_coefficient<F: Field>(p: &[F], q: &[F], n: usize) -> F
+fn product_coefficient<F: Arithmetic>(p: &[F], q: &[F], n: usize) -> F
     ensures { result ≡ coefficient F.ops (multiply F.ops p.now q.now) n }
 {
     let mut sum = F::zero();
@@ -212,7 +213,7 @@ fn product_coefficient<F: Field>(p: &[F], q: &[F], n: usize) -> F
 }
 
 // Goes on with a product, of which the first coefficients stand in the list, by so many more.
-fn push_products<F: Field, A: Allocator + Copy>(
+fn push_products<F: Arithmetic, A: Allocator + Copy>(
     list: &mut FieldVec<F, A>,
     p: &[F],
     q: &[F],

@@ -4,7 +4,6 @@ ghost use Rattle.bech32_poly.specs.Remainder.{IsRemainder};
 
 use crate::arithmetic::Arithmetic;
 use crate::fieldvec::add_multiple;
-use bech32_gf::field::Field;
 use std::alloc::{AllocError, Allocator};
 
 /// The remainder of a polynomial by the monic one whose lower coefficients are `low`, both with
@@ -15,7 +14,7 @@ use std::alloc::{AllocError, Allocator};
 /// # Errors
 ///
 /// If memory runs out.
-pub fn remainder<F: Field, A: Allocator>(
+pub fn remainder<F: Arithmetic, A: Allocator>(
     alloc: A,
     polynomial: &[F],
     low: &[F],
@@ -29,7 +28,7 @@ pub fn remainder<F: Field, A: Allocator>(
 }
 
 // Long division, from the highest coefficient down, with the remainder in the place of zeros.
-pub(crate) fn divide<F: Field>(rest: &mut [F], polynomial: &[F], low: &[F])
+pub(crate) fn divide<F: Arithmetic>(rest: &mut [F], polynomial: &[F], low: &[F])
     requires { rest.old ≡ zeros F.ops (length low.now) }
     ensures { IsRemainder F.ops low.now polynomial.now rest.new }
 {
@@ -41,7 +40,7 @@ pub(crate) fn divide<F: Field>(rest: &mut [F], polynomial: &[F], low: &[F])
 }
 
 // Takes in the next coefficient below a remainder; what this has at the degree then is taken off.
-fn take_in<F: Field>(rest: &mut [F], next: F, low: &[F])
+fn take_in<F: Arithmetic>(rest: &mut [F], next: F, low: &[F])
     requires { length low.now ≡ length rest.old }
     ensures { rest.new ≡ step F.ops low.now rest.old next }
 {
@@ -50,7 +49,7 @@ fn take_in<F: Field>(rest: &mut [F], next: F, low: &[F])
 }
 
 // Puts an element in at the first place; each moves up by one, and the last one comes out.
-fn push_below<F: Field>(rest: &mut [F], next: F) -> F
+fn push_below<F: Arithmetic>(rest: &mut [F], next: F) -> F
     ensures rest { rest.new ≡ push next rest.old }
     ensures out { result ≡ top next rest.old }
 {

@@ -6,26 +6,25 @@ ghost use Rattle.bech32_poly.specs.FieldVec.{FitsInPlace};
 ghost use Rattle.bech32_poly.specs.RootSearch.{RootSearch, left_of, multiplied_each, root_exponents, total_of, value_after};
 
 use super::coefficients::Polynomial;
-use crate::arithmetic::{Arithmetic, Embedding};
+use crate::arithmetic::{Arithmetic, Extension};
 use crate::fieldvec::FieldVec;
-use bech32_gf::field::{ExtensionField, Field};
 use std::alloc::{AllocError, Allocator, Global};
 use std::marker::Model;
 
 /// The exponents whose power of a base is a root of a polynomial, in rising order. From one
 /// exponent to the next each term is multiplied once, by the power of the base that stands in it.
 #[derive(Drop)]
-pub struct RootIter<E: Field, A: Allocator + Copy = Global> {
+pub struct RootIter<E: Arithmetic, A: Allocator + Copy = Global> {
     search: Search<E, A>,
 }
 
-impl<E: Field, A: Allocator + Copy> Model for RootIter<E, A> {
+impl<E: Arithmetic, A: Allocator + Copy> Model for RootIter<E, A> {
     ghost Value = { List ℕ };
 
     ghost view = { λ a. left_of E.ops E.eq a.search };
 }
 
-impl<E: ExtensionField, A: Allocator + Copy> RootIter<E, A> {
+impl<E: Extension, A: Allocator + Copy> RootIter<E, A> {
     /// The exponents from `start` to below `end` whose power of the base is a root of the
     /// polynomial, in rising order. Its vectors take their memory from where the polynomial's does;
     /// for seven coefficients none is needed.
@@ -50,7 +49,7 @@ impl<E: ExtensionField, A: Allocator + Copy> RootIter<E, A> {
     }
 }
 
-impl<E: Field, A: Allocator + Copy> Iterator for RootIter<E, A> {
+impl<E: Arithmetic, A: Allocator + Copy> Iterator for RootIter<E, A> {
     type Item = usize;
 
     ghost next_gives = { YieldsFirst (λ left. left) };
@@ -65,14 +64,14 @@ impl<E: Field, A: Allocator + Copy> Iterator for RootIter<E, A> {
 // The terms of a polynomial at the power of the base that comes next, with the power of the base
 // in each, and how far the exponents go.
 #[derive(Drop)]
-struct Search<E: Field, A: Allocator + Copy> {
+struct Search<E: Copy, A: Allocator + Copy> {
     terms: FieldVec<E, A>,
     factors: FieldVec<E, A>,
     next: usize,
     end: usize,
 }
 
-impl<E: Field, A: Allocator + Copy> Model for Search<E, A> {
+impl<E: Copy, A: Allocator + Copy> Model for Search<E, A> {
     ghost Value = { RootSearch E };
 
     ghost view = { λ a. record {
@@ -85,7 +84,7 @@ impl<E: Field, A: Allocator + Copy> Model for Search<E, A> {
     ghost invariant = { λ a. length a.factors ≡ length a.terms };
 }
 
-impl<E: ExtensionField, A: Allocator + Copy> Search<E, A> {
+impl<E: Extension, A: Allocator + Copy> Search<E, A> {
     // A search that stands at `start`.
     fn new(
         polynomial: &Polynomial<E::BaseField, A>,
@@ -98,7 +97,7 @@ impl<E: ExtensionField, A: Allocator + Copy> Search<E, A> {
             ≡ root_exponents E.ops E.eq (map E.embed polynomial.now) base start end) }
         ensures in_place { FitsInPlace (length polynomial.now) → IsOk result }
     {
-        let first = power_of(base, start);
+        let first = base.power(start);
         let mut terms = FieldVec::new(polynomial.allocator());
         let mut factors = FieldVec::new(polynomial.allocator());
         let mut power = E::one();
@@ -118,7 +117,7 @@ impl<E: ExtensionField, A: Allocator + Copy> Search<E, A> {
     }
 }
 
-impl<E: Field, A: Allocator + Copy> Search<E, A> {
+impl<E: Arithmetic, A: Allocator + Copy> Search<E, A> {
     // The exponent of the next root, where one is left.
     fn next_root(&mut self) -> Option<usize>
         ensures { YieldsFirst (left_of E.ops E.eq) self.old result self.new }
@@ -153,21 +152,10 @@ impl<E: Field, A: Allocator + Copy> Search<E, A> {
         ensures next { self.new.next ≡ self.old.next + 1 }
         ensures end { self.new.end ≡ self.old.end }
     {
-        let is_root = total(self.terms.as_slice()) == E::zero();
+        let is_root = total(self.terms.as_slice()).equals(E::zero());
         self.terms.multiply_each(self.factors.as_slice());
         self.next += 1;
         is_root
-    }
-}
-
-/// The power by a number, by squares.
-pub fn power_of<F: Field>(base: F, n: usize) -> F
-    ensures { result ≡ power F.ops base n }
-{
-    let mut powers = base.powers();
-    match powers.nth(n) {
-        Some(power) => power,
-        None => unreachable!(),
     }
 }
 
@@ -176,7 +164,7 @@ pub fn power_of<F: Field>(base: F, n: usize) -> F
 /// # Errors
 ///
 /// If memory runs out.
-pub fn first_powers<F: Field, A: Allocator + Copy>(
+pub fn first_powers<F: Arithmetic, A: Allocator + Copy>(
     alloc: A,
     base: F,
     count: usize,
@@ -194,7 +182,7 @@ pub fn first_powers<F: Field, A: Allocator + Copy>(
 }
 
 /// The sum of the elements.
-pub fn total<F: Field>(items: &[F]) -> F
+pub fn total<F: Arithmetic>(items: &[F]) -> F
     ensures { result ≡ total_of F.ops items.now }
 {
     let mut sum = F::zero();

@@ -26,7 +26,7 @@ returns-in_err-found-clause-in_place g c = λ few. refused (c.in_err-found.ensur
 
 pub returns-in_default-clause-found : goal.returns-in_default-clause-found
 returns-in_default-clause-found g c = λ e pattern sums.
-    rw c.in_default.is at (c.in_ok-found.ensures.found c.args.roots.start (inside g.E.ExtensionField.embed e) sums)
+    rw c.in_default.is at (c.in_ok-found.ensures.found c.args.roots.start (inside g.E.Extension.embed e) sums)
 
 pub returns-clause-listed : goal.returns-clause-listed
 returns-clause-listed g c =
@@ -35,12 +35,12 @@ returns-clause-listed g c =
 
 pub returns-clause-found : goal.returns-clause-found
 returns-clause-found g c =
-    let f = g.E.BaseField.Field.ops in
-    let fl = g.met.E.BaseField.Field.laws in
-    let l = g.met.E.Field.laws in
-    let o = g.E.Field.ops in
-    let embed = g.E.ExtensionField.embed in
-    let into : Embeds f o embed = record { one = g.met.E.ExtensionField.embed_one_law; add = g.met.E.ExtensionField.embed_add_law; mul = g.met.E.ExtensionField.embed_mul_law } in
+    let f = g.E.Extension.base in
+    let fl = g.met.E.Extension.base_laws in
+    let l = g.met.E.Arithmetic.laws in
+    let o = g.E.Arithmetic.ops in
+    let embed = g.E.Extension.embed in
+    let into : Embeds f o embed = record { one = g.met.E.Extension.embed_one_law; add = g.met.E.Extension.embed_add_law; mul = g.met.E.Extension.embed_mul_law } in
     let s = c.args.erasures.now in
     let b = c.args.roots.base in
     let start = c.args.roots.start in

@@ -17,9 +17,9 @@ overflow_sub-degree g c = omega (arith, c.len-degree.ensures, c.in_ok-register.e
 
 pub returns-then-room-degree-clause-found : goal.returns-then-room-degree-clause-found
 returns-then-room-degree-clause-found g c = λ start e h.
-    let l = g.met.K.Field.laws in
-    let eq = g.K.PartialEq.eq in
-    let tells = g.met.K.Field.eq_law in
+    let l = g.met.K.Arithmetic.laws in
+    let eq = g.K.Arithmetic.eq in
+    let tells = g.met.K.Arithmetic.eq_law in
     let s = c.args.erasures.now in
     let items = c.args.syndromes.now in
     let made = c.in_ok-register.ensures.register in
@@ -33,9 +33,9 @@ returns-then-room-degree-clause-found g c = λ start e h.
 
 pub returns-clause-found : goal.returns-clause-found
 returns-clause-found g c =
-    let l = g.met.K.Field.laws in
-    let eq = g.K.PartialEq.eq in
-    let tells = g.met.K.Field.eq_law in
+    let l = g.met.K.Arithmetic.laws in
+    let eq = g.K.Arithmetic.eq in
+    let tells = g.met.K.Arithmetic.eq_law in
     let s = c.args.erasures.now in
     let items = c.args.syndromes.now in
     let made = c.in_ok-register.ensures.register in
@@ -46,13 +46,13 @@ returns-clause-found g c =
     c.requires.order c.requires.erased c.requires.known c.requires.room c.as_slice.ensures c.as_slice-2.ensures made.1.0 refl c.len.ensures (ap (λ k. c.len.result - k) c.len-2.ensures)
     made.1.1 refl c.len-degree.ensures refl in
     map_ok c.locations_of.result _ _ (λ answer found start e h.
-    located_or_none l eq tells c.args.base c.args.window s items made.0 r room degree steps start e h answer (found (take degree (roots_below g.K.Field.ops eq r c.args.base c.args.window)) refl)) c.locations_of.ensures.located
+    located_or_none l eq tells c.args.base c.args.window s items made.0 r room degree steps start e h answer (found (take degree (roots_below g.K.Arithmetic.ops eq r c.args.base c.args.window)) refl)) c.locations_of.ensures.located
 
 pub returns-clause-listed : goal.returns-clause-listed
 returns-clause-listed g c =
-    let l = g.met.K.Field.laws in
-    let eq = g.K.PartialEq.eq in
-    let tells = g.met.K.Field.eq_law in
+    let l = g.met.K.Arithmetic.laws in
+    let eq = g.K.Arithmetic.eq in
+    let tells = g.met.K.Arithmetic.eq_law in
     let s = c.args.erasures.now in
     let items = c.args.syndromes.now in
     let made = c.in_ok-register.ensures.register in
@@ -63,7 +63,7 @@ returns-clause-listed g c =
     c.requires.order c.requires.erased c.requires.known c.requires.room c.as_slice.ensures c.as_slice-2.ensures made.1.0 refl c.len.ensures (ap (λ k. c.len.result - k) c.len-2.ensures)
     made.1.1 refl c.len-degree.ensures refl in
     map_ok c.locations_of.result _ _ (λ answer found.
-    may_be_located l eq tells c.args.base c.args.window s items made.0 r room degree steps (omega (arith, c.if-room-degree.false)) answer (found (take degree (roots_below g.K.Field.ops eq r c.args.base c.args.window)) refl)) c.locations_of.ensures.located
+    may_be_located l eq tells c.args.base c.args.window s items made.0 r room degree steps (omega (arith, c.if-room-degree.false)) answer (found (take degree (roots_below g.K.Arithmetic.ops eq r c.args.base c.args.window)) refl)) c.locations_of.ensures.located
 
 pub returns-in_err-register-clause-in_place : goal.returns-in_err-register-clause-in_place
 returns-in_err-register-clause-in_place g c = λ few. refused (c.in_err-register.ensures.in_place (omega (arith, few, ap (λ u. length u) c.as_slice.ensures)))

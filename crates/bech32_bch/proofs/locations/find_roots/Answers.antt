@@ -9,8 +9,8 @@ on_ok (Err e) P Q f h = h
 
 pub push_roots-requires : goal.push_roots-requires
 push_roots-requires g c =
-    let o = g.K.Field.ops in
-    let l = g.met.K.Field.laws in
+    let o = g.K.Arithmetic.ops in
+    let l = g.met.K.Arithmetic.laws in
     let register = c.args.register.now in
     let terms_are : c.in_ok-terms.terms ≡ register = c.in_ok-terms.ensures.ok ∙ c.as_slice.ensures in
     let factors_are : c.as_slice-2.result.now ≡ powers_of o c.args.base 0 (length register) = c.as_slice-2.ensures ∙ c.in_ok-powers.ensures.powers ∙ ap (powers_of o c.args.base 0) c.len.ensures in
@@ -19,9 +19,9 @@ push_roots-requires g c =
 
 pub returns-clause-roots : goal.returns-clause-roots
 returns-clause-roots g c =
-    let o = g.K.Field.ops in
-    let l = g.met.K.Field.laws in
+    let o = g.K.Arithmetic.ops in
+    let l = g.met.K.Arithmetic.laws in
     let register = c.args.register.now in
     let terms_are : c.in_ok-terms.terms ≡ register = c.in_ok-terms.ensures.ok ∙ c.as_slice.ensures in
     let factors_are : c.as_slice-2.result.now ≡ powers_of o c.args.base 0 (length register) = c.as_slice-2.ensures ∙ c.in_ok-powers.ensures.powers ∙ ap (powers_of o c.args.base 0) c.len.ensures in
-    on_ok c.push_roots.result _ _ (λ e. e ∙ ap (take c.args.degree) (search_below l g.K.PartialEq.eq register c.in_ok-terms.terms c.as_slice-2.result.now c.args.base c.args.window terms_are factors_are)) c.push_roots.ensures.roots
+    on_ok c.push_roots.result _ _ (λ e. e ∙ ap (take c.args.degree) (search_below l g.K.Arithmetic.eq register c.in_ok-terms.terms c.as_slice-2.result.now c.args.base c.args.window terms_are factors_are)) c.push_roots.ensures.roots

@@ -3,14 +3,14 @@ use Rattle.std.proofs.lemmas.List.{length-append}
 use Rattle.bech32_poly.specs.RootSearch.{left_of, total_of}
 use Rattle.bech32_poly.proofs.RootTerms.{length-multiplied_each}
 use Rattle.bech32_bch.proofs.Searched.{root_met, root_passed, searching, stopped}
-use Rattle.bech32_bch.proofs.locations.push_roots.Goals.{then-eq+in_ok-push, else-eq}
+use Rattle.bech32_bch.proofs.locations.push_roots.Goals.{then-equals+in_ok-push, else-equals}
 use Rattle.bech32_bch.proofs.locations.push_roots.Goals as goal
 
 pub loop-place-init : goal.loop-place-init
 loop-place-init g c =
-    let o = g.K.Field.ops in
-    let l = g.met.K.Field.laws in
-    let same = g.K.PartialEq.eq in
+    let o = g.K.Arithmetic.ops in
+    let l = g.met.K.Arithmetic.laws in
+    let same = g.K.Arithmetic.eq in
     record {
       few = omega (arith, ap (λ u. length u) c.requires.empty);
       size = c.requires.size;
@@ -19,38 +19,38 @@ loop-place-init g c =
 
 pub loop-place-preserved : goal.loop-place-preserved
 loop-place-preserved g c =
-    let o = g.K.Field.ops in
-    let l = g.met.K.Field.laws in
-    let same = g.K.PartialEq.eq in
+    let o = g.K.Arithmetic.ops in
+    let l = g.met.K.Arithmetic.laws in
+    let same = g.K.Arithmetic.eq in
     let terms = c.loop-place.terms in
     let factors = c.args.factors.now in
     let roots = left_of o same (searching l same c.args.terms.now factors 0 c.args.window) in
     let place : ℕ = c.loop-place.place in
     let found = c.loop-place.found in
     let summed : c.total.result ≡ total_of o terms = c.total.ensures ∙ ap (total_of o) c.as_slice.ensures in
-    elim c.if-eq.branch [
-      | then-eq+in_ok-push w ↦
-          let pushed : c.if-eq.found ≡ found ++ (place ∷ []) = w.found-is ∙ w.in_ok-push.ensures.ok in
+    elim c.if-equals.branch [
+      | then-equals+in_ok-push w ↦
+          let pushed : c.if-equals.found ≡ found ++ (place ∷ []) = w.found-is ∙ w.in_ok-push.ensures.ok in
           record {
             few = omega (arith, ap (λ u. length u) pushed, length-append found (place ∷ []), c.len.ensures);
             size = c.loop-place.invariant.size ∙ sym (ap (λ u. length u) c.multiply_each.ensures ∙ length-multiplied_each l terms factors);
-            whole = root_met l same terms c.multiply_each.new.self factors place (place + 1) c.args.window found c.if-eq.found roots c.total.result c.zero.result c.eq.result
-                w.if-eq.true (omega arith) c.loop-place.invariant.size summed c.zero.ensures c.eq.ensures c.multiply_each.ensures refl pushed c.loop-place.invariant.whole;
+            whole = root_met l same terms c.multiply_each.new.self factors place (place + 1) c.args.window found c.if-equals.found roots c.total.result c.zero.result c.equals.result
+                w.if-equals.true (omega arith) c.loop-place.invariant.size summed c.zero.ensures c.equals.ensures c.multiply_each.ensures refl pushed c.loop-place.invariant.whole;
           }
-      | else-eq w ↦ record {
+      | else-equals w ↦ record {
         few = omega (arith, ap (λ u. length u) w.found-is, c.loop-place.invariant.few);
         size = c.loop-place.invariant.size ∙ sym (ap (λ u. length u) c.multiply_each.ensures ∙ length-multiplied_each l terms factors);
-        whole = root_passed l same terms c.multiply_each.new.self factors place (place + 1) c.args.window found c.if-eq.found roots c.total.result c.zero.result c.eq.result
-            w.if-eq.false (omega arith) c.loop-place.invariant.size summed c.zero.ensures c.eq.ensures c.multiply_each.ensures refl w.found-is c.loop-place.invariant.whole;
+        whole = root_passed l same terms c.multiply_each.new.self factors place (place + 1) c.args.window found c.if-equals.found roots c.total.result c.zero.result c.equals.result
+            w.if-equals.false (omega arith) c.loop-place.invariant.size summed c.zero.ensures c.equals.ensures c.multiply_each.ensures refl w.found-is c.loop-place.invariant.whole;
       }
     ]
 
 pub returns-else-len-degree-clause-roots : goal.returns-else-len-degree-clause-roots
 returns-else-len-degree-clause-roots g c =
-    stopped g.met.K.Field.laws g.K.PartialEq.eq c.loop-place.terms c.args.factors.now c.loop-place.place c.args.window c.args.degree c.loop-place.found _
+    stopped g.met.K.Arithmetic.laws g.K.Arithmetic.eq c.loop-place.terms c.args.factors.now c.loop-place.place c.args.window c.args.degree c.loop-place.found _
     (λ k. absurd (omega (arith, k, c.if-len-degree.false, c.len.ensures))) c.loop-place.invariant.few c.loop-place.invariant.whole
 
 pub returns-after-loop-place-clause-roots : goal.returns-after-loop-place-clause-roots
 returns-after-loop-place-clause-roots g c =
-    stopped g.met.K.Field.laws g.K.PartialEq.eq c.loop-place.terms c.args.factors.now c.loop-place.place c.args.window c.args.degree c.loop-place.found _
+    stopped g.met.K.Arithmetic.laws g.K.Arithmetic.eq c.loop-place.terms c.args.factors.now c.loop-place.place c.args.window c.args.degree c.loop-place.found _
     (λ k. c.loop-place-test.false) c.loop-place.invariant.few c.loop-place.invariant.whole

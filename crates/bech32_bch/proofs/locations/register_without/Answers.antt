@@ -16,7 +16,7 @@ returns-in_err-left-clause-in_place g c = λ few. refused (c.in_err-left.ensures
 
 pub returns-clause-register : goal.returns-clause-register
 returns-clause-register g c =
-    map_ok c.shortest_register.result _ _ (λ r h. (c.in_ok-left.left, (c.in_ok-left.ensures.knocked, subst (λ u. IsShortestWindow g.K.Field.ops (take c.args.room u) r) c.as_slice.ensures h))) c.shortest_register.ensures.shortest
+    map_ok c.shortest_register.result _ _ (λ r h. (c.in_ok-left.left, (c.in_ok-left.ensures.knocked, subst (λ u. IsShortestWindow g.K.Arithmetic.ops (take c.args.room u) r) c.as_slice.ensures h))) c.shortest_register.ensures.shortest
 
 pub returns-clause-in_place : goal.returns-clause-in_place
 returns-clause-in_place g c = λ few.

@@ -12,22 +12,22 @@ loop-init g c =
     let place : c.args.start + 0 ≡ c.args.start = omega arith in
     record {
       so_far = record { size = none; values = λ t h. absurd (omega (arith, h)) };
-      next = c.power_of-x.ensures ∙ ap (power g.E.Field.ops c.args.base) (sym place);
+      next = c.power-x.ensures ∙ ap (power g.E.Arithmetic.ops c.args.base) (sym place);
     }
 
 pub loop-preserved : goal.loop-preserved
 unfolding power
 loop-preserved g c =
-    let o = g.E.Field.ops in
+    let o = g.E.Arithmetic.ops in
     let n : ℕ = c.loop.counter in
     let y = c.embedded_value.result in
     let items : c.push.new.self ≡ c.loop.list ++ (y ∷ []) = c.in_ok-push.ensures.ok in
     let next : c.args.start + (n + 1) ≡ suc (c.args.start + n) = omega arith in
-    let here : y ≡ value_in o g.E.ExtensionField.embed c.args.residue.now (power o c.args.base (c.args.start + n)) = c.embedded_value.ensures ∙ ap (value_in o g.E.ExtensionField.embed c.args.residue.now) c.loop.invariant.next in
+    let here : y ≡ value_in o g.E.Extension.embed c.args.residue.now (power o c.args.base (c.args.start + n)) = c.embedded_value.ensures ∙ ap (value_in o g.E.Extension.embed c.args.residue.now) c.loop.invariant.next in
     record {
       so_far = record {
         size = omega (arith, ap (λ u. length u) items, length-append c.loop.list (y ∷ []), c.loop.invariant.so_far.size);
-        values = λ t within. ap (λ u. coefficient o u t) items ∙ items_more o c.loop.list n (λ j. value_in o g.E.ExtensionField.embed c.args.residue.now (power o c.args.base (c.args.start + j))) y c.loop.invariant.so_far.size c.loop.invariant.so_far.values here t within;
+        values = λ t within. ap (λ u. coefficient o u t) items ∙ items_more o c.loop.list n (λ j. value_in o g.E.Extension.embed c.args.residue.now (power o c.args.base (c.args.start + j))) y c.loop.invariant.so_far.size c.loop.invariant.so_far.values here t within;
       };
       next = c.times-x.ensures ∙ ap (o.mul c.args.base) c.loop.invariant.next ∙ ap (power o c.args.base) (sym next);
     }

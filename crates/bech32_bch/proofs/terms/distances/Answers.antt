@@ -4,7 +4,7 @@ use Rattle.bech32_bch.proofs.terms.distances.Goals as goal
 
 pub loop-i-preserved : goal.loop-i-preserved
 loop-i-preserved g c =
-    let o = g.K.Field.ops in
+    let o = g.K.Arithmetic.ops in
     record {
       within = omega arith;
       so_far = gap_more o c.args.here c.index-others-i.result c.loop-i.product c.times-product.result c.args.others.now c.loop-i.i (omega arith) c.loop-i.invariant.within c.index-others-i.is c.loop-i.invariant.so_far

@@ -5,7 +5,7 @@ use Rattle.bech32_bch.proofs.terms.knock_all.Given as goal
 abbrev pub invariant-loop-i : goal.invariant-loop-i
 invariant-loop-i g l = record {
   within : l.i ≤ length l.locators;
-  so_far : IsKnockedOut g.K.Field.ops (drop l.i l.locators) l.fn.items l.items;
+  so_far : IsKnockedOut g.K.Arithmetic.ops (drop l.i l.locators) l.fn.items l.items;
 }
 
 abbrev pub decreases-loop-i : goal.decreases-loop-i

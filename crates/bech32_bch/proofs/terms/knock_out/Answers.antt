@@ -5,7 +5,7 @@ use Rattle.bech32_bch.proofs.terms.knock_out.Goals as goal
 
 pub loop-i-preserved : goal.loop-i-preserved
 loop-i-preserved g c =
-    let o = g.K.Field.ops in
+    let o = g.K.Arithmetic.ops in
     let i = c.loop-i.i in
     let first = c.args.items.now in
     let items = c.loop-i.items in

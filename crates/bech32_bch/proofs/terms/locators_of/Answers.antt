@@ -12,22 +12,22 @@ refused h = absurd (cc h)
 
 pub loop-place-preserved : goal.loop-place-preserved
 loop-place-preserved g c =
-    let o = g.K.Field.ops in
+    let o = g.K.Arithmetic.ops in
     let b = c.args.base in
     let k : ℕ = c.loop-place.place-index in
     let places = c.args.places.now in
-    c.in_ok-push.ensures.ok ∙ ap (λ u. u ++ (c.power_of.result ∷ [])) c.loop-place.invariant
-    ∙ ap (λ y. locators o b (take k places) ++ (y ∷ [])) c.power_of.ensures
+    c.in_ok-push.ensures.ok ∙ ap (λ u. u ++ (c.power.result ∷ [])) c.loop-place.invariant
+    ∙ ap (λ y. locators o b (take k places) ++ (y ∷ [])) c.power.ensures
     ∙ sym (locators-more o b (take k places) (get_or places k 0))
     ∙ ap (locators o b) (sym (take_more places k 0 c.loop-place-test.true))
 
 pub returns-clause-locators : goal.returns-clause-locators
 returns-clause-locators g c =
-    c.loop-place.invariant ∙ ap (locators g.K.Field.ops c.args.base) (take_all c.loop-place.place-index c.args.places.now c.loop-place-test.false)
+    c.loop-place.invariant ∙ ap (locators g.K.Arithmetic.ops c.args.base) (take_all c.loop-place.place-index c.args.places.now c.loop-place-test.false)
 
 pub returns-in_err-push-clause-in_place : goal.returns-in_err-push-clause-in_place
 returns-in_err-push-clause-in_place g c = λ fits.
     let k : ℕ = c.loop-place.place-index in
     let places = c.args.places.now in
     let within : k ≤ length places = omega arith in
-    refused (c.in_err-push.ensures.in_place (omega (arith, fits, ap (λ u. length u) c.loop-place.invariant, length-locators g.K.Field.ops c.args.base (take k places), length_take places k within, c.loop-place-test.true)))
+    refused (c.in_err-push.ensures.in_place (omega (arith, fits, ap (λ u. length u) c.loop-place.invariant, length-locators g.K.Arithmetic.ops c.args.base (take k places), length_take places k within, c.loop-place-test.true)))

@@ -11,7 +11,7 @@ use Rattle.bech32_bch.proofs.terms.other_locators.Goals as goal
 
 pub loop-k-preserved : goal.loop-k-preserved
 loop-k-preserved g c =
-    let o = g.K.Field.ops in
+    let o = g.K.Arithmetic.ops in
     let b = c.args.base in
     let k : ℕ = c.loop-k.k in
     let places = c.args.places.now in
@@ -43,11 +43,11 @@ refused : {P : Type 0} → false ≡ true → P
 refused h = absurd (cc h)
 
 pub bounds-all-k : goal.bounds-all-k
-bounds-all-k g c = omega (arith, ap (λ u. length u) c.requires, length-locators g.K.Field.ops c.args.base c.args.places.now)
+bounds-all-k g c = omega (arith, ap (λ u. length u) c.requires, length-locators g.K.Arithmetic.ops c.args.base c.args.places.now)
 
 pub returns-in_err-push-clause-in_place : goal.returns-in_err-push-clause-in_place
 returns-in_err-push-clause-in_place g c = λ few. refused (c.in_err-push.ensures.in_place (omega (arith, c.loop-k.invariant.fits, few)))
 
 pub returns-clause-locators : goal.returns-clause-locators
 returns-clause-locators g c =
-    c.loop-k.invariant.so_far ∙ ap (λ u. locators g.K.Field.ops c.args.base (without c.args.place u)) (take_all c.loop-k.k c.args.places.now (omega arith))
+    c.loop-k.invariant.so_far ∙ ap (λ u. locators g.K.Arithmetic.ops c.args.base (without c.args.place u)) (take_all c.loop-k.k c.args.places.now (omega arith))

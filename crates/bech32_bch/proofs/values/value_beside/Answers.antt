@@ -12,13 +12,13 @@ value_of_left-requires g c =
 
 pub returns-clause-value : goal.returns-clause-value
 returns-clause-value g c = λ v few h.
-    let o = g.E.Field.ops in
+    let o = g.E.Arithmetic.ops in
     let others = c.args.others.now in
     let left : coefficient o c.as_slice-2.result.now 0 ≡ knocks o others (coefficient o c.args.syndromes.now) 0 =
     ap (λ u. coefficient o u 0) c.as_slice-2.ensures
     ∙ c.in_ok-left.ensures.knocked.items_are 0 (omega (arith, ap (λ u. length u) c.as_slice.ensures, few))
     ∙ ap (λ u. knocks o others (coefficient o u) 0) c.as_slice.ensures in
-    c.value_of_left.ensures v (subst (λ u. IsExplained o u (o.mul (power o c.args.here c.args.start) (gap o c.args.here others)) (g.E.ExtensionField.embed v)) (sym left) h)
+    c.value_of_left.ensures v (subst (λ u. IsExplained o u (o.mul (power o c.args.here c.args.start) (gap o c.args.here others)) (g.E.Extension.embed v)) (sym left) h)
 
 refused : {P : Type 0} → false ≡ true → P
 refused h = absurd (cc h)

@@ -15,23 +15,23 @@ map_ok (Err e) P Q f h = h
 
 pub returns-clause-value : goal.returns-clause-value
 returns-clause-value g c =
-    let o = g.E.Field.ops in
+    let o = g.E.Arithmetic.ops in
     let b = c.args.base in
     let start = c.args.start in
     let places = c.args.places.now in
     let place : ℕ = get_or places c.args.k 0 in
     let ms = without place places in
     let s = coefficient o c.args.syndromes.now in
-    let here = c.power_of.result in
+    let here = c.power.result in
     let first = c.as_slice-2.result.now in
     let others : first ≡ locators o b ms = c.as_slice-2.ensures ∙ c.in_ok-others.ensures.locators in
     let few : length first < length c.args.syndromes.now = omega (arith, ap (λ u. length u) others, length-locators o b ms, length-without_mem place places (mem_at places c.args.k 0 c.requires.at), c.requires.few) in
     let left : knocks o first s 0 ≡ left_at o b s places place = ap (λ u. knocks o u s 0) others in
     let known : o.mul (power o here start) (gap o here first) ≡ known_at o b start places place =
-    ap (λ x. o.mul (power o x start) (gap o x first)) c.power_of.ensures ∙ ap (λ u. o.mul (power o (power o b place) start) (gap o (power o b place) u)) others in
+    ap (λ x. o.mul (power o x start) (gap o x first)) c.power.ensures ∙ ap (λ u. o.mul (power o (power o b place) start) (gap o (power o b place) u)) others in
     map_ok c.value_beside.result _ _ (λ answer value v h. value v few
-    (subst (λ u. IsExplained o u (o.mul (power o here start) (gap o here first)) (g.E.ExtensionField.embed v)) (sym left)
-    (subst (λ u. IsExplained o (left_at o b s places place) u (g.E.ExtensionField.embed v)) (sym known) h))) c.value_beside.ensures.value
+    (subst (λ u. IsExplained o u (o.mul (power o here start) (gap o here first)) (g.E.Extension.embed v)) (sym left)
+    (subst (λ u. IsExplained o (left_at o b s places place) u (g.E.Extension.embed v)) (sym known) h))) c.value_beside.ensures.value
 
 refused : {P : Type 0} → false ≡ true → P
 refused h = absurd (cc h)

@@ -28,7 +28,7 @@ returns-then-end-start g c =
     ] in
     let some : degree ≢ 0 = omega arith in
     false_where_not false refl (λ lawful.
-    not_lawful_by_exponents g.Self.CorrectionField.Field.ops g.Self.CorrectionField.ExtensionField.embed code g.Self.Checksum.ROOT_GENERATOR start end degree code_length
+    not_lawful_by_exponents g.Self.CorrectionField.Arithmetic.ops g.Self.CorrectionField.Extension.embed code g.Self.Checksum.ROOT_GENERATOR start end degree code_length
     g.met.Self.Checksum.degree_law g.met.Self.Checksum.code_length_law some wrong (law.0 lawful))
 
 pub returns-then-order_is_long_enough : goal.returns-then-order_is_long_enough
@@ -47,7 +47,7 @@ returns-then-order_is_long_enough g c =
     let ordered : start ≤ end = omega arith in
     let few : end - start < degree = omega arith in
     let same =
-    lawful_by_roots g.Self.CorrectionField.Field.ops g.Self.CorrectionField.ExtensionField.embed code g.Self.Checksum.ROOT_GENERATOR start end degree code_length
+    lawful_by_roots g.Self.CorrectionField.Arithmetic.ops g.Self.CorrectionField.Extension.embed code g.Self.Checksum.ROOT_GENERATOR start end degree code_length
     g.met.Self.Checksum.degree_law g.met.Self.Checksum.code_length_law
     some ordered few (c.order_is_long_enough.ensures.0 c.if-order_is_long_enough.true) in
     (λ h. law.1 (same.0 (c.powers_are_roots.ensures.0 h)), λ lawful. c.powers_are_roots.ensures.1 (same.1 (law.0 lawful)))
@@ -64,7 +64,7 @@ returns-else-order_is_long_enough g c =
     let some : degree ≢ 0 = omega arith in
     let off : c.order_is_long_enough.result ≡ false = c.if-order_is_long_enough.false in
     false_where_not c.order_is_long_enough.result off (λ lawful.
-    not_lawful_by_order g.Self.CorrectionField.Field.ops g.Self.CorrectionField.ExtensionField.embed code g.Self.Checksum.ROOT_GENERATOR start end degree code_length
+    not_lawful_by_order g.Self.CorrectionField.Arithmetic.ops g.Self.CorrectionField.Extension.embed code g.Self.Checksum.ROOT_GENERATOR start end degree code_length
     g.met.Self.Checksum.degree_law g.met.Self.Checksum.code_length_law
     some (λ long. let on : c.order_is_long_enough.result ≡ true = c.order_is_long_enough.ensures.1 long in cc)
     (law.0 lawful))

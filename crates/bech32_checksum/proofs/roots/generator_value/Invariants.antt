@@ -4,4 +4,4 @@ use Rattle.bech32_checksum.proofs.roots.generator_value.Given as goal
 
 abbrev pub invariant-loop-place : goal.invariant-loop-place
 invariant-loop-place g l =
-    l.value ≡ value_from g.Ck.CorrectionField.Field.ops g.Ck.CorrectionField.ExtensionField.embed l.x l.place g.Ck.Checksum.code.generator
+    l.value ≡ value_from g.Ck.CorrectionField.Arithmetic.ops g.Ck.CorrectionField.Extension.embed l.x l.place g.Ck.Checksum.code.generator

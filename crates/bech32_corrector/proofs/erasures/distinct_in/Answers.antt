@@ -39,3 +39,12 @@ loop-location-preserved g c =
           ∙ ap (λ (b : Bool). cond b c.loop-location.distinct (c.loop-location.distinct ++ x ∷ [])) new);
       few = omega (arith, ap length pushed);
     }
+
+pub returns-in_err-push-clause-few : goal.returns-in_err-push-clause-few
+returns-in_err-push-clause-few g c = λ fits.
+    let x : ℕ = get_or c.args.given.now c.loop-location.location-index 0 in
+    let new : has c.loop-location.distinct x ≡ false =
+    ap (λ (s : List ℕ). has s x) (sym c.as_slice.ensures) ∙ sym c.contains.ensures ∙ c.if-contains.false in
+    let more : length c.loop-location.distinct < length (with_erasures [] c.args.given.now) =
+    more_with c.args.given.now c.loop-location.distinct c.loop-location.location-index x c.loop-location-test.true refl c.loop-location.invariant.so_far new in
+    absurd (cc (c.in_err-push.ensures.in_place (omega (arith, more, fits))))

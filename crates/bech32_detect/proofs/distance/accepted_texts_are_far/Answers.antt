@@ -1,6 +1,5 @@
 use Rattle.std.proofs.Common.{◌≡◌, ◌<◌, ◌+◌, ◌-◌, ℕ, sym, subst, arith}
 use Rattle.bech32_gf.specs.Fe32 as fe32
-use Rattle.bech32_poly.specs.Embedding.{Embeds}
 use Rattle.bech32_bch.proofs.Candidates.{apart_inside}
 use Rattle.bech32_detect.specs.Texts.{AreTextsFar}
 use Rattle.bech32_detect.proofs.Distances.{far_from_others}
@@ -8,15 +7,15 @@ use Rattle.bech32_detect.proofs.distance.accepted_texts_are_far.Goals as goal
 
 pub returns : goal.returns
 returns g c some lawful =
-    let o = g.Ck.CorrectionField.Field.ops in
-    let embed = g.Ck.CorrectionField.ExtensionField.embed in
+    let o = g.Ck.CorrectionField.Arithmetic.ops in
+    let embed = g.Ck.CorrectionField.Extension.embed in
     let laws = g.met.Ck.Checksum in
     let code = g.Ck.Checksum.code in
     let start : ℕ = g.Ck.Checksum.ROOT_EXPONENTS_START in
     let end : ℕ = g.Ck.Checksum.ROOT_EXPONENTS_END in
-    let into : Embeds fe32.ops o embed = record { one = g.met.Ck.CorrectionField.ExtensionField.embed_one_law; add = g.met.Ck.CorrectionField.ExtensionField.embed_add_law; mul = g.met.Ck.CorrectionField.ExtensionField.embed_mul_law } in
-    let apart = apart_inside embed g.Ck.CorrectionField.ExtensionField.retract g.met.Ck.CorrectionField.ExtensionField.retract_law in
+    let into = g.met.Ck.CorrectionField.RootField.embeds_law in
+    let apart = apart_inside embed g.Ck.CorrectionField.Extension.retract g.met.Ck.CorrectionField.Extension.retract_law in
     let same : end - start + 1 ≡ g.Ck.Checksum.bound = omega (arith, laws.bound_law) in
     subst (λ (n : ℕ). AreTextsFar code code.code_length n) same
-    (far_from_others g.met.Ck.CorrectionField.Field.laws into apart code g.Ck.Checksum.ROOT_GENERATOR start end
+    (far_from_others g.met.Ck.CorrectionField.Arithmetic.laws into apart code g.Ck.Checksum.ROOT_GENERATOR start end
     (laws.lawful_law.0 lawful (subst (λ n. 0 < n) (sym laws.degree_law) some)))

@@ -1,6 +1,5 @@
 use Rattle.std.proofs.Common.{sym, ◌∙◌, refl, arith}
 use Rattle.std.proofs.Math.Decide.{dec_lt}
-use Rattle.bech32_gf.specs.Fe32 as fe32
 use Rattle.bech32_checksum.proofs.DigitRows.{digit_of-past}
 use Rattle.bech32_direct.proofs.OneError.{behind}
 use Rattle.bech32_direct.proofs.division.is_same.Goals as goal

@@ -3,7 +3,6 @@ use Rattle.std.proofs.Common.{◌≡◌, ◌≤◌, ◌∙◌, ℕ, suc, List, l
 use Rattle.bech32_gf.specs.Fe32 as fe32
 use Rattle.bech32_gf.specs.declared.gf32.Fe32.{Fe32}
 use Rattle.bech32_gf.specs.laws.Fe32Laws.{is_field}
-use Rattle.bech32_poly.specs.Embedding.{Embeds}
 use Rattle.bech32_poly.specs.Pattern.{value_of_pattern_at}
 use Rattle.bech32_poly.specs.Polynomial.{coefficient}
 use Rattle.bech32_checksum.specs.Code.{Code}
@@ -28,15 +27,15 @@ returns-in_default-clause-answer g c = λ e h.
 
 pub returns-clause-answer : goal.returns-clause-answer
 returns-clause-answer g c =
-    let o = g.Ck.CorrectionField.Field.ops in
-    let embed = g.Ck.CorrectionField.ExtensionField.embed in
+    let o = g.Ck.CorrectionField.Arithmetic.ops in
+    let embed = g.Ck.CorrectionField.Extension.embed in
     let code = g.Ck.Checksum.code in
     let residue = c.args.residue.now in
     let s = c.args.erasures.now in
     let value : ℕ → Fe32 = λ i. coefficient fe32.ops c.in-Some.values (suc i) in
-    let into : Embeds fe32.ops o embed = record { one = g.met.Ck.CorrectionField.ExtensionField.embed_one_law; add = g.met.Ck.CorrectionField.ExtensionField.embed_add_law; mul = g.met.Ck.CorrectionField.ExtensionField.embed_mul_law } in
-    let apart = apart_inside embed g.Ck.CorrectionField.ExtensionField.retract g.met.Ck.CorrectionField.ExtensionField.retract_law in
-    let usable = usable_read o embed g.met.Ck.CorrectionField.ExtensionField.embed_one_law
+    let into = g.met.Ck.CorrectionField.RootField.embeds_law in
+    let apart = apart_inside embed g.Ck.CorrectionField.Extension.retract g.met.Ck.CorrectionField.Extension.retract_law in
+    let usable = usable_read o embed g.met.Ck.CorrectionField.RootField.embeds_law.one
     code g.Ck.Checksum.ROOT_GENERATOR g.Ck.Checksum.ROOT_GENERATOR g.Ck.Checksum.ROOT_EXPONENTS_START g.Ck.Checksum.ROOT_EXPONENTS_START g.Ck.Checksum.ROOT_EXPONENTS_END g.Ck.Checksum.bound
     c.args.window refl refl g.met.Ck.Checksum.bound_law
     c.requires.lawful (subst (λ n. c.args.window ≤ n) (sym g.met.Ck.Checksum.code_length_law) c.requires.within) in
@@ -47,7 +46,7 @@ returns-clause-answer g c =
     let listed : c.in_ok-listing.listing ≡ placed s value (length s) =
     c.in_ok-listing.ensures.items ∙ ap (λ (l : List ℕ). placed l value (length l)) c.as_slice-2.ensures in
     subst (λ (l : List (ℕ × Fe32)). IsOnlyListing code g.Ck.Checksum.bound (record { residue = residue; window = c.args.window; erasures = s }) l) (sym listed)
-    (only_listing g.met.Ck.CorrectionField.Field.laws into apart g.Ck.Checksum.ROOT_GENERATOR g.Ck.Checksum.ROOT_EXPONENTS_START g.Ck.Checksum.bound c.args.window code residue s (placed s value (length s))
+    (only_listing g.met.Ck.CorrectionField.Arithmetic.laws into apart g.Ck.Checksum.ROOT_GENERATOR g.Ck.Checksum.ROOT_EXPONENTS_START g.Ck.Checksum.bound c.args.window code residue s (placed s value (length s))
     usable c.requires.erased (only_erased fe32.ops c.args.window g.Ck.Checksum.bound s value c.requires.few) size found)
 
 refused : {P : Type 0} → false ≡ true → P

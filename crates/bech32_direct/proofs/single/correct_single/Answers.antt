@@ -2,7 +2,6 @@ use Rattle.std.specs.Prelude.{◌≢◌}
 use Rattle.std.proofs.Common.{◌≡◌, ◌≤◌, ◌∙◌, ℕ, List, [], ◌∷◌, ◌++◌, length, sym, subst, ap, refl}
 use Rattle.bech32_gf.specs.Fe32 as fe32
 use Rattle.bech32_gf.specs.declared.gf32.Fe32.{Fe32}
-use Rattle.bech32_poly.specs.Embedding.{Embeds}
 use Rattle.bech32_poly.specs.Polynomial.{coefficient}
 use Rattle.bech32_checksum.specs.Code.{Code}
 use Rattle.bech32_checksum.proofs.Digits.{length-tabulate}
@@ -16,13 +15,13 @@ use Rattle.bech32_direct.proofs.single.correct_single.Goals as goal
 
 pub returns-then-eq-clause-answer : goal.returns-then-eq-clause-answer
 returns-then-eq-clause-answer g c =
-    let o = g.Ck.CorrectionField.Field.ops in
-    let embed = g.Ck.CorrectionField.ExtensionField.embed in
+    let o = g.Ck.CorrectionField.Arithmetic.ops in
+    let embed = g.Ck.CorrectionField.Extension.embed in
     let code = g.Ck.Checksum.code in
     let residue = c.args.residue.now in
-    let into : Embeds fe32.ops o embed = record { one = g.met.Ck.CorrectionField.ExtensionField.embed_one_law; add = g.met.Ck.CorrectionField.ExtensionField.embed_add_law; mul = g.met.Ck.CorrectionField.ExtensionField.embed_mul_law } in
-    let apart = apart_inside embed g.Ck.CorrectionField.ExtensionField.retract g.met.Ck.CorrectionField.ExtensionField.retract_law in
-    let usable = usable_read o embed g.met.Ck.CorrectionField.ExtensionField.embed_one_law
+    let into = g.met.Ck.CorrectionField.RootField.embeds_law in
+    let apart = apart_inside embed g.Ck.CorrectionField.Extension.retract g.met.Ck.CorrectionField.Extension.retract_law in
+    let usable = usable_read o embed g.met.Ck.CorrectionField.RootField.embeds_law.one
     code g.Ck.Checksum.ROOT_GENERATOR g.Ck.Checksum.ROOT_GENERATOR g.Ck.Checksum.ROOT_EXPONENTS_START g.Ck.Checksum.ROOT_EXPONENTS_START g.Ck.Checksum.ROOT_EXPONENTS_END g.Ck.Checksum.bound
     c.args.window refl refl g.met.Ck.Checksum.bound_law
     c.requires.lawful (subst (λ n. c.args.window ≤ n) (sym g.met.Ck.Checksum.code_length_law) c.requires.within) in
@@ -32,7 +31,7 @@ returns-then-eq-clause-answer g c =
     sym c.listed_coefficient.ensures ∙ zero_by_eq c.listed_coefficient.result c.eq.result c.eq.ensures c.if-eq.true in
     let leaves : HasRemainder fe32.ops code.generator residue [] = nothing_left code.generator residue (c.pivot_of-pivot.ensures nothing) in
     subst (λ (l : List (ℕ × Fe32)). IsOnlyListing code g.Ck.Checksum.bound (record { residue = residue; window = c.args.window; erasures = [] }) l) (sym c.new-listing.ensures)
-    (only_listing g.met.Ck.CorrectionField.Field.laws into apart g.Ck.Checksum.ROOT_GENERATOR g.Ck.Checksum.ROOT_EXPONENTS_START g.Ck.Checksum.bound c.args.window code residue [] []
+    (only_listing g.met.Ck.CorrectionField.Arithmetic.laws into apart g.Ck.Checksum.ROOT_GENERATOR g.Ck.Checksum.ROOT_EXPONENTS_START g.Ck.Checksum.bound c.args.window code residue [] []
     usable (no_erasures c.args.window) (none_listed c.args.window g.Ck.Checksum.bound) size leaves)
 
 pub returns-in_default-clause-answer : goal.returns-in_default-clause-answer
@@ -44,14 +43,14 @@ returns-in_default-clause-answer g c = λ e h.
 
 pub returns-clause-answer : goal.returns-clause-answer
 returns-clause-answer g c =
-    let o = g.Ck.CorrectionField.Field.ops in
-    let embed = g.Ck.CorrectionField.ExtensionField.embed in
+    let o = g.Ck.CorrectionField.Arithmetic.ops in
+    let embed = g.Ck.CorrectionField.Extension.embed in
     let code = g.Ck.Checksum.code in
     let residue = c.args.residue.now in
     let error : ℕ × Fe32 = c.in-Some.error in
-    let into : Embeds fe32.ops o embed = record { one = g.met.Ck.CorrectionField.ExtensionField.embed_one_law; add = g.met.Ck.CorrectionField.ExtensionField.embed_add_law; mul = g.met.Ck.CorrectionField.ExtensionField.embed_mul_law } in
-    let apart = apart_inside embed g.Ck.CorrectionField.ExtensionField.retract g.met.Ck.CorrectionField.ExtensionField.retract_law in
-    let usable = usable_read o embed g.met.Ck.CorrectionField.ExtensionField.embed_one_law
+    let into = g.met.Ck.CorrectionField.RootField.embeds_law in
+    let apart = apart_inside embed g.Ck.CorrectionField.Extension.retract g.met.Ck.CorrectionField.Extension.retract_law in
+    let usable = usable_read o embed g.met.Ck.CorrectionField.RootField.embeds_law.one
     code g.Ck.Checksum.ROOT_GENERATOR g.Ck.Checksum.ROOT_GENERATOR g.Ck.Checksum.ROOT_EXPONENTS_START g.Ck.Checksum.ROOT_EXPONENTS_START g.Ck.Checksum.ROOT_EXPONENTS_END g.Ck.Checksum.bound
     c.args.window refl refl g.met.Ck.Checksum.bound_law
     c.requires.lawful (subst (λ n. c.args.window ≤ n) (sym g.met.Ck.Checksum.code_length_law) c.requires.within) in
@@ -60,5 +59,5 @@ returns-clause-answer g c =
     let found = rw c.in-Some.is at c.single_error.ensures in
     let listed : c.push.new.self ≡ c.in-Some.error ∷ [] = c.in_ok-push.ensures.ok ∙ ap (λ (l : List (ℕ × Fe32)). l ++ c.in-Some.error ∷ []) c.new-listing.ensures in
     subst (λ (l : List (ℕ × Fe32)). IsOnlyListing code g.Ck.Checksum.bound (record { residue = residue; window = c.args.window; erasures = [] }) l) (sym listed)
-    (only_listing g.met.Ck.CorrectionField.Field.laws into apart g.Ck.Checksum.ROOT_GENERATOR g.Ck.Checksum.ROOT_EXPONENTS_START g.Ck.Checksum.bound c.args.window code residue [] (error ∷ [])
+    (only_listing g.met.Ck.CorrectionField.Arithmetic.laws into apart g.Ck.Checksum.ROOT_GENERATOR g.Ck.Checksum.ROOT_EXPONENTS_START g.Ck.Checksum.bound c.args.window code residue [] (error ∷ [])
     usable (no_erasures c.args.window) (one_listed c.args.window g.Ck.Checksum.bound error c.requires.one found.0 found.1.0) size found.1.1)

@@ -1,19 +1,16 @@
 use Rattle.std.specs.Prelude.{string_bytes}
 use Rattle.std.proofs.Common.{rules, ◌≡◌, ◌<◌, length, ap, sym, ◌∙◌, arith}
 use Rattle.std.proofs.lemmas.Result.{err_from_is_err_and}
-use Rattle.bech32_checksum.specs.Code.{Code}
-use Rattle.bech32_checksum.proofs.Digits.{length-tabulate}
-use Rattle.bech32_correction.specs.Mistyped.{IsReadAs}
+use Rattle.bech32_checksum.proofs.Target.{length-target}
 use Rattle.bech32_correction.proofs.Outcomes.{refusal-from_invalid}
-use Rattle.bech32_near.proofs.Nearby.{all_placed, fits_code, near_texts, none_found, search-from_residue}
+use Rattle.bech32_near.proofs.Nearby.{all_placed, fits_code, near_texts, none_found, reading, search-from_residue}
 use Rattle.bech32_near.proofs.texts.nearest_in.Goals as goal
 
 pub new-corrector-requires : goal.new-corrector-requires
 new-corrector-requires g c =
     let code = g.Ck.Checksum.code in
     let text = c.args.text.now in
-    let parts = c.in_ok-unchecked.ensures.parts in
-    let read : IsReadAs text c.in_ok-unchecked.unchecked = record { grammar = parts.0; text_length = parts.1 } in
+    let read = reading text c.in_ok-unchecked.unchecked c.in_ok-unchecked.ensures.parts in
     let some : 0 < length code.generator = omega (arith, g.met.Ck.Checksum.degree_law, c.CHECKSUM_LENGTH.ensures, c.if-CHECKSUM_LENGTH-eq0.false) in (
       search rules,
       (
@@ -30,29 +27,27 @@ pub mended_all-requires : goal.mended_all-requires
 mended_all-requires g c =
     let code = g.Ck.Checksum.code in
     let text = c.args.text.now in
-    let parts = c.in_ok-unchecked.ensures.parts in
-    let read : IsReadAs text c.in_ok-unchecked.unchecked = record { grammar = parts.0; text_length = parts.1 } in
+    let read = reading text c.in_ok-unchecked.unchecked c.in_ok-unchecked.ensures.parts in
     let some : 0 < length code.generator = omega (arith, g.met.Ck.Checksum.degree_law, c.CHECKSUM_LENGTH.ensures, c.if-CHECKSUM_LENGTH-eq0.false) in
-    let size : length code.target ≡ length code.generator =
-    ap (λ (k : Code). length k.target) g.met.Ck.Checksum.code_law ∙ length-tabulate g.Ck.Checksum.CHECKSUM_LENGTH _ ∙ sym g.met.Ck.Checksum.degree_law in
+    let laws = g.met.Ck.Checksum in
+    let size = length-target g.Ck.MidstateRepr.PackedFe32.number code g.Ck.Checksum.CODE_LENGTH g.Ck.Checksum.CHECKSUM_LENGTH g.Ck.Checksum.GENERATOR_SH g.Ck.Checksum.TARGET_RESIDUE laws.code_law ∙ sym laws.degree_law in
     let is = search-from_residue code text c.in_ok-unchecked.unchecked c.in_ok-residue.residue _ c.new-corrector.result c.new-corrector.ensures some read (c.in_ok-residue.ensures text read)
     (ap length c.data_part_ascii-window.ensures.value) in
     (search rules, all_placed code g.Ck.Checksum.bound c.args.errors text c.args.erasures.now size c.in_ok-listings.listings.items (c.in_ok-listings.ensures text is.0 is.1))
 
 pub returns-in_err-residue : goal.returns-in_err-residue
 returns-in_err-residue g c =
-    let parts = c.in_ok-unchecked.ensures.parts in
+    let read = reading c.args.text.now c.in_ok-unchecked.unchecked c.in_ok-unchecked.ensures.parts in
     let invalid = c.in_err-residue.ensures in
     let p = err_from_is_err_and c.from_residual-in_err-residue.result c.from_residual-in_err-residue.ensures.1 in
-    rw p.1 (rw p.2 (refusal-from_invalid g.Ck.Checksum.code c.args.text.now c.in_ok-unchecked.unchecked c.in_err-residue.field-0.0
-    (record { grammar = parts.0; text_length = parts.1 }) invalid.0 invalid.1))
+    rw p.1 (rw p.2 (refusal-from_invalid g.Ck.Checksum.code c.args.text.now c.in_ok-unchecked.unchecked c.in_err-residue.field-0.0 read invalid.0 invalid.1))
 
 pub returns-then-CHECKSUM_LENGTH-eq0 : goal.returns-then-CHECKSUM_LENGTH-eq0
 returns-then-CHECKSUM_LENGTH-eq0 g c =
     let code = g.Ck.Checksum.code in
     let text = c.args.text.now in
-    let parts = c.in_ok-unchecked.ensures.parts in
-    let (hrp, data_part, has, accepts) = c.in_ok-residue.ensures text (record { grammar = parts.0; text_length = parts.1 }) in
+    let read = reading text c.in_ok-unchecked.unchecked c.in_ok-unchecked.ensures.parts in
+    let (hrp, data_part, has, accepts) = c.in_ok-residue.ensures text read in
     let none : length code.generator ≡ 0 = omega (arith, g.met.Ck.Checksum.degree_law, c.CHECKSUM_LENGTH.ensures, c.if-CHECKSUM_LENGTH-eq0.true) in
     (none_found (λ m. m.listing) (λ m. string_bytes m.text) code g.Ck.Checksum.bound c.args.errors text c.args.erasures.now c.new-then-CHECKSUM_LENGTH-eq0.result.items c.new-then-CHECKSUM_LENGTH-eq0.ensures.items none (accepts none), (none, accepts none))
 
@@ -60,11 +55,10 @@ pub returns : goal.returns
 returns g c =
     let code = g.Ck.Checksum.code in
     let text = c.args.text.now in
-    let parts = c.in_ok-unchecked.ensures.parts in
-    let read : IsReadAs text c.in_ok-unchecked.unchecked = record { grammar = parts.0; text_length = parts.1 } in
+    let read = reading text c.in_ok-unchecked.unchecked c.in_ok-unchecked.ensures.parts in
     let some : 0 < length code.generator = omega (arith, g.met.Ck.Checksum.degree_law, c.CHECKSUM_LENGTH.ensures, c.if-CHECKSUM_LENGTH-eq0.false) in
-    let size : length code.target ≡ length code.generator =
-    ap (λ (k : Code). length k.target) g.met.Ck.Checksum.code_law ∙ length-tabulate g.Ck.Checksum.CHECKSUM_LENGTH _ ∙ sym g.met.Ck.Checksum.degree_law in
+    let laws = g.met.Ck.Checksum in
+    let size = length-target g.Ck.MidstateRepr.PackedFe32.number code g.Ck.Checksum.CODE_LENGTH g.Ck.Checksum.CHECKSUM_LENGTH g.Ck.Checksum.GENERATOR_SH g.Ck.Checksum.TARGET_RESIDUE laws.code_law ∙ sym laws.degree_law in
     let is = search-from_residue code text c.in_ok-unchecked.unchecked c.in_ok-residue.residue _ c.new-corrector.result c.new-corrector.ensures some read (c.in_ok-residue.ensures text read)
     (ap length c.data_part_ascii-window.ensures.value) in (
       near_texts code g.Ck.Checksum.bound c.args.errors text c.args.erasures.now size (λ m. m.listing) (λ m. string_bytes m.text) c.in_ok-listings.listings.items c.in_ok-texts.texts.items

@@ -20,10 +20,10 @@ fits items r r' n size same h few =
 
 pub returns-clause-shortest : goal.returns-clause-shortest
 returns-clause-shortest g c =
-    let o = g.F.Field.ops in
+    let o = g.F.Arithmetic.ops in
     let turned_round = take (c.len.result - 1) c.as_slice.result.now in
     IfOk-weaker c.turned_copy.result (λ cs. cs ≡ reverse turned_round) (λ cs. IsShortest o cs c.args.items.now)
-    (λ cs is. turned g.met.F.Field.laws c.args.items.now c.in_ok-register.register c.as_slice.result.now cs c.len.result c.len.ensures c.as_slice.ensures c.in_ok-register.ensures.shortest is)
+    (λ cs is. turned g.met.F.Arithmetic.laws c.args.items.now c.in_ok-register.register c.as_slice.result.now cs c.len.result c.len.ensures c.as_slice.ensures c.in_ok-register.ensures.shortest is)
     c.turned_copy.ensures.copy
 
 pub returns-clause-in_place : goal.returns-clause-in_place

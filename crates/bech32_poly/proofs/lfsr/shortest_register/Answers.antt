@@ -20,19 +20,19 @@ started {o = o} l s = record {
 
 pub loop-init : goal.loop-init
 loop-init g c =
-    moved g.met.F.Field.laws (coefficient g.F.Field.ops c.args.items.now) _ _ _ _ _ _ _ _ _ _ _ _ (started g.met.F.Field.laws (coefficient g.F.Field.ops c.args.items.now))
+    moved g.met.F.Arithmetic.laws (coefficient g.F.Arithmetic.ops c.args.items.now) _ _ _ _ _ _ _ _ _ _ _ _ (started g.met.F.Arithmetic.laws (coefficient g.F.Arithmetic.ops c.args.items.now))
     refl refl refl (sym c.in_ok-register.ensures.items) (sym c.in_ok-old.ensures.items) (sym c.one-old_miss.ensures)
 
 pub add_multiple-requires-else-right-length : goal.add_multiple-requires-else-right-length
 add_multiple-requires-else-right-length g c =
     let gap : ℕ = c.loop.right + 1 - c.loop.length in
     let longer : length c.in_ok-longer.longer ≡ gap + length c.loop.register =
-    ap (λ u. length u) c.in_ok-longer.ensures.copy ∙ length-shifted g.met.F.Field.laws gap c.as_slice-else-right-length.result.now ∙ ap (λ xs. gap + length xs) c.as_slice-else-right-length.ensures in
+    ap (λ u. length u) c.in_ok-longer.ensures.copy ∙ length-shifted g.met.F.Arithmetic.laws gap c.as_slice-else-right-length.result.now ∙ ap (λ xs. gap + length xs) c.as_slice-else-right-length.ensures in
     omega (arith, ap (λ u. length u) c.as_slice-else-right-length-2.ensures, longer, c.loop.invariant.old_length, c.loop.invariant.register.degree)
 
 pub loop-preserved : goal.loop-preserved
 loop-preserved g c =
-    let o = g.F.Field.ops in
+    let o = g.F.Arithmetic.ops in
     let s : ℕ → g.row.F.Denot = coefficient o c.args.items.now in
     let n : ℕ = c.loop.counter in
     let next : suc n ≡ n + 1 = omega arith in
@@ -40,8 +40,8 @@ loop-preserved g c =
     elim c.if-is_zero.branch [
       | then-is_zero w ↦
           let none : c.window_sum-miss.result ≡ o.zero = c.is_zero.ensures.0 w.if-is_zero.true in
-          moved g.met.F.Field.laws s _ _ _ _ _ _ _ _ _ _ _ _
-          (right g.met.F.Field.laws s n c.loop.length c.loop.right c.loop.register c.loop.old c.loop.old_miss c.loop.invariant (sym missed_by ∙ none))
+          moved g.met.F.Arithmetic.laws s _ _ _ _ _ _ _ _ _ _ _ _
+          (right g.met.F.Arithmetic.laws s n c.loop.length c.loop.right c.loop.register c.loop.old c.loop.old_miss c.loop.invariant (sym missed_by ∙ none))
           next (sym w.length-is) (omega (arith, w.right-is)) (sym w.register-is) (sym w.old-is) (sym w.old_miss-is)
       | else-is_zero+then-right-length w ↦
           let missed : c.window_sum-miss.result ≢ o.zero = λ e. let wrong : true ≡ false = sym (c.is_zero.ensures.1 e) ∙ w.if-is_zero.false in absurd (cc wrong) in
@@ -49,9 +49,9 @@ loop-preserved g c =
           let gap : ℕ = c.loop.length - 1 - c.loop.right in
           let shift : suc (gap + c.loop.right) ≡ c.loop.length = omega arith in
           let items : c.if-is_zero.register ≡ add o c.loop.register (scale o (o.neg (o.mul (act o c.loop.register s c.loop.right) (o.inv c.loop.old_miss))) (shifted o gap c.loop.old)) =
-          w.register-is ∙ mended_is o _ _ _ _ _ _ _ _ _ _ _ gap w.add_multiple.ensures refl w.as_slice-then-right-length.ensures w.negated-factor.ensures w.times.ensures w.multiplicative_inverse.ensures missed_by in
-          moved g.met.F.Field.laws s _ _ _ _ _ _ _ _ _ _ _ _
-          (stays g.met.F.Field.laws s n c.loop.length c.loop.right c.loop.register c.loop.old c.loop.old_miss gap c.loop.invariant (λ e. missed (missed_by ∙ e)) shift)
+          w.register-is ∙ mended_is o _ _ _ _ _ _ _ _ _ _ _ gap w.add_multiple.ensures refl w.as_slice-then-right-length.ensures w.negated-factor.ensures w.times.ensures w.inverse.ensures missed_by in
+          moved g.met.F.Arithmetic.laws s _ _ _ _ _ _ _ _ _ _ _ _
+          (stays g.met.F.Arithmetic.laws s n c.loop.length c.loop.right c.loop.register c.loop.old c.loop.old_miss gap c.loop.invariant (λ e. missed (missed_by ∙ e)) shift)
           next (sym w.length-is) (omega (arith, w.right-is)) (sym items) (sym w.old-is) (sym w.old_miss-is)
       | else-is_zero+else-right-length+in_ok-longer w ↦
           let missed : c.window_sum-miss.result ≢ o.zero = λ e. let wrong : true ≡ false = sym (c.is_zero.ensures.1 e) ∙ w.if-is_zero.false in absurd (cc wrong) in
@@ -59,9 +59,9 @@ loop-preserved g c =
           let gap : ℕ = c.loop.right + 1 - c.loop.length in
           let shift : gap + c.loop.length ≡ suc c.loop.right = omega arith in
           let items : c.if-is_zero.register ≡ add o (shifted o gap c.loop.register) (scale o (o.neg (o.mul (act o c.loop.register s c.loop.right) (o.inv c.loop.old_miss))) c.loop.old) =
-          w.register-is ∙ mended_is o _ _ _ _ _ _ _ _ _ _ _ 0 w.add_multiple-else-right-length.ensures (w.in_ok-longer.ensures.copy ∙ ap (shifted o gap) w.as_slice-else-right-length.ensures) w.as_slice-else-right-length-2.ensures w.negated-factor.ensures w.times.ensures w.multiplicative_inverse.ensures missed_by in
-          moved g.met.F.Field.laws s _ _ _ _ _ _ _ _ _ _ _ _
-          (grows g.met.F.Field.laws s n c.loop.length c.loop.right c.loop.register c.loop.old c.loop.old_miss gap c.loop.invariant (λ e. missed (missed_by ∙ e)) shift)
+          w.register-is ∙ mended_is o _ _ _ _ _ _ _ _ _ _ _ 0 w.add_multiple-else-right-length.ensures (w.in_ok-longer.ensures.copy ∙ ap (shifted o gap) w.as_slice-else-right-length.ensures) w.as_slice-else-right-length-2.ensures w.negated-factor.ensures w.times.ensures w.inverse.ensures missed_by in
+          moved g.met.F.Arithmetic.laws s _ _ _ _ _ _ _ _ _ _ _ _
+          (grows g.met.F.Arithmetic.laws s n c.loop.length c.loop.right c.loop.register c.loop.old c.loop.old_miss gap c.loop.invariant (λ e. missed (missed_by ∙ e)) shift)
           next (omega (arith, w.length-is)) (sym w.right-is) (sym items) (sym w.old-is) (sym missed_by ∙ sym w.old_miss-is)
     ]
 
@@ -76,6 +76,6 @@ returns-clause-shortest g c =
     record {
       len = c.loop.length;
       within = omega (arith, all, c.loop.invariant.count);
-      generates = subst (λ n. Annihilates g.F.Field.ops (coefficient g.F.Field.ops c.args.items.now) n c.loop.length c.loop.register) all c.loop.invariant.register;
-      least = λ m q within good. c.loop.invariant.best m q (omega arith) (subst (λ n. Annihilates g.F.Field.ops (coefficient g.F.Field.ops c.args.items.now) n m q) (sym all) good);
+      generates = subst (λ n. Annihilates g.F.Arithmetic.ops (coefficient g.F.Arithmetic.ops c.args.items.now) n c.loop.length c.loop.register) all c.loop.invariant.register;
+      least = λ m q within good. c.loop.invariant.best m q (omega arith) (subst (λ n. Annihilates g.F.Arithmetic.ops (coefficient g.F.Arithmetic.ops c.args.items.now) n m q) (sym all) good);
     }

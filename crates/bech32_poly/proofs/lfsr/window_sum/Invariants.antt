@@ -6,7 +6,7 @@ use Rattle.bech32_poly.proofs.lfsr.window_sum.Given as goal
 abbrev pub invariant-loop-i : goal.invariant-loop-i
 invariant-loop-i g l = record {
   within : l.i ≤ length l.register;
-  sum_so_far : l.sum ≡ act g.F.Field.ops (drop l.i l.register) (coefficient g.F.Field.ops l.items) (l.start + l.i);
+  sum_so_far : l.sum ≡ act g.F.Arithmetic.ops (drop l.i l.register) (coefficient g.F.Arithmetic.ops l.items) (l.start + l.i);
 }
 
 -- proposed from the loop's first test

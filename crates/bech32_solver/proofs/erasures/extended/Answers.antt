@@ -42,7 +42,7 @@ returns-clause-ok g c =
 
 pub returns-clause-locators : goal.returns-clause-locators
 returns-clause-locators g c =
-    subst (λ u. IfOk c.locators_of.result (λ known. known ≡ locators g.K.Field.ops c.args.base u)) c.as_slice.ensures c.locators_of.ensures.locators
+    subst (λ u. IfOk c.locators_of.result (λ known. known ≡ locators g.K.Arithmetic.ops c.args.base u)) c.as_slice.ensures c.locators_of.ensures.locators
 
 pub returns-clause-in_place : goal.returns-clause-in_place
 returns-clause-in_place g c = λ fits.

@@ -14,7 +14,7 @@ invariant_of-self g c =
     let within = subst (λ (v : Question). AllByRecursion (λ i. i < v.window) c.args.locations.now) (sym c.self.view_is) c.requires in (
       c.self.invariant.0,
       subst (AreErasures held.window) (sym c.in-Ok.ensures.ok) (erasures_more held.window held.erasures c.args.locations.now c.self.invariant.1 within),
-      c.in-Ok.ensures.locators ∙ ap (λ b. locators g.Ck.CorrectionField.Field.ops b c.extended.new.erasures) c.ROOT_GENERATOR.ensures,
+      c.in-Ok.ensures.locators ∙ ap (λ b. locators g.Ck.CorrectionField.Arithmetic.ops b c.extended.new.erasures) c.ROOT_GENERATOR.ensures,
       c.self.invariant.3,
     )
 
@@ -24,7 +24,7 @@ invariant_of-self-in-Err g c =
     let back : c.truncate.new.self ≡ held.erasures = c.truncate.ensures ∙ ap (λ n. take n c.extended.new.erasures) c.len-before.ensures ∙ c.in-Err.ensures.front in (
       c.self.invariant.0,
       subst (AreErasures held.window) (sym back) c.self.invariant.1,
-      c.self.invariant.2 ∙ ap (locators g.Ck.CorrectionField.Field.ops g.Ck.Checksum.ROOT_GENERATOR) (sym back),
+      c.self.invariant.2 ∙ ap (locators g.Ck.CorrectionField.Arithmetic.ops g.Ck.Checksum.ROOT_GENERATOR) (sym back),
       c.self.invariant.3,
     )
 

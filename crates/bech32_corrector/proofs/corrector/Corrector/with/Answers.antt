@@ -10,8 +10,8 @@ invariant_of-result g c =
     let found = rw c.in-Some.is at c.in_ok-erasures.ensures.value in (
       c.self.invariant.0,
       found.1,
-      c.in_ok-known.ensures.locators ∙ ap (λ b. locators g.Ck.CorrectionField.Field.ops b c.as_slice.result.now) c.ROOT_GENERATOR.ensures
-          ∙ ap (locators g.Ck.CorrectionField.Field.ops g.Ck.Checksum.ROOT_GENERATOR) c.as_slice.ensures,
+      c.in_ok-known.ensures.locators ∙ ap (λ b. locators g.Ck.CorrectionField.Arithmetic.ops b c.as_slice.result.now) c.ROOT_GENERATOR.ensures
+          ∙ ap (locators g.Ck.CorrectionField.Arithmetic.ops g.Ck.Checksum.ROOT_GENERATOR) c.as_slice.ensures,
       c.self.invariant.3,
     )
 
@@ -44,3 +44,11 @@ returns-in_err-known-clause-in_place g c = λ short.
     let few : length (with_erasures [] c.args.given.now) ≤ c.bound-most.result = found.0.1 in
     refused (c.in_err-known.ensures.in_place
     (omega (arith, short, few, c.bound-most.ensures, g.met.Ck.Checksum.bound_law, c.self.invariant.3.few, ap (λ (s : List ℕ). length s) (c.as_slice.ensures ∙ found.2))))
+
+pub returns-in_err-erasures-clause-few : goal.returns-in_err-erasures-clause-few
+returns-in_err-erasures-clause-few g c = λ fits. refused (c.in_err-erasures.ensures.few fits)
+
+pub returns-in_err-known-clause-few : goal.returns-in_err-known-clause-few
+returns-in_err-known-clause-few g c = λ fits.
+    let found = rw c.in-Some.is at c.in_ok-erasures.ensures.value in
+    refused (c.in_err-known.ensures.in_place (omega (arith, fits, ap (λ (s : List ℕ). length s) (c.as_slice.ensures ∙ found.2))))

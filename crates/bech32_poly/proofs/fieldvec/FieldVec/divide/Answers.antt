@@ -6,4 +6,4 @@ use Rattle.bech32_poly.proofs.fieldvec.FieldVec.divide.Goals as goal
 pub returns : goal.returns
 returns g c =
     let same : length c.divide.new.rest ≡ length c.self.inside.inner.items = c.divide.auto.rest ∙ ap length c.as_mut_slice.ensures.value in
-    subst (IsRemainder g.F.Field.ops c.args.low.now c.args.polynomial.now) (sym (written_over c.self.inside.inner.items c.divide.new.rest same)) c.divide.ensures
+    subst (IsRemainder g.F.Arithmetic.ops c.args.low.now c.args.polynomial.now) (sym (written_over c.self.inside.inner.items c.divide.new.rest same)) c.divide.ensures

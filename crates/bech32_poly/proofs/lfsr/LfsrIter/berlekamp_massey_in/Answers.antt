@@ -28,5 +28,5 @@ returns-in-Ok-from_slice-clause-shortest g c = c.in-Ok.ensures.shortest
 
 pub returns-in-Ok-from_slice-clause-goes_on : goal.returns-in-Ok-from_slice-clause-goes_on
 returns-in-Ok-from_slice-clause-goes_on g c =
-    goes_on g.F.Field.ops c.in-Ok.coefficients c.args.items.now c.in-Ok-from_slice.ring c.in-Ok.ensures.shortest.generates
+    goes_on g.F.Arithmetic.ops c.in-Ok.coefficients c.args.items.now c.in-Ok-from_slice.ring c.in-Ok.ensures.shortest.generates
     (c.in-Ok-from_slice.ensures.ok ∙ ap (λ n. take n c.args.items.now) c.len.ensures)

@@ -8,13 +8,13 @@ use Rattle.bech32_poly.proofs.lfsr.LfsrIterIterator.next.Goals.{then-self-length
 pub returns-then-length-eq0-clause-steps : goal.returns-then-length-eq0-clause-steps
 returns-then-length-eq0-clause-steps g c =
     let none : length c.self.inside.ring ≡ 0 = omega (arith, c.len-length.ensures) in
-    subst (λ v. GivesNext g.F.Field.ops v (Some c.zero.result) v) c.self.view_is
-    (gives_zero g.met.F.Field.laws c.self.inside.coefficients c.self.inside.ring c.self.inside.start c.zero.result
+    subst (λ v. GivesNext g.F.Arithmetic.ops v (Some c.zero.result) v) c.self.view_is
+    (gives_zero g.met.F.Arithmetic.laws c.self.inside.coefficients c.self.inside.ring c.self.inside.start c.zero.result
     (omega (arith, c.self.invariant.0)) none c.zero.ensures)
 
 pub returns-clause-steps : goal.returns-clause-steps
 returns-clause-steps g c =
-    let o = g.F.Field.ops in
+    let o = g.F.Arithmetic.ops in
     let item = c.index-as_slice-self.result in
     let some : 0 < length c.self.inside.ring = omega (arith, c.len-length.ensures) in
     let within : c.self.inside.start < length c.self.inside.ring = c.self.invariant.1 some in
@@ -25,11 +25,11 @@ returns-clause-steps g c =
     elim c.if-self-length.branch [
       | then-self-length w ↦
           let end : suc c.self.inside.start ≡ length c.self.inside.ring = omega (arith, c.len-length.ensures) in
-          subst (λ v. GivesNext o v (Some item) c.if-self-length.self) c.self.view_is (subst (λ v. GivesNext o (record { coefficients = c.self.inside.coefficients; coming = from_place c.self.inside.start c.self.inside.ring }) (Some item) v) (sym w.self-is) (gives_next_at g.met.F.Field.laws c.self.inside.coefficients c.self.inside.ring c.set.new.self c.self.inside.start 0 _ c.following-following.result
+          subst (λ v. GivesNext o v (Some item) c.if-self-length.self) c.self.view_is (subst (λ v. GivesNext o (record { coefficients = c.self.inside.coefficients; coming = from_place c.self.inside.start c.self.inside.ring }) (Some item) v) (sym w.self-is) (gives_next_at g.met.F.Arithmetic.laws c.self.inside.coefficients c.self.inside.ring c.set.new.self c.self.inside.start 0 _ c.following-following.result
           c.self.invariant.0 within read comes c.set.ensures (inr (refl, end))))
       | else-self-length w ↦
           let next : c.self.inside.start + 1 ≡ suc c.self.inside.start = omega arith in
-          subst (λ v. GivesNext o v (Some item) c.if-self-length.self) c.self.view_is (subst (λ v. GivesNext o (record { coefficients = c.self.inside.coefficients; coming = from_place c.self.inside.start c.self.inside.ring }) (Some item) v) (sym w.self-is) (gives_next_at g.met.F.Field.laws c.self.inside.coefficients c.self.inside.ring c.set.new.self c.self.inside.start (c.self.inside.start + 1) _ c.following-following.result
+          subst (λ v. GivesNext o v (Some item) c.if-self-length.self) c.self.view_is (subst (λ v. GivesNext o (record { coefficients = c.self.inside.coefficients; coming = from_place c.self.inside.start c.self.inside.ring }) (Some item) v) (sym w.self-is) (gives_next_at g.met.F.Arithmetic.laws c.self.inside.coefficients c.self.inside.ring c.set.new.self c.self.inside.start (c.self.inside.start + 1) _ c.following-following.result
           c.self.invariant.0 within read comes c.set.ensures (inl next)))
     ]
 

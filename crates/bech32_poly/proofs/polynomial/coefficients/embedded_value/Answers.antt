@@ -17,12 +17,12 @@ loop-i-init g c =
     let p = c.args.p.now in
     record {
       within = omega arith;
-      so_far = c.zero-sum.ensures ∙ ap (λ u. value_at g.E.Field.ops c.args.x (map g.E.ExtensionField.embed u)) (sym (drop_all (length p) p (omega arith)));
+      so_far = c.zero-sum.ensures ∙ ap (λ u. value_at g.E.Arithmetic.ops c.args.x (map g.E.Extension.embed u)) (sym (drop_all (length p) p (omega arith)));
     }
 
 pub loop-i-preserved : goal.loop-i-preserved
 loop-i-preserved g c = record {
   within = omega (arith, c.loop-i.invariant.within);
-  so_far = one_more g.E.Field.ops g.E.ExtensionField.embed c.args.x c.args.p.now c.loop-i.i c.index-p-i.result c.loop-i.sum c.plus-sum.result c.lift.result c.times.result
+  so_far = one_more g.E.Arithmetic.ops g.E.Extension.embed c.args.x c.args.p.now c.loop-i.i c.index-p-i.result c.loop-i.sum c.plus-sum.result c.lift.result c.times.result
       c.loop-i-test.true c.loop-i.invariant.within c.loop-i.invariant.so_far c.index-p-i.is c.lift.ensures c.times.ensures c.plus-sum.ensures;
 }

@@ -5,7 +5,7 @@ use Rattle.bech32_poly.proofs.polynomial.coefficients.embedded_value.Given as go
 abbrev pub invariant-loop-i : goal.invariant-loop-i
 invariant-loop-i g l = record {
   within : l.i ≤ length l.p;
-  so_far : l.sum ≡ value_at g.E.Field.ops l.x (map g.E.ExtensionField.embed (drop l.i l.p));
+  so_far : l.sum ≡ value_at g.E.Arithmetic.ops l.x (map g.E.Extension.embed (drop l.i l.p));
 }
 
 abbrev pub decreases-loop-i : goal.decreases-loop-i

@@ -6,7 +6,7 @@ use Rattle.bech32_poly.proofs.polynomial.coefficients.push_products.Goals as goa
 
 pub loop-preserved : goal.loop-preserved
 loop-preserved g c =
-    let o = g.F.Field.ops in
+    let o = g.F.Arithmetic.ops in
     let m = multiply o c.args.p.now c.args.q.now in
     let next = c.product_coefficient-next.result in
     record {

@@ -5,5 +5,5 @@ use Rattle.bech32_poly.proofs.polynomial.coefficients.push_products.Given as goa
 abbrev pub invariant-loop : goal.invariant-loop
 invariant-loop g l = record {
   longer : length l.list ≡ length l.fn.list + l.counter;
-  begins : (n : ℕ) → n < length l.list → coefficient g.F.Field.ops l.list n ≡ coefficient g.F.Field.ops (multiply g.F.Field.ops l.p l.q) n;
+  begins : (n : ℕ) → n < length l.list → coefficient g.F.Arithmetic.ops l.list n ≡ coefficient g.F.Arithmetic.ops (multiply g.F.Arithmetic.ops l.p l.q) n;
 }

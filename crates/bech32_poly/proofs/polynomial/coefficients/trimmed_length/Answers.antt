@@ -4,11 +4,11 @@ use Rattle.bech32_poly.proofs.polynomial.coefficients.trimmed_length.Goals as go
 use Rattle.bech32_poly.proofs.polynomial.coefficients.trimmed_length.Goals.{then-is_zero, else-is_zero}
 
 pub loop-i-init : goal.loop-i-init
-loop-i-init g c = none_trimmed g.F.Field.ops c.args.p.now
+loop-i-init g c = none_trimmed g.F.Arithmetic.ops c.args.p.now
 
 pub loop-i-preserved : goal.loop-i-preserved
 loop-i-preserved g c =
-    let o = g.F.Field.ops in
+    let o = g.F.Arithmetic.ops in
     let within : c.loop-i.i < length c.args.p.now = omega arith in
     elim c.if-is_zero.branch [
       | then-is_zero w ↦
@@ -21,9 +21,9 @@ loop-i-preserved g c =
 pub returns : goal.returns
 returns g c =
     let all : c.loop-i.i ≡ length c.args.p.now = search rules in
-    let h = subst (λ i. IsTrimmed g.F.Field.ops c.args.p.now i c.loop-i.length) all c.loop-i.invariant in
+    let h = subst (λ i. IsTrimmed g.F.Arithmetic.ops c.args.p.now i c.loop-i.length) all c.loop-i.invariant in
     record {
       within = h.within;
-      above = trimmed_above g.F.Field.ops c.args.p.now c.loop-i.length h;
+      above = trimmed_above g.F.Arithmetic.ops c.args.p.now c.loop-i.length h;
       leads = h.leads;
     }

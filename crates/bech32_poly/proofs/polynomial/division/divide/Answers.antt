@@ -18,21 +18,21 @@ loop-i-init g c =
     let p = c.args.polynomial.now in
     record {
       within = omega arith;
-      so_far = c.requires ∙ ap (remainder_of g.F.Field.ops c.args.low.now) (sym (drop_all (length p) p (omega arith)));
+      so_far = c.requires ∙ ap (remainder_of g.F.Arithmetic.ops c.args.low.now) (sym (drop_all (length p) p (omega arith)));
     }
 
 pub take_in-requires : goal.take_in-requires
 take_in-requires g c =
-    sym (ap (λ u. length u) c.loop-i.invariant.so_far ∙ length-remainder_of g.met.F.Field.laws c.args.low.now (drop c.loop-i.i c.args.polynomial.now))
+    sym (ap (λ u. length u) c.loop-i.invariant.so_far ∙ length-remainder_of g.met.F.Arithmetic.laws c.args.low.now (drop c.loop-i.i c.args.polynomial.now))
 
 pub loop-i-preserved : goal.loop-i-preserved
 loop-i-preserved g c = record {
   within = omega (arith, c.loop-i.invariant.within);
-  so_far = one_more g.F.Field.ops c.args.low.now c.args.polynomial.now c.loop-i.rest c.take_in.new.rest c.loop-i.i c.index-polynomial-i.result
+  so_far = one_more g.F.Arithmetic.ops c.args.low.now c.args.polynomial.now c.loop-i.rest c.take_in.new.rest c.loop-i.i c.index-polynomial-i.result
       c.loop-i-test.true c.loop-i.invariant.within c.loop-i.invariant.so_far c.index-polynomial-i.is c.take_in.ensures;
 }
 
 pub returns : goal.returns
 returns g c =
     let done : c.loop-i.i ≡ 0 = omega arith in
-    divided_all g.met.F.Field.laws c.args.low.now c.args.polynomial.now c.loop-i.rest c.loop-i.i done c.loop-i.invariant.so_far
+    divided_all g.met.F.Arithmetic.laws c.args.low.now c.args.polynomial.now c.loop-i.rest c.loop-i.i done c.loop-i.invariant.so_far

@@ -5,7 +5,7 @@ use Rattle.bech32_poly.proofs.polynomial.division.divide.Given as goal
 abbrev pub invariant-loop-i : goal.invariant-loop-i
 invariant-loop-i g l = record {
   within : l.i ≤ length l.polynomial;
-  so_far : l.rest ≡ remainder_of g.F.Field.ops l.low (drop l.i l.polynomial);
+  so_far : l.rest ≡ remainder_of g.F.Arithmetic.ops l.low (drop l.i l.polynomial);
 }
 
 abbrev pub decreases-loop-i : goal.decreases-loop-i

@@ -13,4 +13,4 @@ loop-i-preserved g c =
 pub returns-clause-rest : goal.returns-clause-rest
 returns-clause-rest g c =
     let all : length c.args.rest.now ≤ c.loop-i.i = search rules in
-    all_moved g.met.F.Field.laws c.args.next c.args.rest.now c.loop-i.rest c.loop-i.i all c.loop-i.invariant.moved
+    all_moved g.met.F.Arithmetic.laws c.args.next c.args.rest.now c.loop-i.rest c.loop-i.i all c.loop-i.invariant.moved

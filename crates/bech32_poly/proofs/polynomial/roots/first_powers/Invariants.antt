@@ -5,6 +5,6 @@ use Rattle.bech32_poly.proofs.polynomial.roots.first_powers.Given as goal
 
 abbrev pub invariant-loop : goal.invariant-loop
 invariant-loop g l = record {
-  powers_are : l.powers ≡ powers_of g.F.Field.ops l.base 0 l.counter;
-  power_is : l.power ≡ power g.F.Field.ops l.base l.counter;
+  powers_are : l.powers ≡ powers_of g.F.Arithmetic.ops l.base 0 l.counter;
+  power_is : l.power ≡ power g.F.Arithmetic.ops l.base l.counter;
 }

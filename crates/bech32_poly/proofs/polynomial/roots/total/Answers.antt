@@ -15,12 +15,12 @@ loop-i-init g c =
     let xs = c.args.items.now in
     record {
       within = omega arith;
-      so_far = c.zero-sum.ensures ∙ ap (total_of g.F.Field.ops) (sym (drop_all (length xs) xs (omega arith)));
+      so_far = c.zero-sum.ensures ∙ ap (total_of g.F.Arithmetic.ops) (sym (drop_all (length xs) xs (omega arith)));
     }
 
 pub loop-i-preserved : goal.loop-i-preserved
 loop-i-preserved g c = record {
   within = omega (arith, c.loop-i.invariant.within);
-  so_far = one_more g.F.Field.ops c.args.items.now c.loop-i.i c.index-items-i.result c.loop-i.sum c.plus-sum.result
+  so_far = one_more g.F.Arithmetic.ops c.args.items.now c.loop-i.i c.index-items-i.result c.loop-i.sum c.plus-sum.result
       c.loop-i-test.true c.loop-i.invariant.within c.loop-i.invariant.so_far c.index-items-i.is c.plus-sum.ensures;
 }

@@ -14,10 +14,10 @@ leads o q r n e within high = subst (λ u. 0 < length (take n u) → coefficient
 
 pub returns-clause-same : goal.returns-clause-same
 returns-clause-same g c =
-    same g.F.Field.ops c.args.self.now c.as_slice-2.result.now c.as_slice.result.now c.trimmed_length.result (c.as_slice-2.ensures ∙ c.self.view_is) (c.as_slice.ensures ∙ c.self.view_is)
+    same g.F.Arithmetic.ops c.args.self.now c.as_slice-2.result.now c.as_slice.result.now c.trimmed_length.result (c.as_slice-2.ensures ∙ c.self.view_is) (c.as_slice.ensures ∙ c.self.view_is)
     c.trimmed_length.ensures.within c.trimmed_length.ensures.above
 
 pub returns-clause-trimmed : goal.returns-clause-trimmed
 returns-clause-trimmed g c =
-    leads g.F.Field.ops c.as_slice-2.result.now c.as_slice.result.now c.trimmed_length.result (c.as_slice-2.ensures ∙ sym c.as_slice.ensures)
+    leads g.F.Arithmetic.ops c.as_slice-2.result.now c.as_slice.result.now c.trimmed_length.result (c.as_slice-2.ensures ∙ sym c.as_slice.ensures)
     c.trimmed_length.ensures.within c.trimmed_length.ensures.leads

@@ -18,12 +18,12 @@ returns-in_err-push_products-2-clause-in_place g c = λ fits few.
 
 pub returns-clause-product : goal.returns-clause-product
 returns-clause-product g c =
-    let o = g.F.Field.ops in
+    let o = g.F.Arithmetic.ops in
     let list = c.push_products-2.new.list in
     let none : length c.new-list.result ≡ 0 = ap (λ u. length u) c.new-list.ensures in
     subst (λ p. IsSamePolynomial o list (multiply o p c.args.other.now)) (c.as_slice-p.ensures ∙ c.self.view_is)
     (subst (λ q. IsSamePolynomial o list (multiply o c.as_slice-p.result.now q)) (c.as_slice-q.ensures ∙ c.other.view_is)
-    (whole_product g.met.F.Field.laws list c.as_slice-p.result.now c.as_slice-q.result.now c.push_products-2.ensures.begins
+    (whole_product g.met.F.Arithmetic.laws list c.as_slice-p.result.now c.as_slice-q.result.now c.push_products-2.ensures.begins
     (omega (arith, none, c.in_ok-push_products.ensures.longer, c.in_ok-push_products-2.ensures.longer, c.saturating_sub.ensures))))
 
 pub returns-clause-size : goal.returns-clause-size

@@ -15,12 +15,12 @@ returns-in_err-push_products-2-clause-in_place g c = λ fits.
 
 pub returns-clause-product : goal.returns-clause-product
 returns-clause-product g c =
-    let o = g.F.Field.ops in
+    let o = g.F.Arithmetic.ops in
     let list = c.push_products-2.new.list in
     let none : length c.new-list.result ≡ 0 = ap (λ u. length u) c.new-list.ensures in
     subst (λ p. IsSamePolynomial o list (take c.args.end (multiply o p c.args.other.now))) (c.as_slice-p.ensures ∙ c.self.view_is)
     (subst (λ q. IsSamePolynomial o list (take c.args.end (multiply o c.as_slice-p.result.now q))) (c.as_slice-q.ensures ∙ c.other.view_is)
-    (cut_product g.met.F.Field.laws list c.as_slice-p.result.now c.as_slice-q.result.now c.args.end c.push_products-2.ensures.begins
+    (cut_product g.met.F.Arithmetic.laws list c.as_slice-p.result.now c.as_slice-q.result.now c.args.end c.push_products-2.ensures.begins
     (omega (arith, none, c.in_ok-push_products.ensures.longer, c.in_ok-push_products-2.ensures.longer, c.min-first.ensures, c.min.ensures))
     (λ below. omega (arith, none, below, c.in_ok-push_products.ensures.longer, c.in_ok-push_products-2.ensures.longer, c.min-first.ensures, c.min.ensures))))
 

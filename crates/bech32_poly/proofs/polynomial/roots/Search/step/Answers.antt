@@ -6,15 +6,15 @@ use Rattle.bech32_poly.proofs.polynomial.roots.Search.step.Goals as goal
 pub invariant_of-self : goal.invariant_of-self
 invariant_of-self g c =
     c.self.invariant
-    ∙ sym (length-multiplied_each g.met.E.Field.laws c.self.inside.terms c.self.inside.factors)
-    ∙ ap (λ u. length u) (sym (c.multiply_each.ensures ∙ ap (multiplied_each g.E.Field.ops c.self.inside.terms) c.as_slice-2.ensures))
+    ∙ sym (length-multiplied_each g.met.E.Arithmetic.laws c.self.inside.terms c.self.inside.factors)
+    ∙ ap (λ u. length u) (sym (c.multiply_each.ensures ∙ ap (multiplied_each g.E.Arithmetic.ops c.self.inside.terms) c.as_slice-2.ensures))
 
 pub returns-clause-found : goal.returns-clause-found
 returns-clause-found g c =
-    let o = g.E.Field.ops in
-    let same = g.E.PartialEq.eq in
-    c.eq-is_root.ensures
-    ∙ ap (λ x. same x c.zero.result) (c.total.ensures ∙ ap (total_of o) c.as_slice.ensures ∙ sym (value_after-now g.met.E.Field.laws c.self.inside.terms c.self.inside.factors c.self.invariant))
+    let o = g.E.Arithmetic.ops in
+    let same = g.E.Arithmetic.eq in
+    c.equals-is_root.ensures
+    ∙ ap (λ x. same x c.zero.result) (c.total.ensures ∙ ap (total_of o) c.as_slice.ensures ∙ sym (value_after-now g.met.E.Arithmetic.laws c.self.inside.terms c.self.inside.factors c.self.invariant))
     ∙ ap (same (value_after o c.self.inside.terms c.self.inside.factors 0)) c.zero.ensures
     ∙ ap (λ v. same (value_after o v.terms v.factors 0) o.zero) c.self.view_is
 
@@ -25,7 +25,7 @@ overflow_add-self g c =
 
 pub returns-clause-terms : goal.returns-clause-terms
 returns-clause-terms g c =
-    let o = g.E.Field.ops in
+    let o = g.E.Arithmetic.ops in
     c.multiply_each.ensures ∙ ap (multiplied_each o c.self.inside.terms) c.as_slice-2.ensures ∙ ap (λ v. multiplied_each o v.terms v.factors) c.self.view_is
 
 pub returns-clause-factors : goal.returns-clause-factors
