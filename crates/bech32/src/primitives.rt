@@ -4,6 +4,7 @@ pub use bech32_checksum::{Bech32, Bech32m, NoChecksum};
 pub use bech32_core::{device, encode, hrp, iter};
 pub use bech32_decode as decode;
 pub use bech32_decode::segwit;
+pub use bech32_gf::arithmetic::{Arithmetic, Extension};
 pub use bech32_gf::field::{
     Bech32Field, ExtensionField, Field, MultiplicativeOrder, Powers, PowersRange,
 };
@@ -16,8 +17,8 @@ pub use bech32_poly::lfsr::LfsrIter;
 pub mod checksum {
     pub use bech32_block::{NamedField, PrintError, PrintImpl};
     pub use bech32_checksum::{
-        Bech32, Bech32m, Checksum, Engine, HrpFe32Iter, NoChecksum, PackedFe32, PackedNull,
-        RootField,
+        Bech32, Bech32m, Checksum, Engine, HrpFe32Iter, LocatorField, NoChecksum, PackedFe32,
+        PackedNull,
     };
     pub use bech32_detect::{accepted_texts_are_far, detects_four, detects_four_in};
 }

@@ -11,9 +11,8 @@ ghost use Rattle.bech32_words.specs.Words.{code_of_written};
 
 use crate::error::PrintError;
 use crate::series::{least_power, longest_series, period};
-use bech32_gf::field::{ExtensionField, Field};
+use bech32_gf::field::{ExtensionField, Field, power_of};
 use bech32_gf::gf32::Fe32;
-use bech32_poly::arithmetic::{Arithmetic, Extension};
 use std::alloc::{AllocError, Allocator};
 
 /// Where the roots of a generator are: the exponents of a base from `start` to `end`, and the order
@@ -31,9 +30,9 @@ pub(crate) struct Roots<E> {
 fn generator_at<E: ExtensionField<BaseField = Fe32>>(generator: &[Fe32], x: E) -> E
     ensures { result ≡ value_in E.ops E.embed (monic fe32.ops (reverse generator.now)) x }
 {
-    let mut value = E::one();
+    let mut value = E::ONE;
     for coefficient in generator {
-        value = E::lift(*coefficient).plus(x.times(value));
+        value = E::from(*coefficient) + x * value;
     }
     value
 }
@@ -52,12 +51,12 @@ fn root_exponents<E: ExtensionField<BaseField = Fe32>, A: Allocator>(
     }) generator.now) }
 {
     let mut roots = Vec::new(alloc);
-    let mut power = E::one();
+    let mut power = E::ONE;
     for exponent in 0..E::MULTIPLICATIVE_ORDER {
-        if generator_at(generator, power) == E::zero() {
+        if generator_at(generator, power) == E::ZERO {
             roots.push(exponent)?;
         }
-        power = power.times(E::GENERATOR);
+        power = power * E::GENERATOR;
     }
     Ok(roots)
 }
@@ -112,7 +111,7 @@ impl<E: ExtensionField<BaseField = Fe32>> Roots<E> {
             None => return Err(PrintError::NotPowers),
         };
         Ok(Roots {
-            base: E::GENERATOR.power(series.step),
+            base: power_of(E::GENERATOR, series.step),
             start,
             end: start + (series.length - 1),
             code_length: period(order, series.step),

@@ -19,7 +19,7 @@ mod roots;
 pub use self::checksums::{Bech32, Bech32m, NoChecksum};
 pub use self::hrp_fes::HrpFe32Iter;
 pub use self::packed::{PackedFe32, PackedNull};
-pub use self::roots::RootField;
+pub use self::roots::LocatorField;
 use bech32_gf::gf32::Fe32;
 use bech32_hrp::Hrp;
 use std::alloc::AllocError;
@@ -33,7 +33,7 @@ pub trait Checksum {
     type MidstateRepr: PackedFe32;
 
     /// The field in which errors are located and their values found.
-    type CorrectionField: RootField;
+    type CorrectionField: LocatorField;
 
     ghost ROOT_GENERATOR: { Self.CorrectionField };
 

@@ -7,26 +7,49 @@ ghost use Rattle.bech32_poly.specs.Embedding.{Embeds};
 ghost use Rattle.bech32_checksum.specs.Roots.{generator_at, HasOrderFrom, PowersAreRoots};
 
 use crate::{Checksum, PackedFe32};
-use bech32_gf::field::ExtensionField;
 use bech32_gf::gf32::Fe32;
+use bech32_gf_ext::{Fe1024, Fe32768};
 use bech32_poly::arithmetic::{Arithmetic, Extension};
 
-/// A field in which errors are located and their values found. Each [`ExtensionField`] of the field
-/// of 32 elements is one.
-pub trait RootField: Extension<BaseField = Fe32> {
+/// A field in which errors are located and their values found: it extends that of 32 elements.
+pub trait LocatorField: Extension<BaseField = Fe32> {
     // The base field's operations are those of `Fe32`.
     ghost base_law: { Self.base ≡ fe32.ops };
 
     ghost embeds_law: { Embeds fe32.ops Self.ops Self.embed };
 }
 
-impl<E: ExtensionField<BaseField = Fe32>> RootField for E {
+impl LocatorField for Fe32 {
     ghost base_law = { refl };
 
     ghost embeds_law = { record {
-      one = E.embed_one_law;
-      add = E.embed_add_law;
-      mul = E.embed_mul_law;
+      one = refl;
+      add = λ x y. refl;
+      mul = λ x y. refl;
+    } };
+}
+
+impl LocatorField for Fe1024 {
+    ghost use Rattle.bech32_gf_ext.specs.laws.Fe1024Laws as laws_of;
+
+    ghost base_law = { refl };
+
+    ghost embeds_law = { record {
+      one = refl;
+      add = laws_of.embed-add;
+      mul = laws_of.embed-mul;
+    } };
+}
+
+impl LocatorField for Fe32768 {
+    ghost use Rattle.bech32_gf_ext.specs.laws.Fe32768Laws as laws_of;
+
+    ghost base_law = { refl };
+
+    ghost embeds_law = { record {
+      one = refl;
+      add = laws_of.embed-add;
+      mul = laws_of.embed-mul;
     } };
 }
 

@@ -345,6 +345,17 @@ impl<F: Field> Iterator for Powers<F> {
     }
 }
 
+/// The power by a number, by squares.
+pub fn power_of<F: Field>(base: F, n: usize) -> F
+    ensures { result ≡ power F.ops base n }
+{
+    let mut powers = base.powers();
+    match powers.nth(n) {
+        Some(power) => power,
+        None => unreachable!(),
+    }
+}
+
 /// The powers of an element from one number to another, both included.
 #[derive(Drop)]
 pub struct PowersRange<F: Field> {

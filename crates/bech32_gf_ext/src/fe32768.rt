@@ -4,8 +4,9 @@ ghost use Rattle.std.specs.Prelude.{◌≡◌, ◌≢◌, codes};
 
 use crate::arithmetic::Arithmetic;
 use crate::{Fe32Ext, Fe32768, write_two};
+use bech32_gf::arithmetic::{self as operations, Extension};
 use bech32_gf::field::private::Sealed;
-use bech32_gf::field::{Bech32Field, ExtensionField, Field};
+use bech32_gf::field::{Bech32Field, ExtensionField, Field, MultiplicativeOrder, power_of};
 use bech32_gf::gf32::Fe32;
 use std::fmt;
 
@@ -308,6 +309,104 @@ impl ExtensionField for Fe32768 {
     ghost embed_mul_law = { laws_of.embed-mul };
 
     ghost polynomial_law = { laws_of.power-ext_elem };
+}
+
+impl operations::Arithmetic for Fe32768 {
+    ghost use Rattle.bech32_gf_ext.specs.Fe32768 as elements;
+    ghost use Rattle.bech32_gf_ext.specs.laws.Fe32768Laws as laws_of;
+    ghost use Rattle.bech32_gf_ext.specs.laws.Fe32ExtLaws.{are_equal, eq_is_equal};
+
+    ghost ops = { elements.ops };
+
+    ghost eq = { are_equal };
+
+    fn zero() -> Fe32768 {
+        Fe32768::ZERO
+    }
+
+    fn one() -> Fe32768 {
+        Fe32768::ONE
+    }
+
+    fn plus(self, other: Fe32768) -> Fe32768 {
+        self + other
+    }
+
+    fn times(self, other: Fe32768) -> Fe32768 {
+        self * other
+    }
+
+    fn negated(self) -> Fe32768 {
+        -self
+    }
+
+    fn inverse(self) -> Fe32768 {
+        self.multiplicative_inverse()
+    }
+
+    fn power(self, n: usize) -> Fe32768 {
+        power_of(self, n)
+    }
+
+    fn order(self) -> usize {
+        self.multiplicative_order()
+    }
+
+    fn equals(self, other: Fe32768) -> bool {
+        self == other
+    }
+
+    fn is_zero(self) -> bool {
+        self.equals(<Fe32768 as operations::Arithmetic>::zero())
+    }
+
+    ghost laws = { laws_of.is_field };
+
+    ghost eq_law = { eq_is_equal };
+}
+
+impl Extension for Fe32768 {
+    ghost use Rattle.std.specs.Prelude.{refl};
+    ghost use Rattle.bech32_gf.specs.Fe32 as fe32;
+    ghost use Rattle.bech32_gf.specs.laws.Fe32Laws as fe32_laws;
+    ghost use Rattle.bech32_gf_ext.specs.Fe32768 as elements;
+    ghost use Rattle.bech32_gf_ext.specs.laws.Fe32768Laws as laws_of;
+
+    type BaseField = Fe32;
+
+    ghost base = { fe32.ops };
+
+    ghost embed = { elements.embed };
+
+    ghost retract = { elements.retract };
+
+    fn is_base_zero(x: Fe32) -> bool {
+        x == Fe32::Q
+    }
+
+    fn lift(x: Fe32) -> Fe32768 {
+        Fe32768::from(x)
+    }
+
+    fn lower(self) -> Option<Fe32> {
+        self.to_base()
+    }
+
+    ghost base_laws = { fe32_laws.is_field };
+
+    ghost retract_law = { laws_of.retract-embed };
+
+    ghost embed_retract_law = { laws_of.embed-retract };
+
+    ghost embed_zero_law = { refl };
+
+    ghost embed_one_law = { refl };
+
+    ghost embed_add_law = { laws_of.embed-add };
+
+    ghost embed_neg_law = { λ a. refl };
+
+    ghost embed_mul_law = { laws_of.embed-mul };
 }
 
 impl Sealed for Fe32768 {}

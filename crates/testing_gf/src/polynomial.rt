@@ -1,4 +1,5 @@
 use crate::compare::{gives, same, same_items};
+use bech32_gf::arithmetic::Arithmetic;
 use bech32_gf::field::Field;
 use bech32_gf::gf32::Fe32;
 use bech32_gf_ext::{Fe32Ext, Fe1024};
@@ -46,7 +47,7 @@ fn zeros_alone(rt: HostRuntime) {
 }
 
 /// Whether a polynomial was made that has these coefficients.
-pub fn has<F: Field>(made: Result<Polynomial<F>, AllocError>, want: &[F]) -> bool {
+pub fn has<F: Arithmetic + PartialEq>(made: Result<Polynomial<F>, AllocError>, want: &[F]) -> bool {
     match made {
         Ok(polynomial) => polynomial.coefficients() == want,
         Err(_) => false,

@@ -1,10 +1,11 @@
 use crate::compare::{same, same_items};
 use crate::polynomial::has;
-use bech32_gf::field::Field;
+use bech32_gf::arithmetic::Arithmetic;
 use bech32_gf::gf32::Fe32;
 use bech32_poly::polynomial::{Polynomial, remainder};
 use linked_list_allocator::LocalHeap;
 use std::alloc::{AllocError, Global};
+use std::fmt::Debug;
 use std::process::Abort;
 use testing_tools::seven::Seven;
 
@@ -12,7 +13,13 @@ use testing_tools::seven::Seven;
 const LOW: [Fe32; 6] = [Fe32::J, Fe32::A, Fe32::_4, Fe32::_5, Fe32::K, Fe32::A];
 
 // Fails where a vector of coefficients leaves others.
-fn leaves<F: Field>(rt: &impl Abort, alloc: Global, list: &[F], low: &[F], want: &[F]) {
+fn leaves<F: Arithmetic + PartialEq + Debug>(
+    rt: &impl Abort,
+    alloc: Global,
+    list: &[F],
+    low: &[F],
+    want: &[F],
+) {
     let rest = remainder(alloc, list, low).expect(rt, "memory");
     same_items(rt, &rest, want);
 }

@@ -3,7 +3,8 @@
 ghost use Rattle.std.specs.Prelude.{◌≡◌, ◌≢◌, ◌<◌};
 ghost use Rattle.testing_tools.specs.Seven as seven;
 
-use bech32_gf::field::Field;
+use bech32_gf::arithmetic::Arithmetic;
+use bech32_gf::field::{Field, MultiplicativeOrder, power_of};
 use std::fmt;
 use std::iter::Sum;
 use std::marker::Model;
@@ -271,4 +272,56 @@ impl Field for Seven {
     ghost divisors_law = { seven.divisors };
 
     ghost fits_law = { seven.fits };
+}
+
+impl Arithmetic for Seven {
+    ghost use Rattle.std.specs.Prelude.{◌==◌};
+
+    ghost ops = { seven.ops };
+
+    ghost eq = { λ x y. x.number == y.number };
+
+    fn zero() -> Seven {
+        Seven::ZERO
+    }
+
+    fn one() -> Seven {
+        Seven::ONE
+    }
+
+    fn plus(self, other: Seven) -> Seven {
+        self + other
+    }
+
+    fn times(self, other: Seven) -> Seven {
+        self * other
+    }
+
+    fn negated(self) -> Seven {
+        -self
+    }
+
+    fn inverse(self) -> Seven {
+        self.inverted()
+    }
+
+    fn power(self, n: usize) -> Seven {
+        power_of(self, n)
+    }
+
+    fn order(self) -> usize {
+        self.multiplicative_order()
+    }
+
+    fn equals(self, other: Seven) -> bool {
+        self == other
+    }
+
+    fn is_zero(self) -> bool {
+        self.equals(Self::zero())
+    }
+
+    ghost laws = { seven.is_field };
+
+    ghost eq_law = { seven.eq_is_equal };
 }

@@ -2,17 +2,18 @@
 
 use crate::elements::{digits, extended, shown};
 use crate::rows::{no_row, word};
-use bech32_gf::field::Field;
+use bech32_gf::arithmetic::Arithmetic;
 use bech32_poly::lfsr::LfsrIter;
 use std::alloc::{AllocError, Global};
+use std::fmt::Display;
 
 // Whether a register's next item is this one.
-fn is_next<F: Field>(register: &mut LfsrIter<F>, want: &F) -> bool {
+fn is_next<F: Arithmetic + PartialEq>(register: &mut LfsrIter<F>, want: &F) -> bool {
     register.next() == Some(*want)
 }
 
 // Whether these are a register's next items.
-fn gives<F: Field>(register: &mut LfsrIter<F>, list: &[F]) -> bool {
+fn gives<F: Arithmetic + PartialEq>(register: &mut LfsrIter<F>, list: &[F]) -> bool {
     for want in list.iter() {
         if !is_next(register, want) {
             return false;
@@ -22,12 +23,12 @@ fn gives<F: Field>(register: &mut LfsrIter<F>, list: &[F]) -> bool {
 }
 
 // A register's next item; it has one always.
-fn item<F: Field>(register: &mut LfsrIter<F>) -> F {
-    register.next().unwrap_or(F::ZERO)
+fn item<F: Arithmetic>(register: &mut LfsrIter<F>) -> F {
+    register.next().unwrap_or(F::zero())
 }
 
 // The next ten items.
-fn further<F: Field>(alloc: Global, register: &mut LfsrIter<F>) -> Result<Vec<F>, AllocError> {
+fn further<F: Arithmetic>(alloc: Global, register: &mut LfsrIter<F>) -> Result<Vec<F>, AllocError> {
     let mut items = Vec::new(alloc);
     for _ in 0..10u8 {
         items.push(item(register))?;
@@ -36,7 +37,7 @@ fn further<F: Field>(alloc: Global, register: &mut LfsrIter<F>) -> Result<Vec<F>
 }
 
 // What stands behind the length where there is only one register.
-fn only_one<F: Field>(
+fn only_one<F: Arithmetic + PartialEq + Display>(
     alloc: Global,
     register: &mut LfsrIter<F>,
     list: &[F],
@@ -51,7 +52,7 @@ fn only_one<F: Field>(
 }
 
 // The length of a register of a list, and what it gives where it is the only one.
-fn shown_register<F: Field>(
+fn shown_register<F: Arithmetic + PartialEq + Display>(
     alloc: Global,
     register: &mut LfsrIter<F>,
     list: &[F],

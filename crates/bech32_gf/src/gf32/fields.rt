@@ -3,8 +3,9 @@
 ghost use Rattle.std.specs.Prelude.{◌≡◌, codes};
 
 use super::Fe32;
+use crate::arithmetic::{Arithmetic, Extension};
 use crate::field::private::Sealed;
-use crate::field::{Bech32Field, ExtensionField, Field};
+use crate::field::{Bech32Field, ExtensionField, Field, MultiplicativeOrder, power_of};
 use std::fmt;
 
 impl Field for Fe32 {
@@ -154,6 +155,102 @@ impl ExtensionField for Fe32 {
     ghost embed_mul_law = { λ x y. refl };
 
     ghost polynomial_law = { power-one laws_of.is_field fe32.one };
+}
+
+impl Arithmetic for Fe32 {
+    ghost use Rattle.std.specs.Prelude.{◌==◌};
+    ghost use Rattle.bech32_gf.specs.Fe32 as fe32;
+    ghost use Rattle.bech32_gf.specs.laws.Fe32Laws as laws_of;
+
+    ghost ops = { fe32.ops };
+
+    ghost eq = { λ x y. x.value == y.value };
+
+    fn zero() -> Fe32 {
+        Fe32::ZERO
+    }
+
+    fn one() -> Fe32 {
+        Fe32::ONE
+    }
+
+    fn plus(self, other: Fe32) -> Fe32 {
+        self + other
+    }
+
+    fn times(self, other: Fe32) -> Fe32 {
+        self * other
+    }
+
+    fn negated(self) -> Fe32 {
+        -self
+    }
+
+    fn inverse(self) -> Fe32 {
+        self.multiplicative_inverse()
+    }
+
+    fn power(self, n: usize) -> Fe32 {
+        power_of(self, n)
+    }
+
+    fn order(self) -> usize {
+        self.multiplicative_order()
+    }
+
+    fn equals(self, other: Fe32) -> bool {
+        self == other
+    }
+
+    fn is_zero(self) -> bool {
+        self == Fe32::ZERO
+    }
+
+    ghost laws = { laws_of.is_field };
+
+    ghost eq_law = { laws_of.eq_is_equal };
+}
+
+impl Extension for Fe32 {
+    ghost use Rattle.std.specs.Prelude.{Some, refl};
+    ghost use Rattle.bech32_gf.specs.Fe32 as fe32;
+    ghost use Rattle.bech32_gf.specs.laws.Fe32Laws as laws_of;
+
+    type BaseField = Fe32;
+
+    ghost base = { fe32.ops };
+
+    ghost embed = { λ x. x };
+
+    ghost retract = { λ x. Some x };
+
+    fn is_base_zero(x: Fe32) -> bool {
+        x == Fe32::Q
+    }
+
+    fn lift(x: Fe32) -> Fe32 {
+        x
+    }
+
+    fn lower(self) -> Option<Fe32> {
+        Some(self)
+    }
+
+    ghost base_laws = { laws_of.is_field };
+
+    ghost retract_law = { λ x. refl };
+
+    ghost embed_retract_law = { laws_of.same_element };
+
+    ghost embed_zero_law = { refl };
+
+    ghost embed_one_law = { refl };
+
+    ghost embed_add_law = { λ x y. refl };
+
+    ghost embed_neg_law = { λ x. refl };
+
+    ghost embed_mul_law = { λ x y. refl };
 }
 
 impl Sealed for Fe32 {}

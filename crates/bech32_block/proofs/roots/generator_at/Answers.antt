@@ -7,7 +7,7 @@ use Rattle.bech32_block.proofs.RootList.{value_start, value_next}
 use Rattle.bech32_block.proofs.roots.generator_at.Goals as goal
 
 pub loop-coefficient-init : goal.loop-coefficient-init
-loop-coefficient-init g c = value_start g.met.E.Field.laws g.E.ExtensionField.embed c.args.x c.one-value.result c.one-value.ensures g.met.E.ExtensionField.embed_one_law
+loop-coefficient-init g c = value_start g.met.E.Field.laws g.E.ExtensionField.embed c.args.x c.ONE-value.result (c.ONE-value.ensures ∙ g.met.E.Field.one_law) g.met.E.ExtensionField.embed_one_law
 
 pub loop-coefficient-preserved : goal.loop-coefficient-preserved
 loop-coefficient-preserved g c =
@@ -15,8 +15,8 @@ loop-coefficient-preserved g c =
     let i : ℕ = c.loop-coefficient.coefficient-index in
     let item = c.coefficient-item.result in
     let more : take (i + 1) whole ≡ take i whole ++ (item ∷ []) = take_more whole i item c.loop-coefficient-test.true ∙ ap (λ y. take i whole ++ (y ∷ [])) (sym c.coefficient-item.is) in
-    c.plus-value.ensures
-    ∙ value_next g.met.E.Field.laws g.E.ExtensionField.embed (take i whole) (take (i + 1) whole) item c.args.x c.loop-coefficient.value c.lift.result c.times.result more c.loop-coefficient.invariant c.lift.ensures c.times.ensures
+    g.met.E.Field.add_law _ _ _ c.add-value.ensures
+    ∙ value_next g.met.E.Field.laws g.E.ExtensionField.embed (take i whole) (take (i + 1) whole) item c.args.x c.loop-coefficient.value c.from.result c.mul.result more c.loop-coefficient.invariant (g.met.E.ExtensionField.from_law _ _ c.from.ensures) (g.met.E.Field.mul_law _ _ _ c.mul.ensures)
 
 pub returns : goal.returns
 returns g c =

@@ -8,7 +8,7 @@ use Rattle.bech32_block.proofs.roots.root_exponents.Goals as goal
 
 pub loop-exponent-init : goal.loop-exponent-init
 loop-exponent-init g c = record {
-  power_is = c.one-power.ensures ∙ sym (power-zero g.met.E.Field.laws _);
+  power_is = c.ONE-power.ensures ∙ g.met.E.Field.one_law ∙ sym (power-zero g.met.E.Field.laws _);
   roots_are = c.new-roots.ensures.items;
 }
 
@@ -19,14 +19,14 @@ loop-exponent-preserved g c =
     let found = c.loop-exponent.roots.items in
     let inv = c.loop-exponent.invariant in
     record {
-      power_is = power_next g.met.E.Field.laws f.generator c.loop-exponent.power c.times-power.result n inv.power_is (c.times-power.ensures ∙ ap (f.ops.mul c.loop-exponent.power) c.GENERATOR.ensures);
+      power_is = power_next g.met.E.Field.laws f.generator c.loop-exponent.power c.mul-power.result n inv.power_is (g.met.E.Field.mul_law _ _ _ c.mul-power.ensures ∙ ap (f.ops.mul c.loop-exponent.power) c.GENERATOR.ensures);
       roots_are = elim c.if-eq.branch [
         | then-eq+in_ok-push w ↦
             let pushed : w.push.new.self.items ≡ found ++ (n ∷ []) = search rules in
-            root_found f c.args.generator.now n c.loop-exponent.power c.generator_at.result c.zero.result c.eq.result found c.if-eq.roots.items inv.power_is c.generator_at.ensures c.zero.ensures c.eq.ensures
+            root_found f c.args.generator.now n c.loop-exponent.power c.generator_at.result c.ZERO.result c.eq.result found c.if-eq.roots.items inv.power_is c.generator_at.ensures (c.ZERO.ensures ∙ g.met.E.Field.zero_law) c.eq.ensures
             w.if-eq.true inv.roots_are (ap (λ v. v.items) w.roots-is ∙ pushed)
         | else-eq w ↦
-            root_missed f c.args.generator.now n c.loop-exponent.power c.generator_at.result c.zero.result c.eq.result found c.if-eq.roots.items inv.power_is c.generator_at.ensures c.zero.ensures c.eq.ensures
+            root_missed f c.args.generator.now n c.loop-exponent.power c.generator_at.result c.ZERO.result c.eq.result found c.if-eq.roots.items inv.power_is c.generator_at.ensures (c.ZERO.ensures ∙ g.met.E.Field.zero_law) c.eq.ensures
             w.if-eq.false inv.roots_are (ap (λ v. v.items) w.roots-is)
       ];
     }

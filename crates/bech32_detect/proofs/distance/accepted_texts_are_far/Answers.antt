@@ -13,7 +13,7 @@ returns g c some lawful =
     let code = g.Ck.Checksum.code in
     let start : ℕ = g.Ck.Checksum.ROOT_EXPONENTS_START in
     let end : ℕ = g.Ck.Checksum.ROOT_EXPONENTS_END in
-    let into = g.met.Ck.CorrectionField.RootField.embeds_law in
+    let into = g.met.Ck.CorrectionField.LocatorField.embeds_law in
     let apart = apart_inside embed g.Ck.CorrectionField.Extension.retract g.met.Ck.CorrectionField.Extension.retract_law in
     let same : end - start + 1 ≡ g.Ck.Checksum.bound = omega (arith, laws.bound_law) in
     subst (λ (n : ℕ). AreTextsFar code code.code_length n) same

@@ -19,9 +19,9 @@ returns-then-eq-clause-answer g c =
     let embed = g.Ck.CorrectionField.Extension.embed in
     let code = g.Ck.Checksum.code in
     let residue = c.args.residue.now in
-    let into = g.met.Ck.CorrectionField.RootField.embeds_law in
+    let into = g.met.Ck.CorrectionField.LocatorField.embeds_law in
     let apart = apart_inside embed g.Ck.CorrectionField.Extension.retract g.met.Ck.CorrectionField.Extension.retract_law in
-    let usable = usable_read o embed g.met.Ck.CorrectionField.RootField.embeds_law.one
+    let usable = usable_read o embed g.met.Ck.CorrectionField.LocatorField.embeds_law.one
     code g.Ck.Checksum.ROOT_GENERATOR g.Ck.Checksum.ROOT_GENERATOR g.Ck.Checksum.ROOT_EXPONENTS_START g.Ck.Checksum.ROOT_EXPONENTS_START g.Ck.Checksum.ROOT_EXPONENTS_END g.Ck.Checksum.bound
     c.args.window refl refl g.met.Ck.Checksum.bound_law
     c.requires.lawful (subst (λ n. c.args.window ≤ n) (sym g.met.Ck.Checksum.code_length_law) c.requires.within) in
@@ -48,9 +48,9 @@ returns-clause-answer g c =
     let code = g.Ck.Checksum.code in
     let residue = c.args.residue.now in
     let error : ℕ × Fe32 = c.in-Some.error in
-    let into = g.met.Ck.CorrectionField.RootField.embeds_law in
+    let into = g.met.Ck.CorrectionField.LocatorField.embeds_law in
     let apart = apart_inside embed g.Ck.CorrectionField.Extension.retract g.met.Ck.CorrectionField.Extension.retract_law in
-    let usable = usable_read o embed g.met.Ck.CorrectionField.RootField.embeds_law.one
+    let usable = usable_read o embed g.met.Ck.CorrectionField.LocatorField.embeds_law.one
     code g.Ck.Checksum.ROOT_GENERATOR g.Ck.Checksum.ROOT_GENERATOR g.Ck.Checksum.ROOT_EXPONENTS_START g.Ck.Checksum.ROOT_EXPONENTS_START g.Ck.Checksum.ROOT_EXPONENTS_END g.Ck.Checksum.bound
     c.args.window refl refl g.met.Ck.Checksum.bound_law
     c.requires.lawful (subst (λ n. c.args.window ≤ n) (sym g.met.Ck.Checksum.code_length_law) c.requires.within) in

@@ -18,7 +18,7 @@ use Rattle.bech32_solver.proofs.correction.correct_by_roots.Goals as goal
 pub candidate-requires : goal.candidate-requires
 candidate-requires g c =
     let o = g.Ck.CorrectionField.Arithmetic.ops in
-    let usable = usable_read o g.Ck.CorrectionField.Extension.embed g.met.Ck.CorrectionField.RootField.embeds_law.one
+    let usable = usable_read o g.Ck.CorrectionField.Extension.embed g.met.Ck.CorrectionField.LocatorField.embeds_law.one
     g.Ck.Checksum.code g.Ck.Checksum.ROOT_GENERATOR c.ROOT_GENERATOR.result g.Ck.Checksum.ROOT_EXPONENTS_START c.ROOT_EXPONENTS_START.result g.Ck.Checksum.ROOT_EXPONENTS_END c.bound.result
     c.args.window c.ROOT_GENERATOR.ensures c.ROOT_EXPONENTS_START.ensures (c.bound.ensures ∙ g.met.Ck.Checksum.bound_law)
     c.requires.lawful (subst (λ n. c.args.window ≤ n) (sym g.met.Ck.Checksum.code_length_law) c.requires.within) in (
@@ -37,11 +37,11 @@ candidate-requires g c =
 
 pub returns-in_default-clause-answer : goal.returns-in_default-clause-answer
 returns-in_default-clause-answer g c = λ e h.
-    let usable = usable_read g.Ck.CorrectionField.Arithmetic.ops g.Ck.CorrectionField.Extension.embed g.met.Ck.CorrectionField.RootField.embeds_law.one
+    let usable = usable_read g.Ck.CorrectionField.Arithmetic.ops g.Ck.CorrectionField.Extension.embed g.met.Ck.CorrectionField.LocatorField.embeds_law.one
     g.Ck.Checksum.code g.Ck.Checksum.ROOT_GENERATOR c.ROOT_GENERATOR.result g.Ck.Checksum.ROOT_EXPONENTS_START c.ROOT_EXPONENTS_START.result g.Ck.Checksum.ROOT_EXPONENTS_END c.bound.result
     c.args.window c.ROOT_GENERATOR.ensures c.ROOT_EXPONENTS_START.ensures (c.bound.ensures ∙ g.met.Ck.Checksum.bound_law)
     c.requires.lawful (subst (λ n. c.args.window ≤ n) (sym g.met.Ck.Checksum.code_length_law) c.requires.within) in
-    absurd (rw c.in_default.is at (found_over g.met.Ck.CorrectionField.RootField.base_law _ _ _ _ _ _ _ _ _ c.in_ok-listing.ensures.found g.Ck.Checksum.code.generator e usable
+    absurd (rw c.in_default.is at (found_over g.met.Ck.CorrectionField.LocatorField.base_law _ _ _ _ _ _ _ _ _ c.in_ok-listing.ensures.found g.Ck.Checksum.code.generator e usable
     (subst (λ n. Solves fe32.ops g.Ck.Checksum.code.generator c.args.residue.now c.args.erasures.now c.args.window n e) (sym c.bound.ensures) h)))
 
 pub returns-then-has_residue-clause-answer : goal.returns-then-has_residue-clause-answer
@@ -53,9 +53,9 @@ returns-then-has_residue-clause-answer g c =
     let residue = c.args.residue.now in
     let erasures = c.args.erasures.now in
     let listing = c.in-Some.listing in
-    let into = g.met.Ck.CorrectionField.RootField.embeds_law in
+    let into = g.met.Ck.CorrectionField.LocatorField.embeds_law in
     let apart = apart_inside embed g.Ck.CorrectionField.Extension.retract g.met.Ck.CorrectionField.Extension.retract_law in
-    let usable = usable_read o embed g.met.Ck.CorrectionField.RootField.embeds_law.one
+    let usable = usable_read o embed g.met.Ck.CorrectionField.LocatorField.embeds_law.one
     code g.Ck.Checksum.ROOT_GENERATOR c.ROOT_GENERATOR.result g.Ck.Checksum.ROOT_EXPONENTS_START c.ROOT_EXPONENTS_START.result g.Ck.Checksum.ROOT_EXPONENTS_END c.bound.result
     c.args.window c.ROOT_GENERATOR.ensures c.ROOT_EXPONENTS_START.ensures (c.bound.ensures ∙ g.met.Ck.Checksum.bound_law)
     c.requires.lawful (subst (λ n. c.args.window ≤ n) (sym g.met.Ck.Checksum.code_length_law) c.requires.within) in
@@ -64,14 +64,14 @@ returns-then-has_residue-clause-answer g c =
     let is_sound : IsSound fe32.ops generator residue erasures c.args.window g.Ck.Checksum.bound listing =
     subst (λ n. IsSound fe32.ops generator residue erasures c.args.window n listing) c.bound.ensures
     (sound is_field g.met.Ck.CorrectionField.Arithmetic.laws into c.ROOT_GENERATOR.result c.ROOT_EXPONENTS_START.result c.bound.result c.args.window generator residue erasures listing apart usable
-    c.requires.erased (candidate_over g.met.Ck.CorrectionField.RootField.base_law _ _ _ _ (rw c.in-Some.is at c.in_ok-listing.ensures.listed)) (remainder_left is_field generator residue listing leaves)) in
+    c.requires.erased (candidate_over g.met.Ck.CorrectionField.LocatorField.base_law _ _ _ _ (rw c.in-Some.is at c.in_ok-listing.ensures.listed)) (remainder_left is_field generator residue listing leaves)) in
     let size : length code.target ≡ length code.generator =
     ap (λ (k : Code). length k.target) g.met.Ck.Checksum.code_law ∙ length-tabulate g.Ck.Checksum.CHECKSUM_LENGTH _ ∙ sym g.met.Ck.Checksum.degree_law in
     record {
       pattern = is_sound.pattern;
       explains = is_sound.solves;
       lists = is_sound.listing;
-      only = λ e h. rw c.in-Some.is at (found_over g.met.Ck.CorrectionField.RootField.base_law _ _ _ _ _ _ _ _ _ c.in_ok-listing.ensures.found generator e usable
+      only = λ e h. rw c.in-Some.is at (found_over g.met.Ck.CorrectionField.LocatorField.base_law _ _ _ _ _ _ _ _ _ c.in_ok-listing.ensures.found generator e usable
           (subst (λ n. Solves fe32.ops generator residue erasures c.args.window n e) (sym c.bound.ensures) h));
       alone = is_sound.alone;
       mends = mends is_field (λ x. refl) generator code.target residue listing size leaves;
@@ -82,8 +82,8 @@ returns-else-has_residue-clause-answer g c = λ e h.
     let o = g.Ck.CorrectionField.Arithmetic.ops in
     let embed = g.Ck.CorrectionField.Extension.embed in
     let generator = g.Ck.Checksum.code.generator in
-    let into = g.met.Ck.CorrectionField.RootField.embeds_law in
-    let usable = usable_read o embed g.met.Ck.CorrectionField.RootField.embeds_law.one
+    let into = g.met.Ck.CorrectionField.LocatorField.embeds_law in
+    let usable = usable_read o embed g.met.Ck.CorrectionField.LocatorField.embeds_law.one
     g.Ck.Checksum.code g.Ck.Checksum.ROOT_GENERATOR c.ROOT_GENERATOR.result g.Ck.Checksum.ROOT_EXPONENTS_START c.ROOT_EXPONENTS_START.result g.Ck.Checksum.ROOT_EXPONENTS_END c.bound.result
     c.args.window c.ROOT_GENERATOR.ensures c.ROOT_EXPONENTS_START.ensures (c.bound.ensures ∙ g.met.Ck.Checksum.bound_law)
     c.requires.lawful (subst (λ n. c.args.window ≤ n) (sym g.met.Ck.Checksum.code_length_law) c.requires.within) in
@@ -93,7 +93,7 @@ returns-else-has_residue-clause-answer g c = λ e h.
     let leaves : HasRemainder fe32.ops generator c.args.residue.now listing =
     left_over is_field generator c.args.residue.now listing
     (passes_again is_field g.met.Ck.CorrectionField.Arithmetic.laws into c.args.window c.bound.result generator c.args.residue.now c.args.erasures.now e listing c.requires.erased solves
-    (rw c.in-Some.is at (found_over g.met.Ck.CorrectionField.RootField.base_law _ _ _ _ _ _ _ _ _ c.in_ok-listing.ensures.found generator e usable solves))) in
+    (rw c.in-Some.is at (found_over g.met.Ck.CorrectionField.LocatorField.base_law _ _ _ _ _ _ _ _ _ c.in_ok-listing.ensures.found generator e usable solves))) in
     let no : false ≡ true = sym c.if-has_residue.false ∙ c.has_residue.ensures.1 (subst (HasRemainder fe32.ops generator c.args.residue.now) (sym c.as_slice.ensures) leaves) in
     absurd (cc no)
 

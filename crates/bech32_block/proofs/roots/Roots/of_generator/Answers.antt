@@ -95,7 +95,7 @@ returns-clause-series g c =
     let s : IsLongestSeries c.MULTIPLICATIVE_ORDER-order.result c.in_ok-roots.roots.items c.longest_series-series.result.first c.longest_series-series.result.step c.longest_series-series.result.length = subst (λ xs. IsLongestSeries c.MULTIPLICATIVE_ORDER-order.result xs c.longest_series-series.result.first c.longest_series-series.result.step c.longest_series-series.result.length) c.deref.ensures.value c.longest_series-series.ensures in
     let l = g.met.E.Field.laws in
     let ord = g.met.E.Field.generator_law in
-    constants f c.args.generator.now c.in_ok-roots.roots.items same c.MULTIPLICATIVE_ORDER-order.result is l c.longest_series-series.result.first c.longest_series-series.result.step c.longest_series-series.result.length c.in-Some.start _ c.period.result c.power.result ord (c.power.ensures ∙ ap (λ x. power f.ops x c.longest_series-series.result.step) c.GENERATOR.ensures) refl s (rw c.in-Some.is at c.least_power.ensures.least) c.period.ensures
+    constants f c.args.generator.now c.in_ok-roots.roots.items same c.MULTIPLICATIVE_ORDER-order.result is l c.longest_series-series.result.first c.longest_series-series.result.step c.longest_series-series.result.length c.in-Some.start _ c.period.result c.power_of.result ord (c.power_of.ensures ∙ ap (λ x. power f.ops x c.longest_series-series.result.step) c.GENERATOR.ensures) refl s (rw c.in-Some.is at c.least_power.ensures.least) c.period.ensures
 
 pub returns-clause-lawful : goal.returns-clause-lawful
 returns-clause-lawful g c =
@@ -108,7 +108,7 @@ returns-clause-lawful g c =
     let into : Embeds fe32.ops f.ops f.embed = record { one = g.met.E.ExtensionField.embed_one_law; add = g.met.E.ExtensionField.embed_add_law; mul = g.met.E.ExtensionField.embed_mul_law } in
     let size : length c.in_ok-roots.roots.items ≡ length c.args.generator.now = search rules in
     let two : 2 ≤ length c.in_ok-roots.roots.items = omega (arith, size, c.requires.some) in
-    λ target. lawful_roots f c.args.generator.now c.in_ok-roots.roots.items same c.MULTIPLICATIVE_ORDER-order.result is l into g.met.E.Field.eq_law c.longest_series-series.result.first c.longest_series-series.result.step c.longest_series-series.result.length c.in-Some.start _ c.period.result c.power.result target ord two (c.power.ensures ∙ ap (λ x. power f.ops x c.longest_series-series.result.step) c.GENERATOR.ensures) refl s (rw c.in-Some.is at c.least_power.ensures.least) c.period.ensures
+    λ target. lawful_roots f c.args.generator.now c.in_ok-roots.roots.items same c.MULTIPLICATIVE_ORDER-order.result is l into g.met.E.Field.eq_law c.longest_series-series.result.first c.longest_series-series.result.step c.longest_series-series.result.length c.in-Some.start _ c.period.result c.power_of.result target ord two (c.power_of.ensures ∙ ap (λ x. power f.ops x c.longest_series-series.result.step) c.GENERATOR.ensures) refl s (rw c.in-Some.is at c.least_power.ensures.least) c.period.ensures
 
 pub longest_series-series-requires-clause-two : goal.longest_series-series-requires-clause-two
 longest_series-series-requires-clause-two g c =
