@@ -197,19 +197,16 @@ impl<Ck: Checksum, A: Allocator + Copy> Corrector<Ck, A> {
             IsAnswerWith Ck.code Ck.bound self.now given.now answer) }
         ensures in_place { length Ck.code.generator ≤ 6 → IsOk result }
     {
-        let most = self.singleton_bound();
-        let Some(erasures) = distinct_below(self.allocator(), given, self.window(), most)? else {
+        let (alloc, most) = (self.allocator(), self.singleton_bound());
+        let Some(erasures) = distinct_below(alloc, given, self.window(), most)? else {
             return Ok(None);
         };
         if most - erasures.len() < 2 {
             // No error can stand beside them: their locators are not needed.
-            let alloc = self.allocator();
             return correct_erased::<Ck, A>(alloc, self.window, &self.residue, &erasures);
         }
-        match self.with(given)? {
-            Some(erased) => erased.listing(),
-            None => Ok(None),
-        }
+        let known = locators_of(alloc, Ck::ROOT_GENERATOR, erasures.as_slice())?;
+        correct::<Ck, A>(alloc, self.window, &self.residue, &erasures, &known)
     }
 
     /// The errors that explain the residue, and the elements at the erasures: the one pattern below
