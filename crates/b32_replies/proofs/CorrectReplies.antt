@@ -1,6 +1,6 @@
 -- What may be said of a mistyped text.
 use Rattle.std.specs.List.{AllByRecursion}
-use Rattle.std.proofs.Common.{◌≡◌, ℕ, ◌+◌, ◌<◌, ◌≤◌, inl, inr, List, [], ◌∷◌, ◌++◌, map, length, length-append, append_assoc, append-nil, sym, ap, ◌∙◌, refl, arith, codes, take, None}
+use Rattle.std.proofs.Common.{◌≡◌, ℕ, ◌+◌, ◌<◌, ◌≤◌, inl, inr, List, [], ◌∷◌, ◌++◌, map, length, length-append, append_assoc, append-nil, sym, ap, ◌∙◌, refl, arith, codes, take}
 use Rattle.std.proofs.lemmas.List.{length-map}
 use Rattle.std.specs.Fmt.{decimal}
 use Rattle.bech32_gf.specs.Fe32.{elements_of, element_of, ops}
@@ -8,14 +8,12 @@ use Rattle.bech32_gf.specs.declared.gf32.Fe32.{Fe32}
 use Rattle.bech32_hrp.specs.Hrp.{lowered}
 use Rattle.bech32_checksum.specs.Code.{Code, bech32, bech32m}
 use Rattle.bech32_checksum.specs.Encoded.{char_of_element}
-use Rattle.bech32_corrector.specs.Carried.{of_checked}
 use Rattle.bech32_checksum.specs.Roots.{singleton_bound}
 use Rattle.bech32_bch.specs.Erasures.{with_erasures}
 use Rattle.bech32_decode.specs.Acceptance.{Accepts}
-use Rattle.bech32_decode.specs.Checked.{IsCheckedRefusal}
 use Rattle.bech32_refusals.specs.declared.error.CheckedHrpstringError.{CheckedHrpstringError}
 use Rattle.bech32_correction.specs.MendedElements.{mended}
-use Rattle.bech32_correction.specs.Mistyped.{HasNoListing, IsListingOf, IsMendedText}
+use Rattle.bech32_correction.specs.Mistyped.{HasNoListing, IsListingOf, IsMendedText, IsRefusal}
 use Rattle.bech32_correction.proofs.Texts.{IsMendable, few-from_listing, mended_text-from_ends}
 use Rattle.bech32_numbers.specs.Numbers.{number_of_checked_error}
 use Rattle.b32_replies.specs.declared.command.ChecksumName.{ChecksumName}
@@ -107,9 +105,8 @@ says-fine code text given is = inl (record { accepted = is; spelling = refl })
 pub says-none : (code : Code) (text given : List ℕ) → HasNoListing code (singleton_bound 24 26) text given → IsCorrectAnswer code text given (codes "none")
 says-none code text given none = inr (inr (inl (record { none = none; spelling = refl })))
 
-pub says-refused : (code : Code) (text given : List ℕ) (e : CheckedHrpstringError) → IsCheckedRefusal code text e → of_checked e ≡ None
-    → IsCorrectAnswer code text given (err (number_of_checked_error e))
-says-refused code text given e is none = inr (inr (inr (record { error = e; is_refusal = is; no_residue = none; spelling = refl })))
+pub says-refused : (code : Code) (text given : List ℕ) (e : CheckedHrpstringError) → IsRefusal code text e → IsCorrectAnswer code text given (err (number_of_checked_error e))
+says-refused code text given e is = inr (inr (inr (record { error = e; is_refusal = is; spelling = refl })))
 
 -- ---- where a word lists the locations
 

@@ -12,7 +12,6 @@ use Rattle.b32_replies.specs.Hex.{bytes_of}
 use Rattle.b32_replies.specs.Numbers.{number_of}
 use Rattle.b32_replies.specs.declared.refusal.Refusal.{Refusal}
 use Rattle.b32_replies.specs.declared.refusal.Refusal.TheVariants.{BadHex, Encode, Hrp}
-use Rattle.line_program.specs.Added.{Adds}
 use Rattle.line_program.specs.Refused.{err}
 use Rattle.b32_replies.specs.Reply.{IsEncodeAnswer}
 
@@ -40,9 +39,3 @@ encode-refused_part code hrp hex bytes e b h = rw (b, h) refl
 pub encode-refused_text : (code : Code) (hrp hex bytes : List ℕ) (e : EncodeError) → bytes_of hex ≡ Some bytes → hrp_refusal hrp ≡ None
     → IsEncodeRefusal code hrp (to_fes bytes) e → IsEncodeAnswer code hrp hex (err (number_of (Encode e)))
 encode-refused_text code hrp hex bytes e b h r = rw (b, h) (inr (record { error = e; is_refusal = r; spelling = refl }))
-
--- ---- the answer
-
--- what is added says what may be said more widely
-pub Adds-weaker : (Says Wider : List ℕ → Type 0) (old new : List ℕ) → ((said : List ℕ) → Says said → Wider said) → Adds Says old new → Adds Wider old new
-Adds-weaker Says Wider old new more h = record { said = h.said; says = more h.said h.says; size = h.size; added = h.added }

@@ -1,29 +1,23 @@
 -- What may be said of a line.
 use Rattle.std.specs.Prelude.{◌≡◌, ◌≤◌, ◌⊎◌, ℕ, List, [], ◌∷◌}
-use Rattle.std.specs.Prelude.{◌++◌, codes, None, MatchOption}
+use Rattle.std.specs.Prelude.{◌++◌, codes, MatchOption}
 use Rattle.std.specs.Fmt.{decimal}
 use Rattle.bech32_gf.specs.declared.gf32.Fe32.{Fe32}
 use Rattle.bech32_bits.specs.Bits.{to_fes}
 use Rattle.bech32_checksum.specs.Code.{Code}
 use Rattle.bech32_hrp.specs.Hrp.{IsHrp, lowered, hrp_refusal}
 use Rattle.bech32_decode.specs.Acceptance.{Accepts, IsDecoded}
-use Rattle.bech32_decode.specs.Checked.{IsCheckedRefusal}
 use Rattle.bech32_checksum.specs.Encoded.{IsEncodedText, char_of_element}
-use Rattle.bech32_corrector.specs.Carried.{of_checked}
 use Rattle.bech32_checksum.specs.Roots.{singleton_bound}
-use Rattle.bech32_correction.specs.Mistyped.{HasNoListing, IsListingOf, IsMendedText}
+use Rattle.bech32_correction.specs.Mistyped.{HasNoListing, IsListingOf, IsMendedText, IsRefusal}
 use Rattle.bech32_encode.specs.TextLength.{encoded_length_of}
 use Rattle.bech32.specs.Refusals.{IsDecodeRefusal, IsEncodeRefusal}
 use Rattle.bech32_decode.specs.Segwit.{IsLowerAddress, IsAddress, IsAddressText, IsSegwitRefusal}
 use Rattle.bech32_segwit.specs.SegwitEncoding.{IsSegwitEncodeRefusal}
-use Rattle.bech32.specs.declared.error.DecodeError.{DecodeError}
-use Rattle.bech32.specs.declared.error.EncodeError.{EncodeError}
-use Rattle.bech32_refusals.specs.declared.error.CheckedHrpstringError.{CheckedHrpstringError}
 use Rattle.bech32_refusals.specs.declared.error.SegwitHrpstringError.TheVariants.{Memory}
 use Rattle.bech32_segwit.specs.declared.error.DecodeError.{DecodeError as SegwitDecodeError}
-use Rattle.bech32_segwit.specs.declared.error.EncodeError.{EncodeError as SegwitEncodeError}
-use Rattle.line_program.specs.Refused.{err}
-use Rattle.line_program.specs.Reply.{IsReplyBy}
+use Rattle.line_program.specs.Refused.{SaysRefusal, err}
+use Rattle.line_program.specs.Reply.{IsOutcomeBy, IsReplyBy}
 use Rattle.b32_replies.specs.Hex.{AreBytes, IsHex, bytes_of, hex_of}
 use Rattle.bech32_numbers.specs.Numbers.{number_of_checked_error, number_of_hrp_error}
 use Rattle.bech32_numbers.specs.Numbers.{number_of_decode_error, number_of_encode_error}
@@ -44,19 +38,14 @@ pub record SaysText (code : Code) (hrp bytes said : List ℕ) : Type 0 where
   pub fits : encoded_length_of code hrp (to_fes bytes) ≤ code.code_length
   pub spelling : said ≡ codes "ok " ++ text
 
--- it is said why they have no text
-pub record SaysNoText (code : Code) (hrp bytes said : List ℕ) : Type 0 where
-  pub error : EncodeError
-  pub is_refusal : IsEncodeRefusal code hrp (to_fes bytes) error
-  pub spelling : said ≡ err (number_of_encode_error error)
-
 -- the answer to `encode`: bad hex is refused, then a bad human-readable part
 abbrev pub IsEncodeAnswer : Code → List ℕ → List ℕ → List ℕ → Type 0
 IsEncodeAnswer code hrp hex said =
     MatchOption (bytes_of hex)
     (said ≡ err 5)
     (λ bytes. MatchOption (hrp_refusal hrp)
-    (SaysText code hrp bytes said ⊎ SaysNoText code hrp bytes said)
+    (SaysText code hrp bytes said
+    ⊎ SaysRefusal (IsEncodeRefusal code hrp (to_fes bytes)) number_of_encode_error said)
     (λ error. said ≡ err (number_of_hrp_error error)))
 
 -- the human-readable part of a text is said, in lower case, and its bytes
@@ -66,15 +55,10 @@ pub record SaysBytes (text said : List ℕ) : Type 0 where
   pub is_decoded : IsDecoded text hrp bytes
   pub spelling : said ≡ codes "ok " ++ (lowered hrp ++ (32 ∷ hex_of bytes))
 
--- it is said why a text is not decoded: out of memory only for one that is accepted
-pub record SaysNoBytes (text said : List ℕ) : Type 0 where
-  pub error : DecodeError
-  pub is_refusal : IsDecodeRefusal text error
-  pub spelling : said ≡ err (number_of_decode_error error)
-
--- the answer to `decode`
+-- the answer to `decode`: out of memory only for a text that is accepted
 abbrev pub IsDecodeAnswer : List ℕ → List ℕ → Type 0
-IsDecodeAnswer text said = SaysBytes text said ⊎ SaysNoBytes text said
+IsDecodeAnswer text said =
+    SaysBytes text said ⊎ SaysRefusal (IsDecodeRefusal text) number_of_decode_error said
 
 -- the word is the number of a version, in decimal
 abbrev pub IsVersionWord : List ℕ → Fe32 → Type 0
@@ -90,12 +74,6 @@ pub record SaysAddress (hrp : List ℕ) (version : Fe32) (program said : List �
   pub is_address : IsLowerAddress hrp version program text
   pub spelling : said ≡ codes "ok " ++ text
 
--- it is said why there is none
-pub record SaysNoAddress (hrp : List ℕ) (version : Fe32) (program said : List ℕ) : Type 0 where
-  pub error : SegwitEncodeError
-  pub is_refusal : IsSegwitEncodeRefusal hrp version program error
-  pub spelling : said ≡ err (number_of_segwit_encode_error error)
-
 -- the answer to `segwit-encode` with this version: bad hex is refused, then
 -- a bad human-readable part
 abbrev pub IsVersionedAnswer : List ℕ → Fe32 → List ℕ → List ℕ → Type 0
@@ -103,7 +81,8 @@ IsVersionedAnswer hrp version hex said =
     MatchOption (bytes_of hex)
     (said ≡ err 5)
     (λ program. MatchOption (hrp_refusal hrp)
-    (SaysAddress hrp version program said ⊎ SaysNoAddress hrp version program said)
+    (SaysAddress hrp version program said
+    ⊎ SaysRefusal (IsSegwitEncodeRefusal hrp version program) number_of_segwit_encode_error said)
     (λ error. said ≡ err (number_of_hrp_error error)))
 
 -- and with any word: a bad number is refused first, and then memory for the bytes may run out
@@ -124,15 +103,16 @@ pub record SaysProgram (text said : List ℕ) : Type 0 where
   pub spelling :
       said ≡ codes "ok " ++ (lowered hrp ++ (32 ∷ (decimal version.value ++ (32 ∷ hex_of program))))
 
--- it is said why a text is not an address, or that memory ran out for one
-pub record SaysNoProgram (text said : List ℕ) : Type 0 where
-  pub error : SegwitDecodeError
-  pub is_refusal : IsSegwitRefusal text error.0 ⊎ ((error.0 ≡ Memory) × IsAddressText text)
-  pub spelling : said ≡ err (number_of_segwit_decode_error error)
+-- why a text is not an address, or that memory ran out for one
+abbrev pub IsSegwitDecodeRefusal : List ℕ → SegwitDecodeError → Type 0
+IsSegwitDecodeRefusal text error =
+    IsSegwitRefusal text error.0 ⊎ ((error.0 ≡ Memory) × IsAddressText text)
 
 -- the answer to `segwit-decode`
 abbrev pub IsSegwitDecodeAnswer : List ℕ → List ℕ → Type 0
-IsSegwitDecodeAnswer text said = SaysProgram text said ⊎ SaysNoProgram text said
+IsSegwitDecodeAnswer text said =
+    SaysProgram text said
+    ⊎ SaysRefusal (IsSegwitDecodeRefusal text) number_of_segwit_decode_error said
 
 -- said is that the checksum accepts the text
 pub record SaysFine (code : Code) (text said : List ℕ) : Type 0 where
@@ -159,18 +139,12 @@ pub record SaysNone (code : Code) (text given said : List ℕ) : Type 0 where
   pub none : HasNoListing code (singleton_bound 24 26) text given
   pub spelling : said ≡ codes "none"
 
--- it is said why the text is refused, which is not for its residue
-pub record SaysRefused (code : Code) (text said : List ℕ) : Type 0 where
-  pub error : CheckedHrpstringError
-  pub is_refusal : IsCheckedRefusal code text error
-  pub no_residue : of_checked error ≡ None
-  pub spelling : said ≡ err (number_of_checked_error error)
-
--- the answer to `correct`, where these locations are the erasures
+-- the answer to `correct`, where these locations are the erasures; a refusal is not for the residue
 abbrev pub IsCorrectAnswer : Code → List ℕ → List ℕ → List ℕ → Type 0
 IsCorrectAnswer code text given said =
     SaysFine code text said ⊎ (SaysMended code text given said
-    ⊎ (SaysNone code text given said ⊎ SaysRefused code text said))
+    ⊎ (SaysNone code text given said
+    ⊎ SaysRefusal (IsRefusal code text) number_of_checked_error said))
 
 -- the same where a word lists the locations: a word that lists none is refused
 abbrev pub IsCorrectAtAnswer : Code → List ℕ → List ℕ → List ℕ → Type 0
@@ -179,15 +153,19 @@ IsCorrectAtAnswer code text word said =
     ⊎ ((given : List ℕ) × AreLocations word given × IsCorrectAnswer code text given said)
 
 -- the answer to a request
-abbrev pub IsOutcome : Request → List ℕ → Type 0
-IsOutcome (Encode checksum hrp hex) said = IsEncodeAnswer (code_of_name checksum) hrp hex said
-IsOutcome (Decode text) said = IsDecodeAnswer text said
-IsOutcome (SegwitEncode hrp version hex) said = IsSegwitEncodeAnswer hrp version hex said
-IsOutcome (SegwitDecode text) said = IsSegwitDecodeAnswer text said
-IsOutcome (Correct checksum text) said = IsCorrectAnswer (code_of_name checksum) text [] said
-IsOutcome (CorrectAt checksum text word) said =
+abbrev pub IsAnswer : Request → List ℕ → Type 0
+IsAnswer (Encode checksum hrp hex) said = IsEncodeAnswer (code_of_name checksum) hrp hex said
+IsAnswer (Decode text) said = IsDecodeAnswer text said
+IsAnswer (SegwitEncode hrp version hex) said = IsSegwitEncodeAnswer hrp version hex said
+IsAnswer (SegwitDecode text) said = IsSegwitDecodeAnswer text said
+IsAnswer (Correct checksum text) said = IsCorrectAnswer (code_of_name checksum) text [] said
+IsAnswer (CorrectAt checksum text word) said =
     IsCorrectAtAnswer (code_of_name checksum) text word said
+
+-- what may be said of a text
+abbrev pub IsOutcome : List ℕ → List ℕ → Type 0
+IsOutcome text said = IsOutcomeBy request_of IsAnswer text said
 
 -- what may be said of a line
 abbrev pub IsReply : List ℕ → List ℕ → Type 0
-IsReply line said = IsReplyBy request_of IsOutcome line said
+IsReply line said = IsReplyBy IsOutcome line said

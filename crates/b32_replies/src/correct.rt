@@ -1,7 +1,7 @@
 //! Answers `correct`.
 
 ghost use Rattle.std.specs.Prelude.{◌≡◌, ◌+◌, ◌*◌, ◌≤◌, ◌<◌, ◌++◌, ℕ, List, length, map};
-ghost use Rattle.std.specs.Prelude.{vec_len, vec_capacity, OnOk, OnErr, IfErr, MatchResult};
+ghost use Rattle.std.specs.Prelude.{vec_len, vec_capacity, MatchResult};
 ghost use Rattle.std.specs.List.{AllByRecursion};
 ghost use Rattle.bech32_gf.specs.Fe32.{ops};
 ghost use Rattle.bech32_gf.specs.declared.gf32.Fe32.{Fe32 as Element};
@@ -11,8 +11,7 @@ ghost use Rattle.bech32_checksum.specs.Roots.{singleton_bound};
 ghost use Rattle.bech32_correction.specs.MendedElements.{EndsIn, mended};
 ghost use Rattle.bech32_correction.specs.Mistyped.{IsListing, IsRefusal};
 ghost use Rattle.b32_replies.specs.Numbers.{number_of};
-ghost use Rattle.line_program.specs.Added.{Adds};
-ghost use Rattle.line_program.specs.Refused.{err};
+ghost use Rattle.line_program.specs.Added.{AddsOrRefuses};
 ghost use Rattle.b32_replies.specs.Reply.{listed, IsCorrectAnswer};
 ghost use Rattle.b32_replies.specs.Request.{code_of_name};
 
@@ -82,12 +81,8 @@ pub fn correct(
     out: &mut Vec<u8>,
 ) -> Result<(), Refusal>
     requires { vec_len out.old + 2047 ≤ vec_capacity out.old }
-    ensures ok { OnOk result
-        (Adds (IsCorrectAnswer (code_of_name checksum) text.now given.now)
-        out.old.items out.new.items) }
-    ensures err { IfErr result
-        (λ e. IsCorrectAnswer (code_of_name checksum) text.now given.now (err (number_of e))) }
-    ensures same { OnErr result (out.new.items ≡ out.old.items) }
+    ensures answer { AddsOrRefuses (IsCorrectAnswer (code_of_name checksum) text.now given.now)
+        number_of result out.old.items out.new.items }
     ensures capacity { vec_capacity out.old ≤ vec_capacity out.new }
 {
     match correction(checksum, text, given)? {

@@ -1,14 +1,13 @@
 //! Answers `encode`.
 
-ghost use Rattle.std.specs.Prelude.{◌≡◌, ◌+◌, ◌≤◌, ◌++◌, ℕ, List, length, vec_len, vec_capacity, IfErr, IfOk, MatchResult, OnOk, OnErr};
+ghost use Rattle.std.specs.Prelude.{◌≡◌, ◌+◌, ◌≤◌, ◌++◌, ℕ, List, length, vec_len, vec_capacity, IfOk, MatchResult};
 ghost use Rattle.bech32_bits.specs.Bits.{to_fes};
 ghost use Rattle.bech32_checksum.specs.Encoded.{IsEncodedText};
 ghost use Rattle.bech32_encode.specs.TextLength.{encoded_length_of};
 ghost use Rattle.bech32_hrp.specs.HrpBytes.{hrp_bytes};
 ghost use Rattle.bech32.specs.Refusals.{IsEncodeRefusal};
 ghost use Rattle.b32_replies.specs.Numbers.{number_of};
-ghost use Rattle.line_program.specs.Added.{Adds};
-ghost use Rattle.line_program.specs.Refused.{err};
+ghost use Rattle.line_program.specs.Added.{AddsOrRefuses};
 ghost use Rattle.b32_replies.specs.Reply.{IsEncodeAnswer};
 
 use crate::hex_word::put_bytes_of_word;
@@ -71,11 +70,8 @@ fn append_text<Ck: Checksum>(out: &mut Vec<u8>, hrp: &Hrp, bytes: &[u8], count: 
 pub fn encode<Ck: Checksum>(hrp: &str, hex: &str, out: &mut Vec<u8>) -> Result<(), Refusal>
     requires short { Ck.code.code_length ≤ 1023 }
     requires room { vec_len out.old + 2047 ≤ vec_capacity out.old }
-    ensures ok { OnOk result
-        (Adds (IsEncodeAnswer Ck.code hrp.now hex.now) out.old.items out.new.items) }
-    ensures err { IfErr result
-        (λ e. IsEncodeAnswer Ck.code hrp.now hex.now (err (number_of e))) }
-    ensures same { OnErr result (out.new.items ≡ out.old.items) }
+    ensures answer { AddsOrRefuses (IsEncodeAnswer Ck.code hrp.now hex.now) number_of result
+        out.old.items out.new.items }
     ensures capacity { vec_capacity out.old ≤ vec_capacity out.new }
 {
     let mut room = [0u8; ROOM];

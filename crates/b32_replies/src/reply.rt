@@ -1,12 +1,11 @@
 //! The replies to commands, by which `line_program` replies to a line.
 
 ghost use Rattle.std.specs.Prelude.{◌≡◌, ℕ, ◌+◌, ◌≤◌, List, [], ◌∷◌, ◌++◌};
-ghost use Rattle.std.specs.Prelude.{vec_len, vec_capacity, OnOk, OnErr, IfErr};
+ghost use Rattle.std.specs.Prelude.{vec_len, vec_capacity};
 ghost use Rattle.b32_replies.specs.Numbers.{number_of};
-ghost use Rattle.b32_replies.specs.Request.{Request, request_of, request_of_command};
-ghost use Rattle.line_program.specs.Added.{Adds};
-ghost use Rattle.line_program.specs.Refused.{err};
-ghost use Rattle.b32_replies.specs.Reply.{IsOutcome, IsReply};
+ghost use Rattle.b32_replies.specs.Request.{request_of_command};
+ghost use Rattle.line_program.specs.Added.{AddsOrRefuses};
+ghost use Rattle.b32_replies.specs.Reply.{IsAnswer, IsOutcome, IsReply};
 
 use crate::command::{ChecksumName, Command};
 use crate::correct::correct;
@@ -27,11 +26,8 @@ fn execute_command<A: Allocator + Copy>(
     out: &mut Vec<u8>,
 ) -> Result<(), Refusal>
     requires { vec_len out.old + 2047 ≤ vec_capacity out.old }
-    ensures ok { OnOk result
-        (Adds (IsOutcome (request_of_command command.entry)) out.old.items out.new.items) }
-    ensures err { IfErr result
-        (λ e. IsOutcome (request_of_command command.entry) (err (number_of e))) }
-    ensures same { OnErr result (out.new.items ≡ out.old.items) }
+    ensures answer { AddsOrRefuses (IsAnswer (request_of_command command.entry)) number_of result
+        out.old.items out.new.items }
     ensures capacity { vec_capacity out.old ≤ vec_capacity out.new }
 {
     match command {
@@ -61,10 +57,6 @@ pub struct Commands<A> {
 }
 
 impl<A: Allocator + Copy> Execute for Commands<A> {
-    ghost request = { Request };
-
-    ghost request_of = { request_of };
-
     ghost is_outcome = { IsOutcome };
 
     fn execute(&self, text: &str, out: &mut Vec<u8>) -> Result<(), NotExecuted> {

@@ -1,9 +1,8 @@
 //! Answers `segwit-decode`.
 
-ghost use Rattle.std.specs.Prelude.{◌≡◌, ◌+◌, ◌≤◌, vec_len, vec_capacity, OnOk, OnErr, IfErr};
+ghost use Rattle.std.specs.Prelude.{◌+◌, ◌≤◌, vec_len, vec_capacity};
 ghost use Rattle.b32_replies.specs.Numbers.{number_of};
-ghost use Rattle.line_program.specs.Added.{Adds};
-ghost use Rattle.line_program.specs.Refused.{err};
+ghost use Rattle.line_program.specs.Added.{AddsOrRefuses};
 ghost use Rattle.b32_replies.specs.Reply.{IsSegwitDecodeAnswer};
 
 use crate::append::append_lowered;
@@ -21,9 +20,8 @@ pub fn segwit_decode<A: Allocator + Copy>(
     out: &mut Vec<u8>,
 ) -> Result<(), Refusal>
     requires { vec_len out.old + 2047 ≤ vec_capacity out.old }
-    ensures ok { OnOk result (Adds (IsSegwitDecodeAnswer text.now) out.old.items out.new.items) }
-    ensures err { IfErr result (λ e. IsSegwitDecodeAnswer text.now (err (number_of e))) }
-    ensures same { OnErr result (out.new.items ≡ out.old.items) }
+    ensures answer { AddsOrRefuses (IsSegwitDecodeAnswer text.now) number_of result
+        out.old.items out.new.items }
     ensures capacity { vec_capacity out.old ≤ vec_capacity out.new }
 {
     let (hrp, version, program) = segwit::decode_in(alloc, text)?;

@@ -1,11 +1,13 @@
--- What may be said of a request. Of lines that ask for nothing `line_program` says it.
+-- What may be said of a text. Of lines that are too long or no text `line_program` says it.
 use Rattle.std.specs.Prelude.{◌≡◌, ◌⊎◌, ℕ, List, ◌∷◌, ◌++◌, codes, None}
 use Rattle.codex32.specs.Nearest.{IsNearestText, IsProposeRefusal, read_text}
 use Rattle.codex32.specs.Strings.{IsString, IsStringRefusal, frame_refusal}
-use Rattle.codex32.specs.declared.error.Codex32Error.{Codex32Error}
 use Rattle.codex32_numbers.specs.Numbers.{number_of_codex32_error}
-use Rattle.line_program.specs.Refused.{err}
-use Rattle.c32.specs.Request.{Request, Parse, Propose}
+use Rattle.line_program.specs.Refused.{SaysRefusal}
+use Rattle.line_program.specs.Reply.{IsOutcomeBy}
+use Rattle.c32.specs.Request.{request_of}
+use Rattle.c32.specs.declared.command.Command.{Command}
+use Rattle.c32.specs.declared.command.Command.TheVariants.{Parse, Propose}
 
 -- the parts of a codex32 string are said, which are the text's own characters: the threshold, the
 -- identifier, the share index and the payload
@@ -20,15 +22,10 @@ pub record SaysParts (text said : List ℕ) : Type 0 where
   pub spelling :
       said ≡ codes "ok " ++ (threshold ∷ 32 ∷ (identifier ++ (32 ∷ share_index ∷ 32 ∷ payload)))
 
--- it is said why a text is none
-pub record SaysNoString (text said : List ℕ) : Type 0 where
-  pub error : Codex32Error
-  pub is_refusal : IsStringRefusal text error
-  pub spelling : said ≡ err (number_of_codex32_error error)
-
 -- the answer to `parse`, which allocates nothing
 abbrev pub IsParseAnswer : List ℕ → List ℕ → Type 0
-IsParseAnswer text said = SaysParts text said ⊎ SaysNoString text said
+IsParseAnswer text said =
+    SaysParts text said ⊎ SaysRefusal (IsStringRefusal text) number_of_codex32_error said
 
 -- the nearest text is said, in lower case
 pub record SaysNearest (text said : List ℕ) : Type 0 where
@@ -43,18 +40,18 @@ pub record SaysNone (text said : List ℕ) : Type 0 where
   pub framed : frame_refusal (read_text text) ≡ None
   pub spelling : said ≡ codes "none"
 
--- it is said why no nearest text is looked for: what is wrong with the text, or, where it has its
+-- the answer to `propose`. It is refused for what is wrong with the text, or, where that has its
 -- grammar, its length and its human-readable part right, out of memory
-pub record SaysNotLooked (text said : List ℕ) : Type 0 where
-  pub error : Codex32Error
-  pub is_refusal : IsProposeRefusal text error
-  pub spelling : said ≡ err (number_of_codex32_error error)
-
--- the answer to `propose`
 abbrev pub IsProposeAnswer : List ℕ → List ℕ → Type 0
-IsProposeAnswer text said = SaysNearest text said ⊎ (SaysNone text said ⊎ SaysNotLooked text said)
+IsProposeAnswer text said =
+    SaysNearest text said
+    ⊎ (SaysNone text said ⊎ SaysRefusal (IsProposeRefusal text) number_of_codex32_error said)
 
--- the answer to a request
-abbrev pub IsOutcome : Request → List ℕ → Type 0
-IsOutcome (Parse text) said = IsParseAnswer text said
-IsOutcome (Propose text) said = IsProposeAnswer text said
+-- the answer to a command and its text
+abbrev pub IsAnswer : Command × List ℕ → List ℕ → Type 0
+IsAnswer (Parse, text) said = IsParseAnswer text said
+IsAnswer (Propose, text) said = IsProposeAnswer text said
+
+-- what may be said of a text
+abbrev pub IsOutcome : List ℕ → List ℕ → Type 0
+IsOutcome text said = IsOutcomeBy request_of IsAnswer text said

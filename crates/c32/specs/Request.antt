@@ -3,31 +3,21 @@ use Rattle.std.specs.Prelude.{ℕ, if◌then◌else◌, List, [], ◌∷◌, cod
 use Rattle.std.specs.Str.{bytes_eq}
 use Rattle.line_program.specs.Words.{request_by}
 use Rattle.c32.specs.declared.command.Command.{Command}
-use Rattle.c32.specs.declared.command.Command.TheVariants.{Parse as ParseCommand}
-use Rattle.c32.specs.declared.command.Command.TheVariants.{Propose as ProposeCommand}
+use Rattle.c32.specs.declared.command.Command.TheVariants.{Parse, Propose}
 
--- the parts of a codex32 string; the nearest text to a damaged one
-pub data Request : Type 0 where
-  Parse : (text : List ℕ) → Request
-  Propose : (text : List ℕ) → Request
-
--- what a name asks for, of a text: `parse TEXT` or `propose TEXT`
-abbrev pub request_of_name : List ℕ → List ℕ → Option Request
+-- what a name asks for, of a text: `parse TEXT`, the parts of a codex32 string, or `propose TEXT`,
+-- the nearest text to a damaged one
+abbrev pub request_of_name : List ℕ → List ℕ → Option (Command × List ℕ)
 request_of_name name text =
-    if bytes_eq name (codes "parse") then Some (Parse text)
-    else (if bytes_eq name (codes "propose") then Some (Propose text)
+    if bytes_eq name (codes "parse") then Some (Parse, text)
+    else (if bytes_eq name (codes "propose") then Some (Propose, text)
     else None)
 
 -- what words ask for
-abbrev pub request_of_words : List (List ℕ) → Option Request
+abbrev pub request_of_words : List (List ℕ) → Option (Command × List ℕ)
 request_of_words (name ∷ text ∷ []) = request_of_name name text
 request_of_words _ = None
 
 -- what a line asks for, which has no empty word
-abbrev pub request_of : List ℕ → Option Request
+abbrev pub request_of : List ℕ → Option (Command × List ℕ)
 request_of line = request_by request_of_words line
-
--- what a command asks for
-abbrev pub request_of_command : Command → Request
-request_of_command (ParseCommand text) = Parse text.now
-request_of_command (ProposeCommand text) = Propose text.now

@@ -1,8 +1,7 @@
 //! Answers `parse`.
 
-ghost use Rattle.std.specs.Prelude.{◌≡◌, ◌+◌, ◌≤◌, vec_len, vec_capacity, OnOk, OnErr, IfErr};
-ghost use Rattle.line_program.specs.Added.{Adds};
-ghost use Rattle.line_program.specs.Refused.{err};
+ghost use Rattle.std.specs.Prelude.{◌+◌, ◌≤◌, vec_len, vec_capacity};
+ghost use Rattle.line_program.specs.Added.{AddsOrRefuses};
 ghost use Rattle.codex32_numbers.specs.Numbers.{number_of_codex32_error};
 ghost use Rattle.c32.specs.Reply.{IsParseAnswer};
 
@@ -12,9 +11,8 @@ use line_program::append;
 /// Adds the parts of a codex32 string, in the case of the text, or leaves all as it was.
 pub fn parse(text: &str, out: &mut Vec<u8>) -> Result<(), Codex32Error>
     requires { vec_len out.old + 2047 ≤ vec_capacity out.old }
-    ensures ok { OnOk result (Adds (IsParseAnswer text.now) out.old.items out.new.items) }
-    ensures err { IfErr result (λ e. IsParseAnswer text.now (err (number_of_codex32_error e))) }
-    ensures same { OnErr result (out.new.items ≡ out.old.items) }
+    ensures answer { AddsOrRefuses (IsParseAnswer text.now) number_of_codex32_error result
+        out.old.items out.new.items }
     ensures capacity { vec_capacity out.old ≤ vec_capacity out.new }
 {
     let parts = Codex32Str::parse(text)?;

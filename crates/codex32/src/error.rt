@@ -1,5 +1,8 @@
 //! Why texts are refused.
 
+ghost use Rattle.std.specs.Prelude.{◌≡◌};
+ghost use Rattle.codex32.specs.declared.error.Codex32Error.TheVariants.{Text, Checksum, Memory};
+
 use bech32::primitives::decode::{ChecksumError, UncheckedHrpstringError};
 use std::alloc::AllocError;
 use thiserror::Error;
@@ -31,9 +34,6 @@ pub enum Codex32Error {
 }
 
 impl From<UncheckedHrpstringError> for Codex32Error {
-    ghost use Rattle.std.specs.Prelude.{◌≡◌};
-    ghost use Rattle.codex32.specs.declared.error.Codex32Error.TheVariants.{Text};
-
     ghost from_gives = { λ e r. r ≡ Text e };
 
     fn from(e: UncheckedHrpstringError) -> Self {
@@ -42,9 +42,6 @@ impl From<UncheckedHrpstringError> for Codex32Error {
 }
 
 impl From<ChecksumError> for Codex32Error {
-    ghost use Rattle.std.specs.Prelude.{◌≡◌};
-    ghost use Rattle.codex32.specs.declared.error.Codex32Error.TheVariants.{Checksum};
-
     ghost from_gives = { λ e r. r ≡ Checksum e };
 
     fn from(e: ChecksumError) -> Self {
@@ -53,9 +50,6 @@ impl From<ChecksumError> for Codex32Error {
 }
 
 impl From<AllocError> for Codex32Error {
-    ghost use Rattle.std.specs.Prelude.{◌≡◌};
-    ghost use Rattle.codex32.specs.declared.error.Codex32Error.TheVariants.{Memory};
-
     ghost from_gives = { λ e r. r ≡ Memory };
 
     fn from(_: AllocError) -> Self {

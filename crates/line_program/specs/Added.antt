@@ -1,5 +1,6 @@
 -- What is added to an output.
-use Rattle.std.specs.Prelude.{◌≡◌, ◌≤◌, ℕ, List, ◌++◌, length}
+use Rattle.std.specs.Prelude.{◌≡◌, ◌≤◌, ℕ, List, ◌++◌, length, Result, MatchResult}
+use Rattle.line_program.specs.Refused.{err}
 
 -- what is said is added to bytes, and leaves room for a newline
 pub record Adds (Says : List ℕ → Type 0) (old new : List ℕ) : Type 0 where
@@ -7,3 +8,11 @@ pub record Adds (Says : List ℕ → Type 0) (old new : List ℕ) : Type 0 where
   pub says : Says said
   pub size : length said ≤ 2047
   pub added : new ≡ old ++ said
+
+-- what may be said is added, or nothing is, and the refusal with the error's number may be said
+abbrev pub AddsOrRefuses : {E : Type 0} → (List ℕ → Type 0) → (E → ℕ) → Result (Unit {0}) E
+    → List ℕ → List ℕ → Type 0
+AddsOrRefuses Says number_of result old new =
+    MatchResult result
+    (λ _. Adds Says old new)
+    (λ e. Says (err (number_of e)) × (new ≡ old))

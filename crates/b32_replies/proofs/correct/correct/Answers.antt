@@ -1,4 +1,4 @@
-use Rattle.std.proofs.Common.{◌≡◌, ℕ, List, [], ◌∷◌, ◌++◌, length, length-append, ap, ◌∙◌, arith, codes, subst}
+use Rattle.std.proofs.Common.{◌≡◌, ℕ, List, [], ◌∷◌, ◌++◌, length, length-append, ap, ◌∙◌, arith, codes, refl, subst}
 use Rattle.std.proofs.lemmas.Result.{err_from_is_err_and}
 use Rattle.bech32_gf.specs.Fe32.{elements_of}
 use Rattle.bech32_gf.specs.declared.gf32.Fe32.{Fe32}
@@ -20,13 +20,13 @@ of_variant : (code : Code) (text given : List ℕ) (answer variant : Correction 
     → IsListing code (singleton_bound 24 26) text given variant
 of_variant code text given answer variant e h = subst (λ (x : Correction (List (ℕ × Fe32)) (Unit {0})). IsListing code (singleton_bound 24 26) text given x) e h
 
-pub returns-in_err-correction-clause-err : goal.returns-in_err-correction-clause-err
-returns-in_err-correction-clause-err c =
+pub returns-in_err-correction-clause-answer : goal.returns-in_err-correction-clause-answer
+returns-in_err-correction-clause-answer c =
     let p = err_from_is_err_and c.from_residual.result c.from_residual.ensures.1 in
-    rw p.1 (rw p.2 (says-refused (code_of_name c.args.checksum) c.args.text.now c.args.given.now c.in_err-correction.field-0.0 c.in_err-correction.ensures.0 c.in_err-correction.ensures.1))
+    rw p.1 (rw p.2 (says-refused (code_of_name c.args.checksum) c.args.text.now c.args.given.now c.in_err-correction.field-0.0 c.in_err-correction.ensures, refl))
 
-pub returns-in-Accepted-clause-ok : goal.returns-in-Accepted-clause-ok
-returns-in-Accepted-clause-ok c =
+pub returns-in-Accepted-clause-answer : goal.returns-in-Accepted-clause-answer
+returns-in-Accepted-clause-answer c =
     let code = code_of_name c.args.checksum in
     let text = c.args.text.now in
     let is : Accepts code text = of_variant code text c.args.given.now _ _ c.in-Accepted.is c.in_ok-correction.ensures in
@@ -37,8 +37,8 @@ returns-in-Accepted-clause-ok c =
       added = c.append.ensures.items;
     }
 
-pub returns-in-Unexplained-clause-ok : goal.returns-in-Unexplained-clause-ok
-returns-in-Unexplained-clause-ok c =
+pub returns-in-Unexplained-clause-answer : goal.returns-in-Unexplained-clause-answer
+returns-in-Unexplained-clause-answer c =
     let code = code_of_name c.args.checksum in
     let text = c.args.text.now in
     let none : HasNoListing code (singleton_bound 24 26) text c.args.given.now = (of_variant code text c.args.given.now _ _ c.in-Unexplained.is c.in_ok-correction.ensures).0 in
@@ -110,8 +110,8 @@ append_mended-requires-clause-inside c =
     let m = mendable-from_listing code (singleton_bound 24 26) text c.args.given.now listing is in
     rw c.as_slice-in-Mended.ensures (lowered m.hrp ++ (49 ∷ []), (elements_of m.data_part, ends-lowered text m.hrp m.data_part m.grammar, m.inside))
 
-pub returns-in-Mended-clause-ok : goal.returns-in-Mended-clause-ok
-returns-in-Mended-clause-ok c =
+pub returns-in-Mended-clause-answer : goal.returns-in-Mended-clause-answer
+returns-in-Mended-clause-answer c =
     let code = code_of_name c.args.checksum in
     let text = c.args.text.now in
     let listing = c.in-Mended.listing in

@@ -29,8 +29,8 @@ append_hex-requires g c =
       c.args.out.now.ok.0,
     )
 
-pub returns-clause-ok : goal.returns-clause-ok
-returns-clause-ok g c =
+pub returns-clause-answer : goal.returns-clause-answer
+returns-clause-answer g c =
     let hrp = hrp_bytes c.in_ok-hrp.hrp in
     let bytes = c.in_ok-hrp.bytes.items in
     let is = c.in_ok-hrp.ensures.value in
@@ -43,7 +43,7 @@ returns-clause-ok g c =
       added = four-pieces c.args.out.now.items (codes "ok ") (lowered hrp) (32 ∷ []) (hex_of bytes) _ _ _ _ c.append.ensures.items part_is c.append-2.ensures.items last_is;
     }
 
-pub returns-in_err-hrp-clause-err : goal.returns-in_err-hrp-clause-err
-returns-in_err-hrp-clause-err g c =
+pub returns-in_err-hrp-clause-answer : goal.returns-in_err-hrp-clause-answer
+returns-in_err-hrp-clause-answer g c =
     let p = err_from_is_err_and c.from_residual.result c.from_residual.ensures.1 in
-    rw p.1 (rw p.2 (inr (record { error = c.in_err-hrp.field-0.0; is_refusal = c.in_err-hrp.ensures.refused; spelling = refl })))
+    rw p.1 (rw p.2 (inr (record { error = c.in_err-hrp.field-0.0; is_refusal = c.in_err-hrp.ensures.refused; spelling = refl }), refl))

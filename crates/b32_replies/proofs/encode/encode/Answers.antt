@@ -1,4 +1,4 @@
-use Rattle.std.proofs.Common.{◌≡◌, ◌≤◌, ◌++◌, arith, codes}
+use Rattle.std.proofs.Common.{◌≡◌, ◌≤◌, ◌++◌, arith, codes, refl}
 use Rattle.std.proofs.lemmas.Result.{err_from_is_err_and}
 use Rattle.bech32_bits.specs.Bits.{to_fes}
 use Rattle.bech32_checksum.specs.Encoded.{IsEncodedText}
@@ -9,8 +9,8 @@ use Rattle.b32_replies.proofs.Sizes.{encoded-size}
 use Rattle.b32_replies.proofs.Replies.{encode-text, encode-refused_hex, encode-refused_part, encode-refused_text}
 use Rattle.b32_replies.proofs.encode.encode.Goals as goal
 
-pub returns-clause-ok : goal.returns-clause-ok
-returns-clause-ok g c =
+pub returns-clause-answer : goal.returns-clause-answer
+returns-clause-answer g c =
     let (bytes, is_hex, size, there) = c.in_ok-size.ensures.put in
     let (text, is_text, added) = c.append_text.ensures.text in
     let hrp = c.in_ok-hrp.ensures.outcome.1 in
@@ -27,21 +27,21 @@ returns-clause-ok g c =
       added = two-pieces c.args.out.now.items (codes "ok ") text _ _ c.append.ensures.items added;
     }
 
-pub returns-in_err-size-clause-err : goal.returns-in_err-size-clause-err
-returns-in_err-size-clause-err g c =
+pub returns-in_err-size-clause-answer : goal.returns-in_err-size-clause-answer
+returns-in_err-size-clause-answer g c =
     let p = err_from_is_err_and c.from_residual.result c.from_residual.ensures.1 in
-    rw p.1 (rw p.2 (encode-refused_hex g.Ck.Checksum.code c.args.hrp.now c.args.hex.now c.in_err-size.field-0.0 c.in_err-size.ensures.put))
+    rw p.1 (rw p.2 (encode-refused_hex g.Ck.Checksum.code c.args.hrp.now c.args.hex.now c.in_err-size.field-0.0 c.in_err-size.ensures.put, refl))
 
-pub returns-in_err-hrp-clause-err : goal.returns-in_err-hrp-clause-err
-returns-in_err-hrp-clause-err g c =
+pub returns-in_err-hrp-clause-answer : goal.returns-in_err-hrp-clause-answer
+returns-in_err-hrp-clause-answer g c =
     let p = err_from_is_err_and c.from_residual-in_err-hrp.result c.from_residual-in_err-hrp.ensures.1 in
     let (bytes, is_hex, size, there) = c.in_ok-size.ensures.put in
-    rw p.1 (rw p.2 (encode-refused_part g.Ck.Checksum.code c.args.hrp.now c.args.hex.now bytes c.in_err-hrp.field-0.0 is_hex c.in_err-hrp.ensures.outcome))
+    rw p.1 (rw p.2 (encode-refused_part g.Ck.Checksum.code c.args.hrp.now c.args.hex.now bytes c.in_err-hrp.field-0.0 is_hex c.in_err-hrp.ensures.outcome, refl))
 
-pub returns-in_err-count-clause-err : goal.returns-in_err-count-clause-err
-returns-in_err-count-clause-err g c =
+pub returns-in_err-count-clause-answer : goal.returns-in_err-count-clause-answer
+returns-in_err-count-clause-answer g c =
     let p = err_from_is_err_and c.from_residual-in_err-count.result c.from_residual-in_err-count.ensures.1 in
     let (bytes, is_hex, size, there) = c.in_ok-size.ensures.put in
     let refusal : IsEncodeRefusal g.Ck.Checksum.code c.args.hrp.now (to_fes bytes) c.in_err-count.field-0.0 =
     rw c.in_ok-hrp.ensures.outcome.1 at (c.in_err-count.ensures.value bytes size) in
-    rw p.1 (rw p.2 (encode-refused_text g.Ck.Checksum.code c.args.hrp.now c.args.hex.now bytes c.in_err-count.field-0.0 is_hex c.in_ok-hrp.ensures.outcome.0 refusal))
+    rw p.1 (rw p.2 (encode-refused_text g.Ck.Checksum.code c.args.hrp.now c.args.hex.now bytes c.in_err-count.field-0.0 is_hex c.in_ok-hrp.ensures.outcome.0 refusal, refl))

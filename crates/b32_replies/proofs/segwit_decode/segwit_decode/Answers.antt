@@ -36,8 +36,8 @@ append_hex-requires g c =
       c.args.out.now.ok.0,
     )
 
-pub returns-clause-ok : goal.returns-clause-ok
-returns-clause-ok g c =
+pub returns-clause-answer : goal.returns-clause-answer
+returns-clause-answer g c =
     let hrp = hrp_bytes c.in_ok-hrp.hrp in
     let version = c.in_ok-hrp.version in
     let program = c.in_ok-hrp.program.items in
@@ -53,7 +53,7 @@ returns-clause-ok g c =
           c.append-2.ensures.items number_is c.append-3.ensures.items last_is;
     }
 
-pub returns-in_err-hrp-clause-err : goal.returns-in_err-hrp-clause-err
-returns-in_err-hrp-clause-err g c =
+pub returns-in_err-hrp-clause-answer : goal.returns-in_err-hrp-clause-answer
+returns-in_err-hrp-clause-answer g c =
     let p = err_from_is_err_and c.from_residual.result c.from_residual.ensures.1 in
-    rw p.1 (rw p.2 (inr (record { error = c.in_err-hrp.field-0.0; is_refusal = c.in_err-hrp.ensures.refused; spelling = refl })))
+    rw p.1 (rw p.2 (inr (record { error = c.in_err-hrp.field-0.0; is_refusal = c.in_err-hrp.ensures.refused; spelling = refl }), refl))

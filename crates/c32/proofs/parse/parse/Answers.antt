@@ -5,18 +5,18 @@ use Rattle.c32.proofs.Replies.{says-no_string}
 use Rattle.c32.proofs.Sizes.{payload-size, share_index-small}
 use Rattle.c32.proofs.parse.parse.Goals as goal
 
-pub returns-in_err-parts-clause-err : goal.returns-in_err-parts-clause-err
-returns-in_err-parts-clause-err c =
+pub returns-in_err-parts-clause-answer : goal.returns-in_err-parts-clause-answer
+returns-in_err-parts-clause-answer c =
     let p = err_from_is_err_and c.from_residual.result c.from_residual.ensures.1 in
-    rw p.1 (rw p.2 (says-no_string c.args.text.now c.in_err-parts.field-0.0 c.in_err-parts.ensures.refused))
+    rw p.1 (rw p.2 (says-no_string c.args.text.now c.in_err-parts.field-0.0 c.in_err-parts.ensures.refused, refl))
 
 pub overflow_cast-share_index : goal.overflow_cast-share_index
 overflow_cast-share_index c =
     let small = share_index-small _ _ _ _ _ _ _ c.in_ok-parts.ensures.parts.is_string in
     omega (arith, small, c.share_index-share_index.ensures)
 
-pub returns-clause-ok : goal.returns-clause-ok
-returns-clause-ok c =
+pub returns-clause-answer : goal.returns-clause-answer
+returns-clause-answer c =
     let parts = c.in_ok-parts.parts in
     let is = c.in_ok-parts.ensures.parts.is_string in
     let out = c.args.out.now.items in

@@ -1,23 +1,19 @@
-use Rattle.line_program.proofs.Replied.{bytes-reply, no_command-reply, outcome-reply, outcome-adds}
+use Rattle.std.proofs.Common.{refl}
+use Rattle.line_program.proofs.Replied.{Adds-weaker, bytes-reply, text-reply}
 use Rattle.line_program.proofs.execute.execute_line.Goals as goal
 
-pub returns-in_default-clause-err : goal.returns-in_default-clause-err
-returns-in_default-clause-err g c =
-    bytes-reply g.P.Execute.request_of g.P.Execute.is_outcome c.args.line.now c.if-line-gt-LINE_LIMIT.false c.in_default.ensures.cases.0
+pub returns-in_default-clause-outcome : goal.returns-in_default-clause-outcome
+returns-in_default-clause-outcome g c =
+    (bytes-reply g.P.Execute.is_outcome c.args.line.now c.if-line-gt-LINE_LIMIT.false c.in_default.ensures.cases.0, refl)
 
-pub returns-in-Ok-execute-clause-ok : goal.returns-in-Ok-execute-clause-ok
-returns-in-Ok-execute-clause-ok g c =
+pub returns-in-Ok-execute-clause-outcome : goal.returns-in-Ok-execute-clause-outcome
+returns-in-Ok-execute-clause-outcome g c =
     let text = c.in-Ok.ensures.cases in
-    outcome-adds g.P.Execute.request_of g.P.Execute.is_outcome c.args.line.now c.if-line-gt-LINE_LIMIT.false _ _ text.1 (rw text.0 at c.in-Ok-execute.ensures.ok)
+    Adds-weaker _ _ _ _ (λ said h. text-reply g.P.Execute.is_outcome c.args.line.now c.if-line-gt-LINE_LIMIT.false said text.1 h)
+    (rw text.0 at c.in-Ok-execute.ensures.outcome)
 
-pub returns-in-Err-NoCommand-clause-err : goal.returns-in-Err-NoCommand-clause-err
-returns-in-Err-NoCommand-clause-err g c =
+pub returns-in-Err-clause-outcome : goal.returns-in-Err-clause-outcome
+returns-in-Err-clause-outcome g c =
     let text = c.in-Ok.ensures.cases in
-    let none = rw (text.0, c.in-Err-NoCommand.field-0-is) at c.in-Err-NoCommand.ensures.err in
-    no_command-reply g.P.Execute.request_of g.P.Execute.is_outcome c.args.line.now c.if-line-gt-LINE_LIMIT.false text.1 none
-
-pub returns-in-Err-Refused-clause-err : goal.returns-in-Err-Refused-clause-err
-returns-in-Err-Refused-clause-err g c =
-    let text = c.in-Ok.ensures.cases in
-    let refused = rw (text.0, c.in-Err-Refused.field-0-is) at c.in-Err-Refused.ensures.err in
-    outcome-reply g.P.Execute.request_of g.P.Execute.is_outcome c.args.line.now c.if-line-gt-LINE_LIMIT.false _ text.1 refused.1
+    let refused = rw text.0 at c.in-Err.ensures.outcome in
+    rw c.number.ensures (text-reply g.P.Execute.is_outcome c.args.line.now c.if-line-gt-LINE_LIMIT.false _ text.1 refused.0, refused.1)

@@ -12,13 +12,13 @@ append-requires g c = elim c.match-execute_line.branch [
     ap (λ (v : Vec ℕ Global). vec_capacity v) w.out-is,
     w.append_refusal.ensures.size,
     w.append_refusal.ensures.capacity,
-    ap length w.in-Err.ensures.same,
+    ap length w.in-Err.ensures.outcome.1,
     c.execute_line.ensures.capacity,
     c.execute_line.new.out.ok.0,
     c.args.out.now.ok.0,
   )
   | in_default w ↦
-      let h = w.in_default.ensures.ok in
+      let h = w.in_default.ensures.outcome in
       omega (
         arith,
         ap (λ (v : Vec ℕ Global). vec_len v) w.out-is,
@@ -36,9 +36,9 @@ pub returns-clause-reply : goal.returns-clause-reply
 returns-clause-reply g c = elim c.match-execute_line.branch [
   | in-Err w ↦
       let made : c.match-execute_line.out.items ≡ c.args.out.now.items ++ err w.in-Err.number =
-      ap (λ (v : Vec ℕ Global). v.items) w.out-is ∙ w.append_refusal.ensures.items ∙ ap (λ (t : List ℕ). t ++ err w.in-Err.number) w.in-Err.ensures.same in
-      (err w.in-Err.number, w.in-Err.ensures.err, two-pieces c.args.out.now.items (err w.in-Err.number) (10 ∷ []) _ _ made c.append.ensures.items)
+      ap (λ (v : Vec ℕ Global). v.items) w.out-is ∙ w.append_refusal.ensures.items ∙ ap (λ (t : List ℕ). t ++ err w.in-Err.number) w.in-Err.ensures.outcome.1 in
+      (err w.in-Err.number, w.in-Err.ensures.outcome.0, two-pieces c.args.out.now.items (err w.in-Err.number) (10 ∷ []) _ _ made c.append.ensures.items)
   | in_default w ↦
-      let h = w.in_default.ensures.ok in
+      let h = w.in_default.ensures.outcome in
       (h.said, h.says, two-pieces c.args.out.now.items h.said (10 ∷ []) _ _ (ap (λ (v : Vec ℕ Global). v.items) w.out-is ∙ h.added) c.append.ensures.items)
 ]

@@ -1,5 +1,5 @@
 use Rattle.c32.proofs.Split.{no-name, no-text}
-use Rattle.c32.proofs.command.Command.parse.Goals as goal
+use Rattle.c32.proofs.command.command_of.Goals as goal
 
 pub returns-in_err-name : goal.returns-in_err-name
 returns-in_err-name c = rw c.from_residual.ensures (no-name c.args.line.now c.in_err-name.ensures)
