@@ -38,6 +38,8 @@ pub enum Correction<M, C = ()> {
 /// # Errors
 ///
 /// The checksum's refusal of the text, but for a wrong checksum.
+// Out of line: in line, the remainder and the target would be moved byte by byte.
+#[inline(never)]
 pub fn residue_error_in<Ck: Checksum>(
     unchecked: &UncheckedHrpstring<'_>,
 ) -> Result<Option<InvalidResidueError>, ChecksumError>

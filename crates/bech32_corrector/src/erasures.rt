@@ -53,6 +53,7 @@ fn distinct_in<A: Allocator + Copy>(
 /// # Errors
 ///
 /// If memory runs out. Seven need none, nor where they may be six at most.
+#[inline]
 pub(crate) fn distinct_below<A: Allocator + Copy>(
     alloc: A,
     given: &[usize],

@@ -46,7 +46,8 @@ fn is_multiple<R: PackedFe32>(row: &R, list: &[Fe32], factor: Fe32) -> bool
 
 // The element by which a packed row has to be multiplied to be a list, which is not zero at the pivot;
 // none where there is no such element. The first test rules out most rows: the screen is a row that is
-// zero at place 0 wherever there is one.
+// zero at place 0 wherever there is one. It is asked for at each location, so in line.
+#[inline(always)]
 fn factor_of<R: PackedFe32>(screen: &R, row: &R, list: &[Fe32], pivot: usize) -> Option<Fe32>
     requires screen { HasDigits R.WIDTH (R.number screen.now) }
     requires row { HasDigits R.WIDTH (R.number row.now) }
