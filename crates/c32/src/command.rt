@@ -14,7 +14,7 @@ pub enum Command {
     Propose,
 }
 
-/// Reads a line as a command and its text: two words with a single space between them.
+/// Reads a line as a command and its text. The two stand beside a single space, and none is empty.
 pub fn command_of(line: &str) -> Option<(Command, &str)>
     ensures { MatchOption result
         (request_of line.now ≡ None)
