@@ -54,8 +54,8 @@ data_fits code text hrp data_part is =
     omega (arith, whole, is.text_length)
 
 module _ {K : Type 0} {o : Ops K} (l : IsField o) {embed : Fe32 → K} (into : Embeds fe32.ops o embed) (apart : (x y : Fe32) → embed x ≡ embed y → x ≡ y) where
-  pub far_from_others : (code : Code) (base : K) (start end : ℕ) → AreLawfulRoots o embed code base start end → AreTextsFar code code.code_length (end - start + 1)
-  far_from_others code base start end lawful text hrp data_part other other_hrp other_data is other_is same_hrp same_length fits = step
+  pub far_from_others : (code : Code) (base : K) (start end : ℕ) → AreLawfulRoots o embed code base start end → (n : ℕ) → AreTextsFar code n (end - start + 1)
+  far_from_others code base start end lawful n text hrp data_part other other_hrp other_data is other_is same_hrp same_length fits = step
       (distance is_field l into same_element same_element-tells base start (end - start + 1) code.code_length code.generator (reverse xs) (reverse ys) (above_data hrp) code.target apart
       (usable fe32.ops o embed into.one base start end lawful.order code.code_length code.generator lawful.not_zero lawful.is_order lawful.long_enough lawful.ordered lawful.few lawful.are_roots)
       (length-reverse xs ∙ sizes ∙ sym (length-reverse ys)) within

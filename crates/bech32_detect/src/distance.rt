@@ -1,6 +1,6 @@
 //! In how many places accepted texts differ.
 
-ghost use Rattle.std.specs.Prelude.{◌<◌};
+ghost use Rattle.std.specs.Prelude.{◌<◌, ℕ};
 ghost use Rattle.bech32_detect.specs.Texts.{AreTextsFar};
 
 use bech32_checksum::Checksum;
@@ -12,5 +12,5 @@ use bech32_checksum::Checksum;
 /// design).
 pub fn accepted_texts_are_far<Ck: Checksum>()
     ensures { 0 < Ck.CHECKSUM_LENGTH → Ck.lawful
-        → AreTextsFar Ck.code Ck.code.code_length Ck.bound }
+        → (n : ℕ) → AreTextsFar Ck.code n Ck.bound }
 {}

@@ -255,7 +255,7 @@ module _ (text hrp damaged : List ℕ) (parts : AreParts text hrp damaged) where
   one_near one other n m =
       let ok : IsHrp hrp = parts.grammar.is_hrp in
       let apart : AreSameOrFar 8 (elements_of (map char_of_element n.elements)) (elements_of (map char_of_element m.elements)) =
-      far_from_others fe1024_laws.is_field into (apart_inside fe1024.embed fe1024.retract fe1024_laws.retract-embed) codex32 base 9 16 codex32_roots (spelled hrp n.elements) (lowered hrp)
+      far_from_others fe1024_laws.is_field into (apart_inside fe1024.embed fe1024.retract fe1024_laws.retract-embed) codex32 base 9 16 codex32_roots codex32.code_length (spelled hrp n.elements) (lowered hrp)
       (map char_of_element n.elements) (spelled hrp m.elements) (lowered hrp) (map char_of_element m.elements)
       (accepted_spelled codex32 hrp n.elements ok n.accepted) (accepted_spelled codex32 hrp m.elements ok m.accepted) refl lengths
       (data_fits codex32 (spelled hrp n.elements) (lowered hrp) (map char_of_element n.elements) (accepted_spelled codex32 hrp n.elements ok n.accepted)) in

@@ -1,12 +1,11 @@
 use Rattle.std.proofs.Common.{◌≡◌, ◌<◌, ◌+◌, ◌-◌, ℕ, sym, subst, arith}
-use Rattle.bech32_gf.specs.Fe32 as fe32
 use Rattle.bech32_bch.proofs.Candidates.{apart_inside}
 use Rattle.bech32_detect.specs.Texts.{AreTextsFar}
 use Rattle.bech32_detect.proofs.Distances.{far_from_others}
 use Rattle.bech32_detect.proofs.distance.accepted_texts_are_far.Goals as goal
 
 pub returns : goal.returns
-returns g c some lawful =
+returns g c some lawful n =
     let o = g.Ck.CorrectionField.Arithmetic.ops in
     let embed = g.Ck.CorrectionField.Extension.embed in
     let laws = g.met.Ck.Checksum in
@@ -16,6 +15,6 @@ returns g c some lawful =
     let into = g.met.Ck.CorrectionField.LocatorField.embeds_law in
     let apart = apart_inside embed g.Ck.CorrectionField.Extension.retract g.met.Ck.CorrectionField.Extension.retract_law in
     let same : end - start + 1 ≡ g.Ck.Checksum.bound = omega (arith, laws.bound_law) in
-    subst (λ (n : ℕ). AreTextsFar code code.code_length n) same
+    subst (λ (bound : ℕ). AreTextsFar code n bound) same
     (far_from_others g.met.Ck.CorrectionField.Arithmetic.laws into apart code g.Ck.Checksum.ROOT_GENERATOR start end
-    (laws.lawful_law.0 lawful (subst (λ n. 0 < n) (sym laws.degree_law) some)))
+    (laws.lawful_law.0 lawful (subst (λ k. 0 < k) (sym laws.degree_law) some)) n)
