@@ -163,7 +163,7 @@ refusal-from_invalid code text u e is v none = (
 refusal_of_text : (code : Code) (text : List ℕ) (u : UncheckedHrpstring) (e : CorrectError) → IsReadAs text u → IsReadRefusal code u e → IsCorrectRefusal code text e
 refusal_of_text code text u (Refused (Checksum e)) is h = refusal-from_invalid code text u e is h.0 h.1
 refusal_of_text code text u (Refused (Parse e)) is h = absurd h
-refusal_of_text code text u Memory is h = tt
+refusal_of_text code text u Memory is (error, v) = (unchecked_part u, unchecked_data u, residue_of error, refused_for code text u error is v)
 
 -- what is said of a text that was read is said of the text
 pub of_text : (code : Code) (bound : ℕ) (text given : List ℕ) (u : UncheckedHrpstring) (r : Result (Correction (List (ℕ × Fe32)) Question) CorrectError) → IsReadAs text u

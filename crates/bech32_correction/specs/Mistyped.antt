@@ -18,6 +18,8 @@ use Rattle.bech32_decode.specs.Text.{IsText}
 use Rattle.bech32_decode.specs.declared.unchecked.UncheckedHrpstring.{UncheckedHrpstring}
 use Rattle.bech32_refusals.specs.declared.error.CheckedHrpstringError.{CheckedHrpstringError}
 use Rattle.bech32_refusals.specs.declared.error.CheckedHrpstringError.TheVariants.{Checksum, Parse}
+use Rattle.bech32_refusals.specs.declared.error.ChecksumError.TheVariants.{InvalidResidue}
+use Rattle.bech32_refusals.specs.declared.error.InvalidResidueError.{InvalidResidueError}
 use Rattle.bech32_solver.specs.Carried.{of_checksum}
 use Rattle.bech32_corrector.specs.Carried.{of_checked}
 use Rattle.bech32_correction.specs.MendedElements.{mended}
@@ -143,12 +145,17 @@ abbrev pub IsReadRefusalBy : Code → UncheckedHrpstring → CheckedHrpstringErr
 IsReadRefusalBy code u (Checksum e) = IsInvalidBy code u e × (of_checksum e ≡ None)
 IsReadRefusalBy code u (Parse e) = ⊥
 
--- why a text that was read is not corrected: the checksum refuses it, or there is no memory
+-- why a text that was read is not corrected: the checksum refuses it, but not for its residue; or
+-- it refuses it for its residue, and there is no memory
 abbrev pub IsReadRefusal : Code → UncheckedHrpstring → CorrectError → Type 0
 IsReadRefusal code u (Refused e) = IsReadRefusalBy code u e
-IsReadRefusal code u Memory = Unit {0}
+IsReadRefusal code u Memory =
+    (error : InvalidResidueError) × IsInvalidBy code u (InvalidResidue error)
 
--- why a text is not corrected: it is refused, or there is no memory
+-- why a text is not corrected: it is refused, but not for its residue; or it is refused for its
+-- residue alone, and there is no memory
 abbrev pub IsCorrectRefusal : Code → List ℕ → CorrectError → Type 0
 IsCorrectRefusal code text (Refused e) = IsRefusal code text e
-IsCorrectRefusal code text Memory = Unit {0}
+IsCorrectRefusal code text Memory =
+    (hrp : List ℕ) × (data_part : List ℕ) × (residue : List Fe32)
+    × IsRefusedFor code text hrp data_part residue

@@ -63,8 +63,9 @@ pub fn residue_error_in<Ck: Checksum>(
 ///
 /// # Errors
 ///
-/// The checksum's refusal of the text, but for a wrong checksum; where memory runs out, that. For a
-/// checksum of at most six characters no memory is taken.
+/// The checksum's refusal of the text, but for a wrong checksum. Out of memory is returned only for
+/// a text that is refused for a wrong checksum; for a checksum of at most six characters no memory
+/// is taken.
 pub fn listing_of_unchecked<Ck: CorrectingChecksum, A: Allocator + Copy>(
     alloc: A,
     unchecked: &UncheckedHrpstring<'_>,
@@ -92,8 +93,8 @@ pub fn listing_of_unchecked<Ck: CorrectingChecksum, A: Allocator + Copy>(
 ///
 /// # Errors
 ///
-/// As [`CheckedHrpstring::new`](bech32_decode::CheckedHrpstring::new), but for a wrong checksum; where
-/// memory runs out, that.
+/// As [`CheckedHrpstring::new`](bech32_decode::CheckedHrpstring::new), but for a wrong checksum.
+/// Out of memory is returned only for a text that is refused for a wrong checksum.
 pub fn listing_in<Ck: CorrectingChecksum, A: Allocator + Copy>(
     alloc: A,
     text: &str,

@@ -87,8 +87,8 @@ pub fn correct_in<Ck: CorrectingChecksum, A: Allocator + Copy>(
 ///
 /// # Errors
 ///
-/// As [`CheckedHrpstring::new`](bech32_decode::CheckedHrpstring::new), but for a wrong checksum; where
-/// memory runs out, that.
+/// As [`CheckedHrpstring::new`](bech32_decode::CheckedHrpstring::new), but for a wrong checksum.
+/// Out of memory is returned only for a text that is refused for a wrong checksum.
 pub fn correct<Ck: CorrectingChecksum>(
     alloc: Global,
     text: &str,

@@ -10,7 +10,10 @@ use Rattle.bech32_checksum.specs.Code.{Code}
 use Rattle.bech32_bch.specs.Erasures.{has, with_erasures}
 use Rattle.bech32_decode.specs.Acceptance.{Accepts, IsAccepted}
 use Rattle.bech32_decode.specs.Text.{IsText}
-use Rattle.bech32_correction.specs.Mistyped.{AreInside, HasResidue, IsMendedText, question_of}
+use Rattle.bech32_correction.specs.Mistyped.{AreInside, HasResidue, IsMendedText, IsRefusal}
+use Rattle.bech32_correction.specs.Mistyped.{question_of}
+use Rattle.bech32_correction.specs.declared.error.CorrectError.{CorrectError}
+use Rattle.bech32_correction.specs.declared.error.CorrectError.TheVariants.{Memory, Refused}
 use Rattle.bech32_near_patterns.specs.Nearest.{AreNearest, DetectsFour}
 use Rattle.bech32_direct.specs.Question.{Question}
 
@@ -96,3 +99,11 @@ abbrev pub IsSearch : Code → List ℕ → Option Question → Type 0
 IsSearch code text None = (length code.generator ≡ 0) × Accepts code text
 IsSearch code text (Some corrector) =
     (0 < length code.generator) × IsSearcherOf code text corrector
+
+-- why no texts are looked for: the text is refused, but not for its residue; or it is refused for
+-- nothing else, and there is no memory
+abbrev pub IsNearestRefusal : Code → List ℕ → CorrectError → Type 0
+IsNearestRefusal code text (Refused e) = IsRefusal code text e
+IsNearestRefusal code text Memory =
+    (hrp : List ℕ) × (data_part : List ℕ) × (residue : List Fe32)
+    × HasResidue code text hrp data_part residue

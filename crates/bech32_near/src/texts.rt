@@ -3,8 +3,8 @@
 ghost use Rattle.std.specs.Prelude.{◌≡◌, ◌<◌, ℕ, List, None, length, map, IfOk, MatchResult, string_bytes};
 ghost use Rattle.std.specs.List.{AllByRecursion};
 ghost use Rattle.bech32_solver.specs.Carried.{of_checksum};
-ghost use Rattle.bech32_correction.specs.Mistyped.{IsCorrectRefusal, IsMendedText, IsPlacedIn, IsReadAs, IsReadRefusal};
-ghost use Rattle.bech32_near.specs.NearTexts.{AreNearestListings, AreNearTexts, IsSearch, IsSearcherOf, LeavesResidue};
+ghost use Rattle.bech32_correction.specs.Mistyped.{IsMendedText, IsPlacedIn, IsReadAs};
+ghost use Rattle.bech32_near.specs.NearTexts.{AreNearestListings, AreNearTexts, IsNearestRefusal, IsSearch, IsSearcherOf, LeavesResidue};
 ghost use Rattle.bech32_decode.specs.Refusals.{IsInvalidBy};
 
 use bech32_bch::ShortVec;
@@ -97,7 +97,7 @@ pub fn nearest_in<Ck: CorrectingChecksum, A: Allocator + Copy>(
         (λ near. AreNearTexts Ck.code Ck.bound text.now erasures.now errors
         (map (λ m. (m.listing, string_bytes m.text)) near.texts.items)
         × IsSearch Ck.code text.now near.corrector)
-        (λ e. IsCorrectRefusal Ck.code text.now e) }
+        (λ e. IsNearestRefusal Ck.code text.now e) }
 {
     let unchecked = UncheckedHrpstring::new(text)?;
     let residue = residue_in::<Ck>(&unchecked)?;
@@ -134,8 +134,9 @@ pub fn nearest_in<Ck: CorrectingChecksum, A: Allocator + Copy>(
 ///
 /// # Errors
 ///
-/// As [`CheckedHrpstring::new`](bech32_decode::CheckedHrpstring::new), but for a wrong checksum; where
-/// memory runs out, that.
+/// As [`CheckedHrpstring::new`](bech32_decode::CheckedHrpstring::new), but for a wrong checksum.
+/// Out of memory is returned only for a text that is refused for nothing else: it is accepted, or
+/// its checksum is wrong.
 pub fn nearest<Ck: CorrectingChecksum>(
     alloc: Global,
     text: &str,
@@ -146,7 +147,7 @@ pub fn nearest<Ck: CorrectingChecksum>(
         (λ near. AreNearTexts Ck.code Ck.bound text.now erasures.now errors
         (map (λ m. (m.listing, string_bytes m.text)) near.texts.items)
         × IsSearch Ck.code text.now near.corrector)
-        (λ e. IsCorrectRefusal Ck.code text.now e) }
+        (λ e. IsNearestRefusal Ck.code text.now e) }
 {
     nearest_in::<Ck, Global>(alloc, text, erasures, errors)
 }

@@ -1,4 +1,5 @@
 use Rattle.std.proofs.Common.{rules, ◌≡◌, ℕ, length, ap, sym, ◌∙◌}
+use Rattle.std.proofs.lemmas.Result.{err_from_is_err_and}
 use Rattle.bech32_checksum.specs.Code.{Code}
 use Rattle.bech32_checksum.proofs.Digits.{length-tabulate}
 use Rattle.bech32_decode.specs.Refusals.{IsInvalidBy, IsValidBy}
@@ -29,6 +30,13 @@ pub returns-in_default-clause-value : goal.returns-in_default-clause-value
 returns-in_default-clause-value g c = λ text is.
     let valid : IsValidBy g.Ck.Checksum.code c.args.unchecked.now = rw c.in_default.is at c.in_ok-error.ensures in
     accepted-from_valid g.Ck.Checksum.code text c.args.unchecked.now is valid
+
+pub returns-in_err-listing-clause-value : goal.returns-in_err-listing-clause-value
+returns-in_err-listing-clause-value g c =
+    let error = c.in-Some.error in
+    let invalid : IsInvalidBy g.Ck.Checksum.code c.args.unchecked.now (InvalidResidue error) = rw c.in-Some.is at c.in_ok-error.ensures in
+    let p = err_from_is_err_and c.from_residual-in_err-listing.result c.from_residual-in_err-listing.ensures.1 in
+    rw p.1 (rw p.2 (error, invalid))
 
 pub returns-in-Some-2-clause-value : goal.returns-in-Some-2-clause-value
 returns-in-Some-2-clause-value g c = λ text is.

@@ -1,5 +1,6 @@
 use Rattle.std.specs.Prelude.{string_bytes}
 use Rattle.std.proofs.Common.{rules, ℕ, List, subst, sym}
+use Rattle.std.proofs.lemmas.Result.{err_from_is_err_and}
 use Rattle.bech32_gf.specs.declared.gf32.Fe32.{Fe32}
 use Rattle.bech32_correction.specs.Mistyped.{IsListingOf, IsMendedBy}
 use Rattle.bech32_correction.proofs.MendedText.{mended_by, placed-from_listing}
@@ -15,6 +16,12 @@ mended_by-requires g c =
 
 pub returns-in-Accepted : goal.returns-in-Accepted
 returns-in-Accepted g c = rw c.in-Accepted.is at c.in_ok-listing_in.ensures.value
+
+pub returns-in_err-mended_by-in-Mended : goal.returns-in_err-mended_by-in-Mended
+returns-in_err-mended_by-in-Mended g c =
+    let is : IsListingOf g.Ck.Checksum.code g.Ck.Checksum.bound c.args.text.now c.args.erasures.now c.in-Mended.listing = rw c.in-Mended.is at c.in_ok-listing_in.ensures.value in
+    let p = err_from_is_err_and c.from_residual-in_err-mended_by-in-Mended.result c.from_residual-in_err-mended_by-in-Mended.ensures.1 in
+    rw p.1 (rw p.2 (is.hrp, is.data_part, is.residue, is.refused))
 
 pub returns-in_ok-mended_by-in-Mended : goal.returns-in_ok-mended_by-in-Mended
 returns-in_ok-mended_by-in-Mended g c =

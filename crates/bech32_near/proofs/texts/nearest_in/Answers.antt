@@ -42,6 +42,20 @@ returns-in_err-residue g c =
     let p = err_from_is_err_and c.from_residual-in_err-residue.result c.from_residual-in_err-residue.ensures.1 in
     rw p.1 (rw p.2 (refusal-from_invalid g.Ck.Checksum.code c.args.text.now c.in_ok-unchecked.unchecked c.in_err-residue.field-0.0 read invalid.0 invalid.1))
 
+pub returns-in_err-listings : goal.returns-in_err-listings
+returns-in_err-listings g c =
+    let read = reading c.args.text.now c.in_ok-unchecked.unchecked c.in_ok-unchecked.ensures.parts in
+    let (hrp, data_part, has, accepts) = c.in_ok-residue.ensures c.args.text.now read in
+    let p = err_from_is_err_and c.from_residual-in_err-listings.result c.from_residual-in_err-listings.ensures.1 in
+    rw p.1 (rw p.2 (hrp, data_part, c.in_ok-residue.residue, has))
+
+pub returns-in_err-texts : goal.returns-in_err-texts
+returns-in_err-texts g c =
+    let read = reading c.args.text.now c.in_ok-unchecked.unchecked c.in_ok-unchecked.ensures.parts in
+    let (hrp, data_part, has, accepts) = c.in_ok-residue.ensures c.args.text.now read in
+    let p = err_from_is_err_and c.from_residual-in_err-texts.result c.from_residual-in_err-texts.ensures.1 in
+    rw p.1 (rw p.2 (hrp, data_part, c.in_ok-residue.residue, has))
+
 pub returns-then-CHECKSUM_LENGTH-eq0 : goal.returns-then-CHECKSUM_LENGTH-eq0
 returns-then-CHECKSUM_LENGTH-eq0 g c =
     let code = g.Ck.Checksum.code in
