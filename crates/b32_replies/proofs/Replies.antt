@@ -1,8 +1,8 @@
 -- What may be said of a line.
-use Rattle.std.proofs.Common.{◌≡◌, ℕ, ◌≤◌, inl, inr, List, ◌++◌, refl, sym, subst, codes, Some, None}
+use Rattle.std.proofs.Common.{◌≡◌, ℕ, ◌<◌, ◌≤◌, inl, inr, List, ◌++◌, ap, refl, sym, subst, codes, Some, None}
 use Rattle.bech32_bits.specs.Bits.{to_fes}
 use Rattle.bech32_checksum.specs.Code.{Code}
-use Rattle.bech32.specs.Refusals.{IsEncodeRefusal}
+use Rattle.bech32_numbers.specs.Numbers.{number_of_encode_error}
 use Rattle.bech32.specs.declared.error.EncodeError.{EncodeError}
 use Rattle.bech32_hrp.specs.Hrp.{hrp_refusal}
 use Rattle.bech32_hrp.specs.declared.Error.{Error as HrpError}
@@ -35,7 +35,8 @@ pub encode-refused_part : (code : Code) (hrp hex bytes : List ℕ) (e : HrpError
     → IsEncodeAnswer code hrp hex (err (number_of (Hrp e)))
 encode-refused_part code hrp hex bytes e b h = rw (b, h) refl
 
--- a text that is not written
+-- a text that is too long
 pub encode-refused_text : (code : Code) (hrp hex bytes : List ℕ) (e : EncodeError) → bytes_of hex ≡ Some bytes → hrp_refusal hrp ≡ None
-    → IsEncodeRefusal code hrp (to_fes bytes) e → IsEncodeAnswer code hrp hex (err (number_of (Encode e)))
-encode-refused_text code hrp hex bytes e b h r = rw (b, h) (inr (record { error = e; is_refusal = r; spelling = refl }))
+    → (code.code_length < encoded_length_of code hrp (to_fes bytes)) × (number_of_encode_error e ≡ 51)
+    → IsEncodeAnswer code hrp hex (err (number_of (Encode e)))
+encode-refused_text code hrp hex bytes e b h long = rw (b, h) (inr (long.0, ap err long.1))

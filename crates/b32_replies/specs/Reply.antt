@@ -1,5 +1,5 @@
 -- What may be said of a line.
-use Rattle.std.specs.Prelude.{◌≡◌, ◌≤◌, ◌⊎◌, ℕ, List, [], ◌∷◌}
+use Rattle.std.specs.Prelude.{◌≡◌, ◌<◌, ◌≤◌, ◌⊎◌, ℕ, List, [], ◌∷◌}
 use Rattle.std.specs.Prelude.{◌++◌, codes, MatchOption}
 use Rattle.std.specs.Fmt.{decimal}
 use Rattle.bech32_gf.specs.declared.gf32.Fe32.{Fe32}
@@ -11,23 +11,23 @@ use Rattle.bech32_checksum.specs.Encoded.{IsEncodedText, char_of_element}
 use Rattle.bech32_checksum.specs.Roots.{singleton_bound}
 use Rattle.bech32_correction.specs.Mistyped.{HasNoListing, IsListingOf, IsMendedText, IsRefusal}
 use Rattle.bech32_encode.specs.TextLength.{encoded_length_of}
-use Rattle.bech32.specs.Refusals.{IsDecodeRefusal, IsEncodeRefusal}
+use Rattle.bech32.specs.Refusals.{IsDecodeRefusal}
 use Rattle.bech32_decode.specs.Segwit.{IsLowerAddress, IsAddress, IsAddressText, IsSegwitRefusal}
 use Rattle.bech32_segwit.specs.SegwitEncoding.{IsSegwitEncodeRefusal}
 use Rattle.bech32_refusals.specs.declared.error.SegwitHrpstringError.TheVariants.{Memory}
 use Rattle.bech32_segwit.specs.declared.error.DecodeError.{DecodeError as SegwitDecodeError}
 use Rattle.line_program.specs.Refused.{SaysRefusal, err}
-use Rattle.line_program.specs.Reply.{IsOutcomeBy, IsReplyBy}
+use Rattle.line_program.specs.Reply.{IsReplyBy}
 use Rattle.b32_replies.specs.Hex.{AreBytes, IsHex, bytes_of, hex_of}
 use Rattle.bech32_numbers.specs.Numbers.{number_of_checked_error, number_of_hrp_error}
-use Rattle.bech32_numbers.specs.Numbers.{number_of_decode_error, number_of_encode_error}
+use Rattle.bech32_numbers.specs.Numbers.{number_of_decode_error}
 use Rattle.bech32_numbers.specs.Numbers.{number_of_segwit_decode_error}
 use Rattle.bech32_numbers.specs.Numbers.{number_of_segwit_encode_error}
 use Rattle.b32_replies.specs.Locations.{AreLocations, IsNoListOfLocations}
 use Rattle.b32_replies.specs.Request.{Request, Encode, Decode, SegwitEncode, SegwitDecode}
 use Rattle.b32_replies.specs.Request.{Correct, CorrectAt, code_of_name, request_of}
 
--- an answer, or out of memory for the bytes that a word stands for
+-- an answer, or out of memory for the bytes of a word of hex digits
 abbrev pub OrNoMemory : List ℕ → (List ℕ → Type 0) → List ℕ → Type 0
 OrNoMemory hex Says said = Says said ⊎ (IsHex hex × (said ≡ err 91))
 
@@ -38,14 +38,15 @@ pub record SaysText (code : Code) (hrp bytes said : List ℕ) : Type 0 where
   pub fits : encoded_length_of code hrp (to_fes bytes) ≤ code.code_length
   pub spelling : said ≡ codes "ok " ++ text
 
--- the answer to `encode`: bad hex is refused, then a bad human-readable part
+-- the answer to `encode`: bad hex is refused, then a bad human-readable part, then a text that is
+-- longer than the code
 abbrev pub IsEncodeAnswer : Code → List ℕ → List ℕ → List ℕ → Type 0
 IsEncodeAnswer code hrp hex said =
     MatchOption (bytes_of hex)
     (said ≡ err 5)
     (λ bytes. MatchOption (hrp_refusal hrp)
     (SaysText code hrp bytes said
-    ⊎ SaysRefusal (IsEncodeRefusal code hrp (to_fes bytes)) number_of_encode_error said)
+    ⊎ ((code.code_length < encoded_length_of code hrp (to_fes bytes)) × (said ≡ err 51)))
     (λ error. said ≡ err (number_of_hrp_error error)))
 
 -- the human-readable part of a text is said, in lower case, and its bytes
@@ -162,10 +163,6 @@ IsAnswer (Correct checksum text) said = IsCorrectAnswer (code_of_name checksum) 
 IsAnswer (CorrectAt checksum text word) said =
     IsCorrectAtAnswer (code_of_name checksum) text word said
 
--- what may be said of a text
-abbrev pub IsOutcome : List ℕ → List ℕ → Type 0
-IsOutcome text said = IsOutcomeBy request_of IsAnswer text said
-
 -- what may be said of a line
 abbrev pub IsReply : List ℕ → List ℕ → Type 0
-IsReply line said = IsReplyBy IsOutcome line said
+IsReply line said = IsReplyBy request_of IsAnswer line said

@@ -1,11 +1,11 @@
 //! Answers `encode`.
 
-ghost use Rattle.std.specs.Prelude.{◌≡◌, ◌+◌, ◌≤◌, ◌++◌, ℕ, List, length, vec_len, vec_capacity, IfOk, MatchResult};
+ghost use Rattle.std.specs.Prelude.{◌≡◌, ◌+◌, ◌<◌, ◌≤◌, ◌++◌, ℕ, List, length, vec_len, vec_capacity, IfOk, MatchResult};
 ghost use Rattle.bech32_bits.specs.Bits.{to_fes};
 ghost use Rattle.bech32_checksum.specs.Encoded.{IsEncodedText};
 ghost use Rattle.bech32_encode.specs.TextLength.{encoded_length_of};
 ghost use Rattle.bech32_hrp.specs.HrpBytes.{hrp_bytes};
-ghost use Rattle.bech32.specs.Refusals.{IsEncodeRefusal};
+ghost use Rattle.bech32_numbers.specs.Numbers.{number_of_encode_error};
 ghost use Rattle.b32_replies.specs.Numbers.{number_of};
 ghost use Rattle.line_program.specs.Added.{AddsOrRefuses};
 ghost use Rattle.b32_replies.specs.Reply.{IsEncodeAnswer};
@@ -26,7 +26,8 @@ fn length_of<Ck: Checksum>(hrp: &Hrp, size: usize) -> Result<usize, EncodeError>
     ensures value { (bytes : List ℕ) → size ≡ length bytes → MatchResult result
         (λ n. (n ≡ encoded_length_of Ck.code (hrp_bytes hrp.now) (to_fes bytes))
         × (n ≤ Ck.code.code_length))
-        (λ e. IsEncodeRefusal Ck.code (hrp_bytes hrp.now) (to_fes bytes) e) }
+        (λ e. (Ck.code.code_length < encoded_length_of Ck.code (hrp_bytes hrp.now) (to_fes bytes))
+        × (number_of_encode_error e ≡ 51)) }
     ensures fits { IfOk result (λ n. (n ≤ 1023) × (size ≤ 640)) }
 {
     let count = text_length::<Ck>(hrp, size);

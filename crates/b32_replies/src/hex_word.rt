@@ -20,7 +20,7 @@ fn put_bytes(bytes: &mut [u8], digits: &str) -> bool
     hex::decode_to_slice(digits, bytes).is_ok()
 }
 
-/// The bytes that a word stands for. Memory is needed only where it stands for some.
+/// The bytes that a word stands for. Memory is needed only for pairs of digits.
 pub fn bytes_of_word<A: Allocator>(alloc: A, word: &str) -> Result<Vec<u8, A>, Refusal>
     ensures { MatchResult result
         (λ bytes. bytes_of word.now ≡ Some bytes.items)

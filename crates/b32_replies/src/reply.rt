@@ -3,9 +3,9 @@
 ghost use Rattle.std.specs.Prelude.{◌≡◌, ℕ, ◌+◌, ◌≤◌, List, [], ◌∷◌, ◌++◌};
 ghost use Rattle.std.specs.Prelude.{vec_len, vec_capacity};
 ghost use Rattle.b32_replies.specs.Numbers.{number_of};
-ghost use Rattle.b32_replies.specs.Request.{request_of_command};
+ghost use Rattle.b32_replies.specs.Request.{Request, request_of, request_of_command};
 ghost use Rattle.line_program.specs.Added.{AddsOrRefuses};
-ghost use Rattle.b32_replies.specs.Reply.{IsAnswer, IsOutcome, IsReply};
+ghost use Rattle.b32_replies.specs.Reply.{IsAnswer, IsReply};
 
 use crate::command::{ChecksumName, Command};
 use crate::correct::correct;
@@ -57,7 +57,11 @@ pub struct Commands<A> {
 }
 
 impl<A: Allocator + Copy> Execute for Commands<A> {
-    ghost is_outcome = { IsOutcome };
+    ghost request = { Request };
+
+    ghost request_of = { request_of };
+
+    ghost is_answer = { IsAnswer };
 
     fn execute(&self, text: &str, out: &mut Vec<u8>) -> Result<(), NotExecuted> {
         let Some(command) = Command::parse(text) else {

@@ -1,12 +1,10 @@
--- What may be said of a text. Of lines that are too long or no text `line_program` says it.
+-- What may be said of a request. Of lines that ask for nothing `line_program` says it.
 use Rattle.std.specs.Prelude.{◌≡◌, ◌⊎◌, ℕ, List, ◌∷◌, ◌++◌, codes, None}
 use Rattle.codex32.specs.Nearest.{IsNearestText, IsProposeRefusal, read_text}
 use Rattle.codex32.specs.Strings.{IsString, IsStringRefusal, frame_refusal}
 use Rattle.codex32_numbers.specs.Numbers.{number_of_codex32_error}
 use Rattle.line_program.specs.Refused.{SaysRefusal}
-use Rattle.line_program.specs.Reply.{IsOutcomeBy}
-use Rattle.c32.specs.Request.{request_of}
-use Rattle.c32.specs.declared.command.Command.{Command}
+use Rattle.c32.specs.Request.{Request}
 use Rattle.c32.specs.declared.command.Command.TheVariants.{Parse, Propose}
 
 -- the parts of a codex32 string are said, which are the text's own characters: the threshold, the
@@ -47,11 +45,7 @@ IsProposeAnswer text said =
     SaysNearest text said
     ⊎ (SaysNone text said ⊎ SaysRefusal (IsProposeRefusal text) number_of_codex32_error said)
 
--- the answer to a command and its text
-abbrev pub IsAnswer : Command × List ℕ → List ℕ → Type 0
+-- the answer to a request
+abbrev pub IsAnswer : Request → List ℕ → Type 0
 IsAnswer (Parse, text) said = IsParseAnswer text said
 IsAnswer (Propose, text) said = IsProposeAnswer text said
-
--- what may be said of a text
-abbrev pub IsOutcome : List ℕ → List ℕ → Type 0
-IsOutcome text said = IsOutcomeBy request_of IsAnswer text said

@@ -14,7 +14,7 @@ pub enum Command {
     Propose,
 }
 
-/// Reads a line as a command and its text. The two stand beside a single space, and none is empty.
+/// Reads a line as a command and its text. A single space stands between them, and neither is empty.
 pub fn command_of(line: &str) -> Option<(Command, &str)>
     ensures { MatchOption result
         (request_of line.now ≡ None)

@@ -7,13 +7,15 @@ mod propose;
 mod reply;
 
 use crate::reply::Commands;
-use line_program::run;
+use devices::Watched;
+use line_program::run_on;
 use std::process::ExitCode;
 
 fn main(rt: HostRuntime) -> ExitCode {
     let commands = Commands { alloc: rt.alloc() };
     let (mut input, mut output) = (rt.stdin(), rt.stdout());
-    if let Err(e) = run(rt.alloc(), &commands, &mut input, &mut output) {
+    let (mut source, mut sink) = (Watched::new(&mut input), Watched::new(&mut output));
+    if let Err(e) = run_on(rt.alloc(), &commands, &mut source, &mut sink) {
         let _ = eprintln!(rt; "c32: {e}");
         return ExitCode::FAILURE;
     }

@@ -3,7 +3,8 @@
 ghost use Rattle.std.specs.Prelude.{◌+◌, ◌≤◌, vec_len, vec_capacity};
 ghost use Rattle.line_program.specs.Added.{AddsOrRefuses};
 ghost use Rattle.codex32_numbers.specs.Numbers.{number_of_codex32_error};
-ghost use Rattle.c32.specs.Reply.{IsAnswer, IsOutcome};
+ghost use Rattle.c32.specs.Reply.{IsAnswer};
+ghost use Rattle.c32.specs.Request.{Request, request_of};
 
 use crate::command::{Command, command_of};
 use crate::parse::parse;
@@ -34,7 +35,11 @@ impl<A: Allocator + Copy> Commands<A> {
 }
 
 impl<A: Allocator + Copy> Execute for Commands<A> {
-    ghost is_outcome = { IsOutcome };
+    ghost request = { Request };
+
+    ghost request_of = { request_of };
+
+    ghost is_answer = { IsAnswer };
 
     fn execute(&self, text: &str, out: &mut Vec<u8>) -> Result<(), NotExecuted> {
         let Some((command, text)) = command_of(text) else {

@@ -1,19 +1,20 @@
 -- What may be said of a line, by what may be said of a text.
-use Rattle.std.proofs.Common.{◌≡◌, ℕ, ◌≤◌, List, length, refl, Result, Ok, Err}
+use Rattle.std.proofs.Common.{ℕ, ◌≤◌, List, length, refl, Option, Result, Ok, Err}
 use Rattle.std.proofs.lemmas.Bool.{le-ltb, false_from_ne_true}
 use Rattle.std.proofs.lemmas.Str.{is_utf8-from_IsUtf8, IsUtf8-from_is_utf8}
 use Rattle.std.specs.Str.{IsUtf8, is_utf8}
 use Rattle.line_program.specs.Added.{Adds, AddsOrRefuses}
 use Rattle.line_program.specs.Refused.{err}
-use Rattle.line_program.specs.Reply.{IsReplyBy}
+use Rattle.line_program.specs.Reply.{IsOutcomeBy, IsReplyBy}
 
-module _ (IsOutcome : List ℕ → List ℕ → Type 0) (line : List ℕ) (short : length line ≤ 4096) where
+module _ {Request : Type 0} (request_of : List ℕ → Option Request) (IsAnswer : Request → List ℕ → Type 0)
+    (line : List ℕ) (short : length line ≤ 4096) where
   -- of one that is not UTF-8
-  pub bytes-reply : (IsUtf8 line → ⊥) → IsReplyBy IsOutcome line (err 2)
+  pub bytes-reply : (IsUtf8 line → ⊥) → IsReplyBy request_of IsAnswer line (err 2)
   bytes-reply u = rw (le-ltb 4096 (length line) short, false_from_ne_true (is_utf8 line) (λ t. u (IsUtf8-from_is_utf8 line t))) refl
 
   -- of one that is a text
-  pub text-reply : (said : List ℕ) → IsUtf8 line → IsOutcome line said → IsReplyBy IsOutcome line said
+  pub text-reply : (said : List ℕ) → IsUtf8 line → IsOutcomeBy request_of IsAnswer line said → IsReplyBy request_of IsAnswer line said
   text-reply said u h = rw (le-ltb 4096 (length line) short, is_utf8-from_IsUtf8 line u) h
 
 -- what is added may be said more widely

@@ -1,9 +1,10 @@
 //! What a program replies to commands, and so to each line.
 
-ghost use Rattle.std.specs.Prelude.{◌≡◌, ℕ, ◌+◌, ◌≤◌, ◌<◌, List, vec_len, vec_capacity, IfErr};
+ghost use Rattle.std.specs.Prelude.{◌≡◌, ◌↔◌, ℕ, ◌+◌, ◌≤◌, ◌<◌, List, vec_len, vec_capacity};
+ghost use Rattle.std.specs.Prelude.{Option, None, IfErr, IsErrOf};
 ghost use Rattle.line_program.specs.Added.{AddsOrRefuses};
 ghost use Rattle.line_program.specs.Refused.{number_of_not_executed};
-ghost use Rattle.line_program.specs.Reply.{IsReplyBy};
+ghost use Rattle.line_program.specs.Reply.{IsOutcomeBy, IsReplyBy};
 
 use crate::output::{append, append_refusal};
 use crate::replies::{LINE_LIMIT, Replies};
@@ -31,14 +32,20 @@ impl NotExecuted {
 
 /// Executes the commands of a program. Numbers of refusals are below 100.
 pub trait Execute {
-    // What may be said of a text.
-    ghost is_outcome: { List ℕ → List ℕ → Type 0 };
+    // What can be asked for, what a text asks for, if it is a command, and what may be said of that.
+    ghost request: { Type 0 };
 
-    /// Adds the outcome of a text of at most 4,096 bytes, or leaves all as it was.
+    ghost request_of: { List ℕ → Option request };
+
+    ghost is_answer: { request → List ℕ → Type 0 };
+
+    /// Adds the answer to a text of at most 4,096 bytes, or leaves all as it was. `NoCommand` is
+    /// returned exactly for a text that is no command.
     fn execute(&self, text: &str, out: &mut Vec<u8>) -> Result<(), NotExecuted>
         requires { vec_len out.old + 2047 ≤ vec_capacity out.old }
-        ensures outcome { AddsOrRefuses (is_outcome text.now) number_of_not_executed
-            result out.old.items out.new.items }
+        ensures outcome { AddsOrRefuses (IsOutcomeBy request_of is_answer text.now)
+            number_of_not_executed result out.old.items out.new.items }
+        ensures command { IsErrOf result NotExecuted.NoCommand ↔ (request_of text.now ≡ None) }
         ensures small { IfErr result (λ e. number_of_not_executed e < 100) }
         ensures capacity { vec_capacity out.old ≤ vec_capacity out.new };
 }
@@ -46,8 +53,8 @@ pub trait Execute {
 /// Adds the outcome of a line, or leaves all as it was, with the number of the refusal.
 fn execute_line<P: Execute>(program: &P, line: &[u8], out: &mut Vec<u8>) -> Result<(), u8>
     requires { vec_len out.old + 2047 ≤ vec_capacity out.old }
-    ensures outcome { AddsOrRefuses (IsReplyBy P.is_outcome line.now) (λ number. number)
-        result out.old.items out.new.items }
+    ensures outcome { AddsOrRefuses (IsReplyBy P.request_of P.is_answer line.now)
+        (λ number. number) result out.old.items out.new.items }
     ensures small { IfErr result (λ number. number < 100) }
     ensures capacity { vec_capacity out.old ≤ vec_capacity out.new }
 {
@@ -68,9 +75,9 @@ fn execute_line<P: Execute>(program: &P, line: &[u8], out: &mut Vec<u8>) -> Resu
 impl<P: Execute> Replies for P {
     ghost use Rattle.line_program.specs.laws.LongLines.{long_lines};
 
-    ghost is_reply = { IsReplyBy P.is_outcome };
+    ghost is_reply = { IsReplyBy P.request_of P.is_answer };
 
-    ghost too_long = { long_lines P.is_outcome };
+    ghost too_long = { long_lines P.request_of P.is_answer };
 
     fn reply(&self, line: &[u8], out: &mut Vec<u8>) {
         if let Err(number) = execute_line(self, line, out) {

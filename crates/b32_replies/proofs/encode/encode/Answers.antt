@@ -3,7 +3,6 @@ use Rattle.std.proofs.lemmas.Result.{err_from_is_err_and}
 use Rattle.bech32_bits.specs.Bits.{to_fes}
 use Rattle.bech32_checksum.specs.Encoded.{IsEncodedText}
 use Rattle.bech32_encode.specs.TextLength.{encoded_length_of}
-use Rattle.bech32.specs.Refusals.{IsEncodeRefusal}
 use Rattle.line_program.proofs.Pieces.{two-pieces}
 use Rattle.b32_replies.proofs.Sizes.{encoded-size}
 use Rattle.b32_replies.proofs.Replies.{encode-text, encode-refused_hex, encode-refused_part, encode-refused_text}
@@ -42,6 +41,5 @@ pub returns-in_err-count-clause-answer : goal.returns-in_err-count-clause-answer
 returns-in_err-count-clause-answer g c =
     let p = err_from_is_err_and c.from_residual-in_err-count.result c.from_residual-in_err-count.ensures.1 in
     let (bytes, is_hex, size, there) = c.in_ok-size.ensures.put in
-    let refusal : IsEncodeRefusal g.Ck.Checksum.code c.args.hrp.now (to_fes bytes) c.in_err-count.field-0.0 =
-    rw c.in_ok-hrp.ensures.outcome.1 at (c.in_err-count.ensures.value bytes size) in
-    rw p.1 (rw p.2 (encode-refused_text g.Ck.Checksum.code c.args.hrp.now c.args.hex.now bytes c.in_err-count.field-0.0 is_hex c.in_ok-hrp.ensures.outcome.0 refusal, refl))
+    let long = rw c.in_ok-hrp.ensures.outcome.1 at (c.in_err-count.ensures.value bytes size) in
+    rw p.1 (rw p.2 (encode-refused_text g.Ck.Checksum.code c.args.hrp.now c.args.hex.now bytes c.in_err-count.field-0.0 is_hex c.in_ok-hrp.ensures.outcome.0 long, refl))
