@@ -5,6 +5,8 @@
 //!     bench list                     the operations
 //!     bench count SIDE N K           K calls of operation N, for a count of instructions: SIDE is
 //!                                    ours, crate or limit
+//!     bench calls                    the calls from Rattle: kind, bytes or text, name of the row
+//!     bench called KIND WORD K       the crate's K calls of a kind on so many bytes or a text, for a count
 //!     bench written fmt|bytes SIZE K K texts of SIZE bytes written by the crate, for the same
 //!     bench kinds                    what is corrected beside Bech32's own texts, with the name of its row
 //!     bench corrected KIND K         the crate's K corrections of it, for the same
@@ -12,6 +14,7 @@
 //!     bench bad TIMES COUNTS         the same of bad input
 //!     bench chart TIMES COUNTS       their chart
 
+mod called;
 mod calls;
 mod compare;
 mod corrections;
@@ -113,6 +116,13 @@ fn main() {
             .iter()
             .for_each(|o| println!("{}", o.name)),
         Some("count") => count(&words),
+        Some("calls") => called::rows()
+            .iter()
+            .for_each(|row| println!("{}\t{}\t{}", row.kind, row.word, row.name)),
+        Some("called") => {
+            let calls = words[4].parse().unwrap();
+            println!("{}", called::called(&words[2], &words[3], calls));
+        }
         Some("written") => {
             let number = |at: usize| words[at].parse().unwrap();
             println!("{}", theirs::written(&words[2], number(3), number(4)));
@@ -129,6 +139,6 @@ fn main() {
         Some("table") => print!("{}", report::table(&rows(&words))),
         Some("bad") => print!("{}", report::table_of_bad(&rows(&words))),
         Some("chart") => print!("{}", report::chart(&rows(&words))),
-        _ => panic!("compare, time, list, count, written, kinds, corrected, table, bad or chart"),
+        _ => panic!("compare, time, list, count, calls, called, written, kinds, corrected, table, bad or chart"),
     }
 }

@@ -9,7 +9,7 @@ use crate::random::Numbers;
 use crate::theirs;
 use crate::Reply;
 use bech32::primitives::decode::CheckedHrpstring;
-use bech32::{segwit, Bech32, Bech32m, Fe32, Hrp};
+use bech32::{segwit, Bech32, Bech32m, Checksum, Fe32, Hrp};
 use std::hint::black_box;
 
 /// A side of an operation: what it answers, and a call.
@@ -33,12 +33,31 @@ const PROGRAM: [u8; 20] = [
     0xf1, 0x43, 0x3b, 0xd6,
 ];
 
-// A text of 1,023 characters.
-fn long() -> (Vec<u8>, String) {
-    let bytes: Vec<u8> = (0..632).map(|i| (i * 7 + 3) as u8).collect();
-    let text = bech32::encode::<Bech32>(Hrp::parse("abcd").unwrap(), &bytes).unwrap();
+fn taproot() -> Vec<u8> {
+    (0..32).map(|i| (i * 37 + 11) as u8).collect()
+}
+
+fn many_bytes() -> Vec<u8> {
+    (0..632).map(|i| (i * 7 + 3) as u8).collect()
+}
+
+/// A text of 41 characters.
+pub fn short<Ck: Checksum>() -> String {
+    bech32::encode::<Ck>(Hrp::parse("bc").unwrap(), &PROGRAM).unwrap()
+}
+
+/// A text of 1,023 characters.
+pub fn long() -> String {
+    let text = bech32::encode::<Bech32>(Hrp::parse("abcd").unwrap(), &many_bytes()).unwrap();
     assert_eq!(text.len(), 1023);
-    (bytes, text)
+    text
+}
+
+/// Addresses of 42 characters (version 0) and of 62 (version 1).
+pub fn addresses() -> [String; 2] {
+    let bc = Hrp::parse("bc").unwrap();
+    [(Fe32::Q, PROGRAM.to_vec()), (Fe32::P, taproot())]
+        .map(|(version, program)| segwit::encode(bc, version, &program).unwrap())
 }
 
 // The side of the crate.
@@ -189,8 +208,8 @@ fn correct(name: &str, text: String, erasures: &'static [usize]) -> Operation {
     operation(name, of_c, theirs)
 }
 
-// A text with other characters at some locations, of which 0 is the last.
-fn mistyped(text: &str, locations: &[usize]) -> String {
+/// A text with other characters at some locations, of which 0 is the last.
+pub fn mistyped(text: &str, locations: &[usize]) -> String {
     let mut bytes = text.as_bytes().to_vec();
     for place in locations {
         let at = bytes.len() - 1 - place;
@@ -216,41 +235,23 @@ fn residue(name: &str) -> Operation {
 }
 
 fn on_good_input() -> Vec<Operation> {
-    let bc = Hrp::parse("bc").unwrap();
-    let (bytes, text) = long();
-    let short = bech32::encode::<Bech32>(bc, &PROGRAM).unwrap();
-    let taproot: Vec<u8> = (0..32).map(|i| (i * 37 + 11) as u8).collect();
+    let short = short::<Bech32>();
+    let [address_0, address_1] = addresses();
     vec![
         encode("encode, 20 bytes, Bech32", BECH32, "bc", PROGRAM.to_vec()),
-        encode("encode, 632 bytes, Bech32m", BECH32M, "abcd", bytes),
-        decode(
-            "decode, 41 characters",
-            bech32::encode::<Bech32m>(bc, &PROGRAM).unwrap(),
-        ),
-        decode("decode, 1023 characters", text.clone()),
-        check(
-            "CheckedHrpstring::new, 41 characters",
-            bech32::encode::<Bech32>(bc, &PROGRAM).unwrap(),
-        ),
-        check("CheckedHrpstring::new, 1023 characters", text),
+        encode("encode, 632 bytes, Bech32m", BECH32M, "abcd", many_bytes()),
+        decode("decode, 41 characters", self::short::<Bech32m>()),
+        decode("decode, 1023 characters", long()),
+        check("CheckedHrpstring::new, 41 characters", short.clone()),
+        check("CheckedHrpstring::new, 1023 characters", long()),
         segwit_encode(
             "segwit::encode, version 0, 20 bytes",
             Fe32::Q,
             PROGRAM.to_vec(),
         ),
-        segwit_encode(
-            "segwit::encode, version 1, 32 bytes",
-            Fe32::P,
-            taproot.clone(),
-        ),
-        segwit_decode(
-            "segwit::decode, version 0, 42 characters",
-            segwit::encode(bc, Fe32::Q, &PROGRAM).unwrap(),
-        ),
-        segwit_decode(
-            "segwit::decode, version 1, 62 characters",
-            segwit::encode(bc, Fe32::P, &taproot).unwrap(),
-        ),
+        segwit_encode("segwit::encode, version 1, 32 bytes", Fe32::P, taproot()),
+        segwit_decode("segwit::decode, version 0, 42 characters", address_0),
+        segwit_decode("segwit::decode, version 1, 62 characters", address_1),
         residue("Engine::input_fe, 1000 elements"),
         correct(
             "correct, one error in 41 characters",
@@ -339,9 +340,7 @@ fn bad(
 
 /// All operations: those on bad input stand last.
 pub fn operations() -> Vec<Operation> {
-    let (_, long) = long();
-    let short = bech32::encode::<Bech32>(Hrp::parse("bc").unwrap(), &PROGRAM).unwrap();
-    let texts = [short, long];
+    let texts = [short::<Bech32>(), long()];
     let mut operations = on_good_input();
     let decodes = ["decode, 41 characters", "decode, 1023 characters"];
     operations.extend(bad("decode", decodes, texts.clone(), decode));

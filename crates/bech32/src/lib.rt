@@ -5,7 +5,7 @@ ghost use Rattle.std.specs.Prelude.{◌≡◌, ◌<◌, ◌≤◌, MatchResult, 
 ghost use Rattle.bech32_bits.specs.Bits.{to_fes};
 ghost use Rattle.bech32_hrp.specs.HrpBytes.{hrp_bytes};
 ghost use Rattle.bech32_decode.specs.Acceptance.{IsAcceptedByEither, IsDecoded};
-ghost use Rattle.bech32_decode.specs.Parts.{checked_bytes};
+ghost use Rattle.bech32_decode.specs.Parts.{checked_bytes, checked_part};
 ghost use Rattle.bech32_checksum.specs.Encoded.{IsEncodedText};
 ghost use Rattle.bech32_encode.specs.Cased.{IsTextInCase};
 ghost use Rattle.bech32_encode.specs.TextLength.{encoded_length_of};
@@ -22,9 +22,11 @@ pub use bech32_block::PrintImpl;
 pub use bech32_checksum::{Bech32, Bech32m, Checksum, CorrectingChecksum, NoChecksum};
 pub use bech32_correction::{CorrectError, Correction, Mended, correct, correct_in};
 pub use bech32_corrector::CorrectableError;
-use bech32_decode::{CheckedHrpstring, CodeLengthError, UncheckedHrpstring, validate_either};
+use bech32_decode::{
+    CheckedHrpstring, CodeLengthError, Reading, UncheckedHrpstring, validate_either,
+};
 pub use bech32_encode::Fe32IterExt;
-use bech32_encode::{text_in, text_length};
+use bech32_encode::{text_in, text_length_of_part};
 pub use bech32_gf::gf32::Fe32;
 pub use bech32_gf_ext::{Fe1024, Fe32768};
 pub use bech32_hrp::Hrp;
@@ -51,14 +53,27 @@ fn bytes_in<A: Allocator>(
     Ok(bytes)
 }
 
+// A text without its checksum, where Bech32m or Bech32 accepts it.
+fn checked(s: &str) -> Result<CheckedHrpstring<'_>, DecodeError>
+    ensures { MatchResult result
+        (λ c. IsDecoded s.now (checked_part c) (checked_bytes c))
+        (λ e. IsDecodeRefusal s.now e) }
+{
+    if let Some(reading) = Reading::<Bech32m>::of(s.as_bytes()) {
+        reading.validate_either()?;
+        return Ok(reading.checked());
+    }
+    let unchecked = UncheckedHrpstring::new(s)?;
+    validate_either(&unchecked)?;
+    Ok(unchecked.remove_checksum::<Bech32m>())
+}
+
 // What a text is decoded to, or why it is not.
 fn decoded_in<A: Allocator>(alloc: A, s: &str) -> Result<(Hrp, Vec<u8, A>), DecodeError>
     ensures value { IfOk result (λ d. IsDecoded s.now (hrp_bytes d.0) d.1.items) }
     ensures refused { IfErr result (λ e. IsDecodeRefusal s.now e) }
 {
-    let unchecked = UncheckedHrpstring::new(s)?;
-    validate_either(&unchecked)?;
-    let checked = unchecked.remove_checksum::<Bech32m>();
+    let checked = checked(s)?;
     let bytes = bytes_in(alloc, &checked)?;
     Ok((checked.hrp(), bytes))
 }
@@ -108,7 +123,23 @@ pub fn encoded_length<Ck: Checksum>(hrp: Hrp, data: &[u8]) -> Result<usize, Code
         × (e.encoded_length ≡ encoded_length_of Ck.code (hrp_bytes hrp) (to_fes «data».now))
         × (e.code_length ≡ Ck.code.code_length)) }
 {
-    let length = text_length::<Ck>(&hrp, data.len());
+    encoded_length_of_part::<Ck>(hrp.as_bytes(), data)
+}
+
+/// The same of the bytes of a human-readable part.
+#[inline]
+pub fn encoded_length_of_part<Ck: Checksum>(
+    part: &[u8],
+    data: &[u8],
+) -> Result<usize, CodeLengthError>
+    ensures { MatchResult result
+        (λ n. (n ≡ encoded_length_of Ck.code part.now (to_fes «data».now))
+        × (n ≤ Ck.code.code_length))
+        (λ e. (Ck.code.code_length < encoded_length_of Ck.code part.now (to_fes «data».now))
+        × (e.encoded_length ≡ encoded_length_of Ck.code part.now (to_fes «data».now))
+        × (e.code_length ≡ Ck.code.code_length)) }
+{
+    let length = text_length_of_part::<Ck>(part, data.len());
     if length > Ck::CODE_LENGTH {
         return Err(CodeLengthError {
             encoded_length: length,

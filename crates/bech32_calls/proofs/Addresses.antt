@@ -1,25 +1,27 @@
--- An address has parts of one length, and nothing is wrong where they have room.
-use Rattle.std.proofs.Common.{◌≡◌, ◌≤◌, ◌<◌, ◌+◌, ◌/◌, ◌*◌, ◌++◌, ℕ, List, ◌∷◌, Ok, Err, length, length-append, map, inl, inr, ⊎_elim, refl, sym, ap, ◌∙◌, subst, arith}
+-- An address has parts of one length, what is put of it, and nothing is wrong where they have room.
+use Rattle.std.proofs.Common.{◌≡◌, ◌≤◌, ◌<◌, ◌⊎◌, ◌+◌, ◌/◌, ◌*◌, ◌++◌, ℕ, List, ◌∷◌, Ok, Err, length, length-append, map, inl, inr, ⊎_elim, refl, sym, ap, ◌∙◌, subst, arith}
 use Rattle.std.proofs.lemmas.List.{length-map}
 use Rattle.std.specs.Char.{to_ascii_lowercase, to_ascii_uppercase}
 use Rattle.bech32_gf.specs.Fe32.{element, element_of, elements_of}
 use Rattle.bech32_gf.specs.declared.gf32.Fe32.{Fe32}
-use Rattle.bech32_bits.specs.Bits.{to_fes, fes_count}
+use Rattle.bech32_bits.specs.Bits.{to_bytes, to_fes, fes_count}
 use Rattle.bech32_checksum.specs.Encoded.{IsEncodedText}
 use Rattle.bech32_hrp.specs.Hrp.{IsHrp, lowered}
 use Rattle.bech32_bits.proofs.RoundTrip.{length-to_fes}
-use Rattle.bech32_decode.specs.Segwit.{segwit_code, IsAddress}
+use Rattle.bech32_decode.specs.Segwit.{segwit_code, IsAddress, IsAddressRefusal}
+use Rattle.bech32_decode.specs.SegwitParts.{IsReadIn}
 use Rattle.bech32_segwit.specs.SegwitEncoding.{HasAddress, address_length, IsSegwitEncodeRefusal}
 use Rattle.bech32_decode.specs.Text.{IsText}
 use Rattle.bech32_segwit.specs.declared.error.EncodeError.{EncodeError}
 use Rattle.bech32_segwit.specs.declared.error.EncodeError.TheVariants.{WitnessVersion, WitnessLength, TooLong as NoAddressLength, Memory}
-use Rattle.bech32_decode.proofs.Addresses.{parts-from_address, not_refused, short}
+use Rattle.bech32_decode.proofs.Addresses.{address-from_parts, parts-from_address, not_refused, short}
 use Rattle.bech32_decode.proofs.Grammar.{only-from_IsText}
-use Rattle.bech32_segwit.proofs.SegwitEncoding.{exists-from_outcome, spelling-from_outcome}
+use Rattle.bech32_refusals.specs.declared.error.SegwitHrpstringError.{SegwitHrpstringError}
+use Rattle.bech32_segwit.proofs.SegwitEncoding.{exists-from_outcome, one_spelling, spelling-from_outcome}
 use Rattle.bech32_decode.proofs.Spelling.{IsSpelled, spelled-lower, spelled-raised}
 use Rattle.bech32_checksum.proofs.Uniqueness.{in_other_case, length-encoded}
 use Rattle.bech32_encode.specs.Buffers.{IsPut}
-use Rattle.bech32_calls.specs.Segwit.{PutsAddress, HasRoomFor, IsAddressFault, IsSegwitEncodeFault, CanDecodeAddress, LacksRoomFor, IsSegwitDecodeFault}
+use Rattle.bech32_calls.specs.Segwit.{PutsAddress, HasRoomFor, IsAddressFault, IsSegwitEncodeFault, CanDecodeAddress, LacksRoomFor, IsSegwitDecodeFault, PutsProgram}
 use Rattle.bech32_calls.specs.declared.refusal.Refusal.{Refusal}
 use Rattle.bech32_calls.specs.declared.refusal.Refusal.TheVariants.{NotUtf8, NoRoom, Version, ProgramLength, AddressTooLong, Address}
 use Rattle.bech32_calls.proofs.Letters.{IsUtf8-from_text, no_part_fault}
@@ -135,3 +137,42 @@ no_segwit_decode_fault text m n NotUtf8 a h =
 no_segwit_decode_fault text m n (Address e) a h = not_refused text (parts-from_address text (a.part, a.version, a.found, a.is_hrp, a.is_address)) e h.0 h.1
 no_segwit_decode_fault text m n NoRoom a h = no_room_fault text m n a h
 no_segwit_decode_fault text m n _ a h = h
+
+-- ---- what is put
+
+module _ (text part : List ℕ) (v : Fe32) (characters : List ℕ) (h : IsReadIn segwit_code text part v characters) where
+  -- the parts that were put are those of the text
+  pub puts_program : (hrp hrp' program program' : List ℕ) (m version n : ℕ) → version ≡ v.value
+      → IsPut part hrp hrp' m × IsPut (to_bytes (elements_of characters)) program program' n
+      → PutsProgram text hrp hrp' program program' m version n
+  puts_program hrp hrp' program program' m version n version_is put =
+      let found : List ℕ = to_bytes (elements_of characters) in
+      let is : IsAddress part v found text = address-from_parts text part v characters h in
+      record {
+        part = part;
+        witness_version = v;
+        found = found;
+        is_hrp = h.accepted.grammar.is_hrp;
+        has_part = (h.data_part, h.accepted.grammar);
+        is_address = is;
+        spelling = λ x t same a. one_spelling x part v found t text same a is;
+        part_put = put.0;
+        version_is = version_is;
+        found_put = put.1;
+      }
+
+  -- or there is no room for them
+  pub program_lacks : (m n : ℕ) (e : Refusal) → (e ≡ NoRoom) × ((m < length part) ⊎ (n < length (to_bytes (elements_of characters)))) → IsSegwitDecodeFault text m n e
+  program_lacks m n e lack = subst (λ (x : Refusal). IsSegwitDecodeFault text m n x) (sym lack.0) (record {
+    part = part;
+    version = v;
+    found = to_bytes (elements_of characters);
+    is_hrp = h.accepted.grammar.is_hrp;
+    is_address = address-from_parts text part v characters h;
+    lacks = lack.1;
+  })
+
+-- why a text of the grammar is no address
+pub refused_address : (text hrp data_part : List ℕ) (m n : ℕ) (e : SegwitHrpstringError) → IsText text hrp data_part → length text ≤ 90 → IsAddressRefusal segwit_code text e
+    → IsSegwitDecodeFault text m n (Address e)
+refused_address text hrp data_part m n e is few refusal = (IsUtf8-from_text text hrp data_part is, inr (few, refusal))

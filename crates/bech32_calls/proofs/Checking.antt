@@ -5,9 +5,12 @@ use Rattle.bech32_checksum.specs.Code.{Code}
 use Rattle.bech32_hrp.specs.HrpBytes.{hrp_bytes}
 use Rattle.bech32_decode.specs.Acceptance.{Accepts}
 use Rattle.bech32_decode.specs.Checked.{IsAcceptedAs, IsCheckedRefusal}
+use Rattle.bech32_decode.specs.Refusals.{IsChecksumRefusal}
+use Rattle.bech32_decode.specs.Text.{IsText}
 use Rattle.bech32_decode.specs.declared.checked.CheckedHrpstring.{CheckedHrpstring}
 use Rattle.bech32_refusals.specs.declared.error.CheckedHrpstringError.{CheckedHrpstringError}
 use Rattle.bech32_refusals.specs.declared.error.CheckedHrpstringError.TheVariants.{Parse, Checksum as NotAccepted}
+use Rattle.bech32_refusals.specs.declared.error.ChecksumError.{ChecksumError}
 use Rattle.bech32_decode.proofs.Decoding.{accepted-from_checked}
 use Rattle.bech32_calls.specs.Check.{IsCheckedAs, IsCheckFault}
 use Rattle.bech32_calls.specs.declared.refusal.Refusal.{Refusal}
@@ -32,3 +35,9 @@ lengths-from_accepted text code c m n h e f =
     ap length h.characters.data_part_is ∙ length-append c.ascii.now h.characters.checksum in
     let size : length h.characters.checksum ≡ length code.generator = h.characters.size in
     record { hrp = hrp_bytes c.hrp; data_part = h.data_part; accepted = h.accepted; hrp_length_is = e; data_length_is = omega arith }
+
+-- why a checksum does not accept a text of the grammar
+pub refused_there : (text hrp data_part : List ℕ) (code : Code) (e : ChecksumError) → IsText text hrp data_part → IsChecksumRefusal code (length text) hrp data_part e
+    → IsCheckFault text code (Checksum e)
+refused_there text hrp data_part code e is refusal =
+    (IsUtf8-from_text text hrp data_part is, record { hrp = hrp; data_part = data_part; grammar = is; refusal = refusal })

@@ -1,17 +1,23 @@
--- A text is decoded in one way, and nothing is wrong where its parts have room.
-use Rattle.std.proofs.Common.{◌≡◌, ◌≤◌, ◌<◌, ◌⊎◌, ◌-◌, ℕ, List, Err, length, take, inl, inr, ⊎_elim, sym, ap, ◌∙◌, arith}
+-- A text is decoded in one way, what is put of it, and nothing is wrong where its parts have room.
+use Rattle.std.proofs.Common.{◌≡◌, ◌≤◌, ◌<◌, ◌⊎◌, ◌-◌, ℕ, List, Result, Ok, Err, IfErr, IfOk, length, take, drop, inl, inr, ⊎_elim, sym, ap, ◌∙◌, subst, arith, length-drop}
+use Rattle.std.proofs.lemmas.List.{take-append-drop}
 use Rattle.std.specs.Str.{IsUtf8}
 use Rattle.bech32_gf.specs.Fe32.{elements_of}
 use Rattle.bech32_bits.specs.Bits.{to_bytes}
-use Rattle.bech32_checksum.specs.Code.{bech32, bech32m}
+use Rattle.bech32_checksum.specs.Code.{Code, bech32, bech32m}
 use Rattle.bech32_decode.specs.Acceptance.{Accepts, IsAccepted, IsDecoded}
+use Rattle.bech32_decode.specs.BeforeChecksum.{IsBeforeChecksum}
+use Rattle.bech32_decode.specs.Refusals.{HasValidChecksum, IsRefusedByBoth}
 use Rattle.bech32.specs.Refusals.{IsDecodeRefusal}
 use Rattle.bech32_decode.specs.Text.{IsText}
 use Rattle.bech32.specs.declared.error.DecodeError.{DecodeError}
 use Rattle.bech32.specs.declared.error.DecodeError.TheVariants.{Parse, Checksum as NoChecksumAccepts, Memory}
 use Rattle.bech32.proofs.Decoding.{decoded-from_refusal}
+use Rattle.bech32_decode.proofs.Decoding.{accepted, before_checksum}
 use Rattle.bech32_decode.proofs.Grammar.{only-from_IsText}
-use Rattle.bech32_calls.specs.Decode.{CanDecode, LacksRoom, IsDecodeFault}
+use Rattle.bech32_encode.specs.Buffers.{IsPut}
+use Rattle.bech32_refusals.specs.declared.error.ChecksumError.{ChecksumError}
+use Rattle.bech32_calls.specs.Decode.{CanDecode, LacksRoom, IsDecodeFault, IsReadFault, PutsDecoded}
 use Rattle.bech32_calls.specs.declared.refusal.Refusal.{Refusal}
 use Rattle.bech32_calls.specs.declared.refusal.Refusal.TheVariants.{NotUtf8, NoRoom, Text, Checksum}
 use Rattle.bech32_calls.proofs.Letters.{IsUtf8-from_text}
@@ -53,3 +59,50 @@ no_decode_fault text m n (Checksum e) a h =
     let same : NoChecksumAccepts e ≡ Memory = no_refusal text a.part a.found (NoChecksumAccepts e) h.0 a.is_decoded h.1 in absurd (cc)
 no_decode_fault text m n NoRoom a h = no_room_fault text m n a h
 no_decode_fault text m n _ a h = h
+
+-- ---- what is put
+
+-- the text that was tested is accepted
+pub accepted_either : (text part data_part : List ℕ) (n : ℕ) → IsText text part data_part → n ≡ length text → HasValidChecksum bech32m n part data_part ⊎ HasValidChecksum bech32 n part data_part
+    → IsAccepted bech32m text part data_part ⊎ IsAccepted bech32 text part data_part
+accepted_either text part data_part n is size valid =
+    ⊎_elim
+    (λ (v : HasValidChecksum bech32m n part data_part). inl (accepted bech32m text part data_part is (subst (λ (k : ℕ). HasValidChecksum bech32m k part data_part) size v)))
+    (λ (v : HasValidChecksum bech32 n part data_part). inr (accepted bech32 text part data_part is (subst (λ (k : ℕ). HasValidChecksum bech32 k part data_part) size v)))
+    valid
+
+-- its data part has room for the checksum
+pub room_in : (text part data_part : List ℕ) → IsAccepted bech32m text part data_part ⊎ IsAccepted bech32 text part data_part → 6 ≤ length data_part
+room_in text part data_part a =
+    ⊎_elim (λ (h : IsAccepted bech32m text part data_part). h.data_length) (λ (h : IsAccepted bech32 text part data_part). h.data_length) a
+
+-- what stands before as many characters as the checksum has
+pub before_last : (code : Code) (data_part : List ℕ) → length code.generator ≤ length data_part → IsBeforeChecksum code data_part (take (length data_part - length code.generator) data_part)
+before_last code data_part room =
+    let n = length data_part - length code.generator in
+    let rest : length (drop n data_part) ≡ length data_part - n = length-drop n data_part in
+    record { checksum = drop n data_part; data_part_is = sym (take-append-drop n data_part); size = omega arith }
+
+module _ (text part data_part characters : List ℕ) (a : IsAccepted bech32m text part data_part ⊎ IsAccepted bech32 text part data_part)
+    (before : IsBeforeChecksum bech32m data_part characters) where
+  is_decoded : IsDecoded text part (to_bytes (elements_of characters))
+  is_decoded = record { data_part = data_part; accepted = a; bytes_are = ap (λ (x : List ℕ). to_bytes (elements_of x)) (before_checksum bech32m data_part characters before) }
+
+  -- the parts that were put are those of the text
+  pub puts_decoded : (hrp hrp' bytes bytes' : List ℕ) (r : Result (ℕ × ℕ) Refusal)
+      → IfOk r (λ n. IsPut part hrp hrp' n.0 × IsPut (to_bytes (elements_of characters)) bytes bytes' n.1)
+      → IfOk r (λ n. PutsDecoded text hrp hrp' bytes bytes' n.0 n.1)
+  puts_decoded hrp hrp' bytes bytes' (Ok n) h = record { part = part; found = to_bytes (elements_of characters); is_decoded = is_decoded; part_put = h.0; found_put = h.1 }
+  puts_decoded hrp hrp' bytes bytes' (Err e) h = tt
+
+  -- or there is no room for them
+  pub decoded_lacks : (m n : ℕ) (r : Result (ℕ × ℕ) Refusal)
+      → IfErr r (λ e. (e ≡ NoRoom) × ((m < length part) ⊎ (n < length (to_bytes (elements_of characters)))))
+      → IfErr r (λ e. IsDecodeFault text m n e)
+  decoded_lacks m n (Ok k) h = tt
+  decoded_lacks m n (Err e) h = subst (λ (x : Refusal). IsDecodeFault text m n x) (sym h.0)
+      (record { part = part; found = to_bytes (elements_of characters); is_decoded = is_decoded; lacks = h.1 })
+
+-- why a text that was read is not decoded
+pub refused_either : (text : List ℕ) (e : ChecksumError) → IsRefusedByBoth text e → IsReadFault text (Checksum e)
+refused_either text e r = (IsUtf8-from_text text r.hrp r.data_part r.grammar, r)

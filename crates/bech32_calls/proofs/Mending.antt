@@ -1,7 +1,7 @@
 -- A text is mended in one way, and nothing is wrong where it is to be mended and the buffers have room.
 use Rattle.std.specs.Prelude.{map}
 use Rattle.std.specs.List.{AllByRecursion}
-use Rattle.std.proofs.Common.{◌≡◌, ◌<◌, ◌≤◌, ◌+◌, ◌⊎◌, ℕ, List, [], ◌∷◌, ◌++◌, None, Some, length, length-append, inl, inr, sym, ap, subst, ◌∙◌, arith}
+use Rattle.std.proofs.Common.{◌≡◌, ◌<◌, ◌≤◌, ◌+◌, ◌⊎◌, ℕ, List, [], ◌∷◌, ◌++◌, None, Some, length, length-append, inl, inr, refl, sym, ap, subst, ◌∙◌, arith}
 use Rattle.std.proofs.lemmas.List.{length-map}
 use Rattle.bech32_gf.specs.Fe32.{elements_of, ops, value}
 use Rattle.bech32_gf.specs.declared.gf32.Fe32.{Fe32}
@@ -20,16 +20,23 @@ use Rattle.bech32_bch.proofs.Rising.{once_in_order}
 use Rattle.bech32_solver.specs.Carried.{of_checksum}
 use Rattle.bech32_decode.specs.Acceptance.{Accepts}
 use Rattle.bech32_decode.specs.Checked.{IsRefusedByChecksum}
-use Rattle.bech32_decode.specs.Text.{IsInGrammar, text_refusal}
+use Rattle.bech32_decode.specs.Refusals.{HasLengths, IsChecksumRefusal}
+use Rattle.bech32_decode.specs.Text.{IsInGrammar, IsText, text_refusal}
 use Rattle.bech32_decode.proofs.Decoding.{not_valid, one_remainder, valid-from_accepts}
 use Rattle.bech32_decode.proofs.Grammar.{only-from_IsText, text_refusal-none}
 use Rattle.bech32_encode.specs.Buffers.{IsPut}
+use Rattle.bech32_refusals.specs.declared.error.CheckedHrpstringError.{CheckedHrpstringError}
+use Rattle.bech32_refusals.specs.declared.error.CheckedHrpstringError.TheVariants.{Parse, Checksum as NotAccepted}
 use Rattle.bech32_refusals.specs.declared.error.ChecksumError.{ChecksumError}
 use Rattle.bech32_refusals.specs.declared.error.ChecksumError.TheVariants.{CodeLength, InvalidLength, InvalidResidue}
 use Rattle.bech32_correction.specs.MendedElements.{EndsIn, mended as mended_of}
-use Rattle.bech32_correction.specs.Mistyped.{AreInside, HasNoListing, IsListingOf, IsRefusedFor, question_of}
+use Rattle.bech32_correction.specs.Mistyped.{AreInside, HasNoListing, IsListing, IsListingOf, IsRefusal, IsRefusedFor, question_of}
+use Rattle.bech32_correction.specs.declared.correcting.Correction.{Correction}
+use Rattle.bech32_correction.specs.declared.correcting.Correction.TheVariants.{Accepted}
 use Rattle.bech32_correction.proofs.Sound.{sound_of}
 use Rattle.bech32_correction.proofs.Texts.{IsMendable, ends-lowered, mendable-from_accepts, mendable-from_listing, mended_text-from_ends}
+use Rattle.std.specs.Str.{IsUtf8}
+use Rattle.bech32_calls.specs.Check.{refusal_of_checked}
 use Rattle.bech32_calls.specs.Correct.{CanMend, IsCorrectFault, IsListingFault, IsMendedBy, IsReadFault, LacksRoomForMended, PutsMended, bound}
 use Rattle.bech32_calls.specs.declared.refusal.Refusal.{Refusal}
 use Rattle.bech32_calls.specs.declared.refusal.Refusal.TheVariants.{NotUtf8, Text, Checksum, NoCorrection, NoRoom}
@@ -182,6 +189,37 @@ unread_there text given _ code h = h
 pub fault_there : (text given : List ℕ) (m n r : ℕ) (e : Refusal) (code : Code) → IsListingFault text given code e → IsCorrectFault text given m n r code e
 fault_there text given m n r NoRoom code h = absurd h
 fault_there text given m n r _ code h = h
+
+-- why no residue is read is why nothing is put
+pub unread_put : (text given : List ℕ) (m n r : ℕ) (e : Refusal) (code : Code) → IsReadFault text code e → IsCorrectFault text given m n r code e
+unread_put text given m n r e code h = fault_there text given m n r e code (unread_there text given e code h)
+
+-- no residue is read of a text that is refused, and not for its residue
+pub unread-from_refusal : (text : List ℕ) (code : Code) (e : CheckedHrpstringError) → IsUtf8 text → IsRefusal code text e → IsReadFault text code (refusal_of_checked e)
+unread-from_refusal text code (Parse e) u h = (u, h.0)
+unread-from_refusal text code (NotAccepted e) u h = (u, h.0, h.1)
+
+-- and of one that is refused for its lengths
+pub unread-from_lengths : (text hrp data_part : List ℕ) (code : Code) (e : ChecksumError) → IsText text hrp data_part
+    → IsChecksumRefusal code (length text) hrp data_part e → (HasLengths code (length text) (length data_part) → ⊥) → IsReadFault text code (Checksum e)
+unread-from_lengths text hrp data_part code e is refusal short =
+    (IsUtf8-from_text text hrp data_part is, record { hrp = hrp; data_part = data_part; grammar = is; refusal = refusal }, none e refusal)
+  where
+    none : (e : ChecksumError) → IsChecksumRefusal code (length text) hrp data_part e → of_checksum e ≡ None
+    none (CodeLength e) h = refl
+    none InvalidLength h = refl
+    none (InvalidResidue e) h = absurd (short (h.0, h.1))
+
+-- a text that the checksum accepts is mended by nothing
+pub mended_by_nothing : (text given hrp data_part : List ℕ) (code : Code) → IsText text hrp data_part → HasLengths code (length text) (length data_part)
+    → IsRemainder ops code.generator (text_polynomial hrp (elements_of data_part)) code.target → IsMendedBy text given [] code
+mended_by_nothing text given hrp data_part code is lengths target =
+    inl ((hrp, data_part, record { grammar = is; text_length = lengths.0; data_length = lengths.1; has_target = target }), refl)
+
+-- or of which this is said
+pub mended-from_answer : (text given : List ℕ) (answer : Correction (List (ℕ × Fe32)) (Unit {0})) (code : Code) (n : ℕ) → answer ≡ Accepted → IsListing code n text given answer
+    → IsMendedBy text given [] code
+mended-from_answer text given answer code n is h = inl (subst (λ (a : Correction (List (ℕ × Fe32)) (Unit {0})). IsListing code n text given a) is h, refl)
 
 -- ---- what is put
 

@@ -4,52 +4,39 @@ ghost use Rattle.std.specs.Prelude.{◌≡◌, ◌≤◌, ◌<◌, ℕ, List, le
 ghost use Rattle.std.specs.List.{AllByRecursion};
 ghost use Rattle.bech32_gf.specs.Fe32.{ops, value as value_of};
 ghost use Rattle.bech32_gf.specs.declared.gf32.Fe32.{Fe32 as Element};
-ghost use Rattle.bech32_checksum.specs.Code.{bech32, bech32m};
+ghost use Rattle.bech32_checksum.specs.Code.{Code};
 ghost use Rattle.bech32_bch.specs.Pattern.{locations as locations_of};
 ghost use Rattle.bech32_encode.specs.Buffers.{IsPut};
 ghost use Rattle.bech32_hrp.specs.Hrp.{lowered};
 ghost use Rattle.bech32_correction.specs.MendedElements.{EndsIn, mended as mended_of};
 ghost use Rattle.bech32_correction.specs.Mistyped.{IsListing};
 ghost use Rattle.bech32_calls.specs.Checksums.{ForChecksum, IsFaultBy};
-ghost use Rattle.bech32_calls.specs.Correct.{IsCorrectFault, IsListingFault, IsMendedBy, IsReadFault, PutsMended, bound};
+ghost use Rattle.bech32_calls.specs.Correct.{IsCorrectFault, IsMendedBy, IsReadFault, PutsMended, bound};
 
 use crate::checksum::{BECH32, BECH32M};
 use crate::input::text_of;
 use crate::refusal::Refusal;
-use bech32::Fe32;
-use bech32_correction::{Correction, Listing, NoMemory, bech32_listing, bech32m_listing, mend};
+use bech32::{Bech32, Bech32m, Fe32};
+use bech32_correction::{
+    Correction, CorrectsInPlace, Listing, NoMemory, listing_of_read, listing_of_unread, mend,
+    said_of_read,
+};
+use bech32_decode::Reading;
 
-// What Bech32 finds for a text. Out of line: together, each call would clear the locals of both
-// checksums.
-#[inline(never)]
-fn bech32_correction(
+// What a checksum finds for a text.
+#[inline]
+fn correction<Ck: CorrectsInPlace>(
     bytes: &[u8],
     given: &[usize],
 ) -> Result<Correction<Listing<NoMemory>>, Refusal>
     ensures { MatchResult result
-        (λ answer. IsListing bech32 bound bytes.now given.now answer)
-        (λ e. IsReadFault bytes.now bech32 e) }
+        (λ answer. IsListing Ck.code Ck.bound bytes.now given.now answer)
+        (λ e. IsReadFault bytes.now Ck.code e) }
 {
-    match bech32_listing(text_of(bytes)?, given) {
-        Ok(answer) => Ok(answer),
-        Err(e) => Err(Refusal::from(e)),
+    if let Some(reading) = Reading::<Ck>::of(bytes) {
+        return Ok(said_of_read(&reading, given)?);
     }
-}
-
-// The same by Bech32m.
-#[inline(never)]
-fn bech32m_correction(
-    bytes: &[u8],
-    given: &[usize],
-) -> Result<Correction<Listing<NoMemory>>, Refusal>
-    ensures { MatchResult result
-        (λ answer. IsListing bech32m bound bytes.now given.now answer)
-        (λ e. IsReadFault bytes.now bech32m e) }
-{
-    match bech32m_listing(text_of(bytes)?, given) {
-        Ok(answer) => Ok(answer),
-        Err(e) => Err(Refusal::from(e)),
-    }
+    Ok(listing_of_unread::<Ck>(text_of(bytes)?, given)?)
 }
 
 /// What the checksum of a number finds for a text.
@@ -63,26 +50,14 @@ pub(crate) fn correction_by(
         (λ e. IsFaultBy checksum (IsReadFault bytes.now) e) }
 {
     match checksum {
-        BECH32 => bech32_correction(bytes, given),
-        BECH32M => bech32m_correction(bytes, given),
+        BECH32 => correction::<Bech32>(bytes, given),
+        BECH32M => correction::<Bech32m>(bytes, given),
         _ => Err(Refusal::BadNumber),
     }
 }
 
-// How the checksum of a number would have a text mended.
-fn listed_by(checksum: u32, bytes: &[u8], given: &[usize]) -> Result<Listing<NoMemory>, Refusal>
-    ensures { MatchResult result
-        (λ listing. ForChecksum checksum (IsMendedBy bytes.now given.now listing))
-        (λ e. IsFaultBy checksum (IsListingFault bytes.now given.now) e) }
-{
-    match correction_by(checksum, bytes, given)? {
-        Correction::Accepted => Ok(Listing::new(NoMemory)),
-        Correction::Mended(listing) => Ok(listing),
-        Correction::Unexplained(()) => Err(Refusal::NoCorrection),
-    }
-}
-
 // Puts the locations and the values of a listing at the fronts of buffers that have room for them.
+#[inline(always)]
 fn put_listing(listing: &[(usize, Fe32)], locations: &mut [usize], values: &mut [u8])
     requires locations { length listing.now ≤ length locations.old }
     requires values { length listing.now ≤ length values.old }
@@ -100,6 +75,7 @@ fn put_listing(listing: &[(usize, Fe32)], locations: &mut [usize], values: &mut 
 
 // Puts a text in lower case, with a listing's values added, at the front of a buffer that has room
 // for it.
+#[inline(always)]
 fn put_mended(buffer: &mut [u8], text: &[u8], listing: &[(usize, Fe32)])
     requires room { length text.now ≤ length buffer.old }
     requires inside { (front : List ℕ)
@@ -114,6 +90,100 @@ fn put_mended(buffer: &mut [u8], text: &[u8], listing: &[(usize, Fe32)])
     mended.copy_from_slice(text);
     mended.make_ascii_lowercase();
     mend(mended, listing);
+}
+
+// Puts a listing and the text that it mends at the fronts of buffers, and returns how many
+// locations are listed.
+#[inline(always)]
+fn put_correction(
+    listing: &[(usize, Fe32)],
+    text: &[u8],
+    locations: &mut [usize],
+    values: &mut [u8],
+    mended: &mut [u8],
+) -> Result<usize, Refusal>
+    requires { (given : List ℕ) × (code : Code) × IsMendedBy text.now given listing.now code }
+    ensures value { (given : List ℕ) (code : Code) → IsMendedBy text.now given listing.now code
+        → IfOk result (λ n. PutsMended text.now given
+        locations.old locations.new values.old values.new n
+        mended.old mended.new (length text.now) code) }
+    ensures refused { (given : List ℕ) (code : Code) → IsMendedBy text.now given listing.now code
+        → IfErr result (λ e. IsCorrectFault text.now given
+        (length locations.old) (length values.old) (length mended.old) code e) }
+    ensures same { OnErr result ((locations.new ≡ locations.old) × (values.new ≡ values.old)
+        × (mended.new ≡ mended.old)) }
+{
+    let count = listing.len();
+    if count > locations.len() {
+        return Err(Refusal::NoRoom);
+    }
+    if count > values.len() {
+        return Err(Refusal::NoRoom);
+    }
+    if text.len() > mended.len() {
+        return Err(Refusal::NoRoom);
+    }
+    put_listing(listing, locations, values);
+    put_mended(mended, text, listing);
+    Ok(count)
+}
+
+// Mends a text of which one walk says nothing by one checksum.
+#[inline(never)]
+fn corrected_unread<Ck: CorrectsInPlace>(
+    text: &[u8],
+    erasures: &[usize],
+    locations: &mut [usize],
+    values: &mut [u8],
+    mended: &mut [u8],
+) -> Result<usize, Refusal>
+    requires { Ck.bound ≡ bound }
+    ensures value { IfOk result (λ n. PutsMended text.now erasures.now
+        locations.old locations.new values.old values.new n
+        mended.old mended.new (length text.now) Ck.code) }
+    ensures refused { IfErr result (λ e. IsCorrectFault text.now erasures.now
+        (length locations.old) (length values.old) (length mended.old) Ck.code e) }
+    ensures same { OnErr result ((locations.new ≡ locations.old) × (values.new ≡ values.old)
+        × (mended.new ≡ mended.old)) }
+{
+    match listing_of_unread::<Ck>(text_of(text)?, erasures)? {
+        Correction::Accepted => put_correction(&[], text, locations, values, mended),
+        Correction::Mended(listing) => {
+            put_correction(listing.as_slice(), text, locations, values, mended)
+        }
+        Correction::Unexplained(()) => Err(Refusal::NoCorrection),
+    }
+}
+
+// Mends a text by one checksum.
+#[inline(never)]
+fn corrected_by<Ck: CorrectsInPlace>(
+    text: &[u8],
+    erasures: &[usize],
+    locations: &mut [usize],
+    values: &mut [u8],
+    mended: &mut [u8],
+) -> Result<usize, Refusal>
+    requires { Ck.bound ≡ bound }
+    ensures value { IfOk result (λ n. PutsMended text.now erasures.now
+        locations.old locations.new values.old values.new n
+        mended.old mended.new (length text.now) Ck.code) }
+    ensures refused { IfErr result (λ e. IsCorrectFault text.now erasures.now
+        (length locations.old) (length values.old) (length mended.old) Ck.code e) }
+    ensures same { OnErr result ((locations.new ≡ locations.old) × (values.new ≡ values.old)
+        × (mended.new ≡ mended.old)) }
+{
+    let Some(reading) = Reading::<Ck>::of(text) else {
+        return corrected_unread::<Ck>(text, erasures, locations, values, mended);
+    };
+    reading.validate_lengths()?;
+    if reading.has_target() {
+        return put_correction(&[], text, locations, values, mended);
+    }
+    match listing_of_read(&reading, erasures) {
+        Some(listing) => put_correction(listing.as_slice(), text, locations, values, mended),
+        None => Err(Refusal::NoCorrection),
+    }
 }
 
 /// Mends a mistyped text by the checksum of a number, and returns how many locations are listed, at
@@ -144,19 +214,9 @@ pub fn corrected(
     ensures same { OnErr result ((locations.new ≡ locations.old) × (values.new ≡ values.old)
         × (mended.new ≡ mended.old)) }
 {
-    let found = listed_by(checksum, text, erasures)?;
-    let listing = found.as_slice();
-    let count = listing.len();
-    if count > locations.len() {
-        return Err(Refusal::NoRoom);
+    match checksum {
+        BECH32 => corrected_by::<Bech32>(text, erasures, locations, values, mended),
+        BECH32M => corrected_by::<Bech32m>(text, erasures, locations, values, mended),
+        _ => Err(Refusal::BadNumber),
     }
-    if count > values.len() {
-        return Err(Refusal::NoRoom);
-    }
-    if text.len() > mended.len() {
-        return Err(Refusal::NoRoom);
-    }
-    put_listing(listing, locations, values);
-    put_mended(mended, text, listing);
-    Ok(count)
 }

@@ -1,31 +1,63 @@
 //! Decodes texts, and tests them by a checksum.
 
-ghost use Rattle.std.specs.Prelude.{◌≡◌, length, MatchResult, IfOk, IfErr, OnErr};
+ghost use Rattle.std.specs.Prelude.{◌≡◌, ◌<◌, ◌⊎◌, true, length, MatchResult, IfOk, IfErr, OnErr};
 ghost use Rattle.bech32_gf.specs.Fe32.{elements_of};
 ghost use Rattle.bech32_bits.specs.Bits.{to_bytes};
-ghost use Rattle.bech32_hrp.specs.HrpBytes.{hrp_bytes};
-ghost use Rattle.bech32_decode.specs.Acceptance.{IsDecoded};
+ghost use Rattle.bech32_gf.specs.Alphabet.{is_data};
+ghost use Rattle.bech32_encode.specs.Buffers.{IsPut};
 ghost use Rattle.bech32_calls.specs.Check.{IsCheckedAs, IsCheckFault};
 ghost use Rattle.bech32_calls.specs.Checksums.{ForChecksum, IsFaultBy};
-ghost use Rattle.bech32_calls.specs.Decode.{PutsDecoded, IsReadFault, IsDecodeFault};
+ghost use Rattle.bech32_calls.specs.Decode.{PutsDecoded, IsDecodeFault};
+ghost use Rattle.bech32_calls.specs.declared.refusal.Refusal.TheVariants.{NoRoom};
 
 use crate::buffer::put;
 use crate::checksum::{BECH32, BECH32M};
 use crate::input::text_of;
 use crate::refusal::Refusal;
-use bech32::primitives::decode::{CheckedHrpstring, UncheckedHrpstring, validate_either};
+use bech32::primitives::decode::{UncheckedHrpstring, validate_either};
 use bech32::{Bech32, Bech32m, Checksum};
+use bech32_decode::{Reading, data_bytes_count, put_data_bytes};
 
-// The parts of a text that Bech32m or Bech32 accepts.
-fn read(bytes: &[u8]) -> Result<CheckedHrpstring<'_>, Refusal>
-    ensures { MatchResult result
-        (λ c. IsDecoded bytes.now (hrp_bytes c.hrp) (to_bytes (elements_of c.ascii.now)))
-        (λ e. IsReadFault bytes.now e) }
+// Puts a human-readable part and the bytes of characters at the fronts of two buffers, and returns
+// their lengths.
+#[inline(always)]
+pub(crate) fn put_parts(
+    part: &[u8],
+    characters: &[u8],
+    hrp: &mut [u8],
+    bytes: &mut [u8],
+) -> Result<(usize, usize), Refusal>
+    requires { is_data characters.now ≡ true }
+    ensures value { IfOk result (λ n. IsPut part.now hrp.old hrp.new n.0
+        × IsPut (to_bytes (elements_of characters.now)) bytes.old bytes.new n.1) }
+    ensures refused { IfErr result (λ e. (e ≡ NoRoom) × ((length hrp.old < length part.now)
+        ⊎ (length bytes.old < length (to_bytes (elements_of characters.now))))) }
+    ensures same { OnErr result ((hrp.new ≡ hrp.old) × (bytes.new ≡ bytes.old)) }
 {
-    let text = text_of(bytes)?;
-    let unchecked = UncheckedHrpstring::new(text)?;
+    if part.len() > hrp.len() {
+        return Err(Refusal::NoRoom);
+    }
+    if data_bytes_count(characters) > bytes.len() {
+        return Err(Refusal::NoRoom);
+    }
+    put(hrp, part);
+    Ok((part.len(), put_data_bytes(characters, bytes)))
+}
+
+// Puts the parts of a text of which one walk says nothing.
+#[inline]
+fn decoded_unread(text: &[u8], hrp: &mut [u8], bytes: &mut [u8]) -> Result<(usize, usize), Refusal>
+    ensures value { IfOk result
+        (λ n. PutsDecoded text.now hrp.old hrp.new bytes.old bytes.new n.0 n.1) }
+    ensures refused { IfErr result
+        (λ e. IsDecodeFault text.now (length hrp.old) (length bytes.old) e) }
+    ensures same { OnErr result ((hrp.new ≡ hrp.old) × (bytes.new ≡ bytes.old)) }
+{
+    let unchecked = UncheckedHrpstring::new(text_of(text)?)?;
     validate_either(&unchecked)?;
-    Ok(unchecked.remove_checksum::<Bech32m>())
+    let data_part = unchecked.data_part_ascii();
+    let characters = &data_part[..data_part.len() - Bech32m::CHECKSUM_LENGTH];
+    put_parts(unchecked.part(), characters, hrp, bytes)
 }
 
 /// Puts the human-readable part, in the case of the text, and the bytes of a text that Bech32m or
@@ -41,16 +73,24 @@ pub fn decoded(text: &[u8], hrp: &mut [u8], bytes: &mut [u8]) -> Result<(usize, 
         (λ e. IsDecodeFault text.now (length hrp.old) (length bytes.old) e) }
     ensures same { OnErr result ((hrp.new ≡ hrp.old) × (bytes.new ≡ bytes.old)) }
 {
-    let checked = read(text)?;
-    let part = checked.hrp();
-    if part.len() > hrp.len() {
-        return Err(Refusal::NoRoom);
-    }
-    if checked.byte_iter().len() > bytes.len() {
-        return Err(Refusal::NoRoom);
-    }
-    put(hrp, part.as_bytes());
-    Ok((part.len(), checked.put_bytes(bytes)))
+    let Some(reading) = Reading::<Bech32m>::of(text) else {
+        return decoded_unread(text, hrp, bytes);
+    };
+    reading.validate_either()?;
+    put_parts(reading.hrp, reading.characters(), hrp, bytes)
+}
+
+// The lengths of the parts of a text of which one walk says nothing.
+#[inline]
+fn checked_unread<Ck: Checksum>(bytes: &[u8]) -> Result<(usize, usize), Refusal>
+    ensures { MatchResult result
+        (λ n. IsCheckedAs bytes.now n.0 n.1 Ck.code)
+        (λ e. IsCheckFault bytes.now Ck.code e) }
+{
+    let unchecked = UncheckedHrpstring::new(text_of(bytes)?)?;
+    unchecked.validate_checksum::<Ck>()?;
+    let data_length = unchecked.data_part_ascii().len() - Ck::CHECKSUM_LENGTH;
+    Ok((unchecked.part().len(), data_length))
 }
 
 // The lengths of the parts of a text that the checksum accepts.
@@ -59,10 +99,11 @@ fn checked<Ck: Checksum>(bytes: &[u8]) -> Result<(usize, usize), Refusal>
         (λ n. IsCheckedAs bytes.now n.0 n.1 Ck.code)
         (λ e. IsCheckFault bytes.now Ck.code e) }
 {
-    let text = text_of(bytes)?;
-    let checked = CheckedHrpstring::new::<Ck>(text)?;
-    let data_part = checked.data_part_ascii_no_checksum();
-    Ok((checked.hrp().len(), data_part.len()))
+    let Some(reading) = Reading::<Ck>::of(bytes) else {
+        return checked_unread::<Ck>(bytes);
+    };
+    reading.validate()?;
+    Ok((reading.hrp.len(), reading.characters().len()))
 }
 
 /// The lengths of the human-readable part and of the data part, the checksum not counted, of a text

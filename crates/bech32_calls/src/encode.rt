@@ -3,33 +3,32 @@
 ghost use Rattle.std.specs.Prelude.{◌≡◌, ◌≤◌, ◌+◌, ◌++◌, ℕ, List, length, option_to_list, IfOk, IfErr, OnErr};
 ghost use Rattle.bech32_bits.specs.Bits.{to_fes};
 ghost use Rattle.bech32_checksum.specs.Encoded.{IsEncodedText};
-ghost use Rattle.bech32_hrp.specs.HrpBytes.{hrp_bytes};
 ghost use Rattle.bech32_encode.specs.Buffers.{IsPut};
 ghost use Rattle.bech32_calls.specs.Checksums.{ForChecksum, IsFaultBy};
 ghost use Rattle.bech32_calls.specs.Encode.{PutsText, IsEncodeFault};
 
 use crate::checksum::{BECH32, BECH32M};
-use crate::input::part_of;
+use crate::input::test_part;
 use crate::refusal::Refusal;
 use bech32::primitives::encode;
-use bech32::{Bech32, Bech32m, Checksum, Fe32, Hrp, encoded_length};
+use bech32::{Bech32, Bech32m, Checksum, Fe32, encoded_length_of_part};
 
 /// Puts the text of a human-readable part, a witness version where there is one, and bytes into a
 /// buffer that has room for it, and returns its length.
 pub(crate) fn put_text<Ck: Checksum>(
-    hrp: &Hrp,
+    part: &[u8],
     version: Option<Fe32>,
     bytes: &[u8],
     text: &mut [u8],
 ) -> usize
-    requires { length (hrp_bytes hrp.now) + 1 + length (option_to_list version ++ to_fes bytes.now)
+    requires { length part.now + 1 + length (option_to_list version ++ to_fes bytes.now)
         + length Ck.code.generator ≤ length text.old }
     ensures { (written : List ℕ)
-        × IsEncodedText Ck.code (hrp_bytes hrp.now)
+        × IsEncodedText Ck.code part.now
         (option_to_list version ++ to_fes bytes.now) written
         × IsPut written text.old text.new result }
 {
-    encode::put_text_of_bytes::<Ck>(hrp, version, bytes, text)
+    encode::put_text_of_part::<Ck>(part, version, bytes, text)
 }
 
 // Puts the text by one checksum, and returns its length.
@@ -41,12 +40,12 @@ fn encoded<Ck: Checksum>(hrp: &[u8], bytes: &[u8], text: &mut [u8]) -> Result<us
         (λ e. IsEncodeFault hrp.now bytes.now (length text.old) Ck.code e) }
     ensures same { OnErr result (text.new ≡ text.old) }
 {
-    let part = part_of(hrp)?;
-    let count = encoded_length::<Ck>(part, bytes)?;
+    test_part(hrp)?;
+    let count = encoded_length_of_part::<Ck>(hrp, bytes)?;
     if count > text.len() {
         return Err(Refusal::NoRoom);
     }
-    Ok(put_text::<Ck>(&part, None, bytes, text))
+    Ok(put_text::<Ck>(hrp, None, bytes, text))
 }
 
 /// Puts the text of a human-readable part and bytes by the checksum of a number, in lower case, at

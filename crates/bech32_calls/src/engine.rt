@@ -1,8 +1,7 @@
 //! The engine over a run of elements.
 
 ghost use Rattle.std.specs.Prelude.{◌≡◌, ◌≤◌, ◌++◌, ℕ, List, All, MatchResult};
-ghost use Rattle.std.specs.Prelude.{length, map, take, nat_le};
-ghost use Rattle.std.specs.List.{list_all};
+ghost use Rattle.std.specs.Prelude.{map};
 ghost use Rattle.bech32_gf.specs.Fe32.{element};
 ghost use Rattle.bech32_checksum.specs.Code.{IsResidueAfter};
 ghost use Rattle.bech32_calls.specs.Checksums.{ForChecksum, IsFaultBy};
@@ -12,37 +11,8 @@ use crate::checksum::{BECH32, BECH32M};
 use crate::input::element_of;
 use crate::refusal::Refusal;
 use bech32::primitives::checksum::Engine;
-use bech32::{Bech32, Bech32m, Checksum, Fe32};
-
-// Whether bytes are values of elements. Each is looked at, so that many can be at a time.
-#[inline]
-fn are_elements(values: &[u8]) -> bool
-    ensures { result ≡ list_all (λ x. nat_le x 31) values.now }
-{
-    let mut elements = true;
-    for value in values {
-        elements &= *value <= 31;
-    }
-    elements
-}
-
-// The elements of the first eight values.
-#[inline]
-fn first_eight(values: &[u8]) -> [Fe32; 8]
-    requires { 8 ≤ length values.now }
-    ensures { result ≡ map element (take 8 values.now) }
-{
-    [
-        Fe32::from_low_bits(values[0]),
-        Fe32::from_low_bits(values[1]),
-        Fe32::from_low_bits(values[2]),
-        Fe32::from_low_bits(values[3]),
-        Fe32::from_low_bits(values[4]),
-        Fe32::from_low_bits(values[5]),
-        Fe32::from_low_bits(values[6]),
-        Fe32::from_low_bits(values[7]),
-    ]
-}
+use bech32::{Bech32, Bech32m, Checksum};
+use bech32_places::values::word_of_values;
 
 // Hands the elements of values to an engine, eight at a time, and returns the values that are left,
 // fewer than eight.
@@ -59,10 +29,11 @@ fn input_eights<'v, Ck: Checksum>(
 {
     let mut rest = values;
     while rest.len() >= 8 {
-        if !are_elements(&rest[..8]) {
+        let word = word_of_values(rest);
+        if word >= 0x100_0000_0000 {
             return Err(Refusal::BadNumber);
         }
-        engine.input_eight(first_eight(rest));
+        engine.input_word(word);
         rest = &rest[8..];
     }
     Ok(rest)

@@ -9,6 +9,7 @@ ghost use Rattle.bech32_calls.specs.Faults.{IsPartFault};
 
 use crate::refusal::Refusal;
 use bech32::{Fe32, Hrp};
+use bech32_hrp::is_part;
 
 /// Bytes are not UTF-8. It is small, unlike a refusal, so that a text is returned quickly.
 #[derive(Clone, Copy)]
@@ -40,6 +41,18 @@ pub fn part_of(bytes: &[u8]) -> Result<Hrp, Refusal>
     let text = text_of(bytes)?;
     let hrp = Hrp::parse(text)?;
     Ok(hrp)
+}
+
+/// Tests that bytes are a human-readable part.
+#[inline]
+pub fn test_part(bytes: &[u8]) -> Result<(), Refusal>
+    ensures { MatchResult result (λ _. IsHrp bytes.now) (λ e. IsPartFault bytes.now e) }
+{
+    if is_part(bytes) {
+        return Ok(());
+    }
+    part_of(bytes)?;
+    Ok(())
 }
 
 /// The element of a number, which is one up to 31.

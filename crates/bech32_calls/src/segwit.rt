@@ -4,34 +4,34 @@ ghost use Rattle.std.specs.Prelude.{◌≡◌, ◌≤◌, ◌∷◌, ℕ, List, 
 ghost use Rattle.bech32_gf.specs.Fe32.{value};
 ghost use Rattle.bech32_bits.specs.Bits.{to_fes};
 ghost use Rattle.bech32_checksum.specs.Encoded.{IsEncodedText};
-ghost use Rattle.bech32_hrp.specs.HrpBytes.{hrp_bytes};
 ghost use Rattle.bech32_decode.specs.Segwit.{segwit_code};
 ghost use Rattle.bech32_segwit.specs.SegwitEncoding.{HasAddress, address_length};
 ghost use Rattle.bech32_encode.specs.Buffers.{IsPut};
 ghost use Rattle.bech32_calls.specs.Segwit.{PutsAddress, IsAddressFault, IsSegwitEncodeFault};
 ghost use Rattle.bech32_calls.specs.Segwit.{PutsProgram, IsSegwitDecodeFault};
 
-use crate::buffer::put;
+use crate::decode::put_parts;
 use crate::encode::put_text;
-use crate::input::{element_of, part_of, text_of};
+use crate::input::{element_of, test_part, text_of};
 use crate::refusal::Refusal;
 use bech32::primitives::decode::SegwitHrpstring;
 use bech32::primitives::segwit::{
-    VERSION_0, validate_witness_program_length, validate_witness_version,
+    MAX_STRING_LENGTH, VERSION_0, validate_witness_program_length, validate_witness_version,
 };
-use bech32::segwit::encoded_length;
-use bech32::{Bech32, Bech32m, Fe32, Hrp};
+use bech32::segwit::encoded_length_of_part;
+use bech32::{Bech32, Bech32m, Fe32};
+use bech32_decode::Reading;
 
 // Tests that there is an address, and that a buffer of so many bytes has room for it.
-fn validate(hrp: Hrp, version: Fe32, program: &[u8], room: usize) -> Result<(), Refusal>
+fn validate(part: &[u8], version: Fe32, program: &[u8], room: usize) -> Result<(), Refusal>
     ensures { MatchResult result
-        (λ _. HasAddress (hrp_bytes hrp) version program.now
-        × (address_length (hrp_bytes hrp) program.now ≤ room))
-        (λ e. IsAddressFault (hrp_bytes hrp) version program.now room e) }
+        (λ _. HasAddress part.now version program.now
+        × (address_length part.now program.now ≤ room))
+        (λ e. IsAddressFault part.now version program.now room e) }
 {
     validate_witness_version(version)?;
     validate_witness_program_length(program.len(), version)?;
-    let count = encoded_length(hrp, version, program)?;
+    let count = encoded_length_of_part(part, program)?;
     if count > room {
         return Err(Refusal::NoRoom);
     }
@@ -39,17 +39,17 @@ fn validate(hrp: Hrp, version: Fe32, program: &[u8], room: usize) -> Result<(), 
 }
 
 // Puts the text of a version and a program by the checksum of the version.
-fn put_address(hrp: &Hrp, version: Fe32, program: &[u8], text: &mut [u8]) -> usize
-    requires { address_length (hrp_bytes hrp.now) program.now ≤ length text.old }
+fn put_address(part: &[u8], version: Fe32, program: &[u8], text: &mut [u8]) -> usize
+    requires { address_length part.now program.now ≤ length text.old }
     ensures { (written : List ℕ)
-        × IsEncodedText (segwit_code version) (hrp_bytes hrp.now)
+        × IsEncodedText (segwit_code version) part.now
         (version ∷ to_fes program.now) written
         × IsPut written text.old text.new result }
 {
     if version == VERSION_0 {
-        put_text::<Bech32>(hrp, Some(version), program, text)
+        put_text::<Bech32>(part, Some(version), program, text)
     } else {
-        put_text::<Bech32m>(hrp, Some(version), program, text)
+        put_text::<Bech32m>(part, Some(version), program, text)
     }
 }
 
@@ -69,9 +69,28 @@ pub fn encoded(hrp: &[u8], version: u32, program: &[u8], text: &mut [u8]) -> Res
     ensures same { OnErr result (text.new ≡ text.old) }
 {
     let element = element_of(version)?;
-    let part = part_of(hrp)?;
-    validate(part, element, program, text.len())?;
-    Ok(put_address(&part, element, program, text))
+    test_part(hrp)?;
+    validate(hrp, element, program, text.len())?;
+    Ok(put_address(hrp, element, program, text))
+}
+
+// Puts the parts of an address of which one walk says nothing.
+#[inline]
+fn decoded_unread(
+    text: &[u8],
+    hrp: &mut [u8],
+    program: &mut [u8],
+) -> Result<(usize, Fe32, usize), Refusal>
+    ensures value { IfOk result
+        (λ n. PutsProgram text.now hrp.old hrp.new program.old program.new n.0 (value n.1) n.2) }
+    ensures refused { IfErr result
+        (λ e. IsSegwitDecodeFault text.now (length hrp.old) (length program.old) e) }
+    ensures same { OnErr result ((hrp.new ≡ hrp.old) × (program.new ≡ program.old)) }
+{
+    let address = SegwitHrpstring::new(text_of(text)?)?;
+    let characters = address.data_part_ascii_no_witver_no_checksum();
+    let (part, count) = put_parts(address.hrp().as_bytes(), characters, hrp, program)?;
+    Ok((part, address.witness_version(), count))
 }
 
 /// Puts the human-readable part, in the case of the text, and the program of a segwit address at
@@ -92,15 +111,13 @@ pub fn decoded(
         (λ e. IsSegwitDecodeFault text.now (length hrp.old) (length program.old) e) }
     ensures same { OnErr result ((hrp.new ≡ hrp.old) × (program.new ≡ program.old)) }
 {
-    let address = SegwitHrpstring::new(text_of(text)?)?;
-    let part = address.hrp();
-    if part.len() > hrp.len() {
-        return Err(Refusal::NoRoom);
+    if text.len() > MAX_STRING_LENGTH {
+        return decoded_unread(text, hrp, program);
     }
-    if address.byte_iter().len() > program.len() {
-        return Err(Refusal::NoRoom);
-    }
-    put(hrp, part.as_bytes());
-    let count = address.put_program(program);
-    Ok((part.len(), address.witness_version(), count))
+    let Some(reading) = Reading::<Bech32m>::of(text) else {
+        return decoded_unread(text, hrp, program);
+    };
+    let address = reading.address()?;
+    let (part, count) = put_parts(reading.hrp, address.program, hrp, program)?;
+    Ok((part, address.version, count))
 }

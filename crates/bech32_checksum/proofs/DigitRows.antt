@@ -44,7 +44,7 @@ tabulate-same zero f g h = refl
 tabulate-same (suc d) f g h =
     ap (λ (x : Fe32). x ∷ tabulate d (λ i. f (suc i))) (h 0) ∙ ap (λ (xs : List Fe32). g 0 ∷ xs) (tabulate-same d (λ i. f (suc i)) (λ i. g (suc i)) (λ i. h (suc i)))
 
-digits-suc : (d number : ℕ) → digits (suc d) number ≡ digit_of number 0 ∷ digits d (number / 32)
+pub digits-suc : (d number : ℕ) → digits (suc d) number ≡ digit_of number 0 ∷ digits d (number / 32)
 digits-suc d number = ap (λ (xs : List Fe32). digit_of number 0 ∷ xs) (tabulate-same d (λ i. digit_of number (suc i)) (digit_of (number / 32)) (digit_of-suc number))
 
 lowest : (a b : ℕ) → digit_of a 0 ≡ digit_of b 0 → a % 32 ≡ b % 32

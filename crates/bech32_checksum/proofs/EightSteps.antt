@@ -37,7 +37,7 @@ apart c x v hc hx hv =
     ∙ (ap (λ m. bit_xor m v) (times_x-add c x hc (omega arith) ∙ ap (bit_xor (times_x c)) (times_x-short x hx))
     ∙ (xor_assoc (times_x c) (x * 32) v ∙ ap (bit_xor (times_x c)) (sym (joined x v hv))))
 
-residue_step : (p : List Fe32) (c : ℕ) (e : Fe32) → c < 2 ^ 30 → IsRemainder fe32.ops bech32.generator p (digits 6 c)
+pub residue_step : (p : List Fe32) (c : ℕ) (e : Fe32) → c < 2 ^ 30 → IsRemainder fe32.ops bech32.generator p (digits 6 c)
     → IsRemainder fe32.ops bech32.generator (e ∷ p) (digits 6 (step c e.value))
 residue_step p c e hc h =
     let small : c / 2 ^ 25 % 32 ≡ c / 2 ^ 25 = omega arith in
@@ -76,7 +76,7 @@ steps_are r a b c d e f hr ha hb hc hd he hf =
     ap (λ m. step m f) s5 ∙ apart _ ((((a * 32 + b) * 32 + c) * 32 + d) * 32 + e) f h5 (omega arith) hf
 
 -- the sum of the remainder times x^6 and the row of six elements is the remainder after these
-six_more : (p : List Fe32) (r : ℕ) (a b c d e f : Fe32) → r < 2 ^ 30
+pub six_more : (p : List Fe32) (r : ℕ) (a b c d e f : Fe32) → r < 2 ^ 30
     → IsRemainder fe32.ops bech32.generator p (digits 6 r)
     → IsRemainder fe32.ops bech32.generator (f ∷ e ∷ d ∷ c ∷ b ∷ a ∷ p)
     (digits 6 (bit_xor (times_x6 r) (row_of_six a.value b.value c.value d.value e.value f.value)))

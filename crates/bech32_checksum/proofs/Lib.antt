@@ -2,9 +2,11 @@ pub mod DigitRows
 pub mod Digits
 pub mod EightSteps
 pub mod EightTables
+pub mod Erased
 pub mod HrpInput
 pub mod HrpPlaces
 pub mod Input
+pub mod OneError
 pub mod PackedRows
 pub mod PackedRuns
 pub mod PartialProduct
@@ -15,5 +17,6 @@ pub mod RootTests
 pub mod Shifts
 pub mod Target
 pub mod TimesX
+pub mod TwoTables
 pub mod Uniqueness
 pub mod Words

@@ -24,7 +24,7 @@ value_at v n hv hn =
     (each_below-at 6 (λ n. get_or PRODUCTS v 0 / 2 ^ (5 * n) % 32 == product v (at n).value)
     (each_below-at 32 (λ v. each_below 6 (λ n. get_or PRODUCTS v 0 / 2 ^ (5 * n) % 32 == product v (at n).value)) refl v hv) n hn)
 
-tabulated : (c : ℕ) (f h : ℕ → Fe32) → ((n : ℕ) → n < c → f n ≡ h n) → tabulate c f ≡ tabulate c h
+pub tabulated : (c : ℕ) (f h : ℕ → Fe32) → ((n : ℕ) → n < c → f n ≡ h n) → tabulate c f ≡ tabulate c h
 tabulated zero f h each = refl
 tabulated (suc c) f h each =
     same_cons _ _ _ _ (each 0 (omega arith)) (tabulated c (λ i. f (suc i)) (λ i. h (suc i)) (λ n below. each (suc n) (omega arith)))

@@ -1,8 +1,10 @@
 pub mod Code
 pub mod Encoded
 pub mod HrpFes
+pub mod OneError
 pub mod Packed
 pub mod PackingLaws
 pub mod Roots
 pub mod TextPolynomial
+pub mod Word
 pub mod laws

@@ -10,10 +10,19 @@ ghost use Rattle.bech32_checksum.specs.laws.RootLaws as roots;
 ghost use Rattle.bech32_checksum.specs.Roots.{HasLawfulRoots};
 
 mod eights;
+mod erased;
+mod locations;
+mod ones;
+mod powers;
 mod products;
+mod twos;
+mod words;
 
 use self::eights::after_eight_by_tables;
+use self::erased::values_by_rows;
+use self::ones::one_error_by_tables;
 use self::products::product_with;
+use self::words::{after_row_by_tables, after_word_by_tables};
 use crate::packed::PackedNull;
 use crate::{Checksum, CorrectingChecksum};
 use bech32_gf::gf32::Fe32;
@@ -140,6 +149,26 @@ impl Checksum for Bech32 {
         after_eight_by_tables(residue, elements)
     }
 
+    #[inline]
+    fn after_word(residue: u32, word: u64) -> u32 {
+        after_word_by_tables(residue, word)
+    }
+
+    #[inline]
+    fn after_target(residue: u32) -> u32 {
+        after_row_by_tables(residue, 1)
+    }
+
+    #[inline]
+    fn one_error(residue: &[Fe32]) -> Option<Option<(usize, Fe32)>> {
+        one_error_by_tables(residue)
+    }
+
+    #[inline]
+    fn values_at(residue: &[Fe32], locations: &[usize]) -> Option<[Fe32; 3]> {
+        values_by_rows(residue, locations)
+    }
+
     ghost packing_laws = { codes.bech32_keeps };
 
     ghost code_law = { codes.bech32_is_packed };
@@ -208,6 +237,26 @@ impl Checksum for Bech32m {
     #[inline]
     fn after_eight(residue: u32, elements: [Fe32; 8]) -> u32 {
         after_eight_by_tables(residue, elements)
+    }
+
+    #[inline]
+    fn after_word(residue: u32, word: u64) -> u32 {
+        after_word_by_tables(residue, word)
+    }
+
+    #[inline]
+    fn after_target(residue: u32) -> u32 {
+        after_row_by_tables(residue, 0x2bc830a3)
+    }
+
+    #[inline]
+    fn one_error(residue: &[Fe32]) -> Option<Option<(usize, Fe32)>> {
+        one_error_by_tables(residue)
+    }
+
+    #[inline]
+    fn values_at(residue: &[Fe32], locations: &[usize]) -> Option<[Fe32; 3]> {
+        values_by_rows(residue, locations)
     }
 
     ghost packing_laws = { codes.bech32m_keeps };

@@ -1,25 +1,29 @@
 //! Checksums of elements: the words that define one, and the engine that computes it.
 #![tactic(auto)]
 
-ghost use Rattle.std.specs.Prelude.{◌≡◌, ◌↔◌, ◌/◌, map, reverse, get_or, ℕ, List, IsTrue, length, ◌∷◌, [], ⊤};
+ghost use Rattle.std.specs.Prelude.{◌≡◌, ◌<◌, ◌^◌, ◌↔◌, ◌/◌, map, reverse, get_or, ℕ, List, IsTrue, MatchOption, length, ◌∷◌, [], ⊤};
 ghost use Rattle.bech32_gf.specs.Fe32 as fe32;
 ghost use Rattle.bech32_gf.specs.Fe32.{value};
 ghost use Rattle.bech32_poly.specs.Polynomial.{scale};
 ghost use Rattle.bech32_hrp.specs.Hrp.{lowered};
 ghost use Rattle.bech32_checksum.specs.Packed.{HasDigits, IsRowOf, sum_of_words};
 ghost use Rattle.bech32_checksum.specs.Code.{Code, code_of, IsResidueOf, IsResidueAfter};
+ghost use Rattle.bech32_checksum.specs.OneError.{IsLeftBy, IsSingle, valued};
 ghost use Rattle.bech32_checksum.specs.PackingLaws.{KeepsPackingLaws};
+ghost use Rattle.bech32_checksum.specs.Word.{word_elements};
 ghost use Rattle.bech32_checksum.specs.Roots.{HasLawfulRoots, singleton_bound};
 
 mod checksums;
 mod hrp_fes;
 mod packed;
 mod roots;
+mod word;
 
 pub use self::checksums::{Bech32, Bech32m, NoChecksum};
 pub use self::hrp_fes::HrpFe32Iter;
 pub use self::packed::{PackedFe32, PackedNull};
 pub use self::roots::LocatorField;
+use self::word::elements_in;
 use bech32_gf::gf32::Fe32;
 use bech32_hrp::Hrp;
 use std::alloc::AllocError;
@@ -131,6 +135,69 @@ pub trait Checksum {
             next = Self::after_one(next, element);
         }
         next
+    }
+
+    /// The remainder after eight more elements, which stand in a word of 40 bits, the first of them
+    /// highest, packed.
+    ///
+    /// The provided one takes them apart. Whoever defines a checksum may read tables in its place, as
+    /// for [`Self::after_eight`].
+    #[inline]
+    fn after_word(residue: Self::MidstateRepr, word: u64) -> Self::MidstateRepr
+        requires residue { HasDigits CHECKSUM_LENGTH (Self.MidstateRepr.number residue) }
+        requires word { word < 2 ^ 40 }
+        ensures clear { HasDigits CHECKSUM_LENGTH (Self.MidstateRepr.number result) }
+        ensures after { IsResidueAfter Self.MidstateRepr.number code residue
+            (word_elements word) result }
+    {
+        Self::after_eight(residue, elements_in(word))
+    }
+
+    /// The remainder after the elements of the target, the highest first, packed.
+    ///
+    /// The provided one takes them one after another, as [`Self::after_eight`] does.
+    #[inline]
+    fn after_target(residue: Self::MidstateRepr) -> Self::MidstateRepr
+        requires { HasDigits CHECKSUM_LENGTH (Self.MidstateRepr.number residue) }
+        ensures clear { HasDigits CHECKSUM_LENGTH (Self.MidstateRepr.number result) }
+        ensures after { IsResidueAfter Self.MidstateRepr.number code residue
+            (reverse code.target) result }
+    {
+        let mut next = residue;
+        for i in 0..Self::CHECKSUM_LENGTH {
+            let place = Self::CHECKSUM_LENGTH - 1 - i;
+            next = Self::after_one(
+                next,
+                Fe32::from_low_bits(Self::TARGET_RESIDUE.unpack(place)),
+            );
+        }
+        next
+    }
+
+    /// The only single error below the code length that leaves a residue, if any, where the checksum
+    /// has a way of its own to find it; the outer `None` says nothing.
+    ///
+    /// The provided one says nothing, and correctors then search. Whoever defines a checksum may
+    /// read tables.
+    #[inline]
+    fn one_error(_residue: &[Fe32]) -> Option<Option<(usize, Fe32)>>
+        ensures { MatchOption result ⊤
+            (λ found. IsSingle code.generator CODE_LENGTH _residue.now found) }
+    {
+        None
+    }
+
+    /// The elements at up to three locations that together leave a residue, where the checksum has a
+    /// way of its own to find them; `None` says nothing.
+    ///
+    /// The provided one says nothing, and correctors then search. Whoever defines a checksum may
+    /// read tables.
+    #[inline]
+    fn values_at(_residue: &[Fe32], _locations: &[usize]) -> Option<[Fe32; 3]>
+        ensures { MatchOption result ⊤
+            (λ values. IsLeftBy code.generator _residue.now (valued _locations.now values)) }
+    {
+        None
     }
 
     /// Whether the roots are lawful: the base is not zero, its order is the code length or more, the
@@ -275,6 +342,16 @@ impl<Ck: Checksum> Engine<Ck> {
         self.residue = Ck::after_eight(self.residue, elements);
     }
 
+    /// Takes the eight elements of a word of 40 bits, the highest first.
+    #[inline]
+    pub fn input_word(&mut self, word: u64)
+        requires { word < 2 ^ 40 }
+        ensures { IsResidueAfter Ck.MidstateRepr.number Ck.code self.old
+            (word_elements word) self.new }
+    {
+        self.residue = Ck::after_word(self.residue, word);
+    }
+
     /// Takes the elements of the target, the highest first.
     ///
     /// The remainder is then the checksum of what was given before: its elements, the highest
@@ -284,13 +361,11 @@ impl<Ck: Checksum> Engine<Ck> {
         ensures { IsResidueAfter Ck.MidstateRepr.number Ck.code self.old
             (reverse Ck.code.target) self.new }
     {
-        for i in 0..Ck::CHECKSUM_LENGTH {
-            let place = Ck::CHECKSUM_LENGTH - 1 - i;
-            self.input_fe(Fe32::from_low_bits(Ck::TARGET_RESIDUE.unpack(place)));
-        }
+        self.residue = Ck::after_target(self.residue);
     }
 
     // Takes the highest three bits of each byte, in lower case.
+    #[inline]
     fn input_high_bits(&mut self, bytes: &[u8])
         ensures { IsResidueAfter Ck.MidstateRepr.number Ck.code self.old
             (map (λ b. fe32.element (b / 32)) (lowered bytes.now)) self.new }
@@ -301,6 +376,7 @@ impl<Ck: Checksum> Engine<Ck> {
     }
 
     // Takes the lowest five bits of each byte, in lower case.
+    #[inline]
     fn input_low_bits(&mut self, bytes: &[u8])
         ensures { IsResidueAfter Ck.MidstateRepr.number Ck.code self.old
             (map fe32.element (lowered bytes.now)) self.new }
@@ -316,8 +392,17 @@ impl<Ck: Checksum> Engine<Ck> {
         ensures { IsResidueAfter Ck.MidstateRepr.number Ck.code self.old
             (hrp_elements (hrp_bytes hrp)) self.new }
     {
-        self.input_high_bits(hrp.as_bytes());
+        self.input_part(hrp.as_bytes());
+    }
+
+    /// The same of the bytes of a human-readable part.
+    #[inline]
+    pub fn input_part(&mut self, part: &[u8])
+        ensures { IsResidueAfter Ck.MidstateRepr.number Ck.code self.old
+            (hrp_elements part.now) self.new }
+    {
+        self.input_high_bits(part);
         self.input_fe(Fe32::Q);
-        self.input_low_bits(hrp.as_bytes());
+        self.input_low_bits(part);
     }
 }

@@ -4,6 +4,7 @@ pub mod Characters
 pub mod Inside
 pub mod MendedText
 pub mod Outcomes
+pub mod Residues
 pub mod Sound
 pub mod Sums
 pub mod Texts

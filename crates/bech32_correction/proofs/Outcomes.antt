@@ -1,7 +1,8 @@
 -- What follows of a text from what its checksum and the corrector answer.
-use Rattle.std.proofs.Common.{◌≡◌, ℕ, ◌<◌, ◌≤◌, List, [], ◌∷◌, map, length, None, Some, MatchResult, Result, Ok, Err, subst, sym, ap, ◌∙◌, refl, arith}
+use Rattle.std.proofs.Common.{◌≡◌, ℕ, ◌<◌, ◌≤◌, List, [], ◌∷◌, map, length, Option, None, Some, MatchOption, MatchResult, Result, Ok, Err, subst, sym, ap, ◌∙◌, refl, arith}
 use Rattle.std.specs.List.{AllByRecursion}
 use Rattle.std.proofs.Math.Decide.{dec_lt}
+use Rattle.std.proofs.lemmas.List.{length-append}
 use Rattle.bech32_gf.specs.Fe32 as fe32
 use Rattle.bech32_gf.specs.Fe32.{elements_of, ops}
 use Rattle.bech32_gf.specs.declared.gf32.Fe32.{Fe32}
@@ -17,8 +18,9 @@ use Rattle.bech32_solver.specs.Carried.{of_checksum}
 use Rattle.bech32_direct.specs.Question.{Explains, IsOnlyListing, Question}
 use Rattle.bech32_corrector.specs.Given.{IsAnswerWith}
 use Rattle.bech32_decode.specs.Acceptance.{Accepts}
-use Rattle.bech32_decode.specs.Parts.{unchecked_data, unchecked_length, unchecked_part}
-use Rattle.bech32_decode.specs.Refusals.{IsChecksumRefusal, IsInvalidBy, IsValidBy}
+use Rattle.bech32_decode.specs.Parts.{unchecked_data, unchecked_part}
+use Rattle.bech32_decode.specs.Refusals.{HasLengths, IsChecksumRefusal, IsInvalidBy, IsValidBy}
+use Rattle.bech32_decode.specs.Text.{IsText}
 use Rattle.bech32_decode.proofs.Decoding.{accepted}
 use Rattle.bech32_decode.specs.declared.unchecked.UncheckedHrpstring.{UncheckedHrpstring}
 use Rattle.bech32_refusals.specs.ResidueRows.{IsResidueError, actual_row, residue_of, target_row}
@@ -27,8 +29,9 @@ use Rattle.bech32_refusals.specs.declared.error.ChecksumError.{ChecksumError}
 use Rattle.bech32_refusals.specs.declared.error.ChecksumError.TheVariants.{CodeLength, InvalidLength, InvalidResidue}
 use Rattle.bech32_refusals.specs.declared.error.InvalidResidueError.{InvalidResidueError}
 use Rattle.bech32_correction.specs.MendedElements.{mended}
-use Rattle.bech32_correction.specs.Mistyped.{AreInside, HasNoListing, IsCorrectRefusal, IsCorrectorOf, IsListedCorrection, IsListingOf, IsReadAs, IsReadRefusal, IsRefusal, IsRefusedFor, question_of}
+use Rattle.bech32_correction.specs.Mistyped.{AreInside, HasNoListing, IsCorrectRefusal, IsCorrectorOf, IsListedCorrection, IsListing, IsListingOf, IsReadAs, IsReadRefusal, IsRefusal, IsRefusedFor, question_of}
 use Rattle.bech32_correction.specs.declared.correcting.Correction.{Correction}
+use Rattle.bech32_correction.specs.declared.correcting.Correction.TheVariants.{Mended, Unexplained}
 use Rattle.bech32_correction.specs.declared.error.CorrectError.{CorrectError}
 use Rattle.bech32_correction.specs.declared.error.CorrectError.TheVariants.{Memory, Refused}
 use Rattle.bech32_correction.proofs.Accepted.{mended_accepted}
@@ -51,19 +54,29 @@ accepted-from_valid code text u is v = (
       (subst (λ (n : ℕ). n ≤ code.code_length) is.text_length v.0, v.1, v.2),
 )
 
-pub refused_for : (code : Code) (text : List ℕ) (u : UncheckedHrpstring) (e : InvalidResidueError) → IsReadAs text u → IsInvalidBy code u (InvalidResidue e)
-    → IsRefusedFor code text (unchecked_part u) (unchecked_data u) (residue_of e)
-refused_for code text u e is v = record {
+-- a text of these parts that is refused by a residue error is refused for its residue
+pub refused_text : (code : Code) (text hrp data_part : List ℕ) (e : InvalidResidueError) → IsText text hrp data_part
+    → IsChecksumRefusal code (length text) hrp data_part (InvalidResidue e) → IsRefusedFor code text hrp data_part (residue_of e)
+refused_text code text hrp data_part e is v = record {
   read = record {
-    grammar = is.grammar;
-    text_length = subst (λ (n : ℕ). n ≤ code.code_length) is.text_length v.0;
+    grammar = is;
+    text_length = v.0;
     data_length = v.1;
     remainder = v.2.remainder;
     is_remainder = v.2.is_remainder;
-    residue_is = residue_carried code (text_polynomial (unchecked_part u) (elements_of (unchecked_data u))) e v.2;
+    residue_is = residue_carried code (text_polynomial hrp (elements_of data_part)) e v.2;
   };
   not_target = v.2.not_target;
 }
+
+-- why a text that was read is refused is why the text is
+of_read : (code : Code) (text : List ℕ) (u : UncheckedHrpstring) (e : ChecksumError) → IsReadAs text u → IsInvalidBy code u e
+    → IsChecksumRefusal code (length text) (unchecked_part u) (unchecked_data u) e
+of_read code text u e is v = subst (λ (n : ℕ). IsChecksumRefusal code n (unchecked_part u) (unchecked_data u) e) is.text_length v
+
+pub refused_for : (code : Code) (text : List ℕ) (u : UncheckedHrpstring) (e : InvalidResidueError) → IsReadAs text u → IsInvalidBy code u (InvalidResidue e)
+    → IsRefusedFor code text (unchecked_part u) (unchecked_data u) (residue_of e)
+refused_for code text u e is v = refused_text code text (unchecked_part u) (unchecked_data u) e is.grammar (of_read code text u (InvalidResidue e) is v)
 
 pub listing-from_only : (code : Code) (bound : ℕ) (text given hrp data_part : List ℕ) (residue : List Fe32) (listing : List (ℕ × Fe32))
     → IsRefusedFor code text hrp data_part residue → AreInside data_part given
@@ -110,37 +123,39 @@ pub of_residue : (residue residue' : List Fe32) (window : ℕ) (v : Question) �
     → v ≡ record { residue = residue'; window = window; erasures = [] }
 of_residue residue residue' window v e k = e ∙ (λ i. record { residue = k i; window = window; erasures = [] })
 
--- the corrector of what a residue error carries
-pub corrector_there : (code : Code) (text : List ℕ) (u : UncheckedHrpstring) (error : InvalidResidueError) (window : ℕ) (c : Question)
-    → IsReadAs text u → IsInvalidBy code u (InvalidResidue error) → window ≡ length (unchecked_data u)
-    → c ≡ record { residue = residue_of error; window = window; erasures = [] } → IsCorrectorOf code text c
-corrector_there code text u error window c is v at whole =
+-- the corrector of a refused text
+pub corrector_of : (code : Code) (text hrp data_part : List ℕ) (residue : List Fe32) (window : ℕ) (c : Question)
+    → IsRefusedFor code text hrp data_part residue → window ≡ length data_part
+    → c ≡ record { residue = residue; window = window; erasures = [] } → IsCorrectorOf code text c
+corrector_of code text hrp data_part residue window c is at whole =
     subst (λ (x : Question). IsCorrectorOf code text x) (sym whole)
-    (record { hrp = unchecked_part u; data_part = unchecked_data u; refused = refused_for code text u error is v; window = at; fresh = refl })
+    (record { hrp = hrp; data_part = data_part; refused = is; window = at; fresh = refl })
+
+-- a data part is no longer than its text
+pub part_fits : (text hrp data_part : List ℕ) → IsText text hrp data_part → length data_part ≤ length text
+part_fits text hrp data_part is = omega (arith, ap length is.split, length-append hrp (49 ∷ data_part))
 
 -- the data part of a text that is no longer than the code is no longer either
-pub inside_code : (code : Code) (u : UncheckedHrpstring) (e : InvalidResidueError) (n w : ℕ) → IsInvalidBy code u (InvalidResidue e)
-    → code.code_length ≡ n → w ≡ length (unchecked_data u) → w ≤ n
-inside_code code u e n w v limit at =
-    let fits : length (unchecked_data u) ≤ unchecked_length u = u.fits in
-    let short : unchecked_length u ≤ code.code_length = v.0 in
-    omega arith
+pub inside_code : (code : Code) (k size n w : ℕ) → k ≤ size → size ≤ code.code_length → code.code_length ≡ n → w ≡ k → w ≤ n
+inside_code code k size n w fits short limit at = omega arith
 
 no_elements : (xs : List Fe32) → length xs ≡ 0 → xs ≡ []
 no_elements [] h = refl
 no_elements (x ∷ xs) h = absurd (omega (arith, h))
 
--- a checksum of no elements refuses no text for its residue
-pub some_degree : (code : Code) (u : UncheckedHrpstring) (e : InvalidResidueError) → length code.target ≡ length code.generator → IsInvalidBy code u (InvalidResidue e)
-    → 0 < length code.generator
-some_degree code u e size v =
+-- a checksum of no elements leaves no other remainder than its target
+pub some_places : (code : Code) (remainder : List Fe32) → length code.target ≡ length code.generator → length remainder ≡ length code.generator
+    → (remainder ≡ code.target → ⊥) → 0 < length code.generator
+some_places code remainder size short other =
     elim (dec_lt 0 (length code.generator)) [
       | yes some ↦ some
-      | no none ↦
-          let is = v.2 in
-          let short : length is.remainder ≡ length code.generator = is.is_remainder.short in
-          absurd (is.not_target (no_elements is.remainder (omega arith) ∙ sym (no_elements code.target (omega arith))))
+      | no none ↦ absurd (other (no_elements remainder (omega arith) ∙ sym (no_elements code.target (omega arith))))
     ]
+
+-- it refuses no text for its residue
+pub some_degree : (code : Code) (u : UncheckedHrpstring) (e : InvalidResidueError) → length code.target ≡ length code.generator → IsInvalidBy code u (InvalidResidue e)
+    → 0 < length code.generator
+some_degree code u e size v = some_places code v.2.remainder size v.2.is_remainder.short v.2.not_target
 
 -- a checksum's refusal that is not for the residue holds no residue error
 pub none_carried : (e : ChecksumError) → ((x : InvalidResidueError) → e ≡ InvalidResidue x → ⊥) → of_checksum e ≡ None
@@ -148,17 +163,30 @@ none_carried (CodeLength x) other = refl
 none_carried InvalidLength other = refl
 none_carried (InvalidResidue x) other = absurd (other x refl)
 
+-- what is known of a test, as what is known of the residue error in it
+pub carried_by : (tested : Result (Unit {0}) ChecksumError) (r : Result (Option InvalidResidueError) ChecksumError) (P : Type 0) (Q : ChecksumError → Type 0)
+    → MatchResult tested (λ _. P) Q
+    → MatchResult r (λ found. MatchOption found (tested ≡ Ok tt) (λ e. tested ≡ Err (InvalidResidue e))) (λ e. (tested ≡ Err e) × (of_checksum e ≡ None))
+    → MatchResult r (λ found. MatchOption found P (λ e. Q (InvalidResidue e))) (λ e. Q e × (of_checksum e ≡ None))
+carried_by tested (Ok None) P Q h is = rw is at h
+carried_by tested (Ok (Some e)) P Q h is = rw is at h
+carried_by tested (Err e) P Q h is = (rw is.0 at h, is.1)
+
+-- nor does one by which a text has no room for the checksum, or no room in the code
+pub none-from_lengths : (code : Code) (n : ℕ) (hrp data_part : List ℕ) (e : ChecksumError) → IsChecksumRefusal code n hrp data_part e
+    → (HasLengths code n (length data_part) → ⊥) → of_checksum e ≡ None
+none-from_lengths code n hrp data_part (CodeLength x) h not = refl
+none-from_lengths code n hrp data_part InvalidLength h not = refl
+none-from_lengths code n hrp data_part (InvalidResidue x) h not = absurd (not (h.0, h.1))
+
+-- a checksum's refusal of a text of these parts
+pub refusal_of_parts : (code : Code) (text hrp data_part : List ℕ) (e : ChecksumError) → IsText text hrp data_part
+    → IsChecksumRefusal code (length text) hrp data_part e → of_checksum e ≡ None → IsRefusal code text (Checksum e)
+refusal_of_parts code text hrp data_part e is v none = (record { hrp = hrp; data_part = data_part; grammar = is; refusal = v }, none)
+
 pub refusal-from_invalid : (code : Code) (text : List ℕ) (u : UncheckedHrpstring) (e : ChecksumError) → IsReadAs text u → IsInvalidBy code u e
     → of_checksum e ≡ None → IsRefusal code text (Checksum e)
-refusal-from_invalid code text u e is v none = (
-  record {
-    hrp = unchecked_part u;
-    data_part = unchecked_data u;
-    grammar = is.grammar;
-    refusal = subst (λ (n : ℕ). IsChecksumRefusal code n (unchecked_part u) (unchecked_data u) e) is.text_length v;
-  },
-  none,
-)
+refusal-from_invalid code text u e is v none = refusal_of_parts code text (unchecked_part u) (unchecked_data u) e is.grammar (of_read code text u e is v) none
 
 refusal_of_text : (code : Code) (text : List ℕ) (u : UncheckedHrpstring) (e : CorrectError) → IsReadAs text u → IsReadRefusal code u e → IsCorrectRefusal code text e
 refusal_of_text code text u (Refused (Checksum e)) is h = refusal-from_invalid code text u e is h.0 h.1
@@ -171,3 +199,17 @@ pub of_text : (code : Code) (bound : ℕ) (text given : List ℕ) (u : Unchecked
     → MatchResult r (λ answer. IsListedCorrection code bound text given answer) (λ e. IsCorrectRefusal code text e)
 of_text code bound text given u (Ok answer) is h = h text is
 of_text code bound text given u (Err e) is h = refusal_of_text code text u e is h
+
+-- what an answer to the text's corrector says of the text
+pub answered : (code : Code) (bound : ℕ) (text given : List ℕ) (corrector : Question) (answer : Option (List (ℕ × Fe32))) → IsCorrectorOf code text corrector
+    → IsAnswerWith code bound corrector given answer
+    → MatchOption answer (HasNoListing code bound text given) (λ listing. IsListingOf code bound text given listing)
+answered code bound text given corrector None is none = none_listed code bound text given corrector is none
+answered code bound text given corrector (Some listing) is only = listed code bound text given corrector listing is only
+
+-- a listing, or that there is none, as what is said of the text
+pub said_of : (code : Code) (bound : ℕ) (text given : List ℕ) (answer : Option (List (ℕ × Fe32))) (said : Correction (List (ℕ × Fe32)) (Unit {0}))
+    → MatchOption answer (HasNoListing code bound text given) (λ listing. IsListingOf code bound text given listing)
+    → MatchOption answer (said ≡ Unexplained tt) (λ listing. said ≡ Mended listing) → IsListing code bound text given said
+said_of code bound text given None said none is = rw is (none, tt)
+said_of code bound text given (Some listing) said only is = rw is only

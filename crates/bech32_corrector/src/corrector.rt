@@ -13,9 +13,10 @@ ghost use Rattle.bech32_poly.specs.FieldVec.{FitsInPlace};
 
 use crate::erasures::distinct_below;
 use crate::errors::{ErrorIterator, ShortIter};
+use crate::given::listing_given;
 use bech32_bch::{ShortVec, locators_of};
 use bech32_checksum::Checksum;
-use bech32_direct::{correct_erased, residue_without};
+use bech32_direct::residue_without;
 use bech32_gf::gf32::Fe32;
 use bech32_poly::fieldvec::FieldVec;
 use bech32_refusals::MAX_DEGREE;
@@ -197,16 +198,13 @@ impl<Ck: Checksum, A: Allocator + Copy> Corrector<Ck, A> {
             IsAnswerWith Ck.code Ck.bound self.now given.now answer) }
         ensures in_place { length Ck.code.generator ≤ 6 → IsOk result }
     {
-        let (alloc, most) = (self.allocator(), self.singleton_bound());
-        let Some(erasures) = distinct_below(alloc, given, self.window(), most)? else {
-            return Ok(None);
-        };
-        if most - erasures.len() < 2 {
-            // No error can stand beside them: their locators are not needed.
-            return correct_erased::<Ck, A>(alloc, self.window, &self.residue, &erasures);
-        }
-        let known = locators_of(alloc, Ck::ROOT_GENERATOR, erasures.as_slice())?;
-        correct::<Ck, A>(alloc, self.window, &self.residue, &erasures, &known)
+        listing_given::<Ck, A>(
+            self.allocator(),
+            self.window,
+            &self.residue,
+            given,
+            PhantomData,
+        )
     }
 
     /// The errors that explain the residue, and the elements at the erasures: the one pattern below

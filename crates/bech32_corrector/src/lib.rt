@@ -6,7 +6,9 @@ mod correctable;
 mod corrector;
 mod erasures;
 mod errors;
+mod given;
 
 pub use self::correctable::CorrectableError;
 pub use self::corrector::Corrector;
 pub use self::errors::ErrorIterator;
+pub use self::given::listing_given;

@@ -1,5 +1,5 @@
 -- A text is read as a segwit address exactly where it is one.
-use Rattle.std.proofs.Common.{◌≡◌, ◌⊎◌, ◌↔◌, ◌==◌, ℕ, ◌<◌, ◌≤◌, ◌+◌, ◌/◌, Bool, true, false, List, [], ◌∷◌, ◌++◌, None, Result, Ok, Err, length, length-append, map, take, drop, cond, refl, sym, ap, subst, ◌∙◌, arith, inl, inr, ⊎_elim, MatchResult, IsOk, IfOk}
+use Rattle.std.proofs.Common.{◌≡◌, ◌⊎◌, ◌↔◌, ◌==◌, ℕ, ◌<◌, ◌≤◌, ◌+◌, ◌/◌, Bool, true, false, List, [], ◌∷◌, ◌++◌, None, Result, Ok, Err, length, length-append, map, take, cond, refl, sym, ap, subst, ◌∙◌, arith, inl, inr, ⊎_elim, MatchResult, IsOk, IfOk}
 use Rattle.std.proofs.lemmas.List.{map-append, length-map, take_at}
 use Rattle.std.specs.Char.{to_ascii_lowercase, to_ascii_uppercase}
 use Rattle.std.specs.Str.{IsUtf8}
@@ -21,10 +21,11 @@ use Rattle.bech32_decode.specs.BeforeChecksum.{IsBeforeChecksum}
 use Rattle.bech32_decode.specs.Checked.{IsWithoutChecksum}
 use Rattle.bech32_decode.specs.Refusals.{HasValidChecksum, IsChecksumRefusal}
 use Rattle.bech32_decode.specs.Segwit.{segwit_code, IsLowerAddress, IsAddress, IsAddressText, IsVersioned, IsVersionRefusal, IsSegwitData, IsDataRefusal, IsUnread, IsWithoutVersion, IsOfWrongChecksum, IsOfWrongData, IsAddressRefusal, IsSegwitRefusal}
-use Rattle.bech32_decode.specs.SegwitParts.{IsSegwitOf, IsReadAs, IsReadBy, IsRefusedBy, IsWrongDataOf}
+use Rattle.bech32_decode.specs.SegwitParts.{IsSegwitOf, IsDataOf, IsReadIn, IsReadAs, IsReadBy, IsRefusedBy, IsUnlawfulBy, IsWrongDataOf}
 use Rattle.bech32_refusals.specs.SegwitRules.{IsProgramLength, IsLengthRefusal}
 use Rattle.bech32_decode.specs.SegwitPadding.{IsPadded, IsPaddingRefusal}
 use Rattle.bech32_decode.specs.declared.address.SegwitHrpstring.{SegwitHrpstring}
+use Rattle.bech32_decode.specs.declared.address_data.AddressData.{AddressData}
 use Rattle.bech32_decode.specs.declared.checked.CheckedHrpstring.{CheckedHrpstring}
 use Rattle.bech32_refusals.specs.declared.error.PaddingError.{PaddingError}
 use Rattle.bech32_refusals.specs.declared.error.PaddingError.TheVariants.{TooMuch, NonZero}
@@ -51,12 +52,10 @@ elements-before code data_part characters b = ap elements_of b.data_part_is ∙ 
 
 -- ---- from what was read to the address
 
-pub address-from_read : (text : List ℕ) (a : SegwitHrpstring) → IsReadAs segwit_code text a
-    → IsAddress (hrp_bytes a.hrp) a.witness_version (to_bytes (elements_of a.ascii.now)) text
-address-from_read text a h =
-    let v = a.witness_version in
-    let hrp = hrp_bytes a.hrp in
-    let program = elements_of a.ascii.now in
+pub address-from_parts : (text hrp : List ℕ) (v : Fe32) (characters : List ℕ) → IsReadIn segwit_code text hrp v characters
+    → IsAddress hrp v (to_bytes (elements_of characters)) text
+address-from_parts text hrp v characters h =
+    let program = elements_of characters in
     let sum = elements_of h.before.checksum in
     let all : elements_of h.data_part ≡ (v ∷ to_fes (to_bytes program)) ++ sum =
     elements-before (segwit_code v) h.data_part h.checked h.before
@@ -80,6 +79,10 @@ address-from_read text a h =
       };
       in_one_case = in_one_case text hrp h.data_part h.accepted.grammar;
     }
+
+pub address-from_read : (text : List ℕ) (a : SegwitHrpstring) → IsReadAs segwit_code text a
+    → IsAddress (hrp_bytes a.hrp) a.witness_version (to_bytes (elements_of a.ascii.now)) text
+address-from_read text a h = address-from_parts text (hrp_bytes a.hrp) a.witness_version a.ascii.now h
 
 -- ---- from the address to what is read
 
@@ -356,20 +359,10 @@ in_length text (Err e) few h = inr (few, h)
 -- ---- from the tests of what stands before the checksum
 
 pub segwit-of : (c : CheckedHrpstring) (a : SegwitHrpstring) (version : Fe32) (program : List ℕ) → a.hrp ≡ c.hrp → a.witness_version ≡ version → a.ascii.now ≡ program
-    → program ≡ drop 1 c.ascii.now → c.hrpstring_length ≤ 90 → IsVersioned (elements_of c.ascii.now) version (elements_of (drop 1 c.ascii.now))
-    → IsPadded (elements_of program) → IsProgramLength version (length (to_bytes (elements_of program))) → IsSegwitOf c a
-segwit-of c a version program part v ascii rest few versioned padded program_length = record {
-  hrp = part;
-  elements = versioned.parts ∙ ap (λ (x : Fe32). x ∷ elements_of (drop 1 c.ascii.now)) (sym v) ∙ ap (λ (l : List ℕ). a.witness_version ∷ elements_of l) (sym (ascii ∙ rest));
-  characters = ascii ∙ rest;
-  lawful = record {
-    text_length = few;
-    version_fits = subst (λ (x : Fe32). x.value ≤ 16) (sym v) versioned.fits;
-    padded = subst (λ (l : List ℕ). IsPadded (elements_of l)) (sym ascii) padded;
-    program_length = subst (λ (x : Fe32). IsProgramLength x (length (to_bytes (elements_of a.ascii.now)))) (sym v)
-        (subst (λ (l : List ℕ). IsProgramLength version (length (to_bytes (elements_of l)))) (sym ascii) program_length);
-  };
-}
+    → IsDataOf c.hrpstring_length c.ascii.now version program → IsSegwitOf c a
+segwit-of c a version program part v ascii h =
+    let same = subst (λ (x : Fe32). IsDataOf c.hrpstring_length c.ascii.now x a.ascii.now) (sym v) (subst (IsDataOf c.hrpstring_length c.ascii.now version) (sym ascii) h) in
+    record { hrp = part; elements = same.elements; characters = same.characters; lawful = same.lawful }
 
 pub outcome-from_segwit : (code : Code) (u : UncheckedHrpstring) (c : CheckedHrpstring) → HasValidChecksum code u.hrpstring_length (hrp_bytes u.hrp) u.data_part_ascii.now
     → IsWithoutChecksum code u c → (r : Result SegwitHrpstring SegwitHrpstringError)
@@ -377,3 +370,55 @@ pub outcome-from_segwit : (code : Code) (u : UncheckedHrpstring) (c : CheckedHrp
     → MatchResult r (λ a. IsReadBy code u a) (λ e. IsRefusedBy code u e ⊎ IsWrongDataOf code u e)
 outcome-from_segwit code u c valid without (Ok a) h = record { valid = valid; checked = c; without = without; segwit = h }
 outcome-from_segwit code u c valid without (Err e) h = inr (record { valid = valid; checked = c; without = without; refusal = h })
+
+-- ---- from the outcome of one walk to the text's
+
+module _ (text hrp d : List ℕ) (is : IsText text hrp d) (version : Fe32) (others : List Fe32)
+    (versioned : IsVersioned (elements_of d) version others) where
+  read-in : (v : Fe32) (program : List ℕ) → IsReadIn (λ _. segwit_code version) text hrp v program → IsReadIn segwit_code text hrp v program
+  read-in v program h =
+      let ck = segwit_code version in
+      let sum = elements_of h.before.checksum in
+      let data_is = (only-from_IsText text hrp d is hrp h.data_part h.accepted.grammar.split h.accepted.grammar.data_bytes).1 in
+      let whole : elements_of d ≡ (v ∷ elements_of program) ++ sum =
+      ap elements_of (sym data_is) ∙ (elements-before ck h.data_part h.checked h.before ∙ ap (λ (l : List Fe32). l ++ sum) h.elements) in
+      let same : version ≡ v = same_head version v others (elements_of program ++ sum) (sym versioned.parts ∙ whole) in
+      record {
+        data_part = h.data_part;
+        accepted = subst (λ (x : Fe32). IsAccepted (segwit_code x) text hrp h.data_part) same h.accepted;
+        checked = h.checked;
+        before = subst (λ (x : Fe32). IsBeforeChecksum (segwit_code x) h.data_part h.checked) same h.before;
+        elements = h.elements;
+        characters = h.characters;
+        lawful = h.lawful;
+      }
+
+  unlawful-in : (e : SegwitHrpstringError) → IsUnlawfulBy (segwit_code version) text hrp d e → IsAddressRefusal segwit_code text e
+  unlawful-in e (inl r) = inr (inr (inl (record {
+    hrp = hrp;
+    data_part = d;
+    grammar = is;
+    version = version;
+    others = others;
+    versioned = versioned;
+    error = r.0;
+    is = r.1;
+    refusal = r.2;
+  })))
+  unlawful-in e (inr r) = inr (inr (inr (record {
+    hrp = hrp;
+    data_part = d;
+    version = version;
+    others = others;
+    versioned = versioned;
+    accepted = r.0;
+    characters = r.1;
+    before = r.2;
+    refusal = r.3;
+  })))
+
+  pub outcome-from_reading : (ck : Code) → ck ≡ segwit_code version → (r : Result AddressData SegwitHrpstringError)
+      → MatchResult r (λ a. IsReadIn (λ _. ck) text hrp a.version a.program.now) (λ e. IsUnlawfulBy ck text hrp d e)
+      → MatchResult r (λ a. IsReadIn segwit_code text hrp a.version a.program.now) (λ e. IsAddressRefusal segwit_code text e)
+  outcome-from_reading ck same (Ok a) h = read-in a.version a.program.now (subst (λ (c : Code). IsReadIn (λ _. c) text hrp a.version a.program.now) same h)
+  outcome-from_reading ck same (Err e) h = unlawful-in e (subst (λ (c : Code). IsUnlawfulBy c text hrp d e) same h)

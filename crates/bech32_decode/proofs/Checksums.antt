@@ -59,11 +59,17 @@ module _ (code : Code) (d t : ℕ) (degree : length code.generator ≡ d) (row :
     target = λ i. wanted i ∙ sym (coefficient-digits d t i small') ∙ ap (λ (xs : List Fe32). coefficient fe32.ops xs i) (sym row);
   }
 
+  -- the target is the remainder of those digits alone
+  pub target_alone : (residue : ℕ) (p : List Fe32) → residue < 2 ^ (5 * d) → t < 2 ^ (5 * d)
+      → IsRemainder fe32.ops code.generator p (digits (length code.generator) residue)
+      → IsRemainder fe32.ops code.generator p code.target → residue ≡ t
+  target_alone residue p small small' h wanted =
+      let found : digits (length code.generator) residue ≡ remainder_of fe32.ops code.generator p = remainder_unique is_field code.generator p _ h in
+      let same : code.target ≡ remainder_of fe32.ops code.generator p = remainder_unique is_field code.generator p _ wanted in
+      digits-injective d residue t small small' (ap (λ k. digits k residue) (sym degree) ∙ found ∙ sym same ∙ row)
+
   -- so that the target is not the remainder
   pub no_target : (residue : ℕ) (p : List Fe32) → residue < 2 ^ (5 * d) → t < 2 ^ (5 * d) → residue ≢ t
       → IsRemainder fe32.ops code.generator p (digits (length code.generator) residue)
       → IsRemainder fe32.ops code.generator p code.target → ⊥
-  no_target residue p small small' ne h wanted =
-      let found : digits (length code.generator) residue ≡ remainder_of fe32.ops code.generator p = remainder_unique is_field code.generator p _ h in
-      let same : code.target ≡ remainder_of fe32.ops code.generator p = remainder_unique is_field code.generator p _ wanted in
-      ne (digits-injective d residue t small small' (ap (λ k. digits k residue) (sym degree) ∙ found ∙ sym same ∙ row))
+  no_target residue p small small' ne h wanted = ne (target_alone residue p small small' h wanted)

@@ -6,8 +6,12 @@ pub mod DataEnds
 pub mod Decoding
 pub mod Grammar
 pub mod Letters
+pub mod OneCase
 pub mod Outcomes
 pub mod Padding
+pub mod PartCases
+pub mod Readings
 pub mod Spelling
 pub mod Texts
 pub mod Versions
+pub mod WordBytes

@@ -1,8 +1,10 @@
 pub mod Acceptance
 pub mod BeforeChecksum
 pub mod Checked
+pub mod Letters
 pub mod Parts
 pub mod Readers
+pub mod Reading
 pub mod Refusals
 pub mod Segwit
 pub mod SegwitPadding

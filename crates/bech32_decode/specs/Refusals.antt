@@ -31,10 +31,19 @@ IsChecksumRefusal code n hrp data_part (InvalidResidue e) =
     (n ≤ code.code_length) × (length code.generator ≤ length data_part)
     × IsResidueError code (text_polynomial hrp (elements_of data_part)) e
 
+-- a text of n bytes is not longer than the code, and a data part of k characters has room for the
+-- checksum
+abbrev pub HasLengths : Code → ℕ → ℕ → Type 0
+HasLengths code n k = (n ≤ code.code_length) × (length code.generator ≤ k)
+
+-- why a text of such lengths is refused, whatever its characters are
+abbrev pub IsLengthsRefusal : Code → ℕ → ℕ → ChecksumError → Type 0
+IsLengthsRefusal code n k e =
+    (hrp data_part : List ℕ) → length data_part ≡ k → IsChecksumRefusal code n hrp data_part e
+
 -- a text that was read is not longer than the code, and has room for the checksum
 abbrev pub HasLengthsOf : Code → UncheckedHrpstring → Type 0
-HasLengthsOf code u =
-    (unchecked_length u ≤ code.code_length) × (length code.generator ≤ length (unchecked_data u))
+HasLengthsOf code u = HasLengths code (unchecked_length u) (length (unchecked_data u))
 
 -- the checksum of a text that was read is right
 abbrev pub IsValidBy : Code → UncheckedHrpstring → Type 0

@@ -1,5 +1,5 @@
 -- A segwit address in its parts.
-use Rattle.std.specs.Prelude.{◌≡◌, ℕ, List, ◌∷◌, drop, length}
+use Rattle.std.specs.Prelude.{◌≡◌, ◌⊎◌, ℕ, List, ◌∷◌, drop, length}
 use Rattle.bech32_gf.specs.Fe32.{elements_of}
 use Rattle.bech32_gf.specs.declared.gf32.Fe32.{Fe32}
 use Rattle.bech32_checksum.specs.Code.{Code}
@@ -8,7 +8,7 @@ use Rattle.bech32_decode.specs.BeforeChecksum.{IsBeforeChecksum}
 use Rattle.bech32_decode.specs.Checked.{IsWithoutChecksum}
 use Rattle.bech32_decode.specs.Parts.{checked_hrp, checked_data, checked_length, address_hrp}
 use Rattle.bech32_decode.specs.Parts.{address_part, address_version, address_data}
-use Rattle.bech32_decode.specs.Refusals.{IsValidBy, IsInvalidBy}
+use Rattle.bech32_decode.specs.Refusals.{IsValidBy, IsInvalidBy, IsChecksumRefusal}
 use Rattle.bech32_decode.specs.Segwit.{IsSegwitData, IsDataRefusal}
 use Rattle.bech32_decode.specs.declared.address.SegwitHrpstring.{SegwitHrpstring}
 use Rattle.bech32_decode.specs.declared.checked.CheckedHrpstring.{CheckedHrpstring}
@@ -24,15 +24,40 @@ pub record IsSegwitOf (c : CheckedHrpstring) (a : SegwitHrpstring) : Type 0 wher
   pub characters : address_data a ≡ drop 1 (checked_data c)
   pub lawful : IsSegwitData (checked_length c) (address_version a) (elements_of (address_data a))
 
--- the text is accepted by the checksum of its version, and has these parts
-pub record IsReadAs (code : Fe32 → Code) (text : List ℕ) (a : SegwitHrpstring) : Type 0 where
+-- these characters before a checksum are a version and the characters of a program, by the rules of
+-- segwit addresses, in a text of n characters
+pub record IsDataOf (n : ℕ) (checked : List ℕ)
+    (version : Fe32) (program : List ℕ) : Type 0 where
+  pub elements : elements_of checked ≡ version ∷ elements_of program
+  pub characters : program ≡ drop 1 checked
+  pub lawful : IsSegwitData n version (elements_of program)
+
+-- the text is accepted by the checksum of this version, and has this human-readable part and these
+-- characters of a program
+pub record IsReadIn (code : Fe32 → Code)
+    (text hrp : List ℕ) (version : Fe32) (program : List ℕ) : Type 0 where
   pub data_part : List ℕ
-  pub accepted : IsAccepted (code (address_version a)) text (address_part a) data_part
+  pub accepted : IsAccepted (code version) text hrp data_part
   pub checked : List ℕ
-  pub before : IsBeforeChecksum (code (address_version a)) data_part checked
-  pub elements : elements_of checked ≡ address_version a ∷ elements_of (address_data a)
-  pub characters : address_data a ≡ drop 1 checked
-  pub lawful : IsSegwitData (length text) (address_version a) (elements_of (address_data a))
+  pub before : IsBeforeChecksum (code version) data_part checked
+  pub elements : elements_of checked ≡ version ∷ elements_of program
+  pub characters : program ≡ drop 1 checked
+  pub lawful : IsSegwitData (length text) version (elements_of program)
+
+-- the text is accepted by the checksum of its version, and has these parts
+abbrev pub IsReadAs : (Fe32 → Code) → List ℕ → SegwitHrpstring → Type 0
+IsReadAs code text a = IsReadIn code text (address_part a) (address_version a) (address_data a)
+
+-- why a text with these parts is not an address by a checksum: the checksum refuses it, or what
+-- stands before it is no version and program
+abbrev pub IsUnlawfulBy :
+    Code → List ℕ → List ℕ → List ℕ → SegwitHrpstringError → Type 0
+IsUnlawfulBy code text hrp data_part e =
+    ((error : ChecksumError) × (e ≡ Checksum error)
+    × IsChecksumRefusal code (length text) hrp data_part error)
+    ⊎ (IsAccepted code text hrp data_part × (characters : List ℕ)
+    × IsBeforeChecksum code data_part characters
+    × IsDataRefusal (length text) (elements_of characters) e)
 
 -- the checksum of u is right, and a is u by the rules of segwit addresses
 pub record IsReadBy (code : Code) (u : UncheckedHrpstring) (a : SegwitHrpstring) : Type 0 where

@@ -8,6 +8,7 @@ ghost use Rattle.bech32_decode.specs.Readers.{bytes_to_come};
 
 use crate::byte_reader::ByteIter;
 use crate::data_bytes::put_data_bytes;
+use crate::reading::Reading;
 use crate::unchecked::UncheckedHrpstring;
 use crate::version::first_version;
 use bech32_checksum::{Bech32, Bech32m, Checksum};
@@ -66,6 +67,11 @@ impl<'s> SegwitHrpstring<'s> {
     {
         if s.len() > MAX_STRING_LENGTH {
             return Err(SegwitHrpstringError::TooLong(s.len()));
+        }
+        if let Some(reading) = Reading::<Bech32m>::of(s.as_bytes()) {
+            let found = reading.address()?;
+            let hrp = Hrp::of_bytes(reading.hrp);
+            return Ok(Self::of_parts(hrp, found.version, found.program));
         }
         let unchecked = UncheckedHrpstring::new(s)?;
         let version = first_version(unchecked.data_part_ascii())?;

@@ -9,15 +9,17 @@ ghost use Rattle.bech32_decode.specs.Text.{IsInGrammar};
 ghost use Rattle.bech32_decode.specs.Version.{version_of};
 
 use crate::address::SegwitHrpstring;
+use crate::address_data::{address_data, validate_padding, validate_program_length};
 use crate::byte_reader::ByteIter;
 use crate::data_bytes::put_data_bytes;
 use crate::reader::AsciiToFe32Iter;
+use crate::reading::Reading;
 use crate::unchecked::UncheckedHrpstring;
-use crate::version::{first_version, version_in};
+use crate::version::version_in;
 use bech32_checksum::Checksum;
 use bech32_gf::gf32::Fe32;
 use bech32_hrp::Hrp;
-use bech32_refusals::segwit::{self, MAX_STRING_LENGTH, WitnessLengthError};
+use bech32_refusals::segwit::WitnessLengthError;
 use bech32_refusals::{CheckedHrpstringError, PaddingError, SegwitHrpstringError};
 
 /// A text in its parts: the human-readable part, and the data part without its checksum. It borrows
@@ -55,6 +57,10 @@ impl<'s> CheckedHrpstring<'s> {
             (λ c. IsAcceptedAs Ck.code s.now c)
             (λ e. IsCheckedRefusal Ck.code s.now e) }
     {
+        if let Some(reading) = Reading::<Ck>::of(s.as_bytes()) {
+            reading.validate()?;
+            return Ok(reading.checked());
+        }
         let unchecked = UncheckedHrpstring::new(s)?;
         let checked = unchecked.validate_and_remove_checksum::<Ck>()?;
         Ok(checked)
@@ -167,17 +173,8 @@ impl<'s> CheckedHrpstring<'s> {
             (λ e.
             IsDataRefusal (checked_length self.entry) (elements_of (checked_data self.entry)) e) }
     {
-        if self.ascii.is_empty() {
-            return Err(SegwitHrpstringError::NoData);
-        }
-        if self.hrpstring_length > MAX_STRING_LENGTH {
-            return Err(SegwitHrpstringError::TooLong(self.hrpstring_length));
-        }
-        let version = first_version(self.ascii)?;
-        let program = Self::of_parts(self.hrp, &self.ascii[1..], self.hrpstring_length);
-        program.validate_segwit_padding()?;
-        program.validate_witness_program_length(version)?;
-        Ok(SegwitHrpstring::of_parts(self.hrp, version, program.ascii))
+        let found = address_data(self.hrpstring_length, self.ascii)?;
+        Ok(SegwitHrpstring::of_parts(self.hrp, found.version, found.program))
     }
 
     /// Tests the padding: the bits of the data part behind its last whole byte (BIP-173, Segwit
@@ -191,17 +188,7 @@ impl<'s> CheckedHrpstring<'s> {
             (λ _. IsPadded (elements_of (checked_data self.now)))
             (λ e. IsPaddingRefusal (elements_of (checked_data self.now)) e) }
     {
-        let Some(last) = self.ascii.last() else {
-            return Ok(());
-        };
-        let count = self.ascii.len() % 8 * 5 % 8;
-        if count > 4 {
-            return Err(PaddingError::TooMuch);
-        }
-        if Fe32::from_char_unchecked(*last).to_u8() % (1 << count) != 0 {
-            return Err(PaddingError::NonZero);
-        }
-        Ok(())
+        validate_padding(self.ascii)
     }
 
     /// Tests how many bytes the data part has, as the program of a witness version, which must have
@@ -218,6 +205,6 @@ impl<'s> CheckedHrpstring<'s> {
             (λ _. IsProgramLength witness_version (length (checked_bytes self.now)))
             (λ e. IsLengthRefusal witness_version (length (checked_bytes self.now)) e) }
     {
-        segwit::validate_witness_program_length(self.byte_iter().len(), witness_version)
+        validate_program_length(self.ascii, witness_version)
     }
 }

@@ -6,27 +6,7 @@ ghost use Rattle.bech32_gf.specs.Alphabet.{is_data};
 ghost use Rattle.bech32_gf.specs.Fe32.{elements_of};
 
 use crate::byte_reader::ByteIter;
-use bech32_bits::groups::five_bytes;
-use bech32_gf::gf32::Fe32;
-
-// The elements of the first eight characters.
-#[inline]
-pub(crate) fn first_eight(characters: &[u8]) -> [Fe32; 8]
-    requires data { is_data characters.now ≡ true }
-    requires enough { 8 ≤ length characters.now }
-    ensures { result ≡ elements_of (take 8 characters.now) }
-{
-    [
-        Fe32::from_char_unchecked(characters[0]),
-        Fe32::from_char_unchecked(characters[1]),
-        Fe32::from_char_unchecked(characters[2]),
-        Fe32::from_char_unchecked(characters[3]),
-        Fe32::from_char_unchecked(characters[4]),
-        Fe32::from_char_unchecked(characters[5]),
-        Fe32::from_char_unchecked(characters[6]),
-        Fe32::from_char_unchecked(characters[7]),
-    ]
-}
+use bech32_places::word_of_eight;
 
 // Puts five bytes into a buffer, from a place on, one after another: a copy of the slice would ask
 // whether the two overlap.
@@ -52,7 +32,18 @@ fn put_group(characters: &[u8], at: usize, buffer: &mut [u8])
     ensures { buffer.new ≡ take at buffer.old
         ++ (to_bytes (elements_of (take 8 characters.now)) ++ drop (at + 5) buffer.old) }
 {
-    put_five(five_bytes(first_eight(characters)), at, buffer);
+    let word = word_of_eight(characters);
+    put_five(
+        [
+            (word / 0x1_0000_0000 % 256) as u8,
+            (word / 0x100_0000 % 256) as u8,
+            (word / 0x1_0000 % 256) as u8,
+            (word / 0x100 % 256) as u8,
+            (word % 256) as u8,
+        ],
+        at,
+        buffer,
+    );
 }
 
 // Puts the bytes of as many groups of eight characters as there are at the front of a buffer.
@@ -85,10 +76,18 @@ fn put_rest(characters: &[u8], at: usize, buffer: &mut [u8]) -> usize
     count
 }
 
-// Puts the bytes of the elements of characters, in either case, at the front of a buffer that has
-// room for them, and returns how many they are; a last part shorter than eight bits is dropped
-// (BIP-173, Segwit address format).
-pub(crate) fn put_data_bytes(characters: &[u8], buffer: &mut [u8]) -> usize
+/// How many bytes the elements of characters have; a last part shorter than eight bits does not count.
+#[inline]
+pub fn data_bytes_count(characters: &[u8]) -> usize
+    ensures { result ≡ length (to_bytes (elements_of characters.now)) }
+{
+    characters.len() / 8 * 5 + characters.len() % 8 * 5 / 8
+}
+
+/// Puts the bytes of the elements of characters, in either case, at the front of a buffer that has
+/// room for them, and returns how many they are; a last part shorter than eight bits is dropped
+/// (BIP-173, Segwit address format).
+pub fn put_data_bytes(characters: &[u8], buffer: &mut [u8]) -> usize
     requires data { is_data characters.now ≡ true }
     requires room { length (to_bytes (elements_of characters.now)) ≤ length buffer.old }
     ensures count { result ≡ length (to_bytes (elements_of characters.now)) }

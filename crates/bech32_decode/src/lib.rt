@@ -4,23 +4,30 @@
 #![tactic(auto)]
 
 mod address;
+mod address_data;
 mod byte_reader;
 mod characters;
 mod checked;
 mod data_bytes;
 mod either;
+mod part_cases;
 mod reader;
+mod reading;
 mod residue;
 mod unchecked;
+mod validation;
 mod version;
 
 pub use address::SegwitHrpstring;
+pub use address_data::AddressData;
 pub use bech32_refusals::{
     CharError, CheckedHrpstringError, ChecksumError, CodeLengthError, InvalidResidueError,
     PaddingError, SegwitCodeLengthError, SegwitHrpstringError, UncheckedHrpstringError, segwit,
 };
 pub use byte_reader::ByteIter;
 pub use checked::CheckedHrpstring;
+pub use data_bytes::{data_bytes_count, put_data_bytes};
 pub use either::validate_either;
 pub use reader::AsciiToFe32Iter;
+pub use reading::Reading;
 pub use unchecked::UncheckedHrpstring;

@@ -7,10 +7,10 @@ ghost use Rattle.bech32_checksum.specs.Code.{IsResidueAfter, IsResidueOf};
 ghost use Rattle.bech32_checksum.specs.TextPolynomial.{text_polynomial};
 ghost use Rattle.bech32_hrp.specs.HrpBytes.{hrp_bytes};
 
-use crate::data_bytes::first_eight;
 use crate::reader::AsciiToFe32Iter;
 use bech32_checksum::{Checksum, Engine};
 use bech32_hrp::Hrp;
+use bech32_places::word_of_eight;
 
 // Hands the elements of characters to an engine, eight at a time, and returns the characters that
 // are left, fewer than eight.
@@ -23,7 +23,7 @@ fn input_eights<'s, Ck: Checksum>(characters: &'s [u8], engine: &mut Engine<Ck>)
 {
     let mut rest = characters;
     while rest.len() >= 8 {
-        engine.input_eight(first_eight(rest));
+        engine.input_word(word_of_eight(rest) % 0x100_0000_0000);
         rest = &rest[8..];
     }
     rest

@@ -10,13 +10,12 @@ ghost use Rattle.bech32_decode.specs.Text.{IsText, IsInGrammar, invalid_characte
 use crate::characters::{data_start, has_both_cases};
 use crate::checked::CheckedHrpstring;
 use crate::residue::residue_of;
+use crate::validation::{validate_lengths, validate_residue};
 use crate::version::version_in;
 use bech32_checksum::Checksum;
 use bech32_gf::gf32::Fe32;
 use bech32_hrp::Hrp;
-use bech32_refusals::{
-    CharError, ChecksumError, CodeLengthError, InvalidResidueError, UncheckedHrpstringError,
-};
+use bech32_refusals::{CharError, ChecksumError, UncheckedHrpstringError};
 
 /// A text in its parts: the human-readable part, and the data part with the checksum in it, which
 /// was not tested. It borrows the text.
@@ -111,6 +110,14 @@ impl<'s> UncheckedHrpstring<'s> {
         self.hrp
     }
 
+    /// The bytes of the human-readable part, in the case of the text.
+    #[inline]
+    pub fn part(&self) -> &[u8]
+        ensures { result.now ≡ unchecked_part self.now }
+    {
+        self.hrp.as_bytes()
+    }
+
     /// The characters of the data part: all of the alphabet, in the case of the text, with those of
     /// the checksum.
     #[inline]
@@ -153,16 +160,7 @@ impl<'s> UncheckedHrpstring<'s> {
             (λ _. HasLengthsOf Ck.code self.now)
             (λ e. IsInvalidBy Ck.code self.now e × ¬ HasLengthsOf Ck.code self.now) }
     {
-        if self.hrpstring_length > Ck::CODE_LENGTH {
-            return Err(ChecksumError::CodeLength(CodeLengthError {
-                encoded_length: self.hrpstring_length,
-                code_length: Ck::CODE_LENGTH,
-            }));
-        }
-        if self.data_part_ascii.len() < Ck::CHECKSUM_LENGTH {
-            return Err(ChecksumError::InvalidLength);
-        }
-        Ok(())
+        validate_lengths::<Ck>(self.hrpstring_length, self.data_part_ascii.len())
     }
 
     /// Tests the checksum of the data part. A checksum of degree 0 asks nothing of it.
@@ -181,13 +179,10 @@ impl<'s> UncheckedHrpstring<'s> {
             return Ok(());
         }
         let residue = residue_of::<Ck>(self.hrp, self.data_part_ascii);
-        if residue != Ck::TARGET_RESIDUE {
-            return Err(ChecksumError::InvalidResidue(InvalidResidueError::new(
-                &residue,
-                &Ck::TARGET_RESIDUE,
-            )));
+        match validate_residue::<Ck>(&residue) {
+            Ok(()) => Ok(()),
+            Err(e) => Err(ChecksumError::InvalidResidue(e)),
         }
-        Ok(())
     }
 
     /// Whether the checksum of the data part is right: [`Self::validate_checksum`] is `Ok`.

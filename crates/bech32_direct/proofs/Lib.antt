@@ -7,4 +7,6 @@ pub mod Powers
 pub mod Remainders
 pub mod Screen
 pub mod TakenOff
+pub mod Trimmed
 pub mod Usable
+pub mod Valued

@@ -1,12 +1,12 @@
 //! Remainders of listed patterns, by the checksum's own engine.
 
-ghost use Rattle.std.specs.Prelude.{◌≡◌, ◌≤◌, ◌<◌, ◌↔◌, ℕ, length, IsTrue};
+ghost use Rattle.std.specs.Prelude.{◌≡◌, ◌≤◌, ◌<◌, ◌↔◌, ℕ, length, IsTrue, MatchOption, ⊤};
 ghost use Rattle.bech32_checksum.specs.Code.{IsResidueOf};
 ghost use Rattle.bech32_checksum.specs.Packed.{HasDigits, digit_of};
 ghost use Rattle.bech32_direct.specs.TakenOff.{IsTakenOff};
 ghost use Rattle.bech32_gf.specs.Fe32 as fe32;
 ghost use Rattle.bech32_poly.specs.Pattern.{pattern_polynomial};
-ghost use Rattle.bech32_poly.specs.Polynomial.{coefficient};
+ghost use Rattle.bech32_poly.specs.Polynomial.{IsSamePolynomial, coefficient};
 
 use bech32_bch::{highest_place, value_at_place};
 use bech32_checksum::{Checksum, Engine, PackedFe32};
@@ -48,6 +48,32 @@ pub(crate) fn listed_coefficient(list: &[Fe32], place: usize) -> Fe32
     } else {
         Fe32::Q
     }
+}
+
+/// Whether all coefficients of a list from a place on are zero. Each is looked at, so that many can
+/// be at a time.
+#[inline]
+pub(crate) fn ends_at(list: &[Fe32], end: usize) -> bool
+    ensures { IsTrue result
+        ↔ ((n : ℕ) → end ≤ n → coefficient fe32.ops list.now n ≡ fe32.zero) }
+{
+    let mut zero = true;
+    for place in end..list.len() {
+        zero &= list[place] == Fe32::Q;
+    }
+    zero
+}
+
+/// The first coefficients of a residue, as many as the checksum has characters, where all behind
+/// them are zero.
+#[inline]
+pub(crate) fn trimmed(residue: &[Fe32], size: usize) -> Option<&[Fe32]>
+    ensures { MatchOption result ⊤ (λ list. IsSamePolynomial fe32.ops list.now residue.now) }
+{
+    if residue.len() < size || !ends_at(residue, size) {
+        return None;
+    }
+    Some(&residue[..size])
 }
 
 /// Whether a packed row has the coefficients of a list.

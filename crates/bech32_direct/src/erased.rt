@@ -1,7 +1,7 @@
 //! Erasures that use up the bound: no error stands outside them, and the elements at them solve linear
 //! equations, one for each place of the residue.
 
-ghost use Rattle.std.specs.Prelude.{◌≡◌, ◌≢◌, ◌≤◌, ◌<◌, ◌+◌, ◌*◌, ◌↔◌, ℕ, suc, length, slice_index, IfOk, IsOk, IsTrue, MatchOption};
+ghost use Rattle.std.specs.Prelude.{◌≡◌, ◌≢◌, ◌≤◌, ◌<◌, ◌+◌, ◌*◌, ℕ, suc, length, slice_index, IfOk, IsOk, MatchOption, ⊤};
 ghost use Rattle.bech32_gf.specs.Fe32 as fe32;
 ghost use Rattle.bech32_gf.specs.declared.gf32.Fe32.{Fe32 as Element};
 ghost use Rattle.bech32_checksum.specs.Code.{IsResidueOf};
@@ -16,7 +16,7 @@ ghost use Rattle.bech32_poly.specs.FieldVec.{FitsInPlace};
 ghost use Rattle.bech32_poly.specs.Pattern.{monomial};
 ghost use Rattle.bech32_poly.specs.Polynomial.{coefficient};
 
-use crate::division::{listed_coefficient, packed_coefficient};
+use crate::division::{ends_at, listed_coefficient, packed_coefficient, trimmed};
 use bech32_bch::ShortVec;
 use bech32_checksum::{Checksum, Engine, PackedFe32};
 use bech32_gf::gf32::Fe32;
@@ -92,19 +92,6 @@ fn first_of(list: &[Fe32], size: usize) -> Row
         items[place] = listed_coefficient(list, place);
     }
     Row { items }
-}
-
-// Whether all coefficients of a list from a place on are zero.
-fn ends_at(list: &[Fe32], end: usize) -> bool
-    ensures { IsTrue result
-        ↔ ((n : ℕ) → end ≤ n → coefficient fe32.ops list.now n ≡ fe32.zero) }
-{
-    for place in end..list.len() {
-        if list[place] != Fe32::Q {
-            return false;
-        }
-    }
-    true
 }
 
 // The residue, and the remainders of the powers of x at the erasures.
@@ -249,9 +236,35 @@ fn values_of(rows: &mut [Row], last: usize, size: usize) -> Option<[Fe32; MAX_RO
     Some(values)
 }
 
+// Three values one place further than their own, and zeros at all other places.
+#[inline]
+fn behind_first(found: &[Fe32; 3]) -> [Fe32; MAX_ROWS]
+    ensures { (i : ℕ) → coefficient fe32.ops result (suc i) ≡ coefficient fe32.ops found.now i }
+{
+    let mut values = [Fe32::Q; MAX_ROWS];
+    for i in 0..found.len() {
+        values[i + 1] = found[i];
+    }
+    values
+}
+
+// The values at up to three erasures, behind a first one, where the checksum has a way of its own
+// to find them; `None` says nothing.
+#[inline]
+fn looked_up_values<Ck: Checksum>(residue: &[Fe32], erasures: &[usize]) -> Option<[Fe32; MAX_ROWS]>
+    ensures { MatchOption result ⊤
+        (λ values. HasRemainder fe32.ops Ck.code.generator residue.now
+        (placed erasures.now (λ i. coefficient fe32.ops values (suc i)) (length erasures.now))) }
+{
+    let list = trimmed(residue, Ck::CHECKSUM_LENGTH)?;
+    let found = Ck::values_at(list, erasures)?;
+    Some(behind_first(&found))
+}
+
 // Values that the pattern of the erasures needs for the residue to be its remainder, behind a first
-// one; none where there are none.
-fn erased_values<Ck: Checksum>(residue: &[Fe32], erasures: &[usize]) -> Option<[Fe32; MAX_ROWS]>
+// one; none where there are none. Out of line: where they are looked up, no row is to be cleared.
+#[inline(never)]
+fn eliminated_values<Ck: Checksum>(residue: &[Fe32], erasures: &[usize]) -> Option<[Fe32; MAX_ROWS]>
     requires { length erasures.now ≤ length Ck.code.generator }
     ensures { MatchOption result
         ((value : ℕ → Element) → HasRemainder fe32.ops Ck.code.generator residue.now
@@ -267,7 +280,24 @@ fn erased_values<Ck: Checksum>(residue: &[Fe32], erasures: &[usize]) -> Option<[
     values_of(&mut rows, erasures.len(), size)
 }
 
+// The same, by the checksum's own way where it has one, else by elimination.
+#[inline]
+fn erased_values<Ck: Checksum>(residue: &[Fe32], erasures: &[usize]) -> Option<[Fe32; MAX_ROWS]>
+    requires { length erasures.now ≤ length Ck.code.generator }
+    ensures { MatchOption result
+        ((value : ℕ → Element) → HasRemainder fe32.ops Ck.code.generator residue.now
+        (placed erasures.now value (length erasures.now)) → ⊥)
+        (λ values. HasRemainder fe32.ops Ck.code.generator residue.now
+        (placed erasures.now (λ i. coefficient fe32.ops values (suc i)) (length erasures.now))) }
+{
+    match looked_up_values::<Ck>(residue, erasures) {
+        Some(values) => Some(values),
+        None => eliminated_values::<Ck>(residue, erasures),
+    }
+}
+
 // The locations, each with the value one place further than its own.
+#[inline]
 fn listing_of<A: Allocator + Copy>(
     alloc: A,
     locations: &[usize],
@@ -287,6 +317,7 @@ fn listing_of<A: Allocator + Copy>(
 
 /// The elements at the erasures, if any, that explain the residue, where the bound allows no error
 /// outside the erasures.
+#[inline(always)]
 pub fn correct_erased<Ck: Checksum, A: Allocator + Copy>(
     alloc: A,
     window: usize,

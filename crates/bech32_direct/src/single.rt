@@ -1,9 +1,10 @@
 //! One error: the location and the value that leave a residue.
 
-ghost use Rattle.std.specs.Prelude.{◌≡◌, ◌≢◌, ◌≤◌, ◌<◌, ◌↔◌, ◌∷◌, [], ℕ, length, IfOk, IsOk, IsTrue, MatchOption};
+ghost use Rattle.std.specs.Prelude.{◌≡◌, ◌≢◌, ◌≤◌, ◌<◌, ◌↔◌, ◌∷◌, [], ℕ, length, IfOk, IsOk, IsTrue, MatchOption, ⊤};
 ghost use Rattle.bech32_gf.specs.Fe32 as fe32;
 ghost use Rattle.bech32_gf.specs.declared.gf32.Fe32.{Fe32 as Element};
 ghost use Rattle.bech32_checksum.specs.Code.{IsResidueOf};
+ghost use Rattle.bech32_checksum.specs.OneError.{IsSingle};
 ghost use Rattle.bech32_checksum.specs.Packed.{HasDigits, digit_of};
 ghost use Rattle.bech32_checksum.specs.Roots.{AreLawfulRoots};
 ghost use Rattle.bech32_bch.specs.Pattern.{HasRemainder};
@@ -11,7 +12,7 @@ ghost use Rattle.bech32_direct.specs.Multiple.{IsMultiple, screen};
 ghost use Rattle.bech32_direct.specs.Question.{IsAnswerTo};
 ghost use Rattle.bech32_poly.specs.Polynomial.{coefficient};
 
-use crate::division::{listed_coefficient, packed_coefficient};
+use crate::division::{listed_coefficient, packed_coefficient, trimmed};
 use bech32_bch::ShortVec;
 use bech32_checksum::{Checksum, Engine, PackedFe32};
 use bech32_gf::gf32::Fe32;
@@ -113,8 +114,42 @@ fn single_error<Ck: Checksum>(
     None
 }
 
+// The only single error below the code length that leaves the residue, if any, where the checksum
+// has a way of its own to find it; the outer `None` says nothing.
+#[inline]
+fn looked_up_error<Ck: Checksum>(residue: &[Fe32]) -> Option<Option<(usize, Fe32)>>
+    ensures { MatchOption result ⊤
+        (λ found. IsSingle Ck.code.generator Ck.CODE_LENGTH residue.now found) }
+{
+    let list = trimmed(residue, Ck::CHECKSUM_LENGTH)?;
+    Ck::one_error(list)
+}
+
+// The location below the window at which some value has the residue as remainder, and the value: by
+// the checksum's own way where it has one, else by a search. The residue is not zero at the pivot.
+#[inline(always)]
+fn error_below<Ck: Checksum>(residue: &[Fe32], window: usize, pivot: usize) -> Option<(usize, Fe32)>
+    requires degree { 0 < length Ck.code.generator }
+    requires within { window ≤ Ck.CODE_LENGTH }
+    requires pivot { coefficient fe32.ops residue.now pivot ≢ fe32.zero }
+    ensures { MatchOption result
+        ((i : ℕ) (v : Element) → i < window
+        → HasRemainder fe32.ops Ck.code.generator residue.now ((i, v) ∷ []) → ⊥)
+        (λ e. (e.0 < window) × ((e.1 ≢ fe32.zero)
+        × HasRemainder fe32.ops Ck.code.generator residue.now (e ∷ []))) }
+{
+    let Some(single) = looked_up_error::<Ck>(residue) else {
+        return single_error::<Ck>(residue, window, pivot);
+    };
+    let Some(error) = single else {
+        return None;
+    };
+    if error.0 < window { Some(error) } else { None }
+}
+
 /// The error below the window, if any, that explains the residue, where there are no erasures and
 /// the bound is that of one error.
+#[inline(always)]
 pub fn correct_single<Ck: Checksum, A: Allocator + Copy>(
     alloc: A,
     window: usize,
@@ -134,7 +169,7 @@ pub fn correct_single<Ck: Checksum, A: Allocator + Copy>(
     if listed_coefficient(residue, pivot) == Fe32::Q {
         return Ok(Some(listing));
     }
-    let Some(error) = single_error::<Ck>(residue, window, pivot) else {
+    let Some(error) = error_below::<Ck>(residue, window, pivot) else {
         return Ok(None);
     };
     listing.push(error)?;

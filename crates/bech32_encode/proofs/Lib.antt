@@ -5,3 +5,6 @@ pub mod FrontedWalks
 pub mod TextPieces
 pub mod TextsLeft
 pub mod WholeGroups
+pub mod TwoTable
+pub mod Placed
+pub mod RowPairs

@@ -63,7 +63,7 @@ residue_then number code xs ys zs old between new e first second p h =
 -- ---- eight bytes at once
 
 -- one byte more behind those that were put from a place on
-set_next : (more old before : List ℕ) (at count next byte : ℕ) → at ≤ length old → count ≡ at + length more → count < length old → next ≡ count + 1
+pub set_next : (more old before : List ℕ) (at count next byte : ℕ) → at ≤ length old → count ≡ at + length more → count < length old → next ≡ count + 1
     → before ≡ take at old ++ (more ++ drop count old)
     → set before count byte ≡ take at old ++ ((more ++ byte ∷ []) ++ drop next old)
 set_next more old before at count next byte l is room e so_far =

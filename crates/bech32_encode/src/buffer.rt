@@ -1,6 +1,7 @@
 //! Puts whole texts into buffers.
 
-ghost use Rattle.std.specs.Prelude.{◌≡◌, ◌≤◌, ◌++◌, ℕ, List, [], ◌∷◌, Option, map, reverse, option_to_list};
+ghost use Rattle.std.specs.Prelude.{◌≡◌, ◌≤◌, ◌+◌, ◌%◌, ◌++◌, ℕ, List, [], ◌∷◌, Option, map, reverse};
+ghost use Rattle.std.specs.Prelude.{option_to_list};
 ghost use Rattle.std.specs.Prelude.{length, take, drop};
 ghost use Rattle.std.specs.Iterator.{Drains, IsFinite};
 ghost use Rattle.bech32_gf.specs.declared.gf32.Fe32.{Fe32 as Element};
@@ -13,6 +14,7 @@ ghost use Rattle.bech32_encode.specs.TextFrom.{text_front};
 ghost use Rattle.bech32_hrp.specs.HrpBytes.{hrp_bytes};
 ghost use Rattle.bech32_checksum.specs.Packed.{digits};
 
+use crate::pairs::put_two;
 use bech32_bits::ByteIterExt;
 use bech32_checksum::{Checksum, Engine, PackedFe32};
 use bech32_gf::gf32::Fe32;
@@ -35,8 +37,16 @@ pub(super) fn put_byte(byte: u8, count: usize, buffer: &mut [u8]) -> usize
 pub(super) fn put_front(hrp: &Hrp, buffer: &mut [u8]) -> usize
     ensures { PutsBehind (text_front (hrp_bytes hrp.now)) buffer.old 0 buffer.new result }
 {
+    put_front_of(hrp.as_bytes(), buffer)
+}
+
+// The same of the bytes of a human-readable part.
+#[inline]
+pub(super) fn put_front_of(part: &[u8], buffer: &mut [u8]) -> usize
+    ensures { PutsBehind (text_front part.now) buffer.old 0 buffer.new result }
+{
     let mut count = 0;
-    for b in hrp.as_bytes() {
+    for b in part {
         count = put_byte(b.to_ascii_lowercase(), count, buffer);
     }
     put_byte(b'1', count, buffer)
@@ -98,9 +108,9 @@ pub(super) fn put_elements<I: Iterator<Item = Fe32>, Ck: Checksum>(
     count
 }
 
-// Puts the characters of the lowest elements of a packed row, the highest first.
-#[inline]
-pub(super) fn put_row<R: PackedFe32>(row: &R, size: usize, count: usize, buffer: &mut [u8]) -> usize
+// Puts the characters of the lowest elements of a packed row, the highest first, one by one.
+#[inline(never)]
+fn put_row_each<R: PackedFe32>(row: &R, size: usize, count: usize, buffer: &mut [u8]) -> usize
     requires { size ≤ R.WIDTH }
     ensures { PutsBehind (map char_of_element (reverse (digits size (R.number row.now))))
         buffer.old count buffer.new result }
@@ -111,6 +121,38 @@ pub(super) fn put_row<R: PackedFe32>(row: &R, size: usize, count: usize, buffer:
         count = put_byte(fe.to_char() as u8, count, buffer);
     }
     count
+}
+
+// Puts the characters of an even number of the lowest elements of a packed row at a place, where
+// there is room for all.
+#[inline]
+fn put_row_in_room<R: PackedFe32>(row: &R, size: usize, at: usize, buffer: &mut [u8])
+    requires within { size ≤ R.WIDTH }
+    requires even { size % 2 ≡ 0 }
+    requires room { at + size ≤ length buffer.old }
+    ensures { buffer.new ≡ take at buffer.old
+        ++ (map char_of_element (reverse (digits size (R.number row.now)))
+        ++ drop (at + size) buffer.old) }
+{
+    for pair in 0..size / 2 {
+        let first = usize::from(row.unpack(size - 1 - 2 * pair));
+        let second = usize::from(row.unpack(size - 2 - 2 * pair));
+        put_two(first * 32 + second, at + 2 * pair, buffer);
+    }
+}
+
+// Puts the characters of the lowest elements of a packed row, the highest first.
+#[inline]
+pub(super) fn put_row<R: PackedFe32>(row: &R, size: usize, count: usize, buffer: &mut [u8]) -> usize
+    requires { size ≤ R.WIDTH }
+    ensures { PutsBehind (map char_of_element (reverse (digits size (R.number row.now))))
+        buffer.old count buffer.new result }
+{
+    if size == 0 || size % 2 == 1 || count > buffer.len() || buffer.len() - count < size {
+        return put_row_each(row, size, count, buffer);
+    }
+    put_row_in_room(row, size, count, buffer);
+    count + size
 }
 
 /// Puts the text of a human-readable part, a witness version where there is one, and elements at

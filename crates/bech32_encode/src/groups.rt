@@ -1,12 +1,14 @@
 //! Puts the characters of bytes into a buffer, group by group: five bytes are eight characters.
 
-ghost use Rattle.std.specs.Prelude.{◌≡◌, ◌≤◌, ◌+◌, ◌*◌, ◌/◌, ◌++◌, map, length, take, drop};
+ghost use Rattle.std.specs.Prelude.{◌≡◌, ◌≤◌, ◌<◌, ◌+◌, ◌*◌, ◌/◌, ◌%◌, ◌^◌, ◌++◌, map, length, take, drop};
 ghost use Rattle.bech32_bits.specs.Bits.{to_fes};
+ghost use Rattle.bech32_checksum.specs.Word.{word_elements};
 ghost use Rattle.bech32_checksum.specs.Code.{IsResidueAfter};
 ghost use Rattle.bech32_checksum.specs.Encoded.{char_of_element};
 ghost use Rattle.bech32_encode.specs.Buffers.{PutsBehind};
 
 use crate::buffer::{put_byte, put_rest};
+use crate::pairs::put_two;
 use bech32_bits::groups::eight_elements;
 use bech32_checksum::{Checksum, Engine};
 use bech32_gf::gf32::Fe32;
@@ -117,6 +119,77 @@ fn put_groups<Ck: Checksum>(
     count
 }
 
+// The word of the first five bytes.
+#[inline]
+fn word_of_front(bytes: &[u8]) -> u64
+    requires { 5 ≤ length bytes.now }
+    ensures below { result < 2 ^ 40 }
+    ensures elements { word_elements result ≡ to_fes (take 5 bytes.now) }
+{
+    let two = u32::from(bytes[0]) * 256 + u32::from(bytes[1]);
+    let four = (two * 256 + u32::from(bytes[2])) * 256 + u32::from(bytes[3]);
+    u64::from(four) * 256 + u64::from(bytes[4])
+}
+
+// Puts the characters of a word at a place.
+#[inline]
+fn put_word(word: u64, at: usize, buffer: &mut [u8])
+    requires { at + 8 ≤ length buffer.old }
+    ensures { buffer.new ≡ take at buffer.old
+        ++ (map char_of_element (word_elements word) ++ drop (at + 8) buffer.old) }
+{
+    put_two((word / 0x4000_0000 % 1024) as usize, at, buffer);
+    put_two((word / 0x10_0000 % 1024) as usize, at + 2, buffer);
+    put_two((word / 0x400 % 1024) as usize, at + 4, buffer);
+    put_two((word % 1024) as usize, at + 6, buffer);
+}
+
+// Puts the characters of as many groups of five bytes as there are at a place, where there is room
+// for all, and hands their elements to the engine.
+#[inline(never)]
+fn put_groups_in_room<Ck: Checksum>(
+    bytes: &[u8],
+    engine: &mut Engine<Ck>,
+    at: usize,
+    buffer: &mut [u8],
+)
+    requires { at + length bytes.now / 5 * 8 ≤ length buffer.old }
+    ensures text { buffer.new ≡ take at buffer.old
+        ++ (map char_of_element (to_fes (take (length bytes.now / 5 * 5) bytes.now))
+        ++ drop (at + length bytes.now / 5 * 8) buffer.old) }
+    ensures size { length (to_fes (take (length bytes.now / 5 * 5) bytes.now))
+        ≡ length bytes.now / 5 * 8 }
+    ensures residue { IsResidueAfter Ck.MidstateRepr.number Ck.code engine.old
+        (to_fes (take (length bytes.now / 5 * 5) bytes.now)) engine.new }
+{
+    for group in 0..bytes.len() / 5 {
+        let word = word_of_front(&bytes[group * 5..]);
+        engine.input_word(word);
+        put_word(word, at + group * 8, buffer);
+    }
+}
+
+// The same, with as many of them as there is room for. Returns how many characters there are.
+fn put_whole_groups<Ck: Checksum>(
+    bytes: &[u8],
+    engine: &mut Engine<Ck>,
+    count: usize,
+    buffer: &mut [u8],
+) -> usize
+    ensures text { PutsBehind
+        (map char_of_element (to_fes (take (length bytes.now / 5 * 5) bytes.now)))
+        buffer.old count buffer.new result }
+    ensures residue { IsResidueAfter Ck.MidstateRepr.number Ck.code engine.old
+        (to_fes (take (length bytes.now / 5 * 5) bytes.now)) engine.new }
+{
+    let groups = bytes.len() / 5;
+    if groups == 0 || count > buffer.len() || (buffer.len() - count) / 8 < groups {
+        return put_groups(bytes, engine, count, buffer);
+    }
+    put_groups_in_room(bytes, engine, count, buffer);
+    count + groups * 8
+}
+
 // Puts the characters of the elements of bytes, and hands these to the engine.
 pub(super) fn put_bytes<Ck: Checksum>(
     bytes: &[u8],
@@ -129,6 +202,6 @@ pub(super) fn put_bytes<Ck: Checksum>(
     ensures residue { IsResidueAfter Ck.MidstateRepr.number Ck.code engine.old
         (to_fes bytes.now) engine.new }
 {
-    let end = put_groups(bytes, engine, count, buffer);
+    let end = put_whole_groups(bytes, engine, count, buffer);
     put_rest(&bytes[bytes.len() / 5 * 5..], engine, end, buffer)
 }

@@ -12,6 +12,7 @@ mod bytes;
 mod checksummed;
 mod elements;
 mod groups;
+mod pairs;
 mod pieces;
 mod text;
 mod texts;
@@ -28,7 +29,10 @@ pub use checksummed::Checksummed;
 pub use elements::Fe32Iter;
 pub use pieces::TextInPieces;
 use std::marker::PhantomData;
-pub use text::{length_with_version, put_front_of_text, put_text_of_bytes, text_in, text_length};
+pub use text::{
+    length_with_version, put_front_of_text, put_text_of_bytes, put_text_of_part, text_in,
+    text_length, text_length_of_part,
+};
 pub use texts::CharIter;
 pub use version::WitnessVersionIter;
 

@@ -8,7 +8,7 @@ ghost use Rattle.bech32_encode.specs.Cased.{IsTextInCase};
 ghost use Rattle.bech32_encode.specs.TextLength.{text_length_of};
 ghost use Rattle.bech32_hrp.specs.HrpBytes.{hrp_bytes};
 
-use crate::buffer::{put_front, put_row, put_version, raise_front};
+use crate::buffer::{put_front_of, put_row, put_version, raise_front};
 use crate::groups::put_bytes;
 use bech32_checksum::{Checksum, Engine};
 use bech32_gf::gf32::Fe32;
@@ -20,10 +20,18 @@ use std::alloc::{AllocError, Allocator};
 pub fn text_length<Ck: Checksum>(hrp: &Hrp, bytes: usize) -> usize
     ensures { result ≡ text_length_of Ck.CHECKSUM_LENGTH (hrp_bytes hrp.now) (fes_count 0 bytes) }
 {
+    text_length_of_part::<Ck>(hrp.as_bytes(), bytes)
+}
+
+/// The same of the bytes of a human-readable part.
+#[inline]
+pub fn text_length_of_part<Ck: Checksum>(part: &[u8], bytes: usize) -> usize
+    ensures { result ≡ text_length_of Ck.CHECKSUM_LENGTH part.now (fes_count 0 bytes) }
+{
     let groups = (bytes / 5)
         .saturating_mul(8)
         .saturating_add((bytes % 5 * 8 + 4) / 5);
-    (hrp.len() + 1)
+    (part.len() + 1)
         .saturating_add(groups)
         .saturating_add(Ck::CHECKSUM_LENGTH)
 }
@@ -57,9 +65,23 @@ pub fn put_text_of_bytes<Ck: Checksum>(
         (option_to_list version ++ to_fes bytes.now) text
         × IsPutAsFits text buffer.old buffer.new result }
 {
+    put_text_of_part::<Ck>(hrp.as_bytes(), version, bytes, buffer)
+}
+
+/// The same of the bytes of a human-readable part.
+pub fn put_text_of_part<Ck: Checksum>(
+    part: &[u8],
+    version: Option<Fe32>,
+    bytes: &[u8],
+    buffer: &mut [u8],
+) -> usize
+    ensures { (text : List ℕ)
+        × IsEncodedText Ck.code part.now (option_to_list version ++ to_fes bytes.now) text
+        × IsPutAsFits text buffer.old buffer.new result }
+{
     let mut engine = Engine::<Ck>::new();
-    engine.input_hrp(*hrp);
-    let front = put_front(hrp, buffer);
+    engine.input_part(part);
+    let front = put_front_of(part, buffer);
     let start = put_version(version, &mut engine, front, buffer);
     let end = put_bytes(bytes, &mut engine, start, buffer);
     engine.input_target_residue();

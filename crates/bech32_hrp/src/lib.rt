@@ -9,10 +9,12 @@ ghost use Rattle.std.specs.List.{list_all};
 ghost use Rattle.std.specs.Str.{chars};
 ghost use Rattle.bech32_hrp.specs.Hrp.{is_graphic, is_lower, is_upper, padded, first_bad, IsHrp, graphic_or_x};
 
+mod cases;
 mod iter;
 mod lowercase;
 mod sink;
 
+pub use cases::{Cases, cases_of, is_part};
 pub use iter::{ByteIter, CharIter};
 pub use lowercase::{LowercaseByteIter, LowercaseCharIter};
 pub use sink::HrpSink;
@@ -93,6 +95,7 @@ pub const BCRT: Hrp = Hrp {
 };
 
 /// Whether the byte may stand in a human-readable part (BIP-173, Bech32).
+#[inline]
 fn is_graphic_byte(b: u8) -> bool
     ensures { result ≡ is_graphic b }
 {
@@ -190,6 +193,18 @@ impl Hrp {
         ensures accepts { IsOk result ↔ IsHrp text.now }
     {
         Self::read(text)
+    }
+
+    /// The part of bytes that are known to be one: what [`Hrp::parse`] reads of them.
+    #[inline]
+    pub fn of_bytes(part: &[u8]) -> Hrp
+        requires { IsHrp part.now }
+        ensures { hrp_bytes result ≡ part.now }
+    {
+        Hrp {
+            buf: pad(part),
+            size: part.len(),
+        }
     }
 
     /// The part of the bytes of a text of at most 83 bytes, with `X` for each that is not from 33 to

@@ -35,14 +35,17 @@ length-address hrp version program text is =
     let six : length (segwit_code version).generator ≡ 6 = short version in
     omega arith
 
--- an address of a lawful program can be counted
+-- an address of a lawful program can be counted, whatever stands before the separator
+pub no_more_of_part : (part program : List ℕ) → length part < 2 ^ 63 → length program ≤ 40
+    → min (address_length part program) (2 ^ 64 - 1) ≡ address_length part program
+no_more_of_part part program fits few = let elements : length (to_fes program) ≡ fes_count 0 (length program) = length-to_fes program in omega arith
+
 pub no_more_than_counted : (hrp : Hrp) (program : List ℕ) → length program ≤ 40
     → min (address_length (hrp_bytes hrp) program) (2 ^ 64 - 1) ≡ address_length (hrp_bytes hrp) program
 no_more_than_counted hrp program few =
     let part : length (hrp_bytes hrp) ≡ min hrp.size (length hrp.buf) = length-take hrp.size hrp.buf in
     let fits : hrp.size ≤ 83 = hrp.size_fits in
-    let elements : length (to_fes program) ≡ fes_count 0 (length program) = length-to_fes program in
-    omega arith
+    no_more_of_part (hrp_bytes hrp) program (omega arith) few
 
 -- the text is the address, where no rule is broken
 lawful_text : (hrp : List ℕ) (version : Fe32) (program text : List ℕ) → version.value ≤ 16 → IsProgramLength version (length program) → address_length hrp program ≤ 90

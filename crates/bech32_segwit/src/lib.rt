@@ -21,7 +21,7 @@ use bech32_decode::segwit::{
 };
 pub use bech32_decode::segwit::{VERSION_0, VERSION_1};
 use bech32_decode::{SegwitCodeLengthError, SegwitHrpstring, SegwitHrpstringError};
-use bech32_encode::{text_in, text_length};
+use bech32_encode::{text_in, text_length_of_part};
 use bech32_gf::gf32::Fe32;
 use bech32_hrp::Hrp;
 pub use error::{DecodeError, EncodeError};
@@ -102,7 +102,21 @@ pub fn encoded_length(
         (λ e. (90 < address_length (hrp_bytes hrp) «witness_program».now)
         × (e.0 ≡ min (address_length (hrp_bytes hrp) «witness_program».now) (2 ^ 64 - 1))) }
 {
-    let length = text_length::<Bech32>(&hrp, witness_program.len()).saturating_add(1);
+    encoded_length_of_part(hrp.as_bytes(), witness_program)
+}
+
+/// The same of the bytes of a human-readable part.
+#[inline]
+pub fn encoded_length_of_part(
+    part: &[u8],
+    witness_program: &[u8],
+) -> Result<usize, SegwitCodeLengthError>
+    ensures { MatchResult result
+        (λ n. (n ≡ address_length part.now «witness_program».now) × (n ≤ 90))
+        (λ e. (90 < address_length part.now «witness_program».now)
+        × (e.0 ≡ min (address_length part.now «witness_program».now) (2 ^ 64 - 1))) }
+{
+    let length = text_length_of_part::<Bech32>(part, witness_program.len()).saturating_add(1);
     if length > MAX_STRING_LENGTH {
         return Err(SegwitCodeLengthError(length));
     }

@@ -16,4 +16,6 @@ mod root;
 #[cfg(test)]
 mod segwit;
 #[cfg(test)]
+mod walks;
+#[cfg(test)]
 mod writers;

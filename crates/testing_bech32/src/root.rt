@@ -6,7 +6,7 @@ use bech32::primitives::decode::{
 use bech32::primitives::hrp;
 use bech32::{
     Bech32, Bech32m, Checksum, DecodeError, EncodeError, Fe32, Hrp, NoChecksum, decode, decode_in,
-    encode, encode_in, encoded_length,
+    encode, encode_in, encoded_length, encoded_length_of_part,
 };
 use linked_list_allocator::LocalHeap;
 use std::alloc::{AllocError, Allocator, Global};
@@ -199,8 +199,9 @@ fn counts(rt: &impl Abort, alloc: Global, size: usize, length: Result<usize, Cod
     let found = (
         encoded_length::<Bech32>(part, &data),
         encoded_length::<Bech32m>(part, &data),
+        encoded_length_of_part::<Bech32>(part.as_bytes(), &data),
     );
-    same(rt, &found, &(length, length));
+    same(rt, &found, &(length, length, length));
 }
 
 #[test]

@@ -8,7 +8,7 @@ use bech32_gf::gf32::Fe32;
 use bech32_hrp::{self as hrp, Hrp};
 use bech32_segwit::{
     DecodeError, EncodeError, VERSION_0, VERSION_1, decode, decode_in, encode, encode_in,
-    encode_v0, encode_v0_in, encode_v1, encode_v1_in, encoded_length,
+    encode_v0, encode_v0_in, encode_v1, encode_v1_in, encoded_length, encoded_length_of_part,
 };
 use linked_list_allocator::LocalHeap;
 use std::alloc::{AllocError, Allocator, Global};
@@ -151,6 +151,8 @@ fn counts(
     for version in [VERSION_0, VERSION_1, Fe32::L] {
         same(rt, &encoded_length(part, version, &program), &length);
     }
+    let found = encoded_length_of_part(part.as_bytes(), &program);
+    same(rt, &found, &length);
 }
 
 #[test]

@@ -12,6 +12,8 @@ mod detection_memory;
 #[cfg(test)]
 mod listed;
 #[cfg(test)]
+mod looked_up;
+#[cfg(test)]
 mod memory;
 #[cfg(test)]
 mod near_texts;

@@ -1,4 +1,4 @@
-use Rattle.std.proofs.Common.{ℕ, ◌<◌, ◌≤◌, ◌∙◌, length, set, ap, arith}
+use Rattle.std.proofs.Common.{ℕ, ◌<◌, ◌∙◌, length, set, ap, arith}
 use Rattle.bech32_gf.specs.Fe32.{value}
 use Rattle.bech32_gf.specs.declared.gf32.Fe32.{Fe32}
 use Rattle.bech32_calls.proofs.Listings.{put_listed, put_locations, put_more}

@@ -1,21 +1,20 @@
-use Rattle.std.proofs.Common.{◌∙◌, ap, arith, length, sym}
-use Rattle.bech32_gf.specs.Fe32.{elements_of}
-use Rattle.bech32_bits.specs.Bits.{to_bytes}
-use Rattle.bech32_hrp.specs.HrpBytes.{hrp_bytes}
-use Rattle.bech32_calls.proofs.Puts.{put-same, put-counted}
+use Rattle.std.proofs.Common.{length}
+use Rattle.std.proofs.lemmas.Result.{err_from_is_err_and}
+use Rattle.bech32_calls.specs.Decode.{IsReadFault}
+use Rattle.bech32_calls.specs.declared.refusal.Refusal.TheVariants.{Checksum}
+use Rattle.bech32_calls.proofs.Decoding.{decoded_lacks, refused_either}
 use Rattle.bech32_calls.proofs.decode.decoded.Goals as goal
 
-pub returns-clause-value : goal.returns-clause-value
-returns-clause-value c =
-    let checked = c.in_ok-checked.checked in
-    let part = c.as_bytes.ensures ∙ ap hrp_bytes c.hrp-part.ensures in
-    let size = c.len-2.ensures.value in
-    let room = c.if-len-bytes.false in
-    let found = ap length c.byte_iter.ensures in
-    record {
-      part = hrp_bytes checked.hrp;
-      found = to_bytes (elements_of checked.ascii.now);
-      is_decoded = c.in_ok-checked.ensures;
-      part_put = put-same _ _ _ _ _ _ part (ap length c.as_bytes.ensures ∙ sym c.len-3.ensures.value) c.put.ensures;
-      found_put = put-counted _ _ _ _ (omega arith) c.put_bytes.ensures.count c.put_bytes.ensures.buffer;
-    }
+pub returns-in_err-validate_either-clause-refused : goal.returns-in_err-validate_either-clause-refused
+returns-in_err-validate_either-clause-refused c =
+    let p = err_from_is_err_and c.from_residual.result c.from_residual.ensures.1 in
+    let e = c.in_err-validate_either.field-0.0 in
+    let wrong : IsReadFault c.args.text.now (Checksum e) = refused_either c.args.text.now e (rw c.in-Some.ensures at c.in_err-validate_either.ensures) in
+    rw p.1 (rw p.2 wrong)
+
+pub returns-clause-refused : goal.returns-clause-refused
+returns-clause-refused c =
+    let r = c.in-Some.reading in
+    decoded_lacks c.args.text.now r.hrp.now r.data_part.now c.characters.result.now
+    (rw c.in-Some.ensures at c.in_ok-validate_either.ensures) c.characters.ensures.before
+    (length c.args.hrp.now) (length c.args.bytes.now) c.put_parts.result c.put_parts.ensures.refused

@@ -1,6 +1,5 @@
 use Rattle.std.proofs.Common.{◌++◌, arith, option_to_list}
 use Rattle.bech32_bits.specs.Bits.{to_fes}
-use Rattle.bech32_hrp.specs.HrpBytes.{hrp_bytes}
 use Rattle.bech32_encode.proofs.TextPieces.{put_whole}
 use Rattle.bech32_checksum.proofs.Uniqueness.{length-encoded}
 use Rattle.bech32_calls.proofs.encode.put_text.Goals as goal
@@ -8,9 +7,9 @@ use Rattle.bech32_calls.proofs.encode.put_text.Goals as goal
 pub returns : goal.returns
 returns g c =
     let code = g.Ck.Checksum.code in
-    let hrp = hrp_bytes c.args.hrp.now in
+    let part = c.args.part.now in
     let elements = option_to_list c.args.version ++ to_fes c.args.bytes.now in
-    let (written, is, put) = c.put_text_of_bytes.ensures in
-    let size = length-encoded code hrp elements written is in
+    let (written, is, put) = c.put_text_of_part.ensures in
+    let size = length-encoded code part elements written is in
     let room = c.requires in
-    (written, is, put_whole written c.args.text.now c.put_text_of_bytes.new.buffer c.put_text_of_bytes.result put (omega arith))
+    (written, is, put_whole written c.args.text.now c.put_text_of_part.new.buffer c.put_text_of_part.result put (omega arith))

@@ -1,7 +1,6 @@
 use Rattle.std.proofs.Common.{◌∙◌, arith}
 use Rattle.std.proofs.lemmas.Result.{err_from_is_err_and}
-use Rattle.bech32_hrp.specs.HrpBytes.{hrp_bytes}
-use Rattle.bech32_segwit.proofs.SegwitEncoding.{address_exists, no_more_than_counted}
+use Rattle.bech32_segwit.proofs.SegwitEncoding.{address_exists, no_more_of_part}
 use Rattle.bech32_calls.proofs.segwit.validate.Goals as goal
 
 pub returns-in_err-count : goal.returns-in_err-count
@@ -12,7 +11,7 @@ returns-in_err-count c =
       c.in_ok-validate_witness_version.ensures,
       c.in_ok-validate_witness_program_length.ensures,
       over.0,
-      over.1 ∙ no_more_than_counted c.args.hrp c.args.program.now c.in_ok-validate_witness_program_length.ensures.not_long,
+      over.1 ∙ no_more_of_part c.args.part.now c.args.program.now (omega arith) c.in_ok-validate_witness_program_length.ensures.not_long,
     ))
 
 pub returns-then-count-room : goal.returns-then-count-room
@@ -20,7 +19,7 @@ returns-then-count-room c =
     let counted = c.in_ok-count.ensures in
     let over = c.if-count-room.true in
     let exists =
-    address_exists (hrp_bytes c.args.hrp) c.args.version c.args.program.now c.in_ok-validate_witness_version.ensures c.in_ok-validate_witness_program_length.ensures (omega arith) in
+    address_exists c.args.part.now c.args.version c.args.program.now c.in_ok-validate_witness_version.ensures c.in_ok-validate_witness_program_length.ensures (omega arith) in
     (exists, omega arith)
 
 pub returns : goal.returns
@@ -28,5 +27,5 @@ returns c =
     let counted = c.in_ok-count.ensures in
     let room = c.if-count-room.false in
     let exists =
-    address_exists (hrp_bytes c.args.hrp) c.args.version c.args.program.now c.in_ok-validate_witness_version.ensures c.in_ok-validate_witness_program_length.ensures (omega arith) in
+    address_exists c.args.part.now c.args.version c.args.program.now c.in_ok-validate_witness_version.ensures c.in_ok-validate_witness_program_length.ensures (omega arith) in
     (exists, omega arith)

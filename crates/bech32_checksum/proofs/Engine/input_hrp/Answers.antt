@@ -1,19 +1,9 @@
-use Rattle.std.proofs.Common.{◌∙◌, ◌/◌, ◌∷◌, List, ℕ, map, ap, sym, subst, refl}
-use Rattle.bech32_gf.specs.Fe32 as fe32
-use Rattle.bech32_gf.specs.declared.gf32.Fe32.{Fe32 as Element}
-use Rattle.bech32_poly.specs.Polynomial.{appended}
-use Rattle.bech32_poly.proofs.Appended.{appended-append}
-use Rattle.bech32_checksum.specs.Code.{IsResidueOf}
-use Rattle.bech32_hrp.specs.Hrp.{lowered}
-use Rattle.bech32_hrp.specs.HrpBytes.{hrp_bytes}
+use Rattle.std.proofs.Common.{List, ℕ, subst}
+use Rattle.bech32_checksum.specs.Code.{IsResidueAfter}
+use Rattle.bech32_checksum.specs.TextPolynomial.{hrp_elements}
 use Rattle.bech32_checksum.proofs.Engine.input_hrp.Goals as goal
 
 pub returns : goal.returns
-returns g c p h =
-    let high = map (λ (b : ℕ). fe32.element (b / 32)) (lowered (hrp_bytes c.args.hrp)) in
-    let low = map fe32.element (lowered (hrp_bytes c.args.hrp)) in
-    let first = rw c.as_bytes.ensures at (c.input_high_bits.ensures p h) in
-    let second = c.input_fe.ensures (appended p high) first in
-    let third = rw c.as_bytes-2.ensures at (c.input_low_bits.ensures _ second) in
-    let same = ap (λ (e : Element). appended (e ∷ appended p high) low) (fe32.path _ fe32.zero refl) ∙ sym (appended-append p high (fe32.zero ∷ low)) in
-    subst (λ (r : List Element). IsResidueOf g.Ck.MidstateRepr.PackedFe32.number g.Ck.Checksum.code c.input_low_bits.new.self r) same third
+returns g c =
+    subst (λ (l : List ℕ). IsResidueAfter g.Ck.MidstateRepr.PackedFe32.number g.Ck.Checksum.code c.args.self.now (hrp_elements l) c.input_part.new.self)
+    c.as_bytes.ensures c.input_part.ensures

@@ -5,7 +5,7 @@ use Rattle.bech32_checksum.proofs.Digits.{length-tabulate}
 use Rattle.bech32_decode.specs.Refusals.{IsInvalidBy, IsValidBy}
 use Rattle.bech32_refusals.specs.ResidueRows.{residue_of}
 use Rattle.bech32_refusals.specs.declared.error.ChecksumError.TheVariants.{InvalidResidue}
-use Rattle.bech32_correction.proofs.Outcomes.{accepted-from_valid, corrector_there, inside_code, listed, none_listed, of_residue, some_degree}
+use Rattle.bech32_correction.proofs.Outcomes.{accepted-from_valid, corrector_of, inside_code, of_residue, refused_for, some_degree}
 use Rattle.bech32_correction.proofs.correcting.listing_of_unchecked.Goals as goal
 
 pub new-corrector-requires : goal.new-corrector-requires
@@ -19,43 +19,29 @@ new-corrector-requires g c =
       search rules,
       (
         g.met.Ck.Checksum.lawful_law.0 g.met.Ck.CorrectingChecksum.lawful_roots (some_degree code u error size invalid),
-        inside_code code u error g.Ck.Checksum.CODE_LENGTH (length c.data_part_ascii-window.result.now) invalid g.met.Ck.Checksum.code_length_law (ap length c.data_part_ascii-window.ensures.value),
+        inside_code code _ _ g.Ck.Checksum.CODE_LENGTH (length c.data_part_ascii-window.result.now) u.fits invalid.0 g.met.Ck.Checksum.code_length_law (ap length c.data_part_ascii-window.ensures.value),
       ),
     )
-
-pub listing_with-requires : goal.listing_with-requires
-listing_with-requires g c = search rules
 
 pub returns-in_default-clause-value : goal.returns-in_default-clause-value
 returns-in_default-clause-value g c = λ text is.
     let valid : IsValidBy g.Ck.Checksum.code c.args.unchecked.now = rw c.in_default.is at c.in_ok-error.ensures in
     accepted-from_valid g.Ck.Checksum.code text c.args.unchecked.now is valid
 
-pub returns-in_err-listing-clause-value : goal.returns-in_err-listing-clause-value
-returns-in_err-listing-clause-value g c =
+pub returns-in_err-listing_by-clause-value : goal.returns-in_err-listing_by-clause-value
+returns-in_err-listing_by-clause-value g c =
     let error = c.in-Some.error in
     let invalid : IsInvalidBy g.Ck.Checksum.code c.args.unchecked.now (InvalidResidue error) = rw c.in-Some.is at c.in_ok-error.ensures in
-    let p = err_from_is_err_and c.from_residual-in_err-listing.result c.from_residual-in_err-listing.ensures.1 in
+    let p = err_from_is_err_and c.from_residual-in_err-listing_by.result c.from_residual-in_err-listing_by.ensures.1 in
     rw p.1 (rw p.2 (error, invalid))
 
-pub returns-in-Some-2-clause-value : goal.returns-in-Some-2-clause-value
-returns-in-Some-2-clause-value g c = λ text is.
+pub returns-clause-value : goal.returns-clause-value
+returns-clause-value g c = λ text is.
     let code = g.Ck.Checksum.code in
     let u = c.args.unchecked.now in
     let error = c.in-Some.error in
     let window : ℕ = length c.data_part_ascii-window.result.now in
     let invalid : IsInvalidBy code u (InvalidResidue error) = rw c.in-Some.is at c.in_ok-error.ensures in
-    let corrects = corrector_there code text u error window c.new-corrector.result is invalid (ap length c.data_part_ascii-window.ensures.value)
+    let corrects = corrector_of code text _ _ (residue_of error) window c.new-corrector.result (refused_for code text u error is invalid) (ap length c.data_part_ascii-window.ensures.value)
     (of_residue c.residue.result (residue_of error) window c.new-corrector.result c.new-corrector.ensures c.residue.ensures) in
-    listed code g.Ck.Checksum.bound text c.args.erasures.now c.new-corrector.result c.in-Some-2.listing corrects (rw c.in-Some-2.is at c.in_ok-listing.ensures.answer)
-
-pub returns-in-None-clause-value : goal.returns-in-None-clause-value
-returns-in-None-clause-value g c = λ text is.
-    let code = g.Ck.Checksum.code in
-    let u = c.args.unchecked.now in
-    let error = c.in-Some.error in
-    let window : ℕ = length c.data_part_ascii-window.result.now in
-    let invalid : IsInvalidBy code u (InvalidResidue error) = rw c.in-Some.is at c.in_ok-error.ensures in
-    let corrects = corrector_there code text u error window c.new-corrector.result is invalid (ap length c.data_part_ascii-window.ensures.value)
-    (of_residue c.residue.result (residue_of error) window c.new-corrector.result c.new-corrector.ensures c.residue.ensures) in
-    (none_listed code g.Ck.Checksum.bound text c.args.erasures.now c.new-corrector.result corrects (rw c.in-None.is at c.in_ok-listing.ensures.answer), corrects)
+    c.in_ok-listing_by.ensures.value text corrects

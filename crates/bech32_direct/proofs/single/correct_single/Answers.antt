@@ -39,7 +39,7 @@ returns-in_default-clause-answer g c = λ e h.
     let residue = c.args.residue.now in
     let some : coefficient fe32.ops residue c.pivot_of-pivot.result ≢ fe32.zero =
     λ z. not_zero_by_eq c.listed_coefficient.result c.eq.result c.eq.ensures c.if-eq.false (c.listed_coefficient.ensures ∙ z) in
-    no_pattern g.Ck.Checksum.code.generator residue c.pivot_of-pivot.result c.args.window g.Ck.Checksum.bound c.requires.most some (rw c.in_default.is at c.single_error.ensures) e h
+    no_pattern g.Ck.Checksum.code.generator residue c.pivot_of-pivot.result c.args.window g.Ck.Checksum.bound c.requires.most some (rw c.in_default.is at c.error_below.ensures) e h
 
 pub returns-clause-answer : goal.returns-clause-answer
 returns-clause-answer g c =
@@ -56,7 +56,7 @@ returns-clause-answer g c =
     c.requires.lawful (subst (λ n. c.args.window ≤ n) (sym g.met.Ck.Checksum.code_length_law) c.requires.within) in
     let size : length code.target ≡ length code.generator =
     ap (λ (k : Code). length k.target) g.met.Ck.Checksum.code_law ∙ length-tabulate g.Ck.Checksum.CHECKSUM_LENGTH _ ∙ sym g.met.Ck.Checksum.degree_law in
-    let found = rw c.in-Some.is at c.single_error.ensures in
+    let found = rw c.in-Some.is at c.error_below.ensures in
     let listed : c.push.new.self ≡ c.in-Some.error ∷ [] = c.in_ok-push.ensures.ok ∙ ap (λ (l : List (ℕ × Fe32)). l ++ c.in-Some.error ∷ []) c.new-listing.ensures in
     subst (λ (l : List (ℕ × Fe32)). IsOnlyListing code g.Ck.Checksum.bound (record { residue = residue; window = c.args.window; erasures = [] }) l) (sym listed)
     (only_listing g.met.Ck.CorrectionField.Arithmetic.laws into apart g.Ck.Checksum.ROOT_GENERATOR g.Ck.Checksum.ROOT_EXPONENTS_START g.Ck.Checksum.bound c.args.window code residue [] (error ∷ [])

@@ -1,52 +1,7 @@
-use Rattle.std.proofs.Common.{◌≡◌, ◌∙◌, ℕ, true, false, List, length, drop, refl, sym, ap, subst, eq-eqb}
-use Rattle.std.proofs.lemmas.List.{take_rest, length-map}
-use Rattle.std.proofs.lemmas.Result.{err_from_is_err_and}
-use Rattle.bech32_bits.specs.Bits.{to_bytes}
-use Rattle.bech32_gf.specs.Fe32.{element_of, elements_of}
-use Rattle.bech32_refusals.specs.SegwitRules.{IsLengthRefusal}
-use Rattle.bech32_decode.specs.SegwitPadding.{IsPaddingRefusal, IsPadded}
 use Rattle.bech32_decode.proofs.Addresses.{segwit-of}
 use Rattle.bech32_decode.proofs.checked.CheckedHrpstring.validate_segwit.Goals as goal
 
-pub returns-then-self-gt-MAX_STRING_LENGTH : goal.returns-then-self-gt-MAX_STRING_LENGTH
-returns-then-self-gt-MAX_STRING_LENGTH c = (
-  λ none.
-      let size : length (elements_of c.args.self.ascii.now) ≡ length c.args.self.ascii.now = length-map c.args.self.ascii.now element_of in
-      let empty : length c.args.self.ascii.now ≡ 0 = sym size ∙ ap length none in
-      let yes_ : c.is_empty.result ≡ true = c.is_empty.ensures ∙ eq-eqb (length c.args.self.ascii.now) 0 empty in
-      let no_ : c.is_empty.result ≡ false = c.if-is_empty.false in
-      absurd cc,
-  c.if-self-gt-MAX_STRING_LENGTH.true,
-  refl,
-)
-
-pub returns-in_err-validate_segwit_padding : goal.returns-in_err-validate_segwit_padding
-returns-in_err-validate_segwit_padding c =
-    let p = err_from_is_err_and c.from_residual-in_err-validate_segwit_padding.result c.from_residual-in_err-validate_segwit_padding.ensures.1 in
-    let rest = c.of_parts-program.ensures.characters ∙ take_rest c.args.self.ascii.now 1 in
-    rw p.1 (rw p.2 (
-      c.if-self-gt-MAX_STRING_LENGTH.false,
-      c.in_ok-version.version,
-      elements_of (drop 1 c.args.self.ascii.now),
-      c.in_ok-version.ensures,
-      subst (λ (l : List ℕ). IsPaddingRefusal (elements_of l) c.in_err-validate_segwit_padding.field-0.0) rest c.in_err-validate_segwit_padding.ensures,
-    ))
-
-pub returns-in_err-validate_witness_program_length : goal.returns-in_err-validate_witness_program_length
-returns-in_err-validate_witness_program_length c =
-    let p = err_from_is_err_and c.from_residual-in_err-validate_witness_program_length.result c.from_residual-in_err-validate_witness_program_length.ensures.1 in
-    let rest = c.of_parts-program.ensures.characters ∙ take_rest c.args.self.ascii.now 1 in
-    rw p.1 (rw p.2 (
-      c.if-self-gt-MAX_STRING_LENGTH.false,
-      c.in_ok-version.version,
-      elements_of (drop 1 c.args.self.ascii.now),
-      c.in_ok-version.ensures,
-      subst (λ (l : List ℕ). IsPadded (elements_of l)) rest c.in_ok-validate_segwit_padding.ensures,
-      subst (λ (l : List ℕ). IsLengthRefusal c.in_ok-version.version (length (to_bytes (elements_of l))) c.in_err-validate_witness_program_length.field-0.0) rest c.in_err-validate_witness_program_length.ensures,
-    ))
-
 pub returns : goal.returns
 returns c =
-    let rest = c.of_parts-program.ensures.characters ∙ take_rest c.args.self.ascii.now 1 in
-    segwit-of c.args.self c.of_parts.result c.in_ok-version.version c.of_parts-program.result.ascii.now c.of_parts.ensures.hrp c.of_parts.ensures.version c.of_parts.ensures.characters
-    rest c.if-self-gt-MAX_STRING_LENGTH.false c.in_ok-version.ensures c.in_ok-validate_segwit_padding.ensures c.in_ok-validate_witness_program_length.ensures
+    segwit-of c.args.self c.of_parts.result c.in_ok-found.found.version c.in_ok-found.found.program.now c.of_parts.ensures.hrp c.of_parts.ensures.version c.of_parts.ensures.characters
+    c.in_ok-found.ensures

@@ -1,0 +1,39 @@
+use Rattle.std.proofs.Common.{length}
+use Rattle.std.proofs.lemmas.Result.{err_from_is_err_and}
+use Rattle.bech32_calls.specs.declared.refusal.Refusal.TheVariants.{Checksum}
+use Rattle.bech32_calls.proofs.Mending.{mended_by_nothing, unread-from_lengths, unread_put}
+use Rattle.bech32_calls.proofs.correct.corrected_by.Goals as goal
+
+pub returns-in_err-validate_lengths-clause-refused : goal.returns-in_err-validate_lengths-clause-refused
+returns-in_err-validate_lengths-clause-refused g c =
+    let text = c.args.text.now in
+    let code = g.Ck.Checksum.code in
+    let r = c.in-Some.reading in
+    let e = c.in_err-validate_lengths.field-0.0 in
+    let refused = rw c.in-Some.ensures at c.in_err-validate_lengths.ensures in
+    let p = err_from_is_err_and c.from_residual.result c.from_residual.ensures.1 in
+    rw p.1 (rw p.2 (unread_put text c.args.erasures.now (length c.args.locations.now) (length c.args.values.now) (length c.args.mended.now) (Checksum e) code
+    (unread-from_lengths text r.hrp.now r.data_part.now code e (rw c.in-Some.ensures at r.is_reading.grammar) refused.0 refused.1)))
+
+pub put_correction-requires : goal.put_correction-requires
+put_correction-requires g c =
+    let r = c.in-Some.reading in (
+      c.args.erasures.now,
+      g.Ck.Checksum.code,
+      mended_by_nothing c.args.text.now c.args.erasures.now r.hrp.now r.data_part.now g.Ck.Checksum.code (rw c.in-Some.ensures at r.is_reading.grammar)
+          (rw c.in-Some.ensures at c.in_ok-validate_lengths.ensures) (c.has_target.ensures.0 c.if-has_target.true),
+    )
+
+pub returns-then-has_target-clause-value : goal.returns-then-has_target-clause-value
+returns-then-has_target-clause-value g c =
+    let r = c.in-Some.reading in
+    c.put_correction.ensures.value c.args.erasures.now g.Ck.Checksum.code
+    (mended_by_nothing c.args.text.now c.args.erasures.now r.hrp.now r.data_part.now g.Ck.Checksum.code (rw c.in-Some.ensures at r.is_reading.grammar)
+    (rw c.in-Some.ensures at c.in_ok-validate_lengths.ensures) (c.has_target.ensures.0 c.if-has_target.true))
+
+pub returns-then-has_target-clause-refused : goal.returns-then-has_target-clause-refused
+returns-then-has_target-clause-refused g c =
+    let r = c.in-Some.reading in
+    c.put_correction.ensures.refused c.args.erasures.now g.Ck.Checksum.code
+    (mended_by_nothing c.args.text.now c.args.erasures.now r.hrp.now r.data_part.now g.Ck.Checksum.code (rw c.in-Some.ensures at r.is_reading.grammar)
+    (rw c.in-Some.ensures at c.in_ok-validate_lengths.ensures) (c.has_target.ensures.0 c.if-has_target.true))

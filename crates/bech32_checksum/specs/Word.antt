@@ -1,0 +1,16 @@
+-- Words of 40 bits as eight elements.
+use Rattle.std.specs.Prelude.{ℕ, ◌/◌, ◌^◌, List, [], ◌∷◌}
+use Rattle.bech32_gf.specs.Fe32.{element}
+use Rattle.bech32_gf.specs.declared.gf32.Fe32.{Fe32}
+
+-- the eight elements of a word's lowest forty bits, the highest first
+abbrev pub word_elements : ℕ → List Fe32
+word_elements n =
+    element (n / 2 ^ 35) ∷ element (n / 2 ^ 30) ∷ element (n / 2 ^ 25) ∷ element (n / 2 ^ 20)
+    ∷ element (n / 2 ^ 15) ∷ element (n / 2 ^ 10) ∷ element (n / 2 ^ 5) ∷ element (n / 2 ^ 0) ∷ []
+
+-- the six elements of a row's lowest thirty bits, the highest first
+abbrev pub row_elements : ℕ → List Fe32
+row_elements n =
+    element (n / 2 ^ 25) ∷ element (n / 2 ^ 20) ∷ element (n / 2 ^ 15) ∷ element (n / 2 ^ 10)
+    ∷ element (n / 2 ^ 5) ∷ element (n / 2 ^ 0) ∷ []

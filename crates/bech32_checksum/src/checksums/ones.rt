@@ -1,0 +1,79 @@
+//! One error by the generator of BIP-173, looked up by its remainder.
+
+ghost use Rattle.std.specs.Prelude.{◌≡◌, ◌≢◌, ◌<◌, ◌^◌, length, MatchOption, ⊤};
+ghost use Rattle.bech32_gf.specs.Fe32 as fe32;
+ghost use Rattle.bech32_gf.specs.Fe32.{value};
+ghost use Rattle.bech32_poly.specs.Polynomial.{scale};
+ghost use Rattle.bech32_checksum.specs.Code.{bech32};
+ghost use Rattle.bech32_checksum.specs.OneError.{IsSingle, leading, packed};
+
+use super::locations::{ANSWERS, INVERSES, KEYS, MOVES, PRODUCTS_OF_TWO};
+use bech32_gf::gf32::Fe32;
+
+// The first element that is not zero; zero where there is none.
+#[inline]
+fn leading_of(list: &[Fe32]) -> Fe32
+    ensures { result ≡ leading list.now }
+{
+    for element in list {
+        if *element != Fe32::Q {
+            return *element;
+        }
+    }
+    Fe32::Q
+}
+
+// The value of a product, by a table.
+#[inline]
+pub(super) fn product_value(a: Fe32, b: Fe32) -> u32
+    ensures value { result ≡ value (fe32.mul a b) }
+    ensures below { result < 32 }
+{
+    PRODUCTS_OF_TWO[32 * a.to_u8() as usize + b.to_u8() as usize] as u32
+}
+
+// The inverse of an element that is not zero, by a table.
+#[inline]
+fn inverse_of(a: Fe32) -> Fe32
+    requires { a ≢ fe32.zero }
+    ensures { result ≡ fe32.inv a }
+{
+    Fe32::from_low_bits(INVERSES[a.to_u8() as usize])
+}
+
+// Six elements, each times a factor, packed, the first one lowest.
+#[inline]
+fn packed_multiple(list: &[Fe32], factor: Fe32) -> u32
+    requires { length list.now ≡ 6 }
+    ensures value { result ≡ packed (scale fe32.ops factor list.now) }
+    ensures below { result < 2 ^ 30 }
+{
+    let fifth = product_value(factor, list[4]) + 32 * product_value(factor, list[5]);
+    let third = product_value(factor, list[2]) + 32 * (product_value(factor, list[3]) + 32 * fifth);
+    product_value(factor, list[0]) + 32 * (product_value(factor, list[1]) + 32 * third)
+}
+
+// The single error that leaves a residue; says nothing of a residue that is zero or has not six
+// elements.
+#[inline]
+pub(super) fn one_error_by_tables(residue: &[Fe32]) -> Option<Option<(usize, Fe32)>>
+    ensures { MatchOption result ⊤ (λ found. IsSingle bech32.generator 1023 residue.now found) }
+{
+    if residue.len() != 6 {
+        return None;
+    }
+    let first = leading_of(residue);
+    if first == Fe32::Q {
+        return None;
+    }
+    let key = packed_multiple(residue, inverse_of(first));
+    let hash = key as u64 * 4078033059;
+    let moved = hash / 0x4_0000_0000 + MOVES[(hash / 0x1000_0000_0000 % 512) as usize] as u64;
+    let slot = (moved % 1024) as usize;
+    if KEYS[slot] != key {
+        return Some(None);
+    }
+    let answer = ANSWERS[slot];
+    let value = product_value(first, Fe32::from_low_bits((answer % 32) as u8));
+    Some(Some(((answer / 32) as usize, Fe32::from_low_bits(value as u8))))
+}

@@ -1,0 +1,38 @@
+//! Eight elements at once as a word, by the generator of BIP-173.
+
+ghost use Rattle.std.specs.Prelude.{◌<◌, ◌^◌, ℕ};
+ghost use Rattle.bech32_checksum.specs.Code.{bech32, IsResidueAfter};
+ghost use Rattle.bech32_checksum.specs.Word.{row_elements, word_elements};
+
+use super::twos::{TWO_AT_X6, TWO_AT_X8, TWO_AT_X10, TWO_AT_X12};
+
+// The remainder after eight more elements. It is a sum: each two coefficients of the remainder before
+// are eight places higher, so that they have a table, as have the first two elements; the other six
+// are a row as they are.
+#[inline]
+pub(super) fn after_word_by_tables(residue: u32, word: u64) -> u32
+    requires residue { residue < 2 ^ 30 }
+    requires word { word < 2 ^ 40 }
+    ensures clear { result < 2 ^ 30 }
+    ensures after { IsResidueAfter (λ (n : ℕ). n) bech32 residue (word_elements word) result }
+{
+    TWO_AT_X12[(residue / 0x10_0000) as usize]
+        ^ TWO_AT_X10[(residue / 0x400 % 0x400) as usize]
+        ^ TWO_AT_X8[(residue % 0x400) as usize]
+        ^ TWO_AT_X6[(word / 0x4000_0000) as usize]
+        ^ (word % 0x4000_0000) as u32
+}
+
+// The remainder after six more elements, which stand in a row of 30 bits, the first of them highest.
+#[inline]
+pub(super) fn after_row_by_tables(residue: u32, row: u32) -> u32
+    requires residue { residue < 2 ^ 30 }
+    requires row { row < 2 ^ 30 }
+    ensures clear { result < 2 ^ 30 }
+    ensures after { IsResidueAfter (λ (n : ℕ). n) bech32 residue (row_elements row) result }
+{
+    TWO_AT_X10[(residue / 0x10_0000) as usize]
+        ^ TWO_AT_X8[(residue / 0x400 % 0x400) as usize]
+        ^ TWO_AT_X6[(residue % 0x400) as usize]
+        ^ row
+}

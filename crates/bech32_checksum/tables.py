@@ -1,0 +1,177 @@
+#!/usr/bin/env python3
+"""Writes the tables of src/checksums/, which belong to the generator of BIP-173, as `rt fmt` lays them
+out. With --check it writes nothing, names each file that differs, and ends with status 1 if one does.
+
+twos.rt, locations.rt and powers.rt are written whole; in eights.rt and products.rt, the tables alone.
+The proofs do not trust this script: they compute each entry again.
+"""
+import pathlib
+import re
+import sys
+
+FOLDER = pathlib.Path(__file__).parent / "src" / "checksums"
+# The generator's lower coefficients, packed, and their products with 2, 4, 8 and 16.
+WORDS = [0x3B6A57B2, 0x26508E6D, 0x1EA119FA, 0x3D4233DD, 0x2A1462B3]
+# Hashes the keys of the locations; found by trial. ones.rt has it too.
+MULTIPLIER = 4078033059
+
+
+def product(a, b):
+    """The product of two elements, whose values are polynomials modulo y^5 + y^3 + 1."""
+    total = 0
+    for bit in range(5):
+        if b >> bit & 1:
+            total ^= a << bit
+    for bit in (3, 2, 1, 0):
+        if total >> (bit + 5) & 1:
+            total ^= 0b101001 << bit
+    return total
+
+
+def generator_times(element):
+    """The generator's lower coefficients times an element, packed."""
+    total = 0
+    for bit in range(5):
+        if element >> bit & 1:
+            total ^= WORDS[bit]
+    return total
+
+
+def times_x(row, times=1):
+    """A packed remainder times x, so many times."""
+    for _ in range(times):
+        row = (row & 0x1FFFFFF) << 5 ^ generator_times(row >> 25)
+    return row
+
+
+def digits(row):
+    return [row >> 5 * place & 31 for place in range(6)]
+
+
+def packed(elements):
+    return sum(element << 5 * place for place, element in enumerate(elements))
+
+
+def powers():
+    rows = [1]
+    while len(rows) < 1023:
+        rows.append(times_x(rows[-1]))
+    return rows
+
+
+INVERSES = [0] + [next(b for b in range(32) if product(a, b) == 1) for a in range(1, 32)]
+
+
+def placed(keys):
+    """For each slot the location whose key stands there, and by how much each bucket is moved."""
+    buckets = {}
+    for location, key in enumerate(keys):
+        hashed = key * MULTIPLIER
+        buckets.setdefault((hashed >> 44) % 512, []).append(((hashed >> 34) % 1024, location))
+    slots, moves = [None] * 1024, [0] * 512
+    for bucket in sorted(buckets, key=lambda b: -len(buckets[b])):
+        items = buckets[bucket]
+        for move in range(1024):
+            if all(slots[(first + move) % 1024] is None for first, _ in items):
+                moves[bucket] = move
+                for first, location in items:
+                    slots[(first + move) % 1024] = location
+                break
+    free = slots.index(None)
+    slots[free] = slots[(free + 1) % 1024]
+    return slots, moves
+
+
+def filled(items):
+    """Lines of items, as many as go into 99 columns."""
+    lines, line = [], "   "
+    for item in items:
+        if len(line) + len(item) + 2 > 99:
+            lines.append(line)
+            line = "   "
+        line += f" {item},"
+    return "\n".join(lines + [line])
+
+
+def table(name, kind, items, form=str, reach="pub(super) "):
+    head = f"{reach}const {name}: [{kind}; {len(items)}] = [\n"
+    return head + filled(form(item) for item in items) + "\n];\n"
+
+
+def words(name, items, reach="pub(super) "):
+    return table(name, "u32", items, "0x{:08x}".format, reach)
+
+
+def twos():
+    text = "//! The remainders of two elements at x^6, x^8, x^10 and x^12, packed, by the generator of BIP-173.\n"
+    for power in (6, 8, 10, 12):
+        text += f"\n// The remainders of x^{power} times each two elements, packed.\n"
+        text += words(f"TWO_AT_X{power}", [times_x(two, power) for two in range(1024)])
+    return text
+
+
+def locations():
+    rows = powers()
+    scales = [INVERSES[next(digit for digit in digits(row) if digit)] for row in rows]
+    keys = [packed(product(scale, digit) for digit in digits(row)) for scale, row in zip(scales, rows)]
+    slots, moves = placed(keys)
+    return (
+        "//! Which single error leaves which remainder by the generator of BIP-173: written by tables.py.\n"
+        "\n// By how much the slots of a bucket of keys are moved, so that no two keys share one.\n"
+        + table("MOVES", "u16", moves)
+        + "\n// The key of the location in a slot: the remainder of x to its power, divided by its lowest\n"
+        "// coefficient that is not zero.\n"
+        + table("KEYS", "u32", [keys[location] for location in slots], hex)
+        + "\n// The location in a slot, times 32, and the inverse of that coefficient.\n"
+        + table("ANSWERS", "u16", [location * 32 + scales[location] for location in slots])
+        + "\n// The product of each two elements, the first one times 32 and the second added.\n"
+        + table("PRODUCTS_OF_TWO", "u8", [product(n // 32, n % 32) for n in range(1024)])
+        + "\n// The inverse of each element; of zero zero.\n"
+        + table("INVERSES", "u8", INVERSES)
+    )
+
+
+def powers_of_x():
+    return (
+        "//! The remainders of the powers of x by the generator of BIP-173: written by tables.py.\n"
+        "\n// The remainder of x to the power i at place i, packed.\n"
+        + words("POWERS_OF_X", powers())
+    )
+
+
+def with_tables(name, tables):
+    """A file with its tables of words written anew."""
+    text = (FOLDER / name).read_text(encoding="utf8")
+    for constant, items in tables.items():
+        pattern = rf"((?:pub\(super\) )?)const {constant}: \[u32; \d+\] = \[\n[^\]]*\];\n"
+        text, count = re.subn(pattern, lambda found: words(constant, items, found[1]), text)
+        if count != 1:
+            sys.exit(f"{name}: {constant} stands {count} times")
+    return text
+
+
+def main():
+    eights = {f"TIMES_X{n}": [times_x(e, n) for e in range(32)] for n in range(7, 14)}
+    texts = {
+        "twos.rt": twos(),
+        "locations.rt": locations(),
+        "powers.rt": powers_of_x(),
+        "eights.rt": with_tables("eights.rt", eights),
+        "products.rt": with_tables("products.rt", {"PRODUCTS": [generator_times(e) for e in range(32)]}),
+    }
+    check = sys.argv[1:] == ["--check"]
+    differ = False
+    for name, text in texts.items():
+        file = FOLDER / name
+        if file.exists() and file.read_text(encoding="utf8") == text:
+            continue
+        differ = True
+        if check:
+            print(file)
+        else:
+            file.write_text(text, encoding="utf8")
+    return int(check and differ)
+
+
+if __name__ == "__main__":
+    sys.exit(main())

@@ -1,0 +1,187 @@
+//! What a checksum says of a mistyped text, without memory: for checksums of at most six characters.
+
+ghost use Rattle.std.specs.Prelude.{◌≡◌, ◌≤◌, [], length, Ok, IsOk, MatchOption, MatchResult};
+ghost use Rattle.bech32_gf.specs.Fe32.{elements_of, ops};
+ghost use Rattle.bech32_poly.specs.Remainder.{IsRemainder};
+ghost use Rattle.bech32_checksum.specs.Code.{bech32, bech32m};
+ghost use Rattle.bech32_checksum.specs.TextPolynomial.{text_polynomial};
+ghost use Rattle.bech32_decode.specs.Refusals.{HasLengths};
+ghost use Rattle.bech32_corrector.specs.Given.{IsAnswerWith};
+ghost use Rattle.bech32_correction.specs.Mistyped.{HasNoListing, IsListing, IsListingOf, IsRefusal};
+ghost use Rattle.bech32_correction.specs.declared.correcting.Correction.TheVariants.{Mended, Unexplained};
+
+use crate::correcting::{Correction, Listing};
+use crate::no_memory::NoMemory;
+use crate::residue_errors::residue_error_in;
+use bech32_checksum::{Bech32, Bech32m, CorrectingChecksum};
+use bech32_corrector::listing_given;
+use bech32_decode::{Reading, UncheckedHrpstring};
+use bech32_gf::gf32::Fe32;
+use bech32_refusals::CheckedHrpstringError;
+use std::alloc::AllocError;
+use std::marker::PhantomData;
+
+// What is answered where memory was enough.
+#[inline(always)]
+fn answer_of(found: Result<Option<Listing<NoMemory>>, AllocError>) -> Option<Listing<NoMemory>>
+    requires { IsOk found }
+    ensures { found ≡ Ok result }
+{
+    match found {
+        Ok(answer) => answer,
+        Err(_) => unreachable!(),
+    }
+}
+
+/// A checksum by which texts are corrected without memory: it has at most six characters.
+pub trait CorrectsInPlace: CorrectingChecksum {
+    /// The listing that explains a residue below a window, where the given locations are erasures.
+    fn listing_of_residue(
+        residue: &[Fe32],
+        window: usize,
+        erasures: &[usize],
+    ) -> Option<Listing<NoMemory>>
+        requires { window ≤ Self.CODE_LENGTH }
+        ensures { IsAnswerWith Self.code Self.bound
+            (record { residue = residue.now; window = window; erasures = [] })
+            erasures.now result };
+}
+
+impl CorrectsInPlace for Bech32 {
+    #[inline(always)]
+    fn listing_of_residue(
+        residue: &[Fe32],
+        window: usize,
+        erasures: &[usize],
+    ) -> Option<Listing<NoMemory>> {
+        answer_of(listing_given::<Self, NoMemory>(NoMemory, window, residue, erasures, PhantomData))
+    }
+}
+
+impl CorrectsInPlace for Bech32m {
+    #[inline(always)]
+    fn listing_of_residue(
+        residue: &[Fe32],
+        window: usize,
+        erasures: &[usize],
+    ) -> Option<Listing<NoMemory>> {
+        answer_of(listing_given::<Self, NoMemory>(NoMemory, window, residue, erasures, PhantomData))
+    }
+}
+
+/// The listing that mends a text that one walk read, and that the checksum refuses for its residue,
+/// where the given locations are erasures. It takes no memory.
+#[inline(always)]
+pub fn listing_of_read<Ck: CorrectsInPlace>(
+    reading: &Reading<'_, Ck>,
+    erasures: &[usize],
+) -> Option<Listing<NoMemory>>
+    requires lengths { HasLengths Ck.code
+        (length reading.now.text.now) (length reading.now.data_part.now) }
+    requires refused { IsRemainder ops Ck.code.generator
+        (text_polynomial reading.now.hrp.now (elements_of reading.now.data_part.now))
+        Ck.code.target → ⊥ }
+    ensures { MatchOption result
+        (HasNoListing Ck.code Ck.bound reading.now.text.now erasures.now)
+        (λ listing. IsListingOf Ck.code Ck.bound
+        reading.now.text.now erasures.now listing) }
+{
+    let residue = reading.error_residue();
+    let window = reading.data_part.len();
+    Ck::listing_of_residue(&residue[..Ck::CHECKSUM_LENGTH], window, erasures)
+}
+
+// What a listing that is looked for says of a text.
+#[inline]
+fn said_by(listing: Option<Listing<NoMemory>>) -> Correction<Listing<NoMemory>>
+    ensures { MatchOption listing
+        (result ≡ Unexplained tt)
+        (λ l. result ≡ Mended l) }
+{
+    match listing {
+        Some(listing) => Correction::Mended(listing),
+        None => Correction::Unexplained(()),
+    }
+}
+
+/// What a checksum says of a text that one walk read, where the given locations are erasures. It takes
+/// no memory.
+///
+/// # Errors
+///
+/// The checksum's refusal of the text, but for a wrong checksum.
+pub fn said_of_read<Ck: CorrectsInPlace>(
+    reading: &Reading<'_, Ck>,
+    erasures: &[usize],
+) -> Result<Correction<Listing<NoMemory>>, CheckedHrpstringError>
+    ensures { MatchResult result
+        (λ answer. IsListing Ck.code Ck.bound reading.now.text.now erasures.now answer)
+        (λ e. IsRefusal Ck.code reading.now.text.now e) }
+{
+    reading.validate_lengths()?;
+    if reading.has_target() {
+        return Ok(Correction::Accepted);
+    }
+    Ok(said_by(listing_of_read(reading, erasures)))
+}
+
+/// What a checksum says of a text of which one walk says nothing, where the given locations are
+/// erasures. It takes no memory.
+///
+/// # Errors
+///
+/// As [`CheckedHrpstring::new`](bech32_decode::CheckedHrpstring::new), but for a wrong checksum.
+#[inline(never)]
+pub fn listing_of_unread<Ck: CorrectsInPlace>(
+    text: &str,
+    erasures: &[usize],
+) -> Result<Correction<Listing<NoMemory>>, CheckedHrpstringError>
+    ensures { MatchResult result
+        (λ answer. IsListing Ck.code Ck.bound text.now erasures.now answer)
+        (λ e. IsRefusal Ck.code text.now e) }
+{
+    let unchecked = UncheckedHrpstring::new(text)?;
+    let Some(error) = residue_error_in::<Ck>(&unchecked)? else {
+        return Ok(Correction::Accepted);
+    };
+    let window = unchecked.data_part_ascii().len();
+    Ok(said_by(Ck::listing_of_residue(&error.residue(), window, erasures)))
+}
+
+/// What Bech32 says of a text, where the given locations are erasures. It takes no memory.
+///
+/// # Errors
+///
+/// As [`CheckedHrpstring::new`](bech32_decode::CheckedHrpstring::new), but for a wrong checksum.
+pub fn bech32_listing(
+    text: &str,
+    erasures: &[usize],
+) -> Result<Correction<Listing<NoMemory>>, CheckedHrpstringError>
+    ensures { MatchResult result
+        (λ answer. IsListing bech32 3 text.now erasures.now answer)
+        (λ e. IsRefusal bech32 text.now e) }
+{
+    match Reading::<Bech32>::of(text.as_bytes()) {
+        Some(reading) => said_of_read(&reading, erasures),
+        None => listing_of_unread::<Bech32>(text, erasures),
+    }
+}
+
+/// The same for Bech32m.
+///
+/// # Errors
+///
+/// As [`bech32_listing`].
+pub fn bech32m_listing(
+    text: &str,
+    erasures: &[usize],
+) -> Result<Correction<Listing<NoMemory>>, CheckedHrpstringError>
+    ensures { MatchResult result
+        (λ answer. IsListing bech32m 3 text.now erasures.now answer)
+        (λ e. IsRefusal bech32m text.now e) }
+{
+    match Reading::<Bech32m>::of(text.as_bytes()) {
+        Some(reading) => said_of_read(&reading, erasures),
+        None => listing_of_unread::<Bech32m>(text, erasures),
+    }
+}

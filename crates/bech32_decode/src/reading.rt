@@ -1,0 +1,311 @@
+//! Reads a text in one walk: its parts, and the remainder that it leaves.
+
+ghost use Rattle.std.specs.Prelude.{◌≡◌, ◌≤◌, ◌%◌, ◌/◌, ◌^◌, ◌+◌, ◌*◌, ◌<◌, ◌↔◌, if◌then◌else◌, ◌⊎◌, ℕ, true, length, take, IfSome, IsTrue, MatchResult};
+ghost use Rattle.std.specs.List.{list_all};
+ghost use Rattle.bech32_checksum.specs.Code.{bech32, bech32m};
+ghost use Rattle.bech32_hrp.specs.Hrp.{is_graphic, is_lower, is_upper};
+ghost use Rattle.bech32_decode.specs.Letters.{letter_count};
+ghost use Rattle.bech32_decode.specs.Refusals.{HasLengths};
+ghost use Rattle.bech32_gf.specs.Fe32.{elements_of, ops};
+ghost use Rattle.bech32_poly.specs.Division.{remainder_of};
+ghost use Rattle.bech32_poly.specs.Polynomial.{IsSamePolynomial, add};
+ghost use Rattle.bech32_poly.specs.Remainder.{IsRemainder};
+ghost use Rattle.bech32_checksum.specs.TextPolynomial.{text_polynomial};
+ghost use Rattle.bech32_decode.specs.Acceptance.{IsAccepted};
+ghost use Rattle.bech32_decode.specs.Reading.{IsReading};
+ghost use Rattle.bech32_decode.specs.BeforeChecksum.{IsBeforeChecksum};
+ghost use Rattle.bech32_decode.specs.Parts.{checked_data, checked_length, checked_part};
+ghost use Rattle.bech32_decode.specs.Refusals.{IsChecksumRefusal, IsRefusedByBoth};
+ghost use Rattle.bech32_decode.specs.Segwit.{IsAddressRefusal, segwit_code};
+ghost use Rattle.bech32_decode.specs.SegwitParts.{IsReadIn, IsUnlawfulBy};
+ghost use Rattle.bech32_gf.specs.Alphabet.{is_data};
+
+use crate::address_data::{AddressData, address_data};
+use crate::checked::CheckedHrpstring;
+use crate::part_cases::PART_CASES;
+use crate::validation::{validate_lengths, validate_residue};
+use crate::version::first_version;
+use bech32_checksum::{Bech32, Bech32m, Checksum, Engine, PackedFe32};
+use bech32_gf::gf32::Fe32;
+use bech32_hrp::Hrp;
+use bech32_places::{is_stranger, walk};
+use bech32_refusals::segwit::VERSION_0;
+use bech32_refusals::{ChecksumError, MAX_DEGREE, SegwitHrpstringError};
+
+/// A text of the grammar in its parts, and the remainder that it leaves by a checksum's generator. It
+/// borrows the text.
+#[derive(Drop)]
+pub struct Reading<'s, Ck: Checksum> {
+    /// The whole text.
+    pub text: &'s [u8],
+    /// What stands before the separator: a human-readable part, in the case of the text.
+    pub hrp: &'s [u8],
+    /// What stands behind the separator, with the checksum: characters of the alphabet.
+    pub data_part: &'s [u8],
+    /// The remainder, packed.
+    pub residue: Ck::MidstateRepr,
+    pub ghost is_reading: { IsReading Ck.code
+        text.now hrp.now data_part.now (Ck.MidstateRepr.number residue) },
+}
+
+// The case of a byte of a part, as `PART_CASES` has it.
+#[inline]
+fn part_case(b: u8) -> u32
+    ensures graphic { result < 2 ^ 24 → is_graphic b ≡ true }
+    ensures letters { result < 2 ^ 24 → result
+        ≡ (if is_lower b then 1 else 0) + 2 ^ 12 * (if is_upper b then 1 else 0) }
+{
+    PART_CASES[b as usize]
+}
+
+// What stands before the first `1` of a text: its length, and how many letters of each case it has,
+// small ones below 2^12 and capital ones above.
+#[derive(Clone, Copy)]
+struct Front {
+    length: usize,
+    counts: u64,
+}
+
+// The bytes that may stand before the first `1`, 84 of them at most.
+#[inline]
+fn front_of(text: &[u8]) -> Front
+    ensures bound { result.length ≤ length text.now }
+    ensures few { result.length ≤ 84 }
+    ensures graphic { list_all is_graphic (take result.length text.now) ≡ true }
+    ensures counts { result.counts ≡ letter_count is_lower (take result.length text.now)
+        + 2 ^ 12 * letter_count is_upper (take result.length text.now) }
+{
+    let mut front = Front {
+        length: 0,
+        counts: 0,
+    };
+    while front.length < text.len() && front.length < 84 {
+        let case = part_case(text[front.length]);
+        if case >= 0x100_0000 {
+            break;
+        }
+        front.counts += u64::from(case);
+        front.length += 1;
+    }
+    front
+}
+
+// Whether no letter of one case was counted.
+#[inline]
+fn is_one_case(counts: u64) -> bool
+    ensures { IsTrue result ↔ ((counts % 2 ^ 12 ≡ 0) ⊎ (counts / 2 ^ 12 ≡ 0)) }
+{
+    counts % 4096 == 0 || counts / 4096 == 0
+}
+
+// Whether a text of at most 1,023 characters may be read by a walk: its first and its last one may
+// stand there. Most faults of texts that are none are seen so, without a walk.
+#[inline(always)]
+fn is_walkable(text: &[u8]) -> bool
+    ensures { IsTrue result → length text.now ≤ 1023 }
+{
+    if text.is_empty() || text.len() > 1023 {
+        return false;
+    }
+    part_case(text[0]) < 0x100_0000 && !is_stranger(text[text.len() - 1])
+}
+
+impl<'s, Ck: Checksum> Reading<'s, Ck> {
+    /// Reads a text of at most 1,023 characters in one walk. Of a text with a fault of the grammar, or
+    /// with more than one `1`, it says nothing.
+    #[inline(always)]
+    pub fn of(text: &'s [u8]) -> Option<Self>
+        ensures { IfSome result (λ r. r.text.now ≡ text.now) }
+    {
+        if !is_walkable(text) {
+            return None;
+        }
+        Self::walked(text)
+    }
+
+    // The same of a text that is walked over, whatever its ends are.
+    fn walked(text: &'s [u8]) -> Option<Self>
+        requires { length text.now ≤ 1023 }
+        ensures { IfSome result (λ r. r.text.now ≡ text.now) }
+    {
+        let front = front_of(text);
+        let end = front.length;
+        if end == 0 || end > 83 || end == text.len() {
+            return None;
+        }
+        if text[end] != b'1' {
+            return None;
+        }
+        let hrp = &text[..end];
+        let data_part = &text[end + 1..];
+        let mut engine = Engine::<Ck>::new();
+        engine.input_part(hrp);
+        let counts = walk(data_part, &mut engine);
+        if !is_one_case(front.counts + counts) {
+            return None;
+        }
+        Some(Reading {
+            text,
+            hrp,
+            data_part,
+            residue: *engine.residue(),
+        })
+    }
+
+    /// Tests that the text is not longer than the code, and its data part has room for the checksum.
+    ///
+    /// # Errors
+    ///
+    /// The first of these that is not so.
+    #[inline]
+    pub fn validate_lengths(&self) -> Result<(), ChecksumError>
+        ensures { MatchResult result
+            (λ _. HasLengths Ck.code (length self.now.text.now) (length self.now.data_part.now))
+            (λ e. IsChecksumRefusal Ck.code (length self.now.text.now)
+            self.now.hrp.now self.now.data_part.now e
+            × ¬ HasLengths Ck.code (length self.now.text.now) (length self.now.data_part.now)) }
+    {
+        validate_lengths::<Ck>(self.text.len(), self.data_part.len())
+    }
+
+    /// Whether the remainder is the target.
+    #[inline]
+    pub fn has_target(&self) -> bool
+        ensures { IsTrue result ↔ IsRemainder ops Ck.code.generator
+            (text_polynomial self.now.hrp.now (elements_of self.now.data_part.now))
+            Ck.code.target }
+    {
+        self.residue == Ck::TARGET_RESIDUE
+    }
+
+    /// What is left of the remainder where the target is taken off, by which errors are found: its
+    /// coefficients, the constant term first, with zeros behind them.
+    #[inline]
+    pub fn error_residue(&self) -> [Fe32; MAX_DEGREE]
+        ensures { IsSamePolynomial ops result (add ops (remainder_of ops Ck.code.generator
+            (text_polynomial self.now.hrp.now (elements_of self.now.data_part.now)))
+            Ck.code.target) }
+    {
+        let packed = self.residue ^ Ck::TARGET_RESIDUE;
+        let mut residue = [Fe32::Q; MAX_DEGREE];
+        for place in 0..Ck::CHECKSUM_LENGTH {
+            residue[place] = Fe32::from_low_bits(packed.unpack(place));
+        }
+        residue
+    }
+
+    /// The characters of the data part before the checksum.
+    #[inline]
+    pub fn characters(&self) -> &'s [u8]
+        requires { length Ck.code.generator ≤ length self.now.data_part.now }
+        ensures before { IsBeforeChecksum Ck.code self.now.data_part.now result.now }
+        ensures of_alphabet { is_data result.now ≡ true }
+    {
+        &self.data_part[..self.data_part.len() - Ck::CHECKSUM_LENGTH]
+    }
+
+    /// The text without its checksum, which must have been tested.
+    #[inline]
+    pub fn checked(&self) -> CheckedHrpstring<'s>
+        requires { length Ck.code.generator ≤ length self.now.data_part.now }
+        ensures hrp { checked_part result ≡ self.now.hrp.now }
+        ensures before { IsBeforeChecksum Ck.code self.now.data_part.now (checked_data result) }
+        ensures text_length { checked_length result ≡ length self.now.text.now }
+    {
+        CheckedHrpstring::of_parts(Hrp::of_bytes(self.hrp), self.characters(), self.text.len())
+    }
+
+    // The version and the program of a segwit address by this checksum.
+    #[inline]
+    fn address_by(&self) -> Result<AddressData<'s>, SegwitHrpstringError>
+        ensures { MatchResult result
+            (λ a. IsReadIn (λ _. Ck.code)
+            self.now.text.now self.now.hrp.now a.version a.program.now)
+            (λ e. IsUnlawfulBy Ck.code
+            self.now.text.now self.now.hrp.now self.now.data_part.now e) }
+    {
+        self.validate()?;
+        address_data(self.text.len(), self.characters())
+    }
+
+    /// Tests the checksum of the text. A checksum of degree 0 asks nothing of it.
+    ///
+    /// # Errors
+    ///
+    /// The first of: the text is longer than the code; the data part is shorter than the checksum; the
+    /// remainder is not the target.
+    #[inline]
+    pub fn validate(&self) -> Result<(), ChecksumError>
+        ensures { MatchResult result
+            (λ _. IsAccepted Ck.code self.now.text.now self.now.hrp.now self.now.data_part.now)
+            (λ e. IsChecksumRefusal Ck.code (length self.now.text.now)
+            self.now.hrp.now self.now.data_part.now e) }
+    {
+        validate_lengths::<Ck>(self.text.len(), self.data_part.len())?;
+        match validate_residue::<Ck>(&self.residue) {
+            Ok(()) => Ok(()),
+            Err(e) => Err(ChecksumError::InvalidResidue(e)),
+        }
+    }
+}
+
+impl<'s> Reading<'s, Bech32m> {
+    // The same reading by Bech32, whose generator is the same.
+    #[inline]
+    fn by_bech32(&self) -> Reading<'s, Bech32>
+        ensures text { result.text.now ≡ self.now.text.now }
+        ensures hrp { result.hrp.now ≡ self.now.hrp.now }
+        ensures data_part { result.data_part.now ≡ self.now.data_part.now }
+    {
+        Reading {
+            text: self.text,
+            hrp: self.hrp,
+            data_part: self.data_part,
+            residue: self.residue,
+        }
+    }
+
+    /// Tests the checksum as Bech32m and as Bech32: they differ in the target alone.
+    ///
+    /// # Errors
+    ///
+    /// That of Bech32m, where neither checksum accepts the text.
+    #[inline]
+    pub fn validate_either(&self) -> Result<(), ChecksumError>
+        ensures { MatchResult result
+            (λ _. IsAccepted bech32m self.now.text.now self.now.hrp.now self.now.data_part.now
+            ⊎ IsAccepted bech32 self.now.text.now self.now.hrp.now self.now.data_part.now)
+            (λ e. IsRefusedByBoth self.now.text.now e) }
+    {
+        validate_lengths::<Bech32m>(self.text.len(), self.data_part.len())?;
+        if self.residue == Bech32::TARGET_RESIDUE {
+            return Ok(());
+        }
+        match validate_residue::<Bech32m>(&self.residue) {
+            Ok(()) => Ok(()),
+            Err(e) => Err(ChecksumError::InvalidResidue(e)),
+        }
+    }
+
+    /// The version and the program of a segwit address: of version 0 by Bech32, of another version
+    /// by Bech32m (BIP-350).
+    ///
+    /// # Errors
+    ///
+    /// The first of: no data part; a witness version above 16; the checksum; no data before the
+    /// checksum; more than 90 characters; padding of more than four bits; padding that is not zero; a
+    /// program of less than 2 bytes, of more than 40, or of neither 20 nor 32 in version 0.
+    #[inline]
+    pub fn address(&self) -> Result<AddressData<'s>, SegwitHrpstringError>
+        ensures { MatchResult result
+            (λ a. IsReadIn segwit_code self.now.text.now self.now.hrp.now a.version a.program.now)
+            (λ e. IsAddressRefusal segwit_code self.now.text.now e) }
+    {
+        let version = first_version(self.data_part)?;
+        if version == VERSION_0 {
+            self.by_bech32().address_by()
+        } else {
+            self.address_by()
+        }
+    }
+}

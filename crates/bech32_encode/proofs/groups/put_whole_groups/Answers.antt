@@ -1,0 +1,19 @@
+use Rattle.std.proofs.Common.{◌≡◌, ◌≤◌, ◌<◌, ◌∙◌, ◌+◌, ◌*◌, ◌/◌, ◌++◌, ℕ, List, length, map, take, drop, ap, arith}
+use Rattle.std.proofs.lemmas.List.{length-map}
+use Rattle.bech32_bits.specs.Bits.{to_fes}
+use Rattle.bech32_checksum.specs.Encoded.{char_of_element}
+use Rattle.bech32_encode.proofs.WholeGroups.{puts_at_once}
+use Rattle.bech32_encode.proofs.groups.put_whole_groups.Goals as goal
+
+pub returns-clause-text : goal.returns-clause-text
+returns-clause-text g c =
+    let bs = c.args.bytes.now in
+    let old = c.args.buffer.now in
+    let fes = to_fes (take (length bs / 5 * 5) bs) in
+    let text : List ℕ = map char_of_element fes in
+    let size : length text ≡ length bs / 5 * 8 = length-map fes char_of_element ∙ c.put_groups_in_room.ensures.size in
+    let some : 0 < length text = omega (arith, size, c.if-groups-eq0.false) in
+    let room : c.args.count + length text ≤ length old = omega (arith, size, c.if-count-buffer.false, c.if-buffer-count.false) in
+    let after : c.args.count + length bs / 5 * 8 ≡ c.args.count + length text = omega (arith, size) in
+    let made = c.put_groups_in_room.ensures.text ∙ ap (λ (k : ℕ). take c.args.count old ++ (text ++ drop k old)) after in
+    puts_at_once text old c.put_groups_in_room.new.buffer c.args.count (c.args.count + length bs / 5 * 8) room after made some

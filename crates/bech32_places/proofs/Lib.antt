@@ -1,0 +1,5 @@
+pub mod PlaceTable
+pub mod Cases
+pub mod EightAtOnce
+pub mod ValueTable
+pub mod ValueWords

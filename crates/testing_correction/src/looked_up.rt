@@ -1,0 +1,54 @@
+//! Corrections that Bech32 and Bech32m look up.
+
+use crate::compare::same;
+use bech32_checksum::{Bech32, Bech32m, Checksum, Engine, PackedFe32};
+use bech32_gf::gf32::Fe32;
+
+// The six coefficients of a packed remainder.
+fn coefficients(residue: &u32) -> [Fe32; 6] {
+    let mut items = [Fe32::Q; 6];
+    for place in 0..6 {
+        items[place] = Fe32::from_low_bits(residue.unpack(place));
+    }
+    items
+}
+
+// What a value at a location leaves.
+fn left_by(location: usize, value: Fe32) -> u32 {
+    let mut engine = Engine::<Bech32>::zero();
+    engine.input_fe(value);
+    for place in 0..location {
+        engine.input_fe(Fe32::Q);
+    }
+    *engine.residue()
+}
+
+#[test]
+fn each_location_is_looked_up(rt: HostRuntime) {
+    let mut all = true;
+    for location in 0..1023 {
+        let residue = coefficients(&left_by(location, Fe32::L));
+        let found = Some(Some((location, Fe32::L)));
+        all &= Bech32::one_error(&residue) == found && Bech32m::one_error(&residue) == found;
+    }
+    same(&rt, &all, &true);
+}
+
+#[test]
+fn two_errors_are_none(rt: HostRuntime) {
+    let residue = coefficients(&(left_by(3, Fe32::P) ^ left_by(20, Fe32::Z)));
+    same(&rt, &(Bech32::one_error(&residue) == Some(None)), &true);
+}
+
+#[test]
+fn values_at_erasures_are_looked_up(rt: HostRuntime) {
+    let one = left_by(0, Fe32::P);
+    let two = one ^ left_by(40, Fe32::Z);
+    let three = two ^ left_by(1022, Fe32::L);
+    let values = Bech32::values_at(&coefficients(&one), &[0]);
+    same(&rt, &(values == Some([Fe32::P, Fe32::Q, Fe32::Q])), &true);
+    let values = Bech32::values_at(&coefficients(&two), &[0, 40]);
+    same(&rt, &(values == Some([Fe32::P, Fe32::Z, Fe32::Q])), &true);
+    let values = Bech32m::values_at(&coefficients(&three), &[0, 40, 1022]);
+    same(&rt, &(values == Some([Fe32::P, Fe32::Z, Fe32::L])), &true);
+}
