@@ -1,10 +1,9 @@
 -- Nothing is wrong with a text that a checksum accepts.
-use Rattle.std.proofs.Common.{◌≡◌, ◌+◌, ℕ, List, Err, length, length-append, ap, ◌∙◌, arith, IsOk}
+use Rattle.std.proofs.Common.{ℕ, List, Err, length, IsOk}
 use Rattle.std.specs.Str.{IsUtf8}
 use Rattle.bech32_checksum.specs.Code.{Code}
-use Rattle.bech32_hrp.specs.HrpBytes.{hrp_bytes}
 use Rattle.bech32_decode.specs.Acceptance.{Accepts}
-use Rattle.bech32_decode.specs.Checked.{IsAcceptedAs, IsCheckedRefusal}
+use Rattle.bech32_decode.specs.Checked.{IsCheckedRefusal}
 use Rattle.bech32_decode.specs.Refusals.{IsChecksumRefusal}
 use Rattle.bech32_decode.specs.Text.{IsText}
 use Rattle.bech32_decode.specs.declared.checked.CheckedHrpstring.{CheckedHrpstring}
@@ -12,7 +11,7 @@ use Rattle.bech32_refusals.specs.declared.error.CheckedHrpstringError.{CheckedHr
 use Rattle.bech32_refusals.specs.declared.error.CheckedHrpstringError.TheVariants.{Parse, Checksum as NotAccepted}
 use Rattle.bech32_refusals.specs.declared.error.ChecksumError.{ChecksumError}
 use Rattle.bech32_decode.proofs.Decoding.{accepted-from_checked}
-use Rattle.bech32_calls.specs.Check.{IsCheckedAs, IsCheckFault}
+use Rattle.bech32_calls.specs.Check.{IsCheckFault}
 use Rattle.bech32_calls.specs.declared.refusal.Refusal.{Refusal}
 use Rattle.bech32_calls.specs.declared.refusal.Refusal.TheVariants.{NotUtf8, Text, Checksum}
 use Rattle.bech32_calls.proofs.Letters.{IsUtf8-from_text}
@@ -26,15 +25,6 @@ no_check_fault text code NotUtf8 a h = h (IsUtf8-from_text text a.0 a.1 a.2.gram
 no_check_fault text code (Text e) a h = no_refusal code text (Parse e) h.0 a h.1
 no_check_fault text code (Checksum e) a h = no_refusal code text (NotAccepted e) h.0 a h.1
 no_check_fault text code _ a h = h
-
--- the lengths of the parts of an accepted text
-pub lengths-from_accepted : (text : List ℕ) (code : Code) (c : CheckedHrpstring) (m n : ℕ) → IsAcceptedAs code text c → m ≡ length (hrp_bytes c.hrp) → n ≡ length c.ascii.now
-    → IsCheckedAs text m n code
-lengths-from_accepted text code c m n h e f =
-    let whole : length h.data_part ≡ length c.ascii.now + length h.characters.checksum =
-    ap length h.characters.data_part_is ∙ length-append c.ascii.now h.characters.checksum in
-    let size : length h.characters.checksum ≡ length code.generator = h.characters.size in
-    record { hrp = hrp_bytes c.hrp; data_part = h.data_part; accepted = h.accepted; hrp_length_is = e; data_length_is = omega arith }
 
 -- why a checksum does not accept a text of the grammar
 pub refused_there : (text hrp data_part : List ℕ) (code : Code) (e : ChecksumError) → IsText text hrp data_part → IsChecksumRefusal code (length text) hrp data_part e
