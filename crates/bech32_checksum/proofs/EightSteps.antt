@@ -96,17 +96,26 @@ six_more p r a b c d e f hr h =
     (residue_step _ _ f l5 r5)
 
 -- after two elements
+two_are : (r a b : ℕ) → r < 2 ^ 30 → a < 32 → b < 32 → step (step r a) b ≡ bit_xor (times_x (times_x r)) (a * 32 + b)
+two_are r a b hr ha hb =
+    let s1 : step r a ≡ bit_xor (times_x r) a = step_is r a ha in
+    ap (λ m. step m b) s1 ∙ apart (times_x r) a b (times_x-lt r hr) (omega arith) hb
+
+-- the sum of the remainder times x^2 and the row of two elements is the remainder after these
+pub two_more : (p : List Fe32) (r : ℕ) (a b : Fe32) → r < 2 ^ 30
+    → IsRemainder fe32.ops bech32.generator p (digits 6 r)
+    → IsRemainder fe32.ops bech32.generator (b ∷ a ∷ p) (digits 6 (bit_xor (times_x (times_x r)) (a.value * 32 + b.value)))
+two_more p r a b hr h =
+    subst (λ n. IsRemainder fe32.ops bech32.generator (b ∷ a ∷ p) (digits 6 n)) (two_are r a.value b.value hr a.in_field b.in_field)
+    (residue_step _ _ b (step-lt r a.value hr a.in_field) (residue_step p r a hr h))
+
 two_steps : (r a b : ℕ) → r < 2 ^ 30 → a < 32 → b < 32
     → times_x6 (step (step r a) b) ≡ bit_xor (bit_xor (times_x8 r) (times_x6 (a * 32))) (times_x6 b)
 two_steps r a b hr ha hb =
-    let h1 = times_x-lt r hr in
-    let h2 = times_x-lt _ h1 in
-    let s1 : step r a ≡ bit_xor (times_x r) a = step_is r a ha in
-    let s2 : step (step r a) b ≡ bit_xor (times_x (times_x r)) (a * 32 + b) =
-    ap (λ m. step m b) s1 ∙ apart (times_x r) a b h1 (omega arith) hb in
+    let h2 = times_x-lt _ (times_x-lt r hr) in
     let row : times_x6 (a * 32 + b) ≡ bit_xor (times_x6 (a * 32)) (times_x6 b) =
     ap times_x6 (joined a b hb) ∙ times_x6-add (a * 32) b (omega arith) (omega arith) in
-    ap times_x6 s2
+    ap times_x6 (two_are r a b hr ha hb)
     ∙ (times_x6-add (times_x (times_x r)) (a * 32 + b) h2 (omega arith)
     ∙ (ap (bit_xor (times_x8 r)) row ∙ sym (xor_assoc (times_x8 r) (times_x6 (a * 32)) (times_x6 b))))
 

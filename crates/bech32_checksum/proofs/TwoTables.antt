@@ -9,9 +9,9 @@ use Rattle.bech32_poly.specs.Remainder.{IsRemainder}
 use Rattle.bech32_checksum.specs.Packed.{digits}
 use Rattle.bech32_gf.specs.laws.Below.{each_below-at}
 use Rattle.bech32_checksum.specs.Code.{bech32, IsResidueAfter}
-use Rattle.bech32_checksum.proofs.TimesX.{times_x6, times_x6-add, times_x6-lt, times_x8, times_x8-add, joined}
-use Rattle.bech32_checksum.proofs.EightSteps.{eight_after, row_of_six, six_more}
-use Rattle.bech32_checksum.specs.Word.{row_elements, word_elements}
+use Rattle.bech32_checksum.proofs.TimesX.{times_x, times_x-add, times_x-lt, times_x-short, times_x6, times_x6-add, times_x6-lt, times_x8, times_x8-add, joined}
+use Rattle.bech32_checksum.proofs.EightSteps.{eight_after, row_of_six, six_more, two_more}
+use Rattle.bech32_checksum.specs.Word.{row_elements, two_elements, word_elements}
 use Rattle.bech32_checksum.specs.declared.checksums.twos.TheConstants.{TWO_AT_X6, TWO_AT_X8, TWO_AT_X10, TWO_AT_X12}
 
 entry₆ : (v : ℕ) → v < 1024 → times_x6 v ≡ get_or TWO_AT_X6 v 0
@@ -121,4 +121,44 @@ row_after r n hr hn =
       λ p held. subst (λ (m : ℕ). IsRemainder fe32.ops bech32.generator
           (element (n / 2 ^ 0) ∷ element (n / 2 ^ 5) ∷ element (n / 2 ^ 10) ∷ element (n / 2 ^ 15) ∷ element (n / 2 ^ 20) ∷ element (n / 2 ^ 25) ∷ p) (digits 6 m)) same
           (six_more p r (element (n / 2 ^ 25)) (element (n / 2 ^ 20)) (element (n / 2 ^ 15)) (element (n / 2 ^ 10)) (element (n / 2 ^ 5)) (element (n / 2 ^ 0)) hr held),
+    )
+
+-- ---- two elements
+
+two₂ : (v : ℕ) → v < 1024 → times_x (times_x (v * 2 ^ 20)) ≡ get_or TWO_AT_X6 v 0
+two₂ v h = eqb-true _ _ (each_below-at 1024 (λ i. times_x (times_x (i * 2 ^ 20)) == get_or TWO_AT_X6 i 0) refl v h)
+
+-- of four coefficients nothing falls out
+short : (c : ℕ) → c < 2 ^ 20 → times_x (times_x c) ≡ c * 2 ^ 10
+short c h =
+    let twice : c * 32 * 32 ≡ c * 2 ^ 10 = omega arith in
+    ap times_x (times_x-short c (omega arith)) ∙ (times_x-short (c * 32) (omega arith) ∙ twice)
+
+-- a row times x^2 is what the table has of its highest pair, and its other four coefficients two places higher
+twos_are : (c : ℕ) → c < 2 ^ 30 → times_x (times_x c) ≡ bit_xor (get_or TWO_AT_X6 (c / 2 ^ 20) 0) (c % 2 ^ 20 * 2 ^ 10)
+twos_are c h =
+    let high : c / 2 ^ 20 * 2 ^ 20 < 2 ^ 30 = omega arith in
+    let low : c % 2 ^ 20 < 2 ^ 30 = omega arith in
+    let same : c ≡ c / 2 ^ 20 * 2 ^ 20 + c % 2 ^ 20 = omega arith in
+    let parts : c ≡ bit_xor (c / 2 ^ 20 * 2 ^ 20) (c % 2 ^ 20) =
+    same ∙ sym (xor_disjoint _ _ (and_shifted (c / 2 ^ 20) 20 (c % 2 ^ 20) (omega arith))) in
+    ap (λ m. times_x (times_x m)) parts
+    ∙ (ap times_x (times_x-add _ _ high low)
+    ∙ (times_x-add _ _ (times_x-lt _ high) (times_x-lt _ low)
+    ∙ (ap (λ m. bit_xor m (times_x (times_x (c % 2 ^ 20)))) (two₂ (c / 2 ^ 20) (omega arith))
+    ∙ ap (bit_xor (get_or TWO_AT_X6 (c / 2 ^ 20) 0)) (short (c % 2 ^ 20) (omega arith)))))
+
+-- what the table has of a remainder's highest pair, its other coefficients, and two elements add up to the remainder
+-- after these
+pub two_after : (r n : ℕ) → r < 2 ^ 30 → n < 2 ^ 10
+    → (bit_xor (bit_xor (get_or TWO_AT_X6 (r / 2 ^ 20) 0) (r % 2 ^ 20 * 2 ^ 10)) n < 2 ^ 30)
+    × IsResidueAfter (λ (k : ℕ). k) bech32 r (two_elements n)
+    (bit_xor (bit_xor (get_or TWO_AT_X6 (r / 2 ^ 20) 0) (r % 2 ^ 20 * 2 ^ 10)) n)
+two_after r n hr hn =
+    let sum = twos_are r hr in
+    let row : n / 2 ^ 5 % 32 * 32 + n / 2 ^ 0 % 32 ≡ n = omega arith in
+    let same = ap (λ (m : ℕ). bit_xor (times_x (times_x r)) m) row ∙ ap (λ (m : ℕ). bit_xor m n) sum in (
+      subst (λ (m : ℕ). bit_xor m n < 2 ^ 30) sum (xor_lt 30 _ _ (times_x-lt _ (times_x-lt r hr)) (omega arith)),
+      λ p held. subst (λ (m : ℕ). IsRemainder fe32.ops bech32.generator (element (n / 2 ^ 0) ∷ element (n / 2 ^ 5) ∷ p) (digits 6 m)) same
+          (two_more p r (element (n / 2 ^ 5)) (element (n / 2 ^ 0)) hr held),
     )

@@ -14,3 +14,7 @@ abbrev pub row_elements : ℕ → List Fe32
 row_elements n =
     element (n / 2 ^ 25) ∷ element (n / 2 ^ 20) ∷ element (n / 2 ^ 15) ∷ element (n / 2 ^ 10)
     ∷ element (n / 2 ^ 5) ∷ element (n / 2 ^ 0) ∷ []
+
+-- the two elements of a number's lowest ten bits, the higher first
+abbrev pub two_elements : ℕ → List Fe32
+two_elements n = element (n / 2 ^ 5) ∷ element (n / 2 ^ 0) ∷ []

@@ -22,7 +22,7 @@ use self::eights::after_eight_by_tables;
 use self::erased::values_by_rows;
 use self::ones::one_error_by_tables;
 use self::products::product_with;
-use self::words::{after_row_by_tables, after_word_by_tables};
+use self::words::{after_row_by_tables, after_two_by_table, after_word_by_tables};
 use crate::packed::PackedNull;
 use crate::{Checksum, CorrectingChecksum};
 use bech32_gf::gf32::Fe32;
@@ -155,6 +155,11 @@ impl Checksum for Bech32 {
     }
 
     #[inline]
+    fn after_two(residue: u32, two: u32) -> u32 {
+        after_two_by_table(residue, two)
+    }
+
+    #[inline]
     fn after_target(residue: u32) -> u32 {
         after_row_by_tables(residue, 1)
     }
@@ -242,6 +247,11 @@ impl Checksum for Bech32m {
     #[inline]
     fn after_word(residue: u32, word: u64) -> u32 {
         after_word_by_tables(residue, word)
+    }
+
+    #[inline]
+    fn after_two(residue: u32, two: u32) -> u32 {
+        after_two_by_table(residue, two)
     }
 
     #[inline]

@@ -10,7 +10,7 @@ ghost use Rattle.bech32_checksum.specs.Packed.{HasDigits, IsRowOf, sum_of_words}
 ghost use Rattle.bech32_checksum.specs.Code.{Code, code_of, IsResidueOf, IsResidueAfter};
 ghost use Rattle.bech32_checksum.specs.OneError.{IsLeftBy, IsSingle, valued};
 ghost use Rattle.bech32_checksum.specs.PackingLaws.{KeepsPackingLaws};
-ghost use Rattle.bech32_checksum.specs.Word.{word_elements};
+ghost use Rattle.bech32_checksum.specs.Word.{two_elements, word_elements};
 ghost use Rattle.bech32_checksum.specs.Roots.{HasLawfulRoots, singleton_bound};
 
 mod checksums;
@@ -151,6 +151,23 @@ pub trait Checksum {
             (word_elements word) result }
     {
         Self::after_eight(residue, elements_in(word))
+    }
+
+    /// The remainder after two more elements, which stand in a number of ten bits, the first of
+    /// them higher, packed.
+    ///
+    /// The provided one takes them one after another. Whoever defines a checksum may read a table
+    /// in its place, as for [`Self::after_eight`].
+    #[inline]
+    fn after_two(residue: Self::MidstateRepr, two: u32) -> Self::MidstateRepr
+        requires residue { HasDigits CHECKSUM_LENGTH (Self.MidstateRepr.number residue) }
+        requires two { two < 2 ^ 10 }
+        ensures clear { HasDigits CHECKSUM_LENGTH (Self.MidstateRepr.number result) }
+        ensures after { IsResidueAfter Self.MidstateRepr.number code residue
+            (two_elements two) result }
+    {
+        let next = Self::after_one(residue, Fe32::from_low_bits((two / 32) as u8));
+        Self::after_one(next, Fe32::from_low_bits((two % 32) as u8))
     }
 
     /// The remainder after the elements of the target, the highest first, packed.
@@ -350,6 +367,16 @@ impl<Ck: Checksum> Engine<Ck> {
             (word_elements word) self.new }
     {
         self.residue = Ck::after_word(self.residue, word);
+    }
+
+    /// Takes the two elements of a number of ten bits, the higher first.
+    #[inline]
+    pub fn input_two(&mut self, two: u32)
+        requires { two < 2 ^ 10 }
+        ensures { IsResidueAfter Ck.MidstateRepr.number Ck.code self.old
+            (two_elements two) self.new }
+    {
+        self.residue = Ck::after_two(self.residue, two);
     }
 
     /// Takes the elements of the target, the highest first.

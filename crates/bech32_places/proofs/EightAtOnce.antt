@@ -1,13 +1,13 @@
 -- Eight characters as one word.
 use Rattle.std.proofs.Common.{◌≡◌, ◌≤◌, ◌<◌, ◌+◌, ◌*◌, ◌/◌, ◌%◌, ◌^◌, ℕ, List, [], ◌∷◌, ◌++◌, length, take, drop, map, get_or, refl, ap, sym, ◌∙◌, arith}
-use Rattle.std.proofs.lemmas.List.{drop-take, take-append-drop, take-take, take_more, map-append}
+use Rattle.std.proofs.lemmas.List.{drop-take, take-append-drop, take-take}
 use Rattle.bech32_gf.specs.Fe32.{element, element_of, path}
 use Rattle.bech32_gf.specs.Alphabet.{value_of, value_of-lt}
 use Rattle.bech32_gf.specs.declared.gf32.Fe32.{Fe32}
 use Rattle.bech32_poly.proofs.Lists.{same_cons}
 use Rattle.bech32_checksum.specs.Word.{word_elements}
 use Rattle.bech32_places.specs.Cases.{counts_as_lower, counts_as_upper, lower_count, upper_count}
-use Rattle.bech32_places.proofs.Cases.{counts_as_lower-le, lower_count-append, upper_count-append}
+use Rattle.bech32_places.proofs.Cases.{counts_as_lower-le}
 
 pub first_eight-is : (bs : List ℕ) → 8 ≤ length bs
     → get_or bs 0 0 ∷ get_or bs 1 0 ∷ get_or bs 2 0 ∷ get_or bs 3 0 ∷ get_or bs 4 0 ∷ get_or bs 5 0 ∷ get_or bs 6 0 ∷ get_or bs 7 0 ∷ [] ≡ take 8 bs
@@ -21,16 +21,19 @@ first_eight-is (_ ∷ _ ∷ _ ∷ _ ∷ _ ∷ _ ∷ []) l = absurd (omega arith)
 first_eight-is (_ ∷ _ ∷ _ ∷ _ ∷ _ ∷ _ ∷ _ ∷ []) l = absurd (omega arith)
 first_eight-is (_ ∷ _ ∷ _ ∷ _ ∷ _ ∷ _ ∷ _ ∷ _ ∷ bs) l = refl
 
+-- the first items, and some more
+pub part_more : (n k : ℕ) (bs rest : List ℕ) → rest ≡ drop n bs → take (n + k) bs ≡ take n bs ++ take k rest
+part_more n k bs rest is =
+    sym (take-append-drop n (take (n + k) bs))
+    ∙ ap (λ (xs : List ℕ). xs ++ drop n (take (n + k) bs)) (take-take n (n + k) bs (omega arith))
+    ∙ ap (λ (xs : List ℕ). take n bs ++ xs) (drop-take n k bs ∙ ap (take k) (sym is))
+
 -- the first groups of eight, and one more
-pub eight_more : (i : ℕ) (bs rest : List ℕ) → i < length bs / 8 → rest ≡ drop (i * 8) bs
+pub eight_more : (i : ℕ) (bs rest : List ℕ) → rest ≡ drop (i * 8) bs
     → take ((i + 1) * 8) bs ≡ take (i * 8) bs ++ take 8 rest
-eight_more i bs rest below is =
-    let n : ℕ = i * 8 in
+eight_more i bs rest is =
     let next : (i + 1) * 8 ≡ i * 8 + 8 = omega arith in
-    ap (λ (k : ℕ). take k bs) next
-    ∙ sym (take-append-drop n (take (n + 8) bs))
-    ∙ ap (λ (xs : List ℕ). xs ++ drop n (take (n + 8) bs)) (take-take n (n + 8) bs (omega arith))
-    ∙ ap (λ (xs : List ℕ). take n bs ++ xs) (drop-take n 8 bs ∙ ap (take 8) (sym is))
+    ap (λ (k : ℕ). take k bs) next ∙ part_more (i * 8) 8 bs rest is
 
 -- the digits of a sum of digits at their places
 pub digits_are : (a b c d e f g h m n : ℕ) → a < 32 → b < 32 → c < 32 → d < 32 → e < 32 → f < 32 → g < 32 → h < 32
@@ -88,23 +91,6 @@ same_word n =
     (same_cons _ _ _ _ (digit 10 (n % 2 ^ 40) (omega arith))
     (same_cons _ _ _ _ (digit 5 (n % 2 ^ 40) (omega arith))
     (same_cons _ _ _ _ (digit 0 (n % 2 ^ 40) (omega arith)) refl)))))))
-
--- one character more
-pub elements_more : (items : List ℕ) (i : ℕ) (e : Fe32) → i < length items → e ≡ element_of (get_or items i 0)
-    → map element_of (take (i + 1) items) ≡ map element_of (take i items) ++ e ∷ []
-elements_more items i e below is =
-    ap (map element_of) (take_more items i 0 below) ∙ map-append element_of (take i items) (get_or items i 0 ∷ [])
-    ∙ ap (λ (x : Fe32). map element_of (take i items) ++ x ∷ []) (sym is)
-
-pub lower_count_more : (items : List ℕ) (i : ℕ) → i < length items → lower_count (take (i + 1) items) ≡ lower_count (take i items) + counts_as_lower (get_or items i 0)
-lower_count_more items i below =
-    let e = ap lower_count (take_more items i 0 below) ∙ lower_count-append (take i items) (get_or items i 0 ∷ []) in
-    omega (arith, e)
-
-pub upper_count_more : (items : List ℕ) (i : ℕ) → i < length items → upper_count (take (i + 1) items) ≡ upper_count (take i items) + counts_as_upper (get_or items i 0)
-upper_count_more items i below =
-    let e = ap upper_count (take_more items i 0 below) ∙ upper_count-append (take i items) (get_or items i 0 ∷ []) in
-    omega (arith, e)
 
 -- the element of a character's word
 pub element_is : (c n v : ℕ) (e : Fe32) → n ≡ value_of c * 2 ^ 0 + counts_as_lower c * 2 ^ 40 + counts_as_upper c * 2 ^ 52 → v ≡ n % 32 → e ≡ element v → e ≡ element_of c

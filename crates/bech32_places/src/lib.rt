@@ -6,7 +6,7 @@ ghost use Rattle.std.specs.Prelude.{length, take};
 ghost use Rattle.bech32_gf.specs.Alphabet.{is_of_alphabet};
 ghost use Rattle.bech32_gf.specs.Fe32.{element_of, elements_of};
 ghost use Rattle.bech32_checksum.specs.Code.{IsResidueAfter};
-ghost use Rattle.bech32_checksum.specs.Word.{word_elements};
+ghost use Rattle.bech32_checksum.specs.Word.{two_elements, word_elements};
 ghost use Rattle.bech32_places.specs.Cases.{counts_as_lower, counts_as_upper};
 ghost use Rattle.bech32_places.specs.Cases.{lower_count, upper_count};
 
@@ -81,6 +81,41 @@ fn walk_groups<Ck: Checksum>(characters: &[u8], engine: &mut Engine<Ck>) -> u64
     cases
 }
 
+// The two elements of the first two characters as a number of ten bits, and above it, from bit 40
+// on, how many letters of each case they have, as in `word_of_eight`.
+#[inline]
+fn two_of(characters: &[u8]) -> u64
+    requires { 2 ≤ length characters.now }
+    ensures elements { two_elements result ≡ elements_of (take 2 characters.now) }
+    ensures lower { result / 2 ^ 40 % 2 ^ 12 ≡ lower_count (take 2 characters.now) }
+    ensures upper { result / 2 ^ 52 ≡ upper_count (take 2 characters.now) }
+{
+    at_5(characters[0]) + at_0(characters[1])
+}
+
+// Hands the elements of characters, of which there are at most 1,023, to an engine, two at a time,
+// and returns how many letters of each case they have, as `walk` does.
+#[inline(always)]
+fn walk_rest<Ck: Checksum>(characters: &[u8], engine: &mut Engine<Ck>) -> u64
+    requires { length characters.now ≤ 1023 }
+    ensures after { IsResidueAfter Ck.MidstateRepr.number Ck.code engine.old
+        (elements_of characters.now) engine.new }
+    ensures cases { result ≡ lower_count characters.now + 2 ^ 12 * upper_count characters.now }
+{
+    let mut cases = 0;
+    for pair in 0..characters.len() / 2 {
+        let two = two_of(&characters[2 * pair..]);
+        engine.input_two((two % 1024) as u32);
+        cases += two / 0x100_0000_0000;
+    }
+    if characters.len() % 2 == 1 {
+        let last = characters[characters.len() - 1];
+        engine.input_fe(element_at(last));
+        cases += case_of(last);
+    }
+    cases
+}
+
 /// Hands the elements of characters, of which there are at most 1,023, to an engine, and returns
 /// how many letters of each case they have: small ones below 2^12, and capital ones above. A
 /// character that is not of the alphabet counts for both.
@@ -91,10 +126,6 @@ pub fn walk<Ck: Checksum>(characters: &[u8], engine: &mut Engine<Ck>) -> u64
         (elements_of characters.now) engine.new }
     ensures cases { result ≡ lower_count characters.now + 2 ^ 12 * upper_count characters.now }
 {
-    let mut cases = walk_groups(characters, engine);
-    for character in &characters[characters.len() / 8 * 8..] {
-        engine.input_fe(element_at(*character));
-        cases += case_of(*character);
-    }
-    cases
+    let cases = walk_groups(characters, engine);
+    cases + walk_rest(&characters[characters.len() / 8 * 8..], engine)
 }

@@ -1,8 +1,8 @@
-//! Eight elements at once as a word, by the generator of BIP-173.
+//! Eight, six or two elements at once, by the generator of BIP-173.
 
 ghost use Rattle.std.specs.Prelude.{◌<◌, ◌^◌, ℕ};
 ghost use Rattle.bech32_checksum.specs.Code.{bech32, IsResidueAfter};
-ghost use Rattle.bech32_checksum.specs.Word.{row_elements, word_elements};
+ghost use Rattle.bech32_checksum.specs.Word.{row_elements, two_elements, word_elements};
 
 use super::twos::{TWO_AT_X6, TWO_AT_X8, TWO_AT_X10, TWO_AT_X12};
 
@@ -35,4 +35,17 @@ pub(super) fn after_row_by_tables(residue: u32, row: u32) -> u32
         ^ TWO_AT_X8[(residue / 0x400 % 0x400) as usize]
         ^ TWO_AT_X6[(residue % 0x400) as usize]
         ^ row
+}
+
+// The remainder after two more elements, which stand in a number of ten bits, the first of them
+// higher: the two highest coefficients of the remainder before have a table, the other four are two
+// places higher as they are.
+#[inline]
+pub(super) fn after_two_by_table(residue: u32, two: u32) -> u32
+    requires residue { residue < 2 ^ 30 }
+    requires two { two < 2 ^ 10 }
+    ensures clear { result < 2 ^ 30 }
+    ensures after { IsResidueAfter (λ (n : ℕ). n) bech32 residue (two_elements two) result }
+{
+    TWO_AT_X6[(residue / 0x10_0000) as usize] ^ (residue % 0x10_0000 * 0x400) ^ two
 }
