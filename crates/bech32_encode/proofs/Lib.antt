@@ -8,3 +8,4 @@ pub mod WholeGroups
 pub mod TwoTable
 pub mod Placed
 pub mod RowPairs
+pub mod TwoBytes

@@ -190,6 +190,46 @@ fn put_whole_groups<Ck: Checksum>(
     count + groups * 8
 }
 
+// Puts the characters of two bytes at a place, where there is room for all four, and hands their
+// elements to the engine. The last one has a single bit of the bytes, and zeros behind it.
+#[inline]
+fn put_two_bytes<Ck: Checksum>(bytes: &[u8], engine: &mut Engine<Ck>, at: usize, buffer: &mut [u8])
+    requires two { length bytes.now ≡ 2 }
+    requires room { at + 4 ≤ length buffer.old }
+    ensures text { buffer.new ≡ take at buffer.old
+        ++ (map char_of_element (to_fes bytes.now) ++ drop (at + 4) buffer.old) }
+    ensures size { length (to_fes bytes.now) ≡ 4 }
+    ensures residue { IsResidueAfter Ck.MidstateRepr.number Ck.code engine.old
+        (to_fes bytes.now) engine.new }
+{
+    let row = (u32::from(bytes[0]) * 256 + u32::from(bytes[1])) * 16;
+    engine.input_two(row / 1024);
+    engine.input_two(row % 1024);
+    put_two((row / 1024) as usize, at, buffer);
+    put_two((row % 1024) as usize, at + 2, buffer);
+}
+
+// Puts the characters of fewer than five bytes, and hands their elements to the engine. Programs of 32
+// bytes leave two.
+#[inline]
+fn put_last<Ck: Checksum>(
+    bytes: &[u8],
+    engine: &mut Engine<Ck>,
+    count: usize,
+    buffer: &mut [u8],
+) -> usize
+    ensures text { PutsBehind (map char_of_element (to_fes bytes.now))
+        buffer.old count buffer.new result }
+    ensures residue { IsResidueAfter Ck.MidstateRepr.number Ck.code engine.old
+        (to_fes bytes.now) engine.new }
+{
+    if bytes.len() != 2 || count > buffer.len() || buffer.len() - count < 4 {
+        return put_rest(bytes, engine, count, buffer);
+    }
+    put_two_bytes(bytes, engine, count, buffer);
+    count + 4
+}
+
 // Puts the characters of the elements of bytes, and hands these to the engine.
 pub(super) fn put_bytes<Ck: Checksum>(
     bytes: &[u8],
@@ -203,5 +243,5 @@ pub(super) fn put_bytes<Ck: Checksum>(
         (to_fes bytes.now) engine.new }
 {
     let end = put_whole_groups(bytes, engine, count, buffer);
-    put_rest(&bytes[bytes.len() / 5 * 5..], engine, end, buffer)
+    put_last(&bytes[bytes.len() / 5 * 5..], engine, end, buffer)
 }

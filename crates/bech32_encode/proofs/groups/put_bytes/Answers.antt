@@ -12,7 +12,7 @@ returns-clause-text g c =
     let n = length bytes / 5 * 5 in
     let all = all_fes bytes _ (take_rest bytes n) in
     puts_then (map char_of_element (to_fes (take n bytes))) _ (map char_of_element (to_fes bytes)) _ _ _ _ _ _
-    (characters-append _ _ _ all) c.put_whole_groups-end.ensures.text c.put_rest.ensures.text
+    (characters-append _ _ _ all) c.put_whole_groups-end.ensures.text c.put_last.ensures.text
 
 pub returns-clause-residue : goal.returns-clause-residue
 returns-clause-residue g c =
@@ -21,4 +21,4 @@ returns-clause-residue g c =
     let bytes = c.args.bytes.now in
     let n = length bytes / 5 * 5 in
     let all = all_fes bytes _ (take_rest bytes n) in
-    residue_then number code (to_fes (take n bytes)) _ (to_fes bytes) _ _ _ all c.put_whole_groups-end.ensures.residue c.put_rest.ensures.residue
+    residue_then number code (to_fes (take n bytes)) _ (to_fes bytes) _ _ _ all c.put_whole_groups-end.ensures.residue c.put_last.ensures.residue
