@@ -1,53 +1,23 @@
 -- A text is refused by no fault exactly where it is in the grammar.
-use Rattle.std.proofs.Common.{◌≡◌, ℕ, ◌+◌, true, false, List, [], ◌∷◌, ◌++◌, Option, Some, None, Result, Ok, Err, length, refl, sym, ap, ◌∙◌, take, drop, ◌-◌, append_assoc, length-append, inl, inr, MatchResult, IsOk, ◌↔◌}
-use Rattle.std.proofs.lemmas.Bool.{cases_Bool, cond-true, cond-false}
+use Rattle.std.proofs.Common.{◌≡◌, ℕ, ◌+◌, true, false, List, [], ◌∷◌, ◌++◌, Option, Some, None, length, refl, sym, ap, ◌∙◌, take, drop, ◌-◌, append_assoc, length-append}
+use Rattle.std.proofs.lemmas.Bool.{cond-false}
 use Rattle.std.proofs.lemmas.List.{take_rest, drop_at}
 use Rattle.std.proofs.lemmas.Option.{some_pair_parts}
 use Rattle.std.specs.Str.{IsUtf8}
 use Rattle.bech32_gf.specs.Alphabet.{is_data}
 use Rattle.bech32_hrp.specs.Hrp.{is_mixed_case, first_of, hrp_refusal}
-use Rattle.bech32_hrp.specs.declared.Error.{Error as HrpError}
 use Rattle.bech32_refusals.specs.declared.error.CharError.{CharError}
 use Rattle.bech32_refusals.specs.declared.error.CharError.TheVariants.{MixedCase}
 use Rattle.bech32_refusals.specs.declared.error.UncheckedHrpstringError.{UncheckedHrpstringError}
 use Rattle.bech32_decode.specs.Text.{IsText, IsInGrammar, text_refusal, as_char, as_hrp, mixed_case, bad_hrp, missing_separator, invalid_character, split_at_last}
 use Rattle.bech32_decode.proofs.Texts.{separator-at, split_at_last-at}
-use Rattle.bech32_hrp.proofs.HrpTexts.{hrp_refusal-none, IsHrp-from_refusal}
+use Rattle.bech32_hrp.proofs.HrpTexts.{hrp_refusal-none}
 
 pub none_first : {A : Type 0} (f r : Option A) → first_of f r ≡ None → (f ≡ None) × (r ≡ None)
 none_first None r h = (refl, h)
 none_first (Some e) r h = absurd (cc)
 
-none_char : (o : Option CharError) → as_char o ≡ None → o ≡ None
-none_char None h = refl
-none_char (Some e) h = absurd (cc)
-
-none_hrp : (o : Option HrpError) → as_hrp o ≡ None → o ≡ None
-none_hrp None h = refl
-none_hrp (Some e) h = absurd (cc)
-
-one_case-from_none : (text : List ℕ) → mixed_case text ≡ None → is_mixed_case text ≡ false
-one_case-from_none text h =
-    elim (cases_Bool (is_mixed_case text)) [
-      | inl mixed ↦ absurd (let e = sym (cond-true (is_mixed_case text) (Some MixedCase) None mixed) ∙ h in cc)
-      | inr one ↦ one
-    ]
-
-pub IsText-from_refusal : (text hrp behind : List ℕ) → IsUtf8 hrp → text_refusal text ≡ None → text ≡ hrp ++ 49 ∷ behind → is_data behind ≡ true → IsText text hrp behind
-IsText-from_refusal text hrp behind u h e d =
-    let cut : split_at_last text ≡ Some (hrp, behind) = ap split_at_last e ∙ split_at_last-at hrp behind d in
-    let first = none_first (as_char (invalid_character text)) _ h in
-    let second = none_first (as_char (mixed_case text)) _ first.1 in
-    let third = none_first (as_char (missing_separator (split_at_last text))) (as_hrp (bad_hrp (split_at_last text))) second.1 in
-    let fine : hrp_refusal hrp ≡ None = sym (ap bad_hrp cut) ∙ none_hrp (bad_hrp (split_at_last text)) third.1 in
-    record {
-      split = e;
-      is_hrp = IsHrp-from_refusal hrp u fine;
-      data_bytes = d;
-      one_case = one_case-from_none text (none_char (mixed_case text) second.0);
-    }
-
-pub text_refusal-from_parts : (text hrp behind : List ℕ) → invalid_character text ≡ None → is_mixed_case text ≡ false → split_at_last text ≡ Some (hrp, behind) → hrp_refusal hrp ≡ None → text_refusal text ≡ None
+text_refusal-from_parts : (text hrp behind : List ℕ) → invalid_character text ≡ None → is_mixed_case text ≡ false → split_at_last text ≡ Some (hrp, behind) → hrp_refusal hrp ≡ None → text_refusal text ≡ None
 text_refusal-from_parts text hrp behind valid one cut fine =
     ap (λ (f : Option CharError). first_of (as_char f) (first_of (as_char (mixed_case text)) (first_of (as_char (missing_separator (split_at_last text))) (as_hrp (bad_hrp (split_at_last text)))))) valid
     ∙ ap (λ (f : Option CharError). first_of (as_char f) (first_of (as_char (missing_separator (split_at_last text))) (as_hrp (bad_hrp (split_at_last text))))) (cond-false (is_mixed_case text) (Some MixedCase) None one)
@@ -74,8 +44,6 @@ only-from_IsText text hrp behind is h d e k =
     let same : ◌≡◌ {A = Option (List ℕ × List ℕ)} (Some (h, d)) (Some (hrp, behind)) = sym (ap split_at_last e ∙ split_at_last-at h d k) ∙ (ap split_at_last is.split ∙ split_at_last-at hrp behind is.data_bytes) in
     some_pair_parts h hrp d behind same
 
-pub accepts-from_outcome : {U : Type 0} (text : List ℕ) → IsUtf8 text → (P : U → Type 0) (r : Result U UncheckedHrpstringError)
-    → ((u : U) → P u → IsInGrammar text)
-    → MatchResult r P (λ e. text_refusal text ≡ Some e) → IsOk r ↔ IsInGrammar text
-accepts-from_outcome text u P (Ok x) gives h = (λ _. gives x h, λ _. refl)
-accepts-from_outcome text u P (Err e) gives h = (λ ok. absurd (cc), λ g. absurd (let none = text_refusal-none text u g in cc))
+-- a text that is refused is not in the grammar
+pub not_in_grammar : (text : List ℕ) (e : UncheckedHrpstringError) → IsUtf8 text → text_refusal text ≡ Some e → IsInGrammar text → ⊥
+not_in_grammar text e u h g = absurd (let none = text_refusal-none text u g in cc)

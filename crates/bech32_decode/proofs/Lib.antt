@@ -7,7 +7,6 @@ pub mod Decoding
 pub mod Grammar
 pub mod Letters
 pub mod OneCase
-pub mod Outcomes
 pub mod Padding
 pub mod PartCases
 pub mod Readings

@@ -48,8 +48,12 @@ fn is_data_byte(b: u8) -> bool
     ensures { result ≡ is_of_alphabet b }
 {
     let lower = b | 32;
-    let is_left_out = (lower == b'1') | (lower == b'b') | (lower == b'i') | (lower == b'o');
-    b.is_ascii_alphanumeric() & !is_left_out
+    // 0 where one of these four is the same byte: quicker for many bytes than four comparisons.
+    let apart = (lower ^ b'1')
+        .min(lower ^ b'b')
+        .min(lower ^ b'i')
+        .min(lower ^ b'o');
+    b.is_ascii_alphanumeric() & (apart != 0)
 }
 
 // Whether bytes are of the alphabet. Each is looked at, so that many can be at a time.

@@ -4,6 +4,7 @@ ghost use Rattle.std.specs.Prelude.{◌≡◌, ◌↔◌, ◌≤◌, ℕ, true, 
 ghost use Rattle.std.specs.Char.{IsScalar};
 ghost use Rattle.bech32_gf.specs.Alphabet.{is_data};
 ghost use Rattle.bech32_gf.specs.Fe32.{elements_of};
+ghost use Rattle.bech32_hrp.specs.Hrp.{IsHrp, hrp_refusal};
 ghost use Rattle.bech32_decode.specs.Version.{version_of};
 ghost use Rattle.bech32_decode.specs.Text.{IsText, IsInGrammar, invalid_character, split_at_last, text_refusal};
 
@@ -14,7 +15,7 @@ use crate::validation::{validate_lengths, validate_residue};
 use crate::version::version_in;
 use bech32_checksum::Checksum;
 use bech32_gf::gf32::Fe32;
-use bech32_hrp::Hrp;
+use bech32_hrp::{self as hrp, Hrp, is_part};
 use bech32_refusals::{CharError, ChecksumError, UncheckedHrpstringError};
 
 /// A text in its parts: the human-readable part, and the data part with the checksum in it, which
@@ -55,33 +56,46 @@ fn before_separator(s: &str) -> Result<Option<&str>, CharError>
     Ok(Some(front.as_str()))
 }
 
+// Why a text is no human-readable part, if it is none.
+fn part_fault(front: &str) -> Option<hrp::Error>
+    ensures { MatchOption result (IsHrp front.now) (λ e. hrp_refusal front.now ≡ Some e) }
+{
+    // The quick test comes first: most texts that come here have a part.
+    if is_part(front.as_bytes()) {
+        return None;
+    }
+    match Hrp::parse(front) {
+        Ok(_) => None,
+        Err(e) => Some(e),
+    }
+}
+
+// The parts of a text, or its first fault. Out of line: its result is small, and what is read of
+// the parts is not.
+#[inline(never)]
+fn parts_in(s: &str) -> Result<(&[u8], &[u8]), UncheckedHrpstringError>
+    ensures { MatchResult result
+        (λ p. IsText s.now p.0.now p.1.now)
+        (λ e. text_refusal s.now ≡ Some e) }
+{
+    let before = before_separator(s)?;
+    let bytes = s.as_bytes();
+    if has_both_cases(bytes) {
+        return Err(UncheckedHrpstringError::Char(CharError::MixedCase));
+    }
+    let Some(front) = before else {
+        return Err(UncheckedHrpstringError::Char(CharError::MissingSeparator));
+    };
+    if let Some(e) = part_fault(front) {
+        return Err(UncheckedHrpstringError::Hrp(e));
+    }
+    Ok((front.as_bytes(), &bytes[front.len() + 1..]))
+}
+
 impl<'s> UncheckedHrpstring<'s> {
     ghost use Rattle.bech32_decode.specs.Checked.{IsWithoutChecksum};
     ghost use Rattle.bech32_decode.specs.Parts.{unchecked_hrp, unchecked_part, unchecked_data, unchecked_length};
     ghost use Rattle.bech32_decode.specs.Refusals.{HasLengthsOf, IsValidBy, IsInvalidBy};
-
-    // A text in its parts, or its first fault.
-    fn read(s: &'s str) -> Result<Self, UncheckedHrpstringError>
-        ensures { MatchResult result
-            (λ u. (text_refusal s.now ≡ None) × (s.now ≡ unchecked_part u ++ 49 ∷ unchecked_data u)
-            × (unchecked_length u ≡ length s.now))
-            (λ e. text_refusal s.now ≡ Some e) }
-    {
-        let before = before_separator(s)?;
-        let bytes = s.as_bytes();
-        if has_both_cases(bytes) {
-            return Err(UncheckedHrpstringError::Char(CharError::MixedCase));
-        }
-        let Some(front) = before else {
-            return Err(UncheckedHrpstringError::Char(CharError::MissingSeparator));
-        };
-        let hrp = Hrp::parse(front)?;
-        Ok(UncheckedHrpstring {
-            hrp,
-            data_part_ascii: &bytes[front.len() + 1..],
-            hrpstring_length: s.len(),
-        })
-    }
 
     /// Reads a text, and does not test its checksum.
     ///
@@ -89,6 +103,7 @@ impl<'s> UncheckedHrpstring<'s> {
     ///
     /// The first fault of the text: a character that is not of the alphabet, letters of both cases,
     /// no separator, a human-readable part that is none.
+    #[inline(always)]
     pub fn new(s: &'s str) -> Result<Self, UncheckedHrpstringError>
         ensures parts { IfOk result (λ u. IsText s.now (unchecked_part u) (unchecked_data u)
             × (unchecked_length u ≡ length s.now)) }
@@ -99,7 +114,12 @@ impl<'s> UncheckedHrpstring<'s> {
             (λ e. text_refusal s.now ≡ Some e) }
         ensures accepts { IsOk result ↔ IsInGrammar s.now }
     {
-        Self::read(s)
+        let (part, data_part_ascii) = parts_in(s)?;
+        Ok(UncheckedHrpstring {
+            hrp: Hrp::of_bytes(part),
+            data_part_ascii,
+            hrpstring_length: s.len(),
+        })
     }
 
     /// The human-readable part, in the case of the text.
