@@ -221,6 +221,27 @@ pub mended-from_answer : (text given : List ℕ) (answer : Correction (List (ℕ
     → IsMendedBy text given [] code
 mended-from_answer text given answer code n is h = inl (subst (λ (a : Correction (List (ℕ × Fe32)) (Unit {0})). IsListing code n text given a) is h, refl)
 
+-- what mends a text by its listing mends the same text
+pub mended_by_listing : (text text' given given' : List ℕ) (listing listing' : List (ℕ × Fe32)) (code : Code) (n : ℕ) → n ≡ bound → text' ≡ text → given' ≡ given → listing ≡ listing'
+    → IsListingOf code n text' given' listing → IsMendedBy text given listing' code
+mended_by_listing text text' given given' listing listing' code n count same gives lists h =
+    inr (subst (λ (l : List (ℕ × Fe32)). IsListingOf code bound text given l) lists
+    (subst (λ (s : List ℕ). IsListingOf code bound text s listing) gives
+    (subst (λ (t : List ℕ). IsListingOf code bound t given' listing) same
+    (subst (λ (k : ℕ). IsListingOf code k text' given' listing) count h))))
+
+-- what has no listing has none
+pub no_listing_there : (text text' given given' : List ℕ) (code : Code) (n : ℕ) → n ≡ bound → text' ≡ text → given' ≡ given → HasNoListing code n text' given' → HasNoListing code bound text given
+no_listing_there text text' given given' code n count same gives h =
+    subst (λ (s : List ℕ). HasNoListing code bound text s) gives
+    (subst (λ (t : List ℕ). HasNoListing code bound t given') same
+    (subst (λ (k : ℕ). HasNoListing code k text' given') count h))
+
+-- a list of no locations
+pub none_given : (given : List ℕ) → length given ≡ 0 → [] ≡ given
+none_given [] h = refl
+none_given (i ∷ given) h = absurd (omega arith)
+
 -- ---- what is put
 
 abbrev pub PutsAdded : List ℕ → List (ℕ × Fe32) → List ℕ → List ℕ → ℕ → Type 0

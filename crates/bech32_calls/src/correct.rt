@@ -2,9 +2,12 @@
 
 ghost use Rattle.std.specs.Prelude.{◌≡◌, ◌≤◌, ◌<◌, ℕ, List, length, map, IfErr, IfOk, MatchResult, OnErr};
 ghost use Rattle.std.specs.List.{AllByRecursion};
-ghost use Rattle.bech32_gf.specs.Fe32.{ops, value as value_of};
+ghost use Rattle.bech32_gf.specs.Fe32.{elements_of, ops, value as value_of};
 ghost use Rattle.bech32_gf.specs.declared.gf32.Fe32.{Fe32 as Element};
 ghost use Rattle.bech32_checksum.specs.Code.{Code};
+ghost use Rattle.bech32_checksum.specs.TextPolynomial.{text_polynomial};
+ghost use Rattle.bech32_poly.specs.Remainder.{IsRemainder};
+ghost use Rattle.bech32_decode.specs.Refusals.{HasLengths};
 ghost use Rattle.bech32_bch.specs.Pattern.{locations as locations_of};
 ghost use Rattle.bech32_encode.specs.Buffers.{IsPut};
 ghost use Rattle.bech32_hrp.specs.Hrp.{lowered};
@@ -18,8 +21,8 @@ use crate::input::text_of;
 use crate::refusal::Refusal;
 use bech32::{Bech32, Bech32m, Fe32};
 use bech32_correction::{
-    Correction, CorrectsInPlace, Listing, NoMemory, listing_of_read, listing_of_unread, mend,
-    said_of_read,
+    Correction, CorrectsInPlace, Listing, NoMemory, erased_of_read, error_of_read, listing_of_read,
+    listing_of_unread, mend, said_of_read,
 };
 use bech32_decode::Reading;
 
@@ -155,6 +158,38 @@ fn corrected_unread<Ck: CorrectsInPlace>(
     }
 }
 
+// Mends a text that one walk read, and that the checksum refuses for its residue, where the checksum
+// does not look the correction up. Out of line: where it does, no listing is to be cleared.
+#[inline(never)]
+fn corrected_by_search<Ck: CorrectsInPlace>(
+    reading: &Reading<'_, Ck>,
+    text: &[u8],
+    erasures: &[usize],
+    locations: &mut [usize],
+    values: &mut [u8],
+    mended: &mut [u8],
+) -> Result<usize, Refusal>
+    requires bound { Ck.bound ≡ bound }
+    requires read { reading.now.text.now ≡ text.now }
+    requires lengths { HasLengths Ck.code
+        (length reading.now.text.now) (length reading.now.data_part.now) }
+    requires refused { IsRemainder ops Ck.code.generator
+        (text_polynomial reading.now.hrp.now (elements_of reading.now.data_part.now))
+        Ck.code.target → ⊥ }
+    ensures value { IfOk result (λ n. PutsMended text.now erasures.now
+        locations.old locations.new values.old values.new n
+        mended.old mended.new (length text.now) Ck.code) }
+    ensures refused { IfErr result (λ e. IsCorrectFault text.now erasures.now
+        (length locations.old) (length values.old) (length mended.old) Ck.code e) }
+    ensures same { OnErr result ((locations.new ≡ locations.old) × (values.new ≡ values.old)
+        × (mended.new ≡ mended.old)) }
+{
+    match listing_of_read(reading, erasures) {
+        Some(listing) => { put_correction(listing.as_slice(), text, locations, values, mended) }
+        None => Err(Refusal::NoCorrection),
+    }
+}
+
 // Mends a text by one checksum.
 #[inline(never)]
 fn corrected_by<Ck: CorrectsInPlace>(
@@ -180,9 +215,16 @@ fn corrected_by<Ck: CorrectsInPlace>(
     if reading.has_target() {
         return put_correction(&[], text, locations, values, mended);
     }
-    match listing_of_read(&reading, erasures) {
+    if erasures.is_empty() {
+        return match error_of_read(&reading) {
+            Some(Some(error)) => put_correction(&[error], text, locations, values, mended),
+            Some(None) => Err(Refusal::NoCorrection),
+            None => corrected_by_search(&reading, text, erasures, locations, values, mended),
+        };
+    }
+    match erased_of_read(&reading, erasures) {
         Some(listing) => put_correction(listing.as_slice(), text, locations, values, mended),
-        None => Err(Refusal::NoCorrection),
+        None => corrected_by_search(&reading, text, erasures, locations, values, mended),
     }
 }
 

@@ -1,5 +1,6 @@
 -- What follows of a text from what its checksum and the corrector answer.
 use Rattle.std.proofs.Common.{◌≡◌, ℕ, ◌<◌, ◌≤◌, List, [], ◌∷◌, map, length, Option, None, Some, MatchOption, MatchResult, Result, Ok, Err, subst, sym, ap, ◌∙◌, refl, arith}
+use Rattle.std.specs.Prelude.{⊤}
 use Rattle.std.specs.List.{AllByRecursion}
 use Rattle.std.proofs.Math.Decide.{dec_lt}
 use Rattle.std.proofs.lemmas.List.{length-append}
@@ -13,10 +14,11 @@ use Rattle.bech32_hrp.specs.Hrp.{lowered}
 use Rattle.bech32_checksum.specs.Code.{Code}
 use Rattle.bech32_checksum.specs.Encoded.{char_of_element}
 use Rattle.bech32_checksum.specs.TextPolynomial.{text_polynomial}
-use Rattle.bech32_bch.specs.Erasures.{with_erasures}
+use Rattle.bech32_bch.specs.Erasures.{AreErasures, with_erasures}
 use Rattle.bech32_solver.specs.Carried.{of_checksum}
-use Rattle.bech32_direct.specs.Question.{Explains, IsOnlyListing, Question}
+use Rattle.bech32_direct.specs.Question.{Explains, IsAnswerTo, IsOnlyListing, Question, listing_of_one}
 use Rattle.bech32_corrector.specs.Given.{IsAnswerWith}
+use Rattle.bech32_corrector.proofs.Different.{erasures_are}
 use Rattle.bech32_decode.specs.Acceptance.{Accepts}
 use Rattle.bech32_decode.specs.Parts.{unchecked_data, unchecked_part}
 use Rattle.bech32_decode.specs.Refusals.{HasLengths, IsChecksumRefusal, IsInvalidBy, IsValidBy}
@@ -97,6 +99,26 @@ listing-from_only code bound text given hrp data_part residue listing is inside 
         (all-with_erasures (λ i. i < length data_part) [] given tt inside)) only.mends,
   );
 }
+
+-- what an error that is looked up says of the text, where there are no erasures
+pub error_answered : (code : Code) (bound : ℕ) (text hrp data_part : List ℕ) (residue : List Fe32) (found : Option (Option (ℕ × Fe32)))
+    → IsRefusedFor code text hrp data_part residue
+    → MatchOption found ⊤ (λ one. IsAnswerTo code bound (question_of data_part residue []) (listing_of_one one))
+    → MatchOption found ⊤ (λ one. MatchOption one (HasNoListing code bound text []) (λ error. IsListingOf code bound text [] (error ∷ [])))
+error_answered code bound text hrp data_part residue None is h = h
+error_answered code bound text hrp data_part residue (Some None) is none = record { hrp = hrp; data_part = data_part; residue = residue; refused = is; none = λ inside. none }
+error_answered code bound text hrp data_part residue (Some (Some error)) is only = listing-from_only code bound text [] hrp data_part residue (error ∷ []) is tt only
+
+-- and the elements at erasures
+pub erased_answered : (code : Code) (bound : ℕ) (text given hrp data_part : List ℕ) (residue : List Fe32) (found : Option (List (ℕ × Fe32)))
+    → IsRefusedFor code text hrp data_part residue
+    → MatchOption found ⊤ (λ listing. AreErasures (length data_part) given
+    × IsAnswerTo code bound (record { residue = residue; window = length data_part; erasures = given }) (Some listing))
+    → MatchOption found ⊤ (λ listing. IsListingOf code bound text given listing)
+erased_answered code bound text given hrp data_part residue None is h = h
+erased_answered code bound text given hrp data_part residue (Some listing) is (erased, only) =
+    listing-from_only code bound text given hrp data_part residue listing is erased.below
+    (subst (λ (s : List ℕ). IsOnlyListing code bound (record { residue = residue; window = length data_part; erasures = s }) listing) (sym (erasures_are given erased.once)) only)
 
 -- what a listing of the text's corrector says of the text
 pub listed : (code : Code) (bound : ℕ) (text given : List ℕ) (corrector : Question) (listing : List (ℕ × Fe32)) → IsCorrectorOf code text corrector

@@ -1,15 +1,16 @@
 -- What follows of a text that one walk read from the remainder that it leaves.
-use Rattle.std.proofs.Common.{◌≡◌, ℕ, ◌≤◌, List, length, take, ap, subst, ◌∙◌, arith}
+use Rattle.std.proofs.Common.{◌≡◌, ℕ, ◌≤◌, List, [], length, take, ap, subst, sym, ◌∙◌, arith}
 use Rattle.std.proofs.lemmas.List.{get_or_past}
 use Rattle.bech32_gf.specs.Fe32 as fe32
 use Rattle.bech32_gf.specs.Fe32.{elements_of, ops}
 use Rattle.bech32_gf.specs.declared.gf32.Fe32.{Fe32}
 use Rattle.bech32_gf.specs.laws.Fe32Laws.{is_field}
+use Rattle.bech32_gf.specs.laws.Ring.{neg_unique}
 use Rattle.bech32_poly.specs.Division.{remainder_of}
 use Rattle.bech32_poly.specs.Polynomial.{IsSamePolynomial, add, coefficient}
 use Rattle.bech32_poly.specs.Remainder.{IsRemainder}
 use Rattle.bech32_poly.proofs.Lists.{coefficient-add}
-use Rattle.bech32_poly.proofs.Remainder.{length-remainder_of, remainder_exists}
+use Rattle.bech32_poly.proofs.Remainder.{length-remainder_of, remainder_exists, remainder_of-itself, remainder_of-same}
 use Rattle.bech32_poly.proofs.Trimmed.{trimmed_same}
 use Rattle.bech32_checksum.specs.Code.{Code}
 use Rattle.bech32_checksum.specs.TextPolynomial.{text_polynomial}
@@ -53,3 +54,13 @@ refused_by_rest code text hrp data_part residue n is lengths size degree within 
       };
       not_target = other_remainder code (text_polynomial hrp (elements_of data_part)) not;
     }
+
+-- a residue for which a text is refused is not zero
+pub residue_not_zero : (code : Code) (text hrp data_part : List ℕ) (residue : List Fe32) → length code.target ≡ length code.generator
+    → IsRefusedFor code text hrp data_part residue → IsSamePolynomial ops residue [] → ⊥
+residue_not_zero code text hrp data_part residue size is zero =
+    let remainder = is.read.remainder in
+    is.not_target (sym (remainder_of-itself is_field code.generator remainder is.read.is_remainder.short)
+    ∙ remainder_of-same is_field code.generator remainder code.target (λ k. sym (neg_unique is_field (coefficient ops remainder k) (coefficient ops code.target k)
+    (sym (coefficient-add is_field remainder code.target k) ∙ sym (is.read.residue_is k) ∙ zero k)))
+    ∙ remainder_of-itself is_field code.generator code.target size)

@@ -1,9 +1,12 @@
 //! What a checksum says of a mistyped text, without memory: for checksums of at most six characters.
 
-ghost use Rattle.std.specs.Prelude.{◌≡◌, ◌≤◌, [], length, Ok, IsOk, MatchOption, MatchResult};
+ghost use Rattle.std.specs.Prelude.{◌≡◌, ◌≤◌, ◌∷◌, [], length, Ok, IsOk, MatchOption, MatchResult, refl, ⊤};
+ghost use Rattle.std.proofs.Common.{arith};
 ghost use Rattle.bech32_gf.specs.Fe32.{elements_of, ops};
 ghost use Rattle.bech32_poly.specs.Remainder.{IsRemainder};
 ghost use Rattle.bech32_checksum.specs.Code.{bech32, bech32m};
+ghost use Rattle.bech32_checksum.specs.Roots.{AreLawfulRoots};
+ghost use Rattle.bech32_checksum.specs.laws.RootLaws.{bech32_roots, bech32m_roots};
 ghost use Rattle.bech32_checksum.specs.TextPolynomial.{text_polynomial};
 ghost use Rattle.bech32_decode.specs.Refusals.{HasLengths};
 ghost use Rattle.bech32_corrector.specs.Given.{IsAnswerWith};
@@ -16,6 +19,7 @@ use crate::residue_errors::residue_error_in;
 use bech32_checksum::{Bech32, Bech32m, CorrectingChecksum};
 use bech32_corrector::listing_given;
 use bech32_decode::{Reading, UncheckedHrpstring};
+use bech32_direct::{ShortListing, erased_below, single_below};
 use bech32_gf::gf32::Fe32;
 use bech32_refusals::CheckedHrpstringError;
 use std::alloc::AllocError;
@@ -45,6 +49,12 @@ pub trait CorrectsInPlace: CorrectingChecksum {
         ensures { IsAnswerWith Self.code Self.bound
             (record { residue = residue.now; window = window; erasures = [] })
             erasures.now result };
+
+    // Three of the roots serve to find errors, and they are lawful.
+    ghost three_law: { Self.bound ≡ 3 };
+
+    ghost roots_law: { AreLawfulRoots Self.CorrectionField.ops Self.CorrectionField.embed Self.code
+        Self.ROOT_GENERATOR Self.ROOT_EXPONENTS_START Self.ROOT_EXPONENTS_END };
 }
 
 impl CorrectsInPlace for Bech32 {
@@ -56,6 +66,10 @@ impl CorrectsInPlace for Bech32 {
     ) -> Option<Listing<NoMemory>> {
         answer_of(listing_given::<Self, NoMemory>(NoMemory, window, residue, erasures, PhantomData))
     }
+
+    ghost three_law = { refl };
+
+    ghost roots_law = { bech32_roots (Prim.omega arith) };
 }
 
 impl CorrectsInPlace for Bech32m {
@@ -67,6 +81,10 @@ impl CorrectsInPlace for Bech32m {
     ) -> Option<Listing<NoMemory>> {
         answer_of(listing_given::<Self, NoMemory>(NoMemory, window, residue, erasures, PhantomData))
     }
+
+    ghost three_law = { refl };
+
+    ghost roots_law = { bech32m_roots (Prim.omega arith) };
 }
 
 /// The listing that mends a text that one walk read, and that the checksum refuses for its residue,
@@ -89,6 +107,48 @@ pub fn listing_of_read<Ck: CorrectsInPlace>(
     let residue = reading.error_residue();
     let window = reading.data_part.len();
     Ck::listing_of_residue(&residue[..Ck::CHECKSUM_LENGTH], window, erasures)
+}
+
+/// The error that mends a text that one walk read, and that the checksum refuses for its residue, where
+/// there are no erasures, if the checksum looks it up; the outer `None` says nothing.
+#[inline(always)]
+pub fn error_of_read<Ck: CorrectsInPlace>(
+    reading: &Reading<'_, Ck>,
+) -> Option<Option<(usize, Fe32)>>
+    requires lengths { HasLengths Ck.code
+        (length reading.now.text.now) (length reading.now.data_part.now) }
+    requires refused { IsRemainder ops Ck.code.generator
+        (text_polynomial reading.now.hrp.now (elements_of reading.now.data_part.now))
+        Ck.code.target → ⊥ }
+    ensures { MatchOption result ⊤ (λ found. MatchOption found
+        (HasNoListing Ck.code Ck.bound reading.now.text.now [])
+        (λ error. IsListingOf Ck.code Ck.bound reading.now.text.now [] (error ∷ []))) }
+{
+    let residue = reading.error_residue();
+    single_below::<Ck>(reading.data_part.len(), &residue[..Ck::CHECKSUM_LENGTH])
+}
+
+/// The elements at two or three erasures that mend a text that one walk read, and that the checksum
+/// refuses for its residue, if the checksum looks them up; `None` says nothing.
+#[inline(always)]
+pub fn erased_of_read<Ck: CorrectsInPlace>(
+    reading: &Reading<'_, Ck>,
+    erasures: &[usize],
+) -> Option<ShortListing>
+    requires lengths { HasLengths Ck.code
+        (length reading.now.text.now) (length reading.now.data_part.now) }
+    requires refused { IsRemainder ops Ck.code.generator
+        (text_polynomial reading.now.hrp.now (elements_of reading.now.data_part.now))
+        Ck.code.target → ⊥ }
+    ensures { MatchOption result ⊤ (λ listing.
+        IsListingOf Ck.code Ck.bound reading.now.text.now erasures.now listing) }
+{
+    let residue = reading.error_residue();
+    erased_below::<Ck>(
+        reading.data_part.len(),
+        &residue[..Ck::CHECKSUM_LENGTH],
+        erasures,
+    )
 }
 
 // What a listing that is looked for says of a text.

@@ -15,8 +15,8 @@ pub use self::correcting::{
 };
 pub use self::error::CorrectError;
 pub use self::in_place::{
-    CorrectsInPlace, bech32_listing, bech32m_listing, listing_of_read, listing_of_unread,
-    said_of_read,
+    CorrectsInPlace, bech32_listing, bech32m_listing, erased_of_read, error_of_read,
+    listing_of_read, listing_of_unread, said_of_read,
 };
 pub use self::mending::{mend, mended_in};
 pub use self::no_memory::NoMemory;

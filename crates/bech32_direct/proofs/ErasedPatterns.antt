@@ -49,19 +49,20 @@ placed-map {F} s h (suc n) less =
     ∙ ap (map {B = ℕ × F} (λ m. (m, h m))) (sym (take_more s n 0 (omega arith)) ∙ ap (λ k. take k s) more)
 
 -- no error stands behind the erasures
-pub only_erased : {F : Type 0} (f : Ops F) (w count : ℕ) (s : List ℕ) (value : ℕ → F) → length s ≤ count → IsCandidate f w s count (placed s value (length s))
-only_erased f w count s value few = record {
+pub erased_listing : {F : Type 0} (f : Ops F) (w count : ℕ) (s : List ℕ) (listing : List (ℕ × F)) → locations listing ≡ s → length s ≤ count → IsCandidate f w s count listing
+erased_listing f w count s listing whole few = record {
   errors = [];
   are_errors = record { in_order = tt; below = tt; outside = tt; few = omega arith };
   placed = whole ∙ sym (append-nil s);
   values = subst (AllByRecursion (λ p. p.1 ≢ f.zero)) (sym none) tt;
 }
   where
-    whole : locations (placed s value (length s)) ≡ s
-    whole = locations-placed s value (length s) (omega arith) ∙ take_all (length s) s (omega arith)
+    none : drop (length s) listing ≡ []
+    none = drop_all (length s) listing (omega (arith, length-locations listing, ap length whole))
 
-    none : drop (length s) (placed s value (length s)) ≡ []
-    none = drop_all (length s) (placed s value (length s)) (omega (arith, length-locations (placed s value (length s)), ap length whole))
+pub only_erased : {F : Type 0} (f : Ops F) (w count : ℕ) (s : List ℕ) (value : ℕ → F) → length s ≤ count → IsCandidate f w s count (placed s value (length s))
+only_erased f w count s value few =
+    erased_listing f w count s (placed s value (length s)) (locations-placed s value (length s) (omega arith) ∙ take_all (length s) s (omega arith)) few
 
 -- ---- patterns without errors outside the erasures
 

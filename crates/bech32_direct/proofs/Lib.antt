@@ -1,5 +1,7 @@
 pub mod Elimination
 pub mod ErasedPatterns
+pub mod FewErasures
+pub mod Lawful
 pub mod Mends
 pub mod OneError
 pub mod Only

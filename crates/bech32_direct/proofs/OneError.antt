@@ -1,5 +1,5 @@
 -- Patterns of one error, and the row of the location's power of x.
-use Rattle.std.specs.Prelude.{◌≢◌, ◌==◌, Bool, true, false, not}
+use Rattle.std.specs.Prelude.{◌≢◌, ◌==◌, Bool, true, false, not, Option, None}
 use Rattle.std.proofs.Common.{◌≡◌, ◌↔◌, ◌<◌, ◌≤◌, ◌*◌, ◌^◌, ◌-◌, ℕ, zero, suc, List, [], ◌∷◌, length, sym, ap, subst, ◌∙◌, refl, arith}
 use Rattle.bech32_gf.specs.Field.{Ops, IsField}
 use Rattle.bech32_gf.specs.Fe32 as fe32
@@ -8,10 +8,11 @@ use Rattle.bech32_gf.specs.laws.Fe32Laws.{eq_is_equal, is_field}
 use Rattle.bech32_gf.specs.laws.Ring.{mul_zero}
 use Rattle.bech32_poly.specs.Division.{remainder_of}
 use Rattle.bech32_poly.specs.Pattern.{monomial, pattern_polynomial}
-use Rattle.bech32_poly.specs.Polynomial.{coefficient, scale}
+use Rattle.bech32_poly.specs.Polynomial.{IsSamePolynomial, coefficient, scale}
 use Rattle.bech32_poly.specs.Remainder.{IsRemainder}
 use Rattle.bech32_poly.proofs.Lists.{coefficient-scale, coefficient-zeros, same_cons}
 use Rattle.bech32_poly.proofs.Remainder.{remainder_exists, remainder_of-scale, remainder_unique}
+use Rattle.bech32_checksum.specs.OneError.{IsOnlyError, IsSingle}
 use Rattle.bech32_checksum.specs.Packed.{digit_of, digits}
 use Rattle.bech32_checksum.proofs.DigitRows.{coefficient-digits}
 use Rattle.bech32_bch.specs.Pattern.{HasRemainder, Solves}
@@ -68,17 +69,28 @@ screened_digit g residue degree i v number screening size some clear clear' is i
     ∙ coefficient-digits (length g) number m (subst (λ d. number < 2 ^ (5 * d)) (sym size) clear)) ∙ h m)
 
 -- nothing has a residue that is not zero as remainder
-not_nothing : (g residue : List Fe32) (pivot : ℕ) → coefficient fe32.ops residue pivot ≢ fe32.zero → HasRemainder fe32.ops g residue [] → ⊥
-not_nothing g residue pivot some r =
-    some (sym (r.2 pivot) ∙ ap (λ u. coefficient fe32.ops u pivot) (remainder_unique is_field g [] r.0 r.1) ∙ coefficient-zeros is_field (length g) pivot)
+not_nothing : (g residue : List Fe32) → (IsSamePolynomial fe32.ops residue [] → ⊥) → HasRemainder fe32.ops g residue [] → ⊥
+not_nothing g residue some r =
+    some (λ n. sym (r.2 n) ∙ ap (λ u. coefficient fe32.ops u n) (remainder_unique is_field g [] r.0 r.1) ∙ coefficient-zeros is_field (length g) n)
 
 -- where no single error has the residue as remainder, no pattern within the bound does
-pub no_pattern : (g residue : List Fe32) (pivot window bound : ℕ) → bound ≤ 3 → coefficient fe32.ops residue pivot ≢ fe32.zero
+pub no_pattern : (g residue : List Fe32) (window bound : ℕ) → bound ≤ 3 → (IsSamePolynomial fe32.ops residue [] → ⊥)
     → ((i : ℕ) (v : Fe32) → i < window → HasRemainder fe32.ops g residue ((i, v) ∷ []) → ⊥)
     → (e : List (ℕ × Fe32)) → Solves fe32.ops g residue [] window bound e → ⊥
-no_pattern g residue pivot window bound few some none [] h = not_nothing g residue pivot some h.remainder
-no_pattern g residue pivot window bound few some none (p ∷ []) h = none p.0 p.1 h.pattern.below.0 h.remainder
-no_pattern g residue pivot window bound few some none (p ∷ q ∷ e) h = omega (arith, few, h.few)
+no_pattern g residue window bound few some none [] h = not_nothing g residue some h.remainder
+no_pattern g residue window bound few some none (p ∷ []) h = none p.0 p.1 h.pattern.below.0 h.remainder
+no_pattern g residue window bound few some none (p ∷ q ∷ e) h = omega (arith, few, h.few)
+
+-- the only single error below a limit tells of those below a window
+pub none_below : (g residue : List Fe32) (limit window : ℕ) (found : Option (ℕ × Fe32)) → window ≤ limit → IsSingle g limit residue found → found ≡ None
+    → (i : ℕ) (v : Fe32) → i < window → HasRemainder fe32.ops g residue ((i, v) ∷ []) → ⊥
+none_below g residue limit window found within only is i v below = (subst (IsSingle g limit residue) is only) i v (omega (arith, below, within))
+
+pub none_before : (g residue : List Fe32) (limit window : ℕ) (error : ℕ × Fe32) → window ≤ limit → IsOnlyError g limit residue error → window ≤ error.0
+    → (i : ℕ) (v : Fe32) → i < window → HasRemainder fe32.ops g residue ((i, v) ∷ []) → ⊥
+none_before g residue limit window error within only past i v below left =
+    let same : i ≡ error.0 = only.only i v (omega (arith, below, within)) left in
+    omega (arith, same, below, past)
 
 -- the empty pattern has a residue of zeros as remainder
 pub nothing_left : (g residue : List Fe32) → ((n : ℕ) → coefficient fe32.ops residue n ≡ fe32.zero) → HasRemainder fe32.ops g residue []

@@ -1,5 +1,5 @@
 -- What a corrector is asked, and what answers it (BIP-173, Checksum design).
-use Rattle.std.specs.Prelude.{ℕ, List, Option, Some, None}
+use Rattle.std.specs.Prelude.{ℕ, List, [], ◌∷◌, Option, Some, None}
 use Rattle.bech32_gf.specs.Fe32.{ops}
 use Rattle.bech32_gf.specs.declared.gf32.Fe32.{Fe32}
 use Rattle.bech32_checksum.specs.Code.{Code}
@@ -35,3 +35,8 @@ abbrev pub IsAnswerTo : Code → ℕ → Question → Option (List (ℕ × Fe32)
 IsAnswerTo code bound question None =
     (errors : List (ℕ × Fe32)) → Explains code bound question errors → ⊥
 IsAnswerTo code bound question (Some listing) = IsOnlyListing code bound question listing
+
+-- the listing of one error, or None where there is none
+abbrev pub listing_of_one : Option (ℕ × Fe32) → Option (List (ℕ × Fe32))
+listing_of_one None = None
+listing_of_one (Some error) = Some (error ∷ [])

@@ -117,7 +117,7 @@ fn single_error<Ck: Checksum>(
 // The only single error below the code length that leaves the residue, if any, where the checksum
 // has a way of its own to find it; the outer `None` says nothing.
 #[inline]
-fn looked_up_error<Ck: Checksum>(residue: &[Fe32]) -> Option<Option<(usize, Fe32)>>
+pub(crate) fn looked_up_error<Ck: Checksum>(residue: &[Fe32]) -> Option<Option<(usize, Fe32)>>
     ensures { MatchOption result ⊤
         (λ found. IsSingle Ck.code.generator Ck.CODE_LENGTH residue.now found) }
 {

@@ -1,5 +1,5 @@
 use Rattle.std.specs.Prelude.{slice_index, true, false}
-use Rattle.std.proofs.Common.{◌≡◌, ◌≤◌, ◌∙◌, ℕ, suc, List, length, sym, subst, ap, refl, arith}
+use Rattle.std.proofs.Common.{◌≡◌, ◌∙◌, ℕ, suc, List, length, sym, subst, ap, arith}
 use Rattle.bech32_gf.specs.Fe32 as fe32
 use Rattle.bech32_gf.specs.declared.gf32.Fe32.{Fe32}
 use Rattle.bech32_gf.specs.laws.Fe32Laws.{is_field}
@@ -12,8 +12,7 @@ use Rattle.bech32_bch.proofs.Candidates.{apart_inside}
 use Rattle.bech32_direct.specs.Equations.{placed}
 use Rattle.bech32_direct.specs.Question.{IsOnlyListing}
 use Rattle.bech32_direct.proofs.ErasedPatterns.{erased_pattern, only_erased}
-use Rattle.bech32_direct.proofs.Only.{only_listing}
-use Rattle.bech32_direct.proofs.Usable.{usable_read}
+use Rattle.bech32_direct.proofs.Lawful.{only_lawful}
 use Rattle.bech32_direct.proofs.erased.correct_erased.Goals as goal
 
 pub returns-in_default-clause-answer : goal.returns-in_default-clause-answer
@@ -27,18 +26,11 @@ returns-in_default-clause-answer g c = λ e h.
 
 pub returns-clause-answer : goal.returns-clause-answer
 returns-clause-answer g c =
-    let o = g.Ck.CorrectionField.Arithmetic.ops in
-    let embed = g.Ck.CorrectionField.Extension.embed in
     let code = g.Ck.Checksum.code in
     let residue = c.args.residue.now in
     let s = c.args.erasures.now in
     let value : ℕ → Fe32 = λ i. coefficient fe32.ops c.in-Some.values (suc i) in
-    let into = g.met.Ck.CorrectionField.LocatorField.embeds_law in
-    let apart = apart_inside embed g.Ck.CorrectionField.Extension.retract g.met.Ck.CorrectionField.Extension.retract_law in
-    let usable = usable_read o embed g.met.Ck.CorrectionField.LocatorField.embeds_law.one
-    code g.Ck.Checksum.ROOT_GENERATOR g.Ck.Checksum.ROOT_GENERATOR g.Ck.Checksum.ROOT_EXPONENTS_START g.Ck.Checksum.ROOT_EXPONENTS_START g.Ck.Checksum.ROOT_EXPONENTS_END g.Ck.Checksum.bound
-    c.args.window refl refl g.met.Ck.Checksum.bound_law
-    c.requires.lawful (subst (λ n. c.args.window ≤ n) (sym g.met.Ck.Checksum.code_length_law) c.requires.within) in
+    let apart = apart_inside g.Ck.CorrectionField.Extension.embed g.Ck.CorrectionField.Extension.retract g.met.Ck.CorrectionField.Extension.retract_law in
     let size : length code.target ≡ length code.generator =
     ap (λ (k : Code). length k.target) g.met.Ck.Checksum.code_law ∙ length-tabulate g.Ck.Checksum.CHECKSUM_LENGTH _ ∙ sym g.met.Ck.Checksum.degree_law in
     let found : HasRemainder fe32.ops code.generator residue (placed s value (length s)) =
@@ -46,8 +38,10 @@ returns-clause-answer g c =
     let listed : c.in_ok-listing.listing ≡ placed s value (length s) =
     c.in_ok-listing.ensures.items ∙ ap (λ (l : List ℕ). placed l value (length l)) c.as_slice-2.ensures in
     subst (λ (l : List (ℕ × Fe32)). IsOnlyListing code g.Ck.Checksum.bound (record { residue = residue; window = c.args.window; erasures = s }) l) (sym listed)
-    (only_listing g.met.Ck.CorrectionField.Arithmetic.laws into apart g.Ck.Checksum.ROOT_GENERATOR g.Ck.Checksum.ROOT_EXPONENTS_START g.Ck.Checksum.bound c.args.window code residue s (placed s value (length s))
-    usable c.requires.erased (only_erased fe32.ops c.args.window g.Ck.Checksum.bound s value c.requires.few) size found)
+    (only_lawful g.met.Ck.CorrectionField.Arithmetic.laws g.met.Ck.CorrectionField.LocatorField.embeds_law apart code
+    g.Ck.Checksum.ROOT_GENERATOR g.Ck.Checksum.ROOT_EXPONENTS_START g.Ck.Checksum.ROOT_EXPONENTS_END g.Ck.Checksum.bound g.Ck.Checksum.CODE_LENGTH c.args.window
+    g.met.Ck.Checksum.bound_law g.met.Ck.Checksum.code_length_law size c.requires.lawful c.requires.within residue s (placed s value (length s))
+    c.requires.erased (only_erased fe32.ops c.args.window g.Ck.Checksum.bound s value c.requires.few) found)
 
 refused : {P : Type 0} → false ≡ true → P
 refused h = absurd (cc h)
