@@ -1,3 +1,4 @@
+pub mod Digits
 pub mod Ended
 pub mod Kept
 pub mod Known

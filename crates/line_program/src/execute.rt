@@ -1,7 +1,8 @@
 //! What a program replies to commands, and so to each line.
 
 ghost use Rattle.std.specs.Prelude.{◌≡◌, ◌↔◌, ℕ, ◌+◌, ◌≤◌, ◌<◌, List, vec_len, vec_capacity};
-ghost use Rattle.std.specs.Prelude.{Option, None, IfErr, IsErrOf};
+ghost use Rattle.std.specs.Prelude.{Option, None, IfErr, IsErrOf, MatchOption};
+ghost use Rattle.std.specs.Str.{IsUtf8};
 ghost use Rattle.line_program.specs.Added.{AddsOrRefuses};
 ghost use Rattle.line_program.specs.Refused.{number_of_not_executed};
 ghost use Rattle.line_program.specs.Reply.{IsOutcomeBy, IsReplyBy};
@@ -50,6 +51,22 @@ pub trait Execute {
         ensures capacity { vec_capacity out.old ≤ vec_capacity out.new };
 }
 
+/// The text of a line, if it is UTF-8. ASCII is seen at once.
+#[inline]
+fn text_of(line: &[u8]) -> Option<&str>
+    ensures { MatchOption result (¬ IsUtf8 line.now)
+        (λ text. (text.now ≡ line.now) × IsUtf8 line.now) }
+{
+    if line.is_ascii() {
+        // ASCII is UTF-8: what the call requires is proved.
+        return Some(unsafe { str::from_utf8_unchecked(line) });
+    }
+    match str::from_utf8(line) {
+        Ok(text) => Some(text),
+        Err(_) => None,
+    }
+}
+
 /// Adds the outcome of a line, or leaves all as it was, with the number of the refusal.
 fn execute_line<P: Execute>(program: &P, line: &[u8], out: &mut Vec<u8>) -> Result<(), u8>
     requires { vec_len out.old + 2047 ≤ vec_capacity out.old }
@@ -61,7 +78,7 @@ fn execute_line<P: Execute>(program: &P, line: &[u8], out: &mut Vec<u8>) -> Resu
     if line.len() > LINE_LIMIT {
         return Err(1);
     }
-    let Ok(text) = str::from_utf8(line) else {
+    let Some(text) = text_of(line) else {
         return Err(2);
     };
     match program.execute(text, out) {

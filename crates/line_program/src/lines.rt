@@ -18,7 +18,7 @@ use std::io;
 const KEPT: usize = 4097;
 
 // So many bytes are read at once.
-const READ: usize = 16384;
+const READ: usize = 65536;
 
 // Replies are gathered in so much room.
 const OUT_ROOM: usize = 16384;

@@ -37,6 +37,11 @@ pub fn append_refusal(out: &mut Vec<u8>, number: u8)
     ensures size { vec_len out.new ≤ vec_len out.old + 6 }
     ensures capacity { vec_capacity out.old ≤ vec_capacity out.new }
 {
-    append(out, b"err ");
-    append_number(out, number);
+    if number >= 10 {
+        let tens = b'0' + number / 10;
+        let ones = b'0' + number % 10;
+        append(out, &[b'e', b'r', b'r', b' ', tens, ones]);
+    } else {
+        append(out, &[b'e', b'r', b'r', b' ', b'0' + number]);
+    }
 }
