@@ -84,10 +84,10 @@ pub fn correct<Ck: Checksum>(s: &str, erasures: &[usize]) -> Result<Correction, 
 /// most `errors` characters, 0 to 2, of the data part outside `erasures`, the locations of characters
 /// that are known to be wrong. Location 0 is the last character. There may be no such text.
 ///
-/// Of a text of at most 89 characters, two errors without erasures have one answer at most, the right
-/// one where two characters are wrong. **It may not be what was meant**: of texts of 62 characters
-/// at random, some 15 of 10,000 have one. Show it, and ask. With two erasures and two errors a
-/// call may take seconds.
+/// Where the data part has at most 89 characters, two errors without erasures have one answer at most,
+/// the right one where two characters are wrong. **It may not be what was meant**: of texts of 62
+/// characters at random, some 15 of 10,000 have one. Show it, and ask. With two erasures and two
+/// errors a call may take seconds.
 ///
 /// The order is that of the highest location of a change outside the erasures, then that of the
 /// element added there, then that of the next such location. A text without such changes is first:
