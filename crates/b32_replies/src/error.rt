@@ -12,7 +12,7 @@ pub enum RunError {
     #[error("b32: writing failed")]
     Write,
     /// Out of memory for the run's buffers.
-    #[error("b32: out of memory")]
+    #[error("b32: no memory")]
     Memory,
 }
 

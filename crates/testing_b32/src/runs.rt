@@ -4,7 +4,7 @@ use b32_replies::error::RunError;
 use b32_replies::run::run;
 use std::alloc::Global;
 use std::cell::Cell;
-use std::fmt::Debug;
+use std::fmt::{Debug, Display};
 use std::io;
 use std::process::Abort;
 
@@ -107,6 +107,28 @@ fn empty_input(rt: HostRuntime) {
     let mut out = Vec::new(rt.alloc());
     let outcome = run(rt.alloc(), &mut input, &mut out);
     same(&rt, &(outcome, out.as_slice()), &(Ok(()), b"".as_slice()));
+}
+
+// Fails where an end prints something else.
+fn says<E: Display>(rt: &impl Abort, alloc: Global, end: &E, message: &str) {
+    let text = format!(in alloc; "{end}").expect(rt, "memory");
+    assert_eq!(rt; text.as_str(), message);
+}
+
+#[test]
+fn ends_are_printed(rt: HostRuntime) {
+    let alloc = rt.alloc();
+    says(&rt, alloc, &RunError::Read, "b32: reading failed");
+    says(&rt, alloc, &RunError::Write, "b32: writing failed");
+    says(&rt, alloc, &RunError::Memory, "b32: no memory");
+}
+
+#[test]
+fn ends_of_any_program_are_printed(rt: HostRuntime) {
+    let alloc = rt.alloc();
+    says(&rt, alloc, &line_program::RunError::Read, "reading failed");
+    says(&rt, alloc, &line_program::RunError::Write, "writing failed");
+    says(&rt, alloc, &line_program::RunError::Memory, "out of memory");
 }
 
 // What a run over the input is to answer and to write where the read of the byte at `room` fails.

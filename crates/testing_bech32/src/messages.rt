@@ -3,7 +3,7 @@ use bech32::primitives::decode::{
     CharError, ChecksumError, CodeLengthError, UncheckedHrpstring, UncheckedHrpstringError,
 };
 use bech32::primitives::hrp;
-use bech32::{Bech32m, DecodeError, EncodeError};
+use bech32::{Bech32m, CorrectError, DecodeError, EncodeError};
 use std::alloc::Global;
 use std::fmt;
 use std::process::Abort;
@@ -99,4 +99,22 @@ fn tells_why_a_text_is_not_written(rt: HostRuntime) {
     let message =
         "string exceeds maximum allowed length: encoded length 1024 exceeds maximum (code length) 1023";
     says(&rt, alloc, &ChecksumError::CodeLength(too_long), message);
+}
+
+#[test]
+fn tells_why_a_text_is_not_corrected(rt: HostRuntime) {
+    let parse = UncheckedHrpstringError::Char(CharError::MixedCase);
+    for (error, message) in [
+        (
+            CorrectError::from(parse),
+            "parse failed: character error: mixed-case strings not allowed",
+        ),
+        (
+            CorrectError::from(ChecksumError::InvalidLength),
+            "invalid checksum: the checksummed string is not a valid length",
+        ),
+        (CorrectError::Memory, "out of memory"),
+    ] {
+        says(&rt, rt.alloc(), &error, message);
+    }
 }

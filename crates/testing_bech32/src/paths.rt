@@ -1,4 +1,8 @@
-//! Every item stands under the path that it has in the Rust crate.
+//! Every item stands under the path that it has in the Rust crate, and is what its name says.
+
+use crate::compare::same;
+use std::alloc::Global;
+use std::process::Abort;
 
 pub mod root {
     pub use bech32::{
@@ -88,5 +92,36 @@ pub mod primitives {
             WitnessLengthError, is_valid_witness_program_length, is_valid_witness_version,
             validate_witness_program_length, validate_witness_version,
         };
+    }
+}
+
+// Fails where a checksum's text of the part `a` and no bytes is another one.
+fn encodes<Ck: root::Checksum>(rt: &impl Abort, alloc: Global, want: &str) {
+    let part = root::Hrp::parse("a").expect(rt, "a part");
+    let text = root::encode::<Ck>(alloc, part, &[]).expect(rt, "a text");
+    same(rt, &text.as_str(), &want);
+}
+
+// The texts are test vectors of BIP-173 and BIP-350.
+#[test]
+fn checksums_by_each_path(rt: HostRuntime) {
+    let alloc = rt.alloc();
+    encodes::<root::Bech32>(&rt, alloc, "a12uel5l");
+    encodes::<primitives::Bech32>(&rt, alloc, "a12uel5l");
+    encodes::<root::Bech32m>(&rt, alloc, "a1lqfn3a");
+    encodes::<primitives::Bech32m>(&rt, alloc, "a1lqfn3a");
+}
+
+#[test]
+fn parts_by_each_path(rt: HostRuntime) {
+    for (part, want) in [
+        (hrp::BC, "bc"),
+        (hrp::TB, "tb"),
+        (hrp::BCRT, "bcrt"),
+        (primitives::hrp::BC, "bc"),
+        (primitives::hrp::TB, "tb"),
+        (primitives::hrp::BCRT, "bcrt"),
+    ] {
+        same(&rt, &part.as_str(), &want);
     }
 }

@@ -7,3 +7,5 @@ mod blocks;
 mod declared;
 #[cfg(test)]
 mod memory;
+#[cfg(test)]
+mod messages;

@@ -13,3 +13,5 @@ mod known;
 mod lent_memory;
 #[cfg(test)]
 mod memory;
+#[cfg(test)]
+mod messages;
