@@ -1,5 +1,6 @@
 use crate::compare::same;
 use bech32_hrp::{Error, Hrp, HrpSink};
+use std::alloc::Global;
 use std::fmt;
 use std::fmt::Write;
 use std::process::Abort;
@@ -88,6 +89,20 @@ fn reads_pieces_by_their_length(rt: HostRuntime) {
     both(&rt, &[ACCENTS, ACCENTS], too_long);
     both(&rt, &[CUT, "é"], too_long);
     both(&rt, &[LONGER, LONGER, "B"], Err(Error::TooLong(169)));
+}
+
+// Fails where one of the 83 fronts of a text is not read as it is printed.
+fn reads_each_front(rt: &impl Abort, alloc: Global, text: &str) {
+    let mut front = String::from_str(alloc, text).expect(rt, "memory");
+    for _ in 0..83 {
+        both(rt, &[&front], Ok(&front));
+        front.pop();
+    }
+}
+
+#[test]
+fn reads_values_of_each_length(rt: HostRuntime) {
+    reads_each_front(&rt, rt.alloc(), LONGEST);
 }
 
 // A value that prints these pieces and then fails is no part.
