@@ -7,9 +7,9 @@
  * memmove and memset alone. Any number of threads may call it.
  *
  * Each function answers BECH32_OK, or the number of a refusal (below). On a refusal it writes
- * nothing, but for the place of bech32_fault and what stands in lent memory: the buffers and the
- * lengths stay as they were. Else what it writes stands at the front of the buffer, and the bytes
- * behind it stay as they were. Nothing is ended by a zero byte.
+ * nothing, but for the place of bech32_fault, what stands in lent memory, and what is said of
+ * bech32_nearest: the buffers and the lengths stay as they were. Else what it writes stands at the
+ * front of the buffer, and the bytes behind it stay as they were. Nothing is ended by a zero byte.
  *
  * A buffer is a pointer and the number of bytes it has room for. No pointer may be null, not even
  * that of an empty text or buffer, and nothing that a function writes to may overlap with anything
@@ -188,14 +188,17 @@ uint32_t bech32_correct(uint32_t checksum, const uint8_t *text, size_t text_leng
 /*
  * Memory that a function may use: `size` bytes from `start` on, aligned to 16 bytes, in which the caller
  * keeps nothing. Afterwards it is the caller's again, and this the same, with every number but 91. With
- * 91 it is so too, or, should the function ever keep the memory (no run is known to), `size` is 0.
+ * 91 it is so too, or the function keeps the memory, and `size` is 0. That it never keeps it, and that
+ * 91 never comes where as many bytes are lent as is stated below, no proof says. It is tested:
+ * tools/every-length lent makes calls at every length, each with just so many bytes, and
+ * lists_or_wants_memory of bech32_c and proposes_or_wants_memory of codex32_c with fewer.
  */
 typedef struct {
     uint8_t *start;
     size_t size;
 } bech32_memory;
 
-/* So many bytes suffice for the near texts of an address (tested); for many texts, lend more. */
+/* So many bytes suffice where few texts are near, as to an address; for many, lend more. */
 #define BECH32_NEAREST_MEMORY(text_length) (16384u + 8u * (text_length))
 
 /*
@@ -206,12 +209,13 @@ typedef struct {
  *
  * The texts, in lower case, are put into `texts` one behind another: *count texts of text_length bytes
  * each. *count may be 0. Where the checksum accepts the text, it is itself the first. Without erasures
- * there is at most one where the data part has up to 89 characters, as in each segwit address; with them,
- * or in longer texts, there may be many. None may be what was meant: show them, and ask.
+ * there is at most one where the data part has up to 89 characters, as in each segwit address: the right
+ * one, if no more than `errors` of its characters are wrong. With them, or in longer texts, there may be
+ * many. None may be what was meant: show them, and ask.
  *
  * Refusals, the first that applies: 4; 2; 21, 22, 23, 11 to 15; 31, 32; 92; and 91 in place of 0 or 92
- * where `memory` does not suffice. Should the function ever keep the memory (above), `texts` may have
- * changed; but for that, it is as it was.
+ * where `memory` does not suffice. Where the function keeps the memory (above), `texts` may have changed;
+ * with every other refusal, and with every other 91, it is as it was.
  */
 uint32_t bech32_nearest(uint32_t checksum, const uint8_t *text, size_t text_length,
                         const size_t *erasures, size_t erasures_length, size_t errors,

@@ -75,14 +75,17 @@ uint32_t codex32_parse(const uint8_t *text, size_t text_length, uint32_t *thresh
 /*
  * Memory that a function may use: `size` bytes from `start` on, aligned to 16 bytes, in which the caller
  * keeps nothing. Afterwards it is the caller's again, and this the same, with every number but 91. With
- * 91 it is so too, or, should the function ever keep the memory (no run is known to), `size` is 0.
+ * 91 it is so too, or the function keeps the memory, and `size` is 0. That it never keeps it, and that
+ * 91 never comes where as many bytes are lent as is stated below, no proof says. It is tested:
+ * tools/every-length lent makes calls at every length, each with just so many bytes, and
+ * lists_or_wants_memory of bech32_c and proposes_or_wants_memory of codex32_c with fewer.
  */
 typedef struct {
     uint8_t *start;
     size_t size;
 } codex32_memory;
 
-/* So many bytes of memory suffice for a text of so many bytes. */
+/* So many bytes suffice for a text of so many bytes. */
 #define CODEX32_MEMORY(text_length) (16384u + 8u * (text_length))
 
 /*
@@ -94,7 +97,7 @@ typedef struct {
  * share index is tested.
  *
  * Refusals, the first that applies: 2; 21, 22, 23, 11 to 15; 82; 81; 34; 92; and 91 in place of 0, 34 or
- * 92 where `memory` does not suffice, which CODEX32_MEMORY(text_length) bytes do.
+ * 92 where `memory` does not suffice. With every refusal, 91 too, `proposed` is as it was.
  */
 uint32_t codex32_propose(const uint8_t *text, size_t text_length, codex32_memory *memory,
                          uint8_t *proposed, size_t proposed_room, size_t *proposed_length);

@@ -1,7 +1,9 @@
 -- Texts that are written to a sink, and why one is not.
-use Rattle.std.specs.Prelude.{◌≡◌, ◌<◌, ◌≤◌, ℕ, Bool, true, List, length, take, Option}
+use Rattle.std.specs.Prelude.{◌≡◌, ◌<◌, ◌≤◌, ℕ, Bool, true, List, length, take, Option, Result, ⊤}
 use Rattle.std.specs.Fmt.{WritesInCalls}
 use Rattle.std.specs.Io.KnownBytes.{Appends}
+use Rattle.std.specs.declared.io.Error.{Error}
+use Rattle.devices.specs.Marks.{IsErrorOfLastPiece}
 use Rattle.bech32_gf.specs.declared.gf32.Fe32.{Fe32}
 use Rattle.bech32_bits.specs.Bits.{to_fes}
 use Rattle.bech32_checksum.specs.Code.{Code}
@@ -60,3 +62,11 @@ abbrev pub IsIoRefusal : Type 0 → Type 0 → Code → List ℕ → List Fe32 �
 IsIoRefusal kept failed code hrp elements (IoTooLong e) = IsTooLong code hrp elements e × kept
 IsIoRefusal kept failed code hrp elements (Write e) =
     (encoded_length_of code hrp elements ≤ code.code_length) × failed
+
+-- why not all of the text was taken that was written to a sink of bytes
+abbrev pub IsWriteError : {K : Type 0} → (K → List ℕ → Result ℕ Error → K → Type 0) → Bool → Code
+    → List ℕ → List ℕ → K → EncodeIoError → Type 0
+IsWriteError write_gives upper code hrp bytes after (IoTooLong e) = ⊤
+IsWriteError write_gives upper code hrp bytes after (Write e) =
+    (text : List ℕ) × IsTextInCase upper code hrp (to_fes bytes) text
+    × IsErrorOfLastPiece write_gives text after e

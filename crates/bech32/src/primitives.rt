@@ -21,6 +21,7 @@ pub mod checksum {
         PackedNull,
     };
     pub use bech32_detect::{accepted_texts_are_far, detects_four, detects_four_in};
+    pub use bech32_four::four_errors_are_detected;
 }
 
 /// Correction of mistyped texts.
@@ -31,4 +32,5 @@ pub mod correction {
     };
     pub use bech32_corrector::{CorrectableError, Corrector, ErrorIterator};
     pub use bech32_poly::fieldvec::NO_ALLOC_MAX_LENGTH;
+    pub use bech32_refusals::MAX_DEGREE;
 }

@@ -4,7 +4,7 @@ ghost use Rattle.std.specs.Prelude.{◌≡◌, ◌≤◌, ⊤, true, false, IsOk
 ghost use Rattle.bech32_bits.specs.Bits.{to_fes};
 ghost use Rattle.bech32_encode.specs.TextLength.{encoded_length_of};
 ghost use Rattle.bech32_hrp.specs.HrpBytes.{hrp_bytes};
-ghost use Rattle.bech32.specs.Writing.{WritesText, AppendsText, AppendsBeginning, IsFmtRefusal, IsIoRefusal, FailsWith};
+ghost use Rattle.bech32.specs.Writing.{WritesText, AppendsText, AppendsBeginning, IsFmtRefusal, IsIoRefusal, IsWriteError, FailsWith};
 
 use crate::{EncodeError, EncodeIoError, encoded_length};
 use bech32_checksum::Checksum;
@@ -71,6 +71,8 @@ pub fn encode_into_bytes<Ck: Checksum, S: ByteSink>(
         (AppendsBeginning (S.contents sink.old) (S.contents sink.new)
         upper Ck.code (hrp_bytes hrp) «data».now))
         Ck.code (hrp_bytes hrp) (to_fes «data».now) e) }
+    ensures error { IfErr result (λ e. IsWriteError S.write_gives
+        upper Ck.code (hrp_bytes hrp) «data».now sink.new e) }
     ensures uncounted { S.flushes sink.new ≡ S.flushes sink.old }
     ensures same { S.is_same sink.old sink.new }
 {

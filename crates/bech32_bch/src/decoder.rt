@@ -51,16 +51,16 @@ fn listed<E: Extension, A: Allocator + Copy>(
     roots: Roots<E>,
     erasures: &ShortVec<usize, A>,
     found: &ShortVec<usize, A>,
-) -> Result<Option<ShortVec<(usize, E::BaseField), A>>, AllocError>
+) -> Result<Option<ShortVec<(usize, E::Base), A>>, AllocError>
     requires { length erasures.now + length found.now ≤ length list.now }
     ensures placed { IfOk result (λ answer. IfSome answer (λ listing.
         locations listing ≡ erasures.now ++ found.now)) }
     ensures not_zero { IfOk result (λ answer. IfSome answer (λ listing. AllByRecursion
-        (λ p. p.1 ≢ E.base.zero) (drop (length erasures.now) listing))) }
-    ensures found { IfOk result (λ answer. (v : ℕ → E.BaseField) → AreExplained
+        (λ p. p.1 ≢ E.base_ops.zero) (drop (length erasures.now) listing))) }
+    ensures found { IfOk result (λ answer. (v : ℕ → E.Base) → AreExplained
         E.ops E.embed roots.base roots.start list.now (erasures.now ++ found.now) v
         → ((i : ℕ) → IsAmong i (drop (length erasures.now) (erasures.now ++ found.now))
-        → v i ≢ E.base.zero)
+        → v i ≢ E.base_ops.zero)
         → MatchOption answer ⊥ (λ listing.
         listing ≡ map (λ i. (i, v i)) (erasures.now ++ found.now))) }
     ensures in_place { FitsInPlace (length list.now) → IsOk result }
@@ -84,17 +84,17 @@ fn candidate_of<E: Extension, A: Allocator + Copy>(
     window: usize,
     erasures: &ShortVec<usize, A>,
     known: &FieldVec<E, A>,
-) -> Result<Option<ShortVec<(usize, E::BaseField), A>>, AllocError>
+) -> Result<Option<ShortVec<(usize, E::Base), A>>, AllocError>
     requires order { HasLongOrder E.ops roots.base window }
     requires erased { AreErasures window erasures.now }
     requires known { known.now ≡ locators E.ops roots.base erasures.now }
     requires room { length erasures.now ≤ length list.now }
     ensures listed { IfOk result (λ answer. IfSome answer (λ listing.
-        IsCandidate E.base window erasures.now (length list.now) listing)) }
-    ensures found { IfOk result (λ answer. (e : List (ℕ × E.BaseField))
-        → IsPattern E.base window e
+        IsCandidate E.base_ops window erasures.now (length list.now) listing)) }
+    ensures found { IfOk result (λ answer. (e : List (ℕ × E.Base))
+        → IsPattern E.base_ops window e
         → AreSumsOf E.ops roots.base roots.start window erasures.now list.now (inside E.embed e)
-        → MatchOption answer ⊥ (λ listing. IsListing E.base erasures.now e listing)) }
+        → MatchOption answer ⊥ (λ listing. IsListing E.base_ops erasures.now e listing)) }
     ensures in_place { length list.now ≤ 6 → IsOk result }
 {
     let Some(found) = error_locations(alloc, list, roots.base, window, erasures, known)? else {
@@ -114,19 +114,19 @@ pub fn candidate<E: Extension, A: Allocator + Copy>(
     alloc: A,
     roots: Roots<E>,
     window: usize,
-    residue: &[E::BaseField],
+    residue: &[E::Base],
     erasures: &ShortVec<usize, A>,
     known: &FieldVec<E, A>,
-) -> Result<Option<ShortVec<(usize, E::BaseField), A>>, AllocError>
+) -> Result<Option<ShortVec<(usize, E::Base), A>>, AllocError>
     requires order { HasLongOrder E.ops roots.base window }
     requires erased { AreErasures window erasures.now }
     requires known { known.now ≡ locators E.ops roots.base erasures.now }
     ensures listed { IfOk result (λ answer. IfSome answer (λ listing.
-        IsCandidate E.base window erasures.now roots.count listing)) }
-    ensures found { IfOk result (λ answer. (g : List E.BaseField) (e : List (ℕ × E.BaseField))
-        → AreUsableRoots E.base E.ops E.embed g roots.base roots.start roots.count window
-        → Solves E.base g residue.now erasures.now window roots.count e
-        → MatchOption answer ⊥ (λ listing. IsListing E.base erasures.now e listing)) }
+        IsCandidate E.base_ops window erasures.now roots.count listing)) }
+    ensures found { IfOk result (λ answer. (g : List E.Base) (e : List (ℕ × E.Base))
+        → AreUsableRoots E.base_ops E.ops E.embed g roots.base roots.start roots.count window
+        → Solves E.base_ops g residue.now erasures.now window roots.count e
+        → MatchOption answer ⊥ (λ listing. IsListing E.base_ops erasures.now e listing)) }
     ensures in_place { roots.count ≤ 6 → IsOk result }
 {
     if erasures.len() > roots.count {

@@ -54,7 +54,7 @@ fn push_roots<K: Arithmetic, A: Allocator + Copy>(
 ) -> Result<(), AllocError>
     requires size { length factors.now ≡ length terms.old }
     requires empty { found.old ≡ [] }
-    ensures roots { OnOk result (found.new ≡ take degree (left_of K.ops K.eq
+    ensures roots { OnOk result (found.new ≡ take degree (left_of K.ops K.same
         (record { terms = terms.old; factors = factors.now; next = 0; end = window }))) }
     ensures in_place { FitsInPlace degree → IsOk result }
 {
@@ -81,7 +81,7 @@ fn find_roots<K: Arithmetic, A: Allocator + Copy>(
 ) -> Result<(), AllocError>
     requires { found.old ≡ [] }
     ensures roots { OnOk result
-        (found.new ≡ take degree (roots_below K.ops K.eq register.now base window)) }
+        (found.new ≡ take degree (roots_below K.ops K.same register.now base window)) }
     ensures in_place { FitsInPlace (length register.now) → FitsInPlace degree → IsOk result }
 {
     let mut terms = FieldVec::from_slice(alloc, register.as_slice())?;
@@ -99,9 +99,9 @@ fn first_roots<K: Arithmetic, A: Allocator + Copy>(
     degree: usize,
 ) -> Result<Option<ShortVec<usize, A>>, AllocError>
     ensures roots { IfOk result (λ answer. MatchOption answer
-        (length (roots_below K.ops K.eq register.now base window) < degree)
+        (length (roots_below K.ops K.same register.now base window) < degree)
         (λ found. (length found ≡ degree)
-        × (found ≡ take degree (roots_below K.ops K.eq register.now base window)))) }
+        × (found ≡ take degree (roots_below K.ops K.same register.now base window)))) }
     ensures in_place { FitsInPlace (length register.now) → FitsInPlace degree → IsOk result }
 {
     let mut found = ShortVec::new(alloc);
@@ -188,9 +188,9 @@ fn locations_of<K: Arithmetic, A: Allocator + Copy>(
     erasures: &ShortVec<usize, A>,
 ) -> Result<Option<ShortVec<usize, A>>, AllocError>
     ensures located { IfOk result (λ answer. (rising : List ℕ)
-        → rising ≡ take degree (roots_below K.ops K.eq register.now base window)
+        → rising ≡ take degree (roots_below K.ops K.same register.now base window)
         → MatchOption answer
-        ((length (roots_below K.ops K.eq register.now base window) < degree)
+        ((length (roots_below K.ops K.same register.now base window) < degree)
         ⊎ ((i : ℕ) × (IsAmong i rising × IsAmong i erasures.now)))
         (λ found. (found ≡ ordered rising) × ((length rising ≡ degree)
         × ((i : ℕ) → IsAmong i rising → IsAmong i erasures.now → ⊥)))) }

@@ -11,7 +11,7 @@ use std::alloc::{AllocError, Allocator};
 /// The values of the residue at `count` powers of the base, from the exponent `start` on.
 pub(crate) fn syndromes<E: Extension, A: Allocator + Copy>(
     alloc: A,
-    residue: &[E::BaseField],
+    residue: &[E::Base],
     base: E,
     start: usize,
     count: usize,

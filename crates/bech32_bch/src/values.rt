@@ -17,14 +17,9 @@ use bech32_poly::fieldvec::FieldVec;
 use std::alloc::{AllocError, Allocator};
 
 // The value that is left at a locator, where the terms at the others are taken out.
-fn value_of_left<E: Extension>(
-    left: &[E],
-    here: E,
-    start: usize,
-    others: &[E],
-) -> Option<E::BaseField>
+fn value_of_left<E: Extension>(left: &[E], here: E, start: usize, others: &[E]) -> Option<E::Base>
     requires { 0 < length left.now }
-    ensures { (v : E.BaseField)
+    ensures { (v : E.Base)
         → IsExplained E.ops (coefficient E.ops left.now 0)
         (E.ops.mul (power E.ops here start) (gap E.ops here others.now)) (E.embed v)
         → result ≡ Some v }
@@ -43,9 +38,9 @@ fn value_beside<E: Extension, A: Allocator + Copy>(
     here: E,
     start: usize,
     others: &[E],
-) -> Result<Option<E::BaseField>, AllocError>
+) -> Result<Option<E::Base>, AllocError>
     requires { 0 < length syndromes.now }
-    ensures value { IfOk result (λ answer. (v : E.BaseField)
+    ensures value { IfOk result (λ answer. (v : E.Base)
         → length others.now < length syndromes.now
         → IsExplained E.ops (knocks E.ops others.now (coefficient E.ops syndromes.now) 0)
         (E.ops.mul (power E.ops here start) (gap E.ops here others.now)) (E.embed v)
@@ -65,11 +60,11 @@ fn value_of_place<E: Extension, A: Allocator + Copy>(
     places: &[usize],
     all: &FieldVec<E, A>,
     k: usize,
-) -> Result<Option<E::BaseField>, AllocError>
+) -> Result<Option<E::Base>, AllocError>
     requires few { length places.now ≤ length syndromes.now }
     requires at { k < length places.now }
     requires locators { all.now ≡ locators E.ops base places.now }
-    ensures value { IfOk result (λ answer. (v : E.BaseField)
+    ensures value { IfOk result (λ answer. (v : E.Base)
         → IsExplained E.ops
         (left_at E.ops base (coefficient E.ops syndromes.now) places.now (slice_index places.now k))
         (known_at E.ops base start places.now (slice_index places.now k)) (E.embed v)
@@ -97,17 +92,17 @@ fn push_values<E: Extension, A: Allocator + Copy>(
     places: &[usize],
     all: &FieldVec<E, A>,
     given: usize,
-    listing: &mut ShortVec<(usize, E::BaseField), A>,
+    listing: &mut ShortVec<(usize, E::Base), A>,
 ) -> Result<bool, AllocError>
     requires few { length places.now ≤ length syndromes.now }
     requires locators { all.now ≡ locators E.ops base places.now }
     requires empty { listing.old ≡ [] }
     ensures placed { IfOk result (λ done. IsTrue done → locations listing.new ≡ places.now) }
     ensures not_zero { IfOk result (λ done. IsTrue done
-        → AllByRecursion (λ p. p.1 ≢ E.base.zero) (drop given listing.new)) }
-    ensures found { IfOk result (λ done. (v : ℕ → E.BaseField)
+        → AllByRecursion (λ p. p.1 ≢ E.base_ops.zero) (drop given listing.new)) }
+    ensures found { IfOk result (λ done. (v : ℕ → E.Base)
         → AreExplained E.ops E.embed base start syndromes.now places.now v
-        → ((i : ℕ) → IsAmong i (drop given places.now) → v i ≢ E.base.zero)
+        → ((i : ℕ) → IsAmong i (drop given places.now) → v i ≢ E.base_ops.zero)
         → IsTrue done × (listing.new ≡ map (λ i. (i, v i)) places.now)) }
     ensures in_place { FitsInPlace (length syndromes.now) → IsOk result }
 {
@@ -133,15 +128,15 @@ pub(crate) fn values<E: Extension, A: Allocator + Copy>(
     start: usize,
     places: &[usize],
     given: usize,
-) -> Result<Option<ShortVec<(usize, E::BaseField), A>>, AllocError>
+) -> Result<Option<ShortVec<(usize, E::Base), A>>, AllocError>
     requires { length places.now ≤ length syndromes.now }
     ensures placed { IfOk result
         (λ answer. IfSome answer (λ listing. locations listing ≡ places.now)) }
     ensures not_zero { IfOk result (λ answer. IfSome answer (λ listing.
-        AllByRecursion (λ p. p.1 ≢ E.base.zero) (drop given listing))) }
-    ensures found { IfOk result (λ answer. (v : ℕ → E.BaseField)
+        AllByRecursion (λ p. p.1 ≢ E.base_ops.zero) (drop given listing))) }
+    ensures found { IfOk result (λ answer. (v : ℕ → E.Base)
         → AreExplained E.ops E.embed base start syndromes.now places.now v
-        → ((i : ℕ) → IsAmong i (drop given places.now) → v i ≢ E.base.zero)
+        → ((i : ℕ) → IsAmong i (drop given places.now) → v i ≢ E.base_ops.zero)
         → MatchOption answer ⊥ (λ listing. listing ≡ map (λ i. (i, v i)) places.now)) }
     ensures in_place { FitsInPlace (length syndromes.now) → IsOk result }
 {

@@ -11,7 +11,7 @@ ghost use Rattle.bech32_words.specs.Words.{code_of_written};
 
 use crate::error::PrintError;
 use crate::series::{least_power, longest_series, period};
-use bech32_gf::field::{ExtensionField, Field, power_of};
+use bech32_gf::field::{ExtensionField, Field};
 use bech32_gf::gf32::Fe32;
 use std::alloc::{AllocError, Allocator};
 
@@ -111,7 +111,7 @@ impl<E: ExtensionField<BaseField = Fe32>> Roots<E> {
             None => return Err(PrintError::NotPowers),
         };
         Ok(Roots {
-            base: power_of(E::GENERATOR, series.step),
+            base: E::GENERATOR.power(series.step),
             start,
             end: start + (series.length - 1),
             code_length: period(order, series.step),

@@ -1,11 +1,11 @@
 //! Says where the fault of a text stands.
 
-ghost use Rattle.std.specs.Prelude.{◌≡◌, ◌≢◌, unwrap_or};
+ghost use Rattle.std.specs.Prelude.{◌≡◌, ◌≢◌};
 ghost use Rattle.bech32_decode.specs.Acceptance.{Accepts};
 ghost use Rattle.bech32_calls.specs.Check.{IsCheckFault};
 ghost use Rattle.bech32_calls.specs.Checksums.{ForChecksum, IsFaultBy};
 ghost use Rattle.bech32_calls.specs.Faults.{IsNumberOf};
-ghost use Rattle.bech32_calls.specs.Place.{place_of};
+ghost use Rattle.bech32_calls.specs.Place.{IsPlace, HasPlace};
 
 use bech32_calls::fault::{number_of, place_of};
 
@@ -25,7 +25,8 @@ pub extern "C" fn bech32_fault(checksum: u32, text: &[u8], place: &mut usize) ->
     ensures value { result ≡ 0 → ForChecksum checksum (λ code. Accepts code text.now) }
     ensures accepts { ForChecksum checksum (λ code. Accepts code text.now) → result ≡ 0 }
     ensures refused { result ≢ 0 → IsNumberOf (IsFaultBy checksum (IsCheckFault text.now)) result }
-    ensures place { place.new ≡ unwrap_or (place_of text.now result) place.old }
+    ensures place { HasPlace result → IsPlace text.now result place.new }
+    ensures same { ¬ (HasPlace result) → place.new ≡ place.old }
 {
     let number = number_of(checksum, text);
     *place = place_of(text, number).unwrap_or(*place);

@@ -67,3 +67,12 @@ module _ (IsFault : Code → Refusal → Type 0) (wrong : (code : Code) → IsFa
   -- a number that is wrong by any checksum
   pub wrong_number : (n : ℕ) → IsFaultBy n IsFault BadNumber
   wrong_number n = number_of_any (code_of_number n)
+
+module _ (IsFault : Code → Refusal → Type 0) (e : Refusal) (Q : Type 0) (none : e ≡ BadNumber → Q) (gives : (code : Code) → IsFault code e → Q) where
+  out_of_fault : (o : Option Code) → MatchOption o (e ≡ BadNumber) (λ code. IsFault code e) → Q
+  out_of_fault None h = none h
+  out_of_fault (Some code) h = gives code h
+
+  -- what follows from what is wrong by any checksum, or from a number that is none's
+  pub from_fault : (n : ℕ) → IsFaultBy n IsFault e → Q
+  from_fault n = out_of_fault (code_of_number n)

@@ -16,7 +16,7 @@ use Rattle.bech32_calls.specs.declared.refusal.Refusal.TheVariants.{NotUtf8, Hrp
 ascii-from_graphic : (b : ℕ) → is_graphic b ≡ true → b < 128
 ascii-from_graphic b h = let parts = and_parts (leb 33 b) (leb b 126) h in omega (arith, leb-true b 126 parts.1)
 
-IsAscii-from_graphic : (bytes : List ℕ) → list_all is_graphic bytes ≡ true → IsAscii bytes
+pub IsAscii-from_graphic : (bytes : List ℕ) → list_all is_graphic bytes ≡ true → IsAscii bytes
 IsAscii-from_graphic [] h = IsAscii-nil
 IsAscii-from_graphic (b ∷ bs) h =
     let parts = and_parts (is_graphic b) (list_all is_graphic bs) h in

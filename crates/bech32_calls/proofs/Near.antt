@@ -3,21 +3,16 @@ use Rattle.std.specs.Prelude.{map, flat_map}
 use Rattle.std.specs.List.{AllByRecursion}
 use Rattle.std.proofs.Common.{◌≡◌, ◌<◌, ◌≤◌, ◌+◌, ◌*◌, ℕ, List, [], ◌∷◌, ◌++◌, length, length-append, suc-mul, zero-mul, sym, ap, subst, ◌∙◌, refl, arith}
 use Rattle.std.proofs.lemmas.List.{length-map}
-use Rattle.bech32_gf.specs.Fe32.{element_of, elements_of, ops}
+use Rattle.bech32_gf.specs.Fe32.{ops}
 use Rattle.bech32_gf.specs.declared.gf32.Fe32.{Fe32}
 use Rattle.bech32_poly.specs.Polynomial.{add}
-use Rattle.std.specs.Char.{to_ascii_lowercase}
-use Rattle.bech32_hrp.specs.Hrp.{lowered}
 use Rattle.bech32_checksum.specs.Code.{Code}
-use Rattle.bech32_checksum.specs.Encoded.{char_of_element}
 use Rattle.bech32_decode.specs.Acceptance.{Accepts}
 use Rattle.bech32_encode.specs.Buffers.{IsPut}
-use Rattle.bech32_correction.specs.MendedElements.{mended}
-use Rattle.bech32_correction.specs.Mistyped.{IsListing, IsMendedText, IsRefusedFor}
-use Rattle.bech32_near.specs.NearTexts.{AreNearTexts}
+use Rattle.bech32_correction.specs.Mistyped.{IsListing, IsRefusedFor}
+use Rattle.bech32_near.specs.NearTexts.{AreNearTexts, IsNearText}
 use Rattle.bech32_correction.specs.declared.correcting.Correction.{Correction}
 use Rattle.bech32_correction.specs.declared.correcting.Correction.TheVariants.{Accepted, Mended, Unexplained}
-use Rattle.bech32_correction.proofs.Sums.{length-mended}
 use Rattle.bech32_calls.specs.Checksums.{ForChecksum, IsFaultBy}
 use Rattle.bech32_calls.specs.Correct.{IsReadFault, bound}
 use Rattle.bech32_calls.specs.Nearest.{IsNearFault, IsRead, IsSearchFault, PutsNear, joined}
@@ -72,22 +67,12 @@ near_unfound text given errors room _ few code read h = (few, h)
 
 -- ---- what is put
 
-mended_length : (listing : List (ℕ × Fe32)) (text new : List ℕ) → IsMendedText listing text new → length new ≡ length text
-mended_length listing text new m =
-    let xs : List Fe32 = mended ops listing (elements_of m.data_part) in
-    let whole : length text ≡ length m.hrp + length (49 ∷ m.data_part) = ap length m.grammar.split ∙ length-append m.hrp (49 ∷ m.data_part) in
-    let part : length (lowered m.hrp) ≡ length m.hrp = length-map m.hrp to_ascii_lowercase in
-    let characters : length (map char_of_element xs) ≡ length m.data_part =
-    length-map xs char_of_element ∙ length-mended ops listing (elements_of m.data_part) ∙ length-map m.data_part element_of in
-    let both : length new ≡ length (lowered m.hrp) + length (49 ∷ map char_of_element xs) = ap length m.spelling ∙ length-append (lowered m.hrp) (49 ∷ map char_of_element xs) in
-    omega (arith, whole, part, characters, both)
-
-joined_length : (code : Code) (text : List ℕ) (found : List (List (ℕ × Fe32) × List ℕ)) → AllByRecursion (λ m. IsMendedText m.0 text m.1 × Accepts code m.1) found
+joined_length : (code : Code) (text given : List ℕ) (errors : ℕ) (found : List (List (ℕ × Fe32) × List ℕ)) → AllByRecursion (λ m. IsNearText code bound text given errors m.1) found
     → length (joined found) ≡ length found * length text
-joined_length code text [] all = sym (zero-mul (length text))
-joined_length code text (m ∷ ms) all =
-    let here : length m.1 ≡ length text = mended_length m.0 text m.1 all.0.0 in
-    let rest : length (joined ms) ≡ length ms * length text = joined_length code text ms all.1 in
+joined_length code text given errors [] all = sym (zero-mul (length text))
+joined_length code text given errors (m ∷ ms) all =
+    let here : length m.1 ≡ length text = all.0.same_length in
+    let rest : length (joined ms) ≡ length ms * length text = joined_length code text given errors ms all.1 in
     let both : length (m.1 ++ joined ms) ≡ length m.1 + length (joined ms) = length-append m.1 (joined ms) in
     let sum : length (m.1 ++ joined ms) ≡ length ms * length text + length text = omega (arith, here, rest, both) in
     sum ∙ sym (suc-mul (length ms) (length text))
@@ -100,7 +85,7 @@ module _ {A : Type 0} (f : A → List (ℕ × Fe32) × List ℕ) (text given : L
   -- their length
   pub near_length : length (flat_map (λ m. (f m).1) near) ≡ length near * length text
   near_length =
-      sym (ap length (joined_map f near)) ∙ joined_length code text (map f near) are.each ∙ ap (λ (n : ℕ). n * length text) (length-map near f)
+      sym (ap length (joined_map f near)) ∙ joined_length code text given errors (map f near) are.near ∙ ap (λ (n : ℕ). n * length text) (length-map near f)
 
   pub puts_near : (old new : List ℕ) (count : ℕ) → errors ≤ 2 → count ≡ length near
       → IsPut (flat_map (λ m. (f m).1) near) old new (length (flat_map (λ m. (f m).1) near)) → PutsNear text given errors old new count code

@@ -5,6 +5,7 @@ pub mod Decode
 pub mod Encode
 pub mod Engine
 pub mod Faults
+pub mod Kinds
 pub mod Nearest
 pub mod Numbers
 pub mod Place

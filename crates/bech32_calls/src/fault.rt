@@ -1,12 +1,16 @@
 //! Says where the fault of a text stands.
 
-ghost use Rattle.std.specs.Prelude.{◌≡◌, ◌≢◌, ◌≤◌, not, length, position, unwrap_or};
-ghost use Rattle.bech32_hrp.specs.Hrp.{is_graphic, is_lower, is_upper};
+ghost use Rattle.std.specs.Prelude.{◌≡◌, ◌≢◌, ◌≤◌, ◌-◌, ◌++◌, ℕ, List, false, not, length, position};
+ghost use Rattle.std.specs.List.{suffix_len};
+ghost use Rattle.bech32_hrp.specs.Hrp.{is_graphic, is_lower, is_upper, is_mixed_case};
 ghost use Rattle.bech32_decode.specs.Acceptance.{Accepts};
+ghost use Rattle.bech32_decode.specs.Text.{split_at_last};
 ghost use Rattle.bech32_calls.specs.Check.{IsCheckFault};
 ghost use Rattle.bech32_calls.specs.Checksums.{ForChecksum, IsFaultBy};
 ghost use Rattle.bech32_calls.specs.Faults.{IsNumberOf};
-ghost use Rattle.bech32_calls.specs.Place.{case_place, end_of, is_of, part_length, part_place, place_of, stranger_place};
+ghost use Rattle.bech32_calls.specs.Kinds.{is_of};
+ghost use Rattle.bech32_calls.specs.Place.{IsPlace, HasPlace, IsLastStranger, IsFirstOfOtherCase};
+ghost use Rattle.bech32_calls.specs.Place.{IsFirstWrong, IsUnfit};
 
 use crate::decode::checked_by;
 use bech32::Fe32;
@@ -37,7 +41,7 @@ impl Kind {
 
 // Where the bytes at the end of a text begin that are of a kind.
 fn end_of(kind: Kind, text: &[u8]) -> usize
-    ensures { result ≡ end_of (is_of kind) text.now }
+    ensures { result ≡ length text.now - suffix_len (is_of kind) text.now }
 {
     let mut end = text.len();
     while end > 0 && kind.has(text[end - 1]) {
@@ -48,7 +52,7 @@ fn end_of(kind: Kind, text: &[u8]) -> usize
 
 // The first byte of the last character that is not of the alphabet.
 fn stranger_place(text: &[u8]) -> usize
-    ensures { result ≡ stranger_place text.now }
+    ensures { (p : ℕ) → IsLastStranger text.now p → result ≡ p }
 {
     let end = end_of(Kind::Data, text);
     end_of(Kind::Continuation, &text[..end]).saturating_sub(1)
@@ -56,7 +60,8 @@ fn stranger_place(text: &[u8]) -> usize
 
 // The length of what stands before the last `1`.
 fn part_length(text: &[u8]) -> usize
-    ensures value { result ≡ part_length text.now }
+    ensures value { (hrp data_part : List ℕ) → split_at_last text.now ≡ Some (hrp, data_part)
+        → result ≡ length hrp }
     ensures bound { result ≤ length text.now }
 {
     end_of(Kind::NotSeparator, text).saturating_sub(1)
@@ -86,7 +91,9 @@ fn first_not_graphic(bytes: &[u8]) -> Option<usize>
 // The first letter with one of the other case before it, and the number of bytes where there is
 // none.
 fn case_place(bytes: &[u8]) -> usize
-    ensures { result ≡ case_place bytes.now }
+    ensures first { (p : ℕ) → IsFirstOfOtherCase bytes.now p → result ≡ p }
+    ensures front { (front behind : List ℕ) → bytes.now ≡ front ++ behind
+        → is_mixed_case front ≡ false → length front ≤ result }
 {
     let end = bytes.len();
     let lower = first_lower(bytes).unwrap_or(end);
@@ -95,16 +102,18 @@ fn case_place(bytes: &[u8]) -> usize
 
 // The first byte that may not stand in a human-readable part, behind those before it.
 fn part_place(part: &[u8]) -> usize
-    ensures { result ≡ part_place part.now }
+    ensures { (p : ℕ) → IsFirstWrong IsUnfit part.now p → result ≡ p }
 {
     let place = first_not_graphic(part).unwrap_or(part.len());
     place.min(case_place(part))
 }
 
 /// Where the fault of a text stands that is refused by this number, counted in bytes from 0, up to
-/// the length of the text; nothing for a number other than 11 to 15, 21 to 23 and 31 to 33.
+/// the length of the text; nothing for a number other than 11 to 15, 21 to 23 and 31 to 33. Of a
+/// text that is not refused by this number, the place says nothing.
 pub fn place_of(text: &[u8], number: u32) -> Option<usize>
-    ensures { result ≡ place_of text.now number }
+    ensures place { HasPlace number → (p : ℕ) → IsPlace text.now number p → result ≡ Some p }
+    ensures none { ¬ (HasPlace number) → result ≡ None }
 {
     match number {
         11 | 12 => Some(part_length(text)),
@@ -123,6 +132,7 @@ pub fn number_of(checksum: u32, text: &[u8]) -> u32
     ensures value { result ≡ 0 → ForChecksum checksum (λ code. Accepts code text.now) }
     ensures accepts { ForChecksum checksum (λ code. Accepts code text.now) → result ≡ 0 }
     ensures refused { result ≢ 0 → IsNumberOf (IsFaultBy checksum (IsCheckFault text.now)) result }
+    ensures stands { (p : ℕ) × IsPlace text.now result p }
 {
     match checked_by(checksum, text) {
         Ok(_) => 0,

@@ -127,17 +127,13 @@ fn put_over(
 ) -> Result<usize, Refusal>
     requires few { errors ≤ 2 }
     requires read { ForChecksum checksum (IsRead bytes.now) }
-    requires lack { IsFaultBy checksum
-        (IsNearFault bytes.now given.now errors (length texts.old)) Refusal.Memory }
     ensures value { IfOk result (λ count. ForChecksum checksum
         (PutsNear bytes.now given.now errors texts.old texts.new count)) }
     ensures refused { IfErr result (λ e. IsFaultBy checksum
         (IsNearFault bytes.now given.now errors (length texts.old)) e) }
     ensures same { OnErr result (texts.new ≡ texts.old) }
 {
-    let Ok(arena) = lent.arena() else {
-        return Err(Refusal::Memory);
-    };
+    let arena = lent.arena();
     put_near(&arena, checksum, bytes, given, errors, texts)
 }
 

@@ -1,56 +1,41 @@
 //! Whether the roots of a checksum are lawful.
 
-ghost use Rattle.std.specs.Prelude.{◌≡◌, ◌≤◌, ◌↔◌, IsTrue, refl};
+ghost use Rattle.std.specs.Prelude.{◌≡◌, ◌≢◌, ◌≤◌, ◌↔◌, IsTrue};
 ghost use Rattle.bech32_gf.specs.Fe32 as fe32;
-ghost use Rattle.bech32_gf.specs.Field.{power};
+ghost use Rattle.bech32_gf.specs.Field.{IsOrder, power};
 ghost use Rattle.bech32_poly.specs.Embedding.{Embeds};
 ghost use Rattle.bech32_checksum.specs.Roots.{generator_at, HasOrderFrom, PowersAreRoots};
 
 use crate::{Checksum, PackedFe32};
+use bech32_gf::field::{ExtensionField, MultiplicativeOrder};
 use bech32_gf::gf32::Fe32;
-use bech32_gf_ext::{Fe1024, Fe32768};
 use bech32_poly::arithmetic::{Arithmetic, Extension};
 
-/// A field in which errors are located and their values found: it extends that of 32 elements.
-pub trait LocatorField: Extension<BaseField = Fe32> {
+/// A field in which errors are located and their values found: it extends that of 32 elements. Each
+/// [`ExtensionField`] of [`Fe32`] is one.
+pub trait LocatorField: Extension<Base = Fe32> {
+    /// The least number from 1 on whose power of this element, which is not zero, is one.
+    fn order(self) -> usize
+        requires { self ≢ Self.ops.zero }
+        ensures { IsOrder Self.ops self result };
+
     // The base field's operations are those of `Fe32`.
-    ghost base_law: { Self.base ≡ fe32.ops };
+    ghost base_law: { Self.base_ops ≡ fe32.ops };
 
     ghost embeds_law: { Embeds fe32.ops Self.ops Self.embed };
 }
 
-impl LocatorField for Fe32 {
-    ghost base_law = { refl };
+impl<E: ExtensionField<BaseField = Fe32>> LocatorField for E {
+    ghost use Rattle.bech32_checksum.specs.laws.LocatorLaws.{embeds};
 
-    ghost embeds_law = { record {
-      one = refl;
-      add = λ x y. refl;
-      mul = λ x y. refl;
-    } };
-}
+    fn order(self) -> usize {
+        self.multiplicative_order()
+    }
 
-impl LocatorField for Fe1024 {
-    ghost use Rattle.bech32_gf_ext.specs.laws.Fe1024Laws as laws_of;
+    ghost base_law = { E.base_law };
 
-    ghost base_law = { refl };
-
-    ghost embeds_law = { record {
-      one = refl;
-      add = laws_of.embed-add;
-      mul = laws_of.embed-mul;
-    } };
-}
-
-impl LocatorField for Fe32768 {
-    ghost use Rattle.bech32_gf_ext.specs.laws.Fe32768Laws as laws_of;
-
-    ghost base_law = { refl };
-
-    ghost embeds_law = { record {
-      one = refl;
-      add = laws_of.embed-add;
-      mul = laws_of.embed-mul;
-    } };
+    ghost embeds_law = { embeds _ _ _ _
+        E.base_law E.embed_one_law E.embed_add_law E.embed_mul_law };
 }
 
 // The value of the generator at an element, by Horner's rule.

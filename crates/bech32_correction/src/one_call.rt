@@ -1,10 +1,12 @@
 //! A mistyped text corrected by one call.
 
-ghost use Rattle.std.specs.Prelude.{◌≡◌, ℕ, List, IfOk, MatchResult, string_bytes};
+ghost use Rattle.std.specs.Prelude.{◌≡◌, ◌≤◌, ℕ, List, Err, IfOk, MatchResult, length, string_bytes};
 ghost use Rattle.bech32_gf.specs.Fe32.{elements_of, ops};
+ghost use Rattle.bech32_gf.specs.declared.gf32.Fe32.{Fe32 as Element};
 ghost use Rattle.bech32_checksum.specs.Encoded.{spelled};
 ghost use Rattle.bech32_correction.specs.MendedElements.{mended};
-ghost use Rattle.bech32_correction.specs.Mistyped.{IsCorrectRefusal, IsCorrectionBy, IsCorrectorOf, IsMendedBy, IsPlacedIn};
+ghost use Rattle.bech32_correction.specs.Mistyped.{IsCorrectRefusal, IsCorrectionBy, IsCorrectorOf, IsListingOf, IsMendedBy, IsPlacedIn};
+ghost use Rattle.bech32_correction.specs.declared.error.CorrectError.TheVariants.{Memory};
 ghost use Rattle.bech32_decode.specs.Text.{IsText};
 
 use crate::correcting::{Correction, Listing, listing_in};
@@ -57,13 +59,16 @@ pub fn correct_in<Ck: CorrectingChecksum, A: Allocator + Copy>(
     text: &str,
     erasures: &[usize],
 ) -> Result<Correction<Mended<A>, Corrector<Ck, A>>, CorrectError>
-    ensures { MatchResult result
+    ensures value { MatchResult result
         (λ answer. IsCorrectionBy
         (λ m. IsMendedBy Ck.code Ck.bound text.now erasures.now
         m.listing (string_bytes m.text))
         (λ c. IsCorrectorOf Ck.code text.now c)
         Ck.code Ck.bound text.now erasures.now answer)
         (λ e. IsCorrectRefusal Ck.code text.now e) }
+    ensures in_place { length Ck.code.generator ≤ 6 → result ≡ Err Memory
+        → (listing : List (ℕ × Element))
+        × IsListingOf Ck.code Ck.bound text.now erasures.now listing }
 {
     match listing_in::<Ck, A>(alloc, text, erasures)? {
         Correction::Accepted => Ok(Correction::Accepted),
@@ -88,17 +93,21 @@ pub fn correct_in<Ck: CorrectingChecksum, A: Allocator + Copy>(
 /// # Errors
 ///
 /// As [`CheckedHrpstring::new`](bech32_decode::CheckedHrpstring::new), but for a wrong checksum.
-/// Out of memory is returned only for a text that is refused for a wrong checksum.
+/// Out of memory is returned only for a text that is refused for a wrong checksum; for a checksum of
+/// at most six characters only in place of a correction.
 pub fn correct<Ck: CorrectingChecksum>(
     alloc: Global,
     text: &str,
     erasures: &[usize],
 ) -> Result<Correction<Mended, Corrector<Ck>>, CorrectError>
-    ensures { MatchResult result
+    ensures value { MatchResult result
         (λ answer. IsCorrectionBy (λ m. IsMendedBy Ck.code Ck.bound text.now erasures.now
         m.listing (string_bytes m.text)) (λ c. IsCorrectorOf Ck.code text.now c)
         Ck.code Ck.bound text.now erasures.now answer)
         (λ e. IsCorrectRefusal Ck.code text.now e) }
+    ensures in_place { length Ck.code.generator ≤ 6 → result ≡ Err Memory
+        → (listing : List (ℕ × Element))
+        × IsListingOf Ck.code Ck.bound text.now erasures.now listing }
 {
     correct_in::<Ck, Global>(alloc, text, erasures)
 }

@@ -251,6 +251,7 @@ impl<Ck: Checksum, A: Allocator + Copy> Corrector<Ck, A> {
         ensures erasures { IfOk result (λ left. left.erasures ≡ self.now.erasures) }
         ensures residue { IfOk result (λ left.
             IsTakenOff fe32.ops Ck.code.generator self.now.residue error left.residue) }
+        ensures in_place { FitsInPlace (length self.now.erasures) → IsOk result }
     {
         let mut left = self.clone()?;
         left.residue = residue_without::<Ck>(&self.residue, error);

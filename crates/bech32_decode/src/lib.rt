@@ -22,7 +22,8 @@ pub use address::SegwitHrpstring;
 pub use address_data::AddressData;
 pub use bech32_refusals::{
     CharError, CheckedHrpstringError, ChecksumError, CodeLengthError, InvalidResidueError,
-    PaddingError, SegwitCodeLengthError, SegwitHrpstringError, UncheckedHrpstringError, segwit,
+    MAX_DEGREE, PaddingError, SegwitCodeLengthError, SegwitHrpstringError, UncheckedHrpstringError,
+    segwit,
 };
 pub use byte_reader::ByteIter;
 pub use checked::CheckedHrpstring;

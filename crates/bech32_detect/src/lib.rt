@@ -1,7 +1,7 @@
 //! Whether a checksum detects each error in up to four elements.
 #![tactic(auto)]
 
-ghost use Rattle.std.specs.Prelude.{◌<◌, ◌↔◌, IsTrue, IfOk};
+ghost use Rattle.std.specs.Prelude.{◌<◌, ◌↔◌, IsTrue, IfErr, IfOk};
 ghost use Rattle.bech32_gf.specs.Fe32 as fe32;
 ghost use Rattle.bech32_poly.specs.Polynomial.{coefficient};
 ghost use Rattle.bech32_detect.specs.Detection.{DetectsFour};
@@ -20,7 +20,9 @@ use std::alloc::{AllocError, Allocator, Global};
 // Whether four errors are detected.
 fn decided_in<Ck: Checksum, A: Allocator>(alloc: A, n: usize) -> Result<bool, AllocError>
     requires { 0 < (coefficient fe32.ops Ck.code.generator 0).value }
-    ensures { IfOk result (λ answer. IsTrue answer ↔ DetectsFour fe32.ops Ck.code.generator n) }
+    ensures value { IfOk result
+        (λ answer. IsTrue answer ↔ DetectsFour fe32.ops Ck.code.generator n) }
+    ensures memory { IfErr result (λ _. 0 < n) }
 {
     if n == 0 {
         return Ok(true);
@@ -34,8 +36,7 @@ fn decided_in<Ck: Checksum, A: Allocator>(alloc: A, n: usize) -> Result<bool, Al
 }
 
 /// Whether no pattern of one to four errors, at different locations below `n`, has the remainder
-/// zero (BIP-173, Checksum design: of Bech32 at 89, the data part of a text of 90 characters), with
-/// memory from `alloc`.
+/// zero (BIP-173, Checksum design; true of Bech32 and Bech32m at 89), with memory from `alloc`.
 ///
 /// Where it is true, two texts that the checksum accepts, of the same human-readable part and length
 /// and with data parts of at most `n` characters, have the same elements or differ in at least five.
@@ -44,12 +45,13 @@ fn decided_in<Ck: Checksum, A: Allocator>(alloc: A, n: usize) -> Result<bool, Al
 ///
 /// # Errors
 ///
-/// If memory runs out. At `n` = 0 nothing is allocated.
+/// If memory runs out, and never at `n` = 0.
 pub fn detects_four_in<Ck: Checksum, A: Allocator>(alloc: A, n: usize) -> Result<bool, AllocError>
     requires { 0 < (coefficient fe32.ops Ck.code.generator 0).value }
     ensures value { IfOk result
         (λ answer. IsTrue answer ↔ DetectsFour fe32.ops Ck.code.generator n) }
     ensures texts { IfOk result (λ answer. IsTrue answer → AreTextsFar Ck.code n 4) }
+    ensures memory { IfErr result (λ _. 0 < n) }
 {
     decided_in::<Ck, A>(alloc, n)
 }
@@ -60,6 +62,7 @@ pub fn detects_four<Ck: Checksum>(alloc: Global, n: usize) -> Result<bool, Alloc
     ensures value { IfOk result
         (λ answer. IsTrue answer ↔ DetectsFour fe32.ops Ck.code.generator n) }
     ensures texts { IfOk result (λ answer. IsTrue answer → AreTextsFar Ck.code n 4) }
+    ensures memory { IfErr result (λ _. 0 < n) }
 {
     detects_four_in::<Ck, Global>(alloc, n)
 }

@@ -132,6 +132,12 @@ module _ {R : Type 0} (number : R → ℕ) (code : Code) where
 pub target-length : (code k : Code) (degree : ℕ) → code ≡ k → length k.target ≡ degree → length code.generator ≡ degree → length code.target ≡ length code.generator
 target-length code k degree law size degree_law = ap (λ (c : Code). length c.target) law ∙ size ∙ sym degree_law
 
+-- elements put behind a polynomial of a human-readable part and elements
+pub text_polynomial-append : (hrp : List ℕ) (xs c : List Fe32) → text_polynomial hrp (xs ++ c) ≡ appended (text_polynomial hrp xs) c
+text_polynomial-append hrp xs c =
+    let one : List Fe32 = fe32.one ∷ [] in
+    ap (appended one) (sym (append_assoc (hrp_elements hrp) xs c)) ∙ appended-append one (hrp_elements hrp ++ xs) c
+
 module _ (code : Code) (size : length code.target ≡ length code.generator) where
   pub length-checksum_of : (p : List Fe32) → length (checksum_of code p) ≡ length code.generator
   unfolding checksum_of
@@ -155,13 +161,9 @@ module _ (code : Code) (size : length code.target ≡ length code.generator) whe
   pub checksum_of-hrp : (hrp : List ℕ) (xs : List Fe32) → IsChecksumOf code hrp xs (checksum_of code (text_polynomial hrp xs))
   checksum_of-hrp hrp xs =
       let c : List Fe32 = checksum_of code (text_polynomial hrp xs) in
-      let front : List Fe32 = appended (fe32.one ∷ []) (hrp_elements hrp) in
       record {
         size = length-checksum_of (text_polynomial hrp xs);
-        has_target = subst (λ p. IsRemainder fe32.ops code.generator p code.target)
-            (ap (λ p. appended p c) (appended-append (fe32.one ∷ []) (hrp_elements hrp) xs)
-            ∙ sym (appended-append front xs c) ∙ sym (appended-append (fe32.one ∷ []) (hrp_elements hrp) (xs ++ c)))
-            (has_target (text_polynomial hrp xs));
+        has_target = subst (λ p. IsRemainder fe32.ops code.generator p code.target) (sym (text_polynomial-append hrp xs c)) (has_target (text_polynomial hrp xs));
       }
 
   module _ {R : Type 0} (number : R → ℕ) (residue : R) where

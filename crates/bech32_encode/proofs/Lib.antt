@@ -2,6 +2,7 @@ pub mod ChecksumEnds
 pub mod EncodedTexts
 pub mod Encoding
 pub mod FrontedWalks
+pub mod OneText
 pub mod TextPieces
 pub mod TextsLeft
 pub mod WholeGroups

@@ -1,7 +1,7 @@
 -- Texts that are put into a buffer piece by piece.
-use Rattle.std.proofs.Common.{◌≡◌, ◌≤◌, ◌<◌, ◌+◌, ◌*◌, ◌/◌, ◌==◌, ◌++◌, ◌∙◌, ℕ, zero, suc, Bool, true, false, List, [], ◌∷◌, Option, None, Some, length, min, take, drop, map, option_to_list, ap, sym, subst, refl, append_assoc, append-nil, arith, ⊎_elim}
+use Rattle.std.proofs.Common.{◌≡◌, ◌≤◌, ◌<◌, ◌+◌, ◌-◌, ◌*◌, ◌/◌, ◌==◌, ◌++◌, ◌∙◌, ℕ, zero, suc, Bool, true, false, List, [], ◌∷◌, Option, None, Some, length, min, take, drop, map, option_to_list, ap, sym, subst, refl, append_assoc, append-nil, arith, ⊎_elim}
 use Rattle.std.proofs.lemmas.Bool.{cases_lt, eqb-true, eqb-false}
-use Rattle.std.proofs.lemmas.List.{map-append, length-append, length-map, length-take, length-take-le, take-append-le, take_all, take_at, drop_all, take-append-drop}
+use Rattle.std.proofs.lemmas.List.{map-append, length-append, length-map, length-take, length-take-le, length-drop, take-append-le, take_all, take_at, drop_all, drop_at, take-append-drop}
 use Rattle.std.proofs.lemmas.Str.{IsAscii-append}
 use Rattle.std.proofs.lemmas.Str.Ascii.{IsAscii-nil, IsAscii-cons, IsAscii-map, uppercase_ascii}
 use Rattle.std.specs.Char.{is_ascii, to_ascii_uppercase}
@@ -147,15 +147,67 @@ put_within piece old new count put =
     let whole : length new ≡ length piece + length (drop (length piece) old) = ap length put.buffer ∙ length-append piece (drop (length piece) old) in
     omega arith
 
--- in either case, in the buffer that was raised
-pub front_of_text : (upper : Bool) (text old put new : List ℕ) (count : ℕ) → IsPutAsFits text old put count → new ≡ in_case upper (take count put) ++ drop count put
-    → (take count new ≡ take (length old) (in_case upper text)) × (count ≡ min (length (in_case upper text)) (length old))
-front_of_text upper text old put new count is e =
-    let size : length (in_case upper text) ≡ length text = length-in_case upper text in
-    let counted : count ≡ min (length text) (length old) = is.count_is in (
-      front_in_case upper count (take (length old) text) old put new (put_front text old put count is) e ∙ in_case-take upper (length old) text,
-      omega arith,
-    )
+-- what stands at the front of the buffer is as much of the text as fits
+pub shown_front : (text old new : List ℕ) (count : ℕ) → IsPutAsFits text old new count → take count new ≡ take (length old) text
+shown_front text old new count is =
+    let put : IsPut (take (length old) text) old new count = put_front text old new count is in
+    ap (take count) put.buffer ∙ take_at (take (length old) text) (drop (length (take (length old) text)) old) count (sym put.count_is)
+
+-- a front of a text that fits is as much of it as fits
+fits_short : (text old new : List ℕ) (count : ℕ) → IsPut text old new count → IsPutAsFits text old new count
+fits_short text old new count put =
+    let room : length text ≤ length old = put.fits in
+    let counted : count ≡ length text = put.count_is in
+    let behind : length (drop (length text) old) ≡ length old - length text = length-drop (length text) old in
+    let both : length (text ++ drop (length text) old) ≡ length text + length (drop (length text) old) = length-append text (drop (length text) old) in
+    record {
+      buffer = put.buffer ∙ sym (take_all (length old) (text ++ drop (length text) old) (omega arith));
+      count_is = omega arith;
+    }
+
+fits_long : (text old new : List ℕ) (count : ℕ) → IsPut (take (length old) text) old new count → length old < length text → IsPutAsFits text old new count
+fits_long text old new count put more =
+    let within : length old ≤ length text = omega arith in
+    let size : length (take (length old) text) ≡ length old = length-take-le (length old) text within in
+    let counted : count ≡ length (take (length old) text) = put.count_is in
+    record {
+      buffer = put.buffer
+          ∙ ap (λ (l : List ℕ). take (length old) text ++ l) (drop_all (length (take (length old) text)) old (omega arith))
+          ∙ append-nil (take (length old) text)
+          ∙ sym (take-append-le (length old) text (drop (length text) old) within);
+      count_is = omega arith;
+    }
+
+fits_front : (text old new : List ℕ) (count : ℕ) → IsPut (take (length old) text) old new count → IsPutAsFits text old new count
+fits_front text old new count put =
+    ⊎_elim (λ (more : length old < length text). fits_long text old new count put more)
+    (λ (few : length text ≤ length old). fits_short text old new count (subst (λ (t : List ℕ). IsPut t old new count) (take_all (length old) text few) put))
+    (cases_lt (length old) (length text))
+
+-- what was put at the front of a buffer, in either case, and what stands behind it
+put_in_case : (upper : Bool) (piece old put new : List ℕ) (count : ℕ) → IsPut piece old put count → new ≡ in_case upper (take count put) ++ drop count put
+    → IsPut (in_case upper piece) old new count
+put_in_case upper piece old put new count is e =
+    let size : count ≡ length piece = is.count_is in
+    let same : length (in_case upper piece) ≡ length piece = length-in_case upper piece in
+    let room : length piece ≤ length old = is.fits in
+    let front : take count put ≡ piece = ap (take count) is.buffer ∙ take_at piece (drop (length piece) old) count (sym size) in
+    let rest : drop count put ≡ drop (length piece) old = ap (drop count) is.buffer ∙ drop_at piece (drop (length piece) old) count (sym size) in
+    record {
+      fits = omega arith;
+      buffer = e
+          ∙ ap (λ (l : List ℕ). in_case upper l ++ drop count put) front
+          ∙ ap (λ (l : List ℕ). in_case upper piece ++ l) (rest ∙ ap (λ (n : ℕ). drop n old) (sym same));
+      count_is = size ∙ sym same;
+    }
+
+-- as much of a text as fits, in either case, in the buffer that was raised
+pub fits_in_case : (upper : Bool) (text old put new : List ℕ) (count : ℕ) → IsPutAsFits text old put count → new ≡ in_case upper (take count put) ++ drop count put
+    → IsPutAsFits (in_case upper text) old new count
+fits_in_case upper text old put new count is e =
+    fits_front (in_case upper text) old new count
+    (subst (λ (t : List ℕ). IsPut t old new count) (in_case-take upper (length old) text)
+    (put_in_case upper (take (length old) text) old put new count (put_front text old put count is) e))
 
 -- ---- the pieces
 

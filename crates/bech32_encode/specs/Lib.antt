@@ -3,6 +3,7 @@ pub mod Cased
 pub mod ChecksumElements
 pub mod Clones
 pub mod Encoder
+pub mod ExactlyOne
 pub mod TextFrom
 pub mod TextLeft
 pub mod TextLength

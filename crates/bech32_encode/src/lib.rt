@@ -16,6 +16,7 @@ mod pairs;
 mod pieces;
 mod text;
 mod texts;
+mod unique;
 mod version;
 
 pub use adaptor::Adaptor;
@@ -34,6 +35,7 @@ pub use text::{
     text_length, text_length_of_part,
 };
 pub use texts::CharIter;
+pub use unique::encoded_text_is_unique;
 pub use version::WitnessVersionIter;
 
 /// Encodes the elements of an iterator under a human-readable part, with a witness version before

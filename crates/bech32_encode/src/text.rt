@@ -1,6 +1,6 @@
 //! Whole texts of bytes: their lengths, and themselves in a buffer and in memory.
 
-ghost use Rattle.std.specs.Prelude.{◌≡◌, ◌++◌, ◌+◌, ℕ, List, length, min, take, option_to_list, IfOk, string_bytes};
+ghost use Rattle.std.specs.Prelude.{◌≡◌, ◌++◌, ◌+◌, ℕ, List, length, option_to_list, IfOk, string_bytes};
 ghost use Rattle.bech32_bits.specs.Bits.{fes_count, to_fes};
 ghost use Rattle.bech32_checksum.specs.Encoded.{IsEncodedText};
 ghost use Rattle.bech32_encode.specs.Buffers.{IsPutAsFits};
@@ -100,8 +100,7 @@ pub fn put_front_of_text<Ck: Checksum>(
     ensures { (text : List ℕ)
         × IsTextInCase upper Ck.code (hrp_bytes hrp.now)
         (option_to_list version ++ to_fes bytes.now) text
-        × (take result buffer.new ≡ take (length buffer.old) text)
-        × (result ≡ min (length text) (length buffer.old)) }
+        × IsPutAsFits text buffer.old buffer.new result }
 {
     let count = put_text_of_bytes::<Ck>(hrp, version, bytes, buffer);
     raise_front(upper, count, buffer);

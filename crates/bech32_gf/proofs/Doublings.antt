@@ -49,20 +49,6 @@ module _ {F : Type 0} {o : Ops F} (l : IsField o) where
       ∙ ap (λ w. o.add s (o.add x w)) (multiple-double x (n / 2))
       ∙ ap (o.add s) (sym (multiple-suc l x (n / 2 + n / 2)) ∙ ap (multiple o x) e)
 
-  -- a power is twice its half
-  pub power_half_even : (x y : F) (n : ℕ) → n % 2 ≡ 0 → o.mul (o.mul y (power o x (n / 2))) (power o x (n / 2)) ≡ o.mul y (power o x n)
-  power_half_even x y n even =
-      let e : n / 2 + n / 2 ≡ n = omega arith in
-      l.mul_assoc y (power o x (n / 2)) (power o x (n / 2))
-      ∙ ap (o.mul y) (sym (power-add l x (n / 2) (n / 2)) ∙ ap (power o x) e)
-
-  pub power_half_odd : (x y : F) (n : ℕ) → n % 2 ≡ 1 → o.mul (o.mul (o.mul y (power o x (n / 2))) (power o x (n / 2))) x ≡ o.mul y (power o x n)
-  power_half_odd x y n odd =
-      let e : (n / 2 + n / 2) + 1 ≡ n = omega arith in
-      ap (λ w. o.mul w x) (l.mul_assoc y (power o x (n / 2)) (power o x (n / 2)) ∙ ap (o.mul y) (sym (power-add l x (n / 2) (n / 2))))
-      ∙ l.mul_assoc y (power o x (n / 2 + n / 2)) x
-      ∙ ap (o.mul y) (ap (o.mul (power o x (n / 2 + n / 2))) (sym (power-one l x)) ∙ sym (power-add l x (n / 2 + n / 2) 1) ∙ ap (power o x) e)
-
   pub power_next : (x : F) (n : ℕ) → o.mul (power o x n) x ≡ power o x (n + 1)
   power_next x n = ap (o.mul (power o x n)) (sym (power-one l x)) ∙ sym (power-add l x n 1)
 

@@ -6,17 +6,20 @@
 ghost use Rattle.std.specs.Prelude.{◌≡◌, ◌≢◌, ◌↔◌, ◌+◌, ◌-◌, ◌<◌, ◌≤◌, ◌<ℤ◌, ℕ, pos, List, Some, Option, IsTrue, fold};
 ghost use Rattle.std.specs.Iterator.{YieldsFirst, item_count};
 ghost use Rattle.std.specs.Fmt.{WritesOnOk};
-ghost use Rattle.bech32_gf.specs.Field.{Ops, IsField, IsOrder, IsCharacteristic, ListsDivisors, IsPositiveI64};
-ghost use Rattle.bech32_gf.specs.Field.{power, signed_power, signed_multiple, KeepsSums, KeepsProducts};
+ghost use Rattle.bech32_gf.specs.Field.{IsOrder, IsCharacteristic, ListsDivisors, IsPositiveI64};
+ghost use Rattle.bech32_gf.specs.Field.{power, signed_power, signed_multiple};
 ghost use Rattle.bech32_gf.specs.Powers.{powers_of, left_of, base_of, next_of, power_after, GivesNextPower};
 
+use crate::arithmetic::{Arithmetic, Extension};
 use std::fmt;
 use std::hash::Hash;
 use std::iter::Sum;
 use std::ops::{Add, AddAssign, Div, DivAssign, Mul, MulAssign, Neg, Sub, SubAssign};
 
-/// A finite field, with its laws.
-pub trait Field: Copy
+/// A finite field, with its laws. What its operators do is said in [`Arithmetic`], which a field of
+/// your own implements beside this.
+pub trait Field: Arithmetic
+    + Copy
     + PartialEq
     + Eq
     + Default
@@ -33,8 +36,6 @@ pub trait Field: Copy
     + Div<Self, Output = Self>
     + DivAssign<Self>
     + Neg<Output = Self> {
-    ghost ops: { Ops Self };
-
     ghost ZERO: { Self };
 
     ghost ONE: { Self };
@@ -69,8 +70,8 @@ pub trait Field: Copy
 
     /// The element whose product with this one, which is not zero, is one.
     fn multiplicative_inverse(self) -> Self
-        requires { self ≢ ops.zero }
-        ensures { result ≡ ops.inv self };
+        requires { self ≢ Self.ops.zero }
+        ensures { result ≡ Self.ops.inv self };
 
     /// The divisors of the order: [`MULTIPLICATIVE_ORDER_FACTORS`](Field::MULTIPLICATIVE_ORDER_FACTORS).
     fn order_factors() -> &'static [usize]
@@ -78,7 +79,7 @@ pub trait Field: Copy
 
     /// The sum of so many times this element, of its negative for a negative number.
     fn muli(&self, n: i64) -> Self
-        ensures { result ≡ signed_multiple ops self.now n }
+        ensures { result ≡ signed_multiple Self.ops self.now n }
     {
         let mut base = if n >= 0 { *self } else { -*self };
         let mut times = n.unsigned_abs() % Self::CHARACTERISTIC as u64;
@@ -96,30 +97,21 @@ pub trait Field: Copy
     /// The product of so many times this element, of its inverse for a negative number, for which
     /// the element may not be zero. Power 0 is one, of zero too.
     fn powi(&self, n: i64) -> Self
-        requires { n <ℤ pos 0 → self.now ≢ ops.zero }
-        ensures { result ≡ signed_power ops self.now n }
+        requires { n <ℤ pos 0 → self.now ≢ Self.ops.zero }
+        ensures { result ≡ signed_power Self.ops self.now n }
     {
-        let mut base = if n >= 0 {
+        let base = if n >= 0 {
             *self
         } else {
             self.multiplicative_inverse()
         };
-        let mut exponent = n.unsigned_abs();
-        let mut product = Self::ONE;
-        while exponent > 0 {
-            if exponent % 2 == 1 {
-                product *= base;
-            }
-            base = base * base;
-            exponent /= 2;
-        }
-        product
+        base.power(n.unsigned_abs() as usize)
     }
 
     /// All powers of this element, from power 0 on and without an end.
     fn powers(self) -> Powers<Self>
         ensures base { base_of result ≡ self }
-        ensures next { next_of result ≡ ops.one }
+        ensures next { next_of result ≡ Self.ops.one }
     {
         Powers {
             base: self,
@@ -130,7 +122,7 @@ pub trait Field: Copy
     /// The powers of this element from one number to another, which is not below it, both included.
     final fn powers_range(self, start: usize, end: usize) -> PowersRange<Self>
         requires { start ≤ end }
-        ensures { left_of ops result ≡ powers_of ops self start (end - start + 1) }
+        ensures { left_of Self.ops result ≡ powers_of Self.ops self start (end - start + 1) }
     {
         let mut powers = self.powers();
         powers.advance(start);
@@ -140,68 +132,67 @@ pub trait Field: Copy
         }
     }
 
-    ghost laws: { IsField ops };
+    ghost zero_law: { ZERO ≡ Self.ops.zero };
 
-    ghost zero_law: { ZERO ≡ ops.zero };
+    ghost one_law: { ONE ≡ Self.ops.one };
 
-    ghost one_law: { ONE ≡ ops.one };
-
-    ghost default_law: { (x : Self) → Self.is_default x → x ≡ ops.zero };
+    ghost default_law: { (x : Self) → Self.is_default x → x ≡ Self.ops.zero };
 
     ghost eq_law: { (x y : Self) → IsTrue (Self.eq x y) ↔ (x ≡ y) };
 
     ghost can_add_law: { (x y : Self) → Self.can_add x y };
 
-    ghost add_law: { (x y r : Self) → Self.add_gives x y r → r ≡ ops.add x y };
+    ghost add_law: { (x y r : Self) → Self.add_gives x y r → r ≡ Self.ops.add x y };
 
     ghost can_add_assign_law: { (x y : Self) → Self.can_add_assign x y };
 
-    ghost add_assign_law: { (x y r : Self) → Self.add_assign_gives x y r → r ≡ ops.add x y };
+    ghost add_assign_law: { (x y r : Self) → Self.add_assign_gives x y r → r ≡ Self.ops.add x y };
 
     ghost can_sub_law: { (x y : Self) → Self.can_sub x y };
 
-    ghost sub_law: { (x y r : Self) → Self.sub_gives x y r → r ≡ ops.add x (ops.neg y) };
+    ghost sub_law: { (x y r : Self) → Self.sub_gives x y r → r ≡ Self.ops.add x (Self.ops.neg y) };
 
     ghost can_sub_assign_law: { (x y : Self) → Self.can_sub_assign x y };
 
     ghost sub_assign_law: { (x y r : Self) → Self.sub_assign_gives x y r
-        → r ≡ ops.add x (ops.neg y) };
+        → r ≡ Self.ops.add x (Self.ops.neg y) };
 
     ghost can_mul_law: { (x y : Self) → Self.can_mul x y };
 
-    ghost mul_law: { (x y r : Self) → Self.mul_gives x y r → r ≡ ops.mul x y };
+    ghost mul_law: { (x y r : Self) → Self.mul_gives x y r → r ≡ Self.ops.mul x y };
 
     ghost can_mul_assign_law: { (x y : Self) → Self.can_mul_assign x y };
 
-    ghost mul_assign_law: { (x y r : Self) → Self.mul_assign_gives x y r → r ≡ ops.mul x y };
+    ghost mul_assign_law: { (x y r : Self) → Self.mul_assign_gives x y r → r ≡ Self.ops.mul x y };
 
-    ghost can_div_law: { (x y : Self) → y ≢ ops.zero → Self.can_div x y };
+    ghost can_div_law: { (x y : Self) → y ≢ Self.ops.zero → Self.can_div x y };
 
-    ghost div_law: { (x y r : Self) → y ≢ ops.zero → Self.div_gives x y r
-        → r ≡ ops.mul x (ops.inv y) };
+    ghost div_law: { (x y r : Self) → y ≢ Self.ops.zero → Self.div_gives x y r
+        → r ≡ Self.ops.mul x (Self.ops.inv y) };
 
-    ghost can_div_assign_law: { (x y : Self) → y ≢ ops.zero → Self.can_div_assign x y };
+    ghost can_div_assign_law: { (x y : Self) → y ≢ Self.ops.zero → Self.can_div_assign x y };
 
-    ghost div_assign_law: { (x y r : Self) → y ≢ ops.zero → Self.div_assign_gives x y r
-        → r ≡ ops.mul x (ops.inv y) };
+    ghost div_assign_law: { (x y r : Self) → y ≢ Self.ops.zero → Self.div_assign_gives x y r
+        → r ≡ Self.ops.mul x (Self.ops.inv y) };
 
     ghost can_neg_law: { (x : Self) → Self.can_neg x };
 
-    ghost neg_law: { (x r : Self) → Self.neg_gives x r → r ≡ ops.neg x };
+    ghost neg_law: { (x r : Self) → Self.neg_gives x r → r ≡ Self.ops.neg x };
 
     ghost can_sum_law: { (xs : List Self) → Self.can_sum xs };
 
     ghost sum_law: { (xs : List Self) (r : Self) → Self.sum_gives xs r
-        → r ≡ fold ops.add ops.zero xs };
+        → r ≡ fold Self.ops.add Self.ops.zero xs };
 
     // A sum takes every item.
     ghost sum_complete_law: { (r : Self) → Self.is_complete r };
 
-    ghost characteristic_law: { IsCharacteristic ops CHARACTERISTIC };
+    ghost characteristic_law: { IsCharacteristic Self.ops CHARACTERISTIC };
 
-    ghost order_law: { (x : Self) → x ≢ ops.zero → power ops x MULTIPLICATIVE_ORDER ≡ ops.one };
+    ghost order_law: { (x : Self) → x ≢ Self.ops.zero
+        → power Self.ops x MULTIPLICATIVE_ORDER ≡ Self.ops.one };
 
-    ghost generator_law: { IsOrder ops GENERATOR MULTIPLICATIVE_ORDER };
+    ghost generator_law: { IsOrder Self.ops GENERATOR MULTIPLICATIVE_ORDER };
 
     ghost divisors_law: { ListsDivisors MULTIPLICATIVE_ORDER divisors };
 
@@ -228,15 +219,13 @@ pub trait MultiplicativeOrder: Field {
 
 impl<F: Field> MultiplicativeOrder for F {}
 
-/// A field that a base field with one more element makes.
-pub trait ExtensionField: Field + From<Self::BaseField> {
+/// A field that a base field with one more element makes. How the base field lies in it is said in
+/// [`Extension`], which a field of your own implements beside this.
+pub trait ExtensionField: Field
+    + From<Self::BaseField>
+    + Extension<Base = <Self as ExtensionField>::BaseField> {
     /// The field that is extended.
     type BaseField: Field;
-
-    // The element that an element of the base field is here, and back where it is one.
-    ghost embed: { Self.BaseField → Self };
-
-    ghost retract: { Self → Option Self.BaseField };
 
     ghost DEGREE: { ℕ };
 
@@ -255,24 +244,11 @@ pub trait ExtensionField: Field + From<Self::BaseField> {
 
     /// The element of the base field that this element is, where it is one.
     fn to_base(self) -> Option<Self::BaseField>
-        ensures { result ≡ retract self };
+        ensures { result ≡ Self.retract self };
 
-    ghost from_law: { (x : Self.BaseField) (y : Self) → Self.from_gives x y → y ≡ embed x };
+    ghost base_law: { Self.base_ops ≡ Self.BaseField.ops };
 
-    ghost retract_law: { (x : Self.BaseField) → retract (embed x) ≡ Some x };
-
-    ghost embed_retract_law: { (x : Self.BaseField) (y : Self) → retract y ≡ Some x → embed x ≡ y };
-
-    ghost embed_zero_law: { embed Self.BaseField.ops.zero ≡ Self.ops.zero };
-
-    ghost embed_one_law: { embed Self.BaseField.ops.one ≡ Self.ops.one };
-
-    ghost embed_add_law: { KeepsSums Self.BaseField.ops Self.ops embed };
-
-    ghost embed_neg_law: { (x : Self.BaseField)
-        → embed (Self.BaseField.ops.neg x) ≡ Self.ops.neg (embed x) };
-
-    ghost embed_mul_law: { KeepsProducts Self.BaseField.ops Self.ops embed };
+    ghost from_law: { (x : Self.BaseField) (y : Self) → Self.from_gives x y → y ≡ Self.embed x };
 
     ghost polynomial_law: { power Self.ops EXT_ELEM DEGREE ≡ POLYNOMIAL };
 }
@@ -314,12 +290,7 @@ impl<F: Field> Powers<F> {
         ensures base { base_of self.new ≡ base_of self.old }
         ensures next { next_of self.new ≡ power_after F.ops self.old n }
     {
-        let half = self.base.powi((n / 2) as i64);
-        self.next *= half;
-        self.next *= half;
-        if n % 2 == 1 {
-            self.next *= self.base;
-        }
+        self.next *= self.base.power(n);
     }
 
     /// The power that stands so many places on; the next one is the one behind it.
@@ -342,17 +313,6 @@ impl<F: Field> Iterator for Powers<F> {
         let item = self.next;
         self.next *= self.base;
         Some(item)
-    }
-}
-
-/// The power by a number, by squares.
-pub fn power_of<F: Field>(base: F, n: usize) -> F
-    ensures { result ≡ power F.ops base n }
-{
-    let mut powers = base.powers();
-    match powers.nth(n) {
-        Some(power) => power,
-        None => unreachable!(),
     }
 }
 

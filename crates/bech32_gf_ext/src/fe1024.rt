@@ -6,7 +6,7 @@ use crate::arithmetic::Arithmetic;
 use crate::{Fe32Ext, Fe1024, write_two};
 use bech32_gf::arithmetic::{self as operations, Extension};
 use bech32_gf::field::private::Sealed;
-use bech32_gf::field::{Bech32Field, ExtensionField, Field, MultiplicativeOrder, power_of};
+use bech32_gf::field::{Bech32Field, ExtensionField, Field};
 use bech32_gf::gf32::Fe32;
 use std::fmt;
 
@@ -131,8 +131,6 @@ impl Field for Fe1024 {
     ghost use Rattle.bech32_gf_ext.specs.laws.Fe1024Orders as orders_of;
     ghost use Rattle.bech32_gf_ext.specs.laws.Fe32ExtLaws.{eq_is_equal};
 
-    ghost ops = { elements.ops };
-
     ghost ZERO = { elements.zero };
 
     ghost ONE = { elements.one };
@@ -170,8 +168,6 @@ impl Field for Fe1024 {
     fn order_factors() -> &'static [usize] {
         Fe1024::MULTIPLICATIVE_ORDER_FACTORS
     }
-
-    ghost laws = { laws_of.is_field };
 
     ghost zero_law = { refl };
 
@@ -241,10 +237,6 @@ impl ExtensionField for Fe1024 {
 
     type BaseField = Fe32;
 
-    ghost embed = { elements.embed };
-
-    ghost retract = { elements.retract };
-
     ghost DEGREE = { 2 };
 
     ghost POLYNOMIAL = { elements.polynomial };
@@ -265,21 +257,9 @@ impl ExtensionField for Fe1024 {
         Fe32::try_from(self).ok()
     }
 
+    ghost base_law = { refl };
+
     ghost from_law = { λ a x h. h };
-
-    ghost retract_law = { laws_of.retract-embed };
-
-    ghost embed_retract_law = { laws_of.embed-retract };
-
-    ghost embed_zero_law = { refl };
-
-    ghost embed_one_law = { refl };
-
-    ghost embed_add_law = { laws_of.embed-add };
-
-    ghost embed_neg_law = { λ a. refl };
-
-    ghost embed_mul_law = { laws_of.embed-mul };
 
     ghost polynomial_law = { laws_of.power-ext_elem };
 }
@@ -291,7 +271,7 @@ impl operations::Arithmetic for Fe1024 {
 
     ghost ops = { elements.ops };
 
-    ghost eq = { are_equal };
+    ghost same = { are_equal };
 
     fn zero() -> Fe1024 {
         Fe1024::ZERO
@@ -317,14 +297,6 @@ impl operations::Arithmetic for Fe1024 {
         self.multiplicative_inverse()
     }
 
-    fn power(self, n: usize) -> Fe1024 {
-        power_of(self, n)
-    }
-
-    fn order(self) -> usize {
-        self.multiplicative_order()
-    }
-
     fn equals(self, other: Fe1024) -> bool {
         self == other
     }
@@ -335,7 +307,7 @@ impl operations::Arithmetic for Fe1024 {
 
     ghost laws = { laws_of.is_field };
 
-    ghost eq_law = { eq_is_equal };
+    ghost same_law = { eq_is_equal };
 }
 
 impl Extension for Fe1024 {
@@ -345,9 +317,9 @@ impl Extension for Fe1024 {
     ghost use Rattle.bech32_gf_ext.specs.Fe1024 as elements;
     ghost use Rattle.bech32_gf_ext.specs.laws.Fe1024Laws as laws_of;
 
-    type BaseField = Fe32;
+    type Base = Fe32;
 
-    ghost base = { fe32.ops };
+    ghost base_ops = { fe32.ops };
 
     ghost embed = { elements.embed };
 

@@ -6,7 +6,7 @@ use crate::arithmetic::Arithmetic;
 use crate::{Fe32Ext, Fe32768, write_two};
 use bech32_gf::arithmetic::{self as operations, Extension};
 use bech32_gf::field::private::Sealed;
-use bech32_gf::field::{Bech32Field, ExtensionField, Field, MultiplicativeOrder, power_of};
+use bech32_gf::field::{Bech32Field, ExtensionField, Field};
 use bech32_gf::gf32::Fe32;
 use std::fmt;
 
@@ -158,8 +158,6 @@ impl Field for Fe32768 {
     ghost use Rattle.bech32_gf_ext.specs.laws.Fe32768Orders as orders_of;
     ghost use Rattle.bech32_gf_ext.specs.laws.Fe32ExtLaws.{eq_is_equal};
 
-    ghost ops = { elements.ops };
-
     ghost ZERO = { elements.zero };
 
     ghost ONE = { elements.one };
@@ -197,8 +195,6 @@ impl Field for Fe32768 {
     fn order_factors() -> &'static [usize] {
         Fe32768::MULTIPLICATIVE_ORDER_FACTORS
     }
-
-    ghost laws = { laws_of.is_field };
 
     ghost zero_law = { refl };
 
@@ -268,10 +264,6 @@ impl ExtensionField for Fe32768 {
 
     type BaseField = Fe32;
 
-    ghost embed = { elements.embed };
-
-    ghost retract = { elements.retract };
-
     ghost DEGREE = { 3 };
 
     ghost POLYNOMIAL = { elements.polynomial };
@@ -292,21 +284,9 @@ impl ExtensionField for Fe32768 {
         Fe32::try_from(self).ok()
     }
 
+    ghost base_law = { refl };
+
     ghost from_law = { λ a x h. h };
-
-    ghost retract_law = { laws_of.retract-embed };
-
-    ghost embed_retract_law = { laws_of.embed-retract };
-
-    ghost embed_zero_law = { refl };
-
-    ghost embed_one_law = { refl };
-
-    ghost embed_add_law = { laws_of.embed-add };
-
-    ghost embed_neg_law = { λ a. refl };
-
-    ghost embed_mul_law = { laws_of.embed-mul };
 
     ghost polynomial_law = { laws_of.power-ext_elem };
 }
@@ -318,7 +298,7 @@ impl operations::Arithmetic for Fe32768 {
 
     ghost ops = { elements.ops };
 
-    ghost eq = { are_equal };
+    ghost same = { are_equal };
 
     fn zero() -> Fe32768 {
         Fe32768::ZERO
@@ -344,14 +324,6 @@ impl operations::Arithmetic for Fe32768 {
         self.multiplicative_inverse()
     }
 
-    fn power(self, n: usize) -> Fe32768 {
-        power_of(self, n)
-    }
-
-    fn order(self) -> usize {
-        self.multiplicative_order()
-    }
-
     fn equals(self, other: Fe32768) -> bool {
         self == other
     }
@@ -362,7 +334,7 @@ impl operations::Arithmetic for Fe32768 {
 
     ghost laws = { laws_of.is_field };
 
-    ghost eq_law = { eq_is_equal };
+    ghost same_law = { eq_is_equal };
 }
 
 impl Extension for Fe32768 {
@@ -372,9 +344,9 @@ impl Extension for Fe32768 {
     ghost use Rattle.bech32_gf_ext.specs.Fe32768 as elements;
     ghost use Rattle.bech32_gf_ext.specs.laws.Fe32768Laws as laws_of;
 
-    type BaseField = Fe32;
+    type Base = Fe32;
 
-    ghost base = { fe32.ops };
+    ghost base_ops = { fe32.ops };
 
     ghost embed = { elements.embed };
 

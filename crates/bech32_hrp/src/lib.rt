@@ -416,12 +416,14 @@ impl Hash for Hrp {
     }
 }
 
-/// Writes the text, in the case that they were parsed in.
+/// Writes the text, in the case that it was parsed in. A width and a precision change nothing.
 impl fmt::Display for Hrp {
     ghost use Rattle.std.specs.Prelude.{Some};
     ghost use Rattle.bech32_hrp.specs.HrpBytes.{hrp_bytes};
 
     ghost output = { λ h. Some (hrp_bytes h) };
+
+    ghost styled_output = { λ h spec. Some (hrp_bytes h) };
 
     fn fmt<W: fmt::Write>(&self, f: &mut fmt::Formatter<W>) -> fmt::Result {
         f.write_str(self.as_str())

@@ -2,13 +2,14 @@
 use Rattle.std.specs.Prelude.{◌==◌, ◌≢◌, Bool, true, false, cond}
 use Rattle.std.specs.List.{AllByRecursion}
 use Rattle.std.proofs.Common.{◌≡◌, ℕ, suc, ◌<◌, ◌≤◌, List, [], ◌∷◌, ◌++◌, length, ◌⊎◌, inl, inr, subst, sym, ap, ◌∙◌, refl, arith}
+use Rattle.std.proofs.Math.Decide.{dec_lt}
 use Rattle.std.proofs.lemmas.Bool.Decides.{eqb_tells}
 use Rattle.bech32_gf.specs.Fe32 as fe32
 use Rattle.bech32_gf.specs.Fe32.{ops}
 use Rattle.bech32_gf.specs.declared.gf32.Fe32.{Fe32}
 use Rattle.bech32_gf.specs.laws.Fe32Laws.{is_field}
 use Rattle.bech32_gf.specs.laws.FieldLaws.{zero_add}
-use Rattle.bech32_poly.specs.Distinct.{IsNotAmong, IsOnce}
+use Rattle.bech32_poly.specs.Distinct.{IsAmong, IsNotAmong, IsOnce}
 use Rattle.bech32_poly.specs.Division.{remainder_of}
 use Rattle.bech32_poly.specs.Pattern.{pattern_polynomial, value_of_pattern_at}
 use Rattle.bech32_poly.specs.Polynomial.{IsSamePolynomial, add, appended, coefficient}
@@ -18,8 +19,11 @@ use Rattle.bech32_poly.proofs.Remainder.{remainder_exists, remainder_of-add, rem
 use Rattle.bech32_poly.proofs.Zero.{difference_zero}
 use Rattle.bech32_bch.specs.Erasures.{has, with_erasures}
 use Rattle.bech32_bch.specs.Pattern.{HasRemainder, IsPattern, errors_outside, locations}
-use Rattle.bech32_bch.proofs.Patterns.{at_absent, at_first, at_rest}
-use Rattle.bech32_bch.proofs.Places.{not_mem}
+use Rattle.bech32_bch.proofs.Alone.{mem_or_not}
+use Rattle.bech32_bch.proofs.Counting.{located_outside, outside, outside_located}
+use Rattle.bech32_bch.proofs.Patterns.{at_absent, at_first, at_rest, outside_count, own_values}
+use Rattle.bech32_bch.proofs.Places.{not_mem, once_fits}
+use Rattle.bech32_bch.proofs.Solved.{once_outside}
 use Rattle.bech32_correction.specs.MendedElements.{mended}
 use Rattle.bech32_near.specs.NearTexts.{differences_outside}
 use Rattle.bech32_correction.proofs.Sums.{appended-mended}
@@ -181,6 +185,61 @@ none_differ (x ∷ xs) = step (eqb_tells x.value x.value) (none_differ xs)
     step : ((x.value == x.value) ≡ true × (x.value ≡ x.value)) ⊎ ((x.value == x.value) ≡ false × (x.value ≢ x.value)) → differences xs xs ≡ [] → cond (x.value == x.value) (differences xs xs) ((length xs, fe32.add x x) ∷ differences xs xs) ≡ []
     step (inl t) r = ap (λ b. cond b (differences xs xs) ((length xs, fe32.add x x) ∷ differences xs xs)) t.0 ∙ r
     step (inr t) r = absurd (t.1 refl)
+
+-- ---- what a list and the mended one differ in is what was added
+
+module _ (e : List (ℕ × Fe32)) where
+  own_value : (xs : List Fe32) (i : ℕ) → i < length xs → value_of_pattern_at ops (differences xs (mended ops e xs)) i ≡ value_of_pattern_at ops e i
+  own_value [] i low = absurd (omega (arith, low))
+  own_value (x ∷ xs) i low = elim (dec_lt i (length xs)) [
+    | yes h ↦ at_lower_place x (fe32.add x (value_of_pattern_at ops e (length xs))) xs (mended ops e xs) i h ∙ own_value xs i h
+    | no h ↦ (
+        let last : length xs ≡ i = omega arith in
+        subst (λ (j : ℕ). value_of_pattern_at ops (differences (x ∷ xs) (mended ops e (x ∷ xs))) j ≡ value_of_pattern_at ops e j) last
+        (sym (twice x (value_of_pattern_at ops (differences (x ∷ xs) (mended ops e (x ∷ xs))) (length xs)))
+        ∙ ap (fe32.add x) (at_own_place x (fe32.add x (value_of_pattern_at ops e (length xs))) xs (mended ops e xs))
+        ∙ twice x (value_of_pattern_at ops e (length xs)))
+        )
+  ]
+
+  pub added_value : (xs : List Fe32) → Below (length xs) e → (i : ℕ) → value_of_pattern_at ops (differences xs (mended ops e xs)) i ≡ value_of_pattern_at ops e i
+  added_value xs low i = elim (dec_lt i (length xs)) [
+    | yes h ↦ own_value xs i h
+    | no h ↦ nothing (differences xs (mended ops e xs)) (below xs (mended ops e xs)) (omega (arith, h)) ∙ sym (nothing e low (omega (arith, h)))
+  ]
+    where
+      nothing : (d : List (ℕ × Fe32)) → Below (length xs) d → length xs ≤ i → value_of_pattern_at ops d i ≡ fe32.zero
+      nothing d a h = at_absent is_field d i (not_mem i (locations d) (not_there (length xs) i d h a))
+
+-- of patterns with the same values, the one without zeros has no more errors
+no_more : (s : List ℕ) (d e : List (ℕ × Fe32)) → IsOnce (locations d) → AllByRecursion (λ (p : ℕ × Fe32). p.1 ≢ fe32.zero) d
+    → ((i : ℕ) → value_of_pattern_at ops d i ≡ value_of_pattern_at ops e i) → errors_outside s d ≤ errors_outside s e
+no_more s d e once_each values_each same =
+    let fits : length (outside s d) ≤ length (outside s e) =
+    once_fits (outside s d) (outside s e) (once_outside s d once_each) (λ i m. let there = outside_located s d i m in located_outside s e i (placed i there.0) there.1) in
+    omega (arith, fits, outside_count s d, outside_count s e)
+  where
+    not_zero : (rest : List (ℕ × Fe32)) (i : ℕ) → AllByRecursion (λ (p : ℕ × Fe32). p.1 ≡ value_of_pattern_at ops d p.0) rest → AllByRecursion (λ (p : ℕ × Fe32). p.1 ≢ fe32.zero) rest
+        → IsAmong i (locations rest) → value_of_pattern_at ops d i ≢ fe32.zero
+    not_zero [] i own some m = absurd m
+    not_zero (p ∷ rest) i own some (inl k) = λ z. some.0 (own.0 ∙ ap (value_of_pattern_at ops d) (sym k) ∙ z)
+    not_zero (p ∷ rest) i own some (inr m) = not_zero rest i own.1 some.1 m
+
+    placed : (i : ℕ) → IsAmong i (locations d) → IsAmong i (locations e)
+    placed i m = elim (mem_or_not i (locations e)) [
+      | inl k ↦ k
+      | inr k ↦ absurd (not_zero d i (own_values is_field d once_each) values_each m (same i ∙ at_absent is_field e i k))
+    ]
+
+-- what a list is mended by changes no more places outside given locations than a pattern with its values has errors there
+pub few_mended : (given : List ℕ) (xs : List Fe32) (items pattern : List (ℕ × Fe32)) → AllByRecursion (λ (p : ℕ × Fe32). p.0 < length xs) items
+    → ((i : ℕ) → value_of_pattern_at ops items i ≡ value_of_pattern_at ops pattern i)
+    → differences_outside given xs (mended ops items xs) ≤ errors_outside (with_erasures [] given) pattern
+few_mended given xs items pattern low same =
+    let ys = mended ops items xs in
+    let most : errors_outside (with_erasures [] given) (differences xs ys) ≤ errors_outside (with_erasures [] given) pattern =
+    no_more (with_erasures [] given) (differences xs ys) pattern (once xs ys) (values xs ys) (λ i. added_value items xs low i ∙ same i) in
+    omega (arith, most, few_outside given xs ys)
 
 -- ---- it has the residue as remainder
 

@@ -1,2 +1,3 @@
 pub mod Differing
 pub mod Nearby
+pub mod Found

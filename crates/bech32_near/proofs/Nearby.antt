@@ -39,7 +39,7 @@ use Rattle.bech32_corrector.specs.Given.{AreWithin}
 use Rattle.bech32_correction.specs.MendedElements.{mended}
 use Rattle.bech32_correction.specs.Mistyped.{AreInside, HasResidue, IsMendedText, IsPlacedIn, IsReadAs, question_of}
 use Rattle.bech32_near_patterns.specs.Nearest.{AreNearest, AreRising, DetectsFour, IsEarlier, IsListed, IsNear, IsNearListing}
-use Rattle.bech32_near.specs.NearTexts.{AreNearTexts, AreNearestListings, BeginsWith, IsNearText, IsSearch, IsSearched, IsSearcherOf, LeavesResidue, differences_outside}
+use Rattle.bech32_near.specs.NearTexts.{AreNearestListings, BeginsWith, IsNearText, IsSearch, IsSearched, IsSearcherOf, LeavesResidue, differences_outside}
 use Rattle.bech32_direct.specs.Question.{Question}
 use Rattle.bech32_correction.proofs.Accepted.{front, in_parts, mended_accepted}
 use Rattle.bech32_correction.proofs.Outcomes.{refused_for, some_degree}
@@ -125,7 +125,7 @@ inside_or_not n (i ∷ given) = step (dec_lt i n) (inside_or_not n given)
     step (yes low) (inr k) = inr (λ a. k a.1)
     step (no k) r = inr (λ a. k a.0)
 
-searched_or_not : (code : Code) (data_part given : List ℕ) → IsSearched code data_part given ⊎ (IsSearched code data_part given → ⊥)
+pub searched_or_not : (code : Code) (data_part given : List ℕ) → IsSearched code data_part given ⊎ (IsSearched code data_part given → ⊥)
 searched_or_not code data_part given = step (dec_lt 0 (length code.generator)) (inside_or_not (length data_part) given)
   where
     step : Dec (0 < length code.generator) → AreInside data_part given ⊎ (AreInside data_part given → ⊥) → IsSearched code data_part given ⊎ (IsSearched code data_part given → ⊥)
@@ -142,7 +142,7 @@ all_weaker P Q [] h a = tt
 all_weaker P Q (x ∷ xs) h a = (h x a.0, all_weaker P Q xs h a.1)
 
 -- what is listed lies below the window, and leaves the residue
-listed_below : (g residue : List Fe32) (s : List ℕ) (w bound errors : ℕ) (items : List (ℕ × Fe32)) → AreErasures w s → IsNearListing ops g residue s w bound errors items
+pub listed_below : (g residue : List Fe32) (s : List ℕ) (w bound errors : ℕ) (items : List (ℕ × Fe32)) → AreErasures w s → IsNearListing ops g residue s w bound errors items
     → AllByRecursion (λ (p : ℕ × Fe32). p.0 < w) items × HasRemainder ops g residue items
 listed_below g residue s w bound errors items erased h =
     let q = gathered_of is_field g residue s w h.pattern items erased h.near.is_pattern h.near.remainder h.listing in (
@@ -159,18 +159,17 @@ given_erasures w given inside = erasures_more w [] given (record { once = tt; be
 -- of a text that was read, a listing makes a text that the checksum accepts
 module _ (code : Code) (bound errors : ℕ) (text hrp data_part given : List ℕ) (residue : List Fe32) (items : List (ℕ × Fe32)) (size : length code.target ≡ length code.generator)
     (is : HasResidue code text hrp data_part residue) (inside : AreInside data_part given) (h : IsNearListing ops code.generator residue (with_erasures [] given) (length data_part) bound errors items) where
-  below : AllByRecursion (λ (p : ℕ × Fe32). p.0 < length data_part) items × HasRemainder ops code.generator residue items
+  pub below : AllByRecursion (λ (p : ℕ × Fe32). p.0 < length data_part) items × HasRemainder ops code.generator residue items
   below = listed_below code.generator residue (with_erasures [] given) (length data_part) bound errors items (given_erasures (length data_part) given inside) h
 
   pub placed_in : IsPlacedIn text items
   placed_in = (hrp, data_part, is.grammar, below.0)
 
+  pub accepted_parts : IsAccepted code (spelled hrp (mended ops items (elements_of data_part))) (lowered hrp) (map char_of_element (mended ops items (elements_of data_part)))
+  accepted_parts = mended_accepted code text hrp data_part residue items is below.0 (mends is_field (λ x. refl) code.generator code.target residue items size below.1)
+
   pub makes_accepted : Accepts code (spelled hrp (mended ops items (elements_of data_part)))
-  makes_accepted = (
-    lowered hrp,
-    map char_of_element (mended ops items (elements_of data_part)),
-    mended_accepted code text hrp data_part residue items is below.0 (mends is_field (λ x. refl) code.generator code.target residue items size below.1),
-  )
+  makes_accepted = (lowered hrp, map char_of_element (mended ops items (elements_of data_part)), accepted_parts)
 
 -- ---- listings of a text
 
@@ -193,7 +192,7 @@ module _ (code : Code) (bound errors : ℕ) (text given : List ℕ) (size : leng
   abbrev Found : Type 0
   Found = List (List (ℕ × Fe32) × List ℕ)
 
-  nothing_found : (found : Found) → map (λ m. m.0) found ≡ [] → found ≡ []
+  pub nothing_found : (found : Found) → map (λ m. m.0) found ≡ [] → found ≡ []
   nothing_found [] e = refl
   nothing_found (m ∷ found) e = absurd (cc e)
 
@@ -226,7 +225,7 @@ module _ (code : Code) (bound errors : ℕ) (text given : List ℕ) (size : leng
   found_text hrp data_part items new (x ∷ found) is a e (inr m) = inr (found_text hrp data_part items new found is a.1 e m)
 
   -- the values of a listing are its pattern's
-  listed_value : (s : List ℕ) (w : ℕ) (e items : List (ℕ × Fe32)) → AreErasures w s → IsListing ops s e items → (i : ℕ) → value_of_pattern_at ops items i ≡ value_of_pattern_at ops e i
+  pub listed_value : (s : List ℕ) (w : ℕ) (e items : List (ℕ × Fe32)) → AreErasures w s → IsListing ops s e items → (i : ℕ) → value_of_pattern_at ops items i ≡ value_of_pattern_at ops e i
   listed_value s w e items erased h i = ap (λ u. value_of_pattern_at ops u i) h.items_are ∙ (elim (mem_or_not i (s ++ h.errors)) [
     | inl m ↦ at_listed is_field (value_of_pattern_at ops e) (s ++ h.errors) i listed_once m
     | inr k ↦ at_absent is_field (map (λ j. (j, value_of_pattern_at ops e j)) (s ++ h.errors)) i (λ m. k (subst (λ u. IsAmong i u) (locations_listed (value_of_pattern_at ops e) (s ++ h.errors)) m)) ∙ sym (nothing k)
@@ -324,55 +323,6 @@ module _ (code : Code) (bound errors : ℕ) (text given : List ℕ) (size : leng
       other_first h.hrp h.data_part h.residue found h.read searched.1 (h.nearest searched) a text n.other_hrp n.other_data n.accepted (n.same_hrp ∙ ap lowered parts.0) n.same_length n.erased
       (subst (λ (d : List ℕ). differences_outside given (elements_of d) (elements_of n.other_data) ≤ errors) parts.1 n.few)
       (ap (λ (d : List ℕ). differences (elements_of h.data_part) (elements_of d)) own.1 ∙ none_differ (elements_of h.data_part))
-
-  -- ---- of anything that has a listing and a text
-
-  module _ {M : Type 0} (listing_of : M → List (ℕ × Fe32)) (text_of : M → List ℕ) where
-    abbrev pairs : List M → Found
-    pairs items = map (λ m. (listing_of m, text_of m)) items
-
-    first_of_pairs : (items : List M) → map listing_of items ≡ map (λ m. m.0) (pairs items)
-    first_of_pairs [] = refl
-    first_of_pairs (m ∷ items) = ap (λ u. listing_of m ∷ u) (first_of_pairs items)
-
-    all_of_pairs : (items : List M) → AllByRecursion (λ m. IsMendedText (listing_of m) text (text_of m)) items → AllByRecursion (λ m. IsMendedText m.0 text m.1) (pairs items)
-    all_of_pairs [] a = tt
-    all_of_pairs (m ∷ items) a = (a.0, all_of_pairs items a.1)
-
-    pub near_texts : (listings : List (List (ℕ × Fe32))) (items : List M) → AreNearestListings code bound text given errors listings → map listing_of items ≡ listings
-        → AllByRecursion (λ m. IsMendedText (listing_of m) text (text_of m)) items → AreNearTexts code bound text given errors (pairs items)
-    near_texts listings items h same a =
-        let of_pairs : AreNearestListings code bound text given errors (map (λ m. m.0) (pairs items)) =
-        subst (λ u. AreNearestListings code bound text given errors u) (sym same ∙ first_of_pairs items) h in
-        let each : AllByRecursion (λ m. IsMendedText m.0 text m.1) (pairs items) = all_of_pairs items a in
-        record {
-          listings = of_pairs;
-          each = all_accepted (pairs items) of_pairs each;
-          all = near_found (pairs items) of_pairs each;
-          itself = itself_found (pairs items) of_pairs each;
-        }
-
--- where the checksum has no characters nothing is searched
-none_searched : (code : Code) (bound errors : ℕ) (text given : List ℕ) → length code.generator ≡ 0 → Accepts code text → AreNearTexts code bound text given errors []
-none_searched code bound errors text given none (hrp, data_part, is) = record {
-  listings = record {
-    hrp = hrp;
-    data_part = data_part;
-    residue = [];
-    read = read-from_accepted code text hrp data_part [] (λ n. refl) is;
-    nearest = λ s. absurd (omega (arith, s.0, none));
-    none = λ k. refl;
-    one = λ detects no few. omega arith;
-  };
-  each = tt;
-  all = λ other n. absurd (omega (arith, n.searched.0, none));
-  itself = λ n. absurd (omega (arith, n.searched.0, none));
-}
-
-pub none_found : {M : Type 0} (listing_of : M → List (ℕ × Fe32)) (text_of : M → List ℕ) (code : Code) (bound errors : ℕ) (text given : List ℕ) (items : List M) → items ≡ [] → length code.generator ≡ 0
-    → Accepts code text → AreNearTexts code bound text given errors (map (λ m. (listing_of m, text_of m)) items)
-none_found {M} listing_of text_of code bound errors text given items e none accepts =
-    subst (λ (u : List M). AreNearTexts code bound text given errors (map (λ m. (listing_of m, text_of m)) u)) (sym e) (none_searched code bound errors text given none accepts)
 
 -- ---- what a corrector lists
 

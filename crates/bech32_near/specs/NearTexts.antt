@@ -1,12 +1,12 @@
 -- Which texts are near one: a checksum accepts them, and they differ from it in few characters.
-use Rattle.std.specs.Prelude.{◌≡◌, ◌<◌, ◌≤◌, ◌==◌, ℕ, suc, cond, List, [], ◌∷◌, length, map}
+use Rattle.std.specs.Prelude.{◌≡◌, ◌⊎◌, ◌<◌, ◌≤◌, ◌==◌, ℕ, suc, cond, List, [], ◌∷◌, length, map}
 use Rattle.std.specs.Prelude.{Option, Some, None}
 use Rattle.std.specs.List.{AllByRecursion}
 use Rattle.bech32_gf.specs.Fe32.{elements_of, ops}
 use Rattle.bech32_gf.specs.declared.gf32.Fe32.{Fe32}
-use Rattle.bech32_poly.specs.Distinct.{IsAmong}
+use Rattle.bech32_poly.specs.Distinct.{IsAmong, IsOnce}
 use Rattle.bech32_hrp.specs.Hrp.{lowered}
-use Rattle.bech32_checksum.specs.Code.{Code}
+use Rattle.bech32_checksum.specs.Code.{Code, bech32, bech32m}
 use Rattle.bech32_bch.specs.Erasures.{has, with_erasures}
 use Rattle.bech32_decode.specs.Acceptance.{Accepts, IsAccepted}
 use Rattle.bech32_decode.specs.Text.{IsText}
@@ -68,16 +68,30 @@ abbrev pub BeginsWith : {A : Type 0} → A → List A → Type 0
 BeginsWith item [] = ⊥
 BeginsWith item (first ∷ rest) = item ≡ first
 
--- all texts that are near this one, each in lower case and with the listing that mends this one to
--- it, in the order of the listings; a text that is near itself, and so accepted, comes first
+-- Bech32 or Bech32m is asked for at most two errors, without given locations, in a data part of at
+-- most 89 characters
+abbrev pub AsksForTwo : Code → List ℕ → List ℕ → ℕ → Type 0
+AsksForTwo code data_part given errors =
+    ((code ≡ bech32) ⊎ (code ≡ bech32m)) × (length data_part ≤ 89) × (given ≡ []) × (errors ≤ 2)
+
+-- all texts that are near this one, and no other: each once, in lower case and with the listing
+-- that mends this one to it, in the order of the listings; a text that is near itself, and so
+-- accepted, comes first
 pub record AreNearTexts (code : Code) (bound : ℕ)
     (text given : List ℕ) (errors : ℕ) (found : List (List (ℕ × Fe32) × List ℕ)) : Type 0 where
   pub listings : AreNearestListings code bound text given errors (map (λ m. m.0) found)
   pub each : AllByRecursion (λ m. IsMendedText m.0 text m.1 × Accepts code m.1) found
+  pub near : AllByRecursion (λ m. IsNearText code bound text given errors m.1) found
+  pub once : IsOnce (map (λ m. m.1) found)
   pub all : (other : List ℕ) → IsNearText code bound text given errors other
       → IsAmong (lowered other) (map (λ m. m.1) found)
   pub itself : IsNearText code bound text given errors text
       → BeginsWith (lowered text) (map (λ m. m.1) found)
+  -- so asked, Bech32 and Bech32m have one at most, and any near text is that one
+  pub one : AsksForTwo code listings.data_part given errors → length found ≤ 1
+  pub only : AsksForTwo code listings.data_part given errors → (other : List ℕ)
+      → IsNearText code bound text given errors other
+      → map (λ m. m.1) found ≡ lowered other ∷ []
 
 -- the text leaves this residue, and a checksum of no characters accepts it
 abbrev pub LeavesResidue : Code → List ℕ → List Fe32 → Type 0

@@ -126,9 +126,11 @@ pub fn nearest_in<Ck: CorrectingChecksum, A: Allocator + Copy>(
 /// that is given twice counts once. Where one is not in the data part, or they are more than the
 /// bound, there are no texts; nor for a checksum of no characters.
 ///
-/// It is meant for up to two errors: [`nearest_listings`] says what time more of them take. Where
-/// the checksum detects four errors in the data part (BIP-173, Checksum design: Bech32 in up to 89
-/// characters), two errors without erasures have one text at most.
+/// It is meant for up to two errors: [`nearest_listings`] says what time more of them take. By
+/// [`Bech32`](bech32_checksum::Bech32) and [`Bech32m`](bech32_checksum::Bech32m), and a data part of
+/// up to 89 characters, two errors without erasures have one text at most (BIP-173, Checksum
+/// design): the right one, if at most two characters are wrong. So they have by each checksum that
+/// detects four errors in the data part.
 ///
 /// A text that is found is a guess: compare it with the source before it is used.
 ///

@@ -1,8 +1,10 @@
 -- Segwit addresses that are written without any test: the front of a text (BIP-173, Segwit
 -- address format; BIP-350).
-use Rattle.std.specs.Prelude.{◌≡◌, ◌≤◌, ℕ, Bool, List, ◌∷◌, length, take, Option}
+use Rattle.std.specs.Prelude.{◌≡◌, ◌≤◌, ℕ, Bool, List, ◌∷◌, length, take, Option, Result}
 use Rattle.std.specs.Fmt.{WritesInCalls}
 use Rattle.std.specs.Io.KnownBytes.{Appends}
+use Rattle.std.specs.declared.io.Error.{Error}
+use Rattle.devices.specs.Marks.{IsErrorOfLastWrite}
 use Rattle.bech32_gf.specs.declared.gf32.Fe32.{Fe32}
 use Rattle.bech32_bits.specs.Bits.{to_fes}
 use Rattle.bech32_encode.specs.Cased.{IsTextInCase}
@@ -33,3 +35,10 @@ abbrev pub AppendsPartOfFront : Option (List ℕ) → Option (List ℕ) → Bool
 AppendsPartOfFront old new upper hrp version program =
     (front : List ℕ) × IsFrontOfText upper hrp version program front
     × (n : ℕ) × (n ≤ length front) × Appends old new (take n front)
+
+-- why they were not taken whole
+abbrev pub IsErrorOfFront : {K : Type 0} → (K → List ℕ → Result ℕ Error → K → Type 0) → Bool
+    → List ℕ → Fe32 → List ℕ → K → Error → Type 0
+IsErrorOfFront write_gives upper hrp version program after e =
+    (front : List ℕ) × IsFrontOfText upper hrp version program front
+    × IsErrorOfLastWrite write_gives front after e

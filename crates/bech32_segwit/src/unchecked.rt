@@ -1,10 +1,10 @@
 //! Segwit addresses written without any test.
 
-ghost use Rattle.std.specs.Prelude.{◌≡◌, ◌≤◌, ◌∷◌, ℕ, List, true, false, length, take, OnOk, OnErr};
+ghost use Rattle.std.specs.Prelude.{◌≡◌, ◌≤◌, ◌∷◌, ℕ, List, true, false, length, take, OnOk, OnErr, IfErr};
 ghost use Rattle.std.specs.Fmt.{WritesInCalls};
 ghost use Rattle.std.specs.Io.KnownBytes.{Appends};
 ghost use Rattle.bech32_hrp.specs.HrpBytes.{hrp_bytes};
-ghost use Rattle.bech32_segwit.specs.Unchecked.{IsFrontOfText, WritesFront, AppendsFront, AppendsPartOfFront};
+ghost use Rattle.bech32_segwit.specs.Unchecked.{IsFrontOfText, WritesFront, AppendsFront, AppendsPartOfFront, IsErrorOfFront};
 
 use crate::VERSION_0;
 use bech32_checksum::{Bech32, Bech32m};
@@ -81,6 +81,8 @@ pub fn encode_into_bytes_unchecked<S: ByteSink>(
     ensures beginning { OnErr result
         (AppendsPartOfFront (S.contents sink.old) (S.contents sink.new)
         upper (hrp_bytes hrp) witness_version «witness_program».now) }
+    ensures error { IfErr result (λ e. IsErrorOfFront S.write_gives
+        upper (hrp_bytes hrp) witness_version «witness_program».now sink.new e) }
     ensures uncounted { S.flushes sink.new ≡ S.flushes sink.old }
     ensures same { S.is_same sink.old sink.new }
 {

@@ -16,6 +16,7 @@ use denote.RawPtr.{Ptr, block_ptr, in_a_block}
 use denote.Shadow.{pure_l}
 use denote.Steps.{only}
 use Rattle.core.specs.contracts.option.Option as option
+use Rattle.caller_memory.specs.Lent.{FitsIn}
 use Rattle.caller_memory.specs.Ownership.{bytes_at, block_token}
 use Rattle.caller_memory.specs.declared.memory.Memory.{Memory}
 use Rattle.caller_memory.specs.contracts.memory.Memory as memory
@@ -26,7 +27,7 @@ abbrev pub Taken : RattleType
 Taken = option.the_row memory.the_row
 
 abbrev pub Told : Memory → ℕ → ℕ → Taken.Denot → Type 0
-Told r n a x = IfSome x (λ m. (m ≡ r) × (n ≤ r.size / 16 * 16) × (n < 2 ^ 63) × (a ≤ 16))
+Told r n a x = IfSome x (λ m. (m ≡ r) × FitsIn r n a)
 
 divides_16 : (w : Width) → Dv (bytes w) 16
 divides_16 w8 = tt
@@ -63,5 +64,5 @@ module _ {M : Type 1} {𝓤 : Ura M} {𝓛 : Logic 𝓤} {K : Type 0} {Γ : List
       let parts = sized_told w.start w.size vss.0 s in
       rewrite t 0 (λ (u : Memory). ‵ (bytes_at u.start u.size)) told.0 refl $
       in_a_block t r.start (λ (p : Ptr). bytes_at p r.size) (id⊢ 𝓤 (never 𝓤)) (λ b o at.
-      some b o (sym at) (subst (λ (m : Memory). m.size < 2 ^ 64) told.0 parts.1) told.1 told.2
+      some b o (sym at) (subst (λ (m : Memory). m.size < 2 ^ 64) told.0 parts.1) told.1.0 told.1.1
       (ap only is ∙ ap (λ (xs : List Val). live 1 (of_list xs)) (is' ∙ ap (λ (xs : List Val). xs ++ []) parts.0) ∙ (λ i. live 1 (vcons (sized_val ((told.0 i).start) ((told.0 i).size)) vnil)) ∙ (λ i. live 1 (vcons (sized_val (at i) r.size) vnil)))))))))

@@ -1,6 +1,6 @@
 //! A caller's memory as an allocator, which gives all of it as one block.
 
-ghost use Rattle.std.specs.Prelude.{◌≡◌, ◌<◌, ◌≤◌, ◌*◌, ◌/◌, ◌^◌, IfSome};
+ghost use Rattle.std.specs.Prelude.{◌≡◌, true, IfSome};
 ghost use Rattle.caller_memory.specs.Memory.{memory_size};
 ghost use Rattle.caller_memory.specs.Ownership.{block_token};
 
@@ -22,7 +22,7 @@ pub struct Lent {
 }
 
 impl Lent {
-    ghost use Rattle.caller_memory.specs.Lent.{lent_memory};
+    ghost use Rattle.caller_memory.specs.Lent.{FitsIn, lent_memory};
 
     /// Takes a caller's memory over.
     pub fn new(memory: Memory) -> Lent
@@ -41,18 +41,30 @@ impl Lent {
         slot.into_inner()
     }
 
-    /// An arena over all pages of the memory.
-    pub fn arena(&self) -> Result<Bump<&Lent>, AllocError> {
+    /// An arena over all pages of the memory; where there are none, or the block is out, an arena
+    /// that asks for memory later.
+    pub fn arena(&self) -> Bump<&Lent> {
         let pages = self.size.saturating_add(16) / PAGE;
-        Bump::try_with_capacity(self, (pages * PAGE).saturating_sub(BESIDE))
+        match Bump::try_with_capacity(self, (pages * PAGE).saturating_sub(BESIDE)) {
+            Ok(arena) => arena,
+            Err(_) => Bump::new(self),
+        }
     }
 
+    // Whether so many bytes, aligned so, are at most the memory.
+    fn fits(&self, size: usize, align: usize) -> bool
+        ensures yes { result ≡ true → FitsIn (lent_memory self.now) size align }
+        ensures no { FitsIn (lent_memory self.now) size align → result ≡ true }
+    {
+        align <= ALIGN && size <= isize::MAX as usize && size <= self.size / ALIGN * ALIGN
+    }
+
+    // The memory, where that many bytes fit in it and it is not out.
     fn take(&self, size: usize, align: usize) -> Option<Memory>
         ensures { IfSome result (λ m. (m ≡ lent_memory self.now)
-            × (size ≤ memory_size (lent_memory self.now) / 16 * 16) × (size < 2 ^ 63)
-            × (align ≤ 16)) }
+            × FitsIn (lent_memory self.now) size align) }
     {
-        if align > ALIGN || size > isize::MAX as usize || size > self.size / ALIGN * ALIGN {
+        if !self.fits(size, align) {
             return None;
         }
         self.slot.replace(None)

@@ -41,15 +41,12 @@ fn nearest_in<A: Allocator + Copy>(alloc: A, bytes: &[u8]) -> Result<ArrayString
     }
 }
 
-// The same with lent memory, once the text was tested.
+// The same with lent memory.
 fn nearest_over(lent: &Lent, bytes: &[u8]) -> Result<ArrayString<LONGEST>, Refusal>
-    requires { IsUtf8 bytes.now × (frame_refusal (read_text bytes.now) ≡ None) }
     ensures value { IfOk result (λ nearest. IsNearestText bytes.now nearest.bytes) }
     ensures refused { IfErr result (λ e. (room : ℕ) → IsProposeFault bytes.now room e) }
 {
-    let Ok(arena) = lent.arena() else {
-        return Err(Refusal::Text(Codex32Error::Memory));
-    };
+    let arena = lent.arena();
     nearest_in(&arena, bytes)
 }
 

@@ -1,5 +1,5 @@
 -- What a call does to the failed mark of a device.
-use Rattle.std.specs.Prelude.{◌≡◌, ◌≤◌, ℕ, Bool, true, List, length}
+use Rattle.std.specs.Prelude.{◌≡◌, ◌≤◌, ℕ, Bool, true, List, ◌++◌, length}
 use Rattle.std.specs.Prelude.{drop, Result, Ok, Err, ◌==◌, ◌&&◌, nat_lt}
 use Rattle.std.specs.IoError.{error_kind}
 use Rattle.std.specs.declared.io.Error.{Error}
@@ -24,3 +24,10 @@ pub record IsErrorOfLastWrite {K : Type 0} (write_gives : K → List ℕ → Res
   pub returned : Result ℕ Error
   pub last : write_gives before (drop at bytes) returned after
   pub why : IsErrorOfWrite returned e
+
+-- the same of a text that is written piece by piece: the last write was given the end of a piece
+abbrev pub IsErrorOfLastPiece : {K : Type 0} → (K → List ℕ → Result ℕ Error → K → Type 0) → List ℕ
+    → K → Error → Type 0
+IsErrorOfLastPiece write_gives text after e =
+    (gone piece rest : List ℕ) × (text ≡ gone ++ (piece ++ rest))
+    × IsErrorOfLastWrite write_gives piece after e

@@ -1,9 +1,10 @@
 //! Texts that come piece by piece, and are written so.
 
-ghost use Rattle.std.specs.Prelude.{◌≡◌, ℕ, ◌≤◌, List, [], ◌++◌, true, false, length, take, OnOk, OnErr};
+ghost use Rattle.std.specs.Prelude.{◌≡◌, ℕ, ◌≤◌, List, [], ◌++◌, true, false, length, take, OnOk, OnErr, IfErr};
 ghost use Rattle.std.specs.Fmt.{WritesInCalls};
 ghost use Rattle.std.specs.Io.KnownBytes.{Appends};
 ghost use Rattle.std.specs.Str.{IsAscii};
+ghost use Rattle.devices.specs.Marks.{IsErrorOfLastPiece};
 
 use crate::{ByteSink, FmtSink, write_all};
 use std::{fmt, io};
@@ -63,6 +64,8 @@ pub fn pieces_into_bytes<P: Pieces, K: ByteSink>(pieces: &mut P, sink: &mut K) -
     ensures err_mark { OnErr result (K.has_failed sink.new ≡ true) }
     ensures beginning { OnErr result ((n : ℕ) × (n ≤ length (P.to_come pieces.old))
         × Appends (K.contents sink.old) (K.contents sink.new) (take n (P.to_come pieces.old))) }
+    ensures error { IfErr result
+        (λ e. IsErrorOfLastPiece K.write_gives (P.to_come pieces.old) sink.new e) }
     ensures uncounted { K.flushes sink.new ≡ K.flushes sink.old }
     ensures same { K.is_same sink.old sink.new }
 {

@@ -1,5 +1,6 @@
 //! Every item stands under the path that it has in the Rust crate, and is what its name says.
 
+use self::primitives::correction::{Correction, bech32_listing, bech32m_listing};
 use crate::compare::same;
 use std::alloc::Global;
 use std::process::Abort;
@@ -29,27 +30,28 @@ pub mod segwit {
 
 pub mod primitives {
     pub use bech32::primitives::{
-        Bech32, Bech32Field, Bech32m, ExtensionField, Field, MultiplicativeOrder, NoChecksum,
-        Powers, PowersRange,
+        Bech32, Bech32Field, Bech32m, ExtensionField, Field, MultiplicativeOrder,
+        NO_ALLOC_MAX_LENGTH, NoChecksum, Powers, PowersRange,
     };
 
     pub mod checksum {
         pub use bech32::primitives::checksum::{
-            Checksum, Engine, HrpFe32Iter, NamedField, PackedFe32, PackedNull, PrintError,
-            PrintImpl, detects_four, detects_four_in,
+            Bech32, Bech32m, Checksum, Engine, HrpFe32Iter, NamedField, NoChecksum, PackedFe32,
+            PackedNull, PrintError, PrintImpl, detects_four, detects_four_in,
         };
     }
 
     pub mod correction {
         pub use bech32::primitives::correction::{
-            CorrectableError, Corrector, ErrorIterator, NO_ALLOC_MAX_LENGTH,
+            CorrectableError, Correction, Corrector, ErrorIterator, MAX_DEGREE,
+            NO_ALLOC_MAX_LENGTH, bech32_listing, bech32m_listing,
         };
     }
 
     pub mod decode {
         pub use bech32::primitives::decode::{
             AsciiToFe32Iter, ByteIter, CharError, CheckedHrpstring, CheckedHrpstringError,
-            ChecksumError, CodeLengthError, InvalidResidueError, PaddingError,
+            ChecksumError, CodeLengthError, InvalidResidueError, MAX_DEGREE, PaddingError,
             SegwitCodeLengthError, SegwitHrpstring, SegwitHrpstringError, UncheckedHrpstring,
             UncheckedHrpstringError,
         };
@@ -108,8 +110,37 @@ fn checksums_by_each_path(rt: HostRuntime) {
     let alloc = rt.alloc();
     encodes::<root::Bech32>(&rt, alloc, "a12uel5l");
     encodes::<primitives::Bech32>(&rt, alloc, "a12uel5l");
+    encodes::<primitives::checksum::Bech32>(&rt, alloc, "a12uel5l");
     encodes::<root::Bech32m>(&rt, alloc, "a1lqfn3a");
     encodes::<primitives::Bech32m>(&rt, alloc, "a1lqfn3a");
+    encodes::<primitives::checksum::Bech32m>(&rt, alloc, "a1lqfn3a");
+    encodes::<root::NoChecksum>(&rt, alloc, "a1");
+    encodes::<primitives::NoChecksum>(&rt, alloc, "a1");
+    encodes::<primitives::checksum::NoChecksum>(&rt, alloc, "a1");
+}
+
+// Each listing accepts the text of its own checksum, and not that of the other.
+#[test]
+fn listings_by_each_path(rt: HostRuntime) {
+    for (text, by_bech32, by_bech32m) in [("a12uel5l", true, false), ("a1lqfn3a", false, true)] {
+        let answer = bech32_listing(text, &[]);
+        same(&rt, &matches!(answer, Ok(Correction::Accepted)), &by_bech32);
+        let answer = bech32m_listing(text, &[]);
+        same(
+            &rt,
+            &matches!(answer, Ok(Correction::Accepted)),
+            &by_bech32m,
+        );
+    }
+}
+
+#[test]
+fn sizes_by_each_path(rt: HostRuntime) {
+    same(&rt, &primitives::NO_ALLOC_MAX_LENGTH, &7);
+    same(&rt, &primitives::correction::NO_ALLOC_MAX_LENGTH, &7);
+    same(&rt, &primitives::correction::MAX_DEGREE, &25);
+    same(&rt, &primitives::decode::MAX_DEGREE, &25);
+    same(&rt, &primitives::segwit::MAX_STRING_LENGTH, &90);
 }
 
 #[test]

@@ -106,3 +106,36 @@ fn memory_is_kept_with_a_block_that_is_out(rt: HostRuntime) -> Result<(), Fail> 
     );
     Ok(())
 }
+
+// The bytes that an arena over so much memory has to give.
+fn arena_size(alloc: Global, size: usize) -> Result<usize, AllocError> {
+    let lent = Lent::new(Memory::leaked(alloc, size)?);
+    let arena = lent.arena();
+    Ok(arena.chunk_capacity())
+}
+
+// An arena has all whole pages, but for 64 bytes; the last page is whole without its last 16.
+#[test]
+fn arena_over_all_pages(rt: HostRuntime) -> Result<(), Fail> {
+    for (size, want) in [
+        (4079, 0),
+        (4080, 4032),
+        (8175, 4032),
+        (8176, 8128),
+        (12272, 12224),
+        (65520, 65472),
+    ] {
+        same(&rt, &arena_size(rt.alloc(), size)?, &want);
+    }
+    Ok(())
+}
+
+#[test]
+fn arena_over_memory_that_is_out(rt: HostRuntime) -> Result<(), Fail> {
+    let lent = Lent::new(Memory::leaked(rt.alloc(), 8192)?);
+    let block = Box::new(&lent, 0u8)?;
+    same(&rt, &lent.arena().chunk_capacity(), &0);
+    drop(block);
+    same(&rt, &size_of_memory(lent.into_memory()), &Some(8192));
+    Ok(())
+}

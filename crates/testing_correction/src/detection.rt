@@ -5,8 +5,7 @@ use bech32_checksum::{Bech32, Bech32m};
 use bech32_detect::detects_four;
 use testing_codes::{Degree8, Degree13, Tiny};
 
-// The data part of the longest text of Bech32 (BIP-173, Bech32) has 89 characters; Bech32m has the
-// same generator (BIP-350).
+// BIP-173, Checksum design, of Bech32; Bech32m has the same generator (BIP-350).
 #[test]
 fn in_texts_of_bech32(rt: HostRuntime) {
     let answers = [

@@ -22,4 +22,6 @@ mod nearest;
 #[cfg(test)]
 mod one_call;
 #[cfg(test)]
+mod printed;
+#[cfg(test)]
 mod rows;

@@ -130,6 +130,32 @@ pub fn is_listed_by<Ck: Checksum>(
         && lists(&corrector, want)
 }
 
+// Whether just this is listed without erasures, where an error was taken off.
+fn lists_without<Ck: Checksum>(
+    corrector: &Corrector<Ck>,
+    error: (usize, Fe32),
+    want: Listing,
+) -> bool {
+    match corrector.without_error(error) {
+        Ok(left) => lists_with(&left, &[], Some(want)),
+        Err(_) => false,
+    }
+}
+
+/// Whether just this is listed without erasures, where an error is taken off a corrector with these
+/// erasures; not where there is no corrector.
+pub fn is_left_by<Ck: Checksum>(
+    found: Option<Corrector<Ck>>,
+    erasures: &[usize],
+    error: (usize, Fe32),
+    want: Listing,
+) -> bool {
+    let Some(mut corrector) = found else {
+        return false;
+    };
+    is_given(&mut corrector, erasures) && lists_without(&corrector, error, want)
+}
+
 /// The corrector of an error's residue; the window is the code length where none is given.
 pub fn corrector_of<Ck: Checksum>(
     alloc: Global,

@@ -2,6 +2,8 @@
 
 use crate::compare::same;
 use bech32_checksum::{Bech32, Bech32m, Checksum, Engine, PackedFe32};
+use bech32_correction::{erased_of_read, error_of_read};
+use bech32_decode::Reading;
 use bech32_gf::gf32::Fe32;
 
 // The six coefficients of a packed remainder.
@@ -51,4 +53,43 @@ fn values_at_erasures_are_looked_up(rt: HostRuntime) {
     same(&rt, &(values == Some([Fe32::P, Fe32::Z, Fe32::Q])), &true);
     let values = Bech32m::values_at(&coefficients(&three), &[0, 40, 1022]);
     same(&rt, &(values == Some([Fe32::P, Fe32::Z, Fe32::L])), &true);
+}
+
+// What is looked up for a text that Bech32 refuses for its residue, where there are no erasures.
+fn error_of(text: &str) -> Option<Option<(usize, Fe32)>> {
+    let reading = Reading::<Bech32>::of(text.as_bytes())?;
+    let Ok(()) = reading.validate_lengths() else {
+        return None;
+    };
+    if reading.has_target() {
+        return None;
+    }
+    error_of_read(&reading)
+}
+
+// Whether just this is looked up for such a text with these erasures.
+fn is_erased(text: &str, erasures: &[usize], want: &[(usize, Fe32)]) -> bool {
+    let Some(reading) = Reading::<Bech32>::of(text.as_bytes()) else {
+        return false;
+    };
+    let Ok(()) = reading.validate_lengths() else {
+        return false;
+    };
+    if reading.has_target() {
+        return false;
+    }
+    match erased_of_read(&reading, erasures) {
+        Some(listing) => listing.as_slice() == want,
+        None => false,
+    }
+}
+
+#[test]
+fn texts_are_looked_up(rt: HostRuntime) {
+    let (q, l) = (Fe32::Q, Fe32::L);
+    same(&rt, &(error_of("a12uel5q") == Some(Some((0, l)))), &true);
+    same(&rt, &(error_of("a12uelqq") == Some(None)), &true);
+    let two = is_erased("a12uel5q", &[1, 0], &[(1, q), (0, l)]);
+    let three = is_erased("a12uel5q", &[5, 0, 3], &[(5, q), (0, l), (3, q)]);
+    same(&rt, &(two, three), &(true, true));
 }

@@ -1,7 +1,7 @@
 //! Texts of the standards, and of other checksums, with errors that are known.
 
 use super::compare::{same, same_items};
-use super::listed::{Listing, corrector_for, corrector_of, is_listed_by};
+use super::listed::{Listing, corrector_for, corrector_of, is_left_by, is_listed_by};
 use bech32_checksum::{Bech32, Checksum, NoChecksum};
 use bech32_corrector::{CorrectableError, Corrector};
 use bech32_decode::{CheckedHrpstring, SegwitHrpstring};
@@ -186,6 +186,29 @@ fn eight_erasures(rt: HostRuntime) {
         )
     });
     same_items(&rt, &listed, &[true; 2]);
+}
+
+// The last character is wrong; it is the first of the erasures, if there are any.
+#[test]
+fn each_number_of_erasures(rt: HostRuntime) {
+    let text = "ms10testsxxxxxxxxxxxxxxxxxxxxxxxxxx4nzvca9cmczlq";
+    let places = [0usize, 1, 2, 3, 4, 5, 6, 7];
+    let want = places.map(|place| (place, if place == 0 { Fe32::W } else { Fe32::Q }));
+    let mut listed = 0u32;
+    let mut left = 0u32;
+    for count in 0..9usize {
+        let given = &places[..count];
+        let found = corrector_for::<Degree13>(rt.alloc(), text, None);
+        if is_listed_by(found, given, Some(&want[..count.max(1)])) {
+            listed = listed.saturating_add(1);
+        }
+        let found = corrector_for::<Degree13>(rt.alloc(), text, None);
+        let both = [(0, Fe32::W), (80, Fe32::Z)];
+        if is_left_by(found, given, (80, Fe32::Z), &both) {
+            left = left.saturating_add(1);
+        }
+    }
+    same(&rt, &(listed, left), &(9, 9));
 }
 
 // The bound of a corrector, and its window.

@@ -70,6 +70,10 @@ fn values_and_texts_of_elements(rt: HostRuntime) {
     );
     let want = "tried to interpret a byte as a GF32 element but it is not below 32: 32";
     says(&rt, alloc, &TryFromError::InvalidByte(32), want);
+    let error = Fe32::try_from(256u16).err().expect(&rt, "it is no byte");
+    let want =
+        "tried to interpret an integer as a GF32 element but it is not a byte: out of range integral type conversion attempted";
+    says(&rt, alloc, &error, want);
 }
 
 #[test]

@@ -84,21 +84,21 @@ fn clone_goes_on(rt: HostRuntime) {
     both_give_zeros(&rt, rt.alloc(), register, &zeros);
 }
 
-// The register of 1, 3 and 2 modulo 7.
-fn register_of_powers(rt: &impl Abort, alloc: Global) -> LfsrIter<Seven> {
-    let list = [Seven::new(1), Seven::new(3), Seven::new(2)];
+// The register of the first three powers of the generator, over any field.
+fn register_of_powers<F: Field>(rt: &impl Abort, alloc: Global) -> LfsrIter<F> {
+    let list = [F::ONE, F::GENERATOR, F::GENERATOR * F::GENERATOR];
     LfsrIter::berlekamp_massey(alloc, &list).expect(rt, "memory")
 }
 
 #[test]
 fn coefficients_modulo_seven(rt: HostRuntime) {
-    let register = register_of_powers(&rt, rt.alloc());
+    let register = register_of_powers::<Seven>(&rt, rt.alloc());
     same_items(&rt, register.coefficients(), &[Seven::new(4)]);
 }
 
 #[test]
 fn integers_modulo_seven(rt: HostRuntime) {
-    let register = register_of_powers(&rt, rt.alloc());
+    let register = register_of_powers::<Seven>(&rt, rt.alloc());
     let powers = [1, 3, 2, 6, 4, 5, 1].map(Seven::new);
     gives(&rt, rt.alloc(), register.take(7), &powers);
 }

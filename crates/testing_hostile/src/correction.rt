@@ -4,7 +4,7 @@ ghost use Rattle.std.specs.Prelude.{◌≡◌, IfSome};
 
 use crate::turns::{Answer, Call, each_refused};
 use bech32::primitives::LfsrIter;
-use bech32::primitives::correction::{Corrector, ErrorIterator};
+use bech32::primitives::correction::{self, Corrector, ErrorIterator};
 use bech32::primitives::decode::{CheckedHrpstring, CheckedHrpstringError};
 use bech32::{Checksum, CorrectableError, Fe32};
 use std::alloc::{AllocError, Global};
@@ -33,6 +33,8 @@ const EIGHT: [(usize, Fe32); 8] = [
 type OnHeap<'h> = Corrector<Degree13, &'h Refusing<Global>>;
 
 type Listing<'h> = ErrorIterator<&'h Refusing<Global>>;
+
+type Listed<'h> = correction::Listing<&'h Refusing<Global>>;
 
 // Why the checksum refuses a text.
 fn refusal(text: &str) -> Option<CheckedHrpstringError> {
@@ -160,6 +162,69 @@ impl Call for BchErrors {
     }
 }
 
+// What is said of a listing that should be just this.
+fn says(listing: Option<Listed<'_>>, want: &[(usize, Fe32)]) -> Answer {
+    match listing {
+        Some(items) => Answer::of(items.as_slice() == want),
+        None => Answer::Other,
+    }
+}
+
+enum ListingWith {}
+
+impl Call for ListingWith {
+    fn answer(heap: &Refusing<Global>) -> Answer {
+        let Some(corrector) = corrector_of(heap, FOUR_ERRORS) else {
+            return Answer::Other;
+        };
+        match corrector.listing_with(&[44, 0]) {
+            Ok(listing) => says(listing, &FOUR),
+            Err(_) => Answer::NoMemory,
+        }
+    }
+}
+
+const LAST_EIGHT: [usize; 8] = [0, 1, 2, 3, 4, 5, 6, 7];
+
+enum WithErasures {}
+
+impl Call for WithErasures {
+    fn answer(heap: &Refusing<Global>) -> Answer {
+        let Some(corrector) = corrector_of(heap, EIGHT_ERRORS) else {
+            return Answer::Other;
+        };
+        match corrector.with(&LAST_EIGHT) {
+            Ok(Some(erased)) => lists(&erased, &EIGHT),
+            Ok(None) => Answer::Other,
+            Err(_) => Answer::NoMemory,
+        }
+    }
+}
+
+// What a corrector lists of whose residue the first of the eight errors is taken off.
+fn seven_left(corrector: &OnHeap<'_>) -> Answer {
+    let mut seven = EIGHT;
+    seven[0] = (0, Fe32::Q);
+    match corrector.without_error(EIGHT[0]) {
+        Ok(left) => lists(&left, &seven),
+        Err(_) => wants_memory(corrector, &EIGHT),
+    }
+}
+
+enum WithoutError {}
+
+impl Call for WithoutError {
+    fn answer(heap: &Refusing<Global>) -> Answer {
+        let Some(mut corrector) = corrector_of(heap, EIGHT_ERRORS) else {
+            return Answer::Other;
+        };
+        match corrector.add_erasures(&LAST_EIGHT) {
+            Ok(()) => seven_left(&corrector),
+            Err(_) => Answer::NoMemory,
+        }
+    }
+}
+
 enum CloneCorrector {}
 
 impl Call for CloneCorrector {
@@ -258,6 +323,9 @@ fn correctors_as_they_were(rt: HostRuntime) {
     each_refused::<AddErasures>(&rt, alloc);
     each_refused::<EighthErasure>(&rt, alloc);
     each_refused::<BchErrors>(&rt, alloc);
+    each_refused::<ListingWith>(&rt, alloc);
+    each_refused::<WithErasures>(&rt, alloc);
+    each_refused::<WithoutError>(&rt, alloc);
     each_refused::<CloneCorrector>(&rt, alloc);
 }
 

@@ -13,6 +13,10 @@ mod correction;
 #[cfg(test)]
 mod global;
 #[cfg(test)]
+mod heaps;
+#[cfg(test)]
+mod mistyped;
+#[cfg(test)]
 mod residues;
 #[cfg(test)]
 mod turns;

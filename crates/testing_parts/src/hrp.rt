@@ -89,6 +89,18 @@ fn keeps_the_parsed_case(rt: HostRuntime) {
     says(&rt, rt.alloc(), &hrp, "~ABC!1");
 }
 
+// As in the Rust crate, which writes one character after the other.
+#[test]
+fn a_width_and_a_precision_change_nothing(rt: HostRuntime) {
+    let hrp = part(&rt, "ABC");
+    let shown = format!(in rt.alloc(); "{hrp:9}{hrp:>9}{hrp:*^9}{hrp:.2}{hrp:08.1}");
+    same(
+        &rt,
+        &shown.expect(&rt, "memory").as_str(),
+        &"ABCABCABCABCABC",
+    );
+}
+
 // Fails where one of the 83 fronts of a text shows otherwise than it is written.
 fn shows_each_front(rt: &impl Abort, alloc: Global, text: &str) {
     let mut front = String::from_str(alloc, text).expect(rt, "memory");

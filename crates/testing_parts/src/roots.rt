@@ -1,7 +1,8 @@
 //! Lawful roots, and roots with one thing wrong.
 
-ghost use Rattle.std.specs.Prelude.{◌≡◌, ◌<◌, ◌≤◌, ◌+◌, ◌-◌, IsTrue, refl};
+ghost use Rattle.std.specs.Prelude.{◌≡◌, ◌<◌, ◌≤◌, ◌+◌, ◌-◌, IsTrue, IfSome, refl};
 ghost use Rattle.bech32_gf.specs.Fe32 as fe32;
+ghost use Rattle.bech32_gf.specs.Field.{IsOrder};
 ghost use Rattle.bech32_gf_ext.specs.Fe1024.{pair};
 ghost use Rattle.bech32_checksum.specs.Code.{bech32};
 ghost use Rattle.bech32_checksum.specs.laws.CodeLaws as codes;
@@ -10,7 +11,8 @@ ghost use Rattle.testing_parts.specs.TestWords.{words_1, words_1_keep, code_1};
 ghost use Rattle.bech32_gf_ext.specs.Fe1024 as fe1024;
 
 use crate::compare::{same, same_items};
-use bech32_checksum::{Bech32, Bech32m, Checksum, NoChecksum};
+use bech32_checksum::{Bech32, Bech32m, Checksum, LocatorField, NoChecksum};
+use bech32_gf::field::{ExtensionField, Field};
 use bech32_gf::gf32::Fe32;
 use bech32_gf_ext::{Fe32Ext, Fe1024};
 use testing_codes::{Altered, Degree8, Degree13};
@@ -186,6 +188,23 @@ fn bech32m_is_sane() -> bool
 // Whether the roots pass the test.
 fn is_sane<Ck: Checksum>() -> bool {
     Ck::sanity_check()
+}
+
+// The order of an element of any field over that of 32 elements, as a checksum asks for it; nothing
+// for zero.
+fn order_of<E: ExtensionField<BaseField = Fe32>>(x: E) -> Option<usize>
+    ensures { IfSome result (λ order. IsOrder E.ops x order) }
+{
+    if x.is_zero() {
+        return None;
+    }
+    Some(LocatorField::order(x))
+}
+
+#[test]
+fn orders_of_generators(rt: HostRuntime) {
+    let orders = [order_of(Fe32::GENERATOR), order_of(Fe1024::GENERATOR)];
+    same_items(&rt, &orders, &[Some(31), Some(1023)]);
 }
 
 #[test]

@@ -4,7 +4,7 @@ ghost use Rattle.std.specs.Prelude.{◌≡◌, ◌≢◌, ◌<◌};
 ghost use Rattle.testing_tools.specs.Seven as seven;
 
 use bech32_gf::arithmetic::Arithmetic;
-use bech32_gf::field::{Field, MultiplicativeOrder, power_of};
+use bech32_gf::field::Field;
 use std::fmt;
 use std::iter::Sum;
 use std::marker::Model;
@@ -177,8 +177,6 @@ impl DivAssign<Seven> for Seven {
 impl Field for Seven {
     ghost use Rattle.std.specs.Prelude.{◌∷◌, [], refl};
 
-    ghost ops = { seven.ops };
-
     ghost ZERO = { seven.nothing };
 
     ghost ONE = { seven.one };
@@ -210,8 +208,6 @@ impl Field for Seven {
     fn order_factors() -> &'static [usize] {
         Seven::MULTIPLICATIVE_ORDER_FACTORS
     }
-
-    ghost laws = { seven.is_field };
 
     ghost zero_law = { refl };
 
@@ -279,7 +275,7 @@ impl Arithmetic for Seven {
 
     ghost ops = { seven.ops };
 
-    ghost eq = { λ x y. x.number == y.number };
+    ghost same = { λ x y. x.number == y.number };
 
     fn zero() -> Seven {
         Seven::ZERO
@@ -305,14 +301,6 @@ impl Arithmetic for Seven {
         self.inverted()
     }
 
-    fn power(self, n: usize) -> Seven {
-        power_of(self, n)
-    }
-
-    fn order(self) -> usize {
-        self.multiplicative_order()
-    }
-
     fn equals(self, other: Seven) -> bool {
         self == other
     }
@@ -323,5 +311,5 @@ impl Arithmetic for Seven {
 
     ghost laws = { seven.is_field };
 
-    ghost eq_law = { seven.eq_is_equal };
+    ghost same_law = { seven.eq_is_equal };
 }

@@ -8,11 +8,11 @@ use Rattle.bech32_detect.proofs.Answer.{answer, none_below, rows_moved, value_no
 use Rattle.bech32_detect.proofs.RowDigits.{residue_row}
 use Rattle.bech32_detect.proofs.decided_in.Goals as goal
 
-pub returns-then-n-eq0 : goal.returns-then-n-eq0
-returns-then-n-eq0 g c = ((λ e. none_below g.Ck.Checksum.code.generator c.args.n (omega arith)), (λ d. refl))
+pub returns-then-n-eq0-clause-value : goal.returns-then-n-eq0-clause-value
+returns-then-n-eq0-clause-value g c = ((λ e. none_below g.Ck.Checksum.code.generator c.args.n (omega arith)), (λ d. refl))
 
-pub returns : goal.returns
-returns g c =
+pub returns-clause-value : goal.returns-clause-value
+returns-clause-value g c =
     let number = g.Ck.MidstateRepr.PackedFe32.number in
     let code = g.Ck.Checksum.code in
     let sorted : List ℕ = c.sort_unstable.new.self.items in

@@ -5,15 +5,13 @@ ghost use Rattle.std.specs.Prelude.{◌≡◌, codes};
 use super::Fe32;
 use crate::arithmetic::{Arithmetic, Extension};
 use crate::field::private::Sealed;
-use crate::field::{Bech32Field, ExtensionField, Field, MultiplicativeOrder, power_of};
+use crate::field::{Bech32Field, ExtensionField, Field};
 use std::fmt;
 
 impl Field for Fe32 {
     ghost use Rattle.std.specs.Prelude.{◌∷◌, [], refl};
     ghost use Rattle.bech32_gf.specs.Fe32 as fe32;
     ghost use Rattle.bech32_gf.specs.laws.Fe32Laws as laws_of;
-
-    ghost ops = { fe32.ops };
 
     ghost ZERO = { fe32.zero };
 
@@ -46,8 +44,6 @@ impl Field for Fe32 {
     fn order_factors() -> &'static [usize] {
         Fe32::MULTIPLICATIVE_ORDER_FACTORS
     }
-
-    ghost laws = { laws_of.is_field };
 
     ghost zero_law = { refl };
 
@@ -111,16 +107,12 @@ impl Field for Fe32 {
 }
 
 impl ExtensionField for Fe32 {
-    ghost use Rattle.std.specs.Prelude.{Some, refl};
+    ghost use Rattle.std.specs.Prelude.{refl};
     ghost use Rattle.bech32_gf.specs.Fe32 as fe32;
     ghost use Rattle.bech32_gf.specs.laws.Fe32Laws as laws_of;
     ghost use Rattle.bech32_gf.specs.laws.FieldLaws.{power-one};
 
     type BaseField = Fe32;
-
-    ghost embed = { λ x. x };
-
-    ghost retract = { λ x. Some x };
 
     ghost DEGREE = { 1 };
 
@@ -138,21 +130,9 @@ impl ExtensionField for Fe32 {
         Some(self)
     }
 
+    ghost base_law = { refl };
+
     ghost from_law = { λ x y h. h };
-
-    ghost retract_law = { λ x. refl };
-
-    ghost embed_retract_law = { laws_of.same_element };
-
-    ghost embed_zero_law = { refl };
-
-    ghost embed_one_law = { refl };
-
-    ghost embed_add_law = { λ x y. refl };
-
-    ghost embed_neg_law = { λ x. refl };
-
-    ghost embed_mul_law = { λ x y. refl };
 
     ghost polynomial_law = { power-one laws_of.is_field fe32.one };
 }
@@ -164,7 +144,7 @@ impl Arithmetic for Fe32 {
 
     ghost ops = { fe32.ops };
 
-    ghost eq = { λ x y. x.value == y.value };
+    ghost same = { λ x y. x.value == y.value };
 
     fn zero() -> Fe32 {
         Fe32::ZERO
@@ -190,14 +170,6 @@ impl Arithmetic for Fe32 {
         self.multiplicative_inverse()
     }
 
-    fn power(self, n: usize) -> Fe32 {
-        power_of(self, n)
-    }
-
-    fn order(self) -> usize {
-        self.multiplicative_order()
-    }
-
     fn equals(self, other: Fe32) -> bool {
         self == other
     }
@@ -208,7 +180,7 @@ impl Arithmetic for Fe32 {
 
     ghost laws = { laws_of.is_field };
 
-    ghost eq_law = { laws_of.eq_is_equal };
+    ghost same_law = { laws_of.eq_is_equal };
 }
 
 impl Extension for Fe32 {
@@ -216,9 +188,9 @@ impl Extension for Fe32 {
     ghost use Rattle.bech32_gf.specs.Fe32 as fe32;
     ghost use Rattle.bech32_gf.specs.laws.Fe32Laws as laws_of;
 
-    type BaseField = Fe32;
+    type Base = Fe32;
 
-    ghost base = { fe32.ops };
+    ghost base_ops = { fe32.ops };
 
     ghost embed = { λ x. x };
 

@@ -157,10 +157,7 @@ impl<F: Copy + Default, A: Allocator + Copy> Clone for Polynomial<F, A> {
 }
 
 /// The value of a polynomial at an element of an extension of its field.
-pub fn evaluate<E: Extension, A: Allocator + Copy>(
-    polynomial: &Polynomial<E::BaseField, A>,
-    x: E,
-) -> E
+pub fn evaluate<E: Extension, A: Allocator + Copy>(polynomial: &Polynomial<E::Base, A>, x: E) -> E
     ensures { result ≡ value_at E.ops x (map E.embed polynomial.now) }
 {
     embedded_value(polynomial.as_slice(), x)
@@ -187,7 +184,7 @@ fn coefficient_of<F: Arithmetic>(p: &[F], n: usize) -> F
 }
 
 /// The value of a polynomial at `x`, by the coefficients from the highest one down.
-pub fn embedded_value<E: Extension>(p: &[E::BaseField], x: E) -> E
+pub fn embedded_value<E: Extension>(p: &[E::Base], x: E) -> E
     ensures { result ≡ value_at E.ops x (map E.embed p.now) }
 {
     let mut sum = E::zero();

@@ -21,7 +21,7 @@ pub struct RootIter<E: Arithmetic, A: Allocator + Copy = Global> {
 impl<E: Arithmetic, A: Allocator + Copy> Model for RootIter<E, A> {
     ghost Value = { List ℕ };
 
-    ghost view = { λ a. left_of E.ops E.eq a.search };
+    ghost view = { λ a. left_of E.ops E.same a.search };
 }
 
 impl<E: Extension, A: Allocator + Copy> RootIter<E, A> {
@@ -33,13 +33,13 @@ impl<E: Extension, A: Allocator + Copy> RootIter<E, A> {
     ///
     /// If memory runs out.
     pub fn new(
-        polynomial: &Polynomial<E::BaseField, A>,
+        polynomial: &Polynomial<E::Base, A>,
         base: E,
         start: usize,
         end: usize,
     ) -> Result<Self, AllocError>
         ensures roots { IfOk result (λ left.
-            left ≡ root_exponents E.ops E.eq (map E.embed polynomial.now) base start end) }
+            left ≡ root_exponents E.ops E.same (map E.embed polynomial.now) base start end) }
         ensures in_place { FitsInPlace (length polynomial.now) → IsOk result }
     {
         match Search::new(polynomial, base, start, end) {
@@ -87,14 +87,14 @@ impl<E: Copy, A: Allocator + Copy> Model for Search<E, A> {
 impl<E: Extension, A: Allocator + Copy> Search<E, A> {
     // A search that stands at `start`.
     fn new(
-        polynomial: &Polynomial<E::BaseField, A>,
+        polynomial: &Polynomial<E::Base, A>,
         base: E,
         start: usize,
         end: usize,
     ) -> Result<Self, AllocError>
         ensures roots { IfOk result (λ s.
-            left_of E.ops E.eq s
-            ≡ root_exponents E.ops E.eq (map E.embed polynomial.now) base start end) }
+            left_of E.ops E.same s
+            ≡ root_exponents E.ops E.same (map E.embed polynomial.now) base start end) }
         ensures in_place { FitsInPlace (length polynomial.now) → IsOk result }
     {
         let first = base.power(start);
@@ -120,7 +120,7 @@ impl<E: Extension, A: Allocator + Copy> Search<E, A> {
 impl<E: Arithmetic, A: Allocator + Copy> Search<E, A> {
     // The exponent of the next root, where one is left.
     fn next_root(&mut self) -> Option<usize>
-        ensures { YieldsFirst (left_of E.ops E.eq) self.old result self.new }
+        ensures { YieldsFirst (left_of E.ops E.same) self.old result self.new }
     {
         while let Some(exponent) = self.exponent() {
             if self.step() {
@@ -146,7 +146,7 @@ impl<E: Arithmetic, A: Allocator + Copy> Search<E, A> {
     fn step(&mut self) -> bool
         requires { self.old.next < self.old.end }
         ensures found { result
-            ≡ E.eq (value_after E.ops self.old.terms self.old.factors 0) E.ops.zero }
+            ≡ E.same (value_after E.ops self.old.terms self.old.factors 0) E.ops.zero }
         ensures terms { self.new.terms ≡ multiplied_each E.ops self.old.terms self.old.factors }
         ensures factors { self.new.factors ≡ self.old.factors }
         ensures next { self.new.next ≡ self.old.next + 1 }

@@ -1,5 +1,7 @@
+use super::forms::{FORMS, Form, Given, to_writer, written};
 use super::known::{
-    ADDRESS, ADDRESS_PROGRAM, FRONT, LONG_PART, PROGRAM, TEXT, UPPER_ADDRESS, UPPER_TEXT,
+    ADDRESS, ADDRESS_PROGRAM, DATA, FRONT, KINDS, LONG_PART, LONGEST_PART, PROGRAM, TEXT,
+    UPPER_ADDRESS, UPPER_TEXT,
 };
 use crate::compare::{same, same_items};
 use bech32::hrp::BC;
@@ -8,25 +10,49 @@ use bech32::segwit::{
     encode_upper_to_writer_unchecked,
 };
 use bech32::{
-    Bech32, Bech32m, EncodeIoError, Hrp, encode_lower_to_writer, encode_to_writer,
+    Bech32, Bech32m, EncodeIoError, Fe32, Hrp, encode_lower_to_writer, encode_to_writer,
     encode_upper_to_writer,
 };
 use std::alloc::Global;
 use std::io;
 use std::process::Abort;
 
-// Takes at most `step` bytes a call, and fails once `room` are taken.
+// Takes at most `step` bytes a call and `room` in all, and fails from then on, by `Ok(0)` where it
+// has no error to return. Counts the calls, those of them that failed, and the flushes.
 #[derive(Drop)]
 struct Narrow {
     got: Vec<u8>,
     room: usize,
     step: usize,
+    error: Option<io::Error>,
+    calls: usize,
+    failures: usize,
+    flushes: usize,
+}
+
+impl Narrow {
+    fn new(alloc: Global, room: usize, step: usize, error: Option<io::Error>) -> Narrow {
+        Narrow {
+            got: Vec::new(alloc),
+            room,
+            step,
+            error,
+            calls: 0,
+            failures: 0,
+            flushes: 0,
+        }
+    }
 }
 
 impl io::Write for Narrow {
     fn write(&mut self, buf: &[u8]) -> io::Result<usize> {
+        self.calls = self.calls.saturating_add(1);
         if self.got.len() >= self.room {
-            return Err(io::Error::from(io::ErrorKind::StorageFull));
+            self.failures = self.failures.saturating_add(1);
+            return match self.error {
+                Some(error) => Err(error),
+                None => Ok(0),
+            };
         }
         let left = self.room - self.got.len();
         let n = buf.len().min(self.step).min(left);
@@ -35,13 +61,9 @@ impl io::Write for Narrow {
     }
 
     fn flush(&mut self) -> io::Result<()> {
+        self.flushes = self.flushes.saturating_add(1);
         Ok(())
     }
-}
-
-// Whether the writer took the bytes that it had room for, and they are the first of these.
-fn begins(whole: &[u8], w: &Narrow) -> bool {
-    w.got.len() == w.room && whole.starts_with(w.got.as_slice())
 }
 
 // Takes nothing at its first call, returns `first` or else `Ok(0)`, and would take all from then
@@ -49,6 +71,7 @@ fn begins(whole: &[u8], w: &Narrow) -> bool {
 #[derive(Drop)]
 struct Late {
     calls: usize,
+    flushes: usize,
     first: Option<io::ErrorKind>,
 }
 
@@ -65,6 +88,7 @@ impl io::Write for Late {
     }
 
     fn flush(&mut self) -> io::Result<()> {
+        self.flushes = self.flushes.saturating_add(1);
         Ok(())
     }
 }
@@ -107,51 +131,179 @@ fn nothing_is_written_of_a_long_text(rt: HostRuntime) {
     same(&rt, &(outcome, bytes.len()), &(Err(None), 0));
 }
 
-// The outcome of a text for which there is room, or is not.
-fn outcome_of_room(room: usize) -> Result<(), Option<io::ErrorKind>> {
-    if room < TEXT.len() {
-        Err(Some(io::ErrorKind::StorageFull))
-    } else {
-        Ok(())
+// The outcome at a writer that has room for the text, or has not.
+fn outcome_at(w: &Narrow, is_cut: bool) -> Result<(), Option<io::ErrorKind>> {
+    match w.error {
+        _ if !is_cut => Ok(()),
+        Some(error) => Err(Some(error.kind())),
+        None => Err(Some(io::ErrorKind::WriteZero)),
     }
 }
 
-// Fails where a known text is not written as far as a narrow writer has room for it.
-fn fails_behind(rt: &impl Abort, alloc: Global, room: usize, step: usize) {
-    let hrp = part(rt, "test");
-    let mut w = Narrow {
-        got: Vec::new(alloc),
-        room,
-        step,
-    };
-    let outcome = encode_to_writer::<Bech32, Narrow>(&mut w, hrp, &PROGRAM).map_err(kind);
-    let want = outcome_of_room(room);
-    same(rt, &(room, step, outcome), &(room, step, want));
-    same(rt, &begins(TEXT.as_bytes(), &w), &true);
+// Fails where a form does not write as far as a writer has room, goes on when it failed, tells
+// another error, flushes it, or makes a call that is for nothing.
+fn fails_behind(rt: &impl Abort, (form, given): (Form, &Given<'_>), whole: &[u8], mut w: Narrow) {
+    let outcome = to_writer(form, &mut w, given).map_err(kind);
+    let is_cut = w.room < whole.len();
+    let want = outcome_at(&w, is_cut);
+    let count = w.room.min(whole.len());
+    same(
+        rt,
+        &(
+            form,
+            w.room,
+            w.step,
+            outcome,
+            w.got.len(),
+            w.failures,
+            w.flushes,
+        ),
+        &(form, w.room, w.step, want, count, usize::from(is_cut), 0),
+    );
+    same(rt, &whole.starts_with(w.got.as_slice()), &true);
+    assert!(rt; w.calls <= count.saturating_add(w.failures));
 }
 
-#[test]
-fn every_byte_may_fail(rt: HostRuntime) {
-    for room in 0..=TEXT.len() {
-        for step in [1usize, 7, 100] {
-            fails_behind(&rt, rt.alloc(), room, step);
+// A writer that has room for all of it takes what each form writes, byte by byte and at once.
+fn takes_all(rt: &impl Abort, alloc: Global, given: &Given<'_>) {
+    for form in FORMS {
+        let whole = written(rt, alloc, form, given);
+        for step in [1usize, 2000] {
+            let w = Narrow::new(alloc, whole.len(), step, None);
+            fails_behind(rt, (form, given), &whole, w);
         }
     }
 }
 
+// Each byte of what a form writes fails in turn.
+fn each_byte_fails(rt: &impl Abort, alloc: Global, form: Form, given: &Given<'_>) {
+    let full = io::Error::from(io::ErrorKind::StorageFull);
+    let whole = written(rt, alloc, form, given);
+    for room in 0..=whole.len() {
+        for step in [1usize, 7, 100] {
+            let w = Narrow::new(alloc, room, step, Some(full));
+            fails_behind(rt, (form, given), &whole, w);
+        }
+    }
+}
+
+#[test]
+fn every_byte_may_fail(rt: HostRuntime) {
+    let hrp = part(&rt, "test");
+    for form in FORMS {
+        for size in 0..41usize {
+            let given = Given {
+                hrp,
+                version: VERSION_0,
+                data: &DATA[..size],
+            };
+            each_byte_fails(&rt, rt.alloc(), form, &given);
+        }
+    }
+}
+
+#[test]
+fn texts_of_every_length_are_written(rt: HostRuntime) {
+    let hrp = part(&rt, "abcd");
+    for size in 0..633usize {
+        let given = Given {
+            hrp,
+            version: VERSION_1,
+            data: &DATA[..size],
+        };
+        takes_all(&rt, rt.alloc(), &given);
+    }
+}
+
+#[test]
+fn texts_behind_each_part_are_written(rt: HostRuntime) {
+    let mut front = String::from_str(rt.alloc(), LONGEST_PART).expect(&rt, "memory");
+    for _ in 0..LONGEST_PART.len() {
+        let given = Given {
+            hrp: part(&rt, &front),
+            version: VERSION_0,
+            data: &PROGRAM,
+        };
+        takes_all(&rt, rt.alloc(), &given);
+        front.pop();
+    }
+}
+
+#[test]
+fn addresses_of_each_version_are_written(rt: HostRuntime) {
+    for version in Fe32::iter_alpha() {
+        let given = Given {
+            hrp: BC,
+            version,
+            data: &PROGRAM,
+        };
+        takes_all(&rt, rt.alloc(), &given);
+    }
+}
+
+// What an address of 42 characters is of.
+fn known() -> Given<'static> {
+    Given {
+        hrp: BC,
+        version: VERSION_0,
+        data: &ADDRESS_PROGRAM,
+    }
+}
+
 // Fails where a late writer is called again after its first answer, or another error is told.
-fn ends_at(rt: &impl Abort, first: Option<io::ErrorKind>, want: io::ErrorKind) {
-    let hrp = part(rt, "test");
-    let mut w = Late { calls: 0, first };
-    let outcome = encode_to_writer::<Bech32, Late>(&mut w, hrp, &PROGRAM).map_err(kind);
-    same(rt, &(outcome, w.calls), &(Err(Some(want)), 1));
+fn ends_at(rt: &impl Abort, form: Form, first: Option<io::ErrorKind>, want: io::ErrorKind) {
+    let mut w = Late {
+        calls: 0,
+        flushes: 0,
+        first,
+    };
+    let outcome = to_writer(form, &mut w, &known()).map_err(kind);
+    same(
+        rt,
+        &(form, outcome, w.calls, w.flushes),
+        &(form, Err(Some(want)), 1, 0),
+    );
 }
 
 #[test]
 fn the_first_error_ends_the_call(rt: HostRuntime) {
-    ends_at(&rt, None, io::ErrorKind::WriteZero);
-    let interrupted = io::ErrorKind::Interrupted;
-    ends_at(&rt, Some(interrupted), interrupted);
+    for form in FORMS {
+        ends_at(&rt, form, None, io::ErrorKind::WriteZero);
+        for kind in KINDS {
+            ends_at(&rt, form, Some(kind), kind);
+        }
+    }
+}
+
+// The writer's error.
+fn told(outcome: Result<(), EncodeIoError>) -> Option<io::Error> {
+    match outcome {
+        Err(EncodeIoError::Write(e)) => Some(e),
+        _ => None,
+    }
+}
+
+// Fails where a form tells another error than the one that its writer returned.
+fn tells(rt: &impl Abort, alloc: Global, form: Form, error: io::Error) {
+    let mut w = Narrow::new(alloc, 5, 7, Some(error));
+    let got = told(to_writer(form, &mut w, &known())).expect(rt, "it fails");
+    let got = format!(in alloc; "{got:?}").expect(rt, "memory");
+    let want = format!(in alloc; "{error:?}").expect(rt, "memory");
+    same(rt, &got.as_str(), &want.as_str());
+}
+
+// A kind alone, the system's number of an error, and an error with words.
+#[test]
+fn the_error_is_the_writers_own(rt: HostRuntime) {
+    for form in FORMS {
+        for error in [
+            io::Error::from(io::ErrorKind::StorageFull),
+            io::Error::from_raw_os_error(28),
+            io::Error::new(io::ErrorKind::StorageFull, "the tape is full"),
+        ] {
+            tells(&rt, rt.alloc(), form, error);
+        }
+    }
 }
 
 #[test]
@@ -170,19 +322,6 @@ fn unchecked_addresses_to_a_vec(rt: HostRuntime) {
     same_items(&rt, &upper, UPPER_ADDRESS.as_bytes());
 }
 
-// Fails where an address that is too long is not written as far as a narrow writer has room for it.
-fn is_cut_behind(rt: &impl Abort, alloc: Global, hrp: Hrp, room: usize) {
-    let mut w = Narrow {
-        got: Vec::new(alloc),
-        room,
-        step: 8,
-    };
-    let outcome = encode_to_writer_unchecked(&mut w, hrp, VERSION_1, &[0; 40]);
-    let want = Err(io::ErrorKind::StorageFull);
-    same(rt, &outcome.map_err(|e| e.kind()), &want);
-    same(rt, &begins(FRONT.as_bytes(), &w), &true);
-}
-
 #[test]
 fn unchecked_addresses_are_cut(rt: HostRuntime) {
     let hrp = part(&rt, LONG_PART);
@@ -192,7 +331,10 @@ fn unchecked_addresses_are_cut(rt: HostRuntime) {
     encode_lower_to_writer_unchecked(&mut lower, hrp, VERSION_1, &[0; 40]).expect(&rt, "a front");
     same_items(&rt, &plain, FRONT.as_bytes());
     same_items(&rt, &lower, FRONT.as_bytes());
-    for room in 0..90usize {
-        is_cut_behind(&rt, rt.alloc(), hrp, room);
-    }
+    let given = Given {
+        hrp,
+        version: VERSION_1,
+        data: &[0; 40],
+    };
+    each_byte_fails(&rt, rt.alloc(), Form::Address, &given);
 }

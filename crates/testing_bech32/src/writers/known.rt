@@ -1,4 +1,6 @@
-//! Texts that are known from outside.
+//! Texts that are known from outside, and what is written and fails in tests.
+
+use std::io;
 
 /// The 20 bytes of a known text.
 pub const PROGRAM: [u8; 20] = [
@@ -27,3 +29,56 @@ pub const LONG_PART: &str = "anhrpthatis19charsx";
 /// The first 90 of those characters at version 1, for 40 zeros, by the reference code of BIP-350.
 pub const FRONT: &str =
     "anhrpthatis19charsx1pqqqqqqqqqqqqqqqqqqqqqqqqqqqqqqqqqqqqqqqqqqqqqqqqqqqqqqqqqqqqqqqqyn4jn";
+
+/// A human-readable part of 83 characters.
+pub const LONGEST_PART: &str =
+    "an83characterlonghumanreadablepartthatcontainsthetheexcludedcharactersbioandnumber1";
+
+/// As many bytes as the code has room for behind a human-readable part of four characters.
+pub const DATA: [u8; 632] = [0xa5; 632];
+
+/// Each kind of error.
+pub const KINDS: [io::ErrorKind; 42] = [
+    io::ErrorKind::NotFound,
+    io::ErrorKind::PermissionDenied,
+    io::ErrorKind::ConnectionRefused,
+    io::ErrorKind::ConnectionReset,
+    io::ErrorKind::HostUnreachable,
+    io::ErrorKind::NetworkUnreachable,
+    io::ErrorKind::ConnectionAborted,
+    io::ErrorKind::NotConnected,
+    io::ErrorKind::AddrInUse,
+    io::ErrorKind::AddrNotAvailable,
+    io::ErrorKind::NetworkDown,
+    io::ErrorKind::BrokenPipe,
+    io::ErrorKind::AlreadyExists,
+    io::ErrorKind::WouldBlock,
+    io::ErrorKind::NotADirectory,
+    io::ErrorKind::IsADirectory,
+    io::ErrorKind::DirectoryNotEmpty,
+    io::ErrorKind::ReadOnlyFilesystem,
+    io::ErrorKind::FilesystemLoop,
+    io::ErrorKind::StaleNetworkFileHandle,
+    io::ErrorKind::InvalidInput,
+    io::ErrorKind::InvalidData,
+    io::ErrorKind::TimedOut,
+    io::ErrorKind::WriteZero,
+    io::ErrorKind::StorageFull,
+    io::ErrorKind::NotSeekable,
+    io::ErrorKind::QuotaExceeded,
+    io::ErrorKind::FileTooLarge,
+    io::ErrorKind::ResourceBusy,
+    io::ErrorKind::ExecutableFileBusy,
+    io::ErrorKind::Deadlock,
+    io::ErrorKind::CrossesDevices,
+    io::ErrorKind::TooManyLinks,
+    io::ErrorKind::InvalidFilename,
+    io::ErrorKind::ArgumentListTooLong,
+    io::ErrorKind::Interrupted,
+    io::ErrorKind::Unsupported,
+    io::ErrorKind::UnexpectedEof,
+    io::ErrorKind::OutOfMemory,
+    io::ErrorKind::InProgress,
+    io::ErrorKind::Other,
+    io::ErrorKind::Uncategorized,
+];

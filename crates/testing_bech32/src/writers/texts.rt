@@ -1,5 +1,7 @@
+use super::forms::{FORMS, Form, Given, to_fmt, written};
 use super::known::{
-    ADDRESS, ADDRESS_PROGRAM, FRONT, LONG_PART, PROGRAM, TEXT, UPPER_ADDRESS, UPPER_TEXT,
+    ADDRESS, ADDRESS_PROGRAM, DATA, FRONT, LONG_PART, LONGEST_PART, PROGRAM, TEXT, UPPER_ADDRESS,
+    UPPER_TEXT,
 };
 use crate::compare::same;
 use bech32::hrp::BC;
@@ -9,7 +11,7 @@ use bech32::segwit::{
     encode_upper_to_fmt_unchecked,
 };
 use bech32::{
-    Bech32, Bech32m, EncodeError, Hrp, encode, encode_lower, encode_lower_in, encode_lower_to_fmt,
+    Bech32, Bech32m, EncodeError, Fe32, Hrp, encode_lower, encode_lower_in, encode_lower_to_fmt,
     encode_to_fmt, encode_upper, encode_upper_in, encode_upper_to_fmt,
 };
 use linked_list_allocator::LocalHeap;
@@ -17,19 +19,20 @@ use std::alloc::{Allocator, Global};
 use std::fmt;
 use std::process::Abort;
 
-// Takes as many pieces as `left`, and fails from then on.
+// Takes as many pieces as `left`, fails at the next one, and would take all from then on.
 #[derive(Drop)]
 struct Budget {
     text: String,
     left: usize,
+    calls: usize,
 }
 
 impl fmt::Write for Budget {
     fn write_str(&mut self, s: &str) -> fmt::Result {
-        if self.left == 0 {
+        self.calls = self.calls.saturating_add(1);
+        if self.calls > self.left && self.calls - self.left == 1 {
             return Err(fmt::Error);
         }
-        self.left -= 1;
         self.text.push_str(s)?;
         Ok(())
     }
@@ -118,20 +121,34 @@ fn nothing_is_written_of_a_long_text(rt: HostRuntime) {
     same(&rt, &(outcome, text.as_str()), &(Err(too_long), ""));
 }
 
-const DATA: [u8; 632] = [0xa5; 632];
-
-// Whether the text of the data is cut where a writer takes so many pieces. Fails where the outcome
-// tells otherwise, or what was written is not a beginning of the whole text.
-fn is_cut(rt: &impl Abort, alloc: Global, whole: &str, left: usize) -> bool {
-    let hrp = part(rt, "abcd");
+// Fails where a form does not write all that it is given, or goes on or tells otherwise where the
+// call behind `left` others fails. Whether that call was made.
+fn is_cut(
+    rt: &impl Abort,
+    alloc: Global,
+    (form, given): (Form, &Given<'_>),
+    whole: &[u8],
+    left: usize,
+) -> bool {
     let mut w = Budget {
         text: String::new(alloc),
         left,
+        calls: 0,
     };
-    let outcome = encode_to_fmt::<Bech32m, Budget>(&mut w, hrp, &DATA);
-    let begins = whole.as_bytes().starts_with(w.text.as_bytes());
-    let is_cut = w.text.len() < whole.len();
-    same(rt, &(outcome, begins), &(failure(is_cut), true));
+    let outcome = to_fmt(form, &mut w, given);
+    let is_cut = left < w.calls;
+    let last = if is_cut {
+        left.saturating_add(1)
+    } else {
+        w.calls
+    };
+    let begins = whole.starts_with(w.text.as_bytes());
+    let is_whole = w.text.len() == whole.len();
+    same(
+        rt,
+        &(form, left, outcome, w.calls, begins, is_whole),
+        &(form, left, failure(is_cut), last, true, !is_cut),
+    );
     is_cut
 }
 
@@ -144,16 +161,62 @@ fn failure(is_cut: bool) -> Result<(), EncodeError> {
     }
 }
 
+// Fails each call of a form in turn, and then none. There is one, and there are less than ten.
+fn each_call_fails(rt: &impl Abort, alloc: Global, form: Form, given: &Given<'_>) {
+    let whole = written(rt, alloc, form, given);
+    for left in 0..10usize {
+        if !is_cut(rt, alloc, (form, given), &whole, left) {
+            assert!(rt; 1 <= left);
+            return;
+        }
+    }
+    assert!(rt; false);
+}
+
+// The same of each form.
+fn each_form_fails(rt: &impl Abort, alloc: Global, given: &Given<'_>) {
+    for form in FORMS {
+        each_call_fails(rt, alloc, form, given);
+    }
+}
+
 #[test]
 fn every_piece_may_fail(rt: HostRuntime) {
     let hrp = part(&rt, "abcd");
-    let whole = encode::<Bech32m>(rt.alloc(), hrp, &DATA).expect(&rt, "a text");
-    let mut failed = 0usize;
-    for left in 0..20usize {
-        let is_cut = is_cut(&rt, rt.alloc(), &whole, left);
-        failed = failed.saturating_add(usize::from(is_cut));
+    for size in 0..633usize {
+        let given = Given {
+            hrp,
+            version: VERSION_1,
+            data: &DATA[..size],
+        };
+        each_form_fails(&rt, rt.alloc(), &given);
     }
-    assert!(rt; 1 <= failed && failed < 20);
+}
+
+#[test]
+fn every_piece_may_fail_behind_each_part(rt: HostRuntime) {
+    let mut front = String::from_str(rt.alloc(), LONGEST_PART).expect(&rt, "memory");
+    for _ in 0..LONGEST_PART.len() {
+        let given = Given {
+            hrp: part(&rt, &front),
+            version: VERSION_0,
+            data: &PROGRAM,
+        };
+        each_form_fails(&rt, rt.alloc(), &given);
+        front.pop();
+    }
+}
+
+#[test]
+fn every_piece_may_fail_at_each_version(rt: HostRuntime) {
+    for version in Fe32::iter_alpha() {
+        let given = Given {
+            hrp: BC,
+            version,
+            data: &PROGRAM,
+        };
+        each_form_fails(&rt, rt.alloc(), &given);
+    }
 }
 
 #[test]
@@ -182,6 +245,7 @@ fn unchecked_addresses_are_cut(rt: HostRuntime) {
     let mut w = Budget {
         text: String::new(rt.alloc()),
         left: 0,
+        calls: 0,
     };
     let outcomes = [
         encode_to_fmt_unchecked(&mut plain, hrp, VERSION_1, &[0; 40]),

@@ -20,13 +20,13 @@ returns-in_err-list-clause-in_place g c = λ few. refused (c.in_err-list.ensures
 
 pub returns-clause-listed : goal.returns-clause-listed
 returns-clause-listed g c =
-    subst (λ n. IfOk c.candidate_of.result (λ answer. IfSome answer (λ listing. IsCandidate g.E.Extension.base c.args.window c.args.erasures.now n listing))) c.in_ok-list.ensures.size c.candidate_of.ensures.listed
+    subst (λ n. IfOk c.candidate_of.result (λ answer. IfSome answer (λ listing. IsCandidate g.E.Extension.base_ops c.args.window c.args.erasures.now n listing))) c.in_ok-list.ensures.size c.candidate_of.ensures.listed
 
 pub returns-clause-found : goal.returns-clause-found
 returns-clause-found g c =
     let fl = g.met.E.Extension.base_laws in
     let l = g.met.E.Arithmetic.laws in
-    let into : Embeds g.E.Extension.base g.E.Arithmetic.ops g.E.Extension.embed = record { one = g.met.E.Extension.embed_one_law; add = g.met.E.Extension.embed_add_law; mul = g.met.E.Extension.embed_mul_law } in
+    let into : Embeds g.E.Extension.base_ops g.E.Arithmetic.ops g.E.Extension.embed = record { one = g.met.E.Extension.embed_one_law; add = g.met.E.Extension.embed_add_law; mul = g.met.E.Extension.embed_mul_law } in
     let apart = apart_inside g.E.Extension.embed g.E.Extension.retract g.met.E.Extension.retract_law in
     map_ok c.candidate_of.result _ _ (λ answer found generator e usable h. found e h.pattern
     (sums_of fl l into c.args.roots.base c.args.roots.start c.args.roots.count c.args.window generator c.args.residue.now c.args.erasures.now c.in_ok-list.list e apart usable c.in_ok-list.ensures.syndromes h)) c.candidate_of.ensures.found

@@ -35,7 +35,7 @@ returns-clause-listed g c =
 
 pub returns-clause-found : goal.returns-clause-found
 returns-clause-found g c =
-    let f = g.E.Extension.base in
+    let f = g.E.Extension.base_ops in
     let fl = g.met.E.Extension.base_laws in
     let l = g.met.E.Arithmetic.laws in
     let o = g.E.Arithmetic.ops in

@@ -28,17 +28,17 @@ returns-clause-placed g c =
 
 pub returns-clause-not_zero : goal.returns-clause-not_zero
 returns-clause-not_zero g c =
-    subst (λ n. IfOk c.values.result (λ answer. IfSome answer (λ listing. AllByRecursion (λ p. p.1 ≢ g.E.Extension.base.zero) (drop n listing)))) c.len.ensures c.values.ensures.not_zero
+    subst (λ n. IfOk c.values.result (λ answer. IfSome answer (λ listing. AllByRecursion (λ p. p.1 ≢ g.E.Extension.base_ops.zero) (drop n listing)))) c.len.ensures c.values.ensures.not_zero
 
 pub returns-clause-found : goal.returns-clause-found
 returns-clause-found g c =
     let s = c.args.erasures.now in
     let found = c.args.found.now in
     let places : c.as_slice-3.result.now ≡ s ++ found = c.as_slice-3.ensures ∙ c.in_ok-places.ensures.joined ∙ ap (λ u. u ++ c.as_slice-2.result.now) c.as_slice.ensures ∙ ap (λ u. s ++ u) c.as_slice-2.ensures in
-    subst (λ u. IfOk c.values.result (λ answer. (v : ℕ → g.row.E-BaseField.Denot) → AreExplained g.E.Arithmetic.ops g.E.Extension.embed c.args.roots.base c.args.roots.start c.args.list.now u v
-    → ((i : ℕ) → IsAmong i (drop (length s) u) → v i ≢ g.E.Extension.base.zero) → MatchOption answer ⊥ (λ listing. listing ≡ map (λ i. (i, v i)) u))) places
-    (subst (λ n. IfOk c.values.result (λ answer. (v : ℕ → g.row.E-BaseField.Denot) → AreExplained g.E.Arithmetic.ops g.E.Extension.embed c.args.roots.base c.args.roots.start c.args.list.now c.as_slice-3.result.now v
-    → ((i : ℕ) → IsAmong i (drop n c.as_slice-3.result.now) → v i ≢ g.E.Extension.base.zero) → MatchOption answer ⊥ (λ listing. listing ≡ map (λ i. (i, v i)) c.as_slice-3.result.now))) c.len.ensures c.values.ensures.found)
+    subst (λ u. IfOk c.values.result (λ answer. (v : ℕ → g.row.E-Base.Denot) → AreExplained g.E.Arithmetic.ops g.E.Extension.embed c.args.roots.base c.args.roots.start c.args.list.now u v
+    → ((i : ℕ) → IsAmong i (drop (length s) u) → v i ≢ g.E.Extension.base_ops.zero) → MatchOption answer ⊥ (λ listing. listing ≡ map (λ i. (i, v i)) u))) places
+    (subst (λ n. IfOk c.values.result (λ answer. (v : ℕ → g.row.E-Base.Denot) → AreExplained g.E.Arithmetic.ops g.E.Extension.embed c.args.roots.base c.args.roots.start c.args.list.now c.as_slice-3.result.now v
+    → ((i : ℕ) → IsAmong i (drop n c.as_slice-3.result.now) → v i ≢ g.E.Extension.base_ops.zero) → MatchOption answer ⊥ (λ listing. listing ≡ map (λ i. (i, v i)) c.as_slice-3.result.now))) c.len.ensures c.values.ensures.found)
 
 pub returns-clause-in_place : goal.returns-clause-in_place
 returns-clause-in_place g c = c.values.ensures.in_place

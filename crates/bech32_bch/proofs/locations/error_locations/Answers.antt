@@ -18,8 +18,8 @@ overflow_sub-degree g c = omega (arith, c.len-degree.ensures, c.in_ok-register.e
 pub returns-then-room-degree-clause-found : goal.returns-then-room-degree-clause-found
 returns-then-room-degree-clause-found g c = λ start e h.
     let l = g.met.K.Arithmetic.laws in
-    let eq = g.K.Arithmetic.eq in
-    let tells = g.met.K.Arithmetic.eq_law in
+    let eq = g.K.Arithmetic.same in
+    let tells = g.met.K.Arithmetic.same_law in
     let s = c.args.erasures.now in
     let items = c.args.syndromes.now in
     let made = c.in_ok-register.ensures.register in
@@ -34,8 +34,8 @@ returns-then-room-degree-clause-found g c = λ start e h.
 pub returns-clause-found : goal.returns-clause-found
 returns-clause-found g c =
     let l = g.met.K.Arithmetic.laws in
-    let eq = g.K.Arithmetic.eq in
-    let tells = g.met.K.Arithmetic.eq_law in
+    let eq = g.K.Arithmetic.same in
+    let tells = g.met.K.Arithmetic.same_law in
     let s = c.args.erasures.now in
     let items = c.args.syndromes.now in
     let made = c.in_ok-register.ensures.register in
@@ -51,8 +51,8 @@ returns-clause-found g c =
 pub returns-clause-listed : goal.returns-clause-listed
 returns-clause-listed g c =
     let l = g.met.K.Arithmetic.laws in
-    let eq = g.K.Arithmetic.eq in
-    let tells = g.met.K.Arithmetic.eq_law in
+    let eq = g.K.Arithmetic.same in
+    let tells = g.met.K.Arithmetic.same_law in
     let s = c.args.erasures.now in
     let items = c.args.syndromes.now in
     let made = c.in_ok-register.ensures.register in

@@ -24,4 +24,4 @@ returns-clause-roots g c =
     let register = c.args.register.now in
     let terms_are : c.in_ok-terms.terms ≡ register = c.in_ok-terms.ensures.ok ∙ c.as_slice.ensures in
     let factors_are : c.as_slice-2.result.now ≡ powers_of o c.args.base 0 (length register) = c.as_slice-2.ensures ∙ c.in_ok-powers.ensures.powers ∙ ap (powers_of o c.args.base 0) c.len.ensures in
-    on_ok c.push_roots.result _ _ (λ e. e ∙ ap (take c.args.degree) (search_below l g.K.Arithmetic.eq register c.in_ok-terms.terms c.as_slice-2.result.now c.args.base c.args.window terms_are factors_are)) c.push_roots.ensures.roots
+    on_ok c.push_roots.result _ _ (λ e. e ∙ ap (take c.args.degree) (search_below l g.K.Arithmetic.same register c.in_ok-terms.terms c.as_slice-2.result.now c.args.base c.args.window terms_are factors_are)) c.push_roots.ensures.roots

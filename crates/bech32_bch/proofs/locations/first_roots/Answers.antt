@@ -15,11 +15,11 @@ all_taken n xs h = elim (dec_lt (length xs) n) [
 
 pub returns-then-len-degree-clause-roots : goal.returns-then-len-degree-clause-roots
 returns-then-len-degree-clause-roots g c =
-    let roots = roots_below g.K.Arithmetic.ops g.K.Arithmetic.eq c.args.register.now c.args.base c.args.window in
+    let roots = roots_below g.K.Arithmetic.ops g.K.Arithmetic.same c.args.register.now c.args.base c.args.window in
     few_taken c.args.degree roots (omega (arith, c.if-len-degree.true, c.len.ensures, ap (λ u. length u) c.in_ok-find_roots.ensures.roots))
 
 pub returns-clause-roots : goal.returns-clause-roots
 returns-clause-roots g c =
-    let roots = roots_below g.K.Arithmetic.ops g.K.Arithmetic.eq c.args.register.now c.args.base c.args.window in
+    let roots = roots_below g.K.Arithmetic.ops g.K.Arithmetic.same c.args.register.now c.args.base c.args.window in
     let size = ap (λ u. length u) c.in_ok-find_roots.ensures.roots in
     (size ∙ all_taken c.args.degree roots (omega (arith, c.if-len-degree.false, c.len.ensures, size)), c.in_ok-find_roots.ensures.roots)

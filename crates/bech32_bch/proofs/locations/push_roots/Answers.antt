@@ -10,7 +10,7 @@ pub loop-place-init : goal.loop-place-init
 loop-place-init g c =
     let o = g.K.Arithmetic.ops in
     let l = g.met.K.Arithmetic.laws in
-    let same = g.K.Arithmetic.eq in
+    let same = g.K.Arithmetic.same in
     record {
       few = omega (arith, ap (λ u. length u) c.requires.empty);
       size = c.requires.size;
@@ -21,7 +21,7 @@ pub loop-place-preserved : goal.loop-place-preserved
 loop-place-preserved g c =
     let o = g.K.Arithmetic.ops in
     let l = g.met.K.Arithmetic.laws in
-    let same = g.K.Arithmetic.eq in
+    let same = g.K.Arithmetic.same in
     let terms = c.loop-place.terms in
     let factors = c.args.factors.now in
     let roots = left_of o same (searching l same c.args.terms.now factors 0 c.args.window) in
@@ -47,10 +47,10 @@ loop-place-preserved g c =
 
 pub returns-else-len-degree-clause-roots : goal.returns-else-len-degree-clause-roots
 returns-else-len-degree-clause-roots g c =
-    stopped g.met.K.Arithmetic.laws g.K.Arithmetic.eq c.loop-place.terms c.args.factors.now c.loop-place.place c.args.window c.args.degree c.loop-place.found _
+    stopped g.met.K.Arithmetic.laws g.K.Arithmetic.same c.loop-place.terms c.args.factors.now c.loop-place.place c.args.window c.args.degree c.loop-place.found _
     (λ k. absurd (omega (arith, k, c.if-len-degree.false, c.len.ensures))) c.loop-place.invariant.few c.loop-place.invariant.whole
 
 pub returns-after-loop-place-clause-roots : goal.returns-after-loop-place-clause-roots
 returns-after-loop-place-clause-roots g c =
-    stopped g.met.K.Arithmetic.laws g.K.Arithmetic.eq c.loop-place.terms c.args.factors.now c.loop-place.place c.args.window c.args.degree c.loop-place.found _
+    stopped g.met.K.Arithmetic.laws g.K.Arithmetic.same c.loop-place.terms c.args.factors.now c.loop-place.place c.args.window c.args.degree c.loop-place.found _
     (λ k. c.loop-place-test.false) c.loop-place.invariant.few c.loop-place.invariant.whole

@@ -26,8 +26,8 @@ pub returns-then-is_base_zero-clause-found : goal.returns-then-is_base_zero-clau
 returns-then-is_base_zero-clause-found g c = λ v explained not_zero.
     let x : ℕ = get_or c.args.places.now c.loop-k.k 0 in
     let some : c.in_ok-v.field-0 ≡ Some (v x) = c.in_ok-v.ensures.value (v x) (explained x (mem_at c.args.places.now c.loop-k.k 0 (omega arith))) in
-    let none : c.in-Some.v ≡ g.E.Extension.base.zero = c.is_base_zero.ensures.0 c.if-is_base_zero.true in
-    let same : v x ≡ g.E.Extension.base.zero = sym (some_same c.in_ok-v.field-0 (v x) c.in-Some.v some c.in-Some.is) ∙ none in
+    let none : c.in-Some.v ≡ g.E.Extension.base_ops.zero = c.is_base_zero.ensures.0 c.if-is_base_zero.true in
+    let same : v x ≡ g.E.Extension.base_ops.zero = sym (some_same c.in_ok-v.field-0 (v x) c.in-Some.v some c.in-Some.is) ∙ none in
     absurd (not_zero x (mem_drop c.args.places.now c.args.given c.loop-k.k 0 (omega arith) (omega arith)) same)
 
 pub returns-in_err-push-clause-in_place : goal.returns-in_err-push-clause-in_place
@@ -45,13 +45,13 @@ loop-k-preserved g c =
     let items : c.push.new.self ≡ before ++ ((x, w) ∷ []) = c.in_ok-push.ensures.ok in
     let more : take (k + 1) places ≡ take k places ++ (x ∷ []) = take_more places k 0 (omega arith) in
     let size : length before ≡ k = length-locations before ∙ ap (λ u. length u) c.loop-k.invariant.placed ∙ length_take places k (omega arith) in
-    let here : c.args.given ≤ length before → w ≢ g.E.Extension.base.zero = λ le. elim c.else-k-given.branch [
+    let here : c.args.given ≤ length before → w ≢ g.E.Extension.base_ops.zero = λ le. elim c.else-k-given.branch [
       | else-k-given-via-then-k-given+else-is_base_zero b ↦ (λ z. refused (sym b.if-is_base_zero.false ∙ b.is_base_zero.ensures.1 z))
       | else-k-given-via-else-k-given b ↦ absurd (omega (arith, size, le, b.if-k-given.false))
     ] in
     record {
       placed = ap locations items ∙ locations-append before ((x, w) ∷ []) ∙ ap (λ u. u ++ (x ∷ [])) c.loop-k.invariant.placed ∙ sym more;
-      not_zero = subst (λ u. AllByRecursion (λ p. p.1 ≢ g.E.Extension.base.zero) (drop c.args.given u)) (sym items) (all_drop_more (λ p. p.1 ≢ g.E.Extension.base.zero) c.args.given before (x, w) c.loop-k.invariant.not_zero here);
+      not_zero = subst (λ u. AllByRecursion (λ p. p.1 ≢ g.E.Extension.base_ops.zero) (drop c.args.given u)) (sym items) (all_drop_more (λ p. p.1 ≢ g.E.Extension.base_ops.zero) c.args.given before (x, w) c.loop-k.invariant.not_zero here);
       explained = λ v explained not_zero.
           let some : c.in_ok-v.field-0 ≡ Some (v x) = c.in_ok-v.ensures.value (v x) (explained x (mem_at places k 0 (omega arith))) in
           let same : w ≡ v x = some_same c.in_ok-v.field-0 (v x) w some c.in-Some.is in
@@ -69,7 +69,7 @@ none_left P (suc n) = tt
 pub loop-k-init : goal.loop-k-init
 loop-k-init g c = record {
   placed = ap locations c.requires.empty;
-  not_zero = subst (λ u. AllByRecursion (λ p. p.1 ≢ g.E.Extension.base.zero) (drop c.args.given u)) (sym c.requires.empty) (none_left (λ p. p.1 ≢ g.E.Extension.base.zero) c.args.given);
+  not_zero = subst (λ u. AllByRecursion (λ p. p.1 ≢ g.E.Extension.base_ops.zero) (drop c.args.given u)) (sym c.requires.empty) (none_left (λ p. p.1 ≢ g.E.Extension.base_ops.zero) c.args.given);
   explained = λ v explained not_zero. c.requires.empty;
 }
 

@@ -6,4 +6,4 @@ use Rattle.bech32_block.proofs.roots.generator_at.Given as goal
 
 abbrev pub invariant-loop-coefficient : goal.invariant-loop-coefficient
 invariant-loop-coefficient g l =
-    l.value ≡ value_in g.E.Field.ops g.E.ExtensionField.embed (monic fe32.ops (reverse (take l.coefficient-index l.generator))) l.x
+    l.value ≡ value_in g.E.Arithmetic.ops g.E.Extension.embed (monic fe32.ops (reverse (take l.coefficient-index l.generator))) l.x

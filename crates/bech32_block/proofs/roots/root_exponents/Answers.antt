@@ -8,18 +8,18 @@ use Rattle.bech32_block.proofs.roots.root_exponents.Goals as goal
 
 pub loop-exponent-init : goal.loop-exponent-init
 loop-exponent-init g c = record {
-  power_is = c.ONE-power.ensures ∙ g.met.E.Field.one_law ∙ sym (power-zero g.met.E.Field.laws _);
+  power_is = c.ONE-power.ensures ∙ g.met.E.Field.one_law ∙ sym (power-zero g.met.E.Arithmetic.laws _);
   roots_are = c.new-roots.ensures.items;
 }
 
 pub loop-exponent-preserved : goal.loop-exponent-preserved
 loop-exponent-preserved g c =
-    let f : RootField _ = record { ops = g.E.Field.ops; same = g.E.PartialEq.eq; embed = g.E.ExtensionField.embed; generator = g.E.Field.GENERATOR; order = g.E.Field.MULTIPLICATIVE_ORDER } in
+    let f : RootField _ = record { ops = g.E.Arithmetic.ops; same = g.E.PartialEq.eq; embed = g.E.Extension.embed; generator = g.E.Field.GENERATOR; order = g.E.Field.MULTIPLICATIVE_ORDER } in
     let n : ℕ = c.loop-exponent.exponent in
     let found = c.loop-exponent.roots.items in
     let inv = c.loop-exponent.invariant in
     record {
-      power_is = power_next g.met.E.Field.laws f.generator c.loop-exponent.power c.mul-power.result n inv.power_is (g.met.E.Field.mul_law _ _ _ c.mul-power.ensures ∙ ap (f.ops.mul c.loop-exponent.power) c.GENERATOR.ensures);
+      power_is = power_next g.met.E.Arithmetic.laws f.generator c.loop-exponent.power c.mul-power.result n inv.power_is (g.met.E.Field.mul_law _ _ _ c.mul-power.ensures ∙ ap (f.ops.mul c.loop-exponent.power) c.GENERATOR.ensures);
       roots_are = elim c.if-eq.branch [
         | then-eq+in_ok-push w ↦
             let pushed : w.push.new.self.items ≡ found ++ (n ∷ []) = search rules in
@@ -33,6 +33,6 @@ loop-exponent-preserved g c =
 
 pub returns : goal.returns
 returns g c =
-    let f : RootField _ = record { ops = g.E.Field.ops; same = g.E.PartialEq.eq; embed = g.E.ExtensionField.embed; generator = g.E.Field.GENERATOR; order = g.E.Field.MULTIPLICATIVE_ORDER } in
+    let f : RootField _ = record { ops = g.E.Arithmetic.ops; same = g.E.PartialEq.eq; embed = g.E.Extension.embed; generator = g.E.Field.GENERATOR; order = g.E.Field.MULTIPLICATIVE_ORDER } in
     let last : c.loop-exponent.exponent ≡ c.MULTIPLICATIVE_ORDER-exponent-end.result = omega arith in
     all_found f c.args.generator.now c.loop-exponent.exponent c.loop-exponent.roots.items (last ∙ c.MULTIPLICATIVE_ORDER-exponent-end.ensures) c.loop-exponent.invariant.roots_are

@@ -1,6 +1,6 @@
 use Rattle.std.proofs.Common.{◌≡◌, ◌+◌, ◌≤◌, length, take}
 use Rattle.std.specs.List.{suffix_len}
-use Rattle.bech32_calls.specs.Place.{is_of}
+use Rattle.bech32_calls.specs.Kinds.{is_of}
 use Rattle.bech32_calls.proofs.fault.end_of.Given as goal
 
 abbrev pub invariant-loop-end : goal.invariant-loop-end

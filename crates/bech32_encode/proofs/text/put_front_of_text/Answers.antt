@@ -1,6 +1,6 @@
 use Rattle.std.proofs.Common.{refl}
 use Rattle.bech32_encode.specs.Cased.{in_case}
-use Rattle.bech32_encode.proofs.TextsLeft.{put_front, put_within, front_of_text}
+use Rattle.bech32_encode.proofs.TextsLeft.{put_front, put_within, fits_in_case}
 use Rattle.bech32_encode.proofs.text.put_front_of_text.Goals as goal
 
 pub raise_front-requires : goal.raise_front-requires
@@ -10,6 +10,8 @@ raise_front-requires g c =
 
 pub returns : goal.returns
 returns g c =
-    let (text, is, put) = c.put_text_of_bytes-count.ensures in
-    let (front, counted) = front_of_text c.args.upper text c.args.buffer.now c.put_text_of_bytes-count.new.buffer c.raise_front.new.buffer c.put_text_of_bytes-count.result put c.raise_front.ensures in
-    (in_case c.args.upper text, (text, is, refl), front, counted)
+    let (text, is, put) = c.put_text_of_bytes-count.ensures in (
+      in_case c.args.upper text,
+      (text, is, refl),
+      fits_in_case c.args.upper text c.args.buffer.now c.put_text_of_bytes-count.new.buffer c.raise_front.new.buffer c.put_text_of_bytes-count.result put c.raise_front.ensures,
+    )

@@ -1,5 +1,8 @@
 use Rattle.std.proofs.Common.{rules}
 use Rattle.bech32_hrp.proofs.HrpDisplay.fmt.Goals as goal
 
-pub returns : goal.returns
-returns g c = search rules
+pub returns-clause-writes : goal.returns-clause-writes
+returns-clause-writes g c = search rules
+
+pub returns-clause-styled : goal.returns-clause-styled
+returns-clause-styled g c = search rules

@@ -3,7 +3,8 @@ use Rattle.std.proofs.Common.{rules, ◌≡◌, ◌<◌, length, ap, sym, ◌∙
 use Rattle.std.proofs.lemmas.Result.{err_from_is_err_and}
 use Rattle.bech32_checksum.proofs.Target.{length-target}
 use Rattle.bech32_correction.proofs.Outcomes.{refusal-from_invalid}
-use Rattle.bech32_near.proofs.Nearby.{all_placed, fits_code, near_texts, none_found, reading, search-from_residue}
+use Rattle.bech32_near.proofs.Found.{near_texts, none_found}
+use Rattle.bech32_near.proofs.Nearby.{all_placed, fits_code, reading, search-from_residue}
 use Rattle.bech32_near.proofs.texts.nearest_in.Goals as goal
 
 pub new-corrector-requires : goal.new-corrector-requires

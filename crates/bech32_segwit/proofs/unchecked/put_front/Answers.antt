@@ -1,4 +1,4 @@
-use Rattle.std.proofs.Common.{◌≡◌, ◌∙◌, ◌∷◌, Bool, cond, ap, sym}
+use Rattle.std.proofs.Common.{◌∙◌, ◌∷◌, Bool, cond, ap, sym}
 use Rattle.bech32_bits.specs.Bits.{to_fes}
 use Rattle.bech32_checksum.specs.Code.{bech32, bech32m}
 use Rattle.bech32_hrp.specs.HrpBytes.{hrp_bytes}

@@ -9,11 +9,11 @@ squares o l x y = simp (ring, l)
 
 pub returns : goal.returns
 returns g c =
-    let o : Ops _ = g.F.Field.ops in
+    let o : Ops _ = g.F.Arithmetic.ops in
     let law = g.met.F.Field in
     let x = c.args.x in
     let y = c.args.y in
     law.sub_law _ _ _ c.sub.ensures
     ∙ ap (λ w. o.add w (o.neg c.mul-y_squared.result)) (law.mul_law _ _ _ c.mul-x_squared.ensures)
     ∙ ap (λ w. o.add (o.mul x x) (o.neg w)) (law.mul_law _ _ _ c.mul-y_squared.ensures)
-    ∙ squares o law.laws x y
+    ∙ squares o g.met.F.Arithmetic.laws x y

@@ -13,7 +13,7 @@ all_given rest (x ∷ xs) s h =
 
 pub returns : goal.returns
 returns g c =
-    let o : Ops _ = g.F.Field.ops in
+    let o : Ops _ = g.F.Arithmetic.ops in
     let law = g.met.F.Field in
     let ran = c.sum.ensures.ran in
     let whole : c.args.n - 0 ≡ c.args.n = omega arith in

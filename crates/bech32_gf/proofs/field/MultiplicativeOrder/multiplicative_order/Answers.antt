@@ -16,7 +16,7 @@ overflow_cast-divisor g c =
 
 pub returns-then-eq : goal.returns-then-eq
 returns-then-eq g c =
-    let o : Ops _ = g.Self.Field.ops in
+    let o : Ops _ = g.Self.Arithmetic.ops in
     let i = c.loop-divisor.divisor-index in
     let x = c.args.self.now in
     let law = g.met.Self.Field in
@@ -30,12 +30,12 @@ returns-then-eq g c =
     sym powered ∙ (law.eq_law c.powi.result c.ONE.result).0 (sym c.eq.ensures ∙ c.if-eq.true) ∙ c.ONE.ensures ∙ law.one_law
     in
     subst (λ xs. IsOrder o x (get_or xs i 0)) (sym read)
-    (IsOrder-from_first law.laws x _ _ law.fits_law.1.positive law.divisors_law (law.order_law x c.requires) i within
+    (IsOrder-from_first g.met.Self.Arithmetic.laws x _ _ law.fits_law.1.positive law.divisors_law (law.order_law x c.requires) i within
     c.loop-divisor.invariant here)
 
 pub loop-divisor-preserved : goal.loop-divisor-preserved
 loop-divisor-preserved g c =
-    let o : Ops _ = g.Self.Field.ops in
+    let o : Ops _ = g.Self.Arithmetic.ops in
     let i = c.loop-divisor.divisor-index in
     let x = c.args.self.now in
     let law = g.met.Self.Field in
@@ -53,7 +53,7 @@ loop-divisor-preserved g c =
 
 pub unreachable-requires : goal.unreachable-requires
 unreachable-requires g c =
-    let o : Ops _ = g.Self.Field.ops in
+    let o : Ops _ = g.Self.Arithmetic.ops in
     let law = g.met.Self.Field in
     let at = whole_listed _ _ law.divisors_law in
     let all : length g.Self.Field.divisors ≤ c.loop-divisor.divisor-index =

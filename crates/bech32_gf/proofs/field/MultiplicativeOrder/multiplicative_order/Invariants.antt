@@ -4,4 +4,4 @@ use Rattle.bech32_gf.proofs.field.MultiplicativeOrder.multiplicative_order.Given
 
 abbrev pub invariant-loop-divisor : goal.invariant-loop-divisor
 invariant-loop-divisor g l =
-    (k : ℕ) → k < l.divisor-index → power g.Self.Field.ops l.self (get_or g.Self.Field.divisors k 0) ≢ g.Self.Field.ops.one
+    (k : ℕ) → k < l.divisor-index → power g.Self.Arithmetic.ops l.self (get_or g.Self.Field.divisors k 0) ≢ g.Self.Arithmetic.ops.one

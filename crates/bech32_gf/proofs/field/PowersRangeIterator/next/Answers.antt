@@ -6,7 +6,7 @@ use Rattle.bech32_gf.proofs.field.PowersRangeIterator.next.Goals as goal
 
 pub returns-clause-steps : goal.returns-clause-steps
 returns-clause-steps g c =
-    let o : Ops _ = g.F.Field.ops in
+    let o : Ops _ = g.F.Arithmetic.ops in
     let s = c.args.self.now.powers in
     let t = c.next.new.self in
     let after = c.checked_sub-self.result in

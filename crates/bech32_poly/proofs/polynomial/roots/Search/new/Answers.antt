@@ -60,6 +60,6 @@ returns-clause-roots g c =
     let i : ℕ = c.loop-coefficient.coefficient-index in
     let all : length c.as_slice-coefficient-items.result.now ≤ i = search rules in
     let size : i ≡ length (map embed c.args.polynomial.now) = omega (arith, ap (λ u. length u) c.as_slice-coefficient-items.ensures, length-map c.args.polynomial.now embed) in
-    search_of g.met.E.Arithmetic.laws g.E.Arithmetic.eq (map embed (take i c.as_slice-coefficient-items.result.now)) (map embed c.args.polynomial.now) c.args.base c.power-first.result c.args.start c.args.end i
+    search_of g.met.E.Arithmetic.laws g.E.Arithmetic.same (map embed (take i c.as_slice-coefficient-items.result.now)) (map embed c.args.polynomial.now) c.args.base c.power-first.result c.args.start c.args.end i
     c.loop-coefficient.terms c.loop-coefficient.factors c.loop-coefficient.invariant.terms_are c.loop-coefficient.invariant.factors_are c.power-first.ensures
     (ap (map embed) (take_all i c.as_slice-coefficient-items.result.now all ∙ c.as_slice-coefficient-items.ensures)) size

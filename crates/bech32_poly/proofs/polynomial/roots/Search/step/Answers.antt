@@ -12,7 +12,7 @@ invariant_of-self g c =
 pub returns-clause-found : goal.returns-clause-found
 returns-clause-found g c =
     let o = g.E.Arithmetic.ops in
-    let same = g.E.Arithmetic.eq in
+    let same = g.E.Arithmetic.same in
     c.equals-is_root.ensures
     ∙ ap (λ x. same x c.zero.result) (c.total.ensures ∙ ap (total_of o) c.as_slice.ensures ∙ sym (value_after-now g.met.E.Arithmetic.laws c.self.inside.terms c.self.inside.factors c.self.invariant))
     ∙ ap (same (value_after o c.self.inside.terms c.self.inside.factors 0)) c.zero.ensures

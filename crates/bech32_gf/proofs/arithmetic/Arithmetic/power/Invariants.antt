@@ -1,10 +1,10 @@
 use Rattle.std.proofs.Common.{◌≡◌}
-use Rattle.bech32_gf.specs.Field.{power, signed_power}
-use Rattle.bech32_gf.proofs.field.Field.powi.Given as goal
+use Rattle.bech32_gf.specs.Field.{power}
+use Rattle.bech32_gf.proofs.arithmetic.Arithmetic.power.Given as goal
 
 abbrev pub invariant-loop-exponent : goal.invariant-loop-exponent
 invariant-loop-exponent g l =
-    g.Self.Field.ops.mul l.product (power g.Self.Field.ops l.base l.exponent) ≡ signed_power g.Self.Field.ops l.self l.n
+    g.Self.Arithmetic.ops.mul l.product (power g.Self.Arithmetic.ops l.base l.exponent) ≡ power g.Self.Arithmetic.ops l.fn.self l.n
 
 abbrev pub decreases-loop-exponent : goal.decreases-loop-exponent
 decreases-loop-exponent g l = l.exponent

@@ -1,0 +1,109 @@
+//! The forms of a call that writes a text, and what each writes.
+
+use bech32::primitives::encode::text_in;
+use bech32::segwit::{
+    encode_lower_to_fmt_unchecked, encode_lower_to_writer_unchecked, encode_to_fmt_unchecked,
+    encode_to_writer_unchecked, encode_upper_to_fmt_unchecked, encode_upper_to_writer_unchecked,
+};
+use bech32::{
+    Bech32, Bech32m, EncodeError, EncodeIoError, Fe32, Hrp, encode, encode_lower_to_fmt,
+    encode_lower_to_writer, encode_to_fmt, encode_to_writer, encode_upper_to_fmt,
+    encode_upper_to_writer,
+};
+use std::alloc::Global;
+use std::process::Abort;
+use std::{fmt, io};
+
+/// What is written: a text by Bech32, or an address without any test.
+#[derive(Clone, Copy, Debug, PartialEq, Eq, Drop)]
+pub enum Form {
+    Text,
+    LowerText,
+    UpperText,
+    Address,
+    LowerAddress,
+    UpperAddress,
+}
+
+pub const FORMS: [Form; 6] = [
+    Form::Text,
+    Form::LowerText,
+    Form::UpperText,
+    Form::Address,
+    Form::LowerAddress,
+    Form::UpperAddress,
+];
+
+/// What a call is given. A text has no version.
+#[derive(Clone, Copy, Drop)]
+pub struct Given<'a> {
+    pub hrp: Hrp,
+    pub version: Fe32,
+    pub data: &'a [u8],
+}
+
+/// Writes to a `fmt::Write`.
+pub fn to_fmt<W: fmt::Write>(form: Form, w: &mut W, given: &Given<'_>) -> Result<(), EncodeError> {
+    let (hrp, version, data) = (given.hrp, given.version, given.data);
+    let outcome = match form {
+        Form::Text => return encode_to_fmt::<Bech32, W>(w, hrp, data),
+        Form::LowerText => return encode_lower_to_fmt::<Bech32, W>(w, hrp, data),
+        Form::UpperText => return encode_upper_to_fmt::<Bech32, W>(w, hrp, data),
+        Form::Address => encode_to_fmt_unchecked(w, hrp, version, data),
+        Form::LowerAddress => encode_lower_to_fmt_unchecked(w, hrp, version, data),
+        Form::UpperAddress => encode_upper_to_fmt_unchecked(w, hrp, version, data),
+    };
+    match outcome {
+        Ok(()) => Ok(()),
+        Err(error) => Err(EncodeError::Fmt(error)),
+    }
+}
+
+/// Writes to an `io::Write`.
+pub fn to_writer<W: io::Write>(
+    form: Form,
+    w: &mut W,
+    given: &Given<'_>,
+) -> Result<(), EncodeIoError> {
+    let (hrp, version, data) = (given.hrp, given.version, given.data);
+    let outcome = match form {
+        Form::Text => return encode_to_writer::<Bech32, W>(w, hrp, data),
+        Form::LowerText => return encode_lower_to_writer::<Bech32, W>(w, hrp, data),
+        Form::UpperText => return encode_upper_to_writer::<Bech32, W>(w, hrp, data),
+        Form::Address => encode_to_writer_unchecked(w, hrp, version, data),
+        Form::LowerAddress => encode_lower_to_writer_unchecked(w, hrp, version, data),
+        Form::UpperAddress => encode_upper_to_writer_unchecked(w, hrp, version, data),
+    };
+    match outcome {
+        Ok(()) => Ok(()),
+        Err(error) => Err(EncodeIoError::Write(error)),
+    }
+}
+
+// The text in lower case, of which an address has at most 90 characters.
+fn lower_text(rt: &impl Abort, alloc: Global, form: Form, given: &Given<'_>) -> String {
+    let (hrp, version) = (given.hrp, Some(given.version));
+    let text = match form {
+        Form::Text | Form::LowerText | Form::UpperText => {
+            return encode::<Bech32>(alloc, hrp, given.data).expect(rt, "a text");
+        }
+        _ if given.version == Fe32::Q => text_in::<Bech32, Global>(alloc, hrp, version, given.data),
+        _ => text_in::<Bech32m, Global>(alloc, hrp, version, given.data),
+    };
+    text.expect(rt, "memory")
+}
+
+/// The bytes that a form writes.
+pub fn written(rt: &impl Abort, alloc: Global, form: Form, given: &Given<'_>) -> Vec<u8> {
+    let mut text = lower_text(rt, alloc, form, given).into_bytes();
+    match form {
+        Form::UpperText => text.make_ascii_uppercase(),
+        Form::Address | Form::LowerAddress => text.truncate(90),
+        Form::UpperAddress => {
+            text.make_ascii_uppercase();
+            text.truncate(90);
+        }
+        _ => {}
+    }
+    text
+}
