@@ -57,13 +57,13 @@ extern "C" {
 /* Answers. */
 #define BECH32_OK 0u
 #define BECH32_NOT_UTF8 2u              /* a text or a human-readable part is not UTF-8 */
-#define BECH32_BAD_NUMBER 4u            /* the number of no checksum, an element above 31, or more
-                                           than BECH32_MAX_ERRORS errors */
+#define BECH32_BAD_NUMBER 4u            /* the number of no checksum, an element above 31, or more than two
+                                           errors */
 #define BECH32_HRP_EMPTY 11u            /* the human-readable part is empty */
-#define BECH32_HRP_TOO_LONG 12u         /* it has more than 83 bytes */
-#define BECH32_HRP_NOT_ASCII 13u        /* it has a character that is not ASCII */
-#define BECH32_HRP_INVALID 14u          /* it has a byte that is not from 33 to 126 */
-#define BECH32_HRP_MIXED_CASE 15u       /* it has letters of both cases */
+#define BECH32_HRP_TOO_LONG 12u         /* the human-readable part has more than 83 bytes */
+#define BECH32_HRP_NOT_ASCII 13u        /* the human-readable part has a character that is not ASCII */
+#define BECH32_HRP_INVALID 14u          /* the human-readable part has a byte that is not from 33 to 126 */
+#define BECH32_HRP_MIXED_CASE 15u       /* the human-readable part has letters of both cases */
 #define BECH32_INVALID_CHARACTER 21u    /* a character behind the separator may not stand there */
 #define BECH32_MIXED_CASE 22u           /* the text has letters of both cases */
 #define BECH32_NO_SEPARATOR 23u         /* the text has no separator, `1` */
@@ -75,10 +75,10 @@ extern "C" {
 #define BECH32_NO_DATA 42u              /* the address has no witness version */
 #define BECH32_BAD_VERSION 43u          /* its witness version is above 16 */
 #define BECH32_PADDING_TOO_LONG 44u     /* more than four bits stand behind the program's bytes */
-#define BECH32_PADDING_NOT_ZERO 45u     /* the bits there are not all zero */
+#define BECH32_PADDING_NOT_ZERO 45u     /* the bits behind the program's bytes are not all zero */
 #define BECH32_PROGRAM_TOO_SHORT 46u    /* the program has less than 2 bytes */
-#define BECH32_PROGRAM_TOO_LONG 47u     /* it has more than 40 bytes */
-#define BECH32_PROGRAM_NOT_V0 48u       /* in version 0 it has neither 20 nor 32 bytes */
+#define BECH32_PROGRAM_TOO_LONG 47u     /* the program has more than 40 bytes */
+#define BECH32_PROGRAM_NOT_V0 48u       /* in version 0 the program has neither 20 nor 32 bytes */
 #define BECH32_ENCODED_TOO_LONG 51u     /* the text would have more than 1023 characters */
 #define BECH32_ENCODED_BAD_VERSION 52u  /* the witness version is above 16 */
 #define BECH32_ENCODED_ADDRESS_TOO_LONG 53u /* the address would have more than 90 characters */
@@ -177,8 +177,8 @@ uint32_t bech32_residue(uint32_t checksum, const uint8_t *elements, size_t eleme
  * It is the one correction of the data part where twice the errors outside the erasures, with the
  * erasures, are three at most. It may not be what was meant: show it, and ask.
  *
- * Refusals, the first that applies: 4; 2; 21, 22, 23, 11 to 15; 31, 32; 34 (there is no such
- * correction, or an erasure is not in the data part); 92.
+ * Refusals, the first that applies: 4; 2; 21, 22, 23, 11 to 15; 31, 32; 34 (there is no such correction,
+ * or an erasure is not in the data part); 92.
  */
 uint32_t bech32_correct(uint32_t checksum, const uint8_t *text, size_t text_length,
                         const size_t *erasures, size_t erasures_length, size_t *locations,
@@ -214,8 +214,8 @@ typedef struct {
  * many. None may be what was meant: show them, and ask.
  *
  * Refusals, the first that applies: 4; 2; 21, 22, 23, 11 to 15; 31, 32; 92; and 91 in place of 0 or 92
- * where `memory` does not suffice. Where the function keeps the memory (above), `texts` may have changed;
- * with every other refusal, and with every other 91, it is as it was.
+ * where `memory` does not suffice. Where the function keeps the memory (above), `texts` may have
+ * changed; with every other refusal, and with every other 91, it is as it was.
  */
 uint32_t bech32_nearest(uint32_t checksum, const uint8_t *text, size_t text_length,
                         const size_t *erasures, size_t erasures_length, size_t errors,

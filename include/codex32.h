@@ -43,12 +43,12 @@ extern "C" {
 
 /* Answers. */
 #define CODEX32_OK 0u
-#define CODEX32_NOT_UTF8 2u             /* the text is not UTF-8 */
+#define CODEX32_NOT_UTF8 2u             /* a text or a human-readable part is not UTF-8 */
 #define CODEX32_HRP_EMPTY 11u           /* the human-readable part is empty */
-#define CODEX32_HRP_TOO_LONG 12u        /* it has more than 83 bytes */
-#define CODEX32_HRP_NOT_ASCII 13u       /* it has a character that is not ASCII */
-#define CODEX32_HRP_INVALID 14u         /* it has a byte that is not from 33 to 126 */
-#define CODEX32_HRP_MIXED_CASE 15u      /* it has letters of both cases */
+#define CODEX32_HRP_TOO_LONG 12u        /* the human-readable part has more than 83 bytes */
+#define CODEX32_HRP_NOT_ASCII 13u       /* the human-readable part has a character that is not ASCII */
+#define CODEX32_HRP_INVALID 14u         /* the human-readable part has a byte that is not from 33 to 126 */
+#define CODEX32_HRP_MIXED_CASE 15u      /* the human-readable part has letters of both cases */
 #define CODEX32_INVALID_CHARACTER 21u   /* a character behind the separator may not stand there */
 #define CODEX32_MIXED_CASE 22u          /* the text has letters of both cases */
 #define CODEX32_NO_SEPARATOR 23u        /* the text has no separator, `1` */
@@ -59,7 +59,7 @@ extern "C" {
 #define CODEX32_BAD_THRESHOLD 83u       /* the threshold is neither 0 nor a digit from 2 to 9 */
 #define CODEX32_BAD_SHARE_INDEX 84u     /* the threshold is 0, and the share index is not `s` */
 #define CODEX32_NO_MEMORY 91u           /* the lent memory did not suffice */
-#define CODEX32_NO_ROOM 92u             /* the buffer is too small */
+#define CODEX32_NO_ROOM 92u             /* a buffer is too small */
 
 /*
  * Reads a codex32 string. *threshold is its threshold, 0 or from 2 to 9, *share_index the character of

@@ -1,4 +1,6 @@
-//! The numbers of the Rust crate's errors, as `crates/bech32_numbers/specs/Numbers.antt` has them.
+//! The numbers of the Rust crate's errors, as `crates/bech32_numbers/specs/Numbers.antt` has them; and the
+//! numbers of all refusals, of which each program here uses some.
+#![allow(dead_code)]
 
 use bech32::primitives::decode::{
     CharError, CheckedHrpstringError, ChecksumError, PaddingError, SegwitHrpstringError,
@@ -8,32 +10,70 @@ use bech32::primitives::hrp;
 use bech32::primitives::segwit::WitnessLengthError;
 use bech32::{segwit, DecodeError, EncodeError};
 
-/// A number is that of no checksum, or of no element.
+// Written by tools/refusals.
+pub const LINE_TOO_LONG: u32 = 1;
+pub const LINE_NOT_UTF8: u32 = 2;
+pub const NOT_UTF8: u32 = 2;
+pub const NO_COMMAND: u32 = 3;
+pub const BAD_WORD: u32 = 4;
 pub const BAD_NUMBER: u32 = 4;
-
-/// The checksum is wrong.
-pub const RESIDUE: u32 = 33;
+pub const BAD_HEX: u32 = 5;
+pub const HRP_EMPTY: u32 = 11;
+pub const HRP_TOO_LONG: u32 = 12;
+pub const HRP_NOT_ASCII: u32 = 13;
+pub const HRP_INVALID: u32 = 14;
+pub const HRP_MIXED_CASE: u32 = 15;
+pub const HRP_NOT_PRINTED: u32 = 16;
+pub const INVALID_CHARACTER: u32 = 21;
+pub const MIXED_CASE: u32 = 22;
+pub const NO_SEPARATOR: u32 = 23;
+pub const NOTHING_BEHIND: u32 = 24;
+pub const TEXT_TOO_LONG: u32 = 31;
+pub const NO_CHECKSUM: u32 = 32;
+pub const WRONG_CHECKSUM: u32 = 33;
+pub const NO_CORRECTION: u32 = 34;
+pub const NO_NEAREST: u32 = 34;
+pub const ADDRESS_TOO_LONG: u32 = 41;
+pub const NO_DATA: u32 = 42;
+pub const BAD_VERSION: u32 = 43;
+pub const PADDING_TOO_LONG: u32 = 44;
+pub const PADDING_NOT_ZERO: u32 = 45;
+pub const PROGRAM_TOO_SHORT: u32 = 46;
+pub const PROGRAM_TOO_LONG: u32 = 47;
+pub const PROGRAM_NOT_V0: u32 = 48;
+pub const ENCODED_TOO_LONG: u32 = 51;
+pub const ENCODED_BAD_VERSION: u32 = 52;
+pub const ENCODED_ADDRESS_TOO_LONG: u32 = 53;
+pub const NOT_WRITTEN: u32 = 54;
+pub const NOT_MS: u32 = 81;
+pub const BAD_LENGTH: u32 = 82;
+pub const BAD_THRESHOLD: u32 = 83;
+pub const BAD_SHARE_INDEX: u32 = 84;
+pub const NO_MEMORY: u32 = 91;
+pub const OUT_OF_MEMORY: u32 = 91;
+pub const NO_ROOM: u32 = 92;
+// End of what it writes.
 
 // An error that the crate may add to those of 0.12.0.
 const UNKNOWN: u32 = u32::MAX;
 
 pub fn hrp(e: &hrp::Error) -> u32 {
     match e {
-        hrp::Error::Empty => 11,
-        hrp::Error::TooLong(_) => 12,
-        hrp::Error::NonAsciiChar(_) => 13,
-        hrp::Error::InvalidAsciiByte(_) => 14,
-        hrp::Error::MixedCase => 15,
+        hrp::Error::Empty => HRP_EMPTY,
+        hrp::Error::TooLong(_) => HRP_TOO_LONG,
+        hrp::Error::NonAsciiChar(_) => HRP_NOT_ASCII,
+        hrp::Error::InvalidAsciiByte(_) => HRP_INVALID,
+        hrp::Error::MixedCase => HRP_MIXED_CASE,
         _ => UNKNOWN,
     }
 }
 
 fn text(e: &UncheckedHrpstringError) -> u32 {
     match e {
-        UncheckedHrpstringError::Char(CharError::InvalidChar(_)) => 21,
-        UncheckedHrpstringError::Char(CharError::MixedCase) => 22,
-        UncheckedHrpstringError::Char(CharError::MissingSeparator) => 23,
-        UncheckedHrpstringError::Char(CharError::NothingAfterSeparator) => 24,
+        UncheckedHrpstringError::Char(CharError::InvalidChar(_)) => INVALID_CHARACTER,
+        UncheckedHrpstringError::Char(CharError::MixedCase) => MIXED_CASE,
+        UncheckedHrpstringError::Char(CharError::MissingSeparator) => NO_SEPARATOR,
+        UncheckedHrpstringError::Char(CharError::NothingAfterSeparator) => NOTHING_BEHIND,
         UncheckedHrpstringError::Hrp(e) => hrp(e),
         _ => UNKNOWN,
     }
@@ -41,9 +81,9 @@ fn text(e: &UncheckedHrpstringError) -> u32 {
 
 fn checksum(e: &ChecksumError) -> u32 {
     match e {
-        ChecksumError::CodeLength(_) => 31,
-        ChecksumError::InvalidLength => 32,
-        ChecksumError::InvalidResidue(_) => RESIDUE,
+        ChecksumError::CodeLength(_) => TEXT_TOO_LONG,
+        ChecksumError::InvalidLength => NO_CHECKSUM,
+        ChecksumError::InvalidResidue(_) => WRONG_CHECKSUM,
         _ => UNKNOWN,
     }
 }
@@ -58,9 +98,9 @@ pub fn checked(e: &CheckedHrpstringError) -> u32 {
 
 fn program_length(e: &WitnessLengthError) -> u32 {
     match e {
-        WitnessLengthError::TooShort => 46,
-        WitnessLengthError::TooLong => 47,
-        WitnessLengthError::InvalidSegwitV0 => 48,
+        WitnessLengthError::TooShort => PROGRAM_TOO_SHORT,
+        WitnessLengthError::TooLong => PROGRAM_TOO_LONG,
+        WitnessLengthError::InvalidSegwitV0 => PROGRAM_NOT_V0,
         _ => UNKNOWN,
     }
 }
@@ -68,11 +108,11 @@ fn program_length(e: &WitnessLengthError) -> u32 {
 pub fn address(e: &SegwitHrpstringError) -> u32 {
     match e {
         SegwitHrpstringError::Unchecked(e) => text(e),
-        SegwitHrpstringError::TooLong(_) => 41,
-        SegwitHrpstringError::NoData => 42,
-        SegwitHrpstringError::InvalidWitnessVersion(_) => 43,
-        SegwitHrpstringError::Padding(PaddingError::TooMuch) => 44,
-        SegwitHrpstringError::Padding(PaddingError::NonZero) => 45,
+        SegwitHrpstringError::TooLong(_) => ADDRESS_TOO_LONG,
+        SegwitHrpstringError::NoData => NO_DATA,
+        SegwitHrpstringError::InvalidWitnessVersion(_) => BAD_VERSION,
+        SegwitHrpstringError::Padding(PaddingError::TooMuch) => PADDING_TOO_LONG,
+        SegwitHrpstringError::Padding(PaddingError::NonZero) => PADDING_NOT_ZERO,
         SegwitHrpstringError::WitnessLength(e) => program_length(e),
         SegwitHrpstringError::Checksum(e) => checksum(e),
         _ => UNKNOWN,
@@ -89,18 +129,18 @@ pub fn decode(e: &DecodeError) -> u32 {
 
 pub fn encode(e: &EncodeError) -> u32 {
     match e {
-        EncodeError::TooLong(_) => 51,
-        EncodeError::Fmt(_) => 54,
+        EncodeError::TooLong(_) => ENCODED_TOO_LONG,
+        EncodeError::Fmt(_) => NOT_WRITTEN,
         _ => UNKNOWN,
     }
 }
 
 pub fn segwit_encode(e: &segwit::EncodeError) -> u32 {
     match e {
-        segwit::EncodeError::WitnessVersion(_) => 52,
+        segwit::EncodeError::WitnessVersion(_) => ENCODED_BAD_VERSION,
         segwit::EncodeError::WitnessLength(e) => program_length(e),
-        segwit::EncodeError::TooLong(_) => 53,
-        segwit::EncodeError::Fmt(_) => 54,
+        segwit::EncodeError::TooLong(_) => ENCODED_ADDRESS_TOO_LONG,
+        segwit::EncodeError::Fmt(_) => NOT_WRITTEN,
         _ => UNKNOWN,
     }
 }

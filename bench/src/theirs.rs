@@ -154,7 +154,7 @@ pub mod replies {
             Err(error) => error,
         };
         let number = numbers::checked(&error);
-        if number != numbers::RESIDUE {
+        if number != numbers::WRONG_CHECKSUM {
             return Err(number);
         }
         // The crate may list what does not mend, or panic, of which nothing is printed.

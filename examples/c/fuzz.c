@@ -163,8 +163,8 @@ static const uint32_t of_encode[] = {2, 4, 11, 12, 13, 14, 15, 51, 92, 0};
 static const uint32_t of_decode[] = {2, 11, 12, 13, 14, 15, 21, 22, 23, 31, 32, 33, 92, 0};
 static const uint32_t of_check[] = {2, 4, 11, 12, 13, 14, 15, 21, 22, 23, 31, 32, 33, 0};
 static const uint32_t of_segwit_encode[] = {2, 4, 11, 12, 13, 14, 15, 46, 47, 48, 52, 53, 92, 0};
-static const uint32_t of_segwit_decode[] = {2,  11, 12, 13, 14, 15, 21, 22, 23, 32, 33,
-                                            41, 42, 43, 44, 45, 46, 47, 48, 92, 0};
+static const uint32_t of_segwit_decode[] = {2, 11, 12, 13, 14, 15, 21, 22, 23, 32, 33, 41, 42, 43, 44,
+                                            45, 46, 47, 48, 92, 0};
 static const uint32_t of_residue[] = {4, 0};
 
 static Function encode = {"bech32_encode", 0, {0}, of_encode};

@@ -6,12 +6,41 @@
 /** The codes of the refusals, which the headers have with BECH32_ or CODEX32_ before them. */
 export const CODES = {
   11: 'HRP_EMPTY', 12: 'HRP_TOO_LONG', 13: 'HRP_NOT_ASCII', 14: 'HRP_INVALID', 15: 'HRP_MIXED_CASE',
-  21: 'INVALID_CHARACTER', 22: 'MIXED_CASE', 23: 'NO_SEPARATOR',
-  31: 'TEXT_TOO_LONG', 32: 'NO_CHECKSUM', 33: 'WRONG_CHECKSUM',
-  41: 'ADDRESS_TOO_LONG', 42: 'NO_DATA', 43: 'BAD_VERSION', 44: 'PADDING_TOO_LONG', 45: 'PADDING_NOT_ZERO',
-  46: 'PROGRAM_TOO_SHORT', 47: 'PROGRAM_TOO_LONG', 48: 'PROGRAM_NOT_V0',
-  51: 'ENCODED_TOO_LONG', 52: 'ENCODED_BAD_VERSION', 53: 'ENCODED_ADDRESS_TOO_LONG',
-  81: 'NOT_MS', 82: 'BAD_LENGTH', 83: 'BAD_THRESHOLD', 84: 'BAD_SHARE_INDEX',
+  21: 'INVALID_CHARACTER', 22: 'MIXED_CASE', 23: 'NO_SEPARATOR', 31: 'TEXT_TOO_LONG', 32: 'NO_CHECKSUM',
+  33: 'WRONG_CHECKSUM', 41: 'ADDRESS_TOO_LONG', 42: 'NO_DATA', 43: 'BAD_VERSION', 44: 'PADDING_TOO_LONG',
+  45: 'PADDING_NOT_ZERO', 46: 'PROGRAM_TOO_SHORT', 47: 'PROGRAM_TOO_LONG', 48: 'PROGRAM_NOT_V0',
+  51: 'ENCODED_TOO_LONG', 52: 'ENCODED_BAD_VERSION', 53: 'ENCODED_ADDRESS_TOO_LONG', 81: 'NOT_MS', 82: 'BAD_LENGTH',
+  83: 'BAD_THRESHOLD', 84: 'BAD_SHARE_INDEX',
+};
+
+// What is said of a refusal that no sentence with figures fits.
+const SENTENCES = {
+  11: 'The human-readable part is empty.',
+  12: 'The human-readable part has more than 83 bytes.',
+  13: 'The human-readable part has a character that is not ASCII.',
+  14: 'The human-readable part has a byte that is not from 33 to 126.',
+  15: 'The human-readable part has letters of both cases.',
+  21: 'A character behind the separator may not stand there.',
+  22: 'The text has letters of both cases.',
+  23: 'The text has no separator, “1”.',
+  31: 'The text has more than 1023 characters.',
+  32: 'Fewer than six characters stand behind the separator.',
+  33: 'The checksum is wrong.',
+  41: 'The text has more than 90 characters.',
+  42: 'The address has no witness version.',
+  43: 'Its witness version is above 16.',
+  44: 'More than four bits stand behind the program\'s bytes.',
+  45: 'The bits behind the program\'s bytes are not all zero.',
+  46: 'The program has less than 2 bytes.',
+  47: 'The program has more than 40 bytes.',
+  48: 'In version 0 the program has neither 20 nor 32 bytes.',
+  51: 'The text would have more than 1023 characters.',
+  52: 'The witness version is above 16.',
+  53: 'The address would have more than 90 characters.',
+  81: 'The human-readable part is not “ms”.',
+  82: 'The text has less than 48 characters, or more than 93.',
+  83: 'The threshold is neither 0 nor a digit from 2 to 9.',
+  84: 'The threshold is 0, and the share index is not “s”.',
 };
 
 /** The characters of the elements 0 to 31. */

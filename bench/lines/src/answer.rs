@@ -5,12 +5,6 @@ use bech32::primitives::decode::{CheckedHrpstring, CheckedHrpstringError};
 use bech32::{segwit, Bech32, Bech32m, Checksum, CorrectableError, Fe32, Hrp};
 use std::panic::{catch_unwind, AssertUnwindSafe};
 
-// The refusals of the program itself.
-const LINE_TOO_LONG: u32 = 1;
-const NOT_UTF8: u32 = 2;
-pub const NO_COMMAND: u32 = 3;
-const BAD_HEX: u32 = 5;
-
 /// A line may have so many bytes.
 pub const LINE_LIMIT: usize = 4096;
 
@@ -31,12 +25,12 @@ pub fn reply_by(line: &[u8], command: fn(&[&str]) -> Answer) -> String {
 
 fn answer(line: &[u8], command: fn(&[&str]) -> Answer) -> Answer {
     if line.len() > LINE_LIMIT {
-        return Err(LINE_TOO_LONG);
+        return Err(numbers::LINE_TOO_LONG);
     }
-    let line = std::str::from_utf8(line).map_err(|_| NOT_UTF8)?;
+    let line = std::str::from_utf8(line).map_err(|_| numbers::LINE_NOT_UTF8)?;
     let words: Vec<&str> = line.split(' ').collect();
     if words.iter().any(|word| word.is_empty()) {
-        return Err(NO_COMMAND);
+        return Err(numbers::NO_COMMAND);
     }
     command(&words)
 }
@@ -53,7 +47,7 @@ pub fn reply(line: &[u8]) -> String {
         ["correct", "bech32m", text] => correct::<Bech32m>(text, &[]),
         ["correct", "bech32", text, places] => correct::<Bech32>(text, &locations(places)?),
         ["correct", "bech32m", text, places] => correct::<Bech32m>(text, &locations(places)?),
-        _ => Err(NO_COMMAND),
+        _ => Err(numbers::NO_COMMAND),
     })
 }
 
@@ -73,7 +67,7 @@ fn segwit_encode(hrp: &str, version: &str, hex: &str) -> Answer {
     let version = number(version, HIGHEST_VERSION)?;
     let program = bytes_of(hex)?;
     let hrp = Hrp::parse(hrp).map_err(|e| numbers::hrp(&e))?;
-    let version = Fe32::try_from(version as u8).map_err(|_| numbers::BAD_NUMBER)?;
+    let version = Fe32::try_from(version as u8).map_err(|_| numbers::BAD_WORD)?;
     let text = segwit::encode(hrp, version, &program).map_err(|e| numbers::segwit_encode(&e))?;
     Ok(format!("ok {text}"))
 }
@@ -131,11 +125,11 @@ fn locations(word: &str) -> Result<Vec<usize>, u32> {
 fn number(word: &str, highest: usize) -> Result<usize, u32> {
     let digits = !word.is_empty() && word.bytes().all(|b| b.is_ascii_digit());
     if !digits || (word.len() > 1 && word.starts_with('0')) {
-        return Err(numbers::BAD_NUMBER);
+        return Err(numbers::BAD_WORD);
     }
     match word.parse() {
         Ok(number) if number <= highest => Ok(number),
-        _ => Err(numbers::BAD_NUMBER),
+        _ => Err(numbers::BAD_WORD),
     }
 }
 
@@ -148,7 +142,7 @@ fn bytes_of(word: &str) -> Result<Vec<u8>, u32> {
         Some(digits) if digits.len() % 2 == 0 => {
             Ok(digits.chunks(2).map(|d| (16 * d[0] + d[1]) as u8).collect())
         }
-        _ => Err(BAD_HEX),
+        _ => Err(numbers::BAD_HEX),
     }
 }
 

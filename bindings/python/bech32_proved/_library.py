@@ -22,9 +22,6 @@ MAX_LISTED = 3
 # The largest number that the library takes for a size.
 MAX_SIZE = ctypes.c_size_t(-1).value
 
-# The refusals whose place bech32_fault gives as that of a character.
-_OF_A_CHARACTER = frozenset({13, 14, 15, 21, 22})
-
 _BYTES, _SIZE, _NUMBER = ctypes.c_char_p, ctypes.c_size_t, ctypes.c_uint32
 _SIZE_OUT, _NUMBER_OUT = ctypes.POINTER(_SIZE), ctypes.POINTER(_NUMBER)
 _IN = (_BYTES, _SIZE)
@@ -132,7 +129,7 @@ def _place(text: str, data: bytes) -> Optional[int]:
     # The character at fault in a text that is refused for its characters, by either checksum.
     place = _SIZE()
     number = fault(1, *given(data), ctypes.byref(place))
-    if number not in _OF_A_CHARACTER:
+    if number not in errors.OF_A_CHARACTER:
         return None
     return len(data[: place.value].decode("utf-8"))
 
@@ -141,6 +138,6 @@ def refuse(number: int, text: Optional[str] = None, looked_at: Optional[bytes] =
     """Raises the refusal of a number: of a text, where one is refused, and of the bytes of it that the
     function looked at."""
     place = None
-    if text is not None and looked_at is not None and number in _OF_A_CHARACTER:
+    if text is not None and looked_at is not None and number in errors.OF_A_CHARACTER:
         place = _place(text, looked_at)
     raise errors.BY_NUMBER[number](text, place)

@@ -40,8 +40,9 @@ class Share(NamedTuple):
 def parse(text: str) -> Share:
     """Reads a codex32 string.
 
-    Raises the first of: `InvalidCharacter`, `MixedCase`, `NoSeparator`; a fault of the human-readable
-    part; `BadLength`, `NotMs`, `WrongChecksum`, `BadThreshold`, `BadShareIndex`.
+    Raises the first of: `InvalidCharacter`, `MixedCase`, `NoSeparator`, `HrpEmpty`, `HrpTooLong`,
+    `HrpNotAscii`, `HrpInvalid`, `HrpMixedCase`; `BadLength`; `NotMs`; `WrongChecksum`; `BadThreshold`;
+    `BadShareIndex`.
     """
     data = utf8(text)
     threshold, share_index, length = ctypes.c_uint32(), ctypes.c_uint32(), ctypes.c_size_t()
@@ -62,8 +63,8 @@ def propose(text: str) -> Optional[str]:
     at most one such text. It may not be what was meant: show it, and ask. Neither threshold nor share index
     is tested.
 
-    Raises `InvalidCharacter`, `MixedCase`, `NoSeparator`, a fault of the human-readable part, `BadLength`
-    or `NotMs`.
+    Raises the first of: `InvalidCharacter`, `MixedCase`, `NoSeparator`, `HrpEmpty`, `HrpTooLong`,
+    `HrpNotAscii`, `HrpInvalid`, `HrpMixedCase`; `BadLength`; `NotMs`.
     """
     data = utf8(text)
     lent = Lent(16384 + 8 * len(data))

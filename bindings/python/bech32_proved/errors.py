@@ -23,8 +23,11 @@ class Refused(ValueError):
         self.text, self.place = text, place
 
 
+# Written by tools/refusals.
+
+
 class NotUnicode(Refused):
-    """A text holds half of a surrogate pair, which is no character."""
+    """The text holds half of a surrogate pair, which is no character."""
 
     sentence = "the text holds half of a surrogate pair, which is no character"
 
@@ -36,7 +39,7 @@ class HrpEmpty(Refused):
 
 
 class HrpTooLong(Refused):
-    """The human-readable part has more than 83 characters."""
+    """The human-readable part has more than 83 bytes."""
 
     sentence = "the human-readable part has more than 83 bytes"
 
@@ -48,7 +51,7 @@ class HrpNotAscii(Refused):
 
 
 class HrpInvalid(Refused):
-    """The human-readable part has a character that is not printed: its code is not from 33 to 126."""
+    """The human-readable part has a character whose code is not from 33 to 126."""
 
     sentence = "the human-readable part has a character whose code is not from 33 to 126"
 
@@ -102,7 +105,7 @@ class NoCorrection(Refused):
 
 
 class AddressTooLong(Refused):
-    """The text has more than 90 characters, which an address may not have."""
+    """The text has more than 90 characters."""
 
     sentence = "the text has more than 90 characters"
 
@@ -114,7 +117,7 @@ class NoData(Refused):
 
 
 class BadVersion(Refused):
-    """A witness version is not from 0 to 16."""
+    """The witness version is not from 0 to 16."""
 
     sentence = "the witness version is not from 0 to 16"
 
@@ -132,19 +135,19 @@ class PaddingNotZero(Refused):
 
 
 class ProgramTooShort(Refused):
-    """A witness program has less than 2 bytes."""
+    """The witness program has less than 2 bytes."""
 
     sentence = "the witness program has less than 2 bytes"
 
 
 class ProgramTooLong(Refused):
-    """A witness program has more than 40 bytes."""
+    """The witness program has more than 40 bytes."""
 
     sentence = "the witness program has more than 40 bytes"
 
 
 class ProgramNotV0(Refused):
-    """A witness program of version 0 has neither 20 nor 32 bytes."""
+    """A witness program of version 0 has 20 or 32 bytes."""
 
     sentence = "a witness program of version 0 has 20 or 32 bytes"
 
@@ -162,28 +165,31 @@ class EncodedAddressTooLong(Refused):
 
 
 class NotMs(Refused):
-    """The human-readable part of a codex32 string is not `ms`."""
+    """The human-readable part is not `ms`."""
 
     sentence = "the human-readable part is not 'ms'"
 
 
 class BadLength(Refused):
-    """A codex32 string has less than 48 characters, or more than 93."""
+    """A codex32 string has from 48 to 93 characters."""
 
     sentence = "a codex32 string has from 48 to 93 characters"
 
 
 class BadThreshold(Refused):
-    """The threshold of a codex32 string is neither 0 nor a digit from 2 to 9."""
+    """The threshold is neither 0 nor a digit from 2 to 9."""
 
     sentence = "the threshold is neither 0 nor a digit from 2 to 9"
 
 
 class BadShareIndex(Refused):
-    """The threshold of a codex32 string is 0, and its share index is not `s`."""
+    """The threshold is 0, and the share index is not `s`."""
 
     sentence = "the threshold is 0, and the share index is not 's'"
 
+
+# Those for which bech32_fault gives the place of a character.
+OF_A_CHARACTER = frozenset({13, 14, 21, 22})
 
 # The refusals by the numbers of bech32.h and codex32.h.
 BY_NUMBER: Dict[int, Type[Refused]] = {
@@ -217,3 +223,5 @@ BY_NUMBER: Dict[int, Type[Refused]] = {
     83: BadThreshold,
     84: BadShareIndex,
 }
+
+# End of what it writes.

@@ -23,8 +23,8 @@ class Address(NamedTuple):
 def encode(hrp: str, version: int, program: Octets) -> str:
     """Encodes the address of a witness version and a program, in lower case.
 
-    Raises a fault of the human-readable part, `BadVersion`, `ProgramTooShort`, `ProgramTooLong`,
-    `ProgramNotV0` or `EncodedAddressTooLong`.
+    Raises the first of: `HrpEmpty`, `HrpTooLong`, `HrpNotAscii`, `HrpInvalid`, `HrpMixedCase`,
+    `BadVersion`, `ProgramTooShort`, `ProgramTooLong`, `ProgramNotV0`, `EncodedAddressTooLong`.
     """
     if not isinstance(version, int):
         raise TypeError(f"a witness version is a number, and not {type(version).__name__}")
@@ -43,9 +43,10 @@ def encode(hrp: str, version: int, program: Octets) -> str:
 def decode(text: str) -> Address:
     """Decodes an address. Any human-readable part is accepted.
 
-    Raises the first of: `AddressTooLong`; `InvalidCharacter`, `MixedCase`, `NoSeparator`; a fault of the
-    human-readable part; `NoData`, `BadVersion`; `NoChecksum`, `WrongChecksum`; `PaddingTooLong`,
-    `PaddingNotZero`; `ProgramTooShort`, `ProgramTooLong`, `ProgramNotV0`.
+    Raises the first of: `AddressTooLong`; `InvalidCharacter`, `MixedCase`, `NoSeparator`, `HrpEmpty`,
+    `HrpTooLong`, `HrpNotAscii`, `HrpInvalid`, `HrpMixedCase`; `NoData`, `BadVersion`; `NoChecksum`,
+    `WrongChecksum`; `NoData`, `PaddingTooLong`, `PaddingNotZero`, `ProgramTooShort`, `ProgramTooLong`,
+    `ProgramNotV0`.
     """
     data = utf8(text)
     hrp, program = Buffer(_library.MAX_HRP), Buffer(_library.MAX_PROGRAM)

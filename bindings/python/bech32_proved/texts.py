@@ -13,8 +13,11 @@ _CHARACTERS = "qpzry9x8gf2tvdw0s3jn54khce6mua7l"
 # The bytes that near texts are looked for in, at first and at most. Their texts get a quarter more.
 _LEAST_MEMORY, _MOST_MEMORY = 1 << 16, 1 << 28
 
-# The lent memory does not suffice, and a buffer is too small.
-_TOO_LITTLE = (91, 92)
+# The lent memory does not suffice.
+_NO_MEMORY = 91
+
+# A buffer is too small.
+_NO_ROOM = 92
 
 
 class Checksum(Enum):
@@ -61,7 +64,8 @@ class Correction(NamedTuple):
 def encode(hrp: str, data: Octets, checksum: Checksum = Checksum.BECH32M) -> str:
     """Encodes bytes under a human-readable part, in lower case.
 
-    Raises `HrpEmpty`, `HrpTooLong`, `HrpNotAscii`, `HrpInvalid`, `HrpMixedCase` or `EncodedTooLong`.
+    Raises the first of: `HrpEmpty`, `HrpTooLong`, `HrpNotAscii`, `HrpInvalid`, `HrpMixedCase`,
+    `EncodedTooLong`.
     """
     text = Buffer(_library.MAX_TEXT)
     number = _library.encode(
@@ -75,8 +79,8 @@ def encode(hrp: str, data: Octets, checksum: Checksum = Checksum.BECH32M) -> str
 def decode(text: str) -> Decoded:
     """Decodes a text that Bech32m or Bech32 accepts. `check` tells which.
 
-    Raises the text's first fault: `InvalidCharacter`, `MixedCase`, `NoSeparator`, one of the
-    human-readable part, `TextTooLong`, `NoChecksum` or `WrongChecksum`.
+    Raises the first of: `InvalidCharacter`, `MixedCase`, `NoSeparator`, `HrpEmpty`, `HrpTooLong`,
+    `HrpNotAscii`, `HrpInvalid`, `HrpMixedCase`; `TextTooLong`, `NoChecksum`, `WrongChecksum`.
     """
     data = utf8(text)
     hrp, found = Buffer(_library.MAX_HRP), Buffer(_library.MAX_BYTES)
@@ -160,10 +164,10 @@ def nearest(
     asked = (Checksum(checksum).value, *given(data), *_locations(known), number_of_errors)
     memory = _LEAST_MEMORY
     number, found = _nearest_within(memory, len(data), asked)
-    while number in _TOO_LITTLE and memory < _MOST_MEMORY:
+    while number in (_NO_MEMORY, _NO_ROOM) and memory < _MOST_MEMORY:
         memory *= 2
         number, found = _nearest_within(memory, len(data), asked)
-    if number in _TOO_LITTLE:
+    if number in (_NO_MEMORY, _NO_ROOM):
         raise MemoryError("there are more near texts than can be listed")
     if number != 0:
         refuse(number, text, data)

@@ -2,16 +2,10 @@
 
 use super::checksum::Codex32;
 use super::nearest::{Damaged, BOUND};
-use crate::answer::{reply_by, with_listing, Answer, NO_COMMAND};
+use crate::answer::{reply_by, with_listing, Answer};
 use crate::numbers;
 use bech32::primitives::decode::{CheckedHrpstring, CheckedHrpstringError};
 use bech32::{CorrectableError, Fe32};
-
-// The refusals of the profile.
-const OTHER_PART: u32 = 81;
-const LENGTH: u32 = 82;
-const THRESHOLD: u32 = 83;
-const SHARE_INDEX: u32 = 84;
 
 /// The characters before the parts' own: the human-readable part and the separator.
 pub const FRONT: &str = "ms1";
@@ -30,7 +24,7 @@ pub fn reply(line: &[u8]) -> String {
     reply_by(line, |words| match words[..] {
         ["parse", text] => parse(text),
         ["propose", text] => propose(text),
-        _ => Err(NO_COMMAND),
+        _ => Err(numbers::NO_COMMAND),
     })
 }
 
@@ -41,11 +35,11 @@ fn checked(text: &str) -> Result<Result<CheckedHrpstring<'_>, CheckedHrpstringEr
         return Err(numbers::checked(e));
     }
     if !(SHORTEST..=LONGEST).contains(&text.len()) {
-        return Err(LENGTH);
+        return Err(numbers::BAD_LENGTH);
     }
     match text.rsplit_once('1') {
         Some((part, _)) if part.eq_ignore_ascii_case("ms") => Ok(checked),
-        _ => Err(OTHER_PART),
+        _ => Err(numbers::NOT_MS),
     }
 }
 
@@ -54,10 +48,10 @@ fn parse(text: &str) -> Answer {
     let data = &text[FRONT.len()..text.len() - CHECKSUM];
     let (threshold, index) = (&data[..1], &data[5..6]);
     if !"023456789".contains(threshold) {
-        return Err(THRESHOLD);
+        return Err(numbers::BAD_THRESHOLD);
     }
     if threshold == "0" && !index.eq_ignore_ascii_case("s") {
-        return Err(SHARE_INDEX);
+        return Err(numbers::BAD_SHARE_INDEX);
     }
     Ok(format!(
         "ok {threshold} {} {index} {}",
