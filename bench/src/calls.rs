@@ -82,79 +82,16 @@ pub struct Calls {
 macro_rules! calls {
     ($encode:ident, $decode:ident, $check:ident, $fault:ident, $segwit_encode:ident,
      $segwit_decode:ident, $residue:ident, $correct:ident) => {{
-        extern "C" {
-            fn $encode(
-                checksum: u32,
-                hrp: *const u8,
-                hrp_length: usize,
-                bytes: *const u8,
-                bytes_length: usize,
-                text: *mut u8,
-                text_room: usize,
-                text_length: *mut usize,
-            ) -> u32;
-            fn $decode(
-                text: *const u8,
-                text_length: usize,
-                hrp: *mut u8,
-                hrp_room: usize,
-                hrp_length: *mut usize,
-                bytes: *mut u8,
-                bytes_room: usize,
-                bytes_length: *mut usize,
-            ) -> u32;
-            fn $check(
-                checksum: u32,
-                text: *const u8,
-                text_length: usize,
-                hrp_length: *mut usize,
-                data_length: *mut usize,
-            ) -> u32;
-            fn $fault(checksum: u32, text: *const u8, text_length: usize, place: *mut usize)
-                -> u32;
-            fn $segwit_encode(
-                hrp: *const u8,
-                hrp_length: usize,
-                version: u32,
-                program: *const u8,
-                program_length: usize,
-                text: *mut u8,
-                text_room: usize,
-                text_length: *mut usize,
-            ) -> u32;
-            fn $segwit_decode(
-                text: *const u8,
-                text_length: usize,
-                hrp: *mut u8,
-                hrp_room: usize,
-                hrp_length: *mut usize,
-                version: *mut u32,
-                program: *mut u8,
-                program_room: usize,
-                program_length: *mut usize,
-            ) -> u32;
-            fn $residue(
-                checksum: u32,
-                elements: *const u8,
-                elements_length: usize,
-                residue: *mut u32,
-            ) -> u32;
-            fn $correct(
-                checksum: u32,
-                text: *const u8,
-                text_length: usize,
-                erasures: *const usize,
-                erasures_length: usize,
-                locations: *mut usize,
-                locations_room: usize,
-                values: *mut u8,
-                values_room: usize,
-                count: *mut usize,
-                mended: *mut u8,
-                mended_room: usize,
-                mended_length: *mut usize,
-            ) -> u32;
-        }
+        crate::declared::declare!(
+            $encode,
+            $decode,
+            $check,
+            $fault,
+            $residue,
+            $segwit_encode,
+            $segwit_decode,
+            $correct
+        );
         Calls {
             encode: $encode,
             decode: $decode,

@@ -18,6 +18,7 @@ mod called;
 mod calls;
 mod compare;
 mod corrections;
+mod declared;
 mod numbers;
 mod random;
 mod report;

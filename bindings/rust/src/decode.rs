@@ -7,7 +7,8 @@ use crate::error::{
 use crate::iter::{AsciiToFe32Iter, ByteIter};
 use crate::part::{self, MAX_HRP_LENGTH};
 use crate::rules::{
-    validate_witness_program_length, WitnessLengthError, MAX_STRING_LENGTH, VERSION_0,
+    is_valid_witness_version, validate_witness_program_length, WitnessLengthError,
+    MAX_STRING_LENGTH, VERSION_0,
 };
 use crate::segwit::MAX_PROGRAM_LENGTH;
 use crate::text::ascii;
@@ -349,7 +350,7 @@ impl<'s> SegwitHrpstring<'s> {
 // The first element of characters, where it is a witness version.
 fn version_in(characters: &[u8]) -> Option<Fe32> {
     let first = AsciiToFe32Iter::new(characters).next()?;
-    (first.to_u8() <= 16).then_some(first)
+    is_valid_witness_version(first).then_some(first)
 }
 
 // Why characters do not begin with a witness version.
@@ -433,15 +434,14 @@ pub(crate) fn undecoded(s: &str, refusal: Refusal) -> CheckedHrpstringError {
 /// Why a text that is refused so is no segwit address.
 pub(crate) fn no_address(s: &str, refusal: Refusal) -> SegwitHrpstringError {
     let padding = SegwitHrpstringError::Padding;
-    let length = SegwitHrpstringError::WitnessLength;
+    if let Some(error) = WitnessLengthError::of(refusal) {
+        return error.into();
+    }
     match refusal {
         Refusal::AddressTooLong => SegwitHrpstringError::TooLong(s.len()),
         Refusal::NoData => SegwitHrpstringError::NoData,
         Refusal::PaddingTooLong => padding(PaddingError::TooMuch),
         Refusal::PaddingNotZero => padding(PaddingError::NonZero),
-        Refusal::ProgramTooShort => length(WitnessLengthError::TooShort),
-        Refusal::ProgramTooLong => length(WitnessLengthError::TooLong),
-        Refusal::ProgramNotV0 => length(WitnessLengthError::InvalidSegwitV0),
         _ => no_checked_address(s, refusal),
     }
 }

@@ -62,6 +62,7 @@
 mod checksum;
 #[cfg(feature = "correct")]
 mod correction;
+mod declared;
 mod decode;
 mod error;
 mod fault;

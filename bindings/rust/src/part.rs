@@ -237,21 +237,28 @@ pub enum Error {
 }
 
 impl Error {
-    // What a refusal of a text as a human-readable part says of it. Before the first character at
-    // fault all are ASCII, from 33 to 126.
+    // What a refusal of a text as a human-readable part says of it.
     pub(crate) fn of(hrp: &str, refusal: Refusal) -> Option<Error> {
         match refusal {
             Refusal::HrpEmpty => Some(Error::Empty),
             Refusal::HrpTooLong => Some(Error::TooLong(hrp.len())),
-            Refusal::HrpNotAscii => hrp.chars().find(|c| !c.is_ascii()).map(Error::NonAsciiChar),
+            Refusal::HrpNotAscii => at_fault(hrp).map(Error::NonAsciiChar),
             Refusal::HrpInvalid => {
-                let byte = hrp.bytes().find(|b| !(33..=126).contains(b));
+                let byte = at_fault(hrp).and_then(|c| u8::try_from(c).ok());
                 byte.map(Error::InvalidAsciiByte)
             }
             Refusal::HrpMixedCase => Some(Error::MixedCase),
             _ => None,
         }
     }
+}
+
+// The character of a part that may not stand there. The library tells its place in a text that begins
+// with the part. There letters of both cases would be told first.
+fn at_fault(hrp: &str) -> Option<char> {
+    let text = hrp.to_ascii_lowercase() + "1qqqqqq";
+    let (_, place) = raw::fault(Bech32::NUMBER, text.as_bytes()).err()?;
+    hrp[place..].chars().next()
 }
 
 impl fmt::Display for Error {

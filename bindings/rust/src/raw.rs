@@ -4,116 +4,22 @@
 //! What a caller owes the library, a slice gives: its pointer is never null, its length is true,
 //! and what a mutable one covers nothing else covers.
 
+#[cfg(feature = "correct")]
+use crate::declared::Memory;
 use crate::Refusal;
 
 mod c {
-    /// Memory that a function may use.
-    #[cfg(feature = "correct")]
-    #[repr(C)]
-    pub struct Memory {
-        pub start: *mut u8,
-        pub size: usize,
-    }
-
-    extern "C" {
-        pub fn bech32_encode(
-            checksum: u32,
-            hrp: *const u8,
-            hrp_length: usize,
-            bytes: *const u8,
-            bytes_length: usize,
-            text: *mut u8,
-            text_room: usize,
-            text_length: *mut usize,
-        ) -> u32;
-
-        pub fn bech32_decode(
-            text: *const u8,
-            text_length: usize,
-            hrp: *mut u8,
-            hrp_room: usize,
-            hrp_length: *mut usize,
-            bytes: *mut u8,
-            bytes_room: usize,
-            bytes_length: *mut usize,
-        ) -> u32;
-
-        pub fn bech32_check(
-            checksum: u32,
-            text: *const u8,
-            text_length: usize,
-            hrp_length: *mut usize,
-            data_length: *mut usize,
-        ) -> u32;
-
-        pub fn bech32_fault(
-            checksum: u32,
-            text: *const u8,
-            text_length: usize,
-            place: *mut usize,
-        ) -> u32;
-
-        pub fn bech32_residue(
-            checksum: u32,
-            elements: *const u8,
-            elements_length: usize,
-            residue: *mut u32,
-        ) -> u32;
-
-        pub fn bech32_segwit_encode(
-            hrp: *const u8,
-            hrp_length: usize,
-            version: u32,
-            program: *const u8,
-            program_length: usize,
-            text: *mut u8,
-            text_room: usize,
-            text_length: *mut usize,
-        ) -> u32;
-
-        pub fn bech32_segwit_decode(
-            text: *const u8,
-            text_length: usize,
-            hrp: *mut u8,
-            hrp_room: usize,
-            hrp_length: *mut usize,
-            version: *mut u32,
-            program: *mut u8,
-            program_room: usize,
-            program_length: *mut usize,
-        ) -> u32;
-
-        #[cfg(feature = "correct")]
-        pub fn bech32_correct(
-            checksum: u32,
-            text: *const u8,
-            text_length: usize,
-            erasures: *const usize,
-            erasures_length: usize,
-            locations: *mut usize,
-            locations_room: usize,
-            values: *mut u8,
-            values_room: usize,
-            count: *mut usize,
-            mended: *mut u8,
-            mended_room: usize,
-            mended_length: *mut usize,
-        ) -> u32;
-
-        #[cfg(feature = "correct")]
-        pub fn bech32_nearest(
-            checksum: u32,
-            text: *const u8,
-            text_length: usize,
-            erasures: *const usize,
-            erasures_length: usize,
-            errors: usize,
-            memory: *mut Memory,
-            texts: *mut u8,
-            texts_room: usize,
-            count: *mut usize,
-        ) -> u32;
-    }
+    crate::declared::declare!(
+        bech32_encode,
+        bech32_decode,
+        bech32_check,
+        bech32_fault,
+        bech32_residue,
+        bech32_segwit_encode,
+        bech32_segwit_decode,
+        bech32_correct,
+        bech32_nearest
+    );
 }
 
 /// Memory that a call is lent, sixteen bytes of it, aligned to as many.
@@ -306,7 +212,7 @@ pub fn nearest(
     texts: &mut [u8],
 ) -> Result<usize, Refusal> {
     let mut count = 0;
-    let mut lent = c::Memory {
+    let mut lent = Memory {
         start: memory.as_mut_ptr().cast(),
         size: std::mem::size_of_val(memory),
     };

@@ -1,6 +1,8 @@
-//! The rules of segwit addresses on versions and lengths (BIP-173, Segwit address format).
+//! The rules of segwit addresses on versions and lengths (BIP-173, Segwit address format): what the
+//! library says of an address.
 
-use crate::Fe32;
+use crate::segwit::MAX_PROGRAM_LENGTH;
+use crate::{raw, Fe32, Refusal};
 use std::error::Error;
 use std::fmt;
 
@@ -30,9 +32,10 @@ pub fn is_valid_witness_program_length(length: usize, witness_version: Fe32) -> 
 ///
 /// The element, where it is above 16.
 pub fn validate_witness_version(witness_version: Fe32) -> Result<(), InvalidWitnessVersionError> {
-    match witness_version.to_u8() {
-        0..=16 => Ok(()),
-        _ => Err(InvalidWitnessVersionError(witness_version)),
+    // Each version has programs of 32 bytes.
+    match refusal_of(32, witness_version) {
+        None => Ok(()),
+        Some(_) => Err(InvalidWitnessVersionError(witness_version)),
     }
 }
 
@@ -45,13 +48,25 @@ pub fn validate_witness_program_length(
     length: usize,
     version: Fe32,
 ) -> Result<(), WitnessLengthError> {
-    match length {
-        0 | 1 => Err(WitnessLengthError::TooShort),
-        20 | 32 => Ok(()),
-        2..=40 if version == VERSION_0 => Err(WitnessLengthError::InvalidSegwitV0),
-        2..=40 => Ok(()),
-        _ => Err(WitnessLengthError::TooLong),
-    }
+    // The library refuses what is no version first. Here it has the programs of those above 0.
+    let known = if is_valid_witness_version(version) {
+        version
+    } else {
+        VERSION_1
+    };
+    refusal_of(length, known)
+        .and_then(WitnessLengthError::of)
+        .map_or(Ok(()), Err)
+}
+
+// Why the library writes no address with a program of so many bytes. It fits in the buffer with this
+// human-readable part, so that only version and length are refused.
+fn refusal_of(length: usize, version: Fe32) -> Option<Refusal> {
+    let mut address = [0; MAX_STRING_LENGTH];
+    let program = [0; MAX_PROGRAM_LENGTH + 1];
+    let program = &program[..length.min(program.len())];
+    let version = u32::from(version.to_u8());
+    raw::segwit_encode(b"bc", version, program, &mut address).err()
 }
 
 // Shows a witness version that is above 16.
@@ -86,6 +101,18 @@ pub enum WitnessLengthError {
     TooLong,
     /// It is of version 0, and has neither 20 nor 32 bytes.
     InvalidSegwitV0,
+}
+
+impl WitnessLengthError {
+    // What a refusal says of the length of a program.
+    pub(crate) fn of(refusal: Refusal) -> Option<WitnessLengthError> {
+        match refusal {
+            Refusal::ProgramTooShort => Some(WitnessLengthError::TooShort),
+            Refusal::ProgramTooLong => Some(WitnessLengthError::TooLong),
+            Refusal::ProgramNotV0 => Some(WitnessLengthError::InvalidSegwitV0),
+            _ => None,
+        }
+    }
 }
 
 impl fmt::Display for WitnessLengthError {
