@@ -67,6 +67,12 @@ export const bech32Calls = (module) => {
       const number = it.call('bech32_check', checksum, p('text'), length, p('hrpLength'), p('outLength'));
       return number ? { number } : { number, hrpLength: it.size('hrpLength'), dataLength: it.size('outLength') };
     },
+    /** The place of a text's fault, counted in JavaScript's characters. Where there is a length at fault it is that. */
+    fault(text) {
+      const { length } = it.putText('text', text);
+      it.call('bech32_fault', CHECKSUMS.bech32m, p('text'), length, p('outLength'));
+      return it.characters('text', it.size('outLength'));
+    },
     segwitEncode(hrp, version, program) {
       const hrpLength = it.putText('hrp', hrp).length, length = it.putBytes('bytes', program);
       const number = it.call('bech32_segwit_encode', p('hrp'), hrpLength, version, p('bytes'), length, p('out'),

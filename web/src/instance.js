@@ -123,6 +123,12 @@ export class Instance {
     return this.bytes.slice(this.at[region], this.at[region] + length);
   }
 
+  /** How many of JavaScript's characters the bytes at the front of a region are, which are UTF-8: of four bytes, two. */
+  characters(region, length) {
+    const units = (byte) => (byte >= 0xf0 ? 2 : Number((byte & 0xc0) !== 0x80));
+    return this.bytes.subarray(this.at[region], this.at[region] + length).reduce((sum, byte) => sum + units(byte), 0);
+  }
+
   /** The text of ASCII characters at the front of a region. */
   text(region, length) {
     return String.fromCharCode(...this.bytes.subarray(this.at[region], this.at[region] + length));

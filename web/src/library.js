@@ -1,6 +1,6 @@
 // What users call: the functions of the library with the values of JavaScript, and refusals as errors.
 import { bech32Calls, codex32Calls, CHECKSUMS } from './calls.js';
-import { asciiLower, reasons } from './reasons.js';
+import { asciiLower, reasonsOf } from './reasons.js';
 
 export { Stopped } from './instance.js';
 
@@ -50,7 +50,7 @@ const placesOf = (given, length) => {
   return places;
 };
 
-const textCalls = (calls) => ({
+const textCalls = (calls, reasons) => ({
   encode(checksum, hrp, data) {
     const number = numberOf(checksum);
     text(hrp, 'the human-readable part');
@@ -69,7 +69,7 @@ const textCalls = (calls) => ({
   },
 });
 
-const segwitCalls = (calls) => ({
+const segwitCalls = (calls, reasons) => ({
   encode(hrp, version, program) {
     text(hrp, 'the human-readable part');
     bytes(program, 'the bytes of the program');
@@ -86,7 +86,7 @@ const segwitCalls = (calls) => ({
 });
 
 // The calls that mend a text; `places` are those of characters known to be wrong.
-const mendingCalls = (calls) => ({
+const mendingCalls = (calls, reasons) => ({
   correct(checksum, given, places = []) {
     const number = numberOf(checksum);
     const known = placesOf(places, text(given).length);
@@ -106,7 +106,7 @@ const mendingCalls = (calls) => ({
   },
 });
 
-const codex32Functions = (calls) => ({
+const codex32Functions = (calls, reasons) => ({
   parse(given) {
     const answer = accepted(calls.parse(text(given)), (n) => reasons.codex32(n, given));
     const { threshold, identifier, shareIndex, payload } = answer;
@@ -120,14 +120,32 @@ const codex32Functions = (calls) => ({
   },
 });
 
+// What reasons ask. A text that is accepted is so by one checksum.
+const asked = (calls) => ({
+  fault: calls.fault,
+  lengths: (text) => Object.values(CHECKSUMS).map((it) => calls.check(it, text)).find(({ number }) => number === 0),
+});
+
+// The same of a codex32 string, which is a secret: nothing of it stays in the module's memory.
+const askedSecretly = (calls) => ({
+  fault(text) {
+    try {
+      return calls.fault(text);
+    } finally {
+      calls.wipe();
+    }
+  },
+});
+
 /** The library over its two modules, each a `WebAssembly.Module`. */
 export const library = (bech32Module, codex32Module) => {
   const calls = bech32Calls(bech32Module), codex32 = codex32Calls(codex32Module);
+  const reasons = reasonsOf(asked(calls));
   return {
-    ...textCalls(calls),
-    segwit: segwitCalls(calls),
-    ...mendingCalls(calls),
-    codex32: codex32Functions(codex32),
+    ...textCalls(calls, reasons),
+    segwit: segwitCalls(calls, reasons),
+    ...mendingCalls(calls, reasons),
+    codex32: codex32Functions(codex32, reasonsOf(askedSecretly(calls))),
     wipe: calls.wipe,
   };
 };

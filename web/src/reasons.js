@@ -1,7 +1,9 @@
 // Why a call refuses: a code, a sentence, and the place of the character at fault.
 //
-// The library tells a number. The place and the figures in a sentence are found here, by looking at the text once more;
-// this is no part of what is proved.
+// The library tells a number, the place of a fault (bech32_fault) and the lengths of the parts (bech32_check). Found here,
+// by looking at the text once more, is what no function tells: where the separator of a text with a short data part or of
+// no address stands, the value of a witness version, how long a text would be, and where one differs from `ms`. This is
+// no part of what is proved.
 
 /** The codes of the refusals, which the headers have with BECH32_ or CODEX32_ before them. */
 export const CODES = {
@@ -60,10 +62,8 @@ const NAMES = {
 };
 
 const isGraphic = (c) => c.length === 1 && c >= '!' && c <= '~';
-const isLower = (c) => c >= 'a' && c <= 'z';
 const isUpper = (c) => c >= 'A' && c <= 'Z';
 const lower = (c) => (isUpper(c) ? c.toLowerCase() : c);
-const isOfAlphabet = (c) => c.length === 1 && ALPHABET.includes(lower(c));
 
 /** A text in lower case, ASCII letters alone: the Kelvin sign stays what it is. */
 export const asciiLower = (text) => text.replace(/[A-Z]/g, (c) => c.toLowerCase());
@@ -98,11 +98,6 @@ const at = (text, place) => `Character ${grouped(ordinal(text, place))}, ${shown
 
 // ---- human-readable parts
 
-const FOUND_IN_HRP = {
-  13: ({ character }) => character > '\x7f',
-  14: ({ character }) => character <= '\x7f' && !isGraphic(character),
-};
-
 const bytesOf = (text) => new TextEncoder().encode(text).length;
 
 // The length of a text, in characters where each is a byte.
@@ -117,23 +112,17 @@ const beyondBytes = (text, most) => {
   return placed(text.slice(0, most + 1)).find(({ character }) => (bytes += bytesOf(character)) > most)?.place ?? null;
 };
 
-const firstOfOtherCase = (text) => {
-  const letters = placed(text).filter(({ character }) => isLower(character) || isUpper(character));
-  return letters.find(({ character }) => isLower(character) !== isLower(letters[0].character)) ?? null;
-};
-
-const cases = (text) => {
-  const found = firstOfOtherCase(text);
-  if (!found) return null;
+const cases = (text, place) => {
   const kinds = ['a lower-case letter, and an upper-case one', 'an upper-case letter, and a lower-case one'];
-  const kind = kinds[Number(isUpper(found.character))];
-  return { place: found.place, sentence: `${at(text, found.place)} is ${kind} stands before it: all letters have one case.` };
+  const kind = kinds[Number(isUpper(text[place]))];
+  return { place, sentence: `${at(text, place)} is ${kind} stands before it: all letters have one case.` };
 };
 
 // What is wrong with no one character of a text.
 const nowhere = (sentence) => ({ place: null, sentence });
 
-const ofHrp = (number, hrp) => {
+// Of a human-readable part, with the place of the character at fault.
+const ofHrp = (number, hrp, place) => {
   switch (number) {
     case 11: return { place: 0, sentence: 'Nothing stands before the separator “1”: the human-readable part is missing.' };
     case 12: {
@@ -141,26 +130,20 @@ const ofHrp = (number, hrp) => {
       return { place: beyondBytes(hrp, 83), sentence };
     }
     case 13: case 14: {
-      const place = placed(hrp).find(FOUND_IN_HRP[number])?.place ?? null;
-      const who = place === null ? 'A character' : at(hrp, place);
       const why = number === 13 ? 'is not ASCII, and stands in' : 'may not stand in';
-      return { place, sentence: `${who} ${why} the human-readable part, before the last “1”.` };
+      return { place, sentence: `${at(hrp, place)} ${why} the human-readable part, before the last “1”.` };
     }
-    case 15: return cases(hrp);
+    case 15: return cases(hrp, place);
     default: return null;
   }
 };
 
 // ---- texts
 
-const lastStranger = (text) => placed(text).findLast(({ character }) => !isOfAlphabet(character)) ?? null;
-
-const invalidCharacter = (text) => {
-  const found = lastStranger(text);
-  if (!found || found.character === '1') return null;
+const invalidCharacter = (text, place) => {
   const where = text.includes('1') ? 'behind the last “1”' : 'here, and no separator “1” stands before it';
-  const sentence = `${at(text, found.place)} may not stand ${where}: letters and digits may, but not 1, b, i and o.`;
-  return { place: found.place, sentence };
+  const sentence = `${at(text, place)} may not stand ${where}: letters and digits may, but not 1, b, i and o.`;
+  return { place, sentence };
 };
 
 const tooLong = (text, most, what) => ({
@@ -176,15 +159,18 @@ const noChecksum = (text, separator) => {
   return { place: separator, sentence: `${said} behind the last “1”; the checksum alone has six.` };
 };
 
-const ofText = (number, text, checksum) => {
-  const separator = text.lastIndexOf('1');
+const ofText = (calls, number, text, checksum) => {
   switch (number) {
-    case 11: case 12: case 13: case 14: case 15: return ofHrp(number, text.slice(0, separator));
-    case 21: return invalidCharacter(text);
-    case 22: return cases(text);
+    case 11: case 12: {
+      const length = calls.fault(text);
+      return ofHrp(number, text.slice(0, length));
+    }
+    case 13: case 14: return ofHrp(number, text, calls.fault(text));
+    case 21: return invalidCharacter(text, calls.fault(text));
+    case 22: return cases(text, calls.fault(text));
     case 23: return nowhere('There is no separator “1” in the text.');
     case 31: return tooLong(text, 1023, 'a text');
-    case 32: return noChecksum(text, separator);
+    case 32: return noChecksum(text, text.lastIndexOf('1'));
     case 33: return nowhere(checksum ? `The ${CHECKSUM_NAMES[checksum]} checksum is wrong.` : 'The checksum is wrong.');
     default: return null;
   }
@@ -192,12 +178,11 @@ const ofText = (number, text, checksum) => {
 
 // ---- segwit addresses
 
-const dataOf = (text) => Array.from(text.slice(text.lastIndexOf('1') + 1), (c) => ALPHABET.indexOf(lower(c)));
-
-// The bytes of the program of an address, and the bits behind them.
-const programOf = (text) => {
-  const bits = 5 * (dataOf(text).length - 1 - CHECKSUM_LENGTH);
-  return { bytes: Math.floor(bits / 8), left: bits % 8 };
+// The bytes of the program of a text whose checksum is right, the bits behind them, and the place of its last character.
+const programOf = (calls, text) => {
+  const { hrpLength, dataLength } = calls.lengths(text);
+  const bits = 5 * (dataLength - 1);
+  return { bytes: Math.floor(bits / 8), left: bits % 8, last: hrpLength + dataLength };
 };
 
 const lengthOfProgram = (number, bytes) => {
@@ -209,17 +194,16 @@ const lengthOfProgram = (number, bytes) => {
   }
 };
 
-const ofPadding = (number, text) => {
-  const place = text.length - CHECKSUM_LENGTH - 1;
+const ofPadding = (number, text, { left, last: place }) => {
   const who = `${at(text, place)} the last one before the checksum,`;
   const sentence = number === 44
-    ? `${who} is one too many: ${programOf(text).left} bits stand behind the last whole byte of the program, and at most four may.`
+    ? `${who} is one too many: ${left} bits stand behind the last whole byte of the program, and at most four may.`
     : `${who} has bits behind the last whole byte of the program that are not zero.`;
   return { place, sentence };
 };
 
-const ofAddress = (number, text) => {
-  const place = text.lastIndexOf('1') + 1, version = dataOf(text)[0];
+const ofAddress = (calls, number, text) => {
+  const place = text.lastIndexOf('1') + 1, version = ALPHABET.indexOf(lower(text.charAt(place)));
   switch (number) {
     case 33: {
       const name = CHECKSUM_NAMES[version === 0 ? 1 : 2];
@@ -234,9 +218,9 @@ const ofAddress = (number, text) => {
       const sentence = `${at(text, place)} is the witness version ${version}; versions are from 0 to 16.`;
       return { place, sentence };
     }
-    case 44: case 45: return ofPadding(number, text);
-    case 46: case 47: case 48: return lengthOfProgram(number, programOf(text).bytes);
-    default: return ofText(number, text);
+    case 44: case 45: return ofPadding(number, text, programOf(calls, text));
+    case 46: case 47: case 48: return lengthOfProgram(number, programOf(calls, text).bytes);
+    default: return ofText(calls, number, text);
   }
 };
 
@@ -257,13 +241,13 @@ const badLength = (text) => {
   };
 };
 
-const ofCodex32 = (number, text) => {
+const ofCodex32 = (calls, number, text) => {
   switch (number) {
     case 81: return notMs(text);
     case 82: return badLength(text);
     case 83: return { place: 3, sentence: `${at(text, 3)} is no threshold, which is 0 or a digit from 2 to 9.` };
     case 84: return { place: 8, sentence: `${at(text, 8)} is no share index of the threshold 0, which is s.` };
-    default: return ofText(number, text);
+    default: return ofText(calls, number, text);
   }
 };
 
@@ -279,13 +263,20 @@ const GROUP = 5;
 const encodedLength = (hrp, elements) => hrp.length + 1 + elements + CHECKSUM_LENGTH;
 const elementsOf = (bytes) => Math.ceil((8 * bytes) / GROUP);
 
-const ofEncoding = (number, hrp, bytes) => {
-  if (number !== 51) return ofHrp(number, hrp);
+// The fault of a human-readable part, in a text that begins with it. There letters of both cases are told first.
+const ofPart = (calls, number, hrp) => {
+  const isAsked = [13, 14, 15].includes(number);
+  const place = isAsked ? calls.fault(`${number === 15 ? hrp : asciiLower(hrp)}1qqqqqq`) : null;
+  return ofHrp(number, hrp, place);
+};
+
+const ofEncoding = (calls, number, hrp, bytes) => {
+  if (number !== 51) return ofPart(calls, number, hrp);
   const length = encodedLength(hrp, elementsOf(bytes.length));
   return nowhere(`The text would have ${grouped(length)} characters; a text has at most 1,023.`);
 };
 
-const ofAddressEncoding = (number, hrp, version, program) => {
+const ofAddressEncoding = (calls, number, hrp, version, program) => {
   switch (number) {
     case 46: case 47: case 48: return lengthOfProgram(number, program.length);
     case 52: return nowhere(`The witness version is ${version}; versions are from 0 to 16.`);
@@ -293,20 +284,25 @@ const ofAddressEncoding = (number, hrp, version, program) => {
       const length = encodedLength(hrp, 1 + elementsOf(program.length));
       return nowhere(`The address would have ${grouped(length)} characters; an address has at most 90.`);
     }
-    default: return ofHrp(number, hrp);
+    default: return ofPart(calls, number, hrp);
   }
 };
 
-// What is said where no sentence fits: no refusal of the library comes to this.
-const reason = (number, found) =>
-  ({ number, code: CODES[number] ?? 'UNKNOWN', ...(found ?? nowhere(`The library refuses this with the number ${number}.`)) });
-
-/** Why a call refused, by what it was given. */
-export const reasons = {
-  text: (number, text, checksum) => reason(number, ofText(number, text, checksum)),
-  address: (number, text) => reason(number, ofAddress(number, text)),
-  codex32: (number, text) => reason(number, ofCodex32(number, text)),
-  damaged: (number, text) => reason(number, ofCodex32(number, asRead(text))),
-  encoding: (number, hrp, bytes) => reason(number, ofEncoding(number, hrp, bytes)),
-  addressEncoding: (number, hrp, version, program) => reason(number, ofAddressEncoding(number, hrp, version, program)),
+const reason = (number, found) => {
+  const said = SENTENCES[number] ?? `The library refuses this with the number ${number}.`;
+  return { number, code: CODES[number] ?? 'UNKNOWN', ...(found ?? nowhere(said)) };
 };
+
+/**
+ * Why a call refused, by what it was given. Of the calls, `fault` returns the place of a text's fault, and `lengths` the
+ * lengths of the parts of a text whose checksum is right.
+ */
+export const reasonsOf = (calls) => ({
+  text: (number, text, checksum) => reason(number, ofText(calls, number, text, checksum)),
+  address: (number, text) => reason(number, ofAddress(calls, number, text)),
+  codex32: (number, text) => reason(number, ofCodex32(calls, number, text)),
+  damaged: (number, text) => reason(number, ofCodex32(calls, number, asRead(text))),
+  encoding: (number, hrp, bytes) => reason(number, ofEncoding(calls, number, hrp, bytes)),
+  addressEncoding: (number, hrp, version, program) =>
+    reason(number, ofAddressEncoding(calls, number, hrp, version, program)),
+});

@@ -29,6 +29,9 @@ const memoryOf = ({ memory }) => Buffer.from(memory.buffer);
 // The memory of each module as it is at first.
 const FRESH = modules.map((module) => memoryOf(new WebAssembly.Instance(module, {}).exports));
 
+// Whether a memory is one of these, but for zeros by which it was made larger.
+const isFresh = (memory, fresh) => memory.subarray(0, fresh.length).equals(fresh) && memory.subarray(fresh.length).every((byte) => byte === 0);
+
 test('a codex32 string is wiped from the memory after each call', () => withInstances((started) => {
   const { codex32 } = library(...modules);
   const fresh = FRESH[1];
@@ -44,6 +47,8 @@ test('a codex32 string is wiped from the memory after each call', () => withInst
         assert.ok(error instanceof Refused);
       }
       assert.ok(inMemory().equals(fresh), `${call.name} of ${text}`);
+      // The other module is asked where a fault stands.
+      assert.ok(isFresh(memoryOf(started[0]), FRESH[0]), `${call.name} of ${text}, the other module`);
     }
   }
   assert.throws(() => codex32.parse(7), TypeError);
@@ -53,12 +58,10 @@ test('a codex32 string is wiped from the memory after each call', () => withInst
 test('wipe leaves the memory of the other module as it was at first', () => withInstances((started) => {
   const it = library(...modules);
   const fresh = FRESH[0];
-  // The memory was made larger, by zeros.
-  const isFresh = (memory) => memory.subarray(0, fresh.length).equals(fresh) && memory.subarray(fresh.length).every((byte) => byte === 0);
   it.correct('bech32', `${ADDRESS.slice(0, -1)}q`);
-  assert.ok(!isFresh(memoryOf(started[0])));
+  assert.ok(!isFresh(memoryOf(started[0]), fresh));
   it.wipe();
-  assert.ok(isFresh(memoryOf(started[0])));
+  assert.ok(isFresh(memoryOf(started[0]), fresh));
   assert.equal(it.segwit.decode(ADDRESS).version, 0);
 }));
 
