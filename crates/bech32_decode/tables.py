@@ -12,8 +12,8 @@ FILE = pathlib.Path(__file__).parent / "src" / "part_cases.rt"
 HEAD = """\
 //! The cases of the bytes of human-readable parts. Written by tables.py.
 
-// For each byte 1 where it is a small letter and 2^12 where it is a capital one; 2^24 where it may not
-// stand before the first `1`.
+// For each byte 1 where it is a small letter and 2^12 where it is a capital one; 2^24 where it may
+// not stand before the first `1`.
 pub(crate) const PART_CASES: [u32; 256] = [
 """
 

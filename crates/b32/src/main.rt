@@ -1,4 +1,7 @@
 //! Answers each line of standard input.
+//!
+//! Below it: `b32_replies`.
+//! Standard: BIP-173; BIP-350.
 #![tactic(auto)]
 
 use b32_replies::run::run_on;

@@ -21,7 +21,7 @@ use Rattle.b32_replies.specs.declared.command.ChecksumName.TheVariants.{Bech32, 
 use Rattle.b32_replies.specs.declared.refusal.Refusal.{Refusal}
 use Rattle.b32_replies.specs.declared.refusal.Refusal.TheVariants.{BadNumber}
 use Rattle.b32_replies.specs.Locations.{AreLocations, IsNoListOfLocations}
-use Rattle.b32_replies.specs.Numbers.{number_of}
+use Rattle.b32_replies.specs.Numbers.{number_of_reply}
 use Rattle.b32_replies.specs.Request.{code_of_name}
 use Rattle.line_program.specs.Refused.{err}
 use Rattle.b32_replies.specs.Reply.{listed, IsCorrectAnswer, IsCorrectAtAnswer}
@@ -111,8 +111,8 @@ says-refused code text given e is = inr (inr (inr (record { error = e; is_refusa
 -- ---- where a word lists the locations
 
 -- a word that is refused
-pub says-refused_locations : (code : Code) (text word : List ℕ) (e : Refusal) → (e ≡ BadNumber) × IsNoListOfLocations word → IsCorrectAtAnswer code text word (err (number_of e))
-says-refused_locations code text word e h = inl (h.1, ap (λ (x : Refusal). err (number_of x)) h.0)
+pub says-refused_locations : (code : Code) (text word : List ℕ) (e : Refusal) → (e ≡ BadNumber) × IsNoListOfLocations word → IsCorrectAtAnswer code text word (err (number_of_reply e))
+says-refused_locations code text word e h = inl (h.1, ap (λ (x : Refusal). err (number_of_reply x)) h.0)
 
 -- and one that is read
 pub says-at : (code : Code) (text word few said : List ℕ) → (given : List ℕ) × AreLocations word given × (few ≡ take 4 (with_erasures [] given))

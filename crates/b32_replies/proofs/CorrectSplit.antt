@@ -1,14 +1,10 @@
 -- Lines of `correct`.
 use Rattle.std.specs.List.{list_any}
-use Rattle.std.proofs.Common.{◌≡◌, ℕ, Bool, true, false, cond, List, [], ◌∷◌, refl, ap, ◌∙◌, None, codes}
+use Rattle.std.proofs.Common.{◌≡◌, ℕ, Bool, true, false, cond, List, [], ◌∷◌, refl, ap, ◌∙◌, None}
 use Rattle.line_program.specs.Words.{words, is_empty}
-use Rattle.b32_replies.specs.Request.{correct_arguments, correct_request, request_of, request_of_words}
+use Rattle.b32_replies.specs.Request.{correct_arguments, correct_request}
 use Rattle.line_program.proofs.NoRequest.{or-last}
 use Rattle.line_program.proofs.Split.{words-some}
-
--- such a line asks for what its arguments ask for
-pub correct-line : (line : List ℕ) (arguments : List (List ℕ)) → words line ≡ codes "correct" ∷ arguments → request_of line ≡ correct_arguments arguments
-correct-line line arguments e = ap (λ (all : List (List ℕ)). cond (list_any is_empty all) None (request_of_words all)) e
 
 none_either_way : (b : Bool) (arguments : List (List ℕ)) → correct_request arguments ≡ None → cond b None (correct_request arguments) ≡ None
 none_either_way true arguments e = refl

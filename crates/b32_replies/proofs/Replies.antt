@@ -9,7 +9,7 @@ use Rattle.bech32_hrp.specs.declared.Error.{Error as HrpError}
 use Rattle.bech32_checksum.specs.Encoded.{IsEncodedText}
 use Rattle.bech32_encode.specs.TextLength.{encoded_length_of}
 use Rattle.b32_replies.specs.Hex.{bytes_of}
-use Rattle.b32_replies.specs.Numbers.{number_of}
+use Rattle.b32_replies.specs.Numbers.{number_of_reply}
 use Rattle.b32_replies.specs.declared.refusal.Refusal.{Refusal}
 use Rattle.b32_replies.specs.declared.refusal.Refusal.TheVariants.{BadHex, Encode, Hrp}
 use Rattle.line_program.specs.Refused.{err}
@@ -26,17 +26,17 @@ encode-text code hrp hex bytes text b h is fits =
 
 -- a word in hex that is refused
 pub encode-refused_hex : (code : Code) (hrp hex : List ℕ) (e : Refusal) → (e ≡ BadHex) × (bytes_of hex ≡ None)
-    → IsEncodeAnswer code hrp hex (err (number_of e))
+    → IsEncodeAnswer code hrp hex (err (number_of_reply e))
 encode-refused_hex code hrp hex e b =
-    subst (λ (x : Refusal). IsEncodeAnswer code hrp hex (err (number_of x))) (sym b.0) (rw b.1 refl)
+    subst (λ (x : Refusal). IsEncodeAnswer code hrp hex (err (number_of_reply x))) (sym b.0) (rw b.1 refl)
 
 -- a human-readable part that is refused
 pub encode-refused_part : (code : Code) (hrp hex bytes : List ℕ) (e : HrpError) → bytes_of hex ≡ Some bytes → hrp_refusal hrp ≡ Some e
-    → IsEncodeAnswer code hrp hex (err (number_of (Hrp e)))
+    → IsEncodeAnswer code hrp hex (err (number_of_reply (Hrp e)))
 encode-refused_part code hrp hex bytes e b h = rw (b, h) refl
 
 -- a text that is too long
 pub encode-refused_text : (code : Code) (hrp hex bytes : List ℕ) (e : EncodeError) → bytes_of hex ≡ Some bytes → hrp_refusal hrp ≡ None
     → (code.code_length < encoded_length_of code hrp (to_fes bytes)) × (number_of_encode_error e ≡ 51)
-    → IsEncodeAnswer code hrp hex (err (number_of (Encode e)))
+    → IsEncodeAnswer code hrp hex (err (number_of_reply (Encode e)))
 encode-refused_text code hrp hex bytes e b h long = rw (b, h) (inr (long.0, ap err long.1))

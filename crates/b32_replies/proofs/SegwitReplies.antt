@@ -13,7 +13,7 @@ use Rattle.bech32_segwit.specs.SegwitEncoding.{IsSegwitEncodeRefusal}
 use Rattle.bech32_segwit.specs.declared.error.EncodeError.{EncodeError}
 use Rattle.bech32_checksum.proofs.Uniqueness.{length-encoded}
 use Rattle.b32_replies.specs.Hex.{IsHex, bytes_of, hex_of}
-use Rattle.b32_replies.specs.Numbers.{number_of}
+use Rattle.b32_replies.specs.Numbers.{number_of_reply}
 use Rattle.bech32_numbers.specs.Numbers.{number_of_hrp_error, number_of_segwit_encode_error}
 use Rattle.b32_replies.specs.declared.refusal.Refusal.{Refusal}
 use Rattle.b32_replies.specs.declared.refusal.Refusal.TheVariants.{BadHex, Memory}
@@ -33,11 +33,11 @@ module _ (hrp word hex : List ℕ) where
     pub says-bad_hex : bytes_of hex ≡ None → IsSegwitEncodeAnswer hrp word hex (err 5)
     says-bad_hex none = inr (version, is, inl (rw none refl))
 
-    pub says-refused_hex : (e : Refusal) → ((e ≡ Memory) × IsHex hex) ⊎ ((e ≡ BadHex) × (bytes_of hex ≡ None)) → IsSegwitEncodeAnswer hrp word hex (err (number_of e))
+    pub says-refused_hex : (e : Refusal) → ((e ≡ Memory) × IsHex hex) ⊎ ((e ≡ BadHex) × (bytes_of hex ≡ None)) → IsSegwitEncodeAnswer hrp word hex (err (number_of_reply e))
     says-refused_hex e h =
         ⊎_elim
-        (λ (m : (e ≡ Memory) × IsHex hex). inr (version, is, inr (m.1, ap (λ (x : Refusal). err (number_of x)) m.0)))
-        (λ (b : (e ≡ BadHex) × (bytes_of hex ≡ None)). subst (λ (x : Refusal). IsSegwitEncodeAnswer hrp word hex (err (number_of x))) (sym b.0) (says-bad_hex b.1))
+        (λ (m : (e ≡ Memory) × IsHex hex). inr (version, is, inr (m.1, ap (λ (x : Refusal). err (number_of_reply x)) m.0)))
+        (λ (b : (e ≡ BadHex) × (bytes_of hex ≡ None)). subst (λ (x : Refusal). IsSegwitEncodeAnswer hrp word hex (err (number_of_reply x))) (sym b.0) (says-bad_hex b.1))
         h
 
     module _ (program : List ℕ) (some : bytes_of hex ≡ Some program) where

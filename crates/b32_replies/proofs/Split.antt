@@ -2,16 +2,16 @@
 use Rattle.std.proofs.Common.{◌≡◌, ℕ, List, [], ◌∷◌, refl, None, codes}
 use Rattle.line_program.specs.Words.{words, is_empty}
 use Rattle.line_program.proofs.NoRequest.{asks-none, asks-none-empty, or-last}
-use Rattle.b32_replies.specs.Request.{checksum_of, encode_request, request_of_words, request_of}
+use Rattle.b32_replies.specs.Request.{checksum_of_word, encode_request, request_of_words, request_of}
 
 -- `encode` with no checksum
-no-checksum : (checksum hrp : List ℕ) (more : List (List ℕ)) → checksum_of checksum ≡ None → encode_request (checksum ∷ hrp ∷ more) ≡ None
+no-checksum : (checksum hrp : List ℕ) (more : List (List ℕ)) → checksum_of_word checksum ≡ None → encode_request (checksum ∷ hrp ∷ more) ≡ None
 no-checksum checksum hrp [] e = refl
 no-checksum checksum hrp (hex ∷ []) e = rw e
 no-checksum checksum hrp (hex ∷ x ∷ more) e = refl
 
 -- a line of `encode` with no checksum
-pub encode-no-checksum : (line checksum hrp : List ℕ) (more : List (List ℕ)) → words line ≡ codes "encode" ∷ checksum ∷ hrp ∷ more → checksum_of checksum ≡ None → request_of line ≡ None
+pub encode-no-checksum : (line checksum hrp : List ℕ) (more : List (List ℕ)) → words line ≡ codes "encode" ∷ checksum ∷ hrp ∷ more → checksum_of_word checksum ≡ None → request_of line ≡ None
 encode-no-checksum line checksum hrp more e none = asks-none request_of_words line _ e (no-checksum checksum hrp more none)
 
 -- a line of `encode` with no last word, or an empty one

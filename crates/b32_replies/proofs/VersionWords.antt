@@ -96,10 +96,6 @@ no_second_digit word n first second more is off small e =
 
 -- ---- versions
 
--- what is not a number is not a version
-pub no_version-from_word : (word : List ℕ) → ((n : ℕ) → n < 100 → word ≢ decimal n) → IsNoVersion word
-no_version-from_word word none version e = let fits : version.value < 32 = version.in_field in none version.value (omega arith) e
-
 -- nor is a number above 31
 pub no_version-from_number : (word : List ℕ) (n : ℕ) → n < 100 → word ≡ decimal n → 31 < n → IsNoVersion word
 no_version-from_number word n small is over version e =

@@ -11,13 +11,13 @@ use Rattle.b32_replies.specs.declared.refusal.Refusal.TheVariants.{Encode, Decod
 use Rattle.b32_replies.specs.declared.refusal.Refusal.TheVariants.{SegwitDecode, Correct, Memory}
 
 -- of any refusal
-abbrev pub number_of : Refusal → ℕ
-number_of BadNumber = 4
-number_of BadHex = 5
-number_of (Hrp e) = number_of_hrp_error e
-number_of (Encode e) = number_of_encode_error e
-number_of (Decode e) = number_of_decode_error e
-number_of (SegwitEncode e) = number_of_segwit_encode_error e
-number_of (SegwitDecode e) = number_of_segwit_decode_error e
-number_of (Correct e) = number_of_checked_error e
-number_of Memory = 91
+abbrev pub number_of_reply : Refusal → ℕ
+number_of_reply BadNumber = 4
+number_of_reply BadHex = 5
+number_of_reply (Hrp e) = number_of_hrp_error e
+number_of_reply (Encode e) = number_of_encode_error e
+number_of_reply (Decode e) = number_of_decode_error e
+number_of_reply (SegwitEncode e) = number_of_segwit_encode_error e
+number_of_reply (SegwitDecode e) = number_of_segwit_decode_error e
+number_of_reply (Correct e) = number_of_checked_error e
+number_of_reply Memory = 91

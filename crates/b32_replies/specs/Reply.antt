@@ -12,10 +12,9 @@ use Rattle.bech32_checksum.specs.Roots.{singleton_bound}
 use Rattle.bech32_correction.specs.Mistyped.{HasNoListing, IsListingOf, IsMendedText, IsRefusal}
 use Rattle.bech32_encode.specs.TextLength.{encoded_length_of}
 use Rattle.bech32.specs.Refusals.{IsDecodeRefusal}
-use Rattle.bech32_decode.specs.Segwit.{IsLowerAddress, IsAddress, IsAddressText, IsSegwitRefusal}
+use Rattle.bech32_decode.specs.Segwit.{IsLowerAddress, IsAddress}
+use Rattle.bech32_segwit.specs.SegwitDecoding.{IsSegwitDecodeRefusal}
 use Rattle.bech32_segwit.specs.SegwitEncoding.{IsSegwitEncodeRefusal}
-use Rattle.bech32_refusals.specs.declared.error.SegwitHrpstringError.TheVariants.{Memory}
-use Rattle.bech32_segwit.specs.declared.error.DecodeError.{DecodeError as SegwitDecodeError}
 use Rattle.line_program.specs.Refused.{SaysRefusal, err}
 use Rattle.line_program.specs.Reply.{IsReplyBy}
 use Rattle.b32_replies.specs.Hex.{AreBytes, IsHex, bytes_of, hex_of}
@@ -103,11 +102,6 @@ pub record SaysProgram (text said : List ℕ) : Type 0 where
   pub is_address : IsAddress hrp version program text
   pub spelling :
       said ≡ codes "ok " ++ (lowered hrp ++ (32 ∷ (decimal version.value ++ (32 ∷ hex_of program))))
-
--- why a text is not an address, or that memory ran out for one
-abbrev pub IsSegwitDecodeRefusal : List ℕ → SegwitDecodeError → Type 0
-IsSegwitDecodeRefusal text error =
-    IsSegwitRefusal text error.0 ⊎ ((error.0 ≡ Memory) × IsAddressText text)
 
 -- the answer to `segwit-decode`
 abbrev pub IsSegwitDecodeAnswer : List ℕ → List ℕ → Type 0

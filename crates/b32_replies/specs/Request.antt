@@ -27,8 +27,8 @@ pub data Request : Type 0 where
   CorrectAt : (checksum : ChecksumName) (text locations : List ℕ) → Request
 
 -- the checksum of a word
-abbrev pub checksum_of : List ℕ → Option ChecksumName
-checksum_of word =
+abbrev pub checksum_of_word : List ℕ → Option ChecksumName
+checksum_of_word word =
     if bytes_eq word (codes "bech32") then Some Bech32
     else (if bytes_eq word (codes "bech32m") then Some Bech32m else None)
 
@@ -44,7 +44,7 @@ encode_under (Some checksum) hrp hex = Some (Encode checksum hrp hex)
 
 -- `encode CHECKSUM HRP HEX`
 abbrev pub encode_request : List (List ℕ) → Option Request
-encode_request (checksum ∷ hrp ∷ hex ∷ []) = encode_under (checksum_of checksum) hrp hex
+encode_request (checksum ∷ hrp ∷ hex ∷ []) = encode_under (checksum_of_word checksum) hrp hex
 encode_request _ = None
 
 -- `decode TEXT`
@@ -74,9 +74,9 @@ correct_at_under (Some checksum) text locations = Some (CorrectAt checksum text 
 
 -- `correct CHECKSUM TEXT` and `correct CHECKSUM TEXT LOCATIONS`
 abbrev pub correct_request : List (List ℕ) → Option Request
-correct_request (checksum ∷ text ∷ []) = correct_under (checksum_of checksum) text
+correct_request (checksum ∷ text ∷ []) = correct_under (checksum_of_word checksum) text
 correct_request (checksum ∷ text ∷ locations ∷ []) =
-    correct_at_under (checksum_of checksum) text locations
+    correct_at_under (checksum_of_word checksum) text locations
 correct_request _ = None
 
 -- what the words behind `correct` ask for, of which none is empty

@@ -2,7 +2,7 @@
 
 ghost use Rattle.std.specs.Prelude.{◌≡◌, MatchOption, Some, None};
 ghost use Rattle.line_program.specs.Words.{words};
-ghost use Rattle.b32_replies.specs.Request.{checksum_of, correct_arguments, request_of, request_of_command};
+ghost use Rattle.b32_replies.specs.Request.{checksum_of_word, correct_arguments, request_of, request_of_command};
 
 use line_program::{first_word, only_word};
 
@@ -53,7 +53,7 @@ pub enum Command<'a> {
 
 /// The checksum of this name.
 fn checksum_named(word: &str) -> Option<ChecksumName>
-    ensures { result ≡ checksum_of word.now }
+    ensures { result ≡ checksum_of_word word.now }
 {
     match word {
         "bech32" => Some(ChecksumName::Bech32),

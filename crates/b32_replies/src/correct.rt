@@ -9,8 +9,8 @@ ghost use Rattle.bech32_hrp.specs.Hrp.{lowered};
 ghost use Rattle.bech32_checksum.specs.Encoded.{char_of_element};
 ghost use Rattle.bech32_checksum.specs.Roots.{singleton_bound};
 ghost use Rattle.bech32_correction.specs.MendedElements.{EndsIn, mended};
-ghost use Rattle.bech32_correction.specs.Mistyped.{IsListing, IsRefusal};
-ghost use Rattle.b32_replies.specs.Numbers.{number_of};
+ghost use Rattle.bech32_correction.specs.Mistyped.{IsListedInPlace, IsRefusal};
+ghost use Rattle.b32_replies.specs.Numbers.{number_of_reply};
 ghost use Rattle.line_program.specs.Added.{AddsOrRefuses};
 ghost use Rattle.b32_replies.specs.Reply.{listed, IsCorrectAnswer};
 ghost use Rattle.b32_replies.specs.Request.{code_of_name};
@@ -30,8 +30,8 @@ fn correction(
     given: &[usize],
 ) -> Result<Correction<Listing<NoMemory>>, CheckedHrpstringError>
     ensures { MatchResult result
-        (λ answer.
-        IsListing (code_of_name checksum) (singleton_bound 24 26) text.now given.now answer)
+        (λ answer. IsListedInPlace (code_of_name checksum) (singleton_bound 24 26)
+        text.now given.now answer)
         (λ e. IsRefusal (code_of_name checksum) text.now e) }
 {
     match checksum {
@@ -82,7 +82,7 @@ pub fn correct(
 ) -> Result<(), Refusal>
     requires { vec_len out.old + 2047 ≤ vec_capacity out.old }
     ensures answer { AddsOrRefuses (IsCorrectAnswer (code_of_name checksum) text.now given.now)
-        number_of result out.old.items out.new.items }
+        number_of_reply result out.old.items out.new.items }
     ensures capacity { vec_capacity out.old ≤ vec_capacity out.new }
 {
     match correction(checksum, text, given)? {

@@ -1,7 +1,7 @@
 //! Answers `decode`.
 
 ghost use Rattle.std.specs.Prelude.{◌+◌, ◌≤◌, vec_len, vec_capacity};
-ghost use Rattle.b32_replies.specs.Numbers.{number_of};
+ghost use Rattle.b32_replies.specs.Numbers.{number_of_reply};
 ghost use Rattle.line_program.specs.Added.{AddsOrRefuses};
 ghost use Rattle.b32_replies.specs.Reply.{IsDecodeAnswer};
 
@@ -15,7 +15,7 @@ use std::alloc::Allocator;
 /// Adds the human-readable part and the bytes of a text, or leaves all as it was.
 pub fn decode<A: Allocator + Copy>(alloc: A, text: &str, out: &mut Vec<u8>) -> Result<(), Refusal>
     requires { vec_len out.old + 2047 ≤ vec_capacity out.old }
-    ensures answer { AddsOrRefuses (IsDecodeAnswer text.now) number_of result
+    ensures answer { AddsOrRefuses (IsDecodeAnswer text.now) number_of_reply result
         out.old.items out.new.items }
     ensures capacity { vec_capacity out.old ≤ vec_capacity out.new }
 {

@@ -6,7 +6,7 @@ ghost use Rattle.bech32_checksum.specs.Encoded.{IsEncodedText};
 ghost use Rattle.bech32_encode.specs.TextLength.{encoded_length_of};
 ghost use Rattle.bech32_hrp.specs.HrpBytes.{hrp_bytes};
 ghost use Rattle.bech32_numbers.specs.Numbers.{number_of_encode_error};
-ghost use Rattle.b32_replies.specs.Numbers.{number_of};
+ghost use Rattle.b32_replies.specs.Numbers.{number_of_reply};
 ghost use Rattle.line_program.specs.Added.{AddsOrRefuses};
 ghost use Rattle.b32_replies.specs.Reply.{IsEncodeAnswer};
 
@@ -41,7 +41,7 @@ fn length_of<Ck: Checksum>(hrp: &Hrp, size: usize) -> Result<usize, EncodeError>
 }
 
 /// Puts the text of bytes into a buffer that has just its length.
-fn put_text<Ck: Checksum>(hrp: &Hrp, bytes: &[u8], buffer: &mut [u8])
+fn put_whole_text<Ck: Checksum>(hrp: &Hrp, bytes: &[u8], buffer: &mut [u8])
     requires size { length buffer.old
         ≡ encoded_length_of Ck.code (hrp_bytes hrp.now) (to_fes bytes.now) }
     requires short { length buffer.old ≤ 1023 }
@@ -64,14 +64,14 @@ fn append_text<Ck: Checksum>(out: &mut Vec<u8>, hrp: &Hrp, bytes: &[u8], count: 
     let Ok(()) = out.resize(front + count, 0) else {
         unreachable!()
     };
-    put_text::<Ck>(hrp, bytes, &mut out.as_mut_slice()[front..]);
+    put_whole_text::<Ck>(hrp, bytes, &mut out.as_mut_slice()[front..]);
 }
 
 /// Adds the text of bytes under a human-readable part, or leaves all as it was.
 pub fn encode<Ck: Checksum>(hrp: &str, hex: &str, out: &mut Vec<u8>) -> Result<(), Refusal>
     requires short { Ck.code.code_length ≤ 1023 }
     requires room { vec_len out.old + 2047 ≤ vec_capacity out.old }
-    ensures answer { AddsOrRefuses (IsEncodeAnswer Ck.code hrp.now hex.now) number_of result
+    ensures answer { AddsOrRefuses (IsEncodeAnswer Ck.code hrp.now hex.now) number_of_reply result
         out.old.items out.new.items }
     ensures capacity { vec_capacity out.old ≤ vec_capacity out.new }
 {

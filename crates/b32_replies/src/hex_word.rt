@@ -79,8 +79,8 @@ fn is_digit(byte: u8) -> bool
     number | upper | lower
 }
 
-/// Whether all are hex digits. All are tested, whatever they are: a branch at each would go the wrong
-/// way where digits and letters take turns at random.
+/// Whether all are hex digits. All are tested, whatever they are: a branch at each would go the
+/// wrong way where digits and letters take turns at random.
 fn are_digits(word: &[u8]) -> bool
     ensures { result ≡ list_all is_ascii_hexdigit word.now }
 {

@@ -1,4 +1,7 @@
 //! The replies of the program `b32` to the lines of its input.
+//!
+//! Below it: `bech32`, `bech32_numbers`, `line_program`.
+//! Standard: BIP-173; BIP-350.
 #![tactic(auto)]
 
 mod append;

@@ -1,7 +1,7 @@
 //! Why a command is refused, and the numbers of refusals.
 
 ghost use Rattle.std.specs.Prelude.{◌≡◌, ◌<◌};
-ghost use Rattle.b32_replies.specs.Numbers.{number_of};
+ghost use Rattle.b32_replies.specs.Numbers.{number_of_reply};
 
 use bech32::primitives::decode::CheckedHrpstringError;
 use bech32::primitives::hrp;
@@ -38,7 +38,7 @@ pub enum Refusal {
 impl Refusal {
     /// The number of the innermost refusal.
     pub fn number(self) -> u8
-        ensures value { result ≡ number_of self }
+        ensures value { result ≡ number_of_reply self }
         ensures small { result < 100 }
     {
         match self {

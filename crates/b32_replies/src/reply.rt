@@ -2,7 +2,7 @@
 
 ghost use Rattle.std.specs.Prelude.{◌≡◌, ℕ, ◌+◌, ◌≤◌, List, [], ◌∷◌, ◌++◌};
 ghost use Rattle.std.specs.Prelude.{vec_len, vec_capacity};
-ghost use Rattle.b32_replies.specs.Numbers.{number_of};
+ghost use Rattle.b32_replies.specs.Numbers.{number_of_reply};
 ghost use Rattle.b32_replies.specs.Request.{Request, request_of, request_of_command};
 ghost use Rattle.line_program.specs.Added.{AddsOrRefuses};
 ghost use Rattle.b32_replies.specs.Reply.{IsAnswer, IsReply};
@@ -26,8 +26,8 @@ fn execute_command<A: Allocator + Copy>(
     out: &mut Vec<u8>,
 ) -> Result<(), Refusal>
     requires { vec_len out.old + 2047 ≤ vec_capacity out.old }
-    ensures answer { AddsOrRefuses (IsAnswer (request_of_command command.entry)) number_of result
-        out.old.items out.new.items }
+    ensures answer { AddsOrRefuses (IsAnswer (request_of_command command.entry)) number_of_reply
+        result out.old.items out.new.items }
     ensures capacity { vec_capacity out.old ≤ vec_capacity out.new }
 {
     match command {
@@ -74,8 +74,8 @@ impl<A: Allocator + Copy> Execute for Commands<A> {
     }
 }
 
-/// Adds the reply to a line, and a newline. The line has no newline of its own. Memory for the reply
-/// comes from `alloc`; where there is none, the reply is `err 91`.
+/// Adds the reply to a line, and a newline. The line has no newline of its own. Memory for the
+/// reply comes from `alloc`; where there is none, the reply is `err 91`.
 pub fn reply<A: Allocator + Copy>(alloc: A, line: &[u8], out: &mut Vec<u8>)
     requires { vec_len out.old + 2048 ≤ vec_capacity out.old }
     ensures reply { (said : List ℕ) × IsReply line.now said

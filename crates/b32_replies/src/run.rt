@@ -10,9 +10,9 @@ use bech32::primitives::device::{ByteSink, ByteSource};
 use std::alloc::Global;
 use std::io;
 
-/// Answers each line of a source, as [`line_program::run_on`] does: writes its reply and a newline. It
-/// makes its buffers first, writes the replies to all lines that have ended before each further read,
-/// and flushes the sink once, at its end, unless writing failed.
+/// Answers each line of a source, as [`line_program::run_on`] does: writes its reply and a newline.
+/// It makes its buffers first, writes the replies to all lines that have ended before each further
+/// read, and flushes the sink once, at its end, unless writing failed.
 ///
 /// # Errors
 ///

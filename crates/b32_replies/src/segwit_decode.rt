@@ -1,7 +1,7 @@
 //! Answers `segwit-decode`.
 
 ghost use Rattle.std.specs.Prelude.{◌+◌, ◌≤◌, vec_len, vec_capacity};
-ghost use Rattle.b32_replies.specs.Numbers.{number_of};
+ghost use Rattle.b32_replies.specs.Numbers.{number_of_reply};
 ghost use Rattle.line_program.specs.Added.{AddsOrRefuses};
 ghost use Rattle.b32_replies.specs.Reply.{IsSegwitDecodeAnswer};
 
@@ -20,7 +20,7 @@ pub fn segwit_decode<A: Allocator + Copy>(
     out: &mut Vec<u8>,
 ) -> Result<(), Refusal>
     requires { vec_len out.old + 2047 ≤ vec_capacity out.old }
-    ensures answer { AddsOrRefuses (IsSegwitDecodeAnswer text.now) number_of result
+    ensures answer { AddsOrRefuses (IsSegwitDecodeAnswer text.now) number_of_reply result
         out.old.items out.new.items }
     ensures capacity { vec_capacity out.old ≤ vec_capacity out.new }
 {

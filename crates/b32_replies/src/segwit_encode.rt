@@ -1,7 +1,7 @@
 //! Answers `segwit-encode`.
 
 ghost use Rattle.std.specs.Prelude.{◌+◌, ◌≤◌, vec_len, vec_capacity};
-ghost use Rattle.b32_replies.specs.Numbers.{number_of};
+ghost use Rattle.b32_replies.specs.Numbers.{number_of_reply};
 ghost use Rattle.line_program.specs.Added.{AddsOrRefuses};
 ghost use Rattle.b32_replies.specs.Reply.{IsSegwitEncodeAnswer};
 
@@ -22,7 +22,7 @@ pub fn segwit_encode<A: Allocator + Copy>(
 ) -> Result<(), Refusal>
     requires { vec_len out.old + 2047 ≤ vec_capacity out.old }
     ensures answer { AddsOrRefuses (IsSegwitEncodeAnswer hrp.now version.now hex.now)
-        number_of result out.old.items out.new.items }
+        number_of_reply result out.old.items out.new.items }
     ensures capacity { vec_capacity out.old ≤ vec_capacity out.new }
 {
     let Some(version) = version_of_word(version) else {

@@ -1,4 +1,7 @@
-//! Encoding and decoding of bech32 texts (BIP-173 and BIP-350).
+//! Encoding and decoding of bech32 texts.
+//!
+//! Below it: all that it exports: `bech32_core`, `bech32_near`, `bech32_segwit`, `bech32_block`.
+//! Standard: BIP-173; BIP-350.
 #![tactic(auto)]
 
 ghost use Rattle.std.specs.Prelude.{◌≡◌, ◌<◌, ◌≤◌, MatchResult, IfOk, IfErr, IsOk, IsOkUnless, string_bytes, true};
@@ -81,8 +84,8 @@ fn decoded_in<A: Allocator>(alloc: A, s: &str) -> Result<(Hrp, Vec<u8, A>), Deco
 /// Decodes a text that Bech32m or Bech32 accepts: its human-readable part, in the case of the text,
 /// and the bytes of its data, with memory from `alloc`.
 ///
-/// Bits behind the last whole byte are dropped and not tested. Of a text that [`encode_in`] writes by
-/// Bech32m or Bech32 it gives the human-readable part, in lower case, and the bytes.
+/// Bits behind the last whole byte are dropped and not tested. Of a text that [`encode_in`] writes
+/// by Bech32m or Bech32 it gives the human-readable part, in lower case, and the bytes.
 ///
 /// # Errors
 ///
@@ -98,6 +101,10 @@ pub fn decode_in<A: Allocator>(alloc: A, s: &str) -> Result<(Hrp, Vec<u8, A>), D
 }
 
 /// Decodes as [`decode_in`] does, with memory of the global allocator.
+///
+/// # Errors
+///
+/// Those of [`decode_in`].
 pub fn decode(alloc: Global, s: &str) -> Result<(Hrp, Vec<u8>), DecodeError>
     ensures value { IfOk result (λ d. IsDecoded s.now (hrp_bytes d.0) d.1.items) }
     ensures accepts { IsAcceptedByEither s.now → IsOkUnless result DecodeError.Memory }
@@ -127,6 +134,10 @@ pub fn encoded_length<Ck: Checksum>(hrp: Hrp, data: &[u8]) -> Result<usize, Code
 }
 
 /// The same of the bytes of a human-readable part.
+///
+/// # Errors
+///
+/// That of [`encoded_length`].
 #[inline]
 pub fn encoded_length_of_part<Ck: Checksum>(
     part: &[u8],
@@ -173,6 +184,10 @@ pub fn encode_in<Ck: Checksum, A: Allocator>(
 }
 
 /// Encodes as [`encode_in`] does, with memory of the global allocator.
+///
+/// # Errors
+///
+/// Those of [`encode_in`].
 pub fn encode<Ck: Checksum>(alloc: Global, hrp: Hrp, data: &[u8]) -> Result<String, EncodeError>
     ensures text { IfOk result
         (λ s. IsEncodedText Ck.code (hrp_bytes hrp) (to_fes «data».now) (string_bytes s)) }
@@ -185,6 +200,10 @@ pub fn encode<Ck: Checksum>(alloc: Global, hrp: Hrp, data: &[u8]) -> Result<Stri
 }
 
 /// Encodes as [`encode_in`] does: in lower case.
+///
+/// # Errors
+///
+/// Those of [`encode_in`].
 pub fn encode_lower_in<Ck: Checksum, A: Allocator>(
     alloc: A,
     hrp: Hrp,
@@ -201,6 +220,10 @@ pub fn encode_lower_in<Ck: Checksum, A: Allocator>(
 }
 
 /// Encodes as [`encode_lower_in`] does, with memory of the global allocator.
+///
+/// # Errors
+///
+/// Those of [`encode_in`].
 pub fn encode_lower<Ck: Checksum>(
     alloc: Global,
     hrp: Hrp,
@@ -240,6 +263,10 @@ pub fn encode_upper_in<Ck: Checksum, A: Allocator>(
 }
 
 /// Encodes as [`encode_upper_in`] does, with memory of the global allocator.
+///
+/// # Errors
+///
+/// Those of [`encode_in`].
 pub fn encode_upper<Ck: Checksum>(
     alloc: Global,
     hrp: Hrp,

@@ -105,6 +105,10 @@ pub fn encode_lower_to_fmt<Ck: Checksum, W: fmt::Write>(
 }
 
 /// Encodes as [`encode_lower_to_fmt`] does.
+///
+/// # Errors
+///
+/// Those of [`encode_lower_to_fmt`].
 pub fn encode_to_fmt<Ck: Checksum, W: fmt::Write>(
     fmt: &mut W,
     hrp: Hrp,
@@ -169,6 +173,10 @@ pub fn encode_lower_to_writer<Ck: Checksum, W: io::Write>(
 }
 
 /// Encodes as [`encode_lower_to_writer`] does.
+///
+/// # Errors
+///
+/// Those of [`encode_lower_to_writer`].
 pub fn encode_to_writer<Ck: Checksum, W: io::Write>(
     w: &mut W,
     hrp: Hrp,

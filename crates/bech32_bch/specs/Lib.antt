@@ -1,3 +1,4 @@
+pub mod Detection
 pub mod Distance
 pub mod Erasures
 pub mod Knock

@@ -1,4 +1,4 @@
-//! The one listing that may explain a residue, over any field and an extension of it.
+//! The one listing that may explain an error residue, over any field and an extension of it.
 
 ghost use Rattle.std.specs.Prelude.{◌≡◌, ◌≢◌, ◌≤◌, ◌+◌, ◌++◌, ℕ, List, length, drop, map, IfOk, IfSome, IsOk, MatchOption};
 ghost use Rattle.std.specs.List.{AllByRecursion};
@@ -105,7 +105,8 @@ fn candidate_of<E: Extension, A: Allocator + Copy>(
 
 /// The listing that alone can be that of a pattern that solves: the erasures and the errors outside
 /// them, each with its value. Whoever calls has to divide once more: where the listed pattern does
-/// not have the residue as remainder, no pattern solves. `known` are the locators of the erasures.
+/// not have the error residue as remainder, no pattern solves. `known` are the locators of the
+/// erasures.
 ///
 /// # Errors
 ///

@@ -1,5 +1,8 @@
-//! Correction over any field and an extension of it: where the errors of a residue may be, and their
-//! values.
+//! Correction over any field and an extension of it: where the errors that leave a residue may be,
+//! and their values.
+//!
+//! Below it: `bech32_poly`.
+//! Standard: BIP-173, Checksum design.
 #![tactic(auto)]
 
 mod decoder;

@@ -220,10 +220,10 @@ fn register_without<K: Arithmetic, A: Allocator + Copy>(
     shortest_register(alloc, &left.as_slice()[..room])
 }
 
-/// The locations of the errors outside the erasures, for syndromes that are the sums of powers of
-/// a pattern with so few of them that twice their number and the erasures are no more than the
-/// syndromes; none where it is known already that there is no such pattern. `known` are the locators
-/// of the erasures.
+/// The locations of the errors outside the erasures, for syndromes that are the sums of powers of a
+/// pattern with so few of them that twice their number and the erasures are no more than the
+/// syndromes; none where it is known already that there is no such pattern. `known` are the
+/// locators of the erasures.
 pub(crate) fn error_locations<K: Arithmetic, A: Allocator + Copy>(
     alloc: A,
     syndromes: &FieldVec<K, A>,

@@ -1,4 +1,4 @@
-//! Syndromes: the values of a residue at the roots of the generator.
+//! Syndromes: the values of an error residue at the roots of the generator.
 
 ghost use Rattle.std.specs.Prelude.{◌≡◌, length, IfOk, IsOk};
 ghost use Rattle.bech32_bch.specs.Search.{AreSyndromes};
@@ -8,7 +8,7 @@ use bech32_poly::arithmetic::{Arithmetic, Extension, embedded_value};
 use bech32_poly::fieldvec::FieldVec;
 use std::alloc::{AllocError, Allocator};
 
-/// The values of the residue at `count` powers of the base, from the exponent `start` on.
+/// The values of the error residue at `count` powers of the base, from the exponent `start` on.
 pub(crate) fn syndromes<E: Extension, A: Allocator + Copy>(
     alloc: A,
     residue: &[E::Base],

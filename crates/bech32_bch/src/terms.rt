@@ -12,6 +12,10 @@ use bech32_poly::fieldvec::FieldVec;
 use std::alloc::{AllocError, Allocator};
 
 /// The locators of locations: the powers of the base by them.
+///
+/// # Errors
+///
+/// Out of memory, for more locators than stand in place.
 pub fn locators_of<K: Arithmetic, A: Allocator + Copy>(
     alloc: A,
     base: K,

@@ -6,7 +6,7 @@ use Rattle.std.specs.Iterator.Runs.{SomeRun, EachRunFrom}
 use Rattle.std.proofs.iter.runs.Made.{run, took}
 use Rattle.std.specs.Iterator.Adapters.{fuse_source, fuse_done, fuse_steps}
 use Rattle.std.specs.declared.iter.Fuse.{Fuse}
-use Rattle.bech32_bits.specs.Adaptor.{PullsUntilEnd, Adapts, IsExact, IsExactFused, fuse_left, then_gives}
+use Rattle.bech32_bits.specs.Adaptor.{PullsUntilEnd, Adapts, IsExact, IsExactFused, fuse_left}
 use Rattle.bech32_bits.specs.Walks.{EachWalkGives, EachRunGives}
 
 -- what holds anyhow holds where there is no item
@@ -133,17 +133,6 @@ module _ {S A U B : Type 0} (steps : S → Option A → S → Type 0) (source : 
   walk_length left count s ys each exact d =
       let (xs, t, took, is) = walk_from s ys d in
       ap length is ∙ each xs ∙ ap count (pulled-length steps left (fuse_done (source s)) (fuse_source (source s)) xs t took exact)
-
-nothing_from_none : {B : Type 0} → (r : Option B) (ys : List B) → [] ≡ then_gives r ys → r ≡ None
-nothing_from_none None ys e = refl
-nothing_from_none (Some y) ys e = absurd cc
-
--- after `None` comes `None`: the source has ended, and is not asked
-pub none_again : {S A U B : Type 0} (steps : S → Option A → S → Type 0) (source : U → Fuse S) (gives : U → List A → List B) (s t u : U) (r : Option B)
-    → Adapts steps source gives s None t → Adapts steps source gives t r u → r ≡ None
-none_again steps source gives s t u r a b =
-    let z = until_ended steps (fuse_done (source t)) (fuse_done (source u)) (fuse_source (source t)) (fuse_source (source u)) b.taken b.pulled a.ended in
-    nothing_from_none r (gives u []) (sym a.nothing_left ∙ ap (gives t) (sym (append-nil b.taken ∙ z.0)) ∙ b.gave [] (λ _. refl))
 
 until_drains_if : {S A : Type 0} (steps : S → Option A → S → Type 0) (a b : Bool) (s t : S) (xs : List A) → PullsUntilEnd steps a s xs b t → a ≡ false → DrainsIf steps (b ≡ true) s xs
 until_drains_if steps true b s t xs h e = absurd (true≢false e)

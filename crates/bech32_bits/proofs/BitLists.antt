@@ -149,12 +149,6 @@ few-bits (suc (suc (suc (suc (suc (suc zero)))))) h l = refl
 few-bits (suc (suc (suc (suc (suc (suc (suc zero))))))) h l = refl
 few-bits (suc (suc (suc (suc (suc (suc (suc (suc c)))))))) h l = absurd (omega arith)
 
-pub short-none : (c h : ℕ) (rest : List Fe32) → c < 8 → rest ≡ [] → cut_in_eights (bits c h ++ fe_bits rest) ≡ []
-short-none c h rest l z = ap (λ (l : List Fe32). cut_in_eights (bits c h ++ fe_bits l)) z ∙ few-bits c h l
-
-pub short-one : (c h f : ℕ) (rest : List Fe32) → c < 3 → f < 32 → rest ≡ [] → cut_in_eights (bits c h ++ (bits 5 f ++ fe_bits rest)) ≡ []
-short-one c h f rest l k z = ap cut_in_eights (join-five c h f (fe_bits rest) k) ∙ short-none (c + 5) (h * 32 + f) rest (omega arith) z
-
 pub both-true : (a b : Bool) → a && b ≡ true → (a ≡ true) × (b ≡ true)
 both-true true b e = (refl, e)
 both-true false b e = absurd cc

@@ -6,7 +6,7 @@ use Rattle.std.specs.Int.{bit_at}
 use Rattle.std.proofs.lemmas.Bool.{ltb-true, lt-ltb}
 use Rattle.bech32_gf.specs.declared.gf32.Fe32.{Fe32}
 use Rattle.bech32_bits.specs.Bits.{bits, byte_bits, fe_bits, cut_in_fives, cut_in_eights, to_fes, to_bytes, fes_count, bytes_count}
-use Rattle.bech32_bits.proofs.BitLists.{cut-eight, both-true, AreBits, AreBits-byte_bits, AreBits-fe_bits, byte_of_bits}
+use Rattle.bech32_bits.proofs.BitLists.{cut-eight, both-true, AreBits, AreBits-byte_bits}
 
 -- ---- there and back
 
@@ -133,22 +133,6 @@ length-eights k n fes =
     length-cut_in_eights (bits k n ++ fe_bits fes) ∙ simp length-append (omega arith)
 
 -- ---- what is given is a byte
-
-cut_in_eights-below : (bs : List ℕ) → AreBits bs → list_all (λ b. nat_lt b 256) (cut_in_eights bs) ≡ true
-cut_in_eights-below [] _ = refl
-cut_in_eights-below (a ∷ []) _ = refl
-cut_in_eights-below (a ∷ b ∷ []) _ = refl
-cut_in_eights-below (a ∷ b ∷ c ∷ []) _ = refl
-cut_in_eights-below (a ∷ b ∷ c ∷ d ∷ []) _ = refl
-cut_in_eights-below (a ∷ b ∷ c ∷ d ∷ e ∷ []) _ = refl
-cut_in_eights-below (a ∷ b ∷ c ∷ d ∷ e ∷ f ∷ []) _ = refl
-cut_in_eights-below (a ∷ b ∷ c ∷ d ∷ e ∷ f ∷ g ∷ []) _ = refl
-cut_in_eights-below (a ∷ b ∷ c ∷ d ∷ e ∷ f ∷ g ∷ h ∷ rest) i =
-    ap (λ (t : Bool). t && list_all (λ b. nat_lt b 256) (cut_in_eights rest)) (lt-ltb _ 256 (byte_of_bits a b c d e f g h rest i))
-    ∙ cut_in_eights-below rest i.1.1.1.1.1.1.1.1
-
-pub to_bytes-below : (fes : List Fe32) → list_all (λ b. nat_lt b 256) (to_bytes fes) ≡ true
-to_bytes-below fes = cut_in_eights-below (fe_bits fes) (AreBits-fe_bits fes)
 
 -- the elements of a slice are bytes
 pub bytes-below : (bytes : List ℕ) → ((i : ℕ) → Fits w8 (get_or bytes i 0)) → list_all (λ b. nat_lt b 256) bytes ≡ true

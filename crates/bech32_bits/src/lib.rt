@@ -1,5 +1,7 @@
-//! Iterators that regroup bits: bytes as elements, and elements as bytes (BIP-173, Segwit address
-//! format).
+//! Iterators that regroup bits: bytes as elements, and elements as bytes.
+//!
+//! Below it: `bech32_gf`.
+//! Standard: BIP-173, Segwit address format.
 #![tactic(auto)]
 
 ghost use Rattle.std.specs.Prelude.{true, false, None, nat_lt, min, length, List, option_to_list, IfSome, SomeIff, ◌≡◌, ℕ, ◌+◌, ◌-◌, ◌*◌, ◌/◌, ◌%◌, ◌^◌, ◌<◌, ◌≤◌};

@@ -23,12 +23,6 @@ next_power n d k = mod-add-mod (k * d) n d ∙ ap (λ x. x % n) sum
     sum : k * d + d ≡ (k + 1) * d
     sum = grind arith
 
-pub tried_start : (n d wanted : ℕ) → 0 < n → Tried n d wanted 0 0
-tried_start n d wanted lo = record { stands = nothing; none = λ j l. absurd (omega arith) }
-  where
-    nothing : 0 ≡ (0 * d) % n
-    nothing = let e : 0 * d ≡ 0 = grind arith in omega arith
-
 pub tried_more : (n d wanted k at at' : ℕ) → Tried n d wanted k at → at ≢ wanted → at' ≡ (at + d) % n → Tried n d wanted (k + 1) at'
 tried_more n d wanted k at at' t differ e = record {
   stands = e ∙ ap (λ x. (x + d) % n) t.stands ∙ next_power n d k;
@@ -44,12 +38,6 @@ found n d wanted k at t e = record { gives = sym t.stands ∙ e; least = t.none 
 -- n powers are all
 pub never : (n d wanted k at : ℕ) → 0 < n → n ≤ k → Tried n d wanted k at → (m : ℕ) → (m * d) % n ≢ wanted
 never n d wanted k at lo all t m e = let below : m % n < n = omega arith in t.none (m % n) (omega arith) (mul-mod_first m d n ∙ e)
-
-pub stepped_start : (n d : ℕ) → 0 < n → Stepped n d 1 0
-stepped_start n d lo = record { stands = nothing; none = λ j l u. absurd (omega arith) }
-  where
-    nothing : 0 ≡ ((1 - 1) * d) % n
-    nothing = let e : (1 - 1) * d ≡ 0 = grind arith in omega arith
 
 stepped_at : (n d k at at' : ℕ) → Stepped n d k at → 0 < k → at' ≡ (at + d) % n → at' ≡ (k * d) % n
 stepped_at n d k at at' s lo e = let up : k - 1 + 1 ≡ k = omega arith in e ∙ ap (λ x. (x + d) % n) s.stands ∙ next_power n d (k - 1) ∙ ap (λ m. (m * d) % n) up
@@ -78,20 +66,3 @@ whole n d k at lo same s = record {
   where
     comes : (m : ℕ) → (m * d) % m ≡ 0
     comes m = mul-mod_right m d
-
--- the least power is below the period
-pub below_period : (n d a k o : ℕ) → 0 < n → IsLeastPower n d a k → IsPeriod n d o → k < o
-below_period n d a k o lo l p = elim (dec_lt k o) [
-  | yes q ↦ q
-  | no q ↦
-      let rest : ℕ = k - o in
-      let parts : k ≡ o + rest = omega arith in
-      let less : rest < k = omega (arith, p.positive) in
-      absurd (l.least rest less (sym (less_whole rest) ∙ ap (λ m. (m * d) % n) (sym parts) ∙ l.gives))
-]
-  where
-    less_whole : (r : ℕ) → ((o + r) * d) % n ≡ (r * d) % n
-    less_whole r =
-        let sum : (o + r) * d ≡ o * d + r * d = grind arith in
-        let none : 0 + r * d ≡ r * d = omega arith in
-        ap (λ x. x % n) sum ∙ sym (mod-add-mod (o * d) n (r * d)) ∙ ap (λ x. (x + r * d) % n) p.returns ∙ ap (λ x. x % n) none

@@ -16,7 +16,7 @@ use Rattle.bech32_poly.proofs.Roots.{root_bound}
 use Rattle.bech32_poly.proofs.Zero.{power_distinct, power_not_zero}
 use Rattle.bech32_checksum.specs.Code.{Code}
 use Rattle.bech32_checksum.specs.Roots.{HasLawfulRoots, generator_at}
-use Rattle.bech32_block.specs.Series.{term, IsSeries, IsLongestSeries, IsLeastPower, IsPeriod}
+use Rattle.bech32_block.specs.Series.{series_term, IsSeries, IsLongestSeries, IsLeastPower, IsPeriod}
 use Rattle.bech32_block.specs.Roots.{RootField, AreOfLongestSeries, HasNoExponents}
 
 top_of-monic : {K : Type 0} (o : Ops K) (low : List K) → top_of o (low ++ (o.one ∷ [])) ≡ o.one
@@ -44,13 +44,13 @@ module _ {K : Type 0} {o : Ops K} (l : IsField o) (x : K) (n : ℕ) (ord : IsOrd
 
   -- the base's powers from the start on are the series
   series_power : (first step start k : ℕ) → IsLeastPower n step first start
-      → power o (power o x step) (start + k) ≡ power o x (term n first step k)
+      → power o (power o x step) (start + k) ≡ power o x (series_term n first step k)
   series_power first step start k g = power_of_step step (start + k) ∙ ap (power o x) same
     where
       sum : (start + k) * step ≡ start * step + k * step
       sum = grind arith
 
-      same : ((start + k) * step) % n ≡ term n first step k
+      same : ((start + k) * step) % n ≡ series_term n first step k
       same = ap (λ y. y % n) sum ∙ sym (mod-add-mod (start * step) n (k * step)) ∙ ap (λ y. (y + k * step) % n) g.gives
 
   -- the base's order is the period
@@ -81,27 +81,27 @@ module _ {K : Type 0} {o : Ops K} (l : IsField o) (x : K) (n : ℕ) (ord : IsOrd
   -- the powers of x in a series, the last first
   abbrev series : (first step count : ℕ) → List K
   series first step zero = []
-  series first step (suc c) = power o x (term n first step c) ∷ series first step c
+  series first step (suc c) = power o x (series_term n first step c) ∷ series first step c
 
   length-series : (first step count : ℕ) → length (series first step count) ≡ count
   length-series first step zero = refl
   length-series first step (suc c) = ap suc (length-series first step c)
 
-  not_among : (first step c count : ℕ) → ((j k : ℕ) → j < k → k < suc c → term n first step j ≢ term n first step k)
-      → count ≤ c → IsNotAmong (power o x (term n first step c)) (series first step count)
+  not_among : (first step c count : ℕ) → ((j k : ℕ) → j < k → k < suc c → series_term n first step j ≢ series_term n first step k)
+      → count ≤ c → IsNotAmong (power o x (series_term n first step c)) (series first step count)
   not_among first step c zero differ within = tt
   not_among first step c (suc j) differ within = (
-    apart (term n first step c) (term n first step j) (mod_below (first + c * step) n ord.positive) (mod_below (first + j * step) n ord.positive)
+    apart (series_term n first step c) (series_term n first step j) (mod_below (first + c * step) n ord.positive) (mod_below (first + j * step) n ord.positive)
         (λ e. differ j c (omega arith) (omega arith) (sym e)),
     not_among first step c j differ (omega arith),
   )
 
-  once : (first step count : ℕ) → ((j k : ℕ) → j < k → k < count → term n first step j ≢ term n first step k) → IsOnce (series first step count)
+  once : (first step count : ℕ) → ((j k : ℕ) → j < k → k < count → series_term n first step j ≢ series_term n first step k) → IsOnce (series first step count)
   once first step zero differ = tt
   once first step (suc c) differ =
       (not_among first step c c differ (omega arith), once first step c (λ j k less below. differ j k less (omega arith)))
 
-  all_roots : (first step count : ℕ) (p : List K) → ((k : ℕ) → k < count → value_at o (power o x (term n first step k)) p ≡ o.zero)
+  all_roots : (first step count : ℕ) (p : List K) → ((k : ℕ) → k < count → value_at o (power o x (series_term n first step k)) p ≡ o.zero)
       → AllByRecursion (λ y. value_at o y p ≡ o.zero) (series first step count)
   all_roots first step zero p roots = tt
   all_roots first step (suc c) p roots = (roots c (omega arith), all_roots first step c p (λ k below. roots k (omega arith)))
@@ -113,7 +113,7 @@ module _ {K : Type 0} {o : Ops K} (l : IsField o) (x : K) (n : ℕ) (ord : IsOrd
       let size : length (monic o low) ≡ suc (length low) = length-append low (o.one ∷ []) ∙ omega arith in
       let bound : length (series first step count) ≤ length low =
       root_bound l (length low) (monic o low) (series first step count) size (top_of-monic o low) (once first step count s.different)
-      (all_roots first step count (monic o low) (λ k below. are (term n first step k) (s.are_roots k below))) in
+      (all_roots first step count (monic o low) (λ k below. are (series_term n first step k) (s.are_roots k below))) in
       omega (arith, length-series first step count)
 
   pub lawful : (embed : Fe32 → K) (code : Code) (roots : List ℕ) (first step count start period : ℕ) → code.code_length ≡ period → 0 < count
@@ -140,7 +140,7 @@ module _ {K : Type 0} {o : Ops K} (l : IsField o) (x : K) (n : ℕ) (ord : IsOrd
           let below : k < count = omega arith in
           ap (λ i. generator_at o embed code (power o (power o x step) i)) split
           ∙ ap (generator_at o embed code) (series_power first step start k g)
-          ∙ are (term n first step k) (s.are_roots k below)
+          ∙ are (series_term n first step k) (s.are_roots k below)
 
 -- the constants are those of the series
 pub of_series : {K : Type 0} (f : RootField K) (l : IsField f.ops) (roots : List ℕ) (first step count start period : ℕ) → IsOrder f.ops f.generator f.order

@@ -6,7 +6,7 @@ use native.Mathlib.Omega.{arith}
 use mathlib.Core.Logic.{◌≢◌}
 use Rattle.std.proofs.Math.Decide.{dec_lt}
 use Rattle.std.proofs.lemmas.List.Elements.{Contains-get_or}
-use Rattle.bech32_block.specs.Series.{term, IsSeries, IsLongestSeries, Before}
+use Rattle.bech32_block.specs.Series.{series_term, IsSeries, IsLongestSeries, Before}
 use Rattle.bech32_block.proofs.Terms.{step_to, term-zero, term-one, step-leads, step-only, step-below, step-positive}
 
 pub rising_far : (xs : List ℕ) → IsStrictlyIncreasing xs → (i j : ℕ) → i < j → j < length xs → get_or xs i 0 < get_or xs j 0
@@ -29,8 +29,8 @@ pub record Best (n : ℕ) (xs : List ℕ) (i j a d len : ℕ) : Type 0 where
   pub root : Contains xs a
   pub series : IsSeries n xs a d len
   pub longest : (x y len' : ℕ) → Earlier x y i j → x < length xs → y < length xs → x ≢ y → IsSeries n xs (get_or xs x 0) (step_to n (get_or xs x 0) (get_or xs y 0)) len' → len' ≤ len
-  pub first : (x y : ℕ) → Earlier x y i j → x < length xs → y < length xs → x ≢ y → IsSeries n xs (get_or xs x 0) (step_to n (get_or xs x 0) (get_or xs y 0)) len → Before a (term n a d 1) (get_or xs x 0) (get_or xs y 0)
-  pub later : (x y : ℕ) → (Earlier x y i j → ⊥) → x < length xs → y < length xs → x ≢ y → Before a (term n a d 1) (get_or xs x 0) (get_or xs y 0)
+  pub first : (x y : ℕ) → Earlier x y i j → x < length xs → y < length xs → x ≢ y → IsSeries n xs (get_or xs x 0) (step_to n (get_or xs x 0) (get_or xs y 0)) len → Before a (series_term n a d 1) (get_or xs x 0) (get_or xs y 0)
+  pub later : (x y : ℕ) → (Earlier x y i j → ⊥) → x < length xs → y < length xs → x ≢ y → Before a (series_term n a d 1) (get_or xs x 0) (get_or xs y 0)
 
 earlier_more : (x y i j : ℕ) → Earlier x y i (j + 1) → Earlier x y i j ⊎ ((x ≡ i) × (y ≡ j))
 earlier_more x y i j (inl h) = inl (inl h)
@@ -102,7 +102,7 @@ after xs up i j x y never lx ly = elim (dec_lt i x) [
       | no p ↦ let same : j ≡ y = omega arith in let e : get_or xs j 0 ≡ get_or xs y 0 = ap (λ k. get_or xs k 0) same in omega arith
     ]
 
-second : (n : ℕ) (xs : List ℕ) (i j : ℕ) → ((k : ℕ) → k < length xs → get_or xs k 0 < n) → i < length xs → j < length xs → term n (get_or xs i 0) (step_to n (get_or xs i 0) (get_or xs j 0)) 1 ≡ get_or xs j 0
+second : (n : ℕ) (xs : List ℕ) (i j : ℕ) → ((k : ℕ) → k < length xs → get_or xs k 0 < n) → i < length xs → j < length xs → series_term n (get_or xs i 0) (step_to n (get_or xs i 0) (get_or xs j 0)) 1 ≡ get_or xs j 0
 second n xs i j small li lj = term-one n (get_or xs i 0) _ ∙ step-leads n (get_or xs i 0) (get_or xs j 0) (small i li) (small j lj)
 
 -- a pair whose series is longer than all before
@@ -122,8 +122,8 @@ better n xs i j a d len l up small b li lj apart more series longest = record {
     | inr k ↦
         let e : get_or xs i 0 ≡ get_or xs x 0 = ap (λ u. get_or xs u 0) (sym k.0) in
         let g : get_or xs j 0 ≡ get_or xs y 0 = ap (λ u. get_or xs u 0) (sym k.1) in
-        let t : term n (get_or xs i 0) (step_to n (get_or xs i 0) (get_or xs j 0)) 1 ≡ get_or xs j 0 = second n xs i j small li lj in
-        let q : term n (get_or xs i 0) (step_to n (get_or xs i 0) (get_or xs j 0)) 1 ≤ get_or xs y 0 = omega arith in
+        let t : series_term n (get_or xs i 0) (step_to n (get_or xs i 0) (get_or xs j 0)) 1 ≡ get_or xs j 0 = second n xs i j small li lj in
+        let q : series_term n (get_or xs i 0) (step_to n (get_or xs i 0) (get_or xs j 0)) 1 ≤ get_or xs y 0 = omega arith in
         inr (e, q)
   ];
   later = λ x y h lx ly differ. subst (λ v. Before (get_or xs i 0) v (get_or xs x 0) (get_or xs y 0)) (sym (second n xs i j small li lj)) (after xs up i j x y (λ k. h (still_earlier x y i j k)) lx ly);
@@ -182,16 +182,16 @@ pair_series n xs a b la lb differ ra rb = record {
   step_positive = step-positive n a b la lb differ;
   step_below = step-below n a b (omega arith);
   are_roots = λ k l. elim (dec_lt 0 k) [
-    | yes p ↦ let e : 1 ≡ k = omega arith in subst (λ m. Contains xs (term n a (step_to n a b) m)) e (subst (Contains xs) (sym one) rb)
-    | no p ↦ let e : 0 ≡ k = omega arith in subst (λ m. Contains xs (term n a (step_to n a b) m)) e (subst (Contains xs) (sym (term-zero n a (step_to n a b) la)) ra)
+    | yes p ↦ let e : 1 ≡ k = omega arith in subst (λ m. Contains xs (series_term n a (step_to n a b) m)) e (subst (Contains xs) (sym one) rb)
+    | no p ↦ let e : 0 ≡ k = omega arith in subst (λ m. Contains xs (series_term n a (step_to n a b) m)) e (subst (Contains xs) (sym (term-zero n a (step_to n a b) la)) ra)
   ];
   different = λ j k less under e.
       let z : j ≡ 0 = omega arith in
       let o : k ≡ 1 = omega arith in
-      differ (sym (term-zero n a (step_to n a b) la) ∙ ap (term n a (step_to n a b)) (sym z) ∙ e ∙ ap (term n a (step_to n a b)) o ∙ one);
+      differ (sym (term-zero n a (step_to n a b) la) ∙ ap (series_term n a (step_to n a b)) (sym z) ∙ e ∙ ap (series_term n a (step_to n a b)) o ∙ one);
 }
   where
-    one : term n a (step_to n a b) 1 ≡ b
+    one : series_term n a (step_to n a b) 1 ≡ b
     one = term-one n a (step_to n a b) ∙ step-leads n a b la lb
 
 -- a series of two roots or more begins with a pair
@@ -202,7 +202,7 @@ record Begins (n : ℕ) (xs : List ℕ) (a d : ℕ) : Type 0 where
   y_below : y < length xs
   apart : x ≢ y
   x_is : get_or xs x 0 ≡ a
-  y_is : get_or xs y 0 ≡ term n a d 1
+  y_is : get_or xs y 0 ≡ series_term n a d 1
   step_is : step_to n (get_or xs x 0) (get_or xs y 0) ≡ d
 
 begins : (n : ℕ) (xs : List ℕ) (a d len : ℕ) → a < n → IsSeries n xs a d len → 1 < len → Begins n xs a d
@@ -216,16 +216,16 @@ begins n xs a d len la s p = at (s.are_roots 0 (omega arith)) (s.are_roots 1 p)
         same_default (v ∷ ys) zero h = refl
         same_default (v ∷ ys) (suc i) h = same_default ys i (omega arith)
 
-    at : Contains xs (term n a d 0) → Contains xs (term n a d 1) → Begins n xs a d
+    at : Contains xs (series_term n a d 0) → Contains xs (series_term n a d 1) → Begins n xs a d
     at (x, lx, ex) (y, ly, ey) =
-        let xa : get_or xs x 0 ≡ a = place x (term n a d 0) lx ex ∙ term-zero n a d la in
-        let yb : get_or xs y 0 ≡ term n a d 1 = place y (term n a d 1) ly ey in
+        let xa : get_or xs x 0 ≡ a = place x (series_term n a d 0) lx ex ∙ term-zero n a d la in
+        let yb : get_or xs y 0 ≡ series_term n a d 1 = place y (series_term n a d 1) ly ey in
         record {
           x = x;
           y = y;
           x_below = lx;
           y_below = ly;
-          apart = λ e. s.different 0 1 (omega arith) p (sym (place x (term n a d 0) lx ex) ∙ ap (λ k. get_or xs k 0) e ∙ yb);
+          apart = λ e. s.different 0 1 (omega arith) p (sym (place x (series_term n a d 0) lx ex) ∙ ap (λ k. get_or xs k 0) e ∙ yb);
           x_is = xa;
           y_is = yb;
           step_is = ap (λ u. step_to n u (get_or xs y 0)) xa ∙ ap (step_to n a) (yb ∙ term-one n a d) ∙ step-only n a d la s.step_below;
@@ -273,13 +273,13 @@ run_of n xs i j a d len up small two b all = record {
             moved : (g : Begins n xs a' d') → IsSeries n xs (get_or xs g.x 0) (step_to n (get_or xs g.x 0) (get_or xs g.y 0)) len'
             moved g = subst (λ e. IsSeries n xs (get_or xs g.x 0) e len') (sym g.step_is) (subst (λ u. IsSeries n xs u d' len') (sym g.x_is) s)
 
-    early : (a' d' : ℕ) → a' < n → IsSeries n xs a' d' len → Before a (term n a d 1) a' (term n a' d' 1)
+    early : (a' d' : ℕ) → a' < n → IsSeries n xs a' d' len → Before a (series_term n a d 1) a' (series_term n a' d' 1)
     early a' d' la s = at (begins n xs a' d' len la s (omega (arith, at_least)))
       where
-        at : Begins n xs a' d' → Before a (term n a d 1) a' (term n a' d' 1)
+        at : Begins n xs a' d' → Before a (series_term n a d 1) a' (series_term n a' d' 1)
         at g =
-            subst (λ v. Before a (term n a d 1) a' v) g.y_is
-            (subst (λ u. Before a (term n a d 1) u (get_or xs g.y 0)) g.x_is
+            subst (λ v. Before a (series_term n a d 1) a' v) g.y_is
+            (subst (λ u. Before a (series_term n a d 1) u (get_or xs g.y 0)) g.x_is
             (b.first g.x g.y (inl (omega (arith, g.x_below))) g.x_below g.y_below g.apart
             (subst (λ e. IsSeries n xs (get_or xs g.x 0) e len) (sym g.step_is) (subst (λ u. IsSeries n xs u d' len) (sym g.x_is) s))))
 

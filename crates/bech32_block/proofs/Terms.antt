@@ -4,7 +4,7 @@ use native.Mathlib.Omega.{arith}
 use mathlib.Core.Logic.{◌≢◌}
 use Rattle.std.proofs.Math.Decide.{dec_lt}
 use Rattle.std.proofs.Math.Nat.{add-mod_right, mod-add-mod, add-mod-mod, add-mul-mod_self_left, mod-eq_of_lt}
-use Rattle.bech32_block.specs.Series.{term}
+use Rattle.bech32_block.specs.Series.{series_term}
 
 -- the exponent of the ratio of two elements
 abbrev pub step_to : ℕ → ℕ → ℕ → ℕ
@@ -26,17 +26,17 @@ cancel u v w n lo e = sym (whole u) ∙ ap (λ r. (r + (n * w - w)) % n) e ∙ w
         let sum : x + w + (n * w - w) ≡ x + n * w = omega (arith, enough n lo) in
         mod-add-mod (x + w) n (n * w - w) ∙ ap (λ y. y % n) sum ∙ add-mul-mod_self_left x n w
 
-pub term-zero : (n a d : ℕ) → a < n → term n a d 0 ≡ a
+pub term-zero : (n a d : ℕ) → a < n → series_term n a d 0 ≡ a
 term-zero n a d h = let e : a + 0 * d ≡ a = grind arith in ap (λ x. x % n) e ∙ mod-eq_of_lt h
 
-pub term-suc : (n a d k : ℕ) → term n a d (k + 1) ≡ (term n a d k + d) % n
+pub term-suc : (n a d k : ℕ) → series_term n a d (k + 1) ≡ (series_term n a d k + d) % n
 term-suc n a d k = let e : a + (k + 1) * d ≡ a + k * d + d = grind arith in ap (λ x. x % n) e ∙ sym (mod-add-mod (a + k * d) n d)
 
-pub term-one : (n a d : ℕ) → term n a d 1 ≡ (a + d) % n
+pub term-one : (n a d : ℕ) → series_term n a d 1 ≡ (a + d) % n
 term-one n a d = let e : a + 1 * d ≡ a + d = grind arith in ap (λ x. x % n) e
 
 -- two equal terms: the first comes back as far on as they are apart
-pub comes_back : (n a d j k : ℕ) → 0 < n → j < k → term n a d j ≡ term n a d k → term n a d (k - j) ≡ term n a d 0
+pub comes_back : (n a d j k : ℕ) → 0 < n → j < k → series_term n a d j ≡ series_term n a d k → series_term n a d (k - j) ≡ series_term n a d 0
 comes_back n a d j k lo less e =
     let s : ℕ = k - j in
     let parts : k ≡ s + j = omega arith in
@@ -49,7 +49,7 @@ comes_back n a d j k lo less e =
     near = grind arith
 
 -- after n steps it is back
-pub term-order : (n a d : ℕ) → term n a d n ≡ term n a d 0
+pub term-order : (n a d : ℕ) → series_term n a d n ≡ series_term n a d 0
 term-order n a d = add-mul-mod_self_left a n d ∙ ap (λ x. x % n) start
   where
     start : a ≡ a + 0 * d

@@ -5,7 +5,7 @@ use Rattle.std.specs.Fmt.{decimal}
 use Rattle.bech32_gf.specs.Alphabet.{char_of}
 use Rattle.bech32_gf.specs.declared.gf32.Fe32.{Fe32}
 use Rattle.bech32_block.specs.Constants.{Constants}
-use Rattle.bech32_block.specs.Hex.{hex_of}
+use Rattle.bech32_block.specs.Hex.{padded_hex}
 use Rattle.bech32_block.specs.Representation.{representation, hex_digits}
 
 -- the characters of elements
@@ -53,7 +53,7 @@ lengths_text code_length degree =
 
 -- a word on a line of its own
 abbrev pub word_line : ℕ → ℕ → List ℕ
-word_line digits word = codes "        0x" ++ hex_of digits word ++ codes ",\n"
+word_line digits word = codes "        0x" ++ padded_hex digits word ++ codes ",\n"
 
 unfoldable pub words_text : ℕ → List ℕ → List ℕ
 words_text degree words =
@@ -64,7 +64,7 @@ words_text degree words =
 unfoldable pub target_text : ℕ → ℕ → List ℕ
 target_text degree target =
     codes "    const TARGET_RESIDUE: " ++ representation degree
-    ++ codes " = 0x" ++ hex_of (hex_digits degree) target ++ codes ";\n}"
+    ++ codes " = 0x" ++ padded_hex (hex_digits degree) target ++ codes ";\n}"
 
 unfoldable pub packed_text : ℕ → ℕ → List ℕ → ℕ → List ℕ
 packed_text code_length degree words target =

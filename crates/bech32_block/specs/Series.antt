@@ -3,16 +3,17 @@ use Rattle.std.specs.Prelude.{◌≡◌, ◌≢◌, ℕ, ◌+◌, ◌*◌, ◌%�
 use Rattle.std.specs.List.{Contains}
 
 -- the exponent of r q^k, where those of r and q are `first` and `step`
-abbrev pub term : ℕ → ℕ → ℕ → ℕ → ℕ
-term n first step k = (first + k * step) % n
+abbrev pub series_term : ℕ → ℕ → ℕ → ℕ → ℕ
+series_term n first step k = (first + k * step) % n
 
 -- so many roots r, rq, rq^2, .., pairwise different; q is not one. `roots` lists
 -- the exponents of all roots.
 pub record IsSeries (n : ℕ) (roots : List ℕ) (first step count : ℕ) : Type 0 where
   pub step_positive : 0 < step
   pub step_below : step < n
-  pub are_roots : (k : ℕ) → k < count → Contains roots (term n first step k)
-  pub different : (j k : ℕ) → j < k → k < count → term n first step j ≢ term n first step k
+  pub are_roots : (k : ℕ) → k < count → Contains roots (series_term n first step k)
+  pub different : (j k : ℕ) → j < k → k < count
+      → series_term n first step j ≢ series_term n first step k
 
 -- of two pairs of exponents one has the smaller first one, or the same first one and a
 -- second one that is not greater
@@ -26,7 +27,7 @@ pub record IsLongestSeries (n : ℕ) (roots : List ℕ) (first step count : ℕ)
   pub longest : (first' step' count' : ℕ) → first' < n → IsSeries n roots first' step' count'
       → count' ≤ count
   pub earliest : (first' step' : ℕ) → first' < n → IsSeries n roots first' step' count
-      → Before first (term n first step 1) first' (term n first' step' 1)
+      → Before first (series_term n first step 1) first' (series_term n first' step' 1)
 
 -- k is the least number, from 0 on, whose power of the element with the exponent `step` is
 -- the one with that exponent

@@ -2,7 +2,7 @@
 
 ghost use Rattle.std.specs.Prelude.{◌≡◌, ◌≤◌, ◌<◌, ◌++◌, Some, codes, false};
 ghost use Rattle.std.specs.Fmt.{WritesOnOk, digit_glyph};
-ghost use Rattle.bech32_block.specs.Hex.{hex_of};
+ghost use Rattle.bech32_block.specs.Hex.{padded_hex};
 
 use std::fmt;
 
@@ -20,10 +20,10 @@ fn glyph(digit: u8) -> char
 }
 
 // Writes the lowest digits of a number, the highest first.
-#[tactic(auto, unfolding(crate::specs::Hex::hex_of))]
+#[tactic(auto, unfolding(crate::specs::Hex::padded_hex))]
 fn write_digits<W: fmt::Write>(word: u128, count: usize, f: &mut fmt::Formatter<W>) -> fmt::Result
     requires { count ≤ 32 }
-    ensures { WritesOnOk W.write_str_gives f.old result (hex_of count word) f.new }
+    ensures { WritesOnOk W.write_str_gives f.old result (padded_hex count word) f.new }
 {
     if count == 0 {
         return Ok(());
@@ -42,7 +42,7 @@ pub(crate) struct Hex {
 }
 
 impl fmt::Display for Hex {
-    ghost output = { λ x. Some (codes "0x" ++ hex_of x.digits x.word) };
+    ghost output = { λ x. Some (codes "0x" ++ padded_hex x.digits x.word) };
 
     fn fmt<W: fmt::Write>(&self, f: &mut fmt::Formatter<W>) -> fmt::Result {
         f.write_str("0x")?;

@@ -1,4 +1,7 @@
 //! The printed block of a checksum: from a generator and a target to Rust code that defines it.
+//!
+//! Below it: `bech32_words`.
+//! Standard: BIP-173, Checksum.
 #![tactic(auto)]
 
 mod error;

@@ -17,9 +17,9 @@ use bech32_calls::decode::{checked_by, decoded};
 
 /// Decodes a text that Bech32m or Bech32 accepts, as `bech32::decode` does. The human-readable
 /// part, in the case of the text, is put at the front of `hrp`, and the bytes at the front of
-/// `bytes`; `hrp_length` and `bytes_length` are then their lengths, at most 83 and 634. Of a text that
-/// [`bech32_encode`](crate::encode::bech32_encode) writes these are the human-readable part, in lower
-/// case, and the bytes.
+/// `bytes`; `hrp_length` and `bytes_length` are then their lengths, at most 83 and 634. Of a text
+/// that [`bech32_encode`](crate::encode::bech32_encode) writes these are the human-readable part,
+/// in lower case, and the bytes.
 ///
 /// # Errors
 ///

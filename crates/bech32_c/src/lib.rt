@@ -3,11 +3,15 @@
 //!
 //! Each call returns 0, or the number of a refusal (`specs/Numbers.antt` of `bech32_calls`, which
 //! does the work). What it writes stands at the front of the caller's buffers; behind it nothing
-//! changes, and on a refusal nothing changes at all, but for a place that is found, lent memory, and
-//! what is said of 91 at `bech32_nearest`. No call takes any memory but what a caller lends to it.
+//! changes, and on a refusal nothing changes at all, but for a place that is found, lent memory,
+//! and what is said of 91 at `bech32_nearest`. No call takes any memory but what a caller lends to
+//! it.
 //!
 //! A `&[u8]` or a `&mut [u8]` is a pointer and then a length to C, and a `&mut` a pointer. None of
 //! these pointers may be null, and what one points to may not overlap with what a `&mut` does.
+//!
+//! Below it: `bech32_calls`.
+//! Standard: BIP-173; BIP-350.
 #![tactic(auto)]
 
 pub mod correct;

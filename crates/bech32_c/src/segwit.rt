@@ -50,10 +50,10 @@ pub extern "C" fn bech32_segwit_encode(
     }
 }
 
-/// Decodes a segwit address, as `bech32::segwit::decode` does. The human-readable part, in the
-/// case of the text, is put at the front of `hrp`, and the program at the front of `program`;
-/// `hrp_length` and `program_length` are then their lengths, at most 83 and 40, and `version` is the
-/// witness version, from 0 to 16.
+/// Decodes a segwit address, as `bech32::segwit::decode` does. The human-readable part, in the case
+/// of the text, is put at the front of `hrp`, and the program at the front of `program`;
+/// `hrp_length` and `program_length` are then their lengths, at most 83 and 40, and `version` is
+/// the witness version, from 0 to 16.
 ///
 /// # Errors
 ///

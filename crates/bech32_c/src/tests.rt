@@ -596,8 +596,8 @@ fn mends(
 
 #[test]
 fn mends_known_texts(rt: HostRuntime) {
-    // Made twice over and equal: by a reference model written from the definitions alone, and by the
-    // Rust crate bech32 0.12.0 with the differences of docs/rust/DIFFERENCES.md.
+    // Made twice over and equal: by a reference model written from the definitions alone, and by
+    // the Rust crate bech32 0.12.0 with the differences of docs/rust/DIFFERENCES.md.
     let rows: [(u32, &[u8], &[usize], &[usize], &[u8], &[u8]); 8] = [
         (1, b"a12uel5l", &[6], &[], &[], b"a12uel5l"),
         (1, b"A12UEL5L", &[], &[], &[], b"a12uel5l"),

@@ -1,10 +1,9 @@
 -- Lists that are made of the items of another, put at the front of a buffer one behind another.
 use Rattle.std.specs.Prelude.{flat_map}
 use borrow.Rule.Slice.PartMut.{put_mid}
-use Rattle.std.proofs.Common.{◌≡◌, ℕ, ◌+◌, ◌-◌, ◌<◌, ◌≤◌, List, [], ◌++◌, length, length-append, length-drop, take, drop, get_or, append_assoc, sym, ap, ◌∙◌, refl, arith}
-use Rattle.std.proofs.lemmas.List.{append-nil, drop-drop, drop_all, drop_at, flat_map_more, take-append-drop, take_all, take_at, take_more, take_rest}
+use Rattle.std.proofs.Common.{◌≡◌, ℕ, ◌+◌, ◌-◌, ◌<◌, ◌≤◌, List, [], ◌++◌, length, length-append, length-drop, take, drop, get_or, append_assoc, sym, ap, ◌∙◌, arith}
+use Rattle.std.proofs.lemmas.List.{append-nil, drop-drop, drop_all, drop_at, flat_map_more, take-append-drop, take_at, take_more, take_rest}
 use Rattle.std.proofs.lemmas.List.Concat.{flat_map-append}
-use Rattle.bech32_encode.specs.Buffers.{IsPut}
 
 -- what a buffer holds after a write to all that is behind a place
 put_end : (end : ℕ) (b c : List ℕ) → put_mid end (length b - end) b c ≡ take end b ++ c
@@ -24,13 +23,6 @@ module _ {A : Type 0} (f : A → List ℕ) (items : List A) where
       ∙ ap length (flat_map-append f (take n items) (drop n items))
       ∙ length-append (flat_map f (take n items)) (flat_map f (drop n items)) in
       omega (arith, both)
-
-  -- one more has room
-  pub joined_room : (i : ℕ) (d : A) → i < length items → length (flat_map f (take i items)) + length (f (get_or items i d)) ≤ length (flat_map f items)
-  joined_room i d less =
-      let size : length (flat_map f (take (i + 1) items)) ≡ length (flat_map f (take i items)) + length (f (get_or items i d)) =
-      ap length (joined_more i d less) ∙ length-append (flat_map f (take i items)) (f (get_or items i d)) in
-      omega (arith, size, joined_front (i + 1))
 
   -- it is put behind the others
   pub put_joined : (old b c : List ℕ) (i end : ℕ) (d : A) → i < length items → end ≡ length (flat_map f (take i items)) → b ≡ flat_map f (take i items) ++ drop end old
@@ -70,15 +62,3 @@ module _ {A : Type 0} (f : A → List ℕ) (items : List A) where
         put_end end b c
         ∙ put_joined old b c i end d less size is one
         ∙ ap (λ (y : List ℕ). flat_map f (take (i + 1) items) ++ drop (end + length y) old) (sym same)
-
-  -- all of them
-  pub put_all_joined : (old b : List ℕ) (i end : ℕ) → i ≡ length items → length (flat_map f items) ≤ length old → end ≡ length (flat_map f (take i items))
-      → b ≡ flat_map f (take i items) ++ drop end old → IsPut (flat_map f items) old b (length (flat_map f items))
-  put_all_joined old b i end at room size is =
-      let all : take i items ≡ items = take_all i items (omega (arith, at)) in
-      let count : end ≡ length (flat_map f items) = size ∙ ap (λ (l : List A). length (flat_map f l)) all in
-      record {
-        fits = room;
-        buffer = is ∙ ap (λ (l : List A). flat_map f l ++ drop end old) all ∙ ap (λ (n : ℕ). flat_map f items ++ drop n old) count;
-        count_is = refl;
-      }

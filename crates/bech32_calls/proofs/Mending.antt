@@ -30,14 +30,14 @@ use Rattle.bech32_refusals.specs.declared.error.CheckedHrpstringError.TheVariant
 use Rattle.bech32_refusals.specs.declared.error.ChecksumError.{ChecksumError}
 use Rattle.bech32_refusals.specs.declared.error.ChecksumError.TheVariants.{CodeLength, InvalidLength, InvalidResidue}
 use Rattle.bech32_correction.specs.MendedElements.{EndsIn, mended as mended_of}
-use Rattle.bech32_correction.specs.Mistyped.{AreInside, HasNoListing, IsListing, IsListingOf, IsRefusal, IsRefusedFor, question_of}
+use Rattle.bech32_correction.specs.Mistyped.{AreInside, HasNoListing, IsListedInPlace, IsListingOf, IsRefusal, IsRefusedFor, question_of}
 use Rattle.bech32_correction.specs.declared.correcting.Correction.{Correction}
 use Rattle.bech32_correction.specs.declared.correcting.Correction.TheVariants.{Accepted}
 use Rattle.bech32_correction.proofs.Sound.{sound_of}
 use Rattle.bech32_correction.proofs.Texts.{IsMendable, ends-lowered, mendable-from_accepts, mendable-from_listing, mended_text-from_ends}
 use Rattle.std.specs.Str.{IsUtf8}
 use Rattle.bech32_calls.specs.Check.{refusal_of_checked}
-use Rattle.bech32_calls.specs.Correct.{CanMend, IsCorrectFault, IsListingFault, IsMendedBy, IsReadFault, LacksRoomForMended, PutsMended, bound}
+use Rattle.bech32_calls.specs.Correct.{CanMend, IsCorrectFault, IsListingFault, IsMending, IsResidueFault, LacksRoomForMended, PutsMended, bound}
 use Rattle.bech32_calls.specs.declared.refusal.Refusal.{Refusal}
 use Rattle.bech32_calls.specs.declared.refusal.Refusal.TheVariants.{NotUtf8, Text, Checksum, NoCorrection, NoRoom}
 use Rattle.bech32_calls.proofs.Letters.{IsUtf8-from_text}
@@ -133,23 +133,23 @@ module _ (text given : List ℕ) (code : Code) where
       (sound-same code.generator h.residue k.residue one.1 s (length k.data_part) bound a here)
       (sound_of code bound (question_of k.data_part k.residue given) b k.only) less
 
-  two_ways : (a b : List (ℕ × Fe32)) → IsMendedBy text given a code → IsMendedBy text given b code → length a < length b → ⊥
+  two_ways : (a b : List (ℕ × Fe32)) → IsMending text given a code → IsMending text given b code → length a < length b → ⊥
   two_ways a b (inl h) (inl k) less = let none : length b ≡ 0 = ap length k.1 in omega arith
   two_ways a b (inl h) (inr k) less = not_both code text k.hrp k.data_part k.residue h.0 k.refused
   two_ways a b (inr h) (inl k) less = not_both code text h.hrp h.data_part h.residue k.0 h.refused
   two_ways a b (inr h) (inr k) less = two_listings a b h k less
 
-  in_grammar : (listing : List (ℕ × Fe32)) → IsMendedBy text given listing code → IsInGrammar text
+  in_grammar : (listing : List (ℕ × Fe32)) → IsMending text given listing code → IsInGrammar text
   in_grammar listing (inl h) = (h.0.0, h.0.1, h.0.2.grammar)
   in_grammar listing (inr h) = (h.hrp, h.data_part, h.refused.read.grammar)
 
-  no_checksum_fault : (listing : List (ℕ × Fe32)) (e : ChecksumError) → IsMendedBy text given listing code → IsRefusedByChecksum code text e
+  no_checksum_fault : (listing : List (ℕ × Fe32)) (e : ChecksumError) → IsMending text given listing code → IsRefusedByChecksum code text e
       → of_checksum e ≡ None → ⊥
   no_checksum_fault listing e (inl h) r none =
       not_valid code (length text) r.hrp r.data_part e r.refusal (valid-from_accepts code text r.hrp r.data_part r.grammar h.0)
   no_checksum_fault listing e (inr h) r none = no_other_refusal code text h.hrp h.data_part h.residue e h.refused r none
 
-  no_solution : (listing : List (ℕ × Fe32)) → IsMendedBy text given listing code → HasNoListing code bound text given → ⊥
+  no_solution : (listing : List (ℕ × Fe32)) → IsMending text given listing code → HasNoListing code bound text given → ⊥
   no_solution listing (inl h) none = not_both code text none.hrp none.data_part none.residue h.0 none.refused
   no_solution listing (inr h) none =
       let s = with_erasures [] given in
@@ -181,7 +181,7 @@ module _ (text given : List ℕ) (code : Code) where
   no_correct_fault m n r _ can h = h
 
 -- why no residue is read is why the text is not to be mended
-pub unread_there : (text given : List ℕ) (e : Refusal) (code : Code) → IsReadFault text code e → IsListingFault text given code e
+pub unread_there : (text given : List ℕ) (e : Refusal) (code : Code) → IsResidueFault text code e → IsListingFault text given code e
 unread_there text given NoCorrection code h = absurd h
 unread_there text given _ code h = h
 
@@ -191,17 +191,17 @@ fault_there text given m n r NoRoom code h = absurd h
 fault_there text given m n r _ code h = h
 
 -- why no residue is read is why nothing is put
-pub unread_put : (text given : List ℕ) (m n r : ℕ) (e : Refusal) (code : Code) → IsReadFault text code e → IsCorrectFault text given m n r code e
+pub unread_put : (text given : List ℕ) (m n r : ℕ) (e : Refusal) (code : Code) → IsResidueFault text code e → IsCorrectFault text given m n r code e
 unread_put text given m n r e code h = fault_there text given m n r e code (unread_there text given e code h)
 
 -- no residue is read of a text that is refused, and not for its residue
-pub unread-from_refusal : (text : List ℕ) (code : Code) (e : CheckedHrpstringError) → IsUtf8 text → IsRefusal code text e → IsReadFault text code (refusal_of_checked e)
+pub unread-from_refusal : (text : List ℕ) (code : Code) (e : CheckedHrpstringError) → IsUtf8 text → IsRefusal code text e → IsResidueFault text code (refusal_of_checked e)
 unread-from_refusal text code (Parse e) u h = (u, h.0)
 unread-from_refusal text code (NotAccepted e) u h = (u, h.0, h.1)
 
 -- and of one that is refused for its lengths
 pub unread-from_lengths : (text hrp data_part : List ℕ) (code : Code) (e : ChecksumError) → IsText text hrp data_part
-    → IsChecksumRefusal code (length text) hrp data_part e → (HasLengths code (length text) (length data_part) → ⊥) → IsReadFault text code (Checksum e)
+    → IsChecksumRefusal code (length text) hrp data_part e → (HasLengths code (length text) (length data_part) → ⊥) → IsResidueFault text code (Checksum e)
 unread-from_lengths text hrp data_part code e is refusal short =
     (IsUtf8-from_text text hrp data_part is, record { hrp = hrp; data_part = data_part; grammar = is; refusal = refusal }, none e refusal)
   where
@@ -212,18 +212,18 @@ unread-from_lengths text hrp data_part code e is refusal short =
 
 -- a text that the checksum accepts is mended by nothing
 pub mended_by_nothing : (text given hrp data_part : List ℕ) (code : Code) → IsText text hrp data_part → HasLengths code (length text) (length data_part)
-    → IsRemainder ops code.generator (text_polynomial hrp (elements_of data_part)) code.target → IsMendedBy text given [] code
+    → IsRemainder ops code.generator (text_polynomial hrp (elements_of data_part)) code.target → IsMending text given [] code
 mended_by_nothing text given hrp data_part code is lengths target =
     inl ((hrp, data_part, record { grammar = is; text_length = lengths.0; data_length = lengths.1; has_target = target }), refl)
 
 -- or of which this is said
-pub mended-from_answer : (text given : List ℕ) (answer : Correction (List (ℕ × Fe32)) (Unit {0})) (code : Code) (n : ℕ) → answer ≡ Accepted → IsListing code n text given answer
-    → IsMendedBy text given [] code
-mended-from_answer text given answer code n is h = inl (subst (λ (a : Correction (List (ℕ × Fe32)) (Unit {0})). IsListing code n text given a) is h, refl)
+pub mended-from_answer : (text given : List ℕ) (answer : Correction (List (ℕ × Fe32)) (Unit {0})) (code : Code) (n : ℕ) → answer ≡ Accepted → IsListedInPlace code n text given answer
+    → IsMending text given [] code
+mended-from_answer text given answer code n is h = inl (subst (λ (a : Correction (List (ℕ × Fe32)) (Unit {0})). IsListedInPlace code n text given a) is h, refl)
 
 -- what mends a text by its listing mends the same text
 pub mended_by_listing : (text text' given given' : List ℕ) (listing listing' : List (ℕ × Fe32)) (code : Code) (n : ℕ) → n ≡ bound → text' ≡ text → given' ≡ given → listing ≡ listing'
-    → IsListingOf code n text' given' listing → IsMendedBy text given listing' code
+    → IsListingOf code n text' given' listing → IsMending text given listing' code
 mended_by_listing text text' given given' listing listing' code n count same gives lists h =
     inr (subst (λ (l : List (ℕ × Fe32)). IsListingOf code bound text given l) lists
     (subst (λ (s : List ℕ). IsListingOf code bound text s listing) gives
@@ -249,12 +249,12 @@ PutsAdded text listing mended mended' size =
     (front : List ℕ) (elements : List Fe32) → EndsIn (lowered text) front elements → AllByRecursion (λ (p : ℕ × Fe32). p.0 < length elements) listing
     → (t : List ℕ) × EndsIn t front (mended_of ops listing elements) × IsPut t mended mended' size
 
-mendable : (text given : List ℕ) (listing : List (ℕ × Fe32)) (code : Code) → IsMendedBy text given listing code → IsMendable code text listing
+mendable : (text given : List ℕ) (listing : List (ℕ × Fe32)) (code : Code) → IsMending text given listing code → IsMendable code text listing
 mendable text given listing code (inl h) = subst (λ (l : List (ℕ × Fe32)). IsMendable code text l) (sym h.1) (mendable-from_accepts code text h.0)
 mendable text given listing code (inr h) = mendable-from_listing code bound text given listing h
 
 -- the listed locations are those of characters of the data part
-pub listed_inside : (text given : List ℕ) (listing : List (ℕ × Fe32)) (code : Code) → IsMendedBy text given listing code
+pub listed_inside : (text given : List ℕ) (listing : List (ℕ × Fe32)) (code : Code) → IsMending text given listing code
     → (front : List ℕ) × ((elements : List Fe32) × EndsIn (lowered text) front elements × AllByRecursion (λ (p : ℕ × Fe32). p.0 < length elements) listing)
 listed_inside text given listing code h =
     let m = mendable text given listing code h in
@@ -262,7 +262,7 @@ listed_inside text given listing code h =
 
 pub puts_mended : (text given places places' values values' : List ℕ) (count : ℕ) (mended mended' : List ℕ) (size : ℕ) (listing : List (ℕ × Fe32)) (code : Code)
     → IsPut (locations listing) places places' count → IsPut (map (λ (p : ℕ × Fe32). value p.1) listing) values values' count → PutsAdded text listing mended mended' size
-    → IsMendedBy text given listing code → PutsMended text given places places' values values' count mended mended' size code
+    → IsMending text given listing code → PutsMended text given places places' values values' count mended mended' size code
 puts_mended text given places places' values values' count mended mended' size listing code at added puts h =
     let m = mendable text given listing code h in
     let (t, ends, put) = puts (lowered m.hrp ++ (49 ∷ [])) (elements_of m.data_part) (ends-lowered text m.hrp m.data_part m.grammar) m.inside in

@@ -9,12 +9,12 @@ use Rattle.bech32_poly.specs.Polynomial.{add}
 use Rattle.bech32_checksum.specs.Code.{Code}
 use Rattle.bech32_decode.specs.Acceptance.{Accepts}
 use Rattle.bech32_encode.specs.Buffers.{IsPut}
-use Rattle.bech32_correction.specs.Mistyped.{IsListing, IsRefusedFor}
+use Rattle.bech32_correction.specs.Mistyped.{IsListedInPlace, IsRefusedFor}
 use Rattle.bech32_near.specs.NearTexts.{AreNearTexts, IsNearText}
 use Rattle.bech32_correction.specs.declared.correcting.Correction.{Correction}
 use Rattle.bech32_correction.specs.declared.correcting.Correction.TheVariants.{Accepted, Mended, Unexplained}
 use Rattle.bech32_calls.specs.Checksums.{ForChecksum, IsFaultBy}
-use Rattle.bech32_calls.specs.Correct.{IsReadFault, bound}
+use Rattle.bech32_calls.specs.Correct.{bound}
 use Rattle.bech32_calls.specs.Nearest.{IsNearFault, IsRead, IsSearchFault, PutsNear, joined}
 use Rattle.bech32_calls.specs.declared.refusal.Refusal.{Refusal}
 use Rattle.bech32_calls.specs.declared.refusal.Refusal.TheVariants.{BadNumber, Memory, NoRoom}
@@ -46,18 +46,12 @@ read_refused text hrp data_part residue code r = record {
   read = r.read;
 }
 
-pub read_listed : (text given : List ℕ) (answer : Correction (List (ℕ × Fe32)) (Unit {0})) (code : Code) → IsListing code bound text given answer → IsRead text code
+pub read_listed : (text given : List ℕ) (answer : Correction (List (ℕ × Fe32)) (Unit {0})) (code : Code) → IsListedInPlace code bound text given answer → IsRead text code
 read_listed text given Accepted code h = read_accepted text code h
 read_listed text given (Mended listing) code h = read_refused text h.hrp h.data_part h.residue code h.refused
 read_listed text given (Unexplained u) code h = read_refused text h.0.hrp h.0.data_part h.0.residue code h.0.refused
 
 -- ---- why nothing is put
-
-pub near_unread : (text given : List ℕ) (errors room : ℕ) (e : Refusal) → errors ≤ 2 → (code : Code) → IsReadFault text code e → IsNearFault text given errors room code e
-near_unread text given errors room BadNumber few code h = absurd h
-near_unread text given errors room Memory few code h = absurd h
-near_unread text given errors room NoRoom few code h = absurd h
-near_unread text given errors room _ few code h = (few, h)
 
 pub near_unfound : (text given : List ℕ) (errors room : ℕ) (e : Refusal) → errors ≤ 2 → (code : Code) → IsRead text code → IsSearchFault text code e → IsNearFault text given errors room code e
 near_unfound text given errors room BadNumber few code read h = absurd h

@@ -26,8 +26,8 @@ bound = singleton_bound 24 26
 
 -- how a text is to be mended: by nothing where the checksum accepts it, and else by the listing of
 -- the one pattern that solves its residue
-abbrev pub IsMendedBy : List ℕ → List ℕ → List (ℕ × Fe32) → Code → Type 0
-IsMendedBy text given listing code =
+abbrev pub IsMending : List ℕ → List ℕ → List (ℕ × Fe32) → Code → Type 0
+IsMending text given listing code =
     (Accepts code text × (listing ≡ [])) ⊎ IsListingOf code bound text given listing
 
 -- the listing and the mended text, which the checksum accepts, are put into buffers
@@ -36,7 +36,7 @@ pub record PutsMended (text given places places' values values' : List ℕ)
     (size : ℕ) (code : Code) : Type 0 where
   pub listing : List (ℕ × Fe32)
   pub mended_text : List ℕ
-  pub mended_by : IsMendedBy text given listing code
+  pub mended_by : IsMending text given listing code
   pub is_mended : IsMendedText listing text mended_text
   pub accepted : Accepts code mended_text
   pub locations_put : IsPut (locations listing) places places' count
@@ -48,7 +48,7 @@ pub record PutsMended (text given places places' values values' : List ℕ)
 pub record CanMend (text given : List ℕ)
     (places_room values_room text_room : ℕ) (code : Code) : Type 0 where
   pub listing : List (ℕ × Fe32)
-  pub mended_by : IsMendedBy text given listing code
+  pub mended_by : IsMending text given listing code
   pub locations_fit : length listing ≤ places_room
   pub values_fit : length listing ≤ values_room
   pub text_fits : length text ≤ text_room
@@ -58,23 +58,23 @@ pub record LacksRoomForMended (text given : List ℕ)
     (places_room values_room text_room : ℕ) (code : Code)
     : Type 0 where
   pub listing : List (ℕ × Fe32)
-  pub mended_by : IsMendedBy text given listing code
+  pub mended_by : IsMending text given listing code
   pub lacks : (places_room < length listing)
       ⊎ ((values_room < length listing) ⊎ (text_room < length text))
 
 -- why no residue of a text is read: the bytes are not a text, or the text is refused, and not for
 -- its residue
-abbrev pub IsReadFault : List ℕ → Code → Refusal → Type 0
-IsReadFault text code NotUtf8 = ¬ (IsUtf8 text)
-IsReadFault text code (Text e) = IsUtf8 text × IsCheckedRefusal code text (Parse e)
-IsReadFault text code (Checksum e) =
+abbrev pub IsResidueFault : List ℕ → Code → Refusal → Type 0
+IsResidueFault text code NotUtf8 = ¬ (IsUtf8 text)
+IsResidueFault text code (Text e) = IsUtf8 text × IsCheckedRefusal code text (Parse e)
+IsResidueFault text code (Checksum e) =
     IsUtf8 text × IsCheckedRefusal code text (NotAccepted e) × (of_checked (NotAccepted e) ≡ None)
-IsReadFault text code _ = ⊥
+IsResidueFault text code _ = ⊥
 
 -- why a text is not to be mended: no residue is read, or no pattern in the data part solves it
 abbrev pub IsListingFault : List ℕ → List ℕ → Code → Refusal → Type 0
 IsListingFault text given code NoCorrection = HasNoListing code bound text given
-IsListingFault text given code e = IsReadFault text code e
+IsListingFault text given code e = IsResidueFault text code e
 
 -- why nothing is put into buffers of these sizes
 abbrev pub IsCorrectFault : List ℕ → List ℕ → ℕ → ℕ → ℕ → Code → Refusal → Type 0

@@ -2,15 +2,14 @@
 use Rattle.std.specs.Prelude.{◌≡◌, ℕ, List, Some}
 use Rattle.std.specs.Str.{IsUtf8}
 use Rattle.bech32_hrp.specs.Hrp.{hrp_refusal}
+use Rattle.bech32_numbers.specs.Refused.{IsNumberBy}
 use Rattle.bech32_calls.specs.Numbers.{number_of}
 use Rattle.bech32_calls.specs.declared.refusal.Refusal.{Refusal}
 use Rattle.bech32_calls.specs.declared.refusal.Refusal.TheVariants.{NotUtf8, Hrp}
 
 -- the number is that of a refusal, of which P holds
-pub record IsNumberOf (P : Refusal → Type 0) (n : ℕ) : Type 0 where
-  pub refusal : Refusal
-  pub holds : P refusal
-  pub number : n ≡ number_of refusal
+abbrev pub IsNumberOf : (Refusal → Type 0) → ℕ → Type 0
+IsNumberOf P n = IsNumberBy number_of P n
 
 -- why bytes are not a human-readable part: they are not a text, or the first fault of the text
 abbrev pub IsPartFault : List ℕ → Refusal → Type 0

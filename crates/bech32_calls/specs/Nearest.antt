@@ -1,5 +1,5 @@
 -- The texts near a mistyped one put into a buffer, and why none are.
-use Rattle.std.specs.Prelude.{◌≡◌, ◌<◌, ◌≤◌, ◌*◌, ◌⊎◌, ℕ, List, length, flat_map}
+use Rattle.std.specs.Prelude.{◌≡◌, ◌<◌, ◌≤◌, ◌*◌, ℕ, List, length, flat_map}
 use Rattle.bech32_gf.specs.declared.gf32.Fe32.{Fe32}
 use Rattle.bech32_checksum.specs.Code.{Code}
 use Rattle.bech32_encode.specs.Buffers.{IsPut}
@@ -10,10 +10,8 @@ use Rattle.bech32_correction.specs.declared.error.CorrectError.TheVariants.{
   Memory as OutOfMemory,
   Refused,
 }
-use Rattle.caller_memory.specs.Memory.{memory_size}
-use Rattle.caller_memory.specs.declared.memory.Memory.{Memory as Lendable}
 use Rattle.bech32_calls.specs.Check.{refusal_of_checked}
-use Rattle.bech32_calls.specs.Correct.{IsReadFault, bound}
+use Rattle.bech32_calls.specs.Correct.{IsResidueFault, bound}
 use Rattle.bech32_calls.specs.declared.refusal.Refusal.{Refusal}
 use Rattle.bech32_calls.specs.declared.refusal.Refusal.TheVariants.{BadNumber, Memory, NoRoom}
 
@@ -51,11 +49,7 @@ IsNearFault text given errors room code BadNumber = 2 < errors
 IsNearFault text given errors room code Memory = (errors ≤ 2) × IsRead text code
 IsNearFault text given errors room code NoRoom =
     (errors ≤ 2) × LacksRoomForNear text given errors room code
-IsNearFault text given errors room code e = (errors ≤ 2) × IsReadFault text code e
-
--- with a refusal lent memory is as it was; or the refusal is out of memory, and it has no bytes
-abbrev pub GivesBack : Lendable → Lendable → Refusal → Type 0
-GivesBack old new e = (new ≡ old) ⊎ ((e ≡ Memory) × (memory_size new ≡ 0))
+IsNearFault text given errors room code e = (errors ≤ 2) × IsResidueFault text code e
 
 -- ---- on the way
 
@@ -67,4 +61,4 @@ refusal_of_correct OutOfMemory = Memory
 -- why no texts are found: no residue of the text is read, or the memory does not suffice
 abbrev pub IsSearchFault : List ℕ → Code → Refusal → Type 0
 IsSearchFault text code Memory = Unit {0}
-IsSearchFault text code e = IsReadFault text code e
+IsSearchFault text code e = IsResidueFault text code e

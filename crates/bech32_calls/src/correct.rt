@@ -12,9 +12,9 @@ ghost use Rattle.bech32_bch.specs.Pattern.{locations as locations_of};
 ghost use Rattle.bech32_encode.specs.Buffers.{IsPut};
 ghost use Rattle.bech32_hrp.specs.Hrp.{lowered};
 ghost use Rattle.bech32_correction.specs.MendedElements.{EndsIn, mended as mended_of};
-ghost use Rattle.bech32_correction.specs.Mistyped.{IsListing};
+ghost use Rattle.bech32_correction.specs.Mistyped.{IsListedInPlace};
 ghost use Rattle.bech32_calls.specs.Checksums.{ForChecksum, IsFaultBy};
-ghost use Rattle.bech32_calls.specs.Correct.{IsCorrectFault, IsMendedBy, IsReadFault, PutsMended, bound};
+ghost use Rattle.bech32_calls.specs.Correct.{IsCorrectFault, IsMending, IsResidueFault, PutsMended, bound};
 
 use crate::checksum::{BECH32, BECH32M};
 use crate::input::text_of;
@@ -33,8 +33,8 @@ fn correction<Ck: CorrectsInPlace>(
     given: &[usize],
 ) -> Result<Correction<Listing<NoMemory>>, Refusal>
     ensures { MatchResult result
-        (λ answer. IsListing Ck.code Ck.bound bytes.now given.now answer)
-        (λ e. IsReadFault bytes.now Ck.code e) }
+        (λ answer. IsListedInPlace Ck.code Ck.bound bytes.now given.now answer)
+        (λ e. IsResidueFault bytes.now Ck.code e) }
 {
     if let Some(reading) = Reading::<Ck>::of(bytes) {
         return Ok(said_of_read(&reading, given)?);
@@ -49,8 +49,9 @@ pub(crate) fn correction_by(
     given: &[usize],
 ) -> Result<Correction<Listing<NoMemory>>, Refusal>
     ensures { MatchResult result
-        (λ answer. ForChecksum checksum (λ code. IsListing code bound bytes.now given.now answer))
-        (λ e. IsFaultBy checksum (IsReadFault bytes.now) e) }
+        (λ answer. ForChecksum checksum
+        (λ code. IsListedInPlace code bound bytes.now given.now answer))
+        (λ e. IsFaultBy checksum (IsResidueFault bytes.now) e) }
 {
     match checksum {
         BECH32 => correction::<Bech32>(bytes, given),
@@ -105,12 +106,12 @@ fn put_correction(
     values: &mut [u8],
     mended: &mut [u8],
 ) -> Result<usize, Refusal>
-    requires { (given : List ℕ) × (code : Code) × IsMendedBy text.now given listing.now code }
-    ensures value { (given : List ℕ) (code : Code) → IsMendedBy text.now given listing.now code
+    requires { (given : List ℕ) × (code : Code) × IsMending text.now given listing.now code }
+    ensures value { (given : List ℕ) (code : Code) → IsMending text.now given listing.now code
         → IfOk result (λ n. PutsMended text.now given
         locations.old locations.new values.old values.new n
         mended.old mended.new (length text.now) code) }
-    ensures refused { (given : List ℕ) (code : Code) → IsMendedBy text.now given listing.now code
+    ensures refused { (given : List ℕ) (code : Code) → IsMending text.now given listing.now code
         → IfErr result (λ e. IsCorrectFault text.now given
         (length locations.old) (length values.old) (length mended.old) code e) }
     ensures same { OnErr result ((locations.new ≡ locations.old) × (values.new ≡ values.old)
@@ -158,8 +159,9 @@ fn corrected_unread<Ck: CorrectsInPlace>(
     }
 }
 
-// Mends a text that one walk read, and that the checksum refuses for its residue, where the checksum
-// does not look the correction up. Out of line: where it does, no listing is to be cleared.
+// Mends a text that one walk read, and that the checksum refuses for its residue, where the
+// checksum does not look the correction up. Out of line: where it does, no listing is to be
+// cleared.
 #[inline(never)]
 fn corrected_by_search<Ck: CorrectsInPlace>(
     reading: &Reading<'_, Ck>,

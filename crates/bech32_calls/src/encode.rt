@@ -15,7 +15,7 @@ use bech32::{Bech32, Bech32m, Checksum, Fe32, encoded_length_of_part};
 
 /// Puts the text of a human-readable part, a witness version where there is one, and bytes into a
 /// buffer that has room for it, and returns its length.
-pub(crate) fn put_text<Ck: Checksum>(
+pub(crate) fn put_in_room<Ck: Checksum>(
     part: &[u8],
     version: Option<Fe32>,
     bytes: &[u8],
@@ -45,7 +45,7 @@ fn encoded<Ck: Checksum>(hrp: &[u8], bytes: &[u8], text: &mut [u8]) -> Result<us
     if count > text.len() {
         return Err(Refusal::NoRoom);
     }
-    Ok(put_text::<Ck>(hrp, None, bytes, text))
+    Ok(put_in_room::<Ck>(hrp, None, bytes, text))
 }
 
 /// Puts the text of a human-readable part and bytes by the checksum of a number, in lower case, at

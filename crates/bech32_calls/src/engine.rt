@@ -54,7 +54,7 @@ fn input_each<Ck: Checksum>(values: &[u8], engine: &mut Engine<Ck>) -> Result<()
 }
 
 // The remainder of the elements of values, packed.
-fn residue_of<Ck: Checksum>(values: &[u8]) -> Result<Ck::MidstateRepr, Refusal>
+fn remainder_of_values<Ck: Checksum>(values: &[u8]) -> Result<Ck::MidstateRepr, Refusal>
     ensures { MatchResult result
         (λ r. IsRunResidue Ck.MidstateRepr.number values.now r Ck.code)
         (λ e. IsRunFault values.now Ck.code e) }
@@ -78,8 +78,8 @@ pub fn residue_by(checksum: u32, values: &[u8]) -> Result<u32, Refusal>
         (λ e. IsFaultBy checksum (IsRunFault values.now) e) }
 {
     match checksum {
-        BECH32 => residue_of::<Bech32>(values),
-        BECH32M => residue_of::<Bech32m>(values),
+        BECH32 => remainder_of_values::<Bech32>(values),
+        BECH32M => remainder_of_values::<Bech32m>(values),
         _ => Err(Refusal::BadNumber),
     }
 }

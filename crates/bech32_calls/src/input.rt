@@ -16,6 +16,10 @@ use bech32_hrp::is_part;
 pub struct NotText;
 
 /// The text of bytes.
+///
+/// # Errors
+///
+/// Bytes that are not UTF-8.
 #[inline]
 pub fn text_of(bytes: &[u8]) -> Result<&str, NotText>
     ensures { MatchResult result
@@ -33,6 +37,10 @@ pub fn text_of(bytes: &[u8]) -> Result<&str, NotText>
 }
 
 /// The human-readable part of bytes.
+///
+/// # Errors
+///
+/// Bytes that are not UTF-8; else the first fault of their text as a human-readable part.
 pub fn part_of(bytes: &[u8]) -> Result<Hrp, Refusal>
     ensures { MatchResult result
         (λ hrp. IsHrp bytes.now × (hrp_bytes hrp ≡ bytes.now))
@@ -44,6 +52,10 @@ pub fn part_of(bytes: &[u8]) -> Result<Hrp, Refusal>
 }
 
 /// Tests that bytes are a human-readable part.
+///
+/// # Errors
+///
+/// Bytes that are not UTF-8; else the first fault of their text as a human-readable part.
 #[inline]
 pub fn test_part(bytes: &[u8]) -> Result<(), Refusal>
     ensures { MatchResult result (λ _. IsHrp bytes.now) (λ e. IsPartFault bytes.now e) }
@@ -56,6 +68,10 @@ pub fn test_part(bytes: &[u8]) -> Result<(), Refusal>
 }
 
 /// The element of a number, which is one up to 31.
+///
+/// # Errors
+///
+/// [`Refusal::BadNumber`] above 31.
 pub fn element_of(number: u32) -> Result<Fe32, Refusal>
     ensures { MatchResult result
         (λ fe. (number ≤ 31) × (fe ≡ element number))

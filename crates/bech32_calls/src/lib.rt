@@ -4,6 +4,9 @@
 //! A checksum is asked for by its number: 1 is Bech32, 2 is Bech32m. What is written stands at the
 //! front of the caller's buffers; behind it nothing changes, and on a refusal nothing changes at
 //! all. No function takes any memory but what a caller lends to [`nearest::put_nearest`].
+//!
+//! Below it: `bech32`, `bech32_numbers`, `caller_memory`.
+//! Standard: BIP-173; BIP-350.
 #![tactic(auto)]
 
 mod buffer;

@@ -3,10 +3,10 @@
 ghost use Rattle.std.specs.Prelude.{◌≡◌, ◌<◌, ◌≤◌, ◌*◌, ◌⊎◌, ℕ, length, map, flat_map, string_bytes, true, false, IfErr, IfOk, MatchResult, OnErr};
 ghost use Rattle.bech32_near.specs.NearTexts.{AreNearTexts};
 ghost use Rattle.bech32_encode.specs.Buffers.{IsPut};
-ghost use Rattle.caller_memory.specs.Memory.{memory_size};
+ghost use Rattle.caller_memory.specs.Memory.{LeavesMemory, memory_size};
 ghost use Rattle.bech32_calls.specs.Checksums.{ForChecksum, IsFaultBy};
 ghost use Rattle.bech32_calls.specs.Correct.{bound};
-ghost use Rattle.bech32_calls.specs.Nearest.{GivesBack, IsNearFault, IsRead, IsSearchFault, PutsNear};
+ghost use Rattle.bech32_calls.specs.Nearest.{IsNearFault, IsRead, IsSearchFault, PutsNear};
 
 use crate::buffer::put;
 use crate::checksum::{BECH32, BECH32M};
@@ -158,7 +158,7 @@ fn put_with(
         ⊎ ((e ≡ Refusal.Memory) × (memory_size memory.new ≡ 0))) }
     ensures memory { MatchResult result
         (λ _. memory.new ≡ memory.old)
-        (λ e. GivesBack memory.old memory.new e) }
+        (λ e. LeavesMemory memory.old memory.new (e ≡ Refusal.Memory)) }
 {
     let lent = Lent::new(memory.take());
     let count = put_over(&lent, checksum, bytes, given, errors, texts);
@@ -199,7 +199,7 @@ pub fn put_nearest(
         ⊎ ((e ≡ Refusal.Memory) × (memory_size memory.new ≡ 0))) }
     ensures memory { MatchResult result
         (λ _. memory.new ≡ memory.old)
-        (λ e. GivesBack memory.old memory.new e) }
+        (λ e. LeavesMemory memory.old memory.new (e ≡ Refusal.Memory)) }
 {
     tested(checksum, bytes, given, errors)?;
     put_with(memory, checksum, bytes, given, errors, texts)

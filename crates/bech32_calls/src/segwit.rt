@@ -11,7 +11,7 @@ ghost use Rattle.bech32_calls.specs.Segwit.{PutsAddress, IsAddressFault, IsSegwi
 ghost use Rattle.bech32_calls.specs.Segwit.{PutsProgram, IsSegwitDecodeFault};
 
 use crate::decode::put_parts;
-use crate::encode::put_text;
+use crate::encode::put_in_room;
 use crate::input::{element_of, test_part, text_of};
 use crate::refusal::Refusal;
 use bech32::primitives::decode::SegwitHrpstring;
@@ -47,9 +47,9 @@ fn put_address(part: &[u8], version: Fe32, program: &[u8], text: &mut [u8]) -> u
         × IsPut written text.old text.new result }
 {
     if version == VERSION_0 {
-        put_text::<Bech32>(part, Some(version), program, text)
+        put_in_room::<Bech32>(part, Some(version), program, text)
     } else {
-        put_text::<Bech32m>(part, Some(version), program, text)
+        put_in_room::<Bech32m>(part, Some(version), program, text)
     }
 }
 

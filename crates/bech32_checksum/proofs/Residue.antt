@@ -10,14 +10,7 @@ use Rattle.bech32_poly.proofs.Lists.{same_cons}
 use Rattle.bech32_poly.specs.Division.{zeros}
 use Rattle.bech32_poly.proofs.Remainder.{remainder_exists, remainder_of-short}
 use Rattle.bech32_checksum.specs.Packed.{digit_of, digits, tabulate}
-use Rattle.bech32_checksum.specs.Code.{Code, code_of}
-use Rattle.bech32_checksum.proofs.Digits.{length-tabulate}
 use Rattle.bech32_checksum.proofs.PartialProduct.{zero_digit}
-
--- the generator of the code of packed words has as many lower coefficients as the degree
-pub same_size : {R : Type 0} (number : R → ℕ) (code : Code) (code_length degree : ℕ) (words : List R) (target : R)
-    → code ≡ code_of number code_length degree words target → length code.generator ≡ degree
-same_size number code code_length degree words target law = ap (λ (c : Code). length c.generator) law ∙ length-tabulate degree _
 
 zero_above : (n : ℕ) → digit_of 1 (suc n) ≡ fe32.zero
 zero_above n =

@@ -1,8 +1,7 @@
 -- The value of a generator by Horner's rule, and what is asked of roots.
-use Rattle.std.proofs.Common.{◌≡◌, ◌≢◌, ◌↔◌, ◌⊎◌, ◌<◌, ◌≤◌, ◌+◌, ◌-◌, ℕ, zero, suc, List, [], ◌∷◌, length, get_or, drop, map, refl, sym, ◌∙◌, ap, subst, arith}
-use Rattle.std.proofs.Math.Decide.{dec_lt}
+use Rattle.std.proofs.Common.{◌≡◌, ◌≢◌, ◌↔◌, ◌⊎◌, ◌<◌, ◌≤◌, ◌-◌, ℕ, zero, suc, List, [], ◌∷◌, length, get_or, drop, map, refl, sym, ◌∙◌, ap, subst, arith}
 use Rattle.std.proofs.Math.Nat.{mod-eq_of_lt}
-use Rattle.bech32_gf.specs.Field.{Ops, IsField, power, value_at}
+use Rattle.bech32_gf.specs.Field.{Ops, IsField, value_at}
 use Rattle.bech32_gf.specs.laws.FieldLaws.{mul_zero}
 use Rattle.bech32_gf.specs.Fe32 as fe32
 use Rattle.bech32_gf.specs.declared.gf32.Fe32.{Fe32}
@@ -46,36 +45,10 @@ coefficient_of_digit low degree word i v is below small value =
     ∙ get_or-tabulate degree (digit_of word) i fe32.zero below
     ∙ fe32.path _ _ (sym value ∙ sym (mod-eq_of_lt small))
 
--- ---- powers one after another
-
--- `value` is the value of a polynomial, of which the powers of the base between two exponents are to be roots
-module _ {F : Type 0} (o : Ops F) (value : F → F) (base : F) (start : ℕ) where
-  -- those below an exponent are
-  abbrev pub AreRootsBelow : ℕ → Type 0
-  AreRootsBelow n = (e : ℕ) → start ≤ e → e < n → value (power o base e) ≡ o.zero
-
-  -- one more
-  root_or_before : (n e : ℕ) → value (power o base n) ≡ o.zero → AreRootsBelow n → start ≤ e → e ≤ n → value (power o base e) ≡ o.zero
-  root_or_before n e root before low high = elim (dec_lt e n) [
-    | yes below ↦ before e low below
-    | no last ↦
-        let same : n ≡ e = omega arith in
-        subst (λ k. value (power o base k) ≡ o.zero) same root
-  ]
-
-  pub roots_more : (n : ℕ) → value (power o base n) ≡ o.zero → AreRootsBelow n → AreRootsBelow (n + 1)
-  roots_more n root before e low high = root_or_before n e root before low (omega arith)
-
-  pub roots_all : (n : ℕ) → value (power o base n) ≡ o.zero → AreRootsBelow n → (e : ℕ) → start ≤ e → e ≤ n → value (power o base e) ≡ o.zero
-  roots_all n root before e low high = root_or_before n e root before low high
-
 -- ---- all that is asked of roots
 
 module _ {F : Type 0} (o : Ops F) (embed : Fe32 → F) (code : Code) (base : F) (start end degree code_length : ℕ)
     (size : length code.generator ≡ degree) (limit : code.code_length ≡ code_length) where
-  pub lawful_at_degree_0 : degree ≡ 0 → HasLawfulRoots o embed code base start end
-  lawful_at_degree_0 none some = absurd (omega arith)
-
   pub not_lawful_by_exponents : degree ≢ 0 → (end < start) ⊎ (degree ≤ end - start) → HasLawfulRoots o embed code base start end → ⊥
   not_lawful_by_exponents some wrong lawful =
       let roots = lawful (omega arith) in

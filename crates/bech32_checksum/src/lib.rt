@@ -1,4 +1,7 @@
 //! Checksums of elements: the words that define one, and the engine that computes it.
+//!
+//! Below it: `bech32_gf_ext`, `bech32_poly`, `bech32_hrp`.
+//! Standard: BIP-173, Checksum; BIP-350, Bech32m.
 #![tactic(auto)]
 
 ghost use Rattle.std.specs.Prelude.{◌≡◌, ◌<◌, ◌^◌, ◌↔◌, ◌/◌, map, reverse, get_or, ℕ, List, IsTrue, MatchOption, length, ◌∷◌, [], ⊤};
@@ -84,11 +87,11 @@ pub trait Checksum {
     /// The remainder of a right text, packed.
     const TARGET_RESIDUE: Self::MidstateRepr;
 
-    /// The product of an element and the generator's lower coefficients, packed: the sum of the words
-    /// at the set bits of the element's value.
+    /// The product of an element and the generator's lower coefficients, packed: the sum of the
+    /// words at the set bits of the element's value.
     ///
-    /// The provided one sums the words. Whoever defines a checksum may read a table in its place, and
-    /// shows that it holds these sums.
+    /// The provided one sums the words. Whoever defines a checksum may read a table in its place,
+    /// and shows that it holds these sums.
     #[inline]
     fn generator_times(element: Fe32) -> Self::MidstateRepr
         ensures row { IsRowOf CHECKSUM_LENGTH (scale fe32.ops element code.generator)
@@ -140,8 +143,8 @@ pub trait Checksum {
     /// The remainder after eight more elements, which stand in a word of 40 bits, the first of them
     /// highest, packed.
     ///
-    /// The provided one takes them apart. Whoever defines a checksum may read tables in its place, as
-    /// for [`Self::after_eight`].
+    /// The provided one takes them apart. Whoever defines a checksum may read tables in its place,
+    /// as for [`Self::after_eight`].
     #[inline]
     fn after_word(residue: Self::MidstateRepr, word: u64) -> Self::MidstateRepr
         requires residue { HasDigits CHECKSUM_LENGTH (Self.MidstateRepr.number residue) }
@@ -191,8 +194,8 @@ pub trait Checksum {
         next
     }
 
-    /// The only single error below the code length that leaves a residue, if any, where the checksum
-    /// has a way of its own to find it; the outer `None` says nothing.
+    /// The only single error below the code length that leaves a residue, if any, where the
+    /// checksum has a way of its own to find it; the outer `None` says nothing.
     ///
     /// The provided one says nothing, and correctors then search. Whoever defines a checksum may
     /// read tables.
@@ -204,8 +207,8 @@ pub trait Checksum {
         None
     }
 
-    /// The elements at up to three locations that together leave a residue, where the checksum has a
-    /// way of its own to find them; `None` says nothing.
+    /// The elements at up to three locations that together leave a residue, where the checksum has
+    /// a way of its own to find them; `None` says nothing.
     ///
     /// The provided one says nothing, and correctors then search. Whoever defines a checksum may
     /// read tables.
@@ -217,10 +220,10 @@ pub trait Checksum {
         None
     }
 
-    /// Whether the roots are lawful: the base is not zero, its order is the code length or more, the
-    /// first exponent is not above the last, which is less than the degree above it, and each power
-    /// of the base from the one to the other is a root of the generator. At degree 0 nothing is
-    /// asked of them.
+    /// Whether the roots are lawful: the base is not zero, its order is the code length or more,
+    /// the first exponent is not above the last, which is less than the degree above it, and each
+    /// power of the base from the one to the other is a root of the generator. At degree 0 nothing
+    /// is asked of them.
     ///
     /// Whoever defines a checksum should call it in a test. That the words agree with one another
     /// needs none: it is among the laws that each implementation proves.
@@ -323,8 +326,8 @@ impl<Ck: Checksum> Engine<Ck> {
         }
     }
 
-    /// An engine that was given nothing, and has no coefficient 1 above what it is given: it computes
-    /// the remainder of a polynomial as it is.
+    /// An engine that was given nothing, and has no coefficient 1 above what it is given: it
+    /// computes the remainder of a polynomial as it is.
     #[inline]
     pub fn zero() -> Self
         ensures { IsResidueOf Ck.MidstateRepr.number Ck.code result [] }

@@ -1,4 +1,7 @@
 //! What bech32 texts are made of: human-readable parts, checksums, groups of bits, and devices.
+//!
+//! Below it: `bech32_encode`.
+//! Standard: BIP-173; BIP-350.
 #![tactic(auto)]
 
 pub use bech32_checksum as checksum;

@@ -25,13 +25,13 @@ use Rattle.bech32_decode.specs.Refusals.{HasLengths, IsChecksumRefusal, IsInvali
 use Rattle.bech32_decode.specs.Text.{IsText}
 use Rattle.bech32_decode.proofs.Decoding.{accepted}
 use Rattle.bech32_decode.specs.declared.unchecked.UncheckedHrpstring.{UncheckedHrpstring}
-use Rattle.bech32_refusals.specs.ResidueRows.{IsResidueError, actual_row, residue_of, target_row}
+use Rattle.bech32_refusals.specs.ResidueRows.{IsResidueError, actual_row, error_residue_of, target_row}
 use Rattle.bech32_refusals.specs.declared.error.CheckedHrpstringError.TheVariants.{Checksum, Parse}
 use Rattle.bech32_refusals.specs.declared.error.ChecksumError.{ChecksumError}
 use Rattle.bech32_refusals.specs.declared.error.ChecksumError.TheVariants.{CodeLength, InvalidLength, InvalidResidue}
 use Rattle.bech32_refusals.specs.declared.error.InvalidResidueError.{InvalidResidueError}
 use Rattle.bech32_correction.specs.MendedElements.{mended}
-use Rattle.bech32_correction.specs.Mistyped.{AreInside, HasNoListing, IsCorrectRefusal, IsCorrectorOf, IsListedCorrection, IsListing, IsListingOf, IsReadAs, IsReadRefusal, IsRefusal, IsRefusedFor, question_of}
+use Rattle.bech32_correction.specs.Mistyped.{AreInside, HasNoListing, IsCorrectRefusal, IsCorrectorOf, IsListedCorrection, IsListedInPlace, IsListingOf, IsReadAs, IsReadRefusal, IsRefusal, IsRefusedFor, question_of}
 use Rattle.bech32_correction.specs.declared.correcting.Correction.{Correction}
 use Rattle.bech32_correction.specs.declared.correcting.Correction.TheVariants.{Mended, Unexplained}
 use Rattle.bech32_correction.specs.declared.error.CorrectError.{CorrectError}
@@ -41,7 +41,7 @@ use Rattle.bech32_correction.proofs.Inside.{all-with_erasures, listed_inside}
 use Rattle.bech32_correction.proofs.Sound.{sound_of}
 
 -- the residue that an error carries is the remainder less the target
-residue_carried : (code : Code) (p : List Fe32) (e : InvalidResidueError) (h : IsResidueError code p e) → IsSamePolynomial ops (residue_of e) (add ops h.remainder code.target)
+residue_carried : (code : Code) (p : List Fe32) (e : InvalidResidueError) (h : IsResidueError code p e) → IsSamePolynomial ops (error_residue_of e) (add ops h.remainder code.target)
 residue_carried code p e h n =
     coefficient-add is_field (actual_row e) (target_row e) n
     ∙ ap (λ (x : Fe32). fe32.add x (coefficient ops (target_row e) n)) (h.actual n)
@@ -58,7 +58,7 @@ accepted-from_valid code text u is v = (
 
 -- a text of these parts that is refused by a residue error is refused for its residue
 pub refused_text : (code : Code) (text hrp data_part : List ℕ) (e : InvalidResidueError) → IsText text hrp data_part
-    → IsChecksumRefusal code (length text) hrp data_part (InvalidResidue e) → IsRefusedFor code text hrp data_part (residue_of e)
+    → IsChecksumRefusal code (length text) hrp data_part (InvalidResidue e) → IsRefusedFor code text hrp data_part (error_residue_of e)
 refused_text code text hrp data_part e is v = record {
   read = record {
     grammar = is;
@@ -77,7 +77,7 @@ of_read : (code : Code) (text : List ℕ) (u : UncheckedHrpstring) (e : Checksum
 of_read code text u e is v = subst (λ (n : ℕ). IsChecksumRefusal code n (unchecked_part u) (unchecked_data u) e) is.text_length v
 
 pub refused_for : (code : Code) (text : List ℕ) (u : UncheckedHrpstring) (e : InvalidResidueError) → IsReadAs text u → IsInvalidBy code u (InvalidResidue e)
-    → IsRefusedFor code text (unchecked_part u) (unchecked_data u) (residue_of e)
+    → IsRefusedFor code text (unchecked_part u) (unchecked_data u) (error_residue_of e)
 refused_for code text u e is v = refused_text code text (unchecked_part u) (unchecked_data u) e is.grammar (of_read code text u (InvalidResidue e) is v)
 
 pub listing-from_only : (code : Code) (bound : ℕ) (text given hrp data_part : List ℕ) (residue : List Fe32) (listing : List (ℕ × Fe32))
@@ -213,7 +213,7 @@ refusal-from_invalid code text u e is v none = refusal_of_parts code text (unche
 refusal_of_text : (code : Code) (text : List ℕ) (u : UncheckedHrpstring) (e : CorrectError) → IsReadAs text u → IsReadRefusal code u e → IsCorrectRefusal code text e
 refusal_of_text code text u (Refused (Checksum e)) is h = refusal-from_invalid code text u e is h.0 h.1
 refusal_of_text code text u (Refused (Parse e)) is h = absurd h
-refusal_of_text code text u Memory is (error, v) = (unchecked_part u, unchecked_data u, residue_of error, refused_for code text u error is v)
+refusal_of_text code text u Memory is (error, v) = (unchecked_part u, unchecked_data u, error_residue_of error, refused_for code text u error is v)
 
 -- what is said of a text that was read is said of the text
 pub of_text : (code : Code) (bound : ℕ) (text given : List ℕ) (u : UncheckedHrpstring) (r : Result (Correction (List (ℕ × Fe32)) Question) CorrectError) → IsReadAs text u
@@ -232,6 +232,6 @@ answered code bound text given corrector (Some listing) is only = listed code bo
 -- a listing, or that there is none, as what is said of the text
 pub said_of : (code : Code) (bound : ℕ) (text given : List ℕ) (answer : Option (List (ℕ × Fe32))) (said : Correction (List (ℕ × Fe32)) (Unit {0}))
     → MatchOption answer (HasNoListing code bound text given) (λ listing. IsListingOf code bound text given listing)
-    → MatchOption answer (said ≡ Unexplained tt) (λ listing. said ≡ Mended listing) → IsListing code bound text given said
+    → MatchOption answer (said ≡ Unexplained tt) (λ listing. said ≡ Mended listing) → IsListedInPlace code bound text given said
 said_of code bound text given None said none is = rw is (none, tt)
 said_of code bound text given (Some listing) said only is = rw is only

@@ -130,8 +130,9 @@ IsListedCorrection code bound text given =
     code bound text given
 
 -- the correction is a listing; where there is none, nothing is left
-abbrev pub IsListing : Code → ℕ → List ℕ → List ℕ → Correction (List (ℕ × Fe32)) (Unit {0}) → Type 0
-IsListing code bound text given =
+abbrev pub IsListedInPlace : Code → ℕ → List ℕ → List ℕ
+    → Correction (List (ℕ × Fe32)) (Unit {0}) → Type 0
+IsListedInPlace code bound text given =
     IsCorrectionBy
     (λ listing. IsListingOf code bound text given listing)
     (λ c. Unit {0}) code bound text given

@@ -23,8 +23,8 @@ pub enum Correction<M, C = ()> {
     Accepted,
     /// It accepts the text with this correction, the only one within the bound on errors.
     Mended(M),
-    /// There is no correction within the bound on errors. The corrector of the text, with no erasures
-    /// yet, may look further.
+    /// There is no correction within the bound on errors. The corrector of the text, with no
+    /// erasures yet, may look further.
     Unexplained(C),
 }
 
@@ -95,8 +95,8 @@ pub fn listing_of_reading<Ck: CorrectingChecksum, A: Allocator + Copy>(
     Ok(listing_by(corrector, erasures)?)
 }
 
-/// What a checksum says of a text, where the given locations are erasures: whether it accepts the text,
-/// and else the only listing within the bound on errors that corrects it.
+/// What a checksum says of a text, where the given locations are erasures: whether it accepts the
+/// text, and else the only listing within the bound on errors that corrects it.
 ///
 /// # Errors
 ///

@@ -8,8 +8,8 @@ use thiserror::Error;
 /// Why a text is not corrected.
 #[derive(Clone, Copy, Debug, PartialEq, Eq, Drop, Error)]
 pub enum CorrectError {
-    /// The text is refused for another reason than a wrong checksum: it is not in the grammar, it is
-    /// longer than the checksum's code, or it is too short to hold a checksum.
+    /// The text is refused for another reason than a wrong checksum: it is not in the grammar, it
+    /// is longer than the checksum's code, or it is too short to hold a checksum.
     #[error("{0}")]
     Refused(CheckedHrpstringError),
     /// Out of memory.

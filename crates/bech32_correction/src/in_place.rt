@@ -1,4 +1,5 @@
-//! What a checksum says of a mistyped text, without memory: for checksums of at most six characters.
+//! What a checksum says of a mistyped text, without memory: for checksums of at most six
+//! characters.
 
 ghost use Rattle.std.specs.Prelude.{◌≡◌, ◌≤◌, ◌∷◌, [], length, Ok, IsOk, MatchOption, MatchResult, refl, ⊤};
 ghost use Rattle.std.proofs.Common.{arith};
@@ -10,7 +11,7 @@ ghost use Rattle.bech32_checksum.specs.laws.RootLaws.{bech32_roots, bech32m_root
 ghost use Rattle.bech32_checksum.specs.TextPolynomial.{text_polynomial};
 ghost use Rattle.bech32_decode.specs.Refusals.{HasLengths};
 ghost use Rattle.bech32_corrector.specs.Given.{IsAnswerWith};
-ghost use Rattle.bech32_correction.specs.Mistyped.{HasNoListing, IsListing, IsListingOf, IsRefusal};
+ghost use Rattle.bech32_correction.specs.Mistyped.{HasNoListing, IsListedInPlace, IsListingOf, IsRefusal};
 ghost use Rattle.bech32_correction.specs.declared.correcting.Correction.TheVariants.{Mended, Unexplained};
 
 use crate::correcting::{Correction, Listing};
@@ -39,7 +40,8 @@ fn answer_of(found: Result<Option<Listing<NoMemory>>, AllocError>) -> Option<Lis
 
 /// A checksum by which texts are corrected without memory: it has at most six characters.
 pub trait CorrectsInPlace: CorrectingChecksum {
-    /// The listing that explains a residue below a window, where the given locations are erasures.
+    /// The listing that explains an error residue below a window, where the given locations are
+    /// erasures.
     fn listing_of_residue(
         residue: &[Fe32],
         window: usize,
@@ -109,8 +111,8 @@ pub fn listing_of_read<Ck: CorrectsInPlace>(
     Ck::listing_of_residue(&residue[..Ck::CHECKSUM_LENGTH], window, erasures)
 }
 
-/// The error that mends a text that one walk read, and that the checksum refuses for its residue, where
-/// there are no erasures, if the checksum looks it up; the outer `None` says nothing.
+/// The error that mends a text that one walk read, and that the checksum refuses for its residue,
+/// where there are no erasures, if the checksum looks it up; the outer `None` says nothing.
 #[inline(always)]
 pub fn error_of_read<Ck: CorrectsInPlace>(
     reading: &Reading<'_, Ck>,
@@ -164,8 +166,8 @@ fn said_by(listing: Option<Listing<NoMemory>>) -> Correction<Listing<NoMemory>>
     }
 }
 
-/// What a checksum says of a text that one walk read, where the given locations are erasures. It takes
-/// no memory.
+/// What a checksum says of a text that one walk read, where the given locations are erasures. It
+/// takes no memory.
 ///
 /// # Errors
 ///
@@ -175,7 +177,7 @@ pub fn said_of_read<Ck: CorrectsInPlace>(
     erasures: &[usize],
 ) -> Result<Correction<Listing<NoMemory>>, CheckedHrpstringError>
     ensures { MatchResult result
-        (λ answer. IsListing Ck.code Ck.bound reading.now.text.now erasures.now answer)
+        (λ answer. IsListedInPlace Ck.code Ck.bound reading.now.text.now erasures.now answer)
         (λ e. IsRefusal Ck.code reading.now.text.now e) }
 {
     reading.validate_lengths()?;
@@ -197,7 +199,7 @@ pub fn listing_of_unread<Ck: CorrectsInPlace>(
     erasures: &[usize],
 ) -> Result<Correction<Listing<NoMemory>>, CheckedHrpstringError>
     ensures { MatchResult result
-        (λ answer. IsListing Ck.code Ck.bound text.now erasures.now answer)
+        (λ answer. IsListedInPlace Ck.code Ck.bound text.now erasures.now answer)
         (λ e. IsRefusal Ck.code text.now e) }
 {
     let unchecked = UncheckedHrpstring::new(text)?;
@@ -218,7 +220,7 @@ pub fn bech32_listing(
     erasures: &[usize],
 ) -> Result<Correction<Listing<NoMemory>>, CheckedHrpstringError>
     ensures { MatchResult result
-        (λ answer. IsListing bech32 3 text.now erasures.now answer)
+        (λ answer. IsListedInPlace bech32 3 text.now erasures.now answer)
         (λ e. IsRefusal bech32 text.now e) }
 {
     match Reading::<Bech32>::of(text.as_bytes()) {
@@ -237,7 +239,7 @@ pub fn bech32m_listing(
     erasures: &[usize],
 ) -> Result<Correction<Listing<NoMemory>>, CheckedHrpstringError>
     ensures { MatchResult result
-        (λ answer. IsListing bech32m 3 text.now erasures.now answer)
+        (λ answer. IsListedInPlace bech32m 3 text.now erasures.now answer)
         (λ e. IsRefusal bech32m text.now e) }
 {
     match Reading::<Bech32m>::of(text.as_bytes()) {

@@ -1,5 +1,8 @@
-//! Correction of mistyped texts: what a checksum says of a text that it refuses (BIP-173, Checksum
-//! design), and the corrected text.
+//! Correction of mistyped texts: what a checksum says of a text that it refuses, and the corrected
+//! text.
+//!
+//! Below it: `bech32_corrector`, `bech32_decode`.
+//! Standard: BIP-173, Checksum design.
 #![tactic(auto)]
 
 mod correcting;

@@ -25,8 +25,8 @@ fn mend_at(text: &mut [u8], location: usize, value: Fe32)
     text[place] = (element + value).to_char() as u8;
 }
 
-/// Adds each listed value to the element at its location, in a text in lower case. Location 0 is the
-/// last character; all locations are those of the text's data part.
+/// Adds each listed value to the element at its location, in a text in lower case. Location 0 is
+/// the last character; all locations are those of the text's data part.
 pub fn mend(text: &mut [u8], listing: &[(usize, Fe32)])
     requires { (front : List ℕ) × ((elements : List Element) × EndsIn text.old front elements
         × AllByRecursion (λ p. p.0 < length elements) listing.now) }

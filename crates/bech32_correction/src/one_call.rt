@@ -19,9 +19,9 @@ use std::alloc::{AllocError, Allocator, Global};
 /// How a text is corrected: a [`Listing`], and the corrected text.
 #[derive(Drop)]
 pub struct MendedBy<L, S> {
-    /// Locations in characters from the last, which is 0, and the element that is added at each: the
-    /// erasures as they were given, then the errors, 0 first where it is one of them, the others
-    /// falling.
+    /// Locations in characters from the last, which is 0, and the element that is added at each:
+    /// the erasures as they were given, then the errors, 0 first where it is one of them, the
+    /// others falling.
     pub listing: L,
     /// The corrected text, in lower case.
     pub text: S,
@@ -79,13 +79,13 @@ pub fn correct_in<Ck: CorrectingChecksum, A: Allocator + Copy>(
 
 /// What a checksum says of a text (BIP-173, Checksum design): that it accepts it; else the only
 /// correction of the data part with so few wrong characters outside `erasures` that twice their
-/// number, with that of the erasures, is at most the bound (3 for [`Bech32`](bech32_checksum::Bech32)
-/// and [`Bech32m`](bech32_checksum::Bech32m): one wrong character, or three erasures); or that there
-/// is none.
+/// number, with that of the erasures, is at most the bound (3 for
+/// [`Bech32`](bech32_checksum::Bech32) and [`Bech32m`](bech32_checksum::Bech32m): one wrong
+/// character, or three erasures); or that there is none.
 ///
-/// `erasures` are locations that are known to be wrong, in characters from the last, which is 0; one
-/// that is given twice counts once. Where one is not in the data part, or they are more than the
-/// bound, there is no correction.
+/// `erasures` are locations that are known to be wrong, in characters from the last, which is 0;
+/// one that is given twice counts once. Where one is not in the data part, or they are more than
+/// the bound, there is no correction.
 ///
 /// A correction is a guess: with more wrong characters than the bound allows it may be another text
 /// than the one that was meant. Compare it with the source before it is used.
@@ -93,8 +93,8 @@ pub fn correct_in<Ck: CorrectingChecksum, A: Allocator + Copy>(
 /// # Errors
 ///
 /// As [`CheckedHrpstring::new`](bech32_decode::CheckedHrpstring::new), but for a wrong checksum.
-/// Out of memory is returned only for a text that is refused for a wrong checksum; for a checksum of
-/// at most six characters only in place of a correction.
+/// Out of memory is returned only for a text that is refused for a wrong checksum; for a checksum
+/// of at most six characters only in place of a correction.
 pub fn correct<Ck: CorrectingChecksum>(
     alloc: Global,
     text: &str,

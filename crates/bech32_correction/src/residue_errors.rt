@@ -10,7 +10,8 @@ use bech32_checksum::Checksum;
 use bech32_decode::{Reading, UncheckedHrpstring};
 use bech32_refusals::{ChecksumError, InvalidResidueError};
 
-// The residue error of a checksum's refusal, if it is for the residue; none where there is no refusal.
+// The residue error of a checksum's refusal, if it is for the residue; none where there is no
+// refusal.
 #[inline]
 fn residue_error_by(
     tested: Result<(), ChecksumError>,
@@ -30,7 +31,8 @@ fn residue_error_by(
     }
 }
 
-/// The residue error of a text that the checksum refuses for its residue; none where it accepts the text.
+/// The residue error of a text that the checksum refuses for its residue; none where it accepts
+/// the text.
 ///
 /// # Errors
 ///

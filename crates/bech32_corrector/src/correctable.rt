@@ -1,7 +1,7 @@
-//! Errors that may carry a residue.
+//! Errors that may carry an error residue.
 
 ghost use Rattle.std.specs.Prelude.{◌≡◌, ◌≤◌, ◌<◌, ◌⊎◌, [], Option, None, Some, MatchOption};
-ghost use Rattle.bech32_refusals.specs.ResidueRows.{residue_of};
+ghost use Rattle.bech32_refusals.specs.ResidueRows.{error_residue_of};
 ghost use Rattle.bech32_refusals.specs.declared.error.InvalidResidueError.{InvalidResidueError as ResidueError};
 
 use crate::corrector::Corrector;
@@ -12,7 +12,7 @@ use bech32_refusals::{
 use bech32_solver::residue_error_of;
 use std::alloc::Allocator;
 
-/// An error that may carry the residue of a text, from which its errors are found.
+/// An error that may carry the error residue of a text, from which its errors are found.
 pub trait CorrectableError {
     // The residue error that it is, or holds at any depth.
     ghost carried: { Self → Option ResidueError };
@@ -23,7 +23,7 @@ pub trait CorrectableError {
             (λ e. carried self.now ≡ Some e.now) };
 
     /// What finds the errors of the refused text, anywhere below the code length. `None` where no
-    /// residue is carried, and for a checksum of no characters.
+    /// error residue is carried, and for a checksum of no characters.
     final fn correction_context<Ck: Checksum, A: Allocator + Copy>(
         &self,
         alloc: A,
@@ -32,13 +32,17 @@ pub trait CorrectableError {
         ensures { MatchOption result
             ((Ck.CHECKSUM_LENGTH ≡ 0) ⊎ (carried self.now ≡ None))
             (λ c. (0 < Ck.CHECKSUM_LENGTH) × ((e : ResidueError) × (carried self.now ≡ Some e)
-            × (c ≡ record { residue = residue_of e; window = Ck.CODE_LENGTH; erasures = [] }))) }
+            × (c ≡ record {
+              residue = error_residue_of e;
+              window = Ck.CODE_LENGTH;
+              erasures = [];
+            }))) }
     {
         self.correction_context_within(alloc, Ck::CODE_LENGTH)
     }
 
-    /// The same, for errors at locations below `window`, in characters from the last. A narrow window
-    /// (the length of the text) takes less time, and finds no errors before the text.
+    /// The same, for errors at locations below `window`, in characters from the last. A narrow
+    /// window (the length of the text) takes less time, and finds no errors before the text.
     final fn correction_context_within<Ck: Checksum, A: Allocator + Copy>(
         &self,
         alloc: A,
@@ -49,7 +53,7 @@ pub trait CorrectableError {
         ensures { MatchOption result
             ((Ck.CHECKSUM_LENGTH ≡ 0) ⊎ (carried self.now ≡ None))
             (λ c. (0 < Ck.CHECKSUM_LENGTH) × ((e : ResidueError) × (carried self.now ≡ Some e)
-            × (c ≡ record { residue = residue_of e; window = window; erasures = [] }))) }
+            × (c ≡ record { residue = error_residue_of e; window = window; erasures = [] }))) }
     {
         if Ck::CHECKSUM_LENGTH == 0 {
             return None;

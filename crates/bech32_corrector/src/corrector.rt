@@ -25,8 +25,8 @@ use std::alloc::{AllocError, Allocator, Global};
 use std::fmt;
 use std::marker::{Model, PhantomData};
 
-/// Finds the errors in a text from the residue that it leaves: the remainder of its polynomial less
-/// the checksum's target. Location 0 is the last character.
+/// Finds the errors in a text from the error residue that it leaves: the remainder of its
+/// polynomial less the checksum's target. Location 0 is the last character.
 #[derive(Drop)]
 pub struct Corrector<Ck: Checksum, A: Allocator + Copy = Global> {
     erasures: ShortVec<usize, A>,
@@ -65,7 +65,7 @@ impl<Ck: Checksum, A: Allocator + Copy> Clone for Corrector<Ck, A> {
     }
 }
 
-/// Shows what contracts see: the residue, the window and the erasures.
+/// Shows what contracts see: the error residue, the window and the erasures.
 impl<Ck: Checksum, A: Allocator + Copy> fmt::Debug for Corrector<Ck, A> {
     fn fmt<W: fmt::Write>(&self, f: &mut fmt::Formatter<W>) -> fmt::Result {
         f.debug_struct("Corrector")
@@ -77,7 +77,7 @@ impl<Ck: Checksum, A: Allocator + Copy> fmt::Debug for Corrector<Ck, A> {
 }
 
 impl<Ck: Checksum, A: Allocator + Copy> Corrector<Ck, A> {
-    /// A corrector of a residue, with no erasures.
+    /// A corrector of an error residue, with no erasures.
     pub fn new(alloc: A, residue: [Fe32; MAX_DEGREE], window: usize) -> Self
         requires lawful { AreLawfulRoots Ck.CorrectionField.ops Ck.CorrectionField.embed Ck.code
             Ck.ROOT_GENERATOR Ck.ROOT_EXPONENTS_START Ck.ROOT_EXPONENTS_END }
@@ -140,9 +140,9 @@ impl<Ck: Checksum, A: Allocator + Copy> Corrector<Ck, A> {
         }
     }
 
-    /// A corrector of the same residue with these locations as erasures, each once, in the order in
-    /// which they came first. `None` where one is not below the window, or they are more than the
-    /// [`singleton_bound`](Self::singleton_bound).
+    /// A corrector of the same error residue with these locations as erasures, each once, in the
+    /// order in which they came first. `None` where one is not below the window, or they are more
+    /// than the [`singleton_bound`](Self::singleton_bound).
     ///
     /// # Errors
     ///
@@ -184,8 +184,8 @@ impl<Ck: Checksum, A: Allocator + Copy> Corrector<Ck, A> {
         correct::<Ck, A>(alloc, window, residue, &self.erasures, &self.known)
     }
 
-    /// What [`listing`](Self::listing) is with these locations as erasures in place of its own. `None`,
-    /// too, where one is not below the window.
+    /// What [`listing`](Self::listing) is with these locations as erasures in place of its own.
+    /// `None`, too, where one is not below the window.
     ///
     /// # Errors
     ///
@@ -207,9 +207,9 @@ impl<Ck: Checksum, A: Allocator + Copy> Corrector<Ck, A> {
         )
     }
 
-    /// The errors that explain the residue, and the elements at the erasures: the one pattern below
-    /// the window that has the residue as remainder and has so few errors outside the erasures that
-    /// twice their number and that of the erasures are at most the
+    /// The errors that explain the error residue, and the elements at the erasures: the one pattern
+    /// below the window that has the error residue as remainder and has so few errors outside the
+    /// erasures that twice their number and that of the erasures are at most the
     /// [`singleton_bound`](Self::singleton_bound). `None` where there is no such pattern.
     ///
     /// # Errors
@@ -241,7 +241,7 @@ impl<Ck: Checksum, A: Allocator + Copy> Corrector<Ck, A> {
         self.erasures.allocator()
     }
 
-    /// The corrector of what is left of the residue where an error is taken off.
+    /// The corrector of what is left of the error residue where an error is taken off.
     ///
     /// # Errors
     ///

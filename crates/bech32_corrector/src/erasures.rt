@@ -47,8 +47,8 @@ fn distinct_in<A: Allocator + Copy>(
     Ok(Some(distinct))
 }
 
-/// The given locations, each once, in the order in which they came first. None where one is not below
-/// the window, or there are more than `most` of them.
+/// The given locations, each once, in the order in which they came first. None where one is not
+/// below the window, or there are more than `most` of them.
 ///
 /// # Errors
 ///

@@ -1,4 +1,4 @@
-//! The listing that explains a residue, where locations are given as erasures.
+//! The listing that explains an error residue, where locations are given as erasures.
 
 ghost use Rattle.std.specs.Prelude.{◌≤◌, ℕ, List, length, IfOk, IsOk};
 ghost use Rattle.bech32_checksum.specs.Roots.{AreLawfulRoots};
@@ -14,9 +14,10 @@ use bech32_solver::{bound, correct};
 use std::alloc::{AllocError, Allocator};
 use std::marker::PhantomData;
 
-/// The errors below the window, and the elements at the given locations, that explain a residue: what
-/// [`Corrector::listing_with`] answers, without a corrector. The last argument holds nothing: what a
-/// corrector holds stands in the signature by it, or the prover does not know its size.
+/// The errors below the window, and the elements at the given locations, that explain an error
+/// residue: what [`Corrector::listing_with`] answers, without a corrector. The last argument holds
+/// nothing: what a corrector holds stands in the signature by it, or the prover does not know its
+/// size.
 ///
 /// # Errors
 ///

@@ -1,5 +1,8 @@
-//! What finds the errors, and the elements at the erasures, that explain the residue of a text that a
-//! checksum refuses (BIP-173, Checksum design).
+//! What finds the errors, and the elements at the erasures, that explain the error residue of a
+//! text that a checksum refuses.
+//!
+//! Below it: `bech32_solver`.
+//! Standard: BIP-173, Checksum design.
 #![tactic(auto)]
 
 mod correctable;

@@ -1,5 +1,5 @@
 -- A text is read as a segwit address exactly where it is one.
-use Rattle.std.proofs.Common.{◌≡◌, ◌⊎◌, ◌↔◌, ◌==◌, ℕ, ◌<◌, ◌≤◌, ◌+◌, ◌/◌, Bool, true, false, List, [], ◌∷◌, ◌++◌, None, Result, Ok, Err, length, length-append, map, take, cond, refl, sym, ap, subst, ◌∙◌, arith, inl, inr, ⊎_elim, MatchResult, IsOk, IfOk}
+use Rattle.std.proofs.Common.{◌≡◌, ◌≢◌, ◌⊎◌, ◌↔◌, ◌==◌, ℕ, ◌<◌, ◌≤◌, ◌+◌, ◌/◌, Bool, true, false, List, [], ◌∷◌, ◌++◌, None, Result, Ok, Err, length, length-append, map, take, drop, cond, refl, sym, ap, subst, ◌∙◌, arith, inl, inr, ⊎_elim, MatchResult, IsOk, IfOk}
 use Rattle.std.proofs.lemmas.List.{map-append, length-map, take_at}
 use Rattle.std.specs.Char.{to_ascii_lowercase, to_ascii_uppercase}
 use Rattle.std.specs.Str.{IsUtf8}
@@ -21,12 +21,13 @@ use Rattle.bech32_decode.specs.BeforeChecksum.{IsBeforeChecksum}
 use Rattle.bech32_decode.specs.Checked.{IsWithoutChecksum}
 use Rattle.bech32_decode.specs.Refusals.{HasValidChecksum, IsChecksumRefusal}
 use Rattle.bech32_decode.specs.Segwit.{segwit_code, IsLowerAddress, IsAddress, IsAddressText, IsVersioned, IsVersionRefusal, IsSegwitData, IsDataRefusal, IsUnread, IsWithoutVersion, IsOfWrongChecksum, IsOfWrongData, IsAddressRefusal, IsSegwitRefusal}
-use Rattle.bech32_decode.specs.SegwitParts.{IsSegwitOf, IsDataOf, IsReadIn, IsReadAs, IsReadBy, IsRefusedBy, IsUnlawfulBy, IsWrongDataOf}
+use Rattle.bech32_decode.specs.SegwitParts.{IsSegwitOf, IsDataOf, IsReadIn, IsReadAddress, IsReadBy, IsRefusedBy, IsWrongDataOf}
 use Rattle.bech32_refusals.specs.SegwitRules.{IsProgramLength, IsLengthRefusal}
 use Rattle.bech32_decode.specs.SegwitPadding.{IsPadded, IsPaddingRefusal}
 use Rattle.bech32_decode.specs.declared.address.SegwitHrpstring.{SegwitHrpstring}
 use Rattle.bech32_decode.specs.declared.address_data.AddressData.{AddressData}
 use Rattle.bech32_decode.specs.declared.checked.CheckedHrpstring.{CheckedHrpstring}
+use Rattle.bech32_refusals.specs.declared.error.ChecksumError.{ChecksumError}
 use Rattle.bech32_refusals.specs.declared.error.PaddingError.{PaddingError}
 use Rattle.bech32_refusals.specs.declared.error.PaddingError.TheVariants.{TooMuch, NonZero}
 use Rattle.bech32_refusals.specs.declared.error.SegwitHrpstringError.{SegwitHrpstringError}
@@ -80,7 +81,7 @@ address-from_parts text hrp v characters h =
       in_one_case = in_one_case text hrp h.data_part h.accepted.grammar;
     }
 
-pub address-from_read : (text : List ℕ) (a : SegwitHrpstring) → IsReadAs segwit_code text a
+pub address-from_read : (text : List ℕ) (a : SegwitHrpstring) → IsReadAddress segwit_code text a
     → IsAddress (hrp_bytes a.hrp) a.witness_version (to_bytes (elements_of a.ascii.now)) text
 address-from_read text a h = address-from_parts text (hrp_bytes a.hrp) a.witness_version a.ascii.now h
 
@@ -282,13 +283,13 @@ module _ (text : List ℕ) (a : IsAddressIn text) where
 -- ---- what `new` returns
 
 pub address-from_outcome : (text : List ℕ) (r : Result SegwitHrpstring SegwitHrpstringError)
-    → MatchResult r (λ a. IsReadAs segwit_code text a) (λ e. IsSegwitRefusal text e)
+    → MatchResult r (λ a. IsReadAddress segwit_code text a) (λ e. IsSegwitRefusal text e)
     → IfOk r (λ a. IsAddress (hrp_bytes a.hrp) a.witness_version (to_bytes (elements_of a.ascii.now)) text)
 address-from_outcome text (Ok a) h = address-from_read text a h
 address-from_outcome text (Err e) h = tt
 
 pub accepts-from_outcome : (text : List ℕ) → IsUtf8 text → (r : Result SegwitHrpstring SegwitHrpstringError)
-    → MatchResult r (λ a. IsReadAs segwit_code text a) (λ e. IsSegwitRefusal text e) → IsOk r ↔ IsAddressText text
+    → MatchResult r (λ a. IsReadAddress segwit_code text a) (λ e. IsSegwitRefusal text e) → IsOk r ↔ IsAddressText text
 accepts-from_outcome text u (Ok a) h =
     (λ _. (hrp_bytes a.hrp, a.witness_version, to_bytes (elements_of a.ascii.now), h.accepted.grammar.is_hrp, address-from_read text a h), λ _. refl)
 accepts-from_outcome text u (Err e) h = (λ ok. absurd cc, λ a. absurd (not_refused text (parts-from_address text a) e u h))
@@ -298,7 +299,7 @@ accepts-from_outcome text u (Err e) h = (λ ok. absurd cc, λ a. absurd (not_ref
 module _ (code : Fe32 → Code) (text : List ℕ) (u : UncheckedHrpstring) (version : Fe32) (others : List Fe32)
     (is : IsText text (hrp_bytes u.hrp) u.data_part_ascii.now) (n : u.hrpstring_length ≡ length text)
     (versioned : IsVersioned (elements_of u.data_part_ascii.now) version others) where
-  read-as : (a : SegwitHrpstring) → IsReadBy (code version) u a → IsReadAs code text a
+  read-as : (a : SegwitHrpstring) → IsReadBy (code version) u a → IsReadAddress code text a
   read-as a h =
       let hrp = hrp_bytes u.hrp in
       let d = u.data_part_ascii.now in
@@ -346,13 +347,13 @@ module _ (code : Fe32 → Code) (text : List ℕ) (u : UncheckedHrpstring) (vers
 
   pub outcome-from_checksum : (ck : Code) → ck ≡ code version → (r : Result SegwitHrpstring SegwitHrpstringError)
       → MatchResult r (λ a. IsReadBy ck u a) (λ e. IsRefusedBy ck u e ⊎ IsWrongDataOf ck u e)
-      → MatchResult r (λ a. IsReadAs code text a) (λ e. IsAddressRefusal code text e)
+      → MatchResult r (λ a. IsReadAddress code text a) (λ e. IsAddressRefusal code text e)
   outcome-from_checksum ck same (Ok a) h = read-as a (subst (λ (c : Code). IsReadBy c u a) same h)
   outcome-from_checksum ck same (Err e) h = refused-as e (subst (λ (c : Code). IsRefusedBy c u e ⊎ IsWrongDataOf c u e) same h)
 
 pub in_length : (text : List ℕ) (r : Result SegwitHrpstring SegwitHrpstringError) → length text ≤ 90
-    → MatchResult r (λ a. IsReadAs segwit_code text a) (λ e. IsAddressRefusal segwit_code text e)
-    → MatchResult r (λ a. IsReadAs segwit_code text a) (λ e. IsSegwitRefusal text e)
+    → MatchResult r (λ a. IsReadAddress segwit_code text a) (λ e. IsAddressRefusal segwit_code text e)
+    → MatchResult r (λ a. IsReadAddress segwit_code text a) (λ e. IsSegwitRefusal text e)
 in_length text (Ok a) few h = h
 in_length text (Err e) few h = inr (few, h)
 
@@ -373,52 +374,67 @@ outcome-from_segwit code u c valid without (Err e) h = inr (record { valid = val
 
 -- ---- from the outcome of one walk to the text's
 
-module _ (text hrp d : List ℕ) (is : IsText text hrp d) (version : Fe32) (others : List Fe32)
-    (versioned : IsVersioned (elements_of d) version others) where
-  read-in : (v : Fe32) (program : List ℕ) → IsReadIn (λ _. segwit_code version) text hrp v program → IsReadIn segwit_code text hrp v program
-  read-in v program h =
-      let ck = segwit_code version in
-      let sum = elements_of h.before.checksum in
-      let data_is = (only-from_IsText text hrp d is hrp h.data_part h.accepted.grammar.split h.accepted.grammar.data_bytes).1 in
-      let whole : elements_of d ≡ (v ∷ elements_of program) ++ sum =
-      ap elements_of (sym data_is) ∙ (elements-before ck h.data_part h.checked h.before ∙ ap (λ (l : List Fe32). l ++ sum) h.elements) in
-      let same : version ≡ v = same_head version v others (elements_of program ++ sum) (sym versioned.parts ∙ whole) in
-      record {
-        data_part = h.data_part;
-        accepted = subst (λ (x : Fe32). IsAccepted (segwit_code x) text hrp h.data_part) same h.accepted;
-        checked = h.checked;
-        before = subst (λ (x : Fe32). IsBeforeChecksum (segwit_code x) h.data_part h.checked) same h.before;
-        elements = h.elements;
-        characters = h.characters;
-        lawful = h.lawful;
-      }
+-- what stands before a checksum begins with the version of the data part
+pub versioned-before : (code : Code) (data_part characters : List ℕ) (version : Fe32) (others : List Fe32) → IsBeforeChecksum code data_part characters
+    → IsVersioned (elements_of data_part) version others → characters ≢ [] → IsVersioned (elements_of characters) version (elements_of (drop 1 characters))
+versioned-before code data_part [] version others before versioned some = absurd (some refl)
+versioned-before code data_part (b ∷ bs) version others before versioned some =
+    let whole : elements_of data_part ≡ element_of b ∷ (elements_of bs ++ elements_of before.checksum) = elements-before code data_part (b ∷ bs) before in
+    let same : element_of b ≡ version = same_head (element_of b) version (elements_of bs ++ elements_of before.checksum) others (sym whole ∙ versioned.parts) in
+    record { parts = ap (λ (x : Fe32). x ∷ elements_of bs) same; fits = versioned.fits }
 
-  unlawful-in : (e : SegwitHrpstringError) → IsUnlawfulBy (segwit_code version) text hrp d e → IsAddressRefusal segwit_code text e
-  unlawful-in e (inl r) = inr (inr (inl (record {
+-- each version has a checksum of six characters
+pub room-of_version : (version : Fe32) (data_part : List ℕ) → length (segwit_code version).generator ≤ length data_part → 6 ≤ length data_part
+room-of_version version data_part room = let six : length (segwit_code version).generator ≡ 6 = short version in omega arith
+
+pub before-of_version : (version : Fe32) (data_part characters : List ℕ) → IsBeforeChecksum bech32m data_part characters
+    → IsBeforeChecksum (segwit_code version) data_part characters
+before-of_version version data_part characters before = record { checksum = before.checksum; data_part_is = before.data_part_is; size = before.size ∙ sym (short version) }
+
+module _ (text hrp d : List ℕ) (version : Fe32) (others : List Fe32) (versioned : IsVersioned (elements_of d) version others) where
+  -- the checksum of that version is refused
+  pub refused-by_checksum : (e : ChecksumError) → IsText text hrp d → IsChecksumRefusal (segwit_code version) (length text) hrp d e
+      → IsAddressRefusal segwit_code text (Checksum e)
+  refused-by_checksum e is refusal = inr (inr (inl (record {
     hrp = hrp;
     data_part = d;
     grammar = is;
     version = version;
     others = others;
     versioned = versioned;
-    error = r.0;
-    is = r.1;
-    refusal = r.2;
-  })))
-  unlawful-in e (inr r) = inr (inr (inr (record {
-    hrp = hrp;
-    data_part = d;
-    version = version;
-    others = others;
-    versioned = versioned;
-    accepted = r.0;
-    characters = r.1;
-    before = r.2;
-    refusal = r.3;
+    error = e;
+    is = refl;
+    refusal = refusal;
   })))
 
-  pub outcome-from_reading : (ck : Code) → ck ≡ segwit_code version → (r : Result AddressData SegwitHrpstringError)
-      → MatchResult r (λ a. IsReadIn (λ _. ck) text hrp a.version a.program.now) (λ e. IsUnlawfulBy ck text hrp d e)
-      → MatchResult r (λ a. IsReadIn segwit_code text hrp a.version a.program.now) (λ e. IsAddressRefusal segwit_code text e)
-  outcome-from_reading ck same (Ok a) h = read-in a.version a.program.now (subst (λ (c : Code). IsReadIn (λ _. c) text hrp a.version a.program.now) same h)
-  outcome-from_reading ck same (Err e) h = unlawful-in e (subst (λ (c : Code). IsUnlawfulBy c text hrp d e) same h)
+  module _ (accepted : IsAccepted (segwit_code version) text hrp d) (characters : List ℕ) (before : IsBeforeChecksum bech32m d characters) where
+    pub refused-by_data : (e : SegwitHrpstringError) → IsDataRefusal (length text) (elements_of characters) e → IsAddressRefusal segwit_code text e
+    refused-by_data e refusal = inr (inr (inr (record {
+      hrp = hrp;
+      data_part = d;
+      version = version;
+      others = others;
+      versioned = versioned;
+      accepted = accepted;
+      characters = characters;
+      before = before-of_version version d characters before;
+      refusal = refusal;
+    })))
+
+    read-in : (v : Fe32) (program : List ℕ) → version ≡ v → IsDataOf (length text) characters v program → IsReadIn segwit_code text hrp v program
+    read-in v program same h = record {
+      data_part = d;
+      accepted = subst (λ (x : Fe32). IsAccepted (segwit_code x) text hrp d) same accepted;
+      checked = characters;
+      before = before-of_version v d characters before;
+      elements = h.elements;
+      characters = h.characters;
+      lawful = h.lawful;
+    }
+
+    pub outcome-from_data : IsVersioned (elements_of characters) version (elements_of (drop 1 characters)) → (r : Result AddressData SegwitHrpstringError)
+        → MatchResult r (λ a. IsDataOf (length text) characters a.version a.program.now) (λ e. IsDataRefusal (length text) (elements_of characters) e)
+        → MatchResult r (λ a. IsReadIn segwit_code text hrp a.version a.program.now) (λ e. IsAddressRefusal segwit_code text e)
+    outcome-from_data begins (Ok a) h =
+        read-in a.version a.program.now (same_head version a.version (elements_of (drop 1 characters)) (elements_of a.program.now) (sym begins.parts ∙ h.elements)) h
+    outcome-from_data begins (Err e) h = refused-by_data e h

@@ -1,8 +1,6 @@
 -- The bytes of characters, put into a buffer group by group.
-use Rattle.std.proofs.Common.{◌≡◌, ℕ, zero, suc, ◌+◌, ◌-◌, ◌*◌, ◌/◌, ◌%◌, ◌<◌, ◌≤◌, true, List, [], ◌∷◌, ◌++◌, length, map, take, drop, get_or, set, refl, sym, ap, ◌∙◌, arith, append_assoc, length-append}
-use Rattle.std.proofs.lemmas.Bool.{and_parts}
+use Rattle.std.proofs.Common.{◌≡◌, ℕ, suc, ◌+◌, ◌-◌, ◌*◌, ◌/◌, ◌%◌, ◌<◌, ◌≤◌, List, [], ◌∷◌, ◌++◌, length, take, drop, get_or, set, refl, sym, ap, ◌∙◌, arith, append_assoc, length-append}
 use Rattle.std.proofs.lemmas.List.{drop-drop, drop_at, drop-take, drop_more, length-map, length-take-le, map-append, set_at, take-append-drop, take-take, take_at}
-use Rattle.bech32_gf.specs.Alphabet.{is_of_alphabet, is_data}
 use Rattle.bech32_gf.specs.Fe32.{element_of, elements_of}
 use Rattle.bech32_gf.specs.declared.gf32.Fe32.{Fe32}
 use Rattle.bech32_bits.specs.Bits.{to_bytes}
@@ -10,26 +8,6 @@ use Rattle.bech32_bits.proofs.WholeGroups.{five_of, to_bytes-append}
 use Rattle.bech32_bits.proofs.RoundTrip.{length-to_bytes}
 
 -- ---- the characters of a group
-
-pub is_data-at : (cs : List ℕ) (i : ℕ) → is_data cs ≡ true → i < length cs → is_of_alphabet (get_or cs i 0) ≡ true
-is_data-at [] i h l = absurd (omega arith)
-is_data-at (c ∷ cs) zero h l = (and_parts (is_of_alphabet c) (is_data cs) h).0
-is_data-at (c ∷ cs) (suc i) h l = is_data-at cs i (and_parts (is_of_alphabet c) (is_data cs) h).1 (omega arith)
-
--- what a function makes of the first eight
-pub map-first_eight : (f : ℕ → Fe32) (cs : List ℕ) → 8 ≤ length cs
-    → f (get_or cs 0 0) ∷ f (get_or cs 1 0) ∷ f (get_or cs 2 0) ∷ f (get_or cs 3 0)
-    ∷ f (get_or cs 4 0) ∷ f (get_or cs 5 0) ∷ f (get_or cs 6 0) ∷ f (get_or cs 7 0) ∷ []
-    ≡ map f (take 8 cs)
-map-first_eight f [] l = absurd (omega arith)
-map-first_eight f (_ ∷ []) l = absurd (omega arith)
-map-first_eight f (_ ∷ _ ∷ []) l = absurd (omega arith)
-map-first_eight f (_ ∷ _ ∷ _ ∷ []) l = absurd (omega arith)
-map-first_eight f (_ ∷ _ ∷ _ ∷ _ ∷ []) l = absurd (omega arith)
-map-first_eight f (_ ∷ _ ∷ _ ∷ _ ∷ _ ∷ []) l = absurd (omega arith)
-map-first_eight f (_ ∷ _ ∷ _ ∷ _ ∷ _ ∷ _ ∷ []) l = absurd (omega arith)
-map-first_eight f (_ ∷ _ ∷ _ ∷ _ ∷ _ ∷ _ ∷ _ ∷ []) l = absurd (omega arith)
-map-first_eight f (_ ∷ _ ∷ _ ∷ _ ∷ _ ∷ _ ∷ _ ∷ _ ∷ cs) l = refl
 
 -- ---- whole groups and the others
 
@@ -58,10 +36,6 @@ pub groups-length : (i : ℕ) (cs : List ℕ) → i * 8 ≤ length cs → length
 groups-length i cs l =
     let size : length (elements_of (take (i * 8) cs)) ≡ i * 8 = elements-length (i * 8) cs l in
     length-to_bytes (elements_of (take (i * 8) cs)) ∙ (omega arith)
-
--- and one group
-pub group-length : (cs : List ℕ) → 8 ≤ length cs → length (to_bytes (elements_of (take 8 cs))) ≡ 5
-group-length cs l = groups-length 1 cs l
 
 -- ---- the buffer
 

@@ -121,9 +121,6 @@ zeros-to (suc (suc (suc (suc zero)))) v h e =
     omega arith
 zeros-to (suc (suc (suc (suc (suc k))))) v h e = absurd (omega arith)
 
-pub padding-nil : IsPadded []
-padding-nil = record { few = omega arith; zeros = refl }
-
 -- ---- elements as bytes and back
 
 eight-back : (a b c d e f g h : ℕ) (rest : List ℕ) → AreBits (a ∷ b ∷ c ∷ d ∷ e ∷ f ∷ g ∷ h ∷ rest)

@@ -45,19 +45,8 @@ pub record IsReadIn (code : Fe32 → Code)
   pub lawful : IsSegwitData (length text) version (elements_of program)
 
 -- the text is accepted by the checksum of its version, and has these parts
-abbrev pub IsReadAs : (Fe32 → Code) → List ℕ → SegwitHrpstring → Type 0
-IsReadAs code text a = IsReadIn code text (address_part a) (address_version a) (address_data a)
-
--- why a text with these parts is not an address by a checksum: the checksum refuses it, or what
--- stands before it is no version and program
-abbrev pub IsUnlawfulBy :
-    Code → List ℕ → List ℕ → List ℕ → SegwitHrpstringError → Type 0
-IsUnlawfulBy code text hrp data_part e =
-    ((error : ChecksumError) × (e ≡ Checksum error)
-    × IsChecksumRefusal code (length text) hrp data_part error)
-    ⊎ (IsAccepted code text hrp data_part × (characters : List ℕ)
-    × IsBeforeChecksum code data_part characters
-    × IsDataRefusal (length text) (elements_of characters) e)
+abbrev pub IsReadAddress : (Fe32 → Code) → List ℕ → SegwitHrpstring → Type 0
+IsReadAddress code text a = IsReadIn code text (address_part a) (address_version a) (address_data a)
 
 -- the checksum of u is right, and a is u by the rules of segwit addresses
 pub record IsReadBy (code : Code) (u : UncheckedHrpstring) (a : SegwitHrpstring) : Type 0 where

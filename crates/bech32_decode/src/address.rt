@@ -30,7 +30,7 @@ pub struct SegwitHrpstring<'s> {
 impl<'s> SegwitHrpstring<'s> {
     ghost use Rattle.bech32_decode.specs.Parts.{address_hrp, address_part, address_version, address_data, address_program};
     ghost use Rattle.bech32_decode.specs.Segwit.{segwit_code, IsAddress, IsAddressText, IsAddressRefusal, IsSegwitRefusal};
-    ghost use Rattle.bech32_decode.specs.SegwitParts.{IsReadAs, IsReadBy, IsRefusedBy, IsWrongDataOf};
+    ghost use Rattle.bech32_decode.specs.SegwitParts.{IsReadAddress, IsReadBy, IsRefusedBy, IsWrongDataOf};
 
     // An address of these parts.
     #[inline]
@@ -62,7 +62,7 @@ impl<'s> SegwitHrpstring<'s> {
     // What `new` returns.
     fn read(s: &'s str) -> Result<Self, SegwitHrpstringError>
         ensures { MatchResult result
-            (λ a. IsReadAs segwit_code s.now a)
+            (λ a. IsReadAddress segwit_code s.now a)
             (λ e. IsSegwitRefusal s.now e) }
     {
         if s.len() > MAX_STRING_LENGTH {
@@ -90,11 +90,11 @@ impl<'s> SegwitHrpstring<'s> {
     ///
     /// The first of: more than 90 characters; the text is not in the grammar (as
     /// [`UncheckedHrpstring::new`]); no data part; a witness version above 16; its checksum (as
-    /// [`UncheckedHrpstring::validate_checksum`]); no data before the checksum; padding of more than
-    /// four bits; padding that is not zero; a program of less than 2 bytes, of more than 40, or of
-    /// neither 20 nor 32 in version 0.
+    /// [`UncheckedHrpstring::validate_checksum`]); no data before the checksum; padding of more
+    /// than four bits; padding that is not zero; a program of less than 2 bytes, of more than 40,
+    /// or of neither 20 nor 32 in version 0.
     pub fn new(s: &'s str) -> Result<Self, SegwitHrpstringError>
-        ensures parts { IfOk result (λ a. IsReadAs segwit_code s.now a) }
+        ensures parts { IfOk result (λ a. IsReadAddress segwit_code s.now a) }
         ensures address { IfOk result
             (λ a. IsAddress (address_part a) (address_version a) (address_program a) s.now) }
         ensures accepts { IsOk result ↔ IsAddressText s.now }
@@ -109,11 +109,11 @@ impl<'s> SegwitHrpstring<'s> {
     ///
     /// The first of: the text is not in the grammar; no data part; a witness version above 16; the
     /// checksum; no data before the checksum; more than 90 characters; padding of more than four
-    /// bits; padding that is not zero; a program of less than 2 bytes, of more than 40, or of neither
-    /// 20 nor 32 in version 0.
+    /// bits; padding that is not zero; a program of less than 2 bytes, of more than 40, or of
+    /// neither 20 nor 32 in version 0.
     pub fn new_bech32(s: &'s str) -> Result<Self, SegwitHrpstringError>
         ensures { MatchResult result
-            (λ a. IsReadAs (λ _. bech32) s.now a)
+            (λ a. IsReadAddress (λ _. bech32) s.now a)
             (λ e. IsAddressRefusal (λ _. bech32) s.now e) }
     {
         let unchecked = UncheckedHrpstring::new(s)?;

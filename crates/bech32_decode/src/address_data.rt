@@ -1,11 +1,11 @@
 //! The data of segwit addresses: a witness version and a program, as characters (BIP-173, Segwit
 //! address format).
 
-ghost use Rattle.std.specs.Prelude.{◌≡◌, true, length, drop, MatchResult};
+ghost use Rattle.std.specs.Prelude.{◌≡◌, ◌≢◌, ◌≤◌, ℕ, [], true, length, drop, MatchResult};
 ghost use Rattle.bech32_gf.specs.Alphabet.{is_data};
 ghost use Rattle.bech32_gf.specs.Fe32.{elements_of};
 ghost use Rattle.bech32_bits.specs.Bits.{to_bytes};
-ghost use Rattle.bech32_decode.specs.Segwit.{IsDataRefusal};
+ghost use Rattle.bech32_decode.specs.Segwit.{IsDataRefusal, IsVersioned};
 ghost use Rattle.bech32_decode.specs.SegwitParts.{IsDataOf};
 ghost use Rattle.bech32_decode.specs.SegwitPadding.{IsPadded, IsPaddingRefusal};
 ghost use Rattle.bech32_refusals.specs.SegwitRules.{IsLengthRefusal, IsProgramLength};
@@ -59,6 +59,44 @@ pub(crate) fn validate_program_length(
     segwit::validate_witness_program_length(ByteIter::new(characters).len(), version)
 }
 
+// Tests that there are characters before a checksum, and at most 90 in the whole text.
+#[inline]
+pub(crate) fn validate_sizes(
+    text_length: usize,
+    characters: &[u8],
+) -> Result<(), SegwitHrpstringError>
+    ensures { MatchResult result
+        (λ _. (text_length ≤ 90) × (characters.now ≢ []))
+        (λ e. IsDataRefusal text_length (elements_of characters.now) e) }
+{
+    if characters.is_empty() {
+        return Err(SegwitHrpstringError::NoData);
+    }
+    if text_length > MAX_STRING_LENGTH {
+        return Err(SegwitHrpstringError::TooLong(text_length));
+    }
+    Ok(())
+}
+
+// The version and the program of the characters before a checksum, whose version is known.
+#[inline]
+pub(crate) fn data_of_version<'s>(
+    version: Fe32,
+    characters: &'s [u8],
+) -> Result<AddressData<'s>, SegwitHrpstringError>
+    requires of_alphabet { is_data characters.now ≡ true }
+    requires versioned { IsVersioned (elements_of characters.now) version
+        (elements_of (drop 1 characters.now)) }
+    ensures { (n : ℕ) → n ≤ 90 → MatchResult result
+        (λ a. IsDataOf n characters.now a.version a.program.now)
+        (λ e. IsDataRefusal n (elements_of characters.now) e) }
+{
+    let program = &characters[1..];
+    validate_padding(program)?;
+    validate_program_length(program, version)?;
+    Ok(AddressData { version, program })
+}
+
 // The version and the program of the characters before a checksum, in a text of so many bytes.
 #[inline]
 pub(crate) fn address_data<'s>(
@@ -70,15 +108,7 @@ pub(crate) fn address_data<'s>(
         (λ a. IsDataOf text_length characters.now a.version a.program.now)
         (λ e. IsDataRefusal text_length (elements_of characters.now) e) }
 {
-    if characters.is_empty() {
-        return Err(SegwitHrpstringError::NoData);
-    }
-    if text_length > MAX_STRING_LENGTH {
-        return Err(SegwitHrpstringError::TooLong(text_length));
-    }
+    validate_sizes(text_length, characters)?;
     let version = first_version(characters)?;
-    let program = &characters[1..];
-    validate_padding(program)?;
-    validate_program_length(program, version)?;
-    Ok(AddressData { version, program })
+    data_of_version(version, characters)
 }

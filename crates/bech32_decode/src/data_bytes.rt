@@ -76,7 +76,8 @@ fn put_rest(characters: &[u8], at: usize, buffer: &mut [u8]) -> usize
     count
 }
 
-/// How many bytes the elements of characters have; a last part shorter than eight bits does not count.
+/// How many bytes the elements of characters have; a last part shorter than eight bits does not
+/// count.
 #[inline]
 pub fn data_bytes_count(characters: &[u8]) -> usize
     ensures { result ≡ length (to_bytes (elements_of characters.now)) }

@@ -1,6 +1,9 @@
-//! Reads bech32 texts (BIP-173, Bech32) and tests their checksums.
+//! Reads bech32 texts and tests their checksums.
 //!
 //! A reader borrows the text and allocates nothing.
+//!
+//! Below it: `bech32_places`, `bech32_refusals`.
+//! Standard: BIP-173, Bech32 and Segwit address format; BIP-350.
 #![tactic(auto)]
 
 mod address;

@@ -17,10 +17,10 @@ ghost use Rattle.bech32_decode.specs.BeforeChecksum.{IsBeforeChecksum};
 ghost use Rattle.bech32_decode.specs.Parts.{checked_data, checked_length, checked_part};
 ghost use Rattle.bech32_decode.specs.Refusals.{IsChecksumRefusal, IsRefusedByBoth};
 ghost use Rattle.bech32_decode.specs.Segwit.{IsAddressRefusal, segwit_code};
-ghost use Rattle.bech32_decode.specs.SegwitParts.{IsReadIn, IsUnlawfulBy};
+ghost use Rattle.bech32_decode.specs.SegwitParts.{IsReadIn};
 ghost use Rattle.bech32_gf.specs.Alphabet.{is_data};
 
-use crate::address_data::{AddressData, address_data};
+use crate::address_data::{AddressData, data_of_version, validate_sizes};
 use crate::checked::CheckedHrpstring;
 use crate::part_cases::PART_CASES;
 use crate::validation::{validate_lengths, validate_residue};
@@ -32,8 +32,8 @@ use bech32_places::{is_stranger, walk};
 use bech32_refusals::segwit::VERSION_0;
 use bech32_refusals::{ChecksumError, MAX_DEGREE, SegwitHrpstringError};
 
-/// A text of the grammar in its parts, and the remainder that it leaves by a checksum's generator. It
-/// borrows the text.
+/// A text of the grammar in its parts, and the remainder that it leaves by a checksum's generator.
+/// It borrows the text.
 #[derive(Drop)]
 pub struct Reading<'s, Ck: Checksum> {
     /// The whole text.
@@ -111,8 +111,8 @@ fn is_walkable(text: &[u8]) -> bool
 }
 
 impl<'s, Ck: Checksum> Reading<'s, Ck> {
-    /// Reads a text of at most 1,023 characters in one walk. Of a text with a fault of the grammar, or
-    /// with more than one `1`, it says nothing.
+    /// Reads a text of at most 1,023 characters in one walk. Of a text with a fault of the grammar,
+    /// or with more than one `1`, it says nothing.
     #[inline(always)]
     pub fn of(text: &'s [u8]) -> Option<Self>
         ensures { IfSome result (λ r. r.text.now ≡ text.now) }
@@ -152,7 +152,8 @@ impl<'s, Ck: Checksum> Reading<'s, Ck> {
         })
     }
 
-    /// Tests that the text is not longer than the code, and its data part has room for the checksum.
+    /// Tests that the text is not longer than the code, and its data part has room for the
+    /// checksum.
     ///
     /// # Errors
     ///
@@ -215,25 +216,12 @@ impl<'s, Ck: Checksum> Reading<'s, Ck> {
         CheckedHrpstring::of_parts(Hrp::of_bytes(self.hrp), self.characters(), self.text.len())
     }
 
-    // The version and the program of a segwit address by this checksum.
-    #[inline]
-    fn address_by(&self) -> Result<AddressData<'s>, SegwitHrpstringError>
-        ensures { MatchResult result
-            (λ a. IsReadIn (λ _. Ck.code)
-            self.now.text.now self.now.hrp.now a.version a.program.now)
-            (λ e. IsUnlawfulBy Ck.code
-            self.now.text.now self.now.hrp.now self.now.data_part.now e) }
-    {
-        self.validate()?;
-        address_data(self.text.len(), self.characters())
-    }
-
     /// Tests the checksum of the text. A checksum of degree 0 asks nothing of it.
     ///
     /// # Errors
     ///
-    /// The first of: the text is longer than the code; the data part is shorter than the checksum; the
-    /// remainder is not the target.
+    /// The first of: the text is longer than the code; the data part is shorter than the checksum;
+    /// the remainder is not the target.
     #[inline]
     pub fn validate(&self) -> Result<(), ChecksumError>
         ensures { MatchResult result
@@ -287,14 +275,30 @@ impl<'s> Reading<'s, Bech32m> {
         }
     }
 
+    // Tests the checksum of a witness version: Bech32 of version 0, Bech32m of another (BIP-350).
+    #[inline]
+    fn validate_by(&self, version: Fe32) -> Result<(), ChecksumError>
+        ensures { MatchResult result
+            (λ _. IsAccepted (segwit_code version)
+            self.now.text.now self.now.hrp.now self.now.data_part.now)
+            (λ e. IsChecksumRefusal (segwit_code version) (length self.now.text.now)
+            self.now.hrp.now self.now.data_part.now e) }
+    {
+        if version == VERSION_0 {
+            self.by_bech32().validate()
+        } else {
+            self.validate()
+        }
+    }
+
     /// The version and the program of a segwit address: of version 0 by Bech32, of another version
     /// by Bech32m (BIP-350).
     ///
     /// # Errors
     ///
     /// The first of: no data part; a witness version above 16; the checksum; no data before the
-    /// checksum; more than 90 characters; padding of more than four bits; padding that is not zero; a
-    /// program of less than 2 bytes, of more than 40, or of neither 20 nor 32 in version 0.
+    /// checksum; more than 90 characters; padding of more than four bits; padding that is not zero;
+    /// a program of less than 2 bytes, of more than 40, or of neither 20 nor 32 in version 0.
     #[inline]
     pub fn address(&self) -> Result<AddressData<'s>, SegwitHrpstringError>
         ensures { MatchResult result
@@ -302,10 +306,9 @@ impl<'s> Reading<'s, Bech32m> {
             (λ e. IsAddressRefusal segwit_code self.now.text.now e) }
     {
         let version = first_version(self.data_part)?;
-        if version == VERSION_0 {
-            self.by_bech32().address_by()
-        } else {
-            self.address_by()
-        }
+        self.validate_by(version)?;
+        let characters = self.characters();
+        validate_sizes(self.text.len(), characters)?;
+        data_of_version(version, characters)
     }
 }

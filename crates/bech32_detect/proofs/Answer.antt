@@ -9,7 +9,7 @@ use Rattle.bech32_gf.specs.laws.Fe32Laws.{is_field}
 use Rattle.bech32_gf.specs.declared.gf32.Fe32.{Fe32}
 use Rattle.bech32_poly.specs.Polynomial.{coefficient}
 use Rattle.bech32_checksum.specs.Packed.{digits, HasDigits, IsRowOf}
-use Rattle.bech32_detect.specs.Detection.{DetectsFour}
+use Rattle.bech32_bch.specs.Detection.{DetectsFour}
 use Rattle.bech32_detect.specs.Rows.{AreTermRows, HasRow, HasThree, term}
 use Rattle.bech32_detect.proofs.Four.{IsTable, detects, third, undetected}
 use Rattle.bech32_detect.proofs.RowDigits.{row_sum, same_row}

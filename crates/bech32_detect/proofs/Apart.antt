@@ -18,7 +18,7 @@ use Rattle.bech32_bch.specs.Distance.{places_that_differ}
 use Rattle.bech32_bch.specs.Pattern.{IsPattern, locations}
 use Rattle.bech32_bch.proofs.Distance.{Tells}
 use Rattle.bech32_bch.proofs.Patterns.{at_absent, at_first, at_rest}
-use Rattle.bech32_detect.specs.Detection.{DetectsFour}
+use Rattle.bech32_bch.specs.Detection.{DetectsFour}
 use Rattle.bech32_detect.proofs.Four.{leaves_nothing}
 
 module _ {F : Type 0} {f : Ops F} (fl : IsField f) (same : F → F → Bool) (tells : Tells same) where

@@ -13,7 +13,7 @@ use Rattle.bech32_poly.proofs.Lists.{length-add, length-zeros, coefficient-zeros
 use Rattle.bech32_poly.proofs.Remainder.{length-push, length-remainder_of, remainder_exists, remainder_of-add, remainder_of-scale, remainder_unique, step-add}
 use Rattle.bech32_poly.proofs.Zero.{no_zero_divisors, product_not_zero}
 use Rattle.bech32_bch.specs.Pattern.{HasRemainder, IsPattern, locations}
-use Rattle.bech32_detect.specs.Detection.{DetectsFour}
+use Rattle.bech32_bch.specs.Detection.{DetectsFour}
 use Rattle.bech32_detect.specs.Rows.{term}
 
 -- the remainder of a pattern

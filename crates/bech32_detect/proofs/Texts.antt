@@ -18,7 +18,7 @@ use Rattle.bech32_bch.specs.Distance.{places_that_differ}
 use Rattle.bech32_bch.proofs.Distance.{Tells, places_that_differ-reverse}
 use Rattle.bech32_decode.specs.Acceptance.{IsAccepted}
 use Rattle.bech32_detect.specs.Distance.{AreSameOrFar, same_element}
-use Rattle.bech32_detect.specs.Detection.{DetectsFour}
+use Rattle.bech32_bch.specs.Detection.{DetectsFour}
 use Rattle.bech32_detect.specs.Texts.{AreTextsFar}
 use Rattle.bech32_detect.proofs.Apart.{detected}
 

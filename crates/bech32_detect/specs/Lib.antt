@@ -1,4 +1,3 @@
-pub mod Detection
 pub mod Distance
 pub mod Rows
 pub mod Texts

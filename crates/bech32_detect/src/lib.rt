@@ -1,10 +1,13 @@
 //! Whether a checksum detects each error in up to four elements.
+//!
+//! Below it: `bech32_decode`, `bech32_bch`.
+//! Standard: BIP-173, Checksum design.
 #![tactic(auto)]
 
 ghost use Rattle.std.specs.Prelude.{◌<◌, ◌↔◌, IsTrue, IfErr, IfOk};
 ghost use Rattle.bech32_gf.specs.Fe32 as fe32;
 ghost use Rattle.bech32_poly.specs.Polynomial.{coefficient};
-ghost use Rattle.bech32_detect.specs.Detection.{DetectsFour};
+ghost use Rattle.bech32_bch.specs.Detection.{DetectsFour};
 ghost use Rattle.bech32_detect.specs.Texts.{AreTextsFar};
 
 mod distance;
@@ -38,10 +41,11 @@ fn decided_in<Ck: Checksum, A: Allocator>(alloc: A, n: usize) -> Result<bool, Al
 /// Whether no pattern of one to four errors, at different locations below `n`, has the remainder
 /// zero (BIP-173, Checksum design; true of Bech32 and Bech32m at 89), with memory from `alloc`.
 ///
-/// Where it is true, two texts that the checksum accepts, of the same human-readable part and length
-/// and with data parts of at most `n` characters, have the same elements or differ in at least five.
-/// The caller has seen to it that the constant coefficient of the generator is not zero, and so that
-/// the degree is above 0. Memory and time grow with `n` and, but for a logarithm, with its square.
+/// Where it is true, two texts that the checksum accepts, of the same human-readable part and
+/// length and with data parts of at most `n` characters, have the same elements or differ in at
+/// least five. The caller has seen to it that the constant coefficient of the generator is not
+/// zero, and so that the degree is above 0. Memory and time grow with `n` and, but for a logarithm,
+/// with its square.
 ///
 /// # Errors
 ///
@@ -57,6 +61,10 @@ pub fn detects_four_in<Ck: Checksum, A: Allocator>(alloc: A, n: usize) -> Result
 }
 
 /// Decides as [`detects_four_in`] does, with memory of the global allocator.
+///
+/// # Errors
+///
+/// That of [`detects_four_in`].
 pub fn detects_four<Ck: Checksum>(alloc: Global, n: usize) -> Result<bool, AllocError>
     requires { 0 < (coefficient fe32.ops Ck.code.generator 0).value }
     ensures value { IfOk result

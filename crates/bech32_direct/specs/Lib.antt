@@ -1,4 +1,5 @@
 pub mod Equations
+pub mod Found
 pub mod Multiple
 pub mod Question
 pub mod TakenOff

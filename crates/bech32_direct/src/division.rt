@@ -64,8 +64,8 @@ pub(crate) fn ends_at(list: &[Fe32], end: usize) -> bool
     zero
 }
 
-/// The first coefficients of a residue, as many as the checksum has characters, where all behind
-/// them are zero.
+/// The first coefficients of an error residue, as many as the checksum has characters, where all
+/// behind them are zero.
 #[inline]
 pub(crate) fn trimmed(residue: &[Fe32], size: usize) -> Option<&[Fe32]>
     ensures { MatchOption result ⊤ (λ list. IsSamePolynomial fe32.ops list.now residue.now) }
@@ -91,7 +91,7 @@ pub fn is_same<R: PackedFe32>(row: &R, list: &[Fe32]) -> bool
     true
 }
 
-/// What is left of a residue where one error is taken off; an element is its own negative.
+/// What is left of an error residue where one error is taken off; an element is its own negative.
 pub fn residue_without<Ck: Checksum>(residue: &[Fe32], error: (usize, Fe32)) -> [Fe32; MAX_DEGREE]
     requires { length residue.now ≤ 25 }
     ensures { IsTakenOff fe32.ops Ck.code.generator residue.now error result }

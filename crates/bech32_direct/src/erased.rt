@@ -1,5 +1,5 @@
-//! Erasures that use up the bound: no error stands outside them, and the elements at them solve linear
-//! equations, one for each place of the residue.
+//! Erasures that use up the bound: no error stands outside them, and the elements at them solve
+//! linear equations, one for each place of the error residue.
 
 ghost use Rattle.std.specs.Prelude.{◌≡◌, ◌≢◌, ◌≤◌, ◌<◌, ◌+◌, ◌*◌, ℕ, suc, length, slice_index, IfOk, IsOk, MatchOption, ⊤};
 ghost use Rattle.bech32_gf.specs.Fe32 as fe32;
@@ -8,8 +8,8 @@ ghost use Rattle.bech32_checksum.specs.Code.{IsResidueOf};
 ghost use Rattle.bech32_checksum.specs.Packed.{HasDigits, digit_of};
 ghost use Rattle.bech32_checksum.specs.Roots.{AreLawfulRoots};
 ghost use Rattle.bech32_bch.specs.Erasures.{AreErasures};
-ghost use Rattle.bech32_bch.specs.Pattern.{HasRemainder};
 ghost use Rattle.bech32_direct.specs.Equations.{AreCancelled, IsEliminated, entry, placed, weighted};
+ghost use Rattle.bech32_direct.specs.Found.{AreErasedValues, AreValuesAt};
 ghost use Rattle.bech32_direct.specs.Question.{IsAnswerTo};
 ghost use Rattle.bech32_poly.specs.Division.{remainder_of};
 ghost use Rattle.bech32_poly.specs.FieldVec.{FitsInPlace};
@@ -23,10 +23,10 @@ use bech32_gf::gf32::Fe32;
 use bech32_refusals::MAX_DEGREE;
 use std::alloc::{AllocError, Allocator};
 
-// The residue and as many erasures as there may be.
+// The error residue and as many erasures as there may be.
 const MAX_ROWS: usize = 26;
 
-// The coefficients of an equation's unknown, one for each place of the residue.
+// The coefficients of an equation's unknown, one for each place of the error residue.
 #[derive(Clone, Copy)]
 struct Row {
     items: [Fe32; MAX_DEGREE],
@@ -94,7 +94,7 @@ fn first_of(list: &[Fe32], size: usize) -> Row
     Row { items }
 }
 
-// The residue, and the remainders of the powers of x at the erasures.
+// The error residue, and the remainders of the powers of x at the erasures.
 fn rows_of<Ck: Checksum>(residue: &[Fe32], erasures: &[usize]) -> [Row; MAX_ROWS]
     requires { length erasures.now ≤ 25 }
     ensures first { (place : ℕ) → place < length Ck.code.generator
@@ -253,24 +253,20 @@ fn behind_first(found: &[Fe32; 3]) -> [Fe32; MAX_ROWS]
 #[inline]
 fn looked_up_values<Ck: Checksum>(residue: &[Fe32], erasures: &[usize]) -> Option<[Fe32; MAX_ROWS]>
     ensures { MatchOption result ⊤
-        (λ values. HasRemainder fe32.ops Ck.code.generator residue.now
-        (placed erasures.now (λ i. coefficient fe32.ops values (suc i)) (length erasures.now))) }
+        (λ values. AreValuesAt Ck.code.generator residue.now erasures.now values) }
 {
     let list = trimmed(residue, Ck::CHECKSUM_LENGTH)?;
     let found = Ck::values_at(list, erasures)?;
     Some(behind_first(&found))
 }
 
-// Values that the pattern of the erasures needs for the residue to be its remainder, behind a first
-// one; none where there are none. Out of line: where they are looked up, no row is to be cleared.
+// Values that the pattern of the erasures needs for the error residue to be its remainder, behind a
+// first one; none where there are none. Out of line: where they are looked up, no row is to be
+// cleared.
 #[inline(never)]
 fn eliminated_values<Ck: Checksum>(residue: &[Fe32], erasures: &[usize]) -> Option<[Fe32; MAX_ROWS]>
     requires { length erasures.now ≤ length Ck.code.generator }
-    ensures { MatchOption result
-        ((value : ℕ → Element) → HasRemainder fe32.ops Ck.code.generator residue.now
-        (placed erasures.now value (length erasures.now)) → ⊥)
-        (λ values. HasRemainder fe32.ops Ck.code.generator residue.now
-        (placed erasures.now (λ i. coefficient fe32.ops values (suc i)) (length erasures.now))) }
+    ensures { AreErasedValues Ck.code.generator residue.now erasures.now result }
 {
     let size = Ck::CHECKSUM_LENGTH;
     if !ends_at(residue, size) {
@@ -284,11 +280,7 @@ fn eliminated_values<Ck: Checksum>(residue: &[Fe32], erasures: &[usize]) -> Opti
 #[inline]
 fn erased_values<Ck: Checksum>(residue: &[Fe32], erasures: &[usize]) -> Option<[Fe32; MAX_ROWS]>
     requires { length erasures.now ≤ length Ck.code.generator }
-    ensures { MatchOption result
-        ((value : ℕ → Element) → HasRemainder fe32.ops Ck.code.generator residue.now
-        (placed erasures.now value (length erasures.now)) → ⊥)
-        (λ values. HasRemainder fe32.ops Ck.code.generator residue.now
-        (placed erasures.now (λ i. coefficient fe32.ops values (suc i)) (length erasures.now))) }
+    ensures { AreErasedValues Ck.code.generator residue.now erasures.now result }
 {
     match looked_up_values::<Ck>(residue, erasures) {
         Some(values) => Some(values),
@@ -315,8 +307,12 @@ fn listing_of<A: Allocator + Copy>(
     Ok(listing)
 }
 
-/// The elements at the erasures, if any, that explain the residue, where the bound allows no error
-/// outside the erasures.
+/// The elements at the erasures, if any, that explain the error residue, where the bound allows no
+/// error outside the erasures.
+///
+/// # Errors
+///
+/// Out of memory, where the generator has a degree above 6.
 #[inline(always)]
 pub fn correct_erased<Ck: Checksum, A: Allocator + Copy>(
     alloc: A,

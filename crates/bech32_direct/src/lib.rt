@@ -1,5 +1,8 @@
-//! Patterns that explain a residue, found directly: one error, or as many erasures as the bound
-//! allows (BIP-173, Checksum design).
+//! Patterns that explain an error residue, found directly: one error, or as many erasures as the
+//! bound allows.
+//!
+//! Below it: `bech32_bch`, `bech32_refusals`.
+//! Standard: BIP-173, Checksum design.
 #![tactic(auto)]
 
 mod division;

@@ -39,9 +39,9 @@ impl ShortListing {
     }
 }
 
-/// The error below the window, if any, that explains a residue which is not zero, where there are no
-/// erasures and the bound is that of one error, if the checksum has a way of its own to find it; the
-/// outer `None` says nothing.
+/// The error below the window, if any, that explains an error residue which is not zero, where
+/// there are no erasures and the bound is that of one error, if the checksum has a way of its own
+/// to find it; the outer `None` says nothing.
 #[inline(always)]
 pub fn single_below<Ck: Checksum>(window: usize, residue: &[Fe32]) -> Option<Option<(usize, Fe32)>>
     requires lawful { AreLawfulRoots Ck.CorrectionField.ops Ck.CorrectionField.embed Ck.code
@@ -63,7 +63,8 @@ pub fn single_below<Ck: Checksum>(window: usize, residue: &[Fe32]) -> Option<Opt
     }
 }
 
-// The elements at two erasures, if any, that have the residue as remainder; `None` says nothing.
+// The elements at two erasures, if any, that have the error residue as remainder; `None` says
+// nothing.
 #[inline(always)]
 fn two_below<Ck: Checksum>(window: usize, residue: &[Fe32], given: &[usize]) -> Option<ShortListing>
     requires { length given.now ≡ 2 }
@@ -108,8 +109,9 @@ fn three_below<Ck: Checksum>(
     })
 }
 
-/// The elements at two or three erasures that explain a residue, where the bound is three, so that no
-/// error can stand beside them, if the checksum has a way of its own to find them; `None` says nothing.
+/// The elements at two or three erasures that explain an error residue, where the bound is three,
+/// so that no error can stand beside them, if the checksum has a way of its own to find them;
+/// `None` says nothing.
 #[inline(always)]
 pub fn erased_below<Ck: Checksum>(
     window: usize,

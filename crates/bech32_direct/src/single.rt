@@ -1,13 +1,13 @@
-//! One error: the location and the value that leave a residue.
+//! One error: the location and the value that leave an error residue.
 
-ghost use Rattle.std.specs.Prelude.{◌≡◌, ◌≢◌, ◌≤◌, ◌<◌, ◌↔◌, ◌∷◌, [], ℕ, length, IfOk, IsOk, IsTrue, MatchOption, ⊤};
+ghost use Rattle.std.specs.Prelude.{◌≡◌, ◌≢◌, ◌≤◌, ◌<◌, ◌↔◌, [], ℕ, length, IfOk, IsOk, IsTrue, MatchOption, ⊤};
 ghost use Rattle.bech32_gf.specs.Fe32 as fe32;
 ghost use Rattle.bech32_gf.specs.declared.gf32.Fe32.{Fe32 as Element};
 ghost use Rattle.bech32_checksum.specs.Code.{IsResidueOf};
 ghost use Rattle.bech32_checksum.specs.OneError.{IsSingle};
 ghost use Rattle.bech32_checksum.specs.Packed.{HasDigits, digit_of};
 ghost use Rattle.bech32_checksum.specs.Roots.{AreLawfulRoots};
-ghost use Rattle.bech32_bch.specs.Pattern.{HasRemainder};
+ghost use Rattle.bech32_direct.specs.Found.{IsErrorBelow};
 ghost use Rattle.bech32_direct.specs.Multiple.{IsMultiple, screen};
 ghost use Rattle.bech32_direct.specs.Question.{IsAnswerTo};
 ghost use Rattle.bech32_poly.specs.Polynomial.{coefficient};
@@ -45,9 +45,9 @@ fn is_multiple<R: PackedFe32>(row: &R, list: &[Fe32], factor: Fe32) -> bool
     true
 }
 
-// The element by which a packed row has to be multiplied to be a list, which is not zero at the pivot;
-// none where there is no such element. The first test rules out most rows: the screen is a row that is
-// zero at place 0 wherever there is one. It is asked for at each location, so in line.
+// The element by which a packed row has to be multiplied to be a list, which is not zero at the
+// pivot; none where there is no such element. The first test rules out most rows: the screen is a
+// row that is zero at place 0 wherever there is one. It is asked for at each location, so in line.
 #[inline(always)]
 fn factor_of<R: PackedFe32>(screen: &R, row: &R, list: &[Fe32], pivot: usize) -> Option<Fe32>
     requires screen { HasDigits R.WIDTH (R.number screen.now) }
@@ -74,7 +74,7 @@ fn factor_of<R: PackedFe32>(screen: &R, row: &R, list: &[Fe32], pivot: usize) ->
     }
 }
 
-// An engine that was given the polynomial that screens a residue.
+// An engine that was given the polynomial that screens an error residue.
 fn screen_of<Ck: Checksum>(residue: &[Fe32]) -> Engine<Ck>
     requires { 0 < length Ck.code.generator }
     ensures { IsResidueOf Ck.MidstateRepr.number Ck.code result
@@ -87,8 +87,8 @@ fn screen_of<Ck: Checksum>(residue: &[Fe32]) -> Engine<Ck>
     engine
 }
 
-// The first location below the window at which some value has the residue as remainder, and the value.
-// The residue is not zero at the pivot. The engines go from power to power of x.
+// The first location below the window at which some value has the error residue as remainder, and
+// the value. The error residue is not zero at the pivot. The engines go from power to power of x.
 fn single_error<Ck: Checksum>(
     residue: &[Fe32],
     window: usize,
@@ -96,11 +96,7 @@ fn single_error<Ck: Checksum>(
 ) -> Option<(usize, Fe32)>
     requires degree { 0 < length Ck.code.generator }
     requires pivot { coefficient fe32.ops residue.now pivot ≢ fe32.zero }
-    ensures { MatchOption result
-        ((i : ℕ) (v : Element) → i < window
-        → HasRemainder fe32.ops Ck.code.generator residue.now ((i, v) ∷ []) → ⊥)
-        (λ e. (e.0 < window) × ((e.1 ≢ fe32.zero)
-        × HasRemainder fe32.ops Ck.code.generator residue.now (e ∷ []))) }
+    ensures { IsErrorBelow Ck.code.generator window residue.now result }
 {
     let mut power = Engine::<Ck>::new();
     let mut screen = screen_of::<Ck>(residue);
@@ -114,8 +110,8 @@ fn single_error<Ck: Checksum>(
     None
 }
 
-// The only single error below the code length that leaves the residue, if any, where the checksum
-// has a way of its own to find it; the outer `None` says nothing.
+// The only single error below the code length that leaves the error residue, if any, where the
+// checksum has a way of its own to find it; the outer `None` says nothing.
 #[inline]
 pub(crate) fn looked_up_error<Ck: Checksum>(residue: &[Fe32]) -> Option<Option<(usize, Fe32)>>
     ensures { MatchOption result ⊤
@@ -125,18 +121,15 @@ pub(crate) fn looked_up_error<Ck: Checksum>(residue: &[Fe32]) -> Option<Option<(
     Ck::one_error(list)
 }
 
-// The location below the window at which some value has the residue as remainder, and the value: by
-// the checksum's own way where it has one, else by a search. The residue is not zero at the pivot.
+// The location below the window at which some value has the error residue as remainder, and the
+// value: by the checksum's own way where it has one, else by a search. The error residue is not
+// zero at the pivot.
 #[inline(always)]
 fn error_below<Ck: Checksum>(residue: &[Fe32], window: usize, pivot: usize) -> Option<(usize, Fe32)>
     requires degree { 0 < length Ck.code.generator }
     requires within { window ≤ Ck.CODE_LENGTH }
     requires pivot { coefficient fe32.ops residue.now pivot ≢ fe32.zero }
-    ensures { MatchOption result
-        ((i : ℕ) (v : Element) → i < window
-        → HasRemainder fe32.ops Ck.code.generator residue.now ((i, v) ∷ []) → ⊥)
-        (λ e. (e.0 < window) × ((e.1 ≢ fe32.zero)
-        × HasRemainder fe32.ops Ck.code.generator residue.now (e ∷ []))) }
+    ensures { IsErrorBelow Ck.code.generator window residue.now result }
 {
     let Some(single) = looked_up_error::<Ck>(residue) else {
         return single_error::<Ck>(residue, window, pivot);
@@ -147,8 +140,12 @@ fn error_below<Ck: Checksum>(residue: &[Fe32], window: usize, pivot: usize) -> O
     if error.0 < window { Some(error) } else { None }
 }
 
-/// The error below the window, if any, that explains the residue, where there are no erasures and
-/// the bound is that of one error.
+/// The error below the window, if any, that explains the error residue, where there are no erasures
+/// and the bound is that of one error.
+///
+/// # Errors
+///
+/// None: the listing has room in place.
 #[inline(always)]
 pub fn correct_single<Ck: Checksum, A: Allocator + Copy>(
     alloc: A,

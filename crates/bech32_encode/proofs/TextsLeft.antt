@@ -91,10 +91,6 @@ pub raised : (upper : Bool) (count : ℕ) (old new : List ℕ) → upper ≡ tru
 raised true count old new h e = e
 raised false count old new h e = absurd (cc)
 
-pub not_raised : (upper : Bool) (count : ℕ) (old : List ℕ) → upper ≡ false → old ≡ in_case upper (take count old) ++ drop count old
-not_raised true count old h = absurd (cc)
-not_raised false count old h = sym (take-append-drop count old)
-
 -- what was put at the front of a buffer, after that
 pub front_in_case : (upper : Bool) (count : ℕ) (piece old put new : List ℕ) → IsPut piece old put count → new ≡ in_case upper (take count put) ++ drop count put
     → take count new ≡ in_case upper piece

@@ -4,7 +4,7 @@ use Rattle.std.specs.Iterator.Adapters.{fuse_source, fuse_done}
 use Rattle.std.specs.declared.iter.Fuse.{Fuse}
 use Rattle.bech32_gf.specs.declared.gf32.Fe32.{Fe32}
 use Rattle.bech32_hrp.specs.declared.Hrp.{Hrp}
-use Rattle.bech32_encode.specs.WitnessVersion.{version_source, version_of}
+use Rattle.bech32_encode.specs.WitnessVersion.{version_source, version_to_come}
 use Rattle.bech32_encode.specs.declared.Encoder.{Encoder}
 use Rattle.bech32_encode.specs.declared.version.WitnessVersionIter.{WitnessVersionIter}
 
@@ -24,6 +24,6 @@ encoder_version e = e.version
 pub record IsFreshOver {I Ck : Type 0} (e : Encoder I Ck)
     (source : Fuse (WitnessVersionIter I)) : Type 0 where
   pub fresh : fuse_done source ≡ false
-  pub version : version_of (fuse_source source) ≡ encoder_version e
+  pub version : version_to_come (fuse_source source) ≡ encoder_version e
   pub elements : fuse_source (version_source (fuse_source source)) ≡ encoder_elements e
   pub elements_fresh : fuse_done (version_source (fuse_source source)) ≡ false

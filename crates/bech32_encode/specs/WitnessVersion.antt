@@ -10,12 +10,12 @@ abbrev pub version_source : {I : Type 0} → WitnessVersionIter I → Fuse I
 version_source s = s.elements
 
 -- the version, until it has come
-abbrev pub version_of : {I : Type 0} → WitnessVersionIter I → Option Fe32
-version_of s = s.version
+abbrev pub version_to_come : {I : Type 0} → WitnessVersionIter I → Option Fe32
+version_to_come s = s.version
 
 -- the version, until it has come, and then the elements
 abbrev pub version_gives : {I : Type 0} → WitnessVersionIter I → List Fe32 → List Fe32
-version_gives s xs = option_to_list (version_of s) ++ xs
+version_gives s xs = option_to_list (version_to_come s) ++ xs
 
 -- what a call of `next` does
 abbrev pub version_steps : {I : Type 0} → (I → Option Fe32 → I → Type 0)
@@ -24,4 +24,4 @@ version_steps steps = Adapts steps version_source version_gives
 
 -- how many versions are to come
 abbrev pub version_more : {I : Type 0} → WitnessVersionIter I → ℕ
-version_more s = length (option_to_list (version_of s))
+version_more s = length (option_to_list (version_to_come s))

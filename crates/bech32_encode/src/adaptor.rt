@@ -13,7 +13,8 @@ pub trait Adaptor {
     // The iterator inside, and whether it has ended.
     ghost source: { Self → Fuse Self.Source };
 
-    // The list that is given from here on, where the iterator inside goes on to give these elements.
+    // The list that is given from here on, where the iterator inside goes on to give these
+    // elements.
     ghost gives: { Self → List Element → List Self.Given };
 
     // How many items that list has beyond those of the iterator inside.

@@ -209,8 +209,8 @@ fn put_two_bytes<Ck: Checksum>(bytes: &[u8], engine: &mut Engine<Ck>, at: usize,
     put_two((row % 1024) as usize, at + 2, buffer);
 }
 
-// Puts the characters of fewer than five bytes, and hands their elements to the engine. Programs of 32
-// bytes leave two.
+// Puts the characters of fewer than five bytes, and hands their elements to the engine. Programs of
+// 32 bytes leave two.
 #[inline]
 fn put_last<Ck: Checksum>(
     bytes: &[u8],

@@ -1,4 +1,7 @@
-//! Encodes elements as texts, one character at a time and without memory (BIP-173, Bech32).
+//! Encodes elements as texts, one character at a time and without memory.
+//!
+//! Below it: `bech32_checksum`, `bech32_bits`, `devices`.
+//! Standard: BIP-173, Bech32 and Checksum; BIP-350.
 #![tactic(auto)]
 
 ghost use Rattle.std.specs.Prelude.{◌≡◌, ◌++◌, List, Some, None, option_to_list};
@@ -32,7 +35,7 @@ pub use pieces::TextInPieces;
 use std::marker::PhantomData;
 pub use text::{
     length_with_version, put_front_of_text, put_text_of_bytes, put_text_of_part, text_in,
-    text_length, text_length_of_part,
+    text_length, text_length_of_part, text_of_size_in,
 };
 pub use texts::CharIter;
 pub use unique::encoded_text_is_unique;

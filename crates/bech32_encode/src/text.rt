@@ -123,8 +123,29 @@ pub fn text_in<Ck: Checksum, A: Allocator>(
         IsEncodedText Ck.code (hrp_bytes hrp)
         (option_to_list version ++ to_fes «data».now) (string_bytes s)) }
 {
-    let length = length_with_version::<Ck>(&hrp, version, data.len());
-    let mut text = vec![in alloc; 0u8; length]?;
+    let size = length_with_version::<Ck>(&hrp, version, data.len());
+    text_of_size_in::<Ck, A>(alloc, hrp, version, data, size)
+}
+
+/// The same of a text whose length is known.
+///
+/// # Errors
+///
+/// When out of memory.
+pub fn text_of_size_in<Ck: Checksum, A: Allocator>(
+    alloc: A,
+    hrp: Hrp,
+    version: Option<Fe32>,
+    data: &[u8],
+    size: usize,
+) -> Result<String<A>, AllocError>
+    requires { size ≡ text_length_of Ck.CHECKSUM_LENGTH (hrp_bytes hrp)
+        (length (option_to_list version) + fes_count 0 (length «data».now)) }
+    ensures { IfOk result (λ s.
+        IsEncodedText Ck.code (hrp_bytes hrp)
+        (option_to_list version ++ to_fes «data».now) (string_bytes s)) }
+{
+    let mut text = vec![in alloc; 0u8; size]?;
     put_text_of_bytes::<Ck>(&hrp, version, data, text.as_mut_slice());
     // All of it is ASCII: what the call requires is proved.
     Ok(unsafe { String::from_utf8_unchecked(text) })

@@ -21,14 +21,14 @@ pub struct WitnessVersionIter<I> {
 }
 
 impl<I: Iterator<Item = Fe32>> WitnessVersionIter<I> {
-    ghost use Rattle.bech32_encode.specs.WitnessVersion.{version_source, version_of, version_steps};
+    ghost use Rattle.bech32_encode.specs.WitnessVersion.{version_source, version_to_come, version_steps};
 
     /// The version, if there is one, and then the elements.
     #[inline]
     pub fn new(version: Option<Fe32>, elements: I) -> Self
         ensures source { fuse_source (version_source result) ≡ elements }
         ensures fresh { fuse_done (version_source result) ≡ false }
-        ensures version { version_of result ≡ version }
+        ensures version { version_to_come result ≡ version }
         // A whole walk gives the version and what a whole walk of the elements gives.
         ensures walk { EachWalkGives I.next_gives elements (version_steps I.next_gives) result
             (λ xs fes. fes ≡ option_to_list version ++ xs) }
@@ -46,7 +46,7 @@ impl<I: Iterator<Item = Fe32>> Iterator for WitnessVersionIter<I> {
     type Item = Fe32;
 
     ghost use Rattle.bech32_bits.specs.Adaptor.{fuse_can, fuse_left};
-    ghost use Rattle.bech32_encode.specs.WitnessVersion.{version_source, version_of, version_steps, version_more};
+    ghost use Rattle.bech32_encode.specs.WitnessVersion.{version_source, version_to_come, version_steps, version_more};
 
     ghost can_next = { λ s. fuse_can I.can_next (version_source s) };
 
@@ -62,7 +62,7 @@ impl<I: Iterator<Item = Fe32>> Iterator for WitnessVersionIter<I> {
         ensures goes { MakesProgress ⟦<WitnessVersionIter<I> as Iterator>⟧.can_next
             ⟦<WitnessVersionIter<I> as Iterator>⟧.remaining self.old result self.new }
         // While the version is to come, no element is asked for.
-        ensures waits { IfSome (version_of self.old)
+        ensures waits { IfSome (version_to_come self.old)
             (λ _. version_source self.new ≡ version_source self.old) }
     {
         match self.version {

@@ -37,5 +37,5 @@ count_with_next None = 0
 count_with_next (Some more) = suc more
 
 -- the powers that a range of them has left
-abbrev pub left_of : {F : Type 0} → Ops F → PowersRange F → List F
-left_of o s = multiplied o s.powers.base s.powers.next (count_with_next s.more)
+abbrev pub powers_left : {F : Type 0} → Ops F → PowersRange F → List F
+powers_left o s = multiplied o s.powers.base s.powers.next (count_with_next s.more)

@@ -6,10 +6,10 @@ use Rattle.bech32_gf.specs.declared.gf32.conversions.TryFromError.TheVariants.{N
 use Rattle.bech32_gf.specs.declared.gf32.conversions.TryFromError.TheVariants.{InvalidByte}
 
 -- an integer is refused because it is not a byte, or because it is a byte from 32 on, which is told
-abbrev pub IsRefusal : ℤ → TryFromError → Type 0
-IsRefusal n (NotAByte e) = ¬ (pos 0 ≤ℤ n × n ≤ℤ pos 255)
-IsRefusal n (InvalidByte b) = (pos b ≡ n) × (32 ≤ b) × (b ≤ 255)
+abbrev pub IsTryFromRefusal : ℤ → TryFromError → Type 0
+IsTryFromRefusal n (NotAByte e) = ¬ (pos 0 ≤ℤ n × n ≤ℤ pos 255)
+IsTryFromRefusal n (InvalidByte b) = (pos b ≡ n) × (32 ≤ b) × (b ≤ 255)
 
 -- an integer gives the element of that value, or is refused
 abbrev pub GivesElement : ℤ → Result Fe32 TryFromError → Type 0
-GivesElement n r = MatchResult r (λ x. pos x.value ≡ n) (IsRefusal n)
+GivesElement n r = MatchResult r (λ x. pos x.value ≡ n) (IsTryFromRefusal n)

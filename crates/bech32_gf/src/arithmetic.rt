@@ -2,8 +2,8 @@
 //!
 //! Each [`Field`](crate::field::Field) is an [`Arithmetic`], and each
 //! [`ExtensionField`](crate::field::ExtensionField) an [`Extension`]. `Field` has eighteen traits
-//! above it, and a proof over any field carries each of them through each call. What is generic over
-//! [`Arithmetic`] carries three, and is proved in half the time.
+//! above it, and a proof over any field carries each of them through each call. What is generic
+//! over [`Arithmetic`] carries three, and is proved in half the time.
 
 ghost use Rattle.std.specs.Prelude.{◌≡◌, ◌≢◌, ◌↔◌, IsTrue, Bool, Option, Some};
 ghost use Rattle.bech32_gf.specs.Field.{Ops, IsField, KeepsSums, KeepsProducts, power};
@@ -75,7 +75,8 @@ pub trait Extension: Arithmetic {
     /// The field that is extended.
     type Base: Copy + Default;
 
-    // The operations of the base field. They are no bound on it, since a proof would carry that too.
+    // The operations of the base field. They are no bound on it, since a proof would carry that
+    // too.
     ghost base_ops: { Ops Self.Base };
 
     // The element that an element of the base field is here, and back where it is one.

@@ -8,7 +8,7 @@ ghost use Rattle.std.specs.Iterator.{YieldsFirst, item_count};
 ghost use Rattle.std.specs.Fmt.{WritesOnOk};
 ghost use Rattle.bech32_gf.specs.Field.{IsOrder, IsCharacteristic, ListsDivisors, IsPositiveI64};
 ghost use Rattle.bech32_gf.specs.Field.{power, signed_power, signed_multiple};
-ghost use Rattle.bech32_gf.specs.Powers.{powers_of, left_of, base_of, next_of, power_after, GivesNextPower};
+ghost use Rattle.bech32_gf.specs.Powers.{powers_of, powers_left, base_of, next_of, power_after, GivesNextPower};
 
 use crate::arithmetic::{Arithmetic, Extension};
 use std::fmt;
@@ -73,7 +73,8 @@ pub trait Field: Arithmetic
         requires { self ≢ Self.ops.zero }
         ensures { result ≡ Self.ops.inv self };
 
-    /// The divisors of the order: [`MULTIPLICATIVE_ORDER_FACTORS`](Field::MULTIPLICATIVE_ORDER_FACTORS).
+    /// The divisors of the order:
+    /// [`MULTIPLICATIVE_ORDER_FACTORS`](Field::MULTIPLICATIVE_ORDER_FACTORS).
     fn order_factors() -> &'static [usize]
         ensures { result.now ≡ divisors };
 
@@ -122,7 +123,7 @@ pub trait Field: Arithmetic
     /// The powers of this element from one number to another, which is not below it, both included.
     final fn powers_range(self, start: usize, end: usize) -> PowersRange<Self>
         requires { start ≤ end }
-        ensures { left_of Self.ops result ≡ powers_of Self.ops self start (end - start + 1) }
+        ensures { powers_left Self.ops result ≡ powers_of Self.ops self start (end - start + 1) }
     {
         let mut powers = self.powers();
         powers.advance(start);
@@ -199,8 +200,8 @@ pub trait Field: Arithmetic
     ghost fits_law: { IsPositiveI64 CHARACTERISTIC × IsPositiveI64 MULTIPLICATIVE_ORDER };
 }
 
-/// The order of an element. It has a trait of its own, implemented for every field, since names in a
-/// trait may not differ only in case, as its name and that of
+/// The order of an element. It has a trait of its own, implemented for every field, since names in
+/// a trait may not differ only in case, as its name and that of
 /// [`MULTIPLICATIVE_ORDER`](Field::MULTIPLICATIVE_ORDER) would.
 pub trait MultiplicativeOrder: Field {
     /// The least number from 1 on whose power of this element, which is not zero, is one.
@@ -255,8 +256,8 @@ pub trait ExtensionField: Field
 
 #[doc(hidden)]
 pub mod private {
-    /// Keeps [`Bech32Field`](super::Bech32Field) to the fields of this repository: the crate `bech32`
-    /// does not give this module on.
+    /// Keeps [`Bech32Field`](super::Bech32Field) to the fields of this repository: the crate
+    /// `bech32` does not give this module on.
     pub trait Sealed {}
 }
 
@@ -327,9 +328,9 @@ pub struct PowersRange<F: Field> {
 impl<F: Field> Iterator for PowersRange<F> {
     type Item = F;
 
-    ghost next_gives = { YieldsFirst (left_of F.ops) };
+    ghost next_gives = { YieldsFirst (powers_left F.ops) };
 
-    ghost remaining = { item_count (left_of F.ops) };
+    ghost remaining = { item_count (powers_left F.ops) };
 
     fn next(&mut self) -> Option<F> {
         let more = self.more?;

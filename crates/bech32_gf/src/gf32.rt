@@ -17,8 +17,8 @@ use thiserror::Error;
 
 pub mod plain;
 
-// The logarithm to the base 2, whose powers are all values but 0, of each value. 0 has none, and its
-// place is not read.
+// The logarithm to the base 2, whose powers are all values but 0, of each value. 0 has none, and
+// its place is not read.
 const LOG: [u8; 32] = [
     0, 0, 1, 14, 2, 28, 15, 22, 3, 5, 29, 26, 16, 7, 23, 11, 4, 25, 6, 10, 30, 13, 27, 21, 17, 18,
     8, 19, 24, 9, 12, 20,

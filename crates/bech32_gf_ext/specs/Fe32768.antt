@@ -3,7 +3,7 @@ use Rattle.std.specs.Prelude.{◌==◌, ◌&&◌, ℕ, List, [], ◌∷◌, Opti
 use Rattle.std.proofs.Common.{refl}
 use Rattle.bech32_gf.specs.Field.{Ops}
 use Rattle.bech32_gf.specs.Fe32 as fe32
-use Rattle.bech32_gf_ext.specs.Fe32Ext.{coefficient}
+use Rattle.bech32_gf_ext.specs.Fe32Ext.{ext_coefficient}
 use Rattle.bech32_gf_ext.specs.Cubic as cubic
 use Rattle.bech32_gf.specs.declared.gf32.Fe32.{Fe32}
 use Rattle.bech32_gf_ext.specs.declared.Fe32Ext.{Fe32Ext}
@@ -14,13 +14,13 @@ triple a b c = record { inner = a ∷ b ∷ c ∷ []; full = refl }
 
 -- the coefficients of an element a + b z + c z^2
 abbrev pub low : Fe32Ext 3 → Fe32
-low x = coefficient x 0
+low x = ext_coefficient x 0
 
 abbrev pub middle : Fe32Ext 3 → Fe32
-middle x = coefficient x 1
+middle x = ext_coefficient x 1
 
 abbrev pub high : Fe32Ext 3 → Fe32
-high x = coefficient x 2
+high x = ext_coefficient x 2
 
 -- the sum, place by place
 unfoldable pub add : Fe32Ext 3 → Fe32Ext 3 → Fe32Ext 3

@@ -36,9 +36,9 @@ values x = map (λ (a : Fe32). a.value) x.inner
 pub path_of_values : {n : ℕ} (x y : Fe32Ext n) → values x ≡ values y → x ≡ y
 path_of_values x y h = path x y (same_values x.inner y.inner h)
 
--- the coefficient of a power of z (zero from the degree on)
-abbrev pub coefficient : {n : ℕ} → Fe32Ext n → ℕ → Fe32
-coefficient x k = slice_index_or x.inner k fe32.zero
+-- the ext_coefficient of a power of z (zero from the degree on)
+abbrev pub ext_coefficient : {n : ℕ} → Fe32Ext n → ℕ → Fe32
+ext_coefficient x k = slice_index_or x.inner k fe32.zero
 
 pub length-scaled : {n : ℕ} (x : Fe32Ext n) (a : Fe32)
     → length (map (λ (b : Fe32). fe32.mul b a) x.inner) ≡ n

@@ -1,4 +1,7 @@
 //! The extension fields of GF(32): pairs with z^2 = z + 1, and triples with z^3 = z + 1.
+//!
+//! Below it: `bech32_gf`.
+//! Standard: BIP-173, Checksum design; BIP-93, Generation of valid checksum.
 #![tactic(auto)]
 
 ghost use Rattle.std.specs.Prelude.{◌≡◌, length};

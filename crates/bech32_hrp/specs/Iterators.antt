@@ -7,16 +7,16 @@ use Rattle.bech32_hrp.specs.declared.lowercase.LowercaseCharIter.{LowercaseCharI
 use Rattle.bech32_hrp.specs.Hrp.{lowered}
 
 -- the bytes that are to come
-abbrev pub bytes_to_come : ByteIter → List ℕ
-bytes_to_come s = s.rest.now
+abbrev pub hrp_bytes_to_come : ByteIter → List ℕ
+hrp_bytes_to_come s = s.rest.now
 
 -- the characters that are to come
 abbrev pub chars_to_come : CharIter → List ℕ
-chars_to_come s = bytes_to_come s.bytes
+chars_to_come s = hrp_bytes_to_come s.bytes
 
 -- the bytes that are to come, in lower case
 abbrev pub lower_bytes_to_come : LowercaseByteIter → List ℕ
-lower_bytes_to_come s = lowered (bytes_to_come s.iter)
+lower_bytes_to_come s = lowered (hrp_bytes_to_come s.iter)
 
 -- the characters that are to come, in lower case
 abbrev pub lower_chars_to_come : LowercaseCharIter → List ℕ

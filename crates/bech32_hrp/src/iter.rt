@@ -19,11 +19,11 @@ pub struct CharIter<'b> {
 }
 
 impl Hrp {
-    ghost use Rattle.bech32_hrp.specs.Iterators.{bytes_to_come, chars_to_come};
+    ghost use Rattle.bech32_hrp.specs.Iterators.{hrp_bytes_to_come, chars_to_come};
 
     /// The bytes, in the case that they were parsed in.
     pub fn byte_iter(&self) -> ByteIter<'_>
-        ensures { bytes_to_come result ≡ hrp_bytes self.now }
+        ensures { hrp_bytes_to_come result ≡ hrp_bytes self.now }
     {
         ByteIter {
             rest: self.as_bytes(),
@@ -45,11 +45,11 @@ impl<'b> Iterator for ByteIter<'b> {
 
     ghost use Rattle.std.specs.Iterator.{UpTo, YieldsFirst, item_count};
     ghost use Rattle.std.specs.Iterator.SizeHint.{IsWithinCount};
-    ghost use Rattle.bech32_hrp.specs.Iterators.{bytes_to_come};
+    ghost use Rattle.bech32_hrp.specs.Iterators.{hrp_bytes_to_come};
 
-    ghost next_gives = { YieldsFirst bytes_to_come };
+    ghost next_gives = { YieldsFirst hrp_bytes_to_come };
 
-    ghost remaining = { item_count bytes_to_come };
+    ghost remaining = { item_count hrp_bytes_to_come };
 
     #[inline]
     fn next(&mut self) -> Option<u8> {
@@ -59,10 +59,10 @@ impl<'b> Iterator for ByteIter<'b> {
     }
 
     fn size_hint(&self) -> (usize, Option<usize>)
-        ensures lower { IsWithinCount result.0 (item_count bytes_to_come self.now) }
-        ensures upper { IfSome result.1 (UpTo (item_count bytes_to_come self.now)) }
+        ensures lower { IsWithinCount result.0 (item_count hrp_bytes_to_come self.now) }
+        ensures upper { IfSome result.1 (UpTo (item_count hrp_bytes_to_come self.now)) }
         ensures exact { result
-            ≡ (length (bytes_to_come self.now), Some (length (bytes_to_come self.now))) }
+            ≡ (length (hrp_bytes_to_come self.now), Some (length (hrp_bytes_to_come self.now))) }
     {
         (self.len(), Some(self.len()))
     }
@@ -70,9 +70,9 @@ impl<'b> Iterator for ByteIter<'b> {
 
 impl<'b> DoubleEndedIterator for ByteIter<'b> {
     ghost use Rattle.std.specs.Iterator.{YieldsLast};
-    ghost use Rattle.bech32_hrp.specs.Iterators.{bytes_to_come};
+    ghost use Rattle.bech32_hrp.specs.Iterators.{hrp_bytes_to_come};
 
-    ghost next_back_gives = { YieldsLast bytes_to_come };
+    ghost next_back_gives = { YieldsLast hrp_bytes_to_come };
 
     #[inline]
     fn next_back(&mut self) -> Option<u8> {

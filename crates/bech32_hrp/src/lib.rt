@@ -1,4 +1,7 @@
-//! Human-readable parts: what stands before the separator of a text (BIP-173, Bech32).
+//! Human-readable parts: what stands before the separator of a text.
+//!
+//! Below it: no crate of this repository.
+//! Standard: BIP-173, Bech32.
 #![tactic(auto)]
 
 ghost use Rattle.std.specs.Prelude.{◌≡◌, ℕ, ◌+◌, ◌-◌, ◌≤◌, ◌<◌, ◌++◌, [], ◌∷◌, true, false, ◌&&◌, ◌||◌, ◌↔◌, ◌⊎◌};
@@ -185,9 +188,9 @@ impl Hrp {
     ///
     /// # Errors
     ///
-    /// The first of these that applies: `Empty`; `TooLong`; then at the first bad character from the
-    /// front `NonAsciiChar`, `InvalidAsciiByte` or, for a letter whose case differs from that of a
-    /// letter before it, `MixedCase`.
+    /// The first of these that applies: `Empty`; `TooLong`; then at the first bad character from
+    /// the front `NonAsciiChar`, `InvalidAsciiByte` or, for a letter whose case differs from that
+    /// of a letter before it, `MixedCase`.
     pub fn parse(text: &str) -> Result<Hrp, Error>
         ensures outcome { IsParsed text.now result }
         ensures accepts { IsOk result ↔ IsHrp text.now }
@@ -207,7 +210,8 @@ impl Hrp {
         }
     }
 
-    /// The part of the bytes of a text of at most 83 bytes, with `X` for each that is not from 33 to
+    /// The part of the bytes of a text of at most 83 bytes, with `X` for each that is not from 33
+    /// to
     /// 126. It may be empty, and have letters of both cases.
     pub fn parse_unchecked(hrp: &str) -> Hrp
         requires { length hrp.now ≤ 83 }

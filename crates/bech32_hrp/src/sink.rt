@@ -81,8 +81,8 @@ impl fmt::Write for HrpSink {
 }
 
 impl Hrp {
-    /// Reads a human-readable part from what `{}` writes of the value, as [`Hrp::parse`] reads it from
-    /// a text, without memory.
+    /// Reads a human-readable part from what `{}` writes of the value, as [`Hrp::parse`] reads it
+    /// from a text, without memory.
     ///
     /// # Errors
     ///

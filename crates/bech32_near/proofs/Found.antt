@@ -21,7 +21,8 @@ use Rattle.bech32_four.proofs.Law.{detects_four_below}
 use Rattle.bech32_correction.specs.MendedElements.{mended}
 use Rattle.bech32_correction.specs.Mistyped.{HasResidue, IsMendedText}
 use Rattle.bech32_correction.proofs.Sums.{length-mended}
-use Rattle.bech32_near_patterns.specs.Nearest.{AreRising, DetectsFour, IsEarlier, IsNearListing}
+use Rattle.bech32_bch.specs.Detection.{DetectsFour}
+use Rattle.bech32_near_patterns.specs.Nearest.{AreRising, IsEarlier, IsNearListing}
 use Rattle.bech32_near.specs.NearTexts.{AreNearTexts, AreNearestListings, AsksForTwo, IsNearText, IsSearched, differences_outside}
 use Rattle.bech32_near.proofs.Differing.{added_value, differences, few_mended}
 use Rattle.bech32_near.proofs.Nearby.{accepted_parts, all_accepted, below, given_erasures, itself_found, listed_value, mended_spelling, near_found, nothing_found, read-from_accepted, searched_or_not}

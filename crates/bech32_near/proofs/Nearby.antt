@@ -30,7 +30,7 @@ use Rattle.bech32_decode.specs.Parts.{unchecked_data, unchecked_length, unchecke
 use Rattle.bech32_decode.specs.Refusals.{IsInvalidBy}
 use Rattle.bech32_decode.specs.Text.{IsText}
 use Rattle.bech32_decode.specs.declared.unchecked.UncheckedHrpstring.{UncheckedHrpstring}
-use Rattle.bech32_refusals.specs.ResidueRows.{residue_of}
+use Rattle.bech32_refusals.specs.ResidueRows.{error_residue_of}
 use Rattle.bech32_refusals.specs.declared.error.ChecksumError.TheVariants.{InvalidResidue}
 use Rattle.bech32_refusals.specs.declared.error.InvalidResidueError.{InvalidResidueError}
 use Rattle.bech32_decode.proofs.Grammar.{only-from_IsText}
@@ -38,7 +38,8 @@ use Rattle.bech32_decode.proofs.Spelling.{lower_text}
 use Rattle.bech32_corrector.specs.Given.{AreWithin}
 use Rattle.bech32_correction.specs.MendedElements.{mended}
 use Rattle.bech32_correction.specs.Mistyped.{AreInside, HasResidue, IsMendedText, IsPlacedIn, IsReadAs, question_of}
-use Rattle.bech32_near_patterns.specs.Nearest.{AreNearest, AreRising, DetectsFour, IsEarlier, IsListed, IsNear, IsNearListing}
+use Rattle.bech32_bch.specs.Detection.{DetectsFour}
+use Rattle.bech32_near_patterns.specs.Nearest.{AreNearest, AreRising, IsEarlier, IsListed, IsNear, IsNearListing}
 use Rattle.bech32_near.specs.NearTexts.{AreNearestListings, BeginsWith, IsNearText, IsSearch, IsSearched, IsSearcherOf, LeavesResidue, differences_outside}
 use Rattle.bech32_direct.specs.Question.{Question}
 use Rattle.bech32_correction.proofs.Accepted.{front, in_parts, mended_accepted}
@@ -77,7 +78,7 @@ leaves-from_accepted code text residue zeros (hrp, data_part, is) =
 
 -- a refused text leaves the residue that its refusal holds
 pub leaves-from_error : (code : Code) (text : List ℕ) (u : UncheckedHrpstring) (e : InvalidResidueError) (residue : List Fe32) → length code.target ≡ length code.generator
-    → IsReadAs text u → IsInvalidBy code u (InvalidResidue e) → residue ≡ residue_of e → LeavesResidue code text residue
+    → IsReadAs text u → IsInvalidBy code u (InvalidResidue e) → residue ≡ error_residue_of e → LeavesResidue code text residue
 leaves-from_error code text u e residue size is v same = (
   unchecked_part u,
   unchecked_data u,

@@ -28,7 +28,7 @@ pub struct NearTexts<T, C> {
     pub corrector: Option<C>,
 }
 
-// The residue of a text that was read, which is zero where the checksum accepts it.
+// The error residue of a text that was read, which is zero where the checksum accepts it.
 fn residue_in<Ck: Checksum>(
     unchecked: &UncheckedHrpstring<'_>,
 ) -> Result<[Fe32; MAX_DEGREE], ChecksumError>
@@ -122,13 +122,13 @@ pub fn nearest_in<Ck: CorrectingChecksum, A: Allocator + Copy>(
 /// same. Each is in lower case, with the listing that mends this text to it, in the order of
 /// [`nearest_listings`]; where the checksum accepts this text, it is itself the first.
 ///
-/// `erasures` are locations that are known to be wrong, in characters from the last, which is 0; one
-/// that is given twice counts once. Where one is not in the data part, or they are more than the
-/// bound, there are no texts; nor for a checksum of no characters.
+/// `erasures` are locations that are known to be wrong, in characters from the last, which is 0;
+/// one that is given twice counts once. Where one is not in the data part, or they are more than
+/// the bound, there are no texts; nor for a checksum of no characters.
 ///
 /// It is meant for up to two errors: [`nearest_listings`] says what time more of them take. By
-/// [`Bech32`](bech32_checksum::Bech32) and [`Bech32m`](bech32_checksum::Bech32m), and a data part of
-/// up to 89 characters, two errors without erasures have one text at most (BIP-173, Checksum
+/// [`Bech32`](bech32_checksum::Bech32) and [`Bech32m`](bech32_checksum::Bech32m), and a data part
+/// of up to 89 characters, two errors without erasures have one text at most (BIP-173, Checksum
 /// design): the right one, if at most two characters are wrong. So they have by each checksum that
 /// detects four errors in the data part.
 ///

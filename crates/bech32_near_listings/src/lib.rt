@@ -1,8 +1,12 @@
-//! All patterns of few errors that explain a residue (BIP-173, Checksum design).
+//! All patterns of few errors that explain a residue.
+//!
+//! Below it: `bech32_near_patterns`.
+//! Standard: BIP-173, Checksum design.
 #![tactic(auto)]
 
 ghost use Rattle.std.specs.Prelude.{◌≡◌, ◌≤◌, [], length, IfOk};
-ghost use Rattle.bech32_near_patterns.specs.Nearest.{AreNearest, DetectsFour};
+ghost use Rattle.bech32_bch.specs.Detection.{DetectsFour};
+ghost use Rattle.bech32_near_patterns.specs.Nearest.{AreNearest};
 ghost use Rattle.bech32_gf.specs.Fe32 as fe32;
 
 use bech32_checksum::Checksum;
@@ -18,8 +22,8 @@ use std::alloc::{AllocError, Allocator};
 ///
 /// It is meant for up to two errors: without erasures, two of them take one search by erasures for
 /// each location of the window. Where twice the other errors, the erasures and 1 are more than the
-/// bound, each value of an error is tried by itself: each such error takes 31 times as many searches
-/// again as there are locations. Any greater number is allowed, and takes as long.
+/// bound, each value of an error is tried by itself: each such error takes 31 times as many
+/// searches again as there are locations. Any greater number is allowed, and takes as long.
 ///
 /// # Errors
 ///

@@ -132,12 +132,6 @@ module _ {F : Type 0} {f : Ops F} (fl : IsField f) (rank : F → ℕ) (g residue
           none (λ z. q.0.not_zero (ap (λ (u : ℕ × F). u.1) (sym q.1.error_same) ∙ z))
           (subst (λ u. AreWithin place others u) (sym q.1.rest_same) (q.0.few, q.0.below)))
 
-    pub error_there : (items given : List (ℕ × F)) → answer ≡ Some items → items ≡ given ++ [] → length given ≡ length s → ⊥
-    error_there items given e parts size =
-        let longer : length (s ++ (place ∷ [])) ≤ length items = erasures_first (s ++ (place ∷ [])) answer items h e in
-        let whole : length items ≡ length (given ++ []) = ap (λ u. length u) parts in
-        omega (arith, length-append s (place ∷ []), length-append given [])
-
   -- where the place is an erasure there is no error
   pub at_erasure : (place others : ℕ) (old : List (List (ℕ × F))) → IsAmong place s → AreAdded Earlier (HasHighestAt f g residue s place others) old old
   at_erasure place others old m = added_none Earlier (HasHighestAt f g residue s place others) old (λ x k. k.1.outside m)

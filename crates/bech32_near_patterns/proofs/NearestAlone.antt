@@ -19,7 +19,8 @@ use Rattle.bech32_bch.proofs.Counting.{outside, outside_located, outside_of, loc
 use Rattle.bech32_bch.proofs.Patterns.{all-kept, all_located, at-kept, at_absent, at_listed, errors-misses, kept, kept-once, kept-values, kept_of, locations_listed, misses_most, outside_count}
 use Rattle.bech32_bch.proofs.Places.{all_of, length-locations, look, mem_left, mem_right, mem_split, not_mem, once-append}
 use Rattle.bech32_bch.proofs.Rising.{once_in_order}
-use Rattle.bech32_near_patterns.specs.Nearest.{DetectsFour, IsEarlier}
+use Rattle.bech32_bch.specs.Detection.{DetectsFour}
+use Rattle.bech32_near_patterns.specs.Nearest.{IsEarlier}
 use Rattle.bech32_near_patterns.specs.Steps.{AreAll, IsGathered}
 use Rattle.bech32_near_patterns.proofs.NearestListing.{located_below}
 

@@ -1,10 +1,10 @@
 -- What the steps of a search for the nearest patterns rest on.
-use Rattle.std.specs.Prelude.{◌==◌, ◌≢◌, ◌↔◌, IfOk, IsOk, IsTrue, OnOk, Result, Ok, Err, Option, Some, None, Bool, true, false, cond}
+use Rattle.std.specs.Prelude.{◌≢◌, ◌↔◌, IfOk, IsOk, IsTrue, OnOk, Result, Ok, Err, Option, Some, None, Bool, true, false, cond}
 use Rattle.std.specs.List.{AllByRecursion}
-use Rattle.std.proofs.Common.{◌≡◌, ℕ, zero, suc, ◌+◌, ◌*◌, ◌<◌, ◌≤◌, List, [], ◌∷◌, ◌++◌, map, take, drop, get_or, length, ◌⊎◌, inl, inr, subst, sym, ap, ◌∙◌, refl, arith, append_assoc, length-take}
+use Rattle.std.proofs.Common.{◌≡◌, ℕ, zero, suc, ◌+◌, ◌*◌, ◌<◌, ◌≤◌, List, [], ◌∷◌, ◌++◌, map, take, drop, get_or, length, inl, inr, subst, sym, ap, ◌∙◌, refl, arith, length-take}
 use Rattle.std.proofs.Math.Decide.{dec_lt}
 use Rattle.std.proofs.lemmas.Bool.Decides.{eqb_tells}
-use Rattle.std.proofs.lemmas.List.{length-append, take_more}
+use Rattle.std.proofs.lemmas.List.{length-append}
 use Rattle.bech32_gf.specs.Fe32 as fe32
 use Rattle.bech32_gf.specs.Field.{Ops}
 use Rattle.bech32_gf.specs.declared.gf32.Fe32.{Fe32}
@@ -13,7 +13,8 @@ use Rattle.bech32_poly.specs.Distinct.{IsAmong}
 use Rattle.bech32_bch.specs.Erasures.{AreErasures, has, with_erasures}
 use Rattle.bech32_checksum.specs.Code.{Code}
 use Rattle.bech32_direct.specs.TakenOff.{IsTakenOff}
-use Rattle.bech32_near_patterns.specs.Nearest.{AreNearest, DetectsFour, IsEarlier}
+use Rattle.bech32_bch.specs.Detection.{DetectsFour}
+use Rattle.bech32_near_patterns.specs.Nearest.{AreNearest, IsEarlier}
 use Rattle.bech32_near_patterns.specs.Steps.{AreAdded, AreAll, CanBeHighest, HasHighest, HasHighestAt, IsGathered, IsTried, raised, with_highest}
 use Rattle.bech32_direct.specs.Question.{IsAnswerTo, Question}
 use Rattle.bech32_solver.proofs.Added.{erasures_more, with_erasures-append}
@@ -67,10 +68,6 @@ one_more {E} code bound q place given r is erased within h = said r h
     said (Ok (Some listing)) h = moved (Some listing) h.1
     said (Err e) h = tt
 
-pub nothing_in : {A : Type 0} (xs : List A) → length xs ≡ 0 → xs ≡ []
-nothing_in [] e = refl
-nothing_in (x ∷ xs) e = absurd (omega (arith, e))
-
 cut : {A : Type 0} (k : ℕ) (xs : List A) → xs ≡ take k xs ++ drop k xs
 cut zero xs = refl
 cut (suc k) [] = refl
@@ -106,47 +103,11 @@ module _ {F : Type 0} where
   placed_none x [] e = refl
   placed_none x (q ∷ rest) e = absurd (omega (arith, e))
 
-  pub placed_first : (x q : ℕ × F) (rest others : List (ℕ × F)) → rest ≡ q ∷ others → q.0 ≡ 0 → take 1 rest ++ x ∷ drop 1 rest ≡ with_highest x rest
-  placed_first x q rest others e z =
-      ap (λ u. take 1 u ++ x ∷ drop 1 u) e ∙ step (eqb_tells q.0 0) ∙ ap (with_highest x) (sym e)
-    where
-      step : ((q.0 == 0) ≡ true × (q.0 ≡ 0)) ⊎ ((q.0 == 0) ≡ false × (q.0 ≢ 0)) → q ∷ x ∷ others ≡ with_highest x (q ∷ others)
-      step (inl y) = ap (λ b. cond b (q ∷ x ∷ others) (x ∷ q ∷ others)) (sym y.0)
-      step (inr y) = absurd (y.1 z)
-
-  pub placed_later : (x q : ℕ × F) (rest others : List (ℕ × F)) → rest ≡ q ∷ others → q.0 ≢ 0 → take 0 rest ++ x ∷ drop 0 rest ≡ with_highest x rest
-  placed_later x q rest others e n =
-      ap (λ u. take 0 u ++ x ∷ drop 0 u) e ∙ step (eqb_tells q.0 0) ∙ ap (with_highest x) (sym e)
-    where
-      step : ((q.0 == 0) ≡ true × (q.0 ≡ 0)) ⊎ ((q.0 == 0) ≡ false × (q.0 ≢ 0)) → x ∷ q ∷ others ≡ with_highest x (q ∷ others)
-      step (inl y) = absurd (n y.1)
-      step (inr y) = ap (λ b. cond b (q ∷ x ∷ others) (x ∷ q ∷ others)) (sym y.0)
-
-  -- a listing put together of its parts
-  pub put_together : (given front behind rest first second third all : List (ℕ × F)) (x : ℕ × F) (k : ℕ) → front ≡ take k rest → behind ≡ drop k rest → take k rest ++ x ∷ drop k rest ≡ with_highest x rest
-      → first ≡ given → second ≡ first ++ front → third ≡ second ++ x ∷ [] → all ≡ third ++ behind → all ≡ given ++ with_highest x rest
-  put_together given front behind rest first second third all x k f b place e1 e2 e3 e4 =
-      e4 ∙ ap (λ u. u ++ behind) (e3 ∙ ap (λ u. u ++ x ∷ []) (e2 ∙ ap (λ u. u ++ front) e1))
-      ∙ append_assoc (given ++ front) (x ∷ []) behind ∙ append_assoc given front (x ∷ behind)
-      ∙ ap (λ u. given ++ (u ++ x ∷ behind)) f ∙ ap (λ u. given ++ (take k rest ++ x ∷ u)) b ∙ ap (λ u. given ++ u) place
-
 -- what is true of all is true of each
 pub all_at : {A : Type 0} (P : A → Type 0) (xs : List A) (i : ℕ) (d : A) → AllByRecursion P xs → i < length xs → P (get_or xs i d)
 all_at P [] i d h low = absurd (omega arith)
 all_at P (x ∷ xs) zero d h low = h.0
 all_at P (x ∷ xs) (suc i) d h low = all_at P xs i d h.1 (omega arith)
-
-map-last : {A B : Type 0} (f : A → B) (xs : List A) (x : A) → map f (xs ++ x ∷ []) ≡ map f xs ++ f x ∷ []
-map-last f [] x = refl
-map-last f (y ∷ xs) x = ap (λ u. f y ∷ u) (map-last f xs x)
-
--- one more item behind those that came of the first ones
-pub mapped_more : {A B : Type 0} (f : A → B) (xs : List A) (i : ℕ) (d : A) (old between new : List B) (y : B) → i < length xs → between ≡ old ++ map f (take i xs) → new ≡ between ++ y ∷ [] → y ≡ f (get_or xs i d)
-    → new ≡ old ++ map f (take (i + 1) xs)
-mapped_more f xs i d old between new y low e k is =
-    k ∙ ap (λ u. u ++ y ∷ []) e ∙ append_assoc old (map f (take i xs)) (y ∷ [])
-    ∙ ap (λ u. old ++ (map f (take i xs) ++ u ∷ [])) is
-    ∙ ap (λ u. old ++ u) (sym (map-last f (take i xs) (get_or xs i d)) ∙ ap (map f) (sym (take_more xs i d low)))
 
 module _ {F : Type 0} (f : Ops F) (g residue : List F) (s : List ℕ) (limit most : ℕ) where
   long : (x : List (ℕ × F)) → IsGathered f g residue s limit most x → length s ≤ length x

@@ -72,9 +72,3 @@ abbrev pub AreNearest : Code → ℕ → Question → ℕ → List (List (ℕ ×
 AreNearest code bound question errors listings =
     IsNearestList ops value code.generator question.residue question.erasures question.window
     bound errors listings
-
--- no pattern of one to four errors below the window has the remainder zero
-abbrev pub DetectsFour : {F : Type 0} → Ops F → List F → ℕ → Type 0
-DetectsFour {F} field generator window =
-    (errors : List (ℕ × F)) → IsPattern field window errors → 1 ≤ length errors
-    → length errors ≤ 4 → HasRemainder field generator [] errors → ⊥

@@ -1,5 +1,7 @@
-//! The steps by which all patterns of few errors are gathered that explain a residue (BIP-173, Checksum
-//! design).
+//! The steps by which all patterns of few errors are gathered that explain a residue.
+//!
+//! Below it: `bech32_corrector`.
+//! Standard: BIP-173, Checksum design.
 #![tactic(auto)]
 
 mod gathering;

@@ -2,6 +2,9 @@
 //! functions for C print or return in its place. An error that carries another has its number.
 //!
 //! Numbers from 1 to 9 and from 92 are left to the programs.
+//!
+//! Below it: `bech32`.
+//! Standard: none.
 #![tactic(auto)]
 
 ghost use Rattle.std.specs.Prelude.{◌≡◌};

@@ -1,4 +1,7 @@
 //! Reads the characters of a data part, eight at a time.
+//!
+//! Below it: `bech32_checksum`, `bech32_bits`.
+//! Standard: BIP-173, Bech32.
 #![tactic(auto)]
 
 ghost use Rattle.std.specs.Prelude.{◌≡◌, ◌≤◌, ◌+◌, ◌*◌, ◌/◌, ◌%◌, ◌^◌, IsTrue, ◌↔◌, false};

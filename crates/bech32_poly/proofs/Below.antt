@@ -50,6 +50,3 @@ all_moved l a r rest i h before =
     ∙ ap (λ u. take i (push a r) ++ u) (drop_all i r h)
     ∙ append-nil (take i (push a r))
     ∙ take_all i (push a r) (omega (arith, length-push l a r))
-
-pub all_out : {F : Type 0} (a coming : F) (r : List F) (i : ℕ) → length r ≤ i → coming ≡ top a (take i r) → coming ≡ top a r
-all_out a coming r i h out = out ∙ ap (top a) (take_all i r h)

@@ -1,6 +1,6 @@
 -- The two ways to write a register: c1 first, or turned round with a one behind it.
 use Rattle.std.proofs.Common.{◌≡◌, ℕ, zero, suc, ◌+◌, ◌<◌, ◌≤◌, ◌-◌, List, [], ◌∷◌, ◌++◌, length, reverse, take, sym, ap, subst, ◌∙◌, refl, arith}
-use Rattle.std.proofs.lemmas.List.{reverse-append, reverse-reverse, length-reverse, length-append, length-take-le}
+use Rattle.std.proofs.lemmas.List.{reverse-append, reverse-reverse, length-reverse, length-append}
 use Rattle.bech32_gf.specs.Field.{Ops, IsField}
 use Rattle.bech32_poly.specs.Polynomial.{coefficient}
 use Rattle.bech32_poly.specs.Window.{act, top_of, Annihilates, IsShortestWindow}
@@ -16,11 +16,6 @@ front_and_last o [] n e = absurd (omega arith)
 front_and_last o (a ∷ []) n e = let none : n ≡ 0 = omega arith in rw none
 front_and_last o (a ∷ b ∷ r) zero e = absurd (omega arith)
 front_and_last o (a ∷ b ∷ r) (suc n) e = ap (λ u. a ∷ u) (front_and_last o (b ∷ r) n (omega arith))
-
--- how many coefficients a register has that was turned round
-pub length-shortest_register : {F : Type 0} (o : Ops F) (r r' cs : List F) (n : ℕ) → n ≡ length r → r' ≡ r → cs ≡ reverse (take (n - 1) r') → n - 1 ≡ length cs
-length-shortest_register o r r' cs n size same is =
-    sym (ap length (is ∙ ap (λ u. reverse (take (n - 1) u)) same) ∙ length-reverse (take (n - 1) r) ∙ length-take-le (n - 1) r (omega arith))
 
 module _ {F : Type 0} {o : Ops F} (l : IsField o) where
   last_only : (a x : F) → o.add (o.mul a x) o.zero ≡ o.add o.zero (o.mul a x)

@@ -49,15 +49,6 @@ module _ {F : Type 0} (o : Ops F) where
     leads = λ some z. leads (omega arith) (ap (coefficient o p) (sym e) ∙ z);
   }
 
-  pub degree_unique : (p : List F) (d e : ℕ) → IsDegree o p d → IsDegree o p e → d ≡ e
-  degree_unique p d e g h = elim (dec_lt d e) [
-    | yes less ↦ absurd (h.leads (omega arith) (g.above e less))
-    | no most ↦ elim (dec_lt e d) [
-      | yes less ↦ absurd (g.leads (omega arith) (h.above d less))
-      | no least ↦ omega arith
-    ]
-  ]
-
   pub trimmed_same : (p : List F) (n : ℕ) → n ≤ length p → ((k : ℕ) → n ≤ k → coefficient o p k ≡ o.zero) → IsSamePolynomial o (take n p) p
   trimmed_same p n within above k = elim (dec_lt k n) [
     | yes less ↦ get_or-take n p k o.zero less

@@ -18,8 +18,8 @@ abbrev pub target_row : InvalidResidueError → List Fe32
 target_row e = e.target.digits
 
 -- of what is left of the former where the latter is taken off; an element is its own negative
-abbrev pub residue_of : InvalidResidueError → List Fe32
-residue_of e = add ops (actual_row e) (target_row e)
+abbrev pub error_residue_of : InvalidResidueError → List Fe32
+error_residue_of e = add ops (actual_row e) (target_row e)
 
 -- two have the same coefficients of both
 abbrev pub has_same_rows : InvalidResidueError → InvalidResidueError → Bool

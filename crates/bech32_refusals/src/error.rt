@@ -5,7 +5,7 @@ ghost use Rattle.bech32_gf.specs.Fe32.{ops};
 ghost use Rattle.bech32_poly.specs.Polynomial.{coefficient, IsSamePolynomial};
 ghost use Rattle.bech32_checksum.specs.Code.{bech32};
 ghost use Rattle.bech32_checksum.specs.Packed.{digit_of};
-ghost use Rattle.bech32_refusals.specs.ResidueRows.{actual_row, residue_of, target_row};
+ghost use Rattle.bech32_refusals.specs.ResidueRows.{actual_row, error_residue_of, target_row};
 
 use crate::residue::{MAX_DEGREE, Residue};
 use crate::segwit::{MAX_STRING_LENGTH, WitnessLengthError};
@@ -121,8 +121,8 @@ impl InvalidResidueError {
         self.actual == other.actual && self.target == other.target
     }
 
-    /// The error of a text that leaves `actual` in place of `target`: for the layers above, which test
-    /// texts. Each must fit its type's width.
+    /// The error of a text that leaves `actual` in place of `target`: for the layers above, which
+    /// test texts. Each must fit its type's width.
     pub fn new<R: PackedFe32>(actual: &R, target: &R) -> Self
         requires actual_fits { R.number actual.now < 2 ^ (5 * R.WIDTH) }
         requires target_fits { R.number target.now < 2 ^ (5 * R.WIDTH) }
@@ -137,8 +137,8 @@ impl InvalidResidueError {
         }
     }
 
-    /// Whether the remainder is the target of Bech32, whatever checksum refused the text: a text that
-    /// Bech32m refuses for its remainder is then one that Bech32 accepts.
+    /// Whether the remainder is the target of Bech32, whatever checksum refused the text: a text
+    /// that Bech32m refuses for its remainder is then one that Bech32 accepts.
     pub fn matches_bech32_checksum(&self) -> bool
         ensures { IsTrue result ↔ IsSamePolynomial ops (actual_row self.now) bech32.target }
     {
@@ -148,7 +148,7 @@ impl InvalidResidueError {
     /// What is left of the remainder where the target is taken off, by which errors are found: its
     /// coefficients, the constant term first, with zeros behind them.
     pub fn residue(&self) -> [Fe32; MAX_DEGREE]
-        ensures { result ≡ residue_of self.now }
+        ensures { result ≡ error_residue_of self.now }
     {
         self.actual.less(&self.target)
     }
@@ -216,8 +216,8 @@ impl From<CodeLengthError> for SegwitCodeLengthError {
     }
 }
 
-/// Why the bits behind the last whole byte of a witness program are refused (BIP-173, Segwit address
-/// format).
+/// Why the bits behind the last whole byte of a witness program are refused (BIP-173, Segwit
+/// address format).
 #[derive(Clone, Copy, Debug, PartialEq, Eq, Drop, Error)]
 pub enum PaddingError {
     /// There are more than four.

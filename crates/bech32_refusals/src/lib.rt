@@ -1,5 +1,7 @@
-//! Why texts are refused (BIP-173, Bech32), and the rules of segwit addresses (BIP-173, Segwit address
-//! format).
+//! Why texts are refused, and the rules of segwit addresses.
+//!
+//! Below it: `bech32_checksum`.
+//! Standard: BIP-173, Bech32 and Segwit address format.
 #![tactic(auto)]
 
 mod error;

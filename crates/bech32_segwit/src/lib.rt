@@ -1,4 +1,7 @@
-//! Encoding and decoding of segwit addresses (BIP-173, Segwit address format; BIP-350).
+//! Encoding and decoding of segwit addresses.
+//!
+//! Below it: `bech32_encode`, `bech32_decode`.
+//! Standard: BIP-173, Segwit address format; BIP-350.
 #![tactic(auto)]
 
 ghost use Rattle.std.specs.Prelude.{◌≡◌, ◌<◌, ◌≤◌, ◌-◌, ◌^◌, ◌∷◌, min, MatchResult, IfOk, IfErr, IsOkUnless, string_bytes};
@@ -75,6 +78,10 @@ pub fn decode_in<A: Allocator>(alloc: A, s: &str) -> Result<(Hrp, Fe32, Vec<u8, 
 }
 
 /// Decodes as [`decode_in`] does, with memory of the global allocator.
+///
+/// # Errors
+///
+/// Those of [`decode_in`].
 pub fn decode(alloc: Global, s: &str) -> Result<(Hrp, Fe32, Vec<u8>), DecodeError>
     ensures value { IfOk result (λ d. IsDecodedAddress s.now (hrp_bytes d.0) d.1 d.2.items) }
     ensures part { IfOk result (λ d. HasHrp s.now (hrp_bytes d.0)) }
@@ -85,7 +92,8 @@ pub fn decode(alloc: Global, s: &str) -> Result<(Hrp, Fe32, Vec<u8>), DecodeErro
     decode_in(alloc, s)
 }
 
-/// The number of characters of a segwit address. The witness version is one of them, whichever it is.
+/// The number of characters of a segwit address. The witness version is one of them, whichever it
+/// is.
 ///
 /// Nothing else is tested.
 ///
@@ -106,6 +114,10 @@ pub fn encoded_length(
 }
 
 /// The same of the bytes of a human-readable part.
+///
+/// # Errors
+///
+/// That of [`encoded_length`].
 #[inline]
 pub fn encoded_length_of_part(
     part: &[u8],
@@ -199,6 +211,10 @@ pub fn encode_in<A: Allocator>(
 }
 
 /// Encodes as [`encode_in`] does, with memory of the global allocator.
+///
+/// # Errors
+///
+/// Those of [`encode_in`].
 pub fn encode(
     alloc: Global,
     hrp: Hrp,
@@ -241,6 +257,10 @@ pub fn encode_v0_in<A: Allocator>(
 }
 
 /// Encodes as [`encode_v0_in`] does, with memory of the global allocator.
+///
+/// # Errors
+///
+/// Those of [`encode_v0_in`].
 pub fn encode_v0(alloc: Global, hrp: Hrp, witness_program: &[u8]) -> Result<String, EncodeError>
     ensures text { IfOk result
         (λ s. IsLowerAddress (hrp_bytes hrp) zero «witness_program».now (string_bytes s)) }
@@ -277,6 +297,10 @@ pub fn encode_v1_in<A: Allocator>(
 }
 
 /// Encodes as [`encode_v1_in`] does, with memory of the global allocator.
+///
+/// # Errors
+///
+/// Those of [`encode_v1_in`].
 pub fn encode_v1(alloc: Global, hrp: Hrp, witness_program: &[u8]) -> Result<String, EncodeError>
     ensures text { IfOk result
         (λ s. IsLowerAddress (hrp_bytes hrp) one «witness_program».now (string_bytes s)) }

@@ -30,9 +30,9 @@ fn put_front(hrp: Hrp, version: Fe32, program: &[u8], upper: bool, buffer: &mut 
     }
 }
 
-/// Writes the first 90 characters of the text of a witness version and a program into a sink of text,
-/// in upper case or in lower case: by Bech32 for version 0, else by Bech32m (BIP-350). Nothing is
-/// tested.
+/// Writes the first 90 characters of the text of a witness version and a program into a sink of
+/// text, in upper case or in lower case: by Bech32 for version 0, else by Bech32m (BIP-350).
+/// Nothing is tested.
 ///
 /// # Errors
 ///

@@ -1,4 +1,4 @@
-//! The residue of a refused text.
+//! The residue error of a refused text.
 
 ghost use Rattle.std.specs.Prelude.{◌≡◌, None, Some, MatchOption};
 ghost use Rattle.bech32_solver.specs.Carried.{of_checksum};

@@ -1,4 +1,4 @@
-//! The errors in a residue of a checksum.
+//! The errors in an error residue of a checksum.
 
 ghost use Rattle.std.specs.Prelude.{◌≡◌, ◌≤◌, ◌<◌, ◌+◌, ◌↔◌, length, IfOk, IsOk, IsTrue};
 ghost use Rattle.bech32_checksum.specs.Roots.{AreLawfulRoots};
@@ -34,7 +34,8 @@ pub fn is_filled<Ck: Checksum>(erased: usize) -> bool
     erased <= most && most - erased < 2
 }
 
-// The second division: whether the polynomial of a listed pattern has the residue as remainder.
+// The second division: whether the polynomial of a listed pattern has the error residue as
+// remainder.
 fn has_residue<Ck: Checksum>(listing: &[(usize, Fe32)], residue: &[Fe32]) -> bool
     ensures { IsTrue result ↔ HasRemainder fe32.ops Ck.code.generator residue.now listing.now }
 {
@@ -74,8 +75,8 @@ fn correct_by_roots<Ck: Checksum, A: Allocator + Copy>(
     }
 }
 
-/// The errors below the window, and the elements at the erasures, that explain the residue. `known`
-/// are the locators of the erasures.
+/// The errors below the window, and the elements at the erasures, that explain the error residue.
+/// `known` are the locators of the erasures.
 ///
 /// # Errors
 ///

@@ -1,5 +1,8 @@
-//! The pattern that explains a residue, found as the erasures allow: directly, or by the generator's
-//! roots (BIP-173, Checksum design).
+//! The pattern that explains an error residue, found as the erasures allow: directly, or by the
+//! generator's roots.
+//!
+//! Below it: `bech32_direct`.
+//! Standard: BIP-173, Checksum design.
 #![tactic(auto)]
 
 mod carried;

@@ -1,4 +1,7 @@
 //! The packed words that define a checksum.
+//!
+//! Below it: `bech32_checksum`.
+//! Standard: BIP-173, Checksum.
 #![tactic(auto)]
 
 ghost use Rattle.std.specs.Prelude.{◌≡◌, ◌≤◌, ◌<◌, ℕ, length};

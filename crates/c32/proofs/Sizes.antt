@@ -1,12 +1,7 @@
 -- No reply is longer than its room, and the characters of codex32 strings are bytes.
 use Rattle.std.proofs.Common.{◌≡◌, ℕ, suc, ◌≤◌, ◌<◌, List, [], ◌∷◌, ◌++◌, length, get_or, ap, ◌∙◌, arith, length-append, refl, subst}
 use Rattle.bech32_decode.proofs.Letters.{IsAscii-from_data}
-use Rattle.codex32.specs.Nearest.{IsNearestText}
 use Rattle.codex32.specs.Strings.{IsString}
-
--- a nearest text
-pub nearest-size : (text nearest : List ℕ) → IsNearestText text nearest → length nearest ≤ 93
-nearest-size text nearest h = let (hrp, data_part, accepted) = h.accepted in accepted.text_length
 
 module _ (text hrp : List ℕ) (threshold : ℕ) (identifier : List ℕ) (share_index : ℕ) (payload checksum : List ℕ)
     (h : IsString text hrp threshold identifier share_index payload checksum) where
@@ -20,10 +15,6 @@ module _ (text hrp : List ℕ) (threshold : ℕ) (identifier : List ℕ) (share_
         length-append identifier (share_index ∷ (payload ++ checksum)),
         length-append payload checksum,
       )
-
-  -- its single characters
-  pub threshold-small : threshold < 128
-  threshold-small = IsAscii-from_data (threshold ∷ (identifier ++ (share_index ∷ (payload ++ checksum)))) h.accepted.grammar.data_bytes 0
 
   pub share_index-small : share_index < 128
   share_index-small =

@@ -4,7 +4,7 @@ use Rattle.codex32.specs.Nearest.{IsNearestText, IsProposeRefusal, read_text}
 use Rattle.codex32.specs.Strings.{IsString, IsStringRefusal, frame_refusal}
 use Rattle.codex32_numbers.specs.Numbers.{number_of_codex32_error}
 use Rattle.line_program.specs.Refused.{SaysRefusal}
-use Rattle.c32.specs.Request.{Request}
+use Rattle.c32.specs.Request.{Codex32Request}
 use Rattle.c32.specs.declared.command.Command.TheVariants.{Parse, Propose}
 
 -- the parts of a codex32 string are said, which are the text's own characters: the threshold, the
@@ -33,7 +33,7 @@ pub record SaysNearest (text said : List ℕ) : Type 0 where
 
 -- said is that there is none, of a text that has its grammar, its length and its
 -- human-readable part right
-pub record SaysNone (text said : List ℕ) : Type 0 where
+pub record SaysNoNearest (text said : List ℕ) : Type 0 where
   pub none : (nearest : List ℕ) → IsNearestText text nearest → ⊥
   pub framed : frame_refusal (read_text text) ≡ None
   pub spelling : said ≡ codes "none"
@@ -43,9 +43,9 @@ pub record SaysNone (text said : List ℕ) : Type 0 where
 abbrev pub IsProposeAnswer : List ℕ → List ℕ → Type 0
 IsProposeAnswer text said =
     SaysNearest text said
-    ⊎ (SaysNone text said ⊎ SaysRefusal (IsProposeRefusal text) number_of_codex32_error said)
+    ⊎ (SaysNoNearest text said ⊎ SaysRefusal (IsProposeRefusal text) number_of_codex32_error said)
 
 -- the answer to a request
-abbrev pub IsAnswer : Request → List ℕ → Type 0
-IsAnswer (Parse, text) said = IsParseAnswer text said
-IsAnswer (Propose, text) said = IsProposeAnswer text said
+abbrev pub IsCodex32Answer : Codex32Request → List ℕ → Type 0
+IsCodex32Answer (Parse, text) said = IsParseAnswer text said
+IsCodex32Answer (Propose, text) said = IsProposeAnswer text said

@@ -1,7 +1,7 @@
 //! Reads a line as a command with its argument.
 
 ghost use Rattle.std.specs.Prelude.{◌≡◌, MatchOption, Some, None};
-ghost use Rattle.c32.specs.Request.{request_of};
+ghost use Rattle.c32.specs.Request.{codex32_request_of};
 
 use line_program::{first_word, only_word};
 
@@ -14,11 +14,12 @@ pub enum Command {
     Propose,
 }
 
-/// Reads a line as a command and its text. A single space stands between them, and neither is empty.
+/// Reads a line as a command and its text. A single space stands between them, and neither is
+/// empty.
 pub fn command_of(line: &str) -> Option<(Command, &str)>
     ensures { MatchOption result
-        (request_of line.now ≡ None)
-        (λ r. request_of line.now ≡ Some (r.0, r.1.now)) }
+        (codex32_request_of line.now ≡ None)
+        (λ r. codex32_request_of line.now ≡ Some (r.0, r.1.now)) }
 {
     let (name, argument) = first_word(line)?;
     let text = only_word(argument)?;

@@ -1,4 +1,7 @@
-//! Answers each line of standard input about a codex32 string (BIP-93).
+//! Answers each line of standard input about a codex32 string.
+//!
+//! Below it: `codex32`, `codex32_numbers`, `line_program`.
+//! Standard: BIP-93.
 #![tactic(auto)]
 
 mod command;

@@ -3,8 +3,8 @@
 ghost use Rattle.std.specs.Prelude.{◌+◌, ◌≤◌, vec_len, vec_capacity};
 ghost use Rattle.line_program.specs.Added.{AddsOrRefuses};
 ghost use Rattle.codex32_numbers.specs.Numbers.{number_of_codex32_error};
-ghost use Rattle.c32.specs.Reply.{IsAnswer};
-ghost use Rattle.c32.specs.Request.{Request, request_of};
+ghost use Rattle.c32.specs.Reply.{IsCodex32Answer};
+ghost use Rattle.c32.specs.Request.{Codex32Request, codex32_request_of};
 
 use crate::command::{Command, command_of};
 use crate::parse::parse;
@@ -23,7 +23,7 @@ impl<A: Allocator + Copy> Commands<A> {
     // Adds the answer to a command, or leaves all as it was.
     fn answer(&self, command: Command, text: &str, out: &mut Vec<u8>) -> Result<(), Codex32Error>
         requires { vec_len out.old + 2047 ≤ vec_capacity out.old }
-        ensures answer { AddsOrRefuses (IsAnswer (command, text.now)) number_of_codex32_error
+        ensures answer { AddsOrRefuses (IsCodex32Answer (command, text.now)) number_of_codex32_error
             result out.old.items out.new.items }
         ensures capacity { vec_capacity out.old ≤ vec_capacity out.new }
     {
@@ -35,11 +35,11 @@ impl<A: Allocator + Copy> Commands<A> {
 }
 
 impl<A: Allocator + Copy> Execute for Commands<A> {
-    ghost request = { Request };
+    ghost request = { Codex32Request };
 
-    ghost request_of = { request_of };
+    ghost request_of = { codex32_request_of };
 
-    ghost is_answer = { IsAnswer };
+    ghost is_answer = { IsCodex32Answer };
 
     fn execute(&self, text: &str, out: &mut Vec<u8>) -> Result<(), NotExecuted> {
         let Some((command, text)) = command_of(text) else {

@@ -1,4 +1,7 @@
 //! Memory that a caller lends, as an allocator.
+//!
+//! Below it: no crate of this repository.
+//! Standard: none.
 #![tactic(auto)]
 
 mod lent;

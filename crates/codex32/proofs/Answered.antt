@@ -12,7 +12,7 @@ use Rattle.bech32_refusals.specs.declared.error.CheckedHrpstringError.{CheckedHr
 use Rattle.bech32_refusals.specs.declared.error.CheckedHrpstringError.TheVariants.{Checksum, Parse}
 use Rattle.bech32_refusals.specs.declared.error.ChecksumError.TheVariants.{CodeLength, InvalidLength, InvalidResidue}
 use Rattle.codex32.specs.Code.{codex32}
-use Rattle.codex32.specs.Nearest.{IsListed}
+use Rattle.codex32.specs.Nearest.{AreAdditions}
 
 -- a text of that length is refused for its residue alone
 not_refused : (u : UncheckedHrpstring) (e : CheckedHrpstringError) → unchecked_length u ≤ 93 → 13 ≤ length (unchecked_data u)
@@ -29,7 +29,7 @@ not_refused_with u (Refused y) short long h x same = not_refused u y short long 
 not_refused_with u Memory short long h x same = absurd (cc same)
 
 -- what is listed stands in the data part
-pub placed-from_listed : (text given : List ℕ) (listing : List (ℕ × Fe32)) → IsListed text given listing → IsPlacedIn text listing
+pub placed-from_listed : (text given : List ℕ) (listing : List (ℕ × Fe32)) → AreAdditions text given listing → IsPlacedIn text listing
 placed-from_listed text given listing (inl h) =
     let (hrp, data_part, is) = h.1 in
     (hrp, data_part, is.grammar, subst (λ (l : List (ℕ × Fe32)). AllByRecursion (λ (p : ℕ × Fe32). p.0 < length data_part) l) (sym h.0) tt)

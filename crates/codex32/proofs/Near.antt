@@ -46,7 +46,7 @@ use Rattle.bech32_correction.proofs.Accepted.{front, in_parts, lowered_parts}
 use Rattle.bech32_correction.proofs.Sums.{appended-mended, length-mended}
 use Rattle.bech32_correction.proofs.Texts.{mendable-from_accepts}
 use Rattle.codex32.specs.Code.{codex32}
-use Rattle.codex32.specs.Nearest.{IsListed, IsNearestText, IsUnlisted, changed, read_data, read_text, unreadable}
+use Rattle.codex32.specs.Nearest.{AreAdditions, IsNearestText, IsUnlisted, changed, read_data, read_text, unreadable}
 use Rattle.codex32.specs.Strings.{frame_refusal}
 use Rattle.codex32.specs.laws.RootLaws.{base, codex32_roots}
 use Rattle.codex32.proofs.Locations.{again, changed-once, changed_outside, count_data, count_read, differences, differences-below, differences-once, differences-values, few_apart, located, mended-differences, unreadable-below, unreadable-once}
@@ -170,7 +170,7 @@ module _ (text hrp damaged : List ℕ) (parts : AreParts text hrp damaged) where
   same_parts : (h d : List ℕ) → IsText (read_text text) h d → (h ≡ hrp) × (d ≡ read_data damaged)
   same_parts h d is = only-from_IsText (read_text text) hrp (read_data damaged) parts.grammar h d is.split is.data_bytes
 
-  pub nearest-from_listed : (listing : List (ℕ × Fe32)) → IsListed (read_text text) (unreadable damaged) listing
+  pub nearest-from_listed : (listing : List (ℕ × Fe32)) → AreAdditions (read_text text) (unreadable damaged) listing
       → IsNearestText text (spelled hrp (mended ops listing (elements_of (read_data damaged))))
   nearest-from_listed listing (inl h) =
       let m = mendable-from_accepts codex32 (read_text text) h.1 in

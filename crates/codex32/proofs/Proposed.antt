@@ -9,7 +9,7 @@ use Rattle.bech32_decode.specs.Parts.{unchecked_data, unchecked_length, unchecke
 use Rattle.bech32_decode.specs.Text.{IsText}
 use Rattle.bech32_decode.specs.declared.unchecked.UncheckedHrpstring.{UncheckedHrpstring}
 use Rattle.bech32_correction.specs.MendedElements.{mended}
-use Rattle.codex32.specs.Nearest.{IsListed, IsMendedAt, IsNearestText, IsUnlisted, read_data, read_text, unreadable}
+use Rattle.codex32.specs.Nearest.{AreAdditions, IsMendedAt, IsNearestText, IsUnlisted, read_data, read_text, unreadable}
 use Rattle.codex32.specs.Strings.{frame_refusal}
 use Rattle.codex32.proofs.Locations.{count_data, unreadable-below}
 use Rattle.codex32.proofs.Near.{nearest-from_listed, none-from_unlisted}
@@ -46,12 +46,12 @@ inside_of text hrp data_part places is =
     subst (λ (us : List ℕ). AllByRecursion (λ i. i < length data_part) us) (sym is.places_are)
     (subst (λ (n : ℕ). AllByRecursion (λ i. i < n) (unreadable is.damaged)) (sym (ap length is.data_is ∙ count_data is.damaged)) (unreadable-below is.damaged))
 
-pub nearest_of : (text read hrp data_part places answer : List ℕ) (listing : List (ℕ × Fe32)) → read ≡ read_text text → IsPlaced text hrp data_part places → IsListed read places listing
+pub nearest_of : (text read hrp data_part places answer : List ℕ) (listing : List (ℕ × Fe32)) → read ≡ read_text text → IsPlaced text hrp data_part places → AreAdditions read places listing
     → answer ≡ spelled hrp (mended ops listing (elements_of data_part)) → IsNearestText text answer
 nearest_of text read hrp data_part places answer listing same is listed spelling =
     subst (IsNearestText text) (sym (spelling ∙ ap (λ (d : List ℕ). spelled hrp (mended ops listing (elements_of d))) is.data_is))
     (nearest-from_listed text hrp is.damaged is.parts listing
-    (subst (λ (r : List ℕ). IsListed r (unreadable is.damaged) listing) same (subst (λ (us : List ℕ). IsListed read us listing) is.places_are listed)))
+    (subst (λ (r : List ℕ). AreAdditions r (unreadable is.damaged) listing) same (subst (λ (us : List ℕ). AreAdditions read us listing) is.places_are listed)))
 
 pub none_of : (text read hrp data_part places : List ℕ) → read ≡ read_text text → IsPlaced text hrp data_part places → IsUnlisted read places
     → (nearest : List ℕ) → IsNearestText text nearest → ⊥
@@ -92,11 +92,6 @@ module _ (text read : List ℕ) (u : UncheckedHrpstring) (is : IsTaken text read
       let parts : IsFramed read (unchecked_part u) (unchecked_data u) = framed-from read (unchecked_part u) (unchecked_data u) is.framed is.grammar in
       omega (arith, parts.long, parts.size)
 
-  pub is_narrow : length (unchecked_data u) ≤ 93
-  is_narrow =
-      let parts : IsFramed read (unchecked_part u) (unchecked_data u) = framed-from read (unchecked_part u) (unchecked_data u) is.framed is.grammar in
-      omega (arith, parts.short, parts.size)
-
   pub fits : length (unchecked_data u) ≤ length text
   fits = data_fits text read (unchecked_part u) (unchecked_data u) is.same is.grammar
 
@@ -108,7 +103,7 @@ module _ (text read : List ℕ) (u : UncheckedHrpstring) (is : IsTaken text read
   framed_text : frame_refusal (read_text text) ≡ None
   framed_text = subst (λ (t : List ℕ). frame_refusal t ≡ None) is.same is.framed
 
-  answer_from_listed : (places answer : List ℕ) (listing : List (ℕ × Fe32)) → IsPlaced text (unchecked_part u) (unchecked_data u) places → IsListed read places listing
+  answer_from_listed : (places answer : List ℕ) (listing : List (ℕ × Fe32)) → IsPlaced text (unchecked_part u) (unchecked_data u) places → AreAdditions read places listing
       → answer ≡ spelled (unchecked_part u) (mended ops listing (elements_of (unchecked_data u))) → (frame_refusal (read_text text) ≡ None) × IsNearestText text answer
   answer_from_listed places answer listing at listed spelling =
       (framed_text, nearest_of text read (unchecked_part u) (unchecked_data u) places answer listing is.same at listed spelling)

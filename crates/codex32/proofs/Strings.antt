@@ -2,21 +2,19 @@
 use Rattle.std.specs.Prelude.{◌↔◌, ◌&&◌, not, nat_le, IfErr, IfOk, IsOk, MatchResult}
 use Rattle.std.specs.Char.{to_ascii_lowercase}
 use Rattle.std.specs.Str.{IsUtf8}
-use Rattle.std.proofs.Common.{◌≡◌, ℕ, ◌+◌, ◌-◌, ◌<◌, ◌≤◌, Bool, true, false, cond, eqb, List, [], ◌∷◌, ◌++◌, Option, Some, None, Result, Ok, Err, length, take, drop, get_or, inl, inr, ◌⊎◌, refl, sym, ap, subst, ◌∙◌, arith}
+use Rattle.std.proofs.Common.{◌≡◌, ℕ, ◌+◌, ◌-◌, ◌<◌, ◌≤◌, Bool, true, false, cond, eqb, List, [], ◌∷◌, ◌++◌, Option, Some, None, Result, Ok, Err, length, take, drop, get_or, inl, inr, refl, sym, ap, subst, ◌∙◌, arith}
 use Rattle.std.proofs.lemmas.Bool.{and_cases, and_from, and_left, and_parts, and_right, cases_Bool, cond-false, cond-true, eq-eqb, eqb-true, false_from_ne_true, le-leb, leb-true, not-false, not_from_true}
 use Rattle.std.proofs.lemmas.List.{length-append, length-drop, length-map, take-append-drop}
 use Rattle.bech32_hrp.specs.Hrp.{first_of, lowered}
 use Rattle.bech32_decode.specs.Acceptance.{IsAccepted}
-use Rattle.bech32_decode.specs.Refusals.{IsChecksumRefusal}
 use Rattle.bech32_decode.specs.Text.{IsText, split_at_last, text_refusal}
 use Rattle.bech32_decode.proofs.Decoding.{not_valid}
 use Rattle.bech32_decode.proofs.Grammar.{none_first, only-from_IsText, text_refusal-none}
 use Rattle.bech32_decode.proofs.Texts.{split_at_last-at}
-use Rattle.bech32_refusals.specs.declared.error.ChecksumError.{ChecksumError}
 use Rattle.bech32_refusals.specs.declared.error.UncheckedHrpstringError.{UncheckedHrpstringError}
 use Rattle.codex32.specs.Code.{codex32}
 use Rattle.codex32.specs.Parts.{IsStringOf, identifier_of, payload_of, share_index_of, threshold_of}
-use Rattle.codex32.specs.Strings.{IsBodyRefusal, IsCodex32, IsString, IsStringRefusal, as_text, frame_refusal, header_fault, hrp_fault, is_ms, is_threshold, is_within, length_fault, part_fault, share_index_fault, threshold_fault}
+use Rattle.codex32.specs.Strings.{IsBodyRefusal, IsCodex32, IsString, IsStringRefusal, as_text, frame_refusal, header_fault, hrp_fault, is_ms, is_threshold, is_within, codex32_length_fault, part_fault, share_index_fault, threshold_fault}
 use Rattle.codex32.specs.declared.error.Codex32Error.{Codex32Error}
 use Rattle.codex32.specs.declared.error.Codex32Error.TheVariants.{Text, Length, Hrp, Checksum, Threshold, ShareIndex, Memory}
 use Rattle.codex32.specs.declared.string.Codex32Str.{Codex32Str}
@@ -35,33 +33,33 @@ ms_length hrp t = sym (length-map hrp to_ascii_lowercase) ∙ ap length ((bytes_
 -- ---- what is asked before the checksum
 
 pub refused_text : (text : List ℕ) (e : UncheckedHrpstringError) → text_refusal text ≡ Some e → frame_refusal text ≡ Some (Text e)
-refused_text text e h = ap (λ (o : Option UncheckedHrpstringError). first_of (as_text o) (first_of (length_fault (length text)) (hrp_fault (split_at_last text)))) h
+refused_text text e h = ap (λ (o : Option UncheckedHrpstringError). first_of (as_text o) (first_of (codex32_length_fault (length text)) (hrp_fault (split_at_last text)))) h
 
-past_text : (text : List ℕ) → text_refusal text ≡ None → frame_refusal text ≡ first_of (length_fault (length text)) (hrp_fault (split_at_last text))
-past_text text h = ap (λ (o : Option UncheckedHrpstringError). first_of (as_text o) (first_of (length_fault (length text)) (hrp_fault (split_at_last text)))) h
+past_text : (text : List ℕ) → text_refusal text ≡ None → frame_refusal text ≡ first_of (codex32_length_fault (length text)) (hrp_fault (split_at_last text))
+past_text text h = ap (λ (o : Option UncheckedHrpstringError). first_of (as_text o) (first_of (codex32_length_fault (length text)) (hrp_fault (split_at_last text)))) h
 
 cut_of : (text hrp data_part : List ℕ) → IsText text hrp data_part → split_at_last text ≡ Some (hrp, data_part)
 cut_of text hrp data_part is = ap split_at_last is.split ∙ split_at_last-at hrp data_part is.data_bytes
 
 -- the length, and then the human-readable part
-pub refused_length : (n : ℕ) (hrp : List ℕ) → is_within n ≡ false → first_of (length_fault n) (part_fault hrp) ≡ Some Length
+pub refused_length : (n : ℕ) (hrp : List ℕ) → is_within n ≡ false → first_of (codex32_length_fault n) (part_fault hrp) ≡ Some Length
 refused_length n hrp out = ap (λ (b : Bool). first_of (cond b None (Some Length)) (part_fault hrp)) out
 
-past_length : (n : ℕ) (hrp : List ℕ) → is_within n ≡ true → first_of (length_fault n) (part_fault hrp) ≡ part_fault hrp
+past_length : (n : ℕ) (hrp : List ℕ) → is_within n ≡ true → first_of (codex32_length_fault n) (part_fault hrp) ≡ part_fault hrp
 past_length n hrp within = ap (λ (b : Bool). first_of (cond b None (Some Length)) (part_fault hrp)) within
 
-pub refused_hrp : (n : ℕ) (hrp : List ℕ) → is_within n ≡ true → is_ms hrp ≡ false → first_of (length_fault n) (part_fault hrp) ≡ Some Hrp
+pub refused_hrp : (n : ℕ) (hrp : List ℕ) → is_within n ≡ true → is_ms hrp ≡ false → first_of (codex32_length_fault n) (part_fault hrp) ≡ Some Hrp
 refused_hrp n hrp within other = past_length n hrp within ∙ cond-false (is_ms hrp) None (Some Hrp) other
 
-pub fine_outline : (n : ℕ) (hrp : List ℕ) → is_within n ≡ true → is_ms hrp ≡ true → first_of (length_fault n) (part_fault hrp) ≡ None
+pub fine_outline : (n : ℕ) (hrp : List ℕ) → is_within n ≡ true → is_ms hrp ≡ true → first_of (codex32_length_fault n) (part_fault hrp) ≡ None
 fine_outline n hrp within ms = past_length n hrp within ∙ cond-true (is_ms hrp) None (Some Hrp) ms
 
 -- past the grammar, these are left
 pub past_grammar : (text hrp behind : List ℕ) → text_refusal text ≡ None → split_at_last text ≡ Some (hrp, behind)
-    → frame_refusal text ≡ first_of (length_fault (length text)) (part_fault hrp)
-past_grammar text hrp behind h cut = past_text text h ∙ ap (λ (p : Option (List ℕ × List ℕ)). first_of (length_fault (length text)) (hrp_fault p)) cut
+    → frame_refusal text ≡ first_of (codex32_length_fault (length text)) (part_fault hrp)
+past_grammar text hrp behind h cut = past_text text h ∙ ap (λ (p : Option (List ℕ × List ℕ)). first_of (codex32_length_fault (length text)) (hrp_fault p)) cut
 
-pub past_parts : (text hrp data_part : List ℕ) → text_refusal text ≡ None → IsText text hrp data_part → frame_refusal text ≡ first_of (length_fault (length text)) (part_fault hrp)
+pub past_parts : (text hrp data_part : List ℕ) → text_refusal text ≡ None → IsText text hrp data_part → frame_refusal text ≡ first_of (codex32_length_fault (length text)) (part_fault hrp)
 past_parts text hrp data_part h is = past_grammar text hrp data_part h (cut_of text hrp data_part is)
 
 not_refused : (text hrp data_part : List ℕ) → text_refusal text ≡ None → is_within (length text) ≡ true → IsText text hrp data_part
@@ -76,11 +74,7 @@ pub record IsFramed (text hrp data_part : List ℕ) : Type 0 where
   pub two : length hrp ≡ 2
   pub size : length text ≡ 3 + length data_part
 
-none_text : (o : Option UncheckedHrpstringError) → as_text o ≡ None → o ≡ None
-none_text None h = refl
-none_text (Some e) h = absurd (cc)
-
-none_length : (n : ℕ) → length_fault n ≡ None → (48 ≤ n) × (n ≤ 93)
+none_length : (n : ℕ) → codex32_length_fault n ≡ None → (48 ≤ n) × (n ≤ 93)
 none_length n h = elim (cases_Bool (is_within n)) [
   | inl fine ↦ let parts = and_parts (nat_le 48 n) (nat_le n 93) fine in (leb-true 48 n parts.0, leb-true n 93 parts.1)
   | inr out ↦ absurd (let e = sym (cond-false (is_within n) None (Some Length) out) ∙ h in cc)
@@ -94,8 +88,8 @@ none_hrp hrp h = elim (cases_Bool (is_ms hrp)) [
 
 pub framed-from : (text hrp data_part : List ℕ) → frame_refusal text ≡ None → IsText text hrp data_part → IsFramed text hrp data_part
 framed-from text hrp data_part h is =
-    let first = none_first (as_text (text_refusal text)) (first_of (length_fault (length text)) (hrp_fault (split_at_last text))) h in
-    let second = none_first (length_fault (length text)) (hrp_fault (split_at_last text)) first.1 in
+    let first = none_first (as_text (text_refusal text)) (first_of (codex32_length_fault (length text)) (hrp_fault (split_at_last text))) h in
+    let second = none_first (codex32_length_fault (length text)) (hrp_fault (split_at_last text)) first.1 in
     let sizes = none_length (length text) second.0 in
     let ms : is_ms hrp ≡ true = none_hrp hrp (sym (ap hrp_fault (cut_of text hrp data_part is)) ∙ second.1) in
     let two : length hrp ≡ 2 = ms_length hrp ms in
@@ -235,28 +229,3 @@ refused-from_outcome text (Ok s) h = tt
 refused-from_outcome text (Err e) h = h
 
 -- ---- refused behind the frame
-
-pub refused_checksum : (text hrp data_part : List ℕ) (e : ChecksumError) → IsText text hrp data_part → frame_refusal text ≡ None → IsChecksumRefusal codex32 (length text) hrp data_part e
-    → IsStringRefusal text (Checksum e)
-refused_checksum text hrp data_part e is framed h = inr (record { hrp = hrp; data_part = data_part; grammar = is; framed = framed; refusal = h })
-
-header_cases : (data_part : List ℕ) (e : Codex32Error) → header_fault data_part ≡ Some e → (e ≡ Threshold) ⊎ (e ≡ ShareIndex)
-header_cases data_part e h = elim (cases_Bool (is_threshold (get_or data_part 0 0))) [
-  | inr out ↦
-      let bad : Some Threshold ≡ Some e = sym (ap (λ (b : Bool). first_of (cond b None (Some Threshold)) (share_index_fault (get_or data_part 0 0) (get_or data_part 5 0))) out) ∙ h in
-      inl (cc)
-  | inl fine ↦
-      let next : share_index_fault (get_or data_part 0 0) (get_or data_part 5 0) ≡ Some e =
-      sym (ap (λ (b : Bool). first_of (cond b None (Some Threshold)) (share_index_fault (get_or data_part 0 0) (get_or data_part 5 0))) fine) ∙ h in
-      elim (cases_Bool (is_shared (get_or data_part 0 0) (get_or data_part 5 0))) [
-        | inl shared ↦ let bad : Some ShareIndex ≡ Some e = sym (cond-true (is_shared (get_or data_part 0 0) (get_or data_part 5 0)) (Some ShareIndex) None shared) ∙ next in inr (cc)
-        | inr right ↦ absurd (let none = sym (cond-false (is_shared (get_or data_part 0 0) (get_or data_part 5 0)) (Some ShareIndex) None right) ∙ next in cc)
-      ]
-]
-
-pub refused_header : (text hrp data_part : List ℕ) (e : Codex32Error) → IsAccepted codex32 text hrp data_part → frame_refusal text ≡ None → header_fault data_part ≡ Some e → IsStringRefusal text e
-refused_header text hrp data_part e is framed h = inr (record { hrp = hrp; data_part = data_part; grammar = is.grammar; framed = framed; refusal = body (header_cases data_part e h) })
-  where
-    body : (e ≡ Threshold) ⊎ (e ≡ ShareIndex) → IsBodyRefusal text hrp data_part e
-    body (inl same) = subst (IsBodyRefusal text hrp data_part) (sym same) (is, h ∙ ap Some same)
-    body (inr same) = subst (IsBodyRefusal text hrp data_part) (sym same) (is, h ∙ ap Some same)

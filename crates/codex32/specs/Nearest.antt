@@ -67,8 +67,8 @@ IsProposeRefusal text e =
 
 -- the values to add to the elements of a text as it was read: none where the checksum accepts it
 -- and at most 8 characters are unreadable, else the listing
-abbrev pub IsListed : List ℕ → List ℕ → List (ℕ × Fe32) → Type 0
-IsListed text given listing =
+abbrev pub AreAdditions : List ℕ → List ℕ → List (ℕ × Fe32) → Type 0
+AreAdditions text given listing =
     ((listing ≡ []) × Accepts codex32 text × (length given ≤ 8))
     ⊎ IsListingOf codex32 8 text given listing
 
@@ -79,6 +79,6 @@ IsUnlisted text given = (8 < length given) ⊎ HasNoListing codex32 8 text given
 -- the text in lower case with the values of such a listing added
 pub record IsMendedAt (text given answer : List ℕ) : Type 0 where
   pub listing : List (ℕ × Fe32)
-  pub listed : IsListed text given listing
+  pub listed : AreAdditions text given listing
   pub spelling : (hrp data_part : List ℕ) → IsText text hrp data_part
       → answer ≡ spelled hrp (mended ops listing (elements_of data_part))

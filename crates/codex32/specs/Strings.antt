@@ -53,8 +53,8 @@ as_text None = None
 as_text (Some e) = Some (Text e)
 
 -- the number of characters
-abbrev pub length_fault : ℕ → Option Codex32Error
-length_fault n = if is_within n then None else Some Length
+abbrev pub codex32_length_fault : ℕ → Option Codex32Error
+codex32_length_fault n = if is_within n then None else Some Length
 
 -- the human-readable part is not `ms`
 abbrev pub part_fault : List ℕ → Option Codex32Error
@@ -70,7 +70,7 @@ hrp_fault (Some p) = part_fault p.0
 abbrev pub frame_refusal : List ℕ → Option Codex32Error
 frame_refusal text =
     first_of (as_text (text_refusal text))
-    (first_of (length_fault (length text)) (hrp_fault (split_at_last text)))
+    (first_of (codex32_length_fault (length text)) (hrp_fault (split_at_last text)))
 
 abbrev pub threshold_fault : ℕ → Option Codex32Error
 threshold_fault c = if is_threshold c then None else Some Threshold

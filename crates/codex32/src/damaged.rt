@@ -75,8 +75,8 @@ fn validate_grammar(text: &str, front: &str, damaged: &str) -> Result<(), Unchec
     Ok(())
 }
 
-/// Tests a damaged codex32 string before [`propose`](crate::propose) looks for the nearest text. Each
-/// `?` behind the last `1` is a character that cannot be read. It allocates nothing.
+/// Tests a damaged codex32 string before [`propose`](crate::propose) looks for the nearest text.
+/// Each `?` behind the last `1` is a character that cannot be read. It allocates nothing.
 ///
 /// # Errors
 ///

@@ -4,7 +4,7 @@ ghost use Rattle.std.specs.Prelude.{◌≡◌, length, None, Some, MatchResult};
 ghost use Rattle.bech32_hrp.specs.Hrp.{first_of};
 ghost use Rattle.bech32_decode.specs.Parts.{unchecked_data, unchecked_length, unchecked_part};
 ghost use Rattle.bech32_decode.specs.Text.{IsText};
-ghost use Rattle.codex32.specs.Strings.{frame_refusal, is_ms, is_within, length_fault, part_fault};
+ghost use Rattle.codex32.specs.Strings.{frame_refusal, is_ms, is_within, codex32_length_fault, part_fault};
 
 use crate::error::Codex32Error;
 use bech32::primitives::decode::UncheckedHrpstring;
@@ -26,8 +26,8 @@ fn is_of_codex32(hrp: &[u8]) -> bool
 /// Tests the number of characters of a text, and then its human-readable part.
 pub(crate) fn validate_outline(count: usize, hrp: &[u8]) -> Result<(), Codex32Error>
     ensures { MatchResult result
-        (λ _. first_of (length_fault count) (part_fault hrp.now) ≡ None)
-        (λ e. first_of (length_fault count) (part_fault hrp.now) ≡ Some e) }
+        (λ _. first_of (codex32_length_fault count) (part_fault hrp.now) ≡ None)
+        (λ e. first_of (codex32_length_fault count) (part_fault hrp.now) ≡ Some e) }
 {
     if !has_length(count) {
         return Err(Codex32Error::Length);

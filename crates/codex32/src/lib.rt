@@ -1,4 +1,7 @@
-//! The checksum of codex32, its strings, and the nearest string to a damaged one (BIP-93).
+//! The checksum of codex32, its strings, and the nearest string to a damaged one.
+//!
+//! Below it: `bech32`.
+//! Standard: BIP-93.
 #![tactic(auto)]
 
 mod checksum;

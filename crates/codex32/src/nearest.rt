@@ -5,7 +5,7 @@ ghost use Rattle.bech32_decode.specs.Parts.{unchecked_data, unchecked_length};
 ghost use Rattle.bech32_correction.specs.Mistyped.{IsReadAs};
 ghost use Rattle.bech32_correction.specs.declared.error.CorrectError.TheVariants.{Refused};
 ghost use Rattle.bech32_refusals.specs.declared.error.CheckedHrpstringError.{CheckedHrpstringError as Refusal};
-ghost use Rattle.codex32.specs.Nearest.{IsListed, IsMendedAt, IsNearestText, IsProposeRefusal, IsUnlisted, read_text};
+ghost use Rattle.codex32.specs.Nearest.{AreAdditions, IsMendedAt, IsNearestText, IsProposeRefusal, IsUnlisted, read_text};
 ghost use Rattle.codex32.specs.Strings.{frame_refusal};
 
 use crate::checksum::Codex32;
@@ -30,8 +30,8 @@ fn memory_of(e: CorrectError) -> AllocError
 }
 
 // What is to be added to the elements of a text that was read, where the characters at the given
-// locations are unreadable. It holds the allocator by reference, so that the prover knows the size of
-// a corrector.
+// locations are unreadable. It holds the allocator by reference, so that the prover knows the size
+// of a corrector.
 fn unreadable_listing_in<'a, A: Allocator>(
     alloc: &'a A,
     unchecked: &UncheckedHrpstring<'_>,
@@ -41,7 +41,7 @@ fn unreadable_listing_in<'a, A: Allocator>(
     requires long { 13 ≤ length (unchecked_data unchecked.now) }
     ensures { IfOk result (λ found. (text : List ℕ) → IsReadAs text unchecked.now
         → MatchOption found (IsUnlisted text given.now)
-        (λ listing. IsListed text given.now listing)) }
+        (λ listing. AreAdditions text given.now listing)) }
 {
     if given.len() > 8 {
         return Ok(None);
@@ -94,11 +94,11 @@ fn proposed_in<A: Allocator + Copy>(alloc: A, text: &str) -> Result<Option<Strin
 /// The nearest text to a damaged codex32 string, with memory from `alloc`. Each `?` behind the last
 /// `1` is a character that cannot be read.
 ///
-/// It is the text in lower case with the same human-readable part and length that [`Codex32`] accepts,
-/// where twice the number of changed characters, with the number of the unreadable ones, is at most
-/// 8: so at most four changes where each character can be read. There is at most one such text.
-/// `None` where there is none. Neither threshold nor share index is tested. It is no claim that the
-/// text is the one that was meant.
+/// It is the text in lower case with the same human-readable part and length that [`Codex32`]
+/// accepts, where twice the number of changed characters, with the number of the unreadable ones,
+/// is at most 8: so at most four changes where each character can be read. There is at most one
+/// such text. `None` where there is none. Neither threshold nor share index is tested. It is no
+/// claim that the text is the one that was meant.
 ///
 /// # Errors
 ///

@@ -72,9 +72,9 @@ impl<'s> Codex32Str<'s> {
     ///
     /// # Errors
     ///
-    /// The first of: the text is not in the grammar; it has less than 48 characters or more than 93;
-    /// its human-readable part is not `ms` in either case; its checksum is wrong; its threshold is
-    /// neither 0 nor a digit from 2 to 9; its threshold is 0 and its share index not `s`.
+    /// The first of: the text is not in the grammar; it has less than 48 characters or more than
+    /// 93; its human-readable part is not `ms` in either case; its checksum is wrong; its threshold
+    /// is neither 0 nor a digit from 2 to 9; its threshold is 0 and its share index not `s`.
     pub fn parse(text: &'s str) -> Result<Self, Codex32Error>
         ensures parts { IfOk result (λ s. IsStringOf text.now s) }
         ensures accepts { IsOk result ↔ IsCodex32 text.now }

@@ -1,10 +1,9 @@
 -- What is wrong with what a call is given.
-use Rattle.std.specs.Prelude.{◌≡◌, ℕ}
-use Rattle.codex32_c.specs.Numbers.{number_of}
+use Rattle.std.specs.Prelude.{ℕ}
+use Rattle.bech32_numbers.specs.Refused.{IsNumberBy}
+use Rattle.codex32_c.specs.Numbers.{number_of_codex32_refusal}
 use Rattle.codex32_c.specs.declared.refusal.Refusal.{Refusal}
 
 -- the number is that of a refusal, of which P holds
-pub record IsNumberOf (P : Refusal → Type 0) (n : ℕ) : Type 0 where
-  pub refusal : Refusal
-  pub holds : P refusal
-  pub number : n ≡ number_of refusal
+abbrev pub IsNumberOfCodex32 : (Refusal → Type 0) → ℕ → Type 0
+IsNumberOfCodex32 P n = IsNumberBy number_of_codex32_refusal P n

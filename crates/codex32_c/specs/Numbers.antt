@@ -5,8 +5,8 @@ use Rattle.codex32_numbers.specs.Numbers.{number_of_codex32_error}
 use Rattle.codex32_c.specs.declared.refusal.Refusal.{Refusal}
 use Rattle.codex32_c.specs.declared.refusal.Refusal.TheVariants.{NotUtf8, Text, NoNearest, NoRoom}
 
-abbrev pub number_of : Refusal → ℕ
-number_of NotUtf8 = 2
-number_of (Text e) = number_of_codex32_error e
-number_of NoNearest = 34
-number_of NoRoom = 92
+abbrev pub number_of_codex32_refusal : Refusal → ℕ
+number_of_codex32_refusal NotUtf8 = 2
+number_of_codex32_refusal (Text e) = number_of_codex32_error e
+number_of_codex32_refusal NoNearest = 34
+number_of_codex32_refusal NoRoom = 92

@@ -8,7 +8,7 @@ use Rattle.codex32_c.specs.declared.refusal.Refusal.TheVariants.{NotUtf8, Text}
 -- The text is a codex32 string whose threshold is the digit of this number, of this share index and
 -- with a payload of this length. Its human-readable part has two characters, so its parts stand
 -- where `IsString` has them.
-pub record IsParsed (text : List ℕ) (threshold share_index payload_length : ℕ) : Type 0 where
+pub record IsParsedString (text : List ℕ) (threshold share_index payload_length : ℕ) : Type 0 where
   pub hrp : List ℕ
   pub identifier : List ℕ
   pub payload : List ℕ

@@ -1,12 +1,9 @@
 -- The nearest text put into a buffer, and why none is.
-use Rattle.std.specs.Prelude.{◌≡◌, ◌<◌, ◌⊎◌, ℕ, List, length, None}
+use Rattle.std.specs.Prelude.{◌≡◌, ◌<◌, ℕ, List, length, None}
 use Rattle.std.specs.Str.{IsUtf8}
 use Rattle.bech32_encode.specs.Buffers.{IsPut}
-use Rattle.caller_memory.specs.Memory.{memory_size}
-use Rattle.caller_memory.specs.declared.memory.Memory.{Memory as Lendable}
 use Rattle.codex32.specs.Nearest.{IsNearestText, IsProposeRefusal, read_text}
 use Rattle.codex32.specs.Strings.{frame_refusal}
-use Rattle.codex32.specs.declared.error.Codex32Error.TheVariants.{Memory}
 use Rattle.codex32_c.specs.declared.refusal.Refusal.{Refusal}
 use Rattle.codex32_c.specs.declared.refusal.Refusal.TheVariants.{NotUtf8, Text, NoNearest, NoRoom}
 
@@ -17,7 +14,7 @@ pub record PutsNearest (text old new : List ℕ) (count : ℕ) : Type 0 where
   pub put : IsPut nearest old new count
 
 -- the nearest text does not fit in a buffer of so many bytes
-pub record LacksRoom (text : List ℕ) (room : ℕ) : Type 0 where
+pub record LacksRoomForNearest (text : List ℕ) (room : ℕ) : Type 0 where
   pub nearest : List ℕ
   pub is_nearest : IsNearestText text nearest
   pub lacks : room < length nearest
@@ -31,8 +28,4 @@ IsProposeFault text room (Text e) = IsUtf8 text × IsProposeRefusal text e
 IsProposeFault text room NoNearest =
     IsUtf8 text × (frame_refusal (read_text text) ≡ None)
     × ((nearest : List ℕ) → IsNearestText text nearest → ⊥)
-IsProposeFault text room NoRoom = LacksRoom text room
-
--- with a refusal lent memory is as it was; or the refusal is out of memory, and it has no bytes
-abbrev pub GivesBack : Lendable → Lendable → Refusal → Type 0
-GivesBack old new e = (new ≡ old) ⊎ ((e ≡ Text Memory) × (memory_size new ≡ 0))
+IsProposeFault text room NoRoom = LacksRoomForNearest text room

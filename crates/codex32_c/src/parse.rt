@@ -2,8 +2,8 @@
 
 ghost use Rattle.std.specs.Prelude.{◌≡◌, ◌≢◌, ◌≤◌, ◌+◌, IfErr, IfOk, IsOk};
 ghost use Rattle.codex32.specs.Strings.{IsCodex32};
-ghost use Rattle.codex32_c.specs.Faults.{IsNumberOf};
-ghost use Rattle.codex32_c.specs.Parse.{IsParseFault, IsParsed};
+ghost use Rattle.codex32_c.specs.Faults.{IsNumberOfCodex32};
+ghost use Rattle.codex32_c.specs.Parse.{IsParseFault, IsParsedString};
 
 use crate::input::text_of;
 use crate::refusal::Refusal;
@@ -28,7 +28,7 @@ fn digit_of(c: char) -> u32
 // A codex32 string as a C program is told of it.
 fn parts_of(bytes: &[u8]) -> Result<Parts, Refusal>
     ensures value { IfOk result
-        (λ p. IsParsed bytes.now p.threshold p.share_index p.payload_length) }
+        (λ p. IsParsedString bytes.now p.threshold p.share_index p.payload_length) }
     ensures accepts { IsCodex32 bytes.now → IsOk result }
     ensures refused { IfErr result (λ e. IsParseFault bytes.now e) }
 {
@@ -40,15 +40,16 @@ fn parts_of(bytes: &[u8]) -> Result<Parts, Refusal>
     })
 }
 
-/// Reads a codex32 string, as [`Codex32Str::parse`] does. `threshold` is then its threshold, 0 or from
-/// 2 to 9, `share_index` the character of its share index, and `payload_length` the length of its
-/// payload, from 26 to 71. These stand in the text: the threshold is character 3, counted from 0, the
-/// identifier characters 4 to 7, the share index character 8, and the payload begins with character 9.
+/// Reads a codex32 string, as [`Codex32Str::parse`] does. `threshold` is then its threshold, 0 or
+/// from 2 to 9, `share_index` the character of its share index, and `payload_length` the length of
+/// its payload, from 26 to 71. These stand in the text: the threshold is character 3, counted from
+/// 0, the identifier characters 4 to 7, the share index character 8, and the payload begins with
+/// character 9.
 ///
 /// # Errors
 ///
-/// Answers the number of the first of: a text that is not UTF-8 (2); its first fault (21 to 23, 11 to
-/// 15, 82, 81, 33, 83, 84).
+/// Answers the number of the first of: a text that is not UTF-8 (2); its first fault (21 to 23, 11
+/// to 15, 82, 81, 33, 83, 84).
 #[unsafe(no_mangle)]
 pub extern "C" fn codex32_parse(
     text: &[u8],
@@ -57,9 +58,9 @@ pub extern "C" fn codex32_parse(
     payload_length: &mut usize,
 ) -> u32
     ensures value { result ≡ 0
-        → IsParsed text.now threshold.new share_index.new payload_length.new }
+        → IsParsedString text.now threshold.new share_index.new payload_length.new }
     ensures accepts { IsCodex32 text.now → result ≡ 0 }
-    ensures refused { result ≢ 0 → IsNumberOf (IsParseFault text.now) result }
+    ensures refused { result ≢ 0 → IsNumberOfCodex32 (IsParseFault text.now) result }
     ensures same { result ≢ 0
         → (threshold.new ≡ threshold.old) × (share_index.new ≡ share_index.old)
         × (payload_length.new ≡ payload_length.old) }

@@ -2,11 +2,11 @@
 
 ghost use Rattle.std.specs.Prelude.{◌≡◌, ◌≢◌, ◌⊎◌, ◌≤◌, ℕ, length, None, IfErr, IfOk, MatchResult, OnErr};
 ghost use Rattle.std.specs.Str.{IsUtf8};
-ghost use Rattle.caller_memory.specs.Memory.{memory_size};
+ghost use Rattle.caller_memory.specs.Memory.{LeavesMemory, memory_size};
 ghost use Rattle.codex32.specs.Nearest.{IsNearestText, read_text};
 ghost use Rattle.codex32.specs.Strings.{frame_refusal};
-ghost use Rattle.codex32_c.specs.Faults.{IsNumberOf};
-ghost use Rattle.codex32_c.specs.Propose.{GivesBack, IsProposeFault, PutsNearest};
+ghost use Rattle.codex32_c.specs.Faults.{IsNumberOfCodex32};
+ghost use Rattle.codex32_c.specs.Propose.{IsProposeFault, PutsNearest};
 
 use crate::buffer::put;
 use crate::input::text_of;
@@ -57,7 +57,7 @@ fn nearest_with(memory: &mut Memory, bytes: &[u8]) -> Result<ArrayString<LONGEST
     ensures refused { IfErr result (λ e. (room : ℕ) → IsProposeFault bytes.now room e) }
     ensures memory { MatchResult result
         (λ _. memory.new ≡ memory.old)
-        (λ e. GivesBack memory.old memory.new e) }
+        (λ e. LeavesMemory memory.old memory.new (e ≡ Refusal.Text Codex32Error.Memory)) }
 {
     let lent = Lent::new(memory.take());
     let nearest = nearest_over(&lent, bytes);
@@ -70,15 +70,15 @@ fn nearest_with(memory: &mut Memory, bytes: &[u8]) -> Result<ArrayString<LONGEST
     }
 }
 
-// Puts the nearest text to any text, which is tested before anything is allocated, at the front of a
-// buffer, and returns its length.
+// Puts the nearest text to any text, which is tested before anything is allocated, at the front of
+// a buffer, and returns its length.
 fn nearest_of(memory: &mut Memory, bytes: &[u8], proposed: &mut [u8]) -> Result<usize, Refusal>
     ensures value { IfOk result (λ count. PutsNearest bytes.now proposed.old proposed.new count) }
     ensures refused { IfErr result (λ e. IsProposeFault bytes.now (length proposed.old) e) }
     ensures same { OnErr result (proposed.new ≡ proposed.old) }
     ensures memory { MatchResult result
         (λ _. memory.new ≡ memory.old)
-        (λ e. GivesBack memory.old memory.new e) }
+        (λ e. LeavesMemory memory.old memory.new (e ≡ Refusal.Text Codex32Error.Memory)) }
 {
     validate_damaged(text_of(bytes)?)?;
     let nearest = nearest_with(memory, bytes)?;
@@ -89,16 +89,16 @@ fn nearest_of(memory: &mut Memory, bytes: &[u8], proposed: &mut [u8]) -> Result<
     Ok(nearest.len())
 }
 
-/// Puts the nearest text to a damaged codex32 string at the front of `proposed`, as [`propose_in`] has
-/// it; `proposed_length` is then its length. It is worked out in `memory`.
+/// Puts the nearest text to a damaged codex32 string at the front of `proposed`, as [`propose_in`]
+/// has it; `proposed_length` is then its length. It is worked out in `memory`.
 ///
 /// # Errors
 ///
 /// Answers the number of the first of: a text that is not UTF-8 (2); the first fault of its grammar
 /// (21 to 23, 11 to 15), its length (82) and its human-readable part (81), all before any memory is
-/// taken; no such text (34); a buffer that is too small (92). Where `memory` does not suffice, 91 in
-/// place of 0, 34 or 92. With every other number `memory` is as it was; with 91 it is so too, or has no
-/// bytes.
+/// taken; no such text (34); a buffer that is too small (92). Where `memory` does not suffice, 91
+/// in place of 0, 34 or 92. With every other number `memory` is as it was; with 91 it is so too, or
+/// has no bytes.
 #[unsafe(no_mangle)]
 pub extern "C" fn codex32_propose(
     text: &[u8],
@@ -109,7 +109,7 @@ pub extern "C" fn codex32_propose(
     ensures value { result ≡ 0
         → PutsNearest text.now proposed.old proposed.new proposed_length.new }
     ensures refused { result ≢ 0
-        → IsNumberOf (IsProposeFault text.now (length proposed.old)) result }
+        → IsNumberOfCodex32 (IsProposeFault text.now (length proposed.old)) result }
     ensures same { result ≢ 0
         → (proposed.new ≡ proposed.old) × (proposed_length.new ≡ proposed_length.old) }
     ensures memory { (memory.new ≡ memory.old)

@@ -1,7 +1,7 @@
 //! Why a call writes nothing, and the numbers of refusals.
 
 ghost use Rattle.std.specs.Prelude.{◌≡◌, ◌<◌};
-ghost use Rattle.codex32_c.specs.Numbers.{number_of};
+ghost use Rattle.codex32_c.specs.Numbers.{number_of_codex32_refusal};
 
 use codex32::Codex32Error;
 use codex32_numbers::codex32_error_number;
@@ -22,7 +22,7 @@ pub enum Refusal {
 impl Refusal {
     // The number, which has two digits at most.
     fn small_number(self) -> u8
-        ensures value { result ≡ number_of self }
+        ensures value { result ≡ number_of_codex32_refusal self }
         ensures some { 0 < result }
     {
         match self {
@@ -35,7 +35,7 @@ impl Refusal {
 
     /// The number that a call returns.
     pub fn number(self) -> u32
-        ensures value { result ≡ number_of self }
+        ensures value { result ≡ number_of_codex32_refusal self }
         ensures some { 0 < result }
     {
         u32::from(self.small_number())

@@ -23,8 +23,8 @@ fn answer(text: &[u8]) -> (u32, u32, u32, usize) {
     (number, threshold, share_index, length)
 }
 
-// Some rows are those of a reference model and of the Rust crate bech32 with a codex32 profile, which
-// agree; the first two are of BIP-93.
+// Some rows are those of a reference model and of the Rust crate bech32 with a codex32 profile,
+// which agree; the first two are of BIP-93.
 #[test]
 fn reads_known_strings(rt: HostRuntime) {
     let rows: [(&[u8], (u32, char, usize)); 6] = [
@@ -86,8 +86,8 @@ const BYTE_BEFORE: u8 = 0xee;
 
 const ROOM: usize = 96;
 
-// The answer to a damaged text with this memory and a buffer of so many bytes, and what the length and
-// the buffer hold then.
+// The answer to a damaged text with this memory and a buffer of so many bytes, and what the length
+// and the buffer hold then.
 fn proposal(memory: &mut Memory, text: &[u8], room: usize) -> (u32, (usize, [u8; ROOM])) {
     let mut buffer = [BYTE_BEFORE; ROOM];
     let mut length = LENGTH_BEFORE;
@@ -125,8 +125,8 @@ const NEAREST: &[u8] = b"ms10testsxxxxxxxxxxxxxxxxxxxxxxxxxx4nzvca9cmczlw";
 // The same with four other characters.
 const DAMAGED: &[u8] = b"ms1qtestsqxxxxxxxxxxxxxxxxxxxxxxxxq4nzvca9cmczlq";
 
-// The number of the answer where the nearest text is that of BIP-93, with so many bytes of memory, all of
-// which come back.
+// The number of the answer where the nearest text is that of BIP-93, with so many bytes of memory,
+// all of which come back.
 fn answer_within(
     rt: &impl Abort,
     alloc: Global,

@@ -1,7 +1,10 @@
-//! The numbers of the refusals of `codex32`, from 11 to 91, that programs and the functions for C print
-//! or return in their place. An error that carries another has its number.
+//! The numbers of the refusals of `codex32`, from 11 to 91, that programs and the functions for C
+//! print or return in their place. An error that carries another has its number.
 //!
 //! Numbers from 1 to 9 and from 92 are left to the programs.
+//!
+//! Below it: `codex32`, `bech32_numbers`.
+//! Standard: none.
 #![tactic(auto)]
 
 ghost use Rattle.std.specs.Prelude.{◌≡◌};

@@ -66,7 +66,8 @@ pub trait FmtDevice {
     // Relates the device before a piece that it took, the piece, and the device after it.
     ghost takes: { Self → List ℕ → Self → Type 0 };
 
-    // What one call did: the device before it, the piece, what it returned, and the device after it.
+    // What one call did: the device before it, the piece, what it returned, and the device after
+    // it.
     ghost piece_gives: { Self → List ℕ → Result Unit FmtError → Self → Type 0 };
 
     /// Asks the device once to take a piece of a text.
@@ -79,8 +80,8 @@ pub trait FmtDevice {
         ensures asked { piece_gives self.old s.now result self.new };
 }
 
-/// A reader is a device. Of a reader it is not known what one read did: that it is asked is all that
-/// this implementation does.
+/// A reader is a device. Of a reader it is not known what one read did: that it is asked is all
+/// that this implementation does.
 impl<R: io::Read> ReadDevice for R {
     ghost remaining = { R.remaining };
 

@@ -1,4 +1,7 @@
 //! Readers and writers with a mark that says whether a call failed.
+//!
+//! Below it: no crate of this repository.
+//! Standard: none.
 #![tactic(auto)]
 
 ghost use Rattle.std.specs.Prelude.{◌≡◌, ℕ, ◌+◌, ◌-◌, ◌^◌, ◌≤◌, ◌<◌, List, Bool, true, false};
@@ -88,8 +91,8 @@ pub trait ByteSink {
     // How many flushes succeeded.
     ghost flushes: { Self → ℕ };
 
-    // What one write did: the sink before it, the bytes it was given, what it returned, and the sink
-    // after it. Nothing but a write shows it.
+    // What one write did: the sink before it, the bytes it was given, what it returned, and the
+    // sink after it. Nothing but a write shows it.
     ghost write_gives: { Self → List ℕ → Result ℕ IoError → Self → Type 0 };
 
     // What one flush did, in the same way.
@@ -180,8 +183,8 @@ pub trait FmtSink {
 /// A reader or a writer with a mark that says whether a call failed.
 ///
 /// The mark is unset at first, and set from the first failing call on. Over a [`ReadDevice`], as
-/// each [`io::Read`] is, this is a [`ByteSource`], over a [`WriteDevice`] a [`ByteSink`], and over a
-/// [`FmtDevice`] a [`FmtSink`].
+/// each [`io::Read`] is, this is a [`ByteSource`], over a [`WriteDevice`] a [`ByteSink`], and over
+/// a [`FmtDevice`] a [`FmtSink`].
 ///
 /// Each read, write and flush asks the device once, but for one limit: after 2^64 - 1 reads the
 /// next read fails with [`io::ErrorKind::Other`] and does not ask, and so does a flush after

@@ -97,8 +97,3 @@ kept-more read bytes kept e = e ∙ ap (λ (t : List ℕ). take 4097 t) (sym (re
 pub last-some : (before kept : List ℕ) → kept ≡ take 4097 before → 0 < length kept → last_line before ≡ before ∷ []
 last-some [] kept e l = absurd (omega (arith, ap length e))
 last-some (x ∷ xs) kept e l = refl
-
--- nothing is kept of no bytes alone
-pub kept-none : (before kept : List ℕ) → kept ≡ take 4097 before → length kept ≡ 0 → before ≡ []
-kept-none [] kept e l = refl
-kept-none (x ∷ xs) kept e l = absurd (omega (arith, ap length e))

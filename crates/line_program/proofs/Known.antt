@@ -1,14 +1,6 @@
 -- Bytes that are read and written, where they are known.
-use Rattle.std.proofs.Common.{ℕ, List, [], ◌++◌, sym, ap, subst, ◌∙◌, refl, append_assoc, append-nil, Option, Some, None}
+use Rattle.std.proofs.Common.{ℕ, List, [], ◌++◌, sym, ap, subst, ◌∙◌, append_assoc, append-nil, Option, Some, None}
 use Rattle.std.specs.Io.KnownBytes.{Appends, Keeps, Consumes}
-
-pub Appends-nil : (a : Option (List ℕ)) → Appends a a []
-Appends-nil None = tt
-Appends-nil (Some x) = sym (append-nil x)
-
-pub Consumes-nil : (a : Option (List ℕ)) → Consumes a a []
-Consumes-nil None = tt
-Consumes-nil (Some x) = refl
 
 pub Appends-then : (u v w : Option (List ℕ)) (a b : List ℕ) → Appends u v a → Appends v w b → Appends u w (a ++ b)
 Appends-then None v w a b x y = tt

@@ -33,7 +33,8 @@ impl NotExecuted {
 
 /// Executes the commands of a program. Numbers of refusals are below 100.
 pub trait Execute {
-    // What can be asked for, what a text asks for, if it is a command, and what may be said of that.
+    // What can be asked for, what a text asks for, if it is a command, and what may be said of
+    // that.
     ghost request: { Type 0 };
 
     ghost request_of: { List ℕ → Option request };
@@ -87,8 +88,8 @@ fn execute_line<P: Execute>(program: &P, line: &[u8], out: &mut Vec<u8>) -> Resu
     }
 }
 
-/// A program replies to a line by the outcome. A line that is too long is refused with the number 1,
-/// one that is not UTF-8 with 2, and one that is not a command with 3.
+/// A program replies to a line by the outcome. A line that is too long is refused with the number
+/// 1, one that is not UTF-8 with 2, and one that is not a command with 3.
 impl<P: Execute> Replies for P {
     ghost use Rattle.line_program.specs.laws.LongLines.{long_lines};
 

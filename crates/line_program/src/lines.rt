@@ -217,9 +217,9 @@ fn flush<K: ByteSink>(sink: &mut K) -> Result<(), RunError>
     }
 }
 
-/// Answers each line of a source: writes its reply and a newline. It makes its buffers first, writes
-/// the replies to all lines that have ended before each further read, and flushes the sink once, at
-/// its end, unless writing failed.
+/// Answers each line of a source: writes its reply and a newline. It makes its buffers first,
+/// writes the replies to all lines that have ended before each further read, and flushes the sink
+/// once, at its end, unless writing failed.
 ///
 /// # Errors
 ///

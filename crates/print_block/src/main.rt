@@ -2,6 +2,9 @@
 //! target, these two as characters from the highest coefficient down, the generator without its
 //! leading one, and the field in which the generator's roots are looked for: `Fe32`, `Fe1024`
 //! (which it is where there is no such word) or `Fe32768`.
+//!
+//! Below it: `bech32_block`.
+//! Standard: none.
 #![tactic(auto)]
 
 mod error;

@@ -1,10 +1,11 @@
-//! Replies where memory is refused. Known replies stand in the files `stdin` and `stdout` of the program
-//! `b32`: the gate gives the program the one, and compares what it writes with the other.
+//! Replies where memory is refused. Known replies stand in the files `stdin` and `stdout` of the
+//! program `b32`: the gate gives the program the one, and compares what it writes with the other.
 //!
 //! Of those 3,088 rows 3,025 were made twice over and equal: by a reference model written from the
-//! definitions alone (remainders as sums of the remainders of powers of x, the grammar by cases, bits
-//! as whole lists), and by the Rust crate bech32 0.12.0 with the differences of docs/rust/DIFFERENCES.md
-//! applied to it. The others come from BIP-173 and BIP-350, or show one refusal each.
+//! definitions alone (remainders as sums of the remainders of powers of x, the grammar by cases,
+//! bits as whole lists), and by the Rust crate bech32 0.12.0 with the differences of
+//! docs/rust/DIFFERENCES.md applied to it. The others come from BIP-173 and BIP-350, or show one
+//! refusal each.
 
 use b32_replies::reply::Commands;
 use line_program::{REPLY_ROOM, Replies};
@@ -33,8 +34,8 @@ fn replies_with(
     Ok((reply.as_slice() == REFUSED, reply.as_slice() == want))
 }
 
-// Asks for a reply with more and more memory: at first there is none for it, in the end there is, and
-// nothing else is said.
+// Asks for a reply with more and more memory: at first there is none for it, in the end there is,
+// and nothing else is said.
 fn refused_at_first(
     rt: &impl Abort,
     alloc: Global,

@@ -153,8 +153,8 @@ fn words_of<'a>(rt: &impl Abort, alloc: Global, line: &'a str) -> Vec<&'a str> {
     words
 }
 
-// Compares what is printed for a line of a table with the block that it asks for, or with the number
-// of the refusal.
+// Compares what is printed for a line of a table with the block that it asks for, or with the
+// number of the refusal.
 fn check_row(rt: &impl Abort, alloc: Global, line: &str) {
     let words = words_of(rt, alloc, line);
     let (field, generator, target) = (

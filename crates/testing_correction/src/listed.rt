@@ -114,8 +114,8 @@ fn lists_with<Ck: Checksum>(
     }
 }
 
-/// Whether just this is listed with these erasures, or nothing is, in each of the three ways to give
-/// them; not where there is no corrector.
+/// Whether just this is listed with these erasures, or nothing is, in each of the three ways to
+/// give them; not where there is no corrector.
 pub fn is_listed_by<Ck: Checksum>(
     found: Option<Corrector<Ck>>,
     erasures: &[usize],

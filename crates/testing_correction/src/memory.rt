@@ -93,8 +93,8 @@ fn clone_lists(
     lists(&corrector.clone()?, want)
 }
 
-// Whether the corrector with these erasures lists just this, or nothing; there is none where they are
-// too many.
+// Whether the corrector with these erasures lists just this, or nothing; there is none where they
+// are too many.
 fn with_lists<Ck: Checksum>(
     corrector: &Corrector<Ck, &LocalHeap>,
     erasures: &[usize],

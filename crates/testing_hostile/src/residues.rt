@@ -25,8 +25,8 @@ fn has_two_ends(row: &[Fe32; 6]) -> bool {
     has_ends && row[1..5].iter().all(|fe| *fe == Fe32::Q)
 }
 
-// A single error at location i leaves a multiple of x^i, so 1023 rows stand for all 31,713 errors. None of
-// them has these two coefficients alone: no residue with just these may be listed.
+// A single error at location i leaves a multiple of x^i, so 1023 rows stand for all 31,713 errors.
+// None of them has these two coefficients alone: no residue with just these may be listed.
 #[test]
 fn no_single_error_has_two_ends(rt: HostRuntime) {
     let mut power = ONE;

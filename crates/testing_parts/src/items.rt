@@ -174,7 +174,8 @@ fn lowers_the_text(rt: HostRuntime) {
     }
 }
 
-// Whether a part in lower case is a text; `None` where a heap of so many bytes has no memory for it.
+// Whether a part in lower case is a text; `None` where a heap of so many bytes has no memory for
+// it.
 fn is_lowered(rt: &impl Abort, alloc: Global, bytes: usize, hrp: &Hrp, want: &str) -> Option<bool> {
     let heap = LocalHeap::new(alloc, bytes).expect(rt, "memory");
     match hrp.to_lowercase_in(&heap) {

@@ -9,11 +9,11 @@ use Rattle.bech32_poly.specs.Remainder.{IsRemainder}
 use Rattle.bech32_poly.proofs.Appended.{appended-append, checksum_of_target}
 use Rattle.bech32_checksum.specs.Code.{Code}
 use Rattle.bech32_checksum.specs.TextPolynomial.{IsChecksumOf, hrp_elements, text_polynomial}
-use Rattle.testing_plain.specs.PlainChecksum.{code_of_name}
+use Rattle.testing_plain.specs.PlainChecksum.{code_of_plain}
 use Rattle.testing_plain.specs.declared.checksum.PlainChecksum.{PlainChecksum}
 use Rattle.testing_plain.specs.declared.checksum.PlainChecksum.TheVariants.{Bech32, Bech32m}
 
-length-target : (k : PlainChecksum) → length (code_of_name k).target ≡ length (code_of_name k).generator
+length-target : (k : PlainChecksum) → length (code_of_plain k).target ≡ length (code_of_plain k).generator
 length-target Bech32 = refl
 length-target Bech32m = refl
 
@@ -27,10 +27,10 @@ polynomial-parts hrp elements last =
     sym (appended-append (fe32.one ∷ []) (hrp_elements hrp ++ elements) last) ∙ ap (appended (fe32.one ∷ [])) (append_assoc (hrp_elements hrp) elements last)
 
 pub is_checksum : (k : PlainChecksum) (hrp : List ℕ) (elements rest : List Fe32)
-    → IsRemainder fe32.ops (code_of_name k).generator (text_polynomial hrp (elements ++ reverse (code_of_name k).target)) rest
-    → IsChecksumOf (code_of_name k) hrp elements (reverse rest)
+    → IsRemainder fe32.ops (code_of_plain k).generator (text_polynomial hrp (elements ++ reverse (code_of_plain k).target)) rest
+    → IsChecksumOf (code_of_plain k) hrp elements (reverse rest)
 is_checksum k hrp elements rest h =
-    let code : Code = code_of_name k in
+    let code : Code = code_of_plain k in
     let front : List Fe32 = front_of hrp elements in
     let held : IsRemainder fe32.ops code.generator (appended front (reverse code.target)) rest =
     subst (λ p. IsRemainder fe32.ops code.generator p rest) (sym (polynomial-parts hrp elements (reverse code.target))) h in

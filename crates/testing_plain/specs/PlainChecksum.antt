@@ -4,6 +4,6 @@ use Rattle.testing_plain.specs.declared.checksum.PlainChecksum.{PlainChecksum}
 use Rattle.testing_plain.specs.declared.checksum.PlainChecksum.TheVariants.{Bech32, Bech32m}
 
 -- the code of a checksum (BIP-173, Checksum; BIP-350, Bech32m)
-abbrev pub code_of_name : PlainChecksum → Code
-code_of_name Bech32 = bech32
-code_of_name Bech32m = bech32m
+abbrev pub code_of_plain : PlainChecksum → Code
+code_of_plain Bech32 = bech32
+code_of_plain Bech32m = bech32m

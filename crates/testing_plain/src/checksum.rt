@@ -4,7 +4,7 @@ ghost use Rattle.std.specs.Prelude.{◌≡◌, ◌↔◌, IfOk, IsTrue, map};
 ghost use Rattle.bech32_gf.specs.Fe32.{ops, element};
 ghost use Rattle.bech32_poly.specs.Remainder.{IsRemainder};
 ghost use Rattle.bech32_checksum.specs.TextPolynomial.{IsChecksumOf};
-ghost use Rattle.testing_plain.specs.PlainChecksum.{code_of_name};
+ghost use Rattle.testing_plain.specs.PlainChecksum.{code_of_plain};
 
 use crate::polynomial::polynomial_of_text;
 use bech32_gf::gf32::Fe32;
@@ -38,14 +38,14 @@ fn elements(values: [u8; 6]) -> [Fe32; 6]
 impl PlainChecksum {
     // The lower coefficients of the generator, the constant term first.
     pub(crate) fn generator(self) -> [Fe32; 6]
-        ensures { result ≡ (code_of_name self).generator }
+        ensures { result ≡ (code_of_plain self).generator }
     {
         elements([18, 29, 21, 20, 22, 29])
     }
 
     // The coefficients of the target, the constant term first.
     pub(crate) fn target(self) -> [Fe32; 6]
-        ensures { result ≡ (code_of_name self).target }
+        ensures { result ≡ (code_of_plain self).target }
     {
         match self {
             PlainChecksum::Bech32 => elements([1, 0, 0, 0, 0, 0]),
@@ -56,8 +56,8 @@ impl PlainChecksum {
     // Whether a polynomial, the constant term first, has the target as remainder.
     pub(crate) fn has_target(self, alloc: Global, polynomial: &[Fe32]) -> Result<bool, AllocError>
         ensures { IfOk result (λ b. IsTrue b
-            ↔ IsRemainder ops (code_of_name self).generator polynomial.now
-            (code_of_name self).target) }
+            ↔ IsRemainder ops (code_of_plain self).generator polynomial.now
+            (code_of_plain self).target) }
     {
         let rest = remainder(alloc, polynomial, &self.generator())?;
         let target = self.target();
@@ -71,7 +71,8 @@ impl PlainChecksum {
         hrp: &[u8],
         elements: &[Fe32],
     ) -> Result<Vec<Fe32>, AllocError>
-        ensures { IfOk result (λ v. IsChecksumOf (code_of_name self) hrp.now elements.now v.items) }
+        ensures { IfOk result
+            (λ v. IsChecksumOf (code_of_plain self) hrp.now elements.now v.items) }
     {
         let mut target = self.target();
         target.reverse();

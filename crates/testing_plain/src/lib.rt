@@ -6,7 +6,7 @@ ghost use Rattle.std.specs.Prelude.{◌↔◌, IfOk, IsTrue};
 ghost use Rattle.bech32_hrp.specs.HrpBytes.{hrp_bytes};
 ghost use Rattle.bech32_decode.specs.Acceptance.{Accepts};
 ghost use Rattle.bech32_checksum.specs.Encoded.{IsEncodedText};
-ghost use Rattle.testing_plain.specs.PlainChecksum.{code_of_name};
+ghost use Rattle.testing_plain.specs.PlainChecksum.{code_of_plain};
 
 mod checksum;
 mod grammar;
@@ -26,7 +26,7 @@ use std::alloc::{AllocError, Global};
 ///
 /// If memory runs out.
 pub fn accepts(alloc: Global, checksum: PlainChecksum, text: &str) -> Result<bool, AllocError>
-    ensures { IfOk result (λ b. IsTrue b ↔ Accepts (code_of_name checksum) text.now) }
+    ensures { IfOk result (λ b. IsTrue b ↔ Accepts (code_of_plain checksum) text.now) }
 {
     let bytes = text.as_bytes();
     for at in 0..bytes.len() {
@@ -37,8 +37,8 @@ pub fn accepts(alloc: Global, checksum: PlainChecksum, text: &str) -> Result<boo
     Ok(false)
 }
 
-/// The text of elements under a human-readable part: the checksum is the remainder of the polynomial
-/// that has the target's coefficients in the checksum's place.
+/// The text of elements under a human-readable part: the checksum is the remainder of the
+/// polynomial that has the target's coefficients in the checksum's place.
 ///
 /// The text may be longer than the code.
 ///
@@ -52,7 +52,7 @@ pub fn encoded_text(
     elements: &[Fe32],
 ) -> Result<Vec<u8>, AllocError>
     ensures { IfOk result
-        (λ v. IsEncodedText (code_of_name checksum) (hrp_bytes hrp.now) elements.now v.items) }
+        (λ v. IsEncodedText (code_of_plain checksum) (hrp_bytes hrp.now) elements.now v.items) }
 {
     let appended = checksum.checksum_of(alloc, hrp.as_bytes(), elements)?;
     let mut all = Vec::from_slice(alloc, elements)?;

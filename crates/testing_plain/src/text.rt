@@ -4,7 +4,7 @@ ghost use Rattle.std.specs.Prelude.{◌≡◌, ◌↔◌, ◌<◌, ◌+◌, IfOk
 ghost use Rattle.bech32_gf.specs.Fe32.{elements_of};
 ghost use Rattle.bech32_decode.specs.Acceptance.{IsAccepted};
 ghost use Rattle.bech32_checksum.specs.Encoded.{spelled, char_of_element};
-ghost use Rattle.testing_plain.specs.PlainChecksum.{code_of_name};
+ghost use Rattle.testing_plain.specs.PlainChecksum.{code_of_plain};
 
 use crate::checksum::PlainChecksum;
 use crate::grammar::{character_of, element_of_character, is_text};
@@ -41,7 +41,8 @@ pub(crate) fn accepts_at(
 ) -> Result<bool, AllocError>
     requires { at < length text.now }
     ensures { IfOk result (λ b. IsTrue b
-        ↔ IsAccepted (code_of_name checksum) text.now (take at text.now) (drop (at + 1) text.now)) }
+        ↔ IsAccepted (code_of_plain checksum) text.now
+        (take at text.now) (drop (at + 1) text.now)) }
 {
     let data_part = &text[at + 1..];
     if !is_text(text, at) || text.len() > CODE_LENGTH || data_part.len() < CHECKSUM_LENGTH {

@@ -4,7 +4,7 @@
 ghost use Rattle.std.specs.Prelude.{refl};
 ghost use Rattle.bech32_gf.specs.Fe32.{element};
 ghost use Rattle.bech32_gf_ext.specs.Fe1024.{pair};
-ghost use Rattle.uses.specs.LongWords.{words, words_keep, long_code};
+ghost use Rattle.uses.specs.LongWords.{long_words, words_keep, long_code};
 ghost use Rattle.bech32_gf_ext.specs.Fe1024 as fe1024;
 ghost use Rattle.bech32_checksum.specs.Roots.{HasLawfulRoots};
 
@@ -31,7 +31,7 @@ impl Checksum for LongCodex32 {
 
     ghost CHECKSUM_LENGTH = { 15 };
 
-    ghost GENERATOR_SH = { words };
+    ghost GENERATOR_SH = { long_words };
 
     ghost TARGET_RESIDUE = { 0x43381e570bf4798ab26 };
 

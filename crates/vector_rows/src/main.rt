@@ -2,13 +2,13 @@
 //!
 //! - `register`, a field and a list: the length of a shortest register of the list, and where there
 //!   is only one, its coefficients and the ten items after the list;
-//! - `field`, a field, two elements and an exponent: the product of the two, and of the first one its
-//!   inverse, its order and its power;
+//! - `field`, a field, two elements and an exponent: the product of the two, and of the first one
+//!   its inverse, its order and its power;
 //! - `listing`, a checksum, a text, erasures and a window: what is listed for the text;
 //! - `block`, a field, a generator and a target: the block that declares a checksum, or the number
 //!   of the refusal;
-//! - `bits`, bytes in hex and elements: the elements of the bytes, and the bytes of the elements with
-//!   a last part dropped and with it filled.
+//! - `bits`, bytes in hex and elements: the elements of the bytes, and the bytes of the elements
+//!   with a last part dropped and with it filled.
 //!
 //! Elements are their characters, the constant coefficient first; a generator goes from its highest
 //! coefficient down, without the leading one; `-` stands for nothing. What the rows in `stdin` give

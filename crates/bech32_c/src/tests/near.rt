@@ -30,7 +30,8 @@ fn near(memory: &mut Memory, asked: Asked<'_>, room: usize) -> (u32, (usize, [u8
     (number, (count, buffer))
 }
 
-// The number that it returns, where nothing is written, and all of so many bytes of memory come back.
+// The number that it returns, where nothing is written, and all of so many bytes of memory come
+// back.
 fn near_number(
     rt: &impl Abort,
     alloc: Global,
@@ -183,8 +184,8 @@ fn lists_with_too_little_memory(rt: HostRuntime) -> Result<(), AllocError> {
     Ok(())
 }
 
-// The number with so many bytes of memory, which come back: 0 with the near text, or else nothing is
-// written.
+// The number with so many bytes of memory, which come back: 0 with the near text, or else nothing
+// is written.
 fn number_within(rt: &impl Abort, alloc: Global, size: usize) -> Result<u32, AllocError> {
     let mut memory = Memory::leaked(alloc, size)?;
     let (number, (count, buffer)) = near(&mut memory, NEAR, 128);

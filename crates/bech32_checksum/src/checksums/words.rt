@@ -6,9 +6,9 @@ ghost use Rattle.bech32_checksum.specs.Word.{row_elements, two_elements, word_el
 
 use super::twos::{TWO_AT_X6, TWO_AT_X8, TWO_AT_X10, TWO_AT_X12};
 
-// The remainder after eight more elements. It is a sum: each two coefficients of the remainder before
-// are eight places higher, so that they have a table, as have the first two elements; the other six
-// are a row as they are.
+// The remainder after eight more elements. It is a sum: each two coefficients of the remainder
+// before are eight places higher, so that they have a table, as have the first two elements; the
+// other six are a row as they are.
 #[inline]
 pub(super) fn after_word_by_tables(residue: u32, word: u64) -> u32
     requires residue { residue < 2 ^ 30 }
@@ -23,7 +23,8 @@ pub(super) fn after_word_by_tables(residue: u32, word: u64) -> u32
         ^ (word % 0x4000_0000) as u32
 }
 
-// The remainder after six more elements, which stand in a row of 30 bits, the first of them highest.
+// The remainder after six more elements, which stand in a row of 30 bits, the first of them
+// highest.
 #[inline]
 pub(super) fn after_row_by_tables(residue: u32, row: u32) -> u32
     requires residue { residue < 2 ^ 30 }

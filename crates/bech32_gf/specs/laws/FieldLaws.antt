@@ -90,10 +90,6 @@ module _ {F : Type 0} {o : Ops F} (l : IsField o) where
   unfolding multiple
   multiple-suc x n = refl
 
-  pub multiple-one : (x : F) → multiple o x 1 ≡ x
-  unfolding multiple
-  multiple-one x = l.add_zero x
-
   pub multiple-add : (x : F) (m n : ℕ)
       → multiple o x (m + n) ≡ o.add (multiple o x m) (multiple o x n)
   unfolding multiple

@@ -19,7 +19,8 @@ fn doubled(a: Fe32) -> Fe32
     }
 }
 
-/// The product of two elements, equal to `a * b`: the sum of `a` times x^i for each set bit i of `b`.
+/// The product of two elements, equal to `a * b`: the sum of `a` times x^i for each set bit i of
+/// `b`.
 ///
 /// `a` is multiplied by x once for each bit, and reduced modulo x^5 + x^3 + 1 each time.
 pub fn product(a: Fe32, b: Fe32) -> Fe32

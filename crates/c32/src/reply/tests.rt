@@ -1,8 +1,8 @@
-//! Replies where memory is refused. Known replies stand in the files `stdin` and `stdout` of the crate:
-//! the gate gives the program the one, and compares what it writes with the other.
+//! Replies where memory is refused. Known replies stand in the files `stdin` and `stdout` of the
+//! crate: the gate gives the program the one, and compares what it writes with the other.
 //!
-//! Those rows were made twice over and equal: by a reference model written from the definitions alone,
-//! which tries every pattern, and by the Rust crate bech32 0.12.0.
+//! Those rows were made twice over and equal: by a reference model written from the definitions
+//! alone, which tries every pattern, and by the Rust crate bech32 0.12.0.
 
 use super::*;
 use line_program::{REPLY_ROOM, Replies};
@@ -36,8 +36,8 @@ fn with_bytes(
     is_reply(alloc, &heap, line, want)
 }
 
-// Asks for a reply with more and more memory, and counts the wanted ones, those that tell of too little
-// memory, and others.
+// Asks for a reply with more and more memory, and counts the wanted ones, those that tell of too
+// little memory, and others.
 fn replies(alloc: Global, line: &[u8], want: &[u8]) -> Result<[u32; 3], AllocError> {
     let (mut given, mut refused, mut others) = (0u32, 0u32, 0u32);
     for size in 0..64usize {

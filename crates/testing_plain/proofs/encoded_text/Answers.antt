@@ -4,12 +4,12 @@ use Rattle.bech32_gf.specs.declared.gf32.Fe32.{Fe32}
 use Rattle.bech32_hrp.specs.HrpBytes.{hrp_bytes}
 use Rattle.bech32_checksum.specs.TextPolynomial.{IsChecksumOf}
 use Rattle.bech32_checksum.specs.Encoded.{spelled}
-use Rattle.testing_plain.specs.PlainChecksum.{code_of_name}
+use Rattle.testing_plain.specs.PlainChecksum.{code_of_plain}
 use Rattle.testing_plain.proofs.encoded_text.Goals as goal
 
 pub returns : goal.returns
 returns c =
-    let code = code_of_name c.args.checksum in
+    let code = code_of_plain c.args.checksum in
     let hrp = hrp_bytes c.args.hrp.now in
     let elements = c.args.elements.now in
     let checksum : List Fe32 = c.in_ok-appended.appended.items in

@@ -7,7 +7,7 @@ use Rattle.bech32_checksum.specs.Roots.{singleton_bound}
 use Rattle.bech32_checksum.specs.Code.{Code}
 use Rattle.bech32_decode.specs.Acceptance.{Accepts}
 use Rattle.bech32_correction.specs.declared.correcting.Correction.{Correction}
-use Rattle.bech32_correction.specs.Mistyped.{HasNoListing, IsListing, IsListingOf}
+use Rattle.bech32_correction.specs.Mistyped.{HasNoListing, IsListedInPlace, IsListingOf}
 use Rattle.bech32_correction.proofs.Texts.{ends-lowered, mendable-from_listing}
 use Rattle.b32_replies.specs.Request.{code_of_name}
 use Rattle.b32_replies.specs.Reply.{listed}
@@ -16,9 +16,9 @@ use Rattle.b32_replies.proofs.CorrectReplies.{listing-size, locations-small, men
 use Rattle.b32_replies.proofs.correct.correct.Goals as goal
 
 -- what is said of an answer, by its variant
-of_variant : (code : Code) (text given : List ℕ) (answer variant : Correction (List (ℕ × Fe32)) (Unit {0})) → answer ≡ variant → IsListing code (singleton_bound 24 26) text given answer
-    → IsListing code (singleton_bound 24 26) text given variant
-of_variant code text given answer variant e h = subst (λ (x : Correction (List (ℕ × Fe32)) (Unit {0})). IsListing code (singleton_bound 24 26) text given x) e h
+of_variant : (code : Code) (text given : List ℕ) (answer variant : Correction (List (ℕ × Fe32)) (Unit {0})) → answer ≡ variant → IsListedInPlace code (singleton_bound 24 26) text given answer
+    → IsListedInPlace code (singleton_bound 24 26) text given variant
+of_variant code text given answer variant e h = subst (λ (x : Correction (List (ℕ × Fe32)) (Unit {0})). IsListedInPlace code (singleton_bound 24 26) text given x) e h
 
 pub returns-in_err-correction-clause-answer : goal.returns-in_err-correction-clause-answer
 returns-in_err-correction-clause-answer c =

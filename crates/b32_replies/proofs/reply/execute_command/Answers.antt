@@ -1,7 +1,7 @@
 use Rattle.std.proofs.Common.{refl}
 use Rattle.std.proofs.lemmas.Result.{err_from_is_err_and}
 use Rattle.line_program.proofs.Replied.{adds_or_refuses-weaker}
-use Rattle.b32_replies.specs.Numbers.{number_of}
+use Rattle.b32_replies.specs.Numbers.{number_of_reply}
 use Rattle.b32_replies.specs.Request.{code_of_name}
 use Rattle.b32_replies.proofs.CorrectReplies.{says-at, says-refused_locations}
 use Rattle.b32_replies.proofs.reply.execute_command.Goals as goal
@@ -36,6 +36,6 @@ returns-in_ok-given-in-CorrectAt-clause-answer g c =
     let code = code_of_name c.in-CorrectAt.checksum in
     let text = c.in-CorrectAt.text.now in
     let word = c.in-CorrectAt.locations.now in
-    rw c.in-CorrectAt.is (adds_or_refuses-weaker _ _ number_of c.correct-in-CorrectAt.result _ _
+    rw c.in-CorrectAt.is (adds_or_refuses-weaker _ _ number_of_reply c.correct-in-CorrectAt.result _ _
     (λ said h. says-at code text word c.in_ok-given-in-CorrectAt.given said c.in_ok-given-in-CorrectAt.ensures (rw c.as_slice.ensures at h))
     c.correct-in-CorrectAt.ensures.answer)

@@ -4,7 +4,7 @@ use Rattle.std.proofs.Common.{◌≡◌, ◌≢◌, ◌+◌, ◌%◌, ℕ, refl,
 use Rattle.std.specs.Bool.{Decides}
 use Rattle.std.proofs.lemmas.Bool.Decides.{Decides-eqb}
 use Rattle.std.proofs.lemmas.List.Elements.{contains_decides, Decides-contains}
-use Rattle.bech32_block.specs.Series.{IsSeries, term}
+use Rattle.bech32_block.specs.Series.{IsSeries, series_term}
 use Rattle.bech32_block.proofs.Walks.{walk_start, walk_more, next_is, series_of, stops_back, stops_out, stops_end}
 use Rattle.bech32_block.proofs.series.series_length.Goals as goal
 use Rattle.bech32_block.proofs.series.series_length.Goals.{then-at-first-via-then-at-first, then-at-first-via-else-at-first+then-not-contains}
@@ -18,7 +18,7 @@ returns-then-at-first-clause-series c = series_of c.args.order c.args.roots.now 
 pub returns-then-at-first-clause-longest : goal.returns-then-at-first-clause-longest
 returns-then-at-first-clause-longest c len s =
     let next : ℕ = (c.loop-length.at + c.args.step) % c.args.order in
-    let is : next ≡ term c.args.order c.args.first c.args.step c.loop-length.length = next_is c.args.order c.args.roots.now c.args.first c.args.step c.loop-length.length c.loop-length.at next c.loop-length.invariant (omega arith) refl in
+    let is : next ≡ series_term c.args.order c.args.first c.args.step c.loop-length.length = next_is c.args.order c.args.roots.now c.args.first c.args.step c.loop-length.length c.loop-length.at next c.loop-length.invariant (omega arith) refl in
     elim c.then-at-first.branch [
       | then-at-first-via-then-at-first w ↦
           let back : next ≡ c.args.first = search rules in

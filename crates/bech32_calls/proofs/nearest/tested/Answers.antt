@@ -1,5 +1,5 @@
 use Rattle.std.proofs.Common.{◌≤◌, arith}
-use Rattle.bech32_correction.specs.Mistyped.{IsListing}
+use Rattle.bech32_correction.specs.Mistyped.{IsListedInPlace}
 use Rattle.bech32_calls.specs.Checksums.{ForChecksum}
 use Rattle.bech32_calls.specs.Correct.{bound}
 use Rattle.bech32_calls.specs.Nearest.{IsNearFault, IsRead}
@@ -15,5 +15,5 @@ returns c =
     let answer = c.in_ok-correction_by.field-0 in
     let few : c.args.errors ≤ 2 = omega arith in
     let read : ForChecksum c.args.checksum (IsRead text) =
-    more_for (λ code. IsListing code bound text given answer) (IsRead text) (read_listed text given answer) c.args.checksum c.in_ok-correction_by.ensures in
+    more_for (λ code. IsListedInPlace code bound text given answer) (IsRead text) (read_listed text given answer) c.args.checksum c.in_ok-correction_by.ensures in
     (few, read, λ room. wrong_by (IsRead text) (IsNearFault text given c.args.errors room) Memory (λ code is. (few, is)) c.args.checksum read)

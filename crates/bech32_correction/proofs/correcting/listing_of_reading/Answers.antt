@@ -3,7 +3,7 @@ use Rattle.std.proofs.lemmas.Result.{err_from_is_err_and}
 use Rattle.bech32_checksum.proofs.Target.{length-target}
 use Rattle.bech32_decode.specs.Acceptance.{IsAccepted}
 use Rattle.bech32_decode.specs.Refusals.{IsChecksumRefusal}
-use Rattle.bech32_refusals.specs.ResidueRows.{residue_of}
+use Rattle.bech32_refusals.specs.ResidueRows.{error_residue_of}
 use Rattle.bech32_refusals.specs.declared.error.ChecksumError.TheVariants.{InvalidResidue}
 use Rattle.bech32_correction.proofs.Outcomes.{corrector_of, inside_code, of_residue, part_fits, refusal_of_parts, refused_text, some_places}
 use Rattle.bech32_correction.proofs.correcting.listing_of_reading.Goals as goal
@@ -45,7 +45,7 @@ returns-in_err-listing_by-clause-value g c =
     let error = c.in-Some.error in
     let invalid : IsChecksumRefusal g.Ck.Checksum.code (length s.text.now) s.hrp.now s.data_part.now (InvalidResidue error) = rw c.in-Some.is at c.in_ok-error.ensures in
     let p = err_from_is_err_and c.from_residual-in_err-listing_by.result c.from_residual-in_err-listing_by.ensures.1 in
-    rw p.1 (rw p.2 (s.hrp.now, s.data_part.now, residue_of error, refused_text g.Ck.Checksum.code s.text.now s.hrp.now s.data_part.now error s.is_reading.grammar invalid))
+    rw p.1 (rw p.2 (s.hrp.now, s.data_part.now, error_residue_of error, refused_text g.Ck.Checksum.code s.text.now s.hrp.now s.data_part.now error s.is_reading.grammar invalid))
 
 pub returns-clause-value : goal.returns-clause-value
 returns-clause-value g c =
@@ -53,7 +53,7 @@ returns-clause-value g c =
     let s = c.args.reading.now in
     let error = c.in-Some.error in
     let invalid : IsChecksumRefusal code (length s.text.now) s.hrp.now s.data_part.now (InvalidResidue error) = rw c.in-Some.is at c.in_ok-error.ensures in
-    let corrects = corrector_of code s.text.now s.hrp.now s.data_part.now (residue_of error) (length s.data_part.now) c.new-corrector.result
+    let corrects = corrector_of code s.text.now s.hrp.now s.data_part.now (error_residue_of error) (length s.data_part.now) c.new-corrector.result
     (refused_text code s.text.now s.hrp.now s.data_part.now error s.is_reading.grammar invalid) refl
-    (of_residue c.residue.result (residue_of error) (length s.data_part.now) c.new-corrector.result c.new-corrector.ensures c.residue.ensures) in
+    (of_residue c.residue.result (error_residue_of error) (length s.data_part.now) c.new-corrector.result c.new-corrector.ensures c.residue.ensures) in
     c.in_ok-listing_by.ensures.value s.text.now corrects

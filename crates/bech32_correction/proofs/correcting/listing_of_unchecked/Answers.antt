@@ -3,7 +3,7 @@ use Rattle.std.proofs.lemmas.Result.{err_from_is_err_and}
 use Rattle.bech32_checksum.specs.Code.{Code}
 use Rattle.bech32_checksum.proofs.Digits.{length-tabulate}
 use Rattle.bech32_decode.specs.Refusals.{IsInvalidBy, IsValidBy}
-use Rattle.bech32_refusals.specs.ResidueRows.{residue_of}
+use Rattle.bech32_refusals.specs.ResidueRows.{error_residue_of}
 use Rattle.bech32_refusals.specs.declared.error.ChecksumError.TheVariants.{InvalidResidue}
 use Rattle.bech32_correction.proofs.Outcomes.{accepted-from_valid, corrector_of, inside_code, of_residue, refused_for, some_degree}
 use Rattle.bech32_correction.proofs.correcting.listing_of_unchecked.Goals as goal
@@ -42,6 +42,6 @@ returns-clause-value g c = λ text is.
     let error = c.in-Some.error in
     let window : ℕ = length c.data_part_ascii-window.result.now in
     let invalid : IsInvalidBy code u (InvalidResidue error) = rw c.in-Some.is at c.in_ok-error.ensures in
-    let corrects = corrector_of code text _ _ (residue_of error) window c.new-corrector.result (refused_for code text u error is invalid) (ap length c.data_part_ascii-window.ensures.value)
-    (of_residue c.residue.result (residue_of error) window c.new-corrector.result c.new-corrector.ensures c.residue.ensures) in
+    let corrects = corrector_of code text _ _ (error_residue_of error) window c.new-corrector.result (refused_for code text u error is invalid) (ap length c.data_part_ascii-window.ensures.value)
+    (of_residue c.residue.result (error_residue_of error) window c.new-corrector.result c.new-corrector.ensures c.residue.ensures) in
     c.in_ok-listing_by.ensures.value text corrects

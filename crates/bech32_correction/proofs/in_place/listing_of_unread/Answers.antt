@@ -1,7 +1,7 @@
 use Rattle.std.proofs.Common.{ℕ, [], length, ap, refl}
 use Rattle.std.proofs.lemmas.Result.{err_from_is_err_and}
 use Rattle.bech32_decode.specs.Refusals.{IsInvalidBy, IsValidBy}
-use Rattle.bech32_refusals.specs.ResidueRows.{residue_of}
+use Rattle.bech32_refusals.specs.ResidueRows.{error_residue_of}
 use Rattle.bech32_refusals.specs.declared.error.ChecksumError.TheVariants.{InvalidResidue}
 use Rattle.bech32_direct.specs.Question.{Question}
 use Rattle.bech32_correction.specs.Mistyped.{IsReadAs}
@@ -45,7 +45,7 @@ returns g c =
     let invalid : IsInvalidBy code u (InvalidResidue error) = rw c.in-Some.is at c.in_ok-error.ensures in
     let window : ℕ = length c.data_part_ascii-window.result.now in
     let corrector : Question = record { residue = c.residue.result; window = window; erasures = [] } in
-    let corrects = corrector_of code text _ _ (residue_of error) window corrector (refused_for code text u error read invalid) (ap length c.data_part_ascii-window.ensures.value)
-    (of_residue c.residue.result (residue_of error) window corrector refl c.residue.ensures) in
+    let corrects = corrector_of code text _ _ (error_residue_of error) window corrector (refused_for code text u error read invalid) (ap length c.data_part_ascii-window.ensures.value)
+    (of_residue c.residue.result (error_residue_of error) window corrector refl c.residue.ensures) in
     said_of code bound text given c.listing_of_residue.result c.said_by.result
     (answered code bound text given corrector c.listing_of_residue.result corrects c.listing_of_residue.ensures) c.said_by.ensures

@@ -3,7 +3,7 @@ use Rattle.std.proofs.Common.{◌≡◌, List, ℕ, Option, Some, None, length, 
 use Rattle.std.proofs.lemmas.Result.{err_from_is_err_and}
 use Rattle.bech32_hrp.specs.Hrp.{first_of}
 use Rattle.codex32.specs.Nearest.{read_text}
-use Rattle.codex32.specs.Strings.{frame_refusal, length_fault, part_fault}
+use Rattle.codex32.specs.Strings.{frame_refusal, codex32_length_fault, part_fault}
 use Rattle.codex32.specs.declared.error.Codex32Error.{Codex32Error}
 use Rattle.codex32.proofs.ReadTexts.{frame-read}
 use Rattle.codex32.proofs.Reading.{none-from_chars, split-from_found}
@@ -28,7 +28,7 @@ pub returns : goal.returns
 returns c =
     let text = c.args.text.now in
     let cut = split-from_found text c.in-Some.front.now c.in-Some.damaged.now c.in-Some.ensures.cases in
-    let left : frame_refusal (read_text text) ≡ first_of (length_fault (length text)) (part_fault c.as_bytes.result.now) =
+    let left : frame_refusal (read_text text) ≡ first_of (codex32_length_fault (length text)) (part_fault c.as_bytes.result.now) =
     frame-read text c.in-Some.front.now c.in-Some.damaged.now cut c.in_ok-validate_grammar.ensures
-    ∙ ap (λ (h : List ℕ). first_of (length_fault (length text)) (part_fault h)) (sym c.as_bytes.ensures.value) in
+    ∙ ap (λ (h : List ℕ). first_of (codex32_length_fault (length text)) (part_fault h)) (sym c.as_bytes.ensures.value) in
     subst (λ (o : Option Codex32Error). MatchResult c.validate_outline.result (λ _. o ≡ None) (λ e. o ≡ Some e)) (sym left) c.validate_outline.ensures

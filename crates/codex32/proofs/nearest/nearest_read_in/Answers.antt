@@ -4,7 +4,7 @@ use Rattle.bech32_gf.specs.declared.gf32.Fe32.{Fe32}
 use Rattle.bech32_checksum.specs.Encoded.{spelled}
 use Rattle.bech32_correction.specs.MendedElements.{mended}
 use Rattle.bech32_correction.specs.Mistyped.{IsPlacedIn}
-use Rattle.codex32.specs.Nearest.{IsListed}
+use Rattle.codex32.specs.Nearest.{AreAdditions}
 use Rattle.codex32.proofs.Answered.{placed-from_listed}
 use Rattle.codex32.proofs.nearest.nearest_read_in.Goals as goal
 
@@ -12,7 +12,7 @@ pub mended_in-requires : goal.mended_in-requires
 mended_in-requires g c =
     let text = c.args.read.now in
     let given = c.args.given.now in
-    let listed : IsListed text given c.in-Some.listing = rw c.in-Some.is at (c.in_ok-listing.ensures text c.requires.read) in
+    let listed : AreAdditions text given c.in-Some.listing = rw c.in-Some.is at (c.in_ok-listing.ensures text c.requires.read) in
     subst (λ (l : List (ℕ × Fe32)). IsPlacedIn text l) (sym c.as_slice.ensures) (placed-from_listed text given c.in-Some.listing listed)
 
 pub returns : goal.returns

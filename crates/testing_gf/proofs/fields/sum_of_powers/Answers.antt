@@ -1,7 +1,7 @@
 use Rattle.std.proofs.Common.{◌≡◌, ◌+◌, ◌-◌, ◌∙◌, ap, sym, fold, arith, List, [], ◌∷◌}
 use Rattle.std.specs.Iterator.{Drains, YieldsFirst}
 use Rattle.bech32_gf.specs.Field.{Ops}
-use Rattle.bech32_gf.specs.Powers.{powers_of, left_of}
+use Rattle.bech32_gf.specs.Powers.{powers_of, powers_left}
 use Rattle.testing_gf.proofs.fields.sum_of_powers.Goals as goal
 
 -- a whole walk gives what was left
@@ -19,5 +19,5 @@ returns g c =
     let whole : c.args.n - 0 ≡ c.args.n = omega arith in
     law.sum_law ran.0 _ ran.2
     ∙ ap (fold o.add o.zero)
-    (all_given (left_of o) ran.0 _ (ran.1 (law.sum_complete_law _)) ∙ c.powers_range.ensures
+    (all_given (powers_left o) ran.0 _ (ran.1 (law.sum_complete_law _)) ∙ c.powers_range.ensures
     ∙ ap (λ n. powers_of o c.args.x 0 (n + 1)) whole)

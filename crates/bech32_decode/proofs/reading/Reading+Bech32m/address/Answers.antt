@@ -1,18 +1,32 @@
-use Rattle.std.proofs.Common.{◌∙◌, Bool, cond, sym, ap}
-use Rattle.bech32_checksum.specs.Code.{bech32, bech32m}
-use Rattle.bech32_decode.proofs.Addresses.{outcome-from_reading}
+use Rattle.std.proofs.lemmas.Result.{err_from_is_err_and}
+use Rattle.bech32_checksum.specs.Code.{bech32m}
+use Rattle.bech32_decode.proofs.Addresses.{versioned-before, room-of_version, refused-by_checksum, refused-by_data, outcome-from_data}
 use Rattle.bech32_decode.proofs.reading.Reading+Bech32m.address.Goals as goal
 
-pub returns-then-eq : goal.returns-then-eq
-returns-then-eq c =
-    let s = c.args.self.now in
-    let same = sym (ap (λ (b : Bool). cond b bech32 bech32m) (sym c.eq.ensures ∙ c.if-eq.true)) in
-    outcome-from_reading s.text.now s.hrp.now s.data_part.now s.is_reading.grammar c.in_ok-version.version _ c.in_ok-version.ensures
-    bech32 same c.address_by.result (rw (c.by_bech32.ensures.text, c.by_bech32.ensures.hrp, c.by_bech32.ensures.data_part) at c.address_by.ensures)
+pub characters-characters-requires : goal.characters-characters-requires
+characters-characters-requires c = room-of_version c.in_ok-version.version c.args.self.now.data_part.now c.in_ok-validate_by.ensures.data_length
 
-pub returns-else-eq : goal.returns-else-eq
-returns-else-eq c =
+pub data_of_version-requires-clause-versioned : goal.data_of_version-requires-clause-versioned
+data_of_version-requires-clause-versioned c =
+    versioned-before bech32m c.args.self.now.data_part.now c.characters-characters.result.now c.in_ok-version.version _ c.characters-characters.ensures.before c.in_ok-version.ensures c.in_ok-validate_sizes.ensures.1
+
+pub returns-in_err-validate_by : goal.returns-in_err-validate_by
+returns-in_err-validate_by c =
     let s = c.args.self.now in
-    let same = sym (ap (λ (b : Bool). cond b bech32 bech32m) (sym c.eq.ensures ∙ c.if-eq.false)) in
-    outcome-from_reading s.text.now s.hrp.now s.data_part.now s.is_reading.grammar c.in_ok-version.version _ c.in_ok-version.ensures
-    bech32m same c.address_by-else-eq.result c.address_by-else-eq.ensures
+    let p = err_from_is_err_and c.from_residual-in_err-validate_by.result c.from_residual-in_err-validate_by.ensures.1 in
+    rw p.1 (rw p.2 (refused-by_checksum s.text.now s.hrp.now s.data_part.now c.in_ok-version.version _ c.in_ok-version.ensures _ s.is_reading.grammar c.in_err-validate_by.ensures))
+
+pub returns-in_err-validate_sizes : goal.returns-in_err-validate_sizes
+returns-in_err-validate_sizes c =
+    let s = c.args.self.now in
+    let p = err_from_is_err_and c.from_residual-in_err-validate_sizes.result c.from_residual-in_err-validate_sizes.ensures.1 in
+    rw p.1 (rw p.2 (refused-by_data s.text.now s.hrp.now s.data_part.now c.in_ok-version.version _ c.in_ok-version.ensures c.in_ok-validate_by.ensures
+    c.characters-characters.result.now c.characters-characters.ensures.before _ c.in_err-validate_sizes.ensures))
+
+pub returns : goal.returns
+returns c =
+    let s = c.args.self.now in
+    outcome-from_data s.text.now s.hrp.now s.data_part.now c.in_ok-version.version _ c.in_ok-version.ensures c.in_ok-validate_by.ensures
+    c.characters-characters.result.now c.characters-characters.ensures.before
+    (versioned-before bech32m s.data_part.now c.characters-characters.result.now c.in_ok-version.version _ c.characters-characters.ensures.before c.in_ok-version.ensures c.in_ok-validate_sizes.ensures.1)
+    c.data_of_version.result (c.data_of_version.ensures _ c.in_ok-validate_sizes.ensures.0)

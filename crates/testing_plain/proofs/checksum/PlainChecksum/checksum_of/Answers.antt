@@ -3,13 +3,13 @@ use Rattle.bech32_gf.specs.Fe32.{ops}
 use Rattle.bech32_gf.specs.declared.gf32.Fe32.{Fe32}
 use Rattle.bech32_poly.specs.Remainder.{IsRemainder}
 use Rattle.bech32_checksum.specs.TextPolynomial.{IsChecksumOf, text_polynomial}
-use Rattle.testing_plain.specs.PlainChecksum.{code_of_name}
+use Rattle.testing_plain.specs.PlainChecksum.{code_of_plain}
 use Rattle.testing_plain.proofs.Checksums.{is_checksum}
 use Rattle.testing_plain.proofs.checksum.PlainChecksum.checksum_of.Goals as goal
 
 pub returns : goal.returns
 returns c =
-    let code = code_of_name c.args.self in
+    let code = code_of_plain c.args.self in
     let hrp = c.args.hrp.now in
     let elements = c.args.elements.now in
     let rest : List Fe32 = c.in_ok-rest.rest.items in

@@ -6,15 +6,15 @@ use Rattle.bech32_gf.specs.declared.gf32.Fe32.{Fe32}
 use Rattle.bech32_poly.specs.Remainder.{IsRemainder}
 use Rattle.bech32_poly.proofs.Remainder.{remainder_unique}
 use lib.Pointwise.{pointwise_decides}
-use Rattle.testing_plain.specs.PlainChecksum.{code_of_name}
+use Rattle.testing_plain.specs.PlainChecksum.{code_of_plain}
 use Rattle.testing_plain.proofs.checksum.PlainChecksum.has_target.Goals as goal
 
 pub returns : goal.returns
 returns c =
-    let low : List Fe32 = (code_of_name c.args.self).generator in
+    let low : List Fe32 = (code_of_plain c.args.self).generator in
     let p : List Fe32 = c.args.polynomial.now in
     let rest : List Fe32 = c.in_ok-rest.rest.items in
-    let target : List Fe32 = (code_of_name c.args.self).target in
+    let target : List Fe32 = (code_of_plain c.args.self).target in
     let left : IsRemainder fe32.ops low p rest = rw c.generator.ensures at c.in_ok-rest.ensures in
     let test = pointwise_decides (λ (x y : Fe32). (λ h. fe32.path x y (eqb-true x.value y.value h), λ e. eq-eqb x.value y.value (ap (λ (z : Fe32). z.value) e))) c.as_slice.result.now c.as_slice-2.result.now in (
       λ h. subst (IsRemainder fe32.ops low p) (sym c.as_slice.ensures.value ∙ test.0 (sym c.eq.ensures ∙ h) ∙ c.as_slice-2.ensures ∙ c.target-target.ensures) left,

@@ -7,7 +7,7 @@ use Rattle.bech32_poly.specs.Polynomial.{appended}
 use Rattle.bech32_checksum.specs.Code.{IsResidueOf}
 use Rattle.bech32_checksum.proofs.ResidueRuns.{residue_then}
 use Rattle.bech32_calls.proofs.Runs.{other_among}
-use Rattle.bech32_calls.proofs.engine.residue_of.Goals as goal
+use Rattle.bech32_calls.proofs.engine.remainder_of_values.Goals as goal
 
 pub returns-in_err-input_each : goal.returns-in_err-input_each
 returns-in_err-input_each g c =

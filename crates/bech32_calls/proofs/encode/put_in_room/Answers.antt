@@ -2,7 +2,7 @@ use Rattle.std.proofs.Common.{◌++◌, arith, option_to_list}
 use Rattle.bech32_bits.specs.Bits.{to_fes}
 use Rattle.bech32_encode.proofs.TextPieces.{put_whole}
 use Rattle.bech32_checksum.proofs.Uniqueness.{length-encoded}
-use Rattle.bech32_calls.proofs.encode.put_text.Goals as goal
+use Rattle.bech32_calls.proofs.encode.put_in_room.Goals as goal
 
 pub returns : goal.returns
 returns g c =

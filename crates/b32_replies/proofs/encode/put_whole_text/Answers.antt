@@ -4,7 +4,7 @@ use Rattle.bech32_hrp.specs.HrpBytes.{hrp_bytes}
 use Rattle.bech32_checksum.specs.Encoded.{IsEncodedText}
 use Rattle.bech32_checksum.proofs.Uniqueness.{length-encoded}
 use Rattle.b32_replies.proofs.Sizes.{put_exactly}
-use Rattle.b32_replies.proofs.encode.put_text.Goals as goal
+use Rattle.b32_replies.proofs.encode.put_whole_text.Goals as goal
 
 pub returns : goal.returns
 returns g c =
