@@ -2,6 +2,4 @@
 #![tactic(auto)]
 
 #[cfg(test)]
-mod replies;
-#[cfg(test)]
-mod runs;
+mod tests;

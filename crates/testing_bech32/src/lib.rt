@@ -2,20 +2,4 @@
 #![tactic(auto)]
 
 #[cfg(test)]
-mod compare;
-#[cfg(test)]
-mod correction;
-#[cfg(test)]
-mod messages;
-#[cfg(test)]
-pub mod paths;
-#[cfg(test)]
-mod plain;
-#[cfg(test)]
-mod root;
-#[cfg(test)]
-mod segwit;
-#[cfg(test)]
-mod walks;
-#[cfg(test)]
-mod writers;
+mod tests;

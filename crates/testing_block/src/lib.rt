@@ -2,10 +2,4 @@
 #![tactic(auto)]
 
 #[cfg(test)]
-mod blocks;
-#[cfg(test)]
-mod declared;
-#[cfg(test)]
-mod memory;
-#[cfg(test)]
-mod messages;
+mod tests;

@@ -1,2 +1,3 @@
 pub mod Iterators
 pub mod Seven
+pub mod TestWords

@@ -1,7 +1,13 @@
-//! What tests share: iterators, an allocator that refuses, and a field of their own.
+//! What tests share: comparisons, iterators, an allocator that refuses, and a field and checksums
+//! of their own.
 #![tactic(auto)]
 
 pub mod code;
+pub mod codes;
+pub mod compare;
+pub mod heaps;
 pub mod iterators;
+pub mod known;
 pub mod memory;
 pub mod seven;
+pub mod writers;

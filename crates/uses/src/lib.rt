@@ -3,24 +3,6 @@
 //! have.
 #![tactic(auto)]
 
-#[cfg(test)]
-mod addresses;
 pub mod callers;
 #[cfg(test)]
-mod codex;
-#[cfg(test)]
-mod compare;
-#[cfg(test)]
-mod corrections;
-#[cfg(test)]
-mod front;
-#[cfg(test)]
-mod lazy;
-#[cfg(test)]
-mod long_codex32;
-#[cfg(test)]
-mod own_checksum;
-#[cfg(test)]
-mod parts;
-#[cfg(test)]
-mod readers;
+mod tests;

@@ -8,7 +8,8 @@ use bech32_checksum::{Bech32, Bech32m, Checksum};
 use bech32_corrector::{CorrectableError, Corrector, ErrorIterator};
 use bech32_decode::CheckedHrpstring;
 use std::alloc::{AllocError, Global};
-use testing_codes::Degree13;
+use testing_tools::codes::Degree13;
+use testing_tools::compare::are_below;
 
 // The numbers of a word, and none for `-`.
 fn numbers(alloc: Global, word: &str) -> Result<Vec<usize>, AllocError> {
@@ -31,18 +32,6 @@ fn corrector_of<Ck: Checksum>(alloc: Global, text: &str, window: &str) -> Option
     error.correction_context_within::<Ck, Global>(alloc, window)
 }
 
-// Whether all locations are below the window.
-fn are_below(places: &[usize], window: usize) -> bool
-    ensures { IsTrue result → AllByRecursion (λ i. i < window) places.now }
-{
-    for place in places {
-        if *place >= window {
-            return false;
-        }
-    }
-    true
-}
-
 // Each location with its value.
 fn shown(alloc: Global, errors: ErrorIterator) -> Result<String, AllocError> {
     let mut text = String::new(alloc);
@@ -61,74 +50,59 @@ fn listed<Ck: Checksum>(alloc: Global, corrector: &Corrector<Ck>) -> Result<Stri
     }
 }
 
-// What a corrector lists with erasures. That it fits in memory is known at once of one over a
-// checksum that is named, so each has functions for itself.
-fn listed_by_bech32(
+// Whether all locations are below the window of a corrector.
+fn are_within<Ck: Checksum>(places: &[usize], corrector: &Corrector<Ck>) -> bool
+    ensures { IsTrue result → AllByRecursion (λ i. i < corrector.now.window) places.now }
+{
+    are_below(places, corrector.window())
+}
+
+// What a corrector lists with erasures.
+fn listed_with<Ck: Checksum>(
     alloc: Global,
-    corrector: &mut Corrector<Bech32>,
+    corrector: &mut Corrector<Ck>,
     erasures: &[usize],
 ) -> Result<String, AllocError> {
-    if !are_below(erasures, corrector.window()) {
+    if !are_within(erasures, corrector) {
         return no_row(alloc);
     }
     corrector.add_erasures(erasures)?;
     listed(alloc, corrector)
 }
 
-fn listed_by_bech32m(
+// The same with the erasures of a word.
+fn listed_with_word<Ck: Checksum>(
     alloc: Global,
-    corrector: &mut Corrector<Bech32m>,
-    erasures: &[usize],
+    corrector: &mut Corrector<Ck>,
+    list: &str,
 ) -> Result<String, AllocError> {
-    if !are_below(erasures, corrector.window()) {
-        return no_row(alloc);
-    }
-    corrector.add_erasures(erasures)?;
-    listed(alloc, corrector)
+    let erasures = numbers(alloc, list)?;
+    listed_with(alloc, corrector, &erasures)
 }
 
-fn listed_by_codex32(
+// What a row gives by the corrector of its text, where there is one.
+fn reply_of<Ck: Checksum>(
     alloc: Global,
-    corrector: &mut Corrector<Degree13>,
-    erasures: &[usize],
+    found: Option<Corrector<Ck>>,
+    erasures: &str,
 ) -> Result<String, AllocError> {
-    if !are_below(erasures, corrector.window()) {
-        return no_row(alloc);
-    }
-    corrector.add_erasures(erasures)?;
-    listed(alloc, corrector)
-}
-
-fn reply_of_bech32(alloc: Global, words: &[&str]) -> Result<String, AllocError> {
-    let erasures = numbers(alloc, word(words, 3))?;
-    match corrector_of::<Bech32>(alloc, word(words, 2), word(words, 4)) {
-        Some(mut corrector) => listed_by_bech32(alloc, &mut corrector, &erasures),
-        None => no_row(alloc),
-    }
-}
-
-fn reply_of_bech32m(alloc: Global, words: &[&str]) -> Result<String, AllocError> {
-    let erasures = numbers(alloc, word(words, 3))?;
-    match corrector_of::<Bech32m>(alloc, word(words, 2), word(words, 4)) {
-        Some(mut corrector) => listed_by_bech32m(alloc, &mut corrector, &erasures),
-        None => no_row(alloc),
-    }
-}
-
-fn reply_of_codex32(alloc: Global, words: &[&str]) -> Result<String, AllocError> {
-    let erasures = numbers(alloc, word(words, 3))?;
-    match corrector_of::<Degree13>(alloc, word(words, 2), word(words, 4)) {
-        Some(mut corrector) => listed_by_codex32(alloc, &mut corrector, &erasures),
+    match found {
+        Some(mut corrector) => listed_with_word(alloc, &mut corrector, erasures),
         None => no_row(alloc),
     }
 }
 
 /// What a row of a checksum, a text, erasures and a window gives.
 pub fn reply(alloc: Global, words: &[&str]) -> Result<String, AllocError> {
+    let (text, list, window) = (word(words, 2), word(words, 3), word(words, 4));
     match word(words, 1) {
-        "Bech32" => reply_of_bech32(alloc, words),
-        "Bech32m" => reply_of_bech32m(alloc, words),
-        "Codex32" => reply_of_codex32(alloc, words),
+        "Bech32" => reply_of(alloc, corrector_of::<Bech32>(alloc, text, window), list),
+        "Bech32m" => reply_of(alloc, corrector_of::<Bech32m>(alloc, text, window), list),
+        "Codex32" => reply_of(
+            alloc,
+            corrector_of::<Degree13<93>>(alloc, text, window),
+            list,
+        ),
         _ => no_row(alloc),
     }
 }

@@ -1,0 +1,3 @@
+mod compare;
+mod replies;
+mod runs;

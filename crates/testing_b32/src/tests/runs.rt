@@ -1,0 +1,243 @@
+ghost use Rattle.std.specs.Prelude.{◌<◌};
+
+use crate::tests::compare::same;
+use b32_replies::error::RunError;
+use b32_replies::run::run;
+use std::alloc::Global;
+use std::cell::Cell;
+use std::io;
+use std::process::Abort;
+use testing_tools::compare::shown;
+use testing_tools::writers::Narrow;
+
+// Gives `left`, `step` bytes a call, and fails in place of the byte at `room`.
+#[derive(Drop)]
+struct Faulty<'a> {
+    left: &'a [u8],
+    room: usize,
+    step: usize,
+    ghost moves: { 0 < step },
+}
+
+impl<'a> io::Read for Faulty<'a> {
+    ghost use Rattle.std.specs.Prelude.{Some};
+
+    ghost remaining = { λ r. Some r.left.now };
+
+    fn read(&mut self, buf: &mut [u8]) -> io::Result<usize> {
+        let n = buf.len().min(self.step).min(self.left.len());
+        if n == 0 {
+            return Ok(0);
+        }
+        if self.room < n {
+            return Err(io::Error::from(io::ErrorKind::Other));
+        }
+        self.room -= n;
+        buf[..n].copy_from_slice(&self.left[..n]);
+        self.left = &self.left[n..];
+        Ok(n)
+    }
+}
+
+// Lines of all commands, and some that are none; the last has no end.
+const INPUT: &[u8] = b"encode bech32 a -\nencode bech32m a 880000\ndecode a12uel5l\n\
+segwit-encode bc 16 751e\nsegwit-decode BC1SW50QGDZ25J\ncorrect bech32 a12uel5q 3\nx\n\ndecode";
+
+// The replies to them.
+const OUTPUT: &[u8] = b"ok a12uel5l\nok a13qqqq9qz88s\nok a -\n\
+ok bc1sw50qgdz25j\nok bc 16 751e\nok 3:q 0:l a12uel5l\nerr 3\nerr 3\nerr 3\n";
+
+// The replies to the lines that end in a front of the input.
+fn answered(front: &[u8]) -> &'static [u8] {
+    let mut lines = 0usize;
+    for b in front {
+        if *b == b'\n' {
+            lines = lines.saturating_add(1);
+        }
+    }
+    for i in 0..OUTPUT.len() {
+        if lines == 0 {
+            return &OUTPUT[..i];
+        }
+        if OUTPUT[i] == b'\n' {
+            lines = lines.saturating_sub(1);
+        }
+    }
+    OUTPUT
+}
+
+#[test]
+fn empty_input(rt: HostRuntime) {
+    let mut input = b"".as_slice();
+    let mut out = Vec::new(rt.alloc());
+    let outcome = run(rt.alloc(), &mut input, &mut out);
+    same(&rt, &(outcome, out.as_slice()), &(Ok(()), b"".as_slice()));
+}
+
+#[test]
+fn ends_are_printed(rt: HostRuntime) {
+    for (error, want) in [
+        (RunError::Read, "b32: reading failed"),
+        (RunError::Write, "b32: writing failed"),
+        (RunError::Memory, "b32: no memory"),
+    ] {
+        same(&rt, &shown(rt.alloc(), &error).as_str(), &want);
+    }
+}
+
+#[test]
+fn ends_of_any_program_are_printed(rt: HostRuntime) {
+    for (error, want) in [
+        (line_program::RunError::Read, "reading failed"),
+        (line_program::RunError::Write, "writing failed"),
+        (line_program::RunError::Memory, "out of memory"),
+    ] {
+        same(&rt, &shown(rt.alloc(), &error).as_str(), &want);
+    }
+}
+
+// What a run over the input is to answer and to write where the read of the byte at `room` fails.
+fn after_reading(room: usize) -> (Result<(), RunError>, &'static [u8]) {
+    if room < INPUT.len() {
+        (Err(RunError::Read), answered(&INPUT[..room]))
+    } else {
+        (Ok(()), OUTPUT)
+    }
+}
+
+// Fails where it does not.
+fn reads(rt: &impl Abort, alloc: Global, room: usize) {
+    let mut reader = Faulty {
+        left: INPUT,
+        room,
+        step: 1,
+    };
+    let mut out = Vec::new(alloc);
+    let outcome = run(alloc, &mut reader, &mut out);
+    let (want, replies) = after_reading(room);
+    same(rt, &(room, outcome, out.as_slice()), &(room, want, replies));
+}
+
+#[test]
+fn reads_that_fail(rt: HostRuntime) {
+    for room in 0..=INPUT.len() {
+        reads(&rt, rt.alloc(), room);
+    }
+}
+
+// What a run over the input is to answer where no more than `room` bytes can be written.
+fn after_writing(room: usize) -> Result<(), RunError> {
+    if room < OUTPUT.len() {
+        Err(RunError::Write)
+    } else {
+        Ok(())
+    }
+}
+
+// Fails where it does not, or writes other than the first so many bytes.
+fn writes(rt: &impl Abort, alloc: Global, room: usize) {
+    let mut reader = INPUT;
+    let mut writer = Narrow {
+        got: Vec::new(alloc),
+        room,
+        step: 4,
+        stuck: false,
+    };
+    let outcome = run(alloc, &mut reader, &mut writer);
+    let (front, _) = OUTPUT.split_at(room.min(OUTPUT.len()));
+    same(
+        rt,
+        &(room, outcome, writer.got.as_slice()),
+        &(room, after_writing(room), front),
+    );
+}
+
+#[test]
+fn writes_that_fail(rt: HostRuntime) {
+    for room in 0..=OUTPUT.len() {
+        writes(&rt, rt.alloc(), room);
+    }
+}
+
+// Fails where a run is not told of the flush that fails, whether reading fails at `room` or not.
+fn flushes(rt: &impl Abort, alloc: Global, room: usize) {
+    let mut reader = Faulty {
+        left: INPUT,
+        room,
+        step: 1,
+    };
+    let mut writer = Narrow {
+        got: Vec::new(alloc),
+        room: 1000,
+        step: 1000,
+        stuck: true,
+    };
+    let outcome = run(alloc, &mut reader, &mut writer);
+    same(rt, &(room, outcome), &(room, Err(RunError::Write)));
+}
+
+#[test]
+fn flushes_that_fail(rt: HostRuntime) {
+    for room in [0, 30, 1000] {
+        flushes(&rt, rt.alloc(), room);
+    }
+}
+
+// Gives `left`, a few bytes a call, and notes a read before which the replies to all lines that
+// ended were not written.
+#[derive(Drop)]
+struct Looking<'a> {
+    left: &'a [u8],
+    written: &'a Cell<usize>,
+    is_late: &'a Cell<bool>,
+}
+
+impl<'a> io::Read for Looking<'a> {
+    fn read(&mut self, buf: &mut [u8]) -> io::Result<usize> {
+        let given = INPUT.len().saturating_sub(self.left.len());
+        let front = INPUT.get(..given).unwrap_or(INPUT);
+        if self.written.get() != answered(front).len() {
+            self.is_late.set(true);
+        }
+        let n = buf.len().min(7).min(self.left.len());
+        buf[..n].copy_from_slice(&self.left[..n]);
+        self.left = &self.left[n..];
+        Ok(n)
+    }
+}
+
+// Counts the bytes that are written.
+#[derive(Drop)]
+struct Counted<'a> {
+    written: &'a Cell<usize>,
+}
+
+impl<'a> io::Write for Counted<'a> {
+    fn write(&mut self, buf: &[u8]) -> io::Result<usize> {
+        self.written
+            .set(self.written.get().saturating_add(buf.len()));
+        Ok(buf.len())
+    }
+
+    fn flush(&mut self) -> io::Result<()> {
+        Ok(())
+    }
+}
+
+#[test]
+fn replies_before_each_further_read(rt: HostRuntime) {
+    let written = Cell::new(0usize);
+    let is_late = Cell::new(false);
+    let mut reader = Looking {
+        left: INPUT,
+        written: &written,
+        is_late: &is_late,
+    };
+    let mut writer = Counted { written: &written };
+    let outcome = run(rt.alloc(), &mut reader, &mut writer);
+    same(
+        &rt,
+        &(outcome, is_late.get(), written.get()),
+        &(Ok(()), false, OUTPUT.len()),
+    );
+}

@@ -1,0 +1,156 @@
+//! Every item stands under the path that it has in the Rust crate, and is what its name says.
+
+use self::primitives::correction::{Correction, bech32_listing, bech32m_listing};
+use crate::tests::compare::same;
+use std::alloc::Global;
+use std::process::Abort;
+
+pub mod root {
+    pub use bech32::{
+        Bech32, Bech32m, ByteIterExt, Checksum, CorrectableError, DecodeError, EncodeError,
+        EncodeIoError, Fe32, Fe32IterExt, Fe1024, Fe32768, Hrp, NoChecksum, PrintImpl, decode,
+        encode, encode_lower, encode_lower_to_fmt, encode_lower_to_writer, encode_to_fmt,
+        encode_to_writer, encode_upper, encode_upper_to_fmt, encode_upper_to_writer,
+        encoded_length,
+    };
+}
+
+pub mod hrp {
+    pub use bech32::hrp::{BC, BCRT, Hrp, TB};
+}
+
+pub mod segwit {
+    pub use bech32::segwit::{
+        DecodeError, EncodeError, VERSION_0, VERSION_1, decode, encode,
+        encode_lower_to_fmt_unchecked, encode_lower_to_writer_unchecked, encode_to_fmt_unchecked,
+        encode_to_writer_unchecked, encode_upper_to_fmt_unchecked,
+        encode_upper_to_writer_unchecked, encode_v0, encode_v1, encoded_length,
+    };
+}
+
+pub mod primitives {
+    pub use bech32::primitives::{
+        Bech32, Bech32Field, Bech32m, ExtensionField, Field, MultiplicativeOrder,
+        NO_ALLOC_MAX_LENGTH, NoChecksum, Powers, PowersRange,
+    };
+
+    pub mod checksum {
+        pub use bech32::primitives::checksum::{
+            Bech32, Bech32m, Checksum, Engine, HrpFe32Iter, NamedField, NoChecksum, PackedFe32,
+            PackedNull, PrintError, PrintImpl, detects_four, detects_four_in,
+        };
+    }
+
+    pub mod correction {
+        pub use bech32::primitives::correction::{
+            CorrectableError, Correction, Corrector, ErrorIterator, MAX_DEGREE,
+            NO_ALLOC_MAX_LENGTH, bech32_listing, bech32m_listing,
+        };
+    }
+
+    pub mod decode {
+        pub use bech32::primitives::decode::{
+            AsciiToFe32Iter, ByteIter, CharError, CheckedHrpstring, CheckedHrpstringError,
+            ChecksumError, CodeLengthError, InvalidResidueError, MAX_DEGREE, PaddingError,
+            SegwitCodeLengthError, SegwitHrpstring, SegwitHrpstringError, UncheckedHrpstring,
+            UncheckedHrpstringError,
+        };
+    }
+
+    pub mod device {
+        pub use bech32::primitives::device::{ByteSink, ByteSource, FmtSink, Watched};
+    }
+
+    pub mod encode {
+        pub use bech32::primitives::encode::{
+            ByteIter, CharIter, Encoder, Fe32Iter, WitnessVersionIter,
+        };
+    }
+
+    pub mod gf32 {
+        pub use bech32::primitives::gf32::{AlphaIter, Fe32, FromCharError, TryFromError};
+    }
+
+    pub mod gf32_ext {
+        pub use bech32::primitives::gf32_ext::{Fe32Ext, Fe1024, Fe32768};
+    }
+
+    pub mod hrp {
+        pub use bech32::primitives::hrp::{
+            BC, BCRT, ByteIter, CharIter, Error, Hrp, HrpSink, LowercaseByteIter,
+            LowercaseCharIter, TB,
+        };
+    }
+
+    pub mod iter {
+        pub use bech32::primitives::iter::{
+            ByteIterExt, BytesToFes, Checksummed, Fe32IterExt, FesToBytes,
+        };
+    }
+
+    pub mod segwit {
+        pub use bech32::primitives::segwit::{
+            InvalidWitnessVersionError, MAX_STRING_LENGTH, VERSION_0, VERSION_1,
+            WitnessLengthError, is_valid_witness_program_length, is_valid_witness_version,
+            validate_witness_program_length, validate_witness_version,
+        };
+    }
+}
+
+// Fails where a checksum's text of the part `a` and no bytes is another one.
+fn encodes<Ck: root::Checksum>(rt: &impl Abort, alloc: Global, want: &str) {
+    let part = root::Hrp::parse("a").expect(rt, "a part");
+    let text = root::encode::<Ck>(alloc, part, &[]).expect(rt, "a text");
+    same(rt, &text.as_str(), &want);
+}
+
+// The texts are test vectors of BIP-173 and BIP-350.
+#[test]
+fn checksums_by_each_path(rt: HostRuntime) {
+    let alloc = rt.alloc();
+    encodes::<root::Bech32>(&rt, alloc, "a12uel5l");
+    encodes::<primitives::Bech32>(&rt, alloc, "a12uel5l");
+    encodes::<primitives::checksum::Bech32>(&rt, alloc, "a12uel5l");
+    encodes::<root::Bech32m>(&rt, alloc, "a1lqfn3a");
+    encodes::<primitives::Bech32m>(&rt, alloc, "a1lqfn3a");
+    encodes::<primitives::checksum::Bech32m>(&rt, alloc, "a1lqfn3a");
+    encodes::<root::NoChecksum>(&rt, alloc, "a1");
+    encodes::<primitives::NoChecksum>(&rt, alloc, "a1");
+    encodes::<primitives::checksum::NoChecksum>(&rt, alloc, "a1");
+}
+
+// Each listing accepts the text of its own checksum, and not that of the other.
+#[test]
+fn listings_by_each_path(rt: HostRuntime) {
+    for (text, by_bech32, by_bech32m) in [("a12uel5l", true, false), ("a1lqfn3a", false, true)] {
+        let found = (
+            text,
+            matches!(bech32_listing(text, &[]), Ok(Correction::Accepted)),
+            matches!(bech32m_listing(text, &[]), Ok(Correction::Accepted)),
+        );
+        same(&rt, &found, &(text, by_bech32, by_bech32m));
+    }
+}
+
+#[test]
+fn sizes_by_each_path(rt: HostRuntime) {
+    same(&rt, &primitives::NO_ALLOC_MAX_LENGTH, &7);
+    same(&rt, &primitives::correction::NO_ALLOC_MAX_LENGTH, &7);
+    same(&rt, &primitives::correction::MAX_DEGREE, &25);
+    same(&rt, &primitives::decode::MAX_DEGREE, &25);
+    same(&rt, &primitives::segwit::MAX_STRING_LENGTH, &90);
+}
+
+#[test]
+fn parts_by_each_path(rt: HostRuntime) {
+    for (part, want) in [
+        (hrp::BC, "bc"),
+        (hrp::TB, "tb"),
+        (hrp::BCRT, "bcrt"),
+        (primitives::hrp::BC, "bc"),
+        (primitives::hrp::TB, "tb"),
+        (primitives::hrp::BCRT, "bcrt"),
+    ] {
+        same(&rt, &part.as_str(), &want);
+    }
+}

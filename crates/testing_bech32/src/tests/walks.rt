@@ -1,0 +1,63 @@
+//! Texts that one walk reads, and texts of which it says nothing.
+
+use crate::tests::compare::same;
+use bech32::primitives::decode::CheckedHrpstring;
+use bech32::{Bech32, Bech32m};
+use bech32_decode::Reading;
+
+// Whether one walk reads a text that Bech32 accepts.
+fn is_read(text: &str) -> bool {
+    match Reading::<Bech32>::of(text.as_bytes()) {
+        Some(reading) => reading.validate().is_ok(),
+        None => false,
+    }
+}
+
+// The same by Bech32m.
+fn is_read_by_bech32m(text: &str) -> bool {
+    match Reading::<Bech32m>::of(text.as_bytes()) {
+        Some(reading) => reading.validate().is_ok(),
+        None => false,
+    }
+}
+
+// Valid texts of BIP-173.
+#[test]
+fn texts_are_read(rt: HostRuntime) {
+    same(&rt, &is_read("A12UEL5L"), &true);
+    same(&rt, &is_read("a12uel5l"), &true);
+    let text = "abcdef1qpzry9x8gf2tvdw0s3jn54khce6mua7lmqqqxw";
+    same(&rt, &is_read(text), &true);
+    let text = "split1checkupstagehandshakeupstreamerranterredcaperred2y9e3w";
+    same(&rt, &is_read(text), &true);
+    same(&rt, &is_read("?1ezyfcl"), &true);
+}
+
+// Valid texts of BIP-350.
+#[test]
+fn texts_are_read_by_bech32m(rt: HostRuntime) {
+    same(&rt, &is_read_by_bech32m("A1LQFN3A"), &true);
+    same(&rt, &is_read_by_bech32m("a1lqfn3a"), &true);
+    let text = "abcdef1l7aum6echk45nj3s0wdvt2fg8x9yrzpqzd3ryx";
+    same(&rt, &is_read_by_bech32m(text), &true);
+    same(&rt, &is_read_by_bech32m("?1v759aa"), &true);
+}
+
+// A part with a `1` in it is read by the rules alone.
+#[test]
+fn two_separators_are_not_read(rt: HostRuntime) {
+    let text =
+        "11qqqqqqqqqqqqqqqqqqqqqqqqqqqqqqqqqqqqqqqqqqqqqqqqqqqqqqqqqqqqqqqqqqqqqqqqqqqqqqqqqqc8247j";
+    same(&rt, &is_read(text), &false);
+    same(&rt, &CheckedHrpstring::new::<Bech32>(text).is_ok(), &true);
+}
+
+#[test]
+fn faults_are_not_read(rt: HostRuntime) {
+    same(&rt, &is_read("a12UEL5L"), &false);
+    same(&rt, &is_read("a12uel5b"), &false);
+    same(&rt, &is_read("a12ubl5l"), &false);
+    same(&rt, &is_read("12uel5l"), &false);
+    same(&rt, &is_read("pzry9x0s0muk"), &false);
+    same(&rt, &is_read(""), &false);
+}

@@ -1,0 +1,8 @@
+//! The writers of `bech32` and of `bech32::segwit`.
+
+mod bytes;
+mod forms;
+mod given;
+mod known;
+mod messages;
+mod texts;

@@ -1,0 +1,281 @@
+use super::forms::{FORMS, Form, Given, to_writer, written};
+use super::given::{
+    Check, Writes, behind_each_part, fronts, known_address, known_addresses, known_texts,
+    long_address, of_each_length, of_each_version, part,
+};
+use super::known::{DATA, KINDS};
+use crate::tests::compare::{same, same_items};
+use bech32::segwit::VERSION_0;
+use bech32::{Bech32m, EncodeIoError, encode_to_writer};
+use std::alloc::Global;
+use std::io;
+use std::process::Abort;
+
+// Takes at most `step` bytes a call and `room` in all, and fails from then on, by `Ok(0)` where it
+// has no error to return. Counts the calls, those of them that failed, and the flushes.
+#[derive(Drop)]
+struct Narrow {
+    got: Vec<u8>,
+    room: usize,
+    step: usize,
+    error: Option<io::Error>,
+    calls: usize,
+    failures: usize,
+    flushes: usize,
+}
+
+impl Narrow {
+    fn new(alloc: Global, room: usize, step: usize, error: Option<io::Error>) -> Narrow {
+        Narrow {
+            got: Vec::new(alloc),
+            room,
+            step,
+            error,
+            calls: 0,
+            failures: 0,
+            flushes: 0,
+        }
+    }
+}
+
+impl io::Write for Narrow {
+    fn write(&mut self, buf: &[u8]) -> io::Result<usize> {
+        self.calls = self.calls.saturating_add(1);
+        if self.got.len() >= self.room {
+            self.failures = self.failures.saturating_add(1);
+            return match self.error {
+                Some(error) => Err(error),
+                None => Ok(0),
+            };
+        }
+        let left = self.room - self.got.len();
+        let n = buf.len().min(self.step).min(left);
+        self.got.extend_from_slice(&buf[..n])?;
+        Ok(n)
+    }
+
+    fn flush(&mut self) -> io::Result<()> {
+        self.flushes = self.flushes.saturating_add(1);
+        Ok(())
+    }
+}
+
+// Takes nothing at its first call, returns `first` or else `Ok(0)`, and would take all from then
+// on.
+#[derive(Drop)]
+struct Late {
+    calls: usize,
+    flushes: usize,
+    first: Option<io::ErrorKind>,
+}
+
+impl io::Write for Late {
+    fn write(&mut self, buf: &[u8]) -> io::Result<usize> {
+        self.calls = self.calls.saturating_add(1);
+        if self.calls > 1 {
+            return Ok(buf.len());
+        }
+        match self.first {
+            Some(kind) => Err(io::Error::from(kind)),
+            None => Ok(0),
+        }
+    }
+
+    fn flush(&mut self) -> io::Result<()> {
+        self.flushes = self.flushes.saturating_add(1);
+        Ok(())
+    }
+}
+
+// What kind of error the writer returned, `None` for a text that is too long.
+fn kind(e: EncodeIoError) -> Option<io::ErrorKind> {
+    match e {
+        EncodeIoError::TooLong(_) => None,
+        EncodeIoError::Write(e) => Some(e.kind()),
+    }
+}
+
+enum InVec {}
+
+impl Writes for InVec {
+    fn writes(rt: &impl Abort, alloc: Global, form: Form, given: &Given<'_>, want: &str) {
+        let mut bytes = Vec::new(alloc);
+        let outcome = to_writer(form, &mut bytes, given).map_err(kind);
+        same(rt, &(form, outcome), &(form, Ok(())));
+        same_items(rt, &bytes, want.as_bytes());
+    }
+}
+
+#[test]
+fn known_texts_to_a_vec(rt: HostRuntime) {
+    known_texts::<InVec>(&rt, rt.alloc());
+}
+
+#[test]
+fn nothing_is_written_of_a_long_text(rt: HostRuntime) {
+    let hrp = part(&rt, "abcde");
+    let mut bytes = Vec::new(rt.alloc());
+    let outcome = encode_to_writer::<Bech32m, Vec<u8>>(&mut bytes, hrp, &[0; 632]).map_err(kind);
+    same(&rt, &(outcome, bytes.len()), &(Err(None), 0));
+}
+
+// The outcome at a writer that has room for the text, or has not.
+fn outcome_at(w: &Narrow, is_cut: bool) -> Result<(), Option<io::ErrorKind>> {
+    match w.error {
+        _ if !is_cut => Ok(()),
+        Some(error) => Err(Some(error.kind())),
+        None => Err(Some(io::ErrorKind::WriteZero)),
+    }
+}
+
+// Fails where a form does not write as far as a writer has room, goes on when it failed, tells
+// another error, flushes it, or makes a call that is for nothing.
+fn fails_behind(rt: &impl Abort, (form, given): (Form, &Given<'_>), whole: &[u8], mut w: Narrow) {
+    let outcome = to_writer(form, &mut w, given).map_err(kind);
+    let is_cut = w.room < whole.len();
+    let want = outcome_at(&w, is_cut);
+    let count = w.room.min(whole.len());
+    same(
+        rt,
+        &(
+            form,
+            w.room,
+            w.step,
+            outcome,
+            w.got.len(),
+            w.failures,
+            w.flushes,
+        ),
+        &(form, w.room, w.step, want, count, usize::from(is_cut), 0),
+    );
+    same(rt, &whole.starts_with(w.got.as_slice()), &true);
+    assert!(rt; w.calls <= count.saturating_add(w.failures));
+}
+
+// A writer that has room for all of it takes what each form writes, byte by byte and at once.
+fn takes_all(rt: &impl Abort, alloc: Global, given: &Given<'_>) {
+    for form in FORMS {
+        let whole = written(rt, alloc, form, given);
+        for step in [1usize, 2000] {
+            let w = Narrow::new(alloc, whole.len(), step, None);
+            fails_behind(rt, (form, given), &whole, w);
+        }
+    }
+}
+
+// Each byte of what a form writes fails in turn.
+fn each_byte_fails(rt: &impl Abort, alloc: Global, form: Form, given: &Given<'_>) {
+    let full = io::Error::from(io::ErrorKind::StorageFull);
+    let whole = written(rt, alloc, form, given);
+    for room in 0..=whole.len() {
+        for step in [1usize, 7, 100] {
+            let w = Narrow::new(alloc, room, step, Some(full));
+            fails_behind(rt, (form, given), &whole, w);
+        }
+    }
+}
+
+#[test]
+fn every_byte_may_fail(rt: HostRuntime) {
+    let hrp = part(&rt, "test");
+    for form in FORMS {
+        for size in 0..41usize {
+            let given = Given {
+                hrp,
+                version: VERSION_0,
+                data: &DATA[..size],
+            };
+            each_byte_fails(&rt, rt.alloc(), form, &given);
+        }
+    }
+}
+
+enum TakesAll {}
+
+impl Check for TakesAll {
+    fn check(rt: &impl Abort, alloc: Global, given: &Given<'_>) {
+        takes_all(rt, alloc, given);
+    }
+}
+
+#[test]
+fn texts_of_every_length_are_written(rt: HostRuntime) {
+    of_each_length::<TakesAll>(&rt, rt.alloc());
+}
+
+#[test]
+fn texts_behind_each_part_are_written(rt: HostRuntime) {
+    behind_each_part::<TakesAll>(&rt, rt.alloc());
+}
+
+#[test]
+fn addresses_of_each_version_are_written(rt: HostRuntime) {
+    of_each_version::<TakesAll>(&rt, rt.alloc());
+}
+
+// Fails where a late writer is called again after its first answer, or another error is told.
+fn ends_at(rt: &impl Abort, form: Form, first: Option<io::ErrorKind>, want: io::ErrorKind) {
+    let mut w = Late {
+        calls: 0,
+        flushes: 0,
+        first,
+    };
+    let outcome = to_writer(form, &mut w, &known_address()).map_err(kind);
+    same(
+        rt,
+        &(form, outcome, w.calls, w.flushes),
+        &(form, Err(Some(want)), 1, 0),
+    );
+}
+
+#[test]
+fn the_first_error_ends_the_call(rt: HostRuntime) {
+    for form in FORMS {
+        ends_at(&rt, form, None, io::ErrorKind::WriteZero);
+        for kind in KINDS {
+            ends_at(&rt, form, Some(kind), kind);
+        }
+    }
+}
+
+// The writer's error.
+fn told(outcome: Result<(), EncodeIoError>) -> Option<io::Error> {
+    match outcome {
+        Err(EncodeIoError::Write(e)) => Some(e),
+        _ => None,
+    }
+}
+
+// Fails where a form tells another error than the one that its writer returned.
+fn tells(rt: &impl Abort, alloc: Global, form: Form, error: io::Error) {
+    let mut w = Narrow::new(alloc, 5, 7, Some(error));
+    let got = told(to_writer(form, &mut w, &known_address())).expect(rt, "it fails");
+    let got = format!(in alloc; "{got:?}").expect(rt, "memory");
+    let want = format!(in alloc; "{error:?}").expect(rt, "memory");
+    same(rt, &got.as_str(), &want.as_str());
+}
+
+// A kind alone, the system's number of an error, and an error with words.
+#[test]
+fn the_error_is_the_writers_own(rt: HostRuntime) {
+    for form in FORMS {
+        for error in [
+            io::Error::from(io::ErrorKind::StorageFull),
+            io::Error::from_raw_os_error(28),
+            io::Error::new(io::ErrorKind::StorageFull, "the tape is full"),
+        ] {
+            tells(&rt, rt.alloc(), form, error);
+        }
+    }
+}
+
+#[test]
+fn unchecked_addresses_to_a_vec(rt: HostRuntime) {
+    known_addresses::<InVec>(&rt, rt.alloc());
+}
+
+#[test]
+fn unchecked_addresses_are_cut(rt: HostRuntime) {
+    fronts::<InVec>(&rt, rt.alloc());
+    each_byte_fails(&rt, rt.alloc(), Form::Address, &long_address(&rt));
+}

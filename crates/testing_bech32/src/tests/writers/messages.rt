@@ -1,0 +1,18 @@
+use crate::tests::compare::same;
+use bech32::EncodeIoError;
+use bech32::primitives::decode::CodeLengthError;
+use std::io;
+use testing_tools::compare::shown;
+
+#[test]
+fn tells_why_a_text_is_not_written(rt: HostRuntime) {
+    let too_long = EncodeIoError::TooLong(CodeLengthError {
+        encoded_length: 1024,
+        code_length: 1023,
+    });
+    let message = "encode error: encoded length 1024 exceeds maximum (code length) 1023";
+    same(&rt, &shown(rt.alloc(), &too_long).as_str(), &message);
+    let failed = EncodeIoError::Write(io::Error::from(io::ErrorKind::WriteZero));
+    let message = "encode to writer failed: write zero";
+    same(&rt, &shown(rt.alloc(), &failed).as_str(), &message);
+}

@@ -1,0 +1,5 @@
+mod blocks;
+mod compare;
+mod declared;
+mod memory;
+mod messages;

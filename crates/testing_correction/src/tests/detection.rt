@@ -1,0 +1,40 @@
+//! Whether each pattern of up to four errors is detected.
+
+use crate::tests::compare::same;
+use bech32_checksum::{Bech32, Bech32m};
+use bech32_detect::detects_four;
+use testing_tools::codes::{Degree8, Degree13, Tiny};
+
+// BIP-173, Checksum design, of Bech32; Bech32m has the same generator (BIP-350).
+#[test]
+fn in_texts_of_bech32(rt: HostRuntime) {
+    let answers = [
+        detects_four::<Bech32>(rt.alloc(), 89).ok(),
+        detects_four::<Bech32m>(rt.alloc(), 89).ok(),
+    ];
+    same(&rt, &answers, &[Some(true); 2]);
+}
+
+// Powers of x come back to 1 at the order of the roots, so two errors as far apart leave nothing.
+#[test]
+fn not_past_the_order_of_the_roots(rt: HostRuntime) {
+    let answer = detects_four::<Bech32m>(rt.alloc(), 1024).ok();
+    same(&rt, &answer, &Some(false));
+}
+
+// A generator of three terms is a multiple of itself.
+#[test]
+fn not_three_terms(rt: HostRuntime) {
+    let answers = [0, 2, 3].map(|length| detects_four::<Tiny<2>>(rt.alloc(), length).ok());
+    same(&rt, &answers, &[Some(true), Some(true), Some(false)]);
+}
+
+// Below the degree each polynomial is its own remainder.
+#[test]
+fn below_the_degree(rt: HostRuntime) {
+    let answers = [
+        detects_four::<Degree8>(rt.alloc(), 4).ok(),
+        detects_four::<Degree13<93>>(rt.alloc(), 4).ok(),
+    ];
+    same(&rt, &answers, &[Some(true); 2]);
+}

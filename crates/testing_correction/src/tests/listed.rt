@@ -1,0 +1,174 @@
+//! What is listed for residues, erasures and windows.
+
+ghost use Rattle.std.specs.Prelude.{◌<◌, IsTrue};
+ghost use Rattle.std.specs.List.{AllByRecursion};
+
+use bech32_bch::ShortVec;
+use bech32_checksum::Checksum;
+use bech32_corrector::{CorrectableError, Corrector, ErrorIterator};
+use bech32_decode::CheckedHrpstring;
+use bech32_gf::gf32::Fe32;
+use std::alloc::{Allocator, Global};
+use testing_tools::compare::are_below;
+
+/// Locations with the values to add there.
+pub type Listing<'a> = &'a [(usize, Fe32)];
+
+/// Whether all locations are below the window of a corrector.
+pub fn are_within<Ck: Checksum, A: Allocator + Copy>(
+    places: &[usize],
+    corrector: &Corrector<Ck, A>,
+) -> bool
+    ensures { IsTrue result → AllByRecursion (λ i. i < corrector.now.window) places.now }
+{
+    are_below(places, corrector.window())
+}
+
+// Whether the erasures are below the window, and there was memory for them.
+fn is_given<Ck: Checksum>(corrector: &mut Corrector<Ck>, erasures: &[usize]) -> bool {
+    if are_within(erasures, corrector) {
+        corrector.add_erasures(erasures).is_ok()
+    } else {
+        false
+    }
+}
+
+// Whether this error comes next.
+fn is_next<A: Allocator + Copy>(errors: &mut ErrorIterator<A>, want: &(usize, Fe32)) -> bool {
+    errors.next() == Some(*want)
+}
+
+/// Whether just these errors are left.
+pub fn gives<A: Allocator + Copy>(errors: &mut ErrorIterator<A>, want: Listing) -> bool {
+    for error in want.iter() {
+        if !is_next(errors, error) {
+            return false;
+        }
+    }
+    errors.next().is_none()
+}
+
+/// Whether just this was found, or nothing.
+pub fn is_found<A: Allocator + Copy>(
+    found: Option<ErrorIterator<A>>,
+    want: Option<Listing>,
+) -> bool {
+    let Some(mut errors) = found else {
+        return want.is_none();
+    };
+    match want {
+        Some(want) => gives(&mut errors, want),
+        None => false,
+    }
+}
+
+// Whether just this is listed, or nothing is; not if memory runs out.
+fn lists<Ck: Checksum>(corrector: &Corrector<Ck>, want: Option<Listing>) -> bool {
+    match corrector.bch_errors() {
+        Ok(found) => is_found(found, want),
+        Err(_) => false,
+    }
+}
+
+// The same of another corrector with these erasures; there is none where they are too many.
+fn with_lists<Ck: Checksum>(
+    corrector: &Corrector<Ck>,
+    erasures: &[usize],
+    want: Option<Listing>,
+) -> bool {
+    match corrector.with(erasures) {
+        Ok(Some(erased)) => lists(&erased, want),
+        Ok(None) => want.is_none(),
+        Err(_) => false,
+    }
+}
+
+// Whether the vector holds just this, or there is none.
+fn is_listing(found: Option<ShortVec<(usize, Fe32)>>, want: Option<Listing>) -> bool {
+    let Some(listing) = found else {
+        return want.is_none();
+    };
+    match want {
+        Some(want) => listing.as_slice() == want,
+        None => false,
+    }
+}
+
+// Whether just this is listed with these erasures in place of its own, or nothing is.
+fn lists_with<Ck: Checksum>(
+    corrector: &Corrector<Ck>,
+    erasures: &[usize],
+    want: Option<Listing>,
+) -> bool {
+    match corrector.listing_with(erasures) {
+        Ok(found) => is_listing(found, want),
+        Err(_) => false,
+    }
+}
+
+/// Whether just this is listed with these erasures, or nothing is, in each of the three ways to
+/// give them; not where there is no corrector.
+pub fn is_listed_by<Ck: Checksum>(
+    found: Option<Corrector<Ck>>,
+    erasures: &[usize],
+    want: Option<Listing>,
+) -> bool {
+    let Some(mut corrector) = found else {
+        return false;
+    };
+    with_lists(&corrector, erasures, want)
+        && lists_with(&corrector, erasures, want)
+        && is_given(&mut corrector, erasures)
+        && lists(&corrector, want)
+}
+
+// Whether just this is listed without erasures, where an error was taken off.
+fn lists_without<Ck: Checksum>(
+    corrector: &Corrector<Ck>,
+    error: (usize, Fe32),
+    want: Listing,
+) -> bool {
+    match corrector.without_error(error) {
+        Ok(left) => lists_with(&left, &[], Some(want)),
+        Err(_) => false,
+    }
+}
+
+/// Whether just this is listed without erasures, where an error is taken off a corrector with these
+/// erasures; not where there is no corrector.
+pub fn is_left_by<Ck: Checksum>(
+    found: Option<Corrector<Ck>>,
+    erasures: &[usize],
+    error: (usize, Fe32),
+    want: Listing,
+) -> bool {
+    let Some(mut corrector) = found else {
+        return false;
+    };
+    is_given(&mut corrector, erasures) && lists_without(&corrector, error, want)
+}
+
+/// The corrector of an error's residue; the window is the code length where none is given.
+pub fn corrector_of<Ck: Checksum>(
+    alloc: Global,
+    error: &impl CorrectableError,
+    window: Option<usize>,
+) -> Option<Corrector<Ck>> {
+    let window = window.unwrap_or(Ck::CODE_LENGTH);
+    if !Ck::sanity_check() || window > Ck::CODE_LENGTH {
+        return None;
+    }
+    error.correction_context_within::<Ck, Global>(alloc, window)
+}
+
+/// The corrector of a text that the checksum refuses.
+pub fn corrector_for<Ck: Checksum>(
+    alloc: Global,
+    text: &str,
+    window: Option<usize>,
+) -> Option<Corrector<Ck>> {
+    match CheckedHrpstring::new::<Ck>(text) {
+        Ok(_) => None,
+        Err(error) => corrector_of::<Ck>(alloc, &error, window),
+    }
+}

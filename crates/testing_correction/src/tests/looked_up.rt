@@ -1,0 +1,93 @@
+//! Corrections that Bech32 and Bech32m look up.
+
+use crate::tests::compare::same;
+use bech32_checksum::{Bech32, Bech32m, Checksum, Engine, PackedFe32};
+use bech32_correction::{erased_of_read, error_of_read};
+use bech32_decode::Reading;
+use bech32_gf::gf32::Fe32;
+
+// The six coefficients of a packed remainder.
+fn coefficients(residue: &u32) -> [Fe32; 6] {
+    let mut items = [Fe32::Q; 6];
+    for place in 0..6 {
+        items[place] = Fe32::from_low_bits(residue.unpack(place));
+    }
+    items
+}
+
+// What a value at a location leaves.
+fn left_by(location: usize, value: Fe32) -> u32 {
+    let mut engine = Engine::<Bech32>::zero();
+    engine.input_fe(value);
+    for place in 0..location {
+        engine.input_fe(Fe32::Q);
+    }
+    *engine.residue()
+}
+
+#[test]
+fn each_location_is_looked_up(rt: HostRuntime) {
+    for location in 0..1023 {
+        let residue = coefficients(&left_by(location, Fe32::L));
+        let found = [Bech32::one_error(&residue), Bech32m::one_error(&residue)];
+        same(&rt, &found, &[Some(Some((location, Fe32::L))); 2]);
+    }
+}
+
+#[test]
+fn two_errors_are_none(rt: HostRuntime) {
+    let residue = coefficients(&(left_by(3, Fe32::P) ^ left_by(20, Fe32::Z)));
+    same(&rt, &(Bech32::one_error(&residue) == Some(None)), &true);
+}
+
+#[test]
+fn values_at_erasures_are_looked_up(rt: HostRuntime) {
+    let one = left_by(0, Fe32::P);
+    let two = one ^ left_by(40, Fe32::Z);
+    let three = two ^ left_by(1022, Fe32::L);
+    let values = Bech32::values_at(&coefficients(&one), &[0]);
+    same(&rt, &(values == Some([Fe32::P, Fe32::Q, Fe32::Q])), &true);
+    let values = Bech32::values_at(&coefficients(&two), &[0, 40]);
+    same(&rt, &(values == Some([Fe32::P, Fe32::Z, Fe32::Q])), &true);
+    let values = Bech32m::values_at(&coefficients(&three), &[0, 40, 1022]);
+    same(&rt, &(values == Some([Fe32::P, Fe32::Z, Fe32::L])), &true);
+}
+
+// What is looked up for a text that Bech32 refuses for its residue, where there are no erasures.
+fn error_of(text: &str) -> Option<Option<(usize, Fe32)>> {
+    let reading = Reading::<Bech32>::of(text.as_bytes())?;
+    let Ok(()) = reading.validate_lengths() else {
+        return None;
+    };
+    if reading.has_target() {
+        return None;
+    }
+    error_of_read(&reading)
+}
+
+// Whether just this is looked up for such a text with these erasures.
+fn is_erased(text: &str, erasures: &[usize], want: &[(usize, Fe32)]) -> bool {
+    let Some(reading) = Reading::<Bech32>::of(text.as_bytes()) else {
+        return false;
+    };
+    let Ok(()) = reading.validate_lengths() else {
+        return false;
+    };
+    if reading.has_target() {
+        return false;
+    }
+    match erased_of_read(&reading, erasures) {
+        Some(listing) => listing.as_slice() == want,
+        None => false,
+    }
+}
+
+#[test]
+fn texts_are_looked_up(rt: HostRuntime) {
+    let (q, l) = (Fe32::Q, Fe32::L);
+    same(&rt, &(error_of("a12uel5q") == Some(Some((0, l)))), &true);
+    same(&rt, &(error_of("a12uelqq") == Some(None)), &true);
+    let two = is_erased("a12uel5q", &[1, 0], &[(1, q), (0, l)]);
+    let three = is_erased("a12uel5q", &[5, 0, 3], &[(5, q), (0, l), (3, q)]);
+    same(&rt, &(two, three), &(true, true));
+}

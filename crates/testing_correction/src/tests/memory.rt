@@ -1,0 +1,135 @@
+//! Out of memory.
+
+use super::listed::{Listing, are_within, is_found};
+use crate::tests::compare::same;
+use bech32_checksum::{Bech32, Checksum};
+use bech32_corrector::{CorrectableError, Corrector};
+use bech32_decode::CheckedHrpstring;
+use bech32_gf::gf32::Fe32;
+use linked_list_allocator::LocalHeap;
+use std::alloc::{AllocError, Global};
+use std::process::Abort;
+use testing_tools::codes::Degree13;
+use testing_tools::heaps::{InHeap, right_or_wants_memory};
+use testing_tools::known::{FOUR, FOUR_ERRORS};
+
+// Whether just this is listed, or nothing is.
+fn lists<Ck: Checksum>(
+    corrector: &Corrector<Ck, &LocalHeap>,
+    want: Option<Listing>,
+) -> Result<bool, AllocError> {
+    let found = corrector.bch_errors()?;
+    Ok(is_found(found, want))
+}
+
+// What finds the errors in a text that a checksum refuses.
+fn corrector_in<'a, Ck: Checksum>(
+    heap: &'a LocalHeap,
+    text: &str,
+) -> Option<Corrector<Ck, &'a LocalHeap>> {
+    if !Ck::sanity_check() {
+        return None;
+    }
+    match CheckedHrpstring::new::<Ck>(text) {
+        Ok(_) => None,
+        Err(error) => error.correction_context::<Ck, _>(heap),
+    }
+}
+
+// Whether just the four errors are listed.
+fn lists_four(heap: &LocalHeap) -> Result<bool, AllocError> {
+    let Some(mut corrector) = corrector_in::<Degree13<93>>(heap, FOUR_ERRORS) else {
+        return Ok(false);
+    };
+    if !are_within(&[44, 0], &corrector) {
+        return Ok(false);
+    }
+    corrector.add_erasures(&[44, 0])?;
+    lists(&corrector, Some(&FOUR))
+}
+
+struct FourErrors;
+
+impl InHeap for FourErrors {
+    fn is_right(&self, _alloc: Global, heap: &LocalHeap) -> Option<bool> {
+        lists_four(heap).ok()
+    }
+}
+
+#[test]
+fn a_listing_or_out_of_memory(rt: HostRuntime) {
+    right_or_wants_memory(rt.alloc(), &FourErrors, (64, 16)).expect(&rt, "right, or out of memory");
+}
+
+// Whether a clone lists just this, or nothing.
+fn clone_lists(
+    corrector: &Corrector<Bech32, &LocalHeap>,
+    want: Option<Listing>,
+) -> Result<bool, AllocError> {
+    lists(&corrector.clone()?, want)
+}
+
+// Whether the corrector with these erasures lists just this, or nothing; there is none where they
+// are too many.
+fn with_lists<Ck: Checksum>(
+    corrector: &Corrector<Ck, &LocalHeap>,
+    erasures: &[usize],
+    want: Option<Listing>,
+) -> Result<bool, AllocError> {
+    match corrector.with(erasures)? {
+        Some(erased) => lists(&erased, want),
+        None => Ok(want.is_none()),
+    }
+}
+
+// Addresses with two and three wrong characters.
+const ADDRESS: &str = "bc1qar0srrr7xfkvy5l64qlydnw9re59gtzzwf5mdx";
+
+const OTHER_ADDRESS: &str = "bc1q9r0srrr7xfkvy5l64qlydnw9re59gtzzwf5mdx";
+
+// The same with these erasures.
+fn is_listed(
+    heap: &LocalHeap,
+    text: &str,
+    erasures: &[usize],
+    want: Option<Listing>,
+) -> Result<bool, AllocError> {
+    let Some(mut corrector) = corrector_in::<Bech32>(heap, text) else {
+        return Ok(false);
+    };
+    if !are_within(erasures, &corrector) {
+        return Ok(false);
+    }
+    let is_first = with_lists(&corrector, erasures, want)?;
+    corrector.add_erasures(erasures)?;
+    Ok(is_first && clone_lists(&corrector, want)?)
+}
+
+#[test]
+fn six_coefficients_take_no_memory(rt: HostRuntime) {
+    let heap = LocalHeap::new(rt.alloc(), 0).expect(&rt, "memory");
+    let both = [(3, Fe32::Q), (0, Fe32::L)];
+    let rows: [(&str, &[usize], Option<Listing>); 11] = [
+        ("a12uel5q", &[], Some(&both[1..])),
+        ("a12uel5q", &[3], Some(&both)),
+        ("a12uel5q", &[3, 3], Some(&both)),
+        (
+            "a12uel5q",
+            &[0, 1, 2],
+            Some(&[(0, Fe32::L), (1, Fe32::Q), (2, Fe32::Q)]),
+        ),
+        ("a12uel5q", &[1, 2], None),
+        ("a12uel5q", &[0, 1, 2, 3], None),
+        ("a12uel5q", &[0, 1, 2, 3, 4, 5, 6], None),
+        ("b12uel5l", &[], Some(&[(6, Fe32::R)])),
+        (ADDRESS, &[], None),
+        (ADDRESS, &[0], Some(&[(0, Fe32::X), (20, Fe32::_3)])),
+        (
+            OTHER_ADDRESS,
+            &[37, 0, 20],
+            Some(&[(37, Fe32::C), (0, Fe32::X), (20, Fe32::_3)]),
+        ),
+    ];
+    let listed = rows.map(|(text, erasures, want)| is_listed(&heap, text, erasures, want).ok());
+    same(&rt, &listed, &[Some(true); 11]);
+}

@@ -1,0 +1,40 @@
+//! What a corrector prints.
+
+use super::listed::corrector_for;
+use crate::tests::compare::same;
+use bech32_checksum::{Bech32, Checksum};
+use bech32_corrector::Corrector;
+use std::alloc::{AllocError, Global};
+
+// What is printed of a corrector with these erasures; nothing where they do not suit it.
+fn printed<Ck: Checksum>(
+    alloc: Global,
+    corrector: &Corrector<Ck>,
+    erasures: &[usize],
+) -> Result<Option<String>, AllocError> {
+    match corrector.with(erasures)? {
+        Some(erased) => Ok(Some(format!(in alloc; "{erased:?}")?)),
+        None => Ok(None),
+    }
+}
+
+// The same of the corrector of a text whose last character is wrong.
+fn printed_of(alloc: Global, erasures: &[usize]) -> Option<String> {
+    let corrector = corrector_for::<Bech32>(alloc, "a12uel5q", Some(6))?;
+    printed(alloc, &corrector, erasures).ok()?
+}
+
+// The error is 31 at the last character, so the residue is that of x^0 alone.
+#[test]
+fn prints_what_contracts_see(rt: HostRuntime) {
+    let shown = printed_of(rt.alloc(), &[3, 0]).expect(&rt, "it is printed");
+    let want = "Corrector { residue: [Fe32 { value: 31 }, \
+        Fe32 { value: 0 }, Fe32 { value: 0 }, Fe32 { value: 0 }, Fe32 { value: 0 }, \
+        Fe32 { value: 0 }, Fe32 { value: 0 }, Fe32 { value: 0 }, Fe32 { value: 0 }, \
+        Fe32 { value: 0 }, Fe32 { value: 0 }, Fe32 { value: 0 }, Fe32 { value: 0 }, \
+        Fe32 { value: 0 }, Fe32 { value: 0 }, Fe32 { value: 0 }, Fe32 { value: 0 }, \
+        Fe32 { value: 0 }, Fe32 { value: 0 }, Fe32 { value: 0 }, Fe32 { value: 0 }, \
+        Fe32 { value: 0 }, Fe32 { value: 0 }, Fe32 { value: 0 }, Fe32 { value: 0 }], \
+        window: 6, erasures: [3, 0] }";
+    same(&rt, &shown.as_str(), &want);
+}

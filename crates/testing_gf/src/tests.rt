@@ -1,0 +1,11 @@
+mod compare;
+mod conversions;
+mod field;
+mod fields;
+mod fieldvec;
+mod gf32;
+mod gf32_ext;
+mod lfsr;
+mod operators;
+mod polynomial;
+mod remainder;

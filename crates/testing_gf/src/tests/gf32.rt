@@ -1,0 +1,173 @@
+use crate::tests::compare::{same, same_items};
+use bech32_gf::gf32::{Fe32, FromCharError, plain};
+use std::process::Abort;
+use testing_tools::known::ELEMENTS;
+
+// The characters of the elements, in order of their values.
+const LOWER_CASE: &[u8; 32] = b"qpzry9x8gf2tvdw0s3jn54khce6mua7l";
+
+const UPPER_CASE: &[u8; 32] = b"QPZRY9X8GF2TVDW0S3JN54KHCE6MUA7L";
+
+// At place b of row a, the character of a times b. Made twice over and equal: by a reference model
+// written from the definitions alone, and by the Rust crate bech32 0.12.0.
+const PRODUCTS: [&[u8; 32]; 32] = [
+    b"qqqqqqqqqqqqqqqqqqqqqqqqqqqqqqqq",
+    b"qpzry9x8gf2tvdw0s3jn54khce6mua7l",
+    b"qzyxg2vwsj5kc6u7ftd0pr98emal3n4h",
+    b"qrx9v02fcm7a5hj3e6lu4knspz8ydwtg",
+    b"qygvs5cufdp9ea34jk67zx2wmlnht0r8",
+    b"q920537mpytw4sl6z8gdknuerxfvhjac",
+    b"qxv2c75jel4np8dtmah3r90fzywg6uks",
+    b"q8wfumj43klcd2rytv9zhse76a5nxpg0",
+    b"qgscfpe3j6z2mntrd9a4yv5ulh08k7xw",
+    b"qfjmdylk6ngph79va50xsezt8w4u2rc3",
+    b"q257pt4lzgkurfhayws6903mxvjc8dne",
+    b"qtka9wnc2puh0yej5lzf368v74grmsdx",
+    b"qvc5e4pdmhr0zw6kln8tx27jygusa39f",
+    b"qd6has82n7fywr5e0z4cjlg9u3xtpvmk",
+    b"qwuj3ldrt9he65xgkc2y8fm4anp0vzs7",
+    b"q07346tyrvajkeg8xfchnudz92m5slwp",
+    b"qsfejzmtday5l0kx62nrgcp3h87w94vu",
+    b"q3t6k8av95wlnzcf2mpsudhx07y4egjr",
+    b"qjdl6gh9a0sz842cnp7vfmykwur35xet",
+    b"qn0u7d3z4x6ftcyhrsvlawjpk9e2gm85",
+    b"q5p4zkrhys93xj8ngufa27tlvcdew60m",
+    b"q4rkxn9sve062lfucdmw7tag5phzj83y",
+    b"qk9n2u0e5z387gmdphyjtawc4rsxlf6v",
+    b"qh8swef7utmvj94z3xkplgc0d62ar5yn",
+    b"qcepmrz6l8x7yua9h0wkv54dgs3fnt2j",
+    b"qemzlxyahwv4g3n287u9cpr6sftj0k5d",
+    b"q6a8nfw504jguxpm7yredhs23tvkzcl9",
+    b"qmlyhvgn8ucrst05w432ezxafjkd79p6",
+    b"qu3dth6xk28mapvs9e5gwjlrn0z7cyf4",
+    b"qanw0jup7rds3vzl4gxm68f5tkc9yeh2",
+    b"q74trakgxcnd9mswvje8036y25lpfhuz",
+    b"qlhg8cs0w3exfk7purt5myvnjd9642za",
+];
+
+// The powers of the element 20, from 1 on.
+const POWERS_OF_20: &[u8; 31] = b"p529kt3uw8hlmecvxr470na6djfsgyz";
+
+#[test]
+fn constants_by_name_and_value(rt: HostRuntime) {
+    for i in 0..32usize {
+        let (value, element) = (i as u8, ELEMENTS[i]);
+        let got = (element.to_u8(), Fe32::from_low_bits(value));
+        same(&rt, &got, &(value, element));
+    }
+}
+
+// Fails where the characters are not those of the elements, which are the constants (above).
+fn reads_elements(rt: &impl Abort, characters: &[u8; 32]) {
+    for i in 0..32u8 {
+        let element = Fe32::from_char(char::from(characters[i as usize]));
+        same(rt, &element, &Ok(Fe32::from_low_bits(i)));
+    }
+}
+
+#[test]
+fn alphabet_in_both_cases(rt: HostRuntime) {
+    for i in 0..32u8 {
+        let character = Fe32::from_low_bits(i).to_char();
+        same(&rt, &character, &char::from(LOWER_CASE[i as usize]));
+    }
+    reads_elements(&rt, LOWER_CASE);
+    reads_elements(&rt, UPPER_CASE);
+}
+
+// Fails where the characters of the elements give others unchecked.
+fn same_unchecked(rt: &impl Abort, characters: &[u8; 32]) {
+    for c in characters.iter() {
+        let checked = Fe32::from_char(*c as char);
+        assert!(rt; checked.is_ok());
+        same(rt, &Ok(Fe32::from_char_unchecked(*c)), &checked);
+    }
+}
+
+#[test]
+fn unchecked_characters(rt: HostRuntime) {
+    same_unchecked(&rt, LOWER_CASE);
+    same_unchecked(&rt, UPPER_CASE);
+}
+
+#[test]
+fn low_bits(rt: HostRuntime) {
+    let got = [Fe32::from_low_bits(0xff), Fe32::from_low_bits(0x34)];
+    same_items(&rt, &got, &[Fe32::L, Fe32::_5]);
+}
+
+#[test]
+fn other_characters(rt: HostRuntime) {
+    for c in ['b', 'i', 'o', '1', 'B', ' ', '\u{7f}'].iter() {
+        same(&rt, &Fe32::from_char(*c), &Err(FromCharError::Invalid(*c)));
+    }
+    for c in ['é', '\u{80}', 'ƀ', '💥'].iter() {
+        same(&rt, &Fe32::from_char(*c), &Err(FromCharError::NotAscii(*c)));
+    }
+}
+
+#[test]
+fn texts_of_refusals(rt: HostRuntime) {
+    for row in [
+        (
+            FromCharError::Invalid('b'),
+            "tried to interpret a character as a GF32 element but it is not of the alphabet: b",
+        ),
+        (
+            FromCharError::NotAscii('é'),
+            "tried to interpret a character as a GF32 element but it is not ASCII: é",
+        ),
+    ]
+    .iter()
+    {
+        let (error, want) = *row;
+        let text = error.to_string(rt.alloc()).expect(&rt, "memory");
+        same(&rt, &text.as_str(), &want);
+    }
+}
+
+// The product of two elements, as a character, and that by the definition.
+fn product(a: Fe32, b: Fe32) -> (Fe32, Fe32, char, char) {
+    (a, b, (a * b).to_char(), plain::product(a, b).to_char())
+}
+
+// Fails where a product of an element is not that of its row.
+fn same_row(rt: &impl Abort, a: Fe32, row: &[u8; 32]) {
+    for i in 0..32u8 {
+        let (b, c) = (Fe32::from_low_bits(i), char::from(row[i as usize]));
+        same(rt, &product(a, b), &(a, b, c, c));
+    }
+}
+
+#[test]
+fn all_products(rt: HostRuntime) {
+    for i in 0..32u8 {
+        same_row(&rt, Fe32::from_low_bits(i), PRODUCTS[i as usize]);
+    }
+}
+
+#[test]
+fn powers_of_20(rt: HostRuntime) {
+    let mut power = Fe32::P;
+    for c in POWERS_OF_20.iter() {
+        same(&rt, &power.to_char(), &(*c as char));
+        power *= Fe32::_5;
+    }
+    same(&rt, &power, &Fe32::P);
+}
+
+#[test]
+fn operators(rt: HostRuntime) {
+    let mut sum = Fe32::_5;
+    sum += Fe32::F;
+    let mut product = Fe32::S;
+    product *= Fe32::Z;
+    let got = [
+        Fe32::_5 + Fe32::F,
+        Fe32::L + Fe32::L,
+        Fe32::S * Fe32::Z,
+        sum,
+        product,
+    ];
+    same_items(&rt, &got, &[Fe32::A, Fe32::Q, Fe32::F, Fe32::A, Fe32::F]);
+}

@@ -1,0 +1,246 @@
+//! The extension fields at outside values.
+
+ghost use Rattle.std.specs.Prelude.{◌≢◌};
+ghost use Rattle.bech32_gf_ext.specs.Fe1024 as pairs;
+ghost use Rattle.bech32_gf_ext.specs.Fe32768 as triples;
+
+use crate::tests::compare::{same, same_items};
+use crate::tests::field::order_of;
+use crate::tests::operators::each_form;
+use bech32_gf::field::{Bech32Field, ExtensionField, Field, MultiplicativeOrder};
+use bech32_gf::gf32::Fe32;
+use bech32_gf_ext::{Fe1024, Fe32768};
+use testing_tools::code::Code;
+use testing_tools::compare::shown;
+
+#[test]
+fn orders_of_pairs(rt: HostRuntime) {
+    let x = Fe1024::new([Fe32::K, Fe32::L]);
+    let orders = [order_of(x), order_of(x.powi(3)), order_of(x.powi(341))];
+    same(&rt, &orders, &[Some(1023), Some(341), Some(3)]);
+}
+
+#[test]
+fn orders_of_triples(rt: HostRuntime) {
+    let x = Fe32768::new([Fe32::A, Fe32::C, Fe32::Q]);
+    let orders = [order_of(x), order_of(x.powi(7)), order_of(x.powi(341))];
+    same(&rt, &orders, &[Some(32767), Some(4681), Some(1057)]);
+}
+
+#[test]
+fn constants_of_pairs(rt: HostRuntime) {
+    let pairs = [Fe1024::GENERATOR, Fe1024::default(), Fe1024::POLYNOMIAL];
+    let z_squared = Fe1024::EXT_ELEM.powi(2);
+    let wanted_pairs = [
+        Fe1024::new([Fe32::P, Fe32::H]),
+        Fe1024::new([Fe32::Q, Fe32::Q]),
+        z_squared,
+    ];
+    same(&rt, &pairs, &wanted_pairs);
+}
+
+#[test]
+fn constants_of_triples(rt: HostRuntime) {
+    let triples = [Fe32768::GENERATOR, Fe32768::default(), Fe32768::POLYNOMIAL];
+    let z_cubed = Fe32768::EXT_ELEM.powi(3);
+    let wanted_triples = [
+        Fe32768::new([Fe32::A, Fe32::C, Fe32::Q]),
+        Fe32768::new([Fe32::Q, Fe32::Q, Fe32::Q]),
+        z_cubed,
+    ];
+    same(&rt, &triples, &wanted_triples);
+}
+
+#[test]
+fn inverse_of_a_pair(rt: HostRuntime) {
+    let x = Fe1024::new([Fe32::P, Fe32::X]);
+    assert!(rt; x != Fe1024::ZERO);
+    let inverse = Fe1024::new([Fe32::_7, Fe32::F]);
+    same(&rt, &x.multiplicative_inverse(), &inverse);
+}
+
+#[test]
+fn embedded(rt: HostRuntime) {
+    let pair = Fe1024::new([Fe32::Z, Fe32::Q]);
+    same(&rt, &Fe1024::from(Fe32::Z), &pair);
+    let triple = Fe32768::new([Fe32::Z, Fe32::Q, Fe32::Q]);
+    same(&rt, &Fe32768::from(Fe32::Z), &triple);
+}
+
+#[test]
+fn back_from_pairs(rt: HostRuntime) {
+    let back = [
+        Fe32::try_from(Fe1024::from(Fe32::L)),
+        Fe32::try_from(Fe1024::POLYNOMIAL),
+    ];
+    same(&rt, &back, &[Ok(Fe32::L), Err(())]);
+    let base = Fe1024::from(Fe32::A).to_base();
+    same(&rt, &base, &Some(Fe32::A));
+}
+
+#[test]
+fn back_from_triples(rt: HostRuntime) {
+    let third_alone = Fe32768::new([Fe32::P, Fe32::Q, Fe32::P]);
+    let back = [
+        Fe32::try_from(Fe32768::from(Fe32::L)),
+        Fe32::try_from(Fe32768::POLYNOMIAL),
+        Fe32::try_from(third_alone),
+    ];
+    same(&rt, &back, &[Ok(Fe32::L), Err(()), Err(())]);
+    same(&rt, &Fe32768::EXT_ELEM.to_base(), &None);
+}
+
+// What a value is after assigning operators, each by value and borrowed.
+macro_rules! each_assigned {
+    ($z:ident, $y:ident) => {{
+        $z += $y;
+        let sum = $z;
+        $z -= &$y;
+        let difference = $z;
+        $z += &$y;
+        $z -= $y;
+        $z *= $y;
+        let product = $z;
+        $z /= &$y;
+        let quotient = $z;
+        $z *= &$y;
+        $z /= $y;
+        [sum, difference, product, quotient, $z]
+    }};
+}
+
+// What a pair is after each.
+fn assigned_pairs(mut z: Fe1024, y: Fe1024) -> [Fe1024; 5]
+    requires { y ≢ pairs.zero }
+{
+    each_assigned!(z, y)
+}
+
+// Each form of the sum and the difference of two pairs.
+fn sums_of_pairs(x: Fe1024, y: Fe1024) -> [[Fe1024; 4]; 2] {
+    [each_form!(x + y), each_form!(x - y)]
+}
+
+// Each form of the product of two pairs.
+fn products_of_pairs(x: Fe1024, y: Fe1024) -> [Fe1024; 4] {
+    each_form!(x * y)
+}
+
+// Each form of the quotient of two pairs.
+fn quotients_of_pairs(x: Fe1024, y: Fe1024) -> [Fe1024; 4]
+    requires { y ≢ pairs.zero }
+{
+    each_form!(x / y)
+}
+
+// Each form of the product of a pair and an element.
+fn scaled_pairs(x: Fe1024, factor: Fe32) -> [Fe1024; 4] {
+    each_form!(x * factor)
+}
+
+// Each form of each operator, at a line of the table.
+#[test]
+fn operator_forms_of_pairs(rt: HostRuntime) {
+    let x = Fe1024::new([Fe32::M, Fe32::E]);
+    let y = Fe1024::new([Fe32::J, Fe32::C]);
+    assert!(rt; y != Fe1024::ZERO);
+    let sum = Fe1024::new([Fe32::F, Fe32::P]);
+    let product = Fe1024::new([Fe32::P, Fe32::_9]);
+    same(&rt, &sums_of_pairs(x, y), &[[sum; 4]; 2]);
+    let scaled = x * Fe1024::from(Fe32::A);
+    let found = [
+        products_of_pairs(x, y),
+        quotients_of_pairs(product, y),
+        scaled_pairs(x, Fe32::A),
+    ];
+    same(&rt, &found, &[[product; 4], [x; 4], [scaled; 4]]);
+    same_items(&rt, &assigned_pairs(x, y), &[sum, x, product, x, x]);
+}
+
+// What a triple is after each.
+fn assigned_triples(mut z: Fe32768, y: Fe32768) -> [Fe32768; 5]
+    requires { y ≢ triples.zero }
+{
+    each_assigned!(z, y)
+}
+
+// Each form of the sum and the difference of two triples.
+fn sums_of_triples(x: Fe32768, y: Fe32768) -> [[Fe32768; 4]; 2] {
+    [each_form!(x + y), each_form!(x - y)]
+}
+
+// Each form of the product of two triples.
+fn products_of_triples(x: Fe32768, y: Fe32768) -> [Fe32768; 4] {
+    each_form!(x * y)
+}
+
+// Each form of the quotient of two triples.
+fn quotients_of_triples(x: Fe32768, y: Fe32768) -> [Fe32768; 4]
+    requires { y ≢ triples.zero }
+{
+    each_form!(x / y)
+}
+
+// Each form of the product of a triple and an element.
+fn scaled_triples(x: Fe32768, factor: Fe32) -> [Fe32768; 4] {
+    each_form!(x * factor)
+}
+
+// Each form of each operator, at a line of the table.
+#[test]
+fn operator_forms_of_triples(rt: HostRuntime) {
+    let x = Fe32768::new([Fe32::Q, Fe32::_3, Fe32::_4]);
+    let y = Fe32768::new([Fe32::_8, Fe32::_2, Fe32::_3]);
+    assert!(rt; y != Fe32768::ZERO);
+    let sum = Fe32768::new([Fe32::_8, Fe32::M, Fe32::Y]);
+    let product = Fe32768::new([Fe32::_5, Fe32::_4, Fe32::N]);
+    same(&rt, &sums_of_triples(x, y), &[[sum; 4]; 2]);
+    let scaled = x * Fe32768::from(Fe32::A);
+    let found = [
+        products_of_triples(x, y),
+        quotients_of_triples(product, y),
+        scaled_triples(x, Fe32::A),
+    ];
+    same(&rt, &found, &[[product; 4], [x; 4], [scaled; 4]]);
+    same_items(&rt, &assigned_triples(x, y), &[sum, x, product, x, x]);
+}
+
+#[test]
+fn negatives_and_sums(rt: HostRuntime) {
+    let x = Fe1024::new([Fe32::M, Fe32::E]);
+    let y = Fe1024::new([Fe32::J, Fe32::C]);
+    same_items(&rt, &[-x, [x, y, x].into_iter().sum::<Fe1024>()], &[x, y]);
+    let x = Fe32768::new([Fe32::Q, Fe32::_3, Fe32::_4]);
+    let y = Fe32768::new([Fe32::_8, Fe32::_2, Fe32::_3]);
+    same_items(&rt, &[-x, [x, y, x].into_iter().sum::<Fe32768>()], &[x, y]);
+}
+
+#[test]
+fn printed_pairs(rt: HostRuntime) {
+    let pair = Fe1024::new([Fe32::P, Fe32::X]);
+    let text = format!(in rt.alloc(); "{pair} {pair:?}");
+    same(&rt, &text.expect(&rt, "memory").as_str(), &"px px");
+    same(&rt, &<Fe1024 as Bech32Field>::NAME, &"Fe1024");
+}
+
+#[test]
+fn printed_triples(rt: HostRuntime) {
+    let triple = Fe32768::new([Fe32::_9, Fe32::Q, Fe32::L]);
+    let text = format!(in rt.alloc(); "{triple} {triple:?}");
+    same(&rt, &text.expect(&rt, "memory").as_str(), &"9ql 9ql");
+    same(&rt, &<Fe32768 as Bech32Field>::NAME, &"Fe32768");
+}
+
+#[test]
+fn rust_code(rt: HostRuntime) {
+    let alloc = rt.alloc();
+    let pair = Code(Fe1024::new([Fe32::P, Fe32::X]));
+    same(
+        &rt,
+        &shown(alloc, &pair).as_str(),
+        &"Fe32Ext { inner: [Fe32::P, Fe32::X] }",
+    );
+    let triple = Code(Fe32768::new([Fe32::_9, Fe32::Q, Fe32::L]));
+    let code = "Fe32Ext { inner: [Fe32::_9, Fe32::Q, Fe32::L] }";
+    same(&rt, &shown(alloc, &triple).as_str(), &code);
+}

@@ -1,0 +1,9 @@
+mod adaptors;
+mod calls;
+mod compare;
+mod correction;
+mod global;
+mod heaps;
+mod mistyped;
+mod residues;
+mod turns;

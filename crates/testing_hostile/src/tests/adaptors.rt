@@ -1,0 +1,96 @@
+//! Iterators over one that gives two items, `None`, and then items again.
+
+use crate::tests::compare::same;
+use bech32::primitives::encode::WitnessVersionIter;
+use bech32::primitives::iter::Checksummed;
+use bech32::{Bech32, Fe32, Fe32IterExt, Hrp};
+use std::process::Abort;
+use testing_tools::iterators::TwoItems;
+
+// The text of the two under `a`, which does not depend on how often they are asked for.
+const TEXT: &str = "a144mh9z97";
+
+// The character, the byte and the element at a place of a text: none behind its end.
+fn char_at(text: &str, place: usize) -> Option<char> {
+    Some(char::from(byte_at(text, place)?))
+}
+
+fn byte_at(text: &str, place: usize) -> Option<u8> {
+    text.as_bytes().get(place).copied()
+}
+
+fn element_at(text: &str, place: usize) -> Option<Fe32> {
+    Fe32::from_char(char_at(text, place)?).ok()
+}
+
+fn chars_stay_ended(rt: &impl Abort, hrp: &Hrp) {
+    let encoder = TwoItems::new(Fe32::_4, None).with_checksum::<Bech32>(hrp);
+    let mut chars = encoder.chars();
+    for place in 0..13usize {
+        same(rt, &(place, chars.next()), &(place, char_at(TEXT, place)));
+    }
+}
+
+fn bytes_stay_ended(rt: &impl Abort, hrp: &Hrp) {
+    let encoder = TwoItems::new(Fe32::_4, Some(usize::MAX)).with_checksum::<Bech32>(hrp);
+    let mut bytes = encoder.bytes();
+    for place in 0..13usize {
+        same(rt, &(place, bytes.next()), &(place, byte_at(TEXT, place)));
+    }
+}
+
+#[test]
+fn texts_stay_ended(rt: HostRuntime) {
+    let hrp = Hrp::parse("a").expect(&rt, "a human-readable part");
+    chars_stay_ended(&rt, &hrp);
+    bytes_stay_ended(&rt, &hrp);
+}
+
+#[test]
+fn elements_stay_ended(rt: HostRuntime) {
+    let hrp = Hrp::parse("a").expect(&rt, "a human-readable part");
+    let encoder = TwoItems::new(Fe32::_4, None).with_checksum::<Bech32>(&hrp);
+    let mut fes = encoder.fes();
+    for place in 0..14usize {
+        same(
+            &rt,
+            &(place, fes.next()),
+            &(place, element_at("rqp44mh9z97", place)),
+        );
+    }
+}
+
+#[test]
+fn checksums_stay_ended(rt: HostRuntime) {
+    let hrp = Hrp::parse("a").expect(&rt, "a human-readable part");
+    let mut fes = Checksummed::<_, Bech32>::new_hrp(hrp, TwoItems::new(Fe32::_4, None));
+    for place in 0..11usize {
+        same(
+            &rt,
+            &(place, fes.next()),
+            &(place, element_at("44mh9z97", place)),
+        );
+    }
+}
+
+// The checksum of two elements with no human-readable part in front.
+#[test]
+fn checksums_of_elements_alone_stay_ended(rt: HostRuntime) {
+    let mut fes = Checksummed::<_, Bech32>::new(TwoItems::new(Fe32::_4, None));
+    for place in 0..11usize {
+        same(
+            &rt,
+            &(place, fes.next()),
+            &(place, element_at("44ectty8", place)),
+        );
+    }
+}
+
+#[test]
+fn versions_stay_ended(rt: HostRuntime) {
+    let mut fes = WitnessVersionIter::new(Some(Fe32::P), TwoItems::new(Fe32::_4, None));
+    let given = [fes.next(), fes.next(), fes.next()];
+    let behind = [fes.next(), fes.next(), fes.next()];
+    let want = [Some(Fe32::P), Some(Fe32::_4), Some(Fe32::_4)];
+    same(&rt, &(given, behind), &(want, [None; 3]));
+}

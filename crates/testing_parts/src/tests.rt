@@ -1,0 +1,16 @@
+mod adaptors;
+mod addresses;
+mod bits;
+mod codex32_rows;
+mod compare;
+mod device;
+mod encode;
+mod engine;
+mod hrp;
+mod items;
+mod messages;
+mod packed;
+mod pieces;
+mod readers;
+mod roots;
+mod rules;

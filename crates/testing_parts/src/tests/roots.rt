@@ -1,0 +1,271 @@
+//! Lawful roots, and roots with one thing wrong.
+
+ghost use Rattle.std.specs.Prelude.{◌≡◌, ◌<◌, ◌≤◌, ◌+◌, ◌-◌, IsTrue, IfSome, refl};
+ghost use Rattle.bech32_gf.specs.Fe32 as fe32;
+ghost use Rattle.bech32_gf.specs.Field.{IsOrder};
+ghost use Rattle.bech32_gf_ext.specs.Fe1024.{pair};
+ghost use Rattle.bech32_checksum.specs.Code.{bech32};
+ghost use Rattle.bech32_checksum.specs.laws.CodeLaws as codes;
+ghost use Rattle.bech32_checksum.specs.Roots.{HasLawfulRoots, singleton_bound};
+ghost use Rattle.testing_parts.specs.TestWords.{words_1, words_1_keep, code_1};
+ghost use Rattle.bech32_gf_ext.specs.Fe1024 as fe1024;
+
+use crate::tests::compare::{same, same_items};
+use bech32_checksum::{Bech32, Bech32m, Checksum, LocatorField, NoChecksum};
+use bech32_gf::field::{ExtensionField, Field};
+use bech32_gf::gf32::Fe32;
+use bech32_gf_ext::{Fe32Ext, Fe1024};
+use testing_tools::codes::{Altered, Degree8, Degree13};
+
+const WORDS: [u32; 5] = [0x3b6a57b2, 0x26508e6d, 0x1ea119fa, 0x3d4233dd, 0x2a1462b3];
+
+// Bech32 with a base of order 1.
+#[derive(Copy, Clone)]
+enum OtherBase {}
+
+impl Checksum for OtherBase {
+    type MidstateRepr = u32;
+
+    type CorrectionField = Fe1024;
+
+    ghost ROOT_GENERATOR = { pair fe32.one fe32.zero };
+
+    ghost ROOT_EXPONENTS_START = { 24 };
+
+    ghost ROOT_EXPONENTS_END = { 26 };
+
+    ghost CODE_LENGTH = { 1023 };
+
+    ghost CHECKSUM_LENGTH = { 6 };
+
+    ghost GENERATOR_SH = { codes.words };
+
+    ghost TARGET_RESIDUE = { 1 };
+
+    ghost code = { bech32 };
+
+    ghost bound = { 3 };
+
+    ghost lawful = { HasLawfulRoots fe1024.ops fe1024.embed
+        bech32 (pair fe32.one fe32.zero) 24 26 };
+
+    const ROOT_GENERATOR: Fe1024 = Fe32Ext {
+        inner: [Fe32::P, Fe32::Q],
+    };
+
+    const ROOT_EXPONENTS_START: usize = 24;
+
+    const ROOT_EXPONENTS_END: usize = 26;
+
+    const CODE_LENGTH: usize = 1023;
+
+    const CHECKSUM_LENGTH: usize = 6;
+
+    const GENERATOR_SH: [u32; 5] = WORDS;
+
+    const TARGET_RESIDUE: u32 = 1;
+
+    ghost packing_laws = { codes.bech32_keeps };
+
+    ghost code_law = { codes.bech32_is_packed };
+
+    ghost degree_law = { refl };
+
+    ghost code_length_law = { refl };
+
+    ghost bound_law = { refl };
+
+    ghost lawful_law = { (λ h. h, λ h. h) };
+}
+
+// The generator x + 1, for texts of one character: each power of the base 1 is a root.
+#[derive(Copy, Clone)]
+enum Degree1<const LAST: usize> {}
+
+impl<const LAST: usize> Checksum for Degree1<LAST> {
+    type MidstateRepr = u32;
+
+    type CorrectionField = Fe32;
+
+    ghost ROOT_GENERATOR = { fe32.one };
+
+    ghost ROOT_EXPONENTS_START = { 3 };
+
+    ghost ROOT_EXPONENTS_END = { LAST };
+
+    ghost CODE_LENGTH = { 1 };
+
+    ghost CHECKSUM_LENGTH = { 1 };
+
+    ghost GENERATOR_SH = { words_1 };
+
+    ghost TARGET_RESIDUE = { 1 };
+
+    ghost code = { code_1 };
+
+    ghost bound = { singleton_bound 3 LAST };
+
+    ghost lawful = { HasLawfulRoots fe32.ops (λ x. x) code_1 fe32.one 3 LAST };
+
+    const ROOT_GENERATOR: Fe32 = Fe32::P;
+
+    const ROOT_EXPONENTS_START: usize = 3;
+
+    const ROOT_EXPONENTS_END: usize = LAST;
+
+    const CODE_LENGTH: usize = 1;
+
+    const CHECKSUM_LENGTH: usize = 1;
+
+    const GENERATOR_SH: [u32; 5] = [1, 2, 4, 8, 16];
+
+    const TARGET_RESIDUE: u32 = 1;
+
+    ghost packing_laws = { words_1_keep };
+
+    ghost code_law = { refl };
+
+    ghost degree_law = { refl };
+
+    ghost code_length_law = { refl };
+
+    ghost bound_law = { refl };
+
+    ghost lawful_law = { (λ h. h, λ h. h) };
+}
+
+// How many roots stand in a row.
+fn roots_in_a_row<Ck: Checksum>() -> usize
+    requires positive { 0 < Ck.CHECKSUM_LENGTH }
+    requires lawful { HasLawfulRoots Ck.CorrectionField.ops Ck.CorrectionField.embed
+        Ck.code Ck.ROOT_GENERATOR Ck.ROOT_EXPONENTS_START Ck.ROOT_EXPONENTS_END }
+    ensures within { result ≤ Ck.CHECKSUM_LENGTH }
+    ensures value { result ≡ Ck.ROOT_EXPONENTS_END - Ck.ROOT_EXPONENTS_START + 1 }
+{
+    Ck::ROOT_EXPONENTS_END - Ck::ROOT_EXPONENTS_START + 1
+}
+
+// The same, where they are lawful.
+fn tested<Ck: Checksum>() -> Option<usize> {
+    if Ck::CHECKSUM_LENGTH > 0 && Ck::sanity_check() {
+        Some(roots_in_a_row::<Ck>())
+    } else {
+        None
+    }
+}
+
+// Of the standards it is proved.
+fn roots_of_bech32() -> usize
+    ensures { result ≡ 3 }
+{
+    roots_in_a_row::<Bech32>()
+}
+
+fn roots_of_bech32m() -> usize
+    ensures { result ≡ 3 }
+{
+    roots_in_a_row::<Bech32m>()
+}
+
+fn no_checksum_is_sane() -> bool
+    ensures { IsTrue result }
+{
+    NoChecksum::sanity_check()
+}
+
+fn bech32_is_sane() -> bool
+    ensures { IsTrue result }
+{
+    Bech32::sanity_check()
+}
+
+fn bech32m_is_sane() -> bool
+    ensures { IsTrue result }
+{
+    Bech32m::sanity_check()
+}
+
+// Whether the roots pass the test.
+fn is_sane<Ck: Checksum>() -> bool {
+    Ck::sanity_check()
+}
+
+// The order of an element of any field over that of 32 elements, as a checksum asks for it; nothing
+// for zero.
+fn order_of<E: ExtensionField<BaseField = Fe32>>(x: E) -> Option<usize>
+    ensures { IfSome result (λ order. IsOrder E.ops x order) }
+{
+    if x.is_zero() {
+        return None;
+    }
+    Some(LocatorField::order(x))
+}
+
+#[test]
+fn orders_of_generators(rt: HostRuntime) {
+    let orders = [order_of(Fe32::GENERATOR), order_of(Fe1024::GENERATOR)];
+    same_items(&rt, &orders, &[Some(31), Some(1023)]);
+}
+
+#[test]
+fn lawful_roots(rt: HostRuntime) {
+    let sane = [
+        no_checksum_is_sane(),
+        bech32_is_sane(),
+        bech32m_is_sane(),
+        is_sane::<Degree8>(),
+        is_sane::<Degree13<93>>(),
+    ];
+    same_items(&rt, &sane, &[true; 5]);
+    same_items(&rt, &[roots_of_bech32(), roots_of_bech32m()], &[3, 3]);
+    let found = [
+        tested::<NoChecksum>(),
+        tested::<Bech32>(),
+        tested::<Bech32m>(),
+        tested::<Degree8>(),
+        tested::<Degree13<93>>(),
+    ];
+    same_items(&rt, &found, &[None, Some(3), Some(3), Some(3), Some(8)]);
+}
+
+#[test]
+fn roots_of_both(rt: HostRuntime) {
+    let exponents = [Bech32m::ROOT_EXPONENTS_START, Bech32m::ROOT_EXPONENTS_END];
+    same_items(&rt, &exponents, &[24, 26]);
+    same(&rt, &Bech32::ROOT_GENERATOR, &Bech32m::ROOT_GENERATOR);
+}
+
+// Whether the roots of Bech32 with other exponents, and for texts of another length, pass the test.
+fn altered_is_sane<const FIRST: usize, const LAST: usize, const LONGEST: usize>() -> bool {
+    <Altered<FIRST, LAST, LONGEST>>::sanity_check()
+}
+
+// Whether those of the generator x + 1 do, from the exponent 3 on.
+fn degree_1_is_sane<const LAST: usize>() -> bool {
+    <Degree1<LAST>>::sanity_check()
+}
+
+#[test]
+fn altered_roots(rt: HostRuntime) {
+    let lawful = [
+        altered_is_sane::<24, 26, 1023>(),
+        altered_is_sane::<24, 24, 1>(),
+        // The same powers once more.
+        altered_is_sane::<1047, 1049, 1023>(),
+        // As many roots as the degree.
+        degree_1_is_sane::<3>(),
+    ];
+    same_items(&rt, &lawful, &[true; 4]);
+    let unlawful = [
+        altered_is_sane::<24, 26, 1024>(),
+        altered_is_sane::<24, 27, 1023>(),
+        altered_is_sane::<23, 26, 1023>(),
+        altered_is_sane::<27, 27, 1023>(),
+        altered_is_sane::<25, 24, 1023>(),
+        altered_is_sane::<0, { usize::MAX }, 1023>(),
+        OtherBase::sanity_check(),
+        // One root more than the degree.
+        degree_1_is_sane::<4>(),
+    ];
+    same_items(&rt, &unlawful, &[false; 8]);
+}

@@ -1,0 +1,9 @@
+//! Checksums that tests declare, as any other crate may.
+
+mod altered;
+mod tiny;
+mod wide;
+
+pub use self::altered::Altered;
+pub use self::tiny::Tiny;
+pub use self::wide::{Degree8, Degree13};

@@ -1,0 +1,10 @@
+mod addresses;
+mod codex;
+mod compare;
+mod corrections;
+mod front;
+mod lazy;
+mod long_codex32;
+mod own_checksum;
+mod parts;
+mod readers;

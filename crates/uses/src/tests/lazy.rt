@@ -1,0 +1,40 @@
+//! One character at a time, without memory.
+
+use crate::tests::compare::{same_items, same_text};
+use bech32::{Bech32, ByteIterExt, Fe32, Fe32IterExt, Hrp};
+use std::alloc::{AllocError, Global};
+use std::test::Fail;
+
+const WITNESS_PROG: [u8; 20] = [
+    0x75, 0x1e, 0x76, 0xe8, 0x19, 0x91, 0x96, 0xd4, 0x54, 0x94, 0x1c, 0x45, 0xd1, 0xb3, 0xa3, 0x23,
+    0xf1, 0x43, 0x3b, 0xd6,
+];
+
+// The characters of an address of version 0.
+fn characters(alloc: Global, hrp: &Hrp) -> Result<Vec<char>, AllocError> {
+    let chars = WITNESS_PROG
+        .iter()
+        .copied()
+        .bytes_to_fes()
+        .with_checksum::<Bech32>(hrp)
+        .with_witness_version(Fe32::Q)
+        .chars();
+    chars.collect(alloc)
+}
+
+#[test]
+fn characters_of_an_address(rt: HostRuntime) -> Result<(), Fail> {
+    let addr = characters(rt.alloc(), &Hrp::parse("bc")?)?;
+    let want = "bc1qw508d6qejxtdg4y5r3zarvary0c5xw7kv8f3t4";
+    same_text(&rt, rt.alloc(), &addr, want);
+    Ok(())
+}
+
+#[test]
+fn bytes_to_elements_and_back(rt: HostRuntime) -> Result<(), Fail> {
+    let fe_iter = WITNESS_PROG.iter().copied().bytes_to_fes();
+    let byte_iter = fe_iter.fes_to_bytes();
+    let data: Vec<u8> = byte_iter.collect(rt.alloc())?;
+    same_items(&rt, &data, &WITNESS_PROG);
+    Ok(())
+}
