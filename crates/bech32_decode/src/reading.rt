@@ -179,6 +179,18 @@ impl<'s, Ck: Checksum> Reading<'s, Ck> {
         self.residue == Ck::TARGET_RESIDUE
     }
 
+    /// Whether the checksum accepts the text.
+    #[inline]
+    pub fn is_accepted(&self) -> bool
+        ensures { IsTrue result ↔ IsAccepted Ck.code
+            self.now.text.now self.now.hrp.now self.now.data_part.now }
+    {
+        match self.validate_lengths() {
+            Ok(()) => self.has_target(),
+            Err(_) => false,
+        }
+    }
+
     /// What is left of the remainder where the target is taken off, by which errors are found: its
     /// coefficients, the constant term first, with zeros behind them.
     #[inline]
@@ -275,8 +287,7 @@ impl<'s> Reading<'s, Bech32m> {
         }
     }
 
-    // Tests the checksum of a witness version: Bech32 of version 0, Bech32m of another (BIP-350).
-    #[inline]
+    // Tests the checksum of a witness version.
     fn validate_by(&self, version: Fe32) -> Result<(), ChecksumError>
         ensures { MatchResult result
             (λ _. IsAccepted (segwit_code version)
@@ -288,6 +299,36 @@ impl<'s> Reading<'s, Bech32m> {
             self.by_bech32().validate()
         } else {
             self.validate()
+        }
+    }
+
+    // Whether the checksum of a witness version accepts the text: Bech32 of version 0, Bech32m of
+    // another (BIP-350).
+    #[inline]
+    fn is_accepted_by(&self, version: Fe32) -> bool
+        ensures { IsTrue result ↔ IsAccepted (segwit_code version)
+            self.now.text.now self.now.hrp.now self.now.data_part.now }
+    {
+        if version == VERSION_0 {
+            self.by_bech32().is_accepted()
+        } else {
+            self.is_accepted()
+        }
+    }
+
+    // Why the checksum of a witness version does not accept the text. Out of line: in line, the
+    // remainder and the target would be moved where there is no refusal.
+    #[cold]
+    #[inline(never)]
+    fn refusal_by(&self, version: Fe32) -> ChecksumError
+        requires { IsAccepted (segwit_code version)
+            self.now.text.now self.now.hrp.now self.now.data_part.now → ⊥ }
+        ensures { IsChecksumRefusal (segwit_code version) (length self.now.text.now)
+            self.now.hrp.now self.now.data_part.now result }
+    {
+        match self.validate_by(version) {
+            Err(refusal) => refusal,
+            Ok(()) => unreachable!(),
         }
     }
 
@@ -306,7 +347,9 @@ impl<'s> Reading<'s, Bech32m> {
             (λ e. IsAddressRefusal segwit_code self.now.text.now e) }
     {
         let version = first_version(self.data_part)?;
-        self.validate_by(version)?;
+        if !self.is_accepted_by(version) {
+            return Err(SegwitHrpstringError::Checksum(self.refusal_by(version)));
+        }
         let characters = self.characters();
         validate_sizes(self.text.len(), characters)?;
         data_of_version(version, characters)
