@@ -29,7 +29,7 @@ use bech32_decode::{
     CheckedHrpstring, CodeLengthError, Reading, UncheckedHrpstring, validate_either,
 };
 pub use bech32_encode::Fe32IterExt;
-use bech32_encode::{text_in, text_length_of_part};
+use bech32_encode::{text_length_of_part, text_of_size_in};
 pub use bech32_gf::gf32::Fe32;
 pub use bech32_gf_ext::{Fe1024, Fe32768};
 pub use bech32_hrp::Hrp;
@@ -178,8 +178,8 @@ pub fn encode_in<Ck: Checksum, A: Allocator>(
     ensures refused { IfErr result
         (λ e. IsEncodeRefusal Ck.code (hrp_bytes hrp) (to_fes «data».now) e) }
 {
-    encoded_length::<Ck>(hrp, data)?;
-    let text = text_in::<Ck, A>(alloc, hrp, None, data)?;
+    let size = encoded_length::<Ck>(hrp, data)?;
+    let text = text_of_size_in::<Ck, A>(alloc, hrp, None, data, size)?;
     Ok(text)
 }
 

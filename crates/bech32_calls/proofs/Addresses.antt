@@ -13,7 +13,7 @@ use Rattle.bech32_decode.specs.SegwitParts.{IsReadIn}
 use Rattle.bech32_segwit.specs.SegwitEncoding.{HasAddress, address_length, IsSegwitEncodeRefusal}
 use Rattle.bech32_decode.specs.Text.{IsText}
 use Rattle.bech32_segwit.specs.declared.error.EncodeError.{EncodeError}
-use Rattle.bech32_segwit.specs.declared.error.EncodeError.TheVariants.{WitnessVersion, WitnessLength, TooLong as NoAddressLength, Memory}
+use Rattle.bech32_segwit.specs.declared.error.EncodeError.TheVariants.{Memory}
 use Rattle.bech32_decode.proofs.Addresses.{address-from_parts, parts-from_address, not_refused, short}
 use Rattle.bech32_decode.proofs.Grammar.{only-from_IsText}
 use Rattle.bech32_refusals.specs.declared.error.SegwitHrpstringError.{SegwitHrpstringError}
@@ -23,7 +23,7 @@ use Rattle.bech32_checksum.proofs.Uniqueness.{in_other_case, length-encoded}
 use Rattle.bech32_encode.specs.Buffers.{IsPut}
 use Rattle.bech32_calls.specs.Segwit.{PutsAddress, HasRoomFor, IsAddressFault, IsSegwitEncodeFault, CanDecodeAddress, LacksRoomFor, IsSegwitDecodeFault, PutsProgram}
 use Rattle.bech32_calls.specs.declared.refusal.Refusal.{Refusal}
-use Rattle.bech32_calls.specs.declared.refusal.Refusal.TheVariants.{NotUtf8, NoRoom, Version, ProgramLength, AddressTooLong, Address}
+use Rattle.bech32_calls.specs.declared.refusal.Refusal.TheVariants.{NotUtf8, NoRoom, NoAddress, Address}
 use Rattle.bech32_calls.proofs.Letters.{IsUtf8-from_text, no_part_fault}
 use Rattle.bech32_calls.proofs.Puts.{put-same}
 
@@ -34,9 +34,7 @@ no_refusal hrp version program e a h = exists-from_outcome {S = ℕ} hrp version
 
 no_address_fault : (hrp : List ℕ) (version : Fe32) (program : List ℕ) (room : ℕ) (e : Refusal) → HasAddress hrp version program → address_length hrp program ≤ room
     → IsAddressFault hrp version program room e → ⊥
-no_address_fault hrp version program room (Version e) a r h = let same : WitnessVersion e ≡ Memory = no_refusal hrp version program (WitnessVersion e) a h in absurd (cc)
-no_address_fault hrp version program room (ProgramLength e) a r h = let same : WitnessLength e ≡ Memory = no_refusal hrp version program (WitnessLength e) a h in absurd (cc)
-no_address_fault hrp version program room (AddressTooLong e) a r h = let same : NoAddressLength e ≡ Memory = no_refusal hrp version program (NoAddressLength e) a h in absurd (cc)
+no_address_fault hrp version program room (NoAddress e) a r h = h.1 (no_refusal hrp version program e a h.0)
 no_address_fault hrp version program room NoRoom a r h = let over : room < address_length hrp program = h.1 in absurd (omega arith)
 no_address_fault hrp version program room _ a r h = h
 

@@ -32,6 +32,15 @@ module _ (P : Code → Type 0) (Q : Type 0) (gives : (code : Code) → P code �
   pub out_for : (n : ℕ) → ForChecksum n P → Q
   out_for n = out_of (code_of_number n)
 
+module _ (A B : Code → Refusal → Type 0) (e : Refusal) (more : (code : Code) → A code e → B code e) where
+  fault_of : (o : Option Code) → MatchOption o (e ≡ BadNumber) (λ code. A code e) → MatchOption o (e ≡ BadNumber) (λ code. B code e)
+  fault_of None h = h
+  fault_of (Some code) h = more code h
+
+  -- what is wrong by any checksum where something else is
+  pub fault_by : (n : ℕ) → IsFaultBy n A e → IsFaultBy n B e
+  fault_by n = fault_of (code_of_number n)
+
 module _ (P : Code → Type 0) (IsFault : Code → Refusal → Type 0) (e : Refusal) (wrong : (code : Code) → P code → IsFault code e) where
   wrong_of : (o : Option Code) → MatchOption o ⊥ P → MatchOption o (e ≡ BadNumber) (λ code. IsFault code e)
   wrong_of None h = absurd h
@@ -40,15 +49,6 @@ module _ (P : Code → Type 0) (IsFault : Code → Refusal → Type 0) (e : Refu
   -- what is wrong by any checksum of which something holds
   pub wrong_by : (n : ℕ) → ForChecksum n P → IsFaultBy n IsFault e
   wrong_by n = wrong_of (code_of_number n)
-
-module _ (P : Code → Type 0) (A B : Code → Refusal → Type 0) (e : Refusal) (more : (code : Code) → P code → A code e → B code e) where
-  fault_with_of : (o : Option Code) → MatchOption o ⊥ P → MatchOption o (e ≡ BadNumber) (λ code. A code e) → MatchOption o (e ≡ BadNumber) (λ code. B code e)
-  fault_with_of None h f = absurd h
-  fault_with_of (Some code) h f = more code h f
-
-  -- the same of which something else holds too
-  pub fault_with : (n : ℕ) → ForChecksum n P → IsFaultBy n A e → IsFaultBy n B e
-  fault_with n = fault_with_of (code_of_number n)
 
 module _ (IsFault : Code → Refusal → Type 0) (e : Refusal) (Q : Type 0) (none : e ≡ BadNumber → Q) (gives : (code : Code) → IsFault code e → Q) where
   out_of_fault : (o : Option Code) → MatchOption o (e ≡ BadNumber) (λ code. IsFault code e) → Q

@@ -25,18 +25,15 @@ use Rattle.bech32_decode.specs.Text.{IsInGrammar, IsText, text_refusal}
 use Rattle.bech32_decode.proofs.Decoding.{not_valid, one_remainder, valid-from_accepts}
 use Rattle.bech32_decode.proofs.Grammar.{only-from_IsText, text_refusal-none}
 use Rattle.bech32_encode.specs.Buffers.{IsPut}
-use Rattle.bech32_refusals.specs.declared.error.CheckedHrpstringError.{CheckedHrpstringError}
-use Rattle.bech32_refusals.specs.declared.error.CheckedHrpstringError.TheVariants.{Parse, Checksum as NotAccepted}
 use Rattle.bech32_refusals.specs.declared.error.ChecksumError.{ChecksumError}
 use Rattle.bech32_refusals.specs.declared.error.ChecksumError.TheVariants.{CodeLength, InvalidLength, InvalidResidue}
 use Rattle.bech32_correction.specs.MendedElements.{EndsIn, mended as mended_of}
-use Rattle.bech32_correction.specs.Mistyped.{AreInside, HasNoListing, IsListedInPlace, IsListingOf, IsRefusal, IsRefusedFor, question_of}
+use Rattle.bech32_correction.specs.Mistyped.{AreInside, HasNoListing, IsListedInPlace, IsListingOf, IsRefusedFor, question_of}
 use Rattle.bech32_correction.specs.declared.correcting.Correction.{Correction}
 use Rattle.bech32_correction.specs.declared.correcting.Correction.TheVariants.{Accepted}
 use Rattle.bech32_correction.proofs.Sound.{sound_of}
 use Rattle.bech32_correction.proofs.Texts.{IsMendable, ends-lowered, mendable-from_accepts, mendable-from_listing, mended_text-from_ends}
 use Rattle.std.specs.Str.{IsUtf8}
-use Rattle.bech32_calls.specs.Check.{refusal_of_checked}
 use Rattle.bech32_calls.specs.Correct.{CanMend, IsCorrectFault, IsListingFault, IsMending, IsResidueFault, LacksRoomForMended, PutsMended, bound}
 use Rattle.bech32_calls.specs.declared.refusal.Refusal.{Refusal}
 use Rattle.bech32_calls.specs.declared.refusal.Refusal.TheVariants.{NotUtf8, Text, Checksum, NoCorrection, NoRoom}
@@ -194,12 +191,7 @@ fault_there text given m n r _ code h = h
 pub unread_put : (text given : List ℕ) (m n r : ℕ) (e : Refusal) (code : Code) → IsResidueFault text code e → IsCorrectFault text given m n r code e
 unread_put text given m n r e code h = fault_there text given m n r e code (unread_there text given e code h)
 
--- no residue is read of a text that is refused, and not for its residue
-pub unread-from_refusal : (text : List ℕ) (code : Code) (e : CheckedHrpstringError) → IsUtf8 text → IsRefusal code text e → IsResidueFault text code (refusal_of_checked e)
-unread-from_refusal text code (Parse e) u h = (u, h.0)
-unread-from_refusal text code (NotAccepted e) u h = (u, h.0, h.1)
-
--- and of one that is refused for its lengths
+-- no residue is read of a text that is refused for its lengths
 pub unread-from_lengths : (text hrp data_part : List ℕ) (code : Code) (e : ChecksumError) → IsText text hrp data_part
     → IsChecksumRefusal code (length text) hrp data_part e → (HasLengths code (length text) (length data_part) → ⊥) → IsResidueFault text code (Checksum e)
 unread-from_lengths text hrp data_part code e is refusal short =

@@ -3,61 +3,37 @@ use Rattle.std.specs.Prelude.{map, flat_map}
 use Rattle.std.specs.List.{AllByRecursion}
 use Rattle.std.proofs.Common.{◌≡◌, ◌<◌, ◌≤◌, ◌+◌, ◌*◌, ℕ, List, [], ◌∷◌, ◌++◌, length, length-append, suc-mul, zero-mul, sym, ap, subst, ◌∙◌, refl, arith}
 use Rattle.std.proofs.lemmas.List.{length-map}
-use Rattle.bech32_gf.specs.Fe32.{ops}
 use Rattle.bech32_gf.specs.declared.gf32.Fe32.{Fe32}
-use Rattle.bech32_poly.specs.Polynomial.{add}
 use Rattle.bech32_checksum.specs.Code.{Code}
-use Rattle.bech32_decode.specs.Acceptance.{Accepts}
 use Rattle.bech32_encode.specs.Buffers.{IsPut}
-use Rattle.bech32_correction.specs.Mistyped.{IsListedInPlace, IsRefusedFor}
-use Rattle.bech32_near.specs.NearTexts.{AreNearTexts, IsNearText}
-use Rattle.bech32_correction.specs.declared.correcting.Correction.{Correction}
-use Rattle.bech32_correction.specs.declared.correcting.Correction.TheVariants.{Accepted, Mended, Unexplained}
+use Rattle.bech32_near.specs.NearTexts.{AreNearTexts, IsNearText, LeavesResidue}
 use Rattle.bech32_calls.specs.Checksums.{ForChecksum, IsFaultBy}
-use Rattle.bech32_calls.specs.Correct.{bound}
-use Rattle.bech32_calls.specs.Nearest.{IsNearFault, IsRead, IsSearchFault, PutsNear, joined}
+use Rattle.bech32_calls.specs.Correct.{IsResidueFault, bound}
+use Rattle.bech32_calls.specs.Nearest.{IsNearFault, PutsNear, joined}
 use Rattle.bech32_calls.specs.declared.refusal.Refusal.{Refusal}
 use Rattle.bech32_calls.specs.declared.refusal.Refusal.TheVariants.{BadNumber, Memory, NoRoom}
-use Rattle.bech32_calls.proofs.ByNumber.{more_for, out_for, wrong_by}
+use Rattle.bech32_calls.proofs.ByNumber.{fault_by, more_for, out_for, wrong_by}
 use Rattle.bech32_calls.proofs.Puts.{put-same}
-
--- ---- a residue is read
-
-read_accepted : (text : List ℕ) (code : Code) → Accepts code text → IsRead text code
-read_accepted text code a = record {
-  hrp = a.0;
-  data_part = a.1;
-  residue = add ops code.target code.target;
-  read = record {
-    grammar = a.2.grammar;
-    text_length = a.2.text_length;
-    data_length = a.2.data_length;
-    remainder = code.target;
-    is_remainder = a.2.has_target;
-    residue_is = λ i. refl;
-  };
-}
-
-read_refused : (text hrp data_part : List ℕ) (residue : List Fe32) (code : Code) → IsRefusedFor code text hrp data_part residue → IsRead text code
-read_refused text hrp data_part residue code r = record {
-  hrp = hrp;
-  data_part = data_part;
-  residue = residue;
-  read = r.read;
-}
-
-pub read_listed : (text given : List ℕ) (answer : Correction (List (ℕ × Fe32)) (Unit {0})) (code : Code) → IsListedInPlace code bound text given answer → IsRead text code
-read_listed text given Accepted code h = read_accepted text code h
-read_listed text given (Mended listing) code h = read_refused text h.hrp h.data_part h.residue code h.refused
-read_listed text given (Unexplained u) code h = read_refused text h.0.hrp h.0.data_part h.0.residue code h.0.refused
 
 -- ---- why nothing is put
 
-pub near_unfound : (text given : List ℕ) (errors room : ℕ) (e : Refusal) → errors ≤ 2 → (code : Code) → IsRead text code → IsSearchFault text code e → IsNearFault text given errors room code e
-near_unfound text given errors room BadNumber few code read h = absurd h
-near_unfound text given errors room Memory few code read h = (few, read)
-near_unfound text given errors room NoRoom few code read h = absurd h
-near_unfound text given errors room _ few code read h = (few, h)
+near_unread : (text given : List ℕ) (errors room : ℕ) (e : Refusal) → errors ≤ 2 → (code : Code) → IsResidueFault text code e → IsNearFault text given errors room code e
+near_unread text given errors room BadNumber few code h = absurd h
+near_unread text given errors room Memory few code h = absurd h
+near_unread text given errors room NoRoom few code h = absurd h
+near_unread text given errors room _ few code h = (few, h)
+
+-- the same by the checksum of a number
+pub near_unread_by : (n : ℕ) (text given : List ℕ) (errors room : ℕ) (e : Refusal) → errors ≤ 2 → IsFaultBy n (IsResidueFault text) e → IsFaultBy n (IsNearFault text given errors room) e
+near_unread_by n text given errors room e few =
+    fault_by (IsResidueFault text) (IsNearFault text given errors room) e (near_unread text given errors room e few) n
+
+-- the memory does not suffice for a text that was read
+pub near_memory_by : (n : ℕ) (text given : List ℕ) (errors room window : ℕ) (residue : List Fe32) → errors ≤ 2 → ForChecksum n (λ code. LeavesResidue code text window residue)
+    → IsFaultBy n (IsNearFault text given errors room) Memory
+near_memory_by n text given errors room window residue few =
+    wrong_by (λ code. LeavesResidue code text window residue) (IsNearFault text given errors room) Memory
+    (λ code h. (few, record { hrp = h.hrp; data_part = h.data_part; residue = residue; read = h.read })) n
 
 -- ---- what is put
 

@@ -5,12 +5,6 @@ use Rattle.bech32_checksum.specs.Code.{Code}
 use Rattle.bech32_encode.specs.Buffers.{IsPut}
 use Rattle.bech32_near.specs.NearTexts.{AreNearTexts}
 use Rattle.bech32_correction.specs.Mistyped.{HasResidue}
-use Rattle.bech32_correction.specs.declared.error.CorrectError.{CorrectError}
-use Rattle.bech32_correction.specs.declared.error.CorrectError.TheVariants.{
-  Memory as OutOfMemory,
-  Refused,
-}
-use Rattle.bech32_calls.specs.Check.{refusal_of_checked}
 use Rattle.bech32_calls.specs.Correct.{IsResidueFault, bound}
 use Rattle.bech32_calls.specs.declared.refusal.Refusal.{Refusal}
 use Rattle.bech32_calls.specs.declared.refusal.Refusal.TheVariants.{BadNumber, Memory, NoRoom}
@@ -50,15 +44,3 @@ IsNearFault text given errors room code Memory = (errors ≤ 2) × IsRead text c
 IsNearFault text given errors room code NoRoom =
     (errors ≤ 2) × LacksRoomForNear text given errors room code
 IsNearFault text given errors room code e = (errors ≤ 2) × IsResidueFault text code e
-
--- ---- on the way
-
--- the refusal that an error is answered by
-abbrev pub refusal_of_correct : CorrectError → Refusal
-refusal_of_correct (Refused e) = refusal_of_checked e
-refusal_of_correct OutOfMemory = Memory
-
--- why no texts are found: no residue of the text is read, or the memory does not suffice
-abbrev pub IsSearchFault : List ℕ → Code → Refusal → Type 0
-IsSearchFault text code Memory = Unit {0}
-IsSearchFault text code e = IsResidueFault text code e

@@ -3,18 +3,15 @@
 -- too small.
 use Rattle.std.specs.Prelude.{ℕ}
 use Rattle.bech32.specs.declared.error.EncodeError.TheVariants.{TooLong as LongText}
-use Rattle.bech32_segwit.specs.declared.error.EncodeError.TheVariants.{WitnessVersion}
-use Rattle.bech32_segwit.specs.declared.error.EncodeError.TheVariants.{TooLong as LongAddress}
 use Rattle.bech32_numbers.specs.Numbers.{number_of_hrp_error, number_of_text_error}
-use Rattle.bech32_numbers.specs.Numbers.{number_of_checksum_error, number_of_length_error}
+use Rattle.bech32_numbers.specs.Numbers.{number_of_checksum_error}
 use Rattle.bech32_numbers.specs.Numbers.{number_of_address_error, number_of_no_correction}
 use Rattle.bech32_numbers.specs.Numbers.{number_of_encode_error, number_of_segwit_encode_error}
 use Rattle.bech32_calls.specs.declared.refusal.Refusal.{Refusal}
 use Rattle.bech32_calls.specs.declared.refusal.Refusal.TheVariants.{NotUtf8, BadNumber, NoRoom}
 use Rattle.bech32_calls.specs.declared.refusal.Refusal.TheVariants.{NoCorrection, Memory}
 use Rattle.bech32_calls.specs.declared.refusal.Refusal.TheVariants.{Hrp, TooLong, Text, Checksum}
-use Rattle.bech32_calls.specs.declared.refusal.Refusal.TheVariants.{Version, ProgramLength}
-use Rattle.bech32_calls.specs.declared.refusal.Refusal.TheVariants.{AddressTooLong, Address}
+use Rattle.bech32_calls.specs.declared.refusal.Refusal.TheVariants.{NoAddress, Address}
 
 -- of any refusal
 abbrev pub number_of : Refusal → ℕ
@@ -27,7 +24,5 @@ number_of (Hrp e) = number_of_hrp_error e
 number_of (TooLong e) = number_of_encode_error (LongText e)
 number_of (Text e) = number_of_text_error e
 number_of (Checksum e) = number_of_checksum_error e
-number_of (Version e) = number_of_segwit_encode_error (WitnessVersion e)
-number_of (ProgramLength e) = number_of_length_error e
-number_of (AddressTooLong e) = number_of_segwit_encode_error (LongAddress e)
+number_of (NoAddress e) = number_of_segwit_encode_error e
 number_of (Address e) = number_of_address_error e

@@ -1,5 +1,5 @@
 -- Segwit addresses put into a buffer and decoded into buffers, and why they are not.
-use Rattle.std.specs.Prelude.{◌≡◌, ◌<◌, ◌≤◌, ◌⊎◌, ℕ, List, length}
+use Rattle.std.specs.Prelude.{◌≡◌, ◌≢◌, ◌<◌, ◌≤◌, ◌⊎◌, ℕ, List, length}
 use Rattle.std.specs.Str.{IsUtf8}
 use Rattle.bech32_gf.specs.Fe32.{element}
 use Rattle.bech32_gf.specs.declared.gf32.Fe32.{Fe32}
@@ -7,15 +7,12 @@ use Rattle.bech32_hrp.specs.Hrp.{IsHrp, lowered}
 use Rattle.bech32_decode.specs.Segwit.{IsLowerAddress, IsAddress, IsSegwitRefusal}
 use Rattle.bech32_decode.specs.Text.{HasHrp}
 use Rattle.bech32_segwit.specs.SegwitEncoding.{HasAddress, address_length, IsSegwitEncodeRefusal}
-use Rattle.bech32_segwit.specs.declared.error.EncodeError.TheVariants.{WitnessVersion}
-use Rattle.bech32_segwit.specs.declared.error.EncodeError.TheVariants.{WitnessLength}
-use Rattle.bech32_segwit.specs.declared.error.EncodeError.TheVariants.{TooLong as LongAddress}
+use Rattle.bech32_segwit.specs.declared.error.EncodeError.TheVariants.{Memory as OutOfMemory}
 use Rattle.bech32_encode.specs.Buffers.{IsPut}
 use Rattle.bech32_calls.specs.Faults.{IsPartFault}
 use Rattle.bech32_calls.specs.declared.refusal.Refusal.{Refusal}
 use Rattle.bech32_calls.specs.declared.refusal.Refusal.TheVariants.{NotUtf8, BadNumber, NoRoom}
-use Rattle.bech32_calls.specs.declared.refusal.Refusal.TheVariants.{Version, ProgramLength}
-use Rattle.bech32_calls.specs.declared.refusal.Refusal.TheVariants.{AddressTooLong, Address}
+use Rattle.bech32_calls.specs.declared.refusal.Refusal.TheVariants.{NoAddress, Address}
 
 -- ---- encoding
 
@@ -38,12 +35,8 @@ pub record HasRoomFor (hrp : List ℕ) (version : ℕ) (program : List ℕ) (roo
 -- why the address of a human-readable part, a version and a program is not put into a buffer of so
 -- many bytes: the first fault
 abbrev pub IsAddressFault : List ℕ → Fe32 → List ℕ → ℕ → Refusal → Type 0
-IsAddressFault hrp version program room (Version e) =
-    IsSegwitEncodeRefusal hrp version program (WitnessVersion e)
-IsAddressFault hrp version program room (ProgramLength e) =
-    IsSegwitEncodeRefusal hrp version program (WitnessLength e)
-IsAddressFault hrp version program room (AddressTooLong e) =
-    IsSegwitEncodeRefusal hrp version program (LongAddress e)
+IsAddressFault hrp version program room (NoAddress e) =
+    IsSegwitEncodeRefusal hrp version program e × (e ≢ OutOfMemory)
 IsAddressFault hrp version program room NoRoom =
     HasAddress hrp version program × (room < address_length hrp program)
 IsAddressFault hrp version program room _ = ⊥

@@ -1,6 +1,6 @@
 //! Mends mistyped texts.
 
-ghost use Rattle.std.specs.Prelude.{◌≡◌, ◌≤◌, ◌<◌, ℕ, List, length, map, IfErr, IfOk, MatchResult, OnErr};
+ghost use Rattle.std.specs.Prelude.{◌≡◌, ◌≤◌, ◌<◌, ℕ, List, length, map, IfErr, IfOk, OnErr};
 ghost use Rattle.std.specs.List.{AllByRecursion};
 ghost use Rattle.bech32_gf.specs.Fe32.{elements_of, ops, value as value_of};
 ghost use Rattle.bech32_gf.specs.declared.gf32.Fe32.{Fe32 as Element};
@@ -12,53 +12,18 @@ ghost use Rattle.bech32_bch.specs.Pattern.{locations as locations_of};
 ghost use Rattle.bech32_encode.specs.Buffers.{IsPut};
 ghost use Rattle.bech32_hrp.specs.Hrp.{lowered};
 ghost use Rattle.bech32_correction.specs.MendedElements.{EndsIn, mended as mended_of};
-ghost use Rattle.bech32_correction.specs.Mistyped.{IsListedInPlace};
 ghost use Rattle.bech32_calls.specs.Checksums.{ForChecksum, IsFaultBy};
-ghost use Rattle.bech32_calls.specs.Correct.{IsCorrectFault, IsMending, IsResidueFault, PutsMended, bound};
+ghost use Rattle.bech32_calls.specs.Correct.{IsCorrectFault, IsMending, PutsMended, bound};
 
 use crate::checksum::{BECH32, BECH32M};
 use crate::input::text_of;
 use crate::refusal::Refusal;
 use bech32::{Bech32, Bech32m, Fe32};
 use bech32_correction::{
-    Correction, CorrectsInPlace, Listing, NoMemory, erased_of_read, error_of_read, listing_of_read,
-    listing_of_unread, mend, said_of_read,
+    Correction, CorrectsInPlace, erased_of_read, error_of_read, listing_of_read, listing_of_unread,
+    mend,
 };
 use bech32_decode::Reading;
-
-// What a checksum finds for a text.
-#[inline]
-fn correction<Ck: CorrectsInPlace>(
-    bytes: &[u8],
-    given: &[usize],
-) -> Result<Correction<Listing<NoMemory>>, Refusal>
-    ensures { MatchResult result
-        (λ answer. IsListedInPlace Ck.code Ck.bound bytes.now given.now answer)
-        (λ e. IsResidueFault bytes.now Ck.code e) }
-{
-    if let Some(reading) = Reading::<Ck>::of(bytes) {
-        return Ok(said_of_read(&reading, given)?);
-    }
-    Ok(listing_of_unread::<Ck>(text_of(bytes)?, given)?)
-}
-
-/// What the checksum of a number finds for a text.
-pub(crate) fn correction_by(
-    checksum: u32,
-    bytes: &[u8],
-    given: &[usize],
-) -> Result<Correction<Listing<NoMemory>>, Refusal>
-    ensures { MatchResult result
-        (λ answer. ForChecksum checksum
-        (λ code. IsListedInPlace code bound bytes.now given.now answer))
-        (λ e. IsFaultBy checksum (IsResidueFault bytes.now) e) }
-{
-    match checksum {
-        BECH32 => correction::<Bech32>(bytes, given),
-        BECH32M => correction::<Bech32m>(bytes, given),
-        _ => Err(Refusal::BadNumber),
-    }
-}
 
 // Puts the locations and the values of a listing at the fronts of buffers that have room for them.
 #[inline(always)]

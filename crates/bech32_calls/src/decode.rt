@@ -10,13 +10,13 @@ ghost use Rattle.bech32_calls.specs.Checksums.{ForChecksum, IsFaultBy};
 ghost use Rattle.bech32_calls.specs.Decode.{PutsDecoded, IsDecodeFault};
 ghost use Rattle.bech32_calls.specs.declared.refusal.Refusal.TheVariants.{NoRoom};
 
-use crate::buffer::put;
 use crate::checksum::{BECH32, BECH32M};
 use crate::input::text_of;
 use crate::refusal::Refusal;
 use bech32::primitives::decode::{UncheckedHrpstring, validate_either};
 use bech32::{Bech32, Bech32m, Checksum};
 use bech32_decode::{Reading, data_bytes_count, put_data_bytes};
+use bech32_encode::put_at_front;
 
 // Puts a human-readable part and the bytes of characters at the fronts of two buffers, and returns
 // their lengths.
@@ -40,7 +40,7 @@ pub(crate) fn put_parts(
     if data_bytes_count(characters) > bytes.len() {
         return Err(Refusal::NoRoom);
     }
-    put(hrp, part);
+    put_at_front(hrp, part);
     Ok((part.len(), put_data_bytes(characters, bytes)))
 }
 

@@ -9,7 +9,6 @@
 //! Standard: BIP-173; BIP-350.
 #![tactic(auto)]
 
-mod buffer;
 mod checksum;
 pub mod correct;
 pub mod decode;

@@ -1,63 +1,63 @@
 //! Lists the texts near to a mistyped one.
 
-ghost use Rattle.std.specs.Prelude.{◌≡◌, ◌<◌, ◌≤◌, ◌*◌, ◌⊎◌, ℕ, length, map, flat_map, string_bytes, true, false, IfErr, IfOk, MatchResult, OnErr};
-ghost use Rattle.bech32_near.specs.NearTexts.{AreNearTexts};
+ghost use Rattle.std.specs.Prelude.{◌≡◌, ◌≤◌, ◌<◌, ◌*◌, ◌⊎◌, length, map, flat_map, string_bytes, true, false, IfErr, IfOk, MatchResult, OnErr};
+ghost use Rattle.bech32_near.specs.NearTexts.{AreNearTexts, LeavesResidue};
 ghost use Rattle.bech32_encode.specs.Buffers.{IsPut};
 ghost use Rattle.caller_memory.specs.Memory.{LeavesMemory, memory_size};
 ghost use Rattle.bech32_calls.specs.Checksums.{ForChecksum, IsFaultBy};
-ghost use Rattle.bech32_calls.specs.Correct.{bound};
-ghost use Rattle.bech32_calls.specs.Nearest.{IsNearFault, IsRead, IsSearchFault, PutsNear};
+ghost use Rattle.bech32_calls.specs.Correct.{IsResidueFault, bound};
+ghost use Rattle.bech32_calls.specs.Nearest.{IsNearFault, PutsNear};
 
-use crate::buffer::put;
 use crate::checksum::{BECH32, BECH32M};
-use crate::correct::correction_by;
 use crate::input::text_of;
 use crate::refusal::Refusal;
-use bech32::{Bech32, Bech32m, Mended, nearest_in};
+use bech32::{Bech32, Bech32m, Mended};
+use bech32_encode::put_at_front;
+use bech32_near::{ReadText, nearest_of_read};
 use caller_memory::{Lent, Memory};
-use std::alloc::Allocator;
+use std::alloc::{AllocError, Allocator};
 
 // So many errors are looked for at most.
 const MOST_ERRORS: usize = 2;
 
-// Tests what is given before any memory is taken.
-fn tested(checksum: u32, bytes: &[u8], given: &[usize], errors: usize) -> Result<(), Refusal>
+// Reads a text by the checksum of a number.
+fn read_by(checksum: u32, bytes: &[u8]) -> Result<ReadText<'_>, Refusal>
     ensures { MatchResult result
-        (λ _. (errors ≤ 2) × ForChecksum checksum (IsRead bytes.now)
-        × ((room : ℕ)
-        → IsFaultBy checksum (IsNearFault bytes.now given.now errors room) Refusal.Memory))
-        (λ e. (room : ℕ) → IsFaultBy checksum (IsNearFault bytes.now given.now errors room) e) }
+        (λ read. (read.text.now ≡ bytes.now)
+        × ForChecksum checksum (λ code. LeavesResidue code read.text.now read.window read.residue))
+        (λ e. IsFaultBy checksum (IsResidueFault bytes.now) e) }
 {
-    if errors > MOST_ERRORS {
-        return Err(Refusal::BadNumber);
+    match checksum {
+        BECH32 => Ok(ReadText::new::<Bech32>(text_of(bytes)?)?),
+        BECH32M => Ok(ReadText::new::<Bech32m>(text_of(bytes)?)?),
+        _ => Err(Refusal::BadNumber),
     }
-    correction_by(checksum, bytes, given)?;
-    Ok(())
 }
 
-// The texts that are near by the checksum of a number.
+// The texts that are near to one that the checksum of a number read.
 fn near_by<'a, A: Allocator>(
     alloc: &'a A,
     checksum: u32,
-    bytes: &[u8],
+    read: &ReadText<'_>,
     given: &[usize],
     errors: usize,
-) -> Result<Vec<Mended<&'a A>, &'a A>, Refusal>
-    ensures { MatchResult result
-        (λ near. ForChecksum checksum (λ code. AreNearTexts code bound bytes.now given.now errors
-        (map (λ m. (m.listing, string_bytes m.text)) near.items)))
-        (λ e. IsFaultBy checksum (IsSearchFault bytes.now) e) }
+) -> Result<Vec<Mended<&'a A>, &'a A>, AllocError>
+    requires { ForChecksum checksum
+        (λ code. LeavesResidue code read.now.text.now read.now.window read.now.residue) }
+    ensures { IfOk result (λ near. ForChecksum checksum
+        (λ code. AreNearTexts code bound read.now.text.now given.now errors
+        (map (λ m. (m.listing, string_bytes m.text)) near.items))) }
 {
     match checksum {
         BECH32 => {
-            let near = nearest_in::<Bech32, &A>(alloc, text_of(bytes)?, given, errors)?;
+            let near = nearest_of_read::<Bech32, &A>(alloc, read, given, errors)?;
             Ok(near.texts)
         }
         BECH32M => {
-            let near = nearest_in::<Bech32m, &A>(alloc, text_of(bytes)?, given, errors)?;
+            let near = nearest_of_read::<Bech32m, &A>(alloc, read, given, errors)?;
             Ok(near.texts)
         }
-        _ => Err(Refusal::BadNumber),
+        _ => unreachable!(),
     }
 }
 
@@ -84,91 +84,39 @@ fn put_each<A: Allocator + Copy>(near: &[Mended<A>], texts: &mut [u8])
     let mut end = 0;
     for i in 0..near.len() {
         let text = near[i].text.as_bytes();
-        put(&mut texts[end..], text);
+        put_at_front(&mut texts[end..], text);
         end += text.len();
     }
 }
 
-// Puts the near texts into a buffer, and returns how many they are.
+// Puts the texts that are near to one that was read into a buffer, and returns how many they are.
 fn put_near<A: Allocator>(
     alloc: &A,
     checksum: u32,
-    bytes: &[u8],
+    read: &ReadText<'_>,
     given: &[usize],
     errors: usize,
     texts: &mut [u8],
 ) -> Result<usize, Refusal>
     requires few { errors ≤ 2 }
-    requires read { ForChecksum checksum (IsRead bytes.now) }
+    requires read { ForChecksum checksum
+        (λ code. LeavesResidue code read.now.text.now read.now.window read.now.residue) }
     ensures value { IfOk result (λ count. ForChecksum checksum
-        (PutsNear bytes.now given.now errors texts.old texts.new count)) }
+        (PutsNear read.now.text.now given.now errors texts.old texts.new count)) }
     ensures refused { IfErr result (λ e. IsFaultBy checksum
-        (IsNearFault bytes.now given.now errors (length texts.old)) e) }
+        (IsNearFault read.now.text.now given.now errors (length texts.old)) e) }
     ensures same { OnErr result (texts.new ≡ texts.old) }
 {
-    let found = near_by(alloc, checksum, bytes, given, errors)?;
+    let Ok(found) = near_by(alloc, checksum, read, given, errors) else {
+        return Err(Refusal::Memory);
+    };
     let near = found.as_slice();
     let count = near.len();
-    if !fit(count, bytes.len(), texts.len()) {
+    if !fit(count, read.text.len(), texts.len()) {
         return Err(Refusal::NoRoom);
     }
     put_each(near, texts);
     Ok(count)
-}
-
-// The same with lent memory.
-fn put_over(
-    lent: &Lent,
-    checksum: u32,
-    bytes: &[u8],
-    given: &[usize],
-    errors: usize,
-    texts: &mut [u8],
-) -> Result<usize, Refusal>
-    requires few { errors ≤ 2 }
-    requires read { ForChecksum checksum (IsRead bytes.now) }
-    ensures value { IfOk result (λ count. ForChecksum checksum
-        (PutsNear bytes.now given.now errors texts.old texts.new count)) }
-    ensures refused { IfErr result (λ e. IsFaultBy checksum
-        (IsNearFault bytes.now given.now errors (length texts.old)) e) }
-    ensures same { OnErr result (texts.new ≡ texts.old) }
-{
-    let arena = lent.arena();
-    put_near(&arena, checksum, bytes, given, errors, texts)
-}
-
-// The same with memory that comes back; if it does not, it does not suffice.
-fn put_with(
-    memory: &mut Memory,
-    checksum: u32,
-    bytes: &[u8],
-    given: &[usize],
-    errors: usize,
-    texts: &mut [u8],
-) -> Result<usize, Refusal>
-    requires few { errors ≤ 2 }
-    requires read { ForChecksum checksum (IsRead bytes.now) }
-    requires lack { IsFaultBy checksum
-        (IsNearFault bytes.now given.now errors (length texts.old)) Refusal.Memory }
-    ensures value { IfOk result (λ count. ForChecksum checksum
-        (PutsNear bytes.now given.now errors texts.old texts.new count)) }
-    ensures refused { IfErr result (λ e. IsFaultBy checksum
-        (IsNearFault bytes.now given.now errors (length texts.old)) e) }
-    ensures same { IfErr result (λ e. (texts.new ≡ texts.old)
-        ⊎ ((e ≡ Refusal.Memory) × (memory_size memory.new ≡ 0))) }
-    ensures memory { MatchResult result
-        (λ _. memory.new ≡ memory.old)
-        (λ e. LeavesMemory memory.old memory.new (e ≡ Refusal.Memory)) }
-{
-    let lent = Lent::new(memory.take());
-    let count = put_over(&lent, checksum, bytes, given, errors, texts);
-    match lent.into_memory() {
-        Some(whole) => {
-            *memory = whole;
-            count
-        }
-        None => Err(Refusal::Memory),
-    }
 }
 
 /// Puts all texts near to a mistyped one, by the checksum of a number, at the front of a buffer, in
@@ -201,6 +149,18 @@ pub fn put_nearest(
         (λ _. memory.new ≡ memory.old)
         (λ e. LeavesMemory memory.old memory.new (e ≡ Refusal.Memory)) }
 {
-    tested(checksum, bytes, given, errors)?;
-    put_with(memory, checksum, bytes, given, errors, texts)
+    if errors > MOST_ERRORS {
+        return Err(Refusal::BadNumber);
+    }
+    let read = read_by(checksum, bytes)?;
+    let lent = Lent::new(memory.take());
+    let count = put_near(&lent.arena(), checksum, &read, given, errors, texts);
+    // Memory that does not come back did not suffice.
+    match lent.into_memory() {
+        Some(whole) => {
+            *memory = whole;
+            count
+        }
+        None => Err(Refusal::Memory),
+    }
 }

@@ -5,15 +5,14 @@ ghost use Rattle.bech32_calls.specs.Numbers.{number_of};
 
 use crate::input::NotText;
 use bech32::primitives::decode::{
-    CheckedHrpstringError, ChecksumError, CodeLengthError, SegwitCodeLengthError,
-    SegwitHrpstringError, UncheckedHrpstringError,
+    CheckedHrpstringError, ChecksumError, CodeLengthError, SegwitHrpstringError,
+    UncheckedHrpstringError,
 };
 use bech32::primitives::hrp;
-use bech32::primitives::segwit::{InvalidWitnessVersionError, WitnessLengthError};
-use bech32::{CorrectError, EncodeError, segwit};
+use bech32::{EncodeError, segwit};
 use bech32_numbers::{
     NO_CORRECTION, address_error_number, checksum_error_number, encode_error_number,
-    hrp_error_number, length_error_number, segwit_encode_error_number, text_error_number,
+    hrp_error_number, segwit_encode_error_number, text_error_number,
 };
 
 /// Why a call writes nothing.
@@ -37,23 +36,19 @@ pub enum Refusal {
     Text(UncheckedHrpstringError),
     /// No checksum that is asked for accepts the text.
     Checksum(ChecksumError),
-    /// The witness version is above 16.
-    Version(InvalidWitnessVersionError),
-    /// The witness program is not of a lawful length.
-    ProgramLength(WitnessLengthError),
-    /// The segwit address would have more than 90 characters.
-    AddressTooLong(SegwitCodeLengthError),
+    /// The parts have no segwit address.
+    NoAddress(segwit::EncodeError),
     /// The text is not a segwit address.
     Address(SegwitHrpstringError),
 }
 
 impl Refusal {
-    // The number, which has two digits at most.
-    fn small_number(self) -> u8
+    /// The number that a call returns.
+    pub fn number(self) -> u32
         ensures value { result ≡ number_of self }
         ensures some { 0 < result }
     {
-        match self {
+        let small: u8 = match self {
             Refusal::NotUtf8 => 2,
             Refusal::BadNumber => 4,
             Refusal::NoRoom => 92,
@@ -63,23 +58,10 @@ impl Refusal {
             Refusal::TooLong(e) => encode_error_number(EncodeError::TooLong(e)),
             Refusal::Text(e) => text_error_number(e),
             Refusal::Checksum(e) => checksum_error_number(e),
-            Refusal::Version(e) => {
-                segwit_encode_error_number(segwit::EncodeError::WitnessVersion(e))
-            }
-            Refusal::ProgramLength(e) => length_error_number(e),
-            Refusal::AddressTooLong(e) => {
-                segwit_encode_error_number(segwit::EncodeError::TooLong(e))
-            }
+            Refusal::NoAddress(e) => segwit_encode_error_number(e),
             Refusal::Address(e) => address_error_number(e),
-        }
-    }
-
-    /// The number that a call returns.
-    pub fn number(self) -> u32
-        ensures value { result ≡ number_of self }
-        ensures some { 0 < result }
-    {
-        u32::from(self.small_number())
+        };
+        u32::from(small)
     }
 }
 
@@ -146,46 +128,13 @@ impl From<CheckedHrpstringError> for Refusal {
     }
 }
 
-impl From<CorrectError> for Refusal {
-    ghost use Rattle.bech32_calls.specs.Nearest.{refusal_of_correct};
+impl From<segwit::EncodeError> for Refusal {
+    ghost use Rattle.bech32_calls.specs.declared.refusal.Refusal.TheVariants.{NoAddress};
 
-    ghost from_gives = { λ e r. r ≡ refusal_of_correct e };
+    ghost from_gives = { λ e r. r ≡ NoAddress e };
 
-    fn from(e: CorrectError) -> Refusal {
-        match e {
-            CorrectError::Refused(e) => Refusal::from(e),
-            CorrectError::Memory => Refusal::Memory,
-        }
-    }
-}
-
-impl From<InvalidWitnessVersionError> for Refusal {
-    ghost use Rattle.bech32_calls.specs.declared.refusal.Refusal.TheVariants.{Version};
-
-    ghost from_gives = { λ e r. r ≡ Version e };
-
-    fn from(e: InvalidWitnessVersionError) -> Refusal {
-        Refusal::Version(e)
-    }
-}
-
-impl From<WitnessLengthError> for Refusal {
-    ghost use Rattle.bech32_calls.specs.declared.refusal.Refusal.TheVariants.{ProgramLength};
-
-    ghost from_gives = { λ e r. r ≡ ProgramLength e };
-
-    fn from(e: WitnessLengthError) -> Refusal {
-        Refusal::ProgramLength(e)
-    }
-}
-
-impl From<SegwitCodeLengthError> for Refusal {
-    ghost use Rattle.bech32_calls.specs.declared.refusal.Refusal.TheVariants.{AddressTooLong};
-
-    ghost from_gives = { λ e r. r ≡ AddressTooLong e };
-
-    fn from(e: SegwitCodeLengthError) -> Refusal {
-        Refusal::AddressTooLong(e)
+    fn from(e: segwit::EncodeError) -> Refusal {
+        Refusal::NoAddress(e)
     }
 }
 

@@ -1,13 +1,13 @@
 //! Encodes and decodes segwit addresses.
 
-ghost use Rattle.std.specs.Prelude.{◌≡◌, ◌≤◌, ◌∷◌, ℕ, List, length, MatchResult, IfOk, IfErr, OnErr};
+ghost use Rattle.std.specs.Prelude.{◌≡◌, ◌≤◌, ◌∷◌, ℕ, List, length, IfOk, IfErr, OnErr};
 ghost use Rattle.bech32_gf.specs.Fe32.{value};
 ghost use Rattle.bech32_bits.specs.Bits.{to_fes};
 ghost use Rattle.bech32_checksum.specs.Encoded.{IsEncodedText};
 ghost use Rattle.bech32_decode.specs.Segwit.{segwit_code};
-ghost use Rattle.bech32_segwit.specs.SegwitEncoding.{HasAddress, address_length};
+ghost use Rattle.bech32_segwit.specs.SegwitEncoding.{address_length};
 ghost use Rattle.bech32_encode.specs.Buffers.{IsPut};
-ghost use Rattle.bech32_calls.specs.Segwit.{PutsAddress, IsAddressFault, IsSegwitEncodeFault};
+ghost use Rattle.bech32_calls.specs.Segwit.{PutsAddress, IsSegwitEncodeFault};
 ghost use Rattle.bech32_calls.specs.Segwit.{PutsProgram, IsSegwitDecodeFault};
 
 use crate::decode::put_parts;
@@ -15,28 +15,10 @@ use crate::encode::put_in_room;
 use crate::input::{element_of, test_part, text_of};
 use crate::refusal::Refusal;
 use bech32::primitives::decode::SegwitHrpstring;
-use bech32::primitives::segwit::{
-    MAX_STRING_LENGTH, VERSION_0, validate_witness_program_length, validate_witness_version,
-};
-use bech32::segwit::encoded_length_of_part;
+use bech32::primitives::segwit::{MAX_STRING_LENGTH, VERSION_0};
+use bech32::segwit::address_length_of_part;
 use bech32::{Bech32, Bech32m, Fe32};
 use bech32_decode::Reading;
-
-// Tests that there is an address, and that a buffer of so many bytes has room for it.
-fn validate(part: &[u8], version: Fe32, program: &[u8], room: usize) -> Result<(), Refusal>
-    ensures { MatchResult result
-        (λ _. HasAddress part.now version program.now
-        × (address_length part.now program.now ≤ room))
-        (λ e. IsAddressFault part.now version program.now room e) }
-{
-    validate_witness_version(version)?;
-    validate_witness_program_length(program.len(), version)?;
-    let count = encoded_length_of_part(part, program)?;
-    if count > room {
-        return Err(Refusal::NoRoom);
-    }
-    Ok(())
-}
 
 // Puts the text of a version and a program by the checksum of the version.
 fn put_address(part: &[u8], version: Fe32, program: &[u8], text: &mut [u8]) -> usize
@@ -70,7 +52,9 @@ pub fn encoded(hrp: &[u8], version: u32, program: &[u8], text: &mut [u8]) -> Res
 {
     let element = element_of(version)?;
     test_part(hrp)?;
-    validate(hrp, element, program, text.len())?;
+    if address_length_of_part(hrp, element, program)? > text.len() {
+        return Err(Refusal::NoRoom);
+    }
     Ok(put_address(hrp, element, program, text))
 }
 

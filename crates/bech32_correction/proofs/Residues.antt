@@ -19,7 +19,7 @@ use Rattle.bech32_decode.specs.Text.{IsText}
 use Rattle.bech32_correction.specs.Mistyped.{IsRefusedFor}
 
 -- a remainder is not the target where the target is none
-other_remainder : (code : Code) (p : List Fe32) → (IsRemainder ops code.generator p code.target → ⊥)
+pub other_remainder : (code : Code) (p : List Fe32) → (IsRemainder ops code.generator p code.target → ⊥)
     → remainder_of ops code.generator p ≡ code.target → ⊥
 other_remainder code p not same = not (subst (IsRemainder ops code.generator p) same (remainder_exists is_field code.generator p))
 
@@ -32,28 +32,37 @@ nothing_behind low remainder target short size k far =
     ∙ ap (fe32.add fe32.zero) (get_or_past target k fe32.zero (omega arith))
     ∙ is_field.add_zero fe32.zero
 
--- the text is refused for what is left of its remainder, of which the first coefficients are all
+-- the text is refused for what is left of its remainder
+pub refused_by_all : (code : Code) (text hrp data_part : List ℕ) (residue : List Fe32) → IsText text hrp data_part
+    → HasLengths code (length text) (length data_part)
+    → IsSamePolynomial ops residue (add ops (remainder_of ops code.generator (text_polynomial hrp (elements_of data_part))) code.target)
+    → (IsRemainder ops code.generator (text_polynomial hrp (elements_of data_part)) code.target → ⊥)
+    → IsRefusedFor code text hrp data_part residue
+refused_by_all code text hrp data_part residue is lengths same not =
+    let p = text_polynomial hrp (elements_of data_part) in
+    record {
+      read = record {
+        grammar = is;
+        text_length = lengths.0;
+        data_length = lengths.1;
+        remainder = remainder_of ops code.generator p;
+        is_remainder = remainder_exists is_field code.generator p;
+        residue_is = same;
+      };
+      not_target = other_remainder code p not;
+    }
+
+-- the first coefficients of it are all
 pub refused_by_rest : (code : Code) (text hrp data_part : List ℕ) (residue : List Fe32) (n : ℕ) → IsText text hrp data_part
     → HasLengths code (length text) (length data_part) → length code.target ≡ length code.generator → length code.generator ≡ n → n ≤ length residue
     → IsSamePolynomial ops residue (add ops (remainder_of ops code.generator (text_polynomial hrp (elements_of data_part))) code.target)
     → (IsRemainder ops code.generator (text_polynomial hrp (elements_of data_part)) code.target → ⊥)
     → IsRefusedFor code text hrp data_part (take n residue)
 refused_by_rest code text hrp data_part residue n is lengths size degree within same not =
-    let p = text_polynomial hrp (elements_of data_part) in
-    let remainder = remainder_of ops code.generator p in
+    let remainder = remainder_of ops code.generator (text_polynomial hrp (elements_of data_part)) in
     let above : (k : ℕ) → n ≤ k → coefficient ops residue k ≡ fe32.zero =
-    λ k far. same k ∙ nothing_behind code.generator remainder code.target (length-remainder_of is_field code.generator p) size k (omega (arith, degree, far)) in
-    record {
-      read = record {
-        grammar = is;
-        text_length = lengths.0;
-        data_length = lengths.1;
-        remainder = remainder_of ops code.generator (text_polynomial hrp (elements_of data_part));
-        is_remainder = remainder_exists is_field code.generator (text_polynomial hrp (elements_of data_part));
-        residue_is = λ k. trimmed_same ops residue n within above k ∙ same k;
-      };
-      not_target = other_remainder code (text_polynomial hrp (elements_of data_part)) not;
-    }
+    λ k far. same k ∙ nothing_behind code.generator remainder code.target (length-remainder_of is_field code.generator (text_polynomial hrp (elements_of data_part))) size k (omega (arith, degree, far)) in
+    refused_by_all code text hrp data_part (take n residue) is lengths (λ k. trimmed_same ops residue n within above k ∙ same k) not
 
 -- a residue for which a text is refused is not zero
 pub residue_not_zero : (code : Code) (text hrp data_part : List ℕ) (residue : List Fe32) → length code.target ≡ length code.generator

@@ -5,7 +5,7 @@ ghost use Rattle.bech32_correction.specs.Mistyped.{IsCorrectRefusal, IsCorrector
 ghost use Rattle.bech32_correction.specs.declared.error.CorrectError.TheVariants.{Memory};
 
 use crate::error::CorrectError;
-use crate::residue_errors::{residue_error_in, residue_error_of};
+use crate::residue_errors::residue_error_in;
 use bech32_bch::ShortVec;
 use bech32_checksum::{Checksum, CorrectingChecksum};
 use bech32_corrector::Corrector;
@@ -87,11 +87,12 @@ pub fn listing_of_reading<Ck: CorrectingChecksum, A: Allocator + Copy>(
         (λ e. IsCorrectRefusal Ck.code reading.now.text.now e) }
     ensures in_place { length Ck.code.generator ≤ 6 → result ≡ Err Memory → ⊥ }
 {
-    let Some(error) = residue_error_of(reading)? else {
+    reading.validate_lengths()?;
+    if reading.has_target() {
         return Ok(Correction::Accepted);
-    };
+    }
     let window = reading.data_part.len();
-    let corrector = Corrector::<Ck, A>::new(alloc, error.residue(), window);
+    let corrector = Corrector::<Ck, A>::new(alloc, reading.error_residue(), window);
     Ok(listing_by(corrector, erasures)?)
 }
 

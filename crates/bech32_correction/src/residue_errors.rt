@@ -7,7 +7,7 @@ ghost use Rattle.bech32_decode.specs.Refusals.{IsChecksumRefusal, IsInvalidBy, I
 ghost use Rattle.bech32_refusals.specs.declared.error.ChecksumError.TheVariants.{InvalidResidue};
 
 use bech32_checksum::Checksum;
-use bech32_decode::{Reading, UncheckedHrpstring};
+use bech32_decode::UncheckedHrpstring;
 use bech32_refusals::{ChecksumError, InvalidResidueError};
 
 // The residue error of a checksum's refusal, if it is for the residue; none where there is no
@@ -49,25 +49,4 @@ pub fn residue_error_in<Ck: Checksum>(
         (λ e. IsInvalidBy Ck.code unchecked.now e × (of_checksum e ≡ None)) }
 {
     residue_error_by(unchecked.validate_checksum::<Ck>())
-}
-
-/// The same of a text that one walk read.
-///
-/// # Errors
-///
-/// As [`residue_error_in`].
-#[inline]
-pub fn residue_error_of<Ck: Checksum>(
-    reading: &Reading<'_, Ck>,
-) -> Result<Option<InvalidResidueError>, ChecksumError>
-    ensures { MatchResult result
-        (λ found. MatchOption found
-        (IsAccepted Ck.code
-        reading.now.text.now reading.now.hrp.now reading.now.data_part.now)
-        (λ e. IsChecksumRefusal Ck.code (length reading.now.text.now)
-        reading.now.hrp.now reading.now.data_part.now (InvalidResidue e)))
-        (λ e. IsChecksumRefusal Ck.code (length reading.now.text.now)
-        reading.now.hrp.now reading.now.data_part.now e × (of_checksum e ≡ None)) }
-{
-    residue_error_by(reading.validate())
 }

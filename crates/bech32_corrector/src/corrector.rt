@@ -1,8 +1,7 @@
 //! What finds the errors in a text.
 
-ghost use Rattle.std.specs.Prelude.{◌≡◌, ◌≤◌, ◌<◌, [], length, IfOk, IsOk, MatchOption, OnErr, OnOk};
+ghost use Rattle.std.specs.Prelude.{◌≡◌, ◌≤◌, ◌<◌, ◌↔◌, [], length, IfOk, IsOk, IsTrue, MatchOption, OnErr, OnOk};
 ghost use Rattle.std.specs.List.{AllByRecursion};
-ghost use Rattle.bech32_checksum.specs.Roots.{AreLawfulRoots};
 ghost use Rattle.bech32_bch.specs.Erasures.{AreErasures, with_erasures};
 ghost use Rattle.bech32_bch.specs.Search.{locators};
 ghost use Rattle.bech32_direct.specs.TakenOff.{IsTakenOff};
@@ -11,16 +10,16 @@ ghost use Rattle.bech32_corrector.specs.Given.{AreWithin, IsAnswerWith, with_giv
 ghost use Rattle.bech32_gf.specs.Fe32 as fe32;
 ghost use Rattle.bech32_poly.specs.FieldVec.{FitsInPlace};
 
-use crate::erasures::distinct_below;
+use crate::erasures::{are_below, distinct_below};
 use crate::errors::{ErrorIterator, ShortIter};
 use crate::given::listing_given;
 use bech32_bch::{ShortVec, locators_of};
 use bech32_checksum::Checksum;
-use bech32_direct::residue_without;
+use bech32_direct::{correct_erased, correct_single, residue_without};
 use bech32_gf::gf32::Fe32;
 use bech32_poly::fieldvec::FieldVec;
 use bech32_refusals::MAX_DEGREE;
-use bech32_solver::{bound, correct, extended};
+use bech32_solver::{bound, correct_by_roots, extended, is_filled};
 use std::alloc::{AllocError, Allocator, Global};
 use std::fmt;
 use std::marker::{Model, PhantomData};
@@ -44,8 +43,7 @@ impl<Ck: Checksum, A: Allocator + Copy> Model for Corrector<Ck, A> {
 
     ghost invariant = { λ a. (a.window ≤ Ck.CODE_LENGTH) × AreErasures a.window a.erasures
         × (a.known ≡ locators Ck.CorrectionField.ops Ck.ROOT_GENERATOR a.erasures)
-        × AreLawfulRoots Ck.CorrectionField.ops Ck.CorrectionField.embed Ck.code
-        Ck.ROOT_GENERATOR Ck.ROOT_EXPONENTS_START Ck.ROOT_EXPONENTS_END };
+        × (Ck.lawful × (0 < length Ck.code.generator)) };
 }
 
 /// A clone allocates nothing up to seven erasures.
@@ -79,8 +77,7 @@ impl<Ck: Checksum, A: Allocator + Copy> fmt::Debug for Corrector<Ck, A> {
 impl<Ck: Checksum, A: Allocator + Copy> Corrector<Ck, A> {
     /// A corrector of an error residue, with no erasures.
     pub fn new(alloc: A, residue: [Fe32; MAX_DEGREE], window: usize) -> Self
-        requires lawful { AreLawfulRoots Ck.CorrectionField.ops Ck.CorrectionField.embed Ck.code
-            Ck.ROOT_GENERATOR Ck.ROOT_EXPONENTS_START Ck.ROOT_EXPONENTS_END }
+        requires lawful { Ck.lawful × (0 < length Ck.code.generator) }
         requires within { window ≤ Ck.CODE_LENGTH }
         ensures { result ≡ record { residue = residue; window = window; erasures = [] } }
     {
@@ -112,7 +109,17 @@ impl<Ck: Checksum, A: Allocator + Copy> Corrector<Ck, A> {
         self.window
     }
 
+    /// Whether all these locations are below the window, as [`add_erasures`](Self::add_erasures)
+    /// and [`with`](Self::with) want them.
+    pub fn are_within(&self, locations: &[usize]) -> bool
+        ensures { IsTrue result ↔ AllByRecursion (λ i. i < self.now.window) locations.now }
+    {
+        are_below(locations, self.window)
+    }
+
     /// Adds locations that are known to be wrong; one that is there already is not added again.
+    /// Where it is not known that they are all below the window, [`are_within`](Self::are_within)
+    /// tells.
     ///
     /// # Errors
     ///
@@ -181,7 +188,14 @@ impl<Ck: Checksum, A: Allocator + Copy> Corrector<Ck, A> {
     {
         let alloc = self.erasures.allocator();
         let (window, residue) = (self.window, &self.residue);
-        correct::<Ck, A>(alloc, window, residue, &self.erasures, &self.known)
+        let (erased, most) = (self.erasures.len(), bound::<Ck>());
+        if erased == 0 && most >= 2 && most <= 3 {
+            return correct_single::<Ck, A>(alloc, window, residue);
+        }
+        if is_filled::<Ck>(erased) {
+            return correct_erased::<Ck, A>(alloc, window, residue, &self.erasures);
+        }
+        correct_by_roots::<Ck, A>(alloc, window, residue, &self.erasures, &self.known)
     }
 
     /// What [`listing`](Self::listing) is with these locations as erasures in place of its own.
@@ -234,6 +248,13 @@ impl<Ck: Checksum, A: Allocator + Copy> Corrector<Ck, A> {
         ensures lawful { AreErasures self.now.window self.now.erasures }
     {
         self.erasures.as_slice()
+    }
+
+    /// The error residue: its coefficients, the constant one first, with zeros behind them.
+    pub fn residue(&self) -> &[Fe32]
+        ensures { result.now ≡ self.now.residue }
+    {
+        &self.residue
     }
 
     /// The allocator.

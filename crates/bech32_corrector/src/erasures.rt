@@ -9,8 +9,8 @@ ghost use Rattle.bech32_corrector.specs.Given.{AreWithin};
 use bech32_bch::{ShortVec, contains};
 use std::alloc::{AllocError, Allocator};
 
-// Whether all locations are below the window.
-fn are_below(given: &[usize], window: usize) -> bool
+/// Whether all locations are below the window.
+pub(crate) fn are_below(given: &[usize], window: usize) -> bool
     ensures { IsTrue result ↔ AllByRecursion (λ i. i < window) given.now }
 {
     for location in given {

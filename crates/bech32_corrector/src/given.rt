@@ -1,7 +1,6 @@
 //! The listing that explains an error residue, where locations are given as erasures.
 
-ghost use Rattle.std.specs.Prelude.{◌≤◌, ℕ, List, length, IfOk, IsOk};
-ghost use Rattle.bech32_checksum.specs.Roots.{AreLawfulRoots};
+ghost use Rattle.std.specs.Prelude.{◌≤◌, ◌<◌, ℕ, List, length, IfOk, IsOk};
 ghost use Rattle.bech32_corrector.specs.Given.{IsAnswerWith};
 
 use crate::corrector::Corrector;
@@ -10,7 +9,7 @@ use bech32_bch::{ShortVec, locators_of};
 use bech32_checksum::Checksum;
 use bech32_direct::{correct_erased, correct_single};
 use bech32_gf::gf32::Fe32;
-use bech32_solver::{bound, correct};
+use bech32_solver::{bound, correct_by_roots};
 use std::alloc::{AllocError, Allocator};
 use std::marker::PhantomData;
 
@@ -30,8 +29,7 @@ pub fn listing_given<Ck: Checksum, A: Allocator + Copy>(
     given: &[usize],
     _sizes: PhantomData<Corrector<Ck, A>>,
 ) -> Result<Option<ShortVec<(usize, Fe32), A>>, AllocError>
-    requires lawful { AreLawfulRoots Ck.CorrectionField.ops Ck.CorrectionField.embed Ck.code
-        Ck.ROOT_GENERATOR Ck.ROOT_EXPONENTS_START Ck.ROOT_EXPONENTS_END }
+    requires lawful { Ck.lawful × (0 < length Ck.code.generator) }
     requires within { window ≤ Ck.CODE_LENGTH }
     ensures answer { (before : List ℕ) → IfOk result (λ answer. IsAnswerWith Ck.code Ck.bound
         (record { residue = residue.now; window = window; erasures = before }) given.now answer) }
@@ -49,5 +47,5 @@ pub fn listing_given<Ck: Checksum, A: Allocator + Copy>(
         return correct_erased::<Ck, A>(alloc, window, residue, &erasures);
     }
     let known = locators_of(alloc, Ck::ROOT_GENERATOR, erasures.as_slice())?;
-    correct::<Ck, A>(alloc, window, residue, &erasures, &known)
+    correct_by_roots::<Ck, A>(alloc, window, residue, &erasures, &known)
 }

@@ -6,7 +6,6 @@ ghost use Rattle.bech32_gf.specs.Fe32 as fe32;
 ghost use Rattle.bech32_gf.specs.declared.gf32.Fe32.{Fe32 as Element};
 ghost use Rattle.bech32_checksum.specs.Code.{IsResidueOf};
 ghost use Rattle.bech32_checksum.specs.Packed.{HasDigits, digit_of};
-ghost use Rattle.bech32_checksum.specs.Roots.{AreLawfulRoots};
 ghost use Rattle.bech32_bch.specs.Erasures.{AreErasures};
 ghost use Rattle.bech32_direct.specs.Equations.{AreCancelled, IsEliminated, entry, placed, weighted};
 ghost use Rattle.bech32_direct.specs.Found.{AreErasedValues, AreValuesAt};
@@ -320,8 +319,7 @@ pub fn correct_erased<Ck: Checksum, A: Allocator + Copy>(
     residue: &[Fe32],
     erasures: &ShortVec<usize, A>,
 ) -> Result<Option<ShortVec<(usize, Fe32), A>>, AllocError>
-    requires lawful { AreLawfulRoots Ck.CorrectionField.ops Ck.CorrectionField.embed Ck.code
-        Ck.ROOT_GENERATOR Ck.ROOT_EXPONENTS_START Ck.ROOT_EXPONENTS_END }
+    requires lawful { Ck.lawful × (0 < length Ck.code.generator) }
     requires within { window ≤ Ck.CODE_LENGTH }
     requires erased { AreErasures window erasures.now }
     requires few { length erasures.now ≤ Ck.bound }

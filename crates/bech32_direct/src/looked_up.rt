@@ -1,9 +1,8 @@
 //! Patterns of at most three places that a checksum looks up, found without memory.
 
-ghost use Rattle.std.specs.Prelude.{◌≡◌, ◌≤◌, [], ℕ, List, Some, length, take, MatchOption, ⊤};
+ghost use Rattle.std.specs.Prelude.{◌≡◌, ◌≤◌, ◌<◌, [], ℕ, List, Some, length, take, MatchOption, ⊤};
 ghost use Rattle.bech32_bch.specs.Erasures.{AreErasures};
 ghost use Rattle.bech32_bch.specs.Pattern.{HasRemainder, locations};
-ghost use Rattle.bech32_checksum.specs.Roots.{AreLawfulRoots};
 ghost use Rattle.bech32_direct.specs.Question.{IsAnswerTo, listing_of_one};
 ghost use Rattle.bech32_gf.specs.Fe32 as fe32;
 ghost use Rattle.bech32_gf.specs.declared.gf32.Fe32.{Fe32 as Element};
@@ -44,8 +43,7 @@ impl ShortListing {
 /// to find it; the outer `None` says nothing.
 #[inline(always)]
 pub fn single_below<Ck: Checksum>(window: usize, residue: &[Fe32]) -> Option<Option<(usize, Fe32)>>
-    requires lawful { AreLawfulRoots Ck.CorrectionField.ops Ck.CorrectionField.embed Ck.code
-        Ck.ROOT_GENERATOR Ck.ROOT_EXPONENTS_START Ck.ROOT_EXPONENTS_END }
+    requires lawful { Ck.lawful × (0 < length Ck.code.generator) }
     requires within { window ≤ Ck.CODE_LENGTH }
     requires bound { Ck.bound ≡ 3 }
     requires not_zero { ¬ IsSamePolynomial fe32.ops residue.now [] }
@@ -118,8 +116,7 @@ pub fn erased_below<Ck: Checksum>(
     residue: &[Fe32],
     given: &[usize],
 ) -> Option<ShortListing>
-    requires lawful { AreLawfulRoots Ck.CorrectionField.ops Ck.CorrectionField.embed Ck.code
-        Ck.ROOT_GENERATOR Ck.ROOT_EXPONENTS_START Ck.ROOT_EXPONENTS_END }
+    requires lawful { Ck.lawful × (0 < length Ck.code.generator) }
     requires within { window ≤ Ck.CODE_LENGTH }
     requires bound { Ck.bound ≡ 3 }
     ensures { MatchOption result ⊤ (λ listing. AreErasures window given.now

@@ -6,7 +6,6 @@ ghost use Rattle.bech32_gf.specs.declared.gf32.Fe32.{Fe32 as Element};
 ghost use Rattle.bech32_checksum.specs.Code.{IsResidueOf};
 ghost use Rattle.bech32_checksum.specs.OneError.{IsSingle};
 ghost use Rattle.bech32_checksum.specs.Packed.{HasDigits, digit_of};
-ghost use Rattle.bech32_checksum.specs.Roots.{AreLawfulRoots};
 ghost use Rattle.bech32_direct.specs.Found.{IsErrorBelow};
 ghost use Rattle.bech32_direct.specs.Multiple.{IsMultiple, screen};
 ghost use Rattle.bech32_direct.specs.Question.{IsAnswerTo};
@@ -152,8 +151,7 @@ pub fn correct_single<Ck: Checksum, A: Allocator + Copy>(
     window: usize,
     residue: &[Fe32],
 ) -> Result<Option<ShortVec<(usize, Fe32), A>>, AllocError>
-    requires lawful { AreLawfulRoots Ck.CorrectionField.ops Ck.CorrectionField.embed Ck.code
-        Ck.ROOT_GENERATOR Ck.ROOT_EXPONENTS_START Ck.ROOT_EXPONENTS_END }
+    requires lawful { Ck.lawful × (0 < length Ck.code.generator) }
     requires within { window ≤ Ck.CODE_LENGTH }
     requires one { 2 ≤ Ck.bound }
     requires most { Ck.bound ≤ 3 }

@@ -14,6 +14,7 @@ mod buffer;
 mod bytes;
 mod checksummed;
 mod elements;
+mod front;
 mod groups;
 mod pairs;
 mod pieces;
@@ -31,6 +32,7 @@ pub use buffer::put_text;
 pub use bytes::ByteIter;
 pub use checksummed::Checksummed;
 pub use elements::Fe32Iter;
+pub use front::put_at_front;
 pub use pieces::TextInPieces;
 use std::marker::PhantomData;
 pub use text::{

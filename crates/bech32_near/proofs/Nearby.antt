@@ -2,10 +2,10 @@
 use Rattle.std.specs.List.{AllByRecursion, list_all}
 use Rattle.std.specs.Prelude.{IfOk, Bool, true}
 use Rattle.std.specs.Char.{to_ascii_lowercase}
-use Rattle.std.proofs.Common.{◌≡◌, ℕ, eqb, zero, suc, ◌+◌, ◌<◌, ◌≤◌, List, [], ◌∷◌, ◌++◌, map, length, length-append, take, get_or, Some, Result, Ok, Err, ◌⊎◌, inl, inr, subst, sym, ap, ◌∙◌, refl, arith}
+use Rattle.std.proofs.Common.{◌≡◌, ℕ, eqb, zero, suc, ◌+◌, ◌<◌, ◌≤◌, List, [], ◌∷◌, ◌++◌, map, length, length-append, Some, Result, Ok, Err, ◌⊎◌, inl, inr, subst, sym, ap, ◌∙◌, refl, arith}
 use Rattle.std.proofs.Math.Decide.{dec_lt}
 use Rattle.std.proofs.lemmas.Bool.{and_parts, eqb-true}
-use Rattle.std.proofs.lemmas.List.{length-map, take_more}
+use Rattle.std.proofs.lemmas.List.{length-map}
 use Rattle.bech32_gf.specs.Fe32 as fe32
 use Rattle.bech32_gf.specs.Fe32.{element_of, elements_of, ops}
 use Rattle.bech32_gf.specs.declared.gf32.Fe32.{Fe32}
@@ -72,47 +72,51 @@ all_zero [] h n = refl
 all_zero (x ∷ xs) h zero = fe32.path x fe32.zero (eqb-true x.value 0 (and_parts (eqb x.value 0) (are_zero xs) h).0)
 all_zero (x ∷ xs) h (suc n) = all_zero xs (and_parts (eqb x.value 0) (are_zero xs) h).1 n
 
-pub leaves-from_accepted : (code : Code) (text : List ℕ) (residue : List Fe32) → are_zero residue ≡ true → Accepts code text → LeavesResidue code text residue
-leaves-from_accepted code text residue zeros (hrp, data_part, is) =
-    (hrp, data_part, read-from_accepted code text hrp data_part residue (all_zero residue zeros) is, λ none. (hrp, data_part, is))
+pub leaves-from_accepted : (code : Code) (text : List ℕ) (u : UncheckedHrpstring) (residue : List Fe32) → IsReadAs text u → are_zero residue ≡ true → Accepts code text
+    → LeavesResidue code text (length (unchecked_data u)) residue
+leaves-from_accepted code text u residue read zeros (hrp, data_part, is) = record {
+  hrp = hrp;
+  data_part = data_part;
+  read = read-from_accepted code text hrp data_part residue (all_zero residue zeros) is;
+  window_is = ap length (only-from_IsText text hrp data_part is.grammar (unchecked_part u) (unchecked_data u) read.grammar.split read.grammar.data_bytes).1;
+  accepted = λ none. (hrp, data_part, is);
+}
 
 -- a refused text leaves the residue that its refusal holds
 pub leaves-from_error : (code : Code) (text : List ℕ) (u : UncheckedHrpstring) (e : InvalidResidueError) (residue : List Fe32) → length code.target ≡ length code.generator
-    → IsReadAs text u → IsInvalidBy code u (InvalidResidue e) → residue ≡ error_residue_of e → LeavesResidue code text residue
-leaves-from_error code text u e residue size is v same = (
-  unchecked_part u,
-  unchecked_data u,
-  subst (HasResidue code text (unchecked_part u) (unchecked_data u)) (sym same) (refused_for code text u e is v).read,
-  λ none. absurd (omega (arith, some_degree code u e size v, none)),
-)
+    → IsReadAs text u → IsInvalidBy code u (InvalidResidue e) → residue ≡ error_residue_of e → LeavesResidue code text (length (unchecked_data u)) residue
+leaves-from_error code text u e residue size is v same = record {
+  hrp = unchecked_part u;
+  data_part = unchecked_data u;
+  read = subst (HasResidue code text (unchecked_part u) (unchecked_data u)) (sym same) (refused_for code text u e is v).read;
+  window_is = refl;
+  accepted = λ none. absurd (omega (arith, some_degree code u e size v, none));
+}
 
 -- a text that was read
 pub reading : (text : List ℕ) (u : UncheckedHrpstring) → IsText text (unchecked_part u) (unchecked_data u) × (unchecked_length u ≡ length text) → IsReadAs text u
 reading text u parts = record { grammar = parts.0; text_length = parts.1 }
 
 -- the corrector of what a text leaves searches it
-pub search-from_residue : (code : Code) (text : List ℕ) (u : UncheckedHrpstring) (residue : List Fe32) (window : ℕ) (c : Question) → c ≡ record { residue = residue; window = window; erasures = [] }
-    → 0 < length code.generator → IsReadAs text u → LeavesResidue code text residue → window ≡ length (unchecked_data u) → IsSearch code text (Some c)
-search-from_residue code text u residue window c whole some is (hrp, data_part, has, accepts) at =
-    let parts = only-from_IsText text hrp data_part has.grammar (unchecked_part u) (unchecked_data u) is.grammar.split is.grammar.data_bytes in
-    subst (λ (q : Question). IsSearch code text (Some q)) (sym whole) (
-      some,
-      record {
-        hrp = hrp;
-        data_part = data_part;
-        read = has;
-        window = at ∙ ap length parts.1;
-        fresh = refl;
-      },
-    )
+pub search-from_residue : (code : Code) (text : List ℕ) (window : ℕ) (residue : List Fe32) (c : Question) → c ≡ record { residue = residue; window = window; erasures = [] }
+    → 0 < length code.generator → LeavesResidue code text window residue → IsSearch code text (Some c)
+search-from_residue code text window residue c whole some h = subst (λ (q : Question). IsSearch code text (Some q)) (sym whole) (
+  some,
+  record {
+    hrp = h.hrp;
+    data_part = h.data_part;
+    read = h.read;
+    window = h.window_is;
+    fresh = refl;
+  },
+)
 
 -- the data part of a text that leaves a residue is no longer than the code
-pub fits_code : (code : Code) (text : List ℕ) (u : UncheckedHrpstring) (residue : List Fe32) (n w : ℕ) → code.code_length ≡ n → IsReadAs text u → LeavesResidue code text residue
-    → w ≡ length (unchecked_data u) → w ≤ n
-fits_code code text u residue n w limit is (hrp, data_part, has, accepts) at =
-    let whole : length text ≡ length (unchecked_part u) + length (49 ∷ unchecked_data u) =
-    ap (λ (t : List ℕ). length t) is.grammar.split ∙ length-append (unchecked_part u) (49 ∷ unchecked_data u) in
-    let fits : length text ≤ code.code_length = has.text_length in
+pub fits_code : (code : Code) (text : List ℕ) (window : ℕ) (residue : List Fe32) (n : ℕ) → code.code_length ≡ n → LeavesResidue code text window residue → window ≤ n
+fits_code code text window residue n limit h =
+    let whole : length text ≡ length h.hrp + length (49 ∷ h.data_part) = ap (λ (t : List ℕ). length t) h.read.grammar.split ∙ length-append h.hrp (49 ∷ h.data_part) in
+    let fits : length text ≤ code.code_length = h.read.text_length in
+    let at : window ≡ length h.data_part = h.window_is in
     omega arith
 
 -- ---- listings
@@ -381,13 +385,13 @@ map_behind f [] m = refl
 map_behind f (x ∷ xs) m = ap (λ u. f x ∷ u) (map_behind f xs m)
 
 -- with one text more, these are the texts of one listing more
-pub texts_more : {M : Type 0} (listing_of : M → List (ℕ × Fe32)) (text_of : M → List ℕ) (text : List ℕ) (listings : List (List (ℕ × Fe32))) (k : ℕ) (item own : List (ℕ × Fe32)) (before after : List M) (m : M)
-    → k < length listings → item ≡ get_or listings k item → IsPlacedIn text item → own ≡ item → listing_of m ≡ own
-    → ((hrp data_part : List ℕ) → IsText text hrp data_part → text_of m ≡ spelled hrp (mended ops own (elements_of data_part)))
-    → after ≡ before ++ m ∷ [] → (map listing_of before ≡ take k listings) × AllByRecursion (λ x. IsMendedText (listing_of x) text (text_of x)) before
-    → (map listing_of after ≡ take (k + 1) listings) × AllByRecursion (λ x. IsMendedText (listing_of x) text (text_of x)) after
-texts_more {M} listing_of text_of text listings k item own before after m less is (hrp, data_part, grammar, inside) copied same spelling behind (listed, made) = (
-  ap (map listing_of) behind ∙ map_behind listing_of before m ∙ ap (λ u. u ++ listing_of m ∷ []) listed ∙ ap (λ u. take k listings ++ u ∷ []) (same ∙ copied ∙ is) ∙ sym (take_more listings k item less),
+pub texts_more : {M : Type 0} (listing_of : M → List (ℕ × Fe32)) (text_of : M → List ℕ) (text : List ℕ) (listings : List (List (ℕ × Fe32))) (item : List (ℕ × Fe32)) (before after : List M) (m : M)
+    → IsPlacedIn text item → listing_of m ≡ item
+    → ((hrp data_part : List ℕ) → IsText text hrp data_part → text_of m ≡ spelled hrp (mended ops item (elements_of data_part)))
+    → after ≡ before ++ m ∷ [] → (map listing_of before ≡ listings) × AllByRecursion (λ x. IsMendedText (listing_of x) text (text_of x)) before
+    → (map listing_of after ≡ listings ++ item ∷ []) × AllByRecursion (λ x. IsMendedText (listing_of x) text (text_of x)) after
+texts_more {M} listing_of text_of text listings item before after m (hrp, data_part, grammar, inside) same spelling behind (listed, made) = (
+  ap (map listing_of) behind ∙ map_behind listing_of before m ∙ ap (λ u. u ++ listing_of m ∷ []) listed ∙ ap (λ u. listings ++ u ∷ []) same,
   subst (λ (u : List M). AllByRecursion (λ x. IsMendedText (listing_of x) text (text_of x)) u) (sym behind)
       (all_push (λ x. IsMendedText (listing_of x) text (text_of x)) before m made (record {
         hrp = hrp;
@@ -396,3 +400,8 @@ texts_more {M} listing_of text_of text listings k item own before after m less i
         spelling = spelling hrp data_part grammar ∙ ap (λ (u : List (ℕ × Fe32)). spelled hrp (mended ops u (elements_of data_part))) (sym same);
       })),
 )
+
+-- what is so of all of a list is so of each
+pub all_within : {A : Type 0} (P : A → Type 0) (before : List A) (x : A) (behind : List A) → AllByRecursion P (before ++ x ∷ behind) → P x
+all_within P [] x behind h = h.0
+all_within P (y ∷ before) x behind h = all_within P before x behind h.1

@@ -94,11 +94,15 @@ pub record AreNearTexts (code : Code) (bound : ℕ)
       → IsNearText code bound text given errors other
       → map (λ m. m.1) found ≡ lowered other ∷ []
 
--- the text leaves this residue, and a checksum of no characters accepts it
-abbrev pub LeavesResidue : Code → List ℕ → List Fe32 → Type 0
-LeavesResidue code text residue =
-    (hrp : List ℕ) × (data_part : List ℕ) × HasResidue code text hrp data_part residue
-    × (length code.generator ≡ 0 → Accepts code text)
+-- the text is read: its data part has so many characters, and it leaves this residue; a checksum of
+-- no characters accepts it
+pub record LeavesResidue (code : Code) (text : List ℕ) (window : ℕ) (residue : List Fe32)
+    : Type 0 where
+  pub hrp : List ℕ
+  pub data_part : List ℕ
+  pub read : HasResidue code text hrp data_part residue
+  pub window_is : window ≡ length data_part
+  pub accepted : length code.generator ≡ 0 → Accepts code text
 
 -- a corrector of the text: it has the residue, which may be zero, searches the data part, and has
 -- no erasures yet

@@ -4,6 +4,8 @@
 //! Standard: BIP-173, Checksum design.
 #![tactic(auto)]
 
+mod read;
 mod texts;
 
-pub use self::texts::{NearTexts, nearest, nearest_in};
+pub use self::read::ReadText;
+pub use self::texts::{NearTexts, nearest, nearest_in, nearest_of_read};

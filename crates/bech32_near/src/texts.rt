@@ -1,21 +1,16 @@
 //! All texts near a mistyped one.
 
-ghost use Rattle.std.specs.Prelude.{◌≡◌, ◌<◌, ℕ, List, None, length, map, IfOk, MatchResult, string_bytes};
+ghost use Rattle.std.specs.Prelude.{◌≡◌, ◌<◌, ℕ, List, length, map, IfOk, MatchResult, string_bytes};
 ghost use Rattle.std.specs.List.{AllByRecursion};
-ghost use Rattle.bech32_solver.specs.Carried.{of_checksum};
-ghost use Rattle.bech32_correction.specs.Mistyped.{IsMendedText, IsPlacedIn, IsReadAs};
+ghost use Rattle.bech32_correction.specs.Mistyped.{IsMendedText, IsPlacedIn};
 ghost use Rattle.bech32_near.specs.NearTexts.{AreNearestListings, AreNearTexts, IsNearestRefusal, IsSearch, IsSearcherOf, LeavesResidue};
-ghost use Rattle.bech32_decode.specs.Refusals.{IsInvalidBy};
 
-use bech32_bch::ShortVec;
+use crate::read::ReadText;
 use bech32_checksum::{Checksum, CorrectingChecksum};
-use bech32_correction::{CorrectError, Listing, Mended, mended_by, residue_error_in};
+use bech32_correction::{CorrectError, Mended, mended_by};
 use bech32_corrector::Corrector;
-use bech32_decode::UncheckedHrpstring;
-use bech32_gf::gf32::Fe32;
 use bech32_near_listings::nearest_listings;
 use bech32_near_patterns::Listings;
-use bech32_refusals::{ChecksumError, MAX_DEGREE};
 use std::alloc::{AllocError, Allocator, Global};
 
 /// The texts near a text, and what may look further.
@@ -26,22 +21,6 @@ pub struct NearTexts<T, C> {
     /// The corrector of the given text, with no erasures yet. None where the checksum has no
     /// characters.
     pub corrector: Option<C>,
-}
-
-// The error residue of a text that was read, which is zero where the checksum accepts it.
-fn residue_in<Ck: Checksum>(
-    unchecked: &UncheckedHrpstring<'_>,
-) -> Result<[Fe32; MAX_DEGREE], ChecksumError>
-    ensures { MatchResult result
-        (λ residue. (text : List ℕ) → IsReadAs text unchecked.now
-        → LeavesResidue Ck.code text residue)
-        (λ e. IsInvalidBy Ck.code unchecked.now e × (of_checksum e ≡ None)) }
-{
-    match residue_error_in::<Ck>(unchecked) {
-        Ok(Some(error)) => Ok(error.residue()),
-        Ok(None) => Ok([Fe32::Q; MAX_DEGREE]),
-        Err(refusal) => Err(refusal),
-    }
 }
 
 // The listings of the text of which this is the corrector. None where a given location is not in
@@ -66,20 +45,51 @@ fn listings_within<Ck: Checksum, A: Allocator + Copy>(
 fn mended_all<A: Allocator + Copy>(
     alloc: A,
     text: &str,
-    listings: &Listings<A>,
+    listings: Listings<A>,
 ) -> Result<Vec<Mended<A>, A>, AllocError>
-    requires { AllByRecursion (λ listing. IsPlacedIn text.now listing) listings.now.items }
-    ensures same { IfOk result (λ texts. map (λ m. m.listing) texts.items ≡ listings.now.items) }
+    requires { AllByRecursion (λ listing. IsPlacedIn text.now listing) listings.items }
+    ensures same { IfOk result (λ texts. map (λ m. m.listing) texts.items ≡ listings.items) }
     ensures each { IfOk result (λ texts.
         AllByRecursion (λ m. IsMendedText m.listing text.now (string_bytes m.text)) texts.items) }
 {
     let mut texts = Vec::new(alloc);
-    for found in listings {
-        let listing: Listing<A> = ShortVec::from_slice(alloc, found.as_slice())?;
+    for listing in listings {
         let mended = mended_by(alloc, text, listing)?;
         texts.push(mended)?;
     }
     Ok(texts)
+}
+
+/// The texts near a text that the checksum read, as [`nearest`] has them, with memory from `alloc`.
+///
+/// # Errors
+///
+/// Out of memory.
+pub fn nearest_of_read<Ck: CorrectingChecksum, A: Allocator + Copy>(
+    alloc: A,
+    read: &ReadText<'_>,
+    erasures: &[usize],
+    errors: usize,
+) -> Result<NearTexts<Vec<Mended<A>, A>, Corrector<Ck, A>>, AllocError>
+    requires { LeavesResidue Ck.code read.now.text.now read.now.window read.now.residue }
+    ensures { IfOk result (λ near.
+        AreNearTexts Ck.code Ck.bound read.now.text.now erasures.now errors
+        (map (λ m. (m.listing, string_bytes m.text)) near.texts.items)
+        × IsSearch Ck.code read.now.text.now near.corrector) }
+{
+    if Ck::CHECKSUM_LENGTH == 0 {
+        return Ok(NearTexts {
+            texts: Vec::new(alloc),
+            corrector: None,
+        });
+    }
+    let corrector = Corrector::<Ck, A>::new(alloc, read.residue, read.window);
+    let listings = listings_within(alloc, &corrector, erasures, errors)?;
+    let texts = mended_all(alloc, read.text, listings)?;
+    Ok(NearTexts {
+        texts,
+        corrector: Some(corrector),
+    })
 }
 
 /// The texts near a text, with memory from `alloc`; [`nearest`] says more.
@@ -99,22 +109,10 @@ pub fn nearest_in<Ck: CorrectingChecksum, A: Allocator + Copy>(
         × IsSearch Ck.code text.now near.corrector)
         (λ e. IsNearestRefusal Ck.code text.now e) }
 {
-    let unchecked = UncheckedHrpstring::new(text)?;
-    let residue = residue_in::<Ck>(&unchecked)?;
-    if Ck::CHECKSUM_LENGTH == 0 {
-        return Ok(NearTexts {
-            texts: Vec::new(alloc),
-            corrector: None,
-        });
+    match ReadText::new::<Ck>(text) {
+        Ok(read) => Ok(nearest_of_read::<Ck, A>(alloc, &read, erasures, errors)?),
+        Err(refusal) => Err(CorrectError::Refused(refusal)),
     }
-    let window = unchecked.data_part_ascii().len();
-    let corrector = Corrector::<Ck, A>::new(alloc, residue, window);
-    let listings = listings_within(alloc, &corrector, erasures, errors)?;
-    let texts = mended_all(alloc, text, &listings)?;
-    Ok(NearTexts {
-        texts,
-        corrector: Some(corrector),
-    })
 }
 
 /// All texts that the checksum accepts, and that differ from this one in at most `errors`

@@ -2,6 +2,7 @@ pub mod Elements
 pub mod NearestAdded
 pub mod NearestAlone
 pub mod NearestAnswers
+pub mod NearestErrorless
 pub mod NearestErrors
 pub mod NearestListing
 pub mod NearestLists

@@ -190,6 +190,46 @@ fn add_answer<Ck: Checksum, A: Allocator + Copy>(
     Ok(())
 }
 
+// Whether an element is zero.
+fn is_zero(value: Fe32) -> bool
+    ensures { IsTrue result ↔ (value ≡ fe32.zero) }
+{
+    value == Fe32::Q
+}
+
+// Whether all elements are zero.
+fn are_zero(elements: &[Fe32]) -> bool
+    ensures { IsTrue result ↔ AllByRecursion (λ x. x ≡ fe32.zero) elements.now }
+{
+    for element in elements {
+        if !is_zero(*element) {
+            return false;
+        }
+    }
+    true
+}
+
+// Puts the one listing without errors behind those that were found, where it explains the residue:
+// the corrector tells what to add at its erasures; without any, the residue has to be zero.
+fn add_errorless<Ck: Checksum, A: Allocator + Copy>(
+    corrector: &Corrector<Ck, A>,
+    found: &mut Listings<A>,
+) -> Result<(), AllocError>
+    ensures { length corrector.now.erasures ≤ Ck.bound
+        → OnOk result (AreAdded (IsEarlier fe32.ops fe32.value corrector.now.erasures)
+        (IsGathered fe32.ops Ck.code.generator corrector.now.residue corrector.now.erasures
+        0 0)
+        found.old.items found.new.items) }
+{
+    if !corrector.erasures().is_empty() {
+        return add_answer(corrector, 0, 0, found);
+    }
+    if !are_zero(corrector.residue()) {
+        return Ok(());
+    }
+    push_listing(ShortVec::new(corrector.allocator()), found)
+}
+
 // What the corrector lists with this location as one more erasure.
 fn erased_listing<Ck: Checksum, A: Allocator + Copy>(
     corrector: &Corrector<Ck, A>,
@@ -205,13 +245,6 @@ fn erased_listing<Ck: Checksum, A: Allocator + Copy>(
     let mut wider = ShortVec::from_slice(corrector.allocator(), corrector.erasures())?;
     wider.push(place)?;
     corrector.listing_with(wider.as_slice())
-}
-
-// Whether an element is zero.
-fn is_zero(value: Fe32) -> bool
-    ensures { IsTrue result ↔ (value ≡ fe32.zero) }
-{
-    value == Fe32::Q
 }
 
 // Whether the value is not zero, and the other errors are no more than `others`, all below the
@@ -339,7 +372,7 @@ fn gather<Ck: Checksum, A: Allocator + Copy>(
     let Some(others) = errors.checked_sub(1) else {
         return Ok(());
     };
-    add_answer(corrector, 0, 0, found)?;
+    add_errorless(corrector, found)?;
     for place in 0..limit {
         gather_at(corrector, place, others, found)?;
     }

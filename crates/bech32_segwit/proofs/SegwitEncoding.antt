@@ -8,8 +8,6 @@ use Rattle.bech32_bits.proofs.RoundTrip.{length-to_fes}
 use Rattle.bech32_bits.specs.Bits.{to_fes, fes_count}
 use Rattle.bech32_checksum.specs.Code.{bech32, bech32m}
 use Rattle.bech32_hrp.specs.Hrp.{lowered}
-use Rattle.bech32_hrp.specs.HrpBytes.{hrp_bytes}
-use Rattle.bech32_hrp.specs.declared.Hrp.{Hrp}
 use Rattle.bech32_checksum.specs.Encoded.{IsEncodedText}
 use Rattle.bech32_decode.specs.Segwit.{segwit_code, IsLowerAddress, IsAddress}
 use Rattle.bech32_segwit.specs.SegwitEncoding.{HasAddress, address_length, IsSegwitEncodeRefusal}
@@ -40,12 +38,12 @@ pub no_more_of_part : (part program : List ℕ) → length part < 2 ^ 63 → len
     → min (address_length part program) (2 ^ 64 - 1) ≡ address_length part program
 no_more_of_part part program fits few = let elements : length (to_fes program) ≡ fes_count 0 (length program) = length-to_fes program in omega arith
 
-pub no_more_than_counted : (hrp : Hrp) (program : List ℕ) → length program ≤ 40
-    → min (address_length (hrp_bytes hrp) program) (2 ^ 64 - 1) ≡ address_length (hrp_bytes hrp) program
-no_more_than_counted hrp program few =
-    let part : length (hrp_bytes hrp) ≡ min hrp.size (length hrp.buf) = length-take hrp.size hrp.buf in
-    let fits : hrp.size ≤ 83 = hrp.size_fits in
-    no_more_of_part (hrp_bytes hrp) program (omega arith) few
+-- an address has at most 90 characters
+pub address_fits : (hrp : List ℕ) (version : Fe32) (program : List ℕ) → HasAddress hrp version program → address_length hrp program ≤ 90
+address_fits hrp version program (text, a) =
+    let here : length text ≡ address_length hrp program = length-address hrp version program text a.encoded in
+    let few : length text ≤ 90 = a.text_length in
+    omega arith
 
 -- the text is the address, where no rule is broken
 lawful_text : (hrp : List ℕ) (version : Fe32) (program text : List ℕ) → version.value ≤ 16 → IsProgramLength version (length program) → address_length hrp program ≤ 90

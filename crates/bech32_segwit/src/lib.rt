@@ -4,7 +4,7 @@
 //! Standard: BIP-173, Segwit address format; BIP-350.
 #![tactic(auto)]
 
-ghost use Rattle.std.specs.Prelude.{◌≡◌, ◌<◌, ◌≤◌, ◌-◌, ◌^◌, ◌∷◌, min, MatchResult, IfOk, IfErr, IsOkUnless, string_bytes};
+ghost use Rattle.std.specs.Prelude.{◌≡◌, ◌≢◌, ◌<◌, ◌≤◌, ◌-◌, ◌^◌, ◌∷◌, min, MatchResult, IfOk, IfErr, IsOkUnless, string_bytes};
 ghost use Rattle.bech32_gf.specs.Fe32.{zero, one};
 ghost use Rattle.bech32_bits.specs.Bits.{to_fes};
 ghost use Rattle.bech32_hrp.specs.HrpBytes.{hrp_bytes};
@@ -24,7 +24,7 @@ use bech32_decode::segwit::{
 };
 pub use bech32_decode::segwit::{VERSION_0, VERSION_1};
 use bech32_decode::{SegwitCodeLengthError, SegwitHrpstring, SegwitHrpstringError};
-use bech32_encode::{text_in, text_length_of_part};
+use bech32_encode::{text_length_of_part, text_of_size_in};
 use bech32_gf::gf32::Fe32;
 use bech32_hrp::Hrp;
 pub use error::{DecodeError, EncodeError};
@@ -135,33 +135,47 @@ pub fn encoded_length_of_part(
     Ok(length)
 }
 
-// Tests that there is an address.
-fn validate(hrp: Hrp, version: Fe32, program: &[u8]) -> Result<(), EncodeError>
+/// Tests that a human-readable part of these bytes, a version and a program have an address, and
+/// returns its length.
+///
+/// # Errors
+///
+/// The first of: a witness version above 16; a program of less than 2 bytes, of more than 40, or of
+/// neither 20 nor 32 in version 0; an address of more than 90 characters.
+#[inline]
+pub fn address_length_of_part(
+    part: &[u8],
+    witness_version: Fe32,
+    witness_program: &[u8],
+) -> Result<usize, EncodeError>
     ensures { MatchResult result
-        (λ _. HasAddress (hrp_bytes hrp) version «program».now)
-        (λ e. IsSegwitEncodeRefusal (hrp_bytes hrp) version «program».now e) }
+        (λ n. HasAddress part.now witness_version «witness_program».now
+        × (n ≡ address_length part.now «witness_program».now))
+        (λ e. IsSegwitEncodeRefusal part.now witness_version «witness_program».now e
+        × (e ≢ EncodeError.Memory)) }
 {
-    validate_witness_version(version)?;
-    validate_witness_program_length(program.len(), version)?;
-    encoded_length(hrp, version, program)?;
-    Ok(())
+    validate_witness_version(witness_version)?;
+    validate_witness_program_length(witness_program.len(), witness_version)?;
+    Ok(encoded_length_of_part(part, witness_program)?)
 }
 
-// The text of a version and a program by the checksum of the version.
+// The text of a version and a program by the checksum of the version, of this length.
 fn text_of_version_in<A: Allocator>(
     alloc: A,
     hrp: Hrp,
     version: Fe32,
     program: &[u8],
+    size: usize,
 ) -> Result<String<A>, AllocError>
+    requires { (size ≡ address_length (hrp_bytes hrp) «program».now) × (size ≤ 90) }
     ensures { let elements = version ∷ to_fes «program».now in
         IfOk result
         (λ s. IsEncodedText (segwit_code version) (hrp_bytes hrp) elements (string_bytes s)) }
 {
     if version == VERSION_0 {
-        text_in::<Bech32, A>(alloc, hrp, Some(version), program)
+        text_of_size_in::<Bech32, A>(alloc, hrp, Some(version), program, size)
     } else {
-        text_in::<Bech32m, A>(alloc, hrp, Some(version), program)
+        text_of_size_in::<Bech32m, A>(alloc, hrp, Some(version), program, size)
     }
 }
 
@@ -177,8 +191,8 @@ fn encoded_in<A: Allocator>(
     ensures refused { IfErr result
         (λ e. IsSegwitEncodeRefusal (hrp_bytes hrp) version «program».now e) }
 {
-    validate(hrp, version, program)?;
-    let text = text_of_version_in(alloc, hrp, version, program)?;
+    let size = address_length_of_part(hrp.as_bytes(), version, program)?;
+    let text = text_of_version_in(alloc, hrp, version, program, size)?;
     Ok(text)
 }
 

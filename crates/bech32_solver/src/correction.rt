@@ -1,7 +1,6 @@
 //! The errors in an error residue of a checksum.
 
 ghost use Rattle.std.specs.Prelude.{◌≡◌, ◌≤◌, ◌<◌, ◌+◌, ◌↔◌, length, IfOk, IsOk, IsTrue};
-ghost use Rattle.bech32_checksum.specs.Roots.{AreLawfulRoots};
 ghost use Rattle.bech32_bch.specs.Erasures.{AreErasures};
 ghost use Rattle.bech32_bch.specs.Pattern.{HasRemainder};
 ghost use Rattle.bech32_bch.specs.Search.{locators};
@@ -10,15 +9,14 @@ ghost use Rattle.bech32_direct.specs.Question.{IsAnswerTo};
 
 use bech32_bch::{Roots, ShortVec, candidate};
 use bech32_checksum::Checksum;
-use bech32_direct::{correct_erased, correct_single, is_same, listed_engine};
+use bech32_direct::{is_same, listed_engine};
 use bech32_gf::gf32::Fe32;
 use bech32_poly::fieldvec::FieldVec;
 use std::alloc::{AllocError, Allocator};
 
 /// The number of roots of the generator that serve to find errors.
 pub fn bound<Ck: Checksum>() -> usize
-    requires { AreLawfulRoots Ck.CorrectionField.ops Ck.CorrectionField.embed Ck.code
-        Ck.ROOT_GENERATOR Ck.ROOT_EXPONENTS_START Ck.ROOT_EXPONENTS_END }
+    requires { Ck.lawful × (0 < length Ck.code.generator) }
     ensures { result ≡ Ck.bound }
 {
     Ck::ROOT_EXPONENTS_END - Ck::ROOT_EXPONENTS_START + 1
@@ -26,8 +24,7 @@ pub fn bound<Ck: Checksum>() -> usize
 
 /// Whether so many erasures use up the bound: no error can stand beside them.
 pub fn is_filled<Ck: Checksum>(erased: usize) -> bool
-    requires { AreLawfulRoots Ck.CorrectionField.ops Ck.CorrectionField.embed Ck.code
-        Ck.ROOT_GENERATOR Ck.ROOT_EXPONENTS_START Ck.ROOT_EXPONENTS_END }
+    requires { Ck.lawful × (0 < length Ck.code.generator) }
     ensures { IsTrue result ↔ ((erased ≤ Ck.bound) × (Ck.bound < erased + 2)) }
 {
     let most = bound::<Ck>();
@@ -43,16 +40,21 @@ fn has_residue<Ck: Checksum>(listing: &[(usize, Fe32)], residue: &[Fe32]) -> boo
     is_same(engine.residue(), residue)
 }
 
-// What `correct` answers, by the generator's roots: for any bound and any erasures.
-fn correct_by_roots<Ck: Checksum, A: Allocator + Copy>(
+/// The errors below the window, and the elements at the erasures, that explain the error residue,
+/// by the generator's roots: for any bound and any erasures. `known` are the locators of the
+/// erasures.
+///
+/// # Errors
+///
+/// If memory runs out. For a checksum of at most six characters nothing is allocated.
+pub fn correct_by_roots<Ck: Checksum, A: Allocator + Copy>(
     alloc: A,
     window: usize,
     residue: &[Fe32],
     erasures: &ShortVec<usize, A>,
     known: &FieldVec<Ck::CorrectionField, A>,
 ) -> Result<Option<ShortVec<(usize, Fe32), A>>, AllocError>
-    requires lawful { AreLawfulRoots Ck.CorrectionField.ops Ck.CorrectionField.embed Ck.code
-        Ck.ROOT_GENERATOR Ck.ROOT_EXPONENTS_START Ck.ROOT_EXPONENTS_END }
+    requires lawful { Ck.lawful × (0 < length Ck.code.generator) }
     requires within { window ≤ Ck.CODE_LENGTH }
     requires erased { AreErasures window erasures.now }
     requires known { known.now ≡ locators Ck.CorrectionField.ops Ck.ROOT_GENERATOR erasures.now }
@@ -73,37 +75,4 @@ fn correct_by_roots<Ck: Checksum, A: Allocator + Copy>(
     } else {
         Ok(None)
     }
-}
-
-/// The errors below the window, and the elements at the erasures, that explain the error residue.
-/// `known` are the locators of the erasures.
-///
-/// # Errors
-///
-/// If memory runs out. For a checksum of at most six characters nothing is allocated.
-pub fn correct<Ck: Checksum, A: Allocator + Copy>(
-    alloc: A,
-    window: usize,
-    residue: &[Fe32],
-    erasures: &ShortVec<usize, A>,
-    known: &FieldVec<Ck::CorrectionField, A>,
-) -> Result<Option<ShortVec<(usize, Fe32), A>>, AllocError>
-    requires lawful { AreLawfulRoots Ck.CorrectionField.ops Ck.CorrectionField.embed Ck.code
-        Ck.ROOT_GENERATOR Ck.ROOT_EXPONENTS_START Ck.ROOT_EXPONENTS_END }
-    requires within { window ≤ Ck.CODE_LENGTH }
-    requires erased { AreErasures window erasures.now }
-    requires known { known.now ≡ locators Ck.CorrectionField.ops Ck.ROOT_GENERATOR erasures.now }
-    ensures answer { IfOk result (λ answer. IsAnswerTo Ck.code Ck.bound
-        (record { residue = residue.now; window = window; erasures = erasures.now }) answer) }
-    ensures in_place { length Ck.code.generator ≤ 6 → IsOk result }
-{
-    let most = bound::<Ck>();
-    let erased = erasures.len();
-    if erased == 0 && most >= 2 && most <= 3 {
-        return correct_single::<Ck, A>(alloc, window, residue);
-    }
-    if is_filled::<Ck>(erased) {
-        return correct_erased::<Ck, A>(alloc, window, residue, erasures);
-    }
-    correct_by_roots::<Ck, A>(alloc, window, residue, erasures, known)
 }

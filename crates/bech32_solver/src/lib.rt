@@ -1,5 +1,4 @@
-//! The pattern that explains an error residue, found as the erasures allow: directly, or by the
-//! generator's roots.
+//! The pattern that explains an error residue, found by the generator's roots.
 //!
 //! Below it: `bech32_direct`.
 //! Standard: BIP-173, Checksum design.
@@ -10,5 +9,5 @@ mod correction;
 mod erasures;
 
 pub use self::carried::residue_error_of;
-pub use self::correction::{bound, correct, is_filled};
+pub use self::correction::{bound, correct_by_roots, is_filled};
 pub use self::erasures::extended;

@@ -46,11 +46,11 @@ use Rattle.bech32_correction.proofs.Accepted.{front, in_parts, lowered_parts}
 use Rattle.bech32_correction.proofs.Sums.{appended-mended, length-mended}
 use Rattle.bech32_correction.proofs.Texts.{mendable-from_accepts}
 use Rattle.codex32.specs.Code.{codex32}
-use Rattle.codex32.specs.Nearest.{AreAdditions, IsNearestText, IsUnlisted, changed, read_data, read_text, unreadable}
+use Rattle.codex32.specs.Nearest.{AreParts, AreAdditions, IsNearestText, IsUnlisted, changed, read_data, read_text, unreadable}
 use Rattle.codex32.specs.Strings.{frame_refusal}
 use Rattle.codex32.specs.laws.RootLaws.{base, codex32_roots}
 use Rattle.codex32.proofs.Locations.{again, changed-once, changed_outside, count_data, count_read, differences, differences-below, differences-once, differences-values, few_apart, located, mended-differences, unreadable-below, unreadable-once}
-use Rattle.codex32.proofs.Separated.{AreParts, one_split, parts-from}
+use Rattle.codex32.proofs.Separated.{one_split, parts-from}
 
 -- ---- accepted texts of elements
 

@@ -11,14 +11,14 @@ use Rattle.std.proofs.lemmas.List.Folds.{list_any-append}
 use Rattle.std.proofs.lemmas.Str.{IsUtf8-append, IsUtf8-encode, chars-append, chars_past_char, encode_ascii}
 use Rattle.bech32_gf.specs.Alphabet.{is_data, is_of_alphabet}
 use Rattle.bech32_gf.proofs.Characters.{below-from_alphabet}
-use Rattle.bech32_hrp.specs.Hrp.{first_of, hrp_refusal, is_lower, is_mixed_case, is_upper}
+use Rattle.bech32_hrp.specs.Hrp.{IsHrp, first_of, hrp_refusal, is_lower, is_mixed_case, is_upper}
 use Rattle.bech32_decode.specs.Text.{as_char, as_hrp, bad_hrp, invalid_character, last_stranger, missing_separator, mixed_case, split_at_last, text_refusal, unless_separator}
 use Rattle.bech32_decode.proofs.Letters.{is_data-more}
 use Rattle.bech32_decode.proofs.Texts.{invalid_character-at, separator-at, split_at_last-data}
 use Rattle.bech32_refusals.specs.declared.error.CharError.{CharError}
 use Rattle.bech32_refusals.specs.declared.error.CharError.TheVariants.{InvalidChar, MixedCase}
 use Rattle.bech32_refusals.specs.declared.error.UncheckedHrpstringError.TheVariants.{Char}
-use Rattle.codex32.specs.Nearest.{read_character, read_data, read_text}
+use Rattle.codex32.specs.Nearest.{AreParts, read_character, read_data, read_text}
 use Rattle.codex32.proofs.Locations.{count_data}
 use Rattle.codex32.proofs.Reading.{read_encoded}
 use Rattle.codex32.specs.Strings.{frame_refusal, codex32_length_fault, part_fault}
@@ -154,6 +154,14 @@ module _ (text front damaged : List ℕ) (cut : split_at_last text ≡ Some (fro
       ∙ ap (λ (t : Bool). t && list_any is_upper (front ++ (49 ∷ read_data damaged))) (any-behind is_lower front damaged lower-read)
       ∙ ap (λ (t : Bool). list_any is_lower (front ++ (49 ∷ damaged)) && t) (any-behind is_upper front damaged upper-read)
       ∙ sym (ap is_mixed_case is_whole)
+
+  -- its parts, where each of them is in the grammar
+  pub parts-read : IsHrp front → is_data (read_data damaged) ≡ true → is_mixed_case text ≡ false → AreParts text front damaged
+  parts-read is_hrp characters one = record {
+    split = is_whole;
+    cut = cut;
+    grammar = record { split = is_read; is_hrp = is_hrp; data_bytes = characters; one_case = mixed-read ∙ one };
+  }
 
   -- the faults of its grammar, in their order
   faults-read : text_refusal (read_text text) ≡ first_of (as_char (invalid_character (read_text text))) (first_of (as_char (mixed_case text)) (as_hrp (hrp_refusal front)))

@@ -9,8 +9,8 @@ use Rattle.std.proofs.lemmas.Str.{NoCharPasses-byte, encode_ascii, inside_one}
 use Rattle.std.specs.Str.{NoCharPasses}
 use Rattle.std.specs.Str.Pattern.{RFindsChar, SplitsAroundMatch}
 use Rattle.bech32_decode.specs.Text.{split_at_last}
-use Rattle.codex32.specs.Nearest.{read_data, read_text, unreadable}
-use Rattle.codex32.proofs.Separated.{none_bytes, read_text-split, split_at}
+use Rattle.codex32.specs.Nearest.{read_data, unreadable}
+use Rattle.codex32.proofs.Separated.{none_bytes, split_at}
 
 read_plain : (bs : List ℕ) → ((k : ℕ) → k < length bs → get_or bs k 0 ≢ 63) → read_data bs ≡ bs
 read_plain [] h = refl
@@ -61,13 +61,12 @@ split-from_found text front behind (i, j, found, front_is, behind_is, ordered, f
     ap split_at_last whole ∙ split_at front behind none
 
 -- nothing behind the last `1` is read yet
-pub read_start : (text front behind now next rest : List ℕ) → split_at_last text ≡ Some (front, behind) → now ≡ front → next ≡ now ++ encode 49 → rest ≡ behind
-    → next ++ read_data rest ≡ read_text text
-read_start text front behind now next rest cut same more rest_is =
+pub read_start : (front behind now next rest : List ℕ) → now ≡ front → next ≡ now ++ encode 49 → rest ≡ behind
+    → next ++ read_data rest ≡ front ++ (49 ∷ read_data behind)
+read_start front behind now next rest same more rest_is =
     ap (λ (t : List ℕ). t ++ read_data rest) (more ∙ ap (λ (t : List ℕ). t ++ encode 49) same ∙ ap (λ (t : List ℕ). front ++ t) (encode_ascii 49 (omega arith)))
     ∙ append_assoc front (49 ∷ []) (read_data rest)
     ∙ ap (λ (t : List ℕ). front ++ (49 ∷ read_data t)) rest_is
-    ∙ sym (read_text-split text front behind cut)
 
 -- all is read
 pub read_end : (text now rest : List ℕ) → now ++ read_data rest ≡ text → rest ≡ [] → now ≡ text

@@ -1,11 +1,11 @@
 -- What stands behind the last `1` of a text, as it is and as it is read.
-use Rattle.std.proofs.Common.{◌≡◌, ◌≢◌, ℕ, suc, ◌<◌, Bool, false, cond, eqb, List, [], ◌∷◌, ◌++◌, Option, Some, None, length, get_or, inl, inr, refl, sym, ap, subst, ◌∙◌, arith}
+use Rattle.std.proofs.Common.{◌≡◌, ◌≢◌, ℕ, suc, ◌<◌, Bool, false, cond, eqb, List, [], ◌∷◌, ◌++◌, Option, Some, None, length, get_or, inl, inr, refl, sym, ap, ◌∙◌, arith}
 use Rattle.std.proofs.lemmas.Bool.{cases_Bool, ne_eqb, cond-true, cond-false}
 use Rattle.std.proofs.lemmas.Bool.Decides.{eqb_tells}
 use Rattle.std.proofs.lemmas.Option.{some_pair_parts}
 use Rattle.bech32_decode.specs.Text.{IsText, before_byte, split_at_last}
 use Rattle.bech32_decode.proofs.Texts.{split_at_last-data}
-use Rattle.codex32.specs.Nearest.{read_data, read_text, with_data_read}
+use Rattle.codex32.specs.Nearest.{AreParts, read_data, read_text, with_data_read}
 
 -- ---- no `1`
 
@@ -99,12 +99,6 @@ read_text-split text front behind e = ap (with_data_read text) e
 pub read_text-none : (text : List ℕ) → split_at_last text ≡ None → read_text text ≡ text
 read_text-none text e = ap (with_data_read text) e
 
--- the parts of a text as they stand
-pub record AreParts (text hrp damaged : List ℕ) : Type 0 where
-  pub split : text ≡ hrp ++ (49 ∷ damaged)
-  pub cut : split_at_last text ≡ Some (hrp, damaged)
-  pub grammar : IsText (read_text text) hrp (read_data damaged)
-
 pub parts-from : (text hrp damaged : List ℕ) → text ≡ hrp ++ (49 ∷ damaged) → IsText (read_text text) hrp (read_data damaged) → AreParts text hrp damaged
 parts-from text hrp damaged e is = record {
   split = e;
@@ -114,22 +108,3 @@ parts-from text hrp damaged e is = record {
 
 pub one_split : (text h d k e : List ℕ) → split_at_last text ≡ Some (h, d) → split_at_last text ≡ Some (k, e) → (h ≡ k) × (d ≡ e)
 one_split text h d k e s t = some_pair_parts h k d e (sym s ∙ t)
-
--- the parts as they stand, from those that are read
-module _ (text hrp data_part : List ℕ) (is : IsText (read_text text) hrp data_part) where
-  read_cut : split_at_last (read_text text) ≡ Some (hrp, data_part)
-  read_cut = ap split_at_last is.split ∙ split_at hrp data_part (split_at_last-data data_part is.data_bytes)
-
-  from_cut : (o : Option (List ℕ × List ℕ)) → split_at_last text ≡ o → (damaged : List ℕ) × (data_part ≡ read_data damaged) × AreParts text hrp damaged
-  from_cut None e = absurd (no_some (hrp, data_part) (sym (sym e ∙ (ap split_at_last (sym (read_text-none text e)) ∙ read_cut))))
-  from_cut (Some p) e =
-      let whole : read_text text ≡ p.0 ++ (49 ∷ read_data p.1) = read_text-split text p.0 p.1 e in
-      let is_cut : IsSplit text p.0 p.1 = is_split text p.0 p.1 e in
-      let (same_hrp, same_data) = one_split (read_text text) p.0 (read_data p.1) hrp data_part (ap split_at_last whole ∙ split_at p.0 (read_data p.1) (none_read p.1 is_cut.last)) read_cut in (
-        p.1,
-        sym same_data,
-        parts-from text hrp p.1 (is_cut.split ∙ ap (λ (h : List ℕ). h ++ (49 ∷ p.1)) same_hrp) (subst (IsText (read_text text) hrp) (sym same_data) is),
-      )
-
-  pub parts_of : (damaged : List ℕ) × (data_part ≡ read_data damaged) × AreParts text hrp damaged
-  parts_of = from_cut (split_at_last text) refl

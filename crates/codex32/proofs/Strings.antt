@@ -38,7 +38,7 @@ refused_text text e h = ap (λ (o : Option UncheckedHrpstringError). first_of (a
 past_text : (text : List ℕ) → text_refusal text ≡ None → frame_refusal text ≡ first_of (codex32_length_fault (length text)) (hrp_fault (split_at_last text))
 past_text text h = ap (λ (o : Option UncheckedHrpstringError). first_of (as_text o) (first_of (codex32_length_fault (length text)) (hrp_fault (split_at_last text)))) h
 
-cut_of : (text hrp data_part : List ℕ) → IsText text hrp data_part → split_at_last text ≡ Some (hrp, data_part)
+pub cut_of : (text hrp data_part : List ℕ) → IsText text hrp data_part → split_at_last text ≡ Some (hrp, data_part)
 cut_of text hrp data_part is = ap split_at_last is.split ∙ split_at_last-at hrp data_part is.data_bytes
 
 -- the length, and then the human-readable part

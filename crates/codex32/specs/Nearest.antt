@@ -1,6 +1,7 @@
 -- The nearest text to a damaged one (BIP-93, Error Correction).
 use Rattle.std.specs.Prelude.{◌≡◌, ◌⊎◌, ◌≤◌, ◌<◌, ◌+◌, ◌*◌, ◌==◌, ◌||◌, if◌then◌else◌}
 use Rattle.std.specs.Prelude.{ℕ, List, [], ◌∷◌, ◌++◌, map, length, Option, None, Some}
+use Rattle.std.specs.Prelude.{MatchOption}
 use Rattle.bech32_gf.specs.Fe32.{element_of, elements_of, ops}
 use Rattle.bech32_gf.specs.declared.gf32.Fe32.{Fe32}
 use Rattle.bech32_checksum.specs.Encoded.{spelled}
@@ -56,6 +57,17 @@ pub record IsNearestText (text nearest : List ℕ) : Type 0 where
   pub accepted : Accepts codex32 nearest
   pub few : 2 * length (changed damaged elements) + length (unreadable damaged) ≤ 8
 
+-- the nearest text, of which the bytes are given, or None where there is none
+abbrev pub IsNearestAnswer : {S : Type 0} → (S → List ℕ) → List ℕ → Option S → Type 0
+IsNearestAnswer bytes text answer = MatchOption answer
+    ((nearest : List ℕ) → IsNearestText text nearest → ⊥)
+    (λ s. IsNearestText text (bytes s))
+
+-- there is at most one
+abbrev pub HasOneNearest : List ℕ → Type 0
+HasOneNearest text = (one other : List ℕ) → IsNearestText text one → IsNearestText text other
+    → one ≡ other
+
 -- why no nearest text is looked for: what is wrong with the text as it is read, but for its
 -- checksum; or, where nothing of that is, out of memory. The former is never `Memory`.
 abbrev pub IsProposeRefusal : List ℕ → Codex32Error → Type 0
@@ -64,6 +76,12 @@ IsProposeRefusal text e =
     ⊎ (frame_refusal (read_text text) ≡ Some e)
 
 -- ---- on the way
+
+-- what stands before and after the last `1`, where the text is in the grammar as it is read
+pub record AreParts (text hrp damaged : List ℕ) : Type 0 where
+  pub split : text ≡ hrp ++ (49 ∷ damaged)
+  pub cut : split_at_last text ≡ Some (hrp, damaged)
+  pub grammar : IsText (read_text text) hrp (read_data damaged)
 
 -- the values to add to the elements of a text as it was read: none where the checksum accepts it
 -- and at most 8 characters are unreadable, else the listing

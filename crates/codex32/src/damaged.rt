@@ -6,7 +6,7 @@ ghost use Rattle.std.specs.List.{list_any};
 ghost use Rattle.bech32_gf.specs.Alphabet.{is_data, is_of_alphabet};
 ghost use Rattle.bech32_hrp.specs.Hrp.{is_lower, is_mixed_case, is_upper};
 ghost use Rattle.bech32_decode.specs.Text.{invalid_character, split_at_last, text_refusal};
-ghost use Rattle.codex32.specs.Nearest.{read_character, read_data, read_text};
+ghost use Rattle.codex32.specs.Nearest.{AreParts, read_character, read_data, read_text};
 ghost use Rattle.codex32.specs.Strings.{frame_refusal};
 
 use crate::error::Codex32Error;
@@ -64,7 +64,8 @@ fn has_both_cases(text: &str) -> bool
 fn validate_grammar(text: &str, front: &str, damaged: &str) -> Result<(), UncheckedHrpstringError>
     requires { split_at_last text.now ≡ Some (front.now, damaged.now) }
     ensures { MatchResult result
-        (λ _. text_refusal (read_text text.now) ≡ None)
+        (λ _. (text_refusal (read_text text.now) ≡ None)
+        × AreParts text.now front.now damaged.now)
         (λ e. text_refusal (read_text text.now) ≡ Some e) }
 {
     validate_data(damaged)?;
@@ -73,6 +74,37 @@ fn validate_grammar(text: &str, front: &str, damaged: &str) -> Result<(), Unchec
     }
     Hrp::parse(front)?;
     Ok(())
+}
+
+// Why a text without `1` is refused.
+fn unseparated(text: &str) -> Codex32Error
+    requires { split_at_last text.now ≡ None }
+    ensures { frame_refusal text.now ≡ Some result }
+{
+    match framed(text) {
+        Ok(_) => unreachable!(),
+        Err(e) => e,
+    }
+}
+
+/// What stands before and after the last `1` of a damaged text, where nothing is wrong with it as
+/// it is read. It allocates nothing.
+///
+/// # Errors
+///
+/// As [`validate_damaged`].
+pub(crate) fn damaged_parts(text: &str) -> Result<(&str, &str), Codex32Error>
+    ensures { MatchResult result
+        (λ parts. (frame_refusal (read_text text.now) ≡ None)
+        × AreParts text.now parts.0.now parts.1.now)
+        (λ e. frame_refusal (read_text text.now) ≡ Some e) }
+{
+    let Some((front, damaged)) = text.rsplit_once('1') else {
+        return Err(unseparated(text));
+    };
+    validate_grammar(text, front, damaged)?;
+    validate_outline(text.len(), front.as_bytes())?;
+    Ok((front, damaged))
 }
 
 /// Tests a damaged codex32 string before [`propose`](crate::propose) looks for the nearest text.
@@ -87,10 +119,6 @@ pub fn validate_damaged(text: &str) -> Result<(), Codex32Error>
         (λ _. frame_refusal (read_text text.now) ≡ None)
         (λ e. frame_refusal (read_text text.now) ≡ Some e) }
 {
-    let Some((front, damaged)) = text.rsplit_once('1') else {
-        framed(text)?;
-        return Ok(());
-    };
-    validate_grammar(text, front, damaged)?;
-    validate_outline(text.len(), front.as_bytes())
+    damaged_parts(text)?;
+    Ok(())
 }

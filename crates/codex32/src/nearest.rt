@@ -1,22 +1,16 @@
 //! The nearest text to a damaged one.
 
-ghost use Rattle.std.specs.Prelude.{◌≡◌, ◌≤◌, ℕ, List, length, None, IfOk, MatchOption, MatchResult, string_bytes};
-ghost use Rattle.bech32_decode.specs.Parts.{unchecked_data, unchecked_length};
-ghost use Rattle.bech32_correction.specs.Mistyped.{IsReadAs};
+ghost use Rattle.std.specs.Prelude.{◌≡◌, None, IfOk, MatchOption, MatchResult, string_bytes};
 ghost use Rattle.bech32_correction.specs.declared.error.CorrectError.TheVariants.{Refused};
 ghost use Rattle.bech32_refusals.specs.declared.error.CheckedHrpstringError.{CheckedHrpstringError as Refusal};
-ghost use Rattle.codex32.specs.Nearest.{AreAdditions, IsMendedAt, IsNearestText, IsProposeRefusal, IsUnlisted, read_text};
+ghost use Rattle.codex32.specs.Nearest.{HasOneNearest, AreAdditions, IsMendedAt, IsNearestAnswer, IsProposeRefusal, IsUnlisted, read_text};
 ghost use Rattle.codex32.specs.Strings.{frame_refusal};
 
 use crate::checksum::Codex32;
-use crate::damaged::validate_damaged;
+use crate::damaged::damaged_parts;
 use crate::error::Codex32Error;
-use crate::frame::framed;
 use crate::unreadable::{read_in, unreadable_in};
-use bech32::primitives::correction::{
-    CorrectError, Correction, Listing, listing_of_unchecked, mended_in,
-};
-use bech32::primitives::decode::UncheckedHrpstring;
+use bech32::primitives::correction::{CorrectError, Correction, Listing, listing_in, mended_in};
 use std::alloc::{AllocError, Allocator, Global};
 
 // The error of a text that is not refused.
@@ -29,24 +23,22 @@ fn memory_of(e: CorrectError) -> AllocError
     }
 }
 
-// What is to be added to the elements of a text that was read, where the characters at the given
-// locations are unreadable. It holds the allocator by reference, so that the prover knows the size
-// of a corrector.
+// What is to be added to the elements of a text, where the characters at the given locations are
+// unreadable. It holds the allocator by reference, so that the prover knows the size of a
+// corrector.
 fn unreadable_listing_in<'a, A: Allocator>(
     alloc: &'a A,
-    unchecked: &UncheckedHrpstring<'_>,
+    read: &str,
     given: &[usize],
 ) -> Result<Option<Listing<&'a A>>, AllocError>
-    requires short { unchecked_length unchecked.now ≤ 93 }
-    requires long { 13 ≤ length (unchecked_data unchecked.now) }
-    ensures { IfOk result (λ found. (text : List ℕ) → IsReadAs text unchecked.now
-        → MatchOption found (IsUnlisted text given.now)
-        (λ listing. AreAdditions text given.now listing)) }
+    requires { frame_refusal read.now ≡ None }
+    ensures { IfOk result (λ found. MatchOption found (IsUnlisted read.now given.now)
+        (λ listing. AreAdditions read.now given.now listing)) }
 {
     if given.len() > 8 {
         return Ok(None);
     }
-    match listing_of_unchecked::<Codex32, &'a A>(alloc, unchecked, given) {
+    match listing_in::<Codex32, &'a A>(alloc, read, given) {
         Ok(Correction::Accepted) => Ok(Some(Listing::new(alloc))),
         Ok(Correction::Mended(listing)) => Ok(Some(listing)),
         Ok(Correction::Unexplained(_)) => Ok(None),
@@ -58,16 +50,13 @@ fn unreadable_listing_in<'a, A: Allocator>(
 fn nearest_read_in<A: Allocator + Copy>(
     alloc: &A,
     read: &str,
-    unchecked: &UncheckedHrpstring<'_>,
     given: &[usize],
 ) -> Result<Option<String<A>>, AllocError>
-    requires short { unchecked_length unchecked.now ≤ 93 }
-    requires long { 13 ≤ length (unchecked_data unchecked.now) }
-    requires read { IsReadAs read.now unchecked.now }
+    requires { frame_refusal read.now ≡ None }
     ensures { IfOk result (λ answer. MatchOption answer (IsUnlisted read.now given.now)
         (λ s. IsMendedAt read.now given.now (string_bytes s))) }
 {
-    let Some(listing) = unreadable_listing_in(alloc, unchecked, given)? else {
+    let Some(listing) = unreadable_listing_in(alloc, read, given)? else {
         return Ok(None);
     };
     let mended = mended_in(*alloc, read, listing.as_slice())?;
@@ -77,17 +66,14 @@ fn nearest_read_in<A: Allocator + Copy>(
 // The nearest text, or why none is looked for.
 fn proposed_in<A: Allocator + Copy>(alloc: A, text: &str) -> Result<Option<String<A>>, Codex32Error>
     ensures { MatchResult result
-        (λ answer. (frame_refusal (read_text text.now) ≡ None) × MatchOption answer
-        ((nearest : List ℕ) → IsNearestText text.now nearest → ⊥)
-        (λ s. IsNearestText text.now (string_bytes s)))
+        (λ answer. (frame_refusal (read_text text.now) ≡ None)
+        × IsNearestAnswer string_bytes text.now answer)
         (λ e. IsProposeRefusal text.now e) }
 {
-    validate_damaged(text)?;
-    let read = read_in(alloc, text)?;
-    let unchecked = framed(&read)?;
-    let start = text.len() - unchecked.data_part_ascii().len();
-    let places = unreadable_in(alloc, &text.as_bytes()[start..])?;
-    let nearest = nearest_read_in(&alloc, &read, &unchecked, &places)?;
+    let (front, damaged) = damaged_parts(text)?;
+    let read = read_in(alloc, front, damaged)?;
+    let places = unreadable_in(alloc, damaged.as_bytes())?;
+    let nearest = nearest_read_in(&alloc, &read, &places)?;
     Ok(nearest)
 }
 
@@ -108,11 +94,8 @@ pub fn propose_in<A: Allocator + Copy>(
     alloc: A,
     text: &str,
 ) -> Result<Option<String<A>>, Codex32Error>
-    ensures value { IfOk result (λ answer. MatchOption answer
-        ((nearest : List ℕ) → IsNearestText text.now nearest → ⊥)
-        (λ s. IsNearestText text.now (string_bytes s))) }
-    ensures only { (one other : List ℕ) → IsNearestText text.now one → IsNearestText text.now other
-        → one ≡ other }
+    ensures value { IfOk result (λ answer. IsNearestAnswer string_bytes text.now answer) }
+    ensures only { HasOneNearest text.now }
     ensures refused { MatchResult result
         (λ _. frame_refusal (read_text text.now) ≡ None)
         (λ e. IsProposeRefusal text.now e) }
@@ -126,11 +109,8 @@ pub fn propose_in<A: Allocator + Copy>(
 ///
 /// Those of [`propose_in`].
 pub fn propose(alloc: Global, text: &str) -> Result<Option<String>, Codex32Error>
-    ensures value { IfOk result (λ answer. MatchOption answer
-        ((nearest : List ℕ) → IsNearestText text.now nearest → ⊥)
-        (λ s. IsNearestText text.now (string_bytes s))) }
-    ensures only { (one other : List ℕ) → IsNearestText text.now one → IsNearestText text.now other
-        → one ≡ other }
+    ensures value { IfOk result (λ answer. IsNearestAnswer string_bytes text.now answer) }
+    ensures only { HasOneNearest text.now }
     ensures refused { MatchResult result
         (λ _. frame_refusal (read_text text.now) ≡ None)
         (λ e. IsProposeRefusal text.now e) }

@@ -1,7 +1,7 @@
 //! Characters that cannot be read.
 
-ghost use Rattle.std.specs.Prelude.{◌≡◌, IfOk, string_bytes};
-ghost use Rattle.codex32.specs.Nearest.{read_character, read_text, unreadable};
+ghost use Rattle.std.specs.Prelude.{◌≡◌, ◌++◌, ◌∷◌, IfOk, string_bytes};
+ghost use Rattle.codex32.specs.Nearest.{read_character, read_data, unreadable};
 
 use std::alloc::{AllocError, Allocator};
 
@@ -12,16 +12,18 @@ pub(crate) fn read_char(c: char) -> char
     if c == '?' { '0' } else { c }
 }
 
-/// The text with each `?` behind the last `1` read as `0`.
-pub(crate) fn read_in<A: Allocator>(alloc: A, text: &str) -> Result<String<A>, AllocError>
-    ensures { IfOk result (λ s. string_bytes s ≡ read_text text.now) }
+/// The text of which these stand before and after the last `1`, with each `?` in the latter read as
+/// `0`.
+pub(crate) fn read_in<A: Allocator>(
+    alloc: A,
+    front: &str,
+    damaged: &str,
+) -> Result<String<A>, AllocError>
+    ensures { IfOk result (λ s. string_bytes s ≡ front.now ++ (49 ∷ read_data damaged.now)) }
 {
-    let Some((front, behind)) = text.rsplit_once('1') else {
-        return String::from_str(alloc, text);
-    };
     let mut read = String::from_str(alloc, front)?;
     read.push('1')?;
-    for c in behind.chars() {
+    for c in damaged.chars() {
         read.push(read_char(c))?;
     }
     Ok(read)

@@ -11,7 +11,6 @@
 //! Standard: BIP-93.
 #![tactic(auto)]
 
-mod buffer;
 mod input;
 pub mod parse;
 pub mod propose;

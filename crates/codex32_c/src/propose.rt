@@ -8,10 +8,10 @@ ghost use Rattle.codex32.specs.Strings.{frame_refusal};
 ghost use Rattle.codex32_c.specs.Faults.{IsNumberOfCodex32};
 ghost use Rattle.codex32_c.specs.Propose.{IsProposeFault, PutsNearest};
 
-use crate::buffer::put;
 use crate::input::text_of;
 use crate::refusal::Refusal;
 use arrayvec::ArrayString;
+use bech32_encode::put_at_front;
 use caller_memory::{Lent, Memory};
 use codex32::{Codex32Error, propose_in, validate_damaged};
 use std::alloc::Allocator;
@@ -30,37 +30,28 @@ fn in_place(text: &str) -> ArrayString<LONGEST>
 }
 
 // The nearest text.
-fn nearest_in<A: Allocator + Copy>(alloc: A, bytes: &[u8]) -> Result<ArrayString<LONGEST>, Refusal>
-    ensures value { IfOk result (λ nearest. IsNearestText bytes.now nearest.bytes) }
-    ensures refused { IfErr result (λ e. (room : ℕ) → IsProposeFault bytes.now room e) }
+fn nearest_in<A: Allocator + Copy>(alloc: A, text: &str) -> Result<ArrayString<LONGEST>, Refusal>
+    requires { IsUtf8 text.now }
+    ensures value { IfOk result (λ nearest. IsNearestText text.now nearest.bytes) }
+    ensures refused { IfErr result (λ e. (room : ℕ) → IsProposeFault text.now room e) }
 {
-    let text = text_of(bytes)?;
     match propose_in(alloc, text)? {
         Some(nearest) => Ok(in_place(&nearest)),
         None => Err(Refusal::NoNearest),
     }
 }
 
-// The same with lent memory.
-fn nearest_over(lent: &Lent, bytes: &[u8]) -> Result<ArrayString<LONGEST>, Refusal>
-    ensures value { IfOk result (λ nearest. IsNearestText bytes.now nearest.bytes) }
-    ensures refused { IfErr result (λ e. (room : ℕ) → IsProposeFault bytes.now room e) }
-{
-    let arena = lent.arena();
-    nearest_in(&arena, bytes)
-}
-
 // The same with memory that comes back; if it does not, this is out of memory.
-fn nearest_with(memory: &mut Memory, bytes: &[u8]) -> Result<ArrayString<LONGEST>, Refusal>
-    requires { IsUtf8 bytes.now × (frame_refusal (read_text bytes.now) ≡ None) }
-    ensures value { IfOk result (λ nearest. IsNearestText bytes.now nearest.bytes) }
-    ensures refused { IfErr result (λ e. (room : ℕ) → IsProposeFault bytes.now room e) }
+fn nearest_with(memory: &mut Memory, text: &str) -> Result<ArrayString<LONGEST>, Refusal>
+    requires { IsUtf8 text.now × (frame_refusal (read_text text.now) ≡ None) }
+    ensures value { IfOk result (λ nearest. IsNearestText text.now nearest.bytes) }
+    ensures refused { IfErr result (λ e. (room : ℕ) → IsProposeFault text.now room e) }
     ensures memory { MatchResult result
         (λ _. memory.new ≡ memory.old)
         (λ e. LeavesMemory memory.old memory.new (e ≡ Refusal.Text Codex32Error.Memory)) }
 {
     let lent = Lent::new(memory.take());
-    let nearest = nearest_over(&lent, bytes);
+    let nearest = nearest_in(&lent.arena(), text);
     match lent.into_memory() {
         Some(whole) => {
             *memory = whole;
@@ -80,12 +71,13 @@ fn nearest_of(memory: &mut Memory, bytes: &[u8], proposed: &mut [u8]) -> Result<
         (λ _. memory.new ≡ memory.old)
         (λ e. LeavesMemory memory.old memory.new (e ≡ Refusal.Text Codex32Error.Memory)) }
 {
-    validate_damaged(text_of(bytes)?)?;
-    let nearest = nearest_with(memory, bytes)?;
+    let text = text_of(bytes)?;
+    validate_damaged(text)?;
+    let nearest = nearest_with(memory, text)?;
     if nearest.len() > proposed.len() {
         return Err(Refusal::NoRoom);
     }
-    put(proposed, nearest.as_str().as_bytes());
+    put_at_front(proposed, nearest.as_str().as_bytes());
     Ok(nearest.len())
 }
 

@@ -20,25 +20,18 @@ pub enum Refusal {
 }
 
 impl Refusal {
-    // The number, which has two digits at most.
-    fn small_number(self) -> u8
-        ensures value { result ≡ number_of_codex32_refusal self }
-        ensures some { 0 < result }
-    {
-        match self {
-            Refusal::NotUtf8 => 2,
-            Refusal::Text(e) => codex32_error_number(e),
-            Refusal::NoNearest => 34,
-            Refusal::NoRoom => 92,
-        }
-    }
-
     /// The number that a call returns.
     pub fn number(self) -> u32
         ensures value { result ≡ number_of_codex32_refusal self }
         ensures some { 0 < result }
     {
-        u32::from(self.small_number())
+        let small: u8 = match self {
+            Refusal::NotUtf8 => 2,
+            Refusal::Text(e) => codex32_error_number(e),
+            Refusal::NoNearest => 34,
+            Refusal::NoRoom => 92,
+        };
+        u32::from(small)
     }
 }
 

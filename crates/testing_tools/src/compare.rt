@@ -1,8 +1,6 @@
 //! What tests compare. Only a test may end a program, so these return what they found.
 
-ghost use Rattle.std.specs.Prelude.{◌<◌, IsTrue};
 ghost use Rattle.std.specs.Iterator.{IsFinite};
-ghost use Rattle.std.specs.List.{AllByRecursion};
 
 use std::alloc::Global;
 use std::fmt::Display;
@@ -49,16 +47,4 @@ pub fn shown<T: Display>(alloc: Global, value: &T) -> String {
         Ok(text) => text,
         Err(_) => String::new(alloc),
     }
-}
-
-/// Whether all locations are below the window.
-pub fn are_below(places: &[usize], window: usize) -> bool
-    ensures { IsTrue result → AllByRecursion (λ i. i < window) places.now }
-{
-    for place in places {
-        if *place >= window {
-            return false;
-        }
-    }
-    true
 }

@@ -1,15 +1,11 @@
 //! What is listed for a text that a checksum refuses.
 
-ghost use Rattle.std.specs.Prelude.{◌<◌, IsTrue};
-ghost use Rattle.std.specs.List.{AllByRecursion};
-
 use crate::rows::{no_row, word};
 use bech32_checksum::{Bech32, Bech32m, Checksum};
 use bech32_corrector::{CorrectableError, Corrector, ErrorIterator};
 use bech32_decode::CheckedHrpstring;
 use std::alloc::{AllocError, Global};
 use testing_tools::codes::Degree13;
-use testing_tools::compare::are_below;
 
 // The numbers of a word, and none for `-`.
 fn numbers(alloc: Global, word: &str) -> Result<Vec<usize>, AllocError> {
@@ -50,20 +46,13 @@ fn listed<Ck: Checksum>(alloc: Global, corrector: &Corrector<Ck>) -> Result<Stri
     }
 }
 
-// Whether all locations are below the window of a corrector.
-fn are_within<Ck: Checksum>(places: &[usize], corrector: &Corrector<Ck>) -> bool
-    ensures { IsTrue result → AllByRecursion (λ i. i < corrector.now.window) places.now }
-{
-    are_below(places, corrector.window())
-}
-
 // What a corrector lists with erasures.
 fn listed_with<Ck: Checksum>(
     alloc: Global,
     corrector: &mut Corrector<Ck>,
     erasures: &[usize],
 ) -> Result<String, AllocError> {
-    if !are_within(erasures, corrector) {
+    if !corrector.are_within(erasures) {
         return no_row(alloc);
     }
     corrector.add_erasures(erasures)?;

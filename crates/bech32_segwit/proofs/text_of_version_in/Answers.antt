@@ -1,5 +1,6 @@
-use Rattle.std.proofs.Common.{◌∙◌, ◌∷◌, Bool, cond, ap, sym, subst, string_bytes, IfOk}
+use Rattle.std.proofs.Common.{◌∙◌, ◌∷◌, Bool, cond, ap, arith, sym, subst, string_bytes, IfOk}
 use Rattle.bech32_bits.specs.Bits.{to_fes}
+use Rattle.bech32_bits.proofs.RoundTrip.{length-to_fes}
 use Rattle.bech32_checksum.specs.Code.{Code, bech32, bech32m}
 use Rattle.bech32_hrp.specs.HrpBytes.{hrp_bytes}
 use Rattle.bech32_checksum.specs.Encoded.{IsEncodedText}
@@ -7,10 +8,24 @@ use Rattle.bech32_segwit.proofs.text_of_version_in.Goals as goal
 
 pub returns-then-eq : goal.returns-then-eq
 returns-then-eq g c =
-    subst (λ (k : Code). IfOk c.text_in.result (λ s. IsEncodedText k (hrp_bytes c.args.hrp) (c.args.version ∷ to_fes c.args.program.now) (string_bytes s)))
-    (sym (ap (λ (b : Bool). cond b bech32 bech32m) (sym c.eq.ensures ∙ c.if-eq.true))) c.text_in.ensures
+    subst (λ (k : Code). IfOk c.text_of_size_in.result (λ s. IsEncodedText k (hrp_bytes c.args.hrp) (c.args.version ∷ to_fes c.args.program.now) (string_bytes s)))
+    (sym (ap (λ (b : Bool). cond b bech32 bech32m) (sym c.eq.ensures ∙ c.if-eq.true))) c.text_of_size_in.ensures
 
 pub returns-else-eq : goal.returns-else-eq
 returns-else-eq g c =
-    subst (λ (k : Code). IfOk c.text_in-else-eq.result (λ s. IsEncodedText k (hrp_bytes c.args.hrp) (c.args.version ∷ to_fes c.args.program.now) (string_bytes s)))
-    (sym (ap (λ (b : Bool). cond b bech32 bech32m) (sym c.eq.ensures ∙ c.if-eq.false))) c.text_in-else-eq.ensures
+    subst (λ (k : Code). IfOk c.text_of_size_in-else-eq.result (λ s. IsEncodedText k (hrp_bytes c.args.hrp) (c.args.version ∷ to_fes c.args.program.now) (string_bytes s)))
+    (sym (ap (λ (b : Bool). cond b bech32 bech32m) (sym c.eq.ensures ∙ c.if-eq.false))) c.text_of_size_in-else-eq.ensures
+
+pub text_of_size_in-requires : goal.text_of_size_in-requires
+text_of_size_in-requires g c =
+    let elements = length-to_fes c.args.program.now in
+    let size = c.requires.0 in
+    let few = c.requires.1 in
+    omega arith
+
+pub text_of_size_in-requires-else-eq : goal.text_of_size_in-requires-else-eq
+text_of_size_in-requires-else-eq g c =
+    let elements = length-to_fes c.args.program.now in
+    let size = c.requires.0 in
+    let few = c.requires.1 in
+    omega arith

@@ -7,8 +7,9 @@ use bech32_decode::{
 use bech32_gf::gf32::Fe32;
 use bech32_hrp::{self as hrp, Hrp};
 use bech32_segwit::{
-    DecodeError, EncodeError, VERSION_0, VERSION_1, decode, decode_in, encode, encode_in,
-    encode_v0, encode_v0_in, encode_v1, encode_v1_in, encoded_length, encoded_length_of_part,
+    DecodeError, EncodeError, VERSION_0, VERSION_1, address_length_of_part, decode, decode_in,
+    encode, encode_in, encode_v0, encode_v0_in, encode_v1, encode_v1_in, encoded_length,
+    encoded_length_of_part,
 };
 use linked_list_allocator::LocalHeap;
 use std::alloc::{AllocError, Allocator, Global};
@@ -103,6 +104,8 @@ fn refuses(
     let program = program.get(..size).expect(rt, "at most 41 zeros");
     let refusal = encode(alloc, hrp, version, program).err();
     same(rt, &(size, refusal), &(size, Some(error)));
+    let tested = address_length_of_part(hrp.as_bytes(), version, program).err();
+    same(rt, &(size, tested), &(size, Some(error)));
 }
 
 // Fails where the longest program does not fill an address under a part of 18 characters.

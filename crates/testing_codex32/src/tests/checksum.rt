@@ -11,7 +11,6 @@ use bech32_gf::gf32::Fe32;
 use codex32::Codex32;
 use std::alloc::Global;
 use testing_tools::codes::Degree13;
-use testing_tools::compare::are_below;
 use testing_tools::known::{EIGHT, EIGHT_ERRORS, FOUR, FOUR_ERRORS};
 
 const TEXT: &str = "ms10testsxxxxxxxxxxxxxxxxxxxxxxxxxx4nzvca9cmczlw";
@@ -38,7 +37,7 @@ fn lawful_roots(rt: HostRuntime) {
 
 // Whether the erasures are below the window, and there was memory for them.
 fn is_given(corrector: &mut Corrector<Codex32>, erasures: &[usize]) -> bool {
-    if !are_below(erasures, corrector.window()) {
+    if !corrector.are_within(erasures) {
         return false;
     }
     corrector.add_erasures(erasures).is_ok()

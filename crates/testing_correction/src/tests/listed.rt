@@ -1,32 +1,18 @@
 //! What is listed for residues, erasures and windows.
 
-ghost use Rattle.std.specs.Prelude.{◌<◌, IsTrue};
-ghost use Rattle.std.specs.List.{AllByRecursion};
-
 use bech32_bch::ShortVec;
 use bech32_checksum::Checksum;
 use bech32_corrector::{CorrectableError, Corrector, ErrorIterator};
 use bech32_decode::CheckedHrpstring;
 use bech32_gf::gf32::Fe32;
 use std::alloc::{Allocator, Global};
-use testing_tools::compare::are_below;
 
 /// Locations with the values to add there.
 pub type Listing<'a> = &'a [(usize, Fe32)];
 
-/// Whether all locations are below the window of a corrector.
-pub fn are_within<Ck: Checksum, A: Allocator + Copy>(
-    places: &[usize],
-    corrector: &Corrector<Ck, A>,
-) -> bool
-    ensures { IsTrue result → AllByRecursion (λ i. i < corrector.now.window) places.now }
-{
-    are_below(places, corrector.window())
-}
-
 // Whether the erasures are below the window, and there was memory for them.
 fn is_given<Ck: Checksum>(corrector: &mut Corrector<Ck>, erasures: &[usize]) -> bool {
-    if are_within(erasures, corrector) {
+    if corrector.are_within(erasures) {
         corrector.add_erasures(erasures).is_ok()
     } else {
         false

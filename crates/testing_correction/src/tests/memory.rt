@@ -1,6 +1,6 @@
 //! Out of memory.
 
-use super::listed::{Listing, are_within, is_found};
+use super::listed::{Listing, is_found};
 use crate::tests::compare::same;
 use bech32_checksum::{Bech32, Checksum};
 use bech32_corrector::{CorrectableError, Corrector};
@@ -41,7 +41,7 @@ fn lists_four(heap: &LocalHeap) -> Result<bool, AllocError> {
     let Some(mut corrector) = corrector_in::<Degree13<93>>(heap, FOUR_ERRORS) else {
         return Ok(false);
     };
-    if !are_within(&[44, 0], &corrector) {
+    if !corrector.are_within(&[44, 0]) {
         return Ok(false);
     }
     corrector.add_erasures(&[44, 0])?;
@@ -97,7 +97,7 @@ fn is_listed(
     let Some(mut corrector) = corrector_in::<Bech32>(heap, text) else {
         return Ok(false);
     };
-    if !are_within(erasures, &corrector) {
+    if !corrector.are_within(erasures) {
         return Ok(false);
     }
     let is_first = with_lists(&corrector, erasures, want)?;

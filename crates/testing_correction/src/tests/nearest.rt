@@ -1,6 +1,6 @@
 //! All patterns of few errors, as a program of its own lists them by trying each.
 
-use super::listed::{Listing, are_within};
+use super::listed::Listing;
 use crate::tests::compare::same;
 use bech32_checksum::{Bech32, Checksum};
 use bech32_corrector::{CorrectableError, Corrector};
@@ -54,7 +54,7 @@ fn are_nearest(
     let Some(mut corrector) = corrector_in::<Bech32>(heap, text, window) else {
         return Ok(false);
     };
-    if !are_within(erasures, &corrector) {
+    if !corrector.are_within(erasures) {
         return Ok(false);
     }
     corrector.add_erasures(erasures)?;

@@ -3,8 +3,8 @@ use Rattle.std.proofs.Common.{◌<◌, length, arith}
 use Rattle.bech32_calls.proofs.Joined.{next_room, next_size, put_next}
 use Rattle.bech32_calls.proofs.nearest.put_each.Goals as goal
 
-pub put-requires : goal.put-requires
-put-requires g c =
+pub put_at_front-requires : goal.put_at_front-requires
+put_at_front-requires g c =
     let less : c.loop-i.i < length c.args.near.now = c.loop-i-test.true in
     next_room (λ m. string_bytes m.text) c.args.near.now c.loop-i.i c.index-near-i.result c.loop-i.end c.as_bytes-text.result.now
     less c.as_bytes-text.ensures.value c.loop-i.invariant.size
@@ -18,5 +18,5 @@ loop-i-preserved g c =
           less c.as_bytes-text.ensures.value c.loop-i.invariant.size;
       buffer = put_next (λ m. string_bytes m.text) c.args.near.now c.loop-i.i c.index-near-i.result c.loop-i.end c.as_bytes-text.result.now
           less c.as_bytes-text.ensures.value c.loop-i.invariant.size
-          c.args.texts.now c.loop-i.texts c.put.new.buffer c.loop-i.invariant.buffer c.put.ensures.buffer;
+          c.args.texts.now c.loop-i.texts c.put_at_front.new.buffer c.loop-i.invariant.buffer c.put_at_front.ensures.buffer;
     }

@@ -18,7 +18,7 @@ new-corrector-requires g c =
     ap (λ (k : Code). length k.target) g.met.Ck.Checksum.code_law ∙ length-tabulate g.Ck.Checksum.CHECKSUM_LENGTH _ ∙ sym g.met.Ck.Checksum.degree_law in (
       search rules,
       (
-        g.met.Ck.Checksum.lawful_law.0 g.met.Ck.CorrectingChecksum.lawful_roots (some_degree code u error size invalid),
+        (g.met.Ck.CorrectingChecksum.lawful_roots, some_degree code u error size invalid),
         inside_code code _ _ g.Ck.Checksum.CODE_LENGTH (length c.data_part_ascii-window.result.now) u.fits invalid.0 g.met.Ck.Checksum.code_length_law (ap length c.data_part_ascii-window.ensures.value),
       ),
     )

@@ -41,8 +41,8 @@ correct_erased-requires g c =
       ),
     )
 
-pub correct-requires : goal.correct-requires
-correct-requires g c =
+pub correct_by_roots-requires : goal.correct_by_roots-requires
+correct_by_roots-requires g c =
     let found = rw c.in-Some.is at c.in_ok-erasures.ensures.value in
     let ops = g.Ck.CorrectionField.Arithmetic.ops in (
       search rules,
@@ -88,21 +88,21 @@ returns-clause-answer g c = λ before.
     let bound = g.Ck.Checksum.bound in
     let given = c.args.given.now in
     let found = rw c.in-Some.is at c.in_ok-erasures.ensures.value in
-    some_with code bound (record { residue = c.args.residue.now; window = c.args.window; erasures = before }) given c.correct.result
+    some_with code bound (record { residue = c.args.residue.now; window = c.args.window; erasures = before }) given c.correct_by_roots.result
     (subst (λ (n : ℕ). AreWithin c.args.window n given) c.bound-most.ensures found.0)
-    (subst (λ (s : List ℕ). IfOk c.correct.result (λ answer. IsAnswerTo code bound (record { residue = c.args.residue.now; window = c.args.window; erasures = s }) answer))
-    found.2 c.correct.ensures.answer)
+    (subst (λ (s : List ℕ). IfOk c.correct_by_roots.result (λ answer. IsAnswerTo code bound (record { residue = c.args.residue.now; window = c.args.window; erasures = s }) answer))
+    found.2 c.correct_by_roots.ensures.answer)
 
 refused : {P : Type 0} → false ≡ true → P
 refused h = absurd (cc h)
 
 pub returns-in_err-erasures-clause-in_place : goal.returns-in_err-erasures-clause-in_place
 returns-in_err-erasures-clause-in_place g c = λ short.
-    refused (c.in_err-erasures.ensures.in_place (omega (arith, short, c.bound-most.ensures, c.requires.lawful.few, g.met.Ck.Checksum.bound_law)))
+    refused (c.in_err-erasures.ensures.in_place (omega (arith, short, c.bound-most.ensures, (g.met.Ck.Checksum.lawful_law.0 c.requires.lawful.0 c.requires.lawful.1).few, g.met.Ck.Checksum.bound_law)))
 
 pub returns-in_err-known-clause-in_place : goal.returns-in_err-known-clause-in_place
 returns-in_err-known-clause-in_place g c = λ short.
     let found = rw c.in-Some.is at c.in_ok-erasures.ensures.value in
     let few : length (with_erasures [] c.args.given.now) ≤ c.bound-most.result = found.0.1 in
     refused (c.in_err-known.ensures.in_place
-    (omega (arith, short, few, c.bound-most.ensures, c.requires.lawful.few, g.met.Ck.Checksum.bound_law, ap (λ (s : List ℕ). length s) (c.as_slice.ensures ∙ found.2))))
+    (omega (arith, short, few, c.bound-most.ensures, (g.met.Ck.Checksum.lawful_law.0 c.requires.lawful.0 c.requires.lawful.1).few, g.met.Ck.Checksum.bound_law, ap (λ (s : List ℕ). length s) (c.as_slice.ensures ∙ found.2))))

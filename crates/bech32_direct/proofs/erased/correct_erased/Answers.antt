@@ -40,7 +40,7 @@ returns-clause-answer g c =
     subst (λ (l : List (ℕ × Fe32)). IsOnlyListing code g.Ck.Checksum.bound (record { residue = residue; window = c.args.window; erasures = s }) l) (sym listed)
     (only_lawful g.met.Ck.CorrectionField.Arithmetic.laws g.met.Ck.CorrectionField.LocatorField.embeds_law apart code
     g.Ck.Checksum.ROOT_GENERATOR g.Ck.Checksum.ROOT_EXPONENTS_START g.Ck.Checksum.ROOT_EXPONENTS_END g.Ck.Checksum.bound g.Ck.Checksum.CODE_LENGTH c.args.window
-    g.met.Ck.Checksum.bound_law g.met.Ck.Checksum.code_length_law size c.requires.lawful c.requires.within residue s (placed s value (length s))
+    g.met.Ck.Checksum.bound_law g.met.Ck.Checksum.code_length_law size (g.met.Ck.Checksum.lawful_law.0 c.requires.lawful.0 c.requires.lawful.1) c.requires.within residue s (placed s value (length s))
     c.requires.erased (only_erased fe32.ops c.args.window g.Ck.Checksum.bound s value c.requires.few) found)
 
 refused : {P : Type 0} → false ≡ true → P
@@ -48,4 +48,4 @@ refused h = absurd (cc h)
 
 pub returns-in_err-listing-clause-in_place : goal.returns-in_err-listing-clause-in_place
 returns-in_err-listing-clause-in_place g c = λ few.
-    refused (c.in_err-listing.ensures.in_place (omega (arith, few, c.requires.few, c.requires.lawful.few, g.met.Ck.Checksum.bound_law, ap (λ (l : List ℕ). length l) c.as_slice-2.ensures)))
+    refused (c.in_err-listing.ensures.in_place (omega (arith, few, c.requires.few, (g.met.Ck.Checksum.lawful_law.0 c.requires.lawful.0 c.requires.lawful.1).few, g.met.Ck.Checksum.bound_law, ap (λ (l : List ℕ). length l) c.as_slice-2.ensures)))

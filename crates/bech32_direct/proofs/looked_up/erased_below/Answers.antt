@@ -13,7 +13,7 @@ returns-in-2 g c =
     ap (λ (k : Code). length k.target) g.met.Ck.Checksum.code_law ∙ length-tabulate g.Ck.Checksum.CHECKSUM_LENGTH _ ∙ sym g.met.Ck.Checksum.degree_law in
     only_erasures g.met.Ck.CorrectionField.Arithmetic.laws g.met.Ck.CorrectionField.LocatorField.embeds_law apart code
     g.Ck.Checksum.ROOT_GENERATOR g.Ck.Checksum.ROOT_EXPONENTS_START g.Ck.Checksum.ROOT_EXPONENTS_END g.Ck.Checksum.bound g.Ck.Checksum.CODE_LENGTH c.args.window
-    g.met.Ck.Checksum.bound_law g.met.Ck.Checksum.code_length_law size c.requires.lawful c.requires.within c.args.residue.now c.args.given.now c.two_below.result
+    g.met.Ck.Checksum.bound_law g.met.Ck.Checksum.code_length_law size (g.met.Ck.Checksum.lawful_law.0 c.requires.lawful.0 c.requires.lawful.1) c.requires.within c.args.residue.now c.args.given.now c.two_below.result
     (omega (arith, c.in-2.is, c.requires.bound)) c.two_below.ensures
 
 pub returns-in-3 : goal.returns-in-3
@@ -24,5 +24,5 @@ returns-in-3 g c =
     ap (λ (k : Code). length k.target) g.met.Ck.Checksum.code_law ∙ length-tabulate g.Ck.Checksum.CHECKSUM_LENGTH _ ∙ sym g.met.Ck.Checksum.degree_law in
     only_erasures g.met.Ck.CorrectionField.Arithmetic.laws g.met.Ck.CorrectionField.LocatorField.embeds_law apart code
     g.Ck.Checksum.ROOT_GENERATOR g.Ck.Checksum.ROOT_EXPONENTS_START g.Ck.Checksum.ROOT_EXPONENTS_END g.Ck.Checksum.bound g.Ck.Checksum.CODE_LENGTH c.args.window
-    g.met.Ck.Checksum.bound_law g.met.Ck.Checksum.code_length_law size c.requires.lawful c.requires.within c.args.residue.now c.args.given.now c.three_below.result
+    g.met.Ck.Checksum.bound_law g.met.Ck.Checksum.code_length_law size (g.met.Ck.Checksum.lawful_law.0 c.requires.lawful.0 c.requires.lawful.1) c.requires.within c.args.residue.now c.args.given.now c.three_below.result
     (omega (arith, c.in-3.is, c.requires.bound)) c.three_below.ensures

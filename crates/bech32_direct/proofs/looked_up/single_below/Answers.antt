@@ -23,7 +23,7 @@ returns-then-error-window g c =
     ap (λ (k : Code). length k.target) g.met.Ck.Checksum.code_law ∙ length-tabulate g.Ck.Checksum.CHECKSUM_LENGTH _ ∙ sym g.met.Ck.Checksum.degree_law in
     only_lawful g.met.Ck.CorrectionField.Arithmetic.laws g.met.Ck.CorrectionField.LocatorField.embeds_law apart code
     g.Ck.Checksum.ROOT_GENERATOR g.Ck.Checksum.ROOT_EXPONENTS_START g.Ck.Checksum.ROOT_EXPONENTS_END g.Ck.Checksum.bound g.Ck.Checksum.CODE_LENGTH c.args.window
-    g.met.Ck.Checksum.bound_law g.met.Ck.Checksum.code_length_law size c.requires.lawful c.requires.within c.args.residue.now [] (c.in-Some.error ∷ [])
+    g.met.Ck.Checksum.bound_law g.met.Ck.Checksum.code_length_law size (g.met.Ck.Checksum.lawful_law.0 c.requires.lawful.0 c.requires.lawful.1) c.requires.within c.args.residue.now [] (c.in-Some.error ∷ [])
     (no_erasures c.args.window) (one_listed c.args.window g.Ck.Checksum.bound c.in-Some.error (omega (arith, c.requires.bound)) (omega (arith, c.if-error-window.true)) error.not_zero) error.leaves
 
 pub returns-else-error-window : goal.returns-else-error-window

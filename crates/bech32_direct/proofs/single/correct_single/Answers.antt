@@ -23,7 +23,7 @@ returns-then-eq-clause-answer g c =
     subst (λ (l : List (ℕ × Fe32)). IsOnlyListing code g.Ck.Checksum.bound (record { residue = residue; window = c.args.window; erasures = [] }) l) (sym c.new-listing.ensures)
     (only_lawful g.met.Ck.CorrectionField.Arithmetic.laws g.met.Ck.CorrectionField.LocatorField.embeds_law apart code
     g.Ck.Checksum.ROOT_GENERATOR g.Ck.Checksum.ROOT_EXPONENTS_START g.Ck.Checksum.ROOT_EXPONENTS_END g.Ck.Checksum.bound g.Ck.Checksum.CODE_LENGTH c.args.window
-    g.met.Ck.Checksum.bound_law g.met.Ck.Checksum.code_length_law size c.requires.lawful c.requires.within residue [] []
+    g.met.Ck.Checksum.bound_law g.met.Ck.Checksum.code_length_law size (g.met.Ck.Checksum.lawful_law.0 c.requires.lawful.0 c.requires.lawful.1) c.requires.within residue [] []
     (no_erasures c.args.window) (none_listed c.args.window g.Ck.Checksum.bound) (nothing_left code.generator residue (c.pivot_of-pivot.ensures nothing)))
 
 pub returns-in_default-clause-answer : goal.returns-in_default-clause-answer
@@ -46,5 +46,5 @@ returns-clause-answer g c =
     subst (λ (l : List (ℕ × Fe32)). IsOnlyListing code g.Ck.Checksum.bound (record { residue = residue; window = c.args.window; erasures = [] }) l) (sym listed)
     (only_lawful g.met.Ck.CorrectionField.Arithmetic.laws g.met.Ck.CorrectionField.LocatorField.embeds_law apart code
     g.Ck.Checksum.ROOT_GENERATOR g.Ck.Checksum.ROOT_EXPONENTS_START g.Ck.Checksum.ROOT_EXPONENTS_END g.Ck.Checksum.bound g.Ck.Checksum.CODE_LENGTH c.args.window
-    g.met.Ck.Checksum.bound_law g.met.Ck.Checksum.code_length_law size c.requires.lawful c.requires.within residue [] (error ∷ [])
+    g.met.Ck.Checksum.bound_law g.met.Ck.Checksum.code_length_law size (g.met.Ck.Checksum.lawful_law.0 c.requires.lawful.0 c.requires.lawful.1) c.requires.within residue [] (error ∷ [])
     (no_erasures c.args.window) (one_listed c.args.window g.Ck.Checksum.bound error c.requires.one found.0 found.1.0) found.1.1)

@@ -21,8 +21,8 @@ gather-returns-in_default g t c = λ few within.
 pub gather-loop-place-init : goal.gather-loop-place-init
 gather-loop-place-init g t c = λ few within.
     let q = c.args.corrector.now in
-    first_place is_field fe32.value lowest fe32.path g.Ck.Checksum.code.generator q.residue q.erasures c.args.errors c.args.found.now.items c.add_answer-2.new.found.items
-    (c.in_ok-add_answer.ensures (omega (arith, few)) (omega arith))
+    first_place is_field fe32.value lowest fe32.path g.Ck.Checksum.code.generator q.residue q.erasures c.args.errors c.args.found.now.items c.add_errorless.new.found.items
+    (c.in_ok-add_errorless.ensures few)
 
 pub gather-loop-place-preserved : goal.gather-loop-place-preserved
 gather-loop-place-preserved g t c = λ few within.
@@ -93,8 +93,8 @@ gather_with-gather-gathered-requires g t c =
 pub gather-add_answer-requires : goal.gather-add_answer-requires
 gather-add_answer-requires g t c = search rules
 
-pub gather-add_answer-requires-2 : goal.gather-add_answer-requires-2
-gather-add_answer-requires-2 g t c = (search rules, search rules)
+pub gather-add_errorless-requires : goal.gather-add_errorless-requires
+gather-add_errorless-requires g t c = (search rules, search rules)
 
 pub gather_at-add_erased-requires : goal.gather_at-add_erased-requires
 gather_at-add_erased-requires g t c = (search rules, search rules)

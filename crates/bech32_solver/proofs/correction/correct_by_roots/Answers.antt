@@ -21,7 +21,7 @@ candidate-requires g c =
     let usable = usable_read o g.Ck.CorrectionField.Extension.embed g.met.Ck.CorrectionField.LocatorField.embeds_law.one
     g.Ck.Checksum.code g.Ck.Checksum.ROOT_GENERATOR c.ROOT_GENERATOR.result g.Ck.Checksum.ROOT_EXPONENTS_START c.ROOT_EXPONENTS_START.result g.Ck.Checksum.ROOT_EXPONENTS_END c.bound.result
     c.args.window c.ROOT_GENERATOR.ensures c.ROOT_EXPONENTS_START.ensures (c.bound.ensures ∙ g.met.Ck.Checksum.bound_law)
-    c.requires.lawful (subst (λ n. c.args.window ≤ n) (sym g.met.Ck.Checksum.code_length_law) c.requires.within) in (
+    (g.met.Ck.Checksum.lawful_law.0 c.requires.lawful.0 c.requires.lawful.1) (subst (λ n. c.args.window ≤ n) (sym g.met.Ck.Checksum.code_length_law) c.requires.within) in (
       search rules,
       (
         search rules,
@@ -40,7 +40,7 @@ returns-in_default-clause-answer g c = λ e h.
     let usable = usable_read g.Ck.CorrectionField.Arithmetic.ops g.Ck.CorrectionField.Extension.embed g.met.Ck.CorrectionField.LocatorField.embeds_law.one
     g.Ck.Checksum.code g.Ck.Checksum.ROOT_GENERATOR c.ROOT_GENERATOR.result g.Ck.Checksum.ROOT_EXPONENTS_START c.ROOT_EXPONENTS_START.result g.Ck.Checksum.ROOT_EXPONENTS_END c.bound.result
     c.args.window c.ROOT_GENERATOR.ensures c.ROOT_EXPONENTS_START.ensures (c.bound.ensures ∙ g.met.Ck.Checksum.bound_law)
-    c.requires.lawful (subst (λ n. c.args.window ≤ n) (sym g.met.Ck.Checksum.code_length_law) c.requires.within) in
+    (g.met.Ck.Checksum.lawful_law.0 c.requires.lawful.0 c.requires.lawful.1) (subst (λ n. c.args.window ≤ n) (sym g.met.Ck.Checksum.code_length_law) c.requires.within) in
     absurd (rw c.in_default.is at (found_over g.met.Ck.CorrectionField.LocatorField.base_law _ _ _ _ _ _ _ _ _ c.in_ok-listing.ensures.found g.Ck.Checksum.code.generator e usable
     (subst (λ n. Solves fe32.ops g.Ck.Checksum.code.generator c.args.residue.now c.args.erasures.now c.args.window n e) (sym c.bound.ensures) h)))
 
@@ -58,7 +58,7 @@ returns-then-has_residue-clause-answer g c =
     let usable = usable_read o embed g.met.Ck.CorrectionField.LocatorField.embeds_law.one
     code g.Ck.Checksum.ROOT_GENERATOR c.ROOT_GENERATOR.result g.Ck.Checksum.ROOT_EXPONENTS_START c.ROOT_EXPONENTS_START.result g.Ck.Checksum.ROOT_EXPONENTS_END c.bound.result
     c.args.window c.ROOT_GENERATOR.ensures c.ROOT_EXPONENTS_START.ensures (c.bound.ensures ∙ g.met.Ck.Checksum.bound_law)
-    c.requires.lawful (subst (λ n. c.args.window ≤ n) (sym g.met.Ck.Checksum.code_length_law) c.requires.within) in
+    (g.met.Ck.Checksum.lawful_law.0 c.requires.lawful.0 c.requires.lawful.1) (subst (λ n. c.args.window ≤ n) (sym g.met.Ck.Checksum.code_length_law) c.requires.within) in
     let leaves : HasRemainder fe32.ops generator residue listing =
     subst (HasRemainder fe32.ops generator residue) c.as_slice.ensures (c.has_residue.ensures.0 c.if-has_residue.true) in
     let is_sound : IsSound fe32.ops generator residue erasures c.args.window g.Ck.Checksum.bound listing =
@@ -86,7 +86,7 @@ returns-else-has_residue-clause-answer g c = λ e h.
     let usable = usable_read o embed g.met.Ck.CorrectionField.LocatorField.embeds_law.one
     g.Ck.Checksum.code g.Ck.Checksum.ROOT_GENERATOR c.ROOT_GENERATOR.result g.Ck.Checksum.ROOT_EXPONENTS_START c.ROOT_EXPONENTS_START.result g.Ck.Checksum.ROOT_EXPONENTS_END c.bound.result
     c.args.window c.ROOT_GENERATOR.ensures c.ROOT_EXPONENTS_START.ensures (c.bound.ensures ∙ g.met.Ck.Checksum.bound_law)
-    c.requires.lawful (subst (λ n. c.args.window ≤ n) (sym g.met.Ck.Checksum.code_length_law) c.requires.within) in
+    (g.met.Ck.Checksum.lawful_law.0 c.requires.lawful.0 c.requires.lawful.1) (subst (λ n. c.args.window ≤ n) (sym g.met.Ck.Checksum.code_length_law) c.requires.within) in
     let listing = c.in-Some.listing in
     let solves : Solves fe32.ops generator c.args.residue.now c.args.erasures.now c.args.window c.bound.result e =
     subst (λ n. Solves fe32.ops generator c.args.residue.now c.args.erasures.now c.args.window n e) (sym c.bound.ensures) h in
@@ -101,4 +101,4 @@ refused : {P : Type 0} → false ≡ true → P
 refused h = absurd (cc h)
 
 pub returns-in_err-listing-clause-in_place : goal.returns-in_err-listing-clause-in_place
-returns-in_err-listing-clause-in_place g c = λ few. refused (c.in_err-listing.ensures.in_place (omega (arith, few, c.requires.lawful.few, c.bound.ensures, g.met.Ck.Checksum.bound_law)))
+returns-in_err-listing-clause-in_place g c = λ few. refused (c.in_err-listing.ensures.in_place (omega (arith, few, (g.met.Ck.Checksum.lawful_law.0 c.requires.lawful.0 c.requires.lawful.1).few, c.bound.ensures, g.met.Ck.Checksum.bound_law)))

@@ -1,7 +1,7 @@
-use Rattle.std.proofs.Common.{sym, ap, ◌∙◌}
+use Rattle.std.proofs.Common.{sym, ap, ◌∙◌, refl}
 use Rattle.std.proofs.lemmas.Result.{err_from_is_err_and}
 use Rattle.bech32_decode.specs.Text.{as_hrp}
-use Rattle.codex32.proofs.ReadTexts.{none_behind, past_cases, refused_cases, refused_character}
+use Rattle.codex32.proofs.ReadTexts.{none_behind, parts-read, past_cases, refused_cases, refused_character}
 use Rattle.codex32.proofs.damaged.validate_grammar.Goals as goal
 
 pub validate_data-requires : goal.validate_data-requires
@@ -24,6 +24,9 @@ returns-in_err-parse c =
     (sym c.has_both_cases.ensures ∙ c.if-has_both_cases.false) ∙ ap as_hrp c.in_err-parse.ensures.outcome))
 
 pub returns : goal.returns
-returns c =
-    past_cases c.args.text.now c.args.front.now c.args.damaged.now c.requires c.utf8.front c.utf8.damaged c.in_ok-validate_data.ensures
-    (sym c.has_both_cases.ensures ∙ c.if-has_both_cases.false) ∙ ap as_hrp c.in_ok-parse.ensures.outcome.0
+returns c = (
+  past_cases c.args.text.now c.args.front.now c.args.damaged.now c.requires c.utf8.front c.utf8.damaged c.in_ok-validate_data.ensures
+      (sym c.has_both_cases.ensures ∙ c.if-has_both_cases.false) ∙ ap as_hrp c.in_ok-parse.ensures.outcome.0,
+  parts-read c.args.text.now c.args.front.now c.args.damaged.now c.requires (c.in_ok-parse.ensures.accepts.0 refl) c.in_ok-validate_data.ensures
+      (sym c.has_both_cases.ensures ∙ c.if-has_both_cases.false),
+)

@@ -3,7 +3,7 @@ use Rattle.bech32_checksum.specs.laws.RootLaws.{bech32_roots}
 use Rattle.bech32_correction.proofs.in_place.Bech32CorrectsInPlace.listing_of_residue.Goals as goal
 
 pub listing_given-requires : goal.listing_given-requires
-listing_given-requires c = (search rules, (search rules, (bech32_roots (omega arith), c.requires)))
+listing_given-requires c = (search rules, (search rules, ((bech32_roots, omega arith), c.requires)))
 
 pub answer_of-requires : goal.answer_of-requires
 answer_of-requires c = c.listing_given.ensures.in_place (omega arith)

@@ -6,7 +6,7 @@ use Rattle.bech32_corrector.proofs.correctable.CorrectableError.correction_conte
 pub new-requires : goal.new-requires
 new-requires g c =
     let some : 0 < length g.Ck.Checksum.code.generator = omega (arith, g.met.Ck.Checksum.degree_law, c.CHECKSUM_LENGTH.ensures, c.if-CHECKSUM_LENGTH-eq0.false) in
-    (search rules, (g.met.Ck.Checksum.lawful_law.0 c.requires.lawful some, c.requires.within))
+    (search rules, ((c.requires.lawful, some), c.requires.within))
 
 abbrev holds : List Fe32 → ℕ → List ℕ → Question
 holds residue window erasures = record { residue = residue; window = window; erasures = erasures }

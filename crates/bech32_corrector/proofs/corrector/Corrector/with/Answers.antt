@@ -36,14 +36,14 @@ refused h = absurd (cc h)
 
 pub returns-in_err-erasures-clause-in_place : goal.returns-in_err-erasures-clause-in_place
 returns-in_err-erasures-clause-in_place g c = λ short.
-    refused (c.in_err-erasures.ensures.in_place (omega (arith, short, c.bound-most.ensures, g.met.Ck.Checksum.bound_law, c.self.invariant.3.few)))
+    refused (c.in_err-erasures.ensures.in_place (omega (arith, short, c.bound-most.ensures, g.met.Ck.Checksum.bound_law, (g.met.Ck.Checksum.lawful_law.0 c.self.invariant.3.0 c.self.invariant.3.1).few)))
 
 pub returns-in_err-known-clause-in_place : goal.returns-in_err-known-clause-in_place
 returns-in_err-known-clause-in_place g c = λ short.
     let found = rw c.in-Some.is at c.in_ok-erasures.ensures.value in
     let few : length (with_erasures [] c.args.given.now) ≤ c.bound-most.result = found.0.1 in
     refused (c.in_err-known.ensures.in_place
-    (omega (arith, short, few, c.bound-most.ensures, g.met.Ck.Checksum.bound_law, c.self.invariant.3.few, ap (λ (s : List ℕ). length s) (c.as_slice.ensures ∙ found.2))))
+    (omega (arith, short, few, c.bound-most.ensures, g.met.Ck.Checksum.bound_law, (g.met.Ck.Checksum.lawful_law.0 c.self.invariant.3.0 c.self.invariant.3.1).few, ap (λ (s : List ℕ). length s) (c.as_slice.ensures ∙ found.2))))
 
 pub returns-in_err-erasures-clause-few : goal.returns-in_err-erasures-clause-few
 returns-in_err-erasures-clause-few g c = λ fits. refused (c.in_err-erasures.ensures.few fits)

@@ -5,7 +5,7 @@ use Rattle.bech32_decode.specs.Refusals.{IsInvalidBy, IsValidBy}
 use Rattle.bech32_refusals.specs.declared.error.ChecksumError.TheVariants.{InvalidResidue}
 use Rattle.bech32_correction.proofs.Outcomes.{accepted-from_valid}
 use Rattle.bech32_near.proofs.Nearby.{leaves-from_accepted, leaves-from_error}
-use Rattle.bech32_near.proofs.texts.residue_in.Goals as goal
+use Rattle.bech32_near.proofs.read.residue_in.Goals as goal
 
 pub returns-in-Ok-Some : goal.returns-in-Ok-Some
 returns-in-Ok-Some g c = λ text is.
@@ -21,7 +21,7 @@ pub returns-in-Ok-None : goal.returns-in-Ok-None
 returns-in-Ok-None g c = λ text is.
     let code = g.Ck.Checksum.code in
     let valid : IsValidBy code c.args.unchecked.now = rw c.in-Ok-None.field-0-is at (rw c.in-Ok-None.is at c.residue_error_in.ensures) in
-    leaves-from_accepted code text _ refl (accepted-from_valid code text c.args.unchecked.now is valid)
+    leaves-from_accepted code text c.args.unchecked.now _ is refl (accepted-from_valid code text c.args.unchecked.now is valid)
 
 pub returns-in-Err : goal.returns-in-Err
 returns-in-Err g c = rw c.in-Err.is at c.residue_error_in.ensures

@@ -1,0 +1,52 @@
+use Rattle.std.specs.Prelude.{string_bytes}
+use Rattle.std.proofs.Common.{rules, ◌≡◌, ◌<◌, length, sym, ◌∙◌, arith}
+use Rattle.bech32_checksum.proofs.Target.{length-target}
+use Rattle.bech32_near.proofs.Found.{near_texts, none_found}
+use Rattle.bech32_near.proofs.Nearby.{all_placed, fits_code, search-from_residue}
+use Rattle.bech32_near.proofs.texts.nearest_of_read.Goals as goal
+
+pub new-corrector-requires : goal.new-corrector-requires
+new-corrector-requires g c =
+    let code = g.Ck.Checksum.code in
+    let read = c.args.read.now in
+    let some : 0 < length code.generator = omega (arith, g.met.Ck.Checksum.degree_law, c.CHECKSUM_LENGTH.ensures, c.if-CHECKSUM_LENGTH-eq0.false) in (
+      search rules,
+      (
+        (g.met.Ck.CorrectingChecksum.lawful_roots, some),
+        fits_code code read.text.now read.window read.residue g.Ck.Checksum.CODE_LENGTH g.met.Ck.Checksum.code_length_law c.requires,
+      ),
+    )
+
+pub listings_within-requires : goal.listings_within-requires
+listings_within-requires g c = search rules
+
+pub mended_all-requires : goal.mended_all-requires
+mended_all-requires g c =
+    let code = g.Ck.Checksum.code in
+    let read = c.args.read.now in
+    let some : 0 < length code.generator = omega (arith, g.met.Ck.Checksum.degree_law, c.CHECKSUM_LENGTH.ensures, c.if-CHECKSUM_LENGTH-eq0.false) in
+    let laws = g.met.Ck.Checksum in
+    let size = length-target g.Ck.MidstateRepr.PackedFe32.number code g.Ck.Checksum.CODE_LENGTH g.Ck.Checksum.CHECKSUM_LENGTH g.Ck.Checksum.GENERATOR_SH g.Ck.Checksum.TARGET_RESIDUE laws.code_law ∙ sym laws.degree_law in
+    let is = search-from_residue code read.text.now read.window read.residue c.new-corrector.result c.new-corrector.ensures some c.requires in
+    (search rules, all_placed code g.Ck.Checksum.bound c.args.errors read.text.now c.args.erasures.now size c.in_ok-listings.listings.items (c.in_ok-listings.ensures read.text.now is.0 is.1))
+
+pub returns-then-CHECKSUM_LENGTH-eq0 : goal.returns-then-CHECKSUM_LENGTH-eq0
+returns-then-CHECKSUM_LENGTH-eq0 g c =
+    let code = g.Ck.Checksum.code in
+    let text = c.args.read.now.text.now in
+    let none : length code.generator ≡ 0 = omega (arith, g.met.Ck.Checksum.degree_law, c.CHECKSUM_LENGTH.ensures, c.if-CHECKSUM_LENGTH-eq0.true) in
+    let accepts = c.requires.accepted none in
+    (none_found (λ m. m.listing) (λ m. string_bytes m.text) code g.Ck.Checksum.bound c.args.errors text c.args.erasures.now c.new.result.items c.new.ensures.items none accepts, (none, accepts))
+
+pub returns : goal.returns
+returns g c =
+    let code = g.Ck.Checksum.code in
+    let read = c.args.read.now in
+    let some : 0 < length code.generator = omega (arith, g.met.Ck.Checksum.degree_law, c.CHECKSUM_LENGTH.ensures, c.if-CHECKSUM_LENGTH-eq0.false) in
+    let laws = g.met.Ck.Checksum in
+    let size = length-target g.Ck.MidstateRepr.PackedFe32.number code g.Ck.Checksum.CODE_LENGTH g.Ck.Checksum.CHECKSUM_LENGTH g.Ck.Checksum.GENERATOR_SH g.Ck.Checksum.TARGET_RESIDUE laws.code_law ∙ sym laws.degree_law in
+    let is = search-from_residue code read.text.now read.window read.residue c.new-corrector.result c.new-corrector.ensures some c.requires in (
+      near_texts code g.Ck.Checksum.bound c.args.errors read.text.now c.args.erasures.now size (λ m. m.listing) (λ m. string_bytes m.text) c.in_ok-listings.listings.items c.in_ok-texts.texts.items
+          (c.in_ok-listings.ensures read.text.now is.0 is.1) c.in_ok-texts.ensures.same c.in_ok-texts.ensures.each,
+      is,
+    )

@@ -1,7 +1,0 @@
-use Rattle.std.specs.List.{AllByRecursion}
-use Rattle.std.proofs.Common.{◌<◌, ℕ, subst}
-use Rattle.vector_rows.proofs.listings.are_within.Goals as goal
-
-pub returns : goal.returns
-returns g c is_true =
-    subst (λ (n : ℕ). AllByRecursion (λ i. i < n) c.args.places.now) c.window.ensures.value (c.are_below.ensures is_true)
