@@ -1,5 +1,5 @@
 -- Locations that are given as the erasures of a corrector.
-use Rattle.std.specs.Prelude.{◌<◌, ◌≤◌, ℕ, List, [], length, Option, Some, None}
+use Rattle.std.specs.Prelude.{◌<◌, ◌≤◌, ◌+◌, ℕ, List, [], length, min, Option, Some, None}
 use Rattle.std.specs.List.{AllByRecursion}
 use Rattle.bech32_gf.specs.declared.gf32.Fe32.{Fe32}
 use Rattle.bech32_checksum.specs.Code.{Code}
@@ -19,7 +19,15 @@ with_given question given = record {
   erasures = with_erasures [] given;
 }
 
--- the answer to that question; None, too, where a location is not below the window
+-- the same question of no location above this one
+abbrev pub up_to : Question → ℕ → Question
+up_to question highest = record {
+  residue = question.residue;
+  window = min (highest + 1) question.window;
+  erasures = question.erasures;
+}
+
+-- the answer to a question with given locations; None, too, where a location is not below the window
 abbrev pub IsAnswerWith : Code → ℕ → Question → List ℕ → Option (List (ℕ × Fe32)) → Type 0
 IsAnswerWith code bound question given None = AllByRecursion (λ i. i < question.window) given
     → IsAnswerTo code bound (with_given question given) None

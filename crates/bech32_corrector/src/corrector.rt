@@ -1,12 +1,12 @@
 //! What finds the errors in a text.
 
-ghost use Rattle.std.specs.Prelude.{◌≡◌, ◌≤◌, ◌<◌, ◌↔◌, [], length, IfOk, IsOk, IsTrue, MatchOption, OnErr, OnOk};
+ghost use Rattle.std.specs.Prelude.{◌≡◌, ◌≤◌, ◌<◌, ◌+◌, ◌↔◌, [], length, min, IfOk, IsOk, IsTrue, MatchOption, OnErr, OnOk};
 ghost use Rattle.std.specs.List.{AllByRecursion};
 ghost use Rattle.bech32_bch.specs.Erasures.{AreErasures, with_erasures};
 ghost use Rattle.bech32_bch.specs.Search.{locators};
 ghost use Rattle.bech32_direct.specs.TakenOff.{IsTakenOff};
 ghost use Rattle.bech32_direct.specs.Question.{IsAnswerTo, Question};
-ghost use Rattle.bech32_corrector.specs.Given.{AreWithin, IsAnswerWith, with_given};
+ghost use Rattle.bech32_corrector.specs.Given.{AreWithin, IsAnswerWith, up_to, with_given};
 ghost use Rattle.bech32_gf.specs.Fe32 as fe32;
 ghost use Rattle.bech32_poly.specs.FieldVec.{FitsInPlace};
 
@@ -71,6 +71,17 @@ impl<Ck: Checksum, A: Allocator + Copy> fmt::Debug for Corrector<Ck, A> {
             .field("window", &self.window)
             .field("erasures", &self.erasures.as_slice())
             .finish()
+    }
+}
+
+// One past a location, where the window does not end before it.
+fn end_behind(highest: usize, window: usize) -> usize
+    ensures { result ≡ min (highest + 1) window }
+{
+    if highest < window {
+        highest + 1
+    } else {
+        window
     }
 }
 
@@ -219,6 +230,25 @@ impl<Ck: Checksum, A: Allocator + Copy> Corrector<Ck, A> {
             given,
             PhantomData,
         )
+    }
+
+    /// What [`listing_with`](Self::listing_with) is where no location above `highest` is searched:
+    /// the sooner found, the lower it is. `None`, too, where one of the given stands above it.
+    ///
+    /// # Errors
+    ///
+    /// Those of [`bch_errors`](Self::bch_errors).
+    pub fn listing_up_to(
+        &self,
+        highest: usize,
+        given: &[usize],
+    ) -> Result<Option<ShortVec<(usize, Fe32), A>>, AllocError>
+        ensures answer { IfOk result (λ answer.
+            IsAnswerWith Ck.code Ck.bound (up_to self.now highest) given.now answer) }
+        ensures in_place { length Ck.code.generator ≤ 6 → IsOk result }
+    {
+        let end = end_behind(highest, self.window);
+        listing_given::<Ck, A>(self.allocator(), end, &self.residue, given, PhantomData)
     }
 
     /// The errors that explain the error residue, and the elements at the erasures: the one pattern

@@ -1,4 +1,5 @@
 pub mod Elements
+pub mod Highest
 pub mod NearestAdded
 pub mod NearestAlone
 pub mod NearestAnswers

@@ -1,5 +1,5 @@
 -- What the steps of a search for the nearest patterns rest on.
-use Rattle.std.specs.Prelude.{◌≢◌, ◌↔◌, IfOk, IsOk, IsTrue, OnOk, Result, Ok, Err, Option, Some, None, Bool, true, false, cond}
+use Rattle.std.specs.Prelude.{◌≢◌, ◌↔◌, IfOk, IsOk, IsTrue, OnOk, Result, Ok, Err, Option, Some, None, Bool, true, false, cond, min}
 use Rattle.std.specs.List.{AllByRecursion}
 use Rattle.std.proofs.Common.{◌≡◌, ℕ, zero, suc, ◌+◌, ◌*◌, ◌<◌, ◌≤◌, List, [], ◌∷◌, ◌++◌, map, take, drop, get_or, length, inl, inr, subst, sym, ap, ◌∙◌, refl, arith, length-take}
 use Rattle.std.proofs.Math.Decide.{dec_lt}
@@ -15,15 +15,16 @@ use Rattle.bech32_checksum.specs.Code.{Code}
 use Rattle.bech32_direct.specs.TakenOff.{IsTakenOff}
 use Rattle.bech32_bch.specs.Detection.{DetectsFour}
 use Rattle.bech32_near_patterns.specs.Nearest.{AreNearest, IsEarlier}
-use Rattle.bech32_near_patterns.specs.Steps.{AreAdded, AreAll, CanBeHighest, HasHighest, HasHighestAt, IsGathered, IsTried, raised, with_highest}
+use Rattle.bech32_near_patterns.specs.Steps.{AreAdded, AreAll, CanBeHighest, HasHighest, HasHighestAt, IsErasedAnswer, IsGathered, IsTried, raised, with_highest}
 use Rattle.bech32_direct.specs.Question.{IsAnswerTo, Question}
 use Rattle.bech32_solver.proofs.Added.{erasures_more, with_erasures-append}
-use Rattle.bech32_corrector.specs.Given.{IsAnswerWith, with_given}
+use Rattle.bech32_corrector.specs.Given.{IsAnswerWith, up_to, with_given}
 use Rattle.bech32_corrector.proofs.Different.{erasures_are}
 use Rattle.bech32_bch.proofs.Places.{all_push}
-use Rattle.bech32_near_patterns.proofs.NearestAdded.{IsAnswer, erased_not, erased_one, erasures_first, with_value}
+use Rattle.bech32_near_patterns.proofs.NearestAdded.{IsAnswer, erased_none, erased_not, erased_one, erasures_first, with_value}
 use Rattle.bech32_near_patterns.proofs.NearestAlone.{at_most_one}
 use Rattle.bech32_near_patterns.proofs.Elements.{lowest}
+use Rattle.bech32_near_patterns.proofs.Highest.{below_next, min_left}
 use Rattle.bech32_near_patterns.proofs.NearestListing.{length-placed}
 use Rattle.bech32_near_patterns.proofs.NearestPatterns.{nearest_list, no_nearest}
 
@@ -39,31 +40,45 @@ answer_of rank s code bound q (Some listing) erased h = record {
 }
 
 -- the same with a location that is one more erasure
-pub erased_answer : (rank : Fe32 → ℕ) (s : List ℕ) (place window : ℕ) (code : Code) (bound : ℕ) (residue : List Fe32) (answer : Option (List (ℕ × Fe32))) → AreErasures window s → place < window → has s place ≡ false
+erased_answer : (rank : Fe32 → ℕ) (s : List ℕ) (place window : ℕ) (code : Code) (bound : ℕ) (residue : List Fe32) (answer : Option (List (ℕ × Fe32))) → AreErasures window s → place < window → has s place ≡ false
     → IsAnswerTo code bound (record { residue = residue; window = window; erasures = with_erasures s (place ∷ []) }) answer
     → IsAnswer is_field rank code.generator residue s window bound (s ++ (place ∷ [])) answer
 erased_answer rank s place window code bound residue answer erased within out h =
     subst (λ (t : List ℕ). IsAnswer is_field rank code.generator residue s window bound t answer) (ap (λ b. cond b s (s ++ (place ∷ []))) out)
     (answer_of rank s code bound (record { residue = residue; window = window; erasures = with_erasures s (place ∷ []) }) answer (erasures_more window s (place ∷ []) erased (within, tt)) h)
 
--- a corrector's listing with one more location behind its erasures
-pub one_more : {E : Type 0} (code : Code) (bound : ℕ) (q : Question) (place : ℕ) (given : List ℕ) (r : Result (Option (List (ℕ × Fe32))) E) → given ≡ q.erasures ++ (place ∷ [])
-    → AreErasures q.window q.erasures → place < q.window → IfOk r (λ answer. IsAnswerWith code bound q given answer)
-    → IfOk r (λ answer. IsAnswerTo code bound (record { residue = q.residue; window = q.window; erasures = with_erasures q.erasures (place ∷ []) }) answer)
-one_more {E} code bound q place given r is erased within h = said r h
+-- below an end that stands above the place and the erasures, a corrector's listing with the place
+-- behind its erasures
+pub one_more : {E : Type 0} (code : Code) (bound : ℕ) (q : Question) (place highest : ℕ) (given : List ℕ) (r : Result (Option (List (ℕ × Fe32))) E) → given ≡ q.erasures ++ (place ∷ [])
+    → AreErasures q.window q.erasures → place ≤ highest → AllByRecursion (λ i. i ≤ highest) q.erasures → highest < q.window → IfOk r (λ answer. IsAnswerWith code bound (up_to q highest) given answer)
+    → IfOk r (λ answer. IsErasedAnswer code bound q place answer)
+one_more {E} code bound q place highest given r is erased low below within h = said r h
   where
-    inside : AllByRecursion (λ i. i < q.window) given
-    inside = subst (λ (s : List ℕ). AllByRecursion (λ i. i < q.window) s) (sym is) (all_push (λ (i : ℕ). i < q.window) q.erasures place erased.below within)
+    end_is : min (highest + 1) q.window ≡ suc highest
+    end_is = min_left (highest + 1) q.window (omega (arith, within)) ∙ omega arith
+
+    erasures : AllByRecursion (λ i. i < min (highest + 1) q.window) q.erasures
+    erasures = subst (λ (n : ℕ). AllByRecursion (λ i. i < n) q.erasures) (sym end_is) (below_next highest q.erasures below)
+
+    above : place < min (highest + 1) q.window
+    above = omega (arith, end_is, low)
+
+    inside : AllByRecursion (λ i. i < min (highest + 1) q.window) given
+    inside = subst (λ (s : List ℕ). AllByRecursion (λ i. i < min (highest + 1) q.window) s) (sym is) (all_push (λ (i : ℕ). i < min (highest + 1) q.window) q.erasures place erasures above)
 
     same : with_erasures [] given ≡ with_erasures q.erasures (place ∷ [])
     same = ap (with_erasures []) is ∙ with_erasures-append [] q.erasures (place ∷ []) ∙ ap (λ (s : List ℕ). with_erasures s (place ∷ [])) (erasures_are q.erasures erased.once)
 
-    moved : (answer : Option (List (ℕ × Fe32))) → IsAnswerTo code bound (with_given q given) answer
-        → IsAnswerTo code bound (record { residue = q.residue; window = q.window; erasures = with_erasures q.erasures (place ∷ []) }) answer
-    moved answer = subst (λ (s : List ℕ). IsAnswerTo code bound (record { residue = q.residue; window = q.window; erasures = s }) answer) same
+    moved : (answer : Option (List (ℕ × Fe32))) → IsAnswerTo code bound (with_given (up_to q highest) given) answer → IsErasedAnswer code bound q place answer
+    moved answer k = record {
+      end = min (highest + 1) q.window;
+      above = above;
+      erasures = record { once = erased.once; below = erasures };
+      answers = subst (λ (s : List ℕ). IsAnswerTo code bound (record { residue = q.residue; window = min (highest + 1) q.window; erasures = s }) answer) same k;
+    }
 
-    said : (r : Result (Option (List (ℕ × Fe32))) E) → IfOk r (λ answer. IsAnswerWith code bound q given answer)
-        → IfOk r (λ answer. IsAnswerTo code bound (record { residue = q.residue; window = q.window; erasures = with_erasures q.erasures (place ∷ []) }) answer)
+    said : (r : Result (Option (List (ℕ × Fe32))) E) → IfOk r (λ answer. IsAnswerWith code bound (up_to q highest) given answer)
+        → IfOk r (λ answer. IsErasedAnswer code bound q place answer)
     said (Ok None) h = moved None (h inside)
     said (Ok (Some listing)) h = moved (Some listing) h.1
     said (Err e) h = tt
@@ -230,17 +245,26 @@ module _ (items slice given behind rest : List (ℕ × Fe32)) (erased place othe
   }
 
 -- the listing that was tried is the one with its highest error there, or there is none
-pub highest_tried : (s : List ℕ) (place window : ℕ) (code : Code) (bound : ℕ) (residue : List Fe32) (answer : Option (List (ℕ × Fe32))) (others : ℕ) (items : List (ℕ × Fe32)) (erased : ℕ) (old new : List (List (ℕ × Fe32)))
-    → AreErasures window s → place < window → has s place ≡ false → 2 * others + length s + 1 ≤ bound
-    → IsAnswerTo code bound (record { residue = residue; window = window; erasures = with_erasures s (place ∷ []) }) answer → answer ≡ Some items → erased ≡ length s
+pub highest_tried : (q : Question) (place : ℕ) (code : Code) (bound : ℕ) (answer : Option (List (ℕ × Fe32))) (others : ℕ) (items : List (ℕ × Fe32)) (erased : ℕ) (old new : List (List (ℕ × Fe32)))
+    → has q.erasures place ≡ false → 2 * others + length q.erasures + 1 ≤ bound → IsErasedAnswer code bound q place answer → answer ≡ Some items → erased ≡ length q.erasures
     → (erased < length items → IsTried fe32.zero erased place others items old new)
-    → AreAdded (IsEarlier fe32.ops fe32.value s) (HasHighestAt fe32.ops code.generator residue s place others) old new
-highest_tried s place window code bound residue answer others items erased old new lawful within out few is some size try =
-    let h = erased_answer fe32.value s place window code bound residue answer lawful within out is in
-    let long : length (s ++ (place ∷ [])) ≤ length items = erasures_first is_field fe32.value code.generator residue s window bound (s ++ (place ∷ [])) answer items h some in
+    → AreAdded (IsEarlier fe32.ops fe32.value q.erasures) (HasHighestAt fe32.ops code.generator q.residue q.erasures place others) old new
+highest_tried q place code bound answer others items erased old new out few is some size try =
+    let s = q.erasures in
+    let h = erased_answer fe32.value s place is.end code bound q.residue answer is.erasures is.above out is.answers in
+    let long : length (s ++ (place ∷ [])) ≤ length items = erasures_first is_field fe32.value code.generator q.residue s is.end bound (s ++ (place ∷ [])) answer items h some in
     let k : IsTried fe32.zero erased place others items old new = try (omega (arith, long, length-append s (place ∷ []), size)) in
     elim k.either [
-      | inl y ↦ erased_one is_field fe32.value code.generator residue s window bound place others within (not_among s place out) few answer h items k.given k.rest k.error some k.parts (k.size ∙ size) old new y.0 y.1 (k.added y)
-      | inr n ↦ subst (λ (u : List (List (ℕ × Fe32))). AreAdded (IsEarlier fe32.ops fe32.value s) (HasHighestAt fe32.ops code.generator residue s place others) old u) (sym (k.left n))
-          (erased_not is_field fe32.value code.generator residue s window bound place others within (not_among s place out) few answer h items k.given k.rest k.error some k.parts (k.size ∙ size) old (λ z low. n (z, low)))
+      | inl y ↦ erased_one is_field fe32.value code.generator q.residue s is.end bound place others is.above (not_among s place out) few answer h items k.given k.rest k.error some k.parts (k.size ∙ size) old new y.0 y.1 (k.added y)
+      | inr n ↦ subst (λ (u : List (List (ℕ × Fe32))). AreAdded (IsEarlier fe32.ops fe32.value s) (HasHighestAt fe32.ops code.generator q.residue s place others) old u) (sym (k.left n))
+          (erased_not is_field fe32.value code.generator q.residue s is.end bound place others is.above (not_among s place out) few answer h items k.given k.rest k.error some k.parts (k.size ∙ size) old (λ z low. n (z, low)))
     ]
+
+-- where nothing is listed, there is none
+pub none_tried : (q : Question) (place : ℕ) (code : Code) (bound : ℕ) (answer : Option (List (ℕ × Fe32))) (others : ℕ) (old : List (List (ℕ × Fe32)))
+    → has q.erasures place ≡ false → 2 * others + length q.erasures + 1 ≤ bound → IsErasedAnswer code bound q place answer → answer ≡ None
+    → AreAdded (IsEarlier fe32.ops fe32.value q.erasures) (HasHighestAt fe32.ops code.generator q.residue q.erasures place others) old old
+none_tried q place code bound answer others old out few is none =
+    let s = q.erasures in
+    erased_none is_field fe32.value code.generator q.residue s is.end bound place others is.above (not_among s place out) few answer
+    (erased_answer fe32.value s place is.end code bound q.residue answer is.erasures is.above out is.answers) old none

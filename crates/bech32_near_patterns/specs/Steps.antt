@@ -1,11 +1,15 @@
 -- What the steps find that gather the patterns of few errors.
 use Rattle.std.specs.Prelude.{◌≡◌, ◌≢◌, ◌<◌, ◌≤◌, ◌==◌, ◌++◌, ◌⊎◌, ℕ, cond, List, [], ◌∷◌}
-use Rattle.std.specs.Prelude.{length, take, drop}
+use Rattle.std.specs.Prelude.{length, take, drop, Option}
 use Rattle.std.specs.List.{AllByRecursion}
 use Rattle.bech32_gf.specs.Field.{Ops}
+use Rattle.bech32_gf.specs.declared.gf32.Fe32.{Fe32}
 use Rattle.bech32_poly.specs.Distinct.{IsAmong}
+use Rattle.bech32_bch.specs.Erasures.{AreErasures, with_erasures}
 use Rattle.bech32_bch.specs.Listing.{IsInOrder}
 use Rattle.bech32_bch.specs.Pattern.{HasRemainder, locations}
+use Rattle.bech32_checksum.specs.Code.{Code}
+use Rattle.bech32_direct.specs.Question.{IsAnswerTo, Question}
 use Rattle.bech32_near_patterns.specs.Nearest.{AreRising}
 
 -- the errors with one at a higher location, in the order of a listing: location 0 stays the first
@@ -81,6 +85,19 @@ pub record AreAdded {A : Type 0} (Earlier : A → A → Type 0) (P : A → Type 
   pub more : List A
   pub behind : new ≡ old ++ more
   pub are_all : AreAll Earlier P more
+
+-- the answer with a place as one more erasure, below an end that stands above all of these
+pub record IsErasedAnswer (code : Code) (bound : ℕ) (question : Question) (place : ℕ)
+    (answer : Option (List (ℕ × Fe32)))
+    : Type 0 where
+  pub end : ℕ
+  pub above : place < end
+  pub erasures : AreErasures end question.erasures
+  pub answers : IsAnswerTo code bound (record {
+    residue = question.residue;
+    window = end;
+    erasures = with_erasures question.erasures (place ∷ []);
+  }) answer
 
 -- the value is not zero, and the other errors are so many at most, all below the place
 abbrev pub CanBeHighest : {F : Type 0} → F → ℕ → ℕ → ℕ × F → List (ℕ × F) → Type 0

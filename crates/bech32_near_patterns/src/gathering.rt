@@ -3,11 +3,12 @@
 ghost use Rattle.std.specs.Prelude.{◌≡◌, ◌≢◌, ◌≤◌, ◌<◌, ◌+◌, ◌*◌, ◌++◌, ◌↔◌, ◌∷◌, ℕ, [], List};
 ghost use Rattle.std.specs.Prelude.{length, take, drop, map, false, IfOk, IsOk, IsTrue, OnOk};
 ghost use Rattle.std.specs.List.{AllByRecursion};
-ghost use Rattle.bech32_bch.specs.Erasures.{AreErasures, has, with_erasures};
+ghost use Rattle.bech32_bch.specs.Erasures.{AreErasures, has};
 ghost use Rattle.bech32_near_patterns.specs.Nearest.{IsEarlier};
 ghost use Rattle.bech32_near_patterns.specs.Steps.{AreAdded, HasHighest, HasHighestAt};
-ghost use Rattle.bech32_near_patterns.specs.Steps.{IsGathered, IsTried, raised, with_highest};
-ghost use Rattle.bech32_direct.specs.Question.{IsAnswerTo, Question};
+ghost use Rattle.bech32_near_patterns.specs.Steps.{IsErasedAnswer, IsGathered, IsTried};
+ghost use Rattle.bech32_near_patterns.specs.Steps.{raised, with_highest};
+ghost use Rattle.bech32_direct.specs.Question.{Question};
 ghost use Rattle.bech32_gf.specs.Fe32 as fe32;
 ghost use Rattle.bech32_gf.specs.declared.gf32.Fe32.{Fe32 as Element};
 
@@ -230,21 +231,34 @@ fn add_errorless<Ck: Checksum, A: Allocator + Copy>(
     push_listing(ShortVec::new(corrector.allocator()), found)
 }
 
-// What the corrector lists with this location as one more erasure.
+// The highest of a location and the erasures.
+fn highest_of(erasures: &[usize], place: usize) -> usize
+    ensures place { place ≤ result }
+    ensures erasures { AllByRecursion (λ i. i ≤ result) erasures.now }
+    ensures among { (n : ℕ) → place < n → AllByRecursion (λ i. i < n) erasures.now → result < n }
+{
+    let mut highest = place;
+    for erasure in erasures {
+        if *erasure > highest {
+            highest = *erasure;
+        }
+    }
+    highest
+}
+
+// What the corrector lists with this location as one more erasure: no error of a listing whose
+// highest error is there stands above it.
 fn erased_listing<Ck: Checksum, A: Allocator + Copy>(
     corrector: &Corrector<Ck, A>,
     place: usize,
 ) -> Result<Option<ShortVec<(usize, Fe32), A>>, AllocError>
-    ensures { place < corrector.now.window
-        → IfOk result (λ answer. IsAnswerTo Ck.code Ck.bound (record {
-          residue = corrector.now.residue;
-          window = corrector.now.window;
-          erasures = with_erasures corrector.now.erasures (place ∷ []);
-        }) answer) }
+    ensures { place < corrector.now.window → IfOk result
+        (λ answer. IsErasedAnswer Ck.code Ck.bound corrector.now place answer) }
 {
-    let mut wider = ShortVec::from_slice(corrector.allocator(), corrector.erasures())?;
+    let erasures = corrector.erasures();
+    let mut wider = ShortVec::from_slice(corrector.allocator(), erasures)?;
     wider.push(place)?;
-    corrector.listing_with(wider.as_slice())
+    corrector.listing_up_to(highest_of(erasures, place), wider.as_slice())
 }
 
 // Whether the value is not zero, and the other errors are no more than `others`, all below the

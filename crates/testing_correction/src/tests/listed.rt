@@ -92,8 +92,44 @@ fn lists_with<Ck: Checksum>(
     }
 }
 
-/// Whether just this is listed with these erasures, or nothing is, in each of the three ways to
-/// give them; not where there is no corrector.
+// Whether just this is listed with these erasures where no location above is searched, or nothing.
+fn lists_up_to<Ck: Checksum>(
+    corrector: &Corrector<Ck>,
+    highest: usize,
+    erasures: &[usize],
+    want: Option<Listing>,
+) -> bool {
+    match corrector.listing_up_to(highest, erasures) {
+        Ok(found) => is_listing(found, want),
+        Err(_) => false,
+    }
+}
+
+// The highest location of a listing, 0 where there is none.
+fn highest_of(want: Option<Listing>) -> usize {
+    let mut highest = 0;
+    for error in want.unwrap_or(&[]) {
+        highest = highest.max(error.0);
+    }
+    highest
+}
+
+/// Whether just this is listed with these erasures where no location above is searched, or nothing;
+/// not where there is no corrector.
+pub fn is_listed_up_to<Ck: Checksum>(
+    found: Option<Corrector<Ck>>,
+    highest: usize,
+    erasures: &[usize],
+    want: Option<Listing>,
+) -> bool {
+    match found {
+        Some(corrector) => lists_up_to(&corrector, highest, erasures, want),
+        None => false,
+    }
+}
+
+/// Whether just this is listed with these erasures, or nothing is, in each way to give them, and
+/// where no location above those that are listed is searched; not where there is no corrector.
 pub fn is_listed_by<Ck: Checksum>(
     found: Option<Corrector<Ck>>,
     erasures: &[usize],
@@ -104,6 +140,8 @@ pub fn is_listed_by<Ck: Checksum>(
     };
     with_lists(&corrector, erasures, want)
         && lists_with(&corrector, erasures, want)
+        && lists_up_to(&corrector, usize::MAX, erasures, want)
+        && lists_up_to(&corrector, highest_of(want), erasures, want)
         && is_given(&mut corrector, erasures)
         && lists(&corrector, want)
 }

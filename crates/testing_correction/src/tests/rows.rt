@@ -1,6 +1,8 @@
 //! Texts of the standards, and of other checksums, with errors that are known.
 
-use super::listed::{Listing, corrector_for, corrector_of, is_left_by, is_listed_by};
+use super::listed::{
+    Listing, corrector_for, corrector_of, is_left_by, is_listed_by, is_listed_up_to,
+};
 use crate::tests::compare::{same, same_items};
 use bech32_checksum::{Bech32, Checksum, NoChecksum};
 use bech32_corrector::{CorrectableError, Corrector};
@@ -55,6 +57,24 @@ fn windows(rt: HostRuntime) {
         )
     });
     same_items(&rt, &listed, &[true; 7]);
+}
+
+#[test]
+fn locations_above_are_not_searched(rt: HostRuntime) {
+    let (q, l) = (Fe32::Q, Fe32::L);
+    let rows: [(&str, usize, &[usize], Option<Listing>); 6] = [
+        ("b12uel5l", 6, &[], Some(&[(6, Fe32::R)])),
+        ("b12uel5l", 5, &[], None),
+        ("a12uel5q", 0, &[], Some(&[(0, l)])),
+        ("a12uel5q", 3, &[3], Some(&[(3, q), (0, l)])),
+        ("a12uel5q", 2, &[3], None),
+        ("!12uel5l", usize::MAX, &[], Some(&[(8, Fe32::Z)])),
+    ];
+    let listed = rows.map(|(text, highest, erasures, want)| {
+        let found = corrector_for::<Bech32>(rt.alloc(), text, None);
+        is_listed_up_to(found, highest, erasures, want)
+    });
+    same_items(&rt, &listed, &[true; 6]);
 }
 
 // The code length is a window too.

@@ -49,7 +49,11 @@ fn corrector_in(heap: Heap<'_>) -> Option<Corrector<Bech32, Heap<'_>>> {
 // Whether a corrector with these erasures says what it lists, asked in each way.
 fn lists_with(corrector: &Corrector<Bech32, Heap<'_>>, erasures: &[usize]) -> bool {
     match corrector.with(erasures) {
-        Ok(Some(erased)) => erased.bch_errors().is_ok() && corrector.listing_with(erasures).is_ok(),
+        Ok(Some(erased)) => {
+            erased.bch_errors().is_ok()
+                && corrector.listing_with(erasures).is_ok()
+                && corrector.listing_up_to(usize::MAX, erasures).is_ok()
+        }
         _ => false,
     }
 }
