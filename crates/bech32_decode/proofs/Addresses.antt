@@ -1,5 +1,6 @@
 -- A text is read as a segwit address exactly where it is one.
-use Rattle.std.proofs.Common.{◌≡◌, ◌≢◌, ◌⊎◌, ◌↔◌, ◌==◌, ℕ, ◌<◌, ◌≤◌, ◌+◌, ◌/◌, Bool, true, false, List, [], ◌∷◌, ◌++◌, None, Result, Ok, Err, length, length-append, map, take, drop, cond, refl, sym, ap, subst, ◌∙◌, arith, inl, inr, ⊎_elim, MatchResult, IsOk, IfOk}
+use Rattle.std.proofs.Common.{◌≡◌, ◌≢◌, ◌⊎◌, ◌↔◌, ◌==◌, ℕ, ◌<◌, ◌≤◌, ◌+◌, ◌/◌, Bool, true, false, List, [], ◌∷◌, ◌++◌, None, Result, Ok, Err, length, length-append, map, take, drop, cond, refl, sym, ap, subst, ◌∙◌, arith, eq-eqb, inl, inr, ⊎_elim, MatchResult, IsOk, IfOk}
+use Rattle.std.proofs.lemmas.Bool.Decides.{eqb_tells}
 use Rattle.std.proofs.lemmas.List.{map-append, length-map, take_at}
 use Rattle.std.specs.Char.{to_ascii_lowercase, to_ascii_uppercase}
 use Rattle.std.specs.Str.{IsUtf8}
@@ -358,6 +359,23 @@ in_length text (Ok a) few h = h
 in_length text (Err e) few h = inr (few, h)
 
 -- ---- from the tests of what stands before the checksum
+
+-- whether there are characters
+pub some_of : (characters : List ℕ) (b : Bool) → b ≡ (length characters == 0) → b ≡ false → characters ≢ []
+some_of characters b e f = λ none.
+    let is : true ≡ false = sym (e ∙ eq-eqb (length characters) 0 (ap length none)) ∙ f in
+    cc is
+
+pub elements_some : (characters : List ℕ) → characters ≢ [] → elements_of characters ≢ []
+elements_some [] some = λ none. some refl
+elements_some (x ∷ characters) some = λ none. cc none
+
+pub no_elements : (characters : List ℕ) (b : Bool) → b ≡ (length characters == 0) → b ≡ true → elements_of characters ≡ []
+no_elements [] b e t = refl
+no_elements (x ∷ characters) b e t = elim (eqb_tells (length (x ∷ characters)) 0) [
+  | inl y ↦ absurd (omega (arith, y.1))
+  | inr y ↦ (let is : false ≡ true = sym (e ∙ y.0) ∙ t in absurd (cc is))
+]
 
 pub segwit-of : (c : CheckedHrpstring) (a : SegwitHrpstring) (version : Fe32) (program : List ℕ) → a.hrp ≡ c.hrp → a.witness_version ≡ version → a.ascii.now ≡ program
     → IsDataOf c.hrpstring_length c.ascii.now version program → IsSegwitOf c a

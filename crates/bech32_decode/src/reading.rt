@@ -20,7 +20,7 @@ ghost use Rattle.bech32_decode.specs.Segwit.{IsAddressRefusal, segwit_code};
 ghost use Rattle.bech32_decode.specs.SegwitParts.{IsReadIn};
 ghost use Rattle.bech32_gf.specs.Alphabet.{is_data};
 
-use crate::address_data::{AddressData, data_of_version, validate_sizes};
+use crate::address_data::{AddressData, data_of_version};
 use crate::checked::CheckedHrpstring;
 use crate::part_cases::PART_CASES;
 use crate::validation::{validate_lengths, validate_residue};
@@ -333,15 +333,17 @@ impl<'s> Reading<'s, Bech32m> {
     }
 
     /// The version and the program of a segwit address: of version 0 by Bech32, of another version
-    /// by Bech32m (BIP-350).
+    /// by Bech32m (BIP-350). Whoever reads an address has refused a text of more than 90 characters
+    /// before all else.
     ///
     /// # Errors
     ///
     /// The first of: no data part; a witness version above 16; the checksum; no data before the
-    /// checksum; more than 90 characters; padding of more than four bits; padding that is not zero;
-    /// a program of less than 2 bytes, of more than 40, or of neither 20 nor 32 in version 0.
+    /// checksum; padding of more than four bits; padding that is not zero; a program of less than 2
+    /// bytes, of more than 40, or of neither 20 nor 32 in version 0.
     #[inline]
     pub fn address(&self) -> Result<AddressData<'s>, SegwitHrpstringError>
+        requires { length self.now.text.now ≤ 90 }
         ensures { MatchResult result
             (λ a. IsReadIn segwit_code self.now.text.now self.now.hrp.now a.version a.program.now)
             (λ e. IsAddressRefusal segwit_code self.now.text.now e) }
@@ -351,7 +353,9 @@ impl<'s> Reading<'s, Bech32m> {
             return Err(SegwitHrpstringError::Checksum(self.refusal_by(version)));
         }
         let characters = self.characters();
-        validate_sizes(self.text.len(), characters)?;
+        if characters.is_empty() {
+            return Err(SegwitHrpstringError::NoData);
+        }
         data_of_version(version, characters)
     }
 }

@@ -1,9 +1,12 @@
-use Rattle.std.proofs.Common.{◌∙◌, ℕ, Bool, List, cond, drop, sym, ap, subst}
+use Rattle.std.proofs.Common.{◌∙◌, ℕ, Bool, List, cond, drop, length, sym, ap, subst, arith}
 use Rattle.bech32_gf.specs.Fe32.{elements_of}
 use Rattle.bech32_checksum.specs.Code.{bech32, bech32m}
 use Rattle.bech32_decode.specs.Segwit.{segwit_code, IsVersioned}
 use Rattle.bech32_decode.proofs.Addresses.{in_length, outcome-from_checksum}
 use Rattle.bech32_decode.proofs.address.SegwitHrpstring.read.Goals as goal
+
+pub address-requires : goal.address-requires
+address-requires c = let text = c.in-Some.ensures in omega (arith, ap length text, c.if-s-gt-MAX_STRING_LENGTH.false)
 
 pub returns-then-eq : goal.returns-then-eq
 returns-then-eq c =
