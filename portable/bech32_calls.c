@@ -1,0 +1,203 @@
+/*
+ * The functions of bech32.h. Texts, bytes and buffers are handed to the library where they lie. Lengths, locations and
+ * other numbers are put in the library's form, eight bytes each, and what it answers is given to the caller where the
+ * header says so.
+ *
+ * With MACHINE_IS_TESTED a text, a human-readable part or elements of 2^32 bytes or more are refused with
+ * BECH32_NO_MEMORY, and of longer buffers, bytes to encode and programs SOME bytes are handed over: no answer depends
+ * on more.
+ */
+
+/* A function of the library that calls itself does so once for each erasure, of which there are three at most. */
+#define DEPTH 4
+
+uint32_t bech32_encode(uint32_t checksum, const uint8_t *hrp, size_t hrp_length, const uint8_t *bytes,
+                       size_t bytes_length, uint8_t *text, size_t text_room, size_t *text_length) {
+    NUMBERS(1);
+    if (IS_TOO_LONG(hrp_length)) {
+        return BECH32_NO_MEMORY;
+    }
+    MACHINE(bech32_encode);
+    u64 bytes_size = SOME(bytes_length), text_size = SOME(text_room);
+    u64 hrp_at = lend(&m, hrp, hrp_length), bytes_at = lend(&m, bytes, bytes_size);
+    u64 text_at = lend_room(&m, text, text_size), at = lend_room(&m, numbers, sizeof number_words);
+    uint32_t number =
+        of_bech32_encode(&m, checksum, hrp_at, hrp_length, bytes_at, bytes_size, text_at, text_size, at);
+    if (number == BECH32_OK) {
+        *text_length = (size_t)get_64(numbers);
+    }
+    return number;
+}
+
+uint32_t bech32_decode(const uint8_t *text, size_t text_length, uint8_t *hrp, size_t hrp_room, size_t *hrp_length,
+                       uint8_t *bytes, size_t bytes_room, size_t *bytes_length) {
+    NUMBERS(2);
+    if (IS_TOO_LONG(text_length)) {
+        return BECH32_NO_MEMORY;
+    }
+    MACHINE(bech32_decode);
+    u64 hrp_size = SOME(hrp_room), bytes_size = SOME(bytes_room);
+    u64 text_at = lend(&m, text, text_length), hrp_at = lend_room(&m, hrp, hrp_size);
+    u64 bytes_at = lend_room(&m, bytes, bytes_size), at = lend_room(&m, numbers, sizeof number_words);
+    uint32_t number =
+        of_bech32_decode(&m, text_at, text_length, hrp_at, hrp_size, at, bytes_at, bytes_size, at + 8);
+    if (number == BECH32_OK) {
+        *hrp_length = (size_t)get_64(numbers);
+        *bytes_length = (size_t)get_64(numbers + 8);
+    }
+    return number;
+}
+
+uint32_t bech32_check(uint32_t checksum, const uint8_t *text, size_t text_length, size_t *hrp_length,
+                      size_t *data_length) {
+    NUMBERS(2);
+    if (IS_TOO_LONG(text_length)) {
+        return BECH32_NO_MEMORY;
+    }
+    MACHINE(bech32_check);
+    u64 text_at = lend(&m, text, text_length), at = lend_room(&m, numbers, sizeof number_words);
+    uint32_t number = of_bech32_check(&m, checksum, text_at, text_length, at, at + 8);
+    if (number == BECH32_OK) {
+        *hrp_length = (size_t)get_64(numbers);
+        *data_length = (size_t)get_64(numbers + 8);
+    }
+    return number;
+}
+
+uint32_t bech32_fault(uint32_t checksum, const uint8_t *text, size_t text_length, size_t *place) {
+    NUMBERS(1);
+    if (IS_TOO_LONG(text_length)) {
+        return BECH32_NO_MEMORY;
+    }
+    MACHINE(bech32_fault);
+    u64 text_at = lend(&m, text, text_length), at = lend_room(&m, numbers, sizeof number_words);
+    uint32_t number = of_bech32_fault(&m, checksum, text_at, text_length, at);
+    if (number != BECH32_OK && number != BECH32_NOT_UTF8 && number != BECH32_BAD_NUMBER) {
+        *place = (size_t)get_64(numbers);
+    }
+    return number;
+}
+
+uint32_t bech32_segwit_encode(const uint8_t *hrp, size_t hrp_length, uint32_t version, const uint8_t *program,
+                              size_t program_length, uint8_t *text, size_t text_room, size_t *text_length) {
+    NUMBERS(1);
+    if (IS_TOO_LONG(hrp_length)) {
+        return BECH32_NO_MEMORY;
+    }
+    MACHINE(bech32_segwit_encode);
+    u64 program_size = SOME(program_length), text_size = SOME(text_room);
+    u64 hrp_at = lend(&m, hrp, hrp_length), program_at = lend(&m, program, program_size);
+    u64 text_at = lend_room(&m, text, text_size), at = lend_room(&m, numbers, sizeof number_words);
+    uint32_t number =
+        of_bech32_segwit_encode(&m, hrp_at, hrp_length, version, program_at, program_size, text_at, text_size, at);
+    if (number == BECH32_OK) {
+        *text_length = (size_t)get_64(numbers);
+    }
+    return number;
+}
+
+uint32_t bech32_segwit_decode(const uint8_t *text, size_t text_length, uint8_t *hrp, size_t hrp_room,
+                              size_t *hrp_length, uint32_t *version, uint8_t *program, size_t program_room,
+                              size_t *program_length) {
+    NUMBERS(3);
+    if (IS_TOO_LONG(text_length)) {
+        return BECH32_NO_MEMORY;
+    }
+    MACHINE(bech32_segwit_decode);
+    u64 hrp_size = SOME(hrp_room), program_size = SOME(program_room);
+    u64 text_at = lend(&m, text, text_length), hrp_at = lend_room(&m, hrp, hrp_size);
+    u64 program_at = lend_room(&m, program, program_size), at = lend_room(&m, numbers, sizeof number_words);
+    uint32_t number = of_bech32_segwit_decode(&m, text_at, text_length, hrp_at, hrp_size, at, at + 8, program_at,
+                                              program_size, at + 16);
+    if (number == BECH32_OK) {
+        *hrp_length = (size_t)get_64(numbers);
+        *version = get_32(numbers + 8);
+        *program_length = (size_t)get_64(numbers + 16);
+    }
+    return number;
+}
+
+uint32_t bech32_residue(uint32_t checksum, const uint8_t *elements, size_t elements_length, uint32_t *residue) {
+    NUMBERS(1);
+    if (IS_TOO_LONG(elements_length)) {
+        return BECH32_NO_MEMORY;
+    }
+    MACHINE(bech32_residue);
+    u64 elements_at = lend(&m, elements, elements_length), at = lend_room(&m, numbers, sizeof number_words);
+    uint32_t number = of_bech32_residue(&m, checksum, elements_at, elements_length, at);
+    if (number == BECH32_OK) {
+        *residue = get_32(numbers);
+    }
+    return number;
+}
+
+/* The different ones of erasures, in their order, four at most: where there are more than three, the answer depends on
+ * that alone. */
+#define MOST_ERASURES 4u
+
+OWN size_t put_erasures(u8 *numbers, const size_t *erasures, size_t length) {
+    size_t count = 0;
+    for (size_t i = 0; i < length && count < MOST_ERASURES; i++) {
+        size_t j = 0;
+        while (j < count && get_64(numbers + 8 * j) != erasures[i]) {
+            j++;
+        }
+        if (j == count) {
+            put_64(numbers + 8 * count++, erasures[i]);
+        }
+    }
+    return count;
+}
+
+uint32_t bech32_correct(uint32_t checksum, const uint8_t *text, size_t text_length, const size_t *erasures,
+                        size_t erasures_length, size_t *locations, size_t locations_room, uint8_t *values,
+                        size_t values_room, size_t *count, uint8_t *mended, size_t mended_room, size_t *mended_length) {
+    GIVEN(MOST_ERASURES);
+    NUMBERS(2 + BECH32_MAX_LISTED);
+    if (IS_TOO_LONG(text_length)) {
+        return BECH32_NO_MEMORY;
+    }
+    MACHINE(bech32_correct);
+    u64 given_count = put_erasures(given, erasures, erasures_length);
+    u64 most = locations_room < BECH32_MAX_LISTED ? locations_room : BECH32_MAX_LISTED;
+    u64 values_size = SOME(values_room), mended_size = SOME(mended_room);
+    u64 text_at = lend(&m, text, text_length), given_at = lend(&m, given, sizeof given_words);
+    u64 values_at = lend_room(&m, values, values_size), mended_at = lend_room(&m, mended, mended_size);
+    u64 at = lend_room(&m, numbers, sizeof number_words);
+    uint32_t number = of_bech32_correct(&m, checksum, text_at, text_length, given_at, given_count, at + 16, most,
+                                        values_at, values_size, at, mended_at, mended_size, at + 8);
+    if (number == BECH32_OK) {
+        *count = (size_t)get_64(numbers);
+        *mended_length = (size_t)get_64(numbers + 8);
+        for (size_t i = 0; i < *count; i++) {
+            locations[i] = (size_t)get_64(numbers + 16 + 8 * i);
+        }
+    }
+    return number;
+}
+
+uint32_t bech32_nearest(uint32_t checksum, const uint8_t *text, size_t text_length, const size_t *erasures,
+                        size_t erasures_length, size_t errors, bech32_memory *memory, uint8_t *texts,
+                        size_t texts_room, size_t *count) {
+    GIVEN(MOST_ERASURES);
+    NUMBERS(3);
+    if (IS_TOO_LONG(text_length)) {
+        return BECH32_NO_MEMORY;
+    }
+    MACHINE(bech32_nearest);
+    u64 given_count = put_erasures(given, erasures, erasures_length);
+    u64 texts_size = SOME(texts_room), memory_size = SOME(memory->size);
+    u64 text_at = lend(&m, text, text_length), given_at = lend(&m, given, sizeof given_words);
+    u64 texts_at = lend_room(&m, texts, texts_size), at = lend_room(&m, numbers, sizeof number_words);
+    put_64(numbers + 8, lend_room(&m, memory->start, memory_size));
+    put_64(numbers + 16, memory_size);
+    uint32_t number = of_bech32_nearest(&m, checksum, text_at, text_length, given_at, given_count, errors, at + 8,
+                                        texts_at, texts_size, at);
+    if (number == BECH32_OK) {
+        *count = (size_t)get_64(numbers);
+    }
+    if (get_64(numbers + 16) == 0) {
+        memory->size = 0;
+    }
+    return number;
+}
