@@ -1,0 +1,177 @@
+/*
+ * The bytes of the library's stack that calls of each function take, beside the size that is stated for it: the least
+ * with which these calls do not end in a trap. A function that took more than is stated would trap in these calls.
+ *
+ * Built over the text of a library (LIBRARY names its file) with stack sizes that a variable holds.
+ */
+#include <setjmp.h>
+#include <stdio.h>
+
+static jmp_buf back;
+static unsigned stack_size;
+#define MACHINE_TRAP() longjmp(back, 1)
+
+#ifdef OF_CODEX32
+#define stack_codex32_parse stack_size
+#define stack_codex32_propose stack_size
+#else
+#define stack_bech32_encode stack_size
+#define stack_bech32_decode stack_size
+#define stack_bech32_check stack_size
+#define stack_bech32_fault stack_size
+#define stack_bech32_segwit_encode stack_size
+#define stack_bech32_segwit_decode stack_size
+#define stack_bech32_residue stack_size
+#define stack_bech32_correct stack_size
+#define stack_bech32_nearest stack_size
+#endif
+#include LIBRARY
+
+static ALIGNED(16) u8 lent[65536];
+static u8 text[1024], out[65536], other[1024];
+static size_t text_length, length, length_2;
+static uint32_t word;
+
+/* The n-th character of a text that is damaged in several ways: refused, mended, or searched for. */
+static void damage(const char *of, unsigned n) {
+    text_length = strlen(of);
+    memcpy(text, of, text_length);
+    unsigned most = text_length < 22 ? (unsigned)text_length - 2 : 20;
+    for (unsigned i = 0; i < n % 4; i++) {
+        size_t at = text_length - 1 - (7 * n + 11 * i) % most;
+        text[at] = (u8)(text[at] == 'q' ? 'p' : 'q');
+    }
+    if (n % 7 == 6) {
+        text[n % text_length] = 0xc3;
+    }
+}
+
+#ifdef OF_CODEX32
+
+static uint32_t try_parse(unsigned n) {
+    damage("ms10testsxxxxxxxxxxxxxxxxxxxxxxxxxx4nzvca9cmczlw", n);
+    return codex32_parse(text, text_length, &word, &word, &length);
+}
+
+static uint32_t try_propose(unsigned n) {
+    codex32_memory memory = {lent, sizeof lent};
+    damage("ms10testsxxxxxxxxxxxxxxxxxxxxxxxxxx4nzvca9cmczlw", n);
+    for (unsigned i = 0; i < n % 9; i++) {
+        text[10 + 4 * i] = '?';
+    }
+    return codex32_propose(text, text_length, &memory, out, sizeof out, &length);
+}
+
+static const struct {
+    const char *name;
+    uint32_t (*call)(unsigned n);
+    unsigned stated;
+} functions[] = {{"codex32_parse", try_parse, STATED_parse}, {"codex32_propose", try_propose, STATED_propose}};
+
+#else
+
+#define ADDRESS "bc1p0xlxvlhemja6c4dqv22uapctqupfhlxm9h8z3k2e72q4k9hcz7vqzk5jj0"
+
+static const u8 bytes[40] = "0123456789abcdef0123456789abcdef";
+static const size_t erasures[5] = {1, 5, 3, 4, 2};
+
+static uint32_t try_encode(unsigned n) {
+    return bech32_encode(1 + n % 3, (const u8 *)"bc", n % 5, bytes, n % 40, out, n % 9 ? 90 : 20, &length);
+}
+
+static uint32_t try_decode(unsigned n) {
+    damage(n & 64 ? ADDRESS : "A12UEL5L", n);
+    return bech32_decode(text, text_length, out, 83, &length, other, n % 5 ? 64 : 3, &length_2);
+}
+
+static uint32_t try_check(unsigned n) {
+    damage(ADDRESS, n);
+    return bech32_check(1 + n % 3, text, text_length, &length, &length_2);
+}
+
+static uint32_t try_fault(unsigned n) {
+    damage(ADDRESS, n);
+    return bech32_fault(1 + n % 3, text, text_length, &length);
+}
+
+static uint32_t try_segwit_encode(unsigned n) {
+    return bech32_segwit_encode((const u8 *)"bc", 2, n % 18, bytes, n % 42, out, n % 9 ? 90 : 20, &length);
+}
+
+static uint32_t try_segwit_decode(unsigned n) {
+    damage(ADDRESS, n % 8 ? n : 0);
+    return bech32_segwit_decode(text, text_length, out, 83, &length, &word, other, 40, &length_2);
+}
+
+static uint32_t try_residue(unsigned n) {
+    u8 elements[64] = {0};
+    elements[n % 64] = (u8)(n % 33);
+    return bech32_residue(1 + n % 3, elements, n % 65, &word);
+}
+
+static uint32_t try_correct(unsigned n) {
+    size_t locations[4];
+    damage(ADDRESS, n);
+    return bech32_correct(1 + n % 2, text, text_length, erasures, n / 4 % 6, locations, 4, other, 4, &length_2, out, 90, &length);
+}
+
+/* Two errors beside erasures are looked for in a short text, since that takes long. */
+static uint32_t try_nearest(unsigned n) {
+    bech32_memory memory = {lent, n % 11 ? sizeof lent : 900};
+    unsigned given = n % 6, errors = n / 6 % 3;
+    damage(given > 0 && errors > 1 ? "ab1qpzry9x" : ADDRESS, n);
+    return bech32_nearest(1 + n % 2, text, text_length, erasures, given, errors, &memory, out, sizeof out, &length);
+}
+
+static const struct {
+    const char *name;
+    uint32_t (*call)(unsigned n);
+    unsigned stated;
+} functions[] = {
+    {"bech32_encode", try_encode, STATED_encode},
+    {"bech32_decode", try_decode, STATED_decode},
+    {"bech32_check", try_check, STATED_check},
+    {"bech32_fault", try_fault, STATED_fault},
+    {"bech32_segwit_encode", try_segwit_encode, STATED_segwit_encode},
+    {"bech32_segwit_decode", try_segwit_decode, STATED_segwit_decode},
+    {"bech32_residue", try_residue, STATED_residue},
+    {"bech32_correct", try_correct, STATED_correct},
+    {"bech32_nearest", try_nearest, STATED_nearest},
+};
+
+#endif
+
+#define CALLS 60u
+
+/* Whether none of the calls of a function traps with a stack of so many bytes. */
+static int suffices(unsigned function, unsigned size) {
+    static unsigned n;
+    stack_size = size;
+    if (setjmp(back)) {
+        return 0;
+    }
+    for (n = 0; n < CALLS; n++) {
+        functions[function].call(n);
+    }
+    return 1;
+}
+
+int main(void) {
+    int failed = 0;
+    for (unsigned i = 0; i < sizeof functions / sizeof *functions; i++) {
+        unsigned stated = functions[i].stated, low = 0, high = stated / 16;
+        int enough = suffices(i, stated);
+        while (enough && low < high) {
+            unsigned middle = (low + high) / 2;
+            if (suffices(i, 16 * middle)) {
+                high = middle;
+            } else {
+                low = middle + 1;
+            }
+        }
+        failed |= !enough || low == 0;
+        printf("%s: %u bytes are stated, %u are taken%s\n", functions[i].name, stated, 16 * high,
+               enough ? "" : ": TOO FEW ARE STATED");
+    }
+    return failed;
+}
