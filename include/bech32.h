@@ -16,7 +16,9 @@
  * else that it is given. These two, that the lengths are true, and what is said of lent memory, are
  * all that a caller owes.
  *
- * Lengths are in bytes, which are characters where the text is accepted or written.
+ * Lengths are in bytes, which are characters where the text is accepted or written. The C file of the
+ * library, where it tests each access (MACHINE_IS_TESTED), refuses a text, a human-readable part or
+ * elements of 2^32 bytes or more with BECH32_NO_MEMORY, before all else.
  *
  * This describes the version of the library that BECH32_VERSION names, which is that of the file
  * VERSION and of the packages over it. The refusals are those of the Rust crate bech32 0.12.0, in its

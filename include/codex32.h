@@ -12,7 +12,9 @@
  *
  * No pointer may be null, not even that of an empty text or buffer, and nothing that a function writes
  * to may overlap with anything else that it is given. These two, that the lengths are true, and what
- * is said of lent memory, are all that a caller owes.
+ * is said of lent memory, are all that a caller owes. The C file of the library, where it tests each
+ * access (MACHINE_IS_TESTED), refuses a text of 2^32 bytes or more with CODEX32_NO_MEMORY, before all
+ * else.
  *
  * This describes the version of the library that CODEX32_VERSION names, which is that of the file
  * VERSION and of the packages over it.
