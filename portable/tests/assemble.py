@@ -181,6 +181,27 @@ def frame(size, words):
             f"local.get:2 i64.const:{size} i64.add global.set:0")
 
 
+# What ends in a trap where the stack pointer, which was put there before, is below 16.
+LIMIT = "i64.const:16 i64.lt_s br_if:0"
+
+
+def of_limits():
+    """Functions that test for the end of the stack, in each way that a compiler writes it."""
+    moved = "global.get:0 i64.const:32 i64.sub local.tee:2 global.set:0 block block"
+    used = "local.get:{0} local.get:0 i64.store:8 local.get:1 local.get:0 call:memory_fill local.get:{0} i64.load:8 i64.add"
+    back = "local.get:{0} i64.const:32 i64.add global.set:0 local.get:5 return end unreachable end i64.const:0"
+    return {
+        "limit": f"{moved} local.get:2 local.tee:2 {LIMIT} {used.format(2)} local.set:5 {back.format(2)}",
+        "limit_copied": f"{moved} local.get:2 local.tee:4 {LIMIT} local.get:0 local.set:2 {used.format(4)} local.get:2 i64.xor "
+                        f"local.set:5 {back.format(4)}",
+        "limit_below": f"block block global.get:0 i64.const:32 i64.sub local.tee:2 {LIMIT} local.get:2 local.get:0 i64.store:8 "
+                       "local.get:2 i64.load:8 local.get:1 i64.add return end unreachable end i64.const:0",
+        "limit_unmoved": f"block block global.get:0 local.tee:2 {LIMIT} local.get:0 local.get:1 call:i64_sub local.set:5 "
+                         "local.get:2 global.set:0 local.get:5 return end unreachable end i64.const:0",
+        "limit_alone": f"block block global.get:0 {LIMIT} local.get:0 local.get:1 i64.xor return end unreachable end i64.const:0",
+    }
+
+
 def of_numbers():
     found = {}
     for op in range(0x45, 0xC5):
@@ -305,4 +326,4 @@ def accesses():
 
 
 def operations():
-    return {**of_numbers(), **of_memory(), **of_control()}
+    return {**of_numbers(), **of_memory(), **of_control(), **of_limits()}
