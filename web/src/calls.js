@@ -17,8 +17,10 @@ const CODEX32_MEMORY = 16384 + 8 * MAX_CODEX32;
 // Room for the locations of a correction: bech32_correct lists three at most.
 const MAX_LISTED = 8;
 
-// Room for near texts, and the memory that they are worked out in.
-const NEAR_ROOM = 16384, NEAR_MEMORY = 65536;
+// Room for near texts, and the memory that they are worked out in. It suffices for those of an address; where one does not
+// suffice, so many times as much is tried, up to the most.
+const NEAR_ROOM = 16384, NEAR_MEMORY = 65536, MORE = 8, MOST_MEMORY = 1 << 28;
+const NO_MEMORY = 91, NO_ROOM = 92;
 
 // A human-readable part of more bytes is too long, and so is each text of more bytes of data. What does not fit here is
 // left out, and the refusal is the same.
@@ -37,14 +39,36 @@ const CODEX32_REGIONS = {
   memory: 2 * SIZE, lent: CODEX32_MEMORY, out: MAX_CODEX32, outLength: SIZE,
 };
 
+// Erasures are locations, of which 0 is the last character.
+const putErasures = (it, erasures) => it.putSizes('erasures', [...new Set(erasures)].slice(0, MAX_TEXT));
+
+// The near texts that the library lists in an instance with these regions.
+const nearestIn = (it, { lent, near }, [checksum, text, erasures, errors]) => {
+  const p = (region) => it.pointer(region);
+  const { length } = it.putText('text', text), given = putErasures(it, erasures);
+  it.putSizes('memory', [it.at.lent, lent]);
+  const number = it.call('bech32_nearest', checksum, p('text'), length, p('erasures'), given, BigInt(errors),
+    p('memory'), p('near'), BigInt(near), p('count'));
+  if (number) return { number };
+  const size = Number(length);
+  return { number, texts: Array.from({ length: it.size('count') }, (_, i) => it.text('near', size, i * size)) };
+};
+
+// The same in an instance of its own, of which nothing is left.
+const nearestBeside = (module, regions, asked) => {
+  const it = new Instance(module, regions);
+  try {
+    return nearestIn(it, regions, asked);
+  } finally {
+    it.wipe();
+  }
+};
+
 /** The calls of the module of `bech32_c`. */
 export const bech32Calls = (module) => {
   const it = new Instance(module, BECH32_REGIONS);
   const p = (region) => it.pointer(region);
   const textOut = () => it.text('out', it.size('outLength'));
-
-  // Erasures are locations, of which 0 is the last character.
-  const putErasures = (erasures) => it.putSizes('erasures', [...new Set(erasures)].slice(0, MAX_TEXT));
 
   return {
     encode(checksum, hrp, bytes) {
@@ -91,7 +115,7 @@ export const bech32Calls = (module) => {
     correct(checksum, text, erasures = []) {
       const { length, isWhole } = it.putText('text', text);
       if (!isWhole) return { number: TEXT_TOO_LONG };
-      const given = putErasures(erasures);
+      const given = putErasures(it, erasures);
       const number = it.call('bech32_correct', checksum, p('text'), length, p('erasures'), given, p('locations'),
         BigInt(MAX_LISTED), p('values'), BigInt(MAX_LISTED), p('count'), p('out'), BigInt(MAX_TEXT), p('outLength'));
       if (number) return { number };
@@ -99,16 +123,16 @@ export const bech32Calls = (module) => {
       const errors = Array.from(values, (value, i) => ({ location: it.size('locations', i), value }));
       return { number, errors, text: textOut() };
     },
-    nearest(checksum, text, erasures, errors) {
-      const { length, isWhole } = it.putText('text', text);
-      if (!isWhole) return { number: TEXT_TOO_LONG };
-      const given = putErasures(erasures);
-      it.putSizes('memory', [it.at.lent, NEAR_MEMORY]);
-      const number = it.call('bech32_nearest', checksum, p('text'), length, p('erasures'), given, BigInt(errors),
-        p('memory'), p('near'), BigInt(NEAR_ROOM), p('count'));
-      if (number) return { number };
-      const size = Number(length), all = it.text('near', it.size('count') * size);
-      return { number, texts: Array.from({ length: it.size('count') }, (_, i) => all.slice(i * size, (i + 1) * size)) };
+    nearest(...asked) {
+      if (!it.putText('text', asked[1]).isWhole) return { number: TEXT_TOO_LONG };
+      let regions = BECH32_REGIONS, answer = nearestIn(it, regions, asked);
+      while ([NO_MEMORY, NO_ROOM].includes(answer.number)) {
+        const wanting = answer.number === NO_ROOM ? 'near' : 'lent', size = MORE * regions[wanting];
+        if (size > MOST_MEMORY) return answer;
+        regions = { ...regions, [wanting]: size };
+        answer = nearestBeside(module, regions, asked);
+      }
+      return answer;
     },
     wipe: () => it.wipe(),
   };

@@ -129,8 +129,9 @@ export class Instance {
     return this.bytes.subarray(this.at[region], this.at[region] + length).reduce((sum, byte) => sum + units(byte), 0);
   }
 
-  /** The text of ASCII characters at the front of a region. */
-  text(region, length) {
-    return String.fromCharCode(...this.bytes.subarray(this.at[region], this.at[region] + length));
+  /** A text of ASCII characters in a region, of which it is the front or stands behind others. */
+  text(region, length, from = 0) {
+    const at = this.at[region] + from;
+    return String.fromCharCode(...this.bytes.subarray(at, at + length));
   }
 }

@@ -1,7 +1,7 @@
 // Corrections against brute force: every single change of a text is tried by the checksum as the standard defines it.
 import test from 'node:test';
 import assert from 'node:assert/strict';
-import { codex32, correct, nearest } from '../out/package/index.js';
+import { codex32, correct, encode, nearest } from '../out/package/index.js';
 import { ALPHABET, accepts, acceptsCodex32, added, changedAt, changedOnce, effectOf, numbersFrom, residueOf } from './reference.mjs';
 
 const TEXTS = [
@@ -121,6 +121,15 @@ test('all texts of three damaged characters are listed, in the order of their la
   assert.deepEqual(nearest(checksum, text, places, 0), []);
   assert.deepEqual(nearest(checksum, 'a12qqq5l', [3, 4, 5], 0).map((it) => it.text), [text]);
   assert.throws(() => nearest(checksum, text, [], 3), RangeError);
+});
+
+test('near texts that fill more room than an address needs are listed', (t) => {
+  const below = numbersFrom(7), place = 5;
+  const damaged = changedAt(encode('bech32m', 'a', new Uint8Array(634).fill(5)), 4, below);
+  const found = nearest('bech32m', damaged, [place], 2).map((it) => it.text);
+  const wanted = Array.from(ALPHABET, (c) => nearBySums('bech32m', damaged.slice(0, place) + c + damaged.slice(place + 1))).flat();
+  assert.deepEqual(found.toSorted(), wanted.filter((it, i) => wanted.indexOf(it) === i).sort());
+  t.diagnostic(`${found.length} texts of ${damaged.length} characters`);
 });
 
 test('places are told in rising order, with those that were right after all', () => {

@@ -30,7 +30,7 @@ const memoryOf = ({ memory }) => Buffer.from(memory.buffer);
 const FRESH = modules.map((module) => memoryOf(new WebAssembly.Instance(module, {}).exports));
 
 // Whether a memory is one of these, but for zeros by which it was made larger.
-const isFresh = (memory, fresh) => memory.subarray(0, fresh.length).equals(fresh) && memory.subarray(fresh.length).every((byte) => byte === 0);
+const isFresh = (memory, fresh) => memory.subarray(0, fresh.length).equals(fresh) && memory.subarray(fresh.length).equals(Buffer.alloc(memory.length - fresh.length));
 
 test('a codex32 string is wiped from the memory after each call', () => withInstances((started) => {
   const { codex32 } = library(...modules);
@@ -103,10 +103,15 @@ test('arguments stand in regions of their own', () => {
   assert.throws(() => new Instance(modules[0], { a: 2 ** 40 }), RangeError);
 });
 
-test('near texts that are too many for their room are refused, and not cut', () => {
-  const it = withInstances(() => library(...modules), (exports) => {
-    if (exports.bech32_nearest) exports.bech32_nearest = () => 92;
+test('near texts that are too many for any memory are refused, and not cut', () => {
+  const asked = [];
+  withInstances((started) => {
+    const it = library(...modules);
+    assert.throws(() => it.nearest('bech32', ADDRESS), RangeError);
+    assert.ok(asked.length > 2 && asked.every((room, i) => i === 0 || room === 8n * asked[i - 1]), String(asked));
+    assert.ok(started.slice(2).every((one) => isFresh(memoryOf(one), FRESH[0])));
+  }, (exports) => {
+    if (exports.bech32_nearest) exports.bech32_nearest = (...given) => { asked.push(given[8]); return 92; };
     return exports;
   });
-  assert.throws(() => it.nearest('bech32', ADDRESS), RangeError);
 });
