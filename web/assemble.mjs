@@ -32,7 +32,9 @@ const modulesSource = () => filled(read('src', 'modules.js'), {
 
 // The files of the page's script, each behind those that it imports.
 const SCRIPT = [
-  'src/reasons.js', 'src/instance.js', 'src/calls.js', 'src/library.js', 'src/modules.js', 'page/answer.js', 'page/page.js',
+  ...['reasons', 'instance', 'calls', 'library', 'modules'].map((name) => `src/${name}.js`),
+  ...['words', 'tried', 'typed', 'others', 'beginnings', 'pair', 'reading', 'kinds', 'saying', 'codex32', 'offers', 'texts',
+    'answer', 'shown', 'copy', 'page'].map((name) => `page/${name}.js`),
 ];
 
 const variable = (file) => `$${path.basename(file, '.js')}`;

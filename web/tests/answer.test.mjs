@@ -5,6 +5,7 @@ import { answer } from '../page/answer.js';
 import { library } from '../src/library.js';
 import { compiled } from '../out/package/modules.js';
 import { TARGETS, added, changedOnce, effectOf } from './reference.mjs';
+import { WRONG } from './wrong-texts.mjs';
 
 const it = library(...compiled().modules);
 const said = (typed) => answer(it, typed);
@@ -17,6 +18,9 @@ const STRING = 'ms10testsxxxxxxxxxxxxxxxxxxxxxxxxxx4nzvca9cmczlw';
 const SHARE = 'ms12testaxxxxxxxxxxxxxxxxxxxxxxxxxxk2htcew89530d';
 
 const at = (text, place, character) => text.slice(0, place) + character + text.slice(place + 1);
+
+const placesOf = ({ columns }) => columns.filter(({ isChanged }) => isChanged).map(({ place }) => place);
+const beforeOf = ({ columns }) => columns.map(({ from }) => from).join('');
 
 test('nothing', () => {
   for (const typed of ['', ' \n\t ', 'bitcoin:']) assert.equal(said(typed), null);
@@ -38,10 +42,13 @@ test('what stands around an address', () => {
   assert.deepEqual(said(V0.replace(/(....)/g, '$1 ')).notes, ['The spaces within the text were left out.']);
   for (const scheme of ['bitcoin:', 'BITCOIN:', 'Bitcoin:']) {
     const found = said(`${scheme}${V0}`);
-    assert.deepEqual([found.tone, found.notes], ['right', [`“${scheme}” was left out, which is not part of the text itself.`]]);
+    assert.deepEqual([found.tone, found.notes], ['right', [`The address was taken out of a link for payments (“${scheme}”).`]]);
   }
   const paid = said(`bitcoin:${V0}?amount=0.1&label=x`);
-  assert.deepEqual([paid.tone, paid.notes.length], ['right', 2]);
+  assert.deepEqual([paid.tone, paid.notes.length], ['right', 1]);
+  for (const quoted of [`"${V0}"`, `'${V0}'`, `“${V0}”,`, `«${V0}»`, `\`${V0}\``, `${V0}.`]) {
+    assert.deepEqual([said(quoted).tone, said(quoted).notes], ['right', ['The quotes or stops around it were left out.']], quoted);
+  }
   const unread = said(`bitcoin:${at(V0, 20, '?')}?amount=0.1`);
   assert.deepEqual(unread.offers.map(({ text }) => text), [V0]);
 });
@@ -50,7 +57,8 @@ test('texts that are no addresses', () => {
   assert.match(all(said('a12uel5l')), /right Bech32 text.*no address: a text with the human-readable part “a” and 0 characters of data/);
   assert.match(all(said('a1lqfn3a')), /right Bech32m text/);
   const invoice = it.encode('bech32', 'lnbc2500u', new Uint8Array(300).fill(7));
-  assert.equal(said(`lightning:${invoice}`).verdict, 'This is a right Bech32 text.');
+  assert.equal(said(`lightning:${invoice}`).verdict, 'This is a right Lightning invoice.');
+  assert.match(all(said(invoice)), /longer than an address\. It is read as a text/);
 });
 
 test('an address with the checksum of the other kind is no address', () => {
@@ -65,11 +73,11 @@ test('each single error of an address is marked and mended, with a caution', () 
     for (const damaged of changedOnce(text)) {
       const found = said(damaged), place = Array.from(text).findIndex((c, i) => c !== damaged[i]);
       const [offer] = found.offers;
-      assert.equal(found.tone, 'wrong');
-      assert.equal(found.verdict, 'The checksum is wrong, that of Bech32m and that of Bech32.');
+      assert.equal(found.tone, 'mended');
+      assert.match(found.verdict, new RegExp(`^One character was wrong: the ${place + 1}[a-z]{2}, “${damaged[place]}” for “${text[place]}”\\.$`));
       assert.match(found.caution, /^A correction is a guess/);
-      assert.deepEqual([offer.text, offer.places, offer.before.join('')], [text, [place], damaged]);
-      assert.deepEqual(offer.changes, [`Character ${place + 1}: “${damaged[place]}” becomes “${text[place]}”.`]);
+      assert.deepEqual(found.said, ['The checksum of what was put in is wrong, that of Bech32m and that of Bech32.']);
+      assert.deepEqual([offer.text, placesOf(offer), beforeOf(offer), offer.changes], [text, [place], damaged, []]);
     }
   }
 });
@@ -85,50 +93,69 @@ test('both checksums, where both have an answer', () => {
   const second = seen.get(sum ^ TARGETS.bech32 ^ TARGETS.bech32m);
   const damaged = added(text, first), other = added(damaged, second);
   const found = said(damaged);
-  assert.deepEqual(found.offers.map(({ heading, text: mended }) => [heading.split(',')[0], mended]).sort(), [['Bech32', other], ['Bech32m', text]]);
+  assert.equal(found.verdict, 'Two texts are near to this one, and one at most is what was meant.');
+  assert.deepEqual(found.offers.map(({ said: [right], text: mended }) => [right, mended]).sort(),
+    [['It is then a right Bech32 text.', other], ['It is then a right Bech32m text.', text]]);
   assert.match(found.caution, /^A correction is a guess/);
 });
 
-test('characters that cannot be read', () => {
-  const found = said(at(at(V0, 10, '?'), 20, '?'));
-  assert.deepEqual([found.verdict, found.offers[0].text, found.offers[0].places], ['2 characters cannot be read.', V0, [10, 20]]);
-  assert.deepEqual(found.offers[0].changes, [`Character 11, which cannot be read, is “${V0[10]}”.`, `Character 21, which cannot be read, is “${V0[20]}”.`]);
-  assert.equal(said(at(V0.toUpperCase(), 10, '?')).offers[0].text, V0);
-  const four = said(`${V0.slice(0, 30)}????${V0.slice(34)}`);
-  assert.deepEqual([four.verdict, four.said], ['4 characters cannot be read.', ['There is no correction: at most 3 such characters can be found.']]);
-  assert.deepEqual(four.marked, [30, 31, 32, 33]);
+test('a mended text that is an address with the checksum of the other kind is not offered', () => {
+  const broken = 'bc1p0xlxvlhemja6c4dqv22uapctqupfhlxm9h8z3k2e72q4k9hcz7vqh2y7hd';
+  const found = said(at(broken, 20, broken[20] === 'q' ? 'p' : 'q'));
+  assert.deepEqual([found.tone, found.verdict, found.offers], ['wrong', 'No correction was found.', undefined]);
+  assert.ok(found.said.includes('No change of one character or two makes an address of it.'));
 });
 
-test('two wrong characters', () => {
-  const found = said(at(at(V0, 11, 'q'), 20, 'q'));
-  assert.deepEqual(found.offers.map(({ text, places, heading }) => [text, places, heading]), [[V0, [11, 20], 'Bech32, with 2 characters changed']]);
-  assert.match(found.caution, /^A correction is a guess/);
-  const unread = said(at(at(at(V0, 11, 'q'), 20, '?'), 30, '?'));
-  assert.deepEqual(unread.offers.map(({ text, places }) => [text, places]), [[V0, [11, 20, 30]]]);
+test('how many wrong characters are looked for beside those that cannot be read', () => {
+  const asked = [], counting = { ...it, nearest: (...given) => { asked.push(given[3]); return it.nearest(...given); } };
+  const long = it.encode('bech32', 'a', new Uint8Array(60).fill(9));
+  const wrong = (text, unread) => Array.from(text, (c, i) => (i > 10 && i <= 10 + unread ? '?' : [2, 5, 30, 31, 32].includes(i) ? (c === 'q' ? 'p' : 'q') : c)).join('');
+  for (const [text, unread, errors] of [[V0, 0, 2], [V0, 1, 2], [V0, 2, 2], [V0, 3, 1], [long, 0, 2], [long, 1, 2], [long, 2, 1], [long, 3, 1]]) {
+    asked.length = 0;
+    answer(counting, wrong(text === V0 ? `a${V0.slice(2)}` : text, unread));
+    assert.ok(asked.length > 0 && asked.every((it) => it === errors), `${unread} in ${text.length}: ${asked}`);
+  }
 });
 
-test('three wrong characters', () => {
-  const found = said(at(at(at(V0, 11, 'q'), 20, 'q'), 30, 'q'));
-  assert.equal(found.offers, undefined);
-  assert.deepEqual(found.said, ['There is no correction: no change of one character or two makes the checksum right.']);
+test('more changes than three are counted, and listed', () => {
+  const found = said(at(at(at(at(STRING, 5, 'q'), 15, 'q'), 25, 'q'), 40, 'q'));
+  assert.equal(found.verdict, 'Four characters were wrong.');
+  assert.deepEqual(found.offers[0].changes.slice(0, 1), [`Character 6: “q” becomes “${STRING[5]}”.`]);
+  assert.equal(found.offers[0].changes.length, 4);
 });
 
-test('characters that are no data, and a 1 in a known text', () => {
-  const found = said(at(V0, 10, 'b'));
-  assert.equal(found.verdict, 'Character 11, “b”, may not stand behind the separator: letters and digits may, but not 1, b, i and o.');
-  assert.equal(found.offers[0].text, V0);
-  const one = said(at(V0, 12, '1'));
-  assert.match(one.verdict, /^Character 13, “1”, may not stand/);
-  assert.equal(one.offers[0].text, V0);
-  assert.equal(said(at(STRING, 46, '1')).offers[0].text, STRING);
-  const two = said(at(at(V0, 10, 'b'), 20, '?'));
-  assert.deepEqual([two.said[0], two.offers[0].text], ['One character cannot be read.', V0]);
+test('each wrong text has its sentence', () => {
+  for (const [name, typed, sentence, mended] of WRONG) {
+    const found = said(typed);
+    assert.match([found.verdict, ...(found.offers ?? []).flatMap((it) => it.said), ...found.said, ...found.notes].join(' '), sentence, name);
+    assert.equal(found.offers?.[0].text ?? null, mended, name);
+    assert.equal(found.tone === 'mended', mended !== null, name);
+  }
 });
 
-test('letters of both cases', () => {
-  const found = said(`B${V0.slice(1)}`);
-  assert.match(found.verdict, /^Upper-case and lower-case letters are mixed/);
-  assert.deepEqual([found.offers[0].heading, found.offers[0].text, found.offers[0].places], ['Bech32, in lower case', V0, []]);
+test('what is right is read as it is, whatever it looks like', () => {
+  for (const hrp of ['"', "'a'", '0x', '3', 'xpub', 'bv', 'bcl', 'c', 'abcdefghijkbc', 'bitcoin:', 'a?b=']) {
+    const text = it.encode('bech32', hrp, Uint8Array.of(1, 2, 3));
+    assert.deepEqual([said(text).verdict, said(text).notes], ['This is a right Bech32 text.', []], text);
+  }
+});
+
+test('what looks like several texts or seed words, and is not', () => {
+  for (const typed of [V0.replace(/(....)/g, '$1 '), V0.toUpperCase().replace(/(....)/g, '$1 '), `pay ${V0}`, 'lnbc1 tb', 'one two three', 'a b c d']) {
+    assert.ok(!['warning', 'other'].includes(said(typed).tone), typed);
+  }
+  assert.deepEqual(said(`${V0} ${V0}`).choices, [V0]);
+  assert.deepEqual(said(`${V0}\n${TAPROOT}`).choices, [V0, TAPROOT]);
+  assert.deepEqual(said(`${V0} ${TAPROOT}`.replace(/(\S{4})/g, '$1 ')).choices, [V0, TAPROOT]);
+});
+
+test('the columns of a beginning that was mended', () => {
+  const columns = (typed) => said(typed).offers[0].columns.slice(0, 5).map(({ from, to, isChanged }) => `${from ?? '-'}${to ?? '-'}${isChanged ? '!' : ''}`).join(' ');
+  assert.equal(columns(`bcl${V0.slice(3)}`), 'bb cc l1! qq ww');
+  assert.equal(columns(V0.slice(3)), '-b! -c! -1! qq ww');
+  assert.equal(columns(V0.slice(1)), '-b! cc 11 qq ww');
+  assert.equal(columns(`bc${V0.slice(3)}`), 'bb cc -1! qq ww');
+  assert.equal(columns(`bcc1${V0.slice(3)}`), 'bb cc c-! 11 qq');
 });
 
 test('faults that no correction mends', () => {
@@ -152,7 +179,7 @@ test('faults that no correction mends', () => {
 test('bad input gets a sentence', () => {
   assert.match(said('q'.repeat(1 << 20)).verdict, /^What was put in has 1,048,576 characters, which is too long/);
   const kelvin = said(V0.replaceAll('k', '\u212a'));
-  assert.match(kelvin.verdict, /^Character 36, the Kelvin sign, which looks like K \(U\+212A\)/);
+  assert.match(kelvin.verdict, /the 36th, the Kelvin sign, which looks like K \(U\+212A\) for “k”/);
   assert.equal(kelvin.offers[0].text, V0);
   assert.match(said(at(V0, 10, '\ud800')).verdict, /half of a character \(U\+D800\)/);
   assert.match(said('\udc00').verdict, /half of a character \(U\+DC00\)/);
@@ -160,7 +187,7 @@ test('bad input gets a sentence', () => {
   assert.deepEqual(turned.notes, ['Marks that are not seen were left out: a mark of direction (U+202E), a right-to-left mark (U+200F), a mark of direction (U+202C).']);
   assert.equal(turned.tone, 'right');
   assert.match(said('<img src=x onerror=alert(1)>').verdict, /may not stand/);
-  assert.match(said('bc1<script>alert(1)</script>').verdict, /^10 characters may not stand behind the separator \(letters and digits .*\): character 4, “<”; /);
+  assert.match(said('bc1<script>alert(1)</script>').said[0], /^Ten characters were taken for ones that cannot be read: character 4, “<”; .*; and 7 more\. They may not stand behind the separator: letters and digits/);
   assert.match(said('1\u{1f600}'.repeat(600)).verdict, /./);
 });
 
@@ -172,22 +199,25 @@ test('codex32 strings', () => {
   assert.match(all(said(SHARE)), /the share “a” of a secret, for which 2 shares are needed/);
   assert.equal(said(STRING.toUpperCase()).tone, 'right');
   const damaged = said(at(at(at(at(STRING, 5, 'q'), 15, 'q'), 25, 'q'), 40, 'q'));
-  assert.deepEqual([damaged.verdict, damaged.offers[0].text], ['The codex32 checksum is wrong.', STRING]);
-  assert.deepEqual(damaged.offers[0].places, [5, 15, 25, 40]);
+  assert.deepEqual([damaged.verdict, damaged.offers[0].text], ['Four characters were wrong.', STRING]);
+  assert.deepEqual([placesOf(damaged.offers[0]), damaged.said[0]], [[5, 15, 25, 40], 'The codex32 checksum of what was put in is wrong.']);
+  assert.ok(found.isSecret && damaged.isSecret);
   assert.match(damaged.caution, /^A correction is a guess/);
   const unread = said(`${STRING.slice(0, -8)}????????`);
-  assert.deepEqual([unread.verdict, unread.offers[0].text], ['8 characters cannot be read.', STRING]);
-  assert.match(all(said(`${STRING.slice(0, -9)}?????????`)), /There is no correction: more than four characters are wrong/);
+  assert.deepEqual([unread.verdict, unread.offers[0].text], ['Eight characters that cannot be read were found.', STRING]);
+  assert.match(all(said(`${STRING.slice(0, -9)}?????????`)), /No correction was found.*Nine characters cannot be read.*More than four characters are wrong/);
   assert.match(all(said(`M${STRING.slice(1)}`)), /mixed.*in lower case/);
 });
 
 test('codex32 strings that are none', () => {
-  assert.match(said('ms1').verdict, /^The text has 3 characters; a codex32 string has from 48 to 93/);
+  assert.deepEqual([said('ms1').tone, said('ms10').tone, said(STRING.slice(0, -1)).tone], ['open', 'open', 'open']);
+  assert.match(said('ms10').verdict, /^The text has 4 characters; a codex32 string has from 48 to 93/);
   assert.match(said(STRING.slice(0, -1)).verdict, /^The text has 47 characters/);
   assert.match(said('ms1qtestsxxxxxxxxxxxxxxxxxxxxxxxxxxq68ksv56lmaq5').verdict, /is no threshold/);
   assert.match(said('ms10testaxxxxxxxxxxxxxxxxxxxxxxxxxxzd568kp774rau').verdict, /is no share index/);
   const broken = said('ms1qtestsxxxxxxxxxxxxxxxxxxxxxxxxxxq68ksv56lma??');
-  assert.match(broken.offers[0].said[0], /but it is no codex32 string\. Character 4, “q”, is no threshold/);
+  assert.equal(broken.offers, undefined);
+  assert.match(all(broken), /No correction was found.*The nearest text with a right checksum is no codex32 string\. Character 4, “q”, is no threshold/);
 });
 
 test('every prefix of a text has an answer', () => {

@@ -12,6 +12,7 @@ import { createHash } from 'node:crypto';
 import * as chromium from './browsers/chromium.mjs';
 import * as firefox from './browsers/firefox.mjs';
 import { until } from './browsers/browser.mjs';
+import { WRONG } from './wrong-texts.mjs';
 
 const FILE = fileURLToPath(new URL('../out/index.html', import.meta.url));
 const PAGE = pathToFileURL(FILE).href;
@@ -40,25 +41,32 @@ test('the file names no other, and no address', () => {
 // ---- in a browser
 
 const TYPED = 'const typed = document.getElementById("typed"); typed.value = arguments[0]; typed.dispatchEvent(new Event("input"));';
-const SHOWN = 'const answer = document.getElementById("answer"); return { text: answer.innerText, wrong: [...answer.querySelectorAll("mark.wrong")].map((it) => it.textContent).join(""), mended: [...answer.querySelectorAll("mark.mended")].map((it) => it.textContent).join(""), codes: [...answer.querySelectorAll("code")].map((it) => it.textContent) };';
+const SHOWN = `
+  const answer = document.getElementById("answer"), all = (what) => [...answer.querySelectorAll(what)];
+  const marked = (name) => all("mark." + name).map((it) => it.textContent).join("");
+  const red = all("*").filter((it) => ["rgb(163, 13, 26)", "rgb(255, 143, 152)"].includes(getComputedStyle(it).color)).map((it) => it.className);
+  return { text: answer.innerText, struck: marked("struck"), mended: marked("mended"), red, codes: all("code").map((it) => it.textContent),
+    numbers: all(".number").map((it) => it.textContent), groups: all(".columns").map((it) => [...it.children].map((column) => column.children[0].textContent).join("")) };`;
 
 const shownFor = async (page, text) => {
   await page.evaluate(TYPED, text);
   return page.evaluate(SHOWN);
 };
 
+// A kind of text, what is said of it, and the characters that are struck out and mended.
 const KINDS = [
   ['an address', V0, /This is a right Bech32 address\.[^]*segwit address of Bitcoin/, '', ''],
-  ['an address behind bitcoin:', `BITCOIN:${V0.toUpperCase()}`, /left out[^]*This is a right Bech32 address/, '', ''],
+  ['an address behind bitcoin:', `BITCOIN:${V0.toUpperCase()}`, /This is a right Bech32 address[^]*taken out of a link/, '', ''],
   ['a payment text', 'a1lqfn3a', /This is a right Bech32m text/, '', ''],
-  ['one wrong character', DAMAGED, /The checksum is wrong[^]*Character 28: “t” becomes “r”\.[^]*A correction is a guess/, 't', 'r'],
-  ['a character that cannot be read', `${V0.slice(0, 27)}?${V0.slice(28)}`, /One character cannot be read\.[^]*which cannot be read, is “r”[^]*A correction is a guess/, '?', 'r'],
-  ['two wrong characters', `${V0.slice(0, 11)}qq${V0.slice(13)}`, /with 2 characters changed[^]*A correction is a guess/, 'qq', V0.slice(11, 13)],
-  ['three wrong characters', `${V0.slice(0, 11)}qq${V0.slice(13, 20)}q${V0.slice(21)}`, /There is no correction/, '', ''],
-  ['a character that is no data', `${V0.slice(0, 27)}b${V0.slice(28)}`, /Character 28, “b”, may not stand/, 'b', 'r'],
+  ['one wrong character', DAMAGED, /One character was wrong: the 28th, “t” for “r”\.[^]*A correction is a guess[^]*The checksum of what was put in is wrong/, 't', 'r'],
+  ['a character that cannot be read', `${V0.slice(0, 27)}?${V0.slice(28)}`, /The character that cannot be read was found: the 28th is “r”\.[^]*A correction is a guess/, '?', 'r'],
+  ['two wrong characters', `${V0.slice(0, 11)}qq${V0.slice(13)}`, /Two characters were wrong[^]*A correction is a guess/, 'qq', V0.slice(11, 13)],
+  ['three wrong characters', `${V0.slice(0, 11)}qq${V0.slice(13, 20)}q${V0.slice(21)}`, /No correction was found\./, '', ''],
+  ['a character that is no data', `${V0.slice(0, 27)}b${V0.slice(28)}`, /Character 28, “b”, was taken for one that cannot be read/, 'b', 'r'],
+  ['a missing beginning', V0.slice(3), /The beginning was missing: “bc1”\./, '', 'bc1'],
   ['no separator', 'qpzry', /There is no separator “1” in the text\./, '', ''],
   ['a codex32 string', STRING, /This is a right codex32 string/, '', ''],
-  ['a damaged codex32 string', `${STRING.slice(0, 20)}qq?${STRING.slice(23)}`, /cannot be read[^]*A correction is a guess/, 'qq?', 'xxx'],
+  ['a damaged codex32 string', `${STRING.slice(0, 20)}qq?${STRING.slice(23)}`, /cannot be read was found[^]*A correction is a guess/, 'qq?', 'xxx'],
 ];
 
 const HOSTILE = [
@@ -67,7 +75,7 @@ const HOSTILE = [
   ['a right-to-left mark', `bc1q\u200f${V0.slice(4)}`, /Marks that are not seen were left out: a right-to-left mark \(U\+200F\)/],
   ['the Kelvin sign', V0.replaceAll('k', '\u212a'), /the Kelvin sign, which looks like K/],
   ['markup', 'bc1<img src=x onerror="window.ran=1"><script>window.ran=1</script>', /may not stand/],
-  ['markup in a human-readable part', '<script>window.ran=1</script>1qqqqqq', /The checksum is wrong|may not stand|no correction/],
+  ['markup in a human-readable part', '<script>window.ran=1</script>1qqqqqq', /No correction was found/],
 ];
 
 // What a page tries to send, and what a script within it tries to run.
@@ -127,7 +135,7 @@ const byteOf = (word) => Buffer.from(source).indexOf(word);
 const CONTRAST = `
   const light = (color) => { const parts = color.match(/[\\d.]+/g).slice(0, 3).map((it) => it / 255).map((it) => it <= 0.04045 ? it / 12.92 : ((it + 0.055) / 1.055) ** 2.4); return 0.2126 * parts[0] + 0.7152 * parts[1] + 0.0722 * parts[2]; };
   const ground = (it) => { for (; it; it = it.parentElement) { const { backgroundColor: color } = getComputedStyle(it); if (!/, 0\\)|transparent/.test(color)) return color; } return 'rgb(255, 255, 255)'; };
-  return [...document.querySelectorAll('h1, label, #help, textarea, button, .verdict, .caution, .offer p, .offer li, code, mark, .column span, summary, footer p')].filter((it) => it.checkVisibility()).map((it) => {
+  return [...document.querySelectorAll('h1, h2, h3, label, #help, textarea, button, #answer p, #answer li, code, mark, .column span, .number, summary, footer p')].filter((it) => it.checkVisibility()).map((it) => {
     const [a, b] = [light(getComputedStyle(it).color), light(ground(it))].sort((x, y) => y - x);
     return { is: it.tagName + '.' + it.className, ratio: (a + 0.05) / (b + 0.05) };
   }).filter(({ ratio }) => ratio < 4.5);`;
@@ -138,6 +146,13 @@ const pictured = async (page, name) => {
   fs.mkdirSync(screens, { recursive: true });
   fs.writeFileSync(path.join(screens, `${name}.png`), await page.screenshot());
 };
+
+// One text of each form that an answer has.
+const PICTURES = [
+  ['empty', ''], ['right', V0], ['mended', DAMAGED], ['two', WRONG.find(([name]) => name === 'two addresses that are near')[1]],
+  ['nothing', KINDS[6][1]], ['open', V0.slice(0, 20)], ['warning', 'abandon ability able about above'], ['several', `${V0} ${DAMAGED}`],
+  ['codex32', KINDS.at(-1)[1]], ['refused', HOSTILE[4][1]],
+];
 
 const inBrowser = (browser, body) => {
   if (!browser.program) {
@@ -159,18 +174,58 @@ const common = (browser) => async (t, page) => {
   await page.size(1280, 900);
   await page.visit(PAGE);
 
-  await t.test('it runs from a disk, and says nothing before there is a text', async () => {
-    assert.equal((await page.evaluate(SHOWN)).text, '');
+  await t.test('it runs from a disk, and has an example before there is a text', async () => {
+    assert.match((await page.evaluate(SHOWN)).text, /^An example with one wrong character:\s+bc1qw508d6qejxtdg4y5r3zarvaty0c5xw7kv8f3t4$/);
+    await page.evaluate('document.querySelector("#answer button").click();');
+    assert.match((await page.evaluate(SHOWN)).text, /One character was wrong: the 28th/);
+    assert.deepEqual(await page.evaluate('return [document.activeElement.id, document.getElementById("typed").value];'), ['typed', DAMAGED]);
   });
-  for (const [kind, text, wanted, wrong, mended] of KINDS) {
+  for (const [kind, text, wanted, struck, mended] of KINDS) {
     await t.test(`shows ${kind}`, async () => {
       const shown = await shownFor(page, text);
       assert.match(shown.text, wanted);
-      assert.equal(shown.wrong, mended ? wrong : shown.wrong);
-      assert.equal(shown.mended, mended);
+      assert.deepEqual([shown.struck, shown.mended], [struck, mended]);
       if (mended) assert.ok([V0, STRING].includes(shown.codes[0]));
     });
   }
+  await t.test('has the sentence of each wrong text, and nothing red where it was mended', async () => {
+    for (const [name, text, wanted, mended] of WRONG) {
+      const shown = await shownFor(page, text);
+      assert.match(shown.text, wanted, name);
+      if (mended === null) continue;
+      assert.deepEqual([shown.codes[0], shown.red], [mended, []], name);
+    }
+    t.diagnostic(`${WRONG.length} wrong texts`);
+  });
+  await t.test('the places of a text in groups of four', async () => {
+    const { numbers, groups } = await shownFor(page, DAMAGED);
+    assert.deepEqual(numbers, ['1', '5', '9', '13', '17', '21', '25', '29', '33', '37', '41']);
+    assert.equal(groups.join(' '), V0.replace(/(....)(?=.)/g, '$1 '));
+  });
+  await t.test('a button copies the mended text', async () => {
+    for (const [text, copied] of [[DAMAGED, V0], [`bitcoin:${V0}?amount=1`, V0]]) {
+      await page.visit(PAGE);
+      await shownFor(page, text);
+      await page.evaluate('document.querySelector(".copy").focus();');
+      await page.press('Enter');
+      await until(() => page.evaluate('return document.querySelector(".copy").textContent === "Copied";'), 'word that it was copied', 5);
+      assert.equal(await page.evaluate('return document.getElementById("spoken").textContent;'), 'Copied');
+      await page.evaluate('const typed = document.getElementById("typed"); typed.focus(); typed.select();');
+      await page.paste();
+      assert.equal(await page.evaluate('return document.getElementById("typed").value;'), copied);
+    }
+  });
+  await t.test('a codex32 string has no such button, since it is a secret', async () => {
+    for (const text of [STRING, KINDS.at(-1)[1], `msl${STRING.slice(3)}`]) {
+      await shownFor(page, text);
+      assert.equal(await page.evaluate('return document.querySelectorAll(".copy").length;'), 0, text);
+    }
+  });
+  await t.test('one of two addresses is chosen by a click', async () => {
+    await shownFor(page, `${V0} ${DAMAGED}`);
+    await page.evaluate('document.querySelectorAll(".choice")[1].click();');
+    assert.match((await page.evaluate(SHOWN)).text, /One character was wrong: the 28th/);
+  });
   for (const [kind, text, wanted] of HOSTILE) {
     await t.test(`has a sentence for ${kind}`, async () => {
       const { text: said } = await shownFor(page, text);
@@ -184,12 +239,19 @@ const common = (browser) => async (t, page) => {
     await page.press('Tab');
     assert.equal(await focused(), 'typed');
     await page.type(DAMAGED);
-    assert.match((await page.evaluate(SHOWN)).text, /Character 28/);
+    assert.match((await page.evaluate(SHOWN)).text, /the 28th/);
     await page.press('Tab');
     assert.equal(await focused(), 'clear');
     await page.press('Enter');
     assert.deepEqual([await focused(), await page.evaluate('return document.getElementById("typed").value;')], ['typed', '']);
-    assert.equal((await page.evaluate(SHOWN)).text, '');
+    assert.match((await page.evaluate(SHOWN)).text, /^An example/);
+    await page.press('Tab');
+    assert.equal(await focused(), 'BUTTON');
+    await page.press('Enter');
+    assert.match((await page.evaluate(SHOWN)).text, /the 28th/);
+    await page.press('Tab');
+    await page.press('Tab');
+    assert.equal(await page.evaluate('return document.activeElement.className;'), 'copy');
     await page.press('Tab');
     assert.equal(await focused(), 'SUMMARY');
     await page.press('Enter');
@@ -199,8 +261,8 @@ const common = (browser) => async (t, page) => {
     await shownFor(page, DAMAGED);
     const spoken = 'return document.getElementById("spoken").textContent;';
     assert.equal(await page.evaluate(spoken), '');
-    assert.match(await until(async () => (await page.evaluate(spoken)) || null, 'spoken answer', 5), /^The checksum is wrong.*Character 28: “t” becomes “r”\..*A correction is a guess/);
-    assert.deepEqual(await page.evaluate('const it = document.getElementById("spoken"); return [it.getAttribute("role"), it.getAttribute("aria-live"), document.querySelector(".pair").getAttribute("aria-hidden"), document.querySelector("label").control.id];'), ['status', 'polite', 'true', 'typed']);
+    assert.match(await until(async () => (await page.evaluate(spoken)) || null, 'spoken answer', 5), /^One character was wrong: the 28th, “t” for “r”\. It is then a right Bech32 address\..*A correction is a guess.*The checksum of what was put in is wrong/);
+    assert.deepEqual(await page.evaluate('const it = document.getElementById("spoken"); return [it.getAttribute("role"), it.getAttribute("aria-live"), document.querySelector(".rows").getAttribute("aria-hidden"), document.querySelector("label").control.id];'), ['status', 'polite', 'true', 'typed']);
   });
   await t.test('no text stands in the address, the history or a store', async () => {
     const before = await page.evaluate('return history.length;');
@@ -238,17 +300,17 @@ const common = (browser) => async (t, page) => {
       assert.equal(await page.evaluate('return getComputedStyle(document.querySelector("summary")).cursor;') === 'pointer', false);
     });
   });
-  for (const [device, width] of [['telephone', 390], ['desk', 1280]]) {
+  for (const [device, width] of [...browser.narrow, ['telephone', 390], ['desk', 1280]]) {
     await t.test(`it fits the width of a ${device}`, async () => {
       await page.visit(PAGE);
       await page.size(width, 900);
-      for (const [kind, text] of [...KINDS, ...HOSTILE.slice(1)]) {
+      for (const [kind, text] of [...KINDS, ...WRONG, ...HOSTILE.slice(1)]) {
         await shownFor(page, text);
         assert.ok(await page.evaluate('return document.documentElement.scrollWidth <= window.innerWidth;'), kind);
       }
-      assert.deepEqual(await page.evaluate(CONTRAST), []);
-      for (const [name, text] of [['right', V0], ['mended', DAMAGED], ['codex32', KINDS.at(-1)[1]], ['refused', HOSTILE[4][1]]]) {
+      for (const [name, text] of PICTURES) {
         await shownFor(page, text);
+        assert.deepEqual(await page.evaluate(CONTRAST), [], name);
         await pictured(page, `${browser.name}-${device}-light-${name}`);
       }
     });
@@ -276,8 +338,21 @@ inBrowser(chromium, async (t, page) => {
     const nodes = await page.accessible();
     assert.ok(nodes.some(({ role, name }) => role === 'textbox' && /^A Bitcoin address/.test(name)));
     assert.ok(nodes.some(({ role, name }) => role === 'StaticText' && name === V0));
-    assert.ok(nodes.some(({ role, name }) => role === 'heading' && /Bech32, with one character changed/.test(name)));
+    assert.ok(nodes.some(({ role, name }) => role === 'button' && name === 'Copy it'));
+    assert.ok(nodes.some(({ role, name }) => role === 'heading' && /^One character was wrong: the 28th/.test(name)));
     assert.ok(!nodes.some(({ role, name }) => role === 'StaticText' && /^[a-z0-9]$/.test(name)));
+  });
+  await t.test('the button copies where the browser has no newer way', async () => {
+    const undo = await page.before('delete Navigator.prototype.clipboard;');
+    await page.visit(PAGE);
+    await shownFor(page, DAMAGED);
+    await page.evaluate('document.querySelector(".copy").focus();');
+    await page.press('Enter');
+    await until(() => page.evaluate('return document.querySelector(".copy").textContent === "Copied";'), 'word that it was copied', 5);
+    await page.evaluate('const typed = document.getElementById("typed"); typed.focus(); typed.select();');
+    await page.paste();
+    assert.equal(await page.evaluate('return document.getElementById("typed").value;'), V0);
+    await undo();
   });
   await t.test('where a module stops it says so, and the next text has an answer', async () => {
     const undo = await page.before(`
@@ -318,7 +393,7 @@ for (const browser of [firefox, chromium]) {
       for (const [device, width] of [['telephone', 390], ['desk', 1280]]) {
         await page.size(width, 900);
         await page.visit(PAGE);
-        for (const [name, text] of [['right', V0], ['mended', DAMAGED], ['codex32', KINDS.at(-1)[1]], ['refused', HOSTILE[4][1]]]) {
+        for (const [name, text] of PICTURES) {
           await shownFor(page, text);
           assert.deepEqual(await page.evaluate(CONTRAST), [], name);
           await pictured(page, `${browser.name}-${device}-dark-${name}`);

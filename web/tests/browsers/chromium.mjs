@@ -5,6 +5,9 @@ export const program = programOf('chromium', 'chromium-browser', 'google-chrome'
 export const name = 'Chromium';
 export const packageName = 'chromium';
 
+/** The devices that are narrower than its window has to be. */
+export const narrow = [['small telephone', 320]];
+
 // Messages end with a zero byte.
 const messagesOf = (stream, take) => {
   let rest = '';
@@ -76,6 +79,10 @@ export const open = async (colors = 'light') => {
       const typed = key === 'Tab' ? {} : { text: key === 'Enter' ? '\r' : key };
       await call('Input.dispatchKeyEvent', { type: 'keyDown', key, code: key === ' ' ? 'Space' : key, windowsVirtualKeyCode: code, ...typed });
       await call('Input.dispatchKeyEvent', { type: 'keyUp', key, code: key === ' ' ? 'Space' : key, windowsVirtualKeyCode: code });
+    },
+    /** Puts in what was copied. */
+    async paste() {
+      for (const type of ['keyDown', 'keyUp']) await call('Input.dispatchKeyEvent', { type, key: 'v', code: 'KeyV', modifiers: 2, commands: type === 'keyDown' ? ['paste'] : [] });
     },
     async screenshot() {
       const { cssContentSize: { width, height } } = await call('Page.getLayoutMetrics');

@@ -8,6 +8,9 @@ export const program = programOf('firefox-esr', 'firefox');
 export const name = 'Firefox';
 export const packageName = 'firefox-esr';
 
+/** The devices that are narrower than its window has to be. */
+export const narrow = [];
+
 const PREFERENCES = {
   'marionette.port': 0, 'browser.shell.checkDefaultBrowser': false, 'browser.startup.page': 0,
   'app.update.auto': false, 'datareporting.policy.dataSubmissionEnabled': false, 'toolkit.telemetry.enabled': false,
@@ -82,6 +85,12 @@ export const open = async (colors = 'light') => {
       await call('WebDriver:ElementSendKeys', { id: Object.values(element)[0], text });
     },
     press: (key) => pressed({ Tab: '\ue004', Enter: '\ue007', ' ': ' ' }[key]),
+    /** Puts in what was copied. */
+    async paste() {
+      const [control, v] = ['\ue009', 'v'];
+      const actions = [['keyDown', control], ['keyDown', v], ['keyUp', v], ['keyUp', control]].map(([type, value]) => ({ type, value }));
+      await call('WebDriver:PerformActions', { actions: [{ type: 'key', id: 'keys', actions }] });
+    },
     async screenshot() {
       return Buffer.from((await call('WebDriver:TakeScreenshot', { full: true })).value, 'base64');
     },

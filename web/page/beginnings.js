@@ -1,0 +1,49 @@
+// The human-readable parts that are known, and the texts that begin nearly as one of them.
+import { asciiLower } from '../src/reasons.js';
+
+/** The networks of addresses by their human-readable parts. */
+export const NETWORKS = { bc: 'Bitcoin', tb: 'the Bitcoin test networks', bcrt: 'a local Bitcoin test network' };
+
+/** What codex32 strings begin with, in lower case. */
+export const CODEX32 = 'ms1';
+
+const KNOWN = [...Object.keys(NETWORKS).map((hrp) => `${hrp}1`), CODEX32];
+
+/** The known beginning that a text has, in lower case, or null: a `1` behind it is no separator, but a mistyped character. */
+export const knownBeginning = (text) => KNOWN.find((it) => asciiLower(text.slice(0, it.length)) === it) ?? null;
+
+/** Whether a text begins as addresses of a network do. */
+export const isAddressLike = (text) => ![null, CODEX32].includes(knownBeginning(text));
+
+/** Whether a text is the front of a known beginning, or the whole of it. */
+export const isBegun = (text) => KNOWN.some((it) => it.startsWith(asciiLower(text)));
+
+// How few characters are to be changed, left out, put in or swapped to make one short text of another.
+const slips = (from, to) => {
+  if (from === '' || to === '') return from.length + to.length;
+  if (from[0] === to[0]) return slips(from.slice(1), to.slice(1));
+  const isSwapped = from[0] === to[1] && from[1] === to[0];
+  return 1 + Math.min(
+    slips(from.slice(1), to.slice(1)), slips(from.slice(1), to), slips(from, to.slice(1)),
+    isSwapped ? slips(from.slice(2), to.slice(2)) : Infinity,
+  );
+};
+
+const MOST_SLIPS = 2;
+
+// A beginning that is missing as a whole is one slip.
+const slipsOf = (from, to) => (from === '' ? 1 : slips(asciiLower(from), to));
+
+/**
+ * The texts with a known beginning in place of one that is near to it, in lower case: each with the beginnings `from`
+ * and `to`, and the number of `slips` between them. There is none where the text has a known beginning.
+ */
+export const nearBeginnings = (text) => {
+  if (knownBeginning(text)) return [];
+  const found = KNOWN.flatMap((to) =>
+    Array.from({ length: Math.min(text.length, to.length + MOST_SLIPS) + 1 }, (_, size) => {
+      const from = text.slice(0, size);
+      return { from, to, slips: slipsOf(from, to), text: to + asciiLower(text.slice(size)) };
+    }));
+  return found.filter((it) => it.slips <= MOST_SLIPS && /^[!-~]*$/.test(it.from)).sort((a, b) => a.slips - b.slips);
+};

@@ -1,0 +1,101 @@
+// An answer as elements of the page. Text only ever goes into the page as text.
+
+const GROUP = 4;
+
+export const element = (name, className, ...children) => {
+  const it = document.createElement(name);
+  if (className) it.className = className;
+  it.append(...children);
+  return it;
+};
+
+const paragraphs = (className, sentences) => sentences.map((sentence) => element('p', className, sentence));
+
+// What a reader of the screen is told otherwise.
+const unspoken = (it) => {
+  it.setAttribute('aria-hidden', 'true');
+  return it;
+};
+
+export const button = (className, does, ...children) => {
+  const it = element('button', className, ...children);
+  it.type = 'button';
+  it.addEventListener('click', () => does(it));
+  return it;
+};
+
+// ---- a text in groups of four, with places
+
+// A character in a cell of its own. What is not ASCII stands as a box: it might not be seen, or turn the line around.
+const cell = (character, className) => {
+  const shown = character === null ? '' : /^[!-~]$/.test(character) ? character : '□';
+  return element(className && shown ? 'mark' : 'span', className, shown);
+};
+
+// A character of a mended text, above the one that it replaces. Below one that did not change nothing stands.
+const mendedColumn = ({ from, to, isChanged }) =>
+  element('span', 'column', cell(to, isChanged ? 'mended' : ''), cell(isChanged ? from : null, 'struck'));
+
+const wrongColumn = ({ to, isChanged }) => element('span', 'column', cell(to, isChanged ? 'wrong' : ''));
+
+// A group begins at each fourth place. What stands in no place belongs to the one behind it.
+const groupsOf = (columns) => {
+  const groups = [];
+  columns.forEach((column, i) => {
+    const isFirst = column.place % GROUP === 0 && columns[i - 1]?.place !== column.place;
+    if (isFirst) groups.push([]);
+    groups.at(-1).push(column);
+  });
+  return groups;
+};
+
+const group = (columns, column) =>
+  element('span', 'group', element('span', 'number', String(columns[0].place + 1)),
+    element('span', 'columns', ...columns.map(column)));
+
+const rows = (columns, column) =>
+  unspoken(element('div', 'rows', ...groupsOf(columns).map((it) => group(it, column))));
+
+const columnsOf = (text, marked = []) =>
+  Array.from(text, (to, place) => ({ to, place, isChanged: marked.includes(place) }));
+
+// ---- an answer
+
+// The text itself, to be read out and copied.
+const whole = (text) => element('p', 'unseen', element('code', '', text));
+
+const copying = (text, does) => element('p', '', button('copy', (it) => does.copy(it, text), 'Copy it'));
+
+const shownOffer = (isAlone, isSecret, does) => ({ headline, columns, changes, text, said }) =>
+  element('section', 'offer', ...(isAlone ? [] : [element('h3', '', headline)]), rows(columns, mendedColumn), whole(text),
+    ...(isSecret ? [] : [copying(text, does)]), element('ul', 'changes', ...changes.map((it) => element('li', '', it))),
+    ...paragraphs('', said));
+
+const shownText = ({ tone, text, marked, isSecret }, does) => {
+  const shown = rows(columnsOf(text, marked), wrongColumn);
+  if (tone !== 'right') return [shown];
+  return [shown, whole(text), ...(isSecret ? [] : [copying(text, does)])];
+};
+
+const shownChoices = (choices, does) =>
+  choices.map((text) => element('p', '', button('choice', () => does.choose(text), element('code', '', text))));
+
+/** An answer as elements; `does` has what the buttons do: `copy` a text, and `choose` one for the field. */
+export const shownAnswer = (answer, does) => {
+  const { tone, verdict, notes, said, text, offers = [], choices = [], caution, isSecret } = answer;
+  return [
+    element('h2', `verdict ${tone}`, verdict),
+    ...(text === undefined ? [] : shownText(answer, does)),
+    ...offers.map(shownOffer(offers.length === 1, isSecret, does)),
+    ...paragraphs('caution', caution ? [caution] : []),
+    ...paragraphs('', said),
+    ...shownChoices(choices, does),
+    ...paragraphs('note', notes),
+  ];
+};
+
+/** An answer as one text, to be spoken. */
+export const spoken = ({ verdict, notes, said, offers = [], caution }) => {
+  const offered = offers.flatMap(({ headline, changes, said: more }) => [headline, ...changes, ...more]);
+  return [...new Set([verdict, ...offered, ...(caution ? [caution] : []), ...said, ...notes])].join(' ');
+};
