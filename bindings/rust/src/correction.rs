@@ -1,16 +1,20 @@
 //! Mistyped texts mended.
 
+use crate::checksum::CorrectingChecksum;
 use crate::raw::{self, Block};
 use crate::text::{ascii, MAX_TEXT_LENGTH};
-use crate::{Checksum, Fe32, Refusal};
+use crate::{Fe32, Refusal};
+use std::fmt;
 use std::iter::once;
 
 // The locations that a correction has at most.
 const MAX_LISTED: usize = 3;
 
-// The bytes that near texts are looked for in, at first and at most. Their texts get a quarter more.
+// The bytes that near texts are looked for in, at first and at most, and by what they grow where they do
+// not suffice. Their texts get a quarter more.
 const LEAST_MEMORY: usize = 64 << 10;
 const MOST_MEMORY: usize = 256 << 20;
+const GROWTH: usize = 8;
 
 /// How a mistyped text is mended.
 #[derive(Clone, Debug, PartialEq, Eq, Hash)]
@@ -31,10 +35,61 @@ impl Correction {
     pub fn as_str(&self) -> &str {
         &self.text
     }
+
+    /// The same locations as places, counted from the front of the text and in rising order, with the
+    /// characters before and after: what to show to people.
+    ///
+    /// ```
+    /// use bech32_proved::{correct, Bech32, Change};
+    ///
+    /// let correction = correct::<Bech32>("BC1QAR0SRRR7XFKVY5L643LYDNW9RE59GTZZWF5MDX", &[])?;
+    /// let changes = correction.changes();
+    /// assert_eq!(changes, [Change { place: 41, from: 'x', to: 'q' }]);
+    /// assert_eq!(changes[0].to_string(), "character 42: x becomes q");
+    /// # Ok::<(), bech32_proved::Refusal>(())
+    /// ```
+    pub fn changes(&self) -> Vec<Change> {
+        let change = |(location, value): (usize, Fe32)| {
+            let place = self.text.len() - 1 - location;
+            let element = Fe32::from_char_unchecked(self.text.as_bytes()[place]);
+            Change {
+                place,
+                from: (element - value).to_char(),
+                to: element.to_char(),
+            }
+        };
+        let mut changes: Vec<Change> = self.bch_errors().map(change).collect();
+        changes.sort_by_key(|change| change.place);
+        changes
+    }
+}
+
+/// A character of a mistyped text, and the one that is in its place in a mended one. At an erasure they
+/// may be the same.
+#[derive(Clone, Copy, Debug, PartialEq, Eq, Hash)]
+pub struct Change {
+    /// How many characters stand before it. People count from 1, as this change's words do.
+    pub place: usize,
+    /// What stands there in the mistyped text, in lower case.
+    pub from: char,
+    /// What stands there in the mended one.
+    pub to: char,
+}
+
+impl fmt::Display for Change {
+    fn fmt(&self, f: &mut fmt::Formatter<'_>) -> fmt::Result {
+        let (number, from, to) = (self.place + 1, self.from, self.to);
+        if from == to {
+            write!(f, "character {number}: {to} stays")
+        } else {
+            write!(f, "character {number}: {from} becomes {to}")
+        }
+    }
 }
 
 /// Mends a mistyped text by a checksum. `erasures` are the locations of characters that are known
-/// to be wrong; location 0 is the last character.
+/// to be wrong; location 0 is the last character, as in the names of the Rust crate, and that of the
+/// character at a place is `s.len() - 1 - place`.
 ///
 /// The answer is the one correction of the data part where twice the errors outside the erasures,
 /// with the erasures, are three at most. **It may not be what was meant**: show it, and ask. Two wrong
@@ -59,7 +114,7 @@ impl Correction {
 /// The [`Refusal`] that [`CheckedHrpstring::new`](crate::primitives::decode::CheckedHrpstring::new) has, but
 /// [`Refusal::NoCorrection`] in place of a wrong checksum, where there is no such
 /// correction or an erasure is not in the data part.
-pub fn correct<Ck: Checksum>(s: &str, erasures: &[usize]) -> Result<Correction, Refusal> {
+pub fn correct<Ck: CorrectingChecksum>(s: &str, erasures: &[usize]) -> Result<Correction, Refusal> {
     let (mut locations, mut values) = ([0; MAX_LISTED], [0; MAX_LISTED]);
     let mut mended = [0; MAX_TEXT_LENGTH];
     let (count, length) = raw::correct(
@@ -86,8 +141,29 @@ pub fn correct<Ck: Checksum>(s: &str, erasures: &[usize]) -> Result<Correction, 
 ///
 /// Where the data part has at most 89 characters, two errors without erasures have one answer at most,
 /// the right one where two characters are wrong. **It may not be what was meant**: of texts of 62
-/// characters at random, some 15 of 10,000 have one. Show it, and ask. With two erasures and two
-/// errors a call may take seconds.
+/// characters at random, some 15 of 10,000 have one. Show it, and ask.
+///
+/// # What it takes
+///
+/// Two errors, in time of a processor at 2.5 GHz, rounded, and how many texts were found. The time is
+/// that of one search: where the texts are many, it is made again with more room, four times at most.
+///
+/// | characters | no erasure | one | two | three |
+/// |---|---|---|---|---|
+/// | 42 | 0.1 ms, 1 | 2 ms, 1 | 8 ms, 1 | 0.2 s, 14 |
+/// | 62 | 0.1 ms, 1 | 4 ms, 1 | 20 ms, 3 | 0.6 s, 49 |
+/// | 90 | 0.2 ms, 1 | 6 ms, 1 | 40 ms, 3 | 1.5 s, 95 |
+/// | 200 | 1 ms, 1 | 30 ms, 2 | 0.3 s, 12 | 11 s, 529 |
+/// | 400 | 3 ms, 1 | 0.1 s, 2 | 1.3 s, 63 | 70 s, 2,358 |
+/// | 1,000 | 20 ms, 1 | 0.4 s, 15 | 11 s, 405 | minutes |
+///
+/// One error takes at most 2 ms up to 90 characters, and 70 ms with three erasures at 1,000.
+///
+/// What helps a person is a list of few texts: at most two errors with two erasures up to 90 characters,
+/// two errors with one erasure in longer texts, and one error with three erasures. Beyond these the right
+/// text stands among many that are as near.
+///
+/// # The order
 ///
 /// The order is that of the highest location of a change outside the erasures, then that of the
 /// element added there, then that of the next such location. A text without such changes is first:
@@ -113,7 +189,7 @@ pub fn correct<Ck: Checksum>(s: &str, erasures: &[usize]) -> Result<Correction, 
 /// [`Refusal::BadNumber`] of more than two errors; else the [`Refusal`] that
 /// [`CheckedHrpstring::new`](crate::primitives::decode::CheckedHrpstring::new) has, but for a wrong checksum;
 /// else [`Refusal::NoMemory`] or [`Refusal::NoRoom`] where the texts are too many for 256 MB.
-pub fn nearest<Ck: Checksum>(
+pub fn nearest<Ck: CorrectingChecksum>(
     s: &str,
     erasures: &[usize],
     errors: usize,
@@ -122,7 +198,7 @@ pub fn nearest<Ck: Checksum>(
 }
 
 // The same, first with so much memory.
-fn nearest_from<Ck: Checksum>(
+fn nearest_from<Ck: CorrectingChecksum>(
     mut memory: usize,
     s: &str,
     erasures: &[usize],
@@ -130,14 +206,16 @@ fn nearest_from<Ck: Checksum>(
 ) -> Result<Vec<Correction>, Refusal> {
     loop {
         match nearest_within::<Ck>(memory, s, erasures, errors) {
-            Err(Refusal::NoMemory | Refusal::NoRoom) if memory < MOST_MEMORY => memory *= 2,
+            Err(Refusal::NoMemory | Refusal::NoRoom) if memory < MOST_MEMORY => {
+                memory = MOST_MEMORY.min(GROWTH * memory);
+            }
             found => return found,
         }
     }
 }
 
 // The same with so much memory.
-fn nearest_within<Ck: Checksum>(
+fn nearest_within<Ck: CorrectingChecksum>(
     memory: usize,
     s: &str,
     erasures: &[usize],
@@ -171,8 +249,7 @@ fn correction_to(near: &str, s: &str, erasures: &[usize]) -> Correction {
 
 // What is added to the element of one character to get that of another.
 fn added((old, new): (u8, u8)) -> Fe32 {
-    let [old, new] = [old, new].map(|c| Fe32::from_char_unchecked(c).to_u8());
-    Fe32::of_low_bits(u32::from(old ^ new))
+    Fe32::from_char_unchecked(new) - Fe32::from_char_unchecked(old)
 }
 
 #[cfg(test)]

@@ -1,5 +1,6 @@
 //! Texts read: their characters tested, their checksum, and the rules of segwit addresses.
 
+use crate::checksum::{residue_of, Code, HrpFe32Iter, BECH32, BECH32M};
 use crate::error::{
     CharError, CheckedHrpstringError, ChecksumError, CodeLengthError, InvalidResidueError,
     PaddingError, SegwitHrpstringError, UncheckedHrpstringError,
@@ -11,10 +12,8 @@ use crate::rules::{
     MAX_STRING_LENGTH, VERSION_0,
 };
 use crate::segwit::MAX_PROGRAM_LENGTH;
-use crate::text::ascii;
-use crate::{raw, Bech32, Bech32m, Checksum, Fe32, Hrp, Refusal};
-
-use crate::checksum::sealed::Numbered;
+use crate::text::{ascii, MAX_TEXT_LENGTH};
+use crate::{raw, Bech32, Checksum, Fe32, Hrp, Refusal};
 
 /// A text whose characters were tested, and its checksum not.
 ///
@@ -44,7 +43,7 @@ impl<'s> UncheckedHrpstring<'s> {
     /// The text's first fault: a character that may not stand there, letters of both cases, no
     /// separator, or what is wrong with the human-readable part.
     pub fn new(s: &'s str) -> Result<Self, UncheckedHrpstringError> {
-        if let Err((refusal, place)) = raw::fault(Bech32::NUMBER, s.as_bytes()) {
+        if let Err((refusal, place)) = raw::fault(BECH32.number, s.as_bytes()) {
             unread(s, refusal, place).map_or(Ok(()), Err)?;
         }
         // In a text of the grammar the last `1` is the separator.
@@ -79,23 +78,26 @@ impl<'s> UncheckedHrpstring<'s> {
         Some(version)
     }
 
-    /// Tests the checksum.
+    /// Tests the checksum. [`NoChecksum`](crate::NoChecksum) is always right.
     ///
     /// # Errors
     ///
     /// The first of: the text is too long; the data part is shorter than the checksum; the checksum is
     /// wrong.
     pub fn validate_checksum<Ck: Checksum>(&self) -> Result<(), ChecksumError> {
+        let Some(code) = Ck::CODE else {
+            return Ok(());
+        };
         let length = self.text.len();
         let is_whole = self.hrp.len() + 1 + self.data_part.len() == length;
         let checked = if is_whole || length > Ck::CODE_LENGTH {
-            raw::check(Ck::NUMBER, self.text.as_bytes())
+            raw::check(code.number, self.text.as_bytes())
         } else {
             let without_version = format!("{}1{}", self.hrp, ascii(self.data_part));
-            raw::check(Ck::NUMBER, without_version.as_bytes())
+            raw::check(code.number, without_version.as_bytes())
         };
         checked.map(|_| ()).map_err(|refusal| {
-            unchecksummed::<Ck>(length, &self.hrp, self.data_part, refusal)
+            unchecksummed(code, length, &self.hrp, self.data_part, refusal)
                 .expect("the text is in the grammar")
         })
     }
@@ -164,8 +166,11 @@ impl<'s> CheckedHrpstring<'s> {
     /// Those of [`UncheckedHrpstring::new`], and then those of
     /// [`validate_checksum`](UncheckedHrpstring::validate_checksum).
     pub fn new<Ck: Checksum>(s: &'s str) -> Result<Self, CheckedHrpstringError> {
+        let Some(code) = Ck::CODE else {
+            return Ok(UncheckedHrpstring::new(s)?.remove_checksum::<Ck>());
+        };
         let (hrp_length, data_length) =
-            raw::check(Ck::NUMBER, s.as_bytes()).map_err(|refusal| unchecked::<Ck>(s, refusal))?;
+            raw::check(code.number, s.as_bytes()).map_err(|refusal| unchecked(code, s, refusal))?;
         Ok(CheckedHrpstring {
             hrp: Hrp::read(&s.as_bytes()[..hrp_length]),
             ascii: &s.as_bytes()[hrp_length + 1..][..data_length],
@@ -378,7 +383,8 @@ fn unread(s: &str, refusal: Refusal, place: usize) -> Option<UncheckedHrpstringE
 
 // What is wrong with a text of this length with these parts that a checksum refuses so: None where the
 // text is not in the grammar.
-fn unchecksummed<Ck: Checksum>(
+fn unchecksummed(
+    code: Code,
     length: usize,
     hrp: &Hrp,
     data_part: &[u8],
@@ -387,25 +393,22 @@ fn unchecksummed<Ck: Checksum>(
     match refusal {
         Refusal::TextTooLong => Some(ChecksumError::CodeLength(CodeLengthError {
             encoded_length: length,
-            code_length: Ck::CODE_LENGTH,
+            code_length: MAX_TEXT_LENGTH,
         })),
         Refusal::NoChecksum => Some(ChecksumError::InvalidLength),
         Refusal::WrongChecksum => Some(ChecksumError::InvalidResidue(InvalidResidueError::new(
-            residue::<Ck>(hrp, data_part),
-            Ck::TARGET,
+            residue(code, hrp, data_part),
+            code.target,
         ))),
         _ => None,
     }
 }
 
-// The remainder of a text: the elements of its human-readable part are the high bits of each byte in
-// lower case, a zero, and the low bits of each (BIP-173, Checksum).
-fn residue<Ck: Checksum>(hrp: &Hrp, data_part: &[u8]) -> u32 {
-    let high = hrp.lowercase_byte_iter().map(|byte| byte >> 5);
-    let low = hrp.lowercase_byte_iter().map(|byte| byte & 31);
-    let data = AsciiToFe32Iter::new(data_part).map(Fe32::to_u8);
-    let elements: Vec<u8> = high.chain([0]).chain(low).chain(data).collect();
-    raw::residue(Ck::NUMBER, &elements).expect("these are elements")
+// The remainder of a text.
+fn residue(code: Code, hrp: &Hrp, data_part: &[u8]) -> u32 {
+    let elements = HrpFe32Iter::new(hrp).chain(AsciiToFe32Iter::new(data_part));
+    let elements: Vec<u8> = elements.map(Fe32::to_u8).collect();
+    residue_of(code, &elements)
 }
 
 // The parts of a text that has a separator, to say why its checksum is refused.
@@ -415,20 +418,20 @@ fn split(s: &str) -> Option<(Hrp, &[u8])> {
 }
 
 // Why a text that a checksum refuses so is not accepted.
-fn unchecked<Ck: Checksum>(s: &str, refusal: Refusal) -> CheckedHrpstringError {
-    let place = raw::fault(Ck::NUMBER, s.as_bytes()).map_or_else(|(_, place)| place, |()| 0);
+fn unchecked(code: Code, s: &str, refusal: Refusal) -> CheckedHrpstringError {
+    let place = raw::fault(code.number, s.as_bytes()).map_or_else(|(_, place)| place, |()| 0);
     if let Some(error) = unread(s, refusal, place) {
         return CheckedHrpstringError::Parse(error);
     }
     split(s)
-        .and_then(|(hrp, data_part)| unchecksummed::<Ck>(s.len(), &hrp, data_part, refusal))
+        .and_then(|(hrp, data_part)| unchecksummed(code, s.len(), &hrp, data_part, refusal))
         .map(CheckedHrpstringError::Checksum)
         .expect("a refusal of a text")
 }
 
 /// Why a text that [`crate::decode()`] refuses so is not accepted.
 pub(crate) fn undecoded(s: &str, refusal: Refusal) -> CheckedHrpstringError {
-    unchecked::<Bech32m>(s, refusal)
+    unchecked(BECH32M, s, refusal)
 }
 
 /// Why a text that is refused so is no segwit address.
@@ -453,12 +456,7 @@ fn no_checked_address(s: &str, refusal: Refusal) -> SegwitHrpstringError {
         return no_version(data_part);
     }
     let is_v0 = refusal == Refusal::WrongChecksum && version_in(data_part) == Some(VERSION_0);
-    let error = if is_v0 {
-        unchecked::<Bech32>(s, refusal)
-    } else {
-        unchecked::<Bech32m>(s, refusal)
-    };
-    match error {
+    match unchecked(if is_v0 { BECH32 } else { BECH32M }, s, refusal) {
         CheckedHrpstringError::Parse(e) => SegwitHrpstringError::Unchecked(e),
         CheckedHrpstringError::Checksum(e) => SegwitHrpstringError::Checksum(e),
     }

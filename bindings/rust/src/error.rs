@@ -1,9 +1,9 @@
 //! Why texts are refused, with the character or the length at fault.
 
-use crate::checksum::sealed::Numbered;
+use crate::checksum::BECH32;
 use crate::part;
 use crate::rules::{WitnessLengthError, MAX_STRING_LENGTH};
-use crate::{Bech32, Fe32};
+use crate::Fe32;
 use std::error::Error;
 use std::fmt;
 
@@ -120,7 +120,7 @@ impl InvalidResidueError {
     /// Whether the remainder is the target of Bech32, whatever checksum refused the text: a text that
     /// Bech32m refuses for its remainder is then one that Bech32 accepts.
     pub fn matches_bech32_checksum(&self) -> bool {
-        self.actual == Bech32::TARGET
+        self.actual == BECH32.target
     }
 }
 

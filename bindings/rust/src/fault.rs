@@ -1,5 +1,6 @@
 //! Where the fault of a text stands.
 
+use crate::checksum::BECH32;
 use crate::{raw, Checksum, Refusal};
 use std::error::Error;
 use std::fmt;
@@ -9,6 +10,8 @@ use std::fmt;
 pub struct Fault {
     refusal: Refusal,
     place: usize,
+    // How many characters stand before the one at fault, and that one.
+    character: Option<(usize, char)>,
 }
 
 impl Fault {
@@ -23,30 +26,60 @@ impl Fault {
     pub fn place(&self) -> usize {
         self.place
     }
+
+    /// The character at fault, where one is, with its place in the text: how many characters stand
+    /// before it. People count from 1, as this fault's words do.
+    pub fn character(&self) -> Option<(usize, char)> {
+        self.character
+    }
 }
 
 impl fmt::Display for Fault {
     fn fmt(&self, f: &mut fmt::Formatter<'_>) -> fmt::Result {
-        write!(f, "{}, at byte {}", self.refusal, self.place)
+        write!(f, "{}", self.refusal)?;
+        match self.character {
+            // What would not show, or may be taken for another, has its code point.
+            Some((place, c)) if c.is_ascii_graphic() => write!(f, ": character {}, {c}", place + 1),
+            Some((place, c)) => write!(f, ": character {}, U+{:04X}", place + 1, u32::from(c)),
+            None => Ok(()),
+        }
     }
 }
 
 impl Error for Fault {}
 
 /// Why a checksum does not accept a text, and where the text is at fault: None where it is accepted.
-/// Faults of the characters and of the human-readable part are the same by either checksum.
+/// Faults of the characters and of the human-readable part are the same by each checksum.
 ///
 /// ```
 /// use bech32_proved::{fault, Bech32, Refusal};
 ///
 /// let fault = fault::<Bech32>("bc1qar0srrr7xfkvy5l643lydnw9rebgtzzwf5mdq").unwrap();
-/// assert_eq!((fault.refusal(), fault.place()), (Refusal::InvalidCharacter, 30));
+/// assert_eq!(fault.refusal(), Refusal::InvalidCharacter);
+/// assert_eq!((fault.place(), fault.character()), (30, Some((30, 'b'))));
 /// assert_eq!(
 ///     fault.to_string(),
-///     "a character behind the separator may not stand there, at byte 30"
+///     "a character behind the separator may not stand there: character 31, b"
 /// );
 /// ```
 pub fn fault<Ck: Checksum>(s: &str) -> Option<Fault> {
-    let (refusal, place) = raw::fault(Ck::NUMBER, s.as_bytes()).err()?;
-    Some(Fault { refusal, place })
+    let number = Ck::CODE.unwrap_or(BECH32).number;
+    let (refusal, place) = raw::fault(number, s.as_bytes()).err()?;
+    let (of_checksum, of_character) = match refusal {
+        Refusal::TextTooLong | Refusal::NoChecksum | Refusal::WrongChecksum => (true, false),
+        Refusal::HrpNotAscii
+        | Refusal::HrpInvalid
+        | Refusal::InvalidCharacter
+        | Refusal::MixedCase => (false, true),
+        _ => (false, false),
+    };
+    if of_checksum && Ck::CODE.is_none() {
+        return None;
+    }
+    let character = || Some((s[..place].chars().count(), s[place..].chars().next()?));
+    Some(Fault {
+        refusal,
+        place,
+        character: of_character.then(character).flatten(),
+    })
 }

@@ -1,8 +1,10 @@
 //! Elements of five bits, which the characters of a data part stand for.
 
+use std::borrow::Borrow;
 use std::error::Error;
 use std::fmt;
 use std::num::TryFromIntError;
+use std::ops::{Add, AddAssign, Sub, SubAssign};
 
 // The characters of the elements from 0 to 31 (BIP-173).
 const CHARACTERS: &[u8; 32] = b"qpzry9x8gf2tvdw0s3jn54khce6mua7l";
@@ -21,7 +23,17 @@ const VALUES: [u8; 128] = {
 };
 
 /// An element, from 0 to 31: the value of a character of a data part, or a witness version.
-#[derive(Clone, Copy, Debug, PartialEq, Eq, PartialOrd, Ord, Hash)]
+///
+/// Elements have a sum, which is their difference too: the exclusive or of their five bits. It is what
+/// a correction adds to the element of a character.
+///
+/// ```
+/// use bech32_proved::Fe32;
+///
+/// assert_eq!(Fe32::L + Fe32::X, Fe32::E);
+/// assert_eq!(Fe32::E - Fe32::X, Fe32::L);
+/// ```
+#[derive(Clone, Copy, Debug, Default, PartialEq, Eq, PartialOrd, Ord, Hash)]
 pub struct Fe32(u8);
 
 macro_rules! elements {
@@ -92,6 +104,11 @@ impl Fe32 {
         char::from(CHARACTERS[usize::from(self.0)])
     }
 
+    // The sum, and the difference.
+    fn summed(&self, other: &Fe32) -> Fe32 {
+        Fe32(self.0 ^ other.0)
+    }
+
     // The element of the five low bits of a number.
     pub(crate) fn of_low_bits(number: u32) -> Fe32 {
         Fe32((number & 31) as u8)
@@ -121,6 +138,44 @@ macro_rules! from_numbers {
 }
 
 from_numbers! { u8 u16 u32 u64 u128 i8 i16 i32 i64 i128 }
+
+macro_rules! sums {
+    ($($operator:ident::$method:ident, $assigned:ident::$method_assigned:ident;)*) => {
+        $(
+            sums! { $operator::$method, Fe32, Fe32 }
+            sums! { $operator::$method, Fe32, &Fe32 }
+            sums! { $operator::$method, &Fe32, Fe32 }
+            sums! { $operator::$method, &Fe32, &Fe32 }
+
+            impl $assigned for Fe32 {
+                fn $method_assigned(&mut self, other: Fe32) {
+                    *self = self.summed(&other);
+                }
+            }
+
+            impl $assigned<&Fe32> for Fe32 {
+                fn $method_assigned(&mut self, other: &Fe32) {
+                    *self = self.summed(other);
+                }
+            }
+        )*
+    };
+    ($operator:ident::$method:ident, $one:ty, $other:ty) => {
+        impl $operator<$other> for $one {
+            type Output = Fe32;
+
+            fn $method(self, other: $other) -> Fe32 {
+                let (one, other): (&Fe32, &Fe32) = (self.borrow(), other.borrow());
+                one.summed(other)
+            }
+        }
+    };
+}
+
+sums! {
+    Add::add, AddAssign::add_assign;
+    Sub::sub, SubAssign::sub_assign;
+}
 
 impl From<Fe32> for u8 {
     fn from(element: Fe32) -> u8 {

@@ -1,6 +1,8 @@
-//! Bytes as elements of five bits, and back, one at a time.
+//! Bytes as elements of five bits, and back, and elements with a checksum, one at a time.
 
-use crate::Fe32;
+use crate::checksum::{Checksum, Engine, PackedFe32};
+use crate::encode::{together, Encoder};
+use crate::{Fe32, Hrp};
 use std::iter::{Copied, Fuse, FusedIterator};
 use std::slice;
 
@@ -50,6 +52,22 @@ pub trait Fe32IterExt: Sized + Iterator<Item = Fe32> {
             fills: true,
             ..self.fes_to_bytes()
         }
+    }
+
+    /// The text of the elements under a human-readable part, with a checksum: its characters, or its
+    /// elements.
+    ///
+    /// ```
+    /// use bech32_proved::{Bech32m, ByteIterExt, Fe32IterExt, Hrp};
+    ///
+    /// let hrp = Hrp::parse("abc")?;
+    /// let elements = [0xab; 20].into_iter().bytes_to_fes();
+    /// let text: String = elements.with_checksum::<Bech32m>(&hrp).chars().collect();
+    /// assert_eq!(text, "abc14w46h2at4w46h2at4w46h2at4w46h2at958ngu");
+    /// # Ok::<(), Box<dyn std::error::Error>>(())
+    /// ```
+    fn with_checksum<Ck: Checksum>(self, hrp: &Hrp) -> Encoder<'_, Self, Ck> {
+        Encoder::new(self, hrp)
     }
 }
 
@@ -143,6 +161,56 @@ impl<I: Iterator<Item = Fe32>> Iterator for FesToBytes<I> {
 impl<I: ExactSizeIterator<Item = Fe32>> ExactSizeIterator for FesToBytes<I> {}
 
 impl<I: Iterator<Item = Fe32>> FusedIterator for FesToBytes<I> {}
+
+/// Elements, and then those of their checksum.
+#[derive(Clone, Debug)]
+pub struct Checksummed<I: Iterator<Item = Fe32>, Ck: Checksum> {
+    elements: Fuse<I>,
+    engine: Engine<Ck>,
+    // How many elements of the checksum were not given.
+    left: usize,
+}
+
+impl<I: Iterator<Item = Fe32>, Ck: Checksum> Checksummed<I, Ck> {
+    /// The checksum over these elements alone.
+    pub fn new(data: I) -> Checksummed<I, Ck> {
+        Checksummed {
+            elements: data.fuse(),
+            engine: Engine::new(),
+            left: Ck::CHECKSUM_LENGTH,
+        }
+    }
+
+    /// The checksum over the elements of a human-readable part, which are not given, and these.
+    pub fn new_hrp(hrp: Hrp, data: I) -> Checksummed<I, Ck> {
+        let mut checksummed = Checksummed::new(data);
+        checksummed.engine.input_hrp(hrp);
+        checksummed
+    }
+}
+
+impl<I: Iterator<Item = Fe32>, Ck: Checksum> Iterator for Checksummed<I, Ck> {
+    type Item = Fe32;
+
+    fn next(&mut self) -> Option<Fe32> {
+        if let Some(element) = self.elements.next() {
+            self.engine.input_fe(element);
+            return Some(element);
+        }
+        if self.left == Ck::CHECKSUM_LENGTH {
+            self.engine.input_target_residue();
+        }
+        self.left = self.left.checked_sub(1)?;
+        let element = self.engine.residue().unpack(self.left);
+        Some(Fe32::of_low_bits(element.into()))
+    }
+
+    fn size_hint(&self) -> (usize, Option<usize>) {
+        together(self.elements.size_hint(), (self.left, Some(self.left)))
+    }
+}
+
+impl<I: Iterator<Item = Fe32>, Ck: Checksum> FusedIterator for Checksummed<I, Ck> {}
 
 /// The elements of characters of the alphabet.
 #[derive(Clone, Debug)]

@@ -2,10 +2,11 @@
 //! static library `bech32_c`, each function of which is proved to do what its contract says of
 //! every input.
 //!
-//! The names are those of the Rust crate bech32 0.12.0, so that a program that calls these
-//! functions needs another `use` and little else: the README says what is not there. Beside that
-//! crate's errors, each of which holds the character or the length at fault, [`Refusal`] has the number
-//! of any of them in `include/bech32.h`, and [`fault()`] says where in a text the fault stands.
+//! The names are those of the Rust crate bech32 0.12.0: a program that was written for it runs over this
+//! one under that crate's name, by `bech32 = { package = "bech32_proved", .. }` in its manifest. The
+//! README says what is not there. Beside that crate's errors, each of which holds the character or the
+//! length at fault, [`Refusal`] has the number of any of them in `include/bech32.h`, and [`fault()`] says
+//! for people what is wrong where in a text.
 //!
 //! What is proved is the library. This crate turns slices into the pointers and lengths that the
 //! library takes, in its one module with `unsafe` code, and what comes back into values; it is
@@ -64,6 +65,7 @@ mod checksum;
 mod correction;
 mod declared;
 mod decode;
+mod encode;
 mod error;
 mod fault;
 mod fe32;
@@ -76,18 +78,20 @@ mod rules;
 pub mod segwit;
 mod text;
 
-pub use checksum::{Bech32, Bech32m, Checksum};
 #[cfg(feature = "correct")]
-pub use correction::{correct, nearest, Correction};
+pub use checksum::CorrectingChecksum;
+pub use checksum::{Bech32, Bech32m, Checksum, NoChecksum};
+#[cfg(feature = "correct")]
+pub use correction::{correct, nearest, Change, Correction};
 pub use fault::{fault, Fault};
 pub use fe32::Fe32;
 pub use iter::{ByteIterExt, Fe32IterExt};
 pub use part::Hrp;
 pub use refusal::Refusal;
 pub use text::{
-    decode, encode, encode_lower, encode_lower_to_fmt, encode_lower_to_writer, encode_to_fmt,
-    encode_to_writer, encode_upper, encode_upper_to_fmt, encode_upper_to_writer, encoded_length,
-    DecodeError, EncodeError, EncodeIoError,
+    decode, decode_with_checksum, encode, encode_lower, encode_lower_to_fmt,
+    encode_lower_to_writer, encode_to_fmt, encode_to_writer, encode_upper, encode_upper_to_fmt,
+    encode_upper_to_writer, encoded_length, DecodeError, EncodeError, EncodeIoError, Variant,
 };
 
 /// Human-readable parts, and those of the Bitcoin networks.
@@ -97,17 +101,19 @@ pub mod hrp {
 
 /// The parts of which the calls at the root are made, under the paths of the Rust crate.
 pub mod primitives {
-    pub use crate::checksum::{Bech32, Bech32m};
+    pub use crate::checksum::{Bech32, Bech32m, NoChecksum};
 
     /// Checksums.
     pub mod checksum {
-        pub use crate::checksum::Checksum;
+        #[cfg(feature = "correct")]
+        pub use crate::checksum::CorrectingChecksum;
+        pub use crate::checksum::{Checksum, Engine, HrpFe32Iter, PackedFe32, PackedNull};
     }
 
     /// Mistyped texts mended.
     #[cfg(feature = "correct")]
     pub mod correction {
-        pub use crate::correction::{correct, nearest, Correction};
+        pub use crate::correction::{correct, nearest, Change, Correction};
     }
 
     /// Texts read, and why they are refused.
@@ -118,6 +124,11 @@ pub mod primitives {
             PaddingError, SegwitCodeLengthError, SegwitHrpstringError, UncheckedHrpstringError,
         };
         pub use crate::iter::{AsciiToFe32Iter, ByteIter};
+    }
+
+    /// Texts written one element at a time.
+    pub mod encode {
+        pub use crate::encode::{ByteIter, CharIter, Encoder, Fe32Iter, WitnessVersionIter};
     }
 
     /// Elements of five bits.
@@ -132,9 +143,9 @@ pub mod primitives {
         };
     }
 
-    /// Bytes as elements, and back.
+    /// Bytes as elements, and back, and elements with a checksum.
     pub mod iter {
-        pub use crate::iter::{ByteIterExt, BytesToFes, Fe32IterExt, FesToBytes};
+        pub use crate::iter::{ByteIterExt, BytesToFes, Checksummed, Fe32IterExt, FesToBytes};
     }
 
     /// The rules of segwit addresses.

@@ -1,8 +1,8 @@
 //! Human-readable parts.
 
-use crate::checksum::sealed::Numbered;
+use crate::checksum::BECH32;
 use crate::text::ascii;
-use crate::{raw, Bech32, Refusal};
+use crate::{raw, Refusal};
 use std::cmp::Ordering;
 use std::fmt;
 use std::hash::{Hash, Hasher};
@@ -76,7 +76,7 @@ impl Hrp {
     pub fn parse(hrp: &str) -> Result<Hrp, Error> {
         // The library reads the part before it writes the text of no bytes, which has room.
         let mut text = [0; MAX_HRP_LENGTH + WITHOUT_DATA];
-        match raw::encode(Bech32::NUMBER, hrp.as_bytes(), &[], &mut text) {
+        match raw::encode(BECH32.number, hrp.as_bytes(), &[], &mut text) {
             Ok(_) => Ok(Hrp::read(hrp.as_bytes())),
             Err(refusal) => Err(Error::of(hrp, refusal).expect("a refusal of a part")),
         }
@@ -257,7 +257,7 @@ impl Error {
 // with the part. There letters of both cases would be told first.
 fn at_fault(hrp: &str) -> Option<char> {
     let text = hrp.to_ascii_lowercase() + "1qqqqqq";
-    let (_, place) = raw::fault(Bech32::NUMBER, text.as_bytes()).err()?;
+    let (_, place) = raw::fault(BECH32.number, text.as_bytes()).err()?;
     hrp[place..].chars().next()
 }
 

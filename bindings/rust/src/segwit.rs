@@ -24,7 +24,7 @@ use crate::rules::{
     WitnessLengthError, MAX_STRING_LENGTH,
 };
 use crate::text::length_of;
-use crate::{raw, Fe32, Hrp, Refusal};
+use crate::{raw, Bech32, Fe32, Hrp, Refusal};
 use std::error::Error;
 use std::{fmt, io};
 
@@ -196,7 +196,7 @@ pub fn encoded_length(
     _witness_version: Fe32,
     witness_program: &[u8],
 ) -> Result<usize, SegwitCodeLengthError> {
-    let length = length_of(&hrp, witness_program) + 1;
+    let length = length_of::<Bech32>(&hrp, witness_program) + 1;
     match length {
         0..=MAX_STRING_LENGTH => Ok(length),
         _ => Err(SegwitCodeLengthError(length)),

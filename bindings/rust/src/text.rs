@@ -1,9 +1,11 @@
 //! Texts of any human-readable part.
 
+use crate::checksum::BECH32M;
 use crate::decode::undecoded;
 use crate::error::{
     causes, CheckedHrpstringError, ChecksumError, CodeLengthError, UncheckedHrpstringError,
 };
+use crate::iter::{ByteIterExt, Fe32IterExt};
 use crate::part::MAX_HRP_LENGTH;
 use crate::{raw, Checksum, Hrp};
 use std::error::Error;
@@ -15,19 +17,17 @@ pub(crate) const MAX_TEXT_LENGTH: usize = 1023;
 // The bytes that a text has at most.
 const MAX_BYTES: usize = 634;
 
-// The characters of a separator and a checksum.
-const WITHOUT_DATA: usize = 7;
-
 /// The text of characters that the library wrote, or read in a text: ASCII.
 pub(crate) fn ascii(bytes: &[u8]) -> &str {
     std::str::from_utf8(bytes).expect("the library's characters are ASCII")
 }
 
-/// The characters of a text: five bits of the bytes each, rounded up, behind the human-readable part.
-pub(crate) fn length_of(hrp: &Hrp, data: &[u8]) -> usize {
+/// The characters of a text: five bits of the bytes each, rounded up, behind the human-readable part and
+/// the separator, and those of the checksum.
+pub(crate) fn length_of<Ck: Checksum>(hrp: &Hrp, data: &[u8]) -> usize {
     let (groups, others) = (data.len() / 5, data.len() % 5);
     let elements = groups.saturating_mul(8) + (8 * others).div_ceil(5);
-    elements.saturating_add(hrp.len() + WITHOUT_DATA)
+    elements.saturating_add(hrp.len() + 1 + Ck::CHECKSUM_LENGTH)
 }
 
 /// The number of characters of the text of a human-readable part and bytes.
@@ -36,7 +36,7 @@ pub(crate) fn length_of(hrp: &Hrp, data: &[u8]) -> usize {
 ///
 /// That number, where it is more than the checksum allows.
 pub fn encoded_length<Ck: Checksum>(hrp: Hrp, data: &[u8]) -> Result<usize, CodeLengthError> {
-    let (encoded_length, code_length) = (length_of(&hrp, data), Ck::CODE_LENGTH);
+    let (encoded_length, code_length) = (length_of::<Ck>(&hrp, data), Ck::CODE_LENGTH);
     if encoded_length > code_length {
         return Err(CodeLengthError {
             encoded_length,
@@ -57,8 +57,8 @@ pub fn encoded_length<Ck: Checksum>(hrp: Hrp, data: &[u8]) -> Result<usize, Code
 ///
 /// # Errors
 ///
-/// [`EncodeError::TooLong`] where the text would have more than 1023 characters. Of a part that
-/// [`Hrp::parse`] would refuse, [`EncodeError::Fmt`].
+/// [`EncodeError::TooLong`] where the text would have more than 1023 characters, if it has a checksum.
+/// Of a part that [`Hrp::parse`] would refuse, [`EncodeError::Fmt`].
 pub fn encode<Ck: Checksum>(hrp: Hrp, data: &[u8]) -> Result<String, EncodeError> {
     encode_lower::<Ck>(hrp, data)
 }
@@ -70,11 +70,21 @@ pub fn encode<Ck: Checksum>(hrp: Hrp, data: &[u8]) -> Result<String, EncodeError
 /// Those of [`encode`].
 pub fn encode_lower<Ck: Checksum>(hrp: Hrp, data: &[u8]) -> Result<String, EncodeError> {
     encoded_length::<Ck>(hrp, data)?;
+    let Some(code) = Ck::CODE else {
+        return without_checksum::<Ck>(hrp, data);
+    };
     let mut text = [0; MAX_TEXT_LENGTH];
-    match raw::encode(Ck::NUMBER, hrp.as_bytes(), data, &mut text) {
+    match raw::encode(code.number, hrp.as_bytes(), data, &mut text) {
         Ok(length) => Ok(ascii(&text[..length]).to_owned()),
         Err(_) => Err(EncodeError::Fmt(fmt::Error)),
     }
+}
+
+// The library has no call for these texts: it tests the human-readable part alone.
+fn without_checksum<Ck: Checksum>(hrp: Hrp, data: &[u8]) -> Result<String, EncodeError> {
+    Hrp::parse(hrp.as_str()).map_err(|_| EncodeError::Fmt(fmt::Error))?;
+    let elements = data.iter().copied().bytes_to_fes();
+    Ok(elements.with_checksum::<Ck>(&hrp).chars().collect())
 }
 
 /// Encodes bytes in upper case.
@@ -202,6 +212,48 @@ pub fn decode(s: &str) -> Result<(Hrp, Vec<u8>), DecodeError> {
         Hrp::read(&hrp[..hrp_length]),
         bytes[..bytes_length].to_vec(),
     ))
+}
+
+/// The same as [`decode`], and which checksum accepts the text.
+///
+/// ```
+/// use bech32_proved::{decode_with_checksum, Variant};
+///
+/// let (_, _, variant) = decode_with_checksum("A1LQFN3A")?;
+/// assert_eq!(variant, Variant::Bech32m);
+/// assert_eq!(variant.to_string(), "Bech32m");
+/// assert_eq!(decode_with_checksum("A12UEL5L")?.2, Variant::Bech32);
+/// # Ok::<(), bech32_proved::DecodeError>(())
+/// ```
+///
+/// # Errors
+///
+/// Those of [`decode`].
+pub fn decode_with_checksum(s: &str) -> Result<(Hrp, Vec<u8>, Variant), DecodeError> {
+    let (hrp, bytes) = decode(s)?;
+    let variant = match raw::check(BECH32M.number, s.as_bytes()) {
+        Ok(_) => Variant::Bech32m,
+        Err(_) => Variant::Bech32,
+    };
+    Ok((hrp, bytes, variant))
+}
+
+/// Which checksum accepts a text.
+#[derive(Clone, Copy, Debug, PartialEq, Eq, PartialOrd, Ord, Hash)]
+pub enum Variant {
+    /// That of BIP-173.
+    Bech32,
+    /// That of BIP-350.
+    Bech32m,
+}
+
+impl fmt::Display for Variant {
+    fn fmt(&self, f: &mut fmt::Formatter<'_>) -> fmt::Result {
+        f.pad(match self {
+            Variant::Bech32 => "Bech32",
+            Variant::Bech32m => "Bech32m",
+        })
+    }
 }
 
 /// Why a text is not decoded.

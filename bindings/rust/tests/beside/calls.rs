@@ -134,6 +134,8 @@ fn shown(value: impl fmt::Debug) -> Vec<u8> {
 mod ours {
     use super::shown;
     use bech32_proved::primitives::decode::CheckedHrpstring;
+    #[cfg(feature = "correct")]
+    use bech32_proved::CorrectingChecksum;
     use bech32_proved::{segwit, Checksum, Fe32, Hrp, Refusal};
 
     type Reply = Result<Vec<Vec<u8>>, Refusal>;
@@ -158,7 +160,9 @@ mod ours {
 
     pub fn decode(text: &str) -> Reply {
         let (hrp, bytes) = bech32_proved::decode(text)?;
-        Ok(vec![hrp.as_bytes().to_vec(), bytes])
+        let (_, _, variant) = bech32_proved::decode_with_checksum(text)?;
+        let variant = variant.to_string().into_bytes();
+        Ok(vec![hrp.as_bytes().to_vec(), bytes, variant])
     }
 
     pub fn check<Ck: Checksum>(text: &str) -> Reply {
@@ -186,12 +190,15 @@ mod ours {
     }
 
     #[cfg(feature = "correct")]
-    pub fn correct<Ck: Checksum>(text: &str, erasures: &[usize]) -> Reply {
+    pub fn correct<Ck: CorrectingChecksum>(text: &str, erasures: &[usize]) -> Reply {
         let correction = bech32_proved::correct::<Ck>(text, erasures)?;
         let listing = correction.bch_errors().map(|(l, v)| (l, v.to_u8()));
+        let changes = correction.changes();
+        let changes = changes.iter().map(|it| (it.place, it.from, it.to));
         Ok(vec![
             shown(listing.collect::<Vec<_>>()),
             correction.as_str().as_bytes().to_vec(),
+            shown(changes.collect::<Vec<_>>()),
         ])
     }
 }
@@ -227,7 +234,10 @@ pub mod theirs {
 
     pub fn decode(text: &str) -> Reply {
         let (hrp, bytes) = bech32::decode(text).map_err(|e| numbers::decode(&e))?;
-        Ok(vec![hrp.as_bytes().to_vec(), bytes])
+        let is_bech32 = CheckedHrpstring::new::<bech32::Bech32>(text).is_ok();
+        let variant = if is_bech32 { "Bech32" } else { "Bech32m" };
+        let variant = variant.to_owned().into_bytes();
+        Ok(vec![hrp.as_bytes().to_vec(), bytes, variant])
     }
 
     pub fn check<Ck: Checksum>(text: &str) -> Reply {

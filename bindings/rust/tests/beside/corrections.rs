@@ -19,7 +19,7 @@ const BOUND: usize = 3;
 /// `correct` looks in the data part, and takes an erasure once.
 pub fn expected<Ck: Checksum>(text: &str, erasures: &[usize]) -> Expected {
     let error = match CheckedHrpstring::new::<Ck>(text) {
-        Ok(_) => return reply(&[], text.to_lowercase()).into(),
+        Ok(_) => return reply(text, &[], text.to_lowercase()).into(),
         Err(error) => error,
     };
     if error.residue_error().is_none() {
@@ -41,7 +41,7 @@ pub fn expected<Ck: Checksum>(text: &str, erasures: &[usize]) -> Expected {
             Err(NONE).into()
         }
         Some(Some(listing)) => match mended::<Ck>(text, &erasures, &listing) {
-            Some(mended) => reply(&listing, mended).into(),
+            Some(mended) => reply(text, &listing, mended).into(),
             None => no_pattern(),
         },
         None => no_pattern(),
@@ -65,11 +65,21 @@ fn no_pattern() -> Expected {
     }
 }
 
-fn reply(listing: &[(usize, Fe32)], mended: String) -> Result<Vec<Vec<u8>>, u32> {
+// A listing, the mended text, and the places of the listing from the front with the characters that
+// stand there before and after.
+fn reply(text: &str, listing: &[(usize, Fe32)], mended: String) -> Result<Vec<Vec<u8>>, u32> {
     let listing: Vec<(usize, u8)> = listing.iter().map(|(l, v)| (*l, v.to_u8())).collect();
+    let lower = text.to_lowercase();
+    let pairs = lower.chars().zip(mended.chars()).enumerate();
+    let changes = pairs.filter(|(place, _)| {
+        let location = text.len() - 1 - place;
+        listing.iter().any(|(listed, _)| *listed == location)
+    });
+    let changes: Vec<(usize, char, char)> = changes.map(|(at, (a, b))| (at, a, b)).collect();
     Ok(vec![
         format!("{listing:?}").into_bytes(),
         mended.into_bytes(),
+        format!("{changes:?}").into_bytes(),
     ])
 }
 

@@ -130,3 +130,8 @@ fn both_crates_agree() {
         );
     }
 }
+
+#[test]
+fn elements_have_the_same_sums() {
+    assert_eq!(readers::ours::sums(), readers::theirs::sums());
+}

@@ -12,11 +12,14 @@ macro_rules! lines_over {
             }
 
             use address::Address;
+            use bech32::primitives::checksum::{Engine, HrpFe32Iter, PackedFe32};
             use bech32::primitives::decode::{
                 CheckedHrpstring, SegwitHrpstring, UncheckedHrpstring,
             };
             use bech32::primitives::gf32::Fe32;
+            use bech32::primitives::iter::Checksummed;
             use bech32::{segwit, Bech32, Bech32m, ByteIterExt, Checksum, Fe32IterExt, Hrp};
+            use bech32::NoChecksum;
             use std::error::Error;
             use std::fmt::Write;
 
@@ -66,6 +69,7 @@ macro_rules! lines_over {
             pub fn said(text: &str) -> String {
                 let mut said = by_checksum::<Bech32>(text);
                 said.push_str(&by_checksum::<Bech32m>(text));
+                said.push_str(&by_checksum::<NoChecksum>(text));
                 said.push_str(&of_result(bech32::decode(text), |(hrp, _)| hrp.to_string()));
                 said.push_str(&of_result(segwit::decode(text), |(hrp, ..)| hrp.to_string()));
                 said.push_str(&of_result(SegwitHrpstring::new(text), address));
@@ -95,6 +99,62 @@ macro_rules! lines_over {
                 said
             }
 
+            // The text of elements, given one at a time, and what the engine holds behind them.
+            fn streamed<Ck: Checksum>(part: Hrp, bytes: &[u8]) -> String {
+                let elements = || bytes.iter().copied().bytes_to_fes();
+                let version = Fe32::try_from(bytes.len() as u8 % 32).unwrap();
+                let plain = elements().with_checksum::<Ck>(&part);
+                let encoder = || {
+                    let encoder = elements().with_checksum::<Ck>(&part);
+                    encoder.with_witness_version(version)
+                };
+                let hints = [
+                    plain.chars().size_hint(),
+                    encoder().bytes().size_hint(),
+                    encoder().fes().size_hint(),
+                    HrpFe32Iter::new(&part).size_hint(),
+                ];
+                let characters: String = encoder().chars().collect();
+                let same: Vec<u8> = encoder().bytes().collect();
+                let fes: Vec<u8> = encoder().fes().map(Fe32::to_u8).collect();
+                let alone: Vec<u8> = Checksummed::<_, Ck>::new(elements())
+                    .map(Fe32::to_u8)
+                    .collect();
+                let under: String = Checksummed::<_, Ck>::new_hrp(part, elements())
+                    .map(Fe32::to_char)
+                    .collect();
+                let mut engine = Engine::<Ck>::new();
+                engine.input_hrp(part);
+                elements().for_each(|element| engine.input_fe(element));
+                engine.input_target_residue();
+                let held = (0..Ck::CHECKSUM_LENGTH).map(|n| engine.residue().unpack(n));
+                let held: Vec<u8> = held.collect();
+                let is_target = *engine.residue() == Ck::TARGET_RESIDUE;
+                let written = bech32::encode::<Ck>(part, bytes).unwrap();
+                let length = bech32::encoded_length::<Ck>(part, bytes).unwrap();
+                format!(
+                    "{hints:?} {characters} {same:?} {fes:?} {alone:?} {under} {held:?} {is_target} \
+                     {written} {length}"
+                )
+            }
+
+            /// The sum and the difference of each two elements, in the forms that operators have.
+            pub fn sums() -> Vec<[u8; 10]> {
+                let elements = || (0..32).map(|value: u8| Fe32::try_from(value).unwrap());
+                let pairs = elements().flat_map(|a| elements().map(move |b| (a, b)));
+                let sums = pairs.map(|(a, b)| {
+                    let (mut sum, mut difference) = ([a, a], [a, a]);
+                    sum[0] += b;
+                    sum[1] += &b;
+                    difference[0] -= b;
+                    difference[1] -= &b;
+                    let plain = [a + b, a + &b, &a + b, &a + &b, a - b, &a - &b];
+                    let mut all = plain.iter().chain(&sum).chain(&difference);
+                    [(); 10].map(|()| all.next().unwrap().to_u8())
+                });
+                sums.collect()
+            }
+
             /// What is said of a human-readable part, and of the text of bytes under it.
             pub fn said_of_part(hrp: &str, bytes: &[u8]) -> String {
                 let said = regrouped(bytes);
@@ -112,8 +172,15 @@ macro_rules! lines_over {
                     );
                     let length = bech32::encoded_length::<Bech32>(part, bytes);
                     let length = of_result(length, |n| format!("{n} {}", part.len()));
+                    let few = &bytes[..bytes.len().min(60)];
+                    let by_each = [
+                        streamed::<Bech32>(part, few),
+                        streamed::<Bech32m>(part, few),
+                        streamed::<NoChecksum>(part, bytes),
+                    ];
                     format!(
-                        "{said} {characters} {lower} {written} {outcome} {plain:?} {outcome_2} {length}"
+                        "{said} {characters} {lower} {written} {outcome} {plain:?} {outcome_2} {length} \
+                         {by_each:?}"
                     )
                 })
             }

@@ -2,14 +2,16 @@
 
 mod rows;
 
+use bech32_proved::primitives::checksum::Engine;
 use bech32_proved::primitives::decode::{
     CharError, CheckedHrpstring, CheckedHrpstringError, ChecksumError, SegwitHrpstring,
     SegwitHrpstringError, UncheckedHrpstring, UncheckedHrpstringError,
 };
 use bech32_proved::primitives::hrp::Error as HrpError;
 use bech32_proved::{
-    decode, encode, encode_upper, encoded_length, fault, hrp, segwit, Bech32, Bech32m, Checksum,
-    EncodeError, Fe32, Hrp, Refusal,
+    decode, decode_with_checksum, encode, encode_upper, encoded_length, fault, hrp, segwit, Bech32,
+    Bech32m, ByteIterExt, Checksum, EncodeError, Fe32, Fe32IterExt, Hrp, NoChecksum, Refusal,
+    Variant,
 };
 use std::collections::hash_map::DefaultHasher;
 use std::hash::{Hash, Hasher};
@@ -34,7 +36,7 @@ fn bytes(digits: &str) -> Vec<u8> {
 }
 
 // That one checksum accepts a text, and gives its parts, and that the other refuses it.
-fn accepted<Ck: Checksum, Other: Checksum>(text: &str) {
+fn accepted<Ck: Checksum, Other: Checksum>(text: &str, variant: Variant) {
     let checked = CheckedHrpstring::new::<Ck>(text).unwrap();
     let (before, behind) = text.rsplit_once('1').unwrap();
     assert_eq!(checked.hrp().as_str(), before);
@@ -42,7 +44,8 @@ fn accepted<Ck: Checksum, Other: Checksum>(text: &str) {
     assert_eq!(data_part, &behind.as_bytes()[..behind.len() - 6]);
     let (hrp, found) = decode(text).unwrap();
     assert_eq!(hrp.as_str(), before);
-    assert!(checked.byte_iter().eq(found));
+    assert!(checked.byte_iter().eq(found.iter().copied()));
+    assert_eq!(decode_with_checksum(text), Ok((hrp, found, variant)));
     let other = CheckedHrpstring::new::<Other>(text).unwrap_err();
     assert_eq!(Refusal::from(other), Refusal::WrongChecksum, "{text}");
 }
@@ -51,10 +54,10 @@ fn accepted<Ck: Checksum, Other: Checksum>(text: &str) {
 fn accepts_the_texts_of_the_bips() {
     rows::BECH32
         .iter()
-        .for_each(|text| accepted::<Bech32, Bech32m>(text));
+        .for_each(|text| accepted::<Bech32, Bech32m>(text, Variant::Bech32));
     rows::BECH32M
         .iter()
-        .for_each(|text| accepted::<Bech32m, Bech32>(text));
+        .for_each(|text| accepted::<Bech32m, Bech32>(text, Variant::Bech32m));
 }
 
 // Why the characters or the human-readable part of a text are refused.
@@ -64,35 +67,88 @@ fn parse_error(text: &str) -> UncheckedHrpstringError {
 
 #[test]
 fn says_which_character_is_at_fault() {
-    for (text, error, place) in [
-        ("x1b4n0q5v", CharError::InvalidChar('b').into(), 2),
-        ("x1b4\u{e9}0q5v", CharError::InvalidChar('\u{e9}').into(), 4),
-        ("de1lg7wt\u{ff}", CharError::InvalidChar('\u{ff}').into(), 8),
-        ("1pzry9x0s0muk", HrpError::Empty.into(), 0),
-        ("pzry9x0s0muk", CharError::MissingSeparator.into(), 12),
-        ("\u{20}1nwldj5", HrpError::InvalidAsciiByte(0x20).into(), 0),
+    for (text, error, place, words) in [
+        (
+            "x1b4n0q5v",
+            CharError::InvalidChar('b').into(),
+            2,
+            "a character behind the separator may not stand there: character 3, b",
+        ),
+        (
+            "x1b4\u{e9}0q5v",
+            CharError::InvalidChar('\u{e9}').into(),
+            4,
+            "a character behind the separator may not stand there: character 5, U+00E9",
+        ),
+        (
+            "\u{e9}x1q\u{202e}4n0q5v",
+            CharError::InvalidChar('\u{202e}').into(),
+            5,
+            "a character behind the separator may not stand there: character 5, U+202E",
+        ),
+        (
+            "1pzry9x0s0muk",
+            HrpError::Empty.into(),
+            0,
+            "the human-readable part is empty",
+        ),
+        (
+            "pzry9x0s0muk",
+            CharError::MissingSeparator.into(),
+            12,
+            "the text has no separator, 1",
+        ),
+        (
+            "\u{20}1nwldj5",
+            HrpError::InvalidAsciiByte(0x20).into(),
+            0,
+            "the human-readable part has a byte that is not from 33 to 126: character 1, U+0020",
+        ),
         (
             "ab\u{80}1eym55h",
             HrpError::NonAsciiChar('\u{80}').into(),
             2,
+            "the human-readable part has a character that is not ASCII: character 3, U+0080",
         ),
-        ("A1G7SgD8", CharError::MixedCase.into(), 5),
+        (
+            "A1G7SgD8",
+            CharError::MixedCase.into(),
+            5,
+            "the text has letters of both cases: character 6, g",
+        ),
     ] {
         assert_eq!(parse_error(text), error, "{text}");
-        for fault in [fault::<Bech32>(text), fault::<Bech32m>(text)] {
-            let found = fault.unwrap();
+        let faults = [
+            fault::<Bech32>(text),
+            fault::<Bech32m>(text),
+            fault::<NoChecksum>(text),
+        ];
+        for found in faults.map(Option::unwrap) {
             assert_eq!(
                 (found.refusal(), found.place()),
                 (error.into(), place),
                 "{text}"
             );
+            assert_eq!(found.to_string(), words);
+            let named = words.contains(": character ");
+            let character = (text[..place].chars().count(), text[place..].chars().next());
+            assert_eq!(
+                found.character(),
+                named.then(|| (character.0, character.1.unwrap()))
+            );
         }
     }
     let long = format!("{}1qqqqqq", "a".repeat(84));
     assert_eq!(parse_error(&long), HrpError::TooLong(84).into());
-    assert_eq!(fault::<Bech32>(&long).unwrap().place(), 84);
+    let of_part = fault::<Bech32>(&long).unwrap();
+    assert_eq!((of_part.place(), of_part.character()), (84, None));
     assert_eq!(fault::<Bech32>("A12UEL5L"), None);
     assert_eq!(fault::<Bech32m>("A12UEL5L").unwrap().place(), 8);
+    assert_eq!(fault::<NoChecksum>("A12"), None);
+    assert_eq!(
+        fault::<NoChecksum>(&format!("a1{}", "q".repeat(1022))),
+        None
+    );
 }
 
 #[test]
@@ -233,6 +289,82 @@ fn fills_the_code() {
     assert_eq!(number(decode(&above_segwit)), 0);
 }
 
+// The texts of the bytes 0xab, twenty times, of the Rust crate's examples.
+#[test]
+fn reads_and_writes_texts_without_a_checksum() {
+    let plain = "abc14w46h2at4w46h2at4w46h2at4w46h2at";
+    let text = encode::<NoChecksum>(part("ABC"), &[0xab; 20]).unwrap();
+    assert_eq!(text, plain);
+    let upper_case = encode_upper::<NoChecksum>(part("abc"), &[0xab; 20]).unwrap();
+    assert_eq!(upper_case, plain.to_uppercase());
+    for text in [plain, &upper_case] {
+        let checked = CheckedHrpstring::new::<NoChecksum>(text).unwrap();
+        assert_eq!(checked.hrp(), part("abc"));
+        assert!(checked.byte_iter().eq([0xab; 20]));
+        assert_eq!(number(decode(text)), 33);
+        assert_eq!(number(CheckedHrpstring::new::<Bech32>(text)), 33);
+    }
+    // Of no length is one too long.
+    let long = encode::<NoChecksum>(part("a"), &[0xa5; 2000]).unwrap();
+    assert_eq!(
+        encoded_length::<NoChecksum>(part("a"), &[0xa5; 2000]),
+        Ok(3202)
+    );
+    assert_eq!(long.len(), 3202);
+    let checked = CheckedHrpstring::new::<NoChecksum>(&long).unwrap();
+    assert!(checked.byte_iter().eq([0xa5; 2000]));
+    for (text, wanted) in [("a1", 0), ("a", 23), ("1q", 11), ("a1b", 21), ("a1Q", 22)] {
+        assert_eq!(number(CheckedHrpstring::new::<NoChecksum>(text)), wanted);
+    }
+    let none = Hrp::parse_unchecked("aB");
+    assert!(matches!(
+        encode::<NoChecksum>(none, &[]),
+        Err(EncodeError::Fmt(_))
+    ));
+}
+
+#[test]
+fn writes_texts_one_element_at_a_time() {
+    for (address, hrp, version, program) in rows::ADDRESSES {
+        let (hrp, version) = (part(hrp), Fe32::try_from(version).unwrap());
+        let elements = bytes(program).into_iter().bytes_to_fes();
+        let text: String = if version == Fe32::Q {
+            let encoder = elements.with_checksum::<Bech32>(&hrp);
+            encoder.with_witness_version(version).chars().collect()
+        } else {
+            let encoder = elements.with_checksum::<Bech32m>(&hrp);
+            encoder.with_witness_version(version).chars().collect()
+        };
+        assert_eq!(text, address.to_lowercase());
+    }
+}
+
+// That a checksum's engine ends in its target behind the elements of a text.
+fn leaves_its_target<Ck: Checksum<MidstateRepr = u32>>(text: &str) {
+    let unchecked = UncheckedHrpstring::new(text).unwrap();
+    let mut engine = Engine::<Ck>::default();
+    assert_eq!(*engine.residue(), 1);
+    engine.input_hrp(unchecked.hrp());
+    for character in unchecked.data_part_ascii() {
+        engine.input_fe(Fe32::from_char(char::from(*character)).unwrap());
+    }
+    assert_eq!(*engine.residue(), Ck::TARGET_RESIDUE, "{text}");
+}
+
+#[test]
+fn engines_end_in_their_targets() {
+    rows::BECH32
+        .iter()
+        .for_each(|text| leaves_its_target::<Bech32>(text));
+    rows::BECH32M
+        .iter()
+        .for_each(|text| leaves_its_target::<Bech32m>(text));
+    assert_eq!(
+        (Bech32::TARGET_RESIDUE, Bech32m::TARGET_RESIDUE),
+        (1, 0x2bc8_30a3)
+    );
+}
+
 // The hash of a part.
 fn hash(hrp: &Hrp) -> u64 {
     let mut hasher = DefaultHasher::new();
@@ -320,7 +452,9 @@ fn has_the_numbers_of_the_header() {
 mod corrections {
     use super::{number, rows};
     use bech32_proved::primitives::decode::CheckedHrpstring;
-    use bech32_proved::{correct, nearest, Bech32, Bech32m, Checksum, Correction, Refusal};
+    use bech32_proved::{
+        correct, nearest, Bech32, Bech32m, Change, CorrectingChecksum, Correction, Fe32, Refusal,
+    };
 
     // A text with two wrong characters, what is added to it, and the one near text, by Bech32.
     type Near = (&'static str, &'static [(usize, u8)], &'static str);
@@ -353,8 +487,36 @@ mod corrections {
                 assert_eq!(number(correction), 34);
                 continue;
             };
-            assert_eq!(parts(&correction.unwrap()), (mended, listed.to_vec()));
+            let correction = correction.unwrap();
+            assert_eq!(parts(&correction), (mended, listed.to_vec()));
+            let changes = correction.changes();
+            assert!(changes.windows(2).all(|it| it[0].place < it[1].place));
+            assert_eq!(changes.len(), listed.len());
+            for (location, value) in listed {
+                let place = text.len() - 1 - location;
+                let [from, to] = [text, mended].map(|it| char::from(it.as_bytes()[place]));
+                assert!(changes.contains(&Change { place, from, to }));
+                let sum = Fe32::from_char(from).unwrap() + Fe32::try_from(*value).unwrap();
+                assert_eq!(sum, Fe32::from_char(to).unwrap());
+            }
         }
+    }
+
+    #[test]
+    fn changes_are_places_and_characters() {
+        let (text, _, near) = NEAR[0];
+        for text in [text.to_owned(), text.to_uppercase()] {
+            let found = nearest::<Bech32>(&text, &[], 2).unwrap();
+            let changes = found[0].changes();
+            let words: Vec<String> = changes.iter().map(Change::to_string).collect();
+            assert_eq!(
+                words,
+                ["character 22: q becomes 3", "character 42: x becomes q"]
+            );
+            assert_eq!(found[0].as_str(), near);
+        }
+        let known = nearest::<Bech32>("a12uel5l", &[2], 0).unwrap();
+        assert_eq!(known[0].changes()[0].to_string(), "character 6: l stays");
     }
 
     #[test]
@@ -409,7 +571,7 @@ mod corrections {
     }
 
     // An accepted text is the first of its own list.
-    fn is_first<Ck: Checksum>(text: &str) {
+    fn is_first<Ck: CorrectingChecksum>(text: &str) {
         let alone = nearest::<Ck>(text, &[], 0).unwrap();
         let own = text.to_lowercase();
         assert!(alone.iter().map(parts).eq([(own.as_str(), vec![])]));
