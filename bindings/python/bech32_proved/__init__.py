@@ -18,20 +18,36 @@ character at fault where there is one. What is proved is the library; this packa
 
 from . import codex32, errors, segwit
 from .errors import Refused
-from .texts import Checksum, Correction, Decoded, Parts, check, correct, decode, encode, nearest
+from .texts import (
+    Change,
+    Checksum,
+    Correction,
+    Decoded,
+    DecodedWithChecksum,
+    Parts,
+    check,
+    correct,
+    decode,
+    decode_with_checksum,
+    encode,
+    nearest,
+)
 
 __version__ = "0.1.0"
 
 __all__ = [
+    "Change",
     "Checksum",
     "Correction",
     "Decoded",
+    "DecodedWithChecksum",
     "Parts",
     "Refused",
     "check",
     "codex32",
     "correct",
     "decode",
+    "decode_with_checksum",
     "encode",
     "errors",
     "nearest",

@@ -2,6 +2,8 @@
 answer: a number, 0 or that of a refusal."""
 
 import ctypes
+import threading
+from concurrent import futures
 from pathlib import Path
 from typing import Any, NoReturn, Optional, Tuple, Union
 
@@ -32,10 +34,28 @@ class Memory(ctypes.Structure):
     """Memory that a function may use."""
 
     _fields_ = [("start", ctypes.c_void_p), ("size", ctypes.c_size_t)]
+    held: Any
+    """What it is memory of."""
+
+
+# How long the main thread waits, in seconds, before it looks for a signal, where one does not end the wait.
+_TURN = 0.1
 
 
 def _library(name: str) -> ctypes.CDLL:
-    return ctypes.CDLL(str(_FOLDER / name))
+    file = _FOLDER / name
+    if not file.is_file():
+        raise ImportError(
+            f"{name} is not in {_FOLDER}. In a folder of sources it is not: build the wheel with "
+            "bindings/python/build, install it with pip, and import bech32_proved from elsewhere."
+        )
+    try:
+        return ctypes.CDLL(str(file))
+    except OSError as e:
+        raise ImportError(
+            f"{file} does not load here ({e}). A wheel is for one system and kind of processor, which its "
+            "name tells."
+        ) from e
 
 
 def _function(library: ctypes.CDLL, name: str, *arguments: Any) -> Any:
@@ -72,12 +92,43 @@ codex32_propose = _function(
 )
 
 
+def interruptible(function: Any, *arguments: Any) -> int:
+    """What a function answers that may take long: Ctrl-C ends the wait for it, and not the function.
+
+    A signal is handled in the main thread alone, and not before a function of the library is left. So the
+    function runs in another thread, which keeps what it was given until it is done, and which the end of
+    the program does not wait for.
+    """
+    if threading.current_thread() is not threading.main_thread():
+        return int(function(*arguments))
+    answered: "futures.Future[int]" = futures.Future()
+
+    def run() -> None:
+        try:
+            answered.set_result(function(*arguments))
+        except BaseException as e:
+            answered.set_exception(e)
+
+    try:
+        threading.Thread(target=run, name="bech32_proved", daemon=True).start()
+    except RuntimeError:
+        # No thread can be started.
+        return int(function(*arguments))
+    while True:
+        try:
+            return answered.result(_TURN)
+        except futures.TimeoutError:
+            continue
+
+
 class Lent:
     """Memory that a call is lent."""
 
     def __init__(self, size: int) -> None:
         self._bytes = ctypes.create_string_buffer(size + 15)
         self.memory = Memory((ctypes.addressof(self._bytes) + 15) // 16 * 16, size)
+        # A call that goes on after an interrupt has this description alone.
+        self.memory.held = self._bytes
 
     def wipe(self) -> None:
         """Puts zeros into all of it."""

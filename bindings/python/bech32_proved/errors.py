@@ -3,14 +3,15 @@
 A call names the first fault that applies, in the order that `bech32.h` and `codex32.h` state for it.
 """
 
-from typing import ClassVar, Dict, Optional, Type
+from typing import Any, ClassVar, Dict, Optional, Tuple, Type
 
 
 class Refused(ValueError):
     """A call refuses what it is given.
 
-    `text` is the text that is refused, where one is, and `place` that of the character at fault, counted
-    in characters from 0, where one is.
+    `text` is the text that is refused, where one is, `place` that of the character at fault, counted in
+    characters from 0, and `character` that character, where one is. What is printed is for people: it names
+    the character, and counts from 1.
     """
 
     sentence: ClassVar[str] = "what was given is refused"
@@ -18,9 +19,27 @@ class Refused(ValueError):
     place: Optional[int]
 
     def __init__(self, text: Optional[str] = None, place: Optional[int] = None) -> None:
-        where = "" if place is None else f", at character {place}"
-        super().__init__(self.sentence + where)
         self.text, self.place = text, place
+        super().__init__(self.sentence + self._where())
+
+    @property
+    def character(self) -> Optional[str]:
+        """The character at fault, where one is."""
+        if self.text is None or self.place is None:
+            return None
+        return self.text[self.place : self.place + 1] or None
+
+    def _where(self) -> str:
+        character = self.character
+        if self.place is None or character is None:
+            return ""
+        # What would not show, or may be taken for another, has its code point.
+        shown = character if "!" <= character <= "~" else f"U+{ord(character):04X}"
+        return f": character {self.place + 1}, {shown}"
+
+    def __reduce__(self) -> Tuple[Any, ...]:
+        # The arguments of an exception are its words; pickle and copy make one of text and place.
+        return type(self), (self.text, self.place), self.__dict__
 
 
 # Written by tools/refusals.

@@ -6,12 +6,14 @@ from typing import Any, Iterable, List, NamedTuple, Tuple
 
 from . import _library
 from ._library import Buffer, Lent, Octets, given, octets, refuse, utf8
+from .errors import WrongChecksum
 
 # The characters of the elements from 0 to 31.
 _CHARACTERS = "qpzry9x8gf2tvdw0s3jn54khce6mua7l"
 
-# The bytes that near texts are looked for in, at first and at most. Their texts get a quarter more.
-_LEAST_MEMORY, _MOST_MEMORY = 1 << 16, 1 << 28
+# The bytes that near texts are looked for in, at first and at most, and by what they grow where they do not
+# suffice. Their texts get a quarter more.
+_LEAST_MEMORY, _MOST_MEMORY, _GROWTH = 1 << 16, 1 << 28, 8
 
 # The lent memory does not suffice.
 _NO_MEMORY = 91
@@ -40,6 +42,19 @@ class Decoded(NamedTuple):
     """Its bytes. Bits behind the last whole byte are dropped."""
 
 
+class DecodedWithChecksum(NamedTuple):
+    """What a text holds, and which checksum accepts it."""
+
+    hrp: str
+    """Its human-readable part, in the case of the text."""
+
+    data: bytes
+    """Its bytes. Bits behind the last whole byte are dropped."""
+
+    checksum: Checksum
+    """The checksum that accepts it."""
+
+
 class Parts(NamedTuple):
     """The parts of a text, in its case."""
 
@@ -48,6 +63,29 @@ class Parts(NamedTuple):
 
     data_part: str
     """What stands behind it, without the six characters of the checksum."""
+
+
+class Change(NamedTuple):
+    """A character of a mistyped text, and the one that is in its place in a mended one. At an erasure they
+    may be the same.
+
+        >>> print(correct("a12uel5q", Checksum.BECH32).changes[0])
+        character 8: q becomes l
+    """
+
+    place: int
+    """Where it stands, counted from 0 on. People count from 1, as what is printed does."""
+
+    from_: str
+    """What stands there in the mistyped text, in lower case."""
+
+    to: str
+    """What stands there in the mended one."""
+
+    def __str__(self) -> str:
+        if self.from_ == self.to:
+            return f"character {self.place + 1}: {self.to} stays"
+        return f"character {self.place + 1}: {self.from_} becomes {self.to}"
 
 
 class Correction(NamedTuple):
@@ -59,6 +97,17 @@ class Correction(NamedTuple):
     errors: Tuple[Tuple[int, int], ...]
     """The locations that were wrong, 0 that of the last character, with the element, from 0 to 31, that
     was added there by exclusive or: the erasures first. `correct` lists none where the text was right."""
+
+    @property
+    def changes(self) -> Tuple[Change, ...]:
+        """The same as places, counted from the front of the text and in rising order, with the characters
+        before and after: what to show to people."""
+        return tuple(self._change(*error) for error in sorted(self.errors, reverse=True))
+
+    def _change(self, location: int, value: int) -> Change:
+        place = len(self.text) - 1 - location
+        to = self.text[place]
+        return Change(place, _CHARACTERS[_CHARACTERS.index(to) ^ value], to)
 
 
 def encode(hrp: str, data: Octets, checksum: Checksum = Checksum.BECH32M) -> str:
@@ -77,7 +126,7 @@ def encode(hrp: str, data: Octets, checksum: Checksum = Checksum.BECH32M) -> str
 
 
 def decode(text: str) -> Decoded:
-    """Decodes a text that Bech32m or Bech32 accepts. `check` tells which.
+    """Decodes a text that Bech32m or Bech32 accepts. `decode_with_checksum` tells which.
 
     Raises the first of: `InvalidCharacter`, `MixedCase`, `NoSeparator`, `HrpEmpty`, `HrpTooLong`,
     `HrpNotAscii`, `HrpInvalid`, `HrpMixedCase`; `TextTooLong`, `NoChecksum`, `WrongChecksum`.
@@ -88,6 +137,22 @@ def decode(text: str) -> Decoded:
     if number != 0:
         refuse(number, text, data)
     return Decoded(hrp.text(), found.bytes())
+
+
+def decode_with_checksum(text: str) -> DecodedWithChecksum:
+    """The same as `decode`, and which checksum accepts the text.
+
+        >>> decode_with_checksum("A1LQFN3A").checksum
+        <Checksum.BECH32M: 2>
+
+    Raises what `decode` does.
+    """
+    hrp, found = decode(text)
+    try:
+        check(text, Checksum.BECH32M)
+    except WrongChecksum:
+        return DecodedWithChecksum(hrp, found, Checksum.BECH32)
+    return DecodedWithChecksum(hrp, found, Checksum.BECH32M)
 
 
 def check(text: str, checksum: Checksum) -> Parts:
@@ -111,7 +176,7 @@ def check(text: str, checksum: Checksum) -> Parts:
 
 def correct(text: str, checksum: Checksum, erasures: Iterable[int] = ()) -> Correction:
     """Mends a mistyped text. `erasures` are the locations of characters that are known to be wrong; 0 is
-    the last character.
+    the last character, and that of the character at a place is `len(text) - 1 - place`.
 
     It is the one correction of the characters behind the separator where twice the errors outside the
     erasures, with the erasures, are three at most. It may not be what was meant: show it, and ask. `nearest`
@@ -146,8 +211,28 @@ def nearest(
 
     Where at most 89 characters stand behind the separator, two errors without erasures have one answer at
     most, the right one where two characters are wrong. It may not be what was meant: of texts of 62
-    characters at random, some 15 of 10,000 have one. Show it, and ask. With two erasures and two errors a
-    call may take seconds.
+    characters at random, some 15 of 10,000 have one. Show it, and ask.
+
+    What two errors take, in time of a processor at 2.5 GHz, rounded, and how many texts were found. The
+    time is that of one search: where the texts are many, it is made again with more room, four times at most.
+
+        characters   no erasure   one          two          three
+        42           0.1 ms, 1    2 ms, 1      8 ms, 1      0.2 s, 14
+        62           0.1 ms, 1    4 ms, 1      20 ms, 3     0.6 s, 49
+        90           0.2 ms, 1    6 ms, 1      40 ms, 3     1.5 s, 95
+        200          1 ms, 1      30 ms, 2     0.3 s, 12    11 s, 529
+        400          3 ms, 1      0.1 s, 2     1.3 s, 63    70 s, 2,358
+        1,000        20 ms, 1     0.4 s, 15    11 s, 405    minutes
+
+    One error takes at most 2 ms up to 90 characters, and 70 ms with three erasures at 1,000.
+
+    What helps a person is a list of few texts: at most two errors with two erasures up to 90 characters,
+    two errors with one erasure in longer texts, and one error with three erasures. Beyond these the right
+    text stands among many that are as near.
+
+    Called in the main thread, it searches in another one, so that Ctrl-C ends the call at once. The library
+    cannot be stopped: the search goes on behind it to its end, or to that of the program, and keeps a
+    processor and its memory so long.
 
     The order is that of the highest location of a change outside the erasures, then that of the element
     added there, then that of the next such location. A text without such changes is first: one that the
@@ -165,7 +250,7 @@ def nearest(
     memory = _LEAST_MEMORY
     number, found = _nearest_within(memory, len(data), asked)
     while number in (_NO_MEMORY, _NO_ROOM) and memory < _MOST_MEMORY:
-        memory *= 2
+        memory = min(_GROWTH * memory, _MOST_MEMORY)
         number, found = _nearest_within(memory, len(data), asked)
     if number in (_NO_MEMORY, _NO_ROOM):
         raise MemoryError("there are more near texts than can be listed")
@@ -184,7 +269,9 @@ def _nearest_within(memory: int, length: int, asked: Tuple[Any, ...]) -> Tuple[i
     # What the library answers with so much memory, and the near texts.
     lent, room, count = Lent(memory), memory // 4, ctypes.c_size_t()
     texts = ctypes.create_string_buffer(room)
-    number = _library.nearest(*asked, ctypes.byref(lent.memory), texts, room, ctypes.byref(count))
+    number = _library.interruptible(
+        _library.nearest, *asked, ctypes.byref(lent.memory), texts, room, ctypes.byref(count)
+    )
     found = texts[: count.value * length].decode("ascii")
     return number, [found[n : n + length] for n in range(0, len(found), max(length, 1))]
 

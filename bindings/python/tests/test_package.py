@@ -1,11 +1,25 @@
 """Tests the package as it is installed, over the vectors of BIP-173, BIP-350 and BIP-93."""
 
+import copy
+import ctypes
 import doctest
+import gc
+import pickle
+import shutil
+import signal
+import subprocess
+import sys
+import tempfile
+import threading
+import time
 import unittest
+from pathlib import Path
 from unittest import mock
 
 import bech32_proved
-from bech32_proved import Checksum, check, codex32, correct, decode, encode, errors, nearest, segwit, texts
+from bech32_proved import Checksum, check, codex32, correct, decode, decode_with_checksum, encode, errors
+from bech32_proved import nearest, segwit, texts
+from bech32_proved._library import Lent, interruptible
 
 PROGRAM = bytes.fromhex("751e76e8199196d454941c45d1b3a323f1433bd6")
 
@@ -25,7 +39,7 @@ BECH32M = [
     "?1v759aa",
 ]
 
-# Texts that both refuse: why, and the character at fault.
+# Texts that both refuse: why, and the place of the character at fault, from 0.
 REFUSED = [
     ("\x201nwldj5", errors.HrpInvalid, 0),
     ("\x7f1axkwrx", errors.HrpInvalid, 0),
@@ -51,6 +65,19 @@ REFUSED = [
     ("<b>a12uel5l</b>", errors.InvalidCharacter, 14),
     ("a12ue\ud800l5l", errors.NotUnicode, 5),
     ("q" * 1_000_000, errors.NoSeparator, None),
+]
+
+# What is printed of such texts.
+PRINTED = [
+    ("x1b4n0q5v", "a character behind the separator may not stand there: character 3, b"),
+    ("\xe9x1q\xe94n0q5v", "a character behind the separator may not stand there: character 5, U+00E9"),
+    ("a12uel5l\u202c", "a character behind the separator may not stand there: character 9, U+202C"),
+    ("a12uEL5l", "the text has letters of both cases: character 5, E"),
+    ("\x201nwldj5", "the human-readable part has a character whose code is not from 33 to 126: character 1, U+0020"),
+    ("\U0001f6001q", "the human-readable part has a character that is not ASCII: character 1, U+1F600"),
+    ("a12ue\ud800l5l", "the text holds half of a surrogate pair, which is no character: character 6, U+D800"),
+    ("pzry9x0s0muk", "the text has no separator, '1'"),
+    ("A1G7SGD8", "the checksum is wrong"),
 ]
 
 # Texts with two wrong characters, what is added to them, and the one near text, by Bech32.
@@ -102,17 +129,27 @@ class Texts(unittest.TestCase):
             with self.subTest(text):
                 self.assertEqual(check(text, right), (hrp, behind[:-6]))
                 self.assertEqual(decode(text).hrp, hrp)
+                self.assertEqual(decode_with_checksum(text), (*decode(text), right))
                 self.assertRaises(errors.WrongChecksum, check, text, wrong)
                 self.assertEqual(correct(text, right, [0]), (text.lower(), ()))
 
     def test_refuses(self):
         for text, error, place in REFUSED:
-            calls = [lambda: decode(text)]
+            calls = [lambda: decode(text), lambda: decode_with_checksum(text)]
             calls += [lambda c=c: check(text, c) for c in Checksum]
             for call in calls:
                 with self.subTest(text[:90]), self.assertRaises(error) as raised:
                     call()
                 self.assertEqual((raised.exception.text, raised.exception.place), (text, place))
+
+    def test_names_the_character(self):
+        for text, words in PRINTED:
+            with self.subTest(text), self.assertRaises(errors.Refused) as raised:
+                decode(text)
+            refused = raised.exception
+            self.assertEqual(str(refused), words)
+            named = None if refused.place is None else text[refused.place]
+            self.assertEqual(refused.character, named)
 
     def test_encodes(self):
         data = b"\xff" + PROGRAM[1:]
@@ -144,7 +181,23 @@ class Texts(unittest.TestCase):
                 correct("a12uel5q", Checksum.BECH32, erasures)
         with self.assertRaises(errors.InvalidCharacter) as raised:
             correct("x1b4n0q5v", Checksum.BECH32)
-        self.assertEqual(str(raised.exception), "a character behind the separator may not stand there, at character 2")
+        self.assertEqual(raised.exception.place, 2)
+
+    def test_says_the_changes(self):
+        self.assertEqual(correct("A12UEL5Q", Checksum.BECH32).changes, ((7, "q", "l"),))
+        self.assertEqual(correct("a12uel5l", Checksum.BECH32).changes, ())
+        for text, listed, near in NEAR:
+            places = sorted(len(text) - 1 - location for location, _ in listed)
+            wanted = tuple((place, text[place], near[place]) for place in places)
+            self.assertEqual(nearest(text, Checksum.BECH32)[0].changes, wanted)
+            known = [location for location, _ in listed]
+            self.assertEqual(nearest(text, Checksum.BECH32, reversed(known), 0)[0].changes, wanted)
+        changes = nearest(NEAR[0][0], Checksum.BECH32)[0].changes
+        self.assertEqual(
+            [str(it) for it in changes], ["character 5: q becomes w", "character 6: q becomes 5"]
+        )
+        known = nearest("a12uel5l", Checksum.BECH32, [2], 0)
+        self.assertEqual([str(it) for it in known[0].changes], ["character 6: l stays"])
 
     def test_lists_near_texts(self):
         for text, listed, near in NEAR:
@@ -258,15 +311,120 @@ class Codex32(unittest.TestCase):
         self.assertEqual(raised.exception.place, 31)
 
 
+# A call that never ends, which no signal interrupts, in place of one of the library, and what Ctrl-C makes of it.
+INTERRUPTED = """
+import ctypes
+from bech32_proved import Checksum, _library, decode, nearest
+
+lock, mutex = ctypes.CDLL(None).pthread_mutex_lock, ctypes.create_string_buffer(64)
+lock(mutex)
+_library.nearest = lambda *given: print("searching", flush=True) or lock(mutex)
+try:
+    nearest("a12uel5l", Checksum.BECH32)
+except KeyboardInterrupt:
+    print("interrupted", decode("a12uel5l").hrp)
+"""
+
+
 class Package(unittest.TestCase):
     def test_examples(self):
-        self.assertEqual(doctest.testmod(bech32_proved).failed, 0)
+        for module in (bech32_proved, texts):
+            tried = doctest.testmod(module)
+            self.assertEqual(tried.failed, 0)
+            self.assertGreater(tried.attempted, 0)
 
     def test_each_refusal_has_a_class(self):
         for error in errors.BY_NUMBER.values():
             self.assertTrue(issubclass(error, bech32_proved.Refused))
             self.assertTrue(issubclass(error, ValueError) and error.sentence)
-            self.assertEqual(str(error("x", 3)), error.sentence + ", at character 3")
+            self.assertEqual(str(error("xyzb", 3)), error.sentence + ": character 4, b")
+
+    def test_errors_are_copied(self):
+        for error in errors.BY_NUMBER.values():
+            for refused in (error(), error("a1b"), error("a1b", 2)):
+                for again in copies(refused):
+                    self.assertIs(type(again), error)
+                    self.assertEqual(str(again), str(refused))
+                    self.assertEqual((again.text, again.place), (refused.text, refused.place))
+                    self.assertEqual((again.args, again.character), (refused.args, refused.character))
+        noted = errors.InvalidCharacter("a1b", 2)
+        noted.asked = "which"
+        for again in copies(noted):
+            self.assertEqual(again.asked, "which")
+
+    def test_results_are_copied(self):
+        address = segwit.decode("BC1QW508D6QEJXTDG4Y5R3ZARVARY0C5XW7KV8F3T4")
+        mended = correct("a12uel5q", Checksum.BECH32)
+        results = [decode("A12UEL5L"), decode_with_checksum("A12UEL5L"), address, mended, *mended.changes]
+        results += [check("A12UEL5L", Checksum.BECH32), codex32.parse(SECRET), Checksum.BECH32M]
+        for result in results:
+            for again in copies(result):
+                self.assertEqual(again, result)
+                self.assertIs(type(again), type(result))
+
+    def test_a_folder_of_sources_says_what_it_is(self):
+        with tempfile.TemporaryDirectory() as folder:
+            package = Path(bech32_proved.__file__).parent
+            shutil.copytree(package, Path(folder) / "bech32_proved", ignore=shutil.ignore_patterns("*.so"))
+            words = self.failure(folder)
+            self.assertTrue(words.startswith("ImportError: libbech32_c.so is not in "), words)
+            self.assertIn("build the wheel with bindings/python/build", words)
+            # What is no library here.
+            (Path(folder) / "bech32_proved/libbech32_c.so").write_bytes(b"none")
+            words = self.failure(folder)
+            self.assertTrue(words.startswith("ImportError: "), words)
+            self.assertIn("libbech32_c.so does not load here (", words)
+
+    def failure(self, folder):
+        """The last line that Python prints where the package of a folder is not imported."""
+        ran = subprocess.run([sys.executable, "-c", "import bech32_proved"], cwd=folder, stderr=subprocess.PIPE)
+        self.assertEqual(ran.returncode, 1)
+        return ran.stderr.decode().strip().splitlines()[-1]
+
+    @unittest.skipUnless(sys.platform.startswith("linux"), "it wants the signals and the library of C")
+    def test_ctrl_c_ends_a_call(self):
+        program = subprocess.Popen([sys.executable, "-c", INTERRUPTED], stdout=subprocess.PIPE)
+        self.addCleanup(program.stdout.close)
+        self.addCleanup(program.kill)
+        self.assertEqual(program.stdout.readline(), b"searching\n")
+        began = time.monotonic()
+        program.send_signal(signal.SIGINT)
+        printed, _ = program.communicate(timeout=20)
+        # Within a second where the machine is free.
+        self.assertLess(time.monotonic() - began, 10)
+        self.assertEqual((printed, program.returncode), (b"interrupted a\n", 0))
+
+    def test_an_interrupted_call_keeps_its_memory(self):
+        # All that the call has of the memory is its description.
+        memory = Lent(64).memory
+        gc.collect()
+        start = ctypes.addressof(memory.held)
+        self.assertTrue(start <= memory.start <= memory.start + 64 <= start + len(memory.held))
+
+    def test_calls_in_other_threads(self):
+        found = []
+
+        def search():
+            found.append(nearest(NEAR[0][0], Checksum.BECH32))
+
+        threads = [threading.Thread(target=search) for _ in range(4)]
+        for thread in threads:
+            thread.start()
+        for thread in threads:
+            thread.join()
+        self.assertEqual([[near.text for near in it] for it in found], [[NEAR[0][2]]] * 4)
+        with self.assertRaises(TypeError):
+            interruptible(texts._library.nearest, "no number")
+        with mock.patch.object(threading.Thread, "start", side_effect=RuntimeError):
+            self.assertEqual(nearest(NEAR[0][0], Checksum.BECH32)[0].text, NEAR[0][2])
+
+
+def copies(value):
+    """What copy and pickle make of a value."""
+    yield copy.copy(value)
+    yield copy.deepcopy(value)
+    for protocol in range(pickle.HIGHEST_PROTOCOL + 1):
+        yield pickle.loads(pickle.dumps(value, protocol))
 
 
 if __name__ == "__main__":
