@@ -22,7 +22,7 @@ fn stop(lines: &[&str]) -> ! {
 
 fn named(name: &str) -> Option<String> {
     println!("cargo:rerun-if-env-changed={name}");
-    env::var(name).ok()
+    env::var(name).ok().filter(|value| !value.is_empty())
 }
 
 // The first of two files, or the second.
