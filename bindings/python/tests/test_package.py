@@ -313,9 +313,11 @@ class Codex32(unittest.TestCase):
 
 # A call that never ends, which no signal interrupts, in place of one of the library, and what Ctrl-C makes of it.
 INTERRUPTED = """
-import ctypes
+import ctypes, signal
 from bech32_proved import Checksum, _library, decode, nearest
 
+# A shell may have started all of this without the signal.
+signal.signal(signal.SIGINT, signal.default_int_handler)
 lock, mutex = ctypes.CDLL(None).pthread_mutex_lock, ctypes.create_string_buffer(64)
 lock(mutex)
 _library.nearest = lambda *given: print("searching", flush=True) or lock(mutex)
