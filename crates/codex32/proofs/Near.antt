@@ -1,7 +1,7 @@
 -- The nearest text: from a listing, from the lack of one, and that there is only one.
 use Rattle.std.specs.List.{AllByRecursion}
 use Rattle.std.specs.Prelude.{◌≢◌, ◌*◌, map, IfOk, MatchOption, MatchResult}
-use Rattle.std.proofs.Common.{◌≡◌, ℕ, ◌+◌, ◌<◌, ◌≤◌, List, [], ◌∷◌, ◌++◌, Option, None, Result, Ok, Err, length, inl, inr, refl, sym, ap, subst, ◌∙◌, arith}
+use Rattle.std.proofs.Common.{◌≡◌, ℕ, ◌+◌, ◌-◌, ◌<◌, ◌≤◌, Bool, List, [], ◌∷◌, ◌++◌, Option, None, Result, Ok, Err, length, inl, inr, refl, sym, ap, subst, ◌∙◌, arith}
 use Rattle.std.proofs.lemmas.List.{length-map, length-append}
 use Rattle.bech32_gf.specs.Fe32 as fe32
 use Rattle.bech32_gf.specs.Fe32.{element_of, elements_of, ops}
@@ -19,6 +19,8 @@ use Rattle.bech32_poly.proofs.Lists.{coefficient-add}
 use Rattle.bech32_poly.proofs.Remainder.{remainder_of-add, remainder_of-same, remainder_unique}
 use Rattle.bech32_hrp.specs.Hrp.{IsHrp, lowered}
 use Rattle.bech32_checksum.specs.Code.{Code}
+use Rattle.bech32_checksum.specs.Roots.{AreLawfulRoots}
+use Rattle.bech32_gf_ext.specs.declared.Fe32Ext.{Fe32Ext}
 use Rattle.bech32_checksum.specs.Encoded.{char_of_element, spelled}
 use Rattle.bech32_checksum.specs.TextPolynomial.{text_polynomial}
 use Rattle.bech32_bch.specs.Distance.{places_that_differ}
@@ -45,10 +47,8 @@ use Rattle.bech32_correction.proofs.Sound.{sound_of}
 use Rattle.bech32_correction.proofs.Accepted.{front, in_parts, lowered_parts}
 use Rattle.bech32_correction.proofs.Sums.{appended-mended, length-mended}
 use Rattle.bech32_correction.proofs.Texts.{mendable-from_accepts}
-use Rattle.codex32.specs.Code.{codex32}
-use Rattle.codex32.specs.Nearest.{AreParts, AreAdditions, IsNearestText, IsUnlisted, changed, read_data, read_text, unreadable}
-use Rattle.codex32.specs.Strings.{frame_refusal}
-use Rattle.codex32.specs.laws.RootLaws.{base, codex32_roots}
+use Rattle.codex32.specs.Nearest.{AreParts, AreAdditions, IsNearestBy, IsUnlisted, changed, read_data, read_text, unreadable}
+use Rattle.codex32.specs.Strings.{frame_refusal_by}
 use Rattle.codex32.proofs.Locations.{again, changed-once, changed_outside, count_data, count_read, differences, differences-below, differences-once, differences-values, few_apart, located, mended-differences, unreadable-below, unreadable-once}
 use Rattle.codex32.proofs.Separated.{one_split, parts-from}
 
@@ -140,12 +140,12 @@ few_changed g residue w bound damaged listing h =
 
 -- ---- what follows of a text
 
-module _ (text hrp damaged : List ℕ) (parts : AreParts text hrp damaged) where
+module _ (code : Code) (text hrp damaged : List ℕ) (parts : AreParts text hrp damaged) where
   size_read : length (elements_of (read_data damaged)) ≡ length damaged
   size_read = count_read damaged
 
-  nearest-from : (ys : List Fe32) → length ys ≡ length damaged → Accepts codex32 (spelled hrp ys)
-      → 2 * length (changed damaged ys) + length (unreadable damaged) ≤ 8 → IsNearestText text (spelled hrp ys)
+  nearest-from : (ys : List Fe32) → length ys ≡ length damaged → Accepts code (spelled hrp ys)
+      → 2 * length (changed damaged ys) + length (unreadable damaged) ≤ 8 → IsNearestBy code text (spelled hrp ys)
   nearest-from ys size a few = record {
     hrp = hrp;
     damaged = damaged;
@@ -170,34 +170,34 @@ module _ (text hrp damaged : List ℕ) (parts : AreParts text hrp damaged) where
   same_parts : (h d : List ℕ) → IsText (read_text text) h d → (h ≡ hrp) × (d ≡ read_data damaged)
   same_parts h d is = only-from_IsText (read_text text) hrp (read_data damaged) parts.grammar h d is.split is.data_bytes
 
-  pub nearest-from_listed : (listing : List (ℕ × Fe32)) → AreAdditions (read_text text) (unreadable damaged) listing
-      → IsNearestText text (spelled hrp (mended ops listing (elements_of (read_data damaged))))
+  pub nearest-from_listed : (listing : List (ℕ × Fe32)) → AreAdditions code (read_text text) (unreadable damaged) listing
+      → IsNearestBy code text (spelled hrp (mended ops listing (elements_of (read_data damaged))))
   nearest-from_listed listing (inl h) =
-      let m = mendable-from_accepts codex32 (read_text text) h.1 in
+      let m = mendable-from_accepts code (read_text text) h.1 in
       let (same_hrp, same_data) = same_parts m.hrp m.data_part m.grammar in
       let nothing : length (changed damaged (mended ops [] (elements_of (read_data damaged)))) ≡ 0 = none_changed in
       let few : length (unreadable damaged) ≤ 8 = h.2 in
-      subst (λ (l : List (ℕ × Fe32)). IsNearestText text (spelled hrp (mended ops l (elements_of (read_data damaged))))) (sym h.0)
+      subst (λ (l : List (ℕ × Fe32)). IsNearestBy code text (spelled hrp (mended ops l (elements_of (read_data damaged))))) (sym h.0)
       (nearest-from (mended ops [] (elements_of (read_data damaged))) (length-mended ops [] (elements_of (read_data damaged)) ∙ size_read)
-      (subst (λ (u : List ℕ). Accepts codex32 (spelled u (mended ops [] (elements_of (read_data damaged))))) same_hrp
-      (subst (λ (v : List ℕ). Accepts codex32 (spelled m.hrp (mended ops [] (elements_of v)))) same_data m.accepts))
+      (subst (λ (u : List ℕ). Accepts code (spelled u (mended ops [] (elements_of (read_data damaged))))) same_hrp
+      (subst (λ (v : List ℕ). Accepts code (spelled m.hrp (mended ops [] (elements_of v)))) same_data m.accepts))
       (omega (arith, nothing, few)))
   nearest-from_listed listing (inr is) =
       let (same_hrp, same_data) = same_parts is.hrp is.data_part is.refused.read.grammar in
       let erased : with_erasures [] (unreadable damaged) ≡ unreadable damaged = erasures_are (unreadable damaged) (unreadable-once damaged) in
-      let sound : IsSound ops codex32.generator is.residue (unreadable damaged) (length is.data_part) 8 listing =
-      subst (λ (s : List ℕ). IsSound ops codex32.generator is.residue s (length is.data_part) 8 listing) erased
-      (sound_of codex32 8 (question_of is.data_part is.residue (unreadable damaged)) listing is.only) in
+      let sound : IsSound ops code.generator is.residue (unreadable damaged) (length is.data_part) 8 listing =
+      subst (λ (s : List ℕ). IsSound ops code.generator is.residue s (length is.data_part) 8 listing) erased
+      (sound_of code 8 (question_of is.data_part is.residue (unreadable damaged)) listing is.only) in
       let most : length (changed damaged (mended ops listing (elements_of (read_data damaged)))) ≤ errors_outside (unreadable damaged) sound.pattern =
-      few_changed codex32.generator is.residue (length is.data_part) 8 damaged listing sound in
+      few_changed code.generator is.residue (length is.data_part) 8 damaged listing sound in
       let few : 2 * errors_outside (unreadable damaged) sound.pattern + length (unreadable damaged) ≤ 8 = sound.solves.few in
       nearest-from (mended ops listing (elements_of (read_data damaged))) (length-mended ops listing (elements_of (read_data damaged)) ∙ size_read)
-      (subst (λ (u : List ℕ). Accepts codex32 (spelled u (mended ops listing (elements_of (read_data damaged))))) same_hrp
-      (subst (λ (v : List ℕ). Accepts codex32 (spelled is.hrp (mended ops listing (elements_of v)))) same_data is.mends))
+      (subst (λ (u : List ℕ). Accepts code (spelled u (mended ops listing (elements_of (read_data damaged))))) same_hrp
+      (subst (λ (v : List ℕ). Accepts code (spelled is.hrp (mended ops listing (elements_of v)))) same_data is.mends))
       (omega (arith, most, few))
 
   -- the elements of any nearest text
-  elements_near : (nearest : List ℕ) (n : IsNearestText text nearest) → (n.hrp ≡ hrp) × (n.damaged ≡ damaged)
+  elements_near : (nearest : List ℕ) (n : IsNearestBy code text nearest) → (n.hrp ≡ hrp) × (n.damaged ≡ damaged)
   elements_near nearest n = one_split text n.hrp n.damaged hrp damaged (parts-from text n.hrp n.damaged n.split n.grammar).cut parts.cut
 
   -- the same with the parts of the text
@@ -205,10 +205,10 @@ module _ (text hrp damaged : List ℕ) (parts : AreParts text hrp damaged) where
     pub elements : List Fe32
     pub same_length : length elements ≡ length damaged
     pub spelling : nearest ≡ spelled hrp elements
-    pub accepted : Accepts codex32 (spelled hrp elements)
+    pub accepted : Accepts code (spelled hrp elements)
     pub few : 2 * length (changed damaged elements) + length (unreadable damaged) ≤ 8
 
-  pub near-from : (nearest : List ℕ) → IsNearestText text nearest → IsNear nearest
+  pub near-from : (nearest : List ℕ) → IsNearestBy code text nearest → IsNear nearest
   near-from nearest n =
       let (same_hrp, same_damaged) = elements_near nearest n in
       let spelling : nearest ≡ spelled hrp n.elements = n.spelling ∙ ap (λ (h : List ℕ). spelled h n.elements) same_hrp in
@@ -216,49 +216,50 @@ module _ (text hrp damaged : List ℕ) (parts : AreParts text hrp damaged) where
         elements = n.elements;
         same_length = n.same_length ∙ ap length same_damaged;
         spelling = spelling;
-        accepted = subst (Accepts codex32) spelling n.accepted;
+        accepted = subst (Accepts code) spelling n.accepted;
         few = subst (λ (d : List ℕ). 2 * length (changed d n.elements) + length (unreadable d) ≤ 8) same_damaged n.few;
       }
 
-  pub none-from_unlisted : IsUnlisted (read_text text) (unreadable damaged) → (nearest : List ℕ) → IsNearestText text nearest → ⊥
+  pub none-from_unlisted : IsUnlisted code (read_text text) (unreadable damaged) → (nearest : List ℕ) → IsNearestBy code text nearest → ⊥
   none-from_unlisted (inl many) nearest n = let near = near-from nearest n in let few = near.few in omega (arith, many, few)
   none-from_unlisted (inr none) nearest n =
       let near = near-from nearest n in
       let (same_hrp, same_data) = same_parts none.hrp none.data_part none.refused.read.grammar in
-      let refused : IsRefusedFor codex32 (read_text text) hrp (read_data damaged) none.residue =
-      subst (λ (u : List ℕ). IsRefusedFor codex32 (read_text text) u (read_data damaged) none.residue) same_hrp
-      (subst (λ (v : List ℕ). IsRefusedFor codex32 (read_text text) none.hrp v none.residue) same_data none.refused) in
+      let refused : IsRefusedFor code (read_text text) hrp (read_data damaged) none.residue =
+      subst (λ (u : List ℕ). IsRefusedFor code (read_text text) u (read_data damaged) none.residue) same_hrp
+      (subst (λ (v : List ℕ). IsRefusedFor code (read_text text) none.hrp v none.residue) same_data none.refused) in
       let sizes : length (elements_of (read_data damaged)) ≡ length near.elements = size_read ∙ sym near.same_length in
       let outer : errors_outside (unreadable damaged) (differences (elements_of (read_data damaged)) near.elements) ≤ length (changed damaged near.elements) = few_outside damaged near.elements in
       let few : 2 * length (changed damaged near.elements) + length (unreadable damaged) ≤ 8 = near.few in
       let wide : length (elements_of (read_data damaged)) ≡ length (read_data damaged) = length-map (read_data damaged) element_of in
-      let solves : Solves ops codex32.generator none.residue (unreadable damaged) (length (read_data damaged)) 8 (differences (elements_of (read_data damaged)) near.elements) =
+      let solves : Solves ops code.generator none.residue (unreadable damaged) (length (read_data damaged)) 8 (differences (elements_of (read_data damaged)) near.elements) =
       record {
         pattern = record {
           below = subst (λ (w : ℕ). AllByRecursion (λ (p : ℕ × Fe32). p.0 < w) (differences (elements_of (read_data damaged)) near.elements)) wide (differences-below (elements_of (read_data damaged)) near.elements);
           values = differences-values (elements_of (read_data damaged)) near.elements;
           once = differences-once (elements_of (read_data damaged)) near.elements;
         };
-        remainder = explains codex32 (read_text text) hrp (read_data damaged) none.residue refused.read near.elements sizes (spelled_leaves codex32 hrp near.elements parts.grammar.is_hrp near.accepted);
+        remainder = explains code (read_text text) hrp (read_data damaged) none.residue refused.read near.elements sizes (spelled_leaves code hrp near.elements parts.grammar.is_hrp near.accepted);
         few = omega (arith, outer, few);
       } in
       let erased : with_erasures [] (unreadable damaged) ≡ unreadable damaged = erasures_are (unreadable damaged) (unreadable-once damaged) in
       none.none (inside none.data_part same_data) (differences (elements_of (read_data damaged)) near.elements)
-      (subst (λ (s : List ℕ). Solves ops codex32.generator none.residue s (length none.data_part) 8 (differences (elements_of (read_data damaged)) near.elements)) (sym erased)
-      (subst (λ (d : List ℕ). Solves ops codex32.generator none.residue (unreadable damaged) (length d) 8 (differences (elements_of (read_data damaged)) near.elements)) (sym same_data) solves))
+      (subst (λ (s : List ℕ). Solves ops code.generator none.residue s (length none.data_part) 8 (differences (elements_of (read_data damaged)) near.elements)) (sym erased)
+      (subst (λ (d : List ℕ). Solves ops code.generator none.residue (unreadable damaged) (length d) 8 (differences (elements_of (read_data damaged)) near.elements)) (sym same_data) solves))
     where
       inside : (d : List ℕ) → d ≡ read_data damaged → AllByRecursion (λ i. i < length d) (unreadable damaged)
       inside d e = subst (λ (n : ℕ). AllByRecursion (λ i. i < n) (unreadable damaged)) (sym (ap length e ∙ count_data damaged)) (unreadable-below damaged)
 
   -- there is one at most
-  pub one_near : (one other : List ℕ) → IsNear one → IsNear other → one ≡ other
-  one_near one other n m =
+  pub one_near : (base : Fe32Ext 2) (start end : ℕ) → AreLawfulRoots fe1024.ops fe1024.embed code base start end → end - start + 1 ≡ 8 → (one other : List ℕ) → IsNear one → IsNear other → one ≡ other
+  one_near base start end roots eight one other n m =
       let ok : IsHrp hrp = parts.grammar.is_hrp in
       let apart : AreSameOrFar 8 (elements_of (map char_of_element n.elements)) (elements_of (map char_of_element m.elements)) =
-      far_from_others fe1024_laws.is_field into (apart_inside fe1024.embed fe1024.retract fe1024_laws.retract-embed) codex32 base 9 16 codex32_roots codex32.code_length (spelled hrp n.elements) (lowered hrp)
+      subst (λ (b : ℕ). AreSameOrFar b (elements_of (map char_of_element n.elements)) (elements_of (map char_of_element m.elements))) eight
+      (far_from_others fe1024_laws.is_field into (apart_inside fe1024.embed fe1024.retract fe1024_laws.retract-embed) code base start end roots code.code_length (spelled hrp n.elements) (lowered hrp)
       (map char_of_element n.elements) (spelled hrp m.elements) (lowered hrp) (map char_of_element m.elements)
-      (accepted_spelled codex32 hrp n.elements ok n.accepted) (accepted_spelled codex32 hrp m.elements ok m.accepted) refl lengths
-      (data_fits codex32 (spelled hrp n.elements) (lowered hrp) (map char_of_element n.elements) (accepted_spelled codex32 hrp n.elements ok n.accepted)) in
+      (accepted_spelled code hrp n.elements ok n.accepted) (accepted_spelled code hrp m.elements ok m.accepted) refl lengths
+      (data_fits code (spelled hrp n.elements) (lowered hrp) (map char_of_element n.elements) (accepted_spelled code hrp n.elements ok n.accepted))) in
       let near : AreSameOrFar 8 n.elements m.elements =
       subst (λ (ys : List Fe32). AreSameOrFar 8 ys m.elements) (characters-elements n.elements)
       (subst (λ (zs : List Fe32). AreSameOrFar 8 (elements_of (map char_of_element n.elements)) zs) (characters-elements m.elements) apart) in
@@ -283,20 +284,21 @@ module _ (text hrp damaged : List ℕ) (parts : AreParts text hrp damaged) where
           absurd (omega (arith, far, most, few, few_other))
 
 -- any two nearest texts are the same
-pub one_nearest : (text one other : List ℕ) → IsNearestText text one → IsNearestText text other → one ≡ other
-one_nearest text one other n m =
+pub one_nearest : (code : Code) (base : Fe32Ext 2) (start end : ℕ) → AreLawfulRoots fe1024.ops fe1024.embed code base start end → end - start + 1 ≡ 8
+    → (text one other : List ℕ) → IsNearestBy code text one → IsNearestBy code text other → one ≡ other
+one_nearest code base start end roots eight text one other n m =
     let parts = parts-from text n.hrp n.damaged n.split n.grammar in
-    one_near text n.hrp n.damaged parts one other (near-from text n.hrp n.damaged parts one n) (near-from text n.hrp n.damaged parts other m)
+    one_near code text n.hrp n.damaged parts base start end roots eight one other (near-from code text n.hrp n.damaged parts one n) (near-from code text n.hrp n.damaged parts other m)
 
 -- what the outcome of a call says
-module _ {S E : Type 0} (text : List ℕ) (bytes : S → List ℕ) (Q : E → Type 0) where
+module _ {S E : Type 0} (code : Code) (may : ℕ → Bool) (text : List ℕ) (bytes : S → List ℕ) (Q : E → Type 0) where
   abbrev IsAnswered : Option S → Type 0
-  IsAnswered answer = MatchOption answer ((nearest : List ℕ) → IsNearestText text nearest → ⊥) (λ s. IsNearestText text (bytes s))
+  IsAnswered answer = MatchOption answer ((nearest : List ℕ) → IsNearestBy code text nearest → ⊥) (λ s. IsNearestBy code text (bytes s))
 
-  pub value-from_outcome : (r : Result (Option S) E) → MatchResult r (λ answer. (frame_refusal (read_text text) ≡ None) × IsAnswered answer) Q → IfOk r IsAnswered
+  pub value-from_outcome : (r : Result (Option S) E) → MatchResult r (λ answer. (frame_refusal_by may (read_text text) ≡ None) × IsAnswered answer) Q → IfOk r IsAnswered
   value-from_outcome (Ok answer) h = h.1
   value-from_outcome (Err e) h = tt
 
-  pub refused-from_outcome : (r : Result (Option S) E) → MatchResult r (λ answer. (frame_refusal (read_text text) ≡ None) × IsAnswered answer) Q → MatchResult r (λ _. frame_refusal (read_text text) ≡ None) Q
+  pub refused-from_outcome : (r : Result (Option S) E) → MatchResult r (λ answer. (frame_refusal_by may (read_text text) ≡ None) × IsAnswered answer) Q → MatchResult r (λ _. frame_refusal_by may (read_text text) ≡ None) Q
   refused-from_outcome (Ok answer) h = h.0
   refused-from_outcome (Err e) h = h

@@ -21,7 +21,7 @@ use Rattle.bech32_refusals.specs.declared.error.UncheckedHrpstringError.TheVaria
 use Rattle.codex32.specs.Nearest.{AreParts, read_character, read_data, read_text}
 use Rattle.codex32.proofs.Locations.{count_data}
 use Rattle.codex32.proofs.Reading.{read_encoded}
-use Rattle.codex32.specs.Strings.{frame_refusal, codex32_length_fault, part_fault}
+use Rattle.codex32.specs.Strings.{frame_refusal_by, codex32_length_fault, part_fault}
 use Rattle.codex32.proofs.Strings.{past_grammar}
 use Rattle.codex32.proofs.Separated.{is_split, none_read, read_none, read_text-split, split_at}
 use lib.Utf8.{encodes, scalar, scalars}
@@ -170,10 +170,10 @@ module _ (text front damaged : List ℕ) (cut : split_at_last text ≡ Some (fro
       ∙ ap (λ (b : Bool). first_of (as_char (invalid_character (read_text text))) (first_of (as_char (cond b (Some MixedCase) None)) (as_hrp (hrp_refusal front)))) mixed-read
 
   -- past the grammar, these are left
-  pub frame-read : text_refusal (read_text text) ≡ None → frame_refusal (read_text text) ≡ first_of (codex32_length_fault (length text)) (part_fault front)
-  frame-read fine =
-      past_grammar (read_text text) front (read_data damaged) fine cut-read
-      ∙ ap (λ (n : ℕ). first_of (codex32_length_fault n) (part_fault front)) length-read
+  pub frame-read : (may : ℕ → Bool) → text_refusal (read_text text) ≡ None → frame_refusal_by may (read_text text) ≡ first_of (codex32_length_fault may (length text)) (part_fault front)
+  frame-read may fine =
+      past_grammar may (read_text text) front (read_data damaged) fine cut-read
+      ∙ ap (λ (n : ℕ). first_of (codex32_length_fault may n) (part_fault front)) length-read
 
   module _ (front_text : IsUtf8 front) (damaged_text : IsUtf8 damaged) where
     read_is_text : IsUtf8 (read_text text)

@@ -3,6 +3,7 @@ use Rattle.std.specs.Prelude.{◌≡◌, ◌⊎◌, ◌≤◌, ◌==◌, ◌&&�
 use Rattle.std.specs.Prelude.{true, List, [], ◌∷◌, ◌++◌, length, slice_index, Option, None, Some}
 use Rattle.std.specs.Char.{to_ascii_lowercase}
 use Rattle.std.specs.Str.{bytes_eq}
+use Rattle.bech32_checksum.specs.Code.{Code}
 use Rattle.bech32_hrp.specs.Hrp.{first_of, lowered}
 use Rattle.bech32_decode.specs.Acceptance.{IsAccepted}
 use Rattle.bech32_decode.specs.Refusals.{IsChecksumRefusal}
@@ -20,6 +21,14 @@ is_ms hrp = bytes_eq (lowered hrp) (109 ∷ 115 ∷ [])
 -- whether a string may have so many characters, 48 to 93 (BIP-93, codex32)
 abbrev pub is_within : ℕ → Bool
 is_within n = nat_le 48 n && nat_le n 93
+
+-- whether a long string may have so many, 125 to 127 (BIP-93, Long codex32 Strings)
+abbrev pub is_within_long : ℕ → Bool
+is_within_long n = nat_le 125 n && nat_le n 127
+
+-- whether a string of either length may have so many
+abbrev pub is_within_either : ℕ → Bool
+is_within_either n = is_within n || is_within_long n
 
 -- whether a character is a threshold: `0`, or `2` to `9` (BIP-93, codex32)
 abbrev pub is_threshold : ℕ → Bool
@@ -52,9 +61,9 @@ abbrev pub as_text : Option UncheckedHrpstringError → Option Codex32Error
 as_text None = None
 as_text (Some e) = Some (Text e)
 
--- the number of characters
-abbrev pub codex32_length_fault : ℕ → Option Codex32Error
-codex32_length_fault n = if is_within n then None else Some Length
+-- the number of characters, of which a test says whether it may be
+abbrev pub codex32_length_fault : (ℕ → Bool) → ℕ → Option Codex32Error
+codex32_length_fault may_be n = if may_be n then None else Some Length
 
 -- the human-readable part is not `ms`
 abbrev pub part_fault : List ℕ → Option Codex32Error
@@ -65,12 +74,20 @@ abbrev pub hrp_fault : Option (List ℕ × List ℕ) → Option Codex32Error
 hrp_fault None = None
 hrp_fault (Some p) = part_fault p.0
 
--- what is wrong with a text but for its checksum, the first of: the grammar, the
--- length, the human-readable part
-abbrev pub frame_refusal : List ℕ → Option Codex32Error
-frame_refusal text =
+-- what is wrong with a text but for its checksum, the first of: the grammar, the length, the
+-- human-readable part
+abbrev pub frame_refusal_by : (ℕ → Bool) → List ℕ → Option Codex32Error
+frame_refusal_by may_be text =
     first_of (as_text (text_refusal text))
-    (first_of (codex32_length_fault (length text)) (hrp_fault (split_at_last text)))
+    (first_of (codex32_length_fault may_be (length text)) (hrp_fault (split_at_last text)))
+
+-- the same of 48 to 93 characters
+abbrev pub frame_refusal : List ℕ → Option Codex32Error
+frame_refusal text = frame_refusal_by is_within text
+
+-- the same of 125 to 127
+abbrev pub long_frame_refusal : List ℕ → Option Codex32Error
+long_frame_refusal text = frame_refusal_by is_within_long text
 
 abbrev pub threshold_fault : ℕ → Option Codex32Error
 threshold_fault c = if is_threshold c then None else Some Threshold
@@ -88,11 +105,15 @@ header_fault data_part =
     (share_index_fault (slice_index data_part 0) (slice_index data_part 5))
 
 -- what is wrong with a text of these parts, the first of: the checksum, the first characters
+abbrev pub IsBodyRefusalBy : Code → List ℕ → List ℕ → List ℕ → Codex32Error → Type 0
+IsBodyRefusalBy code text hrp data_part (Checksum e) =
+    IsChecksumRefusal code (length text) hrp data_part e
+IsBodyRefusalBy code text hrp data_part e =
+    IsAccepted code text hrp data_part × (header_fault data_part ≡ Some e)
+
+-- the same by the checksum of 13 characters
 abbrev pub IsBodyRefusal : List ℕ → List ℕ → List ℕ → Codex32Error → Type 0
-IsBodyRefusal text hrp data_part (Checksum e) =
-    IsChecksumRefusal codex32 (length text) hrp data_part e
-IsBodyRefusal text hrp data_part e =
-    IsAccepted codex32 text hrp data_part × (header_fault data_part ≡ Some e)
+IsBodyRefusal text hrp data_part e = IsBodyRefusalBy codex32 text hrp data_part e
 
 -- a text is refused for its checksum or its first characters, where nothing before these is wrong
 pub record IsLaterRefusal (text : List ℕ) (e : Codex32Error) : Type 0 where

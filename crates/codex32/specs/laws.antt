@@ -1,3 +1,6 @@
--- What the laws of the checksum are proved by.
+-- What the laws of the checksums are proved by.
 pub mod CodeLaws
+pub mod LengthLaws
+pub mod LongCodeLaws
+pub mod LongRootLaws
 pub mod RootLaws

@@ -2,15 +2,16 @@
 
 ghost use Rattle.std.specs.Prelude.{◌≡◌, None, Some, true, MatchResult};
 ghost use Rattle.std.specs.Char.{IsScalar};
-ghost use Rattle.std.specs.List.{list_any};
 ghost use Rattle.bech32_gf.specs.Alphabet.{is_data, is_of_alphabet};
-ghost use Rattle.bech32_hrp.specs.Hrp.{is_lower, is_mixed_case, is_upper};
 ghost use Rattle.bech32_decode.specs.Text.{invalid_character, split_at_last, text_refusal};
 ghost use Rattle.codex32.specs.Nearest.{AreParts, read_character, read_data, read_text};
-ghost use Rattle.codex32.specs.Strings.{frame_refusal};
+ghost use Rattle.codex32.specs.Lengths.{may_have};
+ghost use Rattle.codex32.specs.Strings.{frame_refusal, frame_refusal_by, long_frame_refusal};
 
+use crate::cases::has_both_cases;
 use crate::error::Codex32Error;
 use crate::frame::{framed, validate_outline};
+use crate::lengths::Lengths;
 use crate::unreadable::read_char;
 use bech32::primitives::decode::{CharError, UncheckedHrpstringError};
 use bech32::{Fe32, Hrp};
@@ -39,27 +40,6 @@ fn validate_data(damaged: &str) -> Result<(), CharError>
     Ok(())
 }
 
-// Whether a lower-case letter stands in a text.
-fn has_lower(text: &str) -> bool
-    ensures { result ≡ list_any is_lower text.now }
-{
-    text.bytes().any(|b| b.is_ascii_lowercase())
-}
-
-// Whether an upper-case letter stands in a text.
-fn has_upper(text: &str) -> bool
-    ensures { result ≡ list_any is_upper text.now }
-{
-    text.bytes().any(|b| b.is_ascii_uppercase())
-}
-
-// Whether letters of both cases stand in a text.
-fn has_both_cases(text: &str) -> bool
-    ensures { result ≡ is_mixed_case text.now }
-{
-    has_lower(text) && has_upper(text)
-}
-
 // Tests the grammar of a text, as it is read, of which these stand before and after the last `1`.
 fn validate_grammar(text: &str, front: &str, damaged: &str) -> Result<(), UncheckedHrpstringError>
     requires { split_at_last text.now ≡ Some (front.now, damaged.now) }
@@ -77,11 +57,11 @@ fn validate_grammar(text: &str, front: &str, damaged: &str) -> Result<(), Unchec
 }
 
 // Why a text without `1` is refused.
-fn unseparated(text: &str) -> Codex32Error
+fn unseparated(lengths: Lengths, text: &str) -> Codex32Error
     requires { split_at_last text.now ≡ None }
-    ensures { frame_refusal text.now ≡ Some result }
+    ensures { frame_refusal_by (may_have lengths) text.now ≡ Some result }
 {
-    match framed(text) {
+    match framed(lengths, text) {
         Ok(_) => unreachable!(),
         Err(e) => e,
     }
@@ -92,18 +72,18 @@ fn unseparated(text: &str) -> Codex32Error
 ///
 /// # Errors
 ///
-/// As [`validate_damaged`].
-pub(crate) fn damaged_parts(text: &str) -> Result<(&str, &str), Codex32Error>
+/// As [`validate_damaged`], of as many characters as the strings that are meant.
+pub(crate) fn damaged_parts(lengths: Lengths, text: &str) -> Result<(&str, &str), Codex32Error>
     ensures { MatchResult result
-        (λ parts. (frame_refusal (read_text text.now) ≡ None)
+        (λ parts. (frame_refusal_by (may_have lengths) (read_text text.now) ≡ None)
         × AreParts text.now parts.0.now parts.1.now)
-        (λ e. frame_refusal (read_text text.now) ≡ Some e) }
+        (λ e. frame_refusal_by (may_have lengths) (read_text text.now) ≡ Some e) }
 {
     let Some((front, damaged)) = text.rsplit_once('1') else {
-        return Err(unseparated(text));
+        return Err(unseparated(lengths, text));
     };
     validate_grammar(text, front, damaged)?;
-    validate_outline(text.len(), front.as_bytes())?;
+    validate_outline(lengths, text.len(), front.as_bytes())?;
     Ok((front, damaged))
 }
 
@@ -119,6 +99,21 @@ pub fn validate_damaged(text: &str) -> Result<(), Codex32Error>
         (λ _. frame_refusal (read_text text.now) ≡ None)
         (λ e. frame_refusal (read_text text.now) ≡ Some e) }
 {
-    damaged_parts(text)?;
+    damaged_parts(Lengths::Short, text)?;
+    Ok(())
+}
+
+/// Tests a damaged long string before [`propose_long`](crate::propose_long) looks for the nearest
+/// text, as [`validate_damaged`] does a codex32 string: it has 125 to 127 characters.
+///
+/// # Errors
+///
+/// Those of [`validate_damaged`], with this length.
+pub fn validate_damaged_long(text: &str) -> Result<(), Codex32Error>
+    ensures { MatchResult result
+        (λ _. long_frame_refusal (read_text text.now) ≡ None)
+        (λ e. long_frame_refusal (read_text text.now) ≡ Some e) }
+{
+    damaged_parts(Lengths::Long, text)?;
     Ok(())
 }

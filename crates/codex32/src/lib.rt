@@ -1,19 +1,35 @@
-//! The checksum of codex32, its strings, and the nearest string to a damaged one.
+//! The checksums of codex32, its strings and shares, and the nearest string to a damaged one.
 //!
-//! Below it: `bech32`.
+//! Below it: `bech32`, `codex32_shares`.
 //! Standard: BIP-93.
 #![tactic(auto)]
 
+mod cases;
 mod checksum;
 mod damaged;
+mod derivation;
+mod encoding;
 mod error;
 mod frame;
+mod header;
+mod identifier;
+mod lengths;
+mod long;
 mod nearest;
+mod share;
 mod string;
+mod threshold;
 mod unreadable;
 
 pub use self::checksum::Codex32;
-pub use self::damaged::validate_damaged;
-pub use self::error::Codex32Error;
-pub use self::nearest::{propose, propose_in};
+pub use self::damaged::{validate_damaged, validate_damaged_long};
+pub use self::derivation::{derive, derive_in, recover, recover_in};
+pub use self::encoding::{encode, encode_in};
+pub use self::error::{Codex32Error, DeriveError, EncodeError, HeaderError, PayloadError};
+pub use self::header::{Header, parse_share_index};
+pub use self::identifier::Identifier;
+pub use self::long::LongCodex32;
+pub use self::nearest::{propose, propose_in, propose_long, propose_long_in};
+pub use self::share::Share;
 pub use self::string::Codex32Str;
+pub use self::threshold::Threshold;

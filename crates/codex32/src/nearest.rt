@@ -1,17 +1,68 @@
 //! The nearest text to a damaged one.
 
-ghost use Rattle.std.specs.Prelude.{◌≡◌, None, IfOk, MatchOption, MatchResult, string_bytes};
+ghost use Rattle.std.specs.Prelude.{◌≡◌, ◌≤◌, ◌+◌, None, ℕ, length, true, IfOk, MatchOption, MatchResult, string_bytes, refl};
 ghost use Rattle.bech32_correction.specs.declared.error.CorrectError.TheVariants.{Refused};
 ghost use Rattle.bech32_refusals.specs.declared.error.CheckedHrpstringError.{CheckedHrpstringError as Refusal};
-ghost use Rattle.codex32.specs.Nearest.{HasOneNearest, AreAdditions, IsMendedAt, IsNearestAnswer, IsProposeRefusal, IsUnlisted, read_text};
-ghost use Rattle.codex32.specs.Strings.{frame_refusal};
+ghost use Rattle.codex32.specs.Lengths.{may_have};
+ghost use Rattle.codex32.specs.declared.lengths.Lengths.{Lengths as Which};
+ghost use Rattle.codex32.specs.laws.LengthLaws.{long_fits, short_fits};
+ghost use Rattle.codex32.specs.Nearest.{HasOneNearest, HasOneNearestLong, AreAdditions, IsMendedAt, IsNearestAnswer, IsNearestAnswerBy, IsNearestLongAnswer, IsProposeLongRefusal, IsProposeRefusal, IsProposeRefusalBy, IsUnlisted, read_text};
+ghost use Rattle.codex32.specs.Strings.{frame_refusal, frame_refusal_by, long_frame_refusal};
 
 use crate::checksum::Codex32;
 use crate::damaged::damaged_parts;
 use crate::error::Codex32Error;
+use crate::lengths::Lengths;
+use crate::long::LongCodex32;
 use crate::unreadable::{read_in, unreadable_in};
-use bech32::primitives::correction::{CorrectError, Correction, Listing, listing_in, mended_in};
+use bech32::CorrectingChecksum;
+use bech32::primitives::correction::{
+    CorrectError, Correction, Corrector, Listing, listing_in, mended_in,
+};
 use std::alloc::{AllocError, Allocator, Global};
+use std::marker::PhantomData;
+
+// A checksum that strings end in. Its bound is 8, and so long strings have room for it.
+trait StringChecksum: CorrectingChecksum {
+    ghost lengths: { Which };
+
+    // Which strings end in it.
+    fn lengths() -> Lengths
+        ensures { result ≡ lengths };
+
+    ghost eight: { Self.bound ≡ 8 };
+
+    ghost fits: { (n : ℕ) → may_have lengths n ≡ true
+        → (n ≤ Self.code.code_length) × (length Self.code.generator + 3 ≤ n) };
+}
+
+impl StringChecksum for Codex32 {
+    ghost use Rattle.codex32.specs.declared.lengths.Lengths.TheVariants.{Short};
+
+    ghost lengths = { Short };
+
+    fn lengths() -> Lengths {
+        Lengths::Short
+    }
+
+    ghost eight = { refl };
+
+    ghost fits = { short_fits };
+}
+
+impl StringChecksum for LongCodex32 {
+    ghost use Rattle.codex32.specs.declared.lengths.Lengths.TheVariants.{Long};
+
+    ghost lengths = { Long };
+
+    fn lengths() -> Lengths {
+        Lengths::Long
+    }
+
+    ghost eight = { refl };
+
+    ghost fits = { long_fits };
+}
 
 // The error of a text that is not refused.
 fn memory_of(e: CorrectError) -> AllocError
@@ -24,21 +75,22 @@ fn memory_of(e: CorrectError) -> AllocError
 }
 
 // What is to be added to the elements of a text, where the characters at the given locations are
-// unreadable. It holds the allocator by reference, so that the prover knows the size of a
-// corrector.
-fn unreadable_listing_in<'a, A: Allocator>(
+// unreadable. It holds the allocator by reference, and its last argument names a corrector, as that
+// of its callers does, so that the prover knows the size of one.
+fn unreadable_listing_in<'a, Ck: StringChecksum, A: Allocator>(
     alloc: &'a A,
     read: &str,
     given: &[usize],
+    _sizes: PhantomData<Corrector<Ck, &'a A>>,
 ) -> Result<Option<Listing<&'a A>>, AllocError>
-    requires { frame_refusal read.now ≡ None }
-    ensures { IfOk result (λ found. MatchOption found (IsUnlisted read.now given.now)
-        (λ listing. AreAdditions read.now given.now listing)) }
+    requires { frame_refusal_by (may_have Ck.lengths) read.now ≡ None }
+    ensures { IfOk result (λ found. MatchOption found (IsUnlisted Ck.code read.now given.now)
+        (λ listing. AreAdditions Ck.code read.now given.now listing)) }
 {
     if given.len() > 8 {
         return Ok(None);
     }
-    match listing_in::<Codex32, &'a A>(alloc, read, given) {
+    match listing_in::<Ck, &'a A>(alloc, read, given) {
         Ok(Correction::Accepted) => Ok(Some(Listing::new(alloc))),
         Ok(Correction::Mended(listing)) => Ok(Some(listing)),
         Ok(Correction::Unexplained(_)) => Ok(None),
@@ -47,33 +99,38 @@ fn unreadable_listing_in<'a, A: Allocator>(
 }
 
 // The text in lower case that is mended by that listing, where there is one.
-fn nearest_read_in<A: Allocator + Copy>(
-    alloc: &A,
+fn nearest_read_in<'a, Ck: StringChecksum, A: Allocator + Copy>(
+    alloc: &'a A,
     read: &str,
     given: &[usize],
+    sizes: PhantomData<Corrector<Ck, &'a A>>,
 ) -> Result<Option<String<A>>, AllocError>
-    requires { frame_refusal read.now ≡ None }
-    ensures { IfOk result (λ answer. MatchOption answer (IsUnlisted read.now given.now)
-        (λ s. IsMendedAt read.now given.now (string_bytes s))) }
+    requires { frame_refusal_by (may_have Ck.lengths) read.now ≡ None }
+    ensures { IfOk result (λ answer. MatchOption answer (IsUnlisted Ck.code read.now given.now)
+        (λ s. IsMendedAt Ck.code read.now given.now (string_bytes s))) }
 {
-    let Some(listing) = unreadable_listing_in(alloc, read, given)? else {
+    let Some(listing) = unreadable_listing_in::<Ck, A>(alloc, read, given, sizes)? else {
         return Ok(None);
     };
     let mended = mended_in(*alloc, read, listing.as_slice())?;
     Ok(Some(mended))
 }
 
-// The nearest text, or why none is looked for.
-fn proposed_in<A: Allocator + Copy>(alloc: A, text: &str) -> Result<Option<String<A>>, Codex32Error>
+// The nearest text by a checksum, or why none is looked for.
+fn proposed_in<'a, Ck: StringChecksum, A: Allocator + Copy>(
+    alloc: &'a A,
+    text: &str,
+    sizes: PhantomData<Corrector<Ck, &'a A>>,
+) -> Result<Option<String<A>>, Codex32Error>
     ensures { MatchResult result
-        (λ answer. (frame_refusal (read_text text.now) ≡ None)
-        × IsNearestAnswer string_bytes text.now answer)
-        (λ e. IsProposeRefusal text.now e) }
+        (λ answer. (frame_refusal_by (may_have Ck.lengths) (read_text text.now) ≡ None)
+        × IsNearestAnswerBy Ck.code string_bytes text.now answer)
+        (λ e. IsProposeRefusalBy (may_have Ck.lengths) text.now e) }
 {
-    let (front, damaged) = damaged_parts(text)?;
-    let read = read_in(alloc, front, damaged)?;
-    let places = unreadable_in(alloc, damaged.as_bytes())?;
-    let nearest = nearest_read_in(&alloc, &read, &places)?;
+    let (front, damaged) = damaged_parts(Ck::lengths(), text)?;
+    let read = read_in(*alloc, front, damaged)?;
+    let places = unreadable_in(*alloc, damaged.as_bytes())?;
+    let nearest = nearest_read_in::<Ck, A>(alloc, &read, &places, sizes)?;
     Ok(nearest)
 }
 
@@ -100,7 +157,7 @@ pub fn propose_in<A: Allocator + Copy>(
         (λ _. frame_refusal (read_text text.now) ≡ None)
         (λ e. IsProposeRefusal text.now e) }
 {
-    proposed_in(alloc, text)
+    proposed_in::<Codex32, A>(&alloc, text, PhantomData)
 }
 
 /// The nearest text as [`propose_in`] has it, with memory of the global allocator.
@@ -116,4 +173,39 @@ pub fn propose(alloc: Global, text: &str) -> Result<Option<String>, Codex32Error
         (λ e. IsProposeRefusal text.now e) }
 {
     propose_in(alloc, text)
+}
+
+/// The nearest text to a damaged long string, of 125 to 127 characters, with memory from `alloc`:
+/// as [`propose_in`] has it of a codex32 string, by the checksum [`LongCodex32`].
+///
+/// # Errors
+///
+/// That of [`validate_damaged_long`](crate::validate_damaged_long), before anything is allocated.
+/// Then, when out of memory, that in place of any answer.
+pub fn propose_long_in<A: Allocator + Copy>(
+    alloc: A,
+    text: &str,
+) -> Result<Option<String<A>>, Codex32Error>
+    ensures value { IfOk result (λ answer. IsNearestLongAnswer string_bytes text.now answer) }
+    ensures only { HasOneNearestLong text.now }
+    ensures refused { MatchResult result
+        (λ _. long_frame_refusal (read_text text.now) ≡ None)
+        (λ e. IsProposeLongRefusal text.now e) }
+{
+    proposed_in::<LongCodex32, A>(&alloc, text, PhantomData)
+}
+
+/// The nearest text as [`propose_long_in`] has it, with memory of the global allocator.
+///
+/// # Errors
+///
+/// Those of [`propose_long_in`].
+pub fn propose_long(alloc: Global, text: &str) -> Result<Option<String>, Codex32Error>
+    ensures value { IfOk result (λ answer. IsNearestLongAnswer string_bytes text.now answer) }
+    ensures only { HasOneNearestLong text.now }
+    ensures refused { MatchResult result
+        (λ _. long_frame_refusal (read_text text.now) ≡ None)
+        (λ e. IsProposeLongRefusal text.now e) }
+{
+    propose_long_in(alloc, text)
 }

@@ -7,6 +7,7 @@ ghost use Rattle.codex32.specs.Strings.{IsCodex32, IsStringRefusal, header_fault
 use crate::checksum::Codex32;
 use crate::error::Codex32Error;
 use crate::frame::framed;
+use crate::lengths::Lengths;
 
 /// A codex32 string in its parts, in the case of the text, which it borrows (BIP-93, codex32): the
 /// human-readable part `ms`, 48 to 93 characters, and the checksum of 13 characters.
@@ -18,8 +19,8 @@ pub struct Codex32Str<'s> {
     payload: &'s str,
 }
 
-// Tests the threshold of a data part, and its share index.
-fn validate_header(data_part: &[u8]) -> Result<(), Codex32Error>
+/// Tests the threshold of a data part, and its share index.
+pub(crate) fn validate_header(data_part: &[u8]) -> Result<(), Codex32Error>
     requires { 6 ≤ length data_part.now }
     ensures { MatchResult result
         (λ _. header_fault data_part.now ≡ None)
@@ -62,7 +63,7 @@ impl<'s> Codex32Str<'s> {
             (λ s. IsStringOf text.now s)
             (λ e. IsStringRefusal text.now e) }
     {
-        let unchecked = framed(text)?;
+        let unchecked = framed(Lengths::Short, text)?;
         unchecked.validate_checksum::<Codex32>()?;
         validate_header(unchecked.data_part_ascii())?;
         Ok(Self::cut(text))

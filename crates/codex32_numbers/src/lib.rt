@@ -9,10 +9,10 @@
 
 ghost use Rattle.std.specs.Prelude.{◌≡◌};
 ghost use Rattle.bech32_numbers.specs.Numbers.{IsSmall};
-ghost use Rattle.codex32_numbers.specs.Numbers.{number_of_codex32_error};
+ghost use Rattle.codex32_numbers.specs.Numbers.{number_of_codex32_error, number_of_derive_error, number_of_codex32_encode_error, number_of_header_error, number_of_payload_error};
 
 use bech32_numbers::{checksum_error_number, text_error_number};
-use codex32::Codex32Error;
+use codex32::{Codex32Error, DeriveError, EncodeError, HeaderError, PayloadError};
 
 /// The number, 11 to 33, 81 to 84 or 91, of a text that is not a codex32 string, or for which no
 /// nearest text is looked for.
@@ -28,5 +28,54 @@ pub fn codex32_error_number(e: Codex32Error) -> u8
         Codex32Error::Threshold => 83,
         Codex32Error::ShareIndex => 84,
         Codex32Error::Memory => 91,
+    }
+}
+
+/// The number, 83 to 86, of words or parts of which no header is made.
+pub fn header_error_number(e: HeaderError) -> u8
+    ensures value { result ≡ number_of_header_error e }
+    ensures small { IsSmall result }
+{
+    match e {
+        HeaderError::Threshold => 83,
+        HeaderError::Unshared => 84,
+        HeaderError::Identifier => 85,
+        HeaderError::ShareIndex => 86,
+    }
+}
+
+/// The number, 87, of a payload that has no bytes.
+pub fn payload_error_number(e: PayloadError) -> u8
+    ensures value { result ≡ number_of_payload_error e }
+    ensures small { IsSmall result }
+{
+    match e {
+        PayloadError::LeftOver => 87,
+    }
+}
+
+/// The number, 55 or 91, of bytes of which no string is made.
+pub fn encode_error_number(e: EncodeError) -> u8
+    ensures value { result ≡ number_of_codex32_encode_error e }
+    ensures small { IsSmall result }
+{
+    match e {
+        EncodeError::Size => 55,
+        EncodeError::Memory => 91,
+    }
+}
+
+/// The number, 61 to 64, 84 or 91, of shares that give no string.
+pub fn derive_error_number(e: DeriveError) -> u8
+    ensures value { result ≡ number_of_derive_error e }
+    ensures small { IsSmall result }
+{
+    match e {
+        DeriveError::TooFew => 61,
+        DeriveError::OtherSet => 62,
+        DeriveError::IndexTwice => 63,
+        DeriveError::Contradiction => 64,
+        DeriveError::Unshared => 84,
+        DeriveError::Memory => 91,
     }
 }

@@ -1,3 +1,4 @@
+mod by_definition;
 mod checksum;
 mod compare;
 mod damaged;
@@ -5,3 +6,4 @@ mod known;
 mod lent_memory;
 mod memory;
 mod messages;
+mod shares;

@@ -22,8 +22,8 @@ same_cons : (x y : Fe32) (xs ys : List Fe32) → x ≡ y → xs ≡ ys → x ∷
 same_cons x y xs ys e f = cc
 
 -- elements of equal values are equal
-same_values : (xs ys : List Fe32) → map (λ (x : Fe32). x.value) xs ≡ map (λ (y : Fe32). y.value) ys
-    → xs ≡ ys
+pub same_values : (xs ys : List Fe32)
+    → map (λ (x : Fe32). x.value) xs ≡ map (λ (y : Fe32). y.value) ys → xs ≡ ys
 same_values [] [] e = refl
 same_values [] (y ∷ ys) e = cc
 same_values (x ∷ xs) [] e = cc
@@ -32,7 +32,7 @@ same_values (x ∷ xs) (y ∷ ys) e =
     let rest : map (λ (x : Fe32). x.value) xs ≡ map (λ (y : Fe32). y.value) ys = cc in
     same_cons x y xs ys (fe32.path x y first) (same_values xs ys rest)
 
-same_code : (c d : Code) → c.generator ≡ d.generator → c.target ≡ d.target
+pub same_code : (c d : Code) → c.generator ≡ d.generator → c.target ≡ d.target
     → c.code_length ≡ d.code_length → c ≡ d
 same_code c d e f g = λ i. record { generator = e i; target = f i; code_length = g i }
 

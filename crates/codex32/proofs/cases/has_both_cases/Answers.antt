@@ -1,7 +1,7 @@
 use Rattle.std.proofs.Common.{Bool, ◌&&◌, ap, sym, ◌∙◌}
 use Rattle.std.specs.List.{list_any}
 use Rattle.bech32_hrp.specs.Hrp.{is_upper}
-use Rattle.codex32.proofs.damaged.has_both_cases.Goals as goal
+use Rattle.codex32.proofs.cases.has_both_cases.Goals as goal
 
 pub returns-then-has_lower : goal.returns-then-has_lower
 returns-then-has_lower c =

@@ -1,0 +1,10 @@
+pub mod Values
+pub mod OnePlaceMore
+pub mod Through
+pub mod Written
+pub mod Texts
+pub mod Checksums
+pub mod Strings
+pub mod OfChecksum
+pub mod Agreed
+pub mod Given
