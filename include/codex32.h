@@ -57,8 +57,7 @@ extern "C" {
 #define CODEX32_WRONG_CHECKSUM 33u      /* the checksum is wrong */
 #define CODEX32_NO_NEAREST 34u          /* there is no nearest text */
 #define CODEX32_NOT_MS 81u              /* the human-readable part is not `ms` */
-#define CODEX32_BAD_LENGTH 82u          /* the text has not as many characters as a codex32 string: 48 to
-                                           93, or a long one 125 to 127 */
+#define CODEX32_BAD_LENGTH 82u          /* the text has less than 48 characters, or more than 93 */
 #define CODEX32_BAD_THRESHOLD 83u       /* the threshold is neither 0 nor a digit from 2 to 9 */
 #define CODEX32_BAD_SHARE_INDEX 84u     /* the threshold is 0, and the share index is not `s` */
 #define CODEX32_NO_MEMORY 91u           /* the lent memory did not suffice */

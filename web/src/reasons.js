@@ -40,7 +40,7 @@ const SENTENCES = {
   52: 'The witness version is above 16.',
   53: 'The address would have more than 90 characters.',
   81: 'The human-readable part is not “ms”.',
-  82: 'The text has not as many characters as a codex32 string: 48 to 93, or a long one 125 to 127.',
+  82: 'The text has less than 48 characters, or more than 93.',
   83: 'The threshold is neither 0 nor a digit from 2 to 9.',
   84: 'The threshold is 0, and the share index is not “s”.',
 };
