@@ -27,7 +27,7 @@ up_to question highest = record {
   erasures = question.erasures;
 }
 
--- the answer to a question with given locations; None, too, where a location is not below the window
+-- the answer to a question with given locations; None too where a location is not in the window
 abbrev pub IsAnswerWith : Code → ℕ → Question → List ℕ → Option (List (ℕ × Fe32)) → Type 0
 IsAnswerWith code bound question given None = AllByRecursion (λ i. i < question.window) given
     → IsAnswerTo code bound (with_given question given) None
