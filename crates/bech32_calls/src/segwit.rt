@@ -101,7 +101,7 @@ pub fn decoded(
     let Some(reading) = Reading::<Bech32m>::of(text) else {
         return decoded_unread(text, hrp, program);
     };
-    let address = reading.address()?;
+    let address = reading.short_address()?;
     let (part, count) = put_parts(reading.hrp, address.program, hrp, program)?;
     Ok((part, address.version, count))
 }

@@ -69,7 +69,7 @@ impl<'s> SegwitHrpstring<'s> {
             return Err(SegwitHrpstringError::TooLong(s.len()));
         }
         if let Some(reading) = Reading::<Bech32m>::of(s.as_bytes()) {
-            let found = reading.address()?;
+            let found = reading.short_address()?;
             let hrp = Hrp::of_bytes(reading.hrp);
             return Ok(Self::of_parts(hrp, found.version, found.program));
         }

@@ -1,6 +1,6 @@
 //! Reads a text in one walk: its parts, and the remainder that it leaves.
 
-ghost use Rattle.std.specs.Prelude.{◌≡◌, ◌≤◌, ◌%◌, ◌/◌, ◌^◌, ◌+◌, ◌*◌, ◌<◌, ◌↔◌, if◌then◌else◌, ◌⊎◌, ℕ, true, length, take, IfSome, IsTrue, MatchResult};
+ghost use Rattle.std.specs.Prelude.{◌≡◌, ◌≤◌, ◌%◌, ◌/◌, ◌^◌, ◌+◌, ◌*◌, ◌<◌, ◌↔◌, if◌then◌else◌, ◌⊎◌, ℕ, true, length, take, drop, IfSome, IsTrue, MatchResult};
 ghost use Rattle.std.specs.List.{list_all};
 ghost use Rattle.bech32_checksum.specs.Code.{bech32, bech32m};
 ghost use Rattle.bech32_hrp.specs.Hrp.{is_graphic, is_lower, is_upper};
@@ -16,11 +16,11 @@ ghost use Rattle.bech32_decode.specs.Reading.{IsReading};
 ghost use Rattle.bech32_decode.specs.BeforeChecksum.{IsBeforeChecksum};
 ghost use Rattle.bech32_decode.specs.Parts.{checked_data, checked_length, checked_part};
 ghost use Rattle.bech32_decode.specs.Refusals.{IsChecksumRefusal, IsRefusedByBoth};
-ghost use Rattle.bech32_decode.specs.Segwit.{IsAddressRefusal, segwit_code};
+ghost use Rattle.bech32_decode.specs.Segwit.{IsAddressRefusal, IsVersioned, segwit_code};
 ghost use Rattle.bech32_decode.specs.SegwitParts.{IsReadIn};
 ghost use Rattle.bech32_gf.specs.Alphabet.{is_data};
 
-use crate::address_data::{AddressData, data_of_version};
+use crate::address_data::{AddressData, data_of_version, validate_sizes};
 use crate::checked::CheckedHrpstring;
 use crate::part_cases::PART_CASES;
 use crate::validation::{validate_lengths, validate_residue};
@@ -332,26 +332,54 @@ impl<'s> Reading<'s, Bech32m> {
         }
     }
 
-    /// The version and the program of a segwit address: of version 0 by Bech32, of another version
-    /// by Bech32m (BIP-350). Whoever reads an address has refused a text of more than 90 characters
-    /// before all else.
-    ///
-    /// # Errors
-    ///
-    /// The first of: no data part; a witness version above 16; the checksum; no data before the
-    /// checksum; padding of more than four bits; padding that is not zero; a program of less than 2
-    /// bytes, of more than 40, or of neither 20 nor 32 in version 0.
-    #[inline]
-    pub fn address(&self) -> Result<AddressData<'s>, SegwitHrpstringError>
-        requires { length self.now.text.now ≤ 90 }
-        ensures { MatchResult result
-            (λ a. IsReadIn segwit_code self.now.text.now self.now.hrp.now a.version a.program.now)
+    // The witness version of a text that the checksum of this version accepts.
+    #[inline(always)]
+    fn accepted_version(&self) -> Result<Fe32, SegwitHrpstringError>
+        ensures { let data_part = self.now.data_part.now in MatchResult result
+            (λ v. IsVersioned (elements_of data_part) v (elements_of (drop 1 data_part))
+            × IsAccepted (segwit_code v) self.now.text.now self.now.hrp.now data_part)
             (λ e. IsAddressRefusal segwit_code self.now.text.now e) }
     {
         let version = first_version(self.data_part)?;
         if !self.is_accepted_by(version) {
             return Err(SegwitHrpstringError::Checksum(self.refusal_by(version)));
         }
+        Ok(version)
+    }
+
+    /// The version and the program of a segwit address: of version 0 by Bech32, of another version
+    /// by Bech32m (BIP-350).
+    ///
+    /// # Errors
+    ///
+    /// The first of: no data part; a witness version above 16; the checksum; no data before the
+    /// checksum; more than 90 characters; padding of more than four bits; padding that is not zero;
+    /// a program of less than 2 bytes, of more than 40, or of neither 20 nor 32 in version 0.
+    #[inline]
+    pub fn address(&self) -> Result<AddressData<'s>, SegwitHrpstringError>
+        ensures { MatchResult result
+            (λ a. IsReadIn segwit_code self.now.text.now self.now.hrp.now a.version a.program.now)
+            (λ e. IsAddressRefusal segwit_code self.now.text.now e) }
+    {
+        let version = self.accepted_version()?;
+        let characters = self.characters();
+        validate_sizes(self.text.len(), characters)?;
+        data_of_version(version, characters)
+    }
+
+    /// [`Self::address`] of a text of at most 90 characters, for those who have tested the length.
+    ///
+    /// # Errors
+    ///
+    /// Those of [`Self::address`], in the same order.
+    #[inline]
+    pub fn short_address(&self) -> Result<AddressData<'s>, SegwitHrpstringError>
+        requires { length self.now.text.now ≤ 90 }
+        ensures { MatchResult result
+            (λ a. IsReadIn segwit_code self.now.text.now self.now.hrp.now a.version a.program.now)
+            (λ e. IsAddressRefusal segwit_code self.now.text.now e) }
+    {
+        let version = self.accepted_version()?;
         let characters = self.characters();
         if characters.is_empty() {
             return Err(SegwitHrpstringError::NoData);

@@ -3,8 +3,8 @@ use Rattle.std.proofs.lemmas.Result.{err_from_is_err_and}
 use Rattle.bech32_calls.proofs.Addresses.{program_lacks, puts_program, refused_address}
 use Rattle.bech32_calls.proofs.segwit.decoded.Goals as goal
 
-pub address-requires : goal.address-requires
-address-requires c = omega (arith, ap length c.in-Some.ensures, c.if-text-gt-MAX_STRING_LENGTH.false)
+pub short_address-requires : goal.short_address-requires
+short_address-requires c = omega (arith, ap length c.in-Some.ensures, c.if-text-gt-MAX_STRING_LENGTH.false)
 
 pub returns-in_err-address-clause-refused : goal.returns-in_err-address-clause-refused
 returns-in_err-address-clause-refused c =

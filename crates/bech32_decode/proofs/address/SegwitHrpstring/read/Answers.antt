@@ -5,8 +5,8 @@ use Rattle.bech32_decode.specs.Segwit.{segwit_code, IsVersioned}
 use Rattle.bech32_decode.proofs.Addresses.{in_length, outcome-from_checksum}
 use Rattle.bech32_decode.proofs.address.SegwitHrpstring.read.Goals as goal
 
-pub address-requires : goal.address-requires
-address-requires c = let text = c.in-Some.ensures in omega (arith, ap length text, c.if-s-gt-MAX_STRING_LENGTH.false)
+pub short_address-requires : goal.short_address-requires
+short_address-requires c = let text = c.in-Some.ensures in omega (arith, ap length text, c.if-s-gt-MAX_STRING_LENGTH.false)
 
 pub returns-then-eq : goal.returns-then-eq
 returns-then-eq c =
