@@ -1,8 +1,8 @@
 //! Texts that one walk reads, and texts of which it says nothing.
 
 use crate::tests::compare::same;
-use bech32::primitives::decode::CheckedHrpstring;
-use bech32::{Bech32, Bech32m};
+use bech32::primitives::decode::{CheckedHrpstring, SegwitHrpstringError};
+use bech32::{Bech32, Bech32m, Fe32};
 use bech32_decode::Reading;
 
 // Whether one walk reads a text that Bech32 accepts.
@@ -60,4 +60,27 @@ fn faults_are_not_read(rt: HostRuntime) {
     same(&rt, &is_read("12uel5l"), &false);
     same(&rt, &is_read("pzry9x0s0muk"), &false);
     same(&rt, &is_read(""), &false);
+}
+
+// The version of an address that one walk reads, and how many characters its program has.
+fn address_in(text: &str) -> Option<Result<(Fe32, usize), SegwitHrpstringError>> {
+    match Reading::<Bech32m>::of(text.as_bytes())?.address() {
+        Ok(address) => Some(Ok((address.version, address.program.len()))),
+        Err(error) => Some(Err(error)),
+    }
+}
+
+// Texts of BIP-350, and one of 91 characters that Bech32m accepts.
+#[test]
+fn addresses_of_every_length(rt: HostRuntime) {
+    let taproot = "bc1p0xlxvlhemja6c4dqv22uapctqupfhlxm9h8z3k2e72q4k9hcz7vqzk5jj0";
+    same(&rt, &address_in(taproot), &Some(Ok((Fe32::P, 52))));
+    let long =
+        "anhrpthatistwentycha1pqyqszqgpqyqszqgpqyqszqgpqyqszqgpqyqszqgpqyqszqgpqyqszqgpqyqszqgccg8y6";
+    let too_long = SegwitHrpstringError::TooLong(91);
+    same(&rt, &address_in(long), &Some(Err(too_long)));
+    let no_data = SegwitHrpstringError::NoData;
+    same(&rt, &address_in("?1v759aa"), &Some(Err(no_data)));
+    let version = SegwitHrpstringError::InvalidWitnessVersion(Fe32::L);
+    same(&rt, &address_in("a1lqfn3a"), &Some(Err(version)));
 }
