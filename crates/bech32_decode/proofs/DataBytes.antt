@@ -2,7 +2,6 @@
 use Rattle.std.proofs.Common.{◌≡◌, ℕ, suc, ◌+◌, ◌-◌, ◌*◌, ◌/◌, ◌%◌, ◌<◌, ◌≤◌, List, [], ◌∷◌, ◌++◌, length, take, drop, get_or, set, refl, sym, ap, ◌∙◌, arith, append_assoc, length-append}
 use Rattle.std.proofs.lemmas.List.{drop-drop, drop_at, drop-take, drop_more, length-map, length-take-le, map-append, set_at, take-append-drop, take-take, take_at}
 use Rattle.bech32_gf.specs.Fe32.{element_of, elements_of}
-use Rattle.bech32_gf.specs.declared.gf32.Fe32.{Fe32}
 use Rattle.bech32_bits.specs.Bits.{to_bytes}
 use Rattle.bech32_bits.proofs.WholeGroups.{five_of, to_bytes-append}
 use Rattle.bech32_bits.proofs.RoundTrip.{length-to_bytes}

@@ -1,5 +1,5 @@
 -- A segwit address in its parts.
-use Rattle.std.specs.Prelude.{◌≡◌, ◌⊎◌, ℕ, List, ◌∷◌, drop, length}
+use Rattle.std.specs.Prelude.{◌≡◌, ℕ, List, ◌∷◌, drop, length}
 use Rattle.bech32_gf.specs.Fe32.{elements_of}
 use Rattle.bech32_gf.specs.declared.gf32.Fe32.{Fe32}
 use Rattle.bech32_checksum.specs.Code.{Code}
@@ -8,7 +8,7 @@ use Rattle.bech32_decode.specs.BeforeChecksum.{IsBeforeChecksum}
 use Rattle.bech32_decode.specs.Checked.{IsWithoutChecksum}
 use Rattle.bech32_decode.specs.Parts.{checked_hrp, checked_data, checked_length, address_hrp}
 use Rattle.bech32_decode.specs.Parts.{address_part, address_version, address_data}
-use Rattle.bech32_decode.specs.Refusals.{IsValidBy, IsInvalidBy, IsChecksumRefusal}
+use Rattle.bech32_decode.specs.Refusals.{IsValidBy, IsInvalidBy}
 use Rattle.bech32_decode.specs.Segwit.{IsSegwitData, IsDataRefusal}
 use Rattle.bech32_decode.specs.declared.address.SegwitHrpstring.{SegwitHrpstring}
 use Rattle.bech32_decode.specs.declared.checked.CheckedHrpstring.{CheckedHrpstring}

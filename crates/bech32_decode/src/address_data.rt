@@ -61,7 +61,10 @@ pub(crate) fn validate_program_length(
 
 // Tests that there are characters before a checksum, and at most 90 in the whole text.
 #[inline]
-pub(crate) fn validate_sizes(text_length: usize, characters: &[u8]) -> Result<(), SegwitHrpstringError>
+pub(crate) fn validate_sizes(
+    text_length: usize,
+    characters: &[u8],
+) -> Result<(), SegwitHrpstringError>
     ensures { MatchResult result
         (λ _. (text_length ≤ 90) × (characters.now ≢ []))
         (λ e. IsDataRefusal text_length (elements_of characters.now) e) }
