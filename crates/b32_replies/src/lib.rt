@@ -10,7 +10,7 @@ mod correct;
 mod decode;
 mod encode;
 pub mod error;
-mod hex_word;
+pub mod hex_word;
 mod location_word;
 mod refusal;
 pub mod reply;

@@ -1,3 +1,4 @@
 pub mod Replies
 pub mod Sizes
 pub mod Split
+pub mod Texts

@@ -1,13 +1,17 @@
-//! Answers each line of standard input about a codex32 string.
+//! Answers each line of standard input about codex32 strings.
 //!
-//! Below it: `codex32`, `codex32_numbers`, `line_program`.
+//! Below it: `codex32`, `codex32_numbers`, `line_program`, `b32_replies`.
 //! Standard: BIP-93.
 #![tactic(auto)]
 
 mod command;
+mod derive;
+mod encode;
 mod parse;
 mod propose;
+mod refusal;
 mod reply;
+mod share;
 
 use crate::reply::Commands;
 use devices::Watched;

@@ -2,14 +2,15 @@
 
 ghost use Rattle.std.specs.Prelude.{◌+◌, ◌≤◌, vec_len, vec_capacity};
 ghost use Rattle.line_program.specs.Added.{AddsOrRefuses};
-ghost use Rattle.codex32_numbers.specs.Numbers.{number_of_codex32_error};
+ghost use Rattle.c32.specs.Numbers.{number_of_codex32_reply};
 ghost use Rattle.c32.specs.Reply.{IsCodex32Answer};
-ghost use Rattle.c32.specs.Request.{Codex32Request, codex32_request_of};
+ghost use Rattle.c32.specs.Request.{Codex32Request, codex32_request_of, codex32_request_of_command};
 
-use crate::command::{Command, command_of};
+use crate::command::Command;
 use crate::parse::parse;
-use codex32::Codex32Error;
-use codex32_numbers::codex32_error_number;
+use crate::refusal::Refusal;
+use crate::share::share;
+use bech32::Fe32;
 use line_program::{Execute, NotExecuted};
 use std::alloc::Allocator;
 
@@ -21,15 +22,25 @@ pub struct Commands<A> {
 
 impl<A: Allocator + Copy> Commands<A> {
     // Adds the answer to a command, or leaves all as it was.
-    fn answer(&self, command: Command, text: &str, out: &mut Vec<u8>) -> Result<(), Codex32Error>
+    fn answer(&self, command: Command<'_>, out: &mut Vec<u8>) -> Result<(), Refusal>
         requires { vec_len out.old + 2047 ≤ vec_capacity out.old }
-        ensures answer { AddsOrRefuses (IsCodex32Answer (command, text.now)) number_of_codex32_error
-            result out.old.items out.new.items }
+        ensures answer { AddsOrRefuses (IsCodex32Answer (codex32_request_of_command command.entry))
+            number_of_codex32_reply result out.old.items out.new.items }
         ensures capacity { vec_capacity out.old ≤ vec_capacity out.new }
     {
         match command {
-            Command::Parse => parse(text, out),
-            Command::Propose => self.propose(text, out),
+            Command::Parse { text } => Ok(parse(text, out)?),
+            Command::Propose { text } => Ok(self.propose(text, out)?),
+            Command::ProposeLong { text } => Ok(self.propose_long(text, out)?),
+            Command::Share { text } => share(text, out),
+            Command::Encode {
+                threshold,
+                identifier,
+                share_index,
+                hex,
+            } => self.encode((threshold, identifier, share_index), hex, out),
+            Command::Derive { share_index, texts } => self.derive(share_index, texts, out),
+            Command::Recover { texts } => self.derive_at(Fe32::S, texts, out),
         }
     }
 }
@@ -42,12 +53,12 @@ impl<A: Allocator + Copy> Execute for Commands<A> {
     ghost is_answer = { IsCodex32Answer };
 
     fn execute(&self, text: &str, out: &mut Vec<u8>) -> Result<(), NotExecuted> {
-        let Some((command, text)) = command_of(text) else {
+        let Some(command) = Command::parse(text) else {
             return Err(NotExecuted::NoCommand);
         };
-        match self.answer(command, text, out) {
+        match self.answer(command, out) {
             Ok(()) => Ok(()),
-            Err(e) => Err(NotExecuted::Refused(codex32_error_number(e))),
+            Err(e) => Err(NotExecuted::Refused(e.number())),
         }
     }
 }
