@@ -103,21 +103,32 @@ pub fn table_of_bad(rows: &[Row]) -> String {
     text
 }
 
-/// A bar for the ratio of each operation that is not on bad input, a mark on it where C's is, and a line
-/// at 1.
+/// What the bars, the marks and the line of the chart are, in a line of the chart.
+fn legend(y: f64) -> String {
+    format!(
+        "<rect x=\"60\" y=\"{0:.0}\" width=\"26\" height=\"14\" fill=\"#2a7f62\"/>\n<text x=\"92\" y=\"{1:.0}\">instructions of this library / of the crate</text>\n<rect x=\"374\" y=\"{0:.0}\" width=\"2\" height=\"14\" fill=\"black\"/>\n<text x=\"384\" y=\"{1:.0}\">of C written by hand / of the crate</text>\n<line x1=\"640\" y1=\"{0:.0}\" x2=\"640\" y2=\"{1:.0}\" stroke=\"black\" stroke-dasharray=\"4 3\"/>\n<text x=\"650\" y=\"{1:.0}\">1, the crate itself</text>\n",
+        y - 12.0,
+        y
+    )
+}
+
+/// A bar for the ratio of each operation that is not on bad input, a mark on it where C's is, a line at 1,
+/// and below them what they are.
 pub fn chart(rows: &[Row]) -> String {
     let rows: Vec<&Row> = rows.iter().filter(|row| row.is_good()).collect();
     let (left, scale, step) = (330.0, 330.0, 26.0);
-    let height = 30.0 + step * rows.len() as f64;
+    let end = 16.0 + step * rows.len() as f64;
+    let height = end + 34.0;
     let mut svg = format!(
         "<svg xmlns=\"http://www.w3.org/2000/svg\" width=\"800\" height=\"{height:.0}\" font-family=\"sans-serif\" font-size=\"13\">\n<rect width=\"800\" height=\"{height:.0}\" fill=\"white\"/>\n"
     );
     for (i, row) in rows.iter().enumerate() {
         let (y, ratio) = (10.0 + step * i as f64, row.ratio());
         let color = if ratio <= 1.0 { "#2a7f62" } else { "#b5541c" };
+        let digits = if ratio < 0.095 { 3 } else { 2 };
         writeln!(
             svg,
-            "<text x=\"{:.0}\" y=\"{:.0}\" text-anchor=\"end\">{}</text>\n<rect x=\"{left:.0}\" y=\"{y:.0}\" width=\"{:.1}\" height=\"18\" fill=\"{color}\"/>\n<rect x=\"{:.1}\" y=\"{y:.0}\" width=\"2\" height=\"18\" fill=\"black\"/>\n<text x=\"{:.1}\" y=\"{:.0}\">{ratio:.2}</text>",
+            "<text x=\"{:.0}\" y=\"{:.0}\" text-anchor=\"end\">{}</text>\n<rect x=\"{left:.0}\" y=\"{y:.0}\" width=\"{:.1}\" height=\"18\" fill=\"{color}\"/>\n<rect x=\"{:.1}\" y=\"{y:.0}\" width=\"2\" height=\"18\" fill=\"black\"/>\n<text x=\"{:.1}\" y=\"{:.0}\">{ratio:.digits$}</text>",
             left - 8.0,
             y + 14.0,
             row.name,
@@ -130,8 +141,9 @@ pub fn chart(rows: &[Row]) -> String {
     }
     writeln!(
         svg,
-        "<line x1=\"{0:.0}\" y1=\"0\" x2=\"{0:.0}\" y2=\"{height:.0}\" stroke=\"black\" stroke-dasharray=\"4 3\"/>\n</svg>",
-        left + scale
+        "<line x1=\"{0:.0}\" y1=\"0\" x2=\"{0:.0}\" y2=\"{end:.0}\" stroke=\"black\" stroke-dasharray=\"4 3\"/>\n{1}</svg>",
+        left + scale,
+        legend(height - 14.0)
     )
     .unwrap();
     svg
