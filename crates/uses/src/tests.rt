@@ -2,6 +2,7 @@ mod addresses;
 mod codex;
 mod compare;
 mod corrections;
+mod first;
 mod front;
 mod lazy;
 mod long_codex32;

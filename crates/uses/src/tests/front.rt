@@ -1,11 +1,8 @@
-//! The front page: encoding, decoding, and a correction.
+//! Encoding and decoding, and texts of a stated checksum.
 
 use crate::tests::compare::{same, same_items};
 use bech32::primitives::decode::{CheckedHrpstring, SegwitHrpstring};
-use bech32::{
-    Bech32, Bech32m, Correction, Fe32, Hrp, Mended, NoChecksum, correct, decode, encode,
-    encode_to_fmt, hrp, segwit,
-};
+use bech32::{Bech32, Bech32m, Hrp, NoChecksum, decode, encode, encode_to_fmt, hrp, segwit};
 use std::alloc::Global;
 use std::test::Fail;
 
@@ -14,35 +11,6 @@ const DATA: [u8; 20] = [0xab; 20];
 const STRING: &str = "abc14w46h2at4w46h2at4w46h2at4w46h2at958ngu";
 
 const TAP_ADDR: &str = "bc1p4w46h2at4w46h2at4w46h2at4w46h2at5kreae";
-
-#[test]
-fn encodes_and_decodes(rt: HostRuntime) -> Result<(), Fail> {
-    let alloc = rt.alloc();
-    let hrp = Hrp::parse("abc")?;
-    let text = encode::<Bech32m>(alloc, hrp, &DATA)?;
-    same(&rt, &text.as_str(), &STRING);
-    let (part, bytes) = decode(alloc, &text)?;
-    same(&rt, &(part, bytes.as_slice()), &(hrp, DATA.as_slice()));
-    Ok(())
-}
-
-// How Bech32m corrects a text.
-fn corrected(alloc: Global, text: &str) -> Option<Mended> {
-    match correct::<Bech32m>(alloc, text, &[]) {
-        Ok(Correction::Mended(mended)) => Some(mended),
-        _ => None,
-    }
-}
-
-#[test]
-fn corrects(rt: HostRuntime) -> Result<(), Fail> {
-    // The last character should be `u`: that is to be added to the `q`, which is zero.
-    let mistyped = "abc14w46h2at4w46h2at4w46h2at4w46h2at958ngq";
-    let mended = corrected(rt.alloc(), mistyped).ok_or("no correction")?;
-    same(&rt, &mended.text.as_str(), &STRING);
-    same_items(&rt, mended.listing.as_slice(), &[(0, Fe32::U)]);
-    Ok(())
-}
 
 #[test]
 fn encoding(rt: HostRuntime) -> Result<(), Fail> {
