@@ -11,10 +11,10 @@
  * bech32_nearest: the buffers and the lengths stay as they were. Else what it writes stands at the
  * front of the buffer, and the bytes behind it stay as they were. Nothing is ended by a zero byte.
  *
- * A buffer is a pointer and the number of bytes it has room for. No pointer may be null, not even
- * that of an empty text or buffer, and nothing that a function writes to may overlap with anything
- * else that it is given. These two, that the lengths are true, and what is said of lent memory, are
- * all that a caller owes.
+ * A buffer is a pointer and the number of bytes it has room for. A pointer beside a length or a room of
+ * 0 is not followed, and may be null; no other pointer may be, and nothing that a function writes to may
+ * overlap with anything else that it is given. These two, that the lengths are true, and what is said of
+ * lent memory, are all that a caller owes.
  *
  * Lengths are in bytes, which are characters where the text is accepted or written. The C file of the
  * library, where it tests each access (MACHINE_IS_TESTED), refuses a text, a human-readable part or
@@ -37,6 +37,9 @@ extern "C" {
 /* The version of the library. */
 #define BECH32_VERSION "0.1.0"
 
+/* The same as a number: 10,000 times the first, 100 times the second, and the third. */
+#define BECH32_VERSION_NUMBER 100u
+
 /* Checksums. */
 #define BECH32_BECH32 1u  /* BIP-173 */
 #define BECH32_BECH32M 2u /* BIP-350 */
@@ -52,6 +55,7 @@ extern "C" {
 #define BECH32_MAX_SEGWIT_TEXT 90u      /* a segwit address */
 #define BECH32_MAX_SEGWIT_PROGRAM 40u   /* a witness program */
 #define BECH32_MAX_LISTED 3u            /* the locations of a correction */
+#define BECH32_MAX_MESSAGE 100u         /* the sentence of a refusal */
 
 /* The most errors that bech32_nearest looks for. */
 #define BECH32_MAX_ERRORS 2u
@@ -86,6 +90,18 @@ extern "C" {
 #define BECH32_ENCODED_ADDRESS_TOO_LONG 53u /* the address would have more than 90 characters */
 #define BECH32_NO_MEMORY 91u            /* the lent memory did not suffice */
 #define BECH32_NO_ROOM 92u              /* a buffer is too small */
+
+/*
+ * Puts the sentence of a refusal into `message`: the one beside its number above, in English and ASCII,
+ * without a full stop. *message_length is its length, at most BECH32_MAX_MESSAGE, and 0 for BECH32_OK
+ * and for numbers that are not above.
+ *
+ * Refusals: 92.
+ */
+uint32_t bech32_message(uint32_t number, uint8_t *message, size_t message_room, size_t *message_length);
+
+/* The version of the library that is linked: BECH32_VERSION_NUMBER where it is that of this header. */
+uint32_t bech32_version(void);
 
 /*
  * Encodes bytes under a human-readable part by a checksum (BECH32_BECH32 or BECH32_BECH32M). The

@@ -1,5 +1,6 @@
 /*
- * Codex32 (BIP-93): strings, read, and the nearest text to a damaged one.
+ * Codex32 (BIP-93): strings and shares, read, made and derived, the secret from shares, and the nearest
+ * text to a damaged one.
  *
  * The library is proved: each function does what is said here of every input, ends, and reads and
  * writes no memory but the caller's, within the lengths that are given. It takes no memory but what a
@@ -10,11 +11,11 @@
  * nothing but what stands in lent memory. Else what it writes stands at the front of the buffer, and
  * the bytes behind it stay as they were. Nothing is ended by a zero byte.
  *
- * No pointer may be null, not even that of an empty text or buffer, and nothing that a function writes
- * to may overlap with anything else that it is given. These two, that the lengths are true, and what
- * is said of lent memory, are all that a caller owes. The C file of the library, where it tests each
- * access (MACHINE_IS_TESTED), refuses a text of 2^32 bytes or more with CODEX32_NO_MEMORY, before all
- * else.
+ * A pointer beside a length or a room of 0 is not followed, and may be null; no other pointer may be,
+ * and nothing that a function writes to may overlap with anything else that it is given. These two,
+ * that the lengths are true, and what is said of lent memory, are all that a caller owes. The C file of
+ * the library, where it tests each access (MACHINE_IS_TESTED), refuses a text or a payload of 2^32 bytes
+ * or more with CODEX32_NO_MEMORY, before all else.
  *
  * This describes the version of the library that CODEX32_VERSION names, which is that of the file
  * VERSION and of the packages over it.
@@ -32,9 +33,31 @@ extern "C" {
 /* The version of the library. */
 #define CODEX32_VERSION "0.1.0"
 
+/* The same as a number: 10,000 times the first, 100 times the second, and the third. */
+#define CODEX32_VERSION_NUMBER 100u
+
 /* The least and the greatest length of a codex32 string, in characters. */
 #define CODEX32_MIN_TEXT 48u
 #define CODEX32_MAX_TEXT 93u
+
+/* The same of a long string (BIP-93, Long codex32 Strings). */
+#define CODEX32_MIN_LONG_TEXT 125u
+#define CODEX32_MAX_LONG_TEXT 127u
+
+/* Rooms that suffice: for the text of a string of either length, and for the bytes of its payload. */
+#define CODEX32_TEXT_SIZE 127u
+#define CODEX32_BYTES_SIZE 64u
+
+/* A room that suffices for the sentence of a refusal. */
+#define CODEX32_MAX_MESSAGE 100u
+
+/* The length of the string of so many bytes, 16 to 44, or 63 or 64. */
+#define CODEX32_ENCODED_SIZE(bytes_length)                                                         \
+    (9u + (8u * (bytes_length) + 4u) / 5u + ((bytes_length) <= 44u ? 13u : 15u))
+
+/* The share index of the secret, and the most strings of a set. */
+#define CODEX32_SECRET_INDEX ((uint32_t)'s')
+#define CODEX32_MAX_SHARES 32u
 
 /* Where the parts of a codex32 string stand in its text, counted from 0. */
 #define CODEX32_THRESHOLD_AT 3u
@@ -46,6 +69,8 @@ extern "C" {
 /* Answers. */
 #define CODEX32_OK 0u
 #define CODEX32_NOT_UTF8 2u             /* a text or a human-readable part is not UTF-8 */
+#define CODEX32_BAD_LENGTHS 4u          /* there are more than 32 texts, or their lengths do not add up to
+                                           that of all */
 #define CODEX32_HRP_EMPTY 11u           /* the human-readable part is empty */
 #define CODEX32_HRP_TOO_LONG 12u        /* the human-readable part has more than 83 bytes */
 #define CODEX32_HRP_NOT_ASCII 13u       /* the human-readable part has a character that is not ASCII */
@@ -56,12 +81,35 @@ extern "C" {
 #define CODEX32_NO_SEPARATOR 23u        /* the text has no separator, `1` */
 #define CODEX32_WRONG_CHECKSUM 33u      /* the checksum is wrong */
 #define CODEX32_NO_NEAREST 34u          /* there is no nearest text */
+#define CODEX32_BAD_SIZE 55u            /* there are neither 16 to 44 bytes nor 63 or 64 */
+#define CODEX32_TOO_FEW_SHARES 61u      /* there are fewer shares than the threshold */
+#define CODEX32_OTHER_SET 62u           /* a share has another threshold, identifier or length than the
+                                           first */
+#define CODEX32_INDEX_TWICE 63u         /* two shares have one index */
+#define CODEX32_CONTRADICTION 64u       /* the shares contradict each other */
 #define CODEX32_NOT_MS 81u              /* the human-readable part is not `ms` */
-#define CODEX32_BAD_LENGTH 82u          /* the text has less than 48 characters, or more than 93 */
+#define CODEX32_BAD_LENGTH 82u          /* a codex32 string has 48 to 93 characters, a long one 125 to
+                                           127 */
 #define CODEX32_BAD_THRESHOLD 83u       /* the threshold is neither 0 nor a digit from 2 to 9 */
 #define CODEX32_BAD_SHARE_INDEX 84u     /* the threshold is 0, and the share index is not `s` */
+#define CODEX32_BAD_IDENTIFIER 85u      /* the identifier is not four characters of the alphabet in one
+                                           case */
+#define CODEX32_NO_SHARE_INDEX 86u      /* the share index is not one character of the alphabet */
+#define CODEX32_BITS_LEFT_OVER 87u      /* more than four bits stand behind the bytes of the payload */
 #define CODEX32_NO_MEMORY 91u           /* the lent memory did not suffice */
 #define CODEX32_NO_ROOM 92u             /* a buffer is too small */
+
+/*
+ * Puts the sentence of a refusal into `message`: the one beside its number above, in English and ASCII,
+ * without a full stop. *message_length is its length, at most CODEX32_MAX_MESSAGE, and 0 for CODEX32_OK
+ * and for numbers that are not above.
+ *
+ * Refusals: 92.
+ */
+uint32_t codex32_message(uint32_t number, uint8_t *message, size_t message_room, size_t *message_length);
+
+/* The version of the library that is linked: CODEX32_VERSION_NUMBER where it is that of this header. */
+uint32_t codex32_version(void);
 
 /*
  * Reads a codex32 string. *threshold is its threshold, 0 or from 2 to 9, *share_index the character of
@@ -73,6 +121,77 @@ extern "C" {
  */
 uint32_t codex32_parse(const uint8_t *text, size_t text_length, uint32_t *threshold,
                        uint32_t *share_index, size_t *payload_length);
+
+/*
+ * Reads a string of either length, 48 to 93 characters or 125 to 127: a share, or the secret at the index
+ * `s` (BIP-93, codex32 and Long codex32 Strings). *threshold is its threshold, 0 or from 2 to 9;
+ * `identifier` gets the four characters of its identifier, and *share_index that of its share index, in
+ * lower case. The bytes of its payload are put into `bytes`, and *bytes_length is how many they are, 16 to
+ * 44 or 63 or 64: CODEX32_BYTES_SIZE suffices. Up to four bits left over behind them, whatever they are,
+ * are left out (BIP-93, Unshared Secret).
+ *
+ * The time that it takes, and which memory it reads, depend on the text. Nothing of it is kept, but
+ * `bytes` is the secret, or a part of it: wipe it, and the text, when you are done.
+ *
+ * Refusals, the first that applies: 2; 21, 22, 23, 11 to 15; 82; 81; 33; 83; 84; 87; 92.
+ */
+uint32_t codex32_share(const uint8_t *text, size_t text_length, uint32_t *threshold,
+                       uint8_t identifier[CODEX32_IDENTIFIER_LENGTH], uint32_t *share_index,
+                       uint8_t *bytes, size_t bytes_room, size_t *bytes_length);
+
+/*
+ * Makes the string of a header and bytes, in lower case (BIP-93, codex32, Unshared Secret and Long codex32
+ * Strings): of 16 to 44 bytes one of 48 to 93 characters, of 63 or 64 bytes a long one. `threshold` is 0 or
+ * from 2 to 9; the identifier, four characters of the alphabet in one case; `share_index`, a character of
+ * the alphabet in either case, `s` where the threshold is 0. The string is put into `text`, and
+ * *text_length is its length, CODEX32_ENCODED_SIZE(bytes_length): CODEX32_TEXT_SIZE suffices. The bits left
+ * over are zero.
+ *
+ * To share a secret, make its own string, at `s`, and one string fewer than the threshold at random, each at
+ * another index, by codex32_encode_payload; codex32_derive makes the others of these. A string that is made
+ * at random for sharing is made by that function and not of random bytes by this, since bits left over that
+ * are zero tell a little of the secret to who has derived shares: at most three bits of 16 bytes, one of 32,
+ * two of 64, none where the bytes fill whole characters.
+ *
+ * Refusals, the first that applies: 83, 85, 86, 84, 55, 92.
+ */
+uint32_t codex32_encode(uint32_t threshold, const uint8_t *identifier, size_t identifier_length,
+                        uint32_t share_index, const uint8_t *bytes, size_t bytes_length,
+                        uint8_t *text, size_t text_room, size_t *text_length);
+
+/*
+ * Makes the string of a header and the characters of a payload, in lower case. The header is given as to
+ * codex32_encode. The payload's characters are of the alphabet, in one case, and 26 to 71 of them make a
+ * string of 48 to 93, 101 or 103 a long one: as many as 16 to 44 bytes, 63 or 64 have, at most four bits
+ * being left over, whatever they are. The string is put into `text`, and *text_length is its length,
+ * CODEX32_PAYLOAD_AT + payload_length + 13, or of a long one + 15: CODEX32_TEXT_SIZE suffices.
+ *
+ * This makes the strings at random that a secret is shared with: of characters that are random, all 32 of
+ * the alphabet equally likely, as many as the secret's own string has, and with the same threshold and
+ * identifier. No randomness is here: take it from the operating system, and for each character the lowest
+ * five bits of a random byte.
+ *
+ * Refusals, the first that applies: 83, 85, 86, 84; of the payload 21, 22, 55; 92.
+ */
+uint32_t codex32_encode_payload(uint32_t threshold, const uint8_t *identifier, size_t identifier_length,
+                                uint32_t share_index, const uint8_t *payload, size_t payload_length,
+                                uint8_t *text, size_t text_room, size_t *text_length);
+
+/*
+ * Derives the string at an index from others of its set, in lower case (BIP-93, Recovering Secret): at
+ * CODEX32_SECRET_INDEX the secret. `share_index` is a character of the alphabet in either case. The texts
+ * stand one behind another in `texts`, `count` of them, at most CODEX32_MAX_SHARES, and `lengths` are
+ * theirs, which add up to texts_length. They have the same threshold, identifier and length, each another
+ * index, and are as many as the threshold at least; with the threshold 0 the one string is the secret.
+ * All are tested where there are more than the threshold. The string is put into `text`, and *text_length
+ * is its length, that of each: CODEX32_TEXT_SIZE suffices.
+ *
+ * Refusals, the first that applies: 4; 86; of the texts in their order 2; 21, 22, 23, 11 to 15; 82; 81;
+ * 33; 83; 84; then 62, 63, 84, 61, 64; 92.
+ */
+uint32_t codex32_derive(uint32_t share_index, const uint8_t *texts, size_t texts_length,
+                        const size_t *lengths, size_t count, uint8_t *text, size_t text_room,
+                        size_t *text_length);
 
 /*
  * Memory that a function may use: `size` bytes from `start` on, aligned to 16 bytes, in which the caller
@@ -103,6 +222,16 @@ typedef struct {
  */
 uint32_t codex32_propose(const uint8_t *text, size_t text_length, codex32_memory *memory,
                          uint8_t *proposed, size_t proposed_room, size_t *proposed_length);
+
+/*
+ * Proposes the nearest text to a damaged long string, of 125 to 127 characters, as codex32_propose has it, by
+ * the checksum of long strings (BIP-93, Long codex32 Strings).
+ *
+ * Refusals, the first that applies: 2; 21, 22, 23, 11 to 15; 82; 81; 34; 92; and 91 in place of 0, 34 or
+ * 92 where `memory` does not suffice.
+ */
+uint32_t codex32_propose_long(const uint8_t *text, size_t text_length, codex32_memory *memory,
+                              uint8_t *proposed, size_t proposed_room, size_t *proposed_length);
 
 #ifdef __cplusplus
 }

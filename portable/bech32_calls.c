@@ -131,6 +131,23 @@ uint32_t bech32_residue(uint32_t checksum, const uint8_t *elements, size_t eleme
     return number;
 }
 
+uint32_t bech32_message(uint32_t number, uint8_t *message, size_t message_room, size_t *message_length) {
+    NUMBERS(1);
+    MACHINE(bech32_message);
+    u64 message_size = SOME(message_room), message_at = lend_room(&m, message, message_size);
+    u64 at = lend_room(&m, numbers, sizeof number_words);
+    uint32_t answer = of_bech32_message(&m, number, message_at, message_size, at);
+    if (answer == BECH32_OK) {
+        *message_length = (size_t)get_64(numbers);
+    }
+    return answer;
+}
+
+uint32_t bech32_version(void) {
+    MACHINE(bech32_version);
+    return of_bech32_version(&m);
+}
+
 /* The different ones of erasures, in their order, four at most: where there are more than three, the answer depends on
  * that alone. */
 #define MOST_ERASURES 4u

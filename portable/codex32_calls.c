@@ -1,6 +1,7 @@
 /*
  * The functions of codex32.h, called as those of bech32.h are (portable/bech32_calls.c), and refused with
- * CODEX32_NO_MEMORY in their place. A string is a secret: the library's stack is filled with zeros before a call ends.
+ * CODEX32_NO_MEMORY in their place, a text, a payload or the texts of a set. A string is a secret: the library's stack is
+ * filled with zeros before a call ends.
  */
 
 /* A function of the library that calls itself does so once for each character that cannot be read, eight at most. */
@@ -30,6 +31,94 @@ uint32_t codex32_parse(const uint8_t *text, size_t text_length, uint32_t *thresh
     return number;
 }
 
+uint32_t codex32_share(const uint8_t *text, size_t text_length, uint32_t *threshold,
+                       uint8_t identifier[CODEX32_IDENTIFIER_LENGTH], uint32_t *share_index, uint8_t *bytes,
+                       size_t bytes_room, size_t *bytes_length) {
+    NUMBERS(3);
+    if (IS_TOO_LONG(text_length)) {
+        return CODEX32_NO_MEMORY;
+    }
+    MACHINE(codex32_share);
+    u64 bytes_size = SOME(bytes_room), text_at = lend(&m, text, text_length);
+    u64 identifier_at = lend_room(&m, identifier, CODEX32_IDENTIFIER_LENGTH), bytes_at = lend_room(&m, bytes, bytes_size);
+    u64 at = lend_room(&m, numbers, sizeof number_words);
+    uint32_t number =
+        of_codex32_share(&m, text_at, text_length, at, identifier_at, at + 8, bytes_at, bytes_size, at + 16);
+    if (number == CODEX32_OK) {
+        *threshold = get_32(numbers);
+        *share_index = get_32(numbers + 8);
+        *bytes_length = (size_t)get_64(numbers + 16);
+    }
+    wipe(stack, sizeof stack);
+    return number;
+}
+
+uint32_t codex32_encode(uint32_t threshold, const uint8_t *identifier, size_t identifier_length, uint32_t share_index,
+                        const uint8_t *bytes, size_t bytes_length, uint8_t *text, size_t text_room,
+                        size_t *text_length) {
+    NUMBERS(1);
+    MACHINE(codex32_encode);
+    u64 identifier_size = SOME(identifier_length), bytes_size = SOME(bytes_length), text_size = SOME(text_room);
+    u64 identifier_at = lend(&m, identifier, identifier_size), bytes_at = lend(&m, bytes, bytes_size);
+    u64 text_at = lend_room(&m, text, text_size), at = lend_room(&m, numbers, sizeof number_words);
+    uint32_t number = of_codex32_encode(&m, threshold, identifier_at, identifier_size, share_index, bytes_at, bytes_size,
+                                        text_at, text_size, at);
+    if (number == CODEX32_OK) {
+        *text_length = (size_t)get_64(numbers);
+    }
+    wipe(stack, sizeof stack);
+    return number;
+}
+
+uint32_t codex32_encode_payload(uint32_t threshold, const uint8_t *identifier, size_t identifier_length,
+                                uint32_t share_index, const uint8_t *payload, size_t payload_length, uint8_t *text,
+                                size_t text_room, size_t *text_length) {
+    NUMBERS(1);
+    if (IS_TOO_LONG(payload_length)) {
+        return CODEX32_NO_MEMORY;
+    }
+    MACHINE(codex32_encode_payload);
+    u64 identifier_size = SOME(identifier_length), text_size = SOME(text_room);
+    u64 identifier_at = lend(&m, identifier, identifier_size), payload_at = lend(&m, payload, payload_length);
+    u64 text_at = lend_room(&m, text, text_size), at = lend_room(&m, numbers, sizeof number_words);
+    uint32_t number = of_codex32_encode_payload(&m, threshold, identifier_at, identifier_size, share_index, payload_at,
+                                                payload_length, text_at, text_size, at);
+    if (number == CODEX32_OK) {
+        *text_length = (size_t)get_64(numbers);
+    }
+    wipe(stack, sizeof stack);
+    return number;
+}
+
+/* The lengths of texts, in their order. Of more than there can be one more is handed over: the answer depends on that
+ * alone. */
+OWN size_t put_lengths(u8 *given, const size_t *lengths, size_t count) {
+    size_t most = count < CODEX32_MAX_SHARES + 1u ? count : CODEX32_MAX_SHARES + 1u;
+    for (size_t i = 0; i < most; i++) {
+        put_64(given + 8 * i, lengths[i]);
+    }
+    return most;
+}
+
+uint32_t codex32_derive(uint32_t share_index, const uint8_t *texts, size_t texts_length, const size_t *lengths,
+                        size_t count, uint8_t *text, size_t text_room, size_t *text_length) {
+    GIVEN(CODEX32_MAX_SHARES + 1u);
+    NUMBERS(1);
+    if (IS_TOO_LONG(texts_length)) {
+        return CODEX32_NO_MEMORY;
+    }
+    MACHINE(codex32_derive);
+    u64 given_count = put_lengths(given, lengths, count), text_size = SOME(text_room);
+    u64 texts_at = lend(&m, texts, texts_length), given_at = lend(&m, given, 8 * given_count);
+    u64 text_at = lend_room(&m, text, text_size), at = lend_room(&m, numbers, sizeof number_words);
+    uint32_t number = of_codex32_derive(&m, share_index, texts_at, texts_length, given_at, given_count, text_at, text_size, at);
+    if (number == CODEX32_OK) {
+        *text_length = (size_t)get_64(numbers);
+    }
+    wipe(stack, sizeof stack);
+    return number;
+}
+
 uint32_t codex32_propose(const uint8_t *text, size_t text_length, codex32_memory *memory, uint8_t *proposed,
                          size_t proposed_room, size_t *proposed_length) {
     NUMBERS(3);
@@ -51,4 +140,44 @@ uint32_t codex32_propose(const uint8_t *text, size_t text_length, codex32_memory
     }
     wipe(stack, sizeof stack);
     return number;
+}
+
+uint32_t codex32_propose_long(const uint8_t *text, size_t text_length, codex32_memory *memory, uint8_t *proposed,
+                              size_t proposed_room, size_t *proposed_length) {
+    NUMBERS(3);
+    if (IS_TOO_LONG(text_length)) {
+        return CODEX32_NO_MEMORY;
+    }
+    MACHINE(codex32_propose_long);
+    u64 proposed_size = SOME(proposed_room), memory_size = SOME(memory->size);
+    u64 text_at = lend(&m, text, text_length), proposed_at = lend_room(&m, proposed, proposed_size);
+    u64 at = lend_room(&m, numbers, sizeof number_words);
+    put_64(numbers + 8, lend_room(&m, memory->start, memory_size));
+    put_64(numbers + 16, memory_size);
+    uint32_t number = of_codex32_propose_long(&m, text_at, text_length, at + 8, proposed_at, proposed_size, at);
+    if (number == CODEX32_OK) {
+        *proposed_length = (size_t)get_64(numbers);
+    }
+    if (get_64(numbers + 16) == 0) {
+        memory->size = 0;
+    }
+    wipe(stack, sizeof stack);
+    return number;
+}
+
+uint32_t codex32_message(uint32_t number, uint8_t *message, size_t message_room, size_t *message_length) {
+    NUMBERS(1);
+    MACHINE(codex32_message);
+    u64 message_size = SOME(message_room), message_at = lend_room(&m, message, message_size);
+    u64 at = lend_room(&m, numbers, sizeof number_words);
+    uint32_t answer = of_codex32_message(&m, number, message_at, message_size, at);
+    if (answer == CODEX32_OK) {
+        *message_length = (size_t)get_64(numbers);
+    }
+    return answer;
+}
+
+uint32_t codex32_version(void) {
+    MACHINE(codex32_version);
+    return of_codex32_version(&m);
 }

@@ -373,6 +373,15 @@ OWN void MULTIPLY_128(Machine *m, u64 to, u64 a, u64 a_high, u64 b, u64 b_high) 
     I64_STORE(m, to + 8, a_1 * b_1 + (middle >> 32) + (other >> 32) + a * b_high + a_high * b);
 }
 
+/* A number of 128 bits, its low half and its high one, by so many bits to the right, below 128, is put at an address. */
+OWN void SHIFT_RIGHT_128(Machine *m, u64 to, u64 low, u64 high, u32 by) {
+    u64 next = by & 64 ? 0 : high;
+    low = by & 64 ? high : low;
+    by &= 63;
+    I64_STORE(m, to, low >> by | (by == 0 ? 0 : next << (64 - by)));
+    I64_STORE(m, to + 8, next >> by);
+}
+
 /* ---- what the calls make a machine of */
 
 #ifdef MACHINE_IS_TESTED

@@ -34,7 +34,7 @@ const modulesSource = () => filled(read('src', 'modules.js'), {
 const SCRIPT = [
   ...['reasons', 'instance', 'calls', 'library', 'modules'].map((name) => `src/${name}.js`),
   ...['words', 'tried', 'typed', 'others', 'beginnings', 'pair', 'reading', 'kinds', 'saying', 'codex32', 'offers', 'texts',
-    'answer', 'shown', 'copy', 'page'].map((name) => `page/${name}.js`),
+    'strings', 'shares', 'answer', 'shown', 'copy', 'page'].map((name) => `page/${name}.js`),
 ];
 
 const variable = (file) => `$${path.basename(file, '.js')}`;

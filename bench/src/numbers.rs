@@ -17,6 +17,7 @@ pub const NOT_UTF8: u32 = 2;
 pub const NO_COMMAND: u32 = 3;
 pub const BAD_WORD: u32 = 4;
 pub const BAD_NUMBER: u32 = 4;
+pub const BAD_LENGTHS: u32 = 4;
 pub const BAD_HEX: u32 = 5;
 pub const HRP_EMPTY: u32 = 11;
 pub const HRP_TOO_LONG: u32 = 12;

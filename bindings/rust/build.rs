@@ -1,17 +1,15 @@
-//! Gives cargo the library `bech32_c`.
+//! Gives cargo the libraries `bech32_c`, and by the feature `codex32` also `codex32_c`.
 //!
-//! For Linux on x86-64 it is `libbech32_c.a`, in the folder that BECH32_C_FOLDER names, else in the folder `lib` of this
-//! package, else where the toolchain builds it in the repository. For every other target, and where BECH32_C_SOURCE names
-//! one, it is compiled of `bech32.c` by a C compiler: the file that the variable names, or that of the folder `c` of this
-//! package. The compiler is the one that CC_TARGET, TARGET_CC or CC names, else `cc`, or `cl` for MSVC. The tests read the
-//! header, `bech32.h`, in the folder `include`.
+//! For Linux on x86-64 the first is `libbech32_c.a`, in the folder that BECH32_C_FOLDER names, else in the folder `lib` of
+//! this package, else where the toolchain builds it in the repository. For every other target, and where BECH32_C_SOURCE
+//! names one, it is compiled of `bech32.c` by a C compiler: the file that the variable names, or that of the folder `c` of
+//! this package. The compiler is the one that CC_TARGET, TARGET_CC or CC names, else `cc`, or `cl` for MSVC. The tests read
+//! the header, `bech32.h`, in the folder `include`. The second has the same names with CODEX32 and codex32 in them.
 
 use std::env;
 use std::fs;
 use std::path::{Path, PathBuf};
 use std::process::{exit, Command};
-
-const LIBRARY: &str = "libbech32_c.a";
 
 fn stop(lines: &[&str]) -> ! {
     for line in lines {
@@ -45,12 +43,16 @@ fn compiler(target: &str) -> String {
 }
 
 // An archive of one object. rustc makes the table of its symbols.
-fn archive(object: &[u8]) -> Vec<u8> {
+fn archive(name: &str, object: &[u8]) -> Vec<u8> {
     let mut all = b"!<arch>\n".to_vec();
     let length = object.len();
     let head = format!(
         "{:<16}{:<12}{:<6}{:<6}{:<8}{length:<10}`\n",
-        "bech32.o/", 0, 0, 0, 644
+        format!("{name}.o/"),
+        0,
+        0,
+        0,
+        644
     );
     all.extend(head.as_bytes());
     all.extend(object);
@@ -60,12 +62,12 @@ fn archive(object: &[u8]) -> Vec<u8> {
     all
 }
 
-// Compiles `bech32.c`, and answers the folder that has the library.
-fn compiled(source: &Path, header: &Path) -> PathBuf {
+// Compiles the C file of a library, and answers the folder that has the library.
+fn compiled(name: &str, source: &Path, header: &Path) -> PathBuf {
     let target = env::var("TARGET").unwrap_or_default();
     let out = env::var_os("OUT_DIR").map_or_else(PathBuf::new, PathBuf::from);
     let by = compiler(&target);
-    let object = out.join("bech32.o");
+    let object = out.join(format!("{name}.o"));
     let include = header.parent().unwrap_or(Path::new("."));
     let mut words = by.split_whitespace();
     let mut command = Command::new(words.next().unwrap_or("cc"));
@@ -97,58 +99,81 @@ fn compiled(source: &Path, header: &Path) -> PathBuf {
             "compiled of C there. Install one, or name one by CC.",
         ]),
     }
-    let name = if target.ends_with("msvc") {
-        "bech32_c.lib"
+    let library = out.join(if target.ends_with("msvc") {
+        format!("{name}_c.lib")
     } else {
-        LIBRARY
-    };
-    let made = fs::read(&object).and_then(|bytes| fs::write(out.join(name), archive(&bytes)));
+        format!("lib{name}_c.a")
+    });
+    let made = fs::read(&object).and_then(|bytes| fs::write(&library, archive(name, &bytes)));
     if made.is_err() {
-        stop(&[&format!("{} cannot be written.", out.join(name).display())]);
+        stop(&[&format!("{} cannot be written.", library.display())]);
     }
     out
 }
 
-fn main() {
-    let top = env::var_os("CARGO_MANIFEST_DIR").map_or_else(PathBuf::new, PathBuf::from);
-    let header = either(&top, "include/bech32.h", "../../include/bech32.h");
-    println!("cargo:rustc-env=BECH32_HEADER={}", header.display());
-    println!("cargo:rerun-if-changed={}", header.display());
-    let of = |name: &str| env::var(format!("CARGO_CFG_TARGET_{name}")).unwrap_or_default();
-    let has_archive = of("ARCH") == "x86_64" && of("OS") == "linux" && of("POINTER_WIDTH") == "64";
-    let source = named("BECH32_C_SOURCE").map(PathBuf::from);
-    let folder = named("BECH32_C_FOLDER").map(PathBuf::from);
-    let library = folder.map_or_else(
+// Where the C file of a library is looked for, if not the archive.
+fn source_of(name: &str, top: &Path) -> PathBuf {
+    let variable = format!("{}_C_SOURCE", name.to_uppercase());
+    let source = named(&variable).map_or_else(|| top.join(format!("c/{name}.c")), PathBuf::from);
+    println!("cargo:rerun-if-changed={}", source.display());
+    if !source.is_file() {
+        stop(&[
+            &format!("{} is not there.", source.display()),
+            &format!(
+                "For this target the library is compiled of {name}.c, which portable/build writes:"
+            ),
+            &format!("name that file by the environment variable {variable}."),
+        ]);
+    }
+    source
+}
+
+// The folder that has the archive of a library.
+fn folder_of(name: &str, top: &Path) -> PathBuf {
+    let file = format!("lib{name}_c.a");
+    let variable = format!("{}_C_FOLDER", name.to_uppercase());
+    let library = named(&variable).map_or_else(
         || {
-            either(
-                &top,
-                "lib/libbech32_c.a",
-                "../../crates/bech32_c/out/libbech32_c.a",
-            )
+            let built = format!("../../crates/{name}_c/out/{file}");
+            either(top, &format!("lib/{file}"), &built)
         },
-        |folder| folder.join(LIBRARY),
+        |folder| Path::new(&folder).join(&file),
     );
-    let folder = if source.is_some() || !has_archive {
-        let source = source.unwrap_or_else(|| top.join("c/bech32.c"));
-        println!("cargo:rerun-if-changed={}", source.display());
-        if !source.is_file() {
-            stop(&[
-                &format!("{} is not there.", source.display()),
-                "For this target the library is compiled of bech32.c, which portable/build writes:",
-                "name that file by the environment variable BECH32_C_SOURCE.",
-            ]);
-        }
-        compiled(&source, &header)
-    } else if library.is_file() {
-        library.parent().unwrap_or(Path::new(".")).to_path_buf()
-    } else {
+    println!("cargo:rerun-if-changed={}", library.display());
+    if !library.is_file() {
         stop(&[
             &format!("{} is not there.", library.display()),
-            "Run `rt lib` in crates/bech32_c, which proves and builds it, or name the folder",
-            "that holds libbech32_c.a by the environment variable BECH32_C_FOLDER.",
-        ])
+            &format!(
+                "Run `rt lib` in crates/{name}_c, which proves and builds it, or name the folder"
+            ),
+            &format!("that holds {file} by the environment variable {variable}."),
+        ]);
+    }
+    library.parent().unwrap_or(Path::new(".")).to_path_buf()
+}
+
+// Gives cargo a library, and its header to the tests.
+fn link(name: &str, top: &Path, has_archive: bool) {
+    let (upper, header) = (name.to_uppercase(), format!("include/{name}.h"));
+    let header = either(top, &header, &format!("../../{header}"));
+    println!("cargo:rustc-env={upper}_HEADER={}", header.display());
+    println!("cargo:rerun-if-changed={}", header.display());
+    let is_named = named(&format!("{upper}_C_SOURCE")).is_some();
+    let folder = if is_named || !has_archive {
+        compiled(name, &source_of(name, top), &header)
+    } else {
+        folder_of(name, top)
     };
-    println!("cargo:rerun-if-changed={}", library.display());
     println!("cargo:rustc-link-search=native={}", folder.display());
-    println!("cargo:rustc-link-lib=static=bech32_c");
+    println!("cargo:rustc-link-lib=static={name}_c");
+}
+
+fn main() {
+    let top = env::var_os("CARGO_MANIFEST_DIR").map_or_else(PathBuf::new, PathBuf::from);
+    let of = |name: &str| env::var(format!("CARGO_CFG_TARGET_{name}")).unwrap_or_default();
+    let has_archive = of("ARCH") == "x86_64" && of("OS") == "linux" && of("POINTER_WIDTH") == "64";
+    link("bech32", &top, has_archive);
+    if env::var_os("CARGO_FEATURE_CODEX32").is_some() {
+        link("codex32", &top, has_archive);
+    }
 }

@@ -23,10 +23,16 @@ int main(void) {
 
     number = codex32_parse((const uint8_t *)damaged, strlen(damaged), &threshold, &share_index,
                            &payload_length);
-    printf("%s: refusal %u\n", damaged, (unsigned)number);
+    uint8_t message[CODEX32_MAX_MESSAGE];
+    size_t message_length;
+    if (codex32_message(number, message, sizeof message, &message_length) != CODEX32_OK) {
+        return 1;
+    }
+    printf("%s: refusal %u, %.*s\n", damaged, (unsigned)number, (int)message_length, (char *)message);
 
-    _Alignas(16) static uint8_t bytes[CODEX32_MEMORY(CODEX32_MAX_TEXT)];
-    codex32_memory memory = {bytes, sizeof bytes};
+    /* The memory begins at a multiple of 16. */
+    static uint8_t bytes[CODEX32_MEMORY(CODEX32_MAX_TEXT) + 15u];
+    codex32_memory memory = {bytes + (0u - (uintptr_t)bytes) % 16u, sizeof bytes - 15u};
     uint8_t proposed[CODEX32_MAX_TEXT];
     size_t proposed_length;
     number = codex32_propose((const uint8_t *)damaged, strlen(damaged), &memory, proposed,

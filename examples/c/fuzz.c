@@ -9,8 +9,7 @@
  * lengths fit the buffers. What is given to be read is as it was. A buffer that is too small is
  * refused (92) exactly where the call succeeds with larger ones. What was written is read back.
  *
- * The header asks for pointers that are not null. Null for an empty buffer is tried all the same: it
- * shows what the library does, and is no promise.
+ * The pointer of an empty text or buffer is null half of the time, as the headers allow.
  *
  * Built for the address and undefined-behaviour checks (see fuzz), where the bytes around a buffer
  * are marked for them too. It prints the calls and refusals of each function.
@@ -174,6 +173,12 @@ static Function fault = {"bech32_fault", 0, {0}, of_check};
 static Function segwit_encode = {"bech32_segwit_encode", 0, {0}, of_segwit_encode};
 static Function segwit_decode = {"bech32_segwit_decode", 0, {0}, of_segwit_decode};
 static Function residue = {"bech32_residue", 0, {0}, of_residue};
+
+/* The sentences of the numbers. */
+static const uint32_t of_message[] = {92, 0};
+static const uint32_t of_codex32_message[] = {92, 0};
+static Function message = {"bech32_message", 0, {0}, of_message};
+static Function codex32_message_calls = {"codex32_message", 0, {0}, of_codex32_message};
 
 static void begin(Function *function) {
     called = function->name;
@@ -740,6 +745,474 @@ static void try_codex32_propose(void) {
     }
 }
 
+/* Strings of either length. Random headers and bytes, of which a string is mostly made. */
+static const uint32_t of_codex32_share[] = {2, 11, 12, 13, 14, 15, 21, 22, 23, 33, 81, 82, 83, 84, 87,
+                                            92, 0};
+static const uint32_t of_codex32_encode[] = {55, 83, 84, 85, 86, 92, 0};
+static const uint32_t of_codex32_encode_payload[] = {21, 22, 55, 83, 84, 85, 86, 92, 0};
+static const uint32_t of_codex32_derive[] = {2, 4, 11, 12, 13, 14, 15, 21, 22, 23, 33, 61, 62, 63, 64,
+                                             81, 82, 83, 84, 86, 92, 0};
+static const uint32_t of_codex32_propose_long[] = {2, 11, 12, 13, 14, 15, 21, 22, 23, 34, 81, 82, 91,
+                                                   92, 0};
+static Function read_share = {"codex32_share", 0, {0}, of_codex32_share};
+static Function encode_codex32 = {"codex32_encode", 0, {0}, of_codex32_encode};
+static Function encode_payload = {"codex32_encode_payload", 0, {0}, of_codex32_encode_payload};
+static Function derive_codex32 = {"codex32_derive", 0, {0}, of_codex32_derive};
+static Function propose_long_codex32 = {"codex32_propose_long", 0, {0}, of_codex32_propose_long};
+static Area identifier_area, lengths_area;
+
+static uint8_t name[CODEX32_IDENTIFIER_LENGTH];
+
+static uint32_t random_threshold(void) {
+    return percent(90) ? (uint32_t)below(10) : (uint32_t)next_number();
+}
+
+static uint32_t random_index(uint32_t threshold) {
+    if (threshold == 0 && percent(80)) {
+        return CODEX32_SECRET_INDEX;
+    }
+    return percent(95) ? (uint32_t)(uint8_t)alphabet[below(32)]
+                       : percent(50) ? (uint32_t)below(256) : (uint32_t)next_number();
+}
+
+static void random_name(void) {
+    for (size_t i = 0; i < sizeof name; i++) {
+        name[i] = (uint8_t)alphabet[below(32)];
+    }
+}
+
+static void random_secret(void) {
+    random_data(64);
+    data_length = percent(60) ? 16 + below(29) : percent(70) ? 63 + below(2) : data_length;
+}
+
+/* A string of either length, one with six bits left over, or what random_string makes. */
+static void random_share(void) {
+    if (percent(4)) {
+        text_length = 52;
+        memcpy(text, "ms12xh04fm5amh7k7ay0jj7mgh3ndf4zdx0dmxgdrhz38hawaewk", text_length);
+        return;
+    }
+    uint32_t threshold = random_threshold();
+    random_name();
+    random_secret();
+    if (percent(30) || codex32_encode(threshold, name, sizeof name, random_index(threshold), data,
+                                      data_length, text, sizeof text, &text_length) != CODEX32_OK) {
+        random_string();
+        return;
+    }
+    for (size_t i = percent(60) ? 0 : 1 + below(5); i > 0; i--) {
+        text[below(text_length)] = (uint8_t)alphabet[below(32)];
+    }
+}
+
+static void try_codex32_share(void) {
+    static uint8_t ample[AREA];
+    uint8_t ample_name[CODEX32_IDENTIFIER_LENGTH];
+    uint32_t before[2] = {(uint32_t)next_number(), (uint32_t)next_number()};
+    uint32_t threshold = 0, share_index = 0;
+    size_t length = 0;
+    begin(&read_share);
+    random_share();
+    uint32_t expected = codex32_share(text, text_length, &threshold, ample_name, &share_index, ample,
+                                      CODEX32_BYTES_SIZE, &length);
+    expect(expected != CODEX32_NO_ROOM, "the room that the header states does not suffice");
+    place(&read_1, text, text_length, 1);
+    place(&threshold_area, &before[0], sizeof before[0], sizeof before[0]);
+    place(&share_index_area, &before[1], sizeof before[1], sizeof before[1]);
+    place(&identifier_area, NULL, sizeof ample_name, 1);
+    place(&written_1, NULL, room(expected == CODEX32_OK ? length : CODEX32_BYTES_SIZE), 1);
+    size_t *told = new_length(&length_1);
+    uint32_t number = codex32_share(
+        read_1.buffer, text_length, (uint32_t *)(void *)threshold_area.buffer, identifier_area.buffer,
+        (uint32_t *)(void *)share_index_area.buffer, written_1.buffer, written_1.length, told);
+    int is_ok = number == CODEX32_OK;
+    count(&read_share, number);
+    expect_number(number, expected, length <= written_1.length);
+    expect_kept(&read_1, 0, "the text changed");
+    expect_kept(&threshold_area, is_ok ? sizeof before[0] : 0, "the threshold changed");
+    expect_kept(&share_index_area, is_ok ? sizeof before[1] : 0, "the share index changed");
+    expect_kept(&identifier_area, is_ok ? sizeof ample_name : 0, "the identifier changed");
+    expect_kept(&written_1, is_ok ? length : 0, "the buffer changed elsewhere");
+    expect_kept(&length_1, is_ok ? sizeof length : 0, "the length changed");
+    if (!is_ok) {
+        return;
+    }
+    expect(length_in(&length_1) == length && memcmp(written_1.buffer, ample, length) == 0, "other bytes");
+    expect(text[CODEX32_THRESHOLD_AT] == '0' + threshold &&
+               lowered(text[CODEX32_SHARE_INDEX_AT]) == share_index &&
+               same_lowered(text + CODEX32_IDENTIFIER_AT, ample_name, sizeof ample_name),
+           "another header");
+    /* Made again of what was told, it has the same characters but for the bits that are left over. */
+    size_t again = 0, payload = text_length - 9 - (text_length <= CODEX32_MAX_TEXT ? 13 : 15);
+    expect(codex32_encode(threshold, ample_name, sizeof ample_name, share_index, ample, length, data,
+                          sizeof data, &again) == CODEX32_OK &&
+               again == CODEX32_ENCODED_SIZE(length) &&
+               same_lowered(text, data, CODEX32_PAYLOAD_AT + (8 * length) / 5) &&
+               again >= CODEX32_PAYLOAD_AT + payload,
+           "another string is made of what was told");
+}
+
+static void try_codex32_encode(void) {
+    static uint8_t ample[AREA];
+    size_t length = 0, name_length = percent(95) ? sizeof name : below(sizeof name);
+    uint32_t threshold = random_threshold(), share_index = random_index(threshold);
+    begin(&encode_codex32);
+    random_name();
+    random_secret();
+    if (percent(5)) {
+        name[below(sizeof name)] = (uint8_t)below(256);
+    }
+    uint32_t expected = codex32_encode(threshold, name, name_length, share_index, data, data_length,
+                                       ample, CODEX32_TEXT_SIZE, &length);
+    expect(expected != CODEX32_NO_ROOM, "the room that the header states does not suffice");
+    place(&read_1, name, name_length, 1);
+    place(&read_2, data, data_length, 1);
+    place(&written_1, NULL, room(expected == CODEX32_OK ? length : CODEX32_TEXT_SIZE), 1);
+    size_t *told = new_length(&length_1);
+    uint32_t number = codex32_encode(threshold, read_1.buffer, name_length, share_index, read_2.buffer,
+                                     data_length, written_1.buffer, written_1.length, told);
+    int is_ok = number == CODEX32_OK;
+    count(&encode_codex32, number);
+    expect_number(number, expected, length <= written_1.length);
+    expect_kept(&read_1, 0, "the identifier changed");
+    expect_kept(&read_2, 0, "the bytes changed");
+    expect_kept(&written_1, is_ok ? length : 0, "the buffer changed elsewhere");
+    expect_kept(&length_1, is_ok ? sizeof length : 0, "the length changed");
+    if (!is_ok) {
+        return;
+    }
+    uint8_t back_name[CODEX32_IDENTIFIER_LENGTH], back[CODEX32_BYTES_SIZE];
+    uint32_t back_threshold, back_index;
+    size_t back_length;
+    expect(length_in(&length_1) == length && length == CODEX32_ENCODED_SIZE(data_length) &&
+               memcmp(written_1.buffer, ample, length) == 0,
+           "another text");
+    expect(codex32_share(ample, length, &back_threshold, back_name, &back_index, back, sizeof back,
+                         &back_length) == CODEX32_OK &&
+               back_threshold == threshold && same_lowered(back_name, name, sizeof name) &&
+               back_index == lowered((uint8_t)share_index) && back_length == data_length &&
+               memcmp(back, data, data_length) == 0,
+           "the text is not read as what it was made of");
+}
+
+/* Random characters of a payload, mostly as many as bytes have, in either case, and with some mistake at
+ * times. */
+static void random_payload(void) {
+    size_t bytes = percent(70) ? 16 + below(29) : 63 + below(2);
+    data_length = percent(80) ? (8 * bytes + 4) / 5 : percent(80) ? below(110) : below(MOST);
+    int in_upper_case = percent(20);
+    for (size_t i = 0; i < data_length; i++) {
+        uint8_t letter = (uint8_t)alphabet[below(32)];
+        data[i] = in_upper_case && letter >= 'a' ? (uint8_t)(letter - 32) : letter;
+    }
+    if (data_length > 0 && percent(15)) {
+        uint8_t *one = &data[below(data_length)];
+        *one = percent(50) ? (uint8_t)below(256) : *one >= 'a' ? (uint8_t)(*one - 32) : lowered(*one);
+    }
+}
+
+static void try_codex32_encode_payload(void) {
+    static uint8_t ample[AREA];
+    size_t length = 0, name_length = percent(97) ? sizeof name : below(sizeof name);
+    uint32_t threshold = random_threshold(), share_index = random_index(threshold);
+    begin(&encode_payload);
+    random_name();
+    random_payload();
+    uint32_t expected = codex32_encode_payload(threshold, name, name_length, share_index, data,
+                                               data_length, ample, CODEX32_TEXT_SIZE, &length);
+    expect(expected != CODEX32_NO_ROOM, "the room that the header states does not suffice");
+    place(&read_1, name, name_length, 1);
+    place(&read_2, data, data_length, 1);
+    place(&written_1, NULL, room(expected == CODEX32_OK ? length : CODEX32_TEXT_SIZE), 1);
+    size_t *told = new_length(&length_1);
+    uint32_t number = codex32_encode_payload(threshold, read_1.buffer, name_length, share_index,
+                                             read_2.buffer, data_length, written_1.buffer,
+                                             written_1.length, told);
+    int is_ok = number == CODEX32_OK;
+    count(&encode_payload, number);
+    expect_number(number, expected, length <= written_1.length);
+    expect_kept(&read_1, 0, "the identifier changed");
+    expect_kept(&read_2, 0, "the characters changed");
+    expect_kept(&written_1, is_ok ? length : 0, "the buffer changed elsewhere");
+    expect_kept(&length_1, is_ok ? sizeof length : 0, "the length changed");
+    if (!is_ok) {
+        return;
+    }
+    uint32_t back_threshold, back_index;
+    size_t payload_length = data_length;
+    expect(length_in(&length_1) == length && memcmp(written_1.buffer, ample, length) == 0 &&
+               length == CODEX32_PAYLOAD_AT + data_length + (data_length <= 71 ? 13 : 15),
+           "another text");
+    if (length <= CODEX32_MAX_TEXT) {
+        expect(codex32_parse(ample, length, &back_threshold, &back_index, &payload_length) == CODEX32_OK &&
+                   back_threshold == threshold && back_index == lowered((uint8_t)share_index) &&
+                   payload_length == data_length,
+               "the text is not read as what it was made of");
+    }
+    uint8_t back_name[CODEX32_IDENTIFIER_LENGTH], back[CODEX32_BYTES_SIZE];
+    size_t back_length;
+    expect(same_lowered(ample + CODEX32_IDENTIFIER_AT, name, sizeof name) &&
+               same_lowered(ample + CODEX32_PAYLOAD_AT, data, data_length) &&
+               codex32_share(ample, length, &back_threshold, back_name, &back_index, back, sizeof back,
+                             &back_length) == CODEX32_OK &&
+               back_length == 5 * data_length / 8,
+           "the text has another payload");
+}
+
+/* Texts of one set, at most times, one behind another, with their lengths. */
+static size_t lengths[40], texts_count;
+
+static void random_texts(void) {
+    uint32_t threshold = percent(70) ? 2 + (uint32_t)below(8) : percent(50) ? 0 : random_threshold();
+    size_t at = below(32);
+    text_length = 0;
+    random_name();
+    data_length = percent(80) ? 16 + below(29) : 63 + below(2);
+    texts_count = threshold == 0 ? 1 : percent(80) && threshold <= 9 ? threshold : below(40);
+    size_t other = percent(10) ? below(10) : 40;
+    for (size_t i = 0; i < texts_count; i++) {
+        size_t length = 0;
+        if (i == other) {
+            name[0] = name[0] == 'q' ? 'p' : 'q';
+        }
+        uint32_t index = threshold == 0 ? CODEX32_SECRET_INDEX : (uint32_t)(uint8_t)alphabet[(at + i) % 32];
+        for (size_t j = 0; j < data_length; j++) {
+            data[j] = (uint8_t)below(256);
+        }
+        if (codex32_encode(threshold, name, sizeof name, index, data, data_length,
+                           text + text_length, AREA - text_length, &length) != CODEX32_OK) {
+            length = text_length + 50 < AREA ? below(50) : 0;
+            memset(text + text_length, 'q', length);
+        }
+        lengths[i] = length;
+        text_length += length;
+    }
+}
+
+/* Some mistake in them. */
+static void mistake_in_texts(void) {
+    if (texts_count == 0) {
+        return;
+    }
+    switch (below(7)) {
+    case 0: lengths[below(texts_count)] += 1 + below(3); break;
+    case 1: lengths[below(texts_count)] = (size_t)next_number(); break;
+    case 2: texts_count = below(texts_count); break;
+    case 3: text_length -= lengths[--texts_count]; break;
+    case 4:
+        if (text_length > 0) {
+            text[below(text_length)] = (uint8_t)below(256);
+        }
+        break;
+    case 5:
+        if (texts_count > 1 && lengths[0] == lengths[1]) {
+            memcpy(text, text + lengths[0], lengths[0]);
+        }
+        break;
+    default:
+        if (text_length + lengths[0] <= AREA && texts_count < 40) {
+            memmove(text + lengths[0], text, text_length);
+            text_length += lengths[0];
+            memmove(lengths + 1, lengths, texts_count++ * sizeof *lengths);
+        }
+    }
+}
+
+static void try_codex32_derive(void) {
+    static uint8_t ample[AREA];
+    size_t length = 0;
+    begin(&derive_codex32);
+    random_texts();
+    if (percent(50)) {
+        mistake_in_texts();
+    }
+    uint32_t share_index = percent(30) ? CODEX32_SECRET_INDEX : random_index(2);
+    uint32_t expected = codex32_derive(share_index, text, text_length, lengths, texts_count, ample,
+                                       CODEX32_TEXT_SIZE, &length);
+    expect(expected != CODEX32_NO_ROOM, "the room that the header states does not suffice");
+    place(&read_1, text, text_length, 1);
+    place(&lengths_area, lengths, texts_count * sizeof *lengths, sizeof *lengths);
+    place(&written_1, NULL, room(expected == CODEX32_OK ? length : CODEX32_TEXT_SIZE), 1);
+    size_t *told = new_length(&length_1);
+    uint32_t number = codex32_derive(share_index, read_1.buffer, text_length,
+                                     (const size_t *)(const void *)lengths_area.buffer, texts_count,
+                                     written_1.buffer, written_1.length, told);
+    int is_ok = number == CODEX32_OK;
+    count(&derive_codex32, number);
+    expect_number(number, expected, length <= written_1.length);
+    expect_kept(&read_1, 0, "the texts changed");
+    expect_kept(&lengths_area, 0, "their lengths changed");
+    expect_kept(&written_1, is_ok ? length : 0, "the buffer changed elsewhere");
+    expect_kept(&length_1, is_ok ? sizeof length : 0, "the length changed");
+    if (!is_ok) {
+        return;
+    }
+    expect(length_in(&length_1) == length && length == lengths[0] &&
+               memcmp(written_1.buffer, ample, length) == 0,
+           "another text");
+    /* In place of the last text, it gives that back, where there is none to spare. */
+    size_t before = text_length - lengths[texts_count - 1], back_length = 0;
+    uint32_t threshold = (uint32_t)text[CODEX32_THRESHOLD_AT] - '0', last = text[before + 8];
+    if (texts_count != (threshold == 0 ? 1 : threshold)) {
+        return;
+    }
+    static uint8_t back[AREA];
+    uint8_t kept[CODEX32_TEXT_SIZE];
+    memcpy(kept, text + before, length);
+    memcpy(text + before, ample, length);
+    number = codex32_derive(last, text, text_length, lengths, texts_count, back, sizeof back,
+                            &back_length);
+    int is_another = 1;
+    for (size_t i = 0; i + 1 < texts_count; i++) {
+        is_another = is_another && lowered(text[i * length + 8]) != lowered((uint8_t)share_index);
+    }
+    expect(number == (is_another ? CODEX32_OK : CODEX32_INDEX_TWICE), "it is not taken in place of a text");
+    expect(!is_another || (back_length == length && same_lowered(back, kept, length)),
+           "another text comes back");
+}
+
+static void try_codex32_propose_long(void) {
+    static uint8_t ample[AREA];
+    size_t length = 0;
+    codex32_memory whole = {ample_memory, sizeof ample_memory};
+    begin(&propose_long_codex32);
+    random_share();
+    for (size_t i = percent(50) ? 0 : 1 + below(9); i > 0 && text_length > 4; i--) {
+        text[3 + below(text_length - 3)] = '?';
+    }
+    uint32_t expected =
+        codex32_propose_long(text, text_length, &whole, ample, sizeof ample, &length);
+    expect(whole.start == ample_memory && whole.size == sizeof ample_memory, "the memory was kept");
+    expect(expected != CODEX32_NO_MEMORY, "the memory that the header states does not suffice");
+    int is_small = percent(30);
+    size_t enough = CODEX32_MEMORY(text_length);
+    size_t size = is_small ? below(enough) : enough;
+    codex32_memory memory = {some_memory + (sizeof some_memory - size) / 16 * 16, size};
+    FORBID(some_memory, sizeof some_memory);
+    ALLOW(memory.start, size);
+    place(&read_1, text, text_length, 1);
+    place(&memory_area, &memory, sizeof memory, sizeof(size_t));
+    place(&written_1, NULL, room(expected == CODEX32_OK ? length : text_length), 1);
+    size_t *told = new_length(&length_1);
+    uint32_t number = codex32_propose_long(read_1.buffer, text_length,
+                                           (codex32_memory *)(void *)memory_area.buffer,
+                                           written_1.buffer, written_1.length, told);
+    int is_ok = number == CODEX32_OK;
+    count(&propose_long_codex32, number);
+    if (number == CODEX32_NO_MEMORY) {
+        expect(is_small && (expected == CODEX32_OK || expected == CODEX32_NO_NEAREST),
+               "want of memory in place of a refusal");
+    } else {
+        expect_number(number, expected, length <= written_1.length);
+    }
+    expect_kept(&read_1, 0, "the text changed");
+    expect_kept(&memory_area, 0, "the memory was kept");
+    expect_kept(&written_1, is_ok ? length : 0, "the buffer changed elsewhere");
+    expect_kept(&length_1, is_ok ? sizeof length : 0, "the length changed");
+    if (is_ok) {
+        expect(length_in(&length_1) == length && length == text_length, "the length");
+        expect(memcmp(written_1.buffer, ample, length) == 0, "another text");
+    }
+}
+
+/* Texts near to a mistyped one: few errors and erasures, since many take long. */
+static const uint32_t of_nearest[] = {2, 4, 11, 12, 13, 14, 15, 21, 22, 23, 31, 32, 91, 92, 0};
+static Function nearest = {"bech32_nearest", 0, {0}, of_nearest};
+
+static void expect_near(uint32_t checksum, const uint8_t *found, size_t errors, const size_t *erasures,
+                        size_t erasures_length) {
+    size_t h, n, different = 0;
+    expect(bech32_check(checksum, found, text_length, &h, &n) == BECH32_OK, "a near text is refused");
+    for (size_t i = 0; i < text_length; i++) {
+        int is_erased = 0;
+        for (size_t j = 0; j < erasures_length; j++) {
+            is_erased = is_erased || erasures[j] == text_length - 1 - i;
+        }
+        different += !is_erased && lowered(text[i]) != found[i];
+    }
+    expect(different <= errors && same_lowered(found, text, h + 1), "a text that is not near");
+}
+
+static void try_nearest(void) {
+    size_t erasures[4], items = 0, errors = percent(95) ? below(3) : below(5);
+    size_t erasures_length = errors < 2 ? below(4) : (size_t)percent(10);
+    uint32_t checksum = random_checksum();
+    begin(&nearest);
+    random_text();
+    text_length = text_length > 110 ? 110 : text_length;
+    for (size_t i = 0; i < erasures_length; i++) {
+        erasures[i] = percent(95) ? below(text_length + 1) : (size_t)next_number();
+    }
+    size_t size = percent(30) ? below(BECH32_NEAREST_MEMORY(text_length)) : sizeof some_memory;
+    bech32_memory memory = {some_memory + (sizeof some_memory - size) / 16 * 16, size};
+    FORBID(some_memory, sizeof some_memory);
+    ALLOW(memory.start, size);
+    place(&read_1, text, text_length, 1);
+    place(&erasures_area, erasures, erasures_length * sizeof *erasures, sizeof *erasures);
+    place(&memory_area, &memory, sizeof memory, sizeof(size_t));
+    place(&written_1, NULL, room(text_length), 1);
+    size_t *told = new_length(&length_1);
+    uint32_t number = bech32_nearest(
+        checksum, read_1.buffer, text_length, (const size_t *)(void *)erasures_area.buffer,
+        erasures_length, errors, (bech32_memory *)(void *)memory_area.buffer, written_1.buffer,
+        written_1.length, told);
+    int is_ok = number == BECH32_OK;
+    count(&nearest, number);
+    expect_kept(&read_1, 0, "the text changed");
+    expect_kept(&erasures_area, 0, "the erasures changed");
+    expect_kept(&memory_area, 0, "the memory was kept");
+    expect_kept(&length_1, is_ok ? sizeof items : 0, "the number of texts changed");
+    items = is_ok ? length_in(&length_1) : 0;
+    expect(items == 0 || items <= written_1.length / text_length, "more texts than there is room for");
+    expect_kept(&written_1, items * text_length, "the buffer changed elsewhere");
+    for (size_t i = 0; i < items; i++) {
+        expect_near(checksum, written_1.buffer + i * text_length, errors, erasures, erasures_length);
+    }
+}
+
+typedef uint32_t Message(uint32_t, uint8_t *, size_t, size_t *);
+
+/* The sentence of any number, which is there for those that a call returns, and in ASCII. */
+static void try_sentence(Function *function, Message *call, const uint32_t *known) {
+    uint8_t ample[BECH32_MAX_MESSAGE];
+    size_t length = 0;
+    begin(function);
+    uint32_t asked = percent(90) ? (uint32_t)below(NUMBERS) : (uint32_t)next_number();
+    expect(call(asked, ample, sizeof ample, &length) == BECH32_OK && length <= sizeof ample,
+           "the room that the header states does not suffice");
+    for (; *known != 0; known++) {
+        expect(*known != asked || length > 0, "a number that calls return has no sentence");
+    }
+    for (size_t i = 0; i < length; i++) {
+        expect(ample[i] >= ' ' && ample[i] <= '~', "a sentence is not ASCII");
+    }
+    place(&written_1, NULL, room(length), 1);
+    size_t *told = new_length(&length_1);
+    uint32_t number = call(asked, written_1.buffer, written_1.length, told);
+    int is_ok = number == BECH32_OK;
+    count(function, number);
+    expect_number(number, BECH32_OK, length <= written_1.length);
+    expect_kept(&written_1, is_ok ? length : 0, "the buffer changed elsewhere");
+    expect_kept(&length_1, is_ok ? sizeof length : 0, "the length changed");
+    expect(!is_ok || (length_in(&length_1) == length &&
+                      (length == 0 || memcmp(written_1.buffer, ample, length) == 0)),
+           "another sentence");
+}
+
+static void try_message(void) {
+    const uint32_t *known[] = {of_encode, of_segwit_decode, of_segwit_encode, of_correct};
+    expect(bech32_version() == BECH32_VERSION_NUMBER, "another version");
+    try_sentence(&message, bech32_message, known[below(sizeof known / sizeof *known)]);
+}
+
+static void try_codex32_message(void) {
+    const uint32_t *known[] = {of_codex32_share, of_codex32_encode, of_codex32_derive,
+                               of_codex32_propose};
+    expect(codex32_version() == CODEX32_VERSION_NUMBER, "another version");
+    try_sentence(&codex32_message_calls, codex32_message, known[below(sizeof known / sizeof *known)]);
+}
+
 static void print(const Function *function) {
     printf("%s: %llu calls; ", function->name, function->calls);
     printf("%llu answered", function->numbers[BECH32_OK]);
@@ -755,13 +1228,15 @@ int main(int argc, char **argv) {
     static void (*const tries[])(void) = {
         try_encode,        try_decode,        try_check,   try_fault,
         try_segwit_encode, try_segwit_decode, try_residue, try_correct,
-        try_codex32_parse, try_codex32_propose,
+        try_codex32_parse, try_codex32_propose, try_codex32_share,
+        try_codex32_encode, try_codex32_encode_payload, try_codex32_derive, try_codex32_propose_long,
+        try_nearest, try_message, try_codex32_message,
     };
     unsigned long long count = argc > 1 ? strtoull(argv[1], NULL, 10) : 100000;
     Area *areas[] = {
         &read_1,        &read_2,         &written_1,   &written_2,   &length_1, &length_2,
         &erasures_area, &locations_area, &values_area, &mended_area, &length_3,
-        &threshold_area, &share_index_area, &memory_area,
+        &threshold_area, &share_index_area, &memory_area, &identifier_area, &lengths_area,
     };
     state = argc > 2 ? strtoull(argv[2], NULL, 10) : 1;
     for (size_t i = 0; i < sizeof areas / sizeof *areas; i++) {
@@ -781,5 +1256,13 @@ int main(int argc, char **argv) {
     print(&correct);
     print(&read_codex32);
     print(&propose_codex32);
+    print(&read_share);
+    print(&encode_codex32);
+    print(&encode_payload);
+    print(&derive_codex32);
+    print(&propose_long_codex32);
+    print(&nearest);
+    print(&message);
+    print(&codex32_message_calls);
     return 0;
 }

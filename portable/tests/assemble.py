@@ -12,9 +12,9 @@ import wasm  # noqa: E402
 
 OPCODES = {name: bytes([op]) for op, name in wasm.NAMES.items()}
 OPCODES.update({name: b"\xfc" + bytes([op]) for op, name in wasm.MORE_NAMES.items()})
-IMPORTS = {"__rattle_enter": 1, "__rattle_leave": 2, "__rattle_trap": 2, "__multi3": 3}
+IMPORTS = {"__rattle_enter": 1, "__rattle_leave": 2, "__rattle_trap": 2, "__multi3": 3, "__lshrti3": 4}
 I64, I32, NONE = b"\x7e", b"\x7f", b"\x40"
-TYPES = [(I64 * 2, I64), (b"", I32), (b"", b""), (I64 * 5, b"")]
+TYPES = [(I64 * 2, I64), (b"", I32), (b"", b""), (I64 * 5, b""), (I64 * 3 + I32, b"")]
 CONSTANTS = {"TABLE": b"".join((0x0123456789ABCDEF * n % (1 << 64)).to_bytes(8, "little") for n in range(1, 9)),
              "ODD": bytes(range(200, 231)), "WORDS": bytes(range(64, 96))}
 
@@ -302,6 +302,11 @@ def of_control():
                              "local.get:2 i64.load:0 i64.const:3 i64.mul local.get:2 i64.load:8 i64.xor"),
         "product_high": frame(16, "local.get:2 local.get:0 i64.const:0 local.get:1 i64.const:0 call:__multi3 "
                                   "local.get:2 i64.load:8"),
+        "shift": frame(16, "local.get:2 local.get:0 local.get:1 local.get:0 i64.const:3 i64.mul local.get:1 i64.xor i64.const:127 "
+                           "i64.and i32.wrap_i64 call:__lshrti3 local.get:2 i64.load:0 i64.const:3 i64.mul local.get:2 "
+                           "i64.load:8 i64.xor"),
+        "shift_by": frame(16, "local.get:2 i64.const:81985529216486895 local.get:0 local.get:1 i64.const:127 i64.and i32.wrap_i64 "
+                              "call:__lshrti3 local.get:2 i64.load:0 local.get:2 i64.load:8 i64.const:5 i64.mul i64.xor"),
         "enter": "call:__rattle_enter i64.extend_i32_u local.get:0 i64.add call:__rattle_leave",
         "trap": f"{low} if call:__rattle_trap end local.get:1",
     }

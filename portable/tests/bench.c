@@ -73,6 +73,41 @@ static uint32_t propose(void) {
     return codex32_propose(text, text_length, &memory, out, 93, &length);
 }
 
+static uint32_t share(void) {
+    return codex32_share(text, text_length, &word, other, &version, out, sizeof out, &length);
+}
+
+static uint32_t codex32_of_bytes(void) {
+    return codex32_encode(2, (const uint8_t *)"test", 4, 'a', bytes, bytes_length, out, 127, &length);
+}
+
+static uint8_t set[9 * CODEX32_TEXT_SIZE];
+static size_t lengths[9], set_length, set_count;
+
+static uint32_t derive(void) {
+    return codex32_derive('s', set, set_length, lengths, set_count, out, 127, &length);
+}
+
+static uint32_t propose_long(void) {
+    codex32_memory memory = {lent, sizeof lent};
+    return codex32_propose_long(text, text_length, &memory, out, 127, &length);
+}
+
+/* As many strings as their threshold, of so many bytes. */
+static void of_set(uint32_t threshold, size_t size) {
+    static const uint8_t letters[] = "acdefghjk";
+    for (set_length = set_count = 0; set_count < threshold; set_count++) {
+        for (size_t i = 0; i < size; i++) {
+            bytes[i] = (uint8_t)(i * 7 + 3 * set_count);
+        }
+        if (codex32_encode(threshold, (const uint8_t *)"test", 4, letters[set_count], bytes, size, set + set_length, 127,
+                           &lengths[set_count])) {
+            exit(1);
+        }
+        set_length += lengths[set_count];
+    }
+}
+
 static void of_bytes(const char *part, uint32_t by, size_t size) {
     hrp = part, checksum = by, bytes_length = size;
     for (size_t i = 0; i < size; i++) {
@@ -98,6 +133,9 @@ static void mistype(size_t places) {
 #define SHORT "bc1qw508d6qejxtdg4y5r3zarvary0c5xw7kv8f3t4"
 #define LONG "bc1p0xlxvlhemja6c4dqv22uapctqupfhlxm9h8z3k2e72q4k9hcz7vqzk5jj0"
 #define STRING "ms10testsxxxxxxxxxxxxxxxxxxxxxxxxxx4nzvca9cmczlw"
+#define LONG_STRING                                                                                                \
+    "ms100c8vsm32zxfguhpchtlupzry9x8gf2tvdw0s3jn54khce6mua7lqpzygsfjd6an074rxvcemlh8wu3tk925acdefghjklmnpqrstuvwxy06f" \
+    "hpv80undvarhrak"
 
 static const struct {
     const char *name;
@@ -120,6 +158,11 @@ static const struct {
     {"nearest, two errors in 62", nearest},
     {"codex32_parse, 48 characters", parse},
     {"codex32_propose, four wrong", propose},
+    {"codex32_share, 48 characters", share},
+    {"codex32_encode, 16 bytes", codex32_of_bytes},
+    {"codex32_derive, two of 16 bytes", derive},
+    {"codex32_derive, nine of 64 bytes", derive},
+    {"codex32_propose_long, four wrong", propose_long},
 };
 #define ROWS (int)(sizeof rows / sizeof *rows)
 
@@ -144,7 +187,12 @@ static void prepare(int row) {
     case 13: of_bytes("bc", 1, 20), mistype(2); break;
     case 14: of_text(LONG, 2), mistype(2); break;
     case 15: of_text(STRING, 0); break;
-    default: of_text(STRING, 0), text[15] = text[16] = text[46] = '?', text[23] = 'q';
+    case 16: of_text(STRING, 0), text[15] = text[16] = text[46] = '?', text[23] = 'q'; break;
+    case 17: of_text(STRING, 0); break;
+    case 18: bytes_length = 16; break;
+    case 19: of_set(2, 16); break;
+    case 20: of_set(9, 64); break;
+    default: of_text(LONG_STRING, 0), text[15] = text[16] = text[46] = '?', text[23] = 'q';
     }
 }
 

@@ -22,6 +22,12 @@ const env = {
     view.setBigUint64(Number(to), product & ALL, true);
     view.setBigUint64(Number(to) + 8, (product >> 64n) & ALL, true);
   },
+  __lshrti3: (to, low, high, by) => {
+    const shifted = (unsigned(low) | (unsigned(high) << 64n)) >> BigInt(by);
+    const view = new DataView(memory.buffer);
+    view.setBigUint64(Number(to), shifted & ALL, true);
+    view.setBigUint64(Number(to) + 8, shifted >> 64n, true);
+  },
 };
 const EDGES = [0n, 1n, 2n, 7n, 8n, 31n, 32n, 63n, 64n, 127n, 128n, 255n, 32767n, 32768n, 65535n, 65536n, 2147483647n,
   2147483648n, 4294967295n, 4294967296n, 1n << 63n, (1n << 63n) - 1n, ALL, ALL - 1n, 0x123456789abcdef0n,

@@ -24,6 +24,9 @@ static void expect(int holds, const char *what) {
 #ifdef OF_CODEX32
 
 #define STRING "ms10testsxxxxxxxxxxxxxxxxxxxxxxxxxx4nzvca9cmczlw"
+#define LONG_STRING                                                                                                \
+    "ms100c8vsm32zxfguhpchtlupzry9x8gf2tvdw0s3jn54khce6mua7lqpzygsfjd6an074rxvcemlh8wu3tk925acdefghjklmnpqrstuvwxy06f" \
+    "hpv80undvarhrak"
 #define LOOKED_AT 40000u
 #define LOWER 1024u
 
@@ -47,6 +50,28 @@ static uint32_t propose(void) {
     return codex32_propose(text, text_length, &memory, out, room, &length);
 }
 
+static uint32_t share(void) {
+    return codex32_share(text, text_length, &word, out + 512, &word, out, room, &length);
+}
+
+static uint32_t encode(void) {
+    return codex32_encode(2, (const u8 *)"test", 4, 'a', text, 16, out, room, &length);
+}
+
+static uint32_t encode_payload(void) {
+    return codex32_encode_payload(2, (const u8 *)"test", 4, 'a', text + CODEX32_PAYLOAD_AT, text_length < 94 ? 26 : 103, out,
+                                  room, &length);
+}
+
+static uint32_t derive(void) {
+    return codex32_derive(CODEX32_SECRET_INDEX, text, text_length, &text_length, 1, out, room, &length);
+}
+
+static uint32_t propose_long(void) {
+    codex32_memory memory = {lent, memory_size};
+    return codex32_propose_long(text, text_length, &memory, out, room, &length);
+}
+
 /* The longest run of zeros that a call leaves on the stack, which had none. */
 static __attribute__((noinline)) size_t zeros_after(uint32_t (*call)(void), uint32_t wanted) {
     u8 here;
@@ -64,30 +89,56 @@ static __attribute__((noinline)) size_t zeros_after(uint32_t (*call)(void), uint
     return longest;
 }
 
-static void try_string(const char *of, uint32_t parsed, uint32_t proposed) {
+static void expect_zeros(uint32_t (*call)(void), uint32_t wanted, size_t stated) {
+    size_t zeros = zeros_after(call, wanted);
+    printf("%u: %u zeros of %u\n", (unsigned)wanted, (unsigned)zeros, (unsigned)stated);
+    expect(zeros >= stated, "what a string leaves on the stack");
+}
+
+/* Calls of all functions with a text, and their answers. */
+static void try_string(const char *of, uint32_t parsed, uint32_t proposed, uint32_t shared, uint32_t derived,
+                       uint32_t proposed_long) {
+    const uint32_t encoded = room < 48 ? CODEX32_NO_ROOM : CODEX32_OK;
     text_length = strlen(of);
     memcpy(text, of, text_length);
-    size_t of_parse = zeros_after(parse, parsed), of_propose = zeros_after(propose, proposed);
-    printf("%u and %u: %u zeros of %u, %u of %u\n", (unsigned)parsed, (unsigned)proposed, (unsigned)of_parse,
-           (unsigned)stack_codex32_parse, (unsigned)of_propose, (unsigned)stack_codex32_propose);
-    expect(of_parse >= stack_codex32_parse && of_propose >= stack_codex32_propose, "what a string leaves on the stack");
+    expect_zeros(parse, parsed, stack_codex32_parse);
+    expect_zeros(propose, proposed, stack_codex32_propose);
+    expect_zeros(share, shared, stack_codex32_share);
+    expect_zeros(encode, encoded, stack_codex32_encode);
+    expect_zeros(encode_payload, shared == CODEX32_INVALID_CHARACTER ? shared : encoded, stack_codex32_encode_payload);
+    expect_zeros(derive, derived, stack_codex32_derive);
+    expect_zeros(propose_long, proposed_long, stack_codex32_propose_long);
 }
 
 static void try_all(void) {
-    room = 93, memory_size = sizeof lent;
-    try_string(STRING, CODEX32_OK, CODEX32_OK);
-    try_string("ms10testsxxx?xxxx?xxxxxxxxxxxx?xxxx4nzvca?cmczlw", CODEX32_INVALID_CHARACTER, CODEX32_OK);
-    try_string("ms10testsxxxqxxxxqxxxxqxxxqxxxqxxxx4nzvcaqcmczlw", CODEX32_WRONG_CHECKSUM, CODEX32_NO_NEAREST);
+    const uint32_t ok = CODEX32_OK, bad_length = CODEX32_BAD_LENGTH, invalid = CODEX32_INVALID_CHARACTER;
+    const uint32_t wrong = CODEX32_WRONG_CHECKSUM, no_room = CODEX32_NO_ROOM, no_memory = CODEX32_NO_MEMORY;
+    room = 127, memory_size = sizeof lent;
+    try_string(STRING, ok, ok, ok, ok, bad_length);
+    try_string(LONG_STRING, bad_length, bad_length, ok, ok, ok);
+    try_string("ms10testsxxx?xxxx?xxxxxxxxxxxx?xxxx4nzvca?cmczlw", invalid, ok, invalid, invalid, bad_length);
+    try_string("ms10testsxxxqxxxxqxxxxqxxxqxxxqxxxx4nzvcaqcmczlw", wrong, CODEX32_NO_NEAREST, wrong, wrong, bad_length);
     room = 3;
-    try_string(STRING, CODEX32_OK, CODEX32_NO_ROOM);
+    try_string(STRING, ok, no_room, no_room, no_room, bad_length);
+    try_string(LONG_STRING, bad_length, bad_length, no_room, no_room, no_room);
     memory_size = 0;
-    try_string(STRING, CODEX32_OK, CODEX32_NO_MEMORY);
+    try_string(STRING, ok, no_memory, no_room, no_room, bad_length);
+    try_string(LONG_STRING, bad_length, bad_length, no_room, no_room, no_memory);
 }
 
 static void try_long(size_t most) {
     codex32_memory memory = {lent, sizeof lent};
     expect(codex32_parse(text, most, &word, &word, &length) == CODEX32_NO_MEMORY, "codex32_parse");
     expect(codex32_propose(text, most, &memory, out, sizeof out, &length) == CODEX32_NO_MEMORY, "codex32_propose");
+    expect(codex32_share(text, most, &word, out, &word, out, sizeof out, &length) == CODEX32_NO_MEMORY, "codex32_share");
+    expect(codex32_derive('s', text, most, &text_length, 1, out, sizeof out, &length) == CODEX32_NO_MEMORY, "codex32_derive");
+    expect(codex32_propose_long(text, most, &memory, out, sizeof out, &length) == CODEX32_NO_MEMORY, "codex32_propose_long");
+    expect(codex32_encode_payload(2, (const u8 *)"test", 4, 'a', text, most, out, sizeof out, &length) == CODEX32_NO_MEMORY,
+           "codex32_encode_payload");
+    expect(codex32_encode(2, text, most, 'a', text, 16, out, sizeof out, &length) == CODEX32_BAD_IDENTIFIER, "an identifier");
+    expect(codex32_encode_payload(2, text, most, 'a', text, 26, out, sizeof out, &length) == CODEX32_BAD_IDENTIFIER,
+           "an identifier beside a payload");
+    expect(codex32_encode(2, (const u8 *)"test", 4, 'a', text, most, out, sizeof out, &length) == CODEX32_BAD_SIZE, "bytes");
     expect(memory.start == lent && memory.size == sizeof lent, "the memory that is lent");
 }
 

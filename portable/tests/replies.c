@@ -248,6 +248,24 @@ static uint32_t try_fault(void) {
     return number;
 }
 
+static uint32_t try_message(void) {
+    size_t length = 7777;
+    uint32_t asked = below(100);
+    uint32_t number = bech32_message(asked, out, room(100, 40), &length);
+    put_size(length);
+    put_size(bech32_version());
+    return number;
+}
+
+static uint32_t try_codex32_message(void) {
+    size_t length = 7777;
+    uint32_t asked = below(100);
+    uint32_t number = codex32_message(asked, out, room(100, 40), &length);
+    put_size(length);
+    put_size(codex32_version());
+    return number;
+}
+
 static uint32_t try_segwit_encode(void) {
     size_t length = 7777;
     make(42, 700);
@@ -366,6 +384,208 @@ static uint32_t try_propose(void) {
     return number;
 }
 
+/* ---- strings of either length, and sets of them: made by the library, so one that answers otherwise makes others */
+
+static uint8_t name[CODEX32_IDENTIFIER_LENGTH];
+
+static void make_name(void) {
+    for (size_t i = 0; i < sizeof name; i++) {
+        name[i] = (uint8_t)(alphabet[below(32)]);
+    }
+    if (!below(20)) {
+        name[below(sizeof name)] = (uint8_t)next();
+    }
+}
+
+static void make_secret(void) {
+    data_length = below(20) ? below(4) ? 16 + below(29) : 63 + below(2) : below(80);
+    for (size_t i = 0; i < data_length; i++) {
+        data[i] = (uint8_t)next();
+    }
+}
+
+static uint32_t an_index(uint32_t threshold) {
+    uint32_t letter = (uint32_t)(uint8_t)alphabet[below(32)];
+    if (threshold == 0 && below(6)) {
+        return CODEX32_SECRET_INDEX;
+    }
+    return below(30) ? letter >= 'a' && !below(4) ? letter - 32 : letter : next();
+}
+
+static void damage(int is_unread) {
+    uint32_t changes = below(3) ? below(7) : 0;
+    for (uint32_t i = 0; i < changes && text_length > 3; i++) {
+        text[3 + below((uint32_t)text_length - 3)] = (uint8_t)(is_unread && below(2) ? '?' : alphabet[below(32)]);
+    }
+}
+
+/* A string of either length, or one with six bits left over. */
+static void long_or_short(void) {
+    static const char left_over[] = "ms12xh04fm5amh7k7ay0jj7mgh3ndf4zdx0dmxgdrhz38hawaewk";
+    uint32_t threshold = below(4) ? 2 + below(8) : 0;
+    make_name();
+    make_secret();
+    text_length = sizeof left_over - 1;
+    memcpy(text, left_over, text_length);
+    if (below(20)) {
+        codex32_encode(threshold, name, sizeof name, an_index(threshold), data, data_length, text, sizeof text, &text_length);
+    }
+}
+
+static uint32_t try_share(void) {
+    uint32_t threshold = 7777, index = 8888;
+    size_t length = 9999;
+    uint8_t identifier[CODEX32_IDENTIFIER_LENGTH] = {1, 2, 3, 4};
+    if (below(4)) {
+        long_or_short();
+        below(2) ? damage(0) : (void)0;
+    } else {
+        string(0);
+    }
+    uint32_t number = codex32_share(text, text_length, &threshold, identifier, &index, out, room(64, 16), &length);
+    put_size(threshold);
+    put(identifier, sizeof identifier);
+    put_size(index);
+    put_size(length);
+    return number;
+}
+
+static uint32_t try_codex32_encode(void) {
+    size_t length = 7777;
+    uint32_t threshold = below(20) ? below(11) : next();
+    make_name();
+    make_secret();
+    size_t name_length = below(20) ? sizeof name : below(sizeof name);
+    uint32_t index = an_index(threshold);
+    size_t room_1 = room(127, CODEX32_ENCODED_SIZE(data_length));
+    uint32_t number = codex32_encode(threshold, name, name_length, index, data, data_length, out, room_1, &length);
+    put_size(length);
+    return number;
+}
+
+/* As many characters as bytes have, mostly, in either case, and sometimes others. */
+static void make_payload(void) {
+    make_secret();
+    data_length = below(20) ? (8 * data_length + 4) / 5 : below(110);
+    int lower_by = below(4) ? 0 : 32;
+    for (size_t i = 0; i < data_length; i++) {
+        int letter = alphabet[below(32)];
+        data[i] = (uint8_t)(letter >= 'a' ? letter - lower_by : letter);
+    }
+    if (!below(8) && data_length > 0) {
+        data[below((uint32_t)data_length)] = (uint8_t)(below(2) ? alphabet[below(32)] : (int)(next() & 255));
+    }
+}
+
+static uint32_t try_encode_payload(void) {
+    size_t length = 7777;
+    uint32_t threshold = below(20) ? below(11) : next();
+    make_name();
+    make_payload();
+    size_t name_length = below(20) ? sizeof name : below(sizeof name);
+    uint32_t index = an_index(threshold);
+    size_t room_1 = room(127, CODEX32_PAYLOAD_AT + data_length + (data_length <= 71 ? 13 : 15));
+    uint32_t number =
+        codex32_encode_payload(threshold, name, name_length, index, data, data_length, out, room_1, &length);
+    put_size(length);
+    return number;
+}
+
+static size_t lengths[40], count_of_texts, set_length;
+static uint8_t set[40 * CODEX32_TEXT_SIZE];
+
+static void append(const uint8_t *one, size_t length) {
+    if (count_of_texts < sizeof lengths / sizeof *lengths && length <= CODEX32_TEXT_SIZE) {
+        memmove(set + set_length, one, length);
+        lengths[count_of_texts++] = length;
+        set_length += length;
+    }
+}
+
+/* As many random strings as their threshold, and some that are derived of them. */
+static void make_set(void) {
+    uint32_t threshold = below(8) ? 2 + below(8) : 0, at = below(32), more = below(2) ? below(4) : 0;
+    make_name();
+    make_secret();
+    count_of_texts = set_length = 0;
+    for (uint32_t i = 0; i < (threshold ? threshold : 1); i++) {
+        uint32_t index = threshold ? (uint32_t)(uint8_t)alphabet[(at + i) % 32] : CODEX32_SECRET_INDEX;
+        size_t length = 0;
+        for (size_t j = 0; j < data_length; j++) {
+            data[j] = (uint8_t)next();
+        }
+        if (codex32_encode(threshold, name, sizeof name, index, data, data_length, text, sizeof text, &length) == CODEX32_OK) {
+            append(text, length);
+        }
+    }
+    for (uint32_t i = 0; i < more && threshold > 0; i++) {
+        size_t length = 0;
+        uint32_t index = (uint32_t)(uint8_t)alphabet[(at + threshold + i) % 32];
+        if (codex32_derive(index, set, set_length, lengths, count_of_texts, text, sizeof text, &length) == CODEX32_OK) {
+            append(text, length);
+        }
+    }
+}
+
+static void change_set(void) {
+    size_t one = count_of_texts ? below((uint32_t)count_of_texts) : 0;
+    switch (below(9)) {
+    case 0: lengths[one] += below(3); break;
+    case 1: lengths[one] = (size_t)next() << 4; break;
+    case 2: count_of_texts -= count_of_texts ? 1 : 0; break;
+    case 3: set_length -= count_of_texts ? lengths[--count_of_texts] : 0; break;
+    case 4: set[set_length ? below((uint32_t)set_length) : 0] = (uint8_t)next(); break;
+    case 5: append(set, lengths[0]); break;
+    case 6:
+        for (int i = 0; i < 40; i++) {
+            append(set, lengths[0]);
+        }
+        break;
+    case 7:
+        long_or_short();
+        append(text, text_length);
+        break;
+    default:
+        /* A string of the same set that is none of theirs. */
+        for (size_t i = 0; i < data_length; i++) {
+            data[i] = (uint8_t)next();
+        }
+        if (set_length > CODEX32_THRESHOLD_AT &&
+            codex32_encode((uint32_t)set[CODEX32_THRESHOLD_AT] - '0', name, sizeof name, an_index(2), data, data_length, text,
+                           sizeof text, &text_length) == CODEX32_OK) {
+            append(text, text_length);
+        }
+    }
+}
+
+static uint32_t try_derive(void) {
+    size_t length = 7777;
+    make_set();
+    below(2) ? change_set() : (void)0;
+    uint32_t index = below(3) ? an_index(2) : CODEX32_SECRET_INDEX;
+    uint32_t number =
+        codex32_derive(index, set, set_length, lengths, count_of_texts, out, room(127, lengths[0] % 128), &length);
+    put_size(length);
+    return number;
+}
+
+static uint32_t try_propose_long(void) {
+    size_t length = 7777;
+    codex32_memory memory = {lent, below(5) ? CODEX32_MEMORY(127) : below(20000)};
+    size_t size = memory.size;
+    long_or_short();
+    if (below(8)) {
+        data_length = 63 + below(2);
+        codex32_encode(2, (const uint8_t *)"l0ng", 4, 'a', data, data_length, text, sizeof text, &text_length);
+    }
+    damage(1);
+    uint32_t number = codex32_propose_long(text, text_length, &memory, out, room(127, text_length), &length);
+    put_size(length);
+    put_size(memory.start == lent && memory.size == size);
+    put_size(memory.size == 0);
+    return number;
+}
+
 static const struct {
     const char *name;
     uint32_t (*call)(void);
@@ -379,8 +599,15 @@ static const struct {
     {"residue", try_residue},
     {"correct", try_correct},
     {"nearest", try_nearest},
+    {"message", try_message},
+    {"codex32_message", try_codex32_message},
     {"parse", try_parse},
     {"propose", try_propose},
+    {"share", try_share},
+    {"codex32_encode", try_codex32_encode},
+    {"encode_payload", try_encode_payload},
+    {"derive", try_derive},
+    {"propose_long", try_propose_long},
 };
 
 static void print_hash(void) {

@@ -14,6 +14,13 @@ static unsigned stack_size;
 #ifdef OF_CODEX32
 #define stack_codex32_parse stack_size
 #define stack_codex32_propose stack_size
+#define stack_codex32_share stack_size
+#define stack_codex32_encode stack_size
+#define stack_codex32_encode_payload stack_size
+#define stack_codex32_derive stack_size
+#define stack_codex32_propose_long stack_size
+#define stack_codex32_message stack_size
+#define stack_codex32_version stack_size
 #else
 #define stack_bech32_encode stack_size
 #define stack_bech32_decode stack_size
@@ -24,6 +31,8 @@ static unsigned stack_size;
 #define stack_bech32_residue stack_size
 #define stack_bech32_correct stack_size
 #define stack_bech32_nearest stack_size
+#define stack_bech32_message stack_size
+#define stack_bech32_version stack_size
 #endif
 #include LIBRARY
 
@@ -62,11 +71,82 @@ static uint32_t try_propose(unsigned n) {
     return codex32_propose(text, text_length, &memory, out, sizeof out, &length);
 }
 
+#define LONG                                                                                                       \
+    "ms100c8vsm32zxfguhpchtlupzry9x8gf2tvdw0s3jn54khce6mua7lqpzygsfjd6an074rxvcemlh8wu3tk925acdefghjklmnpqrstuvwxy06f" \
+    "hpv80undvarhrak"
+
+static uint32_t try_share(unsigned n) {
+    damage(n % 2 ? LONG : "ms10testsxxxxxxxxxxxxxxxxxxxxxxxxxx4nzvca9cmczlw", n / 2);
+    return codex32_share(text, text_length, &word, other, &word, out, n % 5 ? 64 : 3, &length);
+}
+
+#define LETTERS "qpzry9x8gf2tvdw0s3jn54khce6mua7l"
+
+static uint32_t try_encode(unsigned n) {
+    static const u8 bytes[64] = "0123456789abcdef0123456789abcdef0123456789abcdef0123456789abcde";
+    return codex32_encode(n % 7, (const u8 *)"test", n % 11 ? 4 : 3, n % 7 && n % 3 ? 'a' : 's', bytes,
+                          n % 2 ? 64 - n % 4 / 2 : n, out, n % 9 ? 127 : 20, &length);
+}
+
+static uint32_t try_encode_payload(unsigned n) {
+    static const u8 payload[104] = "q" LETTERS LETTERS LETTERS "pzry9x";
+    return codex32_encode_payload(n % 7, (const u8 *)"test", n % 11 ? 4 : 3, n % 7 && n % 3 ? 'a' : 's', payload + n % 2,
+                                  n % 3 ? 103 - n % 4 : n, out, n % 9 ? 127 : 20, &length);
+}
+
+/* Sets of each threshold, with strings to spare or without, of which some contradict each other. */
+static uint32_t try_derive(unsigned n) {
+    static const u8 letters[] = "acdefghjkl";
+    static u8 texts[10 * 127], bytes[64];
+    size_t lengths[10], total = 0, threshold = 2 + n % 8, spare = n / 8 % 2;
+    for (size_t i = 0; i < threshold + spare; i++) {
+        bytes[3] = (u8)(i + n);
+        u8 *at = texts + total;
+        int is_derived = i >= threshold && n % 3;
+        if (!is_derived && codex32_encode((uint32_t)threshold, (const u8 *)"test", 4, letters[i], bytes, n % 5 ? 16 : 64, at,
+                                          127, &lengths[i]) != CODEX32_OK) {
+            return 1;
+        }
+        if (is_derived && codex32_derive(letters[i], texts, total, lengths, i, at, 127, &lengths[i]) != CODEX32_OK) {
+            return 1;
+        }
+        total += lengths[i];
+    }
+    return codex32_derive(n % 7 ? 's' : 'c', texts, total, lengths, threshold + spare - !(n % 10), out, 127, &length);
+}
+
+static uint32_t try_propose_long(unsigned n) {
+    codex32_memory memory = {lent, sizeof lent};
+    damage(LONG, n);
+    for (unsigned i = 0; i < n % 9; i++) {
+        text[10 + 4 * i] = '?';
+    }
+    return codex32_propose_long(text, text_length, &memory, out, sizeof out, &length);
+}
+
+static uint32_t try_message(unsigned n) {
+    return codex32_message(2 * n, out, n % 5 ? CODEX32_MAX_MESSAGE : 20, &length);
+}
+
+static uint32_t try_version(unsigned n) {
+    return codex32_version() + n;
+}
+
 static const struct {
     const char *name;
     uint32_t (*call)(unsigned n);
     unsigned stated;
-} functions[] = {{"codex32_parse", try_parse, STATED_parse}, {"codex32_propose", try_propose, STATED_propose}};
+} functions[] = {
+    {"codex32_parse", try_parse, STATED_parse},
+    {"codex32_share", try_share, STATED_share},
+    {"codex32_encode", try_encode, STATED_encode},
+    {"codex32_encode_payload", try_encode_payload, STATED_encode_payload},
+    {"codex32_derive", try_derive, STATED_derive},
+    {"codex32_propose", try_propose, STATED_propose},
+    {"codex32_propose_long", try_propose_long, STATED_propose_long},
+    {"codex32_message", try_message, STATED_message},
+    {"codex32_version", try_version, STATED_version},
+};
 
 #else
 
@@ -123,6 +203,14 @@ static uint32_t try_nearest(unsigned n) {
     return bech32_nearest(1 + n % 2, text, text_length, erasures, given, errors, &memory, out, sizeof out, &length);
 }
 
+static uint32_t try_message(unsigned n) {
+    return bech32_message(n, out, n % 5 ? BECH32_MAX_MESSAGE : 20, &length);
+}
+
+static uint32_t try_version(unsigned n) {
+    return bech32_version() + n;
+}
+
 static const struct {
     const char *name;
     uint32_t (*call)(unsigned n);
@@ -137,6 +225,8 @@ static const struct {
     {"bech32_residue", try_residue, STATED_residue},
     {"bech32_correct", try_correct, STATED_correct},
     {"bech32_nearest", try_nearest, STATED_nearest},
+    {"bech32_message", try_message, STATED_message},
+    {"bech32_version", try_version, STATED_version},
 };
 
 #endif
@@ -169,7 +259,8 @@ int main(void) {
                 low = middle + 1;
             }
         }
-        failed |= !enough || low == 0;
+        /* The least that is stated is that of a function which takes none. */
+        failed |= !enough || (low == 0 && stated > 16);
         printf("%s: %u bytes are stated, %u are taken%s\n", functions[i].name, stated, 16 * high,
                enough ? "" : ": TOO FEW ARE STATED");
     }

@@ -79,7 +79,7 @@ const textsIn = (typed) => {
 export const severalTexts = (typed) => {
   const texts = textsIn(typed), choices = [...new Set(texts)];
   if (texts.length < 2) return null;
-  const kind = choices.every((it) => /^ms1/i.test(it)) ? 'codex32 strings' : 'addresses';
+  const kind = choices.some((it) => /^ms1/i.test(it)) ? 'texts' : 'addresses';
   if (choices.length === 1) {
     return { tone: 'other', verdict: 'The same text stands there more than once.', said: ['Choose it to read it:'], choices };
   }

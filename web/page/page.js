@@ -1,7 +1,8 @@
 // The page: what is put into the field goes to answer.js, and what that says is shown.
 import { answer } from './answer.js';
+import { secretSaid } from './codex32.js';
 import { copied } from './copy.js';
-import { button, element, shownAnswer, spoken } from './shown.js';
+import { button, element, shownAnswer, shownSecret, spoken } from './shown.js';
 import { library, Stopped } from '../src/library.js';
 import { compiled } from '../src/modules.js';
 
@@ -19,9 +20,9 @@ const STOPPED = 'The library stopped without an answer and was started anew. Thi
 const failed = (sentence) => ({ tone: 'wrong', verdict: sentence, notes: [], said: [] });
 
 // What is said of the text, whatever happens. No text stays in the memory of the modules.
-const answered = (it, typed) => {
+const answered = (it, asked) => {
   try {
-    return answer(it, typed);
+    return asked();
   } catch (error) {
     return failed(error instanceof Stopped ? STOPPED : `This page has a fault, and there is no answer: ${error}`);
   } finally {
@@ -43,13 +44,23 @@ const copy = async (it, text) => {
   byId('spoken').textContent = it.textContent;
 };
 
+// The secret is worked out when it is asked for, and nothing of it stays when it is hidden.
+const reveal = (library) => (it, room, texts) => {
+  const isShown = it.getAttribute('aria-expanded') === 'false';
+  const found = isShown ? answered(library, () => secretSaid(library, texts)) : [];
+  room.replaceChildren(...(Array.isArray(found) ? shownSecret(found) : shownAnswer(found, {})));
+  it.setAttribute('aria-expanded', String(isShown));
+  it.textContent = isShown ? 'Hide the secret' : 'Show the secret';
+  byId('spoken').textContent = isShown ? 'The secret is shown below the button.' : 'The secret is hidden.';
+};
+
 const start = () => {
   const { modules, isLowered } = compiled();
   const it = library(...modules);
   const typed = byId('typed'), clear = byId('clear');
   let timer;
   const show = () => {
-    const found = answered(it, typed.value);
+    const found = answered(it, () => answer(it, typed.value));
     byId('answer').replaceChildren(...(found ? shownAnswer(found, does) : [example(does)]));
     clear.hidden = typed.value === '';
     clearTimeout(timer);
@@ -60,7 +71,7 @@ const start = () => {
     show();
     typed.focus();
   };
-  const does = { copy, choose };
+  const does = { copy, choose, reveal: reveal(it) };
   typed.addEventListener('input', show);
   clear.addEventListener('click', () => choose(''));
   byId('memory').textContent = MEMORY[Number(isLowered)];

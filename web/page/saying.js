@@ -3,14 +3,20 @@
 // `tone` is how it stands: `right`, `mended`, `wrong`, `open` (not all of it is there), `other` (no Bech32 text) or
 // `warning`. `verdict` and `said` are sentences, and so is `caution`, which stands before `said`. `text` with the places
 // `marked` is a text as it was put in; `offers` are mended texts; `choices` are texts to be put in by a click. What
-// `isSecret` is not to be copied.
+// `isSecret` is not to be copied. `strings` are codex32 strings of a set, each with a `title`, and what is said of it alone
+// (`found`); `secretOf` are those that give the secret, which is shown by a button.
 import { ordinal } from '../src/reasons.js';
 import { counted } from './words.js';
 
-const CAUTION = 'A correction is a guess at what was meant, and it may be wrong. Compare it with the source, '
+/** What is said beside a correction. */
+export const CAUTION = 'A correction is a guess at what was meant, and it may be wrong. Compare it with the source, '
   + 'character by character, before you use it.';
-/** What is said beside a codex32 string. */
-export const SECRET = 'Whoever has this string has a secret, or a share of it. Clear the field when you are done.';
+
+const OFFLINE = 'is a machine that is offline, with a copy of this page on its disk. The page keeps nothing: clear the field '
+  + 'when you are done.';
+/** What is said beside a codex32 string, and beside several. */
+export const SECRET = `Whoever has this string has a secret, or a share of it. The place to type it ${OFFLINE}`;
+export const SECRETS = `Whoever has these strings has a secret, or shares of it. The place to type them ${OFFLINE}`;
 
 const UNSURE = 'Write ? in place of each character that you are not sure of: then more can be mended.';
 
@@ -32,7 +38,8 @@ export const mended = (offers, faults) => {
   const more = left > 0 ? [`${counted(left, 'more is', 'more are')} not shown.`] : [];
   const isSecret = offers.some((offer) => offer.isSecret), secret = isSecret ? [SECRET] : [];
   const said = [...more, ...(isSame(offers[0]) ? [] : faults), ...secret];
-  return { tone: 'mended', verdict, offers: offers.slice(0, MOST), caution: CAUTION, said, isSecret };
+  const [{ secretOf }] = offers, shown = offers.slice(0, MOST);
+  return { tone: 'mended', verdict, offers: shown, caution: CAUTION, said, isSecret, ...(secretOf && { secretOf }) };
 };
 
 /** That nothing mends a text, and what else is known of it. Where more of it may be left open, that is said. */

@@ -80,22 +80,49 @@ const shownText = ({ tone, text, marked, isSecret }, does) => {
 const shownChoices = (choices, does) =>
   choices.map((text) => element('p', '', button('choice', () => does.choose(text), element('code', '', text))));
 
-/** An answer as elements; `does` has what the buttons do: `copy` a text, and `choose` one for the field. */
+// A string of a set: its title, and what is said of it. It has no button, since it is a secret.
+const shownString = ({ title, tone, headline, said, text, marked, offers = [] }) =>
+  element('section', 'string', element('h3', `verdict ${tone}`, title), ...paragraphs('', headline ? [headline] : []),
+    ...(text === undefined ? [] : [rows(columnsOf(text, marked), wrongColumn)]),
+    ...offers.flatMap(({ columns, changes, text: mended }) => [rows(columns, mendedColumn), whole(mended),
+      element('ul', 'changes', ...changes.map((it) => element('li', '', it)))]),
+    ...paragraphs('', said));
+
+/** A secret, of which each text has a name. */
+export const shownSecret = (parts) => parts.flatMap(({ name, text }) =>
+  [element('p', '', name), ...(text === null ? [] : [rows(columnsOf(text), wrongColumn), whole(text)])]);
+
+// A button that shows a secret behind it, and hides it again.
+const shownButton = (texts, does) => {
+  const room = element('div', 'secret'), it = button('reveal', () => does.reveal(it, room, texts), 'Show the secret');
+  it.setAttribute('aria-expanded', 'false');
+  return [element('p', '', it), room];
+};
+
+/**
+ * An answer as elements; `does` has what the buttons do: `copy` a text, `choose` one for the field, and `reveal` the secret
+ * that strings give.
+ */
 export const shownAnswer = (answer, does) => {
-  const { tone, verdict, notes, said, text, offers = [], choices = [], caution, isSecret } = answer;
+  const { tone, verdict, notes, said, text, offers = [], choices = [], strings = [], secretOf, caution, isSecret } = answer;
+  const isSet = strings.length > 0;
   return [
     element('h2', `verdict ${tone}`, verdict),
     ...(text === undefined ? [] : shownText(answer, does)),
     ...offers.map(shownOffer(offers.length === 1, isSecret, does)),
+    ...paragraphs('', isSet ? said : []),
+    ...(secretOf ? shownButton(secretOf, does) : []),
     ...paragraphs('caution', caution ? [caution] : []),
-    ...paragraphs('', said),
+    ...paragraphs('', isSet ? [] : said),
+    ...strings.map(shownString),
     ...shownChoices(choices, does),
     ...paragraphs('note', notes),
   ];
 };
 
 /** An answer as one text, to be spoken. */
-export const spoken = ({ verdict, notes, said, offers = [], caution }) => {
+export const spoken = ({ verdict, notes, said, offers = [], strings = [], caution }) => {
   const offered = offers.flatMap(({ headline, changes, said: more }) => [headline, ...changes, ...more]);
-  return [...new Set([verdict, ...offered, ...(caution ? [caution] : []), ...said, ...notes])].join(' ');
+  const each = strings.map(({ title, headline, said: more }) => [`${title}.`, headline, ...more].filter(Boolean).join(' '));
+  return [...new Set([verdict, ...offered, ...(caution ? [caution] : []), ...said, ...each, ...notes])].join(' ');
 };

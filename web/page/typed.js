@@ -7,13 +7,15 @@ const UNSEEN = /[\u00ad\u200b-\u200f\u202a-\u202e\u2060-\u2069\ufeff]/g;
 const QUOTES = /^["'`\u00ab\u00bb\u2018-\u201f\u2039\u203a]+|["'`\u00ab\u00bb\u2018-\u201f\u2039\u203a.,;]+$/g;
 const SCHEME = /^(bitcoin|lightning):(?:\/\/)?/i, PARAMETERS = /\?[a-z][a-z0-9-]*=.*$/i;
 
-const withoutMarks = (text) => {
+/** A text without the marks that are not seen, and notes on that. */
+export const withoutMarks = (text) => {
   const marks = new Set(text.match(UNSEEN));
   const note = `Marks that are not seen were left out: ${[...marks].map(shown).join(', ')}.`;
   return { text: text.replace(UNSEEN, '').replace(OUTER_SPACES, ''), notes: marks.size ? [note] : [] };
 };
 
-const withoutQuotes = (text) => {
+/** A text without the quotes and stops around it, and notes on that. */
+export const withoutQuotes = (text) => {
   const rest = text.replace(QUOTES, '').replace(OUTER_SPACES, '');
   return { text: rest, notes: rest === text ? [] : ['The quotes or stops around it were left out.'] };
 };

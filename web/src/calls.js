@@ -11,8 +11,12 @@ export const TEXT_ROOM = 4096;
 const TEXT_TOO_LONG = 31, ADDRESS_TOO_LONG = 41, CODEX32_BAD_LENGTH = 82;
 
 // Sizes that are always large enough, as the headers have them.
-const MAX_TEXT = 1023, MAX_HRP = 83, MAX_BYTES = 634, MAX_SEGWIT_TEXT = 90, MAX_SEGWIT_PROGRAM = 40, MAX_CODEX32 = 93;
+const MAX_TEXT = 1023, MAX_HRP = 83, MAX_BYTES = 634, MAX_SEGWIT_TEXT = 90, MAX_SEGWIT_PROGRAM = 40;
+const MAX_CODEX32 = 127, MAX_CODEX32_BYTES = 64, IDENTIFIER = 4;
 const CODEX32_MEMORY = 16384 + 8 * MAX_CODEX32;
+
+/** So many strings may be put together: there is one for each share index. */
+export const MOST_SHARES = 32;
 
 // Room for the locations of a correction: bech32_correct lists three at most.
 const MAX_LISTED = 8;
@@ -34,9 +38,13 @@ const BECH32_REGIONS = {
   locations: SIZE * MAX_LISTED, values: MAX_LISTED, count: SIZE,
   memory: 2 * SIZE, lent: NEAR_MEMORY, near: NEAR_ROOM,
 };
+// An identifier of more bytes is none, and of more bytes there is no string. What does not fit here is left out.
+const IDENTIFIER_ROOM = 16, SECRET_ROOM = 96;
+
 const CODEX32_REGIONS = {
   text: TEXT_ROOM, threshold: SIZE, shareIndex: SIZE, payloadLength: SIZE,
-  memory: 2 * SIZE, lent: CODEX32_MEMORY, out: MAX_CODEX32, outLength: SIZE,
+  texts: MOST_SHARES * TEXT_ROOM, lengths: MOST_SHARES * SIZE, identifier: IDENTIFIER_ROOM, bytes: SECRET_ROOM,
+  memory: 2 * SIZE, lent: CODEX32_MEMORY, identifierOut: IDENTIFIER, out: MAX_CODEX32, outLength: SIZE,
 };
 
 // Erasures are locations, of which 0 is the last character.
@@ -138,32 +146,79 @@ export const bech32Calls = (module) => {
   };
 };
 
+// Puts texts one behind another into a region, and their lengths into another: the length of all, or null where one of them
+// is too long to be given to the library.
+const putTexts = (it, texts) => {
+  let end = 0;
+  const lengths = [];
+  for (const text of texts) {
+    const { length, isWhole } = it.putText('texts', text, end);
+    if (!isWhole || length > TEXT_ROOM) return null;
+    lengths.push(length);
+    end += Number(length);
+  }
+  it.putSizes('lengths', lengths);
+  return BigInt(end);
+};
+
 /** The calls of the module of `codex32_c`. Its memory is wiped after each, since a codex32 string is a secret. */
 export const codex32Calls = (module) => {
   const it = new Instance(module, CODEX32_REGIONS);
   const p = (region) => it.pointer(region);
-  const wiped = (call) => (text) => {
+  const shareIndexOut = () => String.fromCharCode(it.number('shareIndex'));
+  const made = (number) => (number ? { number } : { number, text: it.text('out', it.size('outLength')) });
+  const wiped = (call) => (...given) => {
     try {
-      const { length, isWhole } = it.putText('text', text);
-      return isWhole ? call(text, length) : { number: CODEX32_BAD_LENGTH };
+      return call(...given);
     } finally {
       it.wipe();
     }
   };
+  const ofText = (call) => wiped((text) => {
+    const { length, isWhole } = it.putText('text', text);
+    return isWhole ? call(text, length) : { number: CODEX32_BAD_LENGTH };
+  });
+  const proposing = (name) => ofText((text, length) => {
+    it.putSizes('memory', [it.at.lent, CODEX32_MEMORY]);
+    return made(it.call(name, p('text'), length, p('memory'), p('out'), BigInt(MAX_CODEX32), p('outLength')));
+  });
   return {
-    parse: wiped((text, length) => {
+    parse: ofText((text, length) => {
       const number = it.call('codex32_parse', p('text'), length, p('threshold'), p('shareIndex'), p('payloadLength'));
       if (number) return { number };
       return {
         number, threshold: it.number('threshold'), identifier: text.slice(4, 8),
-        shareIndex: String.fromCharCode(it.number('shareIndex')), payload: text.slice(9, 9 + it.size('payloadLength')),
+        shareIndex: shareIndexOut(), payload: text.slice(9, 9 + it.size('payloadLength')),
       };
     }),
-    propose: wiped((text, length) => {
-      it.putSizes('memory', [it.at.lent, CODEX32_MEMORY]);
-      const number = it.call('codex32_propose', p('text'), length, p('memory'), p('out'), BigInt(MAX_CODEX32),
-        p('outLength'));
-      return number ? { number } : { number, text: it.text('out', it.size('outLength')) };
+    propose: proposing('codex32_propose'),
+    proposeLong: proposing('codex32_propose_long'),
+    share: ofText((text, length) => {
+      const number = it.call('codex32_share', p('text'), length, p('threshold'), p('identifierOut'), p('shareIndex'),
+        p('out'), BigInt(MAX_CODEX32_BYTES), p('outLength'));
+      if (number) return { number };
+      return {
+        number, threshold: it.number('threshold'), identifier: it.text('identifierOut', IDENTIFIER),
+        shareIndex: shareIndexOut(), bytes: it.copy('out', it.size('outLength')),
+      };
+    }),
+    /** `shareIndex` is the code of a character here, as of `encodePayload` and `derive`. */
+    encode: wiped((threshold, identifier, shareIndex, bytes) => {
+      const { length } = it.putText('identifier', identifier), size = it.putBytes('bytes', bytes);
+      return made(it.call('codex32_encode', threshold, p('identifier'), length, shareIndex, p('bytes'), size, p('out'),
+        BigInt(MAX_CODEX32), p('outLength')));
+    }),
+    /** A payload is given to the library as far as a text is: of longer ones there is no string. */
+    encodePayload: wiped((threshold, identifier, shareIndex, payload) => {
+      const { length } = it.putText('identifier', identifier), { length: size } = it.putText('text', payload);
+      return made(it.call('codex32_encode_payload', threshold, p('identifier'), length, shareIndex, p('text'), size, p('out'),
+        BigInt(MAX_CODEX32), p('outLength')));
+    }),
+    derive: wiped((shareIndex, texts) => {
+      const length = putTexts(it, texts);
+      if (length === null) return { number: CODEX32_BAD_LENGTH };
+      return made(it.call('codex32_derive', shareIndex, p('texts'), length, p('lengths'), BigInt(texts.length), p('out'),
+        BigInt(MAX_CODEX32), p('outLength')));
     }),
   };
 };

@@ -6,8 +6,9 @@ export type Code =
   | 'HRP_EMPTY' | 'HRP_TOO_LONG' | 'HRP_NOT_ASCII' | 'HRP_INVALID' | 'HRP_MIXED_CASE' | 'INVALID_CHARACTER'
   | 'MIXED_CASE' | 'NO_SEPARATOR' | 'TEXT_TOO_LONG' | 'NO_CHECKSUM' | 'WRONG_CHECKSUM' | 'ADDRESS_TOO_LONG'
   | 'NO_DATA' | 'BAD_VERSION' | 'PADDING_TOO_LONG' | 'PADDING_NOT_ZERO' | 'PROGRAM_TOO_SHORT' | 'PROGRAM_TOO_LONG'
-  | 'PROGRAM_NOT_V0' | 'ENCODED_TOO_LONG' | 'ENCODED_BAD_VERSION' | 'ENCODED_ADDRESS_TOO_LONG' | 'NOT_MS'
-  | 'BAD_LENGTH' | 'BAD_THRESHOLD' | 'BAD_SHARE_INDEX';
+  | 'PROGRAM_NOT_V0' | 'ENCODED_TOO_LONG' | 'ENCODED_BAD_VERSION' | 'ENCODED_ADDRESS_TOO_LONG' | 'BAD_SIZE'
+  | 'TOO_FEW_SHARES' | 'OTHER_SET' | 'INDEX_TWICE' | 'CONTRADICTION' | 'NOT_MS' | 'BAD_LENGTH' | 'BAD_THRESHOLD'
+  | 'BAD_SHARE_INDEX' | 'BAD_IDENTIFIER' | 'NO_SHARE_INDEX' | 'BITS_LEFT_OVER';
 
 /** A refusal. Its `message` is a sentence with the figures and the character at fault. */
 export class Refused extends Error {
@@ -16,6 +17,8 @@ export class Refused extends Error {
   readonly number: number;
   /** Where the character at fault stands in the text or the human-readable part, from 0 on; null where it is no one. */
   readonly place: number | null;
+  /** Which of several codex32 strings is at fault, from 0 on; null where it is no one, or where there is one alone. */
+  readonly which: number | null;
 }
 
 /** A module stopped without an answer and was started anew. No call does that unless the engine has a fault. */
@@ -77,4 +80,32 @@ export const codex32: {
    * tested. Throws `Refused`.
    */
   propose(text: string): Correction | null;
+  /** The same of a long string, of 125 to 127 characters. */
+  proposeLong(text: string): Correction | null;
+  /**
+   * A share, or the secret at the share index `s`, of 48 to 93 characters or of 125 to 127: its threshold, 0 or from 2
+   * to 9, its identifier and share index in lower case, and the bytes of its payload, without up to four bits behind the
+   * last whole one. Throws `Refused`.
+   */
+  share(text: string): { threshold: number; identifier: string; shareIndex: string; bytes: Uint8Array };
+  /**
+   * The string of 16 to 44 bytes, or the long one of 63 or 64, in lower case. The identifier is four characters of the
+   * alphabet, and the share index one of them, `s` where the threshold is 0. The bits left over are zero: a string that is
+   * made at random for sharing is made by `encodePayload`. Throws `Refused`.
+   */
+  encode(threshold: number, identifier: string, shareIndex: string, bytes: Uint8Array): string;
+  /**
+   * The string of the characters of a payload, in lower case, with a header as of `encode`. They are of the alphabet, in
+   * one case, and as many as 16 to 44 bytes have, from 26 to 71, or as 63 or 64 have, 101 or 103: at most four bits are
+   * left over, whatever they are. Throws `Refused`, with a `place` in the payload.
+   */
+  encodePayload(threshold: number, identifier: string, shareIndex: string, payload: string): string;
+  /**
+   * The string at a share index, from others of its set, as many as the threshold at least; the threshold, identifier and
+   * length of all are the same, and each has another share index. All of them are tested where there are more. Throws
+   * `Refused`, with `which` for the string at fault, and `RangeError` where there are more than 32.
+   */
+  derive(texts: Iterable<string>, shareIndex: string): string;
+  /** The secret: the string at the share index `s`. */
+  recover(texts: Iterable<string>): string;
 };

@@ -92,9 +92,9 @@ export class Instance {
     return BigInt(this.at[region]);
   }
 
-  /** Puts a text into a region, as UTF-8: its length in bytes, and whether there was room for all of it. */
-  putText(region, text) {
-    const room = this.bytes.subarray(this.at[region], this.at[region] + this.#sizes[region]);
+  /** Puts a text into a region, as UTF-8, from a place on: its length in bytes, and whether there was room for all of it. */
+  putText(region, text, from = 0) {
+    const room = this.bytes.subarray(this.at[region] + from, this.at[region] + this.#sizes[region]);
     const { read, written } = new TextEncoder().encodeInto(text, room);
     return { length: BigInt(written), isWhole: read === text.length };
   }

@@ -1,12 +1,12 @@
 // What users call: the functions of the library with the values of JavaScript, and refusals as errors.
-import { bech32Calls, codex32Calls, CHECKSUMS } from './calls.js';
+import { bech32Calls, codex32Calls, CHECKSUMS, MOST_SHARES } from './calls.js';
 import { asciiLower, reasonsOf } from './reasons.js';
 
 export { Stopped } from './instance.js';
 
 /** A text, or parts of one, that the library refuses. */
 export class Refused extends Error {
-  constructor({ number, code, sentence, place }) {
+  constructor({ number, code, sentence, place, which = null }) {
     super(sentence);
     this.name = 'Refused';
     /** The refusal, such as `WRONG_CHECKSUM`. */
@@ -15,6 +15,8 @@ export class Refused extends Error {
     this.number = number;
     /** Where the character at fault stands in the text or the human-readable part, from 0 on; null where it is no one. */
     this.place = place;
+    /** Which of several codex32 strings is at fault, from 0 on; null where it is no one, or where there is one alone. */
+    this.which = which;
   }
 }
 
@@ -106,6 +108,45 @@ const mendingCalls = (calls, reasons) => ({
   },
 });
 
+// The strings of a set, and the code of a share index: 0 where it is no one character.
+const textsOf = (given) => {
+  if (typeof given === 'string') throw new TypeError('the strings are one string, and no list of them');
+  const texts = [...given].map((it) => text(it, 'one of the strings'));
+  if (texts.length > MOST_SHARES) throw new RangeError(`there are more than ${MOST_SHARES} strings`);
+  return texts;
+};
+const codeOf = (shareIndex) => (text(shareIndex, 'the share index').length === 1 ? shareIndex.charCodeAt(0) : 0);
+
+const SECRET_INDEX = 's';
+
+const setCalls = (calls, reasons) => {
+  const derive = (given, shareIndex) => {
+    const texts = textsOf(given), answer = calls.derive(codeOf(shareIndex), texts);
+    return accepted(answer, (n) => reasons.set(n, texts, shareIndex)).text;
+  };
+  return { derive, recover: (given) => derive(given, SECRET_INDEX) };
+};
+
+// What stands before the payload of a string, as the library takes it.
+const headerOf = (threshold, identifier, shareIndex) => {
+  if (!Number.isInteger(threshold) || threshold < 0 || threshold > 31) {
+    throw new RangeError('the threshold is no integer from 0 to 31');
+  }
+  return [threshold, text(identifier, 'the identifier'), codeOf(shareIndex)];
+};
+
+const makingCalls = (calls, reasons) => ({
+  encode(threshold, identifier, shareIndex, data) {
+    const given = headerOf(threshold, identifier, shareIndex), answer = calls.encode(...given, bytes(data, 'the data'));
+    return accepted(answer, (n) => reasons.stringEncoding(n, threshold, identifier, shareIndex, data)).text;
+  },
+  encodePayload(threshold, identifier, shareIndex, payload) {
+    const given = headerOf(threshold, identifier, shareIndex);
+    const answer = calls.encodePayload(...given, text(payload, 'the payload'));
+    return accepted(answer, (n) => reasons.payloadEncoding(n, threshold, identifier, shareIndex, payload)).text;
+  },
+});
+
 const codex32Functions = (calls, reasons) => ({
   parse(given) {
     const answer = accepted(calls.parse(text(given)), (n) => reasons.codex32(n, given));
@@ -118,6 +159,19 @@ const codex32Functions = (calls, reasons) => ({
     accepted(answer, (n) => reasons.damaged(n, given));
     return { text: answer.text, changes: changesOf(given, answer.text, new Set()) };
   },
+  proposeLong(given) {
+    const answer = calls.proposeLong(text(given));
+    if (answer.number === NO_CORRECTION) return null;
+    accepted(answer, (n) => reasons.damagedLong(n, given));
+    return { text: answer.text, changes: changesOf(given, answer.text, new Set()) };
+  },
+  share(given) {
+    const answer = accepted(calls.share(text(given)), (n) => reasons.share(n, given));
+    const { threshold, identifier, shareIndex, bytes: data } = answer;
+    return { threshold, identifier, shareIndex, bytes: data };
+  },
+  ...makingCalls(calls, reasons),
+  ...setCalls(calls, reasons),
 });
 
 // What reasons ask. A text that is accepted is so by one checksum.
@@ -126,8 +180,9 @@ const asked = (calls) => ({
   lengths: (text) => Object.values(CHECKSUMS).map((it) => calls.check(it, text)).find(({ number }) => number === 0),
 });
 
-// The same of a codex32 string, which is a secret: nothing of it stays in the module's memory.
-const askedSecretly = (calls) => ({
+// The same of codex32 strings, which are secrets: nothing of them stays in the memory of the modules.
+const askedSecretly = (calls, { share }) => ({
+  share,
   fault(text) {
     try {
       return calls.fault(text);
@@ -145,7 +200,7 @@ export const library = (bech32Module, codex32Module) => {
     ...textCalls(calls, reasons),
     segwit: segwitCalls(calls, reasons),
     ...mendingCalls(calls, reasons),
-    codex32: codex32Functions(codex32, reasonsOf(askedSecretly(calls))),
+    codex32: codex32Functions(codex32, reasonsOf(askedSecretly(calls, codex32))),
     wipe: calls.wipe,
   };
 };

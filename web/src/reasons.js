@@ -11,8 +11,9 @@ export const CODES = {
   21: 'INVALID_CHARACTER', 22: 'MIXED_CASE', 23: 'NO_SEPARATOR', 31: 'TEXT_TOO_LONG', 32: 'NO_CHECKSUM',
   33: 'WRONG_CHECKSUM', 41: 'ADDRESS_TOO_LONG', 42: 'NO_DATA', 43: 'BAD_VERSION', 44: 'PADDING_TOO_LONG',
   45: 'PADDING_NOT_ZERO', 46: 'PROGRAM_TOO_SHORT', 47: 'PROGRAM_TOO_LONG', 48: 'PROGRAM_NOT_V0',
-  51: 'ENCODED_TOO_LONG', 52: 'ENCODED_BAD_VERSION', 53: 'ENCODED_ADDRESS_TOO_LONG', 81: 'NOT_MS', 82: 'BAD_LENGTH',
-  83: 'BAD_THRESHOLD', 84: 'BAD_SHARE_INDEX',
+  51: 'ENCODED_TOO_LONG', 52: 'ENCODED_BAD_VERSION', 53: 'ENCODED_ADDRESS_TOO_LONG', 55: 'BAD_SIZE',
+  61: 'TOO_FEW_SHARES', 62: 'OTHER_SET', 63: 'INDEX_TWICE', 64: 'CONTRADICTION', 81: 'NOT_MS', 82: 'BAD_LENGTH',
+  83: 'BAD_THRESHOLD', 84: 'BAD_SHARE_INDEX', 85: 'BAD_IDENTIFIER', 86: 'NO_SHARE_INDEX', 87: 'BITS_LEFT_OVER',
 };
 
 // What is said of a refusal that no sentence with figures fits.
@@ -39,10 +40,18 @@ const SENTENCES = {
   51: 'The text would have more than 1023 characters.',
   52: 'The witness version is above 16.',
   53: 'The address would have more than 90 characters.',
+  55: 'There are neither 16 to 44 bytes nor 63 or 64.',
+  61: 'There are fewer shares than the threshold.',
+  62: 'A share has another threshold, identifier or length than the first.',
+  63: 'Two shares have one index.',
+  64: 'The shares contradict each other.',
   81: 'The human-readable part is not “ms”.',
-  82: 'The text has less than 48 characters, or more than 93.',
+  82: 'A codex32 string has 48 to 93 characters, a long one 125 to 127.',
   83: 'The threshold is neither 0 nor a digit from 2 to 9.',
   84: 'The threshold is 0, and the share index is not “s”.',
+  85: 'The identifier is not four characters of the alphabet in one case.',
+  86: 'The share index is not one character of the alphabet.',
+  87: 'More than four bits stand behind the bytes of the payload.',
 };
 
 /** The characters of the elements 0 to 31. */
@@ -241,15 +250,98 @@ const badLength = (text) => {
   };
 };
 
-const ofCodex32 = (calls, number, text) => {
+// The same of the calls that read strings of either length, or long ones alone: the first character too many is behind
+// the most, but where a string may be one of the other length.
+const badShareLength = (text, lengths = 'from 48 to 93, or from 125 to 127') => ({
+  place: text.length > 127 ? 127 : null, sentence: `The text has ${measured(text)}; a codex32 string has ${lengths}.`,
+});
+const badLongLength = (text) => badShareLength(text, 'from 125 to 127 where it is a long one');
+
+const ofCodex32 = (calls, number, text, ofLength = badLength) => {
   switch (number) {
     case 81: return notMs(text);
-    case 82: return badLength(text);
+    case 82: return ofLength(text);
     case 83: return { place: 3, sentence: `${at(text, 3)} is no threshold, which is 0 or a digit from 2 to 9.` };
     case 84: return { place: 8, sentence: `${at(text, 8)} is no share index of the threshold 0, which is s.` };
     default: return ofText(calls, number, text);
   }
 };
+
+// The parts of a string that is right, by their places.
+const PAYLOAD_AT = 9, LONG = 94;
+const partsOf = (text) => {
+  const { length, 3: threshold, 8: shareIndex } = text;
+  return { threshold, identifier: asciiLower(text.slice(4, 8)), shareIndex: lower(shareIndex ?? ''), length };
+};
+const payloadOf = ({ length }) => length - PAYLOAD_AT - (length < LONG ? 13 : 15);
+
+const leftOver = (text) => {
+  const said = ['five', 'six', 'seven'][((5 * payloadOf(text)) % 8) - 5];
+  return nowhere(`Behind the last whole byte of the payload stand ${said} bits, and at most four may.`);
+};
+
+const ofShare = (calls, number, text) => (number === 87 ? leftOver(text) : ofCodex32(calls, number, text, badShareLength));
+
+const noShareIndex = (shareIndex) => {
+  const { length } = Array.from(shareIndex);
+  if (length !== 1) return nowhere(`The share index has ${counted(length, 'character', 'characters')}; it has one.`);
+  return nowhere(`The share index is ${shown(shareIndex)}: it is a letter or a digit, but not 1, b, i and o.`);
+};
+
+// ---- sets of codex32 strings
+
+// How one string of a set differs from the first, in words.
+const differenceOf = (first, other) => {
+  if (first.threshold !== other.threshold) return `its threshold is ${other.threshold}, and not ${first.threshold}`;
+  if (first.identifier !== other.identifier) return `its identifier is “${other.identifier}”, and not “${first.identifier}”`;
+  return `it has ${other.length} characters, and not ${first.length}`;
+};
+
+const isOther = (first, it) => ['threshold', 'identifier', 'length'].some((part) => first[part] !== it[part]);
+
+const otherSet = (parts) => {
+  const which = parts.findIndex((it) => isOther(parts[0], it));
+  if (which < 0) return null;
+  const sentence = `String ${which + 1} is of another set than string 1: ${differenceOf(parts[0], parts[which])}.`;
+  return { ...nowhere(sentence), which };
+};
+
+const indexTwice = (parts) => {
+  const firstOf = (shareIndex) => parts.findIndex((it) => it.shareIndex === shareIndex);
+  const which = parts.findIndex(({ shareIndex }, i) => firstOf(shareIndex) < i);
+  if (which < 0) return null;
+  const { shareIndex } = parts[which];
+  return { ...nowhere(`Strings ${firstOf(shareIndex) + 1} and ${which + 1} have one share index, “${shareIndex}”.`), which };
+};
+
+const tooFew = ([first], { length }) => {
+  if (length === 0) return nowhere('There is no string.');
+  const said = length === 1 ? 'is one string' : `are ${length} strings`;
+  return nowhere(`There ${said}, and the threshold is ${first.threshold}.`);
+};
+
+// What is wrong with one of several texts by itself, or null.
+const ofOne = (calls, number, texts) => {
+  const which = texts.findIndex((it) => calls.share(it).number === number);
+  if (which < 0) return null;
+  const { place, sentence } = ofShare(calls, number, texts[which]);
+  return { place, sentence: `String ${which + 1}: ${sentence}`, which };
+};
+
+const ofSet = (calls, number, texts, shareIndex) => {
+  const parts = texts.map(partsOf);
+  switch (number) {
+    case 61: return tooFew(parts, texts);
+    case 62: return otherSet(parts);
+    case 63: return indexTwice(parts);
+    case 64: return nowhere('The strings contradict each other: at least one of them is wrong, or is of another secret.');
+    case 86: return noShareIndex(shareIndex);
+    default: return ofOne(calls, number, texts) ?? (number === 84 ? noneBeside(shareIndex) : null);
+  }
+};
+
+const noneBeside = (shareIndex) =>
+  nowhere(`With the threshold 0 the one string is the secret: there is none at the share index ${shown(shareIndex)}.`);
 
 // A damaged text as the library reads it: each `?` behind the last `1` as `0`.
 const asRead = (text) => {
@@ -288,20 +380,65 @@ const ofAddressEncoding = (calls, number, hrp, version, program) => {
   }
 };
 
+const ofIdentifier = (identifier) => {
+  const { length } = Array.from(identifier);
+  if (length !== 4) return nowhere(`The identifier has ${counted(length, 'character', 'characters')}; it has four.`);
+  const isStrange = (c) => !ALPHABET.includes(lower(c)), strange = Array.from(identifier).find(isStrange);
+  const why = strange === undefined ? 'letters of both cases; all have one case'
+    : `${shown(strange)}, which may not stand there: letters and digits may, but not 1, b, i and o`;
+  return nowhere(`The identifier has ${why}.`);
+};
+
+const ofStringEncoding = (number, threshold, identifier, shareIndex, { length }) => {
+  switch (number) {
+    case 55: return nowhere(`Of ${counted(length, 'byte', 'bytes')} there is no codex32 string; it has from 16 to 44, or 63 or 64.`);
+    case 83: return nowhere(`The threshold is ${threshold}; it is 0, or from 2 to 9.`);
+    case 84: return nowhere(`The share index is ${shown(shareIndex)}; with the threshold 0 it is “s”.`);
+    case 85: return ofIdentifier(identifier);
+    case 86: return noShareIndex(shareIndex);
+    default: return null;
+  }
+};
+
+// Of the characters of a payload: there a `1` is one like `b`, and no separator.
+const ofPayload = (calls, number, payload) => {
+  const placeOfFault = () => calls.fault(payload.replaceAll('1', 'b'));
+  switch (number) {
+    case 21: {
+      const place = placeOfFault();
+      return { place, sentence: `${at(payload, place)} may not stand in a payload: letters and digits may, but not 1, b, i and o.` };
+    }
+    case 22: return cases(payload, placeOfFault());
+    case 55: {
+      const has = counted(Array.from(payload).length, 'character', 'characters');
+      return nowhere(`The payload has ${has}; it has as many as 16 to 44 bytes have, from 26 to 71, or as 63 or 64 have, 101 or 103.`);
+    }
+    default: return null;
+  }
+};
+
+const ofPayloadEncoding = (calls, number, threshold, identifier, shareIndex, payload) =>
+  ofPayload(calls, number, payload) ?? ofStringEncoding(number, threshold, identifier, shareIndex, payload);
+
 const reason = (number, found) => {
   const said = SENTENCES[number] ?? `The library refuses this with the number ${number}.`;
   return { number, code: CODES[number] ?? 'UNKNOWN', ...(found ?? nowhere(said)) };
 };
 
 /**
- * Why a call refused, by what it was given. Of the calls, `fault` returns the place of a text's fault, and `lengths` the
- * lengths of the parts of a text whose checksum is right.
+ * Why a call refused, by what it was given. Of the calls, `fault` returns the place of a text's fault, `lengths` the
+ * lengths of the parts of a text whose checksum is right, and `share` the number of the refusal of a codex32 string.
  */
 export const reasonsOf = (calls) => ({
   text: (number, text, checksum) => reason(number, ofText(calls, number, text, checksum)),
   address: (number, text) => reason(number, ofAddress(calls, number, text)),
   codex32: (number, text) => reason(number, ofCodex32(calls, number, text)),
   damaged: (number, text) => reason(number, ofCodex32(calls, number, asRead(text))),
+  damagedLong: (number, text) => reason(number, ofCodex32(calls, number, asRead(text), badLongLength)),
+  share: (number, text) => reason(number, ofShare(calls, number, text)),
+  set: (number, texts, shareIndex) => reason(number, ofSet(calls, number, texts, shareIndex)),
+  stringEncoding: (number, ...given) => reason(number, ofStringEncoding(number, ...given)),
+  payloadEncoding: (number, ...given) => reason(number, ofPayloadEncoding(calls, number, ...given)),
   encoding: (number, hrp, bytes) => reason(number, ofEncoding(calls, number, hrp, bytes)),
   addressEncoding: (number, hrp, version, program) =>
     reason(number, ofAddressEncoding(calls, number, hrp, version, program)),

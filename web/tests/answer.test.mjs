@@ -2,10 +2,13 @@
 import test from 'node:test';
 import assert from 'node:assert/strict';
 import { answer } from '../page/answer.js';
+import { secretSaid } from '../page/codex32.js';
+import { spoken } from '../page/shown.js';
 import { library } from '../src/library.js';
 import { compiled } from '../out/package/modules.js';
 import { TARGETS, added, changedOnce, effectOf } from './reference.mjs';
 import { WRONG } from './wrong-texts.mjs';
+import { CASH, LONG, NAME, SECRET, SETS, strings } from './sets.mjs';
 
 const it = library(...compiled().modules);
 const said = (typed) => answer(it, typed);
@@ -194,9 +197,10 @@ test('bad input gets a sentence', () => {
 test('codex32 strings', () => {
   const found = said(STRING);
   assert.deepEqual([found.tone, found.verdict], ['right', 'This is a right codex32 string.']);
-  assert.deepEqual(found.said, ['It is the secret itself, and not a share of it.', 'Threshold 0, identifier “test”, share index “s”, payload of 26 characters.']);
-  assert.match(found.caution, /secret/);
-  assert.match(all(said(SHARE)), /the share “a” of a secret, for which 2 shares are needed/);
+  assert.deepEqual(found.said, ['It is the secret itself, and not a share of it.', 'Threshold 0, identifier “test”, share index “s”, 48 characters with a payload of 16 bytes.']);
+  assert.match(found.caution, /^Whoever has this string has a secret, or a share of it\. The place to type it is a machine that is offline.* The page keeps nothing: clear the field when you are done\.$/);
+  assert.match(all(said(SHARE)), /the share “a” of a secret, for which 2 shares are needed.*Put the others in as well, each on a line of its own/);
+  assert.deepEqual([found.secretOf, said(SHARE).secretOf], [[STRING], undefined]);
   assert.equal(said(STRING.toUpperCase()).tone, 'right');
   const damaged = said(at(at(at(at(STRING, 5, 'q'), 15, 'q'), 25, 'q'), 40, 'q'));
   assert.deepEqual([damaged.verdict, damaged.offers[0].text], ['Four characters were wrong.', STRING]);
@@ -211,7 +215,7 @@ test('codex32 strings', () => {
 
 test('codex32 strings that are none', () => {
   assert.deepEqual([said('ms1').tone, said('ms10').tone, said(STRING.slice(0, -1)).tone], ['open', 'open', 'open']);
-  assert.match(said('ms10').verdict, /^The text has 4 characters; a codex32 string has from 48 to 93/);
+  assert.match(said('ms10').verdict, /^The text has 4 characters; a codex32 string has from 48 to 93, or from 125 to 127\./);
   assert.match(said(STRING.slice(0, -1)).verdict, /^The text has 47 characters/);
   assert.match(said('ms1qtestsxxxxxxxxxxxxxxxxxxxxxxxxxxq68ksv56lmaq5').verdict, /is no threshold/);
   assert.match(said('ms10testaxxxxxxxxxxxxxxxxxxxxxxxxxxzd568kp774rau').verdict, /is no share index/);
@@ -220,8 +224,79 @@ test('codex32 strings that are none', () => {
   assert.match(all(broken), /No correction was found.*The nearest text with a right checksum is no codex32 string\. Character 4, “q”, is no threshold/);
 });
 
+test('long codex32 strings', () => {
+  const found = said(LONG[0]), damaged = said(at(at(at(LONG[0], 30, 'q'), 60, '?'), 90, '?'));
+  assert.deepEqual([found.tone, found.said[1]], ['right', 'Threshold 2, identifier “l0ng”, share index “a”, 127 characters with a payload of 64 bytes.']);
+  assert.deepEqual([damaged.tone, damaged.offers[0].text, damaged.isSecret], ['mended', LONG[0], true]);
+  for (const length of [94, 100, 124]) {
+    assert.deepEqual([said(LONG[0].slice(0, length)).tone, said(LONG[0].slice(0, length)).verdict], ['open', `The text has ${length} characters; a codex32 string has from 48 to 93, or from 125 to 127.`]);
+  }
+  assert.deepEqual([said(`${LONG[0]}q`).tone, said(`${LONG[0]}q`).marked], ['wrong', [127]]);
+});
+
+test('a string of no whole bytes', () => {
+  const found = said('ms12xh04fm5amh7k7ay0jj7mgh3ndf4zdx0dmxgdrhz38hawaewk');
+  assert.equal(found.tone, 'right');
+  assert.match(found.said[1], /^Threshold 2, identifier “xh04”, share index “f”, 52 characters with a payload that is no whole number of bytes\.$/);
+});
+
+test('several codex32 strings', () => {
+  for (const [name, typed, tone, sentence, titles, secret] of SETS) {
+    const found = said(typed);
+    assert.deepEqual([found.tone, found.isSecret, found.offers, found.choices], [tone, true, undefined, undefined], name);
+    assert.match([found.verdict, ...found.said, ...found.notes].join(' '), sentence, name);
+    assert.deepEqual(found.strings.map(({ title }) => title.replace(/^String \d+(?:: | is )/, '')), titles, name);
+    assert.equal(found.secretOf ? secretSaid(it, found.secretOf)[0].text : null, secret, name);
+    assert.match(found.caution, /Whoever has these strings has a secret, or shares of it\. The place to type them is a machine that is offline/, name);
+    assert.equal(/^A correction is a guess/.test(found.caution), found.strings.some((one) => one.tone === 'mended'), name);
+    assert.doesNotMatch(JSON.stringify([found.verdict, found.said, found.strings.map(({ said }) => said)]) + spoken(found), /undefined|NaN|null/, name);
+    assert.ok(secret === null || typed.toLowerCase().includes(secret) || !all(found).includes(secret), name);
+  }
+});
+
+test('the secret is not worked out before it is asked for', () => {
+  const asked = [], watched = { ...it, codex32: { ...it.codex32, derive: (texts, index) => { asked.push(index); return it.codex32.derive(texts, index); }, recover: () => assert.fail('the secret') } };
+  const found = answer(watched, strings(CASH, 'acde'));
+  assert.deepEqual([found.tone, asked], ['right', ['a']]);
+  assert.ok(!all(found).includes(SECRET));
+});
+
+test('the secret with its bytes', () => {
+  assert.deepEqual(secretSaid(it, [NAME.a, NAME.c]), [{ name: 'The secret as a codex32 string:', text: 'ms12names6xqguzttxkeqnjsjzv4jv3nz5k3kwgsphuh6evw' }, { name: 'Its 16 bytes:', text: 'd1808e096b35b209ca12132b264662a5' }]);
+  assert.equal(secretSaid(it, LONG)[1].name, 'Its 64 bytes:');
+});
+
+test('what is said of each string of a set', () => {
+  const [right, mended, wrong] = said(`${CASH.a}\n${at(CASH.c, 10, 'q')}\n${CASH.d.slice(0, 20)}qqqqqqqqq${CASH.d.slice(29)}`).strings;
+  assert.deepEqual(right, { title: 'String 1: share “a”', tone: 'right', said: ['Threshold 3, identifier “cash”, share index “a”, 48 characters with a payload of 16 bytes.'] });
+  assert.deepEqual([mended.tone, mended.headline, mended.offers.length, mended.offers[0].text, placesOf(mended.offers[0])], ['mended', `One character was wrong: the 11th, “q” for “${CASH.c[10]}”.`, 1, CASH.c, [10]]);
+  assert.deepEqual([wrong.title, wrong.tone, wrong.headline, wrong.marked], ['String 3 is not read', 'wrong', 'No correction was found.', []]);
+  assert.match(spoken(said(`${CASH.a}\n${CASH.c}`)), /^One more string is needed: the threshold is 3\. Whoever has these strings.* String 1: share “a”\. Threshold 3.* String 2: share “c”\. Threshold 3/);
+});
+
+test('each two of the shares of BIP-93, and each three, in any order', () => {
+  const indices = ['a', 'c', 'd', 'e', 'f'];
+  for (const x of ['a', 'c', 'd']) {
+    for (const y of ['a', 'c', 'd']) if (x !== y) assert.equal(secretSaid(it, said(strings(NAME, x + y)).secretOf)[0].text, 'ms12names6xqguzttxkeqnjsjzv4jv3nz5k3kwgsphuh6evw');
+  }
+  for (const x of indices) {
+    for (const y of indices) {
+      for (const z of indices) if (new Set([x, y, z]).size === 3) assert.equal(secretSaid(it, said(strings(CASH, x + y + z)).secretOf)[0].text, SECRET);
+    }
+  }
+});
+
+test('a set of 32 strings', () => {
+  const two = [it.codex32.encode(2, 'tttt', 'q', new Uint8Array(64).fill(1)), it.codex32.encode(2, 'tttt', 'p', new Uint8Array(64).fill(2))];
+  const texts = Array.from('qpzry9x8gf2tvdw0s3jn54khce6mua7l', (index) => it.codex32.derive(two, index));
+  const found = said(texts.map((text) => text.replace(/(....)/g, '$1 ')).join('\n'));
+  assert.deepEqual([found.tone, found.strings.length, found.verdict], ['right', 32, 'String 17 is the secret itself.']);
+  assert.match(found.said[0], /^All 32 agree, and two would be enough\.$/);
+  assert.match(said(`${texts.join('\n')}\n${texts.join('\n')}`).verdict, /^What was put in has 8,191 characters|^String 17/);
+});
+
 test('every prefix of a text has an answer', () => {
-  for (const text of [V0, V1, STRING, `bitcoin:${V0}?amount=1`, at(V0, 10, '?')]) {
+  for (const text of [V0, V1, STRING, strings(CASH, 'acd'), `${LONG[0]} ${LONG[1]}`, `bitcoin:${V0}?amount=1`, at(V0, 10, '?')]) {
     for (let end = 1; end <= text.length; end++) {
       const found = said(text.slice(0, end));
       if (found) assert.ok(found.verdict.length > 10 && Array.isArray(found.notes), text.slice(0, end));

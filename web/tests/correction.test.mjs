@@ -2,7 +2,7 @@
 import test from 'node:test';
 import assert from 'node:assert/strict';
 import { codex32, correct, encode, nearest } from '../out/package/index.js';
-import { ALPHABET, accepts, acceptsCodex32, added, changedAt, changedOnce, effectOf, numbersFrom, residueOf } from './reference.mjs';
+import { ALPHABET, accepts, acceptsCodex32, acceptsLongCodex32, added, changedAt, changedOnce, effectOf, numbersFrom, residueOf } from './reference.mjs';
 
 const TEXTS = [
   ['bech32', 'a12uel5l'],
@@ -166,4 +166,79 @@ test('each single error of a codex32 string is mended, and up to four, and up to
     if (proposal) assert.ok(acceptsCodex32(proposal.text) && proposal.text !== STRING && proposal.changes.length <= 4);
   }
   t.diagnostic(`${count} strings`);
+});
+
+const LONG_STRING = 'ms100c8vsm32zxfguhpchtlupzry9x8gf2tvdw0s3jn54khce6mua7lqpzygsfjd6an074rxvcemlh8wu3tk925acdefghjklmnpqrstuvwxy06fhpv80undvarhrak';
+
+test('so is a long string', (t) => {
+  assert.ok(acceptsLongCodex32(LONG_STRING) && !acceptsCodex32(LONG_STRING));
+  const below = numbersFrom(11);
+  let count = 0;
+  for (let i = 0; i < 500; i++) {
+    const unread = below(9), errors = below(1 + Math.floor((8 - unread) / 2));
+    const places = new Set();
+    while (places.size < unread) places.add(3 + below(LONG_STRING.length - 3));
+    const damaged = Array.from(changedAt(LONG_STRING, errors, below), (c, place) => (places.has(place) ? '?' : c)).join('');
+    const { text, changes } = codex32.proposeLong(damaged);
+    assert.equal(text, LONG_STRING, damaged);
+    assert.deepEqual(changes.map(({ place, from, to }) => damaged[place] === from && LONG_STRING[place] === to && from !== to), changes.map(() => true));
+    count++;
+  }
+  for (let i = 0; i < 100; i++) {
+    const proposal = codex32.proposeLong(changedAt(LONG_STRING, 5, below));
+    if (proposal) assert.ok(acceptsLongCodex32(proposal.text) && proposal.text !== LONG_STRING && proposal.changes.length <= 4);
+    count++;
+  }
+  t.diagnostic(`${count} strings`);
+});
+
+test('strings of bytes of each length, and those that are derived of them, are accepted', () => {
+  const below = numbersFrom(13), random = (length) => Uint8Array.from({ length }, () => below(256));
+  for (const length of [...Array.from({ length: 29 }, (_, i) => 16 + i), 63, 64]) {
+    const threshold = 2 + below(8), isAccepted = length > 44 ? acceptsLongCodex32 : acceptsCodex32;
+    const texts = Array.from({ length: threshold }, (_, i) => codex32.encode(threshold, 'test', ALPHABET[i], random(length)));
+    const more = ['s', 'l', 'm'].map((index) => codex32.derive(texts, index));
+    assert.ok([...texts, ...more].every(isAccepted), String(length));
+    assert.equal(codex32.recover([...texts.slice(3), ...more].slice(0, threshold)), more[0]);
+    assert.equal(codex32.derive([...more, ...texts].slice(0, threshold), ALPHABET[0]), texts[0]);
+    assert.equal(codex32.recover([...texts, more[2]]), more[0]);
+  }
+});
+
+test('strings of the characters of a payload are those of BIP-93, and others are accepted', () => {
+  const strings = ['ms10testsxxxxxxxxxxxxxxxxxxxxxxxxxx4nzvca9cmczlw', 'MS12NAMEA320ZYXWVUTSRQPNMLKJHGFEDCAXRPP870HKKQRM',
+    'MS12NAMECACDEFGHJKLMNPQRSTUVWXYZ023FTR2GDZMPY6PN', 'ms13casha320zyxwvutsrqpnmlkjhgfedca2a8d0zehn8a0t'];
+  for (const string of strings) {
+    const { threshold, identifier, shareIndex, payload } = codex32.parse(string);
+    for (const given of [payload.toLowerCase(), payload.toUpperCase()]) {
+      assert.equal(codex32.encodePayload(threshold, identifier, shareIndex, given), string.toLowerCase());
+    }
+  }
+  assert.equal(codex32.encodePayload(0, '0c8v', 'S', LONG_STRING.slice(9, -15)), LONG_STRING);
+  const below = numbersFrom(17);
+  for (const length of [...Array.from({ length: 29 }, (_, i) => 16 + i), 63, 64]) {
+    const payload = Array.from({ length: Math.ceil((8 * length) / 5) }, () => ALPHABET[below(32)]).join('');
+    const text = codex32.encodePayload(9, 'test', 'a', payload), isAccepted = length > 44 ? acceptsLongCodex32 : acceptsCodex32;
+    assert.ok(isAccepted(text) && text.startsWith(`ms19testa${payload}`), text);
+    assert.equal(codex32.share(text).bytes.length, length);
+  }
+});
+
+test('what one share of two says of a secret', () => {
+  // How many of the 8 values of the last character one share leaves: all, where the other string is of random characters.
+  const whole = Array.from({ length: 8 }, (_, end) => codex32.encode(2, 'cash', 's', new Uint8Array(16).fill(end, 15)));
+  const ofBytes = Array.from({ length: 8 }, (_, end) => codex32.encode(2, 'cash', 'a', new Uint8Array(16).fill(end, 15)));
+  const ofCharacters = Array.from(ALPHABET, (end) => codex32.encodePayload(2, 'cash', 'a', `${'q'.repeat(25)}${end}`));
+  const left = (others) => {
+    const secrets = new Map();
+    for (const secret of whole) {
+      for (const other of others) {
+        const share = codex32.derive([secret, other], 'c');
+        secrets.set(share, (secrets.get(share) ?? new Set()).add(secret));
+      }
+    }
+    return new Set(Array.from(secrets.values(), ({ size }) => size));
+  };
+  assert.deepEqual(left(ofCharacters), new Set([8]));
+  assert.ok(!left(ofBytes).has(8));
 });

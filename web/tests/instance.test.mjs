@@ -36,7 +36,7 @@ test('a codex32 string is wiped from the memory after each call', () => withInst
   const { codex32 } = library(...modules);
   const fresh = FRESH[1];
   const inMemory = () => memoryOf(started[1]);
-  assert.ok(inMemory().equals(fresh));
+  assert.ok(isFresh(inMemory(), fresh));
   const texts = [STRING, STRING.toUpperCase(), `${STRING.slice(0, -1)}q`, `${STRING.slice(0, -3)}???`, `${STRING.slice(0, 20)}qqqqqqqq${STRING.slice(28)}`,
     `${STRING.slice(0, -1)}b`, STRING.slice(1), STRING.slice(0, -1), `ms1q${STRING.slice(4)}`, 'é'.repeat(3000), '?'.repeat(93)];
   for (const text of texts) {
@@ -46,13 +46,43 @@ test('a codex32 string is wiped from the memory after each call', () => withInst
       } catch (error) {
         assert.ok(error instanceof Refused);
       }
-      assert.ok(inMemory().equals(fresh), `${call.name} of ${text}`);
+      assert.ok(isFresh(inMemory(), fresh), `${call.name} of ${text}`);
       // The other module is asked where a fault stands.
       assert.ok(isFresh(memoryOf(started[0]), FRESH[0]), `${call.name} of ${text}, the other module`);
     }
   }
   assert.throws(() => codex32.parse(7), TypeError);
   assert.equal(started.length, 2);
+}));
+
+const SHARES = ['ms12namea320zyxwvutsrqpnmlkjhgfedcaxrpp870hkkqrm', 'ms12namecacdefghjklmnpqrstuvwxyz023ftr2gdzmpy6pn'];
+const LONG = 'ms100c8vsm32zxfguhpchtlupzry9x8gf2tvdw0s3jn54khce6mua7lqpzygsfjd6an074rxvcemlh8wu3tk925acdefghjklmnpqrstuvwxy06fhpv80undvarhrak';
+
+test('so are shares, long strings, sets and what is made of bytes', () => withInstances((started) => {
+  const { codex32 } = library(...modules), bytes = new Uint8Array(64).fill(0xab);
+  const other = codex32.encode(2, 'name', 'd', bytes.subarray(0, 16));
+  const long = LONG.replace('upzry', '?pzrq');
+  const calls = [
+    () => codex32.share(SHARES[0]), () => codex32.share(LONG), () => codex32.share(`${LONG.slice(0, -1)}q`), () => codex32.share(LONG.slice(0, 100)),
+    () => codex32.encode(2, 'test', 'a', bytes), () => codex32.encode(1, 'test', 'a', bytes), () => codex32.encode(2, 'test', 'a', bytes.subarray(1, 9)),
+    () => codex32.encodePayload(2, 'test', 'a', 'l'.repeat(103)), () => codex32.encodePayload(2, 'test', 'a', 'l'.repeat(27)), () => codex32.encodePayload(2, 'test', 'a', `${'l'.repeat(26)}b`),
+    () => codex32.encodePayload(2, 'test', 'a', 'é'.repeat(3000)),
+    () => codex32.derive(SHARES, 'd'), () => codex32.recover(SHARES), () => codex32.recover([SHARES[0]]), () => codex32.recover([...SHARES, SHARES[0]]),
+    () => codex32.recover([...SHARES, other]), () => codex32.recover([SHARES[0], LONG]), () => codex32.recover([SHARES[0], `${SHARES[1].slice(0, -1)}b`]),
+    () => codex32.recover([SHARES[0], 'é'.repeat(3000)]), () => codex32.proposeLong(long), () => codex32.proposeLong(`${LONG.slice(0, 20)}${'q'.repeat(20)}${LONG.slice(40)}`),
+    () => codex32.proposeLong('?'.repeat(127)),
+  ];
+  let refused = 0;
+  for (const call of calls) {
+    try {
+      call();
+    } catch (error) {
+      assert.ok(error instanceof Refused, String(error));
+      refused++;
+    }
+    assert.ok(isFresh(memoryOf(started[1]), FRESH[1]) && isFresh(memoryOf(started[0]), FRESH[0]), String(call));
+  }
+  assert.ok(refused > 5 && refused < calls.length - 5 && started.length === 2, String(refused));
 }));
 
 test('wipe leaves the memory of the other module as it was at first', () => withInstances((started) => {
@@ -82,7 +112,7 @@ test('a codex32 string is wiped where the call stops', () => {
     assert.throws(() => codex32.propose(STRING), Stopped);
     assert.equal(started.length, 3);
     assert.ok(memoryOf(started[1]).every((byte) => byte === 0));
-    assert.ok(memoryOf(started[2]).equals(FRESH[1]));
+    assert.ok(isFresh(memoryOf(started[2]), FRESH[1]));
     assert.equal(codex32.propose(`${STRING.slice(0, -1)}?`).text, STRING);
   }, (exports) => {
     const { codex32_propose: propose } = exports;

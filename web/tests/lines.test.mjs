@@ -67,7 +67,7 @@ const correctedByPlaces = (checksum, text, locations) => {
   return correction ? correction.text : 'none';
 };
 
-const REPLIES = {
+const OF_TEXTS = {
   encode(words) {
     const [, checksum, hrp, hex] = wanted(words, 4);
     return `ok ${encode(checksumOf(checksum), hrp, hexOf(hex))}`;
@@ -93,6 +93,9 @@ const REPLIES = {
     if (mended !== null) assert.equal(mended, reply === 'fine' ? text.toLowerCase() : reply.split(' ').at(-1), text);
     return reply;
   },
+};
+
+const OF_STRINGS = {
   parse(words) {
     const { threshold, identifier, shareIndex, payload } = codex32.parse(wanted(words, 2)[1]);
     return `ok ${threshold} ${identifier} ${shareIndex} ${payload}`;
@@ -101,14 +104,34 @@ const REPLIES = {
     const proposal = codex32.propose(wanted(words, 2)[1]);
     return proposal ? `some ${proposal.text}` : 'none';
   },
+  'propose-long'(words) {
+    const proposal = codex32.proposeLong(wanted(words, 2)[1]);
+    return proposal ? `some ${proposal.text}` : 'none';
+  },
+  share(words) {
+    const { threshold, identifier, shareIndex, bytes } = codex32.share(wanted(words, 2)[1]);
+    return `ok ${threshold} ${identifier} ${shareIndex} ${hexWord(bytes)}`;
+  },
+  encode(words) {
+    const [, threshold, identifier, shareIndex, hex] = wanted(words, 5), bytes = hexOf(hex);
+    return `ok ${codex32.encode(/^[0-9]$/.test(threshold) ? Number(threshold) : err(83), identifier, shareIndex, bytes)}`;
+  },
+  derive([, shareIndex, ...texts]) {
+    if (texts.length === 0) err(3);
+    return `ok ${codex32.derive(texts, shareIndex)}`;
+  },
+  recover([, ...texts]) {
+    if (texts.length === 0) err(3);
+    return `ok ${codex32.recover(texts)}`;
+  },
 };
 
 const replyTo = (line, commands, count) => {
   try {
     const words = textOf(line).split(' ');
-    if (!commands.includes(words[0]) || words.includes('')) err(3);
+    if (!Object.hasOwn(commands, words[0]) || words.includes('')) err(3);
     count.called++;
-    return REPLIES[words[0]](words);
+    return commands[words[0]](words);
   } catch (error) {
     if (error instanceof Reply) return error.message;
     if (error instanceof Refused) return `err ${error.number}`;
@@ -116,7 +139,7 @@ const replyTo = (line, commands, count) => {
   }
 };
 
-for (const [program, commands] of [['b32', ['encode', 'decode', 'segwit-encode', 'segwit-decode', 'correct']], ['c32', ['parse', 'propose']]]) {
+for (const [program, commands] of [['b32', OF_TEXTS], ['c32', OF_STRINGS]]) {
   test(`replies to the stored lines of ${program}`, (t) => {
     const lines = linesOf(`crates/${program}/stdin`), replies = linesOf(`crates/${program}/stdout`);
     assert.equal(lines.length, replies.length);

@@ -64,13 +64,19 @@ const found: Correction | null = correct('bech32m', text, new Set([1]));
 const place: number | undefined = found?.changes[0]?.place;
 const version: number = segwit.decode(segwit.encode(hrp, 1, new Uint8Array(2))).version;
 const parts: string = codex32.parse(data).identifier + codex32.propose(text)?.text;
+const { threshold, identifier, shareIndex, bytes }: { threshold: number; identifier: string; shareIndex: string; bytes: Uint8Array } = codex32.share(text);
+const derived: string = codex32.derive(new Set([codex32.encode(threshold, identifier, shareIndex, bytes)]), 's') + codex32.recover([text]) + codex32.proposeLong(text)?.text + codex32.encodePayload(threshold, identifier, shareIndex, parts);
 const lowered: boolean = isLowered;
-try { decode(text); } catch (error) { if (error instanceof Refused) { const code: Code = error.code, at: number | null = error.place; console.log(code, at); } if (error instanceof Stopped) throw error; }
+try { decode(text); } catch (error) { if (error instanceof Refused) { const code: Code = error.code, at: number | null = error.place, which: number | null = error.which; console.log(code, at, which); } if (error instanceof Stopped) throw error; }
 // @ts-expect-error
 encode('bech33', 'a', new Uint8Array());
 // @ts-expect-error
 decode(5);
-console.log(place, version, parts, lowered);
+// @ts-expect-error
+codex32.encode(2, 'test', 0, bytes);
+// @ts-expect-error
+codex32.encodePayload(2, 'test', 'a', bytes);
+console.log(place, version, parts, lowered, derived);
 `;
 
 const withTypes = withNpm.skip ? withNpm : has('tsc') ? {} : { skip: 'TypeScript (tsc) is not installed here, so the types were not tried' };

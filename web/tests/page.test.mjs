@@ -12,6 +12,7 @@ import { createHash } from 'node:crypto';
 import * as chromium from './browsers/chromium.mjs';
 import * as firefox from './browsers/firefox.mjs';
 import { until } from './browsers/browser.mjs';
+import { CASH, SECRET, SETS, strings } from './sets.mjs';
 import { WRONG } from './wrong-texts.mjs';
 
 const FILE = fileURLToPath(new URL('../out/index.html', import.meta.url));
@@ -151,8 +152,12 @@ const pictured = async (page, name) => {
 const PICTURES = [
   ['empty', ''], ['right', V0], ['mended', DAMAGED], ['two', WRONG.find(([name]) => name === 'two addresses that are near')[1]],
   ['nothing', KINDS[6][1]], ['open', V0.slice(0, 20)], ['warning', 'abandon ability able about above'], ['several', `${V0} ${DAMAGED}`],
-  ['codex32', KINDS.at(-1)[1]], ['refused', HOSTILE[4][1]],
+  ['codex32', KINDS.at(-1)[1]], ['refused', HOSTILE[4][1]], ['set', `${CASH.a}\n${CASH.c.slice(0, 20)}q?${CASH.c.slice(22)}\n${CASH.d.slice(0, 47)}`],
 ];
+
+// A set that gives its secret, which is then shown.
+const REVEALED = 'const it = document.querySelector(".reveal"); it.focus(); it.click(); return document.querySelector(".secret").innerText;';
+const IN_PAGE = 'const page = document.documentElement.cloneNode(true); page.querySelectorAll("script").forEach((it) => it.remove()); return page.outerHTML.toLowerCase().includes(arguments[0]);';
 
 const inBrowser = (browser, body) => {
   if (!browser.program) {
@@ -220,6 +225,50 @@ const common = (browser) => async (t, page) => {
       await shownFor(page, text);
       assert.equal(await page.evaluate('return document.querySelectorAll(".copy").length;'), 0, text);
     }
+  });
+  await t.test('several codex32 strings: what each is, whether they suffice, and the secret behind a button', async () => {
+    const titles = 'return [...document.querySelectorAll("#answer h3")].map((it) => it.textContent.replace(/^String \\d+(?:: | is )/, ""));';
+    const buttons = 'return [document.querySelectorAll(".reveal").length, document.querySelectorAll(".copy").length, document.querySelectorAll("#answer button").length];';
+    for (const [name, text, tone, sentence, wanted, secret] of SETS) {
+      const shown = await shownFor(page, text);
+      assert.match(shown.text.replace(/\s*\n\s*/g, ' '), new RegExp(sentence.source.replace(/^\^|\$$/g, '')), name);
+      assert.deepEqual(await page.evaluate(titles), wanted, name);
+      if (['right', 'mended'].includes(tone) && !wanted.includes('not read')) assert.deepEqual(shown.red, [], name);
+      assert.deepEqual(await page.evaluate(buttons), secret ? [1, 0, 1] : [0, 0, 0], name);
+      assert.match(shown.text, /Whoever has these strings has a secret, or shares of it\. The place to type them is a machine that is offline, with a copy of this page on its disk\. The page keeps nothing/);
+      if (!secret) continue;
+      assert.match((await page.evaluate(REVEALED)).replaceAll(/\s+/g, ' '), new RegExp(`The secret as a codex32 string: .*${secret} Its (?:16|64) bytes:`), name);
+    }
+    t.diagnostic(`${SETS.length} sets`);
+  });
+  await t.test('the secret is shown and hidden, by keys too, and nothing of it stays', async () => {
+    await page.visit(PAGE);
+    await shownFor(page, strings(CASH, 'acd'));
+    const state = 'const it = document.querySelector(".reveal"); return [it.textContent, it.getAttribute("aria-expanded"), document.getElementById("spoken").textContent, document.activeElement === it];';
+    assert.equal(await page.evaluate(IN_PAGE, SECRET), false);
+    await page.evaluate('document.getElementById("clear").focus();');
+    await page.press('Tab');
+    await page.press('Enter');
+    assert.deepEqual(await page.evaluate(state), ['Hide the secret', 'true', 'The secret is shown below the button.', true]);
+    assert.equal(await page.evaluate(IN_PAGE, SECRET), true);
+    assert.equal(await page.evaluate(IN_PAGE, 'ffeeddccbbaa99887766554433221100'), true);
+    await page.press('Enter');
+    assert.deepEqual(await page.evaluate(state), ['Show the secret', 'false', 'The secret is hidden.', true]);
+    assert.equal(await page.evaluate(IN_PAGE, SECRET), false);
+    await page.press('Enter');
+    await shownFor(page, strings(CASH, 'ac'));
+    assert.equal(await page.evaluate(IN_PAGE, SECRET), false);
+    await shownFor(page, strings(CASH, 'acd'));
+    await page.evaluate(REVEALED);
+    await page.evaluate('document.getElementById("clear").click();');
+    for (const text of [SECRET, 'ffeeddccbbaa99887766554433221100', CASH.a, CASH.c]) assert.equal(await page.evaluate(IN_PAGE, text), false);
+    assert.deepEqual(await page.evaluate('return [location.href, history.state, document.cookie];'), [PAGE, null, '']);
+  });
+  await t.test('a string that is the secret itself has the button too, and a share has none', async () => {
+    await shownFor(page, STRING);
+    assert.match(await page.evaluate(REVEALED), /318c6318c6318c6318c6318c6318c631/);
+    await shownFor(page, CASH.a);
+    assert.equal(await page.evaluate('return document.querySelectorAll(".reveal").length;'), 0);
   });
   await t.test('one of two addresses is chosen by a click', async () => {
     await shownFor(page, `${V0} ${DAMAGED}`);
@@ -304,8 +353,9 @@ const common = (browser) => async (t, page) => {
     await t.test(`it fits the width of a ${device}`, async () => {
       await page.visit(PAGE);
       await page.size(width, 900);
-      for (const [kind, text] of [...KINDS, ...WRONG, ...HOSTILE.slice(1)]) {
+      for (const [kind, text, , , , secret] of [...KINDS, ...WRONG, ...HOSTILE.slice(1), ...SETS]) {
         await shownFor(page, text);
+        if (secret && SETS.some(([name]) => name === kind)) await page.evaluate(REVEALED);
         assert.ok(await page.evaluate('return document.documentElement.scrollWidth <= window.innerWidth;'), kind);
       }
       for (const [name, text] of PICTURES) {
@@ -313,6 +363,10 @@ const common = (browser) => async (t, page) => {
         assert.deepEqual(await page.evaluate(CONTRAST), [], name);
         await pictured(page, `${browser.name}-${device}-light-${name}`);
       }
+      await shownFor(page, strings(CASH, 'acde'));
+      await page.evaluate(REVEALED);
+      assert.deepEqual(await page.evaluate(CONTRAST), []);
+      await pictured(page, `${browser.name}-${device}-light-revealed`);
     });
   }
 };
@@ -324,13 +378,15 @@ inBrowser(chromium, async (t, page) => {
   await t.test('it requests nothing but itself', async () => {
     page.requests.length = 0;
     await page.visit(PAGE);
-    for (const [, text] of [...KINDS, ...HOSTILE]) await shownFor(page, text);
+    for (const [, text] of [...KINDS, ...HOSTILE, ...SETS]) await shownFor(page, text);
+    await page.evaluate('document.querySelector(".reveal")?.click();');
     assert.deepEqual(page.requests.filter((url) => !url.startsWith('data:')), [PAGE]);
   });
   await t.test('it writes nothing to the console', async () => {
     page.logged.length = 0;
     await page.visit(PAGE);
-    for (const [, text] of [...KINDS, ...HOSTILE]) await shownFor(page, text);
+    for (const [, text] of [...KINDS, ...HOSTILE, ...SETS]) await shownFor(page, text);
+    await page.evaluate('document.querySelector(".reveal")?.click();');
     assert.deepEqual(page.logged, []);
   });
   await t.test('the tree of a screen reader has a field with its name, and the answer as text', async () => {
@@ -398,6 +454,10 @@ for (const browser of [firefox, chromium]) {
           assert.deepEqual(await page.evaluate(CONTRAST), [], name);
           await pictured(page, `${browser.name}-${device}-dark-${name}`);
         }
+        await shownFor(page, strings(CASH, 'acde'));
+        await page.evaluate(REVEALED);
+        assert.deepEqual(await page.evaluate(CONTRAST), []);
+        await pictured(page, `${browser.name}-${device}-dark-revealed`);
         const ground = await page.evaluate('return getComputedStyle(document.body).backgroundColor;');
         assert.equal(ground, 'rgb(22, 22, 22)');
       }

@@ -33,18 +33,30 @@ export const residueOf = (checksum, text) => {
 /** Whether a checksum accepts such a text. */
 export const accepts = (checksum, text) => residueOf(checksum, text) === 0;
 
-const CODEX32_GENERATOR = [0x19dc500ce73fde210n, 0x1bfae00def77fe529n, 0x1fbd920fffe7bee52n, 0x1739640bdeee3fdadn, 0x07729a039cfc75f5an];
-const CODEX32_TARGET = 0x10ce0795c2fd1e62an;
+// The checksums of codex32: the words of the generator, the bits below the highest element of a remainder, and the target.
+const CODEX32 = {
+  words: [0x19dc500ce73fde210n, 0x1bfae00def77fe529n, 0x1fbd920fffe7bee52n, 0x1739640bdeee3fdadn, 0x07729a039cfc75f5an],
+  low: 60n, target: 0x10ce0795c2fd1e62an,
+};
+const LONG_CODEX32 = {
+  words: [0x3d59d273535ea62d897n, 0x7a9becb6361c6c51507n, 0x543f9b7e6c38d8a2a0en, 0x0c577eaeccf1990d13cn, 0x1887f74f8dc71b10651n],
+  low: 70n, target: 0x43381e570bf4798ab26n,
+};
 
-/** Whether the codex32 checksum accepts a text in lower case that begins with `ms1`. */
-export const acceptsCodex32 = (text) => {
+const acceptedBy = ({ words, low, target }) => (text) => {
   const data = Array.from(text.slice(3), (c) => BigInt(ALPHABET.indexOf(c)));
   const end = data.reduce((sum, value) => {
-    const top = sum >> 60n;
-    return CODEX32_GENERATOR.reduce((next, word, bit) => (top >> BigInt(bit) & 1n ? next ^ word : next), (sum & 0x0fffffffffffffffn) << 5n ^ value);
+    const top = sum >> low, rest = sum & ((1n << low) - 1n);
+    return words.reduce((next, word, bit) => (top >> BigInt(bit) & 1n ? next ^ word : next), rest << 5n ^ value);
   }, 0x23181b3n);
-  return end === CODEX32_TARGET;
+  return end === target;
 };
+
+/** Whether the codex32 checksum accepts a text in lower case that begins with `ms1`. */
+export const acceptsCodex32 = acceptedBy(CODEX32);
+
+/** The same of the checksum of long strings. */
+export const acceptsLongCodex32 = acceptedBy(LONG_CODEX32);
 
 /** A text in lower case with a value added at a location. */
 export const added = (text, { location, value }) => {

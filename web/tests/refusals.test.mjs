@@ -11,10 +11,16 @@ const refusal = (call) => {
   } catch (error) {
     assert.ok(error instanceof Refused, String(error));
     assert.ok(error instanceof Error && error.name === 'Refused');
-    return [error.code, error.place, error.message];
+    return [error.code, error.place, error.message, ...(error.which === null ? [] : [error.which])];
   }
   return assert.fail('nothing was refused');
 };
+
+// Two of three shares of BIP-93, the long string of BIP-93, and strings made here.
+const A = 'MS12NAMEA320ZYXWVUTSRQPNMLKJHGFEDCAXRPP870HKKQRM', C = 'MS12NAMECACDEFGHJKLMNPQRSTUVWXYZ023FTR2GDZMPY6PN';
+const LONG_STRING = 'ms100c8vsm32zxfguhpchtlupzry9x8gf2tvdw0s3jn54khce6mua7lqpzygsfjd6an074rxvcemlh8wu3tk925acdefghjklmnpqrstuvwxy06fhpv80undvarhrak';
+const made = (threshold, identifier, shareIndex, length = 16) => codex32.encode(threshold, identifier, shareIndex, new Uint8Array(length).fill(7));
+const madeOf = (payload, header = [2, 'test', 'a']) => codex32.encodePayload(...header, payload);
 
 const LETTERS = 'letters and digits may, but not 1, b, i and o.';
 const LONG = 'q'.repeat(1017);
@@ -66,6 +72,49 @@ const CASES = [
   [() => codex32.parse('ms10testaxxxxxxxxxxxxxxxxxxxxxxxxxxzd568kp774rau'), 'BAD_SHARE_INDEX', 8, 'Character 9, “a”, is no share index of the threshold 0, which is s.'],
   [() => codex32.propose('ms10tests??b'), 'INVALID_CHARACTER', 11, `Character 12, “b”, may not stand behind the last “1”: ${LETTERS}`],
   [() => codex32.propose('ms?'), 'INVALID_CHARACTER', 2, `Character 3, “?”, may not stand here, and no separator “1” stands before it: ${LETTERS}`],
+  [() => codex32.share(`ms1${'q'.repeat(97)}`), 'BAD_LENGTH', null, 'The text has 100 characters; a codex32 string has from 48 to 93, or from 125 to 127.'],
+  [() => codex32.share(`ms1${'q'.repeat(125)}`), 'BAD_LENGTH', 127, 'The text has 128 characters; a codex32 string has from 48 to 93, or from 125 to 127.'],
+  [() => codex32.share(`${LONG_STRING.slice(0, -1)}q`), 'WRONG_CHECKSUM', null, 'The checksum is wrong.'],
+  [() => codex32.share(`${LONG_STRING.slice(0, 9)}b${LONG_STRING.slice(10)}`), 'INVALID_CHARACTER', 9, `Character 10, “b”, may not stand behind the last “1”: ${LETTERS}`],
+  [() => codex32.share('ms12xh04fm5amh7k7ay0jj7mgh3ndf4zdx0dmxgdrhz38hawaewk'), 'BITS_LEFT_OVER', null, 'Behind the last whole byte of the payload stand six bits, and at most four may.'],
+  [() => codex32.proposeLong(A), 'BAD_LENGTH', null, 'The text has 48 characters; a codex32 string has from 125 to 127 where it is a long one.'],
+  [() => codex32.proposeLong(`ms1${'?'.repeat(125)}`), 'BAD_LENGTH', 127, 'The text has 128 characters; a codex32 string has from 125 to 127 where it is a long one.'],
+  [() => made(1, 'test', 'a'), 'BAD_THRESHOLD', null, 'The threshold is 1; it is 0, or from 2 to 9.'],
+  [() => made(10, '', ''), 'BAD_THRESHOLD', null, 'The threshold is 10; it is 0, or from 2 to 9.'],
+  [() => made(2, 'tes', ''), 'BAD_IDENTIFIER', null, 'The identifier has 3 characters; it has four.'],
+  [() => made(2, 'q'.repeat(5000), 'a'), 'BAD_IDENTIFIER', null, 'The identifier has 5,000 characters; it has four.'],
+  [() => made(2, 'teSt', 'a'), 'BAD_IDENTIFIER', null, 'The identifier has letters of both cases; all have one case.'],
+  [() => made(2, 'tebt', 'a'), 'BAD_IDENTIFIER', null, 'The identifier has “b”, which may not stand there: letters and digits may, but not 1, b, i and o.'],
+  [() => made(2, '😀', 'a'), 'BAD_IDENTIFIER', null, 'The identifier has 1 character; it has four.'],
+  [() => made(2, 'test', '1'), 'NO_SHARE_INDEX', null, 'The share index is “1”: it is a letter or a digit, but not 1, b, i and o.'],
+  [() => made(2, 'test', ''), 'NO_SHARE_INDEX', null, 'The share index has 0 characters; it has one.'],
+  [() => made(0, 'test', '\u212a', 1), 'NO_SHARE_INDEX', null, 'The share index is the Kelvin sign, which looks like K (U+212A): it is a letter or a digit, but not 1, b, i and o.'],
+  [() => made(0, 'test', 'a', 1), 'BAD_SHARE_INDEX', null, 'The share index is “a”; with the threshold 0 it is “s”.'],
+  ...[0, 15, 45, 62, 65, 100, 5000].map((length) => [() => made(2, 'test', 'a', length), 'BAD_SIZE', null, `Of ${length === 5000 ? '5,000' : length} bytes there is no codex32 string; it has from 16 to 44, or 63 or 64.`]),
+  [() => madeOf('b', [1, '', '']), 'BAD_THRESHOLD', null, 'The threshold is 1; it is 0, or from 2 to 9.'],
+  [() => madeOf('b', [0, 'bank', 'b']), 'BAD_IDENTIFIER', null, 'The identifier has “b”, which may not stand there: letters and digits may, but not 1, b, i and o.'],
+  [() => madeOf('b', [0, 'test', 'b']), 'NO_SHARE_INDEX', null, 'The share index is “b”: it is a letter or a digit, but not 1, b, i and o.'],
+  [() => madeOf('b', [0, 'test', 'a']), 'BAD_SHARE_INDEX', null, 'The share index is “a”; with the threshold 0 it is “s”.'],
+  [() => madeOf(A.slice(9, 35).replace('Z', 'b')), 'INVALID_CHARACTER', 3, `Character 4, “b”, may not stand in a payload: ${LETTERS}`],
+  [() => madeOf(A.slice(9, 35).replace('Z', '1')), 'INVALID_CHARACTER', 3, `Character 4, “1”, may not stand in a payload: ${LETTERS}`],
+  [() => madeOf('b1😀?'), 'INVALID_CHARACTER', 4, `Character 4, “?”, may not stand in a payload: ${LETTERS}`],
+  [() => madeOf('qq\u212aqq'), 'INVALID_CHARACTER', 2, `Character 3, the Kelvin sign, which looks like K (U+212A), may not stand in a payload: ${LETTERS}`],
+  [() => madeOf(A.slice(9, 35).replace('X', 'x')), 'MIXED_CASE', 5, 'Character 6, “x”, is a lower-case letter, and an upper-case one stands before it: all letters have one case.'],
+  ...[0, 25, 27, 30, 72, 100, 102, 104, 5000].map((length) => [() => madeOf('q'.repeat(length)), 'BAD_SIZE', null, `The payload has ${length === 5000 ? '5,000' : length} characters; it has as many as 16 to 44 bytes have, from 26 to 71, or as 63 or 64 have, 101 or 103.`]),
+  [() => codex32.derive([A, `${C.slice(0, -1)}Q`], 'bc'), 'NO_SHARE_INDEX', null, 'The share index has 2 characters; it has one.'],
+  [() => codex32.derive([A, `${C.slice(0, -1)}Q`, 'b'], 'd'), 'WRONG_CHECKSUM', null, 'String 2: The checksum is wrong.', 1],
+  [() => codex32.recover([A, C, 'abc']), 'INVALID_CHARACTER', 1, `String 3: Character 2, “b”, may not stand here, and no separator “1” stands before it: ${LETTERS}`, 2],
+  [() => codex32.recover([A, 'q'.repeat(5000)]), 'BAD_LENGTH', 127, 'String 2: The text has 5,000 characters; a codex32 string has from 48 to 93, or from 125 to 127.', 1],
+  [() => codex32.recover(['ms10testaxxxxxxxxxxxxxxxxxxxxxxxxxxzd568kp774rau']), 'BAD_SHARE_INDEX', 8, 'String 1: Character 9, “a”, is no share index of the threshold 0, which is s.', 0],
+  [() => codex32.recover([A, C, made(3, 'name', 'd'), A]), 'OTHER_SET', null, 'String 3 is of another set than string 1: its threshold is 3, and not 2.', 2],
+  [() => codex32.recover([A, made(2, 'cash', 'a')]), 'OTHER_SET', null, 'String 2 is of another set than string 1: its identifier is “cash”, and not “name”.', 1],
+  [() => codex32.recover([A, made(2, 'name', 'd', 17)]), 'OTHER_SET', null, 'String 2 is of another set than string 1: it has 50 characters, and not 48.', 1],
+  [() => codex32.recover([C, A, A]), 'INDEX_TWICE', null, 'Strings 2 and 3 have one share index, “a”.', 2],
+  [() => codex32.derive([made(0, 'test', 's')], 'a'), 'BAD_SHARE_INDEX', null, 'With the threshold 0 the one string is the secret: there is none at the share index “a”.'],
+  [() => codex32.recover([]), 'TOO_FEW_SHARES', null, 'There is no string.'],
+  [() => codex32.recover([A]), 'TOO_FEW_SHARES', null, 'There is one string, and the threshold is 2.'],
+  [() => codex32.recover([made(3, 'test', 'a'), made(3, 'test', 'c')]), 'TOO_FEW_SHARES', null, 'There are 2 strings, and the threshold is 3.'],
+  [() => codex32.recover([A, C, made(2, 'name', 'd')]), 'CONTRADICTION', null, 'The strings contradict each other: at least one of them is wrong, or is of another secret.'],
 ];
 
 for (const [call, ...wanted] of CASES) test(`${wanted[0]}: ${String(call).slice(6, 80)}`, () => assert.deepEqual(refusal(call), wanted));
@@ -89,6 +138,7 @@ test('texts of a megabyte', () => {
   assert.equal(refusal(() => segwit.decode(long))[0], 'ADDRESS_TOO_LONG');
   assert.equal(refusal(() => codex32.parse(long))[0], 'BAD_LENGTH');
   assert.equal(refusal(() => codex32.propose(long))[0], 'BAD_LENGTH');
+  assert.equal(refusal(() => madeOf(long))[0], 'BAD_SIZE');
   assert.equal(refusal(() => encode('bech32', long, new Uint8Array()))[0], 'HRP_TOO_LONG');
   assert.equal(refusal(() => decode('\u{1f600}'.repeat(1 << 18)))[2], 'The text has 1,048,576 bytes; a text has at most 1,023.');
 });
@@ -96,9 +146,11 @@ test('texts of a megabyte', () => {
 test('values of another type', () => {
   for (const call of [() => decode(5), () => decode(), () => check('bech32', null), () => check('bech33', 'a'), () => check('toString', 'a'),
     () => correct(1, 'a'), () => encode('bech32', 'a', [1]), () => encode('bech32', 1, new Uint8Array()), () => segwit.encode('bc', 0, 'x'),
-    () => codex32.parse(undefined), () => codex32.propose({})]) assert.throws(call, TypeError);
+    () => codex32.parse(undefined), () => codex32.propose({}), () => codex32.proposeLong(1), () => codex32.share([]), () => codex32.recover(A), () => codex32.recover(7), () => codex32.recover([A, 7]),
+    () => codex32.derive([A, C]), () => codex32.encode(2, 'test', 'a', [1]), () => codex32.encode(2, 7, 'a', new Uint8Array(16)), () => codex32.encode(2, 'test', 0, new Uint8Array(16)),
+    () => madeOf(new Uint8Array(26)), () => madeOf(), () => madeOf('q', [2, 7, 'a']), () => madeOf('q', [2, 'test', 0])]) assert.throws(call, TypeError);
   for (const call of [() => segwit.encode('bc', 32, new Uint8Array(2)), () => segwit.encode('bc', 0.5, new Uint8Array(2)), () => segwit.encode('bc', -1, new Uint8Array(2)),
-    () => correct('bech32', 'a12uel5l', [-1]), () => correct('bech32', 'a12uel5l', [0.5]), () => correct('bech32', 'a12uel5l', ['1'])]) assert.throws(call, RangeError);
+    () => made('2', 'test', 'a'), () => made(32, 'test', 'a'), () => madeOf('q', ['2', 'test', 'a']), () => madeOf('q', [32, 'test', 'a']), () => codex32.recover(Array(33).fill(A)), () => correct('bech32', 'a12uel5l', [-1]), () => correct('bech32', 'a12uel5l', [0.5]), () => correct('bech32', 'a12uel5l', ['1'])]) assert.throws(call, RangeError);
 });
 
 // ---- all stored lines: the place is that of a character at fault
@@ -121,6 +173,12 @@ const HAS_FAULT = {
   83: (text, place) => place === 3, 84: (text, place) => place === 8,
 };
 const NO_PLACE = new Set([23, 33, 46, 47, 48]);
+
+test('each refusal of the table is among these', async () => {
+  const { CODES } = await import('../out/package/reasons.js');
+  const seen = new Set(CASES.map(([, code]) => code));
+  assert.deepEqual(Object.values(CODES).filter((code) => !seen.has(code)), []);
+});
 
 test('the place of each refusal of the stored lines', (t) => {
   const calls = { decode, 'segwit-decode': segwit.decode, parse: codex32.parse };

@@ -75,5 +75,5 @@ export const WRONG = [
   ['two addresses without a space', V0 + TAPROOT, /Two addresses were put in/, null],
   ['two addresses in groups', `${V0} ${TAPROOT}`.replace(/(\S{4})/g, '$1 '), /Two addresses were put in/, null],
   ['one address twice', `${V0}, ${V0}`, /The same text stands there more than once\./, null],
-  ['two codex32 strings', `${STRING} ms12testaxxxxxxxxxxxxxxxxxxxxxxxxxxk2htcew89530d`, /Two codex32 strings were put in/, null],
+  ['an address and a codex32 string', `${V0} ${STRING}`, /Two texts were put in, and this page reads one at a time\./, null],
 ];

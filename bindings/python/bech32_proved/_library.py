@@ -87,8 +87,21 @@ nearest = _function(
     *(ctypes.POINTER(Memory), _BYTES, _SIZE, _SIZE_OUT),
 )
 codex32_parse = _function(_CODEX32, "codex32_parse", *_IN, _NUMBER_OUT, _NUMBER_OUT, _SIZE_OUT)
+codex32_share = _function(
+    _CODEX32, "codex32_share", *_IN, _NUMBER_OUT, _BYTES, _NUMBER_OUT, *_OUT
+)
+codex32_encode = _function(_CODEX32, "codex32_encode", _NUMBER, *_IN, _NUMBER, *_IN, *_OUT)
+codex32_encode_payload = _function(
+    _CODEX32, "codex32_encode_payload", _NUMBER, *_IN, _NUMBER, *_IN, *_OUT
+)
+codex32_derive = _function(
+    _CODEX32, "codex32_derive", _NUMBER, *_IN, ctypes.POINTER(_SIZE), _SIZE, *_OUT
+)
 codex32_propose = _function(
     _CODEX32, "codex32_propose", *_IN, ctypes.POINTER(Memory), *_OUT
+)
+codex32_propose_long = _function(
+    _CODEX32, "codex32_propose_long", *_IN, ctypes.POINTER(Memory), *_OUT
 )
 
 
@@ -133,6 +146,19 @@ class Lent:
     def wipe(self) -> None:
         """Puts zeros into all of it."""
         ctypes.memset(self._bytes, 0, len(self._bytes))
+
+
+class Copied:
+    """Bytes that a call reads, and that are wiped after it."""
+
+    def __init__(self, copied: bytearray) -> None:
+        self._bytes, size = copied, len(copied)
+        # The pointer to none is not null.
+        self.given = ((ctypes.c_char * size).from_buffer(copied) if size else b"", size)
+
+    def wipe(self) -> None:
+        """Puts zeros into all of it."""
+        self._bytes[:] = bytes(len(self._bytes))
 
 
 class Buffer:
@@ -191,4 +217,6 @@ def refuse(number: int, text: Optional[str] = None, looked_at: Optional[bytes] =
     place = None
     if text is not None and looked_at is not None and number in errors.OF_A_CHARACTER:
         place = _place(text, looked_at)
-    raise errors.BY_NUMBER[number](text, place)
+    refused = errors.BY_NUMBER[number](text, place)
+    refused.number = number
+    raise refused

@@ -11,10 +11,11 @@ class Refused(ValueError):
 
     `text` is the text that is refused, where one is, `place` that of the character at fault, counted in
     characters from 0, and `character` that character, where one is. What is printed is for people: it names
-    the character, and counts from 1.
+    the character, and counts from 1. `number` is that of the refusal in `bech32.h` and `codex32.h`.
     """
 
     sentence: ClassVar[str] = "what was given is refused"
+    number: int = 0
     text: Optional[str]
     place: Optional[int]
 
@@ -49,162 +50,245 @@ class NotUnicode(Refused):
     """The text holds half of a surrogate pair, which is no character."""
 
     sentence = "the text holds half of a surrogate pair, which is no character"
+    number = 2
 
 
 class HrpEmpty(Refused):
     """The human-readable part is empty."""
 
     sentence = "the human-readable part is empty"
+    number = 11
 
 
 class HrpTooLong(Refused):
     """The human-readable part has more than 83 bytes."""
 
     sentence = "the human-readable part has more than 83 bytes"
+    number = 12
 
 
 class HrpNotAscii(Refused):
     """The human-readable part has a character that is not ASCII."""
 
     sentence = "the human-readable part has a character that is not ASCII"
+    number = 13
 
 
 class HrpInvalid(Refused):
     """The human-readable part has a character whose code is not from 33 to 126."""
 
     sentence = "the human-readable part has a character whose code is not from 33 to 126"
+    number = 14
 
 
 class HrpMixedCase(Refused):
     """The human-readable part has letters of both cases."""
 
     sentence = "the human-readable part has letters of both cases"
+    number = 15
 
 
 class InvalidCharacter(Refused):
     """A character behind the separator may not stand there."""
 
     sentence = "a character behind the separator may not stand there"
+    number = 21
 
 
 class MixedCase(Refused):
     """The text has letters of both cases."""
 
     sentence = "the text has letters of both cases"
+    number = 22
 
 
 class NoSeparator(Refused):
     """The text has no separator, `1`."""
 
     sentence = "the text has no separator, '1'"
+    number = 23
 
 
 class TextTooLong(Refused):
     """The text has more than 1023 characters."""
 
     sentence = "the text has more than 1023 characters"
+    number = 31
 
 
 class NoChecksum(Refused):
     """Fewer than six characters stand behind the separator."""
 
     sentence = "fewer than six characters stand behind the separator"
+    number = 32
 
 
 class WrongChecksum(Refused):
     """The checksum is wrong."""
 
     sentence = "the checksum is wrong"
+    number = 33
 
 
 class NoCorrection(Refused):
     """No correction of so few characters mends the text."""
 
     sentence = "no correction of so few characters mends the text"
+    number = 34
 
 
 class AddressTooLong(Refused):
     """The text has more than 90 characters."""
 
     sentence = "the text has more than 90 characters"
+    number = 41
 
 
 class NoData(Refused):
     """The address has no witness version."""
 
     sentence = "the address has no witness version"
+    number = 42
 
 
 class BadVersion(Refused):
     """The witness version is not from 0 to 16."""
 
     sentence = "the witness version is not from 0 to 16"
+    number = 43
 
 
 class PaddingTooLong(Refused):
     """More than four bits stand behind the program's bytes."""
 
     sentence = "more than four bits stand behind the program's bytes"
+    number = 44
 
 
 class PaddingNotZero(Refused):
     """The bits behind the program's bytes are not all zero."""
 
     sentence = "the bits behind the program's bytes are not all zero"
+    number = 45
 
 
 class ProgramTooShort(Refused):
     """The witness program has less than 2 bytes."""
 
     sentence = "the witness program has less than 2 bytes"
+    number = 46
 
 
 class ProgramTooLong(Refused):
     """The witness program has more than 40 bytes."""
 
     sentence = "the witness program has more than 40 bytes"
+    number = 47
 
 
 class ProgramNotV0(Refused):
     """A witness program of version 0 has 20 or 32 bytes."""
 
     sentence = "a witness program of version 0 has 20 or 32 bytes"
+    number = 48
 
 
 class EncodedTooLong(Refused):
     """The text would have more than 1023 characters."""
 
     sentence = "the text would have more than 1023 characters"
+    number = 51
 
 
 class EncodedAddressTooLong(Refused):
     """The address would have more than 90 characters."""
 
     sentence = "the address would have more than 90 characters"
+    number = 53
+
+
+class BadSize(Refused):
+    """There are neither 16 to 44 bytes nor 63 or 64."""
+
+    sentence = "there are neither 16 to 44 bytes nor 63 or 64"
+    number = 55
+
+
+class TooFewShares(Refused):
+    """There are fewer shares than the threshold."""
+
+    sentence = "there are fewer shares than the threshold"
+    number = 61
+
+
+class OtherSet(Refused):
+    """A share has another threshold, identifier or length than the first."""
+
+    sentence = "a share has another threshold, identifier or length than the first"
+    number = 62
+
+
+class IndexTwice(Refused):
+    """Two shares have one index."""
+
+    sentence = "two shares have one index"
+    number = 63
+
+
+class Contradiction(Refused):
+    """The shares contradict each other."""
+
+    sentence = "the shares contradict each other"
+    number = 64
 
 
 class NotMs(Refused):
     """The human-readable part is not `ms`."""
 
     sentence = "the human-readable part is not 'ms'"
+    number = 81
 
 
 class BadLength(Refused):
-    """A codex32 string has from 48 to 93 characters."""
+    """A codex32 string has 48 to 93 characters, a long one 125 to 127."""
 
-    sentence = "a codex32 string has from 48 to 93 characters"
+    sentence = "a codex32 string has 48 to 93 characters, a long one 125 to 127"
+    number = 82
 
 
 class BadThreshold(Refused):
     """The threshold is neither 0 nor a digit from 2 to 9."""
 
     sentence = "the threshold is neither 0 nor a digit from 2 to 9"
+    number = 83
 
 
 class BadShareIndex(Refused):
     """The threshold is 0, and the share index is not `s`."""
 
     sentence = "the threshold is 0, and the share index is not 's'"
+    number = 84
+
+
+class BadIdentifier(Refused):
+    """The identifier is not four characters of the alphabet in one case."""
+
+    sentence = "the identifier is not four characters of the alphabet in one case"
+    number = 85
+
+
+class NoShareIndex(Refused):
+    """The share index is not one character of the alphabet."""
+
+    sentence = "the share index is not one character of the alphabet"
+    number = 86
+
+
+class BitsLeftOver(Refused):
+    """More than four bits stand behind the bytes of the payload."""
+
+    sentence = "more than four bits stand behind the bytes of the payload"
+    number = 87
 
 
 # Those for which bech32_fault gives the place of a character.
@@ -237,10 +321,18 @@ BY_NUMBER: Dict[int, Type[Refused]] = {
     51: EncodedTooLong,
     52: BadVersion,
     53: EncodedAddressTooLong,
+    55: BadSize,
+    61: TooFewShares,
+    62: OtherSet,
+    63: IndexTwice,
+    64: Contradiction,
     81: NotMs,
     82: BadLength,
     83: BadThreshold,
     84: BadShareIndex,
+    85: BadIdentifier,
+    86: NoShareIndex,
+    87: BitsLeftOver,
 }
 
 # End of what it writes.

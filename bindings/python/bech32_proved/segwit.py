@@ -3,8 +3,11 @@
 import ctypes
 from typing import NamedTuple
 
-from . import _library, errors
+from . import _library
 from ._library import Buffer, Octets, given, octets, refuse, utf8
+
+# A version is above 31.
+_NO_ELEMENT = 4
 
 
 class Address(NamedTuple):
@@ -30,7 +33,7 @@ def encode(hrp: str, version: int, program: Octets) -> str:
         raise TypeError(f"a witness version is a number, and not {type(version).__name__}")
     # The library takes a number of 32 bits.
     if not 0 <= version < 2**32:
-        raise errors.BadVersion()
+        refuse(_NO_ELEMENT)
     text = Buffer(_library.MAX_ADDRESS)
     number = _library.segwit_encode(
         *given(utf8(hrp)), version, *given(octets(program)), *text.out

@@ -11,6 +11,7 @@ from bech32_proved import Checksum, Refused, codex32, correct, decode, encode, e
 TOP = Path(__file__).resolve().parent.parent.parent.parent
 STORED = {"lines": "stdin", "replies": "stdout"}
 
+PROPOSALS = {"propose": codex32.propose, "propose-long": codex32.propose_long}
 CHECKSUMS = {"bech32": Checksum.BECH32, "bech32m": Checksum.BECH32M}
 
 
@@ -70,9 +71,21 @@ def c32(words):
     if command == "parse" and len(rest) == 1:
         share = codex32.parse(rest[0])
         return "ok " + " ".join(str(part) for part in share)
-    if command == "propose" and len(rest) == 1:
-        nearest = codex32.propose(rest[0])
+    if command in PROPOSALS and len(rest) == 1:
+        nearest = PROPOSALS[command](rest[0])
         return "none" if nearest is None else f"some {nearest}"
+    if command == "share" and len(rest) == 1:
+        threshold, identifier, share_index, data, text = codex32.share(rest[0])
+        assert text == rest[0]
+        return f"ok {threshold} {identifier} {share_index} {data.hex()}"
+    if command == "encode" and len(rest) == 4:
+        # No digit is a threshold of two characters.
+        threshold = int(rest[0]) if len(rest[0]) == 1 and rest[0].isdigit() else 10
+        return f"ok {codex32.encode(threshold, *rest[1:3], data_of(rest[3]))}"
+    if command == "derive" and len(rest) > 1:
+        return f"ok {codex32.derive(rest[1:], rest[0])}"
+    if command == "recover" and rest:
+        return f"ok {codex32.recover(rest)}"
     return None
 
 
@@ -90,6 +103,7 @@ class Lines(unittest.TestCase):
                 found = type(refused)
                 number = int(reply.split(" ")[1]) if reply.startswith("err ") else 0
                 self.assertEqual(found, errors.BY_NUMBER.get(number), words)
+                self.assertEqual(refused.number, number, words)
                 compared += 1
                 continue
             if found is not None:
@@ -101,7 +115,7 @@ class Lines(unittest.TestCase):
         self.assertGreater(self.compare("b32", b32), 2000)
 
     def test_c32(self):
-        self.assertGreater(self.compare("c32", c32), 150)
+        self.assertGreater(self.compare("c32", c32), 2700)
 
 
 if __name__ == "__main__":

@@ -19,7 +19,7 @@ from unittest import mock
 import bech32_proved
 from bech32_proved import Checksum, check, codex32, correct, decode, decode_with_checksum, encode, errors
 from bech32_proved import nearest, segwit, texts
-from bech32_proved._library import Lent, interruptible
+from bech32_proved._library import Copied, Lent, interruptible
 
 PROGRAM = bytes.fromhex("751e76e8199196d454941c45d1b3a323f1433bd6")
 
@@ -118,6 +118,14 @@ NO_ADDRESS = [
 
 SECRET = "ms10testsxxxxxxxxxxxxxxxxxxxxxxxxxx4nzvca9cmczlw"
 SHARE = "MS12NAMEA320ZYXWVUTSRQPNMLKJHGFEDCAXRPP870HKKQRM"
+OTHER_SHARE = "MS12NAMECACDEFGHJKLMNPQRSTUVWXYZ023FTR2GDZMPY6PN"
+LONG = (
+    "ms100c8vsm32zxfguhpchtlupzry9x8gf2tvdw0s3jn54khce6mua7lqpzygsfjd6an074rxvcemlh8wu3tk925acdefghjklmn"
+    "pqrstuvwxy06fhpv80undvarhrak"
+)
+
+# More than four bits are left over behind the bytes of its payload.
+ODD = "ms14lvh96q5zxeuujvzg58w59yc7s38yyfhkh8q0nuzggke5jv9s"
 
 
 class Texts(unittest.TestCase):
@@ -281,6 +289,11 @@ class Addresses(unittest.TestCase):
             ("", 1, 40, errors.HrpEmpty),
         ]:
             self.assertRaises(error, segwit.encode, hrp, version, bytes(length))
+        # One class, and the number that the library answers.
+        for version, number in [(17, 52), (32, 4), (2**32, 4), (-1, 4)]:
+            with self.assertRaises(errors.BadVersion) as raised:
+                segwit.encode("bc", version, PROGRAM)
+            self.assertEqual(raised.exception.number, number)
 
 
 class Codex32(unittest.TestCase):
@@ -297,9 +310,179 @@ class Codex32(unittest.TestCase):
             ("ms10fauxsxxxxxxxxxxxxxxxxxxxxxxxxxxve740yyge2ghP", errors.MixedCase),
             ("ms1fauxxxxxxxxxxxxxxxxxxxxxxxxxxxxxda3kr3s0s2swg", errors.BadThreshold),
             ("ms10fauxxxxxxxxxxxxxxxxxxxxxxxxxxxx0z26tfn0ulw3p", errors.BadShareIndex),
+            ("1" + SECRET[3:], errors.HrpEmpty),
+            ("m" * 84 + SECRET[2:], errors.HrpTooLong),
+            ("m\xe9" + SECRET[2:], errors.HrpNotAscii),
+            ("m " + SECRET[2:], errors.HrpInvalid),
+            (SECRET[3:].replace("1", ""), errors.NoSeparator),
+            (SECRET[:30] + "b" + SECRET[31:], errors.InvalidCharacter),
+            (SECRET[:30] + "\udc00" + SECRET[31:], errors.NotUnicode),
         ]:
-            with self.subTest(text), self.assertRaises(error):
-                codex32.parse(text)
+            for call in (codex32.parse, codex32.share, lambda it: codex32.recover([SHARE, it, "ms1"])):
+                with self.subTest(text), self.assertRaises(error) as raised:
+                    call(text)
+                self.assertEqual(raised.exception.text, text)
+        self.assertRaises(errors.BadLength, codex32.parse, LONG)
+        for length in (0, 47, 94, 124, 128, 1 << 20):
+            text = "ms1".ljust(length, "q")
+            for call in (codex32.share, codex32.propose, codex32.propose_long):
+                self.assertRaises(errors.BadLength if length else errors.NoSeparator, call, text[:length])
+        with self.assertRaises(errors.BitsLeftOver) as raised:
+            codex32.share(ODD)
+        self.assertEqual((raised.exception.text, raised.exception.number), (ODD, 87))
+
+    def test_reads_shares(self):
+        secret = codex32.share(SECRET)
+        self.assertEqual(secret, (0, "test", "s", bytes.fromhex("318c6318c6" * 3 + "31"), SECRET))
+        share = codex32.share(SHARE)
+        self.assertEqual((share.threshold, share.identifier, share.share_index), (2, "name", "a"))
+        self.assertEqual((len(share.data), share.text), (16, SHARE))
+        self.assertEqual(codex32.share(LONG).data[:4], bytes.fromhex("dc542325"))
+        for text in (SECRET, SHARE, LONG):
+            share = codex32.share(text)
+            again = codex32.share(codex32.encode(*share[:4]))
+            self.assertEqual(again[:4], share[:4])
+
+    def test_makes_strings(self):
+        for size in range(100):
+            data = bytes(range(size))
+            if size in range(16, 45) or size in (63, 64):
+                text = codex32.encode(9, "CASH", "A", data)
+                self.assertEqual(codex32.share(text), (9, "cash", "a", data, text))
+                for same in (bytearray(data), memoryview(data), memoryview(bytes(2 * size))[::2]):
+                    self.assertEqual(len(codex32.encode(9, "cash", "a", same)), len(text))
+            else:
+                self.assertRaises(errors.BadSize, codex32.encode, 9, "cash", "a", data)
+        kept = bytearray(range(16))
+        codex32.encode(0, "test", "S", kept)
+        self.assertEqual(kept, bytes(range(16)))
+        for threshold in range(12):
+            if threshold in (0, *range(2, 10)):
+                codex32.encode(threshold, "test", "s", kept)
+            else:
+                self.assertRaises(errors.BadThreshold, codex32.encode, threshold, "test", "s", kept)
+        for words, error in [
+            ((-1, "bank", "b", b""), errors.BadThreshold),
+            ((2**32, "test", "s", b""), errors.BadThreshold),
+            ((2, "bank", "b", b""), errors.BadIdentifier),
+            ((2, "tesT", "b", b""), errors.BadIdentifier),
+            ((2, "tes", "s", b""), errors.BadIdentifier),
+            ((2, "tes\udc00", "s", b""), errors.BadIdentifier),
+            ((0, "test", "b", b""), errors.NoShareIndex),
+            ((0, "test", "", b""), errors.NoShareIndex),
+            ((0, "test", "ss", b""), errors.NoShareIndex),
+            ((0, "test", "\U0001f600", b""), errors.NoShareIndex),
+            ((0, "test", "a", b""), errors.BadShareIndex),
+            ((0, "test", "s", b""), errors.BadSize),
+        ]:
+            with self.subTest(words), self.assertRaises(error):
+                codex32.encode(*words)
+        self.assertRaises(TypeError, codex32.encode, "0", "test", "s", kept)
+        self.assertRaises(TypeError, codex32.encode, 0, b"test", "s", kept)
+        self.assertRaises(TypeError, codex32.encode, 0, "test", 16, kept)
+        self.assertRaises(TypeError, codex32.encode, 0, "test", "s", "text")
+
+    def test_derives(self):
+        self.assertEqual(codex32.derive([SHARE, OTHER_SHARE], "D"), "ms12namedll4f8jlh4e5vdvuldlfxu2jhdnlsm97xvenrxeg")
+        secret = codex32.recover(iter([OTHER_SHARE, SHARE]))
+        self.assertEqual(secret, "ms12names6xqguzttxkeqnjsjzv4jv3nz5k3kwgsphuh6evw")
+        self.assertEqual(codex32.share(secret).data.hex(), "d1808e096b35b209ca12132b264662a5")
+        self.assertEqual(codex32.recover([SECRET]), SECRET)
+        self.assertEqual(codex32.recover([LONG.upper()]), LONG)
+        # All of a set, any two of which give each.
+        whole = [codex32.derive([SHARE, OTHER_SHARE], index) for index in texts._CHARACTERS]
+        for n, text in enumerate(whole):
+            two = [whole[(n + 3) % 32], whole[(n + 20) % 32]]
+            self.assertEqual(codex32.derive(two, text[8]), text)
+        self.assertEqual(codex32.recover(whole), secret)
+
+    def test_makes_strings_of_characters(self):
+        for text in (SECRET, SHARE, OTHER_SHARE, "ms13casha320zyxwvutsrqpnmlkjhgfedca2a8d0zehn8a0t"):
+            share = codex32.parse(text)
+            for payload in (share.payload.lower(), share.payload.upper()):
+                self.assertEqual(codex32.encode_payload(*share[:3], payload), text.lower())
+        self.assertEqual(codex32.encode_payload(0, "0c8v", "S", LONG[9:-15]), LONG)
+        for count in range(150):
+            # As many as bytes have: the last holds bits that are left over.
+            payload = "l" * count
+            if (26 <= count <= 71 or count in (101, 103)) and 5 * count % 8 <= 4:
+                text = codex32.encode_payload(9, "CASH", "A", payload)
+                self.assertEqual(text[9 : 9 + count], payload)
+                self.assertEqual(codex32.share(text), (9, "cash", "a", b"\xff" * (5 * count // 8), text))
+            else:
+                self.assertRaises(errors.BadSize, codex32.encode_payload, 9, "cash", "a", payload)
+        payload = SHARE[9:35]
+        for words, error, place in [
+            ((1, "bank", "b", "b"), errors.BadThreshold, None),
+            ((2**32, "bank", "b", "b"), errors.BadThreshold, None),
+            ((0, "bank", "b", "b"), errors.BadIdentifier, None),
+            ((0, "test", "b", "b"), errors.NoShareIndex, None),
+            ((0, "test", "a", "b"), errors.BadShareIndex, None),
+            ((0, "test", "s", "b"), errors.InvalidCharacter, 0),
+            ((0, "test", "s", "1"), errors.InvalidCharacter, 0),
+            ((2, "test", "s", payload.replace("Z", "1")), errors.InvalidCharacter, 3),
+            ((2, "test", "s", payload.replace("Z", "?").lower()), errors.InvalidCharacter, 3),
+            ((2, "test", "s", payload.replace("K", "\u212a")), errors.InvalidCharacter, 17),
+            ((2, "test", "s", payload.replace("Z", "\U0001f600") + "b"), errors.InvalidCharacter, 26),
+            ((2, "test", "s", payload.replace("Z", "\udc00")), errors.NotUnicode, 3),
+            ((2, "test", "s", payload.replace("X", "x")), errors.MixedCase, 5),
+            ((2, "test", "s", payload[1:]), errors.BadSize, None),
+            ((2, "test", "s", ""), errors.BadSize, None),
+            ((2, "test", "s", "q" * (1 << 20)), errors.BadSize, None),
+        ]:
+            with self.subTest(words), self.assertRaises(error) as raised:
+                codex32.encode_payload(*words)
+            self.assertEqual(raised.exception.place, place)
+            self.assertEqual(raised.exception.text, None if place is None else words[3])
+        self.assertRaises(TypeError, codex32.encode_payload, "0", "test", "s", payload)
+        self.assertRaises(TypeError, codex32.encode_payload, 0, b"test", "s", payload)
+        self.assertRaises(TypeError, codex32.encode_payload, 0, "test", 16, payload)
+        self.assertRaises(TypeError, codex32.encode_payload, 0, "test", "s", payload.encode())
+
+    def test_what_one_share_of_two_says(self):
+        # How many values of the last character of a secret's payload a derived share leaves, of as many as there
+        # are: all, where the other string is of random characters, and not where it is of random bytes.
+        for size, most, left in [(20, 32, {32}), (32, 2, {1}), (16, 8, {2, 4}), (64, 4, {1, 2})]:
+            count = (8 * size + 4) // 5
+            whole = [codex32.encode(2, "cash", "s", bytes(size - 1) + bytes([end])) for end in range(most)]
+            of_bytes = [codex32.encode(2, "cash", "a", bytes(size - 1) + bytes([end])) for end in range(most)]
+            ends = [last.rjust(count, "q") for last in texts._CHARACTERS]
+            of_characters = [codex32.encode_payload(2, "cash", "a", payload) for payload in ends]
+            for index in "c9":
+                for others, wanted in [(of_characters, {most}), (of_bytes, left)]:
+                    secrets = {}
+                    for secret in whole:
+                        for other in others:
+                            secrets.setdefault(codex32.derive([secret, other], index), set()).add(secret)
+                    self.assertLessEqual({len(it) for it in secrets.values()}, wanted)
+
+    def test_refuses_sets(self):
+        unlike = codex32.encode(2, "name", "d", bytes(16))
+        longer = codex32.encode(2, "name", "d", bytes(17))
+        for given, index, error, text in [
+            ([], "s", errors.TooFewShares, None),
+            ([], "b", errors.NoShareIndex, None),
+            (["ms1", SHARE], "", errors.NoShareIndex, None),
+            ([SHARE], "a", errors.TooFewShares, None),
+            ([SHARE, SECRET, SECRET], "s", errors.OtherSet, SECRET),
+            ([SHARE, OTHER_SHARE, longer], "s", errors.OtherSet, longer),
+            ([SHARE, OTHER_SHARE, SHARE.lower()], "s", errors.IndexTwice, SHARE.lower()),
+            ([SECRET, SECRET], "a", errors.IndexTwice, SECRET),
+            ([SECRET], "a", errors.BadShareIndex, None),
+            ([SHARE, OTHER_SHARE, unlike], "s", errors.Contradiction, None),
+            # More than there are indices.
+            ([SHARE] * 33, "s", errors.IndexTwice, SHARE),
+            ([SHARE] * 32 + [SECRET], "s", errors.OtherSet, SECRET),
+            ([SHARE] * 33 + ["ms1"], "s", errors.BadLength, "ms1"),
+            # Its payload holds no whole bytes: it is one of a set all the same.
+            ([ODD], "s", errors.TooFewShares, None),
+        ]:
+            with self.subTest((given, index)), self.assertRaises(error) as raised:
+                codex32.derive(given, index)
+            self.assertEqual(raised.exception.text, text)
+        self.assertRaises(TypeError, codex32.recover, SHARE)
+        self.assertRaises(TypeError, codex32.recover, [SHARE.encode()])
+        self.assertRaises(TypeError, codex32.derive, [SHARE], 16)
 
     def test_proposes(self):
         self.assertEqual(codex32.propose(SECRET), SECRET)
@@ -309,6 +492,24 @@ class Codex32(unittest.TestCase):
         with self.assertRaises(errors.InvalidCharacter) as raised:
             codex32.propose(SECRET[:30] + "?b?" + SECRET[33:])
         self.assertEqual(raised.exception.place, 31)
+        self.assertRaises(errors.BadLength, codex32.propose, LONG)
+
+    def test_proposes_long_strings(self):
+        self.assertEqual(codex32.propose_long(LONG.upper()), LONG)
+        self.assertEqual(codex32.propose_long(LONG[:20] + "?" * 8 + LONG[28:]), LONG)
+        self.assertIsNone(codex32.propose_long(LONG[:20] + "?" * 9 + LONG[29:]))
+        self.assertRaises(errors.BadLength, codex32.propose_long, SECRET)
+        # A share that is mended, and then used.
+        mended = codex32.propose(SHARE.replace("ZYX", "Z?P"))
+        self.assertEqual(mended, SHARE.lower())
+        self.assertEqual(codex32.recover([mended, OTHER_SHARE])[:9], "ms12names")
+
+    def test_wipes_what_it_copies(self):
+        copied = Copied(bytearray(b"secret"))
+        self.assertEqual(copied.given[0].raw, b"secret")
+        copied.wipe()
+        self.assertEqual(copied.given[0].raw, bytes(6))
+        self.assertEqual(Copied(bytearray()).given, (b"", 0))
 
 
 # A call that never ends, which no signal interrupts, in place of one of the library, and what Ctrl-C makes of it.
@@ -330,14 +531,15 @@ except KeyboardInterrupt:
 
 class Package(unittest.TestCase):
     def test_examples(self):
-        for module in (bech32_proved, texts):
+        for module in (bech32_proved, codex32, texts):
             tried = doctest.testmod(module)
             self.assertEqual(tried.failed, 0)
             self.assertGreater(tried.attempted, 0)
 
     def test_each_refusal_has_a_class(self):
-        for error in errors.BY_NUMBER.values():
+        for number, error in errors.BY_NUMBER.items():
             self.assertTrue(issubclass(error, bech32_proved.Refused))
+            self.assertTrue(error().number == number or error is errors.BadVersion)
             self.assertTrue(issubclass(error, ValueError) and error.sentence)
             self.assertEqual(str(error("xyzb", 3)), error.sentence + ": character 4, b")
 
@@ -358,7 +560,8 @@ class Package(unittest.TestCase):
         address = segwit.decode("BC1QW508D6QEJXTDG4Y5R3ZARVARY0C5XW7KV8F3T4")
         mended = correct("a12uel5q", Checksum.BECH32)
         results = [decode("A12UEL5L"), decode_with_checksum("A12UEL5L"), address, mended, *mended.changes]
-        results += [check("A12UEL5L", Checksum.BECH32), codex32.parse(SECRET), Checksum.BECH32M]
+        results += [check("A12UEL5L", Checksum.BECH32), Checksum.BECH32M]
+        results += [codex32.parse(SECRET), codex32.share(SECRET)]
         for result in results:
             for again in copies(result):
                 self.assertEqual(again, result)

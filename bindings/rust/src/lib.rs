@@ -1,6 +1,6 @@
 //! Bech32 ([BIP-173]) and Bech32m ([BIP-350]): texts and segwit addresses, written and read by the
 //! static library `bech32_c`, each function of which is proved to do what its contract says of
-//! every input.
+//! every input. Strings and shares of a secret ([BIP-93]) stand in [`codex32`], over `codex32_c`.
 //!
 //! The names are those of the Rust crate bech32 0.12.0: a program that was written for it runs over this
 //! one under that crate's name, by `bech32 = { package = "bech32_proved", .. }` in its manifest. The
@@ -8,8 +8,8 @@
 //! length at fault, [`Refusal`] has the number of any of them in `include/bech32.h`, and [`fault()`] says
 //! for people what is wrong where in a text.
 //!
-//! What is proved is the library. This crate turns slices into the pointers and lengths that the
-//! library takes, in its one module with `unsafe` code, and what comes back into values; it is
+//! What is proved are the libraries. This crate turns slices into the pointers and lengths that
+//! they take, in its one module with `unsafe` code, and what comes back into values; it is
 //! tested and not proved.
 //!
 //! # Encoding
@@ -56,11 +56,14 @@
 //!
 //! [BIP-173]: <https://github.com/bitcoin/bips/blob/master/bip-0173.mediawiki>
 //! [BIP-350]: <https://github.com/bitcoin/bips/blob/master/bip-0350.mediawiki>
+//! [BIP-93]: <https://github.com/bitcoin/bips/blob/master/bip-0093.mediawiki>
 
 #![deny(unsafe_code)]
 #![warn(missing_docs)]
 
 mod checksum;
+#[cfg(feature = "codex32")]
+pub mod codex32;
 #[cfg(feature = "correct")]
 mod correction;
 mod declared;
@@ -158,7 +161,7 @@ pub mod primitives {
     }
 }
 
-// The examples of README.md, which correct texts too, are tested with those of the documentation.
-#[cfg(all(doctest, feature = "correct"))]
+// The examples of README.md, which use all features, are tested with those of the documentation.
+#[cfg(all(doctest, feature = "codex32", feature = "correct"))]
 #[doc = include_str!("../README.md")]
 struct Readme;

@@ -1,10 +1,12 @@
-//! The functions of `include/bech32.h`, each as a safe function over slices. All `unsafe` code of
-//! the crate stands here.
+//! The functions of `include/bech32.h` and `include/codex32.h`, each as a safe function over slices. All
+//! `unsafe` code of the crate stands here.
 //!
 //! What a caller owes the library, a slice gives: its pointer is never null, its length is true,
 //! and what a mutable one covers nothing else covers.
 
-#[cfg(feature = "correct")]
+#[cfg(feature = "codex32")]
+use crate::codex32;
+#[cfg(any(feature = "codex32", feature = "correct"))]
 use crate::declared::Memory;
 use crate::Refusal;
 
@@ -22,13 +24,85 @@ mod c {
     );
 }
 
+// Those of `include/codex32.h`.
+#[cfg(feature = "codex32")]
+mod c_codex32 {
+    use crate::declared::Memory;
+
+    extern "C" {
+        pub fn codex32_share(
+            text: *const u8,
+            text_length: usize,
+            threshold: *mut u32,
+            identifier: *mut u8,
+            share_index: *mut u32,
+            bytes: *mut u8,
+            bytes_room: usize,
+            bytes_length: *mut usize,
+        ) -> u32;
+
+        pub fn codex32_encode(
+            threshold: u32,
+            identifier: *const u8,
+            identifier_length: usize,
+            share_index: u32,
+            bytes: *const u8,
+            bytes_length: usize,
+            text: *mut u8,
+            text_room: usize,
+            text_length: *mut usize,
+        ) -> u32;
+
+        pub fn codex32_encode_payload(
+            threshold: u32,
+            identifier: *const u8,
+            identifier_length: usize,
+            share_index: u32,
+            payload: *const u8,
+            payload_length: usize,
+            text: *mut u8,
+            text_room: usize,
+            text_length: *mut usize,
+        ) -> u32;
+
+        pub fn codex32_derive(
+            share_index: u32,
+            texts: *const u8,
+            texts_length: usize,
+            lengths: *const usize,
+            count: usize,
+            text: *mut u8,
+            text_room: usize,
+            text_length: *mut usize,
+        ) -> u32;
+
+        pub fn codex32_propose(
+            text: *const u8,
+            text_length: usize,
+            memory: *mut Memory,
+            proposed: *mut u8,
+            proposed_room: usize,
+            proposed_length: *mut usize,
+        ) -> u32;
+
+        pub fn codex32_propose_long(
+            text: *const u8,
+            text_length: usize,
+            memory: *mut Memory,
+            proposed: *mut u8,
+            proposed_room: usize,
+            proposed_length: *mut usize,
+        ) -> u32;
+    }
+}
+
 /// Memory that a call is lent, sixteen bytes of it, aligned to as many.
-#[cfg(feature = "correct")]
+#[cfg(any(feature = "codex32", feature = "correct"))]
 #[derive(Clone, Copy)]
 #[repr(C, align(16))]
 pub struct Block([u8; Block::SIZE]);
 
-#[cfg(feature = "correct")]
+#[cfg(any(feature = "codex32", feature = "correct"))]
 impl Block {
     /// Its bytes.
     pub const SIZE: usize = 16;
@@ -37,13 +111,27 @@ impl Block {
     pub const ZEROS: Block = Block([0; Block::SIZE]);
 }
 
-// What a call answered, where it did not refuse.
-fn answered<T>(number: u32, value: T) -> Result<T, Refusal> {
-    match (number, Refusal::from_number(number)) {
+// Memory as a function takes it.
+#[cfg(any(feature = "codex32", feature = "correct"))]
+fn lent(memory: &mut [Block]) -> Memory {
+    Memory {
+        start: memory.as_mut_ptr().cast(),
+        size: std::mem::size_of_val(memory),
+    }
+}
+
+// What a call answered, where it did not refuse: its value, or the refusal that has the number.
+fn known<T, R>(number: u32, refusal: Option<R>, value: T) -> Result<T, R> {
+    match (number, refusal) {
         (0, _) => Ok(value),
         (_, Some(refusal)) => Err(refusal),
-        (_, None) => panic!("bech32_c answered {number}, which this crate does not know"),
+        (_, None) => panic!("the library answered {number}, which this crate does not know"),
     }
+}
+
+// The same of a call of bech32_c.
+fn answered<T>(number: u32, value: T) -> Result<T, Refusal> {
+    known(number, Refusal::from_number(number), value)
 }
 
 /// Puts the text of a human-readable part and bytes into a buffer, and answers its length.
@@ -212,10 +300,7 @@ pub fn nearest(
     texts: &mut [u8],
 ) -> Result<usize, Refusal> {
     let mut count = 0;
-    let mut lent = Memory {
-        start: memory.as_mut_ptr().cast(),
-        size: std::mem::size_of_val(memory),
-    };
+    let mut lent = lent(memory);
     // SAFETY: as in `encode`. The lent memory is that of the slice, which nothing else covers, is
     // aligned by the type of its items, and may hold any bytes afterwards; the library keeps nothing
     // between calls, so it is the slice's again even where `lent` says that it has none left.
@@ -234,4 +319,150 @@ pub fn nearest(
         )
     };
     answered(number, count)
+}
+
+/// Reads a string of either length, puts the bytes of its payload into a buffer, and answers how many they
+/// are.
+#[cfg(feature = "codex32")]
+pub fn codex32_share(text: &[u8], bytes: &mut [u8]) -> Result<usize, codex32::Refusal> {
+    let (mut threshold, mut identifier, mut share_index, mut length) = (0, [0; 4], 0, 0);
+    // SAFETY: as in `encode`. The identifier has room for its four characters.
+    let number = unsafe {
+        c_codex32::codex32_share(
+            text.as_ptr(),
+            text.len(),
+            &mut threshold,
+            identifier.as_mut_ptr(),
+            &mut share_index,
+            bytes.as_mut_ptr(),
+            bytes.len(),
+            &mut length,
+        )
+    };
+    known(number, codex32::Refusal::from_number(number), length)
+}
+
+/// Puts the string of a header and bytes into a buffer, and answers its length.
+#[cfg(feature = "codex32")]
+pub fn codex32_encode(
+    threshold: u32,
+    identifier: &[u8],
+    share_index: u32,
+    bytes: &[u8],
+    text: &mut [u8],
+) -> Result<usize, codex32::Refusal> {
+    let mut length = 0;
+    // SAFETY: as in `encode`.
+    let number = unsafe {
+        c_codex32::codex32_encode(
+            threshold,
+            identifier.as_ptr(),
+            identifier.len(),
+            share_index,
+            bytes.as_ptr(),
+            bytes.len(),
+            text.as_mut_ptr(),
+            text.len(),
+            &mut length,
+        )
+    };
+    known(number, codex32::Refusal::from_number(number), length)
+}
+
+/// Puts the string of a header and the characters of a payload into a buffer, and answers its length.
+#[cfg(feature = "codex32")]
+pub fn codex32_encode_payload(
+    threshold: u32,
+    identifier: &[u8],
+    share_index: u32,
+    payload: &[u8],
+    text: &mut [u8],
+) -> Result<usize, codex32::Refusal> {
+    let mut length = 0;
+    // SAFETY: as in `encode`.
+    let number = unsafe {
+        c_codex32::codex32_encode_payload(
+            threshold,
+            identifier.as_ptr(),
+            identifier.len(),
+            share_index,
+            payload.as_ptr(),
+            payload.len(),
+            text.as_mut_ptr(),
+            text.len(),
+            &mut length,
+        )
+    };
+    known(number, codex32::Refusal::from_number(number), length)
+}
+
+/// Puts the string at an index into a buffer, and answers its length. The others of its set stand one behind
+/// another in `texts`, with their lengths.
+#[cfg(feature = "codex32")]
+pub fn codex32_derive(
+    share_index: u32,
+    texts: &[u8],
+    lengths: &[usize],
+    text: &mut [u8],
+) -> Result<usize, codex32::Refusal> {
+    let mut length = 0;
+    // SAFETY: as in `encode`. Lengths that do not add up to that of `texts` are refused.
+    let number = unsafe {
+        c_codex32::codex32_derive(
+            share_index,
+            texts.as_ptr(),
+            texts.len(),
+            lengths.as_ptr(),
+            lengths.len(),
+            text.as_mut_ptr(),
+            text.len(),
+            &mut length,
+        )
+    };
+    known(number, codex32::Refusal::from_number(number), length)
+}
+
+/// Puts the nearest string to a damaged one into a buffer, and answers its length. The memory is for the
+/// call's own use.
+#[cfg(feature = "codex32")]
+pub fn codex32_propose(
+    text: &[u8],
+    memory: &mut [Block],
+    proposed: &mut [u8],
+) -> Result<usize, codex32::Refusal> {
+    let (mut lent, mut length) = (lent(memory), 0);
+    // SAFETY: as in `nearest`.
+    let number = unsafe {
+        c_codex32::codex32_propose(
+            text.as_ptr(),
+            text.len(),
+            &mut lent,
+            proposed.as_mut_ptr(),
+            proposed.len(),
+            &mut length,
+        )
+    };
+    known(number, codex32::Refusal::from_number(number), length)
+}
+
+/// The same for a damaged long string.
+#[cfg(feature = "codex32")]
+pub fn codex32_propose_long(
+    text: &[u8],
+    memory: &mut [Block],
+    proposed: &mut [u8],
+) -> Result<usize, codex32::Refusal> {
+    let (mut lent, mut length) = (lent(memory), 0);
+    // SAFETY: as in `nearest`.
+    let number = unsafe {
+        c_codex32::codex32_propose_long(
+            text.as_ptr(),
+            text.len(),
+            &mut lent,
+            proposed.as_mut_ptr(),
+            proposed.len(),
+            &mut length,
+        )
+    };
+    known(number, codex32::Refusal::from_number(number), length)
 }

@@ -8,9 +8,10 @@
 //! it.
 //!
 //! A `&[u8]` or a `&mut [u8]` is a pointer and then a length to C, and a `&mut` a pointer. None of
-//! these pointers may be null, and what one points to may not overlap with what a `&mut` does.
+//! these pointers may be null, but one beside a length of 0, which nothing follows; and what one
+//! points to may not overlap with what a `&mut` does.
 //!
-//! Below it: `bech32_calls`.
+//! Below it: `bech32_calls`, `refusal_sentences`.
 //! Standard: BIP-173; BIP-350.
 #![tactic(auto)]
 
@@ -19,6 +20,7 @@ pub mod decode;
 pub mod encode;
 pub mod engine;
 pub mod fault;
+pub mod message;
 pub mod nearest;
 pub mod segwit;
 #[cfg(test)]

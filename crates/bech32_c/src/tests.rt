@@ -1,3 +1,4 @@
+mod messages;
 mod near;
 
 use crate::correct::bech32_correct;

@@ -9,7 +9,7 @@ use Rattle.codex32.specs.Encode.{IsEncodeStringRefusal, IsEncodedString}
 use Rattle.codex32.specs.Header.{identifier_of_header, share_index_of_header, threshold_of_header}
 use Rattle.codex32.specs.HeaderParts.{header_word_fault, secret_index, share_index_of_word, share_index_word_fault}
 use Rattle.codex32.specs.Nearest.{IsProposeRefusal}
-use Rattle.codex32.specs.Share.{IsShareOf, IsShareString, bytes_of_share, identifier_of_share, index_of_share, payload_of_share, threshold_of_share}
+use Rattle.codex32.specs.Share.{AreSharesOf, IsShareOf, IsShareString, bytes_of_share, identifier_of_share, index_of_share, payload_of_share, threshold_of_share}
 use Rattle.codex32.specs.ShareParts.{bits_left_over}
 use Rattle.codex32.specs.Strings.{IsStringRefusal}
 use Rattle.codex32.specs.declared.error.Codex32Error.{Codex32Error}
@@ -23,7 +23,7 @@ use Rattle.line_program.proofs.Replied.{adds_or_refuses-weaker}
 use Rattle.line_program.specs.Refused.{err}
 use Rattle.codex32_numbers.specs.Numbers.{number_of_codex32_encode_error, number_of_codex32_error, number_of_payload_error}
 use Rattle.c32.specs.Numbers.{number_of_codex32_reply}
-use Rattle.c32.specs.Reply.{AreSharesOf, AreTexts, AreWordsOf, IsDeriveAnswer, IsEncodeStringAnswer, IsParseAnswer, IsProposeAnswer, IsShareAnswer, IsSharesAnswer, header_words}
+use Rattle.c32.specs.Reply.{AreTexts, AreWordsOf, IsDeriveAnswer, IsEncodeStringAnswer, IsParseAnswer, IsProposeAnswer, IsShareAnswer, IsSharesAnswer, header_words}
 use Rattle.c32.specs.declared.refusal.Refusal.{Refusal}
 use Rattle.c32.specs.declared.refusal.Refusal.TheVariants as refusals
 use Rattle.c32.proofs.Sizes.{bytes-few, header_words-size, string-size}

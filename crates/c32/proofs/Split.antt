@@ -3,7 +3,7 @@ use Rattle.std.proofs.Common.{◌≡◌, ◌≢◌, ℕ, ◌==◌, Bool, true, f
 use Rattle.std.specs.List.{list_any}
 use Rattle.std.proofs.lemmas.List.Splits.{length-slice_split}
 use Rattle.line_program.specs.Words.{words, is_empty}
-use Rattle.c32.specs.Request.{Codex32Request, Derive, Encode, Recover, codex32_request_of, codex32_request_of_words, derive_request, encode_arguments, one_word, string_request, texts_of}
+use Rattle.c32.specs.Request.{Codex32Request, Derive, Encode, Recover, codex32_request_of, codex32_request_of_words, derive_request, encode_arguments, one_word, string_request, nonempty_words}
 
 if-none : {A : Type 0} (b : Bool) (r : Option A) → r ≡ None → (if b then None else r) ≡ None
 if-none true r e = refl
@@ -61,7 +61,7 @@ encode-no-hex arguments threshold identifier share_index (x ∷ []) e empty =
 
 -- ---- texts
 
-pub no-texts : (texts : List (List ℕ)) → list_any is_empty texts ≡ true → texts_of texts ≡ None
+pub no-texts : (texts : List (List ℕ)) → list_any is_empty texts ≡ true → nonempty_words texts ≡ None
 no-texts texts e = ap (λ (b : Bool). if b then None else Some texts) e
 
 some-texts : (b : Bool) (texts read : List (List ℕ)) → (if b then None else Some texts) ≡ Some read → (b ≡ false) × (texts ≡ read)
@@ -79,11 +79,11 @@ derive-no-index line (x ∷ y ∷ more) e empty =
     ∙ ap (λ (w : List ℕ). if list_any is_empty (w ∷ y ∷ more) then None else Some (Derive x (y ∷ more))) none
 
 -- `derive`
-pub derive-texts : (line index rest : List ℕ) (read : List (List ℕ)) → words line ≡ codes "derive" ∷ index ∷ words rest → index ≢ [] → texts_of (words rest) ≡ Some read
+pub derive-texts : (line index rest : List ℕ) (read : List (List ℕ)) → words line ≡ codes "derive" ∷ index ∷ words rest → index ≢ [] → nonempty_words (words rest) ≡ Some read
     → codex32_request_of line ≡ Some (Derive index read)
 derive-texts line index rest read e full some = given index (words rest) e full some (some-word rest)
   where
-    given : (i : List ℕ) (texts : List (List ℕ)) → words line ≡ codes "derive" ∷ i ∷ texts → i ≢ [] → texts_of texts ≡ Some read → (texts ≡ [] → ⊥) → codex32_request_of line ≡ Some (Derive i read)
+    given : (i : List ℕ) (texts : List (List ℕ)) → words line ≡ codes "derive" ∷ i ∷ texts → i ≢ [] → nonempty_words texts ≡ Some read → (texts ≡ [] → ⊥) → codex32_request_of line ≡ Some (Derive i read)
     given [] texts e full some more = absurd (full refl)
     given (b ∷ bs) [] e full some more = absurd (more refl)
     given (b ∷ bs) (x ∷ xs) e full some more =
@@ -93,10 +93,10 @@ derive-texts line index rest read e full some = given index (words rest) e full 
         ∙ ap (λ (ts : List (List ℕ)). Some (Derive (b ∷ bs) ts)) same
 
 -- `recover`
-pub recover-texts : (line rest : List ℕ) (read : List (List ℕ)) → words line ≡ codes "recover" ∷ words rest → texts_of (words rest) ≡ Some read → codex32_request_of line ≡ Some (Recover read)
+pub recover-texts : (line rest : List ℕ) (read : List (List ℕ)) → words line ≡ codes "recover" ∷ words rest → nonempty_words (words rest) ≡ Some read → codex32_request_of line ≡ Some (Recover read)
 recover-texts line rest read e some = given (words rest) e some (some-word rest)
   where
-    given : (texts : List (List ℕ)) → words line ≡ codes "recover" ∷ texts → texts_of texts ≡ Some read → (texts ≡ [] → ⊥) → codex32_request_of line ≡ Some (Recover read)
+    given : (texts : List (List ℕ)) → words line ≡ codes "recover" ∷ texts → nonempty_words texts ≡ Some read → (texts ≡ [] → ⊥) → codex32_request_of line ≡ Some (Recover read)
     given [] e some more = absurd (more refl)
     given (x ∷ xs) e some more =
         let (fine, same) = some-texts (list_any is_empty (x ∷ xs)) (x ∷ xs) read some in

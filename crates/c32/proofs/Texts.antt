@@ -1,8 +1,8 @@
 -- The texts of a line, one after another.
 use Rattle.std.proofs.Common.{◌≡◌, ℕ, List, [], ◌∷◌, ◌++◌, ap, ◌∙◌, sym, subst, append_assoc, append-nil}
-use Rattle.codex32.specs.Share.{IsEither, IsShareOf}
+use Rattle.codex32.specs.Share.{AreSharesOf, IsEither, IsShareOf}
 use Rattle.codex32.specs.declared.share.Share.{Share}
-use Rattle.c32.specs.Reply.{AreSharesOf, AreTexts}
+use Rattle.c32.specs.Reply.{AreTexts}
 
 module _ (left behind : List (List ℕ)) (word : List ℕ) (e : left ≡ word ∷ behind) where
   pub fine-parts : AreTexts left → IsEither word × AreTexts behind

@@ -14,7 +14,7 @@ use Rattle.codex32.specs.HeaderParts.{header_word_fault, identifier_elements, se
 use Rattle.codex32.specs.HeaderParts.{share_index_of_word, share_index_word_fault, threshold_word}
 use Rattle.codex32.specs.Nearest.{IsNearestLongText, IsNearestText, IsProposeLongRefusal}
 use Rattle.codex32.specs.Nearest.{IsProposeRefusal, read_text}
-use Rattle.codex32.specs.Share.{IsEither, IsShareOf, IsShareRefusal, IsShareString}
+use Rattle.codex32.specs.Share.{AreSharesOf, IsEither, IsShareRefusal, IsShareString}
 use Rattle.codex32.specs.ShareParts.{bits_left_over}
 use Rattle.codex32.specs.Strings.{IsString, IsStringRefusal, frame_refusal, long_frame_refusal}
 use Rattle.codex32.specs.declared.error.Codex32Error.{Codex32Error}
@@ -151,13 +151,6 @@ IsEncodeStringAnswer threshold identifier share_index hex said =
 -- each text is a string of either length
 abbrev pub AreTexts : List (List ℕ) → Type 0
 AreTexts texts = AllByRecursion IsEither texts
-
--- these are the shares of the texts
-abbrev pub AreSharesOf : List (List ℕ) → List CodexShare → Type 0
-AreSharesOf [] [] = Unit {0}
-AreSharesOf [] (s ∷ ss) = ⊥
-AreSharesOf (t ∷ ts) [] = ⊥
-AreSharesOf (t ∷ ts) (s ∷ ss) = IsShareOf t s × AreSharesOf ts ss
 
 -- the first text that is no string of either length is refused so
 abbrev pub IsTextRefusal : List (List ℕ) → Codex32Error → Type 0

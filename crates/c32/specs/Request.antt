@@ -64,8 +64,8 @@ encode_arguments arguments =
     if list_any is_empty arguments then None else string_request arguments
 
 -- words of which none is empty
-abbrev pub texts_of : List (List ℕ) → Option (List (List ℕ))
-texts_of texts = if list_any is_empty texts then None else Some texts
+abbrev pub nonempty_words : List (List ℕ) → Option (List (List ℕ))
+nonempty_words texts = if list_any is_empty texts then None else Some texts
 
 -- what a command asks for
 abbrev pub codex32_request_of_command : Command → Codex32Request

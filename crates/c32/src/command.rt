@@ -2,7 +2,7 @@
 
 ghost use Rattle.std.specs.Prelude.{◌≡◌, MatchOption, Some, None};
 ghost use Rattle.line_program.specs.Words.{words};
-ghost use Rattle.c32.specs.Request.{codex32_request_of, encode_arguments, codex32_request_of_command, texts_of};
+ghost use Rattle.c32.specs.Request.{codex32_request_of, encode_arguments, codex32_request_of_command, nonempty_words};
 
 use line_program::{first_word, only_word};
 
@@ -46,8 +46,8 @@ pub enum Command<'a> {
 // The text, where none of its words is empty.
 fn all_words(text: &str) -> Option<&str>
     ensures { MatchOption result
-        (texts_of (words text.now) ≡ None)
-        (λ r. texts_of (words text.now) ≡ Some (words r.now)) }
+        (nonempty_words (words text.now) ≡ None)
+        (λ r. nonempty_words (words text.now) ≡ Some (words r.now)) }
 {
     let mut rest = text;
     'words: while let Some((_, behind)) = first_word(rest) {

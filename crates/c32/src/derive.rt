@@ -3,10 +3,10 @@
 ghost use Rattle.std.specs.Prelude.{◌≡◌, ◌+◌, ◌≤◌, ◌++◌, [], ◌∷◌, vec_len, vec_capacity, MatchOption, MatchResult, IfOk};
 ghost use Rattle.line_program.specs.Added.{AddsOrRefuses};
 ghost use Rattle.line_program.specs.Words.{words};
-ghost use Rattle.codex32.specs.Share.{IsEither, IsShareOf};
+ghost use Rattle.codex32.specs.Share.{AreSharesOf, IsEither, IsShareOf};
 ghost use Rattle.codex32.specs.declared.share.Share.{Share as CodexShare};
 ghost use Rattle.c32.specs.Numbers.{number_of_codex32_reply};
-ghost use Rattle.c32.specs.Reply.{AreSharesOf, AreTexts, IsDeriveAnswer, IsSharesAnswer, IsTextRefusal};
+ghost use Rattle.c32.specs.Reply.{AreTexts, IsDeriveAnswer, IsSharesAnswer, IsTextRefusal};
 
 use crate::refusal::Refusal;
 use crate::reply::Commands;

@@ -50,3 +50,9 @@ pub refused-from_outcome : {S : Type 0} (bytes : S → List ℕ) (ss : List Shar
     → MatchResult r (λ _. IsWholeSet ss x × (DoContradict ss → ⊥)) (λ e. IsDeriveRefusal ss x e)
 refused-from_outcome bytes ss x (Ok s) h = (h.0, λ contradict. contradict (agree-from_given fe32.ops (count_of ss) (indices_of ss) (rows_of ss) (size_of ss) x h.1.elements h.1.given))
 refused-from_outcome bytes ss x (Err e) h = h
+
+-- the same of a string that is put into a buffer
+pub refused-from_put : (Q : DeriveError → Type 0) (bytes : ℕ → List ℕ) (ss : List Share) (x : Fe32) (r : Result ℕ DeriveError) → MatchResult r (λ n. IsWholeSet ss x × IsDerivedString ss x (bytes n)) Q
+    → MatchResult r (λ _. IsWholeSet ss x × (DoContradict ss → ⊥)) Q
+refused-from_put Q bytes ss x (Ok n) h = (h.0, λ contradict. contradict (agree-from_given fe32.ops (count_of ss) (indices_of ss) (rows_of ss) (size_of ss) x h.1.elements h.1.given))
+refused-from_put Q bytes ss x (Err e) h = h

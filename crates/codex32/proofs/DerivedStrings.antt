@@ -226,3 +226,9 @@ pub string-from_outcome : {S : Type 0} (bytes : S → List ℕ) (ss : List Share
     → MatchResult r (λ s. IsWholeSet ss x × IsDerivedString ss x (bytes s)) (λ e. IsDeriveRefusal ss x e) → IfOk r (λ s. IsStringOfSet ss x (bytes s))
 string-from_outcome bytes ss x (Ok s) h = derived_string ss x (bytes s) h.0 h.1
 string-from_outcome bytes ss x (Err e) h = tt
+
+-- the same of a string that is put into a buffer
+pub string-from_put : (Q : DeriveError → Type 0) (bytes : ℕ → List ℕ) (ss : List Share) (x : Fe32) (r : Result ℕ DeriveError) → MatchResult r (λ n. IsWholeSet ss x × IsDerivedString ss x (bytes n)) Q
+    → IfOk r (λ n. IsStringOfSet ss x (bytes n))
+string-from_put Q bytes ss x (Ok n) h = derived_string ss x (bytes n) h.0 h.1
+string-from_put Q bytes ss x (Err e) h = tt

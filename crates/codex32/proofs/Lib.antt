@@ -14,3 +14,4 @@ pub mod Same
 pub mod HeaderWords
 pub mod DerivedStrings
 pub mod EncodedStrings
+pub mod Put

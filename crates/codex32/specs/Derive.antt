@@ -103,3 +103,9 @@ IsDeriveRefusal shares x e =
     IsSetRefusal shares x e
     ⊎ (((e ≡ refusals.Contradiction) × IsWholeSet shares x × DoContradict shares)
     ⊎ ((e ≡ refusals.Memory) × IsWholeSet shares x × (DoContradict shares → ⊥)))
+
+-- the same where no memory is taken
+abbrev pub IsDeriveIntoRefusal : List Share → Fe32 → DeriveError → Type 0
+IsDeriveIntoRefusal shares x e =
+    IsSetRefusal shares x e
+    ⊎ ((e ≡ refusals.Contradiction) × IsWholeSet shares x × DoContradict shares)

@@ -1,6 +1,6 @@
 -- Codex32 strings of either length (BIP-93, codex32 and Long codex32 Strings), and why a text is
 -- none.
-use Rattle.std.specs.Prelude.{◌≡◌, ◌⊎◌, ℕ, true, List, ◌++◌, length, Some, None}
+use Rattle.std.specs.Prelude.{◌≡◌, ◌⊎◌, ℕ, true, List, [], ◌∷◌, ◌++◌, length, Some, None}
 use Rattle.bech32_bits.specs.Bits.{to_bytes}
 use Rattle.bech32_decode.specs.Acceptance.{IsAccepted}
 use Rattle.bech32_decode.specs.Text.{IsText}
@@ -86,3 +86,10 @@ pub record IsShareOf (text : List ℕ) (s : Share) : Type 0 where
   pub is_text : IsText text hrp (characters_of_share s)
   pub is_string : IsShareString text (threshold_of_share s) (identifier_of_share s)
       (index_of_share s) (payload_of_share s)
+
+-- these are the shares of the texts
+abbrev pub AreSharesOf : List (List ℕ) → List Share → Type 0
+AreSharesOf [] [] = Unit {0}
+AreSharesOf [] (s ∷ ss) = ⊥
+AreSharesOf (t ∷ ts) [] = ⊥
+AreSharesOf (t ∷ ts) (s ∷ ss) = IsShareOf t s × AreSharesOf ts ss

@@ -1,11 +1,12 @@
 //! The strings that shares of one set give.
 
-ghost use Rattle.std.specs.Prelude.{◌≡◌, ◌≤◌, ◌<◌, ◌+◌, ◌↔◌, ◌⊎◌, ◌++◌, length, map, take, IfOk, IsTrue, MatchResult, string_bytes};
+ghost use Rattle.std.specs.Prelude.{◌≡◌, ◌≤◌, ◌<◌, ◌+◌, ◌↔◌, ◌⊎◌, ◌++◌, length, map, take, IfOk, IsTrue, MatchResult, OnErr, string_bytes};
 ghost use Rattle.std.specs.List.{AllByRecursion};
 ghost use Rattle.bech32_checksum.specs.Encoded.{char_of_element, spelled};
+ghost use Rattle.bech32_encode.specs.Buffers.{IsPut};
 ghost use Rattle.bech32_gf.specs.Fe32 as fe32;
 ghost use Rattle.codex32_shares.specs.Shares.{IsGiven};
-ghost use Rattle.codex32.specs.Derive.{DoContradict, IsDeriveRefusal, IsDerivedString, IsOfSet, IsSetRefusal, IsStringOfSet, IsWholeSet, count_of, indices_of, rows_of, size_of};
+ghost use Rattle.codex32.specs.Derive.{DoContradict, IsDeriveIntoRefusal, IsDeriveRefusal, IsDerivedString, IsOfSet, IsSetRefusal, IsStringOfSet, IsWholeSet, count_of, indices_of, rows_of, size_of};
 ghost use Rattle.codex32.specs.HeaderParts.{points_of, secret_index};
 ghost use Rattle.codex32.specs.ShareParts.{ms};
 
@@ -89,17 +90,24 @@ fn put_characters(text: &mut [u8], elements: &[Fe32])
     }
 }
 
+// Puts the text of elements.
+fn put_spelled(text: &mut [u8], elements: &[Fe32])
+    requires { length text.old ≡ 3 + length elements.now }
+    ensures { text.new ≡ spelled ms elements.now }
+{
+    text[0] = b'm';
+    text[1] = b's';
+    text[2] = b'1';
+    put_characters(text, elements);
+}
+
 // The text of elements.
 fn spelled_in<A: Allocator>(alloc: A, elements: &[Fe32]) -> Result<String<A>, AllocError>
     requires { length elements.now ≤ 124 }
     ensures { IfOk result (λ s. string_bytes s ≡ spelled ms elements.now) }
 {
     let mut text = vec![in alloc; 0u8; 3 + elements.len()]?;
-    let bytes = text.as_mut_slice();
-    bytes[0] = b'm';
-    bytes[1] = b's';
-    bytes[2] = b'1';
-    put_characters(bytes, elements);
+    put_spelled(text.as_mut_slice(), elements);
     // All of it is ASCII: what the call requires is proved.
     Ok(unsafe { String::from_utf8_unchecked(text) })
 }
@@ -137,6 +145,48 @@ fn derived_in<A: Allocator>(
     let mut room = [Fe32::Q; MOST];
     let size = put_derived(&mut room, shares, index)?;
     Ok(spelled_in(alloc, &room[..size])?)
+}
+
+// Puts the string at an index at the front of a buffer, or says why there is none.
+fn put_derived_text(
+    buffer: &mut [u8],
+    shares: &[Share<'_>],
+    index: Fe32,
+) -> Result<usize, DeriveError>
+    requires { 127 ≤ length buffer.old }
+    ensures outcome { MatchResult result
+        (λ n. IsWholeSet shares.now index × IsDerivedString shares.now index (take n buffer.new))
+        (λ e. IsDeriveIntoRefusal shares.now index e) }
+    ensures put { IfOk result (λ n. IsPut (take n buffer.new) buffer.old buffer.new n) }
+    ensures same { OnErr result (buffer.new ≡ buffer.old) }
+{
+    let mut room = [Fe32::Q; MOST];
+    let size = put_derived(&mut room, shares, index)?;
+    put_spelled(&mut buffer[..3 + size], &room[..size]);
+    Ok(3 + size)
+}
+
+/// Puts the string that [`derive_in`] makes at the front of a buffer of at least 127 bytes, and
+/// returns its length.
+///
+/// # Errors
+///
+/// Those of [`derive_in`] but for want of memory; the buffer is then as it was.
+pub fn derive_into(
+    buffer: &mut [u8],
+    shares: &[Share<'_>],
+    index: Fe32,
+) -> Result<usize, DeriveError>
+    requires { 127 ≤ length buffer.old }
+    ensures value { IfOk result (λ n. IsDerivedString shares.now index (take n buffer.new)) }
+    ensures string { IfOk result (λ n. IsStringOfSet shares.now index (take n buffer.new)) }
+    ensures put { IfOk result (λ n. IsPut (take n buffer.new) buffer.old buffer.new n) }
+    ensures refused { MatchResult result
+        (λ _. IsWholeSet shares.now index × (DoContradict shares.now → ⊥))
+        (λ e. IsDeriveIntoRefusal shares.now index e) }
+    ensures same { OnErr result (buffer.new ≡ buffer.old) }
+{
+    put_derived_text(buffer, shares, index)
 }
 
 /// The string at an index that shares of one set give, in lower case, with memory from `alloc`

@@ -84,10 +84,10 @@ pub enum PayloadError {
     LeftOver,
 }
 
-/// Why no string is made of bytes.
+/// Why no string is made of bytes, or of the elements of a payload.
 #[derive(Clone, Copy, Debug, PartialEq, Eq, Drop, Error)]
 pub enum EncodeError {
-    /// There are neither 16 to 44 bytes nor 63 or 64.
+    /// There are neither 16 to 44 bytes nor 63 or 64; of elements, not as many as those have.
     #[error("a codex32 string has 16 to 44 bytes, a long one 63 or 64")]
     Size,
     /// Out of memory.

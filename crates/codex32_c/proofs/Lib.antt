@@ -1,1 +1,5 @@
+mod Inputs
 mod Letters
+mod Payloads
+mod Sizes
+mod Texts

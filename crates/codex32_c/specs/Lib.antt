@@ -1,4 +1,9 @@
+pub mod Derive
+pub mod Encode
 pub mod Faults
+pub mod Nearest
 pub mod Numbers
 pub mod Parse
+pub mod Payload
 pub mod Propose
+pub mod Share

@@ -5,15 +5,20 @@
 //! nothing but lent memory.
 //!
 //! A `&[u8]` is a pointer and then a length to C, and a `&mut` a pointer. None of these pointers
-//! may be null, and what one points to may not overlap with what a `&mut` does.
+//! may be null, but one beside a length of 0, which nothing follows; and what one points to may not
+//! overlap with what a `&mut` does.
 //!
-//! Below it: `codex32`, `codex32_numbers`, `caller_memory`.
+//! Below it: `codex32`, `codex32_numbers`, `caller_memory`, `refusal_sentences`.
 //! Standard: BIP-93.
 #![tactic(auto)]
 
+pub mod derive;
+pub mod encode;
 mod input;
+pub mod message;
 pub mod parse;
 pub mod propose;
 mod refusal;
+pub mod share;
 #[cfg(test)]
 mod tests;

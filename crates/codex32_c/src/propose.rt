@@ -1,11 +1,10 @@
-//! Proposes the nearest text to a damaged codex32 string.
+//! Proposes the nearest text to a damaged codex32 string of either length.
 
-ghost use Rattle.std.specs.Prelude.{◌≡◌, ◌≢◌, ◌⊎◌, ◌≤◌, ℕ, length, None, IfErr, IfOk, MatchResult, OnErr};
+ghost use Rattle.std.specs.Prelude.{◌≡◌, ◌≢◌, ◌⊎◌, ◌≤◌, ℕ, List, length, None, string_bytes, IfErr, IfOk, MatchOption, MatchResult, OnErr};
 ghost use Rattle.std.specs.Str.{IsUtf8};
 ghost use Rattle.caller_memory.specs.Memory.{LeavesMemory, memory_size};
-ghost use Rattle.codex32.specs.Nearest.{IsNearestText, read_text};
-ghost use Rattle.codex32.specs.Strings.{frame_refusal};
 ghost use Rattle.codex32_c.specs.Faults.{IsNumberOfCodex32};
+ghost use Rattle.codex32_c.specs.Nearest.{IsNearest, IsNearestStringRefusal, damaged_refusal};
 ghost use Rattle.codex32_c.specs.Propose.{IsProposeFault, PutsNearest};
 
 use crate::input::text_of;
@@ -13,15 +12,24 @@ use crate::refusal::Refusal;
 use arrayvec::ArrayString;
 use bech32_encode::put_at_front;
 use caller_memory::{Lent, Memory};
-use codex32::{Codex32Error, propose_in, validate_damaged};
+use codex32::{Codex32Error, propose_in, propose_long_in, validate_damaged, validate_damaged_long};
 use std::alloc::Allocator;
 
-// The most characters that a codex32 string has.
-const LONGEST: usize = 93;
+// The most characters that a string has.
+const LONGEST: usize = 127;
 
-// A copy, in place, of a text that is at most as long as a codex32 string.
+/// Which strings are meant.
+#[derive(Clone, Copy)]
+enum Kind {
+    /// Those of 48 to 93 characters.
+    Short,
+    /// Those of 125 to 127.
+    Long,
+}
+
+// A copy, in place, of a text that is at most as long as a string.
 fn in_place(text: &str) -> ArrayString<LONGEST>
-    requires { length text.now ≤ 93 }
+    requires { length text.now ≤ 127 }
     ensures { result.bytes ≡ text.now }
 {
     let mut copy = ArrayString::new();
@@ -29,29 +37,68 @@ fn in_place(text: &str) -> ArrayString<LONGEST>
     copy
 }
 
-// The nearest text.
-fn nearest_in<A: Allocator + Copy>(alloc: A, text: &str) -> Result<ArrayString<LONGEST>, Refusal>
-    requires { IsUtf8 text.now }
-    ensures value { IfOk result (λ nearest. IsNearestText text.now nearest.bytes) }
-    ensures refused { IfErr result (λ e. (room : ℕ) → IsProposeFault text.now room e) }
+// Tests a damaged text.
+fn validate(kind: Kind, text: &str) -> Result<(), Codex32Error>
+    ensures { MatchResult result
+        (λ _. damaged_refusal kind text.now ≡ None)
+        (λ e. IsNearestStringRefusal kind text.now e) }
 {
-    match propose_in(alloc, text)? {
+    match kind {
+        Kind::Short => validate_damaged(text),
+        Kind::Long => validate_damaged_long(text),
+    }
+}
+
+// The nearest text, if there is one.
+fn proposed_in<A: Allocator + Copy>(
+    alloc: A,
+    kind: Kind,
+    text: &str,
+) -> Result<Option<String<A>>, Codex32Error>
+    ensures value { IfOk result (λ answer. MatchOption answer
+        ((nearest : List ℕ) → IsNearest kind text.now nearest → ⊥)
+        (λ s. IsNearest kind text.now (string_bytes s) × (length (string_bytes s) ≤ 127))) }
+    ensures refused { MatchResult result
+        (λ _. damaged_refusal kind text.now ≡ None)
+        (λ e. IsNearestStringRefusal kind text.now e) }
+{
+    match kind {
+        Kind::Short => propose_in(alloc, text),
+        Kind::Long => propose_long_in(alloc, text),
+    }
+}
+
+// The nearest text.
+fn nearest_in<A: Allocator + Copy>(
+    alloc: A,
+    kind: Kind,
+    text: &str,
+) -> Result<ArrayString<LONGEST>, Refusal>
+    requires { IsUtf8 text.now }
+    ensures value { IfOk result (λ nearest. IsNearest kind text.now nearest.bytes) }
+    ensures refused { IfErr result (λ e. (room : ℕ) → IsProposeFault kind text.now room e) }
+{
+    match proposed_in(alloc, kind, text)? {
         Some(nearest) => Ok(in_place(&nearest)),
         None => Err(Refusal::NoNearest),
     }
 }
 
 // The same with memory that comes back; if it does not, this is out of memory.
-fn nearest_with(memory: &mut Memory, text: &str) -> Result<ArrayString<LONGEST>, Refusal>
-    requires { IsUtf8 text.now × (frame_refusal (read_text text.now) ≡ None) }
-    ensures value { IfOk result (λ nearest. IsNearestText text.now nearest.bytes) }
-    ensures refused { IfErr result (λ e. (room : ℕ) → IsProposeFault text.now room e) }
+fn nearest_with(
+    memory: &mut Memory,
+    kind: Kind,
+    text: &str,
+) -> Result<ArrayString<LONGEST>, Refusal>
+    requires { IsUtf8 text.now × (damaged_refusal kind text.now ≡ None) }
+    ensures value { IfOk result (λ nearest. IsNearest kind text.now nearest.bytes) }
+    ensures refused { IfErr result (λ e. (room : ℕ) → IsProposeFault kind text.now room e) }
     ensures memory { MatchResult result
         (λ _. memory.new ≡ memory.old)
         (λ e. LeavesMemory memory.old memory.new (e ≡ Refusal.Text Codex32Error.Memory)) }
 {
     let lent = Lent::new(memory.take());
-    let nearest = nearest_in(&lent.arena(), text);
+    let nearest = nearest_in(&lent.arena(), kind, text);
     match lent.into_memory() {
         Some(whole) => {
             *memory = whole;
@@ -63,17 +110,23 @@ fn nearest_with(memory: &mut Memory, text: &str) -> Result<ArrayString<LONGEST>,
 
 // Puts the nearest text to any text, which is tested before anything is allocated, at the front of
 // a buffer, and returns its length.
-fn nearest_of(memory: &mut Memory, bytes: &[u8], proposed: &mut [u8]) -> Result<usize, Refusal>
-    ensures value { IfOk result (λ count. PutsNearest bytes.now proposed.old proposed.new count) }
-    ensures refused { IfErr result (λ e. IsProposeFault bytes.now (length proposed.old) e) }
+fn nearest_of(
+    memory: &mut Memory,
+    kind: Kind,
+    bytes: &[u8],
+    proposed: &mut [u8],
+) -> Result<usize, Refusal>
+    ensures value { IfOk result
+        (λ count. PutsNearest kind bytes.now proposed.old proposed.new count) }
+    ensures refused { IfErr result (λ e. IsProposeFault kind bytes.now (length proposed.old) e) }
     ensures same { OnErr result (proposed.new ≡ proposed.old) }
     ensures memory { MatchResult result
         (λ _. memory.new ≡ memory.old)
         (λ e. LeavesMemory memory.old memory.new (e ≡ Refusal.Text Codex32Error.Memory)) }
 {
     let text = text_of(bytes)?;
-    validate_damaged(text)?;
-    let nearest = nearest_with(memory, text)?;
+    validate(kind, text)?;
+    let nearest = nearest_with(memory, kind, text)?;
     if nearest.len() > proposed.len() {
         return Err(Refusal::NoRoom);
     }
@@ -99,15 +152,50 @@ pub extern "C" fn codex32_propose(
     proposed_length: &mut usize,
 ) -> u32
     ensures value { result ≡ 0
-        → PutsNearest text.now proposed.old proposed.new proposed_length.new }
+        → PutsNearest Kind.Short text.now proposed.old proposed.new proposed_length.new }
     ensures refused { result ≢ 0
-        → IsNumberOfCodex32 (IsProposeFault text.now (length proposed.old)) result }
+        → IsNumberOfCodex32 (IsProposeFault Kind.Short text.now (length proposed.old)) result }
     ensures same { result ≢ 0
         → (proposed.new ≡ proposed.old) × (proposed_length.new ≡ proposed_length.old) }
     ensures memory { (memory.new ≡ memory.old)
         ⊎ ((result ≡ 91) × (memory_size memory.new ≡ 0)) }
 {
-    match nearest_of(memory, text, proposed) {
+    match nearest_of(memory, Kind::Short, text, proposed) {
+        Ok(count) => {
+            *proposed_length = count;
+            0
+        }
+        Err(refusal) => refusal.number(),
+    }
+}
+
+/// Puts the nearest text to a damaged long string at the front of `proposed`, as
+/// [`propose_long_in`] has it; `proposed_length` is then its length. It is worked out in `memory`.
+///
+/// # Errors
+///
+/// Answers the number of the first of: a text that is not UTF-8 (2); the first fault of its grammar
+/// (21 to 23, 11 to 15), its length (82) and its human-readable part (81), all before any memory is
+/// taken; no such text (34); a buffer that is too small (92). Where `memory` does not suffice, 91
+/// in place of 0, 34 or 92. With every other number `memory` is as it was; with 91 it is so too, or
+/// has no bytes.
+#[unsafe(no_mangle)]
+pub extern "C" fn codex32_propose_long(
+    text: &[u8],
+    memory: &mut Memory,
+    proposed: &mut [u8],
+    proposed_length: &mut usize,
+) -> u32
+    ensures value { result ≡ 0
+        → PutsNearest Kind.Long text.now proposed.old proposed.new proposed_length.new }
+    ensures refused { result ≢ 0
+        → IsNumberOfCodex32 (IsProposeFault Kind.Long text.now (length proposed.old)) result }
+    ensures same { result ≢ 0
+        → (proposed.new ≡ proposed.old) × (proposed_length.new ≡ proposed_length.old) }
+    ensures memory { (memory.new ≡ memory.old)
+        ⊎ ((result ≡ 91) × (memory_size memory.new ≡ 0)) }
+{
+    match nearest_of(memory, Kind::Long, text, proposed) {
         Ok(count) => {
             *proposed_length = count;
             0

@@ -1,3 +1,6 @@
+mod messages;
+mod shares;
+
 use crate::parse::codex32_parse;
 use crate::propose::codex32_propose;
 use caller_memory::Memory;
@@ -97,8 +100,8 @@ fn proposal(memory: &mut Memory, text: &[u8], room: usize) -> (u32, (usize, [u8;
 }
 
 // What the length and the buffer hold after an answer: the text on 0, and else nothing is written.
-fn written(number: u32, text: &[u8]) -> (usize, [u8; ROOM]) {
-    let mut buffer = [BYTE_BEFORE; ROOM];
+fn written_in<const N: usize>(number: u32, text: &[u8]) -> (usize, [u8; N]) {
+    let mut buffer = [BYTE_BEFORE; N];
     if number != 0 {
         return (LENGTH_BEFORE, buffer);
     }
@@ -106,6 +109,10 @@ fn written(number: u32, text: &[u8]) -> (usize, [u8; ROOM]) {
         *place = *byte;
     }
     (text.len(), buffer)
+}
+
+fn written(number: u32, text: &[u8]) -> (usize, [u8; ROOM]) {
+    written_in::<ROOM>(number, text)
 }
 
 // The number of the answer to a damaged text with this memory and a buffer of so many bytes.

@@ -6,4 +6,5 @@ mod known;
 mod lent_memory;
 mod memory;
 mod messages;
+mod payloads;
 mod shares;

@@ -6,4 +6,5 @@ mod global;
 mod heaps;
 mod mistyped;
 mod residues;
+mod shares;
 mod turns;

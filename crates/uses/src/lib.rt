@@ -1,6 +1,5 @@
 //! The uses of the library, each a short test: those that the pages of the Rust crate bech32 show,
-//! then codex32. Two callers with contracts of their own, and a checksum that the library does not
-//! have.
+//! then codex32. Two callers with contracts of their own, and a checksum declared as one's own.
 #![tactic(auto)]
 
 pub mod callers;

@@ -2,8 +2,8 @@
 
 use bech32_gf::gf32::Fe32;
 use codex32::{
-    Codex32Error, DeriveError, EncodeError, Header, Share, derive_in, encode_in, propose_in,
-    propose_long_in, recover_in,
+    Codex32Error, DeriveError, EncodeError, Header, Share, derive_in, encode_in, encode_payload_in,
+    propose_in, propose_long_in, recover_in,
 };
 use linked_list_allocator::LocalHeap;
 use std::alloc::Global;
@@ -120,4 +120,28 @@ impl InHeap for Encoded {
 fn the_encoded_string_or_out_of_memory(rt: HostRuntime) {
     let front = "ms10testsqqqqqqqqqqqqqqqqqqqqqqqqqq";
     right_or_wants_memory(rt.alloc(), &Encoded(front), (32, 16)).expect(&rt, front);
+}
+
+// The string of so many elements.
+#[derive(Drop)]
+struct OfPayload(usize, &'static str);
+
+impl InHeap for OfPayload {
+    fn is_right(&self, _alloc: Global, heap: &LocalHeap) -> Option<bool> {
+        let header = Header::parse("0", "test", "s").ok()?;
+        let elements = [Fe32::Q; 103];
+        match encode_payload_in(heap, &header, elements.get(..self.0)?) {
+            Ok(text) => Some(text.as_str().starts_with(self.1)),
+            Err(EncodeError::Memory) => None,
+            Err(_) => Some(false),
+        }
+    }
+}
+
+#[test]
+fn the_string_of_elements_or_out_of_memory(rt: HostRuntime) {
+    let front = "ms10testsqqqqqqqqqqqqqqqqqqqqqqqqqq";
+    for count in [26, 103] {
+        right_or_wants_memory(rt.alloc(), &OfPayload(count, front), (32, 16)).expect(&rt, front);
+    }
 }

@@ -1,8 +1,8 @@
-//! Codex32 strings, and the nearest one to a damaged one.
+//! Codex32 strings, the nearest one to a damaged one, and the laws of shares.
 
 use crate::callers::proposal;
 use crate::tests::compare::{same, same_items};
-use codex32::{Codex32Str, propose};
+use codex32::{Codex32Str, laws, propose};
 use std::test::Fail;
 
 // The secret of the first test vector of BIP-93.
@@ -39,4 +39,18 @@ fn what_to_propose(rt: HostRuntime) -> Result<(), Fail> {
 fn nothing_to_propose(rt: HostRuntime) -> Result<(), Fail> {
     same(&rt, &proposal(rt.alloc(), TEXT)?.is_none(), &true);
     Ok(())
+}
+
+// They do nothing: what they prove holds where they are called.
+#[test]
+fn laws_of_shares() {
+    laws::one_value_through_points();
+    laws::weights_sum_to_one();
+    laws::one_text_is_derived();
+    laws::derived_texts_are_accepted();
+    laws::derived_texts_give_back_the_shares();
+    laws::further_texts_agree_where_they_are_derived();
+    laws::fewer_shares_say_nothing();
+    laws::derived_strings_are_strings();
+    laws::fewer_strings_say_nothing();
 }

@@ -1,5 +1,6 @@
 //! A checksum of one's own: its constants, those again for the prover in the lines that begin with
-//! `ghost`, and the laws that they keep.
+//! `ghost`, and the laws that they keep. Who wants this one takes `codex32::LongCodex32`, which is
+//! declared likewise.
 
 ghost use Rattle.std.specs.Prelude.{refl};
 ghost use Rattle.bech32_gf.specs.Fe32.{element};

@@ -3,7 +3,8 @@ use denote.Text.{Utf8}
 use denote.Shadow.{shadow}
 use Rattle.codex32.specs.declared.share.Share.{Share}
 use Rattle.line_program.specs.Words.{words}
-use Rattle.c32.specs.Reply.{AreSharesOf, AreTexts}
+use Rattle.codex32.specs.Share.{AreSharesOf}
+use Rattle.c32.specs.Reply.{AreTexts}
 use Rattle.c32.proofs.derive.shares_in.Given as goal
 
 abbrev pub invariant-texts : goal.invariant-texts

@@ -1,4 +1,4 @@
-use Rattle.std.proofs.Common.{◌≡◌, ◌+◌, ◌<◌, ◌≤◌, ◌++◌, ◌∷◌, [], ℕ, suc, List, length, take, set, sym, ap, ◌∙◌, arith, append_assoc, length-append}
+use Rattle.std.proofs.Common.{◌≡◌, ◌+◌, ◌<◌, ◌≤◌, ◌++◌, ◌∷◌, [], ℕ, suc, List, length, take, set, sym, ap, ◌∙◌, arith, length-append}
 use Rattle.std.proofs.lemmas.List.{append-nil, take_all}
 use Rattle.std.specs.Iterator.Adapters.{copied_steps}
 use Rattle.std.specs.Slice.Iter.{iter_steps}
@@ -41,8 +41,7 @@ loop-element-preserved c =
       so_far =
           ap (λ (k : ℕ). take k (set c.loop-element.elements count x)) e
           ∙ take_set c.loop-element.elements count x within
-          ∙ ap (λ (u : List Fe32). u ++ (x ∷ [])) c.loop-element.invariant.so_far
-          ∙ append_assoc (take 6 c.args.elements.now) c.loop-element.yielded (x ∷ []);
+          ∙ ap (λ (u : List Fe32). u ++ (x ∷ [])) c.loop-element.invariant.so_far;
     }
 
 pub returns : goal.returns
@@ -53,4 +52,4 @@ returns c =
     let all : to_fes c.args.bytes.now ≡ c.loop-element.yielded = given ∙ ap (λ (u : List Fe32). c.loop-element.yielded ++ u) step ∙ append-nil c.loop-element.yielded in
     let end : length c.loop-element.elements ≤ c.loop-element.count =
     omega (arith, c.loop-element.invariant.size, c.requires, c.loop-element.invariant.counted, ap length all, length-to_fes c.args.bytes.now) in
-    sym (take_all c.loop-element.count c.loop-element.elements end) ∙ c.loop-element.invariant.so_far ∙ ap (λ (u : List Fe32). take 6 c.args.elements.now ++ u) (sym all)
+    sym (take_all c.loop-element.count c.loop-element.elements end) ∙ c.loop-element.invariant.so_far ∙ sym all

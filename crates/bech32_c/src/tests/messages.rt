@@ -1,0 +1,59 @@
+use crate::message::{bech32_message, bech32_version};
+use crate::tests::{BEFORE, LENGTH_BEFORE, holds, is_untouched, same};
+use std::process::Abort;
+
+const ROOM: usize = 100;
+
+// What a call returns for a buffer of so many bytes, and what the length and the buffer hold then.
+fn said(number: u32, room: usize) -> (u32, usize, [u8; ROOM]) {
+    let (mut length, mut buffer) = (LENGTH_BEFORE, [BEFORE; ROOM]);
+    let (front, _) = buffer.split_at_mut(room.min(ROOM));
+    let answer = bech32_message(number, front, &mut length);
+    (answer, length, buffer)
+}
+
+// The sentence is put where there is room for it, and nowhere else.
+fn says(rt: &impl Abort, number: u32, sentence: &[u8]) {
+    for room in [ROOM, sentence.len()] {
+        let (answer, length, buffer) = said(number, room);
+        same(rt, &answer, &0);
+        holds(rt, &buffer, length, sentence);
+    }
+    if !sentence.is_empty() {
+        let (answer, length, buffer) = said(number, sentence.len().saturating_sub(1));
+        same(rt, &answer, &92);
+        is_untouched(rt, &buffer, length);
+    }
+}
+
+#[test]
+fn says_sentences(rt: HostRuntime) {
+    let rows: [(u32, &[u8]); 8] = [
+        (2, b"a text or a human-readable part is not UTF-8"),
+        (
+            4,
+            b"the number of no checksum, an element above 31, or more than two errors",
+        ),
+        (23, b"the text has no separator, `1`"),
+        (33, b"the checksum is wrong"),
+        (34, b"no correction of the data part mends the text"),
+        (45, b"the bits behind the program's bytes are not all zero"),
+        (91, b"the lent memory did not suffice"),
+        (92, b"a buffer is too small"),
+    ];
+    for (number, sentence) in rows {
+        says(&rt, number, sentence);
+    }
+}
+
+#[test]
+fn says_nothing_of_other_numbers(rt: HostRuntime) {
+    for number in [0, 1, 3, 5, 16, 24, 54, 55, 81, 90, 93, 256, u32::MAX] {
+        says(&rt, number, b"");
+    }
+}
+
+#[test]
+fn says_its_version(rt: HostRuntime) {
+    same(&rt, &bech32_version(), &100);
+}

@@ -1,0 +1,59 @@
+use super::{BYTE_BEFORE, LENGTH_BEFORE, same};
+use crate::message::{codex32_message, codex32_version};
+use std::process::Abort;
+
+const ROOM: usize = 100;
+
+// What a call returns for a buffer of so many bytes, and what the length and the buffer hold then.
+fn said(number: u32, room: usize) -> (u32, usize, [u8; ROOM]) {
+    let (mut length, mut buffer) = (LENGTH_BEFORE, [BYTE_BEFORE; ROOM]);
+    let (front, _) = buffer.split_at_mut(room.min(ROOM));
+    let answer = codex32_message(number, front, &mut length);
+    (answer, length, buffer)
+}
+
+// The sentence is put where there is room for it, and nowhere else.
+fn says(rt: &impl Abort, number: u32, sentence: &[u8]) {
+    for room in [ROOM, sentence.len()] {
+        let (answer, length, buffer) = said(number, room);
+        same(rt, &(answer, length), &(0, sentence.len()));
+        assert!(rt; buffer.starts_with(sentence));
+        assert!(rt; buffer.iter().skip(length).all(|b| *b == BYTE_BEFORE));
+    }
+    if !sentence.is_empty() {
+        let (answer, length, buffer) = said(number, sentence.len().saturating_sub(1));
+        same(rt, &(answer, length), &(92, LENGTH_BEFORE));
+        assert!(rt; buffer.iter().all(|b| *b == BYTE_BEFORE));
+    }
+}
+
+#[test]
+fn says_sentences(rt: HostRuntime) {
+    let rows: [(u32, &[u8]); 7] = [
+        (2, b"a text or a human-readable part is not UTF-8"),
+        (
+            4,
+            b"there are more than 32 texts, or their lengths do not add up to that of all",
+        ),
+        (33, b"the checksum is wrong"),
+        (34, b"there is no nearest text"),
+        (64, b"the shares contradict each other"),
+        (81, b"the human-readable part is not `ms`"),
+        (92, b"a buffer is too small"),
+    ];
+    for (number, sentence) in rows {
+        says(&rt, number, sentence);
+    }
+}
+
+#[test]
+fn says_nothing_of_other_numbers(rt: HostRuntime) {
+    for number in [0, 1, 3, 31, 32, 41, 65, 90, 93, 256, u32::MAX] {
+        says(&rt, number, b"");
+    }
+}
+
+#[test]
+fn says_its_version(rt: HostRuntime) {
+    same(&rt, &codex32_version(), &100);
+}

@@ -1,0 +1,352 @@
+use super::{BEFORE, BYTE_BEFORE, LENGTH_BEFORE, memory_for, same, written_in};
+use crate::derive::codex32_derive;
+use crate::encode::{codex32_encode, codex32_encode_payload};
+use crate::propose::codex32_propose_long;
+use crate::share::codex32_share;
+use caller_memory::Memory;
+use std::process::Abort;
+use std::test::Fail;
+
+const ROOM: usize = 160;
+
+// The answer to a text with a buffer of so many bytes, and what all hold then.
+fn told(text: &[u8], room: usize) -> (u32, (u32, [u8; 4], u32), (usize, [u8; ROOM])) {
+    let mut buffer = [BYTE_BEFORE; ROOM];
+    let mut length = LENGTH_BEFORE;
+    let mut identifier = [BYTE_BEFORE; 4];
+    let (mut threshold, mut share_index) = (BEFORE, BEFORE);
+    let (front, _) = buffer.split_at_mut(room.min(ROOM));
+    let number = codex32_share(
+        text,
+        &mut threshold,
+        &mut identifier,
+        &mut share_index,
+        front,
+        &mut length,
+    );
+    (
+        number,
+        (threshold, identifier, share_index),
+        (length, buffer),
+    )
+}
+
+fn tells(rt: &impl Abort, text: &[u8], header: (u32, [u8; 4], char), bytes: &[u8]) {
+    let (threshold, identifier, share_index) = header;
+    let want = (threshold, identifier, u32::from(share_index));
+    same(
+        rt,
+        &told(text, ROOM),
+        &(0, want, written_in::<ROOM>(0, bytes)),
+    );
+    same(
+        rt,
+        &told(text, bytes.len()),
+        &(0, want, written_in::<ROOM>(0, bytes)),
+    );
+    tells_nothing(rt, text, bytes.len().saturating_sub(1), 92);
+}
+
+fn tells_nothing(rt: &impl Abort, text: &[u8], room: usize, number: u32) {
+    let nothing = (BEFORE, [BYTE_BEFORE; 4], BEFORE);
+    same(
+        rt,
+        &told(text, room),
+        &(number, nothing, written_in::<ROOM>(number, b"")),
+    );
+}
+
+const SECRET: [u8; 16] = [
+    0xd1, 0x80, 0x8e, 0x09, 0x6b, 0x35, 0xb2, 0x09, 0xca, 0x12, 0x13, 0x2b, 0x26, 0x46, 0x62, 0xa5,
+];
+
+// Of BIP-93: the secret of its first two examples, and the long string of its last.
+#[test]
+fn tells_known_strings(rt: HostRuntime) {
+    tells(
+        &rt,
+        b"MS12NAMES6XQGUZTTXKEQNJSJZV4JV3NZ5K3KWGSPHUH6EVW",
+        (2, *b"name", 's'),
+        &SECRET,
+    );
+    let long: [u8; 64] = [
+        0xdc, 0x54, 0x23, 0x25, 0x1c, 0xb8, 0x71, 0x75, 0xff, 0x81, 0x10, 0xc8, 0x53, 0x1d, 0x09,
+        0x52, 0xd8, 0xd7, 0x3e, 0x11, 0x94, 0xe9, 0x5b, 0x5f, 0x19, 0xd6, 0xf9, 0xdf, 0x7c, 0x01,
+        0x11, 0x11, 0x04, 0xc9, 0xba, 0xec, 0xdf, 0xea, 0x8c, 0xcc, 0xc6, 0x77, 0xfb, 0x9d, 0xdc,
+        0x8a, 0xec, 0x55, 0x53, 0xb8, 0x6e, 0x52, 0x8b, 0xca, 0xdf, 0xdc, 0xc2, 0x01, 0xc1, 0x7c,
+        0x63, 0x8c, 0x47, 0xe9,
+    ];
+    tells(
+        &rt,
+        b"MS100C8VSM32ZXFGUHPCHTLUPZRY9X8GF2TVDW0S3JN54KHCE6MUA7LQPZYGSFJD6AN074RXVCEMLH8WU3TK925ACDEFGHJKLMNPQRSTUVWXY06FHPV80UNDVARHRAK",
+        (0, *b"0c8v", 's'),
+        &long,
+    );
+}
+
+#[test]
+fn tells_nothing_of_others(rt: HostRuntime) {
+    let rows: [(&[u8], u32); 7] = [
+        (b"\xff", 2),
+        (b"ms10testsxxxxxxxxxxxxxxxxxxxxxxxxxx4nzvca9cmczlb", 21),
+        (b"ms1qtestsqxxxxxxxxxxxxxxxxxxxxxxxxq4nzvca9cmczlq", 33),
+        (b"mt10testsxxxxxxxxxxxxxxxxxxxxxxxxxx4nzvca9cmczlw", 81),
+        (b"ms10testsxxxxxxxxxxxxxxxxxxxxxxxxxx4nzvca9cmczl", 82),
+        (b"ms1qtestsxxxxxxxxxxxxxxxxxxxxxxxxxxq68ksv56lmaq5", 83),
+        (b"ms12xh04fm5amh7k7ay0jj7mgh3ndf4zdx0dmxgdrhz38hawaewk", 87),
+    ];
+    for (text, want) in rows {
+        tells_nothing(&rt, text, 0, want);
+    }
+}
+
+// The answer to a header and bytes with a buffer of so many bytes, and what it holds then.
+fn encoded(header: (u32, &[u8], char), bytes: &[u8], room: usize) -> (u32, (usize, [u8; ROOM])) {
+    let mut buffer = [BYTE_BEFORE; ROOM];
+    let mut length = LENGTH_BEFORE;
+    let (front, _) = buffer.split_at_mut(room.min(ROOM));
+    let number = codex32_encode(
+        header.0,
+        header.1,
+        u32::from(header.2),
+        bytes,
+        front,
+        &mut length,
+    );
+    (number, (length, buffer))
+}
+
+// Some rows are those of a reference model.
+#[test]
+fn encodes_known_strings(rt: HostRuntime) {
+    let bytes: [u8; 16] = [
+        0x09, 0xe7, 0x9b, 0x72, 0x33, 0x2f, 0x80, 0xcd, 0xfd, 0xd3, 0x82, 0x8b, 0xb4, 0x74, 0xd8,
+        0x2f,
+    ];
+    let text = b"ms19lcr0rp8neku3n97qvmlwns29mgaxc9uy6d28pu26vj00";
+    let rows: [((u32, &[u8], char), &[u8], usize, u32); 11] = [
+        ((9, b"lcr0", 'r'), &bytes, ROOM, 0),
+        ((9, b"LCR0", 'R'), &bytes, 48, 0),
+        ((9, b"lcr0", 'r'), &bytes, 47, 92),
+        ((1, b"lcr0", 'r'), &[], 0, 83),
+        ((10, b"lcr0", 'r'), &[], 0, 83),
+        ((9, b"Lcr0", 'r'), &[], 0, 85),
+        ((9, b"lcr", 'b'), &[], 0, 85),
+        ((9, b"lc\xff0", 'b'), &[], 0, 85),
+        ((9, b"lcr0", 'b'), &[], 0, 86),
+        ((0, b"lcr0", 'r'), &[], 0, 84),
+        ((9, b"lcr0", 'r'), &bytes[1..], 0, 55),
+    ];
+    for (header, given, room, want) in rows {
+        let answer = (want, written_in::<ROOM>(want, text));
+        same(&rt, &encoded(header, given, room), &answer);
+    }
+}
+
+// The answer to a header and a payload with a buffer of so many bytes, and what it holds then.
+fn encoded_payload(
+    header: (u32, &[u8], char),
+    payload: &[u8],
+    room: usize,
+) -> (u32, (usize, [u8; ROOM])) {
+    let mut buffer = [BYTE_BEFORE; ROOM];
+    let mut length = LENGTH_BEFORE;
+    let (front, _) = buffer.split_at_mut(room.min(ROOM));
+    let number = codex32_encode_payload(
+        header.0,
+        header.1,
+        u32::from(header.2),
+        payload,
+        front,
+        &mut length,
+    );
+    (number, (length, buffer))
+}
+
+// Of BIP-93: the first share of its second example, and the long string of its last.
+#[test]
+fn encodes_known_payloads(rt: HostRuntime) {
+    let short: &[u8] = b"ms12namea320zyxwvutsrqpnmlkjhgfedcaxrpp870hkkqrm";
+    let long: &[u8] =
+        b"ms100c8vsm32zxfguhpchtlupzry9x8gf2tvdw0s3jn54khce6mua7lqpzygsfjd6an074rxvcemlh8wu3tk925acdefghjklmnpqrstuvwxy06fhpv80undvarhrak";
+    let of_long: &[u8] =
+        b"M32ZXFGUHPCHTLUPZRY9X8GF2TVDW0S3JN54KHCE6MUA7LQPZYGSFJD6AN074RXVCEMLH8WU3TK925ACDEFGHJKLMNPQRSTUVWXY06F";
+    let rows: [((u32, &[u8], char), &[u8], usize, &[u8]); 4] = [
+        (
+            (2, b"NAME", 'A'),
+            b"320ZYXWVUTSRQPNMLKJHGFEDCA",
+            ROOM,
+            short,
+        ),
+        ((2, b"name", 'a'), b"320zyxwvutsrqpnmlkjhgfedca", 48, short),
+        ((2, b"NAME", 'a'), b"320zyxwvutsrqpnmlkjhgfedca", 48, short),
+        ((0, b"0c8v", 's'), of_long, 127, long),
+    ];
+    for (header, payload, room, text) in rows {
+        let answer = (0, written_in::<ROOM>(0, text));
+        same(&rt, &encoded_payload(header, payload, room), &answer);
+        let lacking = encoded_payload(header, payload, text.len().saturating_sub(1));
+        same(&rt, &lacking, &(92, written_in::<ROOM>(92, text)));
+    }
+}
+
+// Each refusal, in their order.
+#[test]
+fn encodes_no_other_payloads(rt: HostRuntime) {
+    let rows: [((u32, &[u8], char), &[u8], u32); 14] = [
+        ((1, b"nAme", 'b'), b"!", 83),
+        ((2, b"nAme", 'b'), b"!", 85),
+        ((0, b"name", 'b'), b"!", 86),
+        ((0, b"name", 'a'), b"!", 84),
+        ((2, b"name", 'a'), b"!", 21),
+        ((2, b"name", 'a'), b"320Zyb", 21),
+        ((2, b"name", 'a'), b"320\xff", 21),
+        ((2, b"name", 'a'), b"320Zy", 22),
+        ((2, b"name", 'a'), b"", 55),
+        ((2, b"name", 'a'), b"320zyxwvutsrqpnmlkjhgfedc", 55),
+        ((2, b"name", 'a'), b"320zyxwvutsrqpnmlkjhgfedcaa", 55),
+        ((2, b"name", 'a'), &[b'q'; 72], 55),
+        ((2, b"name", 'a'), &[b'q'; 102], 55),
+        ((2, b"name", 'a'), &[b'q'; 1000], 55),
+    ];
+    for (header, payload, want) in rows {
+        let answer = (want, written_in::<ROOM>(want, b""));
+        same(&rt, &encoded_payload(header, payload, 0), &answer);
+    }
+}
+
+// The answer to texts at an index with a buffer of so many bytes, and what it holds then.
+fn derived(
+    index: char,
+    texts: &[u8],
+    lengths: &[usize],
+    room: usize,
+) -> (u32, (usize, [u8; ROOM])) {
+    let mut buffer = [BYTE_BEFORE; ROOM];
+    let mut length = LENGTH_BEFORE;
+    let (front, _) = buffer.split_at_mut(room.min(ROOM));
+    let number = codex32_derive(u32::from(index), texts, lengths, front, &mut length);
+    (number, (length, buffer))
+}
+
+const PAIR: &[u8] =
+    b"MS12NAMEA320ZYXWVUTSRQPNMLKJHGFEDCAXRPP870HKKQRMMS12NAMECACDEFGHJKLMNPQRSTUVWXYZ023FTR2GDZMPY6PN";
+
+// Of BIP-93: its second example.
+#[test]
+fn derives_known_strings(rt: HostRuntime) {
+    let rows: [(char, &[u8], usize, u32); 5] = [
+        (
+            'd',
+            b"ms12namedll4f8jlh4e5vdvuldlfxu2jhdnlsm97xvenrxeg",
+            ROOM,
+            0,
+        ),
+        (
+            'S',
+            b"ms12names6xqguzttxkeqnjsjzv4jv3nz5k3kwgsphuh6evw",
+            48,
+            0,
+        ),
+        (
+            'a',
+            b"ms12namea320zyxwvutsrqpnmlkjhgfedcaxrpp870hkkqrm",
+            48,
+            0,
+        ),
+        ('d', b"", 47, 92),
+        ('b', b"", ROOM, 86),
+    ];
+    for (index, text, room, want) in rows {
+        let answer = (want, written_in::<ROOM>(want, text));
+        same(&rt, &derived(index, PAIR, &[48, 48], room), &answer);
+    }
+}
+
+// Each refusal of texts, in their order, and of lengths. Some texts are those of a reference model.
+#[test]
+fn derives_nothing_of_others(rt: HostRuntime) {
+    let rows: [(&[u8], &[usize], u32); 14] = [
+        (b"", &[], 61),
+        (PAIR, &[], 4),
+        (PAIR, &[48, 47], 4),
+        (PAIR, &[48, 49], 4),
+        (PAIR, &[usize::MAX, 97], 4),
+        (b"", &[0; 33], 4),
+        (b"", &[0; 32], 23),
+        (PAIR, &[47, 49], 82),
+        (PAIR, &[48, 0, 48], 23),
+        (b"\xff", &[1], 2),
+        (
+            b"MS12NAMEA320ZYXWVUTSRQPNMLKJHGFEDCAXRPP870HKKQRM",
+            &[48],
+            61,
+        ),
+        (
+            b"ms12p28uckv28dt07kx0afygy97k6gqx4dux2vfcte2u8mfkms19p28f2x3q585nh7wq0lvdw3me4ejshqn23z773udhvpzp",
+            &[48, 48],
+            62,
+        ),
+        (
+            b"ms10uvxascud86jrlpantlanp8ravpa4ze65recqytmhdn87ms10uvxastkxgh5ekgtgldhf5l6cfsjxyaqym80me2rj4mgw",
+            &[48, 48],
+            63,
+        ),
+        (
+            b"ms12seffkx9wjn6dmy39azwsg54lwgymk9es0zjfq0sdm7mxms12seff6yyl4ae5zfszecmx9x8q86jprh94y89zt5xstl7gms12seffdaraz23vm92qwzplun324shjge80vj7c80qy5het",
+            &[48, 48, 48],
+            64,
+        ),
+    ];
+    for (texts, lengths, want) in rows {
+        let answer = (want, written_in::<ROOM>(want, b""));
+        same(&rt, &derived('d', texts, lengths, ROOM), &answer);
+    }
+    let unshared = derived(
+        '5',
+        b"ms106rqlsplce96uty4tpqekl7q3gvhjvfmtdu4fkvexl7gg",
+        &[48],
+        ROOM,
+    );
+    same(&rt, &unshared, &(84, written_in::<ROOM>(84, b"")));
+}
+
+const LONG: &[u8] =
+    b"ms19tpk7h22sclaxxuxwk0q22xjc8mt2fkl6gkffmsc4elduv887tcpkn68gvf82sxt28l0d0lqdxpmmpnt4cwcpc692rrhwr7uetnhdllmjv6xeengd0tk7sgcse";
+
+// The same with eight unreadable characters, with four other ones, and with five.
+const TORN: &[u8] =
+    b"ms19tpk7h22sclaxxuxwk0q22xjc8mt2fkl6gkffmsc4elduv887tcpkn68gvf82sxt28l0d0lqdxpmmpnt4cwcpc692rrhwr7uetnhdllmjv6xeengd0????????";
+
+const WRONG: &[u8] =
+    b"ms19tpk7q22sclaxxuxwk0q22xjc8mt2fklqgkffmsc4elduv887tcpkn68gvf82sxt28l0d0lqdxpmmpnq4cwcpc692rrhwr7uetnhdllmjv6xeengd0tk7sgcsq";
+
+const WORSE: &[u8] =
+    b"ms19tpq7q22sclaxxuxwk0q22xjc8mt2fklqgkffmsc4elduv887tcpkn68gvf82sxt28l0d0lqdxpmmpnq4cwcpc692rrhwr7uetnhdllmjv6xeengd0tk7sgcsq";
+
+// The long string is that of a reference model.
+#[test]
+fn proposes_long_texts(rt: HostRuntime) -> Result<(), Fail> {
+    let rows: [(&[u8], usize, usize, u32); 9] = [
+        (LONG, memory_for(LONG), ROOM, 0),
+        (TORN, memory_for(LONG), ROOM, 0),
+        (WRONG, memory_for(LONG), LONG.len(), 0),
+        (WRONG, memory_for(LONG), LONG.len().saturating_sub(1), 92),
+        (WORSE, memory_for(LONG), ROOM, 34),
+        (WRONG, 47, ROOM, 91),
+        (b"Ms1?", 0, ROOM, 22),
+        (PAIR, 0, ROOM, 82),
+        (b"\xff", 0, ROOM, 2),
+    ];
+    for (text, size, room, want) in rows {
+        let mut memory = Memory::leaked(rt.alloc(), size)?;
+        let mut buffer = [BYTE_BEFORE; ROOM];
+        let mut length = LENGTH_BEFORE;
+        let (front, _) = buffer.split_at_mut(room.min(ROOM));
+        let number = codex32_propose_long(text, &mut memory, front, &mut length);
+        same(&rt, &number, &want);
+        same(&rt, &(length, buffer), &written_in::<ROOM>(want, LONG));
+        same(&rt, &memory.with_size().0, &size);
+    }
+    Ok(())
+}

@@ -1,0 +1,197 @@
+//! Strings of the elements of a payload.
+
+use crate::tests::compare::same;
+use bech32_gf::gf32::Fe32;
+use codex32::{EncodeError, Header, Share, encode, encode_payload, encode_payload_into};
+use std::alloc::Global;
+
+// Strings of BIP-93, in lower case: two shares and the secret of its second example, and a long
+// one.
+const OF_BIP_93: [&str; 4] = [
+    "ms12namea320zyxwvutsrqpnmlkjhgfedcaxrpp870hkkqrm",
+    "ms12namecacdefghjklmnpqrstuvwxyz023ftr2gdzmpy6pn",
+    "ms12names6xqguzttxkeqnjsjzv4jv3nz5k3kwgsphuh6evw",
+    "ms100c8vsm32zxfguhpchtlupzry9x8gf2tvdw0s3jn54khce6mua7lqpzygsfjd6an074rxvcemlh8wu3tk925acdefghjklmnpqrstuvwxy06fhpv80undvarhrak",
+];
+
+// One of each number of elements, at random, by a model of the definitions alone (vectors/).
+const OF_A_MODEL: [&str; 31] = [
+    "ms18k89kfte82z8he8ydw72jj4d7yyr2x99xdpenxd6yrk5l",
+    "ms15qdvcf5u9le2f9sk9qnp6rpuqq6gng3wzkvkw08lycl7g5f",
+    "ms102y5ds7rk3tm4ejgq3zcq2h7p4kzq9nxzj8szrcpp4xwsmv5",
+    "ms13uyllmtvfmfwarl6tnc7veumy76rm0q4k8zxvh6n7l6xenucez",
+    "ms195dvt5swn0mtykftrd9f03c03gds5jujphkghxkv85pjz7ukj52",
+    "ms160fgt0yzgx7pjt9gwmylck3pgrphqtafw7fysdygh6y6h5ek9skqq",
+    "ms13qd4cdalk3huzsncma8czhqqkgdj4zhclgzvl4a8ny4c8xsc2pq6ves",
+    "ms189w8rlk6lm333hhk3zprh2anpxgd6qds59vcdhdnvhdhe2wxhn64dd75",
+    "ms18xhwxuqytl3j72v4pxtt3fu8pxryuxprryfwdrzj4mpl296jd07t94pr2p",
+    "ms147ajt4xmvj8dfxantajxjhc6mke3q4sd99gulc5lnas0vq4hsm336dpvume",
+    "ms10tun3syuy6ufft2kvwxwdel8fr78fnrleyk70vueu3whusn37ms6h3jpd73le",
+    "ms14e6uqfxk80wpdalflpqjmhxgy6gmurc7g3lrk0378p8uqc57dtuv7cj4mzkmdl9",
+    "ms1648x65hk9nc5fq7jv4apn7w7vf43gvakguwmz48dgfut4gqy87zzatwnvnm5qvgy",
+    "ms14tgvgze77hcgkzjqqz2xppxymsc0k0w8rcce2a8np4c45e2f72x3cfqzhw03zrl4py",
+    "ms15kt8ulw6lvyqa9zc686r80hf3wx5w68ztgay0q04dkkspefw6y6srgenmn50ghc0e07",
+    "ms16lzt5usygkjqer8ea4mqpwat9cw03kx0nj8s5fw8tfct22args7gptuza7ua3wvwfc57u",
+    "ms16s6peq9uz86zgqk3v7ut4frjf5ehacef7ss5mnc2830kszenp7gewa6nvuksz9zznxlly30",
+    "ms1438e86vks2nsrcasauhx0cghu24hpf8zspdgm57edhqt4hrta0sjzn9pscumnwvv5sqnpx9n",
+    "ms19crrkeyqax4089rpxd3hnh7tkuxlcuy4tvlqj5es9xjv7er6s6g9vdv6954p9us3qnmyl9u5xh",
+    "ms10jur8snw69fueyky3rn8ve5070hgawt9tgy2llk0pzq0uuwfdvfs5a5rxf67qc7x7uuwp8gctz3",
+    "ms10uhkjsrx4h2m8ftjclx9cw5hh49tkcqd5kxxdpg9u7y3xrjc90qhfy0ntvzru6angqgfe6ufrl2ea",
+    "ms18ce36wdm8wtjueunsrh8n7gnp7hudrcl7pp6vagw6hw48cmh9z6e67kez3z2gkudx5855jetpa5e4dj",
+    "ms18ljnqg9ewhszv699lev2sn53qh55ktauw7hpfx3a4gdpmq95keqkhh8e8u507apzssfwh45f8dzmy07t",
+    "ms12dz9nhye9vnmccwrs824m892kxjaf3ff579g8mffrphpcnwcqnvp3ud4yw37fe6ry976kx323pg9l0kegm",
+    "ms108qrhsen4jpa3pajkmd5plmfdehyfd5szz68al49v6dtgtkfdamlnj7y60eyl9q44navvkwpr8we657dc6p",
+    "ms13pr49efpy7vdh5mmtpy86nzy3h77nfwjpvr8mrkqcq6huc9wqw7fgvt2cnzc2t28kl93wlcfpx9q0fxw7ltv6",
+    "ms10fq8vsra8jt8pa3wdea09dusp938v3ungt6xpkye0ml7zqszvczlr3qguql7uqr8k4a8mqapktfdvlkj7gxhw7t",
+    "ms103s4gsu2uz0xv6hl8haq30lmlm8kqv5h9sye8amcr3sgn85vs22rlk62zwld22kcq4w5edcp892gqf4yh3c5z75n",
+    "ms10nusfs5497hvjt8canyzp4x5q4204a7r7jqjqu7eevfhxn90vktul2x9u5qhew9au8jfe0qnkkc39mkg5ngualyxal",
+    "ms189epxhz8d8ajvh2s3nmj4wjcnr75utmfyheqldqsnvcltzq0x6erntfauhq4rf4kcy6lyn9l0aegguj2c3j8rtexs6wcmkgf8elsu2ggg3wt502w9u37pyumdz",
+    "ms16ss6m6k2wt80qrm8p0434xe0fmlrstq9z56mr6w0wk6t8hmjshnkhyxp3lclwzd90f82tzlupr2exzqxuj0gyf83g9zv2r7a5x2sz2vel9tz2lupf0qjlmzge8e4",
+];
+
+// The numbers of bytes that a string has, and of the elements of these (BIP-93).
+const COUNTS: [(usize, usize); 31] = [
+    (16, 26),
+    (17, 28),
+    (18, 29),
+    (19, 31),
+    (20, 32),
+    (21, 34),
+    (22, 36),
+    (23, 37),
+    (24, 39),
+    (25, 40),
+    (26, 42),
+    (27, 44),
+    (28, 45),
+    (29, 47),
+    (30, 48),
+    (31, 50),
+    (32, 52),
+    (33, 53),
+    (34, 55),
+    (35, 56),
+    (36, 58),
+    (37, 60),
+    (38, 61),
+    (39, 63),
+    (40, 64),
+    (41, 66),
+    (42, 68),
+    (43, 69),
+    (44, 71),
+    (63, 101),
+    (64, 103),
+];
+
+// Puts the elements of characters.
+fn put(room: &mut [Fe32], characters: &str) -> Option<()> {
+    for (element, character) in room.iter_mut().zip(characters.chars()) {
+        *element = Fe32::from_char(character).ok()?;
+    }
+    Some(())
+}
+
+// The string of the header and the payload of a string.
+fn made_again(alloc: Global, text: &str) -> Option<String> {
+    let share = Share::parse(text).ok()?;
+    let mut room = [Fe32::Q; 103];
+    put(&mut room, share.payload())?;
+    let payload = room.get(..share.payload().len())?;
+    encode_payload(alloc, &share.header(), payload).ok()
+}
+
+// Whether that is what is put into a buffer, too.
+fn is_put_again(text: &str) -> Option<bool> {
+    let share = Share::parse(text).ok()?;
+    let mut room = [Fe32::Q; 103];
+    put(&mut room, share.payload())?;
+    let payload = room.get(..share.payload().len())?;
+    let mut buffer = [b'?'; 130];
+    let count = encode_payload_into(&mut buffer, &share.header(), payload).ok()?;
+    let (front, behind) = buffer.split_at_checked(count)?;
+    Some(front == text.as_bytes() && behind.iter().all(|b| *b == b'?'))
+}
+
+#[test]
+fn strings_of_bip_93(rt: HostRuntime) {
+    for text in OF_BIP_93 {
+        let made = made_again(rt.alloc(), text).expect(&rt, text);
+        same(
+            &rt,
+            &(made.as_str(), is_put_again(text)),
+            &(text, Some(true)),
+        );
+    }
+}
+
+#[test]
+fn each_number_of_elements(rt: HostRuntime) {
+    for text in OF_A_MODEL {
+        let made = made_again(rt.alloc(), text).expect(&rt, text);
+        same(
+            &rt,
+            &(made.as_str(), is_put_again(text)),
+            &(text, Some(true)),
+        );
+    }
+}
+
+fn header() -> Option<Header> {
+    Header::parse("2", "name", "s").ok()
+}
+
+const BYTES: [u8; 64] = [
+    0xdc, 0x54, 0x23, 0x25, 0x1c, 0xb8, 0x71, 0x75, 0xff, 0x81, 0x10, 0xc8, 0x53, 0x1d, 0x09, 0x52,
+    0xd8, 0xd7, 0x3e, 0x11, 0x94, 0xe9, 0x5b, 0x5f, 0x19, 0xd6, 0xf9, 0xdf, 0x7c, 0x01, 0x11, 0x11,
+    0x04, 0xc9, 0xba, 0xec, 0xdf, 0xea, 0x8c, 0xcc, 0xc6, 0x77, 0xfb, 0x9d, 0xdc, 0x8a, 0xec, 0x55,
+    0x53, 0xb8, 0x6e, 0x52, 0x8b, 0xca, 0xdf, 0xdc, 0xc2, 0x01, 0xc1, 0x7c, 0x63, 0x8c, 0x47, 0xe9,
+];
+
+// The string of so many bytes, and that of the elements of its payload.
+fn both(alloc: Global, bytes: &[u8]) -> Option<(String, String)> {
+    let of_bytes = encode(alloc, &header()?, bytes).ok()?;
+    let of_elements = made_again(alloc, &of_bytes)?;
+    Some((of_bytes, of_elements))
+}
+
+#[test]
+fn strings_of_bytes(rt: HostRuntime) {
+    for (count, elements) in COUNTS {
+        let bytes = BYTES.get(..count).expect(&rt, "bytes");
+        let (of_bytes, of_elements) = both(rt.alloc(), bytes).expect(&rt, "refused");
+        let length = elements.checked_add(if count <= 44 { 22 } else { 24 });
+        same(
+            &rt,
+            &(of_elements.as_str(), Some(of_bytes.len())),
+            &(of_bytes.as_str(), length),
+        );
+    }
+}
+
+// Why no string is made of so many elements, and none is put.
+fn refusals(alloc: Global, payload: &[Fe32]) -> Option<[Option<EncodeError>; 2]> {
+    let header = header()?;
+    let mut buffer = [b'?'; 130];
+    let put = encode_payload_into(&mut buffer, &header, payload).err();
+    if put.is_some() && buffer != [b'?'; 130] {
+        return None;
+    }
+    Some([encode_payload(alloc, &header, payload).err(), put])
+}
+
+#[test]
+fn numbers_of_elements(rt: HostRuntime) {
+    let elements = [Fe32::L; 200];
+    for count in 0..=elements.len() {
+        let is_taken = COUNTS.iter().any(|counts| counts.1 == count);
+        let want = if is_taken {
+            None
+        } else {
+            Some(EncodeError::Size)
+        };
+        let payload = elements.get(..count).expect(&rt, "elements");
+        let refused = refusals(rt.alloc(), payload);
+        same(&rt, &(count, refused), &(count, Some([want, want])));
+    }
+}
