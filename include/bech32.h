@@ -3,13 +3,14 @@
  *
  * The library is proved: each function does what is said here of every input, ends, and reads and
  * writes no memory but the caller's, within the lengths that are given. It takes no memory but what a
- * caller lends to bech32_nearest, keeps nothing between calls, and needs no start-up; it calls memcpy,
- * memmove and memset alone. Any number of threads may call it.
+ * caller lends to bech32_nearest and bech32_near_edits, keeps nothing between calls, and needs no
+ * start-up; it calls memcpy, memmove and memset alone. Any number of threads may call it.
  *
  * Each function answers BECH32_OK, or the number of a refusal (below). On a refusal it writes
  * nothing, but for the place of bech32_fault, what stands in lent memory, and what is said of
- * bech32_nearest: the buffers and the lengths stay as they were. Else what it writes stands at the
- * front of the buffer, and the bytes behind it stay as they were. Nothing is ended by a zero byte.
+ * bech32_nearest and bech32_near_edits: the buffers and the lengths stay as they were. Else what it
+ * writes stands at the front of the buffer, and the bytes behind it stay as they were. Nothing is ended
+ * by a zero byte.
  *
  * A buffer is a pointer and the number of bytes it has room for. A pointer beside a length or a room of
  * 0 is not followed, and may be null; no other pointer may be, and nothing that a function writes to may
@@ -59,6 +60,14 @@ extern "C" {
 
 /* The most errors that bech32_nearest looks for. */
 #define BECH32_MAX_ERRORS 2u
+
+/* What is done to a text (bech32_near_edits). */
+#define BECH32_SWAPPED 1u  /* the characters at location + 1 and location are swapped */
+#define BECH32_LEFT_OUT 2u /* the character at location is left out */
+#define BECH32_PUT_IN 3u   /* a character is put in, and then stands at location */
+
+/* So many of them are usually enough room in bech32_near_edits: seldom more than two are found. */
+#define BECH32_NEAR_EDITS 8u
 
 /* Answers. */
 #define BECH32_OK 0u
@@ -209,7 +218,8 @@ uint32_t bech32_correct(uint32_t checksum, const uint8_t *text, size_t text_leng
  * 91 it is so too, or the function keeps the memory, and `size` is 0. That it never keeps it, and that
  * 91 never comes where as many bytes are lent as is stated below, no proof says. It is tested:
  * tools/every-length lent makes calls at every length, each with just so many bytes, and
- * lists_or_wants_memory of bech32_c and proposes_or_wants_memory of codex32_c with fewer.
+ * lists_or_wants_memory and lists_edits_or_wants_memory of bech32_c and proposes_or_wants_memory of
+ * codex32_c with fewer.
  */
 typedef struct {
     uint8_t *start;
@@ -226,18 +236,50 @@ typedef struct {
  * is the last character. Where there are more, or one is not in the data part, no text is near.
  *
  * The texts, in lower case, are put into `texts` one behind another: *count texts of text_length bytes
- * each. *count may be 0. Where the checksum accepts the text, it is itself the first. Without erasures
+ * each. *count may be 0. Where they do not all fit (92), *count is the number of all, so that *count times
+ * text_length is the room that all take, and the first of them, texts_room / text_length whole ones, are
+ * put. Where the checksum accepts the text, it is itself the first. Without erasures
  * there is at most one where the data part has up to 89 characters, as in each segwit address: the right
  * one, if no more than `errors` of its characters are wrong. With them, or in longer texts, there may be
  * many. None may be what was meant: show them, and ask.
  *
  * Refusals, the first that applies: 4; 2; 21, 22, 23, 11 to 15; 31, 32; 92; and 91 in place of 0 or 92
  * where `memory` does not suffice. Where the function keeps the memory (above), `texts` may have
- * changed; with every other refusal, and with every other 91, it is as it was.
+ * changed; with every other refusal but 92, and with every other 91, it is as it was.
  */
 uint32_t bech32_nearest(uint32_t checksum, const uint8_t *text, size_t text_length,
                         const size_t *erasures, size_t erasures_length, size_t errors,
                         bech32_memory *memory, uint8_t *texts, size_t texts_room, size_t *count);
+
+/* So many bytes suffice for BECH32_NEAR_EDITS edits of a text; for more, lend more. */
+#define BECH32_NEAR_EDITS_MEMORY(text_length) (4096u + 16u * (text_length))
+
+/*
+ * Lists the texts other than this one that one edit makes of it, and that a checksum (BECH32_BECH32 or
+ * BECH32_BECH32M) accepts: two neighbours of the data part are swapped, one of its characters is left
+ * out, or one is put in. The text need only be in the grammar: one may be mended that is too short for a
+ * checksum, or too long, by one character.
+ *
+ * *count, which may be 0, is their number. Of each what is done (BECH32_SWAPPED, BECH32_LEFT_OUT or
+ * BECH32_PUT_IN) is put into `kinds`, and where into `locations`: location 0 is the last character, of this
+ * text for one that is swapped or left out, of the new one for one that is put in. The new texts, in lower
+ * case, are put into `texts` one behind another: each has text_length bytes where two are swapped, one less
+ * where a character is left out, one more where one is put in. Swaps come first, then what leaves a
+ * character out, then what puts one in; in each kind the locations rise. Each text stands once: of a run of
+ * the same characters the last is left out, and one is put in behind a run of the same.
+ *
+ * Where they do not all fit (92), *count is the number of all, and the first of them are put, as many as
+ * all three buffers have room for. kinds_room and locations_room are numbers of items; *count times
+ * (text_length + 1) bytes are always enough for `texts`. None may be what was meant: show them, and ask.
+ * By BECH32_BECH32 a text that ends in `p` is accepted with any number of `q` before that, too.
+ *
+ * Refusals, the first that applies: 4; 2; 21, 22, 23, 11 to 15; 92; and 91 in place of 0 or 92 where
+ * `memory` does not suffice. Where the function keeps the memory (above), the buffers may have changed;
+ * with every other refusal but 92, and with every other 91, they are as they were.
+ */
+uint32_t bech32_near_edits(uint32_t checksum, const uint8_t *text, size_t text_length,
+                           bech32_memory *memory, uint8_t *kinds, size_t kinds_room, size_t *locations,
+                           size_t locations_room, uint8_t *texts, size_t texts_room, size_t *count);
 
 #ifdef __cplusplus
 }

@@ -210,7 +210,62 @@ uint32_t bech32_nearest(uint32_t checksum, const uint8_t *text, size_t text_leng
     put_64(numbers + 16, memory_size);
     uint32_t number = of_bech32_nearest(&m, checksum, text_at, text_length, given_at, given_count, errors, at + 8,
                                         texts_at, texts_size, at);
-    if (number == BECH32_OK) {
+    if (number == BECH32_OK || number == BECH32_NO_ROOM) {
+        *count = (size_t)get_64(numbers);
+    }
+    if (get_64(numbers + 16) == 0) {
+        memory->size = 0;
+    }
+    return number;
+}
+
+/* So many locations are put in the library's form beside the other numbers; more, of which few texts have as many, at the
+ * end of the lent memory. */
+#define FEW_EDITS (2u * BECH32_NEAR_EDITS)
+
+/* A location that no edit has: what stands where the library put none. */
+#define NO_LOCATION (~(u64)0)
+
+uint32_t bech32_near_edits(uint32_t checksum, const uint8_t *text, size_t text_length, bech32_memory *memory,
+                           uint8_t *kinds, size_t kinds_room, size_t *locations, size_t locations_room, uint8_t *texts,
+                           size_t texts_room, size_t *count) {
+    NUMBERS(3 + FEW_EDITS);
+    if (IS_TOO_LONG(text_length)) {
+        return BECH32_NO_MEMORY;
+    }
+    MACHINE(bech32_near_edits);
+    u64 kinds_size = SOME(kinds_room), texts_size = SOME(texts_room), memory_size = SOME(memory->size);
+    u64 text_at = lend(&m, text, text_length), kinds_at = lend_room(&m, kinds, kinds_size);
+    u64 texts_at = lend_room(&m, texts, texts_size), at = lend_room(&m, numbers, sizeof number_words);
+    u64 memory_at = lend_room(&m, memory->start, memory_size), places_at = at + 24, most = locations_room;
+    u8 *places = numbers + 24;
+    uint32_t number = BECH32_NO_ROOM;
+    put_64(numbers + 8, memory_at);
+    put_64(numbers + 16, memory_size);
+    if (most > FEW_EDITS) {
+        number = of_bech32_near_edits(&m, checksum, text_at, text_length, at + 8, kinds_at, 0, places_at, 0, texts_at, 0, at);
+        most = get_64(numbers) < most ? get_64(numbers) : most;
+    }
+    if (number == BECH32_NO_ROOM && most > FEW_EDITS) {
+        if (memory_size / 8 <= most) {
+            return BECH32_NO_MEMORY;
+        }
+        memory_size -= 8 * most;
+        put_64(numbers + 16, memory_size);
+        places_at = memory_at + memory_size;
+        places = memory->start + memory_size;
+    }
+    if (number == BECH32_NO_ROOM) {
+        for (u64 i = 0; i < most; i++) {
+            put_64(places + 8 * i, NO_LOCATION);
+        }
+        number = of_bech32_near_edits(&m, checksum, text_at, text_length, at + 8, kinds_at, kinds_size, places_at, most,
+                                      texts_at, texts_size, at);
+        for (u64 i = 0; i < most && number != BECH32_NO_MEMORY && get_64(places + 8 * i) != NO_LOCATION; i++) {
+            locations[i] = (size_t)get_64(places + 8 * i);
+        }
+    }
+    if (number == BECH32_OK || number == BECH32_NO_ROOM) {
         *count = (size_t)get_64(numbers);
     }
     if (get_64(numbers + 16) == 0) {

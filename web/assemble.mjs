@@ -32,7 +32,7 @@ const modulesSource = () => filled(read('src', 'modules.js'), {
 
 // The files of the page's script, each behind those that it imports.
 const SCRIPT = [
-  ...['reasons', 'instance', 'calls', 'library', 'modules'].map((name) => `src/${name}.js`),
+  ...['reasons', 'instance', 'lists', 'calls', 'library', 'modules'].map((name) => `src/${name}.js`),
   ...['words', 'tried', 'typed', 'others', 'beginnings', 'pair', 'reading', 'kinds', 'saying', 'codex32', 'offers', 'texts',
     'strings', 'shares', 'answer', 'shown', 'copy', 'page'].map((name) => `page/${name}.js`),
 ];
@@ -81,7 +81,7 @@ const page = (version) => {
 
 const packageFiles = () => {
   const files = { 'modules.js': modulesSource(), 'package.json': read('package.json'), 'README.md': read('README.md') };
-  for (const name of ['index.js', 'index.d.ts', 'library.js', 'calls.js', 'instance.js', 'reasons.js']) {
+  for (const name of ['index.js', 'index.d.ts', 'library.js', 'calls.js', 'lists.js', 'instance.js', 'reasons.js']) {
     files[name] = read('src', name);
   }
   const licence = path.join(HERE, '..', 'LICENSE');

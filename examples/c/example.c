@@ -1,5 +1,5 @@
-/* Each function of bech32.h: encodes, decodes and tests texts, mends one, writes and reads addresses,
- * and feeds an engine. */
+/* Each function of bech32.h: encodes, decodes and tests texts, mends one, lists what is near to mistyped
+ * ones, writes and reads addresses, and feeds an engine. */
 #include <stdio.h>
 #include <string.h>
 
@@ -68,6 +68,41 @@ static int corrections(void) {
     return 0;
 }
 
+/* The address that is near to one with two wrong characters, and the one that an edit makes of one in
+ * which a character is missing, with what is done and where. The memory begins at a multiple of 16. */
+static int near_addresses(void) {
+    static uint8_t bytes[BECH32_NEAREST_MEMORY(BECH32_MAX_SEGWIT_TEXT) + 15u];
+    static const char *const done[] = {"", "swapped", "left out", "put in"};
+    bech32_memory memory = {bytes + (0u - (uintptr_t)bytes) % 16u, sizeof bytes - 15u};
+    uint8_t texts[BECH32_NEAR_EDITS * (BECH32_MAX_SEGWIT_TEXT + 1)], kinds[BECH32_NEAR_EDITS];
+    size_t locations[BECH32_NEAR_EDITS], count;
+    uint32_t number;
+
+    const char *mistyped = "bc1qw5q8d6qejxtdg4y5r3zarvary0c5xw7kv8f3t5";
+    number = bech32_nearest(BECH32_BECH32, (const uint8_t *)mistyped, strlen(mistyped), NULL, 0,
+                            BECH32_MAX_ERRORS, &memory, texts, sizeof texts, &count);
+    if (number != BECH32_OK) {
+        return refused("nearest", number);
+    }
+    for (size_t i = 0; i < count; i++) {
+        printf("%s: %.*s\n", mistyped, (int)strlen(mistyped), (char *)texts + i * strlen(mistyped));
+    }
+
+    const char *shorter = "bc1qw508d6qejxtdg4y5r3zrvary0c5xw7kv8f3t4";
+    number = bech32_near_edits(BECH32_BECH32, (const uint8_t *)shorter, strlen(shorter), &memory, kinds,
+                               BECH32_NEAR_EDITS, locations, BECH32_NEAR_EDITS, texts, sizeof texts,
+                               &count);
+    if (number != BECH32_OK) {
+        return refused("near_edits", number);
+    }
+    for (size_t i = 0, at = 0, length; i < count; i++, at += length) {
+        length = strlen(shorter) + (kinds[i] == BECH32_PUT_IN) - (kinds[i] == BECH32_LEFT_OUT);
+        printf("%s: %s at %u, %.*s\n", shorter, done[kinds[i]], (unsigned)locations[i], (int)length,
+               (char *)texts + at);
+    }
+    return 0;
+}
+
 /* An address, and that of its program on the test network. */
 static int addresses(void) {
     const char *address = "BC1QW508D6QEJXTDG4Y5R3ZARVARY0C5XW7KV8F3T4";
@@ -107,5 +142,5 @@ static int remainder_of_a_text(void) {
 
 int main(void) {
     printf("bech32 %s\n", BECH32_VERSION);
-    return texts() || corrections() || addresses() || remainder_of_a_text();
+    return texts() || corrections() || near_addresses() || addresses() || remainder_of_a_text();
 }

@@ -7,7 +7,8 @@
  * beginning of the other, and the bytes around it are known. After each call: on a refusal buffers
  * and lengths are as they were; else the bytes behind what was written are as they were, and the
  * lengths fit the buffers. What is given to be read is as it was. A buffer that is too small is
- * refused (92) exactly where the call succeeds with larger ones. What was written is read back.
+ * refused (92) exactly where the call succeeds with larger ones; of what is near as much is put there
+ * as fits. What was written is read back.
  *
  * The pointer of an empty text or buffer is null half of the time, as the headers allow.
  *
@@ -1135,15 +1136,21 @@ static void expect_near(uint32_t checksum, const uint8_t *found, size_t errors, 
 }
 
 static void try_nearest(void) {
-    size_t erasures[4], items = 0, errors = percent(95) ? below(3) : below(5);
+    static uint8_t ample[AREA];
+    size_t erasures[4], all = 0, errors = percent(95) ? below(3) : below(5);
     size_t erasures_length = errors < 2 ? below(4) : (size_t)percent(10);
     uint32_t checksum = random_checksum();
+    bech32_memory whole = {ample_memory, sizeof ample_memory};
     begin(&nearest);
     random_text();
     text_length = text_length > 110 ? 110 : text_length;
     for (size_t i = 0; i < erasures_length; i++) {
         erasures[i] = percent(95) ? below(text_length + 1) : (size_t)next_number();
     }
+    uint32_t expected = bech32_nearest(checksum, text, text_length, erasures, erasures_length, errors,
+                                       &whole, ample, sizeof ample, &all);
+    expect(whole.start == ample_memory && whole.size == sizeof ample_memory, "the memory was kept");
+    expect(expected != BECH32_NO_MEMORY && expected != BECH32_NO_ROOM, "memory or room does not suffice");
     size_t size = percent(30) ? below(BECH32_NEAREST_MEMORY(text_length)) : sizeof some_memory;
     bech32_memory memory = {some_memory + (sizeof some_memory - size) / 16 * 16, size};
     FORBID(some_memory, sizeof some_memory);
@@ -1157,17 +1164,139 @@ static void try_nearest(void) {
         checksum, read_1.buffer, text_length, (const size_t *)(void *)erasures_area.buffer,
         erasures_length, errors, (bech32_memory *)(void *)memory_area.buffer, written_1.buffer,
         written_1.length, told);
-    int is_ok = number == BECH32_OK;
+    int is_counted = number == BECH32_OK || number == BECH32_NO_ROOM;
     count(&nearest, number);
+    if (number != BECH32_NO_MEMORY) {
+        expect_number(number, expected, all * text_length <= written_1.length);
+    }
     expect_kept(&read_1, 0, "the text changed");
     expect_kept(&erasures_area, 0, "the erasures changed");
     expect_kept(&memory_area, 0, "the memory was kept");
-    expect_kept(&length_1, is_ok ? sizeof items : 0, "the number of texts changed");
-    items = is_ok ? length_in(&length_1) : 0;
-    expect(items == 0 || items <= written_1.length / text_length, "more texts than there is room for");
+    expect_kept(&length_1, is_counted ? sizeof all : 0, "the number of texts changed");
+    expect(!is_counted || length_in(&length_1) == all, "the number of texts");
+    size_t most = text_length == 0 ? 0 : written_1.length / text_length;
+    size_t items = !is_counted ? 0 : all < most ? all : most;
     expect_kept(&written_1, items * text_length, "the buffer changed elsewhere");
+    expect(items == 0 || memcmp(written_1.buffer, ample, items * text_length) == 0, "other texts");
     for (size_t i = 0; i < items; i++) {
         expect_near(checksum, written_1.buffer + i * text_length, errors, erasures, erasures_length);
+    }
+}
+
+/* Texts that one edit makes of a mistyped one. */
+static const uint32_t of_near_edits[] = {2, 4, 11, 12, 13, 14, 15, 21, 22, 23, 91, 92, 0};
+static Function near_edits = {"bech32_near_edits", 0, {0}, of_near_edits};
+
+#define EDITS 64u
+
+static size_t edited_length(uint8_t done) {
+    return text_length + (done == BECH32_PUT_IN) - (done == BECH32_LEFT_OUT);
+}
+
+/* The found text is the given one with the edit, in lower case, and is accepted. */
+static void expect_edit(uint32_t checksum, const uint8_t *found, uint8_t done, size_t location) {
+    static uint8_t made[AREA];
+    size_t h, n, length = edited_length(done), front = length - 1 - location;
+    expect(done >= BECH32_SWAPPED && done <= BECH32_PUT_IN && location < length + 1, "no such edit");
+    if (done == BECH32_SWAPPED) {
+        memcpy(made, text, length);
+        made[front] = text[front - 1];
+        made[front - 1] = text[front];
+    } else if (done == BECH32_LEFT_OUT) {
+        front = text_length - 1 - location;
+        memcpy(made, text, front);
+        memcpy(made + front, text + front + 1, length - front);
+    } else {
+        memcpy(made, text, front);
+        made[front] = found[front];
+        memcpy(made + front + 1, text + front, text_length - front);
+    }
+    expect(same_lowered(made, found, length), "another text than that of the edit");
+    expect(bech32_check(checksum, found, length, &h, &n) == BECH32_OK, "a text that is made is refused");
+    expect(length != text_length || !same_lowered(found, text, length), "the text itself");
+    expect(same_lowered(found, text, h + 1), "another human-readable part");
+    for (size_t i = 0; i < length; i++) {
+        expect(found[i] == lowered(found[i]), "a text that is not in lower case");
+    }
+}
+
+/* A text, of which often one character is left out, put in, or swapped with its neighbour. */
+static void random_edited_text(void) {
+    random_text();
+    text_length = text_length > MOST - 1 ? MOST - 1 : text_length;
+    if (text_length < 2 || percent(25)) {
+        return;
+    }
+    size_t at = 1 + below(text_length - 1);
+    if (percent(33)) {
+        memmove(text + at, text + at + 1, text_length - at - 1);
+        text_length--;
+    } else if (percent(50)) {
+        memmove(text + at + 1, text + at, text_length - at);
+        text[at] = (uint8_t)alphabet[below(32)];
+        text_length++;
+    } else {
+        uint8_t byte = text[at];
+        text[at] = text[at - 1];
+        text[at - 1] = byte;
+    }
+}
+
+static void try_near_edits(void) {
+    static uint8_t ample[EDITS * (MOST + 1)], ample_kinds[EDITS];
+    static size_t ample_locations[EDITS];
+    size_t all = 0, size_of_all = 0, fit = 0, fit_size = 0;
+    uint32_t checksum = random_checksum();
+    bech32_memory whole = {ample_memory, sizeof ample_memory};
+    begin(&near_edits);
+    random_edited_text();
+    uint32_t expected =
+        bech32_near_edits(checksum, text, text_length, &whole, ample_kinds, EDITS, ample_locations,
+                          EDITS, ample, sizeof ample, &all);
+    expect(whole.start == ample_memory && whole.size == sizeof ample_memory, "the memory was kept");
+    expect(expected != BECH32_NO_MEMORY && expected != BECH32_NO_ROOM, "memory or room does not suffice");
+    for (size_t i = 0; i < all; i++) {
+        expect_edit(checksum, ample + size_of_all, ample_kinds[i], ample_locations[i]);
+        size_of_all += edited_length(ample_kinds[i]);
+    }
+    int is_small = percent(30);
+    size_t enough = BECH32_NEAR_EDITS_MEMORY(text_length), size = is_small ? below(enough) : enough;
+    bech32_memory memory = {some_memory + (sizeof some_memory - size) / 16 * 16, size};
+    FORBID(some_memory, sizeof some_memory);
+    ALLOW(memory.start, size);
+    place(&read_1, text, text_length, 1);
+    place(&memory_area, &memory, sizeof memory, sizeof(size_t));
+    place(&locations_area, NULL, below(4) * sizeof(size_t), sizeof(size_t));
+    place(&values_area, NULL, below(4), 1);
+    place(&written_1, NULL, room(size_of_all), 1);
+    size_t *told = new_length(&length_1), locations_room = locations_area.length / sizeof(size_t);
+    uint32_t number = bech32_near_edits(
+        checksum, read_1.buffer, text_length, (bech32_memory *)(void *)memory_area.buffer,
+        values_area.buffer, values_area.length, (size_t *)(void *)locations_area.buffer, locations_room,
+        written_1.buffer, written_1.length, told);
+    int is_counted = number == BECH32_OK || number == BECH32_NO_ROOM;
+    count(&near_edits, number);
+    while (is_counted && fit < all && fit < values_area.length && fit < locations_room &&
+           fit_size + edited_length(ample_kinds[fit]) <= written_1.length) {
+        fit_size += edited_length(ample_kinds[fit++]);
+    }
+    if (number == BECH32_NO_MEMORY) {
+        expect((is_small || all > BECH32_NEAR_EDITS) && expected == BECH32_OK,
+               "want of memory in place of a refusal, or where what the header states is lent");
+    } else {
+        expect_number(number, expected, fit == all);
+    }
+    expect_kept(&read_1, 0, "the text changed");
+    expect_kept(&memory_area, 0, "the memory was kept");
+    expect_kept(&length_1, is_counted ? sizeof all : 0, "the number of edits changed");
+    expect(!is_counted || length_in(&length_1) == all, "the number of edits");
+    expect_kept(&values_area, fit, "the kinds changed elsewhere");
+    expect_kept(&locations_area, fit * sizeof(size_t), "the locations changed elsewhere");
+    expect_kept(&written_1, fit_size, "the texts changed elsewhere");
+    if (fit > 0) {
+        expect(memcmp(values_area.buffer, ample_kinds, fit) == 0, "other kinds");
+        expect(memcmp(locations_area.buffer, ample_locations, fit * sizeof(size_t)) == 0, "other locations");
+        expect(memcmp(written_1.buffer, ample, fit_size) == 0, "other texts");
     }
 }
 
@@ -1230,7 +1359,7 @@ int main(int argc, char **argv) {
         try_segwit_encode, try_segwit_decode, try_residue, try_correct,
         try_codex32_parse, try_codex32_propose, try_codex32_share,
         try_codex32_encode, try_codex32_encode_payload, try_codex32_derive, try_codex32_propose_long,
-        try_nearest, try_message, try_codex32_message,
+        try_nearest, try_near_edits, try_message, try_codex32_message,
     };
     unsigned long long count = argc > 1 ? strtoull(argv[1], NULL, 10) : 100000;
     Area *areas[] = {
@@ -1262,6 +1391,7 @@ int main(int argc, char **argv) {
     print(&derive_codex32);
     print(&propose_long_codex32);
     print(&nearest);
+    print(&near_edits);
     print(&message);
     print(&codex32_message_calls);
     return 0;

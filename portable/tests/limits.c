@@ -163,6 +163,8 @@ static void try_long(size_t most) {
     expect(bech32_correct(1, text, most, &length, 0, &length_2, 1, other, 4, &length, out, sizeof out, &length) == wanted,
            "bech32_correct");
     expect(bech32_nearest(1, text, most, &length, 0, 2, &memory, out, sizeof out, &length) == wanted, "bech32_nearest");
+    expect(bech32_near_edits(1, text, most, &memory, other, 4, &length_2, 1, out, sizeof out, &length) == wanted,
+           "bech32_near_edits");
     expect(memory.start == lent && memory.size == sizeof lent && length_2 == 7, "what is lent, and the last length");
 }
 

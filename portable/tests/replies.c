@@ -332,7 +332,41 @@ static uint32_t try_nearest(void) {
     put_size(count);
     put_size(memory.start == lent && memory.size == size);
     put_size(memory.size == 0);
-    put(near, number == BECH32_OK ? count * text_length + 8 : 8);
+    put(near, number == BECH32_OK ? count * text_length + 8 : number == BECH32_NO_ROOM ? room_1 + 8 : 8);
+    return number;
+}
+
+static uint32_t try_near_edits(void) {
+    size_t count = 7777, locations[24];
+    uint8_t kinds[24];
+    bech32_memory memory = {lent, below(5) ? BECH32_NEAR_EDITS_MEMORY(1023) : below(8000)};
+    below(4) ? address() : text_of_bytes(20, 620);
+    if (text_length > 2 && below(2)) {
+        size_t at = 1 + below((uint32_t)text_length - 1);
+        uint8_t byte = text[at];
+        text[at] = text[at - 1];
+        text[at - 1] = byte;
+    } else if (text_length > 2) {
+        size_t at = 1 + below((uint32_t)text_length - 1);
+        memmove(text + at, text + at + 1, --text_length - at);
+    }
+    memset(near, 0x5a, sizeof near);
+    memset(kinds, 0x5a, sizeof kinds);
+    for (size_t i = 0; i < 24; i++) {
+        locations[i] = 7777;
+    }
+    uint32_t by = checksum();
+    size_t size = memory.size, room_1 = below(3) ? 24 : below(3), room_2 = below(3) ? 24 : below(3);
+    size_t room_3 = below(3) ? sizeof near : below(200);
+    uint32_t number = bech32_near_edits(by, text, text_length, &memory, kinds, room_1, locations, room_2, near, room_3, &count);
+    put_size(count);
+    put_size(memory.start == lent && memory.size == size);
+    put_size(memory.size == 0);
+    put(kinds, sizeof kinds);
+    for (size_t i = 0; i < 24; i++) {
+        put_size(locations[i]);
+    }
+    put(near, 8192);
     return number;
 }
 
@@ -599,6 +633,7 @@ static const struct {
     {"residue", try_residue},
     {"correct", try_correct},
     {"nearest", try_nearest},
+    {"near_edits", try_near_edits},
     {"message", try_message},
     {"codex32_message", try_codex32_message},
     {"parse", try_parse},

@@ -31,6 +31,7 @@ static unsigned stack_size;
 #define stack_bech32_residue stack_size
 #define stack_bech32_correct stack_size
 #define stack_bech32_nearest stack_size
+#define stack_bech32_near_edits stack_size
 #define stack_bech32_message stack_size
 #define stack_bech32_version stack_size
 #endif
@@ -203,6 +204,22 @@ static uint32_t try_nearest(unsigned n) {
     return bech32_nearest(1 + n % 2, text, text_length, erasures, given, errors, &memory, out, sizeof out, &length);
 }
 
+/* Texts with a character left out, put in or swapped, and of up to 1,020 characters. */
+static uint32_t try_near_edits(unsigned n) {
+    bech32_memory memory = {lent, n % 11 ? sizeof lent : 900};
+    size_t locations[4], at = n % 5 ? 20 : 5;
+    damage(ADDRESS, n % 7 == 6 ? n : 0);
+    if (n % 3 == 0) {
+        memmove(text + at, text + at + 1, --text_length - at);
+    } else if (n % 3 == 1) {
+        memmove(text + at + 1, text + at, text_length++ - at);
+    }
+    while (n % 8 == 7 && text_length < 1020) {
+        text[text_length++] = 'q';
+    }
+    return bech32_near_edits(1 + n % 2, text, text_length, &memory, other, n % 4, locations, 4, out, sizeof out, &length);
+}
+
 static uint32_t try_message(unsigned n) {
     return bech32_message(n, out, n % 5 ? BECH32_MAX_MESSAGE : 20, &length);
 }
@@ -225,6 +242,7 @@ static const struct {
     {"bech32_residue", try_residue, STATED_residue},
     {"bech32_correct", try_correct, STATED_correct},
     {"bech32_nearest", try_nearest, STATED_nearest},
+    {"bech32_near_edits", try_near_edits, STATED_near_edits},
     {"bech32_message", try_message, STATED_message},
     {"bech32_version", try_version, STATED_version},
 };

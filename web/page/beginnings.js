@@ -18,6 +18,18 @@ export const isAddressLike = (text) => ![null, CODEX32].includes(knownBeginning(
 /** Whether a text is the front of a known beginning, or the whole of it. */
 export const isBegun = (text) => KNOWN.some((it) => it.startsWith(asciiLower(text)));
 
+/**
+ * A text of which the separator of a known beginning stands behind the character that follows it: in lower case with these
+ * two swapped, and the place of the first. Null of another text.
+ */
+export const withSeparatorSwapped = (text) => {
+  const lower = asciiLower(text);
+  const known = KNOWN.find((it) => lower.startsWith(it.slice(0, -1)) && lower[it.length] === '1' && !lower.startsWith(it));
+  if (!known) return null;
+  const place = known.length - 1;
+  return { place, text: known + lower[place] + lower.slice(known.length + 1) };
+};
+
 // How few characters are to be changed, left out, put in or swapped to make one short text of another.
 const slips = (from, to) => {
   if (from === '' || to === '') return from.length + to.length;

@@ -38,14 +38,14 @@ const textSaid = (text, { hrp, data }) => {
   return invoiceSaid(text) ?? `It is no address: a text with the human-readable part “${hrp}” and ${size} of data.`;
 };
 
-/** What a text is that the checksum of this name accepts. `isBroken`: it looks like an address, and is none. */
+/** What a text is that the checksum of this name accepts. `isBroken`: it looks like an address, and is none, and `why`. */
 export const kindOf = (library, text, parts, name) => {
   const { value, refused } = tried(() => library.segwit.decode(text));
   if (value) return { isAddress: true, isBroken: false, said: addressSaid(value) };
   if (!(asciiLower(parts.hrp) in NETWORKS)) return { isAddress: false, isBroken: false, said: [textSaid(text, parts)] };
   const other = `An address of this version has the other checksum, ${name === 'Bech32' ? 'Bech32m' : 'Bech32'}.`;
   const why = refused.code === 'WRONG_CHECKSUM' ? other : refused.message;
-  return { isAddress: false, isBroken: true, said: [`It is no address, although it begins like one. ${why}`] };
+  return { isAddress: false, isBroken: true, why, said: [`It is no address, although it begins like one. ${why}`] };
 };
 
 // ---- lengths
@@ -70,7 +70,8 @@ const slipSaid = (count, lengths) => {
 
 /**
  * What is said of the length of a text that begins as an address of a network does, or null where such an address is in
- * use, or where the text begins otherwise: a `sentence`, and what the `slip` may have been. `isShort`: every address is longer.
+ * use, or where the text begins otherwise: a `sentence`, that of a `whole` text, and what the `slip` may have been. `isShort`:
+ * every address is longer.
  */
 export const lengthOf = (library, text) => {
   if (!isAddressLike(text)) return null;
@@ -79,6 +80,7 @@ export const lengthOf = (library, text) => {
   if (like.length === 0 || lengths.includes(count)) return null;
   const { version } = like[0], isShort = count < Math.min(...lengths);
   const kind = version === 1 ? 'a Taproot address (version 1)' : `an address of version ${version}`;
-  const size = `${counted(count, 'character', 'characters')}${isShort ? ' so far' : ''}`;
-  return { isShort, sentence: `${size}; ${kind} has ${listed(lengths, 'or')}.`, slip: slipSaid(count, lengths) };
+  const size = counted(count, 'character', 'characters'), rest = `; ${kind} has ${listed(lengths, 'or')}.`;
+  const sentence = `${size}${isShort ? ' so far' : ''}${rest}`;
+  return { isShort, sentence, whole: `${size}${rest}`, slip: slipSaid(count, lengths) };
 };

@@ -60,11 +60,28 @@ const foundSaid = (changes) => {
   return `The ${what} found: ${listed(each)}.`;
 };
 
+// What one edit mended, in words, with its characters as they were put in.
+const EDITS = {
+  swapped: (place, [first, second]) =>
+    `Two neighbours were swapped: the ${nth(place)} and the ${nth(place + 1)}, ${first} and ${second}.`,
+  leftOut: (place, [it]) => `One character too many: the ${nth(place)}, ${it}.`,
+  putIn: (place, [it]) => `One character is missing: the ${nth(place)}, ${it}.`,
+};
+
+/** How many characters an edit takes from its place, and puts there. */
+export const sizesOf = { swapped: { taken: 2, put: 2 }, leftOut: { taken: 1, put: 0 }, putIn: { taken: 0, put: 1 } };
+
 const IN_LOWER_CASE = 'Upper-case and lower-case letters are mixed: in lower case the text is right.';
 
 const changeSaid = ({ place, from, to }) =>
   (from === '?' ? `Character ${place + 1}, which cannot be read, is ${shown(to)}.`
     : `Character ${place + 1}: ${shown(from)} becomes ${shown(to)}.`);
+
+/** What was wrong with a text that one edit of `kind` mends at a place, in the form of `mendingOf`. */
+export const edited = (columns, { kind, place }) => {
+  const characters = columns.filter(({ isChanged }) => isChanged).map(({ from, to }) => shown(from ?? to));
+  return { headline: EDITS[kind](place, characters), changes: [], cost: 1, isBegun: false };
+};
 
 /**
  * What was wrong with a text: a `headline`, each of the `changes` where the headline counts them alone, and as `cost` how

@@ -1,6 +1,7 @@
 // The functions of include/bech32.h and include/codex32.h: each returns `{ number }`, where the number is that of a
 // refusal, or 0 and with it what the function wrote.
 import { Instance } from './instance.js';
+import { LIST_REGIONS, listed, nearEditsOf, nearestOf } from './lists.js';
 
 /** The numbers of the checksums. */
 export const CHECKSUMS = { bech32: 1, bech32m: 2 };
@@ -21,11 +22,6 @@ export const MOST_SHARES = 32;
 // Room for the locations of a correction: bech32_correct lists three at most.
 const MAX_LISTED = 8;
 
-// Room for near texts, and the memory that they are worked out in. It suffices for those of an address; where one does not
-// suffice, so many times as much is tried, up to the most.
-const NEAR_ROOM = 16384, NEAR_MEMORY = 65536, MORE = 8, MOST_MEMORY = 1 << 28;
-const NO_MEMORY = 91, NO_ROOM = 92;
-
 // A human-readable part of more bytes is too long, and so is each text of more bytes of data. What does not fit here is
 // left out, and the refusal is the same.
 const HRP_ROOM = 96, BYTES_ROOM = 1024;
@@ -35,8 +31,7 @@ const SIZE = 8;
 const BECH32_REGIONS = {
   text: TEXT_ROOM, hrp: HRP_ROOM, bytes: BYTES_ROOM, erasures: SIZE * MAX_TEXT,
   hrpOut: MAX_HRP, hrpLength: SIZE, out: MAX_TEXT, outLength: SIZE, version: SIZE,
-  locations: SIZE * MAX_LISTED, values: MAX_LISTED, count: SIZE,
-  memory: 2 * SIZE, lent: NEAR_MEMORY, near: NEAR_ROOM,
+  locations: SIZE * MAX_LISTED, values: MAX_LISTED, ...LIST_REGIONS,
 };
 // An identifier of more bytes is none, and of more bytes there is no string. What does not fit here is left out.
 const IDENTIFIER_ROOM = 16, SECRET_ROOM = 96;
@@ -48,29 +43,7 @@ const CODEX32_REGIONS = {
 };
 
 // Erasures are locations, of which 0 is the last character.
-const putErasures = (it, erasures) => it.putSizes('erasures', [...new Set(erasures)].slice(0, MAX_TEXT));
-
-// The near texts that the library lists in an instance with these regions.
-const nearestIn = (it, { lent, near }, [checksum, text, erasures, errors]) => {
-  const p = (region) => it.pointer(region);
-  const { length } = it.putText('text', text), given = putErasures(it, erasures);
-  it.putSizes('memory', [it.at.lent, lent]);
-  const number = it.call('bech32_nearest', checksum, p('text'), length, p('erasures'), given, BigInt(errors),
-    p('memory'), p('near'), BigInt(near), p('count'));
-  if (number) return { number };
-  const size = Number(length);
-  return { number, texts: Array.from({ length: it.size('count') }, (_, i) => it.text('near', size, i * size)) };
-};
-
-// The same in an instance of its own, of which nothing is left.
-const nearestBeside = (module, regions, asked) => {
-  const it = new Instance(module, regions);
-  try {
-    return nearestIn(it, regions, asked);
-  } finally {
-    it.wipe();
-  }
-};
+const erasuresOf = (given) => [...new Set(given)].slice(0, MAX_TEXT);
 
 /** The calls of the module of `bech32_c`. */
 export const bech32Calls = (module) => {
@@ -123,7 +96,7 @@ export const bech32Calls = (module) => {
     correct(checksum, text, erasures = []) {
       const { length, isWhole } = it.putText('text', text);
       if (!isWhole) return { number: TEXT_TOO_LONG };
-      const given = putErasures(it, erasures);
+      const given = it.putSizes('erasures', erasuresOf(erasures));
       const number = it.call('bech32_correct', checksum, p('text'), length, p('erasures'), given, p('locations'),
         BigInt(MAX_LISTED), p('values'), BigInt(MAX_LISTED), p('count'), p('out'), BigInt(MAX_TEXT), p('outLength'));
       if (number) return { number };
@@ -131,16 +104,13 @@ export const bech32Calls = (module) => {
       const errors = Array.from(values, (value, i) => ({ location: it.size('locations', i), value }));
       return { number, errors, text: textOut() };
     },
-    nearest(...asked) {
-      if (!it.putText('text', asked[1]).isWhole) return { number: TEXT_TOO_LONG };
-      let regions = BECH32_REGIONS, answer = nearestIn(it, regions, asked);
-      while ([NO_MEMORY, NO_ROOM].includes(answer.number)) {
-        const wanting = answer.number === NO_ROOM ? 'near' : 'lent', size = MORE * regions[wanting];
-        if (size > MOST_MEMORY) return answer;
-        regions = { ...regions, [wanting]: size };
-        answer = nearestBeside(module, regions, asked);
-      }
-      return answer;
+    nearest(checksum, text, erasures, errors) {
+      if (!it.putText('text', text).isWhole) return { number: TEXT_TOO_LONG };
+      return listed(module, it, BECH32_REGIONS, nearestOf(checksum, text, erasuresOf(erasures), errors));
+    },
+    nearEdits(checksum, text) {
+      if (!it.putText('text', text).isWhole) return { number: TEXT_TOO_LONG };
+      return listed(module, it, BECH32_REGIONS, nearEditsOf(checksum, text));
     },
     wipe: () => it.wipe(),
   };

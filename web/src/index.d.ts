@@ -54,12 +54,36 @@ export function correct(checksum: Checksum, text: string, places?: Iterable<numb
  * All texts that the checksum accepts and that differ from this one in at most `errors` characters of the data part (0 to
  * 2; 2 where it is left out) outside `places`; a right text is the first of its own. Texts of at most 89 characters with
  * two wrong ones and no `places` have one at most, the right one. No list where `places` has more than three. With two
- * places and two errors it takes some 0.3 s at 85 characters and 8 s at 488; a list that needs more memory is made again
- * with more. Throws `Refused`, and `RangeError` where 256 MB do not suffice.
+ * places and two errors it takes some 0.3 s at 85 characters and 8 s at 488; texts that fill more than 16 KB are searched
+ * for twice. Throws `Refused`, and `RangeError` where 256 MB do not suffice.
  */
 export function nearest(
   checksum: Checksum, text: string, places?: Iterable<number>, errors?: 0 | 1 | 2,
 ): readonly Correction[];
+
+/**
+ * What is done to a mistyped text: two neighbours are `swapped`, a character is left out (`leftOut`) or put in (`putIn`).
+ * `place` is from 0 on that of the first of the two, of the character that is left out, and of the one that is put in where
+ * it then stands; `characters` are these one or two in lower case, those that are swapped as they were put in.
+ */
+export interface Edit {
+  readonly kind: 'swapped' | 'leftOut' | 'putIn';
+  readonly place: number;
+  readonly characters: string;
+}
+
+/** A text that one edit makes of another, in lower case. It is a guess at what was meant. */
+export interface NearEdit { readonly text: string; readonly edit: Edit }
+
+/**
+ * All other texts that the checksum accepts and that come from this one by leaving out one character of the data part, by
+ * putting one in, or by swapping two neighbours: each once, swaps first, then what leaves a character out, and of each kind
+ * that with the fewest characters behind it. Of a run of the same the last character is left out, and one is put in behind
+ * it. By Bech32 a text that ends in `p` is accepted with any number of `q` before that as well: where the text that is found
+ * ends in `p`, an edit of its last two characters says little. The text may have any number of characters behind its
+ * separator. Throws `Refused`, and `RangeError` where 256 MB do not suffice.
+ */
+export function nearEdits(checksum: Checksum, text: string): readonly NearEdit[];
 
 export const segwit: {
   /** The address of a witness version, from 0 to 16, and a program. Throws `Refused`. */

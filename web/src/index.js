@@ -5,5 +5,5 @@ import { compiled } from './modules.js';
 const { modules, isLowered } = compiled();
 const it = library(...modules);
 
-export const { encode, decode, check, correct, nearest, segwit, codex32 } = it;
+export const { encode, decode, check, correct, nearest, nearEdits, segwit, codex32 } = it;
 export { Refused, Stopped, isLowered };

@@ -44,6 +44,19 @@ const changesOf = (before, after, given) =>
   Array.from(before, (from, place) => ({ place, from, to: after[place] }))
     .filter(({ place, from, to }) => given.has(place) || asciiLower(from) !== to);
 
+// An edit of a text by its place: that of the first of two that are swapped, of a character that is left out, or of one that
+// is put in, in the text that it makes.
+const editOf = (before, { kind, location, text: after }) => {
+  const it = kind === 'putIn' ? after : before, size = kind === 'swapped' ? 2 : 1;
+  const place = it.length - size - location;
+  return { kind, place, characters: it.slice(place, place + size) };
+};
+
+const listable = (answer, why) => {
+  if ([NO_MEMORY, NO_ROOM].includes(answer.number)) throw new RangeError('there are more near texts than can be listed');
+  return accepted(answer, why);
+};
+
 const placesOf = (given, length) => {
   const places = [...given];
   if (!places.every((place) => Number.isInteger(place) && place >= 0 && place < length)) {
@@ -102,9 +115,13 @@ const mendingCalls = (calls, reasons) => ({
     const known = placesOf(places, text(given).length);
     if (![0, 1, 2].includes(errors)) throw new RangeError('the number of errors is none of 0, 1 and 2');
     const answer = calls.nearest(number, given, known.map((place) => given.length - 1 - place), errors);
-    if ([NO_MEMORY, NO_ROOM].includes(answer.number)) throw new RangeError('there are more near texts than can be listed');
-    accepted(answer, (n) => reasons.text(n, given, number));
+    listable(answer, (n) => reasons.text(n, given, number));
     return answer.texts.map((it) => ({ text: it, changes: changesOf(given, it, new Set(known)) }));
+  },
+  nearEdits(checksum, given) {
+    const number = numberOf(checksum), answer = calls.nearEdits(number, text(given));
+    listable(answer, (n) => reasons.text(n, given, number));
+    return answer.edits.map((it) => ({ text: it.text, edit: editOf(asciiLower(given), it) }));
   },
 });
 

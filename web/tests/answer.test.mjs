@@ -17,6 +17,7 @@ const all = (found) => JSON.stringify(found);
 const V0 = 'bc1qw508d6qejxtdg4y5r3zarvary0c5xw7kv8f3t4';
 const V1 = 'bc1p4w46h2at4w46h2at4w46h2at4w46h2at5kreae';
 const TAPROOT = 'bc1p0xlxvlhemja6c4dqv22uapctqupfhlxm9h8z3k2e72q4k9hcz7vqzk5jj0';
+const ENDS_IN_P = 'bc1qpvqqwpc8qurswpc8qurswpc8qurswpc86ndzqp';
 const STRING = 'ms10testsxxxxxxxxxxxxxxxxxxxxxxxxxx4nzvca9cmczlw';
 const SHARE = 'ms12testaxxxxxxxxxxxxxxxxxxxxxxxxxxk2htcew89530d';
 
@@ -106,7 +107,7 @@ test('a mended text that is an address with the checksum of the other kind is no
   const broken = 'bc1p0xlxvlhemja6c4dqv22uapctqupfhlxm9h8z3k2e72q4k9hcz7vqh2y7hd';
   const found = said(at(broken, 20, broken[20] === 'q' ? 'p' : 'q'));
   assert.deepEqual([found.tone, found.verdict, found.offers], ['wrong', 'No correction was found.', undefined]);
-  assert.ok(found.said.includes('No change of one character or two makes an address of it.'));
+  assert.ok(found.said.includes('No change of one character or two makes an address of it. Nor does leaving one out, putting one in, or swapping two.'));
 });
 
 test('how many wrong characters are looked for beside those that cannot be read', () => {
@@ -125,6 +126,51 @@ test('more changes than three are counted, and listed', () => {
   assert.equal(found.verdict, 'Four characters were wrong.');
   assert.deepEqual(found.offers[0].changes.slice(0, 1), [`Character 6: “q” becomes “${STRING[5]}”.`]);
   assert.equal(found.offers[0].changes.length, 4);
+});
+
+test('each missing, doubled and swapped character of an address is found, with its columns', () => {
+  const columnsOf = ({ columns }) => columns.filter(({ isChanged }) => isChanged).map(({ from, to, place }) => `${from ?? ''}>${to ?? ''}@${place}`);
+  for (const text of [V0, V1, TAPROOT]) {
+    for (let place = 3; place < text.length; place++) {
+      const { [place]: it, [place + 1]: next } = text, front = text.slice(0, place), behind = text.slice(place + 1);
+      const end = place + /^(.)\1*/.exec(text.slice(place))[0].length - 1;
+      for (const [typed, said1, columns] of [
+        [front + behind, /^One character is missing: the \d+(?:st|nd|rd|th), “.”\.$/, [`>${it}@${end}`]],
+        [front + it + it + behind, /^One character too many: the \d+(?:st|nd|rd|th), “.”\.$/, [`${it}>@${end + 1}`]],
+        [front + next + it + behind.slice(1), /^Two neighbours were swapped: the \d+.. and the \d+.., “.” and “.”\.$/, [`${next}>${it}@${place}`, `${it}>${next}@${place + 1}`]],
+      ]) {
+        if (typed === text || typed.includes('undefined')) continue;
+        const found = said(typed);
+        assert.deepEqual([found.tone, found.offers.length, found.offers[0].text], ['mended', 1, text], typed);
+        assert.match(found.verdict, said1);
+        assert.deepEqual(columnsOf(found.offers[0]), columns, typed);
+        assert.equal(beforeOf({ columns: found.offers[0].columns.map((one) => ({ from: one.from ?? '' })) }), typed);
+        assert.match(found.caution, /^A correction is a guess/);
+      }
+    }
+  }
+});
+
+test('a text that ends in p has a word on the weakness of Bech32, below one that wrong characters explain', () => {
+  const WORD = 'Bech32 also accepts a text that ends in “p” with any number of “q” before that. So look at the end of this one twice.';
+  const before = (text, end) => `${text.slice(0, -1)}${end}`;
+  for (const [typed, verdict] of [
+    [before(ENDS_IN_P.slice(0, -1), 'p'), 'One character is missing: the 41st, “q”.'], [before(ENDS_IN_P, 'qp'), 'One character too many: the 42nd, “q”.'],
+    [before(ENDS_IN_P, ''), 'One character is missing: the 42nd, “p”.'], [before(ENDS_IN_P.slice(0, -1), 'pq'), 'Two neighbours were swapped: the 41st and the 42nd, “p” and “q”.'],
+  ]) {
+    const found = said(typed), [offer] = found.offers;
+    assert.deepEqual([found.tone, found.verdict, found.offers.length, offer.text], ['mended', verdict, 1, ENDS_IN_P]);
+    assert.equal(offer.said.at(-1), WORD);
+  }
+  assert.deepEqual(said(before(ENDS_IN_P.slice(0, -1), 'p')).said, ['What was put in has a right Bech32 checksum, and is no address although it begins like one. The program has 19 bytes; in version 0 it has 20 or 32.']);
+  // The last character was mistyped as another by one bit.
+  const right = it.encode('bech32', 'a', Uint8Array.of(1, 2, 3));
+  const typed = added(right, { location: 0, value: 1 }), below = said(typed);
+  assert.deepEqual(below.offers.map(({ text }) => text), [right, `${typed}p`]);
+  assert.deepEqual(below.offers.map((offer) => offer.said.includes(WORD)), [false, true]);
+  // Bech32m has no such weakness, and no word is said of an edit further on.
+  const further = it.encode('bech32', 'bc', Uint8Array.of(5, 6));
+  for (const text of [V1, further]) assert.ok(!all(said(text.slice(0, 8) + text.slice(9))).includes(WORD));
 });
 
 test('each wrong text has its sentence', () => {

@@ -1,8 +1,8 @@
 // Corrections against brute force: every single change of a text is tried by the checksum as the standard defines it.
 import test from 'node:test';
 import assert from 'node:assert/strict';
-import { codex32, correct, encode, nearest } from '../out/package/index.js';
-import { ALPHABET, accepts, acceptsCodex32, acceptsLongCodex32, added, changedAt, changedOnce, effectOf, numbersFrom, residueOf } from './reference.mjs';
+import { codex32, correct, encode, nearEdits, nearest } from '../out/package/index.js';
+import { ALPHABET, accepts, editsOf, acceptsCodex32, acceptsLongCodex32, added, changedAt, changedOnce, effectOf, numbersFrom, residueOf } from './reference.mjs';
 
 const TEXTS = [
   ['bech32', 'a12uel5l'],
@@ -130,6 +130,43 @@ test('near texts that fill more room than an address needs are listed', (t) => {
   const wanted = Array.from(ALPHABET, (c) => nearBySums('bech32m', damaged.slice(0, place) + c + damaged.slice(place + 1))).flat();
   assert.deepEqual(found.toSorted(), wanted.filter((it, i) => wanted.indexOf(it) === i).sort());
   t.diagnostic(`${found.length} texts of ${damaged.length} characters`);
+});
+
+// All other texts that one edit makes of one and that a checksum accepts, every edit tried.
+const nearEditsByTrying = (checksum, damaged) => {
+  const found = new Map();
+  for (const { text, ...edit } of editsOf(damaged)) {
+    if (text !== damaged && text.length <= 1023 && !found.has(text) && accepts(checksum, text)) found.set(text, { text, edit });
+  }
+  return [...found.values()];
+};
+
+test('a character missing, one too many, and two swapped are found, at each place, as by trying each edit', (t) => {
+  let count = 0, byTrying = 0;
+  for (const [checksum, text] of TEXTS) {
+    // Of the characters that may be put in those that double the one before, and some others.
+    const edits = [...editsOf(text)].filter(({ kind, place, characters }, i) => kind !== 'putIn' || characters === text[place - 1] || i % 16 === 0);
+    for (const [i, damaged] of [text, ...new Set(edits.map((it) => it.text))].entries()) {
+      const found = nearEdits(checksum, damaged);
+      count++;
+      if (text.length < 20 || i % 8 === 0) {
+        assert.deepEqual(found, nearEditsByTrying(checksum, damaged), damaged);
+        byTrying++;
+      }
+      assert.equal(found.some((it) => it.text === text), damaged !== text, damaged);
+      assert.deepEqual(nearEdits(checksum, damaged.toUpperCase()), found);
+    }
+  }
+  t.diagnostic(`${count} texts, for ${byTrying} of which each edit was tried`);
+});
+
+test('what one edit makes of a text that ends in p', () => {
+  assert.deepEqual(nearEdits('bech32', 'ii2134hk2xmat79tqp'), [
+    { text: 'ii2134hk2xmat79tp', edit: { kind: 'leftOut', place: 16, characters: 'q' } },
+    { text: 'ii2134hk2xmat79tqqp', edit: { kind: 'putIn', place: 17, characters: 'q' } },
+  ]);
+  assert.deepEqual(nearEdits('bech32', 'a12uel5'), [{ text: 'a12uel5l', edit: { kind: 'putIn', place: 7, characters: 'l' } }]);
+  assert.deepEqual([nearEdits('bech32', 'bc1'), nearEdits('bech32m', `a1${'q'.repeat(2000)}`)], [[], []]);
 });
 
 test('places are told in rising order, with those that were right after all', () => {

@@ -133,15 +133,56 @@ test('arguments stand in regions of their own', () => {
   assert.throws(() => new Instance(modules[0], { a: 2 ** 40 }), RangeError);
 });
 
-test('near texts that are too many for any memory are refused, and not cut', () => {
+// A library of which the calls that list answer so, with what they were given.
+const answering = (answers, body) => {
   const asked = [];
-  withInstances((started) => {
-    const it = library(...modules);
-    assert.throws(() => it.nearest('bech32', ADDRESS), RangeError);
-    assert.ok(asked.length > 2 && asked.every((room, i) => i === 0 || room === 8n * asked[i - 1]), String(asked));
-    assert.ok(started.slice(2).every((one) => isFresh(memoryOf(one), FRESH[0])));
-  }, (exports) => {
-    if (exports.bech32_nearest) exports.bech32_nearest = (...given) => { asked.push(given[8]); return 92; };
+  withInstances((started) => body(library(...modules), asked, started), (exports) => {
+    for (const name of ['bech32_nearest', 'bech32_near_edits']) {
+      const call = exports[name];
+      if (!call) continue;
+      exports[name] = (...given) => {
+        const view = new DataView(exports.memory.buffer), size = view.getBigUint64(Number(given.at(name === 'bech32_nearest' ? 6 : 3)) + 8, true);
+        asked.push({ memory: Number(size), room: Number(given.at(-2)), edits: Number(given[5]) });
+        const { number, count } = answers(asked.length) ?? {};
+        if (number === undefined) return call(...given);
+        if (count !== undefined) view.setBigUint64(Number(given.at(-1)), BigInt(count), true);
+        return number;
+      };
+    }
     return exports;
   });
+};
+
+const DAMAGED = `${ADDRESS.slice(0, 20)}qq${ADDRESS.slice(22)}`, MISSING = ADDRESS.slice(0, 20) + ADDRESS.slice(21);
+
+test('where there is too little memory, the call is made again with more', () => {
+  answering((turn) => (turn % 3 ? { number: 91 } : null), (it, asked, started) => {
+    assert.deepEqual(it.nearest('bech32', DAMAGED).map(({ text }) => text), [ADDRESS]);
+    assert.deepEqual(it.nearEdits('bech32', MISSING).map(({ text }) => text), [ADDRESS]);
+    const memory = asked.map((one) => one.memory / asked[0].memory);
+    assert.deepEqual(memory, [1, 8, 64, 1, 8, 64]);
+    assert.ok(started.slice(2).every((one) => isFresh(memoryOf(one), FRESH[0])));
+  });
+});
+
+test('where there is too little room, it is made once more, with the room that all take', () => {
+  answering((turn) => (turn % 2 ? { number: 92, count: 1000 } : null), (it, asked, started) => {
+    assert.deepEqual(it.nearest('bech32', DAMAGED).map(({ text }) => text), [ADDRESS]);
+    assert.deepEqual(it.nearEdits('bech32', MISSING).map(({ text }) => text), [ADDRESS]);
+    assert.deepEqual(asked.map(({ room }) => room), [16384, 1000 * 42, 16384, 1000 * 42]);
+    assert.deepEqual([asked[2].edits, asked[3].edits], [8, 1000]);
+    assert.ok(started.slice(2).every((one) => isFresh(memoryOf(one), FRESH[0])));
+  });
+});
+
+test('near texts that are too many for any memory are refused, and not cut', () => {
+  for (const answer of [{ number: 91 }, { number: 92, count: 2 ** 40 }]) {
+    answering(() => answer, (it, asked, started) => {
+      assert.throws(() => it.nearest('bech32', ADDRESS), RangeError);
+      assert.throws(() => it.nearEdits('bech32', ADDRESS), RangeError);
+      assert.equal(asked.length, answer.number === 91 ? 6 : 2);
+      assert.ok(asked.every(({ memory }) => memory <= 2 ** 28));
+      assert.ok(started.slice(2).every((one) => isFresh(memoryOf(one), FRESH[0])));
+    });
+  }
 });

@@ -3,7 +3,7 @@
 import test from 'node:test';
 import assert from 'node:assert/strict';
 import fs from 'node:fs';
-import { Refused, check, codex32, correct, decode, encode, segwit } from '../out/package/index.js';
+import { Refused, check, codex32, correct, decode, encode, nearEdits, segwit } from '../out/package/index.js';
 import { bech32Calls, CHECKSUMS } from '../out/package/calls.js';
 import { compiled } from '../out/package/modules.js';
 import { ALPHABET } from './reference.mjs';
@@ -149,3 +149,23 @@ for (const [program, commands] of [['b32', OF_TEXTS], ['c32', OF_STRINGS]]) {
     assert.ok(count.called > lines.length / 2);
   });
 }
+
+const MARKS = { swapped: 'x', leftOut: '-', putIn: '+' };
+
+// A text with the edit that makes it, as the rows have it: locations count from the end.
+const rowOf = ({ text, edit: { kind, place, characters } }, length) =>
+  `${text},${MARKS[kind]}${length - place - (kind === 'putIn' ? 0 : characters.length)}:${characters}`;
+
+test('the texts that one edit makes are those of the stored rows', (t) => {
+  // These rows are the last ones, with a line of reply each.
+  const text = (line) => line.toString('latin1');
+  const rows = linesOf('crates/vector_rows/stdin').map(text).filter((line) => line.startsWith('edits|')).map((line) => line.split('|'));
+  const replies = linesOf('crates/vector_rows/stdout').map(text).slice(-rows.length);
+  rows.forEach(([, name, given], i) => {
+    const checksum = name.toLowerCase(), found = nearEdits(checksum, given);
+    found.forEach((it) => check(checksum, it.text));
+    assert.equal(found.map((it) => rowOf(it, given.length)).join(' ') || 'none', replies[i], given);
+  });
+  t.diagnostic(`${rows.length} rows`);
+  assert.equal(rows.length, 300);
+});

@@ -56,12 +56,14 @@ test('it installs without network, and its README is so', withNpm, () => inFolde
   assert.ok(readme.includes(`${name}-${version}.tgz`));
 }));
 
-const USE = `import { encode, decode, check, correct, segwit, codex32, isLowered, Refused, Stopped, type Checksum, type Code, type Correction } from '${name}';
+const USE = `import { encode, decode, check, correct, nearEdits, segwit, codex32, isLowered, Refused, Stopped, type Checksum, type Code, type Correction, type Edit, type NearEdit } from '${name}';
 const checksum: Checksum = decode('a').checksum;
 const text: string = encode(checksum, 'a', new Uint8Array());
 const { hrp, data }: { hrp: string; data: string } = check('bech32', text);
 const found: Correction | null = correct('bech32m', text, new Set([1]));
 const place: number | undefined = found?.changes[0]?.place;
+const [near]: readonly NearEdit[] = nearEdits(checksum, text), edit: Edit | undefined = near?.edit;
+if (edit?.kind === 'swapped') console.log(edit.place + 1, edit.characters);
 const version: number = segwit.decode(segwit.encode(hrp, 1, new Uint8Array(2))).version;
 const parts: string = codex32.parse(data).identifier + codex32.propose(text)?.text;
 const { threshold, identifier, shareIndex, bytes }: { threshold: number; identifier: string; shareIndex: string; bytes: Uint8Array } = codex32.share(text);

@@ -54,6 +54,9 @@ const shownFor = async (page, text) => {
   return page.evaluate(SHOWN);
 };
 
+// What the answer says is spoken behind a pause, and what a button says is not to be mistaken for it.
+const isSpoken = (page) => until(() => page.evaluate('return document.getElementById("spoken").textContent !== "";'), 'word of the answer', 10);
+
 // A kind of text, what is said of it, and the characters that are struck out and mended.
 const KINDS = [
   ['an address', V0, /This is a right Bech32 address\.[^]*segwit address of Bitcoin/, '', ''],
@@ -62,6 +65,9 @@ const KINDS = [
   ['one wrong character', DAMAGED, /One character was wrong: the 28th, “t” for “r”\.[^]*A correction is a guess[^]*The checksum of what was put in is wrong/, 't', 'r'],
   ['a character that cannot be read', `${V0.slice(0, 27)}?${V0.slice(28)}`, /The character that cannot be read was found: the 28th is “r”\.[^]*A correction is a guess/, '?', 'r'],
   ['two wrong characters', `${V0.slice(0, 11)}qq${V0.slice(13)}`, /Two characters were wrong[^]*A correction is a guess/, 'qq', V0.slice(11, 13)],
+  ['a missing character', V0.slice(0, 20) + V0.slice(21), /One character is missing: the 21st, “r”\.[^]*A correction is a guess[^]*41 characters; an address of version 0 has 42 or 62/, '', 'r'],
+  ['a character too many', `${V0.slice(0, 27)}r${V0.slice(27)}`, /One character too many: the 29th, “r”\.[^]*A correction is a guess/, 'r', ''],
+  ['two that were swapped', `${V0.slice(0, 22)}az${V0.slice(24)}`, /Two neighbours were swapped: the 23rd and the 24th, “a” and “z”\.[^]*A correction is a guess/, 'az', 'za'],
   ['three wrong characters', `${V0.slice(0, 11)}qq${V0.slice(13, 20)}q${V0.slice(21)}`, /No correction was found\./, '', ''],
   ['a character that is no data', `${V0.slice(0, 27)}b${V0.slice(28)}`, /Character 28, “b”, was taken for one that cannot be read/, 'b', 'r'],
   ['a missing beginning', V0.slice(3), /The beginning was missing: “bc1”\./, '', 'bc1'],
@@ -151,7 +157,9 @@ const pictured = async (page, name) => {
 // One text of each form that an answer has.
 const PICTURES = [
   ['empty', ''], ['right', V0], ['mended', DAMAGED], ['two', WRONG.find(([name]) => name === 'two addresses that are near')[1]],
-  ['nothing', KINDS[6][1]], ['open', V0.slice(0, 20)], ['warning', 'abandon ability able about above'], ['several', `${V0} ${DAMAGED}`],
+  ['nothing', KINDS.find(([kind]) => kind === 'three wrong characters')[1]],
+  ...[['missing', 'a missing character'], ['too-many', 'a character too many'], ['swapped', 'two that were swapped']].map(([name, kind]) => [name, KINDS.find(([it]) => it === kind)[1]]),
+  ['weak', WRONG.find(([name]) => name === 'a missing q before the last p')[1]], ['open', V0.slice(0, 20)], ['warning', 'abandon ability able about above'], ['several', `${V0} ${DAMAGED}`],
   ['codex32', KINDS.at(-1)[1]], ['refused', HOSTILE[4][1]], ['set', `${CASH.a}\n${CASH.c.slice(0, 20)}q?${CASH.c.slice(22)}\n${CASH.d.slice(0, 47)}`],
 ];
 
@@ -164,7 +172,7 @@ const inBrowser = (browser, body) => {
     test(browser.name, { skip: `${browser.name} is not installed here, so the page was not tried in it: apt-get install ${browser.packageName}` }, () => {});
     return;
   }
-  test(browser.name, { timeout: 300000 }, async (t) => {
+  test(browser.name, { timeout: 600000 }, async (t) => {
     const page = await browser.open();
     t.diagnostic(page.version);
     try {
@@ -211,6 +219,7 @@ const common = (browser) => async (t, page) => {
     for (const [text, copied] of [[DAMAGED, V0], [`bitcoin:${V0}?amount=1`, V0]]) {
       await page.visit(PAGE);
       await shownFor(page, text);
+      await isSpoken(page);
       await page.evaluate('document.querySelector(".copy").focus();');
       await page.press('Enter');
       await until(() => page.evaluate('return document.querySelector(".copy").textContent === "Copied";'), 'word that it was copied', 5);
@@ -246,6 +255,7 @@ const common = (browser) => async (t, page) => {
     await shownFor(page, strings(CASH, 'acd'));
     const state = 'const it = document.querySelector(".reveal"); return [it.textContent, it.getAttribute("aria-expanded"), document.getElementById("spoken").textContent, document.activeElement === it];';
     assert.equal(await page.evaluate(IN_PAGE, SECRET), false);
+    await isSpoken(page);
     await page.evaluate('document.getElementById("clear").focus();');
     await page.press('Tab');
     await page.press('Enter');

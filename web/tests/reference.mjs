@@ -73,6 +73,24 @@ export function* changedOnce(text) {
   }
 }
 
+/**
+ * What each edit makes of a text: two neighbours behind the separator swapped, a character there left out, or one put in.
+ * Of each kind those with fewer characters behind it come first.
+ */
+export function* editsOf(text) {
+  const { length } = text, first = text.lastIndexOf('1') + 1;
+  for (let place = length - 2; place >= first; place--) {
+    const characters = text.slice(place, place + 2);
+    yield { kind: 'swapped', place, characters, text: text.slice(0, place) + characters[1] + characters[0] + text.slice(place + 2) };
+  }
+  for (let place = length - 1; place >= first; place--) {
+    yield { kind: 'leftOut', place, characters: text[place], text: text.slice(0, place) + text.slice(place + 1) };
+  }
+  for (let place = length; place >= first; place--) {
+    for (const it of ALPHABET) yield { kind: 'putIn', place, characters: it, text: text.slice(0, place) + it + text.slice(place) };
+  }
+}
+
 /** Numbers below a bound, the same at each run from the same seed. */
 export const numbersFrom = (seed) => {
   let state = seed >>> 0;

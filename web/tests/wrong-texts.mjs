@@ -7,10 +7,38 @@ const STRING = 'ms10testsxxxxxxxxxxxxxxxxxxxxxxxxxx4nzvca9cmczlw';
 const INVOICE = 'lnbc2500u1qqj55mu5h80qx2zdw2tmecgx9dg8tx4lusyju5mcnhpwwrp32ea6p302pu69jl4rerk3yd6usxnvhuq48f0cf2ww7vvr6c584nglvx6'
   + 'qvk92l48erepk3rdj6l7zz3ntjz6a4leyf9hf8wxaqgn5cuvkh0sq22j06n3j23';
 
+const TESTNET_TAPROOT = 'tb1pqqqqp399et2xygdj5xreqhjjvcmzhxw4aywxecjdzew6hylgvsesf3hn0c';
+
 const DATA = V0.slice(3);
 const put = (text, ...changes) =>
   changes.reduce((it, [place, character]) => it.slice(0, place) + character + it.slice(place + 1), text);
 const unread = (text) => new RegExp(`Character 11, “${text}”, was taken for one that cannot be read\\. It may not stand behind the separator: letters and digits may, but not 1, b, i and o\\.`);
+
+const ORDINALS = new Intl.PluralRules('en', { type: 'ordinal' });
+const ENDINGS = { one: 'st', two: 'nd', few: 'rd', other: 'th' };
+const nth = (place) => `${place + 1}${ENDINGS[ORDINALS.select(place + 1)]}`;
+
+// An address with a character missing, one doubled, or two neighbours swapped at a place, and what is said of it. Of a run of
+// the same the last place is told.
+const editsAt = (name, text, place, where) => {
+  const { [place]: it, [place + 1]: next } = text, front = text.slice(0, place), behind = text.slice(place + 1);
+  const end = place + /^(.)\1*/.exec(text.slice(place))[0].length - 1;
+  const swapped = next === undefined || next === it ? [] : [['two swapped', front + next + it + behind.slice(1),
+    `Two neighbours were swapped: the ${nth(place)} and the ${nth(place + 1)}, “${next}” and “${it}”\\.`]];
+  return [
+    ['one missing', front + behind, `One character is missing: the ${nth(end)}, “${it}”\\.`],
+    ['one doubled', front + it + it + behind, `One character too many: the ${nth(end + 1)}, “${it}”\\.`], ...swapped,
+  ].flatMap(([kind, typed, said]) => [typed, typed.toUpperCase()].map((one) =>
+    [`${kind} ${where} of ${name}${one === typed ? '' : ' in upper case'}`, one, new RegExp(said, 'i'), text]));
+};
+
+const ADDRESSES = { 'an address': V0, 'one of the test network': TESTNET, 'a Taproot address': TAPROOT, 'one of the test network (Taproot)': TESTNET_TAPROOT };
+
+// Of each address at the beginning, in the middle and at the end.
+const EDITED = Object.entries(ADDRESSES).flatMap(([name, text]) => [
+  ...editsAt(name, text, 3, 'at the beginning'), ...editsAt(name, text, 4, 'behind the beginning'), ...editsAt(name, text, 30, 'in the middle'),
+  ...editsAt(name, text, text.length - 2, 'before the end'), ...editsAt(name, text, text.length - 1, 'at the end'),
+]);
 
 export const WRONG = [
   // Wrong characters.
@@ -24,6 +52,21 @@ export const WRONG = [
   ['three wrong characters', put(V0, [11, 'q'], [20, 'q'], [30, 'q']), /No correction was found\.[^]*No change of one character or two makes an address of it\.[^]*Write \? in place of each character that you are not sure of/, null],
   ['four that cannot be read', `${V0.slice(0, 30)}????${V0.slice(34)}`, /No correction was found\.[^]*Four characters cannot be read\.[^]*At most three characters that cannot be read are found\./, null],
   ['letters of both cases', `B${V0.slice(1)}`, /Upper-case and lower-case letters are mixed: in lower case the text is right\./, V0],
+
+  // A character missing, one too many, and two that were swapped.
+  ...EDITED,
+  ...[['an address', V0], ['one of the test network', TESTNET], ['a Taproot address', TAPROOT], ['an address in upper case', V0.toUpperCase()]].flatMap(([name, text]) => [
+    [`a 1 doubled of ${name}`, `${text.slice(0, 3)}1${text.slice(3)}`, /One character too many: the 4th, “1”\./, text.toLowerCase()],
+    [`the 1 swapped with the next one of ${name}`, `${text.slice(0, 2)}${text[3]}1${text.slice(4)}`, /Two neighbours were swapped: the 3rd and the 4th, “[qpQ]” and “1”\./, text.toLowerCase()],
+    [`a sign too many of ${name}`, `${text.slice(0, 20)}-${text.slice(20)}`, /One character too many: the 21st, “-”\./, text.toLowerCase()],
+  ]),
+  ['one missing of an address, by its length', V0.slice(0, 20) + V0.slice(21), /One character is missing: the 21st, “r”\.[^]*41 characters; an address of version 0 has 42 or 62\./, V0],
+  ['one too many, which is no double', `${V0.slice(0, 20)}8${V0.slice(20)}`, /One character too many: the 21st, “8”\.[^]*43 characters; an address of version 0 has 42 or 62\./, V0],
+  ['one missing between spaces', (V0.slice(0, 20) + V0.slice(21)).replace(/(....)/g, '$1 '), /One character is missing: the 21st, “r”\.[^]*The spaces within the text were left out\./, V0],
+  ['one missing in letters of both cases', `B${V0.slice(1, 20)}${V0.slice(21)}`, /One character is missing: the 21st, “r”\.[^]*Upper-case and lower-case letters are mixed/, V0],
+  ['one missing of an invoice', INVOICE.slice(0, 40) + INVOICE.slice(41), /One character is missing: the 41st, “4”\.[^]*It is a Lightning invoice/, INVOICE],
+  ['a missing q before the last p', 'bc1qpvqqwpc8qurswpc8qurswpc8qurswpc86ndzp', /One character is missing: the 41st, “q”\.[^]*Bech32 also accepts a text that ends in “p” with any number of “q” before that\. So look at the end of this one twice\.[^]*What was put in has a right Bech32 checksum, and is no address/, 'bc1qpvqqwpc8qurswpc8qurswpc8qurswpc86ndzqp'],
+  ['two missing', V0.slice(0, 20) + V0.slice(22), /40 characters so far; [^]*If this is all of it, two characters are missing\./, null],
 
   // Characters that look like others.
   ...['o', 'O', 'i', 'I', 'b', 'B', '1'].map((it) => [`an ${it} in the data`, put(V0, [10, it]), unread(it), V0]),
@@ -49,9 +92,9 @@ export const WRONG = [
   ['bv1 that nothing mends', `bv1${put(DATA, [8, 'q'], [17, 'q'], [27, 'q'])}`, /No correction was found\.[^]*It begins with “bv1”\. Addresses begin with “bc1”, “tb1” or “bcrt1”\./, null],
 
   // Lengths.
-  ['one character less', V0.slice(0, -1), /41 characters so far; an address of version 0 has 42 or 62\.[^]*If this is all of it, one character is missing\./, null],
+  ['two characters less', V0.slice(0, -2), /40 characters so far; an address of version 0 has 42 or 62\.[^]*If this is all of it, two characters are missing\./, null],
   ['the front of an address', V0.slice(0, 20), /20 characters so far; an address of version 0 has 42 or 62\./, null],
-  ['one character more', `${V0.slice(0, 20)}r${V0.slice(20)}`, /43 characters; an address of version 0 has 42 or 62\.[^]*One character may be too many\./, null],
+  ['two characters more', `${V0.slice(0, 20)}rr${V0.slice(20, 30)}q${V0.slice(30)}`.slice(0, 44), /44 characters; an address of version 0 has 42 or 62\.[^]*Two characters may be too many\.[^]*Nor does leaving one out, putting one in, or swapping two\./, null],
   ['a shorter Taproot address', TAPROOT.slice(0, -2), /60 characters so far; a Taproot address \(version 1\) has 62\.[^]*two characters are missing/, null],
   ['a Taproot address with two that are not sure, not all of it', put(TAPROOT, [10, '?'], [20, '?']).slice(0, 50), /50 characters so far; a Taproot address \(version 1\) has 62\.[^]*Two characters cannot be read\.[^]*Whatever these characters are, nothing makes an address of it\./, null],
   ['bc', 'bc', /An address or a codex32 string begins like this\./, null],

@@ -17,6 +17,7 @@ character at fault where there is one. What is proved is the library; this packa
 """
 
 from . import codex32, errors, segwit
+from .edits import Edit, EditKind, NearEdit, near_edits
 from .errors import Refused
 from .texts import (
     Change,
@@ -41,6 +42,9 @@ __all__ = [
     "Correction",
     "Decoded",
     "DecodedWithChecksum",
+    "Edit",
+    "EditKind",
+    "NearEdit",
     "Parts",
     "Refused",
     "check",
@@ -50,6 +54,7 @@ __all__ = [
     "decode_with_checksum",
     "encode",
     "errors",
+    "near_edits",
     "nearest",
     "segwit",
 ]

@@ -86,6 +86,12 @@ nearest = _function(
     *(_NUMBER, *_IN, ctypes.POINTER(_SIZE), _SIZE, _SIZE),
     *(ctypes.POINTER(Memory), _BYTES, _SIZE, _SIZE_OUT),
 )
+near_edits = _function(
+    _BECH32,
+    "bech32_near_edits",
+    *(_NUMBER, *_IN, ctypes.POINTER(Memory), _BYTES, _SIZE),
+    *(ctypes.POINTER(_SIZE), _SIZE, _BYTES, _SIZE, _SIZE_OUT),
+)
 codex32_parse = _function(_CODEX32, "codex32_parse", *_IN, _NUMBER_OUT, _NUMBER_OUT, _SIZE_OUT)
 codex32_share = _function(
     _CODEX32, "codex32_share", *_IN, _NUMBER_OUT, _BYTES, _NUMBER_OUT, *_OUT

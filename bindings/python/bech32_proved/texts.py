@@ -2,24 +2,19 @@
 
 import ctypes
 from enum import Enum
+from functools import partial
 from typing import Any, Iterable, List, NamedTuple, Tuple
 
-from . import _library
-from ._library import Buffer, Lent, Octets, given, octets, refuse, utf8
+from . import _library, _searches
+from ._library import Buffer, Octets, given, octets, refuse, utf8
 from .errors import WrongChecksum
 
 # The characters of the elements from 0 to 31.
 _CHARACTERS = "qpzry9x8gf2tvdw0s3jn54khce6mua7l"
 
-# The bytes that near texts are looked for in, at first and at most, and by what they grow where they do not
-# suffice. Their texts get a quarter more.
-_LEAST_MEMORY, _MOST_MEMORY, _GROWTH = 1 << 16, 1 << 28, 8
-
-# The lent memory does not suffice.
-_NO_MEMORY = 91
-
-# A buffer is too small.
-_NO_ROOM = 92
+# The bytes that near texts are put into at first. Where all of them take more, the first search says how much, and
+# a second one puts them.
+_LEAST_ROOM = 1 << 14
 
 
 class Checksum(Enum):
@@ -213,8 +208,8 @@ def nearest(
     most, the right one where two characters are wrong. It may not be what was meant: of texts of 62
     characters at random, some 15 of 10,000 have one. Show it, and ask.
 
-    What two errors take, in time of a processor at 2.5 GHz, rounded, and how many texts were found. The
-    time is that of one search: where the texts are many, it is made again with more room, four times at most.
+    What two errors take, in time of a processor at 2.5 GHz, rounded, and how many texts were found. Where
+    these fill more than 16 KB there is a second search, which takes as long.
 
         characters   no erasure   one          two          three
         42           0.1 ms, 1    2 ms, 1      8 ms, 1      0.2 s, 14
@@ -247,33 +242,21 @@ def nearest(
     data, known = utf8(text), list(erasures)
     number_of_errors = ctypes.c_size_t(errors)
     asked = (Checksum(checksum).value, *given(data), *_locations(known), number_of_errors)
-    memory = _LEAST_MEMORY
-    number, found = _nearest_within(memory, len(data), asked)
-    while number in (_NO_MEMORY, _NO_ROOM) and memory < _MOST_MEMORY:
-        memory = min(_GROWTH * memory, _MOST_MEMORY)
-        number, found = _nearest_within(memory, len(data), asked)
-    if number in (_NO_MEMORY, _NO_ROOM):
-        raise MemoryError("there are more near texts than can be listed")
-    if number != 0:
-        refuse(number, text, data)
-    return [Correction(near, _changes(text, near, known)) for near in found]
+    search, texts = _searches.Search(text, data), _searches.texts(_LEAST_ROOM)
+    call = partial(_library.interruptible, _library.nearest)
+    count = search.count(call, asked, *texts)
+    if count * len(data) > _LEAST_ROOM:
+        texts = _searches.texts(count * len(data))
+        search.count(call, asked, *texts)
+    found = texts[0][: count * len(data)].decode("ascii")
+    listed = [found[n : n + len(data)] for n in range(0, len(found), len(data))]
+    return [Correction(near, _changes(text, near, known)) for near in listed]
 
 
 def _locations(erasures: Iterable[int]) -> Tuple[Any, int]:
     # Locations as a function takes them. One that no text has is one past the end of any.
     known = [n if 0 <= n < _library.MAX_SIZE else _library.MAX_SIZE for n in erasures]
     return (ctypes.c_size_t * max(len(known), 1))(*known), len(known)
-
-
-def _nearest_within(memory: int, length: int, asked: Tuple[Any, ...]) -> Tuple[int, List[str]]:
-    # What the library answers with so much memory, and the near texts.
-    lent, room, count = Lent(memory), memory // 4, ctypes.c_size_t()
-    texts = ctypes.create_string_buffer(room)
-    number = _library.interruptible(
-        _library.nearest, *asked, ctypes.byref(lent.memory), texts, room, ctypes.byref(count)
-    )
-    found = texts[: count.value * length].decode("ascii")
-    return number, [found[n : n + length] for n in range(0, len(found), max(length, 1))]
 
 
 def _changes(text: str, near: str, erasures: List[int]) -> Tuple[Tuple[int, int], ...]:

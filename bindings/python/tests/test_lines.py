@@ -1,12 +1,13 @@
-"""Compares the package with the stored runs of the programs b32 and c32, whose replies a reference model
-and the Rust crate gave as well: in the folder that B32_LINES names, files b32-lines, b32-replies, c32-lines
-and c32-replies; without it, those of this repository."""
+"""Compares the package with the stored runs of the programs b32, c32 and vector_rows, whose replies reference
+models gave as well: in the folder that B32_LINES names, files b32-lines, b32-replies and so on; without it,
+those of this repository. Of vector_rows, the rows of texts that one edit makes are read."""
 
 import os
 import unittest
 from pathlib import Path
 
-from bech32_proved import Checksum, Refused, codex32, correct, decode, encode, errors, segwit
+from bech32_proved import Checksum, EditKind, Refused, check, codex32, correct, decode, encode, errors, near_edits
+from bech32_proved import segwit
 
 TOP = Path(__file__).resolve().parent.parent.parent.parent
 STORED = {"lines": "stdin", "replies": "stdout"}
@@ -31,6 +32,17 @@ def rows(program):
             yield line.decode("utf-8").split(" "), reply
         except UnicodeDecodeError:
             continue
+
+
+# How a row names the kinds of edits.
+MARKS = {EditKind.SWAPPED: "x", EditKind.LEFT_OUT: "-", EditKind.PUT_IN: "+"}
+
+
+def edit_row(near, length):
+    """A text with its edit as the rows have it: locations count from the end."""
+    kind, place, characters = near.edit
+    behind = length - place - (len(characters) if kind is not EditKind.PUT_IN else 0)
+    return f"{near.text},{MARKS[kind]}{behind}:{characters}"
 
 
 def hexadecimal(data):
@@ -116,6 +128,19 @@ class Lines(unittest.TestCase):
 
     def test_c32(self):
         self.assertGreater(self.compare("c32", c32), 2700)
+
+    def test_edits(self):
+        # These rows are the last ones, with a line of reply each.
+        lines = stored("vector_rows", "lines").read_text("ascii").split()
+        wanted = [line.split("|")[1:] for line in lines if line.startswith("edits|")]
+        replies = stored("vector_rows", "replies").read_text("ascii").splitlines()[-len(wanted) :]
+        for (name, text), reply in zip(wanted, replies):
+            checksum = Checksum[name.upper()]
+            found = near_edits(text, checksum)
+            for near in found:
+                check(near.text, checksum)
+            self.assertEqual(" ".join(edit_row(near, len(text)) for near in found) or "none", reply, text)
+        self.assertEqual(len(wanted), 300)
 
 
 if __name__ == "__main__":

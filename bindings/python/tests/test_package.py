@@ -1,5 +1,6 @@
 """Tests the package as it is installed, over the vectors of BIP-173, BIP-350 and BIP-93."""
 
+import contextlib
 import copy
 import ctypes
 import doctest
@@ -17,8 +18,8 @@ from pathlib import Path
 from unittest import mock
 
 import bech32_proved
-from bech32_proved import Checksum, check, codex32, correct, decode, decode_with_checksum, encode, errors
-from bech32_proved import nearest, segwit, texts
+from bech32_proved import Checksum, Edit, EditKind, check, codex32, correct, decode, decode_with_checksum
+from bech32_proved import _searches, edits, encode, errors, near_edits, nearest, segwit, texts
 from bech32_proved._library import Copied, Lent, interruptible
 
 PROGRAM = bytes.fromhex("751e76e8199196d454941c45d1b3a323f1433bd6")
@@ -93,6 +94,11 @@ NEAR = [
         "bc1qar0srrr7xfkvy5l643lydnw9re59gtzzwf5mdq",
     ),
 ]
+
+ADDRESS = NEAR[0][2]
+
+# A text of which one edit makes two that Bech32 accepts: one with a `q` less before its last `p`, and one with more.
+TWO_EDITS = "ii2134hk2xmat79tqp"
 
 # Texts that are no address.
 NO_ADDRESS = [
@@ -234,11 +240,27 @@ class Texts(unittest.TestCase):
 
     def test_takes_more_memory_for_near_texts(self):
         text, listed, near = NEAR[0]
-        with mock.patch.object(texts, "_LEAST_MEMORY", 16):
+        with mock.patch.object(_searches, "LEAST_MEMORY", 16), mock.patch.object(_searches, "OF_A_CHARACTER", 0):
             self.assertEqual(nearest(text, Checksum.BECH32), [(near, listed)])
+            self.assertEqual(near_edits("a12uel5", Checksum.BECH32)[0].text, "a12uel5l")
             self.assertRaises(errors.MixedCase, nearest, "a12ueL5q", Checksum.BECH32)
-            with mock.patch.object(texts, "_MOST_MEMORY", 32):
+            with mock.patch.object(_searches, "MOST_MEMORY", 32):
                 self.assertRaises(MemoryError, nearest, text, Checksum.BECH32)
+                self.assertRaises(MemoryError, near_edits, "a12uel5", Checksum.BECH32)
+
+    def test_makes_room_for_near_texts(self):
+        """Where all texts fit there is one call, and else a second one, with the room that the first one told."""
+        text, known = "split1checkupstagehan", [3, 8, 1]
+        found, made = nearest(text, Checksum.BECH32, known), near_edits(TWO_EDITS, Checksum.BECH32)
+        for room, calls in ((0, 2), (len(text), 2), (3 * len(text) - 1, 2), (3 * len(text), 1)):
+            with mock.patch.object(texts, "_LEAST_ROOM", room), counted("nearest") as asked:
+                self.assertEqual(nearest(text, Checksum.BECH32, known), found)
+            self.assertEqual(len(asked), calls)
+            self.assertEqual([it[-2] for it in asked[1:]], [3 * len(text)] * (calls - 1))
+        for room, calls in ((0, 2), (1, 2), (2, 1)):
+            with mock.patch.object(edits, "_LEAST_TEXTS", room), counted("near_edits") as asked:
+                self.assertEqual(near_edits(TWO_EDITS, Checksum.BECH32), made)
+            self.assertEqual(len(asked), calls)
 
     def test_lists_no_near_texts(self):
         for erasures in [(0, 1, 2, 3), (6,), (-1,), (2**64,), (2**64 - 1,)]:
@@ -253,6 +275,48 @@ class Texts(unittest.TestCase):
                 continue
             with self.subTest(text[:90]), self.assertRaises(error) as raised:
                 nearest(text, Checksum.BECH32)
+            self.assertEqual((raised.exception.text, raised.exception.place), (text, place))
+
+    def test_lists_what_one_edit_makes(self):
+        for place in range(3, len(ADDRESS)):
+            front, character, behind = ADDRESS[:place], ADDRESS[place], ADDRESS[place + 1 :]
+            for text, kind, edited in (
+                (front + behind, EditKind.PUT_IN, character),
+                ((front + character + character + behind).upper(), EditKind.LEFT_OUT, character),
+                (front + behind[:1] + character + behind[1:], EditKind.SWAPPED, behind[:1] + character),
+            ):
+                with self.subTest(text):
+                    if text == ADDRESS:
+                        continue
+                    [near] = near_edits(text, Checksum.BECH32)
+                    self.assertEqual((near.text, near.edit.kind, near.edit.characters), (ADDRESS, kind, edited))
+                    # Of a run of the same the last one is named.
+                    run = len(behind) - len(behind.lstrip(character))
+                    places = {EditKind.SWAPPED: place, EditKind.PUT_IN: place + run, EditKind.LEFT_OUT: place + 1 + run}
+                    self.assertEqual(near.edit.place, places[kind])
+        self.assertEqual(
+            near_edits(TWO_EDITS, Checksum.BECH32),
+            [
+                ("ii2134hk2xmat79tp", (EditKind.LEFT_OUT, 16, "q")),
+                ("ii2134hk2xmat79tqqp", (EditKind.PUT_IN, 17, "q")),
+            ],
+        )
+        printed = [str(Edit(kind, 10, "xy"[: 1 + (kind.value == 1)])) for kind in EditKind]
+        self.assertEqual(
+            printed,
+            ["characters 11 and 12: x and y are swapped", "character 11: x is left out", "character 11: x is put in"],
+        )
+
+    def test_lists_edits_of_any_text_in_the_grammar(self):
+        self.assertEqual([it.text for it in near_edits("a1lqfn3", Checksum.BECH32M)], ["a1lqfn3a"])
+        for text in (ADDRESS, "bc1", "a1" + "q" * 100_000):
+            self.assertEqual(near_edits(text, Checksum.BECH32), [])
+        self.assertRaises(TypeError, near_edits, b"a12uel5l", Checksum.BECH32)
+        for text, error, place in REFUSED:
+            if error in (errors.WrongChecksum, errors.NoChecksum, errors.TextTooLong):
+                continue
+            with self.subTest(text[:90]), self.assertRaises(error) as raised:
+                near_edits(text, Checksum.BECH32)
             self.assertEqual((raised.exception.text, raised.exception.place), (text, place))
 
     def test_wants_texts_and_bytes(self):
@@ -531,7 +595,7 @@ except KeyboardInterrupt:
 
 class Package(unittest.TestCase):
     def test_examples(self):
-        for module in (bech32_proved, codex32, texts):
+        for module in (bech32_proved, codex32, edits, texts):
             tried = doctest.testmod(module)
             self.assertEqual(tried.failed, 0)
             self.assertGreater(tried.attempted, 0)
@@ -562,6 +626,7 @@ class Package(unittest.TestCase):
         results = [decode("A12UEL5L"), decode_with_checksum("A12UEL5L"), address, mended, *mended.changes]
         results += [check("A12UEL5L", Checksum.BECH32), Checksum.BECH32M]
         results += [codex32.parse(SECRET), codex32.share(SECRET)]
+        results += near_edits(TWO_EDITS, Checksum.BECH32)
         for result in results:
             for again in copies(result):
                 self.assertEqual(again, result)
@@ -622,6 +687,19 @@ class Package(unittest.TestCase):
             interruptible(texts._library.nearest, "no number")
         with mock.patch.object(threading.Thread, "start", side_effect=RuntimeError):
             self.assertEqual(nearest(NEAR[0][0], Checksum.BECH32)[0].text, NEAR[0][2])
+
+
+@contextlib.contextmanager
+def counted(name):
+    """The arguments of each call of a function of the library."""
+    function, asked = getattr(texts._library, name), []
+
+    def called(*arguments):
+        asked.append(arguments)
+        return function(*arguments)
+
+    with mock.patch.object(texts._library, name, called):
+        yield asked
 
 
 def copies(value):

@@ -1,7 +1,8 @@
 //! Mistyped texts mended.
 
 use crate::checksum::CorrectingChecksum;
-use crate::raw::{self, Block};
+use crate::lent::{Lent, MOST_MEMORY};
+use crate::raw;
 use crate::text::{ascii, MAX_TEXT_LENGTH};
 use crate::{Fe32, Refusal};
 use std::fmt;
@@ -10,11 +11,9 @@ use std::iter::once;
 // The locations that a correction has at most.
 const MAX_LISTED: usize = 3;
 
-// The bytes that near texts are looked for in, at first and at most, and by what they grow where they do
-// not suffice. Their texts get a quarter more.
-const LEAST_MEMORY: usize = 64 << 10;
-const MOST_MEMORY: usize = 256 << 20;
-const GROWTH: usize = 8;
+// The bytes that near texts are put into at first. Where all of them take more, the first search says how
+// much, and a second one puts them.
+const LEAST_ROOM: usize = 16 << 10;
 
 /// How a mistyped text is mended.
 #[derive(Clone, Debug, PartialEq, Eq, Hash)]
@@ -145,8 +144,8 @@ pub fn correct<Ck: CorrectingChecksum>(s: &str, erasures: &[usize]) -> Result<Co
 ///
 /// # What it takes
 ///
-/// Two errors, in time of a processor at 2.5 GHz, rounded, and how many texts were found. The time is
-/// that of one search: where the texts are many, it is made again with more room, four times at most.
+/// Two errors, in time of a processor at 2.5 GHz, rounded, and how many texts were found. Where these fill
+/// more than 16 KB there is a second search, which takes as long.
 ///
 /// | characters | no erasure | one | two | three |
 /// |---|---|---|---|---|
@@ -194,37 +193,32 @@ pub fn nearest<Ck: CorrectingChecksum>(
     erasures: &[usize],
     errors: usize,
 ) -> Result<Vec<Correction>, Refusal> {
-    nearest_from::<Ck>(LEAST_MEMORY, s, erasures, errors)
+    nearest_from::<Ck>(LEAST_ROOM, s, erasures, errors)
 }
 
-// The same, first with so much memory.
+// The same, first with so much room for the texts.
 fn nearest_from<Ck: CorrectingChecksum>(
-    mut memory: usize,
+    least: usize,
     s: &str,
     erasures: &[usize],
     errors: usize,
 ) -> Result<Vec<Correction>, Refusal> {
-    loop {
-        match nearest_within::<Ck>(memory, s, erasures, errors) {
-            Err(Refusal::NoMemory | Refusal::NoRoom) if memory < MOST_MEMORY => {
-                memory = MOST_MEMORY.min(GROWTH * memory);
-            }
-            found => return found,
-        }
-    }
-}
-
-// The same with so much memory.
-fn nearest_within<Ck: CorrectingChecksum>(
-    memory: usize,
-    s: &str,
-    erasures: &[usize],
-    errors: usize,
-) -> Result<Vec<Correction>, Refusal> {
-    let mut lent = vec![Block::ZEROS; memory / Block::SIZE];
-    let mut texts = vec![0; memory / 4];
     let (number, text) = (Ck::NUMBER, s.as_bytes());
-    let count = raw::nearest(number, text, erasures, errors, &mut lent, &mut texts)?;
+    let mut lent = Lent::for_text(s.len());
+    // As many as there is room for; answered is the number of all.
+    let mut put = |texts: &mut [u8]| {
+        lent.to(|lent| raw::nearest(number, text, erasures, errors, lent, texts))
+    };
+    let mut texts = vec![0; least];
+    let count = put(&mut texts)?;
+    let wanted = count.saturating_mul(s.len());
+    if wanted > MOST_MEMORY {
+        return Err(Refusal::NoRoom);
+    }
+    if wanted > least {
+        texts = vec![0; wanted];
+        put(&mut texts)?;
+    }
     let found = texts.chunks_exact(s.len()).take(count).map(ascii);
     Ok(found.map(|near| correction_to(near, s, erasures)).collect())
 }
@@ -255,37 +249,31 @@ fn added((old, new): (u8, u8)) -> Fe32 {
 #[cfg(test)]
 mod tests {
     use super::*;
+    use crate::raw::Block;
     use crate::Bech32;
 
     const MISTYPED: &str = "bc1qqq08d6qejxtdg4y5r3zarvary0c5xw7kv8f3t4";
 
     #[test]
-    fn takes_more_memory_while_there_is_too_little() {
-        let found = nearest::<Bech32>(MISTYPED, &[], 2).unwrap();
-        assert_eq!(found.len(), 1);
-        for memory in [Block::SIZE, 160, 1 << 12] {
-            assert_eq!(
-                nearest_from::<Bech32>(memory, MISTYPED, &[], 2),
-                Ok(found.clone())
-            );
+    fn counts_the_texts_that_it_has_no_room_for() {
+        let mut lent = vec![Block::ZEROS; 1 << 12];
+        let (text, length) = (MISTYPED.as_bytes(), MISTYPED.len());
+        for room in [0, length - 1, length, length + 1] {
+            let mut texts = vec![0; room];
+            let count = raw::nearest(1, text, &[], 2, &mut lent, &mut texts);
+            assert_eq!(count, Ok(1));
+            assert_eq!(texts.iter().all(|byte| *byte == 0), room < length);
         }
-        for memory in [0, Block::SIZE] {
-            let refused = nearest_within::<Bech32>(memory, MISTYPED, &[], 2);
-            assert_eq!(refused, Err(Refusal::NoMemory));
-        }
-        let mixed = nearest_within::<Bech32>(0, "a12ueL5q", &[], 2);
-        assert_eq!(mixed, Err(Refusal::MixedCase));
     }
 
     #[test]
-    fn wants_room_for_each_text() {
-        let mut lent = vec![Block::ZEROS; LEAST_MEMORY / Block::SIZE];
-        let mut texts = [0; MISTYPED.len()];
-        let mut count = |room: usize| {
-            let text = MISTYPED.as_bytes();
-            raw::nearest(1, text, &[], 2, &mut lent, &mut texts[..room])
-        };
-        assert_eq!(count(MISTYPED.len() - 1), Err(Refusal::NoRoom));
-        assert_eq!(count(MISTYPED.len()), Ok(1));
+    fn makes_room_for_all_texts() {
+        let text = "split1checkupstagehan";
+        let found = nearest::<Bech32>(text, &[3, 8, 1], 2).unwrap();
+        assert_eq!(found.len(), 3);
+        for least in [0, text.len() - 1, text.len(), 3 * text.len()] {
+            let again = nearest_from::<Bech32>(least, text, &[3, 8, 1], 2);
+            assert_eq!(again.as_ref(), Ok(&found));
+        }
     }
 }

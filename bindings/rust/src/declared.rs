@@ -13,7 +13,7 @@ pub struct Memory {
 macro_rules! declare {
     ($encode:ident, $decode:ident, $check:ident, $fault:ident, $residue:ident,
      $segwit_encode:ident, $segwit_decode:ident, $correct:ident
-     $(, $nearest:ident)?) => {
+     $(, $nearest:ident $(, $near_edits:ident)?)?) => {
         #[allow(dead_code)]
         extern "C" {
             pub fn $encode(
@@ -112,6 +112,22 @@ macro_rules! declare {
                     texts_room: usize,
                     count: *mut usize,
                 ) -> u32;
+
+                $(
+                    pub fn $near_edits(
+                        checksum: u32,
+                        text: *const u8,
+                        text_length: usize,
+                        memory: *mut $crate::declared::Memory,
+                        kinds: *mut u8,
+                        kinds_room: usize,
+                        locations: *mut usize,
+                        locations_room: usize,
+                        texts: *mut u8,
+                        texts_room: usize,
+                        count: *mut usize,
+                    ) -> u32;
+                )?
             )?
         }
     };

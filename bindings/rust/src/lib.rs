@@ -68,11 +68,15 @@ pub mod codex32;
 mod correction;
 mod declared;
 mod decode;
+#[cfg(feature = "correct")]
+mod edits;
 mod encode;
 mod error;
 mod fault;
 mod fe32;
 mod iter;
+#[cfg(feature = "correct")]
+mod lent;
 mod part;
 #[allow(unsafe_code)]
 mod raw;
@@ -86,6 +90,8 @@ pub use checksum::CorrectingChecksum;
 pub use checksum::{Bech32, Bech32m, Checksum, NoChecksum};
 #[cfg(feature = "correct")]
 pub use correction::{correct, nearest, Change, Correction};
+#[cfg(feature = "correct")]
+pub use edits::{near_edits, Edit, NearEdit};
 pub use fault::{fault, Fault};
 pub use fe32::Fe32;
 pub use iter::{ByteIterExt, Fe32IterExt};
@@ -117,6 +123,7 @@ pub mod primitives {
     #[cfg(feature = "correct")]
     pub mod correction {
         pub use crate::correction::{correct, nearest, Change, Correction};
+        pub use crate::edits::{near_edits, Edit, NearEdit};
     }
 
     /// Texts read, and why they are refused.

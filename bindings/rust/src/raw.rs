@@ -20,7 +20,8 @@ mod c {
         bech32_segwit_encode,
         bech32_segwit_decode,
         bech32_correct,
-        bech32_nearest
+        bech32_nearest,
+        bech32_near_edits
     );
 }
 
@@ -132,6 +133,15 @@ fn known<T, R>(number: u32, refusal: Option<R>, value: T) -> Result<T, R> {
 // The same of a call of bech32_c.
 fn answered<T>(number: u32, value: T) -> Result<T, Refusal> {
     known(number, Refusal::from_number(number), value)
+}
+
+// The same of a call that counts all of what it lists, and puts what there is room for.
+#[cfg(feature = "correct")]
+fn counted(number: u32, count: usize) -> Result<usize, Refusal> {
+    match answered(number, count) {
+        Err(Refusal::NoRoom) => Ok(count),
+        answer => answer,
+    }
 }
 
 /// Puts the text of a human-readable part and bytes into a buffer, and answers its length.
@@ -288,8 +298,8 @@ pub fn correct(
     answered(number, (count, mended_length))
 }
 
-/// Puts the texts near to a text into a buffer, one behind another, and answers how many there are.
-/// The memory is for the call's own use.
+/// Puts the texts near to a text into a buffer, one behind another, as many as it has room for, and answers
+/// how many there are in all. The memory is for the call's own use.
 #[cfg(feature = "correct")]
 pub fn nearest(
     checksum: u32,
@@ -318,7 +328,39 @@ pub fn nearest(
             &mut count,
         )
     };
-    answered(number, count)
+    counted(number, count)
+}
+
+/// Puts what one edit makes of a text into buffers, as much as they have room for, and answers how many such
+/// texts there are in all: the kind of each edit, its location, and the texts, one behind another. The
+/// memory is for the call's own use.
+#[cfg(feature = "correct")]
+pub fn near_edits(
+    checksum: u32,
+    text: &[u8],
+    memory: &mut [Block],
+    kinds: &mut [u8],
+    locations: &mut [usize],
+    texts: &mut [u8],
+) -> Result<usize, Refusal> {
+    let (mut lent, mut count) = (lent(memory), 0);
+    // SAFETY: as in `nearest`.
+    let number = unsafe {
+        c::bech32_near_edits(
+            checksum,
+            text.as_ptr(),
+            text.len(),
+            &mut lent,
+            kinds.as_mut_ptr(),
+            kinds.len(),
+            locations.as_mut_ptr(),
+            locations.len(),
+            texts.as_mut_ptr(),
+            texts.len(),
+            &mut count,
+        )
+    };
+    counted(number, count)
 }
 
 /// Reads a string of either length, puts the bytes of its payload into a buffer, and answers how many they

@@ -1,6 +1,7 @@
 //! Encoding and decoding of bech32 texts.
 //!
-//! Below it: all that it exports: `bech32_core`, `bech32_near`, `bech32_segwit`, `bech32_block`.
+//! Below it: all that it exports: `bech32_core`, `bech32_near`, `bech32_near_edits`,
+//! `bech32_segwit`, `bech32_block`.
 //! Standard: BIP-173; BIP-350.
 #![tactic(auto)]
 
@@ -34,6 +35,7 @@ pub use bech32_gf::gf32::Fe32;
 pub use bech32_gf_ext::{Fe1024, Fe32768};
 pub use bech32_hrp::Hrp;
 pub use bech32_near::{NearTexts, nearest, nearest_in};
+pub use bech32_near_edits::{Change, Edit, EditsError, NearEdit, near_edits, near_edits_in};
 pub use bech32_near_listings::nearest_listings;
 pub use bech32_near_patterns::Listings;
 pub use bech32_segwit as segwit;

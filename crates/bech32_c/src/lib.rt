@@ -4,8 +4,8 @@
 //! Each call returns 0, or the number of a refusal (`specs/Numbers.antt` of `bech32_calls`, which
 //! does the work). What it writes stands at the front of the caller's buffers; behind it nothing
 //! changes, and on a refusal nothing changes at all, but for a place that is found, lent memory,
-//! and what is said of 91 at `bech32_nearest`. No call takes any memory but what a caller lends to
-//! it.
+//! and what is said of 91 and 92 at `bech32_nearest` and `bech32_near_edits`. No call takes any
+//! memory but what a caller lends to it.
 //!
 //! A `&[u8]` or a `&mut [u8]` is a pointer and then a length to C, and a `&mut` a pointer. None of
 //! these pointers may be null, but one beside a length of 0, which nothing follows; and what one
@@ -21,6 +21,7 @@ pub mod encode;
 pub mod engine;
 pub mod fault;
 pub mod message;
+pub mod near_edits;
 pub mod nearest;
 pub mod segwit;
 #[cfg(test)]

@@ -1,5 +1,6 @@
 mod messages;
 mod near;
+mod near_edits;
 
 use crate::correct::bech32_correct;
 use crate::decode::{bech32_check, bech32_decode};

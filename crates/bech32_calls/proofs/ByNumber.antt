@@ -23,15 +23,6 @@ module _ (P Q : Code → Type 0) (more : (code : Code) → P code → Q code) wh
   pub more_for : (n : ℕ) → ForChecksum n P → ForChecksum n Q
   more_for n = more_of (code_of_number n)
 
-module _ (P : Code → Type 0) (Q : Type 0) (gives : (code : Code) → P code → Q) where
-  out_of : (o : Option Code) → MatchOption o ⊥ P → Q
-  out_of None h = absurd h
-  out_of (Some code) h = gives code h
-
-  -- what follows by any checksum, and does not speak of it
-  pub out_for : (n : ℕ) → ForChecksum n P → Q
-  out_for n = out_of (code_of_number n)
-
 module _ (A B : Code → Refusal → Type 0) (e : Refusal) (more : (code : Code) → A code e → B code e) where
   fault_of : (o : Option Code) → MatchOption o (e ≡ BadNumber) (λ code. A code e) → MatchOption o (e ≡ BadNumber) (λ code. B code e)
   fault_of None h = h

@@ -5,7 +5,9 @@ pub mod Cases
 pub mod Checking
 pub mod Decoding
 pub mod Encoding
+pub mod Edited
 pub mod Ends
+pub mod Fitting
 pub mod Joined
 pub mod Letters
 pub mod Listings

@@ -18,12 +18,23 @@ put_one front old i x size less =
     ∙ sym (append_assoc front (x ∷ []) (drop (i + 1) old))
 
 -- one more item
-pub put_more : {A : Type 0} (f : A → ℕ) (listing : List A) (old b : List ℕ) (i : ℕ) (d : A) → i < length listing → length listing ≤ length old
+pub put_more : {A : Type 0} (f : A → ℕ) (listing : List A) (old b : List ℕ) (i : ℕ) (d : A) → i < length listing → i < length old
     → b ≡ map f (take i listing) ++ drop i old → set b i (f (get_or listing i d)) ≡ map f (take (i + 1) listing) ++ drop (i + 1) old
 put_more f listing old b i d less room is =
     ap (λ (l : List ℕ). set l i (f (get_or listing i d))) is
     ∙ put_one (map f (take i listing)) old i (f (get_or listing i d)) (length-map (take i listing) f ∙ length-take-le i listing (omega arith)) (omega arith)
     ∙ ap (λ (l : List ℕ). l ++ drop (i + 1) old) (sym (map_more f listing i d less))
+
+-- the first items
+pub put_first : {A : Type 0} (f : A → ℕ) (listing : List A) (old new : List ℕ) (n : ℕ) → n ≤ length listing → n ≤ length old
+    → new ≡ map f (take n listing) ++ drop n old → IsPut (map f (take n listing)) old new n
+put_first f listing old new n few room is =
+    let size : length (map f (take n listing)) ≡ n = length-map (take n listing) f ∙ length-take-le n listing few in
+    record {
+      fits = omega (arith, size, room);
+      buffer = is ∙ ap (λ (k : ℕ). map f (take n listing) ++ drop k old) (sym size);
+      count_is = sym size;
+    }
 
 -- all items
 pub put_listed : {A : Type 0} (f : A → ℕ) (listing : List A) (old new : List ℕ) (i : ℕ) → i ≡ length listing → length listing ≤ length old

@@ -33,7 +33,6 @@ use Rattle.bech32_correction.specs.declared.correcting.Correction.{Correction}
 use Rattle.bech32_correction.specs.declared.correcting.Correction.TheVariants.{Accepted}
 use Rattle.bech32_correction.proofs.Sound.{sound_of}
 use Rattle.bech32_correction.proofs.Texts.{IsMendable, ends-lowered, mendable-from_accepts, mendable-from_listing, mended_text-from_ends}
-use Rattle.std.specs.Str.{IsUtf8}
 use Rattle.bech32_calls.specs.Correct.{CanMend, IsCorrectFault, IsListingFault, IsMending, IsResidueFault, LacksRoomForMended, PutsMended, bound}
 use Rattle.bech32_calls.specs.declared.refusal.Refusal.{Refusal}
 use Rattle.bech32_calls.specs.declared.refusal.Refusal.TheVariants.{NotUtf8, Text, Checksum, NoCorrection, NoRoom}

@@ -5,7 +5,9 @@ pub mod Decode
 pub mod Encode
 pub mod Engine
 pub mod Faults
+pub mod Fitting
 pub mod Kinds
+pub mod NearEdits
 pub mod Nearest
 pub mod Numbers
 pub mod Place

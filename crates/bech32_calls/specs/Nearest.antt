@@ -1,13 +1,14 @@
 -- The texts near a mistyped one put into a buffer, and why none are.
-use Rattle.std.specs.Prelude.{◌≡◌, ◌<◌, ◌≤◌, ◌*◌, ℕ, List, length, flat_map}
+use Rattle.std.specs.Prelude.{◌≡◌, ◌<◌, ◌≤◌, ◌*◌, ℕ, List, length, flat_map, take}
 use Rattle.bech32_gf.specs.declared.gf32.Fe32.{Fe32}
 use Rattle.bech32_checksum.specs.Code.{Code}
 use Rattle.bech32_encode.specs.Buffers.{IsPut}
 use Rattle.bech32_near.specs.NearTexts.{AreNearTexts}
 use Rattle.bech32_correction.specs.Mistyped.{HasResidue}
 use Rattle.bech32_calls.specs.Correct.{IsResidueFault, bound}
+use Rattle.bech32_calls.specs.Fitting.{FirstFit, IsMost}
 use Rattle.bech32_calls.specs.declared.refusal.Refusal.{Refusal}
-use Rattle.bech32_calls.specs.declared.refusal.Refusal.TheVariants.{BadNumber, Memory, NoRoom}
+use Rattle.bech32_calls.specs.declared.refusal.Refusal.TheVariants.{BadNumber, Memory}
 
 -- the texts of mended ones, one behind another
 abbrev pub joined : List (List (ℕ × Fe32) × List ℕ) → List ℕ
@@ -23,11 +24,18 @@ pub record PutsNear (text given : List ℕ) (errors : ℕ)
   pub count_is : count ≡ length found
   pub put : IsPut (joined found) old new (count * length text)
 
--- they do not fit in a buffer of so many bytes
-pub record LacksRoomForNear (text given : List ℕ) (errors room : ℕ) (code : Code) : Type 0 where
+-- so many texts near this one, which are all, do not fit in a buffer: the most of them that fit,
+-- the first ones, are put there
+pub record PutsFirstNear (text given : List ℕ) (errors : ℕ)
+    (old new : List ℕ) (count : ℕ) (code : Code) : Type 0 where
+  pub few : errors ≤ 2
   pub found : List (List (ℕ × Fe32) × List ℕ)
   pub near : AreNearTexts code bound text given errors found
-  pub lacks : room < length (joined found)
+  pub count_is : count ≡ length found
+  pub put_count : ℕ
+  pub lacks : put_count < length found
+  pub most : IsMost (FirstFit (λ m. m.1) found (length old)) (length found) put_count
+  pub put : IsPut (joined (take put_count found)) old new (put_count * length text)
 
 -- the residue of a text is read
 pub record IsRead (text : List ℕ) (code : Code) : Type 0 where
@@ -36,11 +44,9 @@ pub record IsRead (text : List ℕ) (code : Code) : Type 0 where
   pub residue : List Fe32
   pub read : HasResidue code text hrp data_part residue
 
--- why nothing is put into a buffer of so many bytes: more than two errors are asked for; else no
--- residue of the text is read; or one is, and the memory or the buffer does not suffice
-abbrev pub IsNearFault : List ℕ → List ℕ → ℕ → ℕ → Code → Refusal → Type 0
-IsNearFault text given errors room code BadNumber = 2 < errors
-IsNearFault text given errors room code Memory = (errors ≤ 2) × IsRead text code
-IsNearFault text given errors room code NoRoom =
-    (errors ≤ 2) × LacksRoomForNear text given errors room code
-IsNearFault text given errors room code e = (errors ≤ 2) × IsResidueFault text code e
+-- why no texts are put into a buffer: more than two errors are asked for; else no residue of the
+-- text is read; or one is, and the memory does not suffice
+abbrev pub IsNearFault : List ℕ → List ℕ → ℕ → Code → Refusal → Type 0
+IsNearFault text given errors code BadNumber = 2 < errors
+IsNearFault text given errors code Memory = (errors ≤ 2) × IsRead text code
+IsNearFault text given errors code e = (errors ≤ 2) × IsResidueFault text code e

@@ -1,15 +1,17 @@
 //! Lists the texts near to a mistyped one.
 
-ghost use Rattle.std.specs.Prelude.{◌≡◌, ◌≤◌, ◌<◌, ◌*◌, ◌⊎◌, length, map, flat_map, string_bytes, true, false, IfErr, IfOk, MatchResult, OnErr};
+ghost use Rattle.std.specs.Prelude.{◌≡◌, ◌≤◌, ◌⊎◌, length, map, flat_map, string_bytes, take, true, false, IfErr, IfOk, MatchResult, OnErr};
 ghost use Rattle.bech32_near.specs.NearTexts.{AreNearTexts, LeavesResidue};
 ghost use Rattle.bech32_encode.specs.Buffers.{IsPut};
 ghost use Rattle.caller_memory.specs.Memory.{LeavesMemory, memory_size};
 ghost use Rattle.bech32_calls.specs.Checksums.{ForChecksum, IsFaultBy};
 ghost use Rattle.bech32_calls.specs.Correct.{IsResidueFault, bound};
-ghost use Rattle.bech32_calls.specs.Nearest.{IsNearFault, PutsNear};
+ghost use Rattle.bech32_calls.specs.Fitting.{FirstFit, IsMost};
+ghost use Rattle.bech32_calls.specs.Nearest.{IsNearFault, PutsFirstNear, PutsNear};
 
 use crate::checksum::{BECH32, BECH32M};
 use crate::input::text_of;
+use crate::listed::Listed;
 use crate::refusal::Refusal;
 use bech32::{Bech32, Bech32m, Mended};
 use bech32_encode::put_at_front;
@@ -61,35 +63,28 @@ fn near_by<'a, A: Allocator>(
     }
 }
 
-// Whether so many texts of so many bytes fit in a buffer of so many.
-fn fit(count: usize, size: usize, room: usize) -> bool
-    ensures yes { result ≡ true → count * size ≤ room }
-    ensures no { result ≡ false → room < count * size }
-{
-    let Some(all) = count.checked_mul(size) else {
-        return false;
-    };
-    if all > room {
-        return false;
-    }
-    true
-}
-
-// Puts texts, one behind another, at the front of a buffer that has room for them.
-fn put_each<A: Allocator + Copy>(near: &[Mended<A>], texts: &mut [u8])
-    requires { length (flat_map (λ m. string_bytes m.text) near.now) ≤ length texts.old }
-    ensures { IsPut (flat_map (λ m. string_bytes m.text) near.now) texts.old texts.new
-        (length (flat_map (λ m. string_bytes m.text) near.now)) }
+// Puts texts, one behind another, at the front of a buffer, as many whole ones as fit, and returns
+// how many.
+fn put_each<A: Allocator + Copy>(near: &[Mended<A>], texts: &mut [u8]) -> usize
+    ensures most { IsMost
+        (FirstFit (λ m. string_bytes m.text) near.now (length texts.old)) (length near.now) result }
+    ensures put { IsPut (flat_map (λ m. string_bytes m.text) (take result near.now))
+        texts.old texts.new
+        (length (flat_map (λ m. string_bytes m.text) (take result near.now))) }
 {
     let mut end = 0;
     for i in 0..near.len() {
         let text = near[i].text.as_bytes();
+        if text.len() > texts.len() - end {
+            return i;
+        }
         put_at_front(&mut texts[end..], text);
         end += text.len();
     }
+    near.len()
 }
 
-// Puts the texts that are near to one that was read into a buffer, and returns how many they are.
+// Puts the texts that are near to one that was read into a buffer.
 fn put_near<A: Allocator>(
     alloc: &A,
     checksum: u32,
@@ -97,40 +92,42 @@ fn put_near<A: Allocator>(
     given: &[usize],
     errors: usize,
     texts: &mut [u8],
-) -> Result<usize, Refusal>
+) -> Result<Listed, Refusal>
     requires few { errors ≤ 2 }
     requires read { ForChecksum checksum
         (λ code. LeavesResidue code read.now.text.now read.now.window read.now.residue) }
-    ensures value { IfOk result (λ count. ForChecksum checksum
-        (PutsNear read.now.text.now given.now errors texts.old texts.new count)) }
+    ensures all { IfOk result (λ listed. listed.fit ≡ true → ForChecksum checksum
+        (PutsNear read.now.text.now given.now errors texts.old texts.new listed.count)) }
+    ensures first { IfOk result (λ listed. listed.fit ≡ false → ForChecksum checksum
+        (PutsFirstNear read.now.text.now given.now errors texts.old texts.new listed.count)) }
     ensures refused { IfErr result (λ e. IsFaultBy checksum
-        (IsNearFault read.now.text.now given.now errors (length texts.old)) e) }
+        (IsNearFault read.now.text.now given.now errors) e) }
     ensures same { OnErr result (texts.new ≡ texts.old) }
 {
     let Ok(found) = near_by(alloc, checksum, read, given, errors) else {
         return Err(Refusal::Memory);
     };
     let near = found.as_slice();
-    let count = near.len();
-    if !fit(count, read.text.len(), texts.len()) {
-        return Err(Refusal::NoRoom);
-    }
-    put_each(near, texts);
-    Ok(count)
+    let put = put_each(near, texts);
+    Ok(Listed {
+        count: near.len(),
+        fit: put == near.len(),
+    })
 }
 
 /// Puts all texts near to a mistyped one, by the checksum of a number, at the front of a buffer, in
-/// lower case and one behind another, each as long as that one, and returns how many they are. They
+/// lower case and one behind another, each as long as that one, and tells how many they are. They
 /// differ from it in at most `errors` characters, 0 to 2, of the data part outside `given`, the
 /// locations of at most three characters that are known to be wrong; location 0 is the last
-/// character. They are worked out in `memory`, which comes back whole.
+/// character. Where they do not fit, as many whole ones as do are put, the first. They are worked
+/// out in `memory`, which comes back whole.
 ///
 /// # Errors
 ///
 /// The first of: a number that is neither 1 nor 2, or more than two errors; a text that is not
-/// UTF-8; its first fault, but for a wrong checksum, all before any memory is taken; a buffer that
-/// is too small. [`Refusal::Memory`] where `memory` does not suffice, in place of the last: then it
-/// is as it was, or it has no bytes and the buffer may have changed.
+/// UTF-8; its first fault, but for a wrong checksum, all before any memory is taken.
+/// [`Refusal::Memory`] where `memory` does not suffice: then it is as it was, or it has no bytes
+/// and the buffer may have changed.
 pub fn put_nearest(
     memory: &mut Memory,
     checksum: u32,
@@ -138,11 +135,13 @@ pub fn put_nearest(
     given: &[usize],
     errors: usize,
     texts: &mut [u8],
-) -> Result<usize, Refusal>
-    ensures value { IfOk result (λ count. ForChecksum checksum
-        (PutsNear bytes.now given.now errors texts.old texts.new count)) }
+) -> Result<Listed, Refusal>
+    ensures all { IfOk result (λ listed. listed.fit ≡ true → ForChecksum checksum
+        (PutsNear bytes.now given.now errors texts.old texts.new listed.count)) }
+    ensures first { IfOk result (λ listed. listed.fit ≡ false → ForChecksum checksum
+        (PutsFirstNear bytes.now given.now errors texts.old texts.new listed.count)) }
     ensures refused { IfErr result (λ e. IsFaultBy checksum
-        (IsNearFault bytes.now given.now errors (length texts.old)) e) }
+        (IsNearFault bytes.now given.now errors) e) }
     ensures same { IfErr result (λ e. (texts.new ≡ texts.old)
         ⊎ ((e ≡ Refusal.Memory) × (memory_size memory.new ≡ 0))) }
     ensures memory { MatchResult result
@@ -154,12 +153,12 @@ pub fn put_nearest(
     }
     let read = read_by(checksum, bytes)?;
     let lent = Lent::new(memory.take());
-    let count = put_near(&lent.arena(), checksum, &read, given, errors, texts);
+    let listed = put_near(&lent.arena(), checksum, &read, given, errors, texts);
     // Memory that does not come back did not suffice.
     match lent.into_memory() {
         Some(whole) => {
             *memory = whole;
-            count
+            listed
         }
         None => Err(Refusal::Memory),
     }

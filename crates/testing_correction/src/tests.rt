@@ -5,6 +5,7 @@ mod detection_memory;
 mod listed;
 mod looked_up;
 mod memory;
+mod near_edits;
 mod near_texts;
 mod nearest;
 mod one_call;

@@ -5,6 +5,9 @@
 //! - `field`, a field, two elements and an exponent: the product of the two, and of the first one
 //!   its inverse, its order and its power;
 //! - `listing`, a checksum, a text, erasures and a window: what is listed for the text;
+//! - `edits`, a checksum and a text: each text that the checksum accepts and one edit makes of this
+//!   one, and the edit: `x` two neighbours swapped, `-` a character left out, `+` one put in, with
+//!   its location and the characters;
 //! - `block`, a field, a generator and a target: the block that declares a checksum, or the number
 //!   of the refusal;
 //! - `bits`, bytes in hex and elements: the elements of the bytes, and the bytes of the elements
@@ -13,11 +16,13 @@
 //! Elements are their characters, the constant coefficient first; a generator goes from its highest
 //! coefficient down, without the leading one; `-` stands for nothing. What the rows in `stdin` give
 //! was made twice over and equal, and is in `stdout`: by a reference model written from the
-//! definitions alone, and by the Rust crate bech32 0.12.0.
+//! definitions alone, and by the Rust crate bech32 0.12.0; the edits, which that crate does not
+//! have, by two models.
 #![tactic(auto)]
 
 mod bits;
 mod blocks;
+mod edits;
 mod elements;
 mod fields;
 mod listings;

@@ -1,6 +1,6 @@
 //! The reply to a row.
 
-use crate::{bits, blocks, fields, listings, registers};
+use crate::{bits, blocks, edits, fields, listings, registers};
 use std::alloc::{AllocError, Global};
 
 /// What is printed for a row that cannot be read.
@@ -23,6 +23,7 @@ pub fn reply(alloc: Global, row: &str) -> Result<String, AllocError> {
         "register" => registers::reply(alloc, &words),
         "field" => fields::reply(alloc, &words),
         "listing" => listings::reply(alloc, &words),
+        "edits" => edits::reply(alloc, &words),
         "block" => blocks::reply(alloc, &words),
         "bits" => bits::reply(alloc, &words),
         _ => no_row(alloc),

@@ -635,3 +635,114 @@ mod corrections {
         }
     }
 }
+
+#[cfg(feature = "correct")]
+mod edits {
+    use super::number;
+    use bech32_proved::primitives::decode::CheckedHrpstring;
+    use bech32_proved::{near_edits, Bech32, Bech32m, CorrectingChecksum, Edit, NearEdit, Refusal};
+
+    // A checksum, a mistyped text, and the texts that one edit makes of it with these edits (`-`: none), as two
+    // independent models found them.
+    const ROWS: &str = include_str!("edits.tsv");
+
+    const ADDRESS: &str = "bc1qw508d6qejxtdg4y5r3zarvary0c5xw7kv8f3t4";
+
+    // A text with its edit as the rows have it, which count from the end.
+    fn row(near: &NearEdit, length: usize) -> String {
+        let text = near.as_str();
+        match near.edit() {
+            Edit::Swapped {
+                place,
+                first,
+                second,
+            } => format!("{text},x{}:{first}{second}", length - 2 - place),
+            Edit::LeftOut { place, character } => {
+                format!("{text},-{}:{character}", length - 1 - place)
+            }
+            Edit::PutIn { place, character } => format!("{text},+{}:{character}", length - place),
+        }
+    }
+
+    fn rows<Ck: CorrectingChecksum>(text: &str) -> String {
+        let found = near_edits::<Ck>(text).unwrap();
+        for near in &found {
+            assert_eq!(number(CheckedHrpstring::new::<Ck>(near.as_str())), 0);
+        }
+        let rows: Vec<String> = found.iter().map(|near| row(near, text.len())).collect();
+        if rows.is_empty() {
+            "-".to_owned()
+        } else {
+            rows.join(" ")
+        }
+    }
+
+    #[test]
+    fn the_texts_of_one_edit() {
+        let mut count = 0;
+        for line in ROWS.lines() {
+            let parts: Vec<&str> = line.split('\t').collect();
+            let found = match parts[0] {
+                "Bech32" => rows::<Bech32>(parts[1]),
+                _ => rows::<Bech32m>(parts[1]),
+            };
+            assert_eq!(found, parts[2], "{line}");
+            count += 1;
+        }
+        assert_eq!(count, 51);
+    }
+
+    // What is said of the one edit that makes the address of a text.
+    fn said(text: &str) -> String {
+        let found = near_edits::<Bech32>(text).unwrap();
+        assert_eq!((found.len(), found[0].as_str()), (1, ADDRESS));
+        found[0].edit().to_string()
+    }
+
+    #[test]
+    fn edits_are_places_and_characters() {
+        for (place, c) in ADDRESS.char_indices().skip(3) {
+            let (front, behind) = ADDRESS.split_at(place);
+            let (number, rest) = (place + 1, &behind[1..]);
+            // Of a run of the same the last one is named.
+            let next = rest.starts_with(c) || front.ends_with(c);
+            let put_in = said(&format!("{front}{rest}"));
+            let left_out = said(&format!("{front}{c}{behind}").to_uppercase());
+            if !next {
+                assert_eq!(put_in, format!("character {number}: {c} is put in"));
+                assert_eq!(
+                    left_out,
+                    format!("character {}: {c} is left out", number + 1)
+                );
+            }
+            let Some(other) = rest.chars().next().filter(|it| *it != c) else {
+                continue;
+            };
+            let swapped = said(&format!("{front}{other}{c}{}", &rest[1..]));
+            let (one, two) = (number, number + 1);
+            assert_eq!(
+                swapped,
+                format!("characters {one} and {two}: {other} and {c} are swapped")
+            );
+        }
+    }
+
+    #[test]
+    fn texts_of_any_length_in_the_grammar() {
+        for (text, wanted) in [
+            ("a12uel5", Ok(1)),
+            ("bc1", Ok(0)),
+            (ADDRESS, Ok(0)),
+            ("", Err(Refusal::NoSeparator)),
+            ("bc1b", Err(Refusal::InvalidCharacter)),
+            ("bC1q", Err(Refusal::MixedCase)),
+            ("1qqqqqq", Err(Refusal::HrpEmpty)),
+            ("é1qqqqqq", Err(Refusal::HrpNotAscii)),
+        ] {
+            let count = near_edits::<Bech32>(text).map(|found| found.len());
+            assert_eq!(count, wanted, "{text}");
+        }
+        let long = format!("a1{}", "q".repeat(100_000));
+        assert_eq!(near_edits::<Bech32m>(&long), Ok(vec![]));
+    }
+}

@@ -167,11 +167,43 @@ const NEAR: Asked<'static> = Asked {
     errors: 2,
 };
 
+// Where the texts do not fit, it counts all, puts so many bytes of them, and writes nothing behind.
+fn lists_what_fits(
+    rt: &impl Abort,
+    alloc: Global,
+    asked: Asked<'_>,
+    want: (usize, &[u8]),
+    sizes: (usize, usize),
+) -> Result<(), AllocError> {
+    let (room, put) = sizes;
+    let mut memory = Memory::leaked(alloc, near_memory(asked.text))?;
+    let (number, (count, buffer)) = near(&mut memory, asked, room);
+    same(rt, &number, &92);
+    same(rt, &count, &want.0);
+    let (front, _) = want.1.split_at(put.min(want.1.len()));
+    holds(rt, &buffer, put, front);
+    same(rt, &memory.with_size().0, &near_memory(asked.text));
+    Ok(())
+}
+
 #[test]
 fn lists_into_small_buffers(rt: HostRuntime) -> Result<(), AllocError> {
-    let size = near_memory(NEAR.text);
+    let one: (usize, &[u8]) = (1, b"bc1qw508d6qejxtdg4y5r3zarvary0c5xw7kv8f3t4");
     for room in [0, 41] {
-        same(&rt, &near_number(&rt, rt.alloc(), size, NEAR, room)?, &92);
+        lists_what_fits(&rt, rt.alloc(), NEAR, one, (room, 0))?;
+    }
+    let three: (usize, &[u8]) = (
+        3,
+        b"split1checkuysyvg6h8nsplit1czecku5stag5hnnsplit15hecku0atag7hzn",
+    );
+    let asked = Asked {
+        checksum: 1,
+        text: b"split1checkupstagehan",
+        erasures: &[3, 8, 1],
+        errors: 2,
+    };
+    for sizes in [(20, 0), (41, 21), (62, 42)] {
+        lists_what_fits(&rt, rt.alloc(), asked, three, sizes)?;
     }
     Ok(())
 }

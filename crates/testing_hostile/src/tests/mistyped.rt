@@ -1,7 +1,10 @@
 //! Mistyped texts, and the texts near to them.
 
 use crate::tests::turns::{Answer, Call, each_refused};
-use bech32::{Bech32, CorrectError, Correction, Mended, NearTexts, correct_in, nearest_in};
+use bech32::{
+    Bech32, CorrectError, Correction, EditsError, Mended, NearEdit, NearTexts, correct_in,
+    near_edits_in, nearest_in,
+};
 use codex32::Codex32;
 use std::alloc::{Allocator, Global};
 use testing_tools::memory::Refusing;
@@ -94,6 +97,54 @@ impl Call for NearestOfThree {
     }
 }
 
+// What a call returned that makes just these texts by one edit, in their order.
+fn makes<A: Allocator + Copy>(
+    said: Result<Vec<NearEdit<String<A>>, A>, EditsError>,
+    texts: &[&str],
+) -> Answer {
+    match said {
+        Ok(near) => {
+            let mut found = near.iter().zip(texts);
+            let is_each = found.all(|(edited, text)| edited.text.as_str() == *text);
+            Answer::of(is_each && near.len() == texts.len())
+        }
+        Err(EditsError::Memory) => Answer::NoMemory,
+        Err(EditsError::Refused(_)) => Answer::Other,
+    }
+}
+
+// The address without a character, and one with two neighbours swapped.
+enum OneLeftOut {}
+
+impl Call for OneLeftOut {
+    fn answer(heap: &Refusing<Global>) -> Answer {
+        let text = "bc1qw508d6qejxtdg4y53zarvary0c5xw7kv8f3t4";
+        makes(near_edits_in::<Bech32, _>(heap, text), &[ADDRESS])
+    }
+}
+
+enum OneSwapped {}
+
+impl Call for OneSwapped {
+    fn answer(heap: &Refusing<Global>) -> Answer {
+        let text = "bc1qw508d6qejxtdg4y5r3zravary0c5xw7kv8f3t4";
+        makes(near_edits_in::<Bech32, _>(heap, text), &[ADDRESS])
+    }
+}
+
+// A text that ends in `qp` has two texts more: Bech32 accepts it with any number of `q` there.
+enum EndingInP {}
+
+impl Call for EndingInP {
+    fn answer(heap: &Refusing<Global>) -> Answer {
+        let near = ["ii2134hk2xmat79tp", "ii2134hk2xmat79tqqp"];
+        makes(
+            near_edits_in::<Bech32, _>(heap, "ii2134hk2xmat79tqp"),
+            &near,
+        )
+    }
+}
+
 #[test]
 fn corrections(rt: HostRuntime) {
     let alloc = rt.alloc();
@@ -107,4 +158,12 @@ fn near_texts(rt: HostRuntime) {
     each_refused::<NearestOfAccepted>(&rt, alloc);
     each_refused::<Nearest>(&rt, alloc);
     each_refused::<NearestOfThree>(&rt, alloc);
+}
+
+#[test]
+fn edits(rt: HostRuntime) {
+    let alloc = rt.alloc();
+    each_refused::<OneLeftOut>(&rt, alloc);
+    each_refused::<OneSwapped>(&rt, alloc);
+    each_refused::<EndingInP>(&rt, alloc);
 }

@@ -12,10 +12,10 @@ loop-i-preserved c =
     let again = c.index-listing-i-in-loop-i.result in
     let less : i < length listing = omega arith in
     record {
-      places = put_more (λ (p : ℕ × Fe32). p.0) listing c.args.locations.now c.loop-i.locations i item less c.requires.locations c.loop-i.invariant.places;
+      places = put_more (λ (p : ℕ × Fe32). p.0) listing c.args.locations.now c.loop-i.locations i item less (omega (arith, less, c.requires.locations)) c.loop-i.invariant.places;
       elements =
           ap (set c.loop-i.values i) c.to_u8.ensures
-          ∙ put_more (λ (p : ℕ × Fe32). value p.1) listing c.args.values.now c.loop-i.values i again less c.requires.values c.loop-i.invariant.elements;
+          ∙ put_more (λ (p : ℕ × Fe32). value p.1) listing c.args.values.now c.loop-i.values i again less (omega (arith, less, c.requires.values)) c.loop-i.invariant.elements;
     }
 
 pub returns-clause-locations : goal.returns-clause-locations

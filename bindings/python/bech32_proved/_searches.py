@@ -1,0 +1,47 @@
+"""Calls of the library that list texts, and count all of them where there is too little room."""
+
+import ctypes
+from typing import Any, Callable, Tuple
+
+from ._library import MAX_TEXT, Lent, refuse
+
+# The bytes that texts are looked for in, at first, at first for each character of the longest texts that are
+# searched, and at most; and by what they grow where they do not suffice.
+LEAST_MEMORY, OF_A_CHARACTER, MOST_MEMORY, _GROWTH = 1 << 16, 512, 1 << 28, 8
+
+# The lent memory does not suffice.
+_NO_MEMORY = 91
+
+# A buffer is too small.
+_NO_ROOM = 92
+
+
+class Search:
+    """Calls about one text, in memory that the next one has as well."""
+
+    def __init__(self, text: str, data: bytes) -> None:
+        self._text, self._data = text, data
+        self._size = LEAST_MEMORY + OF_A_CHARACTER * min(len(data), MAX_TEXT)
+        self._lent = Lent(self._size)
+
+    def count(self, call: Callable[..., int], asked: Tuple[Any, ...], *room: Any) -> int:
+        """How many texts there are in all. As many as there is room for are put there."""
+        count = ctypes.c_size_t()
+        while True:
+            number = call(*asked, ctypes.byref(self._lent.memory), *room, ctypes.byref(count))
+            if number != _NO_MEMORY or self._size >= MOST_MEMORY:
+                break
+            self._size = min(_GROWTH * self._size, MOST_MEMORY)
+            self._lent = Lent(self._size)
+        if number == _NO_MEMORY:
+            raise MemoryError("there are more near texts than can be listed")
+        if number not in (0, _NO_ROOM):
+            refuse(number, self._text, self._data)
+        return count.value
+
+
+def texts(size: int) -> Tuple[Any, int]:
+    """Room for texts of so many bytes in all."""
+    if size > MOST_MEMORY:
+        raise MemoryError("there are more near texts than can be listed")
+    return ctypes.create_string_buffer(max(size, 1)), size

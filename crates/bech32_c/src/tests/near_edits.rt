@@ -1,0 +1,214 @@
+use crate::near_edits::bech32_near_edits;
+use crate::tests::{BEFORE, LENGTH_BEFORE, same};
+use caller_memory::Memory;
+use std::alloc::{AllocError, Global};
+use std::process::Abort;
+
+// What the buffers and the count hold.
+#[derive(Clone, Copy)]
+struct Buffers {
+    count: usize,
+    kinds: [u8; 4],
+    locations: [usize; 4],
+    texts: [u8; 128],
+}
+
+// How many items there is room for in each buffer.
+#[derive(Clone, Copy)]
+struct Rooms {
+    kinds: usize,
+    locations: usize,
+    texts: usize,
+}
+
+const AMPLE: Rooms = Rooms {
+    kinds: 4,
+    locations: 4,
+    texts: 128,
+};
+
+// Some edits: of each its kind and its location; and the texts, one behind another.
+type Edits<'a> = (&'a [(u8, usize)], &'a [u8]);
+
+// What `bech32_near_edits` returns with this memory and buffers of these sizes, and what they hold
+// then.
+fn edits(memory: &mut Memory, row: (u32, &[u8]), rooms: Rooms) -> (u32, Buffers) {
+    let mut held = Buffers {
+        count: LENGTH_BEFORE,
+        kinds: [BEFORE; 4],
+        locations: [LENGTH_BEFORE; 4],
+        texts: [BEFORE; 128],
+    };
+    let (kinds, _) = held.kinds.split_at_mut(rooms.kinds.min(4));
+    let (locations, _) = held.locations.split_at_mut(rooms.locations.min(4));
+    let (texts, _) = held.texts.split_at_mut(rooms.texts.min(128));
+    let number = bech32_near_edits(
+        row.0,
+        row.1,
+        memory,
+        kinds,
+        locations,
+        texts,
+        &mut held.count,
+    );
+    (number, held)
+}
+
+// The buffers hold these edits, and behind them they are as they were.
+fn hold(rt: &impl Abort, held: &Buffers, want: Edits<'_>) {
+    for at in 0..4 {
+        let (kind, location) = match want.0.get(at) {
+            Some(edit) => *edit,
+            None => (BEFORE, LENGTH_BEFORE),
+        };
+        same(rt, &held.kinds.get(at), &Some(&kind));
+        same(rt, &held.locations.get(at), &Some(&location));
+    }
+    assert!(rt; held.texts.starts_with(want.1));
+    assert!(rt; held.texts.iter().skip(want.1.len()).all(|b| *b == BEFORE));
+}
+
+// The number of bytes that `include/bech32.h` states for a text of so many.
+fn stated(text: &[u8]) -> usize {
+    4096 + 16 * text.len().min(1024)
+}
+
+// With so many bytes of memory, all of which come back, it answers this number, counts so many, and
+// puts these edits.
+fn answers(
+    rt: &impl Abort,
+    alloc: Global,
+    row: (u32, &[u8]),
+    rooms: Rooms,
+    want: (u32, usize, Edits<'_>),
+) -> Result<(), AllocError> {
+    let size = stated(row.1);
+    let mut memory = Memory::leaked(alloc, size)?;
+    let (number, held) = edits(&mut memory, row, rooms);
+    same(rt, &number, &want.0);
+    same(rt, &held.count, &want.1);
+    hold(rt, &held, want.2);
+    same(rt, &memory.with_size().0, &size);
+    Ok(())
+}
+
+#[test]
+fn lists_near_edits(rt: HostRuntime) -> Result<(), AllocError> {
+    // The address is of BIP-173; two of its characters swapped, one left out, one doubled.
+    let address = b"bc1qw508d6qejxtdg4y5r3zarvary0c5xw7kv8f3t4";
+    let rows: [(u32, &[u8], Edits<'_>); 8] = [
+        (
+            1,
+            b"bc1qw508d6qejxtdg4y5r3zravary0c5xw7kv8f3t4",
+            (&[(1, 17)], address),
+        ),
+        (
+            1,
+            b"BC1QW508D6QEJXTDG4Y5R3ZRVARY0C5XW7KV8F3T4",
+            (&[(3, 18)], address),
+        ),
+        (
+            1,
+            b"bc1qw508d6qejxtdg4y5r33zarvary0c5xw7kv8f3t4",
+            (&[(2, 20)], address),
+        ),
+        (1, address, (&[], b"")),
+        (
+            1,
+            b"ii2134hk2xmat79tqp",
+            (&[(2, 1), (3, 1)], b"ii2134hk2xmat79tpii2134hk2xmat79tqqp"),
+        ),
+        (2, b"a1lqfn3", (&[(3, 0)], b"a1lqfn3a")),
+        (2, b"a12uel5", (&[], b"")),
+        (1, b"bc1", (&[], b"")),
+    ];
+    for (checksum, text, want) in rows {
+        let want = (0, want.0.len(), want);
+        answers(&rt, rt.alloc(), (checksum, text), AMPLE, want)?;
+    }
+    Ok(())
+}
+
+// A refusal of a number or of the text needs no memory.
+#[test]
+fn refuses_to_edit(rt: HostRuntime) -> Result<(), AllocError> {
+    let rows: [(u32, &[u8], u32); 9] = [
+        (0, b"\xff", 4),
+        (3, b"a12uel5", 4),
+        (1, b"\xff", 2),
+        (1, b"1qqqqqq", 11),
+        (1, b" 1nwldj5", 14),
+        (1, b"a12uel5l\r", 21),
+        (2, b"pQ", 22),
+        (2, b"qpzry", 23),
+        (1, b"", 23),
+    ];
+    for (checksum, text, want) in rows {
+        let mut memory = Memory::leaked(rt.alloc(), 0)?;
+        let (number, held) = edits(&mut memory, (checksum, text), AMPLE);
+        same(&rt, &number, &want);
+        same(&rt, &held.count, &LENGTH_BEFORE);
+        hold(&rt, &held, (&[], b""));
+    }
+    Ok(())
+}
+
+// A text with two edits, of 17 and of 19 characters.
+const TWO: (u32, &[u8]) = (1, b"ii2134hk2xmat79tqp");
+
+const BOTH: Edits<'static> = (&[(2, 1), (3, 1)], b"ii2134hk2xmat79tpii2134hk2xmat79tqqp");
+
+// Where they do not fit in one of the buffers, as many stand in all as fit in each.
+#[test]
+fn lists_edits_into_small_buffers(rt: HostRuntime) -> Result<(), AllocError> {
+    let one: Edits<'_> = (&[(2, 1)], b"ii2134hk2xmat79tp");
+    let rows: [(usize, usize, usize, (u32, usize, Edits<'_>)); 8] = [
+        (2, 2, 36, (0, 2, BOTH)),
+        (4, 4, 35, (92, 2, one)),
+        (4, 4, 17, (92, 2, one)),
+        (4, 4, 16, (92, 2, (&[], b""))),
+        (1, 4, 128, (92, 2, one)),
+        (4, 1, 128, (92, 2, one)),
+        (0, 4, 128, (92, 2, (&[], b""))),
+        (4, 0, 128, (92, 2, (&[], b""))),
+    ];
+    for (kinds, locations, texts, want) in rows {
+        let rooms = Rooms {
+            kinds,
+            locations,
+            texts,
+        };
+        answers(&rt, rt.alloc(), TWO, rooms, want)?;
+    }
+    Ok(())
+}
+
+// The number with so many bytes of memory, which come back: 0 with both edits, or else nothing is
+// written.
+fn number_within(rt: &impl Abort, alloc: Global, size: usize) -> Result<u32, AllocError> {
+    let mut memory = Memory::leaked(alloc, size)?;
+    let (number, held) = edits(&mut memory, TWO, AMPLE);
+    if number == 0 {
+        same(rt, &held.count, &2);
+        hold(rt, &held, BOTH);
+    } else {
+        same(rt, &held.count, &LENGTH_BEFORE);
+        hold(rt, &held, (&[], b""));
+    }
+    same(rt, &memory.with_size().0, &size);
+    Ok(number)
+}
+
+// From some size on memory suffices, at the latest from the stated one.
+#[test]
+fn lists_edits_or_wants_memory(rt: HostRuntime) -> Result<(), AllocError> {
+    let enough = stated(TWO.1);
+    let mut before = 91;
+    for size in (0..enough).step_by(128).chain([enough]) {
+        let number = number_within(&rt, rt.alloc(), size)?;
+        assert!(rt; number == 0 || number == before);
+        before = number;
+    }
+    same(&rt, &before, &0);
+    Ok(())
+}

@@ -1,0 +1,107 @@
+-- Edits and the texts that they make put into buffers.
+use Rattle.std.specs.Prelude.{map, flat_map}
+use Rattle.std.proofs.Common.{◌≡◌, ◌<◌, ◌≤◌, ℕ, List, length, take, min, ap, subst, sym, refl, ◌∙◌, arith}
+use Rattle.std.proofs.lemmas.List.{length-map, length-take-le, take-map, take_all}
+use Rattle.std.proofs.lemmas.Simd.{map-map}
+use Rattle.bech32_decode.specs.Text.{IsInGrammar}
+use Rattle.bech32_encode.specs.Buffers.{IsPut}
+use Rattle.bech32_near_edits.specs.NearEdits.{AreNearEdits}
+use Rattle.bech32_near_edits.specs.declared.edits.Edit.{Edit}
+use Rattle.bech32_calls.specs.Checksums.{ForChecksum}
+use Rattle.bech32_calls.specs.Fitting.{FirstFit, IsMost}
+use Rattle.bech32_calls.specs.NearEdits.{EditsFit, PutsEach, PutsEdits, PutsFirstEdits, number_of_change}
+use Rattle.bech32_calls.proofs.ByNumber.{more_for}
+use Rattle.bech32_calls.proofs.Fitting.{first_fit, first_fit_back, joined_first, most_as}
+use Rattle.bech32_calls.proofs.Puts.{put-same}
+
+module _ {A : Type 0} (edit : A → Edit) (text : A → List ℕ) (items : List A) where
+  -- each with the text that it makes
+  abbrev pub made : List (Edit × List ℕ)
+  made = map (λ m. (edit m, text m)) items
+
+  length_made : length made ≡ length items
+  length_made = length-map {B = Edit × List ℕ} items (λ m. (edit m, text m))
+
+  size : (n : ℕ) → n ≤ length items → length (take n made) ≡ n
+  size n few = length-take-le n made (omega (arith, few, length_made))
+
+  mapped : (k : Edit × List ℕ → ℕ) (n : ℕ) → map (λ m. k (edit m, text m)) (take n items) ≡ map k (take n made)
+  mapped k n = sym (ap (map k) (take-map (λ m. (edit m, text m)) n items) ∙ map-map k (λ m. (edit m, text m)) (take n items))
+
+  -- the first of them are put into buffers
+  pub puts_each : (kinds kinds' locations locations' texts texts' : List ℕ) (n : ℕ) → n ≤ length items → IsPut (map (λ m. number_of_change (edit m).change) (take n items)) kinds kinds' n
+      → IsPut (map (λ m. (edit m).location) (take n items)) locations locations' n → IsPut (flat_map text (take n items)) texts texts' (length (flat_map text (take n items)))
+      → PutsEach (take n made) kinds kinds' locations locations' texts texts'
+  puts_each kinds kinds' locations locations' texts texts' n few k l t = record {
+    kinds_put = put-same (map (λ m. number_of_change (edit m).change) (take n items)) (map (λ m. number_of_change m.0.change) (take n made)) kinds kinds' n (length (take n made))
+        (mapped (λ m. number_of_change m.0.change) n) (sym (size n few)) k;
+    locations_put = put-same (map (λ m. (edit m).location) (take n items)) (map (λ m. m.0.location) (take n made)) locations locations' n (length (take n made))
+        (mapped (λ m. m.0.location) n) (sym (size n few)) l;
+    texts_put = put-same (flat_map text (take n items)) (flat_map (λ m. m.1) (take n made)) texts texts' (length (flat_map text (take n items))) (length (flat_map (λ m. m.1) (take n made)))
+        (sym (joined_first (λ m. (edit m, text m)) (λ m. m.1) items n)) (ap length (sym (joined_first (λ m. (edit m, text m)) (λ m. m.1) items n))) t;
+  }
+
+  module _ (kinds_room locations_room texts_room n : ℕ) where
+    -- the most that fit in three buffers
+    pub most_edits : IsMost (λ k. (k ≤ kinds_room) × (k ≤ locations_room) × FirstFit text items texts_room k) (length items) n
+        → IsMost (EditsFit made kinds_room locations_room texts_room) (length items) n
+    most_edits =
+        most_as (λ k. (k ≤ kinds_room) × (k ≤ locations_room) × FirstFit text items texts_room k) (EditsFit made kinds_room locations_room texts_room) (length items) (length items) n refl
+        (λ k h. (h.0, h.1, first_fit (λ m. (edit m, text m)) (λ m. m.1) items texts_room k h.2)) (λ k h. (h.0, h.1, first_fit_back (λ m. (edit m, text m)) (λ m. m.1) items texts_room k h.2))
+
+    -- of those that have room in two buffers the texts fit so far
+    pub most_of_texts : n ≤ kinds_room → n ≤ locations_room → IsMost (FirstFit text items texts_room) (length items) n → IsMost (EditsFit made kinds_room locations_room texts_room) (length items) n
+    most_of_texts few_kinds few_locations h =
+        most_edits record {
+          within = h.within;
+          fits = (few_kinds, few_locations, h.fits);
+          full = λ less next. h.full less next.2;
+        }
+
+    -- the others have no room in one of two buffers
+    pub most_of_rooms : n ≡ min (min (length items) kinds_room) locations_room → FirstFit text items texts_room n → IsMost (EditsFit made kinds_room locations_room texts_room) (length items) n
+    most_of_rooms is fits =
+        most_edits record {
+          within = omega (arith, is);
+          fits = (omega (arith, is), omega (arith, is), fits);
+          full = λ less next. omega (arith, is, less, next.0, next.1);
+        }
+
+-- ---- by the checksum of a number, for a copy of the list
+
+module _ {A : Type 0} (edit : A → Edit) (text : A → List ℕ) (n : ℕ) (old : List ℕ) (near items : List A) (same : near ≡ items) (grammar : IsInGrammar old)
+    (are : ForChecksum n (λ code. AreNearEdits code old (map (λ m. (edit m, text m)) items))) where
+  these : ForChecksum n (λ code. AreNearEdits code old (map (λ m. (edit m, text m)) near))
+  these = subst (λ (l : List A). ForChecksum n (λ code. AreNearEdits code old (map (λ m. (edit m, text m)) l))) (sym same) are
+
+  module _ (kinds kinds' locations locations' texts texts' : List ℕ) (count k : ℕ) (counted : count ≡ length near)
+      (put : PutsEach (take k (map (λ m. (edit m, text m)) near)) kinds kinds' locations locations' texts texts') where
+    pub puts_edits : k ≡ length near → ForChecksum n (PutsEdits old kinds kinds' locations locations' texts texts' count)
+    puts_edits whole =
+        more_for (λ code. AreNearEdits code old (map (λ m. (edit m, text m)) near)) (PutsEdits old kinds kinds' locations locations' texts texts' count)
+        (λ code h. record {
+          grammar = grammar;
+          found = map (λ m. (edit m, text m)) near;
+          near = h;
+          count_is = counted ∙ sym (length-map {B = Edit × List ℕ} near (λ m. (edit m, text m)));
+          put = subst (λ l. PutsEach l kinds kinds' locations locations' texts texts')
+              (take_all k (map (λ m. (edit m, text m)) near) (omega (arith, whole, length-map {B = Edit × List ℕ} near (λ m. (edit m, text m))))) put;
+        })
+        n these
+
+    pub puts_first_edits : k < length near → IsMost (EditsFit (map (λ m. (edit m, text m)) near) (length kinds) (length locations) (length texts)) (length near) k
+        → ForChecksum n (PutsFirstEdits old kinds kinds' locations locations' texts texts' count)
+    puts_first_edits less most =
+        more_for (λ code. AreNearEdits code old (map (λ m. (edit m, text m)) near)) (PutsFirstEdits old kinds kinds' locations locations' texts texts' count)
+        (λ code h. record {
+          grammar = grammar;
+          found = map (λ m. (edit m, text m)) near;
+          near = h;
+          count_is = counted ∙ sym (length-map {B = Edit × List ℕ} near (λ m. (edit m, text m)));
+          put_count = k;
+          lacks = omega (arith, less, length-map {B = Edit × List ℕ} near (λ m. (edit m, text m)));
+          most = subst (λ all. IsMost (EditsFit (map (λ m. (edit m, text m)) near) (length kinds) (length locations) (length texts)) all k)
+              (sym (length-map {B = Edit × List ℕ} near (λ m. (edit m, text m)))) most;
+          put = put;
+        })
+        n these

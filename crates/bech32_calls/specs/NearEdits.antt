@@ -1,0 +1,64 @@
+-- The texts that one edit makes of a text put into buffers, and why none are.
+use Rattle.std.specs.Prelude.{◌≡◌, ◌<◌, ◌≤◌, ℕ, List, length, map, flat_map, take, Some}
+use Rattle.std.specs.Str.{IsUtf8}
+use Rattle.bech32_checksum.specs.Code.{Code}
+use Rattle.bech32_decode.specs.Text.{IsInGrammar, text_refusal}
+use Rattle.bech32_encode.specs.Buffers.{IsPut}
+use Rattle.bech32_near_edits.specs.NearEdits.{AreNearEdits}
+use Rattle.bech32_near_edits.specs.declared.edits.Change.{Change}
+use Rattle.bech32_near_edits.specs.declared.edits.Change.TheVariants.{LeftOut, PutIn, Swapped}
+use Rattle.bech32_near_edits.specs.declared.edits.Edit.{Edit}
+use Rattle.bech32_calls.specs.Fitting.{FirstFit, IsMost}
+use Rattle.bech32_calls.specs.declared.refusal.Refusal.{Refusal}
+use Rattle.bech32_calls.specs.declared.refusal.Refusal.TheVariants.{NotUtf8, Memory, Text}
+
+-- the number of what is done to a text
+abbrev pub number_of_change : Change → ℕ
+number_of_change (Swapped x y) = 1
+number_of_change (LeftOut x) = 2
+number_of_change (PutIn x) = 3
+
+-- of each edit its number, its location and the text that it makes, one behind another, are put
+-- into buffers
+pub record PutsEach (edits : List (Edit × List ℕ))
+    (kinds kinds' locations locations' texts texts' : List ℕ) : Type 0 where
+  pub kinds_put : IsPut (map (λ m. number_of_change m.0.change) edits) kinds kinds' (length edits)
+  pub locations_put : IsPut (map (λ m. m.0.location) edits) locations locations' (length edits)
+  pub texts_put : IsPut (flat_map (λ m. m.1) edits) texts texts'
+      (length (flat_map (λ m. m.1) edits))
+
+-- so many edits, which are all that make a text that the checksum accepts, are put into buffers
+pub record PutsEdits (text kinds kinds' locations locations' texts texts' : List ℕ)
+    (count : ℕ) (code : Code) : Type 0 where
+  pub grammar : IsInGrammar text
+  pub found : List (Edit × List ℕ)
+  pub near : AreNearEdits code text found
+  pub count_is : count ≡ length found
+  pub put : PutsEach found kinds kinds' locations locations' texts texts'
+
+-- the first so many edits fit in buffers of these sizes
+abbrev pub EditsFit : List (Edit × List ℕ) → ℕ → ℕ → ℕ → ℕ → Type 0
+EditsFit found kinds_room locations_room texts_room n =
+    (n ≤ kinds_room) × (n ≤ locations_room) × FirstFit (λ m. m.1) found texts_room n
+
+-- so many edits, which are all that make a text that the checksum accepts, do not fit in buffers:
+-- the most of them that fit, the first ones, are put there
+pub record PutsFirstEdits (text kinds kinds' locations locations' texts texts' : List ℕ)
+    (count : ℕ) (code : Code) : Type 0 where
+  pub grammar : IsInGrammar text
+  pub found : List (Edit × List ℕ)
+  pub near : AreNearEdits code text found
+  pub count_is : count ≡ length found
+  pub put_count : ℕ
+  pub lacks : put_count < length found
+  pub most : IsMost (EditsFit found (length kinds) (length locations) (length texts))
+      (length found) put_count
+  pub put : PutsEach (take put_count found) kinds kinds' locations locations' texts texts'
+
+-- why nothing is put into buffers: the bytes are not a text, or it is not in the grammar; or it
+-- is, and the memory does not suffice
+abbrev pub IsEditsFault : List ℕ → Code → Refusal → Type 0
+IsEditsFault text code NotUtf8 = ¬ (IsUtf8 text)
+IsEditsFault text code (Text e) = IsUtf8 text × (text_refusal text ≡ Some e)
+IsEditsFault text code Memory = IsInGrammar text
+IsEditsFault text code _ = ⊥

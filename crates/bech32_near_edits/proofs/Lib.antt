@@ -1,0 +1,11 @@
+mod Characters
+mod Kept
+mod Listed
+mod Made
+mod Once
+mod Parts
+mod Located
+mod Sums
+mod Told
+mod Verdicts
+mod Words

@@ -1,0 +1,18 @@
+//! All texts that one edit makes of a text, and that a checksum accepts: two neighbours swapped, a
+//! character left out, or one put in.
+//!
+//! Below it: `bech32_decode`.
+//! Standard: BIP-173, Checksum design.
+#![tactic(auto)]
+
+mod edits;
+mod error;
+mod places;
+mod powers;
+mod residue;
+mod texts;
+mod walks;
+
+pub use self::edits::{Change, Edit, NearEdit};
+pub use self::error::EditsError;
+pub use self::texts::{near_edits, near_edits_in};

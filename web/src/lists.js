@@ -1,0 +1,70 @@
+// The calls of bech32_c that list texts: each counts all of them, and puts as many as there is room for.
+import { Instance } from './instance.js';
+
+const SIZE = 8;
+const NO_MEMORY = 91, NO_ROOM = 92;
+
+// Room for the texts and for the edits that make them, and memory that they are worked out in, which suffices for most. Where
+// they do not, the room that the call tells is made, or so many times as much memory, up to the most.
+const ROOM = 16384, EDITS = 8, MEMORY = 65536 + 512 * 1024, MORE = 8, MOST = 1 << 28;
+
+/** The regions that these calls want beside `text` and `erasures`. */
+export const LIST_REGIONS = {
+  memory: 2 * SIZE, lent: MEMORY, near: ROOM, kinds: EDITS, editLocations: SIZE * EDITS, count: SIZE,
+};
+
+// Calls a function in an instance with these regions: its number, and how many texts there are in all.
+const countedIn = (it, { lent }, name, before, after) => {
+  it.putSizes('memory', [it.at.lent, lent]);
+  const number = it.call(name, ...before, it.pointer('memory'), ...after, it.pointer('count'));
+  return { number, count: it.size('count') };
+};
+
+/** Lists the texts near to one; of the erasures 0 is the last character. */
+export const nearestOf = (checksum, text, erasures, errors) => (it, regions) => {
+  const { length } = it.putText('text', text), given = it.putSizes('erasures', erasures), size = Number(length);
+  const before = [checksum, it.pointer('text'), length, it.pointer('erasures'), given, BigInt(errors)];
+  const { number, count } = countedIn(it, regions, 'bech32_nearest', before, [it.pointer('near'), BigInt(regions.near)]);
+  if (number) return { number, wanted: { near: count * size } };
+  return { number, texts: Array.from({ length: count }, (_, i) => it.text('near', size, i * size)) };
+};
+
+// The kinds of edits by their numbers, with how much longer a text is that each makes.
+const KINDS = [null, ['swapped', 0], ['leftOut', -1], ['putIn', 1]];
+
+/** Lists the texts that one edit makes of a text, with its kind and its location; 0 is that of the last character. */
+export const nearEditsOf = (checksum, text) => (it, regions) => {
+  const p = (region) => it.pointer(region), { length } = it.putText('text', text), size = Number(length);
+  const after = [p('kinds'), BigInt(regions.kinds), p('editLocations'), BigInt(regions.editLocations / SIZE), p('near'),
+    BigInt(regions.near)];
+  const { number, count } = countedIn(it, regions, 'bech32_near_edits', [checksum, p('text'), length], after);
+  if (number) return { number, wanted: { kinds: count, editLocations: SIZE * count, near: count * (size + 1) } };
+  let end = 0;
+  const edits = Array.from(it.copy('kinds', count), (kind, i) => {
+    const [name, more] = KINDS[kind], start = end;
+    end += size + more;
+    return { kind: name, location: it.size('editLocations', i), text: it.text('near', end - start, start) };
+  });
+  return { number, edits };
+};
+
+// What is listed in an instance of its own, of which nothing is left.
+const listedBeside = (module, regions, list) => {
+  const it = new Instance(module, regions);
+  try {
+    return list(it, regions);
+  } finally {
+    it.wipe();
+  }
+};
+
+/** What is listed in an instance, or, where that has too little room or memory, in another one. */
+export const listed = (module, it, regions, list) => {
+  let sizes = regions, answer = list(it, sizes);
+  while ([NO_MEMORY, NO_ROOM].includes(answer.number)) {
+    sizes = { ...sizes, ...(answer.number === NO_MEMORY ? { lent: MORE * sizes.lent } : answer.wanted) };
+    if (Object.values(sizes).some((size) => size > MOST)) return answer;
+    answer = listedBeside(module, sizes, list);
+  }
+  return answer;
+};
