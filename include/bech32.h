@@ -217,7 +217,7 @@ uint32_t bech32_correct(uint32_t checksum, const uint8_t *text, size_t text_leng
  * keeps nothing. Afterwards it is the caller's again, and this the same, with every number but 91. With
  * 91 it is so too, or the function keeps the memory, and `size` is 0. That it never keeps it, and that
  * 91 never comes where as many bytes are lent as is stated below, no proof says. It is tested:
- * tools/every-length lent makes calls at every length, each with just so many bytes, and
+ * tools/every-length lent and tools/nearest make calls at every length, each with just so many bytes, and
  * lists_or_wants_memory and lists_edits_or_wants_memory of bech32_c and proposes_or_wants_memory of
  * codex32_c with fewer.
  */
@@ -226,8 +226,38 @@ typedef struct {
     size_t size;
 } bech32_memory;
 
-/* So many bytes suffice where few texts are near, as to an address; for many, lend more. */
-#define BECH32_NEAREST_MEMORY(text_length) (16384u + 8u * (text_length))
+/*
+ * So many texts are near at most, and so many bytes suffice, for every text of that length, whatever the
+ * checksum, the erasures and the errors. At 90 characters these are 460 texts and 423 kilobytes.
+ *
+ * From 135 characters on the numbers are great, 860 megabytes at 1,023: beside three erasures that are 33
+ * locations apart, a text that is accepted with other characters there has so many near texts. With most
+ * others it has text_length * text_length / 68. It is enough to lend less, and more where that does not
+ * suffice. tools/nearest_check/most.c computes the most texts at each length, and tools/nearest lists
+ * them in just so much memory and room.
+ */
+#define BECH32_NEAREST_TEXTS(text_length)                             \
+    (64u + 3u * (text_length) + (text_length) * (text_length) / 64u + \
+     BECH32_NEAREST_APART(text_length))
+#define BECH32_NEAREST_MEMORY(text_length)                                      \
+    (24576u + 288u * (text_length) + 512u * BECH32_NEAREST_APART(text_length) + \
+     BECH32_NEAREST_TEXTS(text_length) * ((text_length) + 720u))
+#define BECH32_NEAREST_APART(text_length)                              \
+    ((text_length) < 135u ? 0u                                         \
+                          : 481u * (((text_length) - 3u) / 33u - 2u) * \
+                                (((text_length) - 3u) / 33u - 3u))
+
+/*
+ * The same for what has few texts, which is what may be shown to people: two errors with up to two
+ * erasures in up to 90 characters, and with one in longer texts; one error with three.
+ */
+#define BECH32_NEAREST_FEW_TEXTS(text_length) (20u + ((text_length) > 90u ? (text_length) : 0u))
+#define BECH32_NEAREST_FEW_MEMORY(text_length) \
+    (24576u + 288u * (text_length) + BECH32_NEAREST_FEW_TEXTS(text_length) * ((text_length) + 720u))
+
+/* The same without erasures: one text in up to 91 characters. */
+#define BECH32_NEAREST_PLAIN_TEXTS(text_length) ((text_length) > 91u ? 16u : 1u)
+#define BECH32_NEAREST_PLAIN_MEMORY(text_length) (16384u + 32u * (text_length))
 
 /*
  * Lists the texts near to a mistyped one: all that a checksum (BECH32_BECH32 or BECH32_BECH32M) accepts
@@ -238,10 +268,24 @@ typedef struct {
  * The texts, in lower case, are put into `texts` one behind another: *count texts of text_length bytes
  * each. *count may be 0. Where they do not all fit (92), *count is the number of all, so that *count times
  * text_length is the room that all take, and the first of them, texts_room / text_length whole ones, are
- * put. Where the checksum accepts the text, it is itself the first. Without erasures
- * there is at most one where the data part has up to 89 characters, as in each segwit address: the right
- * one, if no more than `errors` of its characters are wrong. With them, or in longer texts, there may be
- * many. None may be what was meant: show them, and ask.
+ * put. Where the checksum accepts the text, it is itself the first. Without erasures there is at most one
+ * where the data part has up to 89 characters, as in each segwit address: the right one, if no more than
+ * `errors` of its characters are wrong. With them, or in longer texts, there may be many. None may be what
+ * was meant: show them, and ask.
+ *
+ * Milliseconds of a call, where the wrong characters stand anywhere (at 2.5 GHz, the least of several),
+ * and how many texts there are beside two and three erasures:
+ *
+ *                 one error, erasures   | two errors, erasures         | texts, erasures
+ *     characters     0, 1     2      3  |     0      1      2      3   |     2        3
+ *         42        0.002  0.02   0.04  |  0.05    0.1    0.1   0.12   |     1       17
+ *         62        0.002  0.03   0.06  |   0.1    0.2    0.2    0.2   |     2       50
+ *         90        0.003  0.04   0.09  |  0.15   0.25   0.25   0.35   |     4      110
+ *        200        0.004   0.1   0.25  |   0.6    0.6    0.7    1.3   |    20      550
+ *        400        0.004   0.3    0.7  |   1.7    1.4    1.6    5.5   |    75    2,300
+ *      1,000        0.007   1.1    1.2  |   7.6    3.9    5.7     54   |   450   14,500
+ *
+ * The most texts that there are (above) take 0.7 ms at 92 characters, 55 at 400, and 750 at 1,000.
  *
  * Refusals, the first that applies: 4; 2; 21, 22, 23, 11 to 15; 31, 32; 92; and 91 in place of 0 or 92
  * where `memory` does not suffice. Where the function keeps the memory (above), `texts` may have

@@ -1,13 +1,21 @@
 /* Each function of bech32.h: encodes, decodes and tests texts, mends one, lists what is near to mistyped
- * ones, writes and reads addresses, and feeds an engine. */
+ * ones, writes and reads addresses, feeds an engine, and says what a refusal means. */
 #include <stdio.h>
 #include <string.h>
 
 #include "bech32.h"
 
-/* Ends with the number of a refusal that should not be. */
+static void put_refusal(FILE *out, const char *what, uint32_t number) {
+    uint8_t message[BECH32_MAX_MESSAGE];
+    size_t message_length = 0;
+    bech32_message(number, message, sizeof message, &message_length);
+    fprintf(out, "%s: refusal %u, %.*s", what, (unsigned)number, (int)message_length, (char *)message);
+}
+
+/* Ends with a refusal that should not be. */
 static int refused(const char *what, uint32_t number) {
-    fprintf(stderr, "%s: refusal %u\n", what, (unsigned)number);
+    put_refusal(stderr, what, number);
+    fprintf(stderr, "\n");
     return 1;
 }
 
@@ -48,9 +56,11 @@ static int corrections(void) {
     uint32_t number;
 
     number = bech32_check(BECH32_BECH32, (const uint8_t *)"a12uel5m", 8, &hrp_length, &data_length);
-    printf("a12uel5m: refusal %u\n", (unsigned)number);
+    put_refusal(stdout, "a12uel5m", number);
+    printf("\n");
     number = bech32_fault(BECH32_BECH32, (const uint8_t *)"x1b4n0q5v", 9, &place);
-    printf("x1b4n0q5v: refusal %u at %u\n", (unsigned)number, (unsigned)place);
+    put_refusal(stdout, "x1b4n0q5v", number);
+    printf(": byte %u\n", (unsigned)place);
 
     const char *mistyped = "a12uel5q";
     const size_t erasures[] = {3};
@@ -71,7 +81,7 @@ static int corrections(void) {
 /* The address that is near to one with two wrong characters, and the one that an edit makes of one in
  * which a character is missing, with what is done and where. The memory begins at a multiple of 16. */
 static int near_addresses(void) {
-    static uint8_t bytes[BECH32_NEAREST_MEMORY(BECH32_MAX_SEGWIT_TEXT) + 15u];
+    static uint8_t bytes[BECH32_NEAREST_PLAIN_MEMORY(BECH32_MAX_SEGWIT_TEXT) + 15u];
     static const char *const done[] = {"", "swapped", "left out", "put in"};
     bech32_memory memory = {bytes + (0u - (uintptr_t)bytes) % 16u, sizeof bytes - 15u};
     uint8_t texts[BECH32_NEAR_EDITS * (BECH32_MAX_SEGWIT_TEXT + 1)], kinds[BECH32_NEAR_EDITS];
@@ -142,5 +152,9 @@ static int remainder_of_a_text(void) {
 
 int main(void) {
     printf("bech32 %s\n", BECH32_VERSION);
+    if (bech32_version() != BECH32_VERSION_NUMBER) {
+        fprintf(stderr, "another version of the library is linked\n");
+        return 1;
+    }
     return texts() || corrections() || near_addresses() || addresses() || remainder_of_a_text();
 }

@@ -1135,23 +1135,28 @@ static void expect_near(uint32_t checksum, const uint8_t *found, size_t errors, 
     expect(different <= errors && same_lowered(found, text, h + 1), "a text that is not near");
 }
 
+#define NEAREST 110u
+static _Alignas(16) uint8_t near_memory[BECH32_NEAREST_MEMORY(NEAREST)];
+
 static void try_nearest(void) {
-    static uint8_t ample[AREA];
+    static uint8_t ample[BECH32_NEAREST_TEXTS(NEAREST) * NEAREST];
     size_t erasures[4], all = 0, errors = percent(95) ? below(3) : below(5);
-    size_t erasures_length = errors < 2 ? below(4) : (size_t)percent(10);
+    size_t erasures_length = errors < 3 ? below(4) : (size_t)percent(10);
     uint32_t checksum = random_checksum();
-    bech32_memory whole = {ample_memory, sizeof ample_memory};
     begin(&nearest);
     random_text();
-    text_length = text_length > 110 ? 110 : text_length;
+    text_length = text_length > NEAREST ? NEAREST : text_length;
+    bech32_memory whole = {near_memory, BECH32_NEAREST_MEMORY(text_length)};
     for (size_t i = 0; i < erasures_length; i++) {
         erasures[i] = percent(95) ? below(text_length + 1) : (size_t)next_number();
     }
     uint32_t expected = bech32_nearest(checksum, text, text_length, erasures, erasures_length, errors,
-                                       &whole, ample, sizeof ample, &all);
-    expect(whole.start == ample_memory && whole.size == sizeof ample_memory, "the memory was kept");
+                                       &whole, ample, BECH32_NEAREST_TEXTS(text_length) * text_length,
+                                       &all);
+    expect(whole.start == near_memory && whole.size == BECH32_NEAREST_MEMORY(text_length),
+           "the memory was kept");
     expect(expected != BECH32_NO_MEMORY && expected != BECH32_NO_ROOM, "memory or room does not suffice");
-    size_t size = percent(30) ? below(BECH32_NEAREST_MEMORY(text_length)) : sizeof some_memory;
+    size_t size = percent(30) ? below(sizeof some_memory) : sizeof some_memory;
     bech32_memory memory = {some_memory + (sizeof some_memory - size) / 16 * 16, size};
     FORBID(some_memory, sizeof some_memory);
     ALLOW(memory.start, size);

@@ -322,12 +322,12 @@ static uint32_t try_correct(void) {
 
 static uint32_t try_nearest(void) {
     size_t count = 7777;
-    bech32_memory memory = {lent, below(5) ? BECH32_NEAREST_MEMORY(1023) : below(30000)};
+    bech32_memory memory = {lent, below(5) ? sizeof lent : below(30000)};
     below(8) ? address() : text_of_bytes(20, 60);
     memset(near, 0x5a, sizeof near);
     size_t given = below(2) ? 0 : make_erasures(), size = memory.size;
     uint32_t by = checksum();
-    size_t errors = given > 0 && below(30) ? below(2) : below(4) ? 2 : below(4), room_1 = below(3) ? sizeof near : below(200);
+    size_t errors = below(4) ? 2 : below(4), room_1 = below(3) ? sizeof near : below(200);
     uint32_t number = bech32_nearest(by, text, text_length, erasures, given, errors, &memory, near, room_1, &count);
     put_size(count);
     put_size(memory.start == lent && memory.size == size);

@@ -196,11 +196,10 @@ static uint32_t try_correct(unsigned n) {
     return bech32_correct(1 + n % 2, text, text_length, erasures, n / 4 % 6, locations, 4, other, 4, &length_2, out, 90, &length);
 }
 
-/* Two errors beside erasures are looked for in a short text, since that takes long. */
 static uint32_t try_nearest(unsigned n) {
     bech32_memory memory = {lent, n % 11 ? sizeof lent : 900};
     unsigned given = n % 6, errors = n / 6 % 3;
-    damage(given > 0 && errors > 1 ? "ab1qpzry9x" : ADDRESS, n);
+    damage(ADDRESS, n);
     return bech32_nearest(1 + n % 2, text, text_length, erasures, given, errors, &memory, out, sizeof out, &length);
 }
 

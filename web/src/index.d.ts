@@ -53,9 +53,9 @@ export function correct(checksum: Checksum, text: string, places?: Iterable<numb
 /**
  * All texts that the checksum accepts and that differ from this one in at most `errors` characters of the data part (0 to
  * 2; 2 where it is left out) outside `places`; a right text is the first of its own. Texts of at most 89 characters with
- * two wrong ones and no `places` have one at most, the right one. No list where `places` has more than three. With two
- * places and two errors it takes some 0.3 s at 85 characters and 8 s at 488; texts that fill more than 16 KB are searched
- * for twice. Throws `Refused`, and `RangeError` where 256 MB do not suffice.
+ * two wrong ones and no `places` have one at most, the right one. No list where `places` has more than three. In
+ * the library, two errors and three places take 0.4 ms at 90 characters and 55 ms at 1,000, where 14,500 texts are near;
+ * texts that fill more than 16 KB are searched for twice. Throws `Refused`, and `RangeError` where 256 MB do not suffice.
  */
 export function nearest(
   checksum: Checksum, text: string, places?: Iterable<number>, errors?: 0 | 1 | 2,

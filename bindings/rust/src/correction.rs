@@ -144,19 +144,20 @@ pub fn correct<Ck: CorrectingChecksum>(s: &str, erasures: &[usize]) -> Result<Co
 ///
 /// # What it takes
 ///
-/// Two errors, in time of a processor at 2.5 GHz, rounded, and how many texts were found. Where these fill
-/// more than 16 KB there is a second search, which takes as long.
+/// Two errors, in milliseconds of a processor at 2.5 GHz, rounded, and how many texts there are. Where
+/// these fill more than 16 KB there is a second search, which takes as long.
 ///
 /// | characters | no erasure | one | two | three |
 /// |---|---|---|---|---|
-/// | 42 | 0.1 ms, 1 | 2 ms, 1 | 8 ms, 1 | 0.2 s, 14 |
-/// | 62 | 0.1 ms, 1 | 4 ms, 1 | 20 ms, 3 | 0.6 s, 49 |
-/// | 90 | 0.2 ms, 1 | 6 ms, 1 | 40 ms, 3 | 1.5 s, 95 |
-/// | 200 | 1 ms, 1 | 30 ms, 2 | 0.3 s, 12 | 11 s, 529 |
-/// | 400 | 3 ms, 1 | 0.1 s, 2 | 1.3 s, 63 | 70 s, 2,358 |
-/// | 1,000 | 20 ms, 1 | 0.4 s, 15 | 11 s, 405 | minutes |
+/// | 42 | 0.05, 1 | 0.1, 1 | 0.1, 1 | 0.1, 17 |
+/// | 62 | 0.1, 1 | 0.2, 1 | 0.2, 2 | 0.2, 50 |
+/// | 90 | 0.15, 1 | 0.25, 1 | 0.25, 4 | 0.35, 110 |
+/// | 200 | 0.6, 1 | 0.6, 2 | 0.7, 20 | 1.3, 550 |
+/// | 400 | 2, 1 | 1.5, 3 | 1.6, 75 | 5.5, 2,300 |
+/// | 1,000 | 8, 2 | 4, 14 | 6, 450 | 55, 14,500 |
 ///
-/// One error takes at most 2 ms up to 90 characters, and 70 ms with three erasures at 1,000.
+/// One error takes at most 0.1 ms up to 90 characters, and 1.2 ms with three erasures at 1,000. From 135
+/// characters on a text may have far more near ones beside three erasures that are 33 locations apart.
 ///
 /// What helps a person is a list of few texts: at most two errors with two erasures up to 90 characters,
 /// two errors with one erasure in longer texts, and one error with three erasures. Beyond these the right

@@ -2,6 +2,7 @@
 use Rattle.std.specs.Prelude.{Bool, true, false, cond}
 use Rattle.std.specs.List.{AllByRecursion}
 use Rattle.std.proofs.Common.{◌≡◌, ℕ, ◌+◌, ◌*◌, ◌-◌, ◌<◌, ◌≤◌, inl, inr, List, [], ◌∷◌, ◌++◌, take, drop, length, length-append, length-drop, subst, sym, ap, ◌∙◌, refl, arith}
+use Rattle.std.proofs.ByRecursion.{All-take}
 use Rattle.std.proofs.lemmas.Bool.{cases_lt}
 use Rattle.std.proofs.lemmas.List.{length-take-le, take_all, take-append-drop, take-append-le, take-take}
 use Rattle.bech32_gf.specs.declared.gf32.Fe32.{Fe32}
@@ -105,34 +106,47 @@ all_and_more P s (x ∷ more) h =
     step true known k = (k, look P x s k (has-true s x known))
     step false new k = last s k
 
--- ---- what is said
+-- ---- the few and all
 
-module _ (code : Code) (text few given : List ℕ) (is : few ≡ take 4 (with_erasures [] given)) where
+module _ (few given : List ℕ) (is : few ≡ take 4 (with_erasures [] given)) where
   different : with_erasures [] (with_erasures [] given) ≡ with_erasures [] given
   different = again [] given refl
 
   -- where there are no more than three, the few are all of them
-  few_are : length (with_erasures [] given) ≤ 3 → few ≡ with_erasures [] given
+  pub few_are : length (with_erasures [] given) ≤ 3 → few ≡ with_erasures [] given
   few_are size = is ∙ take_all 4 (with_erasures [] given) (omega arith)
 
-  same_erasures : length (with_erasures [] given) ≤ 3 → with_erasures [] few ≡ with_erasures [] given
+  pub same_erasures : length (with_erasures [] given) ≤ 3 → with_erasures [] few ≡ with_erasures [] given
   same_erasures size = ap (with_erasures []) (few_are size) ∙ different
 
+  -- they are no more than three where the few are
+  pub no_more : length (with_erasures [] few) ≤ 3 → length (with_erasures [] given) ≤ 3
+  no_more size = all_few (with_erasures [] given) different (subst (λ (s : List ℕ). length (with_erasures [] s) ≤ 3) is size)
+
+  -- what holds of the few then holds of all
+  pub each_given : (P : ℕ → Type 0) → length (with_erasures [] given) ≤ 3 → AllByRecursion P few → AllByRecursion P given
+  each_given P size h = (all_and_more P [] given (subst (λ (s : List ℕ). AllByRecursion P s) (few_are size) h)).1
+
+  -- and what holds of all of the few
+  pub each_few : (P : ℕ → Type 0) → AllByRecursion P given → AllByRecursion P few
+  each_few P h =
+      subst (λ (s : List ℕ). AllByRecursion P s) (sym is) (All-take P 4 (with_erasures [] given) (all-with_erasures P [] given tt h))
+
+-- ---- what is said
+
+module _ (code : Code) (text few given : List ℕ) (is : few ≡ take 4 (with_erasures [] given)) where
   listing-given : (listing : List (ℕ × Fe32)) → IsListingOf code (singleton_bound 24 26) text few listing → IsListingOf code (singleton_bound 24 26) text given listing
   listing-given listing h =
       let fits : 2 * errors_outside (with_erasures [] few) h.only.pattern + length (with_erasures [] few) ≤ 3 = h.only.explains.few in
       let small : length (with_erasures [] few) ≤ 3 = omega arith in
-      let size : length (with_erasures [] given) ≤ 3 =
-      all_few (with_erasures [] given) different (subst (λ (s : List ℕ). length (with_erasures [] s) ≤ 3) is small) in
-      let inside : AllByRecursion (λ i. i < length h.data_part) (with_erasures [] given) =
-      subst (λ (s : List ℕ). AllByRecursion (λ i. i < length h.data_part) s) (few_are size) h.inside in
+      let size : length (with_erasures [] given) ≤ 3 = no_more few given is small in
       record {
         hrp = h.hrp;
         data_part = h.data_part;
         residue = h.residue;
         refused = h.refused;
-        inside = (all_and_more (λ i. i < length h.data_part) [] given inside).1;
-        only = rw (← same_erasures size) h.only;
+        inside = each_given few given is (λ i. i < length h.data_part) size h.inside;
+        only = rw (← same_erasures few given is size) h.only;
         mends = h.mends;
       }
 
@@ -146,10 +160,7 @@ module _ (code : Code) (text few given : List ℕ) (is : few ≡ take 4 (with_er
     none = λ inside e explains.
         let fits : 2 * errors_outside (with_erasures [] given) e + length (with_erasures [] given) ≤ 3 = explains.few in
         let size : length (with_erasures [] given) ≤ 3 = omega arith in
-        let below : AllByRecursion (λ i. i < length h.data_part) (with_erasures [] given) =
-        all-with_erasures (λ i. i < length h.data_part) [] given tt inside in
-        h.none (subst (λ (s : List ℕ). AllByRecursion (λ i. i < length h.data_part) s) (sym (few_are size)) below) e
-        (rw (same_erasures size) explains);
+        h.none (each_few few given is (λ i. i < length h.data_part) inside) e (rw (same_erasures few given is size) explains);
   }
 
   mended-given : (said : List ℕ) → SaysMended code text few said → SaysMended code text given said

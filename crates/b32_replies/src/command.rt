@@ -52,7 +52,7 @@ pub enum Command<'a> {
 }
 
 /// The checksum of this name.
-fn checksum_named(word: &str) -> Option<ChecksumName>
+pub fn checksum_named(word: &str) -> Option<ChecksumName>
     ensures { result ≡ checksum_of_word word.now }
 {
     match word {

@@ -18,3 +18,7 @@ pub mod run;
 mod segwit_decode;
 mod segwit_encode;
 mod version_word;
+
+pub use command::{ChecksumName, checksum_named};
+pub use location_word::locations_of_word;
+pub use refusal::Refusal;

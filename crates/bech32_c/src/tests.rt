@@ -8,7 +8,7 @@ use crate::encode::bech32_encode;
 use crate::engine::bech32_residue;
 use crate::fault::bech32_fault;
 use crate::segwit::{bech32_segwit_decode, bech32_segwit_encode};
-use std::alloc::{AllocError, Global};
+use std::alloc::Global;
 use std::fmt::Debug;
 use std::process::Abort;
 
@@ -69,22 +69,16 @@ fn puts_nothing(rt: &impl Abort, row: (u32, &[u8], &[u8]), buffer: &mut [u8], wa
 }
 
 // Encodes into a buffer with more room than the text, with as much, and with one byte less.
-fn encodes(
-    rt: &impl Abort,
-    alloc: Global,
-    row: (u32, &[u8], &[u8]),
-    want: &[u8],
-) -> Result<(), AllocError> {
+fn encodes(rt: &impl Abort, alloc: Global, row: (u32, &[u8], &[u8]), want: &[u8]) {
     puts(rt, row, &mut [BEFORE; 64], want);
-    let mut exact = vec![in alloc; BEFORE; want.len()]?;
+    let mut exact = vec![in alloc; BEFORE; want.len()].expect(rt, "memory");
     puts(rt, row, exact.as_mut_slice(), want);
-    let mut short = vec![in alloc; BEFORE; want.len().saturating_sub(1)]?;
+    let mut short = vec![in alloc; BEFORE; want.len().saturating_sub(1)].expect(rt, "memory");
     puts_nothing(rt, row, short.as_mut_slice(), 92);
-    Ok(())
 }
 
 #[test]
-fn encodes_known_texts(rt: HostRuntime) -> Result<(), AllocError> {
+fn encodes_known_texts(rt: HostRuntime) {
     let rows: [(u32, &[u8], &[u8], &[u8]); 5] = [
         (1, b"a", b"", b"a12uel5l"),
         (2, b"A", b"", b"a1lqfn3a"),
@@ -103,9 +97,8 @@ fn encodes_known_texts(rt: HostRuntime) -> Result<(), AllocError> {
         ),
     ];
     for (checksum, hrp, bytes, want) in rows {
-        encodes(&rt, rt.alloc(), (checksum, hrp, bytes), want)?;
+        encodes(&rt, rt.alloc(), (checksum, hrp, bytes), want);
     }
-    Ok(())
 }
 
 // What encoding bytes under `a` by Bech32 returns, and the length that it leaves.
@@ -177,17 +170,11 @@ fn unchecked(number: u32) -> (u32, usize, usize) {
 }
 
 // Decodes into buffers with more room than the parts, and with as much.
-fn decodes(
-    rt: &impl Abort,
-    alloc: Global,
-    text: &[u8],
-    parts: (&[u8], &[u8]),
-) -> Result<(), AllocError> {
+fn decodes(rt: &impl Abort, alloc: Global, text: &[u8], parts: (&[u8], &[u8])) {
     puts_parts(rt, text, (&mut [BEFORE; 83], &mut [BEFORE; 634]), parts);
-    let mut hrp = vec![in alloc; BEFORE; parts.0.len()]?;
-    let mut bytes = vec![in alloc; BEFORE; parts.1.len()]?;
+    let mut hrp = vec![in alloc; BEFORE; parts.0.len()].expect(rt, "memory");
+    let mut bytes = vec![in alloc; BEFORE; parts.1.len()].expect(rt, "memory");
     puts_parts(rt, text, (hrp.as_mut_slice(), bytes.as_mut_slice()), parts);
-    Ok(())
 }
 
 // The checksum of this number accepts a text with so long a human-readable part, and the other does
@@ -201,7 +188,7 @@ fn is_checked(rt: &impl Abort, checksum: u32, text: &[u8], length: usize) {
 }
 
 #[test]
-fn decodes_known_texts(rt: HostRuntime) -> Result<(), AllocError> {
+fn decodes_known_texts(rt: HostRuntime) {
     let rows: [(&[u8], u32, &[u8], &[u8]); 6] = [
         (b"A12UEL5L", 1, b"A", b""),
         (b"a1lqfn3a", 2, b"a", b""),
@@ -221,10 +208,9 @@ fn decodes_known_texts(rt: HostRuntime) -> Result<(), AllocError> {
         ),
     ];
     for (text, checksum, part, found) in rows {
-        decodes(&rt, rt.alloc(), text, (part, found))?;
+        decodes(&rt, rt.alloc(), text, (part, found));
         is_checked(&rt, checksum, text, part.len());
     }
-    Ok(())
 }
 
 #[test]
@@ -315,23 +301,17 @@ fn puts_no_address(rt: &impl Abort, row: (&[u8], u32, &[u8]), buffer: &mut [u8],
 }
 
 // Decodes an address and writes it again, in lower case, and not into a buffer that is too small.
-fn goes_around(
-    rt: &impl Abort,
-    alloc: Global,
-    text: &[u8],
-    row: (&[u8], u32, &[u8]),
-) -> Result<(), AllocError> {
+fn goes_around(rt: &impl Abort, alloc: Global, text: &[u8], row: (&[u8], u32, &[u8])) {
     puts_program(rt, text, (&mut [BEFORE; 83], &mut [BEFORE; 40]), row);
-    let mut short = vec![in alloc; BEFORE; text.len().saturating_sub(1)]?;
+    let mut short = vec![in alloc; BEFORE; text.len().saturating_sub(1)].expect(rt, "memory");
     puts_no_address(rt, row, short.as_mut_slice(), 92);
-    let mut lower = text.to_vec(alloc)?;
+    let mut lower = text.to_vec(alloc).expect(rt, "memory");
     lower.as_mut_slice().make_ascii_lowercase();
     puts_address(rt, row, &mut [BEFORE; 90], lower.as_slice());
-    Ok(())
 }
 
 #[test]
-fn known_addresses(rt: HostRuntime) -> Result<(), AllocError> {
+fn known_addresses(rt: HostRuntime) {
     let rows: [(&[u8], &[u8], u32, &[u8]); 3] = [
         (
             b"BC1QW508D6QEJXTDG4Y5R3ZARVARY0C5XW7KV8F3T4",
@@ -348,9 +328,8 @@ fn known_addresses(rt: HostRuntime) -> Result<(), AllocError> {
         (b"BC1SW50QGDZ25J", b"BC", 16, b"\x75\x1e"),
     ];
     for (text, part, version, program) in rows {
-        goes_around(&rt, rt.alloc(), text, (part, version, program))?;
+        goes_around(&rt, rt.alloc(), text, (part, version, program));
     }
-    Ok(())
 }
 
 #[test]

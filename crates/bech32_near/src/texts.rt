@@ -52,7 +52,7 @@ fn mended_all<A: Allocator + Copy>(
     ensures each { IfOk result (λ texts.
         AllByRecursion (λ m. IsMendedText m.listing text.now (string_bytes m.text)) texts.items) }
 {
-    let mut texts = Vec::new(alloc);
+    let mut texts = Vec::with_capacity(alloc, listings.len())?;
     for listing in listings {
         let mended = mended_by(alloc, text, listing)?;
         texts.push(mended)?;

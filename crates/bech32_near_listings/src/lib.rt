@@ -21,9 +21,10 @@ use std::alloc::{AllocError, Allocator};
 /// [`singleton_bound`](Corrector::singleton_bound).
 ///
 /// It is meant for up to two errors: without erasures, two of them take one search by erasures for
-/// each location of the window. Where twice the other errors, the erasures and 1 are more than the
-/// bound, each value of an error is tried by itself: each such error takes 31 times as many
-/// searches again as there are locations. Any greater number is allowed, and takes as long.
+/// each location of the window; beside as many erasures that this would be past the bound, a table
+/// of 288 bytes for each location, and some searches for each listing. Any greater number is
+/// allowed: where twice the other errors, the erasures and 1 are more than the bound, each value of
+/// an error is tried by itself, and takes 31 times as many searches again as there are locations.
 ///
 /// # Errors
 ///

@@ -1,4 +1,6 @@
+pub mod Coded
 pub mod Elements
+pub mod Entries
 pub mod Highest
 pub mod NearestAdded
 pub mod NearestAlone
@@ -8,3 +10,7 @@ pub mod NearestErrors
 pub mod NearestListing
 pub mod NearestLists
 pub mod NearestPatterns
+pub mod SketchSums
+pub mod Sketches
+pub mod Skipped
+pub mod Tables

@@ -1,6 +1,6 @@
 //! Gathers all patterns of few errors that explain a residue.
 
-ghost use Rattle.std.specs.Prelude.{◌≡◌, ◌≢◌, ◌≤◌, ◌<◌, ◌+◌, ◌*◌, ◌++◌, ◌↔◌, ◌∷◌, ℕ, [], List};
+ghost use Rattle.std.specs.Prelude.{◌≡◌, ◌≢◌, ◌≤◌, ◌<◌, ◌+◌, ◌*◌, ◌^◌, ◌++◌, ◌↔◌, ◌∷◌, ℕ, [], List};
 ghost use Rattle.std.specs.Prelude.{length, take, drop, map, false, IfOk, IsOk, IsTrue, OnOk};
 ghost use Rattle.std.specs.List.{AllByRecursion};
 ghost use Rattle.bech32_bch.specs.Erasures.{AreErasures, has};
@@ -12,6 +12,7 @@ ghost use Rattle.bech32_direct.specs.Question.{Question};
 ghost use Rattle.bech32_gf.specs.Fe32 as fe32;
 ghost use Rattle.bech32_gf.specs.declared.gf32.Fe32.{Fe32 as Element};
 
+use crate::pairs::gather_sketched;
 use bech32_bch::{ShortVec, contains};
 use bech32_checksum::Checksum;
 use bech32_corrector::Corrector;
@@ -48,7 +49,10 @@ fn are_few<Ck: Checksum, A: Allocator + Copy>(
 }
 
 // Whether a location is one of the erasures.
-fn is_erasure<Ck: Checksum, A: Allocator + Copy>(corrector: &Corrector<Ck, A>, place: usize) -> bool
+pub(crate) fn is_erasure<Ck: Checksum, A: Allocator + Copy>(
+    corrector: &Corrector<Ck, A>,
+    place: usize,
+) -> bool
     ensures { result ≡ has corrector.now.erasures place }
 {
     contains(corrector.erasures(), place)
@@ -212,7 +216,7 @@ fn are_zero(elements: &[Fe32]) -> bool
 
 // Puts the one listing without errors behind those that were found, where it explains the residue:
 // the corrector tells what to add at its erasures; without any, the residue has to be zero.
-fn add_errorless<Ck: Checksum, A: Allocator + Copy>(
+pub(crate) fn add_errorless<Ck: Checksum, A: Allocator + Copy>(
     corrector: &Corrector<Ck, A>,
     found: &mut Listings<A>,
 ) -> Result<(), AllocError>
@@ -321,7 +325,7 @@ fn add_erased<Ck: Checksum, A: Allocator + Copy>(
 
 // Puts each listing that was gathered behind those that were found, with an error at a higher
 // location.
-fn push_with<Ck: Checksum, A: Allocator + Copy>(
+pub(crate) fn push_with<Ck: Checksum, A: Allocator + Copy>(
     corrector: &Corrector<Ck, A>,
     gathered: Result<(), AllocError>,
     listings: Listings<A>,
@@ -362,8 +366,49 @@ pub fn gathered<Ck: Checksum, A: Allocator + Copy>(
     if !are_few(corrector, 0, 0) {
         return Ok(found);
     }
-    gather(corrector, limit, errors, &mut found)?;
+    gather_all(corrector, limit, errors, &mut found)?;
     Ok(found)
+}
+
+// Whether errors are gathered by their sketches: one or two, where the others and the erasures are
+// past the bound even if the location of one is tried as one more erasure.
+fn are_sketched<Ck: Checksum, A: Allocator + Copy>(
+    corrector: &Corrector<Ck, A>,
+    errors: usize,
+) -> bool
+    ensures some { IsTrue result → 0 < errors }
+    ensures two { IsTrue result → errors ≤ 2 }
+    ensures within { IsTrue result → corrector.now.window < 2 ^ 24 }
+{
+    if errors == 0 {
+        return false;
+    }
+    if errors > 2 {
+        return false;
+    }
+    if corrector.window() >= 0x100_0000 {
+        return false;
+    }
+    !are_few(corrector, errors - 1, 1)
+}
+
+// Puts all listings with at most so many errors, all below the limit, behind those that were found.
+fn gather_all<Ck: Checksum, A: Allocator + Copy>(
+    corrector: &Corrector<Ck, A>,
+    limit: usize,
+    errors: usize,
+    found: &mut Listings<A>,
+) -> Result<(), AllocError>
+    ensures { length corrector.now.erasures ≤ Ck.bound → limit ≤ corrector.now.window
+        → OnOk result (AreAdded (IsEarlier fe32.ops fe32.value corrector.now.erasures)
+        (IsGathered fe32.ops Ck.code.generator corrector.now.residue corrector.now.erasures
+        limit errors)
+        found.old.items found.new.items) }
+{
+    if are_sketched(corrector, errors) {
+        return gather_sketched(corrector, limit, errors, found);
+    }
+    gather(corrector, limit, errors, found)
 }
 
 // Puts all listings with at most so many errors, all below the limit, behind those that were found.
@@ -426,7 +471,7 @@ fn gather_at<Ck: Checksum, A: Allocator + Copy>(
 
 // The same of those with this highest error.
 #[cycle(gather)]
-fn gather_with<Ck: Checksum, A: Allocator + Copy>(
+pub(crate) fn gather_with<Ck: Checksum, A: Allocator + Copy>(
     corrector: &Corrector<Ck, A>,
     error: (usize, Fe32),
     others: usize,

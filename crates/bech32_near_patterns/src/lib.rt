@@ -5,5 +5,9 @@
 #![tactic(auto)]
 
 mod gathering;
+mod pairs;
+mod sketch;
+mod table;
+mod terms;
 
 pub use self::gathering::{Listings, gathered};

@@ -54,7 +54,7 @@ pub trait Execute {
 
 /// The text of a line, if it is UTF-8. ASCII is seen at once.
 #[inline]
-fn text_of(line: &[u8]) -> Option<&str>
+pub fn text_of(line: &[u8]) -> Option<&str>
     ensures { MatchOption result (¬ IsUtf8 line.now)
         (λ text. (text.now ≡ line.now) × IsUtf8 line.now) }
 {

@@ -13,7 +13,7 @@ mod replies;
 mod words;
 
 pub use error::RunError;
-pub use execute::{Execute, NotExecuted};
+pub use execute::{Execute, NotExecuted, text_of};
 pub use lines::{run, run_on};
 pub use output::{append, append_number, append_refusal};
 pub use replies::{LINE_LIMIT, REPLY_ROOM, Replies};

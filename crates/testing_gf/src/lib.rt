@@ -1,4 +1,5 @@
-//! Tests of `bech32_gf`, `bech32_gf_ext` and `bech32_poly`, and of code over any field.
+//! Tests of `bech32_gf`, `bech32_gf_ext`, `bech32_poly` and `bech32_block`, and of code over any
+//! field.
 #![tactic(auto)]
 
 #[cfg(test)]

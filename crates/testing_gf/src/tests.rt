@@ -1,3 +1,4 @@
+mod block;
 mod compare;
 mod conversions;
 mod field;

@@ -12,7 +12,7 @@
 #define NOW (*(volatile uint32_t *)0xe000e018)
 #define MOST 40000u
 
-static uint8_t lent[BECH32_NEAREST_MEMORY(62)] __attribute__((aligned(16)));
+static uint8_t lent[16880] __attribute__((aligned(16)));
 static uint8_t text[1024], out[1024], other[64], values[8];
 static size_t length, length_2, count, locations[8], erasures[3] = {1, 9, 20};
 static uint32_t version;

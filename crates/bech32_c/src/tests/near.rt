@@ -1,7 +1,7 @@
 use crate::nearest::bech32_nearest;
 use crate::tests::{BEFORE, LENGTH_BEFORE, holds, is_untouched, same};
 use caller_memory::Memory;
-use std::alloc::{AllocError, Global};
+use std::alloc::Global;
 use std::process::Abort;
 
 // A call of `bech32_nearest` without its buffers.
@@ -32,18 +32,12 @@ fn near(memory: &mut Memory, asked: Asked<'_>, room: usize) -> (u32, (usize, [u8
 
 // The number that it returns, where nothing is written, and all of so many bytes of memory come
 // back.
-fn near_number(
-    rt: &impl Abort,
-    alloc: Global,
-    size: usize,
-    asked: Asked<'_>,
-    room: usize,
-) -> Result<u32, AllocError> {
-    let mut memory = Memory::leaked(alloc, size)?;
+fn near_number(rt: &impl Abort, alloc: Global, size: usize, asked: Asked<'_>, room: usize) -> u32 {
+    let mut memory = Memory::leaked(alloc, size).expect(rt, "memory");
     let (number, (count, buffer)) = near(&mut memory, asked, room);
     is_untouched(rt, &buffer, count);
     same(rt, &memory.with_size().0, &size);
-    Ok(number)
+    number
 }
 
 // It puts so many texts, these one behind another, and writes nothing behind them.
@@ -66,23 +60,17 @@ fn near_memory(text: &[u8]) -> usize {
 }
 
 // It does so with a buffer of more room and of as much, again in the same memory, which comes back.
-fn lists(
-    rt: &impl Abort,
-    alloc: Global,
-    asked: Asked<'_>,
-    want: (usize, &[u8]),
-) -> Result<(), AllocError> {
+fn lists(rt: &impl Abort, alloc: Global, asked: Asked<'_>, want: (usize, &[u8])) {
     let size = near_memory(asked.text);
-    let mut memory = Memory::leaked(alloc, size)?;
+    let mut memory = Memory::leaked(alloc, size).expect(rt, "memory");
     for room in [128, want.1.len()] {
         puts_near(rt, &mut memory, asked, room, want);
     }
     same(rt, &memory.with_size().0, &size);
-    Ok(())
 }
 
 #[test]
-fn lists_near_texts(rt: HostRuntime) -> Result<(), AllocError> {
+fn lists_near_texts(rt: HostRuntime) {
     // The first and the second text are of BIP-173. What is near was found by going through all
     // patterns.
     let rows: [(u32, &[u8], &[usize], usize, usize, &[u8]); 9] = [
@@ -124,14 +112,13 @@ fn lists_near_texts(rt: HostRuntime) -> Result<(), AllocError> {
             erasures,
             errors,
         };
-        lists(&rt, rt.alloc(), asked, (count, want))?;
+        lists(&rt, rt.alloc(), asked, (count, want));
     }
-    Ok(())
 }
 
 // A refusal of a number or of the text needs no memory.
 #[test]
-fn refuses_to_list(rt: HostRuntime) -> Result<(), AllocError> {
+fn refuses_to_list(rt: HostRuntime) {
     let rows: [(u32, &[u8], usize, u32); 12] = [
         (0, b"\xff", 2, 4),
         (3, b"a12uel5l", 0, 4),
@@ -153,10 +140,9 @@ fn refuses_to_list(rt: HostRuntime) -> Result<(), AllocError> {
             erasures: &[0],
             errors,
         };
-        let number = near_number(&rt, rt.alloc(), 0, asked, 128)?;
+        let number = near_number(&rt, rt.alloc(), 0, asked, 128);
         same(&rt, &number, &want);
     }
-    Ok(())
 }
 
 // A text with two wrong characters, near to one.
@@ -174,23 +160,22 @@ fn lists_what_fits(
     asked: Asked<'_>,
     want: (usize, &[u8]),
     sizes: (usize, usize),
-) -> Result<(), AllocError> {
+) {
     let (room, put) = sizes;
-    let mut memory = Memory::leaked(alloc, near_memory(asked.text))?;
+    let mut memory = Memory::leaked(alloc, near_memory(asked.text)).expect(rt, "memory");
     let (number, (count, buffer)) = near(&mut memory, asked, room);
     same(rt, &number, &92);
     same(rt, &count, &want.0);
     let (front, _) = want.1.split_at(put.min(want.1.len()));
     holds(rt, &buffer, put, front);
     same(rt, &memory.with_size().0, &near_memory(asked.text));
-    Ok(())
 }
 
 #[test]
-fn lists_into_small_buffers(rt: HostRuntime) -> Result<(), AllocError> {
+fn lists_into_small_buffers(rt: HostRuntime) {
     let one: (usize, &[u8]) = (1, b"bc1qw508d6qejxtdg4y5r3zarvary0c5xw7kv8f3t4");
     for room in [0, 41] {
-        lists_what_fits(&rt, rt.alloc(), NEAR, one, (room, 0))?;
+        lists_what_fits(&rt, rt.alloc(), NEAR, one, (room, 0));
     }
     let three: (usize, &[u8]) = (
         3,
@@ -203,23 +188,21 @@ fn lists_into_small_buffers(rt: HostRuntime) -> Result<(), AllocError> {
         errors: 2,
     };
     for sizes in [(20, 0), (41, 21), (62, 42)] {
-        lists_what_fits(&rt, rt.alloc(), asked, three, sizes)?;
+        lists_what_fits(&rt, rt.alloc(), asked, three, sizes);
     }
-    Ok(())
 }
 
 #[test]
-fn lists_with_too_little_memory(rt: HostRuntime) -> Result<(), AllocError> {
+fn lists_with_too_little_memory(rt: HostRuntime) {
     for size in [0, 16, 41] {
-        same(&rt, &near_number(&rt, rt.alloc(), size, NEAR, 128)?, &91);
+        same(&rt, &near_number(&rt, rt.alloc(), size, NEAR, 128), &91);
     }
-    Ok(())
 }
 
 // The number with so many bytes of memory, which come back: 0 with the near text, or else nothing
 // is written.
-fn number_within(rt: &impl Abort, alloc: Global, size: usize) -> Result<u32, AllocError> {
-    let mut memory = Memory::leaked(alloc, size)?;
+fn number_within(rt: &impl Abort, alloc: Global, size: usize) -> u32 {
+    let mut memory = Memory::leaked(alloc, size).expect(rt, "memory");
     let (number, (count, buffer)) = near(&mut memory, NEAR, 128);
     if number == 0 {
         same(rt, &count, &1);
@@ -233,19 +216,18 @@ fn number_within(rt: &impl Abort, alloc: Global, size: usize) -> Result<u32, All
         is_untouched(rt, &buffer, count);
     }
     same(rt, &memory.with_size().0, &size);
-    Ok(number)
+    number
 }
 
 // From some size on memory suffices, at the latest from the stated one.
 #[test]
-fn lists_or_wants_memory(rt: HostRuntime) -> Result<(), AllocError> {
+fn lists_or_wants_memory(rt: HostRuntime) {
     let enough = near_memory(NEAR.text);
     let mut before = 91;
     for size in (0..enough).step_by(256).chain([enough]) {
-        let number = number_within(&rt, rt.alloc(), size)?;
+        let number = number_within(&rt, rt.alloc(), size);
         assert!(rt; number == 0 || number == before);
         before = number;
     }
     same(&rt, &before, &0);
-    Ok(())
 }

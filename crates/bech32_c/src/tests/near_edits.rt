@@ -1,7 +1,7 @@
 use crate::near_edits::bech32_near_edits;
 use crate::tests::{BEFORE, LENGTH_BEFORE, same};
 use caller_memory::Memory;
-use std::alloc::{AllocError, Global};
+use std::alloc::Global;
 use std::process::Abort;
 
 // What the buffers and the count hold.
@@ -81,19 +81,18 @@ fn answers(
     row: (u32, &[u8]),
     rooms: Rooms,
     want: (u32, usize, Edits<'_>),
-) -> Result<(), AllocError> {
+) {
     let size = stated(row.1);
-    let mut memory = Memory::leaked(alloc, size)?;
+    let mut memory = Memory::leaked(alloc, size).expect(rt, "memory");
     let (number, held) = edits(&mut memory, row, rooms);
     same(rt, &number, &want.0);
     same(rt, &held.count, &want.1);
     hold(rt, &held, want.2);
     same(rt, &memory.with_size().0, &size);
-    Ok(())
 }
 
 #[test]
-fn lists_near_edits(rt: HostRuntime) -> Result<(), AllocError> {
+fn lists_near_edits(rt: HostRuntime) {
     // The address is of BIP-173; two of its characters swapped, one left out, one doubled.
     let address = b"bc1qw508d6qejxtdg4y5r3zarvary0c5xw7kv8f3t4";
     let rows: [(u32, &[u8], Edits<'_>); 8] = [
@@ -124,14 +123,22 @@ fn lists_near_edits(rt: HostRuntime) -> Result<(), AllocError> {
     ];
     for (checksum, text, want) in rows {
         let want = (0, want.0.len(), want);
-        answers(&rt, rt.alloc(), (checksum, text), AMPLE, want)?;
+        answers(&rt, rt.alloc(), (checksum, text), AMPLE, want);
     }
-    Ok(())
+}
+
+// With no memory it answers this number, and writes nothing.
+fn refuses(rt: &impl Abort, alloc: Global, row: (u32, &[u8]), want: u32) {
+    let mut memory = Memory::leaked(alloc, 0).expect(rt, "memory");
+    let (number, held) = edits(&mut memory, row, AMPLE);
+    same(rt, &number, &want);
+    same(rt, &held.count, &LENGTH_BEFORE);
+    hold(rt, &held, (&[], b""));
 }
 
 // A refusal of a number or of the text needs no memory.
 #[test]
-fn refuses_to_edit(rt: HostRuntime) -> Result<(), AllocError> {
+fn refuses_to_edit(rt: HostRuntime) {
     let rows: [(u32, &[u8], u32); 9] = [
         (0, b"\xff", 4),
         (3, b"a12uel5", 4),
@@ -144,13 +151,8 @@ fn refuses_to_edit(rt: HostRuntime) -> Result<(), AllocError> {
         (1, b"", 23),
     ];
     for (checksum, text, want) in rows {
-        let mut memory = Memory::leaked(rt.alloc(), 0)?;
-        let (number, held) = edits(&mut memory, (checksum, text), AMPLE);
-        same(&rt, &number, &want);
-        same(&rt, &held.count, &LENGTH_BEFORE);
-        hold(&rt, &held, (&[], b""));
+        refuses(&rt, rt.alloc(), (checksum, text), want);
     }
-    Ok(())
 }
 
 // A text with two edits, of 17 and of 19 characters.
@@ -160,7 +162,7 @@ const BOTH: Edits<'static> = (&[(2, 1), (3, 1)], b"ii2134hk2xmat79tpii2134hk2xma
 
 // Where they do not fit in one of the buffers, as many stand in all as fit in each.
 #[test]
-fn lists_edits_into_small_buffers(rt: HostRuntime) -> Result<(), AllocError> {
+fn lists_edits_into_small_buffers(rt: HostRuntime) {
     let one: Edits<'_> = (&[(2, 1)], b"ii2134hk2xmat79tp");
     let rows: [(usize, usize, usize, (u32, usize, Edits<'_>)); 8] = [
         (2, 2, 36, (0, 2, BOTH)),
@@ -178,15 +180,14 @@ fn lists_edits_into_small_buffers(rt: HostRuntime) -> Result<(), AllocError> {
             locations,
             texts,
         };
-        answers(&rt, rt.alloc(), TWO, rooms, want)?;
+        answers(&rt, rt.alloc(), TWO, rooms, want);
     }
-    Ok(())
 }
 
 // The number with so many bytes of memory, which come back: 0 with both edits, or else nothing is
 // written.
-fn number_within(rt: &impl Abort, alloc: Global, size: usize) -> Result<u32, AllocError> {
-    let mut memory = Memory::leaked(alloc, size)?;
+fn number_within(rt: &impl Abort, alloc: Global, size: usize) -> u32 {
+    let mut memory = Memory::leaked(alloc, size).expect(rt, "memory");
     let (number, held) = edits(&mut memory, TWO, AMPLE);
     if number == 0 {
         same(rt, &held.count, &2);
@@ -196,19 +197,18 @@ fn number_within(rt: &impl Abort, alloc: Global, size: usize) -> Result<u32, All
         hold(rt, &held, (&[], b""));
     }
     same(rt, &memory.with_size().0, &size);
-    Ok(number)
+    number
 }
 
 // From some size on memory suffices, at the latest from the stated one.
 #[test]
-fn lists_edits_or_wants_memory(rt: HostRuntime) -> Result<(), AllocError> {
+fn lists_edits_or_wants_memory(rt: HostRuntime) {
     let enough = stated(TWO.1);
     let mut before = 91;
     for size in (0..enough).step_by(128).chain([enough]) {
-        let number = number_within(&rt, rt.alloc(), size)?;
+        let number = number_within(&rt, rt.alloc(), size);
         assert!(rt; number == 0 || number == before);
         before = number;
     }
     same(&rt, &before, &0);
-    Ok(())
 }

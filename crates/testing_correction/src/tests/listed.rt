@@ -128,22 +128,32 @@ pub fn is_listed_up_to<Ck: Checksum>(
     }
 }
 
-/// Whether just this is listed with these erasures, or nothing is, in each way to give them, and
-/// where no location above those that are listed is searched; not where there is no corrector.
+// Whether just this is listed with these erasures, or nothing is, in each way to give them, and
+// where no location above those that are listed is searched.
+fn lists_each_way<Ck: Checksum>(
+    corrector: &mut Corrector<Ck>,
+    erasures: &[usize],
+    want: Option<Listing>,
+) -> bool {
+    with_lists(corrector, erasures, want)
+        && lists_with(corrector, erasures, want)
+        && lists_up_to(corrector, usize::MAX, erasures, want)
+        && lists_up_to(corrector, highest_of(want), erasures, want)
+        && is_given(corrector, erasures)
+        && lists(corrector, want)
+}
+
+/// Whether just this is listed with these erasures, or nothing is, in each of these ways; not where
+/// there is no corrector.
 pub fn is_listed_by<Ck: Checksum>(
     found: Option<Corrector<Ck>>,
     erasures: &[usize],
     want: Option<Listing>,
 ) -> bool {
-    let Some(mut corrector) = found else {
-        return false;
-    };
-    with_lists(&corrector, erasures, want)
-        && lists_with(&corrector, erasures, want)
-        && lists_up_to(&corrector, usize::MAX, erasures, want)
-        && lists_up_to(&corrector, highest_of(want), erasures, want)
-        && is_given(&mut corrector, erasures)
-        && lists(&corrector, want)
+    match found {
+        Some(mut corrector) => lists_each_way(&mut corrector, erasures, want),
+        None => false,
+    }
 }
 
 // Whether just this is listed without erasures, where an error was taken off.

@@ -36,16 +36,21 @@ fn corrector_in<'a, Ck: Checksum>(
     }
 }
 
-// Whether just the four errors are listed.
-fn lists_four(heap: &LocalHeap) -> Result<bool, AllocError> {
-    let Some(mut corrector) = corrector_in::<Degree13<93>>(heap, FOUR_ERRORS) else {
-        return Ok(false);
-    };
+// Whether just the four errors are listed with two of them as erasures.
+fn lists_with_two(corrector: &mut Corrector<Degree13<93>, &LocalHeap>) -> Result<bool, AllocError> {
     if !corrector.are_within(&[44, 0]) {
         return Ok(false);
     }
     corrector.add_erasures(&[44, 0])?;
-    lists(&corrector, Some(&FOUR))
+    lists(corrector, Some(&FOUR))
+}
+
+// The same for the text.
+fn lists_four(heap: &LocalHeap) -> Result<bool, AllocError> {
+    match corrector_in::<Degree13<93>>(heap, FOUR_ERRORS) {
+        Some(mut corrector) => lists_with_two(&mut corrector),
+        None => Ok(false),
+    }
 }
 
 struct FourErrors;
@@ -87,22 +92,31 @@ const ADDRESS: &str = "bc1qar0srrr7xfkvy5l64qlydnw9re59gtzzwf5mdx";
 
 const OTHER_ADDRESS: &str = "bc1q9r0srrr7xfkvy5l64qlydnw9re59gtzzwf5mdx";
 
-// The same with these erasures.
+// Whether a corrector lists just this with these erasures, or nothing, in two ways to give them.
+fn lists_both_ways(
+    corrector: &mut Corrector<Bech32, &LocalHeap>,
+    erasures: &[usize],
+    want: Option<Listing>,
+) -> Result<bool, AllocError> {
+    if !corrector.are_within(erasures) {
+        return Ok(false);
+    }
+    let is_first = with_lists(corrector, erasures, want)?;
+    corrector.add_erasures(erasures)?;
+    Ok(is_first && clone_lists(corrector, want)?)
+}
+
+// The same for a text that Bech32 refuses.
 fn is_listed(
     heap: &LocalHeap,
     text: &str,
     erasures: &[usize],
     want: Option<Listing>,
 ) -> Result<bool, AllocError> {
-    let Some(mut corrector) = corrector_in::<Bech32>(heap, text) else {
-        return Ok(false);
-    };
-    if !corrector.are_within(erasures) {
-        return Ok(false);
+    match corrector_in::<Bech32>(heap, text) {
+        Some(mut corrector) => lists_both_ways(&mut corrector, erasures, want),
+        None => Ok(false),
     }
-    let is_first = with_lists(&corrector, erasures, want)?;
-    corrector.add_erasures(erasures)?;
-    Ok(is_first && clone_lists(&corrector, want)?)
 }
 
 #[test]

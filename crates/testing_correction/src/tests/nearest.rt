@@ -42,7 +42,46 @@ fn are(listings: &Listings<&LocalHeap>, want: &[Listing]) -> bool {
             .all(|(listing, want)| listing.as_slice() == *want)
 }
 
-// Whether these are all listings of so many errors outside the erasures.
+// Whether the erasures are below the window; they are added then.
+fn is_given(
+    corrector: &mut Corrector<Bech32, &LocalHeap>,
+    erasures: &[usize],
+) -> Result<bool, AllocError> {
+    if !corrector.are_within(erasures) {
+        return Ok(false);
+    }
+    corrector.add_erasures(erasures)?;
+    Ok(true)
+}
+
+// What finds the errors below the window in a text that Bech32 refuses, with these erasures; `None`
+// where these are not below the window.
+fn corrector_with<'a>(
+    heap: &'a LocalHeap,
+    text: &str,
+    window: usize,
+    erasures: &[usize],
+) -> Result<Option<Corrector<Bech32, &'a LocalHeap>>, AllocError> {
+    let Some(mut corrector) = corrector_in::<Bech32>(heap, text, window) else {
+        return Ok(None);
+    };
+    if is_given(&mut corrector, erasures)? {
+        Ok(Some(corrector))
+    } else {
+        Ok(None)
+    }
+}
+
+// Whether these are all listings of so many errors outside the erasures of a corrector.
+fn are_nearest_of(
+    corrector: &Corrector<Bech32, &LocalHeap>,
+    errors: usize,
+    want: &[Listing],
+) -> Result<bool, AllocError> {
+    Ok(are(&nearest_listings(corrector, errors)?, want))
+}
+
+// The same of a text with these erasures.
 fn are_nearest(
     heap: &LocalHeap,
     text: &str,
@@ -51,14 +90,10 @@ fn are_nearest(
     errors: usize,
     want: &[Listing],
 ) -> Result<bool, AllocError> {
-    let Some(mut corrector) = corrector_in::<Bech32>(heap, text, window) else {
-        return Ok(false);
-    };
-    if !corrector.are_within(erasures) {
-        return Ok(false);
+    match corrector_with(heap, text, window, erasures)? {
+        Some(corrector) => are_nearest_of(&corrector, errors, want),
+        None => Ok(false),
     }
-    corrector.add_erasures(erasures)?;
-    Ok(are(&nearest_listings(&corrector, errors)?, want))
 }
 
 // The same of a short text whose last character is wrong; None where there is too little memory.
@@ -124,4 +159,21 @@ impl InHeap for TwoErrors {
 #[test]
 fn listings_or_out_of_memory(rt: HostRuntime) {
     right_or_wants_memory(rt.alloc(), &TwoErrors, (32, 64)).expect(&rt, "right, or out of memory");
+}
+
+struct TwoErrorsBesideErasures;
+
+impl InHeap for TwoErrorsBesideErasures {
+    fn is_right(&self, _alloc: Global, heap: &LocalHeap) -> Option<bool> {
+        let erased: Listing = &[(1, Fe32::Q), (2, Fe32::Q), (0, Fe32::L)];
+        says(heap, &[1, 2], 2, &[erased])
+    }
+}
+
+#[test]
+fn listings_beside_erasures_or_out_of_memory(rt: HostRuntime) {
+    right_or_wants_memory(rt.alloc(), &TwoErrorsBesideErasures, (80, 64)).expect(
+        &rt,
+        "right, or out of memory",
+    );
 }

@@ -17,8 +17,8 @@ returns-then-not-are_few-clause-none g c = λ many. c.new-found.ensures.items
 pub returns-clause-all : goal.returns-clause-all
 returns-clause-all g c = λ within few.
     let q = c.args.corrector.now in
-    subst (λ (start : List (List (ℕ × Fe32))). AreAdded (IsEarlier fe32.ops fe32.value q.erasures) (IsGathered fe32.ops g.Ck.Checksum.code.generator q.residue q.erasures c.args.limit c.args.errors) start c.gather.new.found.items)
-    c.new-found.ensures.items (c.in_ok-gather.ensures few within)
+    subst (λ (start : List (List (ℕ × Fe32))). AreAdded (IsEarlier fe32.ops fe32.value q.erasures) (IsGathered fe32.ops g.Ck.Checksum.code.generator q.residue q.erasures c.args.limit c.args.errors) start c.gather_all.new.found.items)
+    c.new-found.ensures.items (c.in_ok-gather_all.ensures few within)
 
 pub returns-clause-none : goal.returns-clause-none
 returns-clause-none g c = λ many.

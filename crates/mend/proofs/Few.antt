@@ -1,0 +1,136 @@
+-- The texts near one with the first four different locations of a word are those with all of them: three are taken at most.
+use Rattle.std.specs.List.{AllByRecursion}
+use Rattle.std.proofs.Common.{◌≡◌, ◌⊎◌, ◌<◌, ◌≤◌, ℕ, inl, inr, List, [], ◌∷◌, Option, Some, None, MatchOption, length, take, map, refl, sym, ap, subst, ◌∙◌, arith}
+use Rattle.std.proofs.lemmas.Bool.{cases_lt}
+use Rattle.bech32_gf.specs.Fe32.{elements_of}
+use Rattle.bech32_gf.specs.declared.gf32.Fe32.{Fe32}
+use Rattle.bech32_checksum.specs.Code.{Code}
+use Rattle.bech32_checksum.specs.Roots.{singleton_bound}
+use Rattle.bech32_bch.specs.Erasures.{with_erasures}
+use Rattle.bech32_bch.specs.Pattern.{errors_outside}
+use Rattle.bech32_near_patterns.specs.Nearest.{AreNearest}
+use Rattle.bech32_near.specs.NearTexts.{AreNearTexts, AreNearestListings, IsNearText, IsNearestRefusal, IsSearched, differences_outside}
+use Rattle.bech32_near.proofs.Differing.{differences, few_outside}
+use Rattle.b32_replies.proofs.FewLocations.{each_few, each_given, no_more, same_erasures}
+use Rattle.line_program.specs.Refused.{SaysRefusal, err}
+use Rattle.mend.specs.Numbers.{number_of_correct_error}
+use Rattle.mend.specs.Reply.{IsNearTextsAnswer, SaysNear}
+use Rattle.mend.specs.Request.{errors_of_word}
+
+module _ (code : Code) (text few given : List ℕ) (errors : ℕ) (is : few ≡ take 4 (with_erasures [] given)) where
+  -- ---- one text
+
+  same_differences : length (with_erasures [] given) ≤ 3 → (xs ys : List Fe32) → differences_outside few xs ys ≡ differences_outside given xs ys
+  same_differences size xs ys =
+      sym (few_outside few xs ys) ∙ ap (λ (s : List ℕ). errors_outside s (differences xs ys)) (same_erasures few given is size) ∙ few_outside given xs ys
+
+  text-given : (other : List ℕ) → IsNearText code (singleton_bound 24 26) text few errors other → IsNearText code (singleton_bound 24 26) text given errors other
+  text-given other h =
+      let size : length (with_erasures [] given) ≤ 3 = no_more few given is h.erased in
+      record {
+        hrp = h.hrp;
+        data_part = h.data_part;
+        other_hrp = h.other_hrp;
+        other_data = h.other_data;
+        grammar = h.grammar;
+        accepted = h.accepted;
+        same_hrp = h.same_hrp;
+        same_length = h.same_length;
+        searched = (h.searched.0, each_given few given is (λ i. i < length h.data_part) size h.searched.1);
+        erased = size;
+        few = subst (λ (n : ℕ). n ≤ errors) (same_differences size (elements_of h.data_part) (elements_of h.other_data)) h.few;
+      }
+
+  text-few : (other : List ℕ) → IsNearText code (singleton_bound 24 26) text given errors other → IsNearText code (singleton_bound 24 26) text few errors other
+  text-few other h =
+      let size : length (with_erasures [] given) ≤ 3 = h.erased in
+      record {
+        hrp = h.hrp;
+        data_part = h.data_part;
+        other_hrp = h.other_hrp;
+        other_data = h.other_data;
+        grammar = h.grammar;
+        accepted = h.accepted;
+        same_hrp = h.same_hrp;
+        same_length = h.same_length;
+        searched = (h.searched.0, each_few few given is (λ i. i < length h.data_part) h.searched.1);
+        erased = subst (λ (s : List ℕ). length s ≤ 3) (sym (same_erasures few given is size)) size;
+        few = subst (λ (n : ℕ). n ≤ errors) (sym (same_differences size (elements_of h.data_part) (elements_of h.other_data))) h.few;
+      }
+
+  each_near : (found : List (List (ℕ × Fe32) × List ℕ)) → AllByRecursion (λ m. IsNearText code (singleton_bound 24 26) text few errors m.1) found
+      → AllByRecursion (λ m. IsNearText code (singleton_bound 24 26) text given errors m.1) found
+  each_near [] h = tt
+  each_near (m ∷ ms) h = (text-given m.1 h.0, each_near ms h.1)
+
+  -- ---- listings
+
+  none_few : given ≡ [] → few ≡ []
+  none_few e = is ∙ ap (λ (s : List ℕ). take 4 (with_erasures [] s)) e
+
+  -- there are none with more than three
+  no_listings : 3 < length (with_erasures [] given) → (ls : List (List (ℕ × Fe32))) → AreNearestListings code (singleton_bound 24 26) text few errors ls → ls ≡ []
+  no_listings long [] h = refl
+  no_listings long (x ∷ xs) h =
+      h.none
+      (λ searched.
+      let erased : length (with_erasures [] few) ≤ 3 = (h.nearest searched).each.0.near.erased in
+      let size : length (with_erasures [] given) ≤ 3 = no_more few given is erased in
+      omega arith)
+
+  listings-given : (ls : List (List (ℕ × Fe32))) → AreNearestListings code (singleton_bound 24 26) text few errors ls → AreNearestListings code (singleton_bound 24 26) text given errors ls
+  listings-given ls h =
+      let At : List ℕ → List (List (ℕ × Fe32)) → Type 0 =
+      λ s l. AreNearest code (singleton_bound 24 26) (record { residue = h.residue; window = length h.data_part; erasures = s }) errors l in
+      let inside : IsSearched code h.data_part given → IsSearched code h.data_part few =
+      λ s. (s.0, each_few few given is (λ i. i < length h.data_part) s.1) in
+      record {
+        hrp = h.hrp;
+        data_part = h.data_part;
+        residue = h.residue;
+        read = h.read;
+        nearest =
+            λ s. elim (cases_lt (length (with_erasures [] given)) 4) [
+              | inl short ↦ subst (λ (t : List ℕ). At t ls) (same_erasures few given is (omega arith)) (h.nearest (inside s))
+              | inr long ↦
+                  subst (At (with_erasures [] given)) (sym (no_listings (omega arith) ls h))
+                  (record { each = tt; all = λ pattern near. absurd (let few : length (with_erasures [] given) ≤ 3 = near.erased in omega arith); rising = tt })
+            ];
+        none =
+            λ no. elim (cases_lt (length (with_erasures [] given)) 4) [
+              | inl short ↦ h.none (λ s. no (s.0, each_given few given is (λ i. i < length h.data_part) (omega arith) s.1))
+              | inr long ↦ no_listings (omega arith) ls h
+            ];
+        one = λ detects e two. h.one detects (none_few e) two;
+      }
+
+  -- ---- all texts
+
+  pub near-given : (found : List (List (ℕ × Fe32) × List ℕ)) → AreNearTexts code (singleton_bound 24 26) text few errors found
+      → AreNearTexts code (singleton_bound 24 26) text given errors found
+  unfolding listings-given
+  near-given found h = record {
+    listings = listings-given (map (λ m. m.0) found) h.listings;
+    each = h.each;
+    near = each_near found h.near;
+    once = h.once;
+    all = λ other n. h.all other (text-few other n);
+    itself = λ n. h.itself (text-few text n);
+    one = λ a. h.one (a.0, a.1, none_few a.2, a.3);
+    only = λ a other n. h.only (a.0, a.1, none_few a.2, a.3) other (text-few other n);
+  }
+
+-- ---- what is said
+
+abbrev pub SaysBy : Code → List ℕ → List ℕ → List ℕ → Option ℕ → Type 0
+SaysBy code text given said o =
+    MatchOption o (said ≡ err 4) (λ errors. SaysNear code text given errors said ⊎ SaysRefusal (IsNearestRefusal code text) number_of_correct_error said)
+
+by_errors : (code : Code) (text few given said : List ℕ) → few ≡ take 4 (with_erasures [] given) → (o : Option ℕ) → SaysBy code text few said o → SaysBy code text given said o
+by_errors code text few given said is None h = h
+by_errors code text few given said is (Some errors) (inl h) = inl (record { found = h.found; near = near-given code text few given errors is h.found h.near; spelling = h.spelling })
+by_errors code text few given said is (Some errors) (inr h) = inr h
+
+-- what is said with the few is said with all of them
+pub says-given : (code : Code) (text few given word said : List ℕ) → few ≡ take 4 (with_erasures [] given) → IsNearTextsAnswer code text few word said → IsNearTextsAnswer code text given word said
+says-given code text few given word said is = by_errors code text few given said is (errors_of_word word)

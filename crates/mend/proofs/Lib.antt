@@ -1,0 +1,4 @@
+pub mod Faults
+pub mod Few
+pub mod Replies
+pub mod Split

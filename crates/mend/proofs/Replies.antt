@@ -1,0 +1,91 @@
+-- What may be said of a line.
+use Rattle.std.specs.Prelude.{flat_map}
+use Rattle.std.proofs.Common.{◌≡◌, ◌≢◌, ◌++◌, ◌∷◌, [], ◌∙◌, map, ℕ, ◌≤◌, inl, inr, List, Option, Some, None, Result, Ok, Err, MatchOption, length, refl, sym, ap, subst, codes}
+use Rattle.std.specs.Str.{IsUtf8}
+use Rattle.bech32_gf.specs.declared.gf32.Fe32.{Fe32}
+use Rattle.bech32_checksum.specs.Code.{Code}
+use Rattle.bech32_checksum.specs.Roots.{singleton_bound}
+use Rattle.bech32_correction.specs.declared.error.CorrectError.{CorrectError}
+use Rattle.bech32_correction.specs.declared.error.CorrectError.TheVariants.{Memory}
+use Rattle.bech32_near.specs.NearTexts.{AreNearTexts, IsNearestRefusal}
+use Rattle.bech32_near_edits.specs.declared.edits.Edit.{Edit}
+use Rattle.bech32_near_edits.specs.declared.error.EditsError.{EditsError}
+use Rattle.bech32_near_edits.specs.declared.error.EditsError.TheVariants as edits
+use Rattle.bech32_near_edits.specs.NearEdits.{AreNearEdits, IsEditsRefusal}
+use Rattle.line_program.specs.Refused.{err}
+use Rattle.line_program.specs.Reply.{IsReplyBy}
+use Rattle.line_program.proofs.Replied.{text-reply}
+use Rattle.mend.specs.Added.{AddsOrSaysNumber}
+use Rattle.mend.specs.Numbers.{number_of_correct_error, number_of_edits_error}
+use Rattle.mend.specs.Reply.{IsEditsAnswer, IsMendAnswer, IsNearTextsAnswer, SaysNear, said_of_edit, spaced}
+use Rattle.mend.specs.Request.{MendRequest, errors_of_word, mend_request_of}
+use Rattle.mend.proofs.Few.{SaysBy}
+
+-- what is added may be said more widely
+pub adds-wider : (Says Wider : List ℕ → Type 0) (r : Result (Unit {0}) ℕ) (old new : List ℕ) → ((said : List ℕ) → Says said → Wider said) → AddsOrSaysNumber Says r old new → AddsOrSaysNumber Wider r old new
+adds-wider Says Wider (Ok _) old new more h = (h.0, more h.0 h.1, h.2)
+adds-wider Says Wider (Err number) old new more h = (more (err number) h.0, h.1)
+
+-- ---- near texts
+
+module _ (code : Code) (text given word : List ℕ) where
+  pub says-bad_word : errors_of_word word ≡ None → IsNearTextsAnswer code text given word (err 4)
+  says-bad_word is = subst (SaysBy code text given (err 4)) (sym is) refl
+
+  module _ (errors : ℕ) (is : errors_of_word word ≡ Some errors) where
+    pub says-near : (said : List ℕ) → SaysNear code text given errors said → IsNearTextsAnswer code text given word said
+    says-near said h = subst (SaysBy code text given said) (sym is) (inl h)
+
+    pub says-refused : (e : CorrectError) → IsNearestRefusal code text e → IsNearTextsAnswer code text given word (err (number_of_correct_error e))
+    says-refused e h = subst (SaysBy code text given (err (number_of_correct_error e))) (sym is) (inr (record { error = e; is_refusal = h; spelling = refl }))
+
+    pub says-no_memory : (said : List ℕ) → SaysNear code text given errors said → IsNearTextsAnswer code text given word (err 91)
+    says-no_memory said h = let l = h.near.listings in says-refused Memory (l.hrp, l.data_part, l.residue, l.read)
+
+-- ---- a line that is a text
+
+module _ (line : List ℕ) (short : length line ≤ 4096) (utf8 : IsUtf8 line) where
+  abbrev Outcome : List ℕ → Option MendRequest → Type 0
+  Outcome said o = MatchOption o (said ≡ err 3) (λ request. IsMendAnswer request said)
+
+  pub says-no_command : mend_request_of line ≡ None → IsReplyBy mend_request_of IsMendAnswer line (err 3)
+  says-no_command is = text-reply mend_request_of IsMendAnswer line short (err 3) utf8 (subst (Outcome (err 3)) (sym is) refl)
+
+  pub says-answer : (request : MendRequest) (said : List ℕ) → mend_request_of line ≡ Some request → IsMendAnswer request said → IsReplyBy mend_request_of IsMendAnswer line said
+  says-answer request said is h = text-reply mend_request_of IsMendAnswer line short said utf8 (subst (Outcome said) (sym is) h)
+
+-- ---- what is said of texts
+
+spaced_of : {A : Type 0} (f : A → List (ℕ × Fe32) × List ℕ) (near : List A) → spaced (map (λ m. m.1) (map f near)) ≡ flat_map (λ m. 32 ∷ (f m).1) near
+spaced_of f [] = refl
+spaced_of f (m ∷ ms) = ap (λ (l : List ℕ). (32 ∷ (f m).1) ++ l) (spaced_of f ms)
+
+pub says-found : {A : Type 0} (f : A → List (ℕ × Fe32) × List ℕ) (code : Code) (text given : List ℕ) (errors : ℕ) (near shown : List A) (said : List ℕ) → shown ≡ near
+    → AreNearTexts code (singleton_bound 24 26) text given errors (map f near) → said ≡ codes "ok" ++ flat_map (λ m. 32 ∷ (f m).1) shown → SaysNear code text given errors said
+says-found {A} f code text given errors near shown said same are is = record {
+  found = map f near;
+  near = are;
+  spelling =
+      is
+      ∙ ap (λ (l : List A). codes "ok" ++ flat_map (λ m. 32 ∷ (f m).1) l) same
+      ∙ ap (λ (l : List ℕ). codes "ok" ++ l) (sym (spaced_of f near));
+}
+
+-- ---- what is said of edits
+
+module _ {A : Type 0} (f : A → Edit × List ℕ) where
+  said_each : (found : List A) → flat_map (λ m. said_of_edit m.0 m.1) (map f found) ≡ flat_map (λ m. said_of_edit (f m).0 (f m).1) found
+  said_each [] = refl
+  said_each (m ∷ ms) = ap (λ (l : List ℕ). said_of_edit (f m).0 (f m).1 ++ l) (said_each ms)
+
+  pub says-edits : (code : Code) (text : List ℕ) (found : List A) (said : List ℕ) → AreNearEdits code text (map f found) → said ≡ codes "ok" ++ flat_map (λ m. said_of_edit (f m).0 (f m).1) found
+      → IsEditsAnswer code text said
+  says-edits code text found said are is = inl (record { found = map f found; are = are; spelling = is ∙ ap (λ (l : List ℕ). codes "ok" ++ l) (sym (said_each found)) })
+
+  -- where there are some, out of memory may be said
+  pub no-room : (code : Code) (text : List ℕ) (found : List A) → AreNearEdits code text (map f found) → found ≢ [] → IsEditsRefusal code text edits.Memory
+  no-room code text [] are some = absurd (some refl)
+  no-room code text (m ∷ ms) are some = ((f m).0, (f m).1, are.each.0.0, are.each.0.1)
+
+pub says-no_edits : (code : Code) (text : List ℕ) (e : EditsError) → IsEditsRefusal code text e → IsEditsAnswer code text (err (number_of_edits_error e))
+says-no_edits code text e h = inr (record { error = e; is_refusal = h; spelling = refl })

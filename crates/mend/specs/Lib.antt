@@ -1,0 +1,4 @@
+pub mod Added
+pub mod Numbers
+pub mod Reply
+pub mod Request

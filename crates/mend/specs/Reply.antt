@@ -1,0 +1,115 @@
+-- What may be said of a request. Of lines that ask for nothing `line_program` says it.
+use Rattle.std.specs.Prelude.{◌≡◌, ◌⊎◌, ℕ, List, [], ◌∷◌, ◌++◌, codes, flat_map, map, MatchOption}
+use Rattle.std.specs.Fmt.{decimal}
+use Rattle.bech32_gf.specs.declared.gf32.Fe32.{Fe32}
+use Rattle.bech32_checksum.specs.Code.{Code, bech32, bech32m}
+use Rattle.bech32_checksum.specs.Roots.{singleton_bound}
+use Rattle.bech32_decode.specs.Acceptance.{Accepts}
+use Rattle.bech32_decode.specs.Checked.{IsCheckedRefusal}
+use Rattle.bech32_near.specs.NearTexts.{AreNearTexts, IsNearestRefusal}
+use Rattle.bech32_near_edits.specs.declared.edits.Change.{Change}
+use Rattle.bech32_near_edits.specs.declared.edits.Change.TheVariants.{Swapped, LeftOut, PutIn}
+use Rattle.bech32_near_edits.specs.declared.edits.Edit.{Edit}
+use Rattle.bech32_near_edits.specs.NearEdits.{AreNearEdits, IsEditsRefusal}
+use Rattle.bech32_numbers.specs.Numbers.{number_of_checked_error}
+use Rattle.bech32_refusals.specs.declared.error.CheckedHrpstringError.{CheckedHrpstringError}
+use Rattle.bech32_calls.specs.Place.{IsPlace}
+use Rattle.b32_replies.specs.Locations.{AreLocations, IsNoListOfLocations}
+use Rattle.b32_replies.specs.Request.{code_of_name}
+use Rattle.line_program.specs.Refused.{SaysRefusal, err}
+use Rattle.mend.specs.Numbers.{number_of_correct_error, number_of_edits_error}
+use Rattle.mend.specs.Request.{MendRequest, Nearest, NearestAt, Edits, Fault, Checksum}
+use Rattle.mend.specs.Request.{errors_of_word}
+
+-- texts, each with a space before it
+abbrev pub spaced : List (List ℕ) → List ℕ
+spaced texts = flat_map (λ text. 32 ∷ text) texts
+
+-- all texts near one are said, in their order
+pub record SaysNear (code : Code) (text given : List ℕ) (errors : ℕ) (said : List ℕ) : Type 0 where
+  pub found : List (List (ℕ × Fe32) × List ℕ)
+  pub near : AreNearTexts code (singleton_bound 24 26) text given errors found
+  pub spelling : said ≡ codes "ok" ++ spaced (map (λ m. m.1) found)
+
+-- the answer to `nearest`, where these locations are known to be wrong: a word that is no number
+-- of errors is refused first, and out of memory is said only of a text that is refused for nothing
+-- else
+abbrev pub IsNearTextsAnswer : Code → List ℕ → List ℕ → List ℕ → List ℕ → Type 0
+IsNearTextsAnswer code text given word said =
+    MatchOption (errors_of_word word)
+    (said ≡ err 4)
+    (λ errors. SaysNear code text given errors said
+    ⊎ SaysRefusal (IsNearestRefusal code text) number_of_correct_error said)
+
+-- the same where a word lists the locations: a word that lists none is refused
+abbrev pub IsNearTextsAtAnswer : Code → List ℕ → List ℕ → List ℕ → List ℕ → Type 0
+IsNearTextsAtAnswer code text locations word said =
+    (IsNoListOfLocations locations × (said ≡ err 4))
+    ⊎ ((given : List ℕ) × AreLocations locations given
+    × IsNearTextsAnswer code text given word said)
+
+-- the word for what is done to a text
+abbrev pub word_of_change : Change → List ℕ
+word_of_change (Swapped x y) = codes "swapped"
+word_of_change (LeftOut x) = codes "left-out"
+word_of_change (PutIn x) = codes "put-in"
+
+-- what is done to a text, where, and the text that this makes, each with a space before it
+abbrev pub said_of_edit : Edit → List ℕ → List ℕ
+said_of_edit edit text =
+    (32 ∷ word_of_change edit.change) ++ ((32 ∷ decimal edit.location) ++ (32 ∷ text))
+
+-- all texts that one edit makes of one are said, each with the edit, in their order
+pub record SaysEdits (code : Code) (text said : List ℕ) : Type 0 where
+  pub found : List (Edit × List ℕ)
+  pub are : AreNearEdits code text found
+  pub spelling : said ≡ codes "ok" ++ flat_map (λ m. said_of_edit m.0 m.1) found
+
+-- the answer to `edits`
+abbrev pub IsEditsAnswer : Code → List ℕ → List ℕ → Type 0
+IsEditsAnswer code text said =
+    SaysEdits code text said
+    ⊎ SaysRefusal (IsEditsRefusal code text) number_of_edits_error said
+
+-- said is that the checksum accepts the text
+pub record SaysAccepted (code : Code) (text said : List ℕ) : Type 0 where
+  pub accepted : Accepts code text
+  pub spelling : said ≡ codes "ok"
+
+-- said is why the checksum refuses the text, by its number, and where that stands
+pub record SaysFault (code : Code) (text said : List ℕ) : Type 0 where
+  pub error : CheckedHrpstringError
+  pub is_refusal : IsCheckedRefusal code text error
+  pub place : ℕ
+  pub is_place : IsPlace text (number_of_checked_error error) place
+  pub spelling : said ≡ err (number_of_checked_error error) ++ (32 ∷ decimal place)
+
+-- the answer to `fault`
+abbrev pub IsFaultAnswer : Code → List ℕ → List ℕ → Type 0
+IsFaultAnswer code text said = SaysAccepted code text said ⊎ SaysFault code text said
+
+-- the checksum that accepts the text is named
+pub record SaysChecksum (code : Code) (name text said : List ℕ) : Type 0 where
+  pub accepted : Accepts code text
+  pub spelling : said ≡ codes "ok " ++ name
+
+-- Bech32m refuses the text for this, and Bech32 does not accept it
+abbrev pub IsRefusedByEither : List ℕ → CheckedHrpstringError → Type 0
+IsRefusedByEither text e = IsCheckedRefusal bech32m text e × (Accepts bech32 text → ⊥)
+
+-- the answer to `checksum`
+abbrev pub IsChecksumAnswer : List ℕ → List ℕ → Type 0
+IsChecksumAnswer text said =
+    SaysChecksum bech32m (codes "bech32m") text said
+    ⊎ (SaysChecksum bech32 (codes "bech32") text said
+    ⊎ SaysRefusal (IsRefusedByEither text) number_of_checked_error said)
+
+-- the answer to a request
+abbrev pub IsMendAnswer : MendRequest → List ℕ → Type 0
+IsMendAnswer (Nearest checksum text errors) said =
+    IsNearTextsAnswer (code_of_name checksum) text [] errors said
+IsMendAnswer (NearestAt checksum text locations errors) said =
+    IsNearTextsAtAnswer (code_of_name checksum) text locations errors said
+IsMendAnswer (Edits checksum text) said = IsEditsAnswer (code_of_name checksum) text said
+IsMendAnswer (Fault checksum text) said = IsFaultAnswer (code_of_name checksum) text said
+IsMendAnswer (Checksum text) said = IsChecksumAnswer text said

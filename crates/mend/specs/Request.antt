@@ -1,0 +1,88 @@
+-- What a line asks for: its first word names a command, the others are its arguments.
+use Rattle.std.specs.Prelude.{ℕ, if◌then◌else◌, List, [], ◌∷◌, codes, Option, Some, None}
+use Rattle.std.specs.List.{list_any}
+use Rattle.std.specs.Str.{bytes_eq}
+use Rattle.b32_replies.specs.Request.{checksum_of_word}
+use Rattle.b32_replies.specs.declared.command.ChecksumName.{ChecksumName}
+use Rattle.line_program.specs.Words.{is_empty, request_by}
+use Rattle.mend.specs.declared.command.Command.{Command}
+use Rattle.mend.specs.declared.command.Command.TheVariants as commands
+
+-- the texts near one, with or without locations that are known to be wrong; the texts that one edit
+-- makes of one; why a checksum refuses a text; which checksum accepts a text; each argument as its
+-- word
+pub data MendRequest : Type 0 where
+  Nearest : (checksum : ChecksumName) (text errors : List ℕ) → MendRequest
+  NearestAt : (checksum : ChecksumName) (text locations errors : List ℕ) → MendRequest
+  Edits : (checksum : ChecksumName) (text : List ℕ) → MendRequest
+  Fault : (checksum : ChecksumName) (text : List ℕ) → MendRequest
+  Checksum : (text : List ℕ) → MendRequest
+
+-- how many errors a word allows
+abbrev pub errors_of_word : List ℕ → Option ℕ
+errors_of_word word =
+    if bytes_eq word (codes "0") then Some 0
+    else (if bytes_eq word (codes "1") then Some 1
+    else (if bytes_eq word (codes "2") then Some 2 else None))
+
+-- a request by the checksum of a word, if it is one
+abbrev pub by_checksum : Option ChecksumName → (ChecksumName → MendRequest) → Option MendRequest
+by_checksum None request = None
+by_checksum (Some checksum) request = Some (request checksum)
+
+-- `nearest CHECKSUM TEXT ERRORS` and `nearest CHECKSUM TEXT LOCATIONS ERRORS`
+abbrev pub nearest_request : List (List ℕ) → Option MendRequest
+nearest_request (checksum ∷ text ∷ errors ∷ []) =
+    by_checksum (checksum_of_word checksum) (λ name. Nearest name text errors)
+nearest_request (checksum ∷ text ∷ locations ∷ errors ∷ []) =
+    by_checksum (checksum_of_word checksum) (λ name. NearestAt name text locations errors)
+nearest_request _ = None
+
+-- `edits CHECKSUM TEXT` and `fault CHECKSUM TEXT`
+abbrev pub text_request : (ChecksumName → List ℕ → MendRequest) → List (List ℕ)
+    → Option MendRequest
+text_request request (checksum ∷ text ∷ []) =
+    by_checksum (checksum_of_word checksum) (λ name. request name text)
+text_request request _ = None
+
+-- `checksum TEXT`
+abbrev pub checksum_request : List (List ℕ) → Option MendRequest
+checksum_request (text ∷ []) = Some (Checksum text)
+checksum_request _ = None
+
+-- what words ask for
+abbrev pub mend_request_of_words : List (List ℕ) → Option MendRequest
+mend_request_of_words [] = None
+mend_request_of_words (name ∷ arguments) =
+    if bytes_eq name (codes "nearest") then nearest_request arguments
+    else (if bytes_eq name (codes "edits") then text_request Edits arguments
+    else (if bytes_eq name (codes "fault") then text_request Fault arguments
+    else (if bytes_eq name (codes "checksum") then checksum_request arguments
+    else None)))
+
+-- what a line asks for, which has no empty word
+abbrev pub mend_request_of : List ℕ → Option MendRequest
+mend_request_of line = request_by mend_request_of_words line
+
+-- ---- on the way
+
+-- what the words behind `nearest` ask for, of which none is empty
+abbrev pub nearest_arguments : List (List ℕ) → Option MendRequest
+nearest_arguments arguments =
+    if list_any is_empty arguments then None else nearest_request arguments
+
+-- what the words of a checksum and a text ask for, of which none is empty
+abbrev pub text_arguments : (ChecksumName → List ℕ → MendRequest) → List (List ℕ)
+    → Option MendRequest
+text_arguments request arguments =
+    if list_any is_empty arguments then None else text_request request arguments
+
+-- what a command asks for
+abbrev pub mend_request_of_command : Command → MendRequest
+mend_request_of_command (commands.Nearest checksum text errors) =
+    Nearest checksum text.now errors.now
+mend_request_of_command (commands.NearestAt checksum text locations errors) =
+    NearestAt checksum text.now locations.now errors.now
+mend_request_of_command (commands.Edits checksum text) = Edits checksum text.now
+mend_request_of_command (commands.Fault checksum text) = Fault checksum text.now
+mend_request_of_command (commands.Checksum text) = Checksum text.now

@@ -1,0 +1,118 @@
+//! Reads a line as a command with its arguments.
+
+ghost use Rattle.std.specs.Prelude.{◌≡◌, ℕ, List, MatchOption, Some, None};
+ghost use Rattle.line_program.specs.Words.{words};
+ghost use Rattle.b32_replies.specs.declared.command.ChecksumName.{ChecksumName as Name};
+ghost use Rattle.mend.specs.Request.{MendRequest, errors_of_word, mend_request_of, mend_request_of_command, nearest_arguments, text_arguments};
+
+use b32_replies::{ChecksumName, checksum_named};
+use line_program::{first_word, only_word};
+
+/// What a line asks for, each argument as its word.
+#[derive(Clone, Copy, Debug)]
+pub enum Command<'a> {
+    /// `nearest CHECKSUM TEXT ERRORS`: all texts near a mistyped one.
+    Nearest {
+        checksum: ChecksumName,
+        text: &'a str,
+        errors: &'a str,
+    },
+    /// `nearest CHECKSUM TEXT LOCATIONS ERRORS`: the same, where characters are known to be wrong.
+    NearestAt {
+        checksum: ChecksumName,
+        text: &'a str,
+        locations: &'a str,
+        errors: &'a str,
+    },
+    /// `edits CHECKSUM TEXT`: all texts that one edit makes of a mistyped one.
+    Edits {
+        checksum: ChecksumName,
+        text: &'a str,
+    },
+    /// `fault CHECKSUM TEXT`: why the checksum refuses a text, and where that stands.
+    Fault {
+        checksum: ChecksumName,
+        text: &'a str,
+    },
+    /// `checksum TEXT`: which checksum accepts a text.
+    Checksum {
+        text: &'a str,
+    },
+}
+
+/// How many errors a word allows: 0, 1 or 2.
+pub fn errors_in(word: &str) -> Option<usize>
+    ensures { result ≡ errors_of_word word.now }
+{
+    match word {
+        "0" => Some(0),
+        "1" => Some(1),
+        "2" => Some(2),
+        _ => None,
+    }
+}
+
+// The checksum and the text that words name.
+fn named_text(arguments: &str) -> Option<(ChecksumName, &str)>
+    ensures { (request : Name → List ℕ → MendRequest) → MatchOption result
+        (text_arguments request (words arguments.now) ≡ None)
+        (λ r. text_arguments request (words arguments.now) ≡ Some (request r.0 r.1.now)) }
+{
+    let (name, text) = first_word(arguments)?;
+    let checksum = checksum_named(name)?;
+    let text = only_word(text)?;
+    Some((checksum, text))
+}
+
+impl<'a> Command<'a> {
+    /// Reads a line. Its words stand between single spaces, and none is empty.
+    pub fn parse(line: &'a str) -> Option<Command<'a>>
+        ensures { MatchOption result
+            (mend_request_of line.now ≡ None)
+            (λ command. mend_request_of line.now ≡ Some (mend_request_of_command command)) }
+    {
+        let (name, arguments) = first_word(line)?;
+        match name {
+            "nearest" => Command::parse_nearest(arguments),
+            "edits" => {
+                let (checksum, text) = named_text(arguments)?;
+                Some(Command::Edits { checksum, text })
+            }
+            "fault" => {
+                let (checksum, text) = named_text(arguments)?;
+                Some(Command::Fault { checksum, text })
+            }
+            "checksum" => Some(Command::Checksum {
+                text: only_word(arguments)?,
+            }),
+            _ => None,
+        }
+    }
+
+    // Reads what stands behind `nearest`.
+    fn parse_nearest(arguments: &'a str) -> Option<Command<'a>>
+        ensures { MatchOption result
+            (nearest_arguments (words arguments.now) ≡ None)
+            (λ command.
+            nearest_arguments (words arguments.now) ≡ Some (mend_request_of_command command)) }
+    {
+        let (name, arguments) = first_word(arguments)?;
+        let checksum = checksum_named(name)?;
+        let (text, arguments) = first_word(arguments)?;
+        let Some((locations, errors)) = first_word(arguments) else {
+            let errors = only_word(arguments)?;
+            return Some(Command::Nearest {
+                checksum,
+                text,
+                errors,
+            });
+        };
+        let errors = only_word(errors)?;
+        Some(Command::NearestAt {
+            checksum,
+            text,
+            locations,
+            errors,
+        })
+    }
+}

@@ -1,0 +1,129 @@
+//! Answers `nearest`.
+
+ghost use Rattle.std.specs.Prelude.{◌≡◌, ◌+◌, ◌<◌, ◌≤◌, ◌++◌, codes, flat_map, ◌∷◌, map, string_bytes, vec_len, vec_capacity, IfErr, IfOk, MatchResult, OnOk};
+ghost use Rattle.bech32_checksum.specs.Roots.{singleton_bound};
+ghost use Rattle.bech32_near.specs.NearTexts.{AreNearTexts, IsNearestRefusal};
+ghost use Rattle.b32_replies.specs.Request.{code_of_name};
+ghost use Rattle.mend.specs.Added.{AddsOrSaysNumber};
+ghost use Rattle.mend.specs.Numbers.{number_of_correct_error};
+ghost use Rattle.mend.specs.Reply.{IsNearTextsAnswer, IsNearTextsAtAnswer, SaysNear};
+
+use crate::added::{NO_MEMORY, append_any};
+use crate::command::errors_in;
+use b32_replies::{ChecksumName, locations_of_word};
+use bech32::{Bech32, Bech32m, CorrectError, Mended, nearest};
+use bech32_numbers::checked_error_number;
+use std::alloc::{AllocError, Global};
+
+// The number of a word that is not read.
+const BAD_WORD: u8 = 4;
+
+// The number of a refusal.
+fn correct_error_number(e: CorrectError) -> u8
+    ensures value { result ≡ number_of_correct_error e }
+    ensures small { result < 100 }
+{
+    match e {
+        CorrectError::Refused(refusal) => checked_error_number(refusal),
+        CorrectError::Memory => NO_MEMORY,
+    }
+}
+
+// The texts near one by a checksum.
+fn near_by(
+    alloc: Global,
+    checksum: ChecksumName,
+    text: &str,
+    given: &[usize],
+    errors: usize,
+) -> Result<Vec<Mended>, CorrectError>
+    ensures { MatchResult result
+        (λ near. AreNearTexts (code_of_name checksum) (singleton_bound 24 26) text.now given.now
+        errors (map (λ m. (m.listing, string_bytes m.text)) near.items))
+        (λ e. IsNearestRefusal (code_of_name checksum) text.now e) }
+{
+    match checksum {
+        ChecksumName::Bech32 => Ok(nearest::<Bech32>(alloc, text, given, errors)?.texts),
+        ChecksumName::Bech32m => Ok(nearest::<Bech32m>(alloc, text, given, errors)?.texts),
+    }
+}
+
+// What is said of texts: `ok`, and each with a space before it.
+fn said_of(alloc: Global, near: &[Mended]) -> Result<Vec<u8>, AllocError>
+    ensures { IfOk result (λ said. said.items
+        ≡ codes "ok" ++ flat_map (λ m. 32 ∷ string_bytes m.text) near.now) }
+{
+    let mut said = Vec::from_slice(alloc, b"ok")?;
+    for mended in near {
+        said.push(b' ')?;
+        said.extend_from_slice(mended.text.as_bytes())?;
+    }
+    Ok(said)
+}
+
+// What is said of the texts near one.
+fn said_near(
+    alloc: Global,
+    checksum: ChecksumName,
+    text: &str,
+    given: &[usize],
+    errors: usize,
+) -> Result<Vec<u8>, CorrectError>
+    ensures { MatchResult result
+        (λ said. SaysNear (code_of_name checksum) text.now given.now errors said.items)
+        (λ e. IsNearestRefusal (code_of_name checksum) text.now e) }
+{
+    let near = near_by(alloc, checksum, text, given, errors)?;
+    Ok(said_of(alloc, near.as_slice())?)
+}
+
+/// Adds the texts near one, with as few errors as a word says, or leaves all as it was and returns
+/// the number of the refusal.
+pub fn near_texts(
+    alloc: Global,
+    checksum: ChecksumName,
+    text: &str,
+    given: &[usize],
+    errors: &str,
+    out: &mut Vec<u8>,
+) -> Result<(), u8>
+    ensures answer { AddsOrSaysNumber
+        (IsNearTextsAnswer (code_of_name checksum) text.now given.now errors.now)
+        result out.old.items out.new.items }
+    ensures small { IfErr result (λ number. number < 100) }
+    ensures room { OnOk result (vec_len out.new + 1 ≤ vec_capacity out.new) }
+    ensures capacity { vec_capacity out.old ≤ vec_capacity out.new }
+{
+    let Some(errors) = errors_in(errors) else {
+        return Err(BAD_WORD);
+    };
+    match said_near(alloc, checksum, text, given, errors) {
+        Ok(said) => match append_any(out, said.as_slice()) {
+            Ok(()) => Ok(()),
+            Err(_) => Err(NO_MEMORY),
+        },
+        Err(e) => Err(correct_error_number(e)),
+    }
+}
+
+/// The same, where a word lists the locations of characters that are known to be wrong.
+pub fn near_texts_at(
+    alloc: Global,
+    checksum: ChecksumName,
+    text: &str,
+    locations: &str,
+    errors: &str,
+    out: &mut Vec<u8>,
+) -> Result<(), u8>
+    ensures answer { AddsOrSaysNumber
+        (IsNearTextsAtAnswer (code_of_name checksum) text.now locations.now errors.now)
+        result out.old.items out.new.items }
+    ensures small { IfErr result (λ number. number < 100) }
+    ensures room { OnOk result (vec_len out.new + 1 ≤ vec_capacity out.new) }
+    ensures capacity { vec_capacity out.old ≤ vec_capacity out.new }
+{
+    let Ok(given) = locations_of_word(locations) else {
+        return Err(BAD_WORD);
+    };
+    near_texts(alloc, checksum, text, given.as_slice(), errors, out)
+}

@@ -1,0 +1,90 @@
+//! The replies to commands, by which `line_program` replies to a line.
+
+ghost use Rattle.std.specs.Prelude.{◌+◌, ◌<◌, ◌≤◌, vec_len, vec_capacity, IfErr, OnOk};
+ghost use Rattle.line_program.specs.Reply.{IsReplyBy};
+ghost use Rattle.mend.specs.Added.{AddsOrSaysNumber};
+ghost use Rattle.mend.specs.Reply.{IsMendAnswer};
+ghost use Rattle.mend.specs.Request.{mend_request_of, mend_request_of_command};
+
+use crate::accepting::checksum;
+use crate::command::Command;
+use crate::edits::edits;
+use crate::fault::fault;
+use crate::near::{near_texts, near_texts_at};
+use line_program::{LINE_LIMIT, Replies, append, append_refusal, text_of};
+use std::alloc::Global;
+
+/// The commands of this program, answered with memory from `alloc`.
+#[derive(Clone, Copy)]
+pub struct Commands {
+    pub alloc: Global,
+}
+
+impl Commands {
+    // Adds the answer to a command, or leaves all as it was.
+    fn answer(&self, command: Command<'_>, out: &mut Vec<u8>) -> Result<(), u8>
+        requires { vec_len out.old + 2048 ≤ vec_capacity out.old }
+        ensures answer { AddsOrSaysNumber (IsMendAnswer (mend_request_of_command command.entry))
+            result out.old.items out.new.items }
+        ensures small { IfErr result (λ number. number < 100) }
+        ensures room { OnOk result (vec_len out.new + 1 ≤ vec_capacity out.new) }
+        ensures capacity { vec_capacity out.old ≤ vec_capacity out.new }
+    {
+        match command {
+            Command::Nearest {
+                checksum,
+                text,
+                errors,
+            } => near_texts(self.alloc, checksum, text, &[], errors, out),
+            Command::NearestAt {
+                checksum,
+                text,
+                locations,
+                errors,
+            } => near_texts_at(self.alloc, checksum, text, locations, errors, out),
+            Command::Edits { checksum, text } => edits(self.alloc, checksum, text, out),
+            Command::Fault { checksum, text } => {
+                fault(checksum, text, out);
+                Ok(())
+            }
+            Command::Checksum { text } => checksum(text, out),
+        }
+    }
+
+    // Adds what is said of a line, or leaves all as it was and returns the number of the refusal.
+    fn answer_line(&self, line: &[u8], out: &mut Vec<u8>) -> Result<(), u8>
+        requires { vec_len out.old + 2048 ≤ vec_capacity out.old }
+        ensures answer { AddsOrSaysNumber (IsReplyBy mend_request_of IsMendAnswer line.now)
+            result out.old.items out.new.items }
+        ensures small { IfErr result (λ number. number < 100) }
+        ensures room { OnOk result (vec_len out.new + 1 ≤ vec_capacity out.new) }
+        ensures capacity { vec_capacity out.old ≤ vec_capacity out.new }
+    {
+        if line.len() > LINE_LIMIT {
+            return Err(1);
+        }
+        let Some(text) = text_of(line) else {
+            return Err(2);
+        };
+        let Some(command) = Command::parse(text) else {
+            return Err(3);
+        };
+        self.answer(command, out)
+    }
+}
+
+// A list of texts may be longer than the room that the commands of `Execute` have.
+impl Replies for Commands {
+    ghost use Rattle.line_program.specs.laws.LongLines.{long_lines};
+
+    ghost is_reply = { IsReplyBy mend_request_of IsMendAnswer };
+
+    ghost too_long = { long_lines mend_request_of IsMendAnswer };
+
+    fn reply(&self, line: &[u8], out: &mut Vec<u8>) {
+        if let Err(number) = self.answer_line(line, out) {
+            append_refusal(out, number);
+        }
+        append(out, b"\n");
+    }
+}

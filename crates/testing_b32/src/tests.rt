@@ -1,3 +1,0 @@
-mod compare;
-mod replies;
-mod runs;

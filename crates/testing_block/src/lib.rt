@@ -1,5 +1,0 @@
-//! Tests of `bech32_block`.
-#![tactic(auto)]
-
-#[cfg(test)]
-mod tests;

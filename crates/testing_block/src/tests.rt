@@ -1,5 +1,0 @@
-mod blocks;
-mod compare;
-mod declared;
-mod memory;
-mod messages;
