@@ -14,6 +14,8 @@
  *
  * Built for the address and undefined-behaviour checks (see fuzz), where the bytes around a buffer
  * are marked for them too. It prints the calls and refusals of each function.
+ *
+ * With FIRST_CALLS_ALONE defined it calls the eight functions that bench/limit has too, and no other.
  */
 #define _DEFAULT_SOURCE
 #include <stdio.h>
@@ -1362,9 +1364,11 @@ int main(int argc, char **argv) {
     static void (*const tries[])(void) = {
         try_encode,        try_decode,        try_check,   try_fault,
         try_segwit_encode, try_segwit_decode, try_residue, try_correct,
+#ifndef FIRST_CALLS_ALONE
         try_codex32_parse, try_codex32_propose, try_codex32_share,
         try_codex32_encode, try_codex32_encode_payload, try_codex32_derive, try_codex32_propose_long,
         try_nearest, try_near_edits, try_message, try_codex32_message,
+#endif
     };
     unsigned long long count = argc > 1 ? strtoull(argv[1], NULL, 10) : 100000;
     Area *areas[] = {
