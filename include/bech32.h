@@ -318,8 +318,9 @@ uint32_t bech32_nearest(uint32_t checksum, const uint8_t *text, size_t text_leng
  * By BECH32_BECH32 a text that ends in `p` is accepted with any number of `q` before that, too.
  *
  * Refusals, the first that applies: 4; 2; 21, 22, 23, 11 to 15; 92; and 91 in place of 0 or 92 where
- * `memory` does not suffice. Where the function keeps the memory (above), the buffers may have changed;
- * with every other refusal but 92, and with every other 91, they are as they were.
+ * `memory` does not suffice. None is wanted where *count is 0. Where the function keeps the memory
+ * (above), the buffers may have changed; with every other refusal but 92, and with every other 91, they
+ * are as they were.
  */
 uint32_t bech32_near_edits(uint32_t checksum, const uint8_t *text, size_t text_length,
                            bech32_memory *memory, uint8_t *kinds, size_t kinds_room, size_t *locations,

@@ -2,9 +2,9 @@
 
 ghost use Rattle.std.specs.Prelude.{◌≡◌, ◌≢◌, ◌⊎◌};
 ghost use Rattle.caller_memory.specs.Memory.{memory_size};
-ghost use Rattle.bech32_calls.specs.Checksums.{ForChecksum, IsFaultBy};
+ghost use Rattle.bech32_calls.specs.Checksums.{ForChecksum};
 ghost use Rattle.bech32_calls.specs.Faults.{IsNumberOf};
-ghost use Rattle.bech32_calls.specs.NearEdits.{IsEditsFault, PutsEdits, PutsFirstEdits};
+ghost use Rattle.bech32_calls.specs.NearEdits.{IsEditsFaultOrKept, PutsEdits, PutsFirstEdits};
 
 use bech32_calls::near_edits::put_near_edits;
 use bech32_calls::refusal::Refusal;
@@ -25,9 +25,9 @@ use caller_memory::Memory;
 /// Answers the number of the first of: another number for `checksum` (4); a text that is not UTF-8
 /// (2); why it is not in the grammar (21 to 23, 11 to 15), all before any memory is taken; buffers
 /// that are too small (92): then `count` is the number of all, and as many as fit in each of the
-/// three buffers are put there, the first. Where `memory` does not suffice, 91 in place of 0 or 92.
-/// With every other number `memory` is as it was; with 91 it is so too, or it has no bytes and then
-/// the buffers may have changed.
+/// three buffers are put there, the first. Where `memory` does not suffice, 91 in place of 0 or 92:
+/// then there is such a text, and `memory` is as it was; or it has no bytes, and the buffers may
+/// have changed. With every other number `memory` is as it was.
 #[unsafe(no_mangle)]
 pub extern "C" fn bech32_near_edits(
     checksum: u32,
@@ -45,7 +45,7 @@ pub extern "C" fn bech32_near_edits(
         (PutsFirstEdits text.now kinds.old kinds.new locations.old locations.new
         texts.old texts.new count.new) }
     ensures refused { result ≢ 0 → result ≢ 92
-        → IsNumberOf (IsFaultBy checksum (IsEditsFault text.now)) result }
+        → IsNumberOf (IsEditsFaultOrKept checksum text.now (memory_size memory.new)) result }
     ensures same { result ≢ 0 → result ≢ 92 → (count.new ≡ count.old)
         × (((kinds.new ≡ kinds.old) × (locations.new ≡ locations.old) × (texts.new ≡ texts.old))
         ⊎ ((result ≡ 91) × (memory_size memory.new ≡ 0))) }

@@ -3,16 +3,35 @@ use Rattle.std.specs.Prelude.{map, flat_map}
 use Rattle.std.proofs.Common.{◌≡◌, ◌<◌, ◌≤◌, ℕ, List, length, take, min, ap, subst, sym, refl, ◌∙◌, arith}
 use Rattle.std.proofs.lemmas.List.{length-map, length-take-le, take-map, take_all}
 use Rattle.std.proofs.lemmas.Simd.{map-map}
+use Rattle.bech32_checksum.specs.Code.{Code}
 use Rattle.bech32_decode.specs.Text.{IsInGrammar}
+use Rattle.bech32_decode.proofs.Grammar.{not_in_grammar}
 use Rattle.bech32_encode.specs.Buffers.{IsPut}
-use Rattle.bech32_near_edits.specs.NearEdits.{AreNearEdits}
+use Rattle.bech32_near_edits.specs.NearEdits.{AreNearEdits, IsEditsRefusal}
 use Rattle.bech32_near_edits.specs.declared.edits.Edit.{Edit}
-use Rattle.bech32_calls.specs.Checksums.{ForChecksum}
+use Rattle.bech32_near_edits.specs.declared.error.EditsError.{EditsError}
+use Rattle.bech32_near_edits.specs.declared.error.EditsError.TheVariants.{Memory as OutOfMemory, Refused}
+use Rattle.bech32_calls.specs.Checksums.{ForChecksum, IsFaultBy}
 use Rattle.bech32_calls.specs.Fitting.{FirstFit, IsMost}
-use Rattle.bech32_calls.specs.NearEdits.{EditsFit, PutsEach, PutsEdits, PutsFirstEdits, number_of_change}
-use Rattle.bech32_calls.proofs.ByNumber.{more_for}
+use Rattle.bech32_calls.specs.NearEdits.{EditsFit, IsEditsFault, PutsEach, PutsEdits, PutsFirstEdits, number_of_change}
+use Rattle.bech32_calls.specs.declared.refusal.Refusal.TheVariants.{Memory}
+use Rattle.bech32_calls.proofs.ByNumber.{more_for, wrong_by}
 use Rattle.bech32_calls.proofs.Fitting.{first_fit, first_fit_back, joined_first, most_as}
+use Rattle.bech32_calls.proofs.Letters.{IsUtf8-from_text}
 use Rattle.bech32_calls.proofs.Puts.{put-same}
+
+-- ---- where none are put
+
+-- the edits of a text in the grammar are not told: there is one, and no memory
+untold : (text : List ℕ) (e : EditsError) → IsInGrammar text → (code : Code) → IsEditsRefusal code text e → IsEditsRefusal code text OutOfMemory
+untold text (Refused e) is code h = absurd (not_in_grammar text e (IsUtf8-from_text text is.0 is.1 is.2) h is)
+untold text OutOfMemory is code h = h
+
+-- the same by the checksum of a number
+pub untold_by : (n : ℕ) (text : List ℕ) (e : EditsError) → IsInGrammar text → ForChecksum n (λ code. IsEditsRefusal code text e) → IsFaultBy n (IsEditsFault text) Memory
+untold_by n text e is = wrong_by (λ code. IsEditsRefusal code text e) (IsEditsFault text) Memory (untold text e is) n
+
+-- ---- where some are
 
 module _ {A : Type 0} (edit : A → Edit) (text : A → List ℕ) (items : List A) where
   -- each with the text that it makes

@@ -1,13 +1,15 @@
 -- The texts that one edit makes of a text put into buffers, and why none are.
-use Rattle.std.specs.Prelude.{◌≡◌, ◌<◌, ◌≤◌, ℕ, List, length, map, flat_map, take, Some}
+use Rattle.std.specs.Prelude.{◌≡◌, ◌<◌, ◌≤◌, ◌⊎◌, ℕ, List, length, map, flat_map, take, Some}
 use Rattle.std.specs.Str.{IsUtf8}
 use Rattle.bech32_checksum.specs.Code.{Code}
 use Rattle.bech32_decode.specs.Text.{IsInGrammar, text_refusal}
 use Rattle.bech32_encode.specs.Buffers.{IsPut}
-use Rattle.bech32_near_edits.specs.NearEdits.{AreNearEdits}
+use Rattle.bech32_near_edits.specs.NearEdits.{AreNearEdits, IsEditsRefusal}
 use Rattle.bech32_near_edits.specs.declared.edits.Change.{Change}
 use Rattle.bech32_near_edits.specs.declared.edits.Change.TheVariants.{LeftOut, PutIn, Swapped}
 use Rattle.bech32_near_edits.specs.declared.edits.Edit.{Edit}
+use Rattle.bech32_near_edits.specs.declared.error.EditsError.TheVariants.{Memory as OutOfMemory}
+use Rattle.bech32_calls.specs.Checksums.{ForChecksum, IsFaultBy}
 use Rattle.bech32_calls.specs.Fitting.{FirstFit, IsMost}
 use Rattle.bech32_calls.specs.declared.refusal.Refusal.{Refusal}
 use Rattle.bech32_calls.specs.declared.refusal.Refusal.TheVariants.{NotUtf8, Memory, Text}
@@ -56,9 +58,16 @@ pub record PutsFirstEdits (text kinds kinds' locations locations' texts texts' :
   pub put : PutsEach (take put_count found) kinds kinds' locations locations' texts texts'
 
 -- why nothing is put into buffers: the bytes are not a text, or it is not in the grammar; or it
--- is, and the memory does not suffice
+-- is, one edit at least makes a text that the checksum accepts, and the memory does not suffice
 abbrev pub IsEditsFault : List ℕ → Code → Refusal → Type 0
 IsEditsFault text code NotUtf8 = ¬ (IsUtf8 text)
 IsEditsFault text code (Text e) = IsUtf8 text × (text_refusal text ≡ Some e)
-IsEditsFault text code Memory = IsInGrammar text
+IsEditsFault text code Memory = IsEditsRefusal code text OutOfMemory
 IsEditsFault text code _ = ⊥
+
+-- why nothing is put into buffers, or the memory that was lent did not come back: then nothing is
+-- said but that the text is in the grammar
+abbrev pub IsEditsFaultOrKept : ℕ → List ℕ → ℕ → Refusal → Type 0
+IsEditsFaultOrKept checksum text size e =
+    IsFaultBy checksum (IsEditsFault text) e
+    ⊎ ((e ≡ Memory) × (size ≡ 0) × ForChecksum checksum (λ _. IsInGrammar text))

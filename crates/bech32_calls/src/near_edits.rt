@@ -3,11 +3,11 @@
 ghost use Rattle.std.specs.Prelude.{◌≡◌, ◌⊎◌, length, map, string_bytes, take, true, false, IfErr, IfOk, MatchResult, OnErr};
 ghost use Rattle.bech32_checksum.specs.Code.{Code};
 ghost use Rattle.bech32_decode.specs.Text.{IsInGrammar};
-ghost use Rattle.bech32_near_edits.specs.NearEdits.{AreNearEdits};
+ghost use Rattle.bech32_near_edits.specs.NearEdits.{AreNearEdits, IsEditsRefusal};
 ghost use Rattle.caller_memory.specs.Memory.{LeavesMemory, memory_size};
 ghost use Rattle.bech32_calls.specs.Checksums.{ForChecksum, IsFaultBy};
 ghost use Rattle.bech32_calls.specs.Fitting.{IsMost};
-ghost use Rattle.bech32_calls.specs.NearEdits.{EditsFit, IsEditsFault, PutsEach, PutsEdits, PutsFirstEdits, number_of_change};
+ghost use Rattle.bech32_calls.specs.NearEdits.{EditsFit, IsEditsFault, IsEditsFaultOrKept, PutsEach, PutsEdits, PutsFirstEdits, number_of_change};
 
 use crate::checksum::{BECH32, BECH32M};
 use crate::input::text_of;
@@ -51,8 +51,10 @@ fn edits_by<'a, A: Allocator>(
     text: &str,
 ) -> Result<Vec<NearEdit<String<&'a A>>, &'a A>, EditsError>
     requires { ForChecksum checksum (λ _. Unit {0}) }
-    ensures { IfOk result (λ found. ForChecksum checksum (λ code. AreNearEdits code text.now
-        (map (λ m. (m.edit, string_bytes m.text)) found.items))) }
+    ensures { MatchResult result
+        (λ found. ForChecksum checksum (λ code. AreNearEdits code text.now
+        (map (λ m. (m.edit, string_bytes m.text)) found.items)))
+        (λ e. ForChecksum checksum (λ code. IsEditsRefusal code text.now e)) }
 {
     match checksum {
         BECH32 => near_edits_in::<Bech32, &A>(alloc, text),
@@ -99,9 +101,10 @@ fn put_each<A: Allocator + Copy>(
     most
 }
 
-// Puts the texts that one edit makes of a text in the grammar into buffers.
-fn put_edits<A: Allocator>(
-    alloc: &A,
+// Puts the texts that one edit makes of a text in the grammar into buffers. Memory is wanted only
+// where there is one.
+fn put_edits(
+    lent: &Lent,
     checksum: u32,
     text: &str,
     kinds: &mut [u8],
@@ -116,11 +119,13 @@ fn put_edits<A: Allocator>(
     ensures first { IfOk result (λ listed. listed.fit ≡ false → ForChecksum checksum
         (PutsFirstEdits text.now kinds.old kinds.new locations.old locations.new
         texts.old texts.new listed.count)) }
-    ensures refused { IfErr result (λ e. IsFaultBy checksum (IsEditsFault text.now) e) }
+    ensures refused { IfErr result (λ e. (e ≡ Refusal.Memory)
+        × IsFaultBy checksum (IsEditsFault text.now) e) }
     ensures same { OnErr result ((kinds.new ≡ kinds.old) × (locations.new ≡ locations.old)
         × (texts.new ≡ texts.old)) }
 {
-    let Ok(found) = edits_by(alloc, checksum, text) else {
+    let arena = lent.arena();
+    let Ok(found) = edits_by(&arena, checksum, text) else {
         return Err(Refusal::Memory);
     };
     let edits = found.as_slice();
@@ -144,7 +149,8 @@ fn put_edits<A: Allocator>(
 ///
 /// The first of: a number that is neither 1 nor 2; a text that is not UTF-8; why it is not in the
 /// grammar, all before any memory is taken. [`Refusal::Memory`] where `memory` does not suffice:
-/// then it is as it was, or it has no bytes and the buffers may have changed.
+/// then there is such a text, and `memory` is as it was; or it has no bytes, and the buffers may
+/// have changed.
 pub fn put_near_edits(
     memory: &mut Memory,
     checksum: u32,
@@ -159,7 +165,8 @@ pub fn put_near_edits(
     ensures first { IfOk result (λ listed. listed.fit ≡ false → ForChecksum checksum
         (PutsFirstEdits bytes.now kinds.old kinds.new locations.old locations.new
         texts.old texts.new listed.count)) }
-    ensures refused { IfErr result (λ e. IsFaultBy checksum (IsEditsFault bytes.now) e) }
+    ensures refused { IfErr result
+        (λ e. IsEditsFaultOrKept checksum bytes.now (memory_size memory.new) e) }
     ensures same { IfErr result (λ e. ((kinds.new ≡ kinds.old) × (locations.new ≡ locations.old)
         × (texts.new ≡ texts.old)) ⊎ ((e ≡ Refusal.Memory) × (memory_size memory.new ≡ 0))) }
     ensures memory { MatchResult result
@@ -168,7 +175,7 @@ pub fn put_near_edits(
 {
     let text = text_for(checksum, bytes)?;
     let lent = Lent::new(memory.take());
-    let listed = put_edits(&lent.arena(), checksum, text, kinds, locations, texts);
+    let listed = put_edits(&lent, checksum, text, kinds, locations, texts);
     // Memory that does not come back did not suffice.
     match lent.into_memory() {
         Some(whole) => {

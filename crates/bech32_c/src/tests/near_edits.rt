@@ -155,6 +155,24 @@ fn refuses_to_edit(rt: HostRuntime) {
     }
 }
 
+// Where there is no such text, no memory is wanted.
+#[test]
+fn lists_no_edits_without_memory(rt: HostRuntime) {
+    let rows: [(u32, &[u8]); 4] = [
+        (1, b"bc1qw508d6qejxtdg4y5r3zarvary0c5xw7kv8f3t4"),
+        (2, b"bc1qw508d6qejxtdg4y5r3zravary0c5xw7kv8f3t4"),
+        (2, b"a12uel5"),
+        (1, b"bc1"),
+    ];
+    for row in rows {
+        let mut memory = Memory::leaked(rt.alloc(), 0).expect(&rt, "memory");
+        let (number, held) = edits(&mut memory, row, AMPLE);
+        same(&rt, &number, &0);
+        same(&rt, &held.count, &0);
+        hold(&rt, &held, (&[], b""));
+    }
+}
+
 // A text with two edits, of 17 and of 19 characters.
 const TWO: (u32, &[u8]) = (1, b"ii2134hk2xmat79tqp");
 
