@@ -29,8 +29,8 @@ cleared-xor row a b =
     let i : ℕ = row.0 % 64 in
     by_bits (a / 2 ^ i % 2) (b / 2 ^ i % 2) (bit_xor a b / 2 ^ i % 2) a b row.1 (omega arith) (omega arith) (bit_at_xor a b i)
 
-cleared-zero : (row : ℕ × ℕ) → cleared row 0 ≡ 0
-cleared-zero row = ap (λ u. cond (u % 2 == 1) (bit_xor 0 row.1) 0) (zero-div (2 ^ (row.0 % 64)))
+cleared-zero : (r : ℕ × ℕ) → cleared r 0 ≡ 0
+cleared-zero r = ap (λ u. cond (u % 2 == 1) (bit_xor 0 r.1) 0) (zero-div (2 ^ (r.0 % 64)))
 
 -- ---- all of them
 
