@@ -1,19 +1,10 @@
 //! Answers each line of standard input about codex32 strings.
 //!
-//! Below it: `codex32`, `codex32_numbers`, `line_program`, `b32_replies`.
+//! Below it: `c32_replies`, `line_program`.
 //! Standard: BIP-93.
 #![tactic(auto)]
 
-mod command;
-mod derive;
-mod encode;
-mod parse;
-mod propose;
-mod refusal;
-mod reply;
-mod share;
-
-use crate::reply::Commands;
+use c32_replies::reply::Commands;
 use devices::Watched;
 use line_program::run_on;
 use std::process::ExitCode;

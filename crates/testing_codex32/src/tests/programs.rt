@@ -1,4 +1,5 @@
-//! The program `b32`: its replies, and runs over readers and writers that fail.
+//! The programs `b32` and `c32`: their replies, and runs over readers and writers that fail.
 
 mod replies;
 mod runs;
+mod strings;

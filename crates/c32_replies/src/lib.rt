@@ -1,0 +1,14 @@
+//! The replies of the program `c32` to the lines of its input.
+//!
+//! Below it: `codex32`, `codex32_numbers`, `line_program`, `b32_replies`.
+//! Standard: BIP-93.
+#![tactic(auto)]
+
+mod command;
+mod derive;
+mod encode;
+mod parse;
+mod propose;
+mod refusal;
+pub mod reply;
+mod share;
