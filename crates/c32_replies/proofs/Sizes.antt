@@ -9,16 +9,16 @@ use Rattle.bech32_checksum.specs.Encoded.{char_of_element}
 use Rattle.bech32_decode.proofs.Letters.{IsAscii-from_data}
 use Rattle.bech32_gf.specs.Fe32.{element_of, elements_of}
 use Rattle.bech32_gf.specs.declared.gf32.Fe32.{Fe32}
-use Rattle.codex32.specs.Code.{code_of_length}
-use Rattle.codex32.specs.Encode.{is_byte_count, is_long_byte_count}
-use Rattle.codex32.specs.Share.{IsShareString, bytes_of_share}
-use Rattle.codex32.specs.ShareParts.{code_of_data, payload_in}
-use Rattle.codex32.specs.Strings.{IsString, is_within, is_within_either, is_within_long}
-use Rattle.codex32.specs.declared.identifier.Identifier.{Identifier}
-use Rattle.codex32.specs.declared.share.Share.{Share}
-use Rattle.codex32.specs.declared.threshold.Threshold.{Threshold}
-use Rattle.codex32.proofs.Digits.{or_true}
-use Rattle.codex32.proofs.ShareParts.{code-long, code-short, fits}
+use Rattle.codex32_strings.specs.Code.{code_of_length}
+use Rattle.codex32_strings.specs.Encode.{is_byte_count, is_long_byte_count}
+use Rattle.codex32_strings.specs.Share.{IsShareString, bytes_of_share}
+use Rattle.codex32_strings.specs.ShareParts.{code_of_data, payload_in}
+use Rattle.codex32_strings.specs.Strings.{IsString, is_within, is_within_either, is_within_long}
+use Rattle.codex32_strings.specs.declared.identifier.Identifier.{Identifier}
+use Rattle.codex32_strings.specs.declared.share.Share.{Share}
+use Rattle.codex32_strings.specs.declared.threshold.Threshold.{Threshold}
+use Rattle.codex32_strings.proofs.Digits.{or_true}
+use Rattle.codex32_strings.proofs.ShareParts.{code-long, code-short, fits}
 use Rattle.c32_replies.specs.Reply.{header_words}
 
 module _ (text hrp : List ℕ) (threshold : ℕ) (identifier : List ℕ) (share_index : ℕ) (payload checksum : List ℕ)

@@ -1,7 +1,7 @@
 -- The texts of a line, one after another.
 use Rattle.std.proofs.Common.{◌≡◌, ℕ, List, [], ◌∷◌, ◌++◌, ap, ◌∙◌, sym, subst, append_assoc, append-nil}
-use Rattle.codex32.specs.Share.{AreSharesOf, IsEither, IsShareOf}
-use Rattle.codex32.specs.declared.share.Share.{Share}
+use Rattle.codex32_strings.specs.Share.{AreSharesOf, IsEither, IsShareOf}
+use Rattle.codex32_strings.specs.declared.share.Share.{Share}
 use Rattle.c32_replies.specs.Reply.{AreTexts}
 
 module _ (left behind : List (List ℕ)) (word : List ℕ) (e : left ≡ word ∷ behind) where

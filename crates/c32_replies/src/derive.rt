@@ -3,8 +3,8 @@
 ghost use Rattle.std.specs.Prelude.{◌≡◌, ◌+◌, ◌≤◌, ◌++◌, [], ◌∷◌, vec_len, vec_capacity, MatchOption, MatchResult, IfOk};
 ghost use Rattle.line_program.specs.Added.{AddsOrRefuses};
 ghost use Rattle.line_program.specs.Words.{words};
-ghost use Rattle.codex32.specs.Share.{AreSharesOf, IsEither, IsShareOf};
-ghost use Rattle.codex32.specs.declared.share.Share.{Share as CodexShare};
+ghost use Rattle.codex32_strings.specs.Share.{AreSharesOf, IsEither, IsShareOf};
+ghost use Rattle.codex32_strings.specs.declared.share.Share.{Share as CodexShare};
 ghost use Rattle.c32_replies.specs.Numbers.{number_of_codex32_reply};
 ghost use Rattle.c32_replies.specs.Reply.{AreTexts, IsDeriveAnswer, IsSharesAnswer, IsTextRefusal};
 

@@ -11,8 +11,8 @@ use Rattle.bech32_refusals.specs.declared.error.CheckedHrpstringError.TheVariant
 use Rattle.bech32_refusals.specs.declared.error.ChecksumError.TheVariants.{CodeLength, InvalidLength, InvalidResidue}
 use Rattle.bech32_checksum.specs.Code.{Code}
 use Rattle.codex32.specs.Nearest.{AreAdditions}
-use Rattle.codex32.specs.Strings.{frame_refusal_by}
-use Rattle.codex32.proofs.Strings.{IsFramedBy, framed_by-from, refused_text}
+use Rattle.codex32_strings.specs.Strings.{frame_refusal_by}
+use Rattle.codex32_strings.proofs.Strings.{IsFramedBy, framed_by-from, refused_text}
 
 -- a text of which nothing else is wrong is refused for its residue alone, where texts of its lengths are not longer than the code and have room for the checksum
 module _ (may : ℕ → Bool) (code : Code) (fits : (n : ℕ) → may n ≡ true → (n ≤ code.code_length) × (length code.generator + 3 ≤ n)) where

@@ -1,17 +1,4 @@
 pub mod Answered
-pub mod Locations
 pub mod Near
 pub mod Proposed
-pub mod ReadTexts
-pub mod Reading
-pub mod Separated
 pub mod Strings
-pub mod Digits
-pub mod ShareParts
-pub mod Derived
-pub mod ShareStrings
-pub mod Same
-pub mod HeaderWords
-pub mod DerivedStrings
-pub mod EncodedStrings
-pub mod Put

@@ -47,10 +47,11 @@ use Rattle.bech32_correction.proofs.Sound.{sound_of}
 use Rattle.bech32_correction.proofs.Accepted.{front, in_parts, lowered_parts}
 use Rattle.bech32_correction.proofs.Sums.{appended-mended, length-mended}
 use Rattle.bech32_correction.proofs.Texts.{mendable-from_accepts}
-use Rattle.codex32.specs.Nearest.{AreParts, AreAdditions, IsNearestBy, IsUnlisted, changed, read_data, read_text, unreadable}
-use Rattle.codex32.specs.Strings.{frame_refusal_by}
-use Rattle.codex32.proofs.Locations.{again, changed-once, changed_outside, count_data, count_read, differences, differences-below, differences-once, differences-values, few_apart, located, mended-differences, unreadable-below, unreadable-once}
-use Rattle.codex32.proofs.Separated.{one_split, parts-from}
+use Rattle.codex32_strings.specs.Damaged.{AreParts, changed, read_data, read_text, unreadable}
+use Rattle.codex32.specs.Nearest.{AreAdditions, IsNearestBy, IsUnlisted}
+use Rattle.codex32_strings.specs.Strings.{frame_refusal_by}
+use Rattle.codex32_strings.proofs.Locations.{again, changed-once, changed_outside, count_data, count_read, differences, differences-below, differences-once, differences-values, few_apart, located, mended-differences, unreadable-below, unreadable-once}
+use Rattle.codex32_strings.proofs.Separated.{one_split, parts-from}
 
 -- ---- accepted texts of elements
 

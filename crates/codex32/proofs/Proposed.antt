@@ -7,9 +7,10 @@ use Rattle.bech32_checksum.specs.Encoded.{spelled}
 use Rattle.bech32_decode.specs.Text.{IsText}
 use Rattle.bech32_correction.specs.MendedElements.{mended}
 use Rattle.std.specs.Prelude.{MatchOption}
-use Rattle.codex32.specs.Nearest.{AreParts, AreAdditions, IsMendedAt, IsNearestAnswerBy, IsNearestBy, IsUnlisted, read_data, read_text, unreadable}
+use Rattle.codex32_strings.specs.Damaged.{AreParts, read_data, read_text, unreadable}
+use Rattle.codex32.specs.Nearest.{AreAdditions, IsMendedAt, IsNearestAnswerBy, IsNearestBy, IsUnlisted}
 use Rattle.codex32.proofs.Near.{nearest-from_listed, none-from_unlisted}
-use Rattle.codex32.proofs.Separated.{read_text-split}
+use Rattle.codex32_strings.proofs.Separated.{read_text-split}
 
 -- the text that is read of the parts
 pub read_is : (text front damaged read : List ℕ) → AreParts text front damaged → read ≡ front ++ (49 ∷ read_data damaged) → read ≡ read_text text

@@ -1,13 +1,2 @@
-pub mod Code
-pub mod Derive
-pub mod Encode
-pub mod Header
-pub mod HeaderParts
-pub mod Lengths
 pub mod Nearest
 pub mod Parts
-pub mod Share
-pub mod ShareParts
-pub mod Strings
-pub mod Thresholds
-pub mod laws

@@ -11,38 +11,10 @@ use Rattle.bech32_decode.specs.Text.{IsText, split_at_last}
 use Rattle.bech32_correction.specs.MendedElements.{mended}
 use Rattle.bech32_correction.specs.Mistyped.{HasNoListing, IsListingOf}
 use Rattle.bech32_checksum.specs.Code.{Code}
-use Rattle.codex32.specs.Code.{codex32, long_codex32}
-use Rattle.codex32.specs.Strings.{frame_refusal_by, is_within, is_within_long}
-use Rattle.codex32.specs.declared.error.Codex32Error.{Codex32Error}
-use Rattle.codex32.specs.declared.error.Codex32Error.TheVariants.{Memory}
-
--- a character as it is read: `?`, which is unreadable, as `0`
-abbrev pub read_character : ℕ → ℕ
-read_character c = if c == 63 then 48 else c
-
--- the characters of a data part as they are read
-abbrev pub read_data : List ℕ → List ℕ
-read_data damaged = map read_character damaged
-
-abbrev pub with_data_read : List ℕ → Option (List ℕ × List ℕ) → List ℕ
-with_data_read text None = text
-with_data_read text (Some p) = p.0 ++ (49 ∷ read_data p.1)
-
--- the text as it is read: each `?` behind the last `1` as `0`
-abbrev pub read_text : List ℕ → List ℕ
-read_text text = with_data_read text (split_at_last text)
-
--- the locations of the unreadable characters, of which 0 is the last
-abbrev pub unreadable : List ℕ → List ℕ
-unreadable [] = []
-unreadable (c ∷ cs) = if c == 63 then length cs ∷ unreadable cs else unreadable cs
-
--- the locations of the other characters, where they are not those of the elements
-abbrev pub changed : List ℕ → List Fe32 → List ℕ
-changed [] xs = []
-changed (c ∷ cs) [] = []
-changed (c ∷ cs) (x ∷ xs) =
-    if c == 63 || same_element (element_of c) x then changed cs xs else length cs ∷ changed cs xs
+use Rattle.codex32_strings.specs.Code.{codex32, long_codex32}
+use Rattle.codex32_strings.specs.Strings.{frame_refusal_by, is_within, is_within_long}
+use Rattle.codex32_strings.specs.declared.error.Codex32Error.{Codex32Error}
+use Rattle.codex32_strings.specs.declared.error.Codex32Error.TheVariants.{Memory}
 
 -- The nearest text by a checksum: in lower case, with the same human-readable part and as many
 -- elements, accepted by it; and twice the number of the characters that are changed, with the
@@ -102,12 +74,6 @@ abbrev pub IsProposeLongRefusal : List ℕ → Codex32Error → Type 0
 IsProposeLongRefusal text e = IsProposeRefusalBy is_within_long text e
 
 -- ---- on the way
-
--- what stands before and after the last `1`, where the text is in the grammar as it is read
-pub record AreParts (text hrp damaged : List ℕ) : Type 0 where
-  pub split : text ≡ hrp ++ (49 ∷ damaged)
-  pub cut : split_at_last text ≡ Some (hrp, damaged)
-  pub grammar : IsText (read_text text) hrp (read_data damaged)
 
 -- the values to add to the elements of a text as it was read: none where the checksum accepts it
 -- and at most 8 characters are unreadable, else the listing

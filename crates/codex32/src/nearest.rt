@@ -3,22 +3,21 @@
 ghost use Rattle.std.specs.Prelude.{◌≡◌, ◌≤◌, ◌+◌, None, ℕ, length, true, IfOk, MatchOption, MatchResult, string_bytes, refl};
 ghost use Rattle.bech32_correction.specs.declared.error.CorrectError.TheVariants.{Refused};
 ghost use Rattle.bech32_refusals.specs.declared.error.CheckedHrpstringError.{CheckedHrpstringError as Refusal};
-ghost use Rattle.codex32.specs.Lengths.{may_have};
-ghost use Rattle.codex32.specs.declared.lengths.Lengths.{Lengths as Which};
-ghost use Rattle.codex32.specs.laws.LengthLaws.{long_fits, short_fits};
-ghost use Rattle.codex32.specs.Nearest.{HasOneNearest, HasOneNearestLong, AreAdditions, IsMendedAt, IsNearestAnswer, IsNearestAnswerBy, IsNearestLongAnswer, IsProposeLongRefusal, IsProposeRefusal, IsProposeRefusalBy, IsUnlisted, read_text};
-ghost use Rattle.codex32.specs.Strings.{frame_refusal, frame_refusal_by, long_frame_refusal};
+ghost use Rattle.codex32_strings.specs.Lengths.{may_have};
+ghost use Rattle.codex32_strings.specs.declared.lengths.Lengths.{Lengths as Which};
+ghost use Rattle.codex32_strings.specs.laws.LengthLaws.{long_fits, short_fits};
+ghost use Rattle.codex32_strings.specs.Damaged.{read_text};
+ghost use Rattle.codex32.specs.Nearest.{HasOneNearest, HasOneNearestLong, AreAdditions, IsMendedAt, IsNearestAnswer, IsNearestAnswerBy, IsNearestLongAnswer, IsProposeLongRefusal, IsProposeRefusal, IsProposeRefusalBy, IsUnlisted};
+ghost use Rattle.codex32_strings.specs.Strings.{frame_refusal, frame_refusal_by, long_frame_refusal};
 
-use crate::checksum::Codex32;
-use crate::damaged::damaged_parts;
-use crate::error::Codex32Error;
-use crate::lengths::Lengths;
-use crate::long::LongCodex32;
-use crate::unreadable::{read_in, unreadable_in};
 use bech32::CorrectingChecksum;
 use bech32::primitives::correction::{
     CorrectError, Correction, Corrector, Listing, listing_in, mended_in,
 };
+use codex32_strings::damaged::damaged_parts;
+use codex32_strings::lengths::Lengths;
+use codex32_strings::unreadable::{read_in, unreadable_in};
+use codex32_strings::{Codex32, Codex32Error, LongCodex32};
 use std::alloc::{AllocError, Allocator, Global};
 use std::marker::PhantomData;
 
@@ -37,7 +36,7 @@ trait StringChecksum: CorrectingChecksum {
 }
 
 impl StringChecksum for Codex32 {
-    ghost use Rattle.codex32.specs.declared.lengths.Lengths.TheVariants.{Short};
+    ghost use Rattle.codex32_strings.specs.declared.lengths.Lengths.TheVariants.{Short};
 
     ghost lengths = { Short };
 
@@ -51,7 +50,7 @@ impl StringChecksum for Codex32 {
 }
 
 impl StringChecksum for LongCodex32 {
-    ghost use Rattle.codex32.specs.declared.lengths.Lengths.TheVariants.{Long};
+    ghost use Rattle.codex32_strings.specs.declared.lengths.Lengths.TheVariants.{Long};
 
     ghost lengths = { Long };
 

@@ -1,13 +1,12 @@
 //! Codex32 strings in their parts.
 
-ghost use Rattle.std.specs.Prelude.{◌≡◌, ◌↔◌, ◌≤◌, ◌-◌, length, take, drop, slice_index, None, Some, MatchResult, IfOk, IfErr, IsOk};
+ghost use Rattle.std.specs.Prelude.{◌≡◌, ◌↔◌, ◌≤◌, ◌-◌, length, take, drop, slice_index, MatchResult, IfOk, IfErr, IsOk};
 ghost use Rattle.std.specs.Str.{IsAscii};
-ghost use Rattle.codex32.specs.Strings.{IsCodex32, IsStringRefusal, header_fault};
+ghost use Rattle.codex32_strings.specs.Strings.{IsCodex32, IsStringRefusal};
 
-use crate::checksum::Codex32;
-use crate::error::Codex32Error;
-use crate::frame::framed;
-use crate::lengths::Lengths;
+use codex32_strings::frame::framed;
+use codex32_strings::lengths::Lengths;
+use codex32_strings::{Codex32, Codex32Error, validate_header};
 
 /// A codex32 string in its parts, in the case of the text, which it borrows (BIP-93, codex32): the
 /// human-readable part `ms`, 48 to 93 characters, and the checksum of 13 characters.
@@ -17,23 +16,6 @@ pub struct Codex32Str<'s> {
     identifier: &'s str,
     share_index: char,
     payload: &'s str,
-}
-
-/// Tests the threshold of a data part, and its share index.
-pub(crate) fn validate_header(data_part: &[u8]) -> Result<(), Codex32Error>
-    requires { 6 ≤ length data_part.now }
-    ensures { MatchResult result
-        (λ _. header_fault data_part.now ≡ None)
-        (λ e. header_fault data_part.now ≡ Some e) }
-{
-    let threshold = data_part[0];
-    if threshold != b'0' && !(b'2' <= threshold && threshold <= b'9') {
-        return Err(Codex32Error::Threshold);
-    }
-    if threshold == b'0' && data_part[5].to_ascii_lowercase() != b's' {
-        return Err(Codex32Error::ShareIndex);
-    }
-    Ok(())
 }
 
 impl<'s> Codex32Str<'s> {

@@ -3,8 +3,8 @@ use Rattle.std.specs.List.{sum}
 use Rattle.std.proofs.Common.{◌≡◌, ◌+◌, ◌≤◌, ◌<◌, ℕ, zero, suc, List, [], ◌∷◌, ◌++◌, length, take, drop, get_or, inl, inr, refl, ap, subst, ◌∙◌, arith}
 use Rattle.std.proofs.Math.Seq.{drop-cons}
 use Rattle.std.proofs.lemmas.List.Sums.{sum_by-cons}
-use Rattle.codex32.specs.Share.{AreSharesOf, IsEither, IsShareOf, identifier_of_share, index_of_share, payload_of_share, threshold_of_share}
-use Rattle.codex32.specs.declared.share.Share.{Share}
+use Rattle.codex32_strings.specs.Share.{AreSharesOf, IsEither, IsShareOf, identifier_of_share, index_of_share, payload_of_share, threshold_of_share}
+use Rattle.codex32_strings.specs.declared.share.Share.{Share}
 use Rattle.codex32_c.specs.Derive.{IsAsked, IsDeriveFault, IsTextsFault, texts_of}
 use Rattle.codex32_c.specs.Share.{IsEitherFault}
 use Rattle.codex32_c.specs.declared.refusal.Refusal.{Refusal}

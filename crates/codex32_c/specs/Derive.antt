@@ -4,9 +4,9 @@ use Rattle.std.specs.Prelude.{List, [], ◌∷◌, length, take, drop, None, Som
 use Rattle.std.specs.List.{sum}
 use Rattle.bech32_encode.specs.Buffers.{IsPut}
 use Rattle.bech32_gf.specs.Fe32.{element_of}
-use Rattle.codex32.specs.Derive.{IsDeriveIntoRefusal, IsDerivedString, IsStringOfSet, IsWholeSet}
-use Rattle.codex32.specs.Share.{AreSharesOf, IsEither}
-use Rattle.codex32.specs.declared.share.Share.{Share}
+use Rattle.codex32_strings.specs.Derive.{IsDeriveIntoRefusal, IsDerivedString, IsStringOfSet, IsWholeSet}
+use Rattle.codex32_strings.specs.Share.{AreSharesOf, IsEither}
+use Rattle.codex32_strings.specs.declared.share.Share.{Share}
 use Rattle.codex32_c.specs.Encode.{share_index_number_fault}
 use Rattle.codex32_c.specs.Share.{IsEitherFault}
 use Rattle.codex32_c.specs.declared.refusal.Refusal.{Refusal}

@@ -5,14 +5,14 @@ use Rattle.bech32_encode.specs.Buffers.{IsPut}
 use Rattle.bech32_gf.specs.Alphabet.{is_of_alphabet}
 use Rattle.bech32_gf.specs.Fe32.{element_of, elements_of}
 use Rattle.bech32_hrp.specs.Hrp.{first_of}
-use Rattle.codex32.specs.Encode.{IsEncodedString, is_byte_count, is_long_byte_count}
-use Rattle.codex32.specs.Header.{identifier_of_header, share_index_of_header, threshold_of_header}
-use Rattle.codex32.specs.HeaderParts.{identifier_elements, identifier_word_fault, threshold_number}
-use Rattle.codex32.specs.Thresholds.{is_threshold_number}
-use Rattle.codex32.specs.declared.error.EncodeError.TheVariants as encode_errors
-use Rattle.codex32.specs.declared.error.HeaderError.{HeaderError}
-use Rattle.codex32.specs.declared.error.HeaderError.TheVariants as header_errors
-use Rattle.codex32.specs.declared.header.Header.{Header as Head}
+use Rattle.codex32_strings.specs.Encode.{IsEncodedString, is_byte_count, is_long_byte_count}
+use Rattle.codex32_strings.specs.Header.{identifier_of_header, share_index_of_header, threshold_of_header}
+use Rattle.codex32_strings.specs.HeaderParts.{identifier_elements, identifier_word_fault, threshold_number}
+use Rattle.codex32_strings.specs.Thresholds.{is_threshold_number}
+use Rattle.codex32_strings.specs.declared.error.EncodeError.TheVariants as encode_errors
+use Rattle.codex32_strings.specs.declared.error.HeaderError.{HeaderError}
+use Rattle.codex32_strings.specs.declared.error.HeaderError.TheVariants as header_errors
+use Rattle.codex32_strings.specs.declared.header.Header.{Header as Head}
 use Rattle.codex32_c.specs.declared.refusal.Refusal.{Refusal}
 use Rattle.codex32_c.specs.declared.refusal.Refusal.TheVariants as refusals
 

@@ -4,9 +4,9 @@ use Rattle.bech32_encode.specs.Buffers.{IsPut}
 use Rattle.bech32_gf.specs.Alphabet.{is_data}
 use Rattle.bech32_gf.specs.Fe32.{elements_of}
 use Rattle.bech32_hrp.specs.Hrp.{is_mixed_case}
-use Rattle.codex32.specs.Encode.{IsEncodedPayload, is_long_payload_count, is_payload_count}
-use Rattle.codex32.specs.declared.error.EncodeError.TheVariants as encode_errors
-use Rattle.codex32.specs.declared.header.Header.{Header as Head}
+use Rattle.codex32_strings.specs.Encode.{IsEncodedPayload, is_long_payload_count, is_payload_count}
+use Rattle.codex32_strings.specs.declared.error.EncodeError.TheVariants as encode_errors
+use Rattle.codex32_strings.specs.declared.header.Header.{Header as Head}
 use Rattle.codex32_c.specs.Encode.{IsHeaderOf, header_number_fault}
 use Rattle.codex32_c.specs.declared.refusal.Refusal.{Refusal}
 use Rattle.codex32_c.specs.declared.refusal.Refusal.TheVariants as refusals

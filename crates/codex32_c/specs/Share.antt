@@ -5,11 +5,11 @@ use Rattle.bech32_bits.specs.Bits.{to_bytes}
 use Rattle.bech32_checksum.specs.Encoded.{char_of_element}
 use Rattle.bech32_encode.specs.Buffers.{IsPut}
 use Rattle.bech32_gf.specs.Fe32.{elements_of}
-use Rattle.codex32.specs.Header.{identifier_of_header, share_index_of_header, threshold_of_header}
-use Rattle.codex32.specs.HeaderParts.{identifier_elements, threshold_number}
-use Rattle.codex32.specs.Share.{IsShareRefusal, IsShareString}
-use Rattle.codex32.specs.ShareParts.{bits_left_over}
-use Rattle.codex32.specs.declared.header.Header.{Header as Head}
+use Rattle.codex32_strings.specs.Header.{identifier_of_header, share_index_of_header, threshold_of_header}
+use Rattle.codex32_strings.specs.HeaderParts.{identifier_elements, threshold_number}
+use Rattle.codex32_strings.specs.Share.{IsShareRefusal, IsShareString}
+use Rattle.codex32_strings.specs.ShareParts.{bits_left_over}
+use Rattle.codex32_strings.specs.declared.header.Header.{Header as Head}
 use Rattle.codex32_c.specs.declared.refusal.Refusal.{Refusal}
 use Rattle.codex32_c.specs.declared.refusal.Refusal.TheVariants as refusals
 

@@ -2,7 +2,7 @@
 
 ghost use Rattle.std.specs.Prelude.{◌≡◌, ◌≢◌, ◌≤◌, ◌==◌, ℕ, length, take, true, IfErr, IfOk, MatchResult, OnErr};
 ghost use Rattle.std.specs.List.{sum};
-ghost use Rattle.codex32.specs.Share.{AreSharesOf};
+ghost use Rattle.codex32_strings.specs.Share.{AreSharesOf};
 ghost use Rattle.codex32_c.specs.Derive.{IsAsked, IsDeriveFault, IsDerivedOf, IsTextsFault, PutsDerived, are_lengths, texts_of};
 ghost use Rattle.codex32_c.specs.Faults.{IsNumberOfCodex32};
 

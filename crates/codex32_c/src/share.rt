@@ -2,7 +2,7 @@
 
 ghost use Rattle.std.specs.Prelude.{◌≡◌, ◌≢◌, length, map, IfErr, IfOk, OnErr};
 ghost use Rattle.bech32_checksum.specs.Encoded.{char_of_element};
-ghost use Rattle.codex32.specs.HeaderParts.{identifier_elements};
+ghost use Rattle.codex32_strings.specs.HeaderParts.{identifier_elements};
 ghost use Rattle.codex32_c.specs.Faults.{IsNumberOfCodex32};
 ghost use Rattle.codex32_c.specs.Share.{IsShareFault, PutsPayload, PutsShare};
 

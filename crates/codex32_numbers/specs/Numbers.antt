@@ -3,11 +3,11 @@
 -- besides, and 91 for out of memory.
 use Rattle.std.specs.Prelude.{ℕ}
 use Rattle.bech32_numbers.specs.Numbers.{number_of_text_error, number_of_checksum_error}
-use Rattle.codex32.specs.declared.error.Codex32Error.{Codex32Error}
-use Rattle.codex32.specs.declared.error.Codex32Error.TheVariants.{Text, Length, Hrp, Checksum}
-use Rattle.codex32.specs.declared.error.Codex32Error.TheVariants.{Threshold, ShareIndex, Memory}
-use Rattle.codex32.specs.declared.error.DeriveError.{DeriveError}
-use Rattle.codex32.specs.declared.error.DeriveError.TheVariants.{
+use Rattle.codex32_strings.specs.declared.error.Codex32Error.{Codex32Error}
+use Rattle.codex32_strings.specs.declared.error.Codex32Error.TheVariants.{Text, Length, Hrp, Checksum}
+use Rattle.codex32_strings.specs.declared.error.Codex32Error.TheVariants.{Threshold, ShareIndex, Memory}
+use Rattle.codex32_strings.specs.declared.error.DeriveError.{DeriveError}
+use Rattle.codex32_strings.specs.declared.error.DeriveError.TheVariants.{
   TooFew,
   OtherSet,
   IndexTwice,
@@ -15,17 +15,17 @@ use Rattle.codex32.specs.declared.error.DeriveError.TheVariants.{
   Unshared as UnsharedSet,
   Memory as DeriveMemory,
 }
-use Rattle.codex32.specs.declared.error.EncodeError.{EncodeError}
-use Rattle.codex32.specs.declared.error.EncodeError.TheVariants.{Size, Memory as EncodeMemory}
-use Rattle.codex32.specs.declared.error.HeaderError.{HeaderError}
-use Rattle.codex32.specs.declared.error.HeaderError.TheVariants.{
+use Rattle.codex32_strings.specs.declared.error.EncodeError.{EncodeError}
+use Rattle.codex32_strings.specs.declared.error.EncodeError.TheVariants.{Size, Memory as EncodeMemory}
+use Rattle.codex32_strings.specs.declared.error.HeaderError.{HeaderError}
+use Rattle.codex32_strings.specs.declared.error.HeaderError.TheVariants.{
   Threshold as BadThreshold,
   Identifier,
   ShareIndex as NoShareIndex,
   Unshared,
 }
-use Rattle.codex32.specs.declared.error.PayloadError.{PayloadError}
-use Rattle.codex32.specs.declared.error.PayloadError.TheVariants.{LeftOver}
+use Rattle.codex32_strings.specs.declared.error.PayloadError.{PayloadError}
+use Rattle.codex32_strings.specs.declared.error.PayloadError.TheVariants.{LeftOver}
 
 -- of a text that is not a codex32 string, or for which no nearest text is looked for
 abbrev pub number_of_codex32_error : Codex32Error → ℕ

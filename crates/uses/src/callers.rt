@@ -4,7 +4,7 @@ ghost use Rattle.std.specs.Prelude.{◌≡◌, ◌⊎◌, ℕ, List, None, Ok, I
 ghost use Rattle.bech32_hrp.specs.Hrp.{lowered};
 ghost use Rattle.bech32_segwit.specs.SegwitDecoding.{IsSegwitDecodeRefusal};
 ghost use Rattle.codex32.specs.Nearest.{IsNearestText, IsProposeRefusal};
-ghost use Rattle.codex32.specs.Strings.{IsCodex32};
+ghost use Rattle.codex32_strings.specs.Strings.{IsCodex32};
 
 use bech32::primitives::decode::SegwitHrpstringError;
 use bech32::segwit::{self, DecodeError};

@@ -1,9 +1,9 @@
 use Rattle.std.proofs.Common.{List, ◌++◌, length}
 use denote.Text.{Utf8}
 use denote.Shadow.{shadow}
-use Rattle.codex32.specs.declared.share.Share.{Share}
+use Rattle.codex32_strings.specs.declared.share.Share.{Share}
 use Rattle.line_program.specs.Words.{words}
-use Rattle.codex32.specs.Share.{AreSharesOf}
+use Rattle.codex32_strings.specs.Share.{AreSharesOf}
 use Rattle.c32_replies.specs.Reply.{AreTexts}
 use Rattle.c32_replies.proofs.derive.shares_in.Given as goal
 

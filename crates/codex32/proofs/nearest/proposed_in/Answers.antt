@@ -1,8 +1,8 @@
 use Rattle.std.specs.Prelude.{string_bytes}
 use Rattle.std.proofs.Common.{rules, ◌≡◌, ◌++◌, ◌∷◌, ℕ, List, None, ap, subst, sym, ◌∙◌}
-use Rattle.codex32.specs.Lengths.{may_have}
-use Rattle.codex32.specs.Nearest.{read_data, read_text, unreadable}
-use Rattle.codex32.specs.Strings.{frame_refusal_by}
+use Rattle.codex32_strings.specs.Lengths.{may_have}
+use Rattle.codex32_strings.specs.Damaged.{read_data, read_text, unreadable}
+use Rattle.codex32_strings.specs.Strings.{frame_refusal_by}
 use Rattle.codex32.proofs.Proposed.{answer_from_found, read_is}
 use Rattle.codex32.proofs.nearest.proposed_in.Goals as goal
 

@@ -1,6 +1,6 @@
 use Rattle.std.proofs.Common.{ℕ, inl, inr, arith, subst}
 use Rattle.bech32_correction.specs.Mistyped.{HasNoListing, IsListingOf}
-use Rattle.codex32.specs.Lengths.{may_have}
+use Rattle.codex32_strings.specs.Lengths.{may_have}
 use Rattle.codex32.proofs.Answered.{not_refused_with}
 use Rattle.codex32.proofs.nearest.unreadable_listing_in.Goals as goal
 

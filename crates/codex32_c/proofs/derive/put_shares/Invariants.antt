@@ -1,6 +1,6 @@
 use Rattle.std.proofs.Common.{◌≡◌, length, take, drop}
 use Rattle.std.specs.List.{sum}
-use Rattle.codex32.specs.Share.{AreSharesOf}
+use Rattle.codex32_strings.specs.Share.{AreSharesOf}
 use Rattle.codex32_c.specs.Derive.{texts_of}
 use Rattle.codex32_c.proofs.derive.put_shares.Given as goal
 

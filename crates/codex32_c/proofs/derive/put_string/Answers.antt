@@ -1,7 +1,7 @@
 use Rattle.std.proofs.Common.{◌≡◌, ◌≤◌, length, take, get_or, subst, rules}
 use Rattle.std.proofs.lemmas.Result.{err_from_is_err_and}
 use Rattle.bech32_gf.specs.declared.gf32.Fe32.{Fe32}
-use Rattle.codex32.specs.Derive.{IsDeriveIntoRefusal}
+use Rattle.codex32_strings.specs.Derive.{IsDeriveIntoRefusal}
 use Rattle.codex32_c.specs.Derive.{IsAsked}
 use Rattle.codex32_c.proofs.Texts.{fault-first, refused-from_texts}
 use Rattle.codex32_c.proofs.derive.put_string.Goals as goal

@@ -1,5 +1,5 @@
 use Rattle.std.proofs.Common.{rules, ◌≡◌, ◌++◌, codes, refl, string_bytes}
-use Rattle.codex32.specs.Derive.{IsDerivedString, IsStringOfSet}
+use Rattle.codex32_strings.specs.Derive.{IsDerivedString, IsStringOfSet}
 use Rattle.line_program.proofs.Pieces.{two-pieces}
 use Rattle.line_program.specs.Words.{words}
 use Rattle.c32_replies.proofs.Replies.{says-derived, says-no_room}

@@ -1,6 +1,6 @@
 use Rattle.std.proofs.Common.{rules, ◌≡◌, ◌≤◌, ◌<◌, ◌++◌, arith, codes, refl, inl, length, string_bytes}
-use Rattle.codex32.specs.Encode.{IsEncodedString}
-use Rattle.codex32.specs.declared.error.EncodeError.TheVariants as encode_errors
+use Rattle.codex32_strings.specs.Encode.{IsEncodedString}
+use Rattle.codex32_strings.specs.declared.error.EncodeError.TheVariants as encode_errors
 use Rattle.line_program.proofs.Pieces.{two-pieces}
 use Rattle.c32_replies.proofs.Replies.{says-encoded, says-not_encoded}
 use Rattle.c32_replies.proofs.Sizes.{too-many}

@@ -2,10 +2,11 @@ use Rattle.std.proofs.Common.{ℕ, subst, sym, ap, ◌∙◌}
 use Rattle.bech32_hrp.specs.HrpBytes.{hrp_bytes}
 use Rattle.bech32_decode.specs.Refusals.{HasValidChecksum}
 use Rattle.bech32_decode.proofs.Decoding.{accepted}
-use Rattle.codex32.specs.Code.{codex32}
-use Rattle.codex32.specs.Strings.{header_fault}
+use Rattle.codex32_strings.specs.Code.{codex32}
+use Rattle.codex32_strings.specs.Strings.{header_fault}
 use Rattle.bech32_correction.proofs.Ascii.{ascii_text}
-use Rattle.codex32.proofs.Strings.{framed-from, string_of}
+use Rattle.codex32_strings.proofs.Strings.{framed-from}
+use Rattle.codex32.proofs.Strings.{string_of}
 use Rattle.codex32.proofs.string.Codex32Str.read.Goals as goal
 
 pub cut-requires-clause-ascii : goal.cut-requires-clause-ascii

@@ -1,0 +1,14 @@
+pub mod Locations
+pub mod ReadTexts
+pub mod Reading
+pub mod Separated
+pub mod Strings
+pub mod Digits
+pub mod ShareParts
+pub mod Derived
+pub mod ShareStrings
+pub mod Same
+pub mod HeaderWords
+pub mod DerivedStrings
+pub mod EncodedStrings
+pub mod Put

@@ -1,0 +1,12 @@
+pub mod Code
+pub mod Damaged
+pub mod Derive
+pub mod Encode
+pub mod Header
+pub mod HeaderParts
+pub mod Lengths
+pub mod Share
+pub mod ShareParts
+pub mod Strings
+pub mod Thresholds
+pub mod laws
