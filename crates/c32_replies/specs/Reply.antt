@@ -9,15 +9,18 @@ use Rattle.bech32_gf.specs.declared.gf32.Fe32.{Fe32}
 use Rattle.b32_replies.specs.Hex.{bytes_of, hex_of}
 use Rattle.codex32_strings.specs.Derive.{IsDeriveRefusal, IsDerivedString}
 use Rattle.codex32_strings.specs.Encode.{IsEncodeStringRefusal, IsEncodedString}
-use Rattle.codex32_strings.specs.Header.{identifier_of_header, share_index_of_header, threshold_of_header}
+use Rattle.codex32_strings.specs.Header.{identifier_of_header, share_index_of_header}
+use Rattle.codex32_strings.specs.Header.{threshold_of_header}
 use Rattle.codex32_strings.specs.HeaderParts.{header_word_fault, identifier_elements, secret_index}
-use Rattle.codex32_strings.specs.HeaderParts.{share_index_of_word, share_index_word_fault, threshold_word}
+use Rattle.codex32_strings.specs.HeaderParts.{share_index_of_word, share_index_word_fault}
+use Rattle.codex32_strings.specs.HeaderParts.{threshold_word}
 use Rattle.codex32.specs.Nearest.{IsNearestLongText, IsNearestText, IsProposeLongRefusal}
 use Rattle.codex32_strings.specs.Damaged.{read_text}
 use Rattle.codex32.specs.Nearest.{IsProposeRefusal}
 use Rattle.codex32_strings.specs.Share.{AreSharesOf, IsEither, IsShareRefusal, IsShareString}
 use Rattle.codex32_strings.specs.ShareParts.{bits_left_over}
-use Rattle.codex32_strings.specs.Strings.{IsString, IsStringRefusal, frame_refusal, long_frame_refusal}
+use Rattle.codex32_strings.specs.Strings.{IsString, IsStringRefusal, frame_refusal}
+use Rattle.codex32_strings.specs.Strings.{long_frame_refusal}
 use Rattle.codex32_strings.specs.declared.error.Codex32Error.{Codex32Error}
 use Rattle.codex32_strings.specs.declared.error.Codex32Error.TheVariants as text_errors
 use Rattle.codex32_strings.specs.declared.header.Header.{Header}

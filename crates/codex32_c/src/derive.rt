@@ -1,106 +1,13 @@
 //! Derives codex32 strings from others of their set.
 
-ghost use Rattle.std.specs.Prelude.{◌≡◌, ◌≢◌, ◌≤◌, ◌==◌, ℕ, length, take, true, IfErr, IfOk, MatchResult, OnErr};
-ghost use Rattle.std.specs.List.{sum};
-ghost use Rattle.codex32_strings.specs.Share.{AreSharesOf};
-ghost use Rattle.codex32_c.specs.Derive.{IsAsked, IsDeriveFault, IsDerivedOf, IsTextsFault, PutsDerived, are_lengths, texts_of};
-ghost use Rattle.codex32_c.specs.Faults.{IsNumberOfCodex32};
+ghost use Rattle.std.specs.Prelude.{◌≡◌, ◌≢◌, length};
+ghost use Rattle.codex32_calls.specs.Derive.{IsDeriveFault, PutsDerived};
+ghost use Rattle.codex32_calls.specs.Faults.{IsNumberOfCodex32};
 
-use crate::input::{share_index_of, share_of};
-use crate::refusal::Refusal;
-use bech32_encode::put_at_front;
-use codex32::{DeriveError, Share, derive_into};
-
-// The most characters that a string has.
-const LONGEST: usize = 127;
-
-// The most strings of a set.
-const MOST: usize = 32;
-
-// Whether lengths add up to this.
-fn do_add_up(lengths: &[usize], total: usize) -> bool
-    ensures { result ≡ (sum lengths.now == total) }
-{
-    let mut left = total;
-    for i in 0..lengths.len() {
-        if lengths[i] > left {
-            return false;
-        }
-        left -= lengths[i];
-    }
-    left == 0
-}
-
-// Puts the shares of texts.
-fn put_shares<'t>(room: &mut [Share<'t>], texts: &'t [u8], lengths: &[usize]) -> Result<(), Refusal>
-    requires room { length lengths.now ≤ length room.old }
-    requires whole { sum lengths.now ≡ length texts.now }
-    ensures outcome { MatchResult result
-        (λ _. AreSharesOf (texts_of texts.now lengths.now) (take (length lengths.now) room.new))
-        (λ e. IsTextsFault (texts_of texts.now lengths.now) e) }
-    ensures size { length room.new ≡ length room.old }
-{
-    let mut rest = texts;
-    for i in 0..lengths.len() {
-        let (text, behind) = rest.split_at(lengths[i]);
-        room[i] = share_of(text)?;
-        rest = behind;
-    }
-    Ok(())
-}
-
-// Puts the string at an index that texts give, and returns its length.
-fn put_string(
-    room: &mut [u8],
-    share_index: u32,
-    texts: &[u8],
-    lengths: &[usize],
-) -> Result<usize, Refusal>
-    requires room { 127 ≤ length room.old }
-    requires lengths_are { are_lengths texts.now lengths.now ≡ true }
-    ensures value { IfOk result (λ n. IsAsked share_index texts.now lengths.now
-        × IsDerivedOf share_index (texts_of texts.now lengths.now) (take n room.new)
-        × (n ≡ length (take n room.new)) × (n ≤ length room.new)) }
-    ensures refused { IfErr result
-        (λ e. (left : ℕ) → IsDeriveFault share_index texts.now lengths.now left e) }
-    ensures size { length room.new ≡ length room.old }
-{
-    let index = share_index_of(share_index)?;
-    let Some(first) = lengths.first() else {
-        return Err(Refusal::Derive(DeriveError::TooFew));
-    };
-    let mut shares = [share_of(&texts[..*first])?; MOST];
-    put_shares(&mut shares, texts, lengths)?;
-    Ok(derive_into(room, &shares[..lengths.len()], index)?)
-}
-
-// Puts the string at an index that texts give at the front of a buffer, and returns its length.
-fn put_derived(
-    share_index: u32,
-    texts: &[u8],
-    lengths: &[usize],
-    text: &mut [u8],
-) -> Result<usize, Refusal>
-    ensures value { IfOk result
-        (PutsDerived share_index texts.now lengths.now text.old text.new) }
-    ensures refused { IfErr result
-        (IsDeriveFault share_index texts.now lengths.now (length text.old)) }
-    ensures same { OnErr result (text.new ≡ text.old) }
-{
-    if lengths.len() > MOST || !do_add_up(lengths, texts.len()) {
-        return Err(Refusal::BadLengths);
-    }
-    let mut room = [0u8; LONGEST];
-    let count = put_string(&mut room, share_index, texts, lengths)?;
-    if count > text.len() {
-        return Err(Refusal::NoRoom);
-    }
-    put_at_front(text, &room[..count]);
-    Ok(count)
-}
+use codex32_calls::derive::put_derived;
 
 /// Puts the string at an index that others of its set give at the front of `text`, as
-/// [`derive_into`] has it; `text_length` is then its length. The texts stand one behind another in
+/// [`derive_into`](codex32::derive_into) has it; `text_length` is then its length. The texts stand one behind another in
 /// `texts`, and `lengths` are theirs. `share_index` is a character of the alphabet; at `s` it is
 /// the secret.
 ///

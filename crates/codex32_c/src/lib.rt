@@ -1,24 +1,22 @@
 //! Codex32 for C programs: the calls of `codex32` over numbers and bytes, as `include/codex32.h`
 //! declares them.
 //!
-//! Each call returns 0, or the number of a refusal (`specs/Numbers.antt`), and then changes
-//! nothing but lent memory.
+//! Each call returns 0, or the number of a refusal (`Numbers.antt` of `codex32_calls`), and then
+//! changes nothing but lent memory.
 //!
 //! A `&[u8]` is a pointer and then a length to C, and a `&mut` a pointer. None of these pointers
 //! may be null, but one beside a length of 0, which nothing follows; and what one points to may not
 //! overlap with what a `&mut` does.
 //!
-//! Below it: `codex32`, `codex32_numbers`, `caller_memory`, `refusal_sentences`.
+//! Below it: `codex32_calls`, `caller_memory`, `refusal_sentences`.
 //! Standard: BIP-93.
 #![tactic(auto)]
 
 pub mod derive;
 pub mod encode;
-mod input;
 pub mod message;
 pub mod parse;
 pub mod propose;
-mod refusal;
 pub mod share;
 #[cfg(test)]
 mod tests;

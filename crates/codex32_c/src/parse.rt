@@ -1,46 +1,13 @@
 //! Reads codex32 strings.
 
-ghost use Rattle.std.specs.Prelude.{◌≡◌, ◌≢◌, ◌≤◌, ◌+◌, IfErr, IfOk, IsOk};
+ghost use Rattle.std.specs.Prelude.{◌≡◌, ◌≢◌};
 ghost use Rattle.codex32_strings.specs.Strings.{IsCodex32};
-ghost use Rattle.codex32_c.specs.Faults.{IsNumberOfCodex32};
-ghost use Rattle.codex32_c.specs.Parse.{IsParseFault, IsParsedString};
+ghost use Rattle.codex32_calls.specs.Faults.{IsNumberOfCodex32};
+ghost use Rattle.codex32_calls.specs.Parse.{IsParseFault, IsParsedString};
 
-use crate::input::text_of;
-use crate::refusal::Refusal;
-use codex32::Codex32Str;
+use codex32_calls::parse::parts_of;
 
-// What a C program is told of a codex32 string.
-#[derive(Clone, Copy)]
-struct Parts {
-    threshold: u32,
-    share_index: u32,
-    payload_length: usize,
-}
-
-// The value of a digit.
-fn digit_of(c: char) -> u32
-    requires { 48 ≤ c }
-    ensures { result + 48 ≡ c }
-{
-    u32::from(c) - 48
-}
-
-// A codex32 string as a C program is told of it.
-fn parts_of(bytes: &[u8]) -> Result<Parts, Refusal>
-    ensures value { IfOk result
-        (λ p. IsParsedString bytes.now p.threshold p.share_index p.payload_length) }
-    ensures accepts { IsCodex32 bytes.now → IsOk result }
-    ensures refused { IfErr result (λ e. IsParseFault bytes.now e) }
-{
-    let string = Codex32Str::parse(text_of(bytes)?)?;
-    Ok(Parts {
-        threshold: digit_of(string.threshold()),
-        share_index: u32::from(string.share_index()),
-        payload_length: string.payload().len(),
-    })
-}
-
-/// Reads a codex32 string, as [`Codex32Str::parse`] does. `threshold` is then its threshold, 0 or
+/// Reads a codex32 string, as [`Codex32Str::parse`](codex32::Codex32Str::parse) does. `threshold` is then its threshold, 0 or
 /// from 2 to 9, `share_index` the character of its share index, and `payload_length` the length of
 /// its payload, from 26 to 71. These stand in the text: the threshold is character 3, counted from
 /// 0, the identifier characters 4 to 7, the share index character 8, and the payload begins with

@@ -4,8 +4,10 @@
 use Rattle.std.specs.Prelude.{ℕ}
 use Rattle.bech32_numbers.specs.Numbers.{number_of_text_error, number_of_checksum_error}
 use Rattle.codex32_strings.specs.declared.error.Codex32Error.{Codex32Error}
-use Rattle.codex32_strings.specs.declared.error.Codex32Error.TheVariants.{Text, Length, Hrp, Checksum}
-use Rattle.codex32_strings.specs.declared.error.Codex32Error.TheVariants.{Threshold, ShareIndex, Memory}
+use Rattle.codex32_strings.specs.declared.error.Codex32Error.TheVariants.{Text, Length, Hrp}
+use Rattle.codex32_strings.specs.declared.error.Codex32Error.TheVariants.{Checksum}
+use Rattle.codex32_strings.specs.declared.error.Codex32Error.TheVariants.{Threshold, ShareIndex}
+use Rattle.codex32_strings.specs.declared.error.Codex32Error.TheVariants.{Memory}
 use Rattle.codex32_strings.specs.declared.error.DeriveError.{DeriveError}
 use Rattle.codex32_strings.specs.declared.error.DeriveError.TheVariants.{
   TooFew,
@@ -16,7 +18,8 @@ use Rattle.codex32_strings.specs.declared.error.DeriveError.TheVariants.{
   Memory as DeriveMemory,
 }
 use Rattle.codex32_strings.specs.declared.error.EncodeError.{EncodeError}
-use Rattle.codex32_strings.specs.declared.error.EncodeError.TheVariants.{Size, Memory as EncodeMemory}
+use Rattle.codex32_strings.specs.declared.error.EncodeError.TheVariants.{Size}
+use Rattle.codex32_strings.specs.declared.error.EncodeError.TheVariants.{Memory as EncodeMemory}
 use Rattle.codex32_strings.specs.declared.error.HeaderError.{HeaderError}
 use Rattle.codex32_strings.specs.declared.error.HeaderError.TheVariants.{
   Threshold as BadThreshold,

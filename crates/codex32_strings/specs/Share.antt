@@ -7,9 +7,11 @@ use Rattle.bech32_decode.specs.Text.{IsText}
 use Rattle.bech32_gf.specs.Fe32.{elements_of}
 use Rattle.bech32_gf.specs.declared.gf32.Fe32.{Fe32}
 use Rattle.codex32_strings.specs.Code.{code_of_length}
-use Rattle.codex32_strings.specs.Header.{identifier_of_header, share_index_of_header, threshold_of_header}
+use Rattle.codex32_strings.specs.Header.{identifier_of_header, share_index_of_header}
+use Rattle.codex32_strings.specs.Header.{threshold_of_header}
 use Rattle.codex32_strings.specs.HeaderParts.{header_elements_of, secret_index, threshold_number}
-use Rattle.codex32_strings.specs.Strings.{IsBodyRefusalBy, frame_refusal_by, is_ms, is_within_either}
+use Rattle.codex32_strings.specs.Strings.{IsBodyRefusalBy, frame_refusal_by, is_ms}
+use Rattle.codex32_strings.specs.Strings.{is_within_either}
 use Rattle.codex32_strings.specs.declared.error.Codex32Error.{Codex32Error}
 use Rattle.codex32_strings.specs.declared.header.Header.{Header}
 use Rattle.codex32_strings.specs.declared.identifier.Identifier.{Identifier}

@@ -11,7 +11,8 @@ use Rattle.bech32_decode.specs.Text.{IsText, split_at_last, text_refusal}
 use Rattle.bech32_refusals.specs.declared.error.UncheckedHrpstringError.{UncheckedHrpstringError}
 use Rattle.codex32_strings.specs.Code.{codex32}
 use Rattle.codex32_strings.specs.declared.error.Codex32Error.{Codex32Error}
-use Rattle.codex32_strings.specs.declared.error.Codex32Error.TheVariants.{Text, Length, Hrp, Checksum}
+use Rattle.codex32_strings.specs.declared.error.Codex32Error.TheVariants.{Text, Length, Hrp}
+use Rattle.codex32_strings.specs.declared.error.Codex32Error.TheVariants.{Checksum}
 use Rattle.codex32_strings.specs.declared.error.Codex32Error.TheVariants.{Threshold, ShareIndex}
 
 -- whether a human-readable part is `ms`, in either case (BIP-93, codex32)

@@ -1,5 +1,0 @@
-use Rattle.codex32_c.proofs.Inputs.{identifier_fault-not_utf8}
-use Rattle.codex32_c.proofs.input.identifier_of.Goals as goal
-
-pub returns-in-Err : goal.returns-in-Err
-returns-in-Err c = identifier_fault-not_utf8 c.args.characters.now c.in-Err.ensures.1

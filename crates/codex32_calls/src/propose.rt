@@ -1,0 +1,134 @@
+//! Proposes the nearest text to a damaged codex32 string of either length.
+
+ghost use Rattle.std.specs.Prelude.{◌≡◌, ◌≤◌, ℕ, List, length, None, string_bytes, IfErr, IfOk, MatchOption, MatchResult, OnErr};
+ghost use Rattle.std.specs.Str.{IsUtf8};
+ghost use Rattle.caller_memory.specs.Memory.{LeavesMemory};
+ghost use Rattle.codex32_calls.specs.Nearest.{IsNearest, IsNearestStringRefusal, damaged_refusal};
+ghost use Rattle.codex32_calls.specs.Propose.{IsProposeFault, PutsNearest};
+
+use crate::input::text_of;
+use crate::refusal::Refusal;
+use arrayvec::ArrayString;
+use bech32_encode::put_at_front;
+use caller_memory::{Lent, Memory};
+use codex32::{Codex32Error, propose_in, propose_long_in, validate_damaged, validate_damaged_long};
+use std::alloc::Allocator;
+
+// The most characters that a string has.
+const LONGEST: usize = 127;
+
+/// Which strings are meant.
+#[derive(Clone, Copy)]
+pub enum Kind {
+    /// Those of 48 to 93 characters.
+    Short,
+    /// Those of 125 to 127.
+    Long,
+}
+
+// A copy, in place, of a text that is at most as long as a string.
+fn in_place(text: &str) -> ArrayString<LONGEST>
+    requires { length text.now ≤ 127 }
+    ensures { result.bytes ≡ text.now }
+{
+    let mut copy = ArrayString::new();
+    copy.push_str(text);
+    copy
+}
+
+// Tests a damaged text.
+fn validate(kind: Kind, text: &str) -> Result<(), Codex32Error>
+    ensures { MatchResult result
+        (λ _. damaged_refusal kind text.now ≡ None)
+        (λ e. IsNearestStringRefusal kind text.now e) }
+{
+    match kind {
+        Kind::Short => validate_damaged(text),
+        Kind::Long => validate_damaged_long(text),
+    }
+}
+
+// The nearest text, if there is one.
+fn proposed_in<A: Allocator + Copy>(
+    alloc: A,
+    kind: Kind,
+    text: &str,
+) -> Result<Option<String<A>>, Codex32Error>
+    ensures value { IfOk result (λ answer. MatchOption answer
+        ((nearest : List ℕ) → IsNearest kind text.now nearest → ⊥)
+        (λ s. IsNearest kind text.now (string_bytes s) × (length (string_bytes s) ≤ 127))) }
+    ensures refused { MatchResult result
+        (λ _. damaged_refusal kind text.now ≡ None)
+        (λ e. IsNearestStringRefusal kind text.now e) }
+{
+    match kind {
+        Kind::Short => propose_in(alloc, text),
+        Kind::Long => propose_long_in(alloc, text),
+    }
+}
+
+// The nearest text.
+fn nearest_in<A: Allocator + Copy>(
+    alloc: A,
+    kind: Kind,
+    text: &str,
+) -> Result<ArrayString<LONGEST>, Refusal>
+    requires { IsUtf8 text.now }
+    ensures value { IfOk result (λ nearest. IsNearest kind text.now nearest.bytes) }
+    ensures refused { IfErr result (λ e. (room : ℕ) → IsProposeFault kind text.now room e) }
+{
+    match proposed_in(alloc, kind, text)? {
+        Some(nearest) => Ok(in_place(&nearest)),
+        None => Err(Refusal::NoNearest),
+    }
+}
+
+// The same with memory that comes back; if it does not, this is out of memory.
+fn nearest_with(
+    memory: &mut Memory,
+    kind: Kind,
+    text: &str,
+) -> Result<ArrayString<LONGEST>, Refusal>
+    requires { IsUtf8 text.now × (damaged_refusal kind text.now ≡ None) }
+    ensures value { IfOk result (λ nearest. IsNearest kind text.now nearest.bytes) }
+    ensures refused { IfErr result (λ e. (room : ℕ) → IsProposeFault kind text.now room e) }
+    ensures memory { MatchResult result
+        (λ _. memory.new ≡ memory.old)
+        (λ e. LeavesMemory memory.old memory.new (e ≡ Refusal.Text Codex32Error.Memory)) }
+{
+    let lent = Lent::new(memory.take());
+    let nearest = nearest_in(&lent.arena(), kind, text);
+    match lent.into_memory() {
+        Some(whole) => {
+            *memory = whole;
+            nearest
+        }
+        None => Err(Refusal::Text(Codex32Error::Memory)),
+    }
+}
+
+/// Puts the nearest text to any text, which is tested before anything is allocated, at the front of
+/// a buffer, and returns its length.
+pub fn nearest_of(
+    memory: &mut Memory,
+    kind: Kind,
+    bytes: &[u8],
+    proposed: &mut [u8],
+) -> Result<usize, Refusal>
+    ensures value { IfOk result
+        (λ count. PutsNearest kind bytes.now proposed.old proposed.new count) }
+    ensures refused { IfErr result (λ e. IsProposeFault kind bytes.now (length proposed.old) e) }
+    ensures same { OnErr result (proposed.new ≡ proposed.old) }
+    ensures memory { MatchResult result
+        (λ _. memory.new ≡ memory.old)
+        (λ e. LeavesMemory memory.old memory.new (e ≡ Refusal.Text Codex32Error.Memory)) }
+{
+    let text = text_of(bytes)?;
+    validate(kind, text)?;
+    let nearest = nearest_with(memory, kind, text)?;
+    if nearest.len() > proposed.len() {
+        return Err(Refusal::NoRoom);
+    }
+    put_at_front(proposed, nearest.as_str().as_bytes());
+    Ok(nearest.len())
+}

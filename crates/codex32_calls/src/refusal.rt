@@ -1,0 +1,110 @@
+//! Why a call writes nothing, and the numbers of refusals.
+
+ghost use Rattle.std.specs.Prelude.{◌≡◌, ◌<◌};
+ghost use Rattle.codex32_calls.specs.Numbers.{number_of_codex32_refusal};
+
+use codex32::{Codex32Error, DeriveError, EncodeError, HeaderError, PayloadError};
+use codex32_numbers::{
+    codex32_error_number, derive_error_number, encode_error_number, header_error_number,
+    payload_error_number,
+};
+
+/// Why a call writes nothing.
+#[derive(Clone, Copy)]
+pub enum Refusal {
+    /// The bytes of a text are not UTF-8.
+    NotUtf8,
+    /// There are more than 32 texts, or their lengths are not those of the bytes.
+    BadLengths,
+    /// A character of a payload is not of the alphabet.
+    InvalidCharacter,
+    /// A payload has letters of both cases.
+    MixedCase,
+    /// The text is not a codex32 string, or out of memory.
+    Text(Codex32Error),
+    /// No header is made.
+    Header(HeaderError),
+    /// The payload has no bytes.
+    Payload(PayloadError),
+    /// No string is made of bytes, or of the characters of a payload.
+    Encode(EncodeError),
+    /// No string is derived from shares.
+    Derive(DeriveError),
+    /// There is no nearest text.
+    NoNearest,
+    /// A buffer is too small.
+    NoRoom,
+}
+
+impl Refusal {
+    /// The number that a call returns.
+    pub fn number(self) -> u32
+        ensures value { result ≡ number_of_codex32_refusal self }
+        ensures some { 0 < result }
+    {
+        let small: u8 = match self {
+            Refusal::NotUtf8 => 2,
+            Refusal::BadLengths => 4,
+            Refusal::InvalidCharacter => 21,
+            Refusal::MixedCase => 22,
+            Refusal::Text(e) => codex32_error_number(e),
+            Refusal::Header(e) => header_error_number(e),
+            Refusal::Payload(e) => payload_error_number(e),
+            Refusal::Encode(e) => encode_error_number(e),
+            Refusal::Derive(e) => derive_error_number(e),
+            Refusal::NoNearest => 34,
+            Refusal::NoRoom => 92,
+        };
+        u32::from(small)
+    }
+}
+
+impl From<Codex32Error> for Refusal {
+    ghost use Rattle.codex32_calls.specs.declared.refusal.Refusal.TheVariants.{Text};
+
+    ghost from_gives = { λ e r. r ≡ Text e };
+
+    fn from(e: Codex32Error) -> Refusal {
+        Refusal::Text(e)
+    }
+}
+
+impl From<HeaderError> for Refusal {
+    ghost use Rattle.codex32_calls.specs.declared.refusal.Refusal.TheVariants as refusals;
+
+    ghost from_gives = { λ e r. r ≡ refusals.Header e };
+
+    fn from(e: HeaderError) -> Refusal {
+        Refusal::Header(e)
+    }
+}
+
+impl From<PayloadError> for Refusal {
+    ghost use Rattle.codex32_calls.specs.declared.refusal.Refusal.TheVariants as refusals;
+
+    ghost from_gives = { λ e r. r ≡ refusals.Payload e };
+
+    fn from(e: PayloadError) -> Refusal {
+        Refusal::Payload(e)
+    }
+}
+
+impl From<EncodeError> for Refusal {
+    ghost use Rattle.codex32_calls.specs.declared.refusal.Refusal.TheVariants as refusals;
+
+    ghost from_gives = { λ e r. r ≡ refusals.Encode e };
+
+    fn from(e: EncodeError) -> Refusal {
+        Refusal::Encode(e)
+    }
+}
+
+impl From<DeriveError> for Refusal {
+    ghost use Rattle.codex32_calls.specs.declared.refusal.Refusal.TheVariants as refusals;
+
+    ghost from_gives = { λ e r. r ≡ refusals.Derive e };
+
+    fn from(e: DeriveError) -> Refusal {
+        Refusal::Derive(e)
+    }
+}
