@@ -4,10 +4,9 @@ mod shares;
 use crate::parse::codex32_parse;
 use crate::propose::codex32_propose;
 use caller_memory::Memory;
-use std::alloc::{AllocError, Global};
+use std::alloc::Global;
 use std::fmt::Debug;
 use std::process::Abort;
-use std::test::Fail;
 
 // What the numbers hold before a call.
 const BEFORE: u32 = 7777;
@@ -134,21 +133,15 @@ const DAMAGED: &[u8] = b"ms1qtestsqxxxxxxxxxxxxxxxxxxxxxxxxq4nzvca9cmczlq";
 
 // The number of the answer where the nearest text is that of BIP-93, with so many bytes of memory,
 // all of which come back.
-fn answer_within(
-    rt: &impl Abort,
-    alloc: Global,
-    size: usize,
-    text: &[u8],
-    room: usize,
-) -> Result<u32, AllocError> {
-    let mut memory = Memory::leaked(alloc, size)?;
+fn answer_within(rt: &impl Abort, alloc: Global, size: usize, text: &[u8], room: usize) -> u32 {
+    let mut memory = Memory::leaked(alloc, size).expect(rt, "memory");
     let number = proposes(rt, &mut memory, text, room, NEAREST);
     same(rt, &memory.with_size().0, &size);
-    Ok(number)
+    number
 }
 
 #[test]
-fn proposes_known_texts(rt: HostRuntime) -> Result<(), Fail> {
+fn proposes_known_texts(rt: HostRuntime) {
     let rows: [(&[u8], usize, u32); 13] = [
         (NEAREST, 96, 0),
         (NEAREST, 48, 0),
@@ -165,19 +158,18 @@ fn proposes_known_texts(rt: HostRuntime) -> Result<(), Fail> {
         (b"\xff", 96, 2),
     ];
     for (text, room, want) in rows {
-        let number = answer_within(&rt, rt.alloc(), memory_for(text), text, room)?;
+        let number = answer_within(&rt, rt.alloc(), memory_for(text), text, room);
         same(&rt, &number, &want);
     }
-    Ok(())
 }
 
 // In the same memory again and again, with a longer text of `reads_known_strings`.
 #[test]
-fn memory_serves_again(rt: HostRuntime) -> Result<(), Fail> {
+fn memory_serves_again(rt: HostRuntime) {
     let longer = b"ms13lwj58s47h5wpzp0pm9dmwl0n4084llte76ftpzr2phlsa93mxazghatx2hglr8p754666v";
     let torn = b"ms13lwj5?s47h5wpzp0p???mwl0n4084llte76ft?zr2phlsa93mxaz?hatx2hglr8p754?66?";
     let size = memory_for(torn);
-    let mut memory = Memory::leaked(rt.alloc(), size)?;
+    let mut memory = Memory::leaked(rt.alloc(), size).expect(&rt, "memory");
     for _ in 0..5 {
         let numbers = [
             proposes(&rt, &mut memory, DAMAGED, 48, NEAREST),
@@ -187,25 +179,19 @@ fn memory_serves_again(rt: HostRuntime) -> Result<(), Fail> {
         same(&rt, &numbers, &[0, 23, 0]);
     }
     same(&rt, &memory.with_size().0, &size);
-    Ok(())
 }
 
 // Memory of fewer bytes than the text has.
 #[test]
-fn wants_memory(rt: HostRuntime) -> Result<(), Fail> {
+fn wants_memory(rt: HostRuntime) {
     for size in [0, 16, 47] {
-        same(
-            &rt,
-            &answer_within(&rt, rt.alloc(), size, DAMAGED, 48)?,
-            &91,
-        );
+        same(&rt, &answer_within(&rt, rt.alloc(), size, DAMAGED, 48), &91);
     }
-    Ok(())
 }
 
 // A refusal of the text needs no memory.
 #[test]
-fn refuses_without_memory(rt: HostRuntime) -> Result<(), Fail> {
+fn refuses_without_memory(rt: HostRuntime) {
     let rows: [(&[u8], u32); 7] = [
         (b"\xff", 2),
         (b"1?qqqqq", 11),
@@ -216,21 +202,19 @@ fn refuses_without_memory(rt: HostRuntime) -> Result<(), Fail> {
         (b"ms10testsxxxxxxxxxxxxxxxxxxxxxxxxxx4nzvca9cmcz?", 82),
     ];
     for (text, want) in rows {
-        same(&rt, &answer_within(&rt, rt.alloc(), 0, text, 48)?, &want);
+        same(&rt, &answer_within(&rt, rt.alloc(), 0, text, 48), &want);
     }
-    Ok(())
 }
 
 // From some size on memory suffices, at the latest from the stated one.
 #[test]
-fn proposes_or_wants_memory(rt: HostRuntime) -> Result<(), Fail> {
+fn proposes_or_wants_memory(rt: HostRuntime) {
     let enough = memory_for(DAMAGED);
     let mut before = 91;
     for size in (0..enough).step_by(64).chain([enough]) {
-        let number = answer_within(&rt, rt.alloc(), size, DAMAGED, 48)?;
+        let number = answer_within(&rt, rt.alloc(), size, DAMAGED, 48);
         assert!(rt; number == 0 || number == before);
         before = number;
     }
     same(&rt, &before, &0);
-    Ok(())
 }

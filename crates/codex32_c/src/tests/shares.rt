@@ -4,8 +4,8 @@ use crate::encode::{codex32_encode, codex32_encode_payload};
 use crate::propose::codex32_propose_long;
 use crate::share::codex32_share;
 use caller_memory::Memory;
+use std::alloc::Global;
 use std::process::Abort;
-use std::test::Fail;
 
 const ROOM: usize = 160;
 
@@ -324,9 +324,32 @@ const WRONG: &[u8] =
 const WORSE: &[u8] =
     b"ms19tpq7q22sclaxxuxwk0q22xjc8mt2fklqgkffmsc4elduv887tcpkn68gvf82sxt28l0d0lqdxpmmpnq4cwcpc692rrhwr7uetnhdllmjv6xeengd0tk7sgcsq";
 
+// The answer to a damaged long text with this memory and a buffer of so many bytes, and what the
+// length and the buffer hold then.
+fn proposal_long(memory: &mut Memory, text: &[u8], room: usize) -> (u32, (usize, [u8; ROOM])) {
+    let mut buffer = [BYTE_BEFORE; ROOM];
+    let mut length = LENGTH_BEFORE;
+    let (front, _) = buffer.split_at_mut(room.min(ROOM));
+    let number = codex32_propose_long(text, memory, front, &mut length);
+    (number, (length, buffer))
+}
+
+// Fails where the answer with so many bytes of memory is another, or they do not come back.
+fn proposes_long(
+    rt: &impl Abort,
+    alloc: Global,
+    (text, size, room): (&[u8], usize, usize),
+    want: u32,
+) {
+    let mut memory = Memory::leaked(alloc, size).expect(rt, "memory");
+    let answer = (want, written_in::<ROOM>(want, LONG));
+    same(rt, &proposal_long(&mut memory, text, room), &answer);
+    same(rt, &memory.with_size().0, &size);
+}
+
 // The long string is that of a reference model.
 #[test]
-fn proposes_long_texts(rt: HostRuntime) -> Result<(), Fail> {
+fn proposes_long_texts(rt: HostRuntime) {
     let rows: [(&[u8], usize, usize, u32); 9] = [
         (LONG, memory_for(LONG), ROOM, 0),
         (TORN, memory_for(LONG), ROOM, 0),
@@ -339,14 +362,6 @@ fn proposes_long_texts(rt: HostRuntime) -> Result<(), Fail> {
         (b"\xff", 0, ROOM, 2),
     ];
     for (text, size, room, want) in rows {
-        let mut memory = Memory::leaked(rt.alloc(), size)?;
-        let mut buffer = [BYTE_BEFORE; ROOM];
-        let mut length = LENGTH_BEFORE;
-        let (front, _) = buffer.split_at_mut(room.min(ROOM));
-        let number = codex32_propose_long(text, &mut memory, front, &mut length);
-        same(&rt, &number, &want);
-        same(&rt, &(length, buffer), &written_in::<ROOM>(want, LONG));
-        same(&rt, &memory.with_size().0, &size);
+        proposes_long(&rt, rt.alloc(), (text, size, room), want);
     }
-    Ok(())
 }
