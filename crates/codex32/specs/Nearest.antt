@@ -12,6 +12,7 @@ use Rattle.bech32_correction.specs.MendedElements.{mended}
 use Rattle.bech32_correction.specs.Mistyped.{HasNoListing, IsListingOf}
 use Rattle.bech32_checksum.specs.Code.{Code}
 use Rattle.codex32_strings.specs.Code.{codex32, long_codex32}
+use Rattle.codex32_strings.specs.Damaged.{changed, read_data, read_text, unreadable}
 use Rattle.codex32_strings.specs.Strings.{frame_refusal_by, is_within, is_within_long}
 use Rattle.codex32_strings.specs.declared.error.Codex32Error.{Codex32Error}
 use Rattle.codex32_strings.specs.declared.error.Codex32Error.TheVariants.{Memory}
