@@ -20,10 +20,15 @@ fn value(polynomial: Polynomial, x: Fe32) -> Fe32 {
     constant + x * (linear + x * square)
 }
 
+// Whether a polynomial has an element at an index.
+fn has(polynomial: Polynomial, index: &Fe32, element: &Fe32) -> bool {
+    value(polynomial, *index) == *element
+}
+
 // Whether a polynomial has the elements of the first texts at a place.
-fn is_through(polynomial: Polynomial, elements: [Fe32; 5], count: usize) -> bool {
-    for i in 0..5usize {
-        if i < count && value(polynomial, INDICES[i]) != elements[i] {
+fn is_through(polynomial: Polynomial, elements: &[Fe32; 5], count: usize) -> bool {
+    for (i, element) in elements.iter().enumerate() {
+        if i < count && !has(polynomial, &INDICES[i], element) {
             return false;
         }
     }
@@ -39,7 +44,7 @@ fn polynomial_through(elements: [Fe32; 5], count: usize) -> Option<Polynomial> {
         for linear in Fe32::iter_alpha() {
             // What is left is the constant term.
             let constant = elements[0] - value([Fe32::Q, linear, square], INDICES[0]);
-            if is_through([constant, linear, square], elements, count) {
+            if is_through([constant, linear, square], &elements, count) {
                 return Some([constant, linear, square]);
             }
         }
@@ -47,36 +52,55 @@ fn polynomial_through(elements: [Fe32; 5], count: usize) -> Option<Polynomial> {
     None
 }
 
+// The element of a text at a place.
+fn element_at(text: &Text, place: usize) -> Option<Fe32> {
+    Fe32::from_char(char::from(*text.get(place)?)).ok()
+}
+
 // The elements of texts at a place.
 fn elements_at(texts: &[Text; 5], place: usize) -> Option<[Fe32; 5]> {
     let mut elements = [Fe32::Q; 5];
     for i in 0..5usize {
-        let character = texts[i].get(place)?;
-        elements[i] = Fe32::from_char(char::from(*character)).ok()?;
+        elements[i] = element_at(&texts[i], place)?;
     }
     Some(elements)
+}
+
+// The character at a place of the text at an index, by the definition.
+fn character_at(texts: &[Text; 5], count: usize, x: Fe32, place: usize) -> Option<u8> {
+    let polynomial = polynomial_through(elements_at(texts, place)?, count)?;
+    Some(value(polynomial, x).to_char() as u8)
 }
 
 // The text at an index, by the definition.
 fn by_definition(texts: &[Text; 5], count: usize, x: Fe32) -> Option<Text> {
     let mut text = *b"ms1qqqqqqqqqqqqqqqqqqqqqqqqqqqqqqqqqqqqqqqqqqqqq";
     for place in 3..48usize {
-        let polynomial = polynomial_through(elements_at(texts, place)?, count)?;
-        text[place] = value(polynomial, x).to_char() as u8;
+        text[place] = character_at(texts, count, x, place)?;
     }
     Some(text)
 }
 
-// A string of some bytes.
-fn made(alloc: Global, threshold: u8, index: Fe32) -> Option<Text> {
+// The header of a share at an index.
+fn header_of(threshold: u8, index: Fe32) -> Option<Header> {
     let identifier = Identifier::new([Fe32::T, Fe32::E, Fe32::S, Fe32::T]);
-    let header = Header::new(Threshold::new(threshold)?, identifier, index).ok()?;
+    Header::new(Threshold::new(threshold)?, identifier, index).ok()
+}
+
+// The bytes of that share.
+fn bytes_of(threshold: u8, index: Fe32) -> [u8; 16] {
     let mut bytes = [0u8; 16];
     for i in 0..16usize {
         let square = (i as u8).wrapping_mul(i as u8).wrapping_add(7);
         bytes[i] = index.to_u8().wrapping_mul(square).wrapping_add(threshold);
     }
-    let text = encode(alloc, &header, &bytes).ok()?;
+    bytes
+}
+
+// A string of some bytes.
+fn made(alloc: Global, threshold: u8, index: Fe32) -> Option<Text> {
+    let header = header_of(threshold, index)?;
+    let text = encode(alloc, &header, &bytes_of(threshold, index)).ok()?;
     text.as_bytes().try_into().ok()
 }
 
@@ -97,6 +121,11 @@ fn share_of(text: &Text) -> Option<Share<'_>> {
     Share::parse(str::from_utf8(text).ok()?).ok()
 }
 
+// The share at a place of a set.
+fn share_at(texts: &[Text; 5], place: usize) -> Option<Share<'_>> {
+    share_of(texts.get(place)?)
+}
+
 // Whether shares give each text of a set.
 fn give_all(alloc: Global, texts: &[Text; 5], shares: &[Share<'_>]) -> Option<bool> {
     for i in 0..5usize {
@@ -114,7 +143,7 @@ fn do_pairs_give_all(alloc: Global) -> Option<u32> {
     let mut right = 0u32;
     for i in 0..5usize {
         for j in 0..i {
-            let shares = [share_of(&texts[j])?, share_of(&texts[i])?];
+            let shares = [share_at(&texts, j)?, share_at(&texts, i)?];
             if give_all(alloc, &texts, &shares)? {
                 right = right.saturating_add(1);
             }
@@ -127,9 +156,9 @@ fn do_pairs_give_all(alloc: Global) -> Option<u32> {
 fn do_three_give_all(alloc: Global, texts: &[Text; 5], places: [usize; 3]) -> Option<bool> {
     let [i, j, k] = places;
     let shares = [
-        share_of(texts.get(i)?)?,
-        share_of(texts.get(j)?)?,
-        share_of(texts.get(k)?)?,
+        share_at(texts, i)?,
+        share_at(texts, j)?,
+        share_at(texts, k)?,
     ];
     give_all(alloc, texts, &shares)
 }
@@ -156,13 +185,9 @@ fn each_two_and_each_three_of_five(rt: HostRuntime) {
     same(&rt, &right, &[Some(10), Some(10)]);
 }
 
-// Whether all five, of which one has another payload, contradict each other.
-fn are_found_out(alloc: Global, threshold: u8, wrong: usize) -> Option<bool> {
-    let mut texts = set(alloc, threshold)?;
-    // A right string of the set's header, and of other bytes.
-    let text = texts.get_mut(wrong)?;
-    *text = made(alloc, threshold, *INDICES.get(wrong)?)?;
-    let [a, b, c, d, e] = &texts;
+// Whether all five of a set contradict each other.
+fn contradict(alloc: Global, texts: &[Text; 5]) -> Option<bool> {
+    let [a, b, c, d, e] = texts;
     let shares = [
         share_of(a)?,
         share_of(b)?,
@@ -171,6 +196,20 @@ fn are_found_out(alloc: Global, threshold: u8, wrong: usize) -> Option<bool> {
         share_of(e)?,
     ];
     Some(derive(alloc, &shares, Fe32::S).is_err())
+}
+
+// A set with a right string of its header and of other bytes at one place.
+fn with_another(alloc: Global, threshold: u8, wrong: usize) -> Option<[Text; 5]> {
+    let mut texts = set(alloc, threshold)?;
+    let text = texts.get_mut(wrong)?;
+    *text = made(alloc, threshold, *INDICES.get(wrong)?)?;
+    Some(texts)
+}
+
+// Whether all five, of which one has another payload, contradict each other.
+fn are_found_out(alloc: Global, threshold: u8, wrong: usize) -> Option<bool> {
+    let texts = with_another(alloc, threshold, wrong)?;
+    contradict(alloc, &texts)
 }
 
 #[test]

@@ -85,35 +85,50 @@ fn corrector_of(alloc: Global, text: &str) -> Option<Corrector<Codex32>> {
     }
 }
 
-// The bound of the corrector, and its window.
-fn bounds_of(found: Option<Corrector<Codex32>>) -> Option<(usize, usize)> {
-    let corrector = found?;
-    Some((corrector.singleton_bound(), corrector.window()))
+// The bound of a corrector, and its window.
+fn bounds_of(corrector: &Corrector<Codex32>) -> (usize, usize) {
+    (corrector.singleton_bound(), corrector.window())
+}
+
+// Those of the corrector of a text.
+fn bounds_for(alloc: Global, text: &str) -> Option<(usize, usize)> {
+    match corrector_of(alloc, text) {
+        Some(corrector) => Some(bounds_of(&corrector)),
+        None => None,
+    }
 }
 
 // BIP-93, Error correction: four errors, or eight erasures; a code of 93 characters.
 #[test]
 fn bounds(rt: HostRuntime) {
-    let found = bounds_of(corrector_of(rt.alloc(), FOUR_ERRORS));
-    same(&rt, &found, &Some((8, 93)));
+    same(&rt, &bounds_for(rt.alloc(), FOUR_ERRORS), &Some((8, 93)));
 }
 
-// Whether just these errors are listed for a text that the checksum refuses, or nothing is.
+// Whether just these errors are listed with some erasures, or nothing is.
+fn lists_with(
+    corrector: &mut Corrector<Codex32>,
+    erasures: &[usize],
+    want: Option<&[(usize, Fe32)]>,
+) -> bool {
+    if !is_given(corrector, erasures) {
+        return false;
+    }
+    match want {
+        Some(want) => lists(corrector, want),
+        None => lists_nothing(corrector),
+    }
+}
+
+// The same for a text that the checksum refuses.
 fn is_listed(
     alloc: Global,
     text: &str,
     erasures: &[usize],
     want: Option<&[(usize, Fe32)]>,
 ) -> bool {
-    let Some(mut corrector) = corrector_of(alloc, text) else {
-        return false;
-    };
-    if !is_given(&mut corrector, erasures) {
-        return false;
-    }
-    match want {
-        Some(want) => lists(&corrector, want),
-        None => lists_nothing(&corrector),
+    match corrector_of(alloc, text) {
+        Some(mut corrector) => lists_with(&mut corrector, erasures, want),
+        None => false,
     }
 }
 
@@ -127,16 +142,20 @@ fn four_errors(rt: HostRuntime) {
     same(&rt, &listed, &[true; 2]);
 }
 
+// The last places of a text.
+fn last_eight() -> [usize; 8] {
+    [0, 1, 2, 3, 4, 5, 6, 7]
+}
+
+fn last_nine() -> [usize; 9] {
+    [0, 1, 2, 3, 4, 5, 6, 7, 8]
+}
+
 #[test]
 fn eight_erasures(rt: HostRuntime) {
     let listed = [
-        is_listed(
-            rt.alloc(),
-            EIGHT_ERRORS,
-            &[0, 1, 2, 3, 4, 5, 6, 7],
-            Some(&EIGHT),
-        ),
-        is_listed(rt.alloc(), EIGHT_ERRORS, &[0, 1, 2, 3, 4, 5, 6, 7, 8], None),
+        is_listed(rt.alloc(), EIGHT_ERRORS, &last_eight(), Some(&EIGHT)),
+        is_listed(rt.alloc(), EIGHT_ERRORS, &last_nine(), None),
     ];
     same(&rt, &listed, &[true; 2]);
 }
@@ -180,7 +199,9 @@ fn each_single_error(rt: HostRuntime) {
 fn is_corrected(alloc: Global, text: &str, erasures: &[usize], want: &str) -> bool {
     match correct::<Codex32>(alloc, text, erasures) {
         Ok(Correction::Mended(mended)) => mended.text.as_str() == want,
-        _ => false,
+        Ok(Correction::Accepted) => false,
+        Ok(Correction::Unexplained(_)) => false,
+        Err(_) => false,
     }
 }
 
@@ -189,8 +210,8 @@ fn texts_corrected_by_one_call(rt: HostRuntime) {
     let corrected = [
         is_corrected(rt.alloc(), FOUR_ERRORS, &[], TEXT),
         is_corrected(rt.alloc(), FOUR_ERRORS, &[44, 0], TEXT),
-        is_corrected(rt.alloc(), EIGHT_ERRORS, &[0, 1, 2, 3, 4, 5, 6, 7], TEXT),
-        is_corrected(rt.alloc(), EIGHT_ERRORS, &[0, 1, 2, 3, 4, 5, 6, 7, 8], TEXT),
+        is_corrected(rt.alloc(), EIGHT_ERRORS, &last_eight(), TEXT),
+        is_corrected(rt.alloc(), EIGHT_ERRORS, &last_nine(), TEXT),
     ];
     same_items(&rt, &corrected, &[true, true, true, false]);
 }

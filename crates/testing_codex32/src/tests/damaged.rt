@@ -94,6 +94,16 @@ fn outlines_of_damaged_texts(rt: HostRuntime) {
     }
 }
 
+// Fails where a text is refused with another error than that memory runs out.
+fn has_no_fault<A: Allocator + Copy>(rt: &impl Abort, alloc: A, text: &str) {
+    let found = (validate_damaged(text), propose_in(alloc, text).err());
+    same(
+        rt,
+        &(text, found),
+        &(text, (Ok(()), Some(Codex32Error::Memory))),
+    );
+}
+
 #[test]
 fn damaged_texts_with_no_fault(rt: HostRuntime) {
     let heap = LocalHeap::new(rt.alloc(), 0).expect(&rt, "memory");
@@ -103,11 +113,6 @@ fn damaged_texts_with_no_fault(rt: HostRuntime) {
         "ms1?????????????????????????????????????????????",
     ];
     for text in texts {
-        let found = (validate_damaged(text), propose_in(&heap, text).err());
-        same(
-            &rt,
-            &(text, found),
-            &(text, (Ok(()), Some(Codex32Error::Memory))),
-        );
+        has_no_fault(&rt, &heap, text);
     }
 }

@@ -4,6 +4,7 @@ use crate::tests::compare::same;
 use bech32_gf::gf32::Fe32;
 use codex32::{EncodeError, Header, Share, encode, encode_payload, encode_payload_into};
 use std::alloc::Global;
+use std::process::Abort;
 
 // Strings of BIP-93, in lower case: two shares and the secret of its second example, and a long
 // one.
@@ -92,48 +93,57 @@ fn put(room: &mut [Fe32], characters: &str) -> Option<()> {
     Some(())
 }
 
+// The elements of a payload, in the room for them.
+fn elements_in<'r>(room: &'r mut [Fe32; 103], characters: &str) -> Option<&'r [Fe32]> {
+    put(room, characters)?;
+    room.get(..characters.len())
+}
+
 // The string of the header and the payload of a string.
 fn made_again(alloc: Global, text: &str) -> Option<String> {
     let share = Share::parse(text).ok()?;
     let mut room = [Fe32::Q; 103];
-    put(&mut room, share.payload())?;
-    let payload = room.get(..share.payload().len())?;
+    let payload = elements_in(&mut room, share.payload())?;
     encode_payload(alloc, &share.header(), payload).ok()
 }
 
-// Whether that is what is put into a buffer, too.
-fn is_put_again(text: &str) -> Option<bool> {
-    let share = Share::parse(text).ok()?;
-    let mut room = [Fe32::Q; 103];
-    put(&mut room, share.payload())?;
-    let payload = room.get(..share.payload().len())?;
+// Whether a header and a payload put just a text into a buffer.
+fn is_put(header: &Header, payload: &[Fe32], text: &str) -> Option<bool> {
     let mut buffer = [b'?'; 130];
-    let count = encode_payload_into(&mut buffer, &share.header(), payload).ok()?;
+    let count = encode_payload_into(&mut buffer, header, payload).ok()?;
     let (front, behind) = buffer.split_at_checked(count)?;
     Some(front == text.as_bytes() && behind.iter().all(|b| *b == b'?'))
 }
 
+// Whether the header and the payload of a string put it into a buffer again.
+fn is_put_again(text: &str) -> Option<bool> {
+    let share = Share::parse(text).ok()?;
+    let mut room = [Fe32::Q; 103];
+    let payload = elements_in(&mut room, share.payload())?;
+    is_put(&share.header(), payload, text)
+}
+
+// Fails where a string does not come again in both ways.
+fn comes_again(rt: &impl Abort, alloc: Global, text: &str) {
+    let made = made_again(alloc, text).expect(rt, text);
+    same(
+        rt,
+        &(made.as_str(), is_put_again(text)),
+        &(text, Some(true)),
+    );
+}
+
 #[test]
 fn strings_of_bip_93(rt: HostRuntime) {
-    for text in OF_BIP_93 {
-        let made = made_again(rt.alloc(), text).expect(&rt, text);
-        same(
-            &rt,
-            &(made.as_str(), is_put_again(text)),
-            &(text, Some(true)),
-        );
+    for text in OF_BIP_93.iter() {
+        comes_again(&rt, rt.alloc(), text);
     }
 }
 
 #[test]
 fn each_number_of_elements(rt: HostRuntime) {
-    for text in OF_A_MODEL {
-        let made = made_again(rt.alloc(), text).expect(&rt, text);
-        same(
-            &rt,
-            &(made.as_str(), is_put_again(text)),
-            &(text, Some(true)),
-        );
+    for text in OF_A_MODEL.iter() {
+        comes_again(&rt, rt.alloc(), text);
     }
 }
 

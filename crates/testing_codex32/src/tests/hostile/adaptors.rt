@@ -4,6 +4,7 @@ use crate::tests::compare::same;
 use bech32::primitives::encode::WitnessVersionIter;
 use bech32::primitives::iter::Checksummed;
 use bech32::{Bech32, Fe32, Fe32IterExt, Hrp};
+use std::fmt::Debug;
 use std::process::Abort;
 use testing_tools::iterators::TwoItems;
 
@@ -23,11 +24,19 @@ fn element_at(text: &str, place: usize) -> Option<Fe32> {
     Fe32::from_char(char_at(text, place)?).ok()
 }
 
+// Fails where the item of a place is another one.
+fn is_at<T>(rt: &impl Abort, place: usize, item: Option<T>, want: Option<T>)
+where
+    T: Copy + PartialEq + Debug,
+{
+    same(rt, &(place, item), &(place, want));
+}
+
 fn chars_stay_ended(rt: &impl Abort, hrp: &Hrp) {
     let encoder = TwoItems::new(Fe32::_4, None).with_checksum::<Bech32>(hrp);
     let mut chars = encoder.chars();
     for place in 0..13usize {
-        same(rt, &(place, chars.next()), &(place, char_at(TEXT, place)));
+        is_at(rt, place, chars.next(), char_at(TEXT, place));
     }
 }
 
@@ -35,7 +44,7 @@ fn bytes_stay_ended(rt: &impl Abort, hrp: &Hrp) {
     let encoder = TwoItems::new(Fe32::_4, Some(usize::MAX)).with_checksum::<Bech32>(hrp);
     let mut bytes = encoder.bytes();
     for place in 0..13usize {
-        same(rt, &(place, bytes.next()), &(place, byte_at(TEXT, place)));
+        is_at(rt, place, bytes.next(), byte_at(TEXT, place));
     }
 }
 
@@ -52,11 +61,7 @@ fn elements_stay_ended(rt: HostRuntime) {
     let encoder = TwoItems::new(Fe32::_4, None).with_checksum::<Bech32>(&hrp);
     let mut fes = encoder.fes();
     for place in 0..14usize {
-        same(
-            &rt,
-            &(place, fes.next()),
-            &(place, element_at("rqp44mh9z97", place)),
-        );
+        is_at(&rt, place, fes.next(), element_at("rqp44mh9z97", place));
     }
 }
 
@@ -65,11 +70,7 @@ fn checksums_stay_ended(rt: HostRuntime) {
     let hrp = Hrp::parse("a").expect(&rt, "a human-readable part");
     let mut fes = Checksummed::<_, Bech32>::new_hrp(hrp, TwoItems::new(Fe32::_4, None));
     for place in 0..11usize {
-        same(
-            &rt,
-            &(place, fes.next()),
-            &(place, element_at("44mh9z97", place)),
-        );
+        is_at(&rt, place, fes.next(), element_at("44mh9z97", place));
     }
 }
 
@@ -78,11 +79,7 @@ fn checksums_stay_ended(rt: HostRuntime) {
 fn checksums_of_elements_alone_stay_ended(rt: HostRuntime) {
     let mut fes = Checksummed::<_, Bech32>::new(TwoItems::new(Fe32::_4, None));
     for place in 0..11usize {
-        same(
-            &rt,
-            &(place, fes.next()),
-            &(place, element_at("44ectty8", place)),
-        );
+        is_at(&rt, place, fes.next(), element_at("44ectty8", place));
     }
 }
 

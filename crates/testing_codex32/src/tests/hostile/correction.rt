@@ -1,6 +1,6 @@
 //! The corrector and the register: what they are after a request for memory was refused.
 
-ghost use Rattle.std.specs.Prelude.{◌≡◌, IfSome};
+ghost use Rattle.std.specs.Prelude.{◌<◌, length};
 
 use crate::tests::hostile::turns::{Answer, Call, each_refused};
 use bech32::primitives::LfsrIter;
@@ -18,6 +18,15 @@ type Listing<'h> = ErrorIterator<&'h Refusing<Global>>;
 
 type Listed<'h> = correction::Listing<&'h Refusing<Global>>;
 
+// The eight errors, and where they are.
+fn eight() -> [(usize, Fe32); 8] {
+    EIGHT
+}
+
+fn last_eight() -> [usize; 8] {
+    [0, 1, 2, 3, 4, 5, 6, 7]
+}
+
 // Why the checksum refuses a text.
 fn refusal(text: &str) -> Option<CheckedHrpstringError> {
     match CheckedHrpstring::new::<Codex32>(text) {
@@ -27,9 +36,7 @@ fn refusal(text: &str) -> Option<CheckedHrpstringError> {
 }
 
 // The corrector of a text that the checksum refuses.
-fn corrector_of<'h>(heap: &'h Refusing<Global>, text: &str) -> Option<OnHeap<'h>>
-    ensures { IfSome result (λ c. c.window ≡ 93) }
-{
+fn corrector_of<'h>(heap: &'h Refusing<Global>, text: &str) -> Option<OnHeap<'h>> {
     let error = refusal(text)?;
     if !Codex32::sanity_check() {
         return None;
@@ -37,14 +44,23 @@ fn corrector_of<'h>(heap: &'h Refusing<Global>, text: &str) -> Option<OnHeap<'h>
     error.correction_context::<Codex32, _>(heap)
 }
 
-// That of the four errors, with the first two as erasures.
-fn of_four_errors(heap: &Refusing<Global>) -> Option<OnHeap<'_>>
-    ensures { IfSome result (λ c. c.window ≡ 93) }
-{
+// What a corrector returns that is given erasures below its window.
+fn add(corrector: &mut OnHeap<'_>, erasures: &[usize]) -> Answer {
+    if !corrector.are_within(erasures) {
+        return Answer::Other;
+    }
+    match corrector.add_erasures(erasures) {
+        Ok(()) => Answer::Undisturbed,
+        Err(_) => Answer::NoMemory,
+    }
+}
+
+// The corrector of the four errors, with the first two as erasures.
+fn of_four_errors(heap: &Refusing<Global>) -> Option<OnHeap<'_>> {
     let mut corrector = corrector_of(heap, FOUR_ERRORS)?;
-    match corrector.add_erasures(&[44, 0]) {
-        Ok(()) => Some(corrector),
-        Err(_) => None,
+    match add(&mut corrector, &[44, 0]) {
+        Answer::Undisturbed => Some(corrector),
+        _ => None,
     }
 }
 
@@ -91,16 +107,21 @@ fn clone_lists(corrector: &OnHeap<'_>, want: &[(usize, Fe32)]) -> Answer {
     }
 }
 
+// Six erasures more than the two.
+fn add_six(corrector: &mut OnHeap<'_>) -> Answer {
+    match add(corrector, &[1, 2, 3, 4, 5, 6]) {
+        Answer::NoMemory => wants_memory(corrector, &FOUR),
+        answer => answer,
+    }
+}
+
 enum AddErasures {}
 
 impl Call for AddErasures {
     fn answer(heap: &Refusing<Global>) -> Answer {
-        let Some(mut corrector) = of_four_errors(heap) else {
-            return Answer::Other;
-        };
-        match corrector.add_erasures(&[1, 2, 3, 4, 5, 6]) {
-            Ok(()) => Answer::Undisturbed,
-            Err(_) => wants_memory(&corrector, &FOUR),
+        match of_four_errors(heap) {
+            Some(mut corrector) => add_six(&mut corrector),
+            None => Answer::Other,
         }
     }
 }
@@ -115,20 +136,24 @@ fn lists_nothing(corrector: &OnHeap<'_>) -> bool {
 
 // Seven erasures allocate nothing. The eighth does, and with it the eight characters are found;
 // where its request is refused there are the seven still, by which nothing is listed.
+fn add_seven_and_one(corrector: &mut OnHeap<'_>) -> Answer {
+    if add(corrector, &[0, 1, 2, 3, 4, 5, 6]) != Answer::Undisturbed {
+        return Answer::Other;
+    }
+    match add(corrector, &[7]) {
+        Answer::Undisturbed => lists(corrector, &eight()),
+        Answer::NoMemory if !lists_nothing(corrector) => Answer::Other,
+        answer => answer,
+    }
+}
+
 enum EighthErasure {}
 
 impl Call for EighthErasure {
     fn answer(heap: &Refusing<Global>) -> Answer {
-        let Some(mut corrector) = corrector_of(heap, EIGHT_ERRORS) else {
-            return Answer::Other;
-        };
-        if corrector.add_erasures(&[0, 1, 2, 3, 4, 5, 6]).is_err() {
-            return Answer::Other;
-        }
-        match corrector.add_erasures(&[7]) {
-            Ok(()) => lists(&corrector, &EIGHT),
-            Err(_) if lists_nothing(&corrector) => Answer::NoMemory,
-            Err(_) => Answer::Other,
+        match corrector_of(heap, EIGHT_ERRORS) {
+            Some(mut corrector) => add_seven_and_one(&mut corrector),
+            None => Answer::Other,
         }
     }
 }
@@ -152,44 +177,65 @@ fn says(listing: Option<Listed<'_>>, want: &[(usize, Fe32)]) -> Answer {
     }
 }
 
+// What a corrector returns that is asked for a listing with two erasures.
+fn lists_with_two(corrector: &OnHeap<'_>) -> Answer {
+    match corrector.listing_with(&[44, 0]) {
+        Ok(listing) => says(listing, &FOUR),
+        Err(_) => Answer::NoMemory,
+    }
+}
+
 enum ListingWith {}
 
 impl Call for ListingWith {
     fn answer(heap: &Refusing<Global>) -> Answer {
-        let Some(corrector) = corrector_of(heap, FOUR_ERRORS) else {
-            return Answer::Other;
-        };
-        match corrector.listing_with(&[44, 0]) {
-            Ok(listing) => says(listing, &FOUR),
-            Err(_) => Answer::NoMemory,
+        match corrector_of(heap, FOUR_ERRORS) {
+            Some(corrector) => lists_with_two(&corrector),
+            None => Answer::Other,
         }
     }
 }
 
-const LAST_EIGHT: [usize; 8] = [0, 1, 2, 3, 4, 5, 6, 7];
+// What another corrector returns that has the eight erasures.
+fn lists_with_eight(corrector: &OnHeap<'_>) -> Answer {
+    match corrector.with(&last_eight()) {
+        Ok(Some(erased)) => lists(&erased, &eight()),
+        Ok(None) => Answer::Other,
+        Err(_) => Answer::NoMemory,
+    }
+}
 
 enum WithErasures {}
 
 impl Call for WithErasures {
     fn answer(heap: &Refusing<Global>) -> Answer {
-        let Some(corrector) = corrector_of(heap, EIGHT_ERRORS) else {
-            return Answer::Other;
-        };
-        match corrector.with(&LAST_EIGHT) {
-            Ok(Some(erased)) => lists(&erased, &EIGHT),
-            Ok(None) => Answer::Other,
-            Err(_) => Answer::NoMemory,
+        match corrector_of(heap, EIGHT_ERRORS) {
+            Some(corrector) => lists_with_eight(&corrector),
+            None => Answer::Other,
         }
     }
 }
 
-// What a corrector lists of whose residue the first of the eight errors is taken off.
-fn seven_left(corrector: &OnHeap<'_>) -> Answer {
-    let mut seven = EIGHT;
+// The eight errors without the first.
+fn seven_errors() -> [(usize, Fe32); 8] {
+    let mut seven = eight();
     seven[0] = (0, Fe32::Q);
-    match corrector.without_error(EIGHT[0]) {
-        Ok(left) => lists(&left, &seven),
-        Err(_) => wants_memory(corrector, &EIGHT),
+    seven
+}
+
+// What a corrector lists of whose residue an error is taken off.
+fn lists_without(corrector: &OnHeap<'_>, error: (usize, Fe32), want: &[(usize, Fe32)]) -> Answer {
+    match corrector.without_error(error) {
+        Ok(left) => lists(&left, want),
+        Err(_) => wants_memory(corrector, &eight()),
+    }
+}
+
+// What it lists where that is the first of the eight errors.
+fn seven_left(corrector: &mut OnHeap<'_>) -> Answer {
+    match add(corrector, &last_eight()) {
+        Answer::Undisturbed => lists_without(corrector, EIGHT[0], &seven_errors()),
+        answer => answer,
     }
 }
 
@@ -197,13 +243,18 @@ enum WithoutError {}
 
 impl Call for WithoutError {
     fn answer(heap: &Refusing<Global>) -> Answer {
-        let Some(mut corrector) = corrector_of(heap, EIGHT_ERRORS) else {
-            return Answer::Other;
-        };
-        match corrector.add_erasures(&LAST_EIGHT) {
-            Ok(()) => seven_left(&corrector),
-            Err(_) => Answer::NoMemory,
+        match corrector_of(heap, EIGHT_ERRORS) {
+            Some(mut corrector) => seven_left(&mut corrector),
+            None => Answer::Other,
         }
+    }
+}
+
+// What its clone returns where it has the eight erasures.
+fn eight_cloned(corrector: &mut OnHeap<'_>) -> Answer {
+    match add(corrector, &last_eight()) {
+        Answer::Undisturbed => clone_lists(corrector, &eight()),
+        answer => answer,
     }
 }
 
@@ -211,12 +262,9 @@ enum CloneCorrector {}
 
 impl Call for CloneCorrector {
     fn answer(heap: &Refusing<Global>) -> Answer {
-        let Some(mut corrector) = corrector_of(heap, EIGHT_ERRORS) else {
-            return Answer::Other;
-        };
-        match corrector.add_erasures(&[0, 1, 2, 3, 4, 5, 6, 7]) {
-            Ok(()) => clone_lists(&corrector, &EIGHT),
-            Err(_) => Answer::NoMemory,
+        match corrector_of(heap, EIGHT_ERRORS) {
+            Some(mut corrector) => eight_cloned(&mut corrector),
+            None => Answer::Other,
         }
     }
 }
@@ -238,15 +286,22 @@ fn goes_on(register: Register<'_>, items: &[Fe32]) -> bool {
     is_same
 }
 
+// What the shortest register of some elements answers, which should go on so.
+fn register_goes_on(heap: &Refusing<Global>, items: &[Fe32]) -> Answer
+    requires { 0 < length items.now }
+{
+    match LfsrIter::berlekamp_massey_in(heap, items) {
+        Ok(register) => Answer::of(goes_on(register, items)),
+        Err(_) => Answer::NoMemory,
+    }
+}
+
 // Twenty elements whose shortest register is longer than seven.
 enum Massey {}
 
 impl Call for Massey {
     fn answer(heap: &Refusing<Global>) -> Answer {
-        match LfsrIter::berlekamp_massey_in(heap, &ELEMENTS[1..21]) {
-            Ok(register) => Answer::of(goes_on(register, &ELEMENTS[1..21])),
-            Err(_) => Answer::NoMemory,
-        }
+        register_goes_on(heap, &ELEMENTS[1..21])
     }
 }
 
@@ -261,17 +316,23 @@ fn both_go_on(register: Register<'_>, items: &[Fe32]) -> Answer {
     }
 }
 
+// What they answer after its first two items.
+fn both_go_on_after_two(register: Register<'_>, items: &[Fe32]) -> Answer {
+    let mut register = register;
+    if is_next(&mut register, &Fe32::P) && is_next(&mut register, &Fe32::Z) {
+        both_go_on(register, items)
+    } else {
+        Answer::Other
+    }
+}
+
 enum CloneRegister {}
 
 impl Call for CloneRegister {
     fn answer(heap: &Refusing<Global>) -> Answer {
-        let Ok(mut register) = LfsrIter::berlekamp_massey_in(heap, &ELEMENTS[1..21]) else {
-            return Answer::NoMemory;
-        };
-        if [register.next(), register.next()] == [Some(Fe32::P), Some(Fe32::Z)] {
-            both_go_on(register, &ELEMENTS[3..21])
-        } else {
-            Answer::Other
+        match LfsrIter::berlekamp_massey_in(heap, &ELEMENTS[1..21]) {
+            Ok(register) => both_go_on_after_two(register, &ELEMENTS[3..21]),
+            Err(_) => Answer::NoMemory,
         }
     }
 }

@@ -3,9 +3,9 @@
 use crate::tests::compare::same;
 use bech32::primitives::correction::{Corrector, listing_in};
 use bech32::primitives::decode::CheckedHrpstring;
-use bech32::{Bech32, Checksum, CorrectError, CorrectableError, Correction};
+use bech32::{Bech32, Checksum, CorrectError, CorrectableError, Correction, Mended};
 use bech32_correction::mended_by;
-use std::alloc::Global;
+use std::alloc::{AllocError, Global};
 use testing_tools::memory::Refusing;
 
 type Heap<'h> = &'h Refusing<Global>;
@@ -15,14 +15,16 @@ const ADDRESS: &str = "bc1qw508d6qejxtdg4y5r3zarvary0c5xw7kv8f3t4";
 
 const MISTYPED: &str = "bc1qw508d6qejxtdg4y5r3zarvary0c5xw7kv8f3t5";
 
+// Whether what a text was mended to is the address.
+fn is_address(mended: Result<Mended<Heap<'_>>, AllocError>) -> Result<bool, CorrectError> {
+    Ok(mended?.text.as_str() == ADDRESS)
+}
+
 // Whether a text is mended to the address with memory of the heap, where the listing is of another
 // one.
 fn is_mended(heap: Heap<'_>, other: Heap<'_>, text: &str) -> Result<bool, CorrectError> {
     match listing_in::<Bech32, Heap>(other, text, &[])? {
-        Correction::Mended(listing) => {
-            let mended = mended_by(heap, text, listing)?;
-            Ok(mended.text.as_str() == ADDRESS)
-        }
+        Correction::Mended(listing) => is_address(mended_by(heap, text, listing)),
         _ => Ok(false),
     }
 }
@@ -46,16 +48,25 @@ fn corrector_in(heap: Heap<'_>) -> Option<Corrector<Bech32, Heap<'_>>> {
     }
 }
 
+// Whether a corrector says what it lists.
+fn lists(corrector: &Corrector<Bech32, Heap<'_>>) -> bool {
+    corrector.bch_errors().is_ok()
+}
+
+// Whether one that is given these erasures does.
+fn lists_when_given(corrector: &Corrector<Bech32, Heap<'_>>, erasures: &[usize]) -> bool {
+    match corrector.with(erasures) {
+        Ok(Some(erased)) => lists(&erased),
+        Ok(None) => false,
+        Err(_) => false,
+    }
+}
+
 // Whether a corrector with these erasures says what it lists, asked in each way.
 fn lists_with(corrector: &Corrector<Bech32, Heap<'_>>, erasures: &[usize]) -> bool {
-    match corrector.with(erasures) {
-        Ok(Some(erased)) => {
-            erased.bch_errors().is_ok()
-                && corrector.listing_with(erasures).is_ok()
-                && corrector.listing_up_to(usize::MAX, erasures).is_ok()
-        }
-        _ => false,
-    }
+    lists_when_given(corrector, erasures)
+        && corrector.listing_with(erasures).is_ok()
+        && corrector.listing_up_to(usize::MAX, erasures).is_ok()
 }
 
 // Whether it does so with no request for memory.

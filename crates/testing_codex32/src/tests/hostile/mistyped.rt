@@ -30,17 +30,19 @@ fn mends<A: Allocator + Copy, C: Drop>(
     }
 }
 
+// Whether the texts of these mended ones are just these, in their order.
+fn are_mended<A: Allocator + Copy>(found: &[Mended<A>], texts: &[&str]) -> bool {
+    let mut pairs = found.iter().zip(texts);
+    pairs.all(|(mended, text)| mended.text.as_str() == *text) && found.len() == texts.len()
+}
+
 // What a call returned to which just these texts are near, in their order.
 fn lists<A: Allocator + Copy, C: Drop>(
     said: Result<NearTexts<Vec<Mended<A>, A>, C>, CorrectError>,
     texts: &[&str],
 ) -> Answer {
     match said {
-        Ok(near) => {
-            let mut found = near.texts.iter().zip(texts);
-            let is_each = found.all(|(mended, text)| mended.text.as_str() == *text);
-            Answer::of(is_each && near.texts.len() == texts.len())
-        }
+        Ok(near) => Answer::of(are_mended(near.texts.as_slice(), texts)),
         Err(CorrectError::Memory) => Answer::NoMemory,
         Err(CorrectError::Refused(_)) => Answer::Other,
     }
@@ -64,11 +66,16 @@ impl Call for CorrectCodex32 {
     }
 }
 
+// What is said of the texts nearest to one, which should be just these.
+fn lists_nearest(heap: &Refusing<Global>, text: &str, erasures: &[usize], near: &[&str]) -> Answer {
+    lists(nearest_in::<Bech32, _>(heap, text, erasures, 2), near)
+}
+
 enum NearestOfAccepted {}
 
 impl Call for NearestOfAccepted {
     fn answer(heap: &Refusing<Global>) -> Answer {
-        lists(nearest_in::<Bech32, _>(heap, ADDRESS, &[], 2), &[ADDRESS])
+        lists_nearest(heap, ADDRESS, &[], &[ADDRESS])
     }
 }
 
@@ -76,10 +83,7 @@ enum Nearest {}
 
 impl Call for Nearest {
     fn answer(heap: &Refusing<Global>) -> Answer {
-        lists(
-            nearest_in::<Bech32, _>(heap, TWICE_MISTYPED, &[], 2),
-            &[ADDRESS],
-        )
+        lists_nearest(heap, TWICE_MISTYPED, &[], &[ADDRESS])
     }
 }
 
@@ -93,8 +97,14 @@ impl Call for NearestOfThree {
             "bc1kar0sr3r7xfkvy5l64qlydqw9re59gtzzwf5mlx",
             "bc1dar3srrr7xfkvy7l64qlydnw9re59gtzzwf5mux",
         ];
-        lists(nearest_in::<Bech32, _>(heap, text, &[1, 38], 2), &near)
+        lists_nearest(heap, text, &[1, 38], &near)
     }
+}
+
+// Whether the texts of these edits are just these, in their order.
+fn are_edited<A: Allocator + Copy>(found: &[NearEdit<String<A>>], texts: &[&str]) -> bool {
+    let mut pairs = found.iter().zip(texts);
+    pairs.all(|(edited, text)| edited.text.as_str() == *text) && found.len() == texts.len()
 }
 
 // What a call returned that makes just these texts by one edit, in their order.
@@ -103,14 +113,15 @@ fn makes<A: Allocator + Copy>(
     texts: &[&str],
 ) -> Answer {
     match said {
-        Ok(near) => {
-            let mut found = near.iter().zip(texts);
-            let is_each = found.all(|(edited, text)| edited.text.as_str() == *text);
-            Answer::of(is_each && near.len() == texts.len())
-        }
+        Ok(near) => Answer::of(are_edited(near.as_slice(), texts)),
         Err(EditsError::Memory) => Answer::NoMemory,
         Err(EditsError::Refused(_)) => Answer::Other,
     }
+}
+
+// What is said of the texts that one edit makes of one, which should be just these.
+fn edited(heap: &Refusing<Global>, text: &str, near: &[&str]) -> Answer {
+    makes(near_edits_in::<Bech32, _>(heap, text), near)
 }
 
 // The address without a character, and one with two neighbours swapped.
@@ -118,8 +129,11 @@ enum OneLeftOut {}
 
 impl Call for OneLeftOut {
     fn answer(heap: &Refusing<Global>) -> Answer {
-        let text = "bc1qw508d6qejxtdg4y53zarvary0c5xw7kv8f3t4";
-        makes(near_edits_in::<Bech32, _>(heap, text), &[ADDRESS])
+        edited(
+            heap,
+            "bc1qw508d6qejxtdg4y53zarvary0c5xw7kv8f3t4",
+            &[ADDRESS],
+        )
     }
 }
 
@@ -127,8 +141,11 @@ enum OneSwapped {}
 
 impl Call for OneSwapped {
     fn answer(heap: &Refusing<Global>) -> Answer {
-        let text = "bc1qw508d6qejxtdg4y5r3zravary0c5xw7kv8f3t4";
-        makes(near_edits_in::<Bech32, _>(heap, text), &[ADDRESS])
+        edited(
+            heap,
+            "bc1qw508d6qejxtdg4y5r3zravary0c5xw7kv8f3t4",
+            &[ADDRESS],
+        )
     }
 }
 
@@ -138,10 +155,7 @@ enum EndingInP {}
 impl Call for EndingInP {
     fn answer(heap: &Refusing<Global>) -> Answer {
         let near = ["ii2134hk2xmat79tp", "ii2134hk2xmat79tqqp"];
-        makes(
-            near_edits_in::<Bech32, _>(heap, "ii2134hk2xmat79tqp"),
-            &near,
-        )
+        edited(heap, "ii2134hk2xmat79tqp", &near)
     }
 }
 
