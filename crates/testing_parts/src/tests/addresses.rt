@@ -75,11 +75,12 @@ const ADDRESSES: [(&str, &str, Fe32, &[u8], bool); 6] = [
 fn reads(rt: &impl Abort, row: &(&str, &str, Fe32, &[u8], bool)) {
     let (text, part, version, program, has_valid_hrp) = *row;
     let address = SegwitHrpstring::new(text).expect(rt, "an address");
-    let found = (address.witness_version(), address.has_valid_hrp());
-    same(rt, &(text, found), &(text, (version, has_valid_hrp)));
-    same(rt, &(text, address.hrp().as_str()), &(text, part));
-    let found = first_difference(address.byte_iter(), program);
-    same(rt, &(text, found), &(text, None));
+    let hrp = address.hrp();
+    let front = (hrp.as_str(), address.witness_version());
+    let difference = first_difference(address.byte_iter(), program);
+    let found = (front, (address.has_valid_hrp(), difference));
+    let want = ((part, version), (has_valid_hrp, None));
+    same(rt, &(text, found), &(text, want));
 }
 
 // Fails where the characters of a program are other ones.

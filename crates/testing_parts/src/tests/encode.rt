@@ -14,7 +14,7 @@ use bech32_checksum::{Bech32, Bech32m, Checksum, HrpFe32Iter, NoChecksum};
 use bech32_encode::{Checksummed, Encoder, Fe32IterExt, WitnessVersionIter, put_text};
 use bech32_gf::gf32::Fe32;
 use bech32_hrp::Hrp;
-use std::alloc::Global;
+use std::alloc::{AllocError, Global};
 use std::process::Abort;
 use std::{iter, slice};
 use testing_tools::compare::first_difference;
@@ -77,24 +77,18 @@ fn bounds_of_a_text(rt: &impl Abort, hrp: &Hrp) {
 
 const TWO: [Fe32; 2] = [Fe32::L, Fe32::Q];
 
-// Fails where the bounds on elements behind a version are other ones.
-fn bounds_behind_a_version(rt: &impl Abort) {
-    let mut fes = WitnessVersionIter::new(Some(Fe32::P), TWO.iter().copied());
-    counts_down(rt, &mut fes, &[Fe32::P, Fe32::L, Fe32::Q]);
-}
-
-// The same without one.
-fn bounds_without_a_version(rt: &impl Abort) {
-    let mut fes = WitnessVersionIter::new(None, TWO.iter().copied());
-    counts_down(rt, &mut fes, &TWO);
+// Fails where two elements, behind a version where there is one, are other ones, or miscounted.
+fn bounds_behind(rt: &impl Abort, version: Option<Fe32>, want: &[Fe32]) {
+    let mut fes = WitnessVersionIter::new(version, TWO.iter().copied());
+    counts_down(rt, &mut fes, want);
 }
 
 #[test]
 fn size_hints(rt: HostRuntime) {
     let hrp = part(&rt, "ab");
     bounds_of_a_text(&rt, &hrp);
-    bounds_without_a_version(&rt);
-    bounds_behind_a_version(&rt);
+    bounds_behind(&rt, None, &TWO);
+    bounds_behind(&rt, Some(Fe32::P), &[Fe32::P, Fe32::L, Fe32::Q]);
 }
 
 const PROGRAM: [u8; 20] = [
@@ -141,39 +135,29 @@ fn encoder_of<'a>(program: &'a [u8], hrp: &'a Hrp) -> Encoder<'a, Elements<'a>, 
         .with_witness_version(Fe32::Q)
 }
 
-// Fails where the characters of an encoder of the program are not those of its text.
-fn has_characters(rt: &impl Abort, encoder: Encoder<'_, Elements<'_>, Bech32>) {
-    let mut chars = encoder.chars();
-    let mut left = 42usize;
-    for c in TEXT.chars() {
-        same(rt, &step(&mut chars), &(exactly(left), Some(c)));
-        left = left.saturating_sub(1);
-    }
-    for _ in 0..3 {
-        same(rt, &step(&mut chars), &(exactly(0), None));
-    }
+// Fails where the characters of an encoder of the program are other ones, or miscounted.
+fn has_characters(rt: &impl Abort, encoder: Encoder<'_, Elements<'_>, Bech32>, want: &[char]) {
+    counts_down(rt, &mut encoder.chars(), want);
 }
 
 // The same of its bytes.
 fn has_bytes(rt: &impl Abort, encoder: Encoder<'_, Elements<'_>, Bech32>) {
-    let mut bytes = encoder.bytes();
-    same(rt, &bytes.size_hint(), &exactly(42));
-    for b in TEXT.as_bytes() {
-        let (_, found) = step(&mut bytes);
-        same(rt, &found, &Some(*b));
-    }
-    for _ in 0..3 {
-        let (_, found) = step(&mut bytes);
-        same(rt, &found, &None);
-    }
+    counts_down(rt, &mut encoder.bytes(), TEXT.as_bytes());
+}
+
+// The characters of its text.
+fn characters(rt: &impl Abort, alloc: Global) -> Vec<char> {
+    let characters: Result<Vec<char>, AllocError> = TEXT.chars().collect(alloc);
+    characters.expect(rt, "memory")
 }
 
 #[test]
 fn text_of_a_witness_program(rt: HostRuntime) {
+    let want = characters(&rt, rt.alloc());
     let hrp = part(&rt, "BC");
     let encoder = encoder_of(&PROGRAM, &hrp);
     has_bytes(&rt, encoder.clone().expect(&rt, "memory"));
-    has_characters(&rt, encoder);
+    has_characters(&rt, encoder, &want);
 }
 
 #[test]
@@ -354,12 +338,9 @@ fn bounds_of_two_and_a_checksum(rt: &impl Abort) {
     let first = [fes.next().is_some(), fes.next().is_some()];
     let behind = fes.size_hint();
     let third = fes.next().is_some();
-    same_items(
-        rt,
-        &[bounds, behind, fes.size_hint()],
-        &[(6, None), (6, None), exactly(5)],
-    );
-    same(rt, &(first, third), &([true, true], true));
+    let found = [bounds, behind, fes.size_hint()];
+    let want = [(6, None), (6, None), exactly(5)];
+    same(rt, &((first, third), found), &(([true, true], true), want));
 }
 
 #[test]

@@ -216,8 +216,7 @@ fn lawful_roots(rt: HostRuntime) {
         is_sane::<Degree8>(),
         is_sane::<Degree13<93>>(),
     ];
-    same_items(&rt, &sane, &[true; 5]);
-    same_items(&rt, &[roots_of_bech32(), roots_of_bech32m()], &[3, 3]);
+    let proved = [roots_of_bech32(), roots_of_bech32m()];
     let found = [
         tested::<NoChecksum>(),
         tested::<Bech32>(),
@@ -225,7 +224,8 @@ fn lawful_roots(rt: HostRuntime) {
         tested::<Degree8>(),
         tested::<Degree13<93>>(),
     ];
-    same_items(&rt, &found, &[None, Some(3), Some(3), Some(3), Some(8)]);
+    let want = [None, Some(3), Some(3), Some(3), Some(8)];
+    same(&rt, &(sane, (proved, found)), &([true; 5], ([3, 3], want)));
 }
 
 #[test]
