@@ -80,8 +80,8 @@ fn is_listing(found: Option<ShortVec<(usize, Fe32)>>, want: Option<Listing>) -> 
     }
 }
 
-// Whether just this is listed with these erasures in place of its own, or nothing is.
-fn lists_with<Ck: Checksum>(
+/// Whether just this is listed with these erasures in place of its own, or nothing is.
+pub fn lists_with<Ck: Checksum>(
     corrector: &Corrector<Ck>,
     erasures: &[usize],
     want: Option<Listing>,
@@ -92,8 +92,8 @@ fn lists_with<Ck: Checksum>(
     }
 }
 
-// Whether just this is listed with these erasures where no location above is searched, or nothing.
-fn lists_up_to<Ck: Checksum>(
+/// Whether just this is listed with these erasures where no location above is searched, or nothing.
+pub fn lists_up_to<Ck: Checksum>(
     corrector: &Corrector<Ck>,
     highest: usize,
     erasures: &[usize],
@@ -112,20 +112,6 @@ fn highest_of(want: Option<Listing>) -> usize {
         highest = highest.max(error.0);
     }
     highest
-}
-
-/// Whether just this is listed with these erasures where no location above is searched, or nothing;
-/// not where there is no corrector.
-pub fn is_listed_up_to<Ck: Checksum>(
-    found: Option<Corrector<Ck>>,
-    highest: usize,
-    erasures: &[usize],
-    want: Option<Listing>,
-) -> bool {
-    match found {
-        Some(corrector) => lists_up_to(&corrector, highest, erasures, want),
-        None => false,
-    }
 }
 
 // Whether just this is listed with these erasures, or nothing is, in each way to give them, and
@@ -169,17 +155,14 @@ fn lists_without<Ck: Checksum>(
 }
 
 /// Whether just this is listed without erasures, where an error is taken off a corrector with these
-/// erasures; not where there is no corrector.
+/// erasures.
 pub fn is_left_by<Ck: Checksum>(
-    found: Option<Corrector<Ck>>,
+    corrector: &mut Corrector<Ck>,
     erasures: &[usize],
     error: (usize, Fe32),
     want: Listing,
 ) -> bool {
-    let Some(mut corrector) = found else {
-        return false;
-    };
-    is_given(&mut corrector, erasures) && lists_without(&corrector, error, want)
+    is_given(corrector, erasures) && lists_without(corrector, error, want)
 }
 
 /// The corrector of an error's residue; the window is the code length where none is given.

@@ -45,16 +45,26 @@ fn values_at_erasures_are_looked_up(rt: HostRuntime) {
     let one = left_by(0, Fe32::P);
     let two = one ^ left_by(40, Fe32::Z);
     let three = two ^ left_by(1022, Fe32::L);
-    let values = Bech32::values_at(&coefficients(&one), &[0]);
-    same(&rt, &(values == Some([Fe32::P, Fe32::Q, Fe32::Q])), &true);
-    let values = Bech32::values_at(&coefficients(&two), &[0, 40]);
-    same(&rt, &(values == Some([Fe32::P, Fe32::Z, Fe32::Q])), &true);
-    let values = Bech32m::values_at(&coefficients(&three), &[0, 40, 1022]);
-    same(&rt, &(values == Some([Fe32::P, Fe32::Z, Fe32::L])), &true);
+    let values = [
+        Bech32::values_at(&coefficients(&one), &[0]),
+        Bech32::values_at(&coefficients(&two), &[0, 40]),
+        Bech32m::values_at(&coefficients(&three), &[0, 40, 1022]),
+    ];
+    let want = [
+        Some([Fe32::P, Fe32::Q, Fe32::Q]),
+        Some([Fe32::P, Fe32::Z, Fe32::Q]),
+        Some([Fe32::P, Fe32::Z, Fe32::L]),
+    ];
+    same(&rt, &(values == want), &true);
 }
 
-// What is looked up for a text that Bech32 refuses for its residue, where there are no erasures.
-fn error_of(text: &str) -> Option<Option<(usize, Fe32)>> {
+// What is looked up for a text that Bech32 refuses for its residue: the error where there are no
+// erasures, and whether just this is with these.
+fn looked_up(
+    text: &str,
+    erasures: &[usize],
+    want: &[(usize, Fe32)],
+) -> Option<(Option<Option<(usize, Fe32)>>, bool)> {
     let reading = Reading::<Bech32>::of(text.as_bytes())?;
     let Ok(()) = reading.validate_lengths() else {
         return None;
@@ -62,32 +72,22 @@ fn error_of(text: &str) -> Option<Option<(usize, Fe32)>> {
     if reading.has_target() {
         return None;
     }
-    error_of_read(&reading)
-}
-
-// Whether just this is looked up for such a text with these erasures.
-fn is_erased(text: &str, erasures: &[usize], want: &[(usize, Fe32)]) -> bool {
-    let Some(reading) = Reading::<Bech32>::of(text.as_bytes()) else {
-        return false;
-    };
-    let Ok(()) = reading.validate_lengths() else {
-        return false;
-    };
-    if reading.has_target() {
-        return false;
-    }
-    match erased_of_read(&reading, erasures) {
+    let error = error_of_read(&reading);
+    let is_erased = match erased_of_read(&reading, erasures) {
         Some(listing) => listing.as_slice() == want,
         None => false,
-    }
+    };
+    Some((error, is_erased))
 }
 
 #[test]
 fn texts_are_looked_up(rt: HostRuntime) {
     let (q, l) = (Fe32::Q, Fe32::L);
-    same(&rt, &(error_of("a12uel5q") == Some(Some((0, l)))), &true);
-    same(&rt, &(error_of("a12uelqq") == Some(None)), &true);
-    let two = is_erased("a12uel5q", &[1, 0], &[(1, q), (0, l)]);
-    let three = is_erased("a12uel5q", &[5, 0, 3], &[(5, q), (0, l), (3, q)]);
-    same(&rt, &(two, three), &(true, true));
+    let last = Some(Some((0, l)));
+    let are_looked_up = [
+        looked_up("a12uel5q", &[1, 0], &[(1, q), (0, l)]) == Some((last, true)),
+        looked_up("a12uel5q", &[5, 0, 3], &[(5, q), (0, l), (3, q)]) == Some((last, true)),
+        looked_up("a12uelqq", &[], &[]) == Some((Some(None), false)),
+    ];
+    same(&rt, &are_looked_up, &[true; 3]);
 }

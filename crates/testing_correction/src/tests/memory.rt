@@ -7,19 +7,21 @@ use bech32_corrector::{CorrectableError, Corrector};
 use bech32_decode::CheckedHrpstring;
 use bech32_gf::gf32::Fe32;
 use linked_list_allocator::LocalHeap;
-use std::alloc::{AllocError, Global};
+use std::alloc::Global;
 use std::process::Abort;
 use testing_tools::codes::Degree13;
 use testing_tools::heaps::{InHeap, right_or_wants_memory};
 use testing_tools::known::{FOUR, FOUR_ERRORS};
 
-// Whether just this is listed, or nothing is.
+// Whether just this is listed, or nothing is; `None` where there is too little memory.
 fn lists<Ck: Checksum>(
     corrector: &Corrector<Ck, &LocalHeap>,
     want: Option<Listing>,
-) -> Result<bool, AllocError> {
-    let found = corrector.bch_errors()?;
-    Ok(is_found(found, want))
+) -> Option<bool> {
+    match corrector.bch_errors() {
+        Ok(found) => Some(is_found(found, want)),
+        Err(_) => None,
+    }
 }
 
 // What finds the errors in a text that a checksum refuses.
@@ -37,19 +39,13 @@ fn corrector_in<'a, Ck: Checksum>(
 }
 
 // Whether just the four errors are listed with two of them as erasures.
-fn lists_with_two(corrector: &mut Corrector<Degree13<93>, &LocalHeap>) -> Result<bool, AllocError> {
+fn lists_with_two(corrector: &mut Corrector<Degree13<93>, &LocalHeap>) -> Option<bool> {
     if !corrector.are_within(&[44, 0]) {
-        return Ok(false);
+        return Some(false);
     }
-    corrector.add_erasures(&[44, 0])?;
-    lists(corrector, Some(&FOUR))
-}
-
-// The same for the text.
-fn lists_four(heap: &LocalHeap) -> Result<bool, AllocError> {
-    match corrector_in::<Degree13<93>>(heap, FOUR_ERRORS) {
-        Some(mut corrector) => lists_with_two(&mut corrector),
-        None => Ok(false),
+    match corrector.add_erasures(&[44, 0]) {
+        Ok(()) => lists(corrector, Some(&FOUR)),
+        Err(_) => None,
     }
 }
 
@@ -57,7 +53,10 @@ struct FourErrors;
 
 impl InHeap for FourErrors {
     fn is_right(&self, _alloc: Global, heap: &LocalHeap) -> Option<bool> {
-        lists_four(heap).ok()
+        match corrector_in::<Degree13<93>>(heap, FOUR_ERRORS) {
+            Some(mut corrector) => lists_with_two(&mut corrector),
+            None => Some(false),
+        }
     }
 }
 
@@ -67,23 +66,25 @@ fn a_listing_or_out_of_memory(rt: HostRuntime) {
 }
 
 // Whether a clone lists just this, or nothing.
-fn clone_lists(
-    corrector: &Corrector<Bech32, &LocalHeap>,
-    want: Option<Listing>,
-) -> Result<bool, AllocError> {
-    lists(&corrector.clone()?, want)
+fn clone_lists(corrector: &Corrector<Bech32, &LocalHeap>, want: Option<Listing>) -> Option<bool> {
+    let copied: Result<_, _> = corrector.clone();
+    match copied {
+        Ok(copy) => lists(&copy, want),
+        Err(_) => None,
+    }
 }
 
 // Whether the corrector with these erasures lists just this, or nothing; there is none where they
 // are too many.
-fn with_lists<Ck: Checksum>(
-    corrector: &Corrector<Ck, &LocalHeap>,
+fn with_lists(
+    corrector: &Corrector<Bech32, &LocalHeap>,
     erasures: &[usize],
     want: Option<Listing>,
-) -> Result<bool, AllocError> {
-    match corrector.with(erasures)? {
-        Some(erased) => lists(&erased, want),
-        None => Ok(want.is_none()),
+) -> Option<bool> {
+    match corrector.with(erasures) {
+        Ok(Some(erased)) => lists(&erased, want),
+        Ok(None) => Some(want.is_none()),
+        Err(_) => None,
     }
 }
 
@@ -97,13 +98,15 @@ fn lists_both_ways(
     corrector: &mut Corrector<Bech32, &LocalHeap>,
     erasures: &[usize],
     want: Option<Listing>,
-) -> Result<bool, AllocError> {
+) -> Option<bool> {
     if !corrector.are_within(erasures) {
-        return Ok(false);
+        return Some(false);
     }
     let is_first = with_lists(corrector, erasures, want)?;
-    corrector.add_erasures(erasures)?;
-    Ok(is_first && clone_lists(corrector, want)?)
+    match corrector.add_erasures(erasures) {
+        Ok(()) => Some(is_first && clone_lists(corrector, want)?),
+        Err(_) => None,
+    }
 }
 
 // The same for a text that Bech32 refuses.
@@ -112,10 +115,10 @@ fn is_listed(
     text: &str,
     erasures: &[usize],
     want: Option<Listing>,
-) -> Result<bool, AllocError> {
+) -> Option<bool> {
     match corrector_in::<Bech32>(heap, text) {
         Some(mut corrector) => lists_both_ways(&mut corrector, erasures, want),
-        None => Ok(false),
+        None => Some(false),
     }
 }
 
@@ -144,6 +147,6 @@ fn six_coefficients_take_no_memory(rt: HostRuntime) {
             Some(&[(37, Fe32::C), (0, Fe32::X), (20, Fe32::_3)]),
         ),
     ];
-    let listed = rows.map(|(text, erasures, want)| is_listed(&heap, text, erasures, want).ok());
+    let listed = rows.map(|(text, erasures, want)| is_listed(&heap, text, erasures, want));
     same(&rt, &listed, &[Some(true); 11]);
 }

@@ -9,7 +9,7 @@ use bech32_gf::gf32::Fe32;
 use bech32_near_listings::nearest_listings;
 use bech32_near_patterns::Listings;
 use linked_list_allocator::LocalHeap;
-use std::alloc::{AllocError, Global};
+use std::alloc::Global;
 use std::process::Abort;
 use testing_tools::heaps::{InHeap, right_or_wants_memory};
 
@@ -18,18 +18,18 @@ const ADDRESS: &str = "bc1qar0srrr7xfkvy5l64qlydnw9re59gtzzwf5mdx";
 
 const OTHER_ADDRESS: &str = "bc1q9r0srrr7xfkvy5l64qlydnw9re59gtzzwf5mdx";
 
-// What finds the errors below the window in a text that a checksum refuses.
-fn corrector_in<'a, Ck: Checksum>(
+// What finds the errors below the window in a text that Bech32 refuses.
+fn corrector_in<'a>(
     heap: &'a LocalHeap,
     text: &str,
     window: usize,
-) -> Option<Corrector<Ck, &'a LocalHeap>> {
-    if !Ck::sanity_check() || window > Ck::CODE_LENGTH {
+) -> Option<Corrector<Bech32, &'a LocalHeap>> {
+    if !Bech32::sanity_check() || window > Bech32::CODE_LENGTH {
         return None;
     }
-    match CheckedHrpstring::new::<Ck>(text) {
+    match CheckedHrpstring::new::<Bech32>(text) {
         Ok(_) => None,
-        Err(error) => error.correction_context_within::<Ck, _>(heap, window),
+        Err(error) => error.correction_context_within::<Bech32, _>(heap, window),
     }
 }
 
@@ -42,46 +42,36 @@ fn are(listings: &Listings<&LocalHeap>, want: &[Listing]) -> bool {
             .all(|(listing, want)| listing.as_slice() == *want)
 }
 
-// Whether the erasures are below the window; they are added then.
-fn is_given(
-    corrector: &mut Corrector<Bech32, &LocalHeap>,
-    erasures: &[usize],
-) -> Result<bool, AllocError> {
-    if !corrector.are_within(erasures) {
-        return Ok(false);
-    }
-    corrector.add_erasures(erasures)?;
-    Ok(true)
-}
-
-// What finds the errors below the window in a text that Bech32 refuses, with these erasures; `None`
-// where these are not below the window.
-fn corrector_with<'a>(
-    heap: &'a LocalHeap,
-    text: &str,
-    window: usize,
-    erasures: &[usize],
-) -> Result<Option<Corrector<Bech32, &'a LocalHeap>>, AllocError> {
-    let Some(mut corrector) = corrector_in::<Bech32>(heap, text, window) else {
-        return Ok(None);
-    };
-    if is_given(&mut corrector, erasures)? {
-        Ok(Some(corrector))
-    } else {
-        Ok(None)
-    }
-}
-
-// Whether these are all listings of so many errors outside the erasures of a corrector.
+// Whether these are all listings of so many errors outside the erasures of a corrector; `None`
+// where there is too little memory.
 fn are_nearest_of(
     corrector: &Corrector<Bech32, &LocalHeap>,
     errors: usize,
     want: &[Listing],
-) -> Result<bool, AllocError> {
-    Ok(are(&nearest_listings(corrector, errors)?, want))
+) -> Option<bool> {
+    match nearest_listings(corrector, errors) {
+        Ok(listings) => Some(are(&listings, want)),
+        Err(_) => None,
+    }
 }
 
-// The same of a text with these erasures.
+// The same with these erasures, if they are below the window.
+fn are_nearest_with(
+    corrector: &mut Corrector<Bech32, &LocalHeap>,
+    erasures: &[usize],
+    errors: usize,
+    want: &[Listing],
+) -> Option<bool> {
+    if !corrector.are_within(erasures) {
+        return Some(false);
+    }
+    match corrector.add_erasures(erasures) {
+        Ok(()) => are_nearest_of(corrector, errors, want),
+        Err(_) => None,
+    }
+}
+
+// The same of a text that Bech32 refuses.
 fn are_nearest(
     heap: &LocalHeap,
     text: &str,
@@ -89,16 +79,16 @@ fn are_nearest(
     erasures: &[usize],
     errors: usize,
     want: &[Listing],
-) -> Result<bool, AllocError> {
-    match corrector_with(heap, text, window, erasures)? {
-        Some(corrector) => are_nearest_of(&corrector, errors, want),
-        None => Ok(false),
+) -> Option<bool> {
+    match corrector_in(heap, text, window) {
+        Some(mut corrector) => are_nearest_with(&mut corrector, erasures, errors, want),
+        None => Some(false),
     }
 }
 
-// The same of a short text whose last character is wrong; None where there is too little memory.
+// The same of a short text whose last character is wrong.
 fn says(heap: &LocalHeap, erasures: &[usize], errors: usize, want: &[Listing]) -> Option<bool> {
-    are_nearest(heap, "a12uel5q", 6, erasures, errors, want).ok()
+    are_nearest(heap, "a12uel5q", 6, erasures, errors, want)
 }
 
 // The same of an address.
@@ -109,7 +99,7 @@ fn says_of(
     errors: usize,
     want: &[Listing],
 ) -> Option<bool> {
-    are_nearest(heap, text, 39, erasures, errors, want).ok()
+    are_nearest(heap, text, 39, erasures, errors, want)
 }
 
 #[test]

@@ -2,26 +2,29 @@
 
 use super::listed::corrector_for;
 use crate::tests::compare::same;
-use bech32_checksum::{Bech32, Checksum};
+use bech32_checksum::Bech32;
 use bech32_corrector::Corrector;
-use std::alloc::{AllocError, Global};
+use std::alloc::Global;
 
-// What is printed of a corrector with these erasures; nothing where they do not suit it.
-fn printed<Ck: Checksum>(
-    alloc: Global,
-    corrector: &Corrector<Ck>,
-    erasures: &[usize],
-) -> Result<Option<String>, AllocError> {
-    match corrector.with(erasures)? {
-        Some(erased) => Ok(Some(format!(in alloc; "{erased:?}")?)),
-        None => Ok(None),
+// What is printed of a corrector.
+fn shown(alloc: Global, corrector: &Corrector<Bech32>) -> Option<String> {
+    format!(in alloc; "{corrector:?}").ok()
+}
+
+// The same with these erasures; nothing where they do not suit it.
+fn printed(alloc: Global, corrector: &Corrector<Bech32>, erasures: &[usize]) -> Option<String> {
+    match corrector.with(erasures) {
+        Ok(Some(erased)) => shown(alloc, &erased),
+        _ => None,
     }
 }
 
 // The same of the corrector of a text whose last character is wrong.
 fn printed_of(alloc: Global, erasures: &[usize]) -> Option<String> {
-    let corrector = corrector_for::<Bech32>(alloc, "a12uel5q", Some(6))?;
-    printed(alloc, &corrector, erasures).ok()?
+    match corrector_for::<Bech32>(alloc, "a12uel5q", Some(6)) {
+        Some(corrector) => printed(alloc, &corrector, erasures),
+        None => None,
+    }
 }
 
 // The error is 31 at the last character, so the residue is that of x^0 alone.

@@ -1,7 +1,7 @@
 //! Texts of the standards, and of other checksums, with errors that are known.
 
 use super::listed::{
-    Listing, corrector_for, corrector_of, is_left_by, is_listed_by, is_listed_up_to,
+    Listing, corrector_for, corrector_of, is_left_by, is_listed_by, lists_up_to, lists_with,
 };
 use crate::tests::compare::{same, same_items};
 use bech32_checksum::{Bech32, Checksum, NoChecksum};
@@ -13,6 +13,17 @@ use std::alloc::Global;
 use std::process::Abort;
 use testing_tools::codes::{Altered, Degree13, Tiny};
 use testing_tools::known::{EIGHT, EIGHT_ERRORS, FOUR, FOUR_ERRORS};
+
+// Whether Bech32 lists just this for a text below the window with these erasures, or nothing.
+fn is_listed(
+    alloc: Global,
+    text: &str,
+    window: Option<usize>,
+    erasures: &[usize],
+    want: Option<Listing>,
+) -> bool {
+    is_listed_by(corrector_for::<Bech32>(alloc, text, window), erasures, want)
+}
 
 #[test]
 fn one_error_and_erasures(rt: HostRuntime) {
@@ -26,13 +37,13 @@ fn one_error_and_erasures(rt: HostRuntime) {
         (&[1, 2], None),
         (&[0, 1, 2, 3], None),
     ];
-    let listed = rows.map(|(erasures, want)| {
-        is_listed_by(
-            corrector_for::<Bech32>(rt.alloc(), "a12uel5q", None),
-            erasures,
-            want,
-        )
-    });
+    let listed = rows.map(|(erasures, want)| is_listed(
+        rt.alloc(),
+        "a12uel5q",
+        None,
+        erasures,
+        want,
+    ));
     same_items(&rt, &listed, &[true; 7]);
 }
 
@@ -49,14 +60,29 @@ fn windows(rt: HostRuntime) {
         ("a12uel5q", Some(4), &[3], Some(&[(3, q), (0, l)])),
         ("!12uel5l", None, &[], Some(&[(8, Fe32::Z)])),
     ];
-    let listed = rows.map(|(text, window, erasures, want)| {
-        is_listed_by(
-            corrector_for::<Bech32>(rt.alloc(), text, window),
-            erasures,
-            want,
-        )
-    });
+    let listed = rows.map(|(text, window, erasures, want)| is_listed(
+        rt.alloc(),
+        text,
+        window,
+        erasures,
+        want,
+    ));
     same_items(&rt, &listed, &[true; 7]);
+}
+
+// Whether just this is listed for a text with these erasures where no location above is searched,
+// or nothing is.
+fn is_listed_up_to(
+    alloc: Global,
+    text: &str,
+    highest: usize,
+    erasures: &[usize],
+    want: Option<Listing>,
+) -> bool {
+    match corrector_for::<Bech32>(alloc, text, None) {
+        Some(corrector) => lists_up_to(&corrector, highest, erasures, want),
+        None => false,
+    }
 }
 
 #[test]
@@ -70,10 +96,13 @@ fn locations_above_are_not_searched(rt: HostRuntime) {
         ("a12uel5q", 2, &[3], None),
         ("!12uel5l", usize::MAX, &[], Some(&[(8, Fe32::Z)])),
     ];
-    let listed = rows.map(|(text, highest, erasures, want)| {
-        let found = corrector_for::<Bech32>(rt.alloc(), text, None);
-        is_listed_up_to(found, highest, erasures, want)
-    });
+    let listed = rows.map(|(text, highest, erasures, want)| is_listed_up_to(
+        rt.alloc(),
+        text,
+        highest,
+        erasures,
+        want,
+    ));
     same_items(&rt, &listed, &[true; 6]);
 }
 
@@ -147,6 +176,11 @@ fn is_listed_of_degree_two(
     is_listed_by(corrector_of::<Tiny<2>>(alloc, error, None), &[], want)
 }
 
+// Whether no checksum at all has no corrector for an error.
+fn has_none_unchecked(alloc: Global, error: &CheckedHrpstringError) -> bool {
+    corrector_of::<NoChecksum>(alloc, error, None).is_none()
+}
+
 #[test]
 fn residues_of_another_checksum(rt: HostRuntime) {
     let alloc = rt.alloc();
@@ -158,20 +192,30 @@ fn residues_of_another_checksum(rt: HostRuntime) {
     ];
     same_items(&rt, &listed, &[true; 2]);
     let error = refusal(&rt, "a12uel5q");
-    let is_listed = is_listed_of_degree_two(alloc, &error, Some(&[(0, Fe32::L)]));
-    let corrector = corrector_of::<NoChecksum>(alloc, &error, None);
-    same_items(&rt, &[is_listed, corrector.is_none()], &[true; 2]);
+    let listed = [
+        is_listed_of_degree_two(alloc, &error, Some(&[(0, Fe32::L)])),
+        has_none_unchecked(alloc, &error),
+    ];
+    same_items(&rt, &listed, &[true; 2]);
 }
 
-// Whether just this is listed for a text of codex32 with each of the erasures, or nothing is.
+// Whether just this is listed for a text of codex32 with these erasures, or nothing is.
+fn is_listed_in_codex32(
+    alloc: Global,
+    text: &str,
+    erasures: &[usize],
+    want: Option<Listing>,
+) -> bool {
+    is_listed_by(
+        corrector_for::<Degree13<93>>(alloc, text, None),
+        erasures,
+        want,
+    )
+}
+
+// The same with the erasures of each row.
 fn are_listed(alloc: Global, text: &str, rows: [(&[usize], Option<Listing>); 2]) -> [bool; 2] {
-    rows.map(|(erasures, want)| {
-        is_listed_by(
-            corrector_for::<Degree13<93>>(alloc, text, None),
-            erasures,
-            want,
-        )
-    })
+    rows.map(|(erasures, want)| is_listed_in_codex32(alloc, text, erasures, want))
 }
 
 #[test]
@@ -193,27 +237,52 @@ fn eight_erasures(rt: HostRuntime) {
     same_items(&rt, &are_listed(rt.alloc(), EIGHT_ERRORS, rows), &[true; 2]);
 }
 
+// Whether the error at the last character and one at location 80 are listed where the latter is
+// taken off the corrector of a text of codex32.
+fn is_left(alloc: Global, text: &str, erasures: &[usize]) -> bool {
+    let both = [(0, Fe32::W), (80, Fe32::Z)];
+    match corrector_for::<Degree13<93>>(alloc, text, None) {
+        Some(mut corrector) => is_left_by(&mut corrector, erasures, (80, Fe32::Z), &both),
+        None => false,
+    }
+}
+
 // The last character is wrong; it is the first of the erasures, if there are any.
 #[test]
 fn each_number_of_erasures(rt: HostRuntime) {
     let text = "ms10testsxxxxxxxxxxxxxxxxxxxxxxxxxx4nzvca9cmczlq";
     let places = [0usize, 1, 2, 3, 4, 5, 6, 7];
-    let want = places.map(|place| (place, if place == 0 { Fe32::W } else { Fe32::Q }));
+    let q = Fe32::Q;
+    let want = [
+        (0, Fe32::W),
+        (1, q),
+        (2, q),
+        (3, q),
+        (4, q),
+        (5, q),
+        (6, q),
+        (7, q),
+    ];
     for count in 0..9usize {
         let given = &places[..count];
-        let found = corrector_for::<Degree13<93>>(rt.alloc(), text, None);
-        let is_listed = is_listed_by(found, given, Some(&want[..count.max(1)]));
-        let found = corrector_for::<Degree13<93>>(rt.alloc(), text, None);
-        let both = [(0, Fe32::W), (80, Fe32::Z)];
-        let is_left = is_left_by(found, given, (80, Fe32::Z), &both);
+        let want = Some(&want[..count.max(1)]);
+        let is_listed = is_listed_in_codex32(rt.alloc(), text, given, want);
+        let is_left = is_left(rt.alloc(), text, given);
         same(&rt, &(count, is_listed, is_left), &(count, true, true));
     }
 }
 
 // The bound of a corrector, and its window.
+fn bounds_in<Ck: Checksum>(corrector: &Corrector<Ck>) -> (usize, usize) {
+    (corrector.singleton_bound(), corrector.window())
+}
+
+// The same where there is one.
 fn bounds_of<Ck: Checksum>(found: Option<Corrector<Ck>>) -> Option<(usize, usize)> {
-    let corrector = found?;
-    Some((corrector.singleton_bound(), corrector.window()))
+    match found {
+        Some(corrector) => Some(bounds_in(&corrector)),
+        None => None,
+    }
 }
 
 #[test]
@@ -227,17 +296,18 @@ fn bounds(rt: HostRuntime) {
 }
 
 // Whether there is no corrector with this erasure, and nothing is listed with it.
-fn is_past_the_window<Ck: Checksum>(corrector: &Corrector<Ck>, erasure: usize) -> bool {
+fn is_past_the_window(corrector: &Corrector<Bech32>, erasure: usize) -> bool {
     let given = [erasure];
-    match (corrector.with(&given), corrector.listing_with(&given)) {
-        (Ok(erased), Ok(listing)) => erased.is_none() && listing.is_none(),
-        _ => false,
-    }
+    let is_none = match corrector.with(&given) {
+        Ok(erased) => erased.is_none(),
+        Err(_) => false,
+    };
+    is_none && lists_with(corrector, &given, None)
 }
 
 // The same of the corrector of a text.
-fn is_past_the_window_of<Ck: Checksum>(found: Option<Corrector<Ck>>, erasure: usize) -> bool {
-    match found {
+fn is_past_the_window_of(alloc: Global, window: Option<usize>, erasure: usize) -> bool {
+    match corrector_for::<Bech32>(alloc, "a12uel5q", window) {
         Some(corrector) => is_past_the_window(&corrector, erasure),
         None => false,
     }
@@ -254,8 +324,7 @@ fn erasures_past_the_window(rt: HostRuntime) {
         (None, 1023, true),
     ];
     let past = rows.map(|(window, erasure, want)| {
-        let found = corrector_for::<Bech32>(rt.alloc(), "a12uel5q", window);
-        is_past_the_window_of(found, erasure) == want
+        is_past_the_window_of(rt.alloc(), window, erasure) == want
     });
     same_items(&rt, &past, &[true; 6]);
 }
