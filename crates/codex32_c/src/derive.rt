@@ -7,9 +7,9 @@ ghost use Rattle.codex32_calls.specs.Faults.{IsNumberOfCodex32};
 use codex32_calls::derive::put_derived;
 
 /// Puts the string at an index that others of its set give at the front of `text`, as
-/// [`derive_into`](codex32::derive_into) has it; `text_length` is then its length. The texts stand one behind another in
-/// `texts`, and `lengths` are theirs. `share_index` is a character of the alphabet; at `s` it is
-/// the secret.
+/// `codex32::derive_into` has it; `text_length` is then its length. The texts stand one behind
+/// another in `texts`, and `lengths` are theirs. `share_index` is a character of the alphabet; at
+/// `s` it is the secret.
 ///
 /// # Errors
 ///

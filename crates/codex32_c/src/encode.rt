@@ -7,7 +7,7 @@ ghost use Rattle.codex32_calls.specs.Payload.{IsEncodePayloadFault, PutsEncodedP
 
 use codex32_calls::encode::{put_encoded, put_encoded_payload};
 
-/// Puts the string of a header and bytes at the front of `text`, as [`encode_into`](codex32::encode_into) has it;
+/// Puts the string of a header and bytes at the front of `text`, as `codex32::encode_into` has it;
 /// `text_length` is then its length. `threshold` is 0 or from 2 to 9, `identifier` four characters
 /// of the alphabet in one case, and `share_index` a character of the alphabet. Of 16 to 44 bytes
 /// the string has 48 to 93 characters, of 63 or 64 it has 125 or 127.
@@ -45,10 +45,10 @@ pub extern "C" fn codex32_encode(
 }
 
 /// Puts the string of a header and the characters of a payload at the front of `text`, as
-/// [`encode_payload_into`](codex32::encode_payload_into) has it; `text_length` is then its length. `threshold` is 0 or from 2 to
-/// 9, `identifier` four characters of the alphabet in one case, and `share_index` a character of
-/// the alphabet. The payload's characters are of the alphabet, in one case, and 26 to 71, or 101 or
-/// 103: as many as 16 to 44 bytes, 63 or 64 have.
+/// `codex32::encode_payload_into` has it; `text_length` is then its length. `threshold` is 0 or
+/// from 2 to 9, `identifier` four characters of the alphabet in one case, and `share_index` a
+/// character of the alphabet. The payload's characters are of the alphabet, in one case, and 26 to
+/// 71, or 101 or 103: as many as 16 to 44 bytes, 63 or 64 have.
 ///
 /// # Errors
 ///

@@ -7,11 +7,11 @@ ghost use Rattle.codex32_calls.specs.Parse.{IsParseFault, IsParsedString};
 
 use codex32_calls::parse::parts_of;
 
-/// Reads a codex32 string, as [`Codex32Str::parse`](codex32::Codex32Str::parse) does. `threshold` is then its threshold, 0 or
-/// from 2 to 9, `share_index` the character of its share index, and `payload_length` the length of
-/// its payload, from 26 to 71. These stand in the text: the threshold is character 3, counted from
-/// 0, the identifier characters 4 to 7, the share index character 8, and the payload begins with
-/// character 9.
+/// Reads a codex32 string, as `codex32::Codex32Str::parse` does. `threshold` is then its threshold,
+/// 0 or from 2 to 9, `share_index` the character of its share index, and `payload_length` the
+/// length of its payload, from 26 to 71. These stand in the text: the threshold is character 3,
+/// counted from 0, the identifier characters 4 to 7, the share index character 8, and the payload
+/// begins with character 9.
 ///
 /// # Errors
 ///

@@ -8,8 +8,9 @@ ghost use Rattle.codex32_calls.specs.Propose.{IsProposeFault, PutsNearest};
 use caller_memory::Memory;
 use codex32_calls::propose::{Kind, nearest_of};
 
-/// Puts the nearest text to a damaged codex32 string at the front of `proposed`, as [`propose_in`](codex32::propose_in)
-/// has it; `proposed_length` is then its length. It is worked out in `memory`.
+/// Puts the nearest text to a damaged codex32 string at the front of `proposed`, as
+/// `codex32::propose_in` has it; `proposed_length` is then its length. It is worked out in
+/// `memory`.
 ///
 /// # Errors
 ///
@@ -44,7 +45,8 @@ pub extern "C" fn codex32_propose(
 }
 
 /// Puts the nearest text to a damaged long string at the front of `proposed`, as
-/// [`propose_long_in`](codex32::propose_long_in) has it; `proposed_length` is then its length. It is worked out in `memory`.
+/// `codex32::propose_long_in` has it; `proposed_length` is then its length. It is worked out in
+/// `memory`.
 ///
 /// # Errors
 ///

@@ -6,7 +6,7 @@ ghost use Rattle.codex32_calls.specs.Share.{IsShareFault, PutsShare};
 
 use codex32_calls::share::{characters_of, put_payload};
 
-/// Reads a codex32 string of either length, as [`Share::parse`](codex32::Share::parse) does.
+/// Reads a codex32 string of either length, as `codex32::Share::parse` does.
 /// `threshold` is then its threshold, 0 or from 2 to 9; `identifier` the four characters of its
 /// identifier and `share_index` that of its share index, in lower case. The bytes of its payload,
 /// with what is left over left out, are put at the front of `bytes`, and `bytes_length` is how many

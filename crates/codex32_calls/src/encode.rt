@@ -67,8 +67,8 @@ fn put_payload(buffer: &mut [u8], header: &Header, characters: &[u8]) -> Result<
     encode_payload_into(buffer, header, elements)
 }
 
-/// Puts the string of a header and the characters of a payload at the front of a buffer, and returns
-/// its length.
+/// Puts the string of a header and the characters of a payload at the front of a buffer, and
+/// returns its length.
 pub fn put_encoded_payload(
     threshold: u32,
     identifier: &[u8],
