@@ -33,8 +33,8 @@ const modulesSource = () => filled(read('src', 'modules.js'), {
 // The files of the page's script, each behind those that it imports.
 const SCRIPT = [
   ...['reasons', 'instance', 'lists', 'calls', 'library', 'modules'].map((name) => `src/${name}.js`),
-  ...['words', 'tried', 'typed', 'others', 'beginnings', 'pair', 'reading', 'kinds', 'saying', 'codex32', 'offers', 'texts',
-    'strings', 'shares', 'answer', 'shown', 'copy', 'page'].map((name) => `page/${name}.js`),
+  ...['words', 'sentences', 'tried', 'links', 'typed', 'parts', 'others', 'beginnings', 'pair', 'chance', 'reading', 'kinds',
+    'saying', 'codex32', 'offers', 'texts', 'strings', 'shares', 'answer', 'shown', 'copy', 'page'].map((name) => `page/${name}.js`),
 ];
 
 const variable = (file) => `$${path.basename(file, '.js')}`;

@@ -4,37 +4,44 @@ import { asciiLower } from '../src/reasons.js';
 import { CODEX32, isBegun } from './beginnings.js';
 import { ofCodex32, partsOf } from './codex32.js';
 import { CHECKSUMS } from './kinds.js';
-import { otherKind, seedWords, severalTexts } from './others.js';
+import { isScript, otherKind, secretWithin, seedWords, severalTexts, untested } from './others.js';
+import { LINK, OTHER } from './sentences.js';
 import { ofStrings } from './shares.js';
 import { stringsIn } from './strings.js';
 import { ofRightText, ofWrongText } from './texts.js';
 import { tried } from './tried.js';
 import { cleaned } from './typed.js';
-import { grouped } from './words.js';
 
 // Longer texts are not read at all. Strings of a set are more than one text.
 const MOST = 4096, MOST_OF_SET = 8192;
 
-const tooLong = ({ length }) => {
-  const verdict = `What was put in has ${grouped(length)} characters, which is too long: a text has at most 1,023, `
-    + 'an address 90 and a codex32 string 127.';
-  return { tone: 'wrong', verdict, notes: [], said: [] };
-};
+const tooLong = ({ length }) => ({ tone: 'wrong', verdict: OTHER.tooLong(length), notes: [], said: [] });
 
 const isRight = (library) => (text) =>
   text !== '' && CHECKSUMS.some(([checksum]) => tried(() => library.check(checksum, text)).value);
 
-const BEGUN = { tone: 'open', verdict: 'An address or a codex32 string begins like this.', said: [] };
+const BEGUN = { tone: 'open', verdict: OTHER.begun, said: [] };
 
+// What a text is is found before anything is mended.
 const ofText = (library, text) => {
   if (isBegun(text)) return BEGUN;
   if (asciiLower(text).startsWith(CODEX32)) return ofCodex32(library, text);
-  return ofRightText(library, text) ?? otherKind(text) ?? ofWrongText(library, text);
+  return untested(text) ?? ofRightText(library, text) ?? otherKind(text) ?? ofWrongText(library, text);
 };
 
 const ofSeveral = (library, typed) => {
   const found = stringsIn(typed, (text) => partsOf(library, text).parts !== null);
   return found && { ...ofStrings(library, found.texts, (text) => ofText(library, text)), notes: found.notes };
+};
+
+const EMPTY = { tone: 'other', verdict: LINK.empty, said: [LINK.other] };
+
+// What is said of the parts of a link that may be paid to, or of the one text.
+const ofTexts = (library, texts, isLink) => {
+  if (texts.length === 0) return isLink ? EMPTY : null;
+  if (texts.length === 1) return ofText(library, texts[0].text);
+  const parts = texts.map(({ name, text }) => ({ title: LINK.title(name), ...ofText(library, text) }));
+  return { tone: 'other', verdict: LINK.several(texts.length), said: [LINK.each], parts };
 };
 
 /**
@@ -43,9 +50,9 @@ const ofSeveral = (library, typed) => {
  */
 export const answer = (library, typed) => {
   if (typed.length > MOST_OF_SET) return tooLong(typed);
-  const whole = seedWords(typed) ?? ofSeveral(library, typed) ?? severalTexts(typed);
+  const whole = isScript(typed) ? null : secretWithin(typed) ?? seedWords(typed) ?? ofSeveral(library, typed) ?? severalTexts(typed);
   if (!whole && typed.length > MOST) return tooLong(typed);
   if (whole) return { notes: [], ...whole };
-  const { text, notes } = cleaned(typed, isRight(library));
-  return text === '' ? null : { notes, ...ofText(library, text) };
+  const { texts, notes, isLink } = cleaned(typed, isRight(library)), found = ofTexts(library, texts, isLink);
+  return found && { notes, ...found };
 };

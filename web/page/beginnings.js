@@ -1,18 +1,19 @@
-// The human-readable parts that are known, and the texts that begin nearly as one of them.
+// The beginnings of Bitcoin addresses and codex32 strings, and the texts that begin nearly as one of them.
 import { asciiLower } from '../src/reasons.js';
+import { partOf } from './parts.js';
 
-/** The networks of addresses by their human-readable parts. */
-export const NETWORKS = { bc: 'Bitcoin', tb: 'the Bitcoin test networks', bcrt: 'a local Bitcoin test network' };
+/** The human-readable parts of Bitcoin addresses. */
+export const ADDRESS_PARTS = ['bc', 'tb', 'bcrt'];
 
 /** What codex32 strings begin with, in lower case. */
 export const CODEX32 = 'ms1';
 
-const KNOWN = [...Object.keys(NETWORKS).map((hrp) => `${hrp}1`), CODEX32];
+const KNOWN = [...ADDRESS_PARTS.map((part) => `${part}1`), CODEX32];
 
 /** The known beginning that a text has, in lower case, or null: a `1` behind it is no separator, but a mistyped character. */
 export const knownBeginning = (text) => KNOWN.find((it) => asciiLower(text.slice(0, it.length)) === it) ?? null;
 
-/** Whether a text begins as addresses of a network do. */
+/** Whether a text begins as addresses of Bitcoin do. */
 export const isAddressLike = (text) => ![null, CODEX32].includes(knownBeginning(text));
 
 /** Whether a text is the front of a known beginning, or the whole of it. */
@@ -48,10 +49,10 @@ const slipsOf = (from, to) => (from === '' ? 1 : slips(asciiLower(from), to));
 
 /**
  * The texts with a known beginning in place of one that is near to it, in lower case: each with the beginnings `from`
- * and `to`, and the number of `slips` between them. There is none where the text has a known beginning.
+ * and `to`, and the number of `slips` between them. There is none where the text has a known beginning or a known part.
  */
 export const nearBeginnings = (text) => {
-  if (knownBeginning(text)) return [];
+  if (knownBeginning(text) || partOf(text).known) return [];
   const found = KNOWN.flatMap((to) =>
     Array.from({ length: Math.min(text.length, to.length + MOST_SLIPS) + 1 }, (_, size) => {
       const from = text.slice(0, size);

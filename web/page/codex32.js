@@ -1,8 +1,9 @@
 // What the page says of a codex32 string.
 import { asciiLower } from '../src/reasons.js';
 import { columnsOf, mendingOf } from './pair.js';
-import { faultsOf, readingOf, unreadSaid } from './reading.js';
-import { SECRET, mended, refusal, unmended } from './saying.js';
+import { faultsOf, inCaseOf, readingOf, unreadSaid } from './reading.js';
+import { mended, refusal, unmended } from './saying.js';
+import { STRING, WARNINGS } from './sentences.js';
 import { tried } from './tried.js';
 import { hex } from './words.js';
 
@@ -11,10 +12,6 @@ const BOUND = 8;
 
 // A string of more characters is a long one.
 const SHORT = 93;
-
-const RIGHT = 'This is a right codex32 string.';
-const WRONG = 'The codex32 checksum of what was put in is wrong.';
-const NOTHING = 'More than four characters are wrong, where two that cannot be read count as one.';
 
 /** The share index of the secret. */
 export const SECRET_INDEX = 's';
@@ -31,17 +28,9 @@ export const partsOf = (library, text) => {
   return { parts: { threshold: Number(threshold), identifier, shareIndex, bytes: null, length }, refused: null };
 };
 
-/** The threshold, identifier, share index and lengths of a string, in one sentence. */
-export const factsOf = ({ threshold, identifier, shareIndex, bytes, length }) => {
-  const payload = bytes === null ? 'a payload that is no whole number of bytes' : `a payload of ${bytes} bytes`;
-  const size = `${length} characters with ${payload}`;
-  return `Threshold ${threshold}, identifier “${identifier}”, share index “${shareIndex}”, ${size}.`;
-};
-
 const stringSaid = (parts) => {
-  if (parts.shareIndex === SECRET_INDEX) return ['It is the secret itself, and not a share of it.', factsOf(parts)];
-  const share = `It is the share “${parts.shareIndex}” of a secret, for which ${parts.threshold} shares are needed.`;
-  return [share, factsOf(parts), 'Put the others in as well, each on a line of its own.'];
+  if (parts.shareIndex === SECRET_INDEX) return [STRING.itself, STRING.facts(parts)];
+  return [STRING.share(parts), STRING.facts(parts), STRING.others];
 };
 
 // The secret is shown of a string that is the secret itself.
@@ -58,13 +47,12 @@ const refusedOf = (library, { filled }) => {
   return refused?.code === 'BAD_LENGTH' ? tried(() => library.codex32.share(filled.replaceAll('?', 'q'))).refused : refused;
 };
 
-const offerOf = (library, before, text, begun) => {
-  const columns = columnsOf(before, Array.from(text), begun?.edit);
-  const { parts, refused } = partsOf(library, text);
-  const said = parts ? ['It is then a right codex32 string.', ...stringSaid(parts)]
-    : [`The nearest text with a right checksum is no codex32 string. ${refused.message}`];
-  const known = { isAddress: false, isBroken: parts === null, isSecret: true, ...(parts && secretIn(parts, text)) };
-  return { ...mendingOf(columns, begun), columns, text, said, ...known };
+const offerOf = (library, before, found, begun) => {
+  const text = inCaseOf(before.join(''), found), columns = columnsOf(before, Array.from(text), begun?.edit);
+  const { parts, refused } = partsOf(library, text), mending = mendingOf(columns, begun);
+  const said = parts ? [STRING.mended(mending.count), ...stringSaid(parts)] : [STRING.none(refused.message)];
+  const known = { isAddress: false, isSound: parts !== null, isSecret: true, warning: WARNINGS.string };
+  return { ...mending, columns, text, said, facts: [], ...known, ...(parts && secretIn(parts, text)) };
 };
 
 /** What is offered for a reading of a string whose characters were `before`, with its beginning as it was mended. */
@@ -76,16 +64,17 @@ export const codex32Offers = (library, before, it, begun = null) => {
 /** What is said of a text that begins with `ms1`. */
 export const ofCodex32 = (library, text) => {
   const { parts, refused: first } = partsOf(library, text);
-  const known = { text, caution: SECRET, isSecret: true };
-  if (parts) return { tone: 'right', verdict: RIGHT, said: stringSaid(parts), ...known, ...secretIn(parts, text) };
-  if (first.code === 'BAD_THRESHOLD' || first.code === 'BAD_SHARE_INDEX') return refusal(text, first);
+  const warnings = [WARNINGS.string], right = { tone: 'right', verdict: STRING.valid, warnings, isSecret: true };
+  if (parts) return { ...right, said: stringSaid(parts), text, ...secretIn(parts, text) };
+  if (first.code === 'BAD_THRESHOLD' || first.code === 'BAD_SHARE_INDEX') return { ...refusal(text, first), warnings };
   const it = readingOf(text, '?'), seen = faultsOf(it, BOUND), faults = [...seen, ...unreadSaid(it)];
   const refused = refusedOf(library, it);
   const isShort = refused?.code === 'BAD_LENGTH' && refused.place === null;
-  if (refused) return { ...refusal(text, refused, faults, it.unread), ...(isShort && { tone: 'open' }) };
-  const [offer] = codex32Offers(library, it.characters, it), wrong = faults.length ? [] : [WRONG];
-  if (offer && !offer.isBroken) return mended([offer], [...seen, ...wrong]);
-  return unmended(it, [...faults, ...wrong, offer ? offer.said[0] : NOTHING], it.unread.length < BOUND);
+  if (refused) return { ...refusal(text, refused, faults, it.unread), warnings, ...(isShort && { tone: 'open' }) };
+  const [offer] = codex32Offers(library, it.characters, it), wrong = faults.length ? [] : [STRING.wrong];
+  if (offer?.isSound) return mended([offer], [...seen, ...wrong]);
+  const nothing = offer ? offer.said[0] : STRING.nothing;
+  return { ...unmended(it, [...faults, ...wrong, nothing], it.unread.length < BOUND), warnings };
 };
 
 // ---- the secret
@@ -94,7 +83,6 @@ export const ofCodex32 = (library, text) => {
 export const secretSaid = (library, texts) => {
   const own = texts.find((it) => partsOf(library, it).parts?.shareIndex === SECRET_INDEX);
   const text = asciiLower(own ?? library.codex32.recover(texts)), { value } = tried(() => library.codex32.share(text));
-  const bytes = value ? { name: `Its ${value.bytes.length} bytes:`, text: hex(value.bytes) }
-    : { name: 'Its payload is no whole number of bytes.', text: null };
-  return [{ name: 'The secret as a codex32 string:', text }, bytes];
+  const bytes = value ? { name: STRING.bytes(value.bytes.length), text: hex(value.bytes) } : { name: STRING.noBytes, text: null };
+  return [{ name: STRING.secret, text }, bytes];
 };

@@ -1,51 +1,61 @@
 // What a text is that a checksum accepts, and what lengths addresses have.
 import { asciiLower } from '../src/reasons.js';
-import { NETWORKS, isAddressLike } from './beginnings.js';
+import { isAddressLike } from './beginnings.js';
+import { knownPart } from './parts.js';
+import { LENGTH, VALID } from './sentences.js';
 import { tried } from './tried.js';
-import { counted, grouped, hex, listed, numeral } from './words.js';
+import { hex } from './words.js';
 
 /** The checksums with their names. */
 export const CHECKSUMS = [['bech32m', 'Bech32m'], ['bech32', 'Bech32']];
 
+/** The checksums that texts of a known part have. */
+export const checksumsOf = ({ checksum: only }) => CHECKSUMS.filter(([checksum]) => only === null || only === checksum);
+
 // The programs of witness versions that are in use, with their sizes in bytes.
-const PROGRAMS = {
-  '0/20': 'It pays to the hash of a key (P2WPKH).',
-  '0/32': 'It pays to the hash of a script (P2WSH).',
-  '1/32': 'It pays to a key or to one of several scripts (Taproot).',
+const PROGRAMS = [[0, 20], [0, 32], [1, 32]];
+
+const isText = { isAddress: false, isBroken: false, facts: [] };
+
+const addressKind = (known, { hrp, version, program }) => ({
+  isAddress: true, isBroken: false, known,
+  said: [known ? VALID.network(known.network) : VALID.otherNetwork(hrp), ...(known ? VALID.pays(version, program.length) : [])],
+  facts: [{ name: VALID.program(version, program.length), text: hex(program) }],
+});
+
+// Zcash has a kind of address whose part is that of Liquid's test network.
+const TEX = { what: 'a Zcash address that takes transparent funds alone', checksum: 'bech32m', sizes: [38] };
+const isTex = (part, data, name) => part === 'tex' && name === 'Bech32m' && data.length === 32;
+
+// Why a text of a known kind is none although a checksum accepts it, or null.
+const whyNone = ({ checksum, sizes, isExact }, { hrp, data }, name) => {
+  if (!isExact) return null;
+  const [[, wanted]] = checksumsOf({ checksum });
+  if (wanted !== name) return VALID.kindChecksum(wanted);
+  const size = data.length + 6, before = hrp.length + 1;
+  return sizes.includes(size) ? null : VALID.kindSize(before + size, sizes.map((it) => before + it));
 };
 
-// An invoice of the Lightning network, by its human-readable part.
-const INVOICE = /^ln(?:bcrt|bc|tbs|tb)\d*[munp]?1/i;
-
-/** What is said of an invoice, or null. */
-export const invoiceSaid = (text) =>
-  (INVOICE.test(text) ? 'It is a Lightning invoice, which is longer than an address. It is read as a text: its amount and its '
-    + 'end are not looked at.' : null);
-
-const addressSaid = ({ hrp, version, program }) => {
-  const network = NETWORKS[asciiLower(hrp)];
-  const pays = network && PROGRAMS[`${version}/${program.length}`];
-  const other = `It is a segwit address, but of no Bitcoin network: its human-readable part is “${hrp}”.`;
-  return [
-    network ? `It is a segwit address of ${network}.` : other,
-    ...(pays ? [pays] : []),
-    `Witness version ${version}, program of ${program.length} bytes: ${hex(program)}`,
-  ];
+const brokenAddress = (known, { code, message }, name) => {
+  const other = VALID.otherChecksum(name === 'Bech32' ? 'Bech32m' : 'Bech32');
+  return { isAddress: false, isBroken: true, known, said: [], facts: [], why: code === 'WRONG_CHECKSUM' ? other : message };
 };
 
-const textSaid = (text, { hrp, data }) => {
-  const size = data.length === 1 ? 'one character' : `${grouped(data.length)} characters`;
-  return invoiceSaid(text) ?? `It is no address: a text with the human-readable part “${hrp}” and ${size} of data.`;
-};
-
-/** What a text is that the checksum of this name accepts. `isBroken`: it looks like an address, and is none, and `why`. */
+/**
+ * What a text is that the checksum of this name accepts, and what is `known` of its part. `isBroken`: it begins like one of a
+ * known kind, and is none, and `why`.
+ */
 export const kindOf = (library, text, parts, name) => {
+  const part = asciiLower(parts.hrp), known = knownPart(part);
   const { value, refused } = tried(() => library.segwit.decode(text));
-  if (value) return { isAddress: true, isBroken: false, said: addressSaid(value) };
-  if (!(asciiLower(parts.hrp) in NETWORKS)) return { isAddress: false, isBroken: false, said: [textSaid(text, parts)] };
-  const other = `An address of this version has the other checksum, ${name === 'Bech32' ? 'Bech32m' : 'Bech32'}.`;
-  const why = refused.code === 'WRONG_CHECKSUM' ? other : refused.message;
-  return { isAddress: false, isBroken: true, why, said: [`It is no address, although it begins like one. ${why}`] };
+  if (isTex(part, parts.data, name)) return { ...isText, known: TEX, said: [VALID.alone] };
+  if (value && (!known || known.network)) return addressKind(known, value);
+  if (!known) return { ...isText, known, said: [VALID.unknown(parts.hrp, parts.data.length)] };
+  if (known.network) return brokenAddress(known, refused, name);
+  const why = whyNone(known, parts, name);
+  if (why) return { ...isText, isBroken: true, known, said: [], why };
+  const upper = known.isUpper && text !== text.toUpperCase() ? [VALID.upper] : [];
+  return { ...isText, known, said: [...upper, known.isInvoice ? VALID.invoice : VALID.alone] };
 };
 
 // ---- lengths
@@ -53,19 +63,22 @@ export const kindOf = (library, text, parts, name) => {
 // The lengths of addresses in use that begin as a text does, and their version, as the library writes them.
 const addressesLike = (library, text) => {
   const hrp = asciiLower(text.slice(0, text.indexOf('1'))), place = hrp.length + 1;
-  const written = Object.keys(PROGRAMS).map((it) => it.split('/').map(Number))
-    .map(([version, size]) => ({ version, text: library.segwit.encode(hrp, version, new Uint8Array(size)) }));
+  const written = PROGRAMS.map(([version, size]) => ({ version, text: library.segwit.encode(hrp, version, new Uint8Array(size)) }));
   return written.filter((it) => it.text[place] === asciiLower(text.charAt(place)));
 };
 
+/** Whether a text that begins as addresses do has the version and the length of one in use. */
+export const isInUse = (library, text) =>
+  addressesLike(library, text).some((it) => it.text.length === Array.from(text).length);
+
 const NEAR = 2;
 
-const slipSaid = (count, lengths) => {
+/** What the slip may have been where a text has a length that is near to one of those it should have. */
+export const slipSaid = (count, lengths) => {
   const missing = Math.min(...lengths.map((it) => it - count).filter((it) => it > 0));
   const more = Math.min(...lengths.map((it) => count - it).filter((it) => it > 0));
-  const lacking = missing === 1 ? 'character is' : 'characters are';
-  if (missing <= NEAR) return [`If this is all of it, ${numeral(missing)} ${lacking} missing.`];
-  return more <= NEAR ? [`${counted(more, 'character may be', 'characters may be')} too many.`] : [];
+  if (missing <= NEAR) return [LENGTH.missing(missing)];
+  return more <= NEAR ? [LENGTH.more(more)] : [];
 };
 
 /**
@@ -78,9 +91,7 @@ export const lengthOf = (library, text) => {
   const like = addressesLike(library, text), count = Array.from(text).length;
   const lengths = like.map((it) => it.text.length);
   if (like.length === 0 || lengths.includes(count)) return null;
-  const { version } = like[0], isShort = count < Math.min(...lengths);
-  const kind = version === 1 ? 'a Taproot address (version 1)' : `an address of version ${version}`;
-  const size = counted(count, 'character', 'characters'), rest = `; ${kind} has ${listed(lengths, 'or')}.`;
-  const sentence = `${size}${isShort ? ' so far' : ''}${rest}`;
-  return { isShort, sentence, whole: `${size}${rest}`, slip: slipSaid(count, lengths) };
+  const isShort = count < Math.min(...lengths), kind = LENGTH.kind(like[0].version);
+  const sentence = (isSoFar) => LENGTH.has(count, isSoFar, kind, lengths);
+  return { isShort, sentence: sentence(isShort), whole: sentence(false), slip: slipSaid(count, lengths) };
 };

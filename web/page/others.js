@@ -1,44 +1,87 @@
-// What is no Bech32 text at all, and several texts at once. This is seen by how they look, without the library.
-import { counted } from './words.js';
+// What the page cannot test, what is no Bech32 text at all, secrets, and several texts at once. This is seen by how they
+// look, without the library.
+import { ALPHABET, asciiLower } from '../src/reasons.js';
+import { partOf } from './parts.js';
+import { OTHER, WARNINGS } from './sentences.js';
 
-const OWN_CHECKSUM = 'It has a checksum of its own, which is not read here: this page can neither test it nor mend it.';
-const secretSaid = (it) => `Whoever has ${it} can take what is in the wallet. Nothing has left this page: clear the field now.`;
-const KEEP_SECRET = ['Do not type it into any page.', secretSaid('it')];
+const other = ({ verdict, said }, more = []) => ({ tone: 'other', verdict, said: [...said, ...more] });
+const warning = (verdict, warnings, said = []) => ({ tone: 'warning', verdict, said, warnings });
+
+// ---- what has no checksum of the library
+
+const OFFER = /^ln([ori])1/i, CONFIDENTIAL = /^(?:lq|el|tlq)1/i;
+
+// The first character of an offer that cannot be part of it: parts of an offer are joined by `+`.
+const strangeOf = (text, from) =>
+  Array.from(text).map((character, at) => ({ character, at }))
+    .find(({ character, at }) => at >= from && character !== '+' && !ALPHABET.includes(asciiLower(character)));
+
+/** What is said of a text that has no checksum, or one that the library does not have, by its beginning; or null. */
+export const untested = (text) => {
+  const [start, kind] = OFFER.exec(text) ?? [];
+  if (start) {
+    const strange = strangeOf(text, start.length), said = strange ? [OTHER.strange(strange.at, strange.character)] : [];
+    return { ...other(OTHER.offer(asciiLower(kind)), said), text, marked: strange ? [strange.at] : [] };
+  }
+  return CONFIDENTIAL.test(text) ? { ...other(OTHER.confidential), text, marked: [] } : null;
+};
+
+// ---- texts of other kinds
 
 // An address of the older kinds, or the front of one.
 const OLDER = /^(?=.*[a-z])(?=.*[A-Z])([13])[0-9A-Za-z]{7,35}$/;
 const WHOLE_OLDER = /^[13][1-9A-HJ-NP-Za-km-z]{25,34}$/;
 
-const FORMS = [
-  [OLDER, ([, digit]) => ({
-    tone: 'other', verdict: `This is an address of an older kind, which begins with ${digit}.`, said: [OWN_CHECKSUM],
-  })],
-  [/^0x/i, () => ({
-    tone: 'other', verdict: 'This begins with “0x”, as addresses of Ethereum and other numbers in base 16 do.',
-    said: ['It is no Bech32 text: this page can neither test it nor mend it.'],
-  })],
-  [/^([xyztuv]pub)[0-9A-Za-z]/i, ([, name]) => ({
-    tone: 'other', verdict: `This is an extended public key (${name}), and no address: a wallet makes addresses from it.`,
-    said: [OWN_CHECKSUM, 'Whoever has it can see all addresses of the wallet.'],
-  })],
-  [/^([xyztuv]prv)[0-9A-Za-z]/i, ([, name]) => ({
-    tone: 'warning', verdict: `This is an extended private key (${name}).`, said: KEEP_SECRET,
-  })],
-  [/^[5KL][1-9A-HJ-NP-Za-km-z]{50,51}$/, () => ({
-    tone: 'warning', verdict: 'This looks like a private key.', said: KEEP_SECRET,
-  })],
+const BASE58 = '[1-9A-HJ-NP-Za-km-z]';
+const EXTENDED = '[xyztuv]prv', WIF = `(?:[5KL9c]${BASE58}{50,51}|6P${BASE58}{56})`;
+const WITHIN = [
+  [/(?<![0-9a-z])nsec1/i, 'a nostr private key'], [/(?<![0-9a-z])age-(?:secret-key|plugin)-/i, 'an age private key'],
+  [/(?<![0-9a-z])secret-extended-key-/i, 'a Zcash private key'], [new RegExp(`(?<![0-9A-Za-z])${EXTENDED}[0-9A-Za-z]{8}`, 'i'), 'an extended private key'],
+  [new RegExp(`(?<![0-9A-Za-z])(?=[0-9A-Za-z]*[a-z])(?=[0-9A-Za-z]*[A-Z])${WIF}(?![0-9A-Za-z])`), 'a private key'],
 ];
+
+const withinOf = (text) => WITHIN.map(([form, what]) => ({ at: text.search(form), what })).find(({ at }) => at >= 0) ?? null;
+
+// A script expression, as descriptors have it, and a code before a colon.
+const SCRIPT = /^[a-z][a-z0-9_]*\(/i, CODE = /^([a-z][a-z0-9+.-]{0,40}:)/i;
+const CODES = {
+  'kaspa:': 'a Kaspa address', 'kaspatest:': 'a Kaspa address', 'kaspadev:': 'a Kaspa address', 'kaspasim:': 'a Kaspa address',
+  'bitcoincash:': 'a Bitcoin Cash address', 'bchtest:': 'a Bitcoin Cash address', 'bchreg:': 'a Bitcoin Cash address',
+  'simpleledger:': 'a Bitcoin Cash address', 'slptest:': 'a Bitcoin Cash address', 'ecash:': 'an eCash address',
+  'ectest:': 'an eCash address', 'etoken:': 'an eCash address', 'nexa:': 'a Nexa address', 'nexatest:': 'a Nexa address',
+};
+
+const ofScript = (text) =>
+  (withinOf(text) ? warning(OTHER.descriptorSecret, [WARNINGS.wallet]) : other(OTHER.descriptor));
+const ofCode = (code) => other(CODES[asciiLower(code)] ? OTHER.code(code, CODES[asciiLower(code)]) : OTHER.unknownCode(code));
+
+const FORMS = [
+  [SCRIPT, (_, text) => ofScript(text)],
+  [OLDER, ([, digit]) => other(OTHER.older(digit))],
+  [/^0x/i, () => other(OTHER.hex)],
+  [/^S[PMTN][0-9A-HJKMNP-TV-Z]{37,39}$/, () => other(OTHER.stacks)],
+  [/^([xyztuv]pub)[0-9A-Za-z]/i, ([, name]) => other(OTHER.publicKey(name))],
+  [new RegExp(`^(${EXTENDED})[0-9A-Za-z]`, 'i'), ([, name]) => warning(OTHER.privateKey(name), [WARNINGS.wallet])],
+  [new RegExp(`^(?=.*[a-z])(?=.*[A-Z])${WIF}$`), () => warning(OTHER.wif, [WARNINGS.wallet])],
+  [CODE, ([, code]) => ofCode(code)],
+];
+
+/** Whether a text is a script expression: its commas and brackets stand between no texts. */
+export const isScript = (text) => SCRIPT.test(text.trim());
 
 /** What is said of a text that is of another kind, or null. */
 export const otherKind = (text) => {
-  for (const [form, said] of FORMS) {
-    const found = form.exec(text);
-    if (found) return said(found);
-  }
-  return null;
+  const [form, said] = FORMS.find(([it]) => it.test(text)) ?? [];
+  return form ? said(form.exec(text), text) : null;
 };
 
-// ---- seed words
+// ---- secrets
+
+/** A warning where a secret stands in what was put in, with something before it, or null. */
+export const secretWithin = (typed) => {
+  const text = typed.trim(), found = withinOf(text);
+  return found && found.at > 0 && !isScript(text) ? warning(OTHER.within(found.what), [WARNINGS.key]) : null;
+};
 
 const LEAST_WORDS = 4;
 const WORD = /^\p{L}{2,10}$/u, NUMBER = /^\d+[.):]?/;
@@ -47,9 +90,7 @@ const WORD = /^\p{L}{2,10}$/u, NUMBER = /^\d+[.):]?/;
 export const seedWords = (typed) => {
   const words = typed.split(/[\s,;]+/).map((it) => it.replace(NUMBER, '')).filter((it) => it !== '');
   if (words.length < LEAST_WORDS || !words.every((it) => WORD.test(it))) return null;
-  const verdict = 'These look like seed words. Do not type them into any page.';
-  const use = 'They are no Bech32 text, and this page has no use for them.';
-  return { tone: 'warning', verdict, said: [secretSaid('them'), use] };
+  return warning(OTHER.words.verdict, [WARNINGS.words], OTHER.words.said);
 };
 
 // ---- several texts
@@ -57,17 +98,20 @@ export const seedWords = (typed) => {
 const PIECES = /[\s,;|]+/;
 const BEGINNING = /^(?:bitcoin:)?(?:bcrt|bc|tb|ms)1/i;
 
-// A `b` and a `1` are no data, so these within a text begin another.
-const WITHIN = /(?<=[0-9a-z]{10})(?=(?:bcrt|bc|tb)1)/gi;
+// A `b` and a `1` are no data, so these behind an address begin another.
+const FOLLOWING = /(?<=(?:bcrt|bc|tb|ms)1[02-9ac-hj-np-z?]{10,})(?=(?:bcrt|bc|tb)1)/gi;
 
-// A text in groups begins with a piece as short as that.
-const GROUP = 6;
+// A text in groups begins with a piece as short as that, and a whole text of another known part is no piece of that size.
+const GROUP = 6, LEAST = 14;
+
+const begins = (piece) =>
+  BEGINNING.test(piece) || WHOLE_OLDER.test(piece) || (piece.length >= LEAST && partOf(piece).known !== null);
 
 const textsIn = (typed) => {
   const texts = [];
   let isGrouped = false;
-  for (const piece of typed.replace(WITHIN, ' ').split(PIECES)) {
-    if (BEGINNING.test(piece) || WHOLE_OLDER.test(piece)) {
+  for (const piece of typed.replace(FOLLOWING, ' ').split(PIECES)) {
+    if (begins(piece)) {
       texts.push(piece);
       isGrouped = piece.length <= GROUP;
     } else if (isGrouped) texts[texts.length - 1] += piece;
@@ -75,14 +119,18 @@ const textsIn = (typed) => {
   return texts;
 };
 
+// What some texts are to be warned of, where one of them is a secret.
+const warningsOf = (texts) => {
+  if (texts.some((it) => /^ms1/i.test(it))) return { warnings: [WARNINGS.strings] };
+  return texts.some((it) => partOf(it).known?.isSecret) ? { warnings: [WARNINGS.key] } : {};
+};
+
 /** That several texts stand there, with each to be chosen, or null. */
 export const severalTexts = (typed) => {
   const texts = textsIn(typed), choices = [...new Set(texts)];
   if (texts.length < 2) return null;
-  const kind = choices.some((it) => /^ms1/i.test(it)) ? 'texts' : 'addresses';
-  if (choices.length === 1) {
-    return { tone: 'other', verdict: 'The same text stands there more than once.', said: ['Choose it to read it:'], choices };
-  }
-  const verdict = `${counted(choices.length, '', kind)} were put in, and this page reads one at a time.`;
-  return { tone: 'other', verdict, said: ['Choose one of them:'], choices };
+  const isAddress = (text) => WHOLE_OLDER.test(text) || /^(?:bitcoin:)?(?:bcrt|bc|tb)1/i.test(text);
+  if (choices.length === 1) return { ...other(OTHER.same), choices, ...warningsOf(choices) };
+  const kind = choices.every(isAddress) ? 'addresses' : 'texts';
+  return { ...other(OTHER.several(choices.length, kind)), choices, ...warningsOf(choices) };
 };

@@ -2,6 +2,7 @@
 import { answer } from './answer.js';
 import { secretSaid } from './codex32.js';
 import { copied } from './copy.js';
+import { PAGE } from './sentences.js';
 import { button, element, shownAnswer, shownSecret, spoken } from './shown.js';
 import { library, Stopped } from '../src/library.js';
 import { compiled } from '../src/modules.js';
@@ -14,9 +15,6 @@ const EXAMPLE = 'bc1qw508d6qejxtdg4y5r3zarvaty0c5xw7kv8f3t4';
 
 const byId = (id) => document.getElementById(id);
 
-const STOPPED = 'The library stopped without an answer and was started anew. This is a fault of the browser or of this '
-  + 'page: do not rely on an answer for this text.';
-
 const failed = (sentence) => ({ tone: 'wrong', verdict: sentence, notes: [], said: [] });
 
 // What is said of the text, whatever happens. No text stays in the memory of the modules.
@@ -24,23 +22,18 @@ const answered = (it, asked) => {
   try {
     return asked();
   } catch (error) {
-    return failed(error instanceof Stopped ? STOPPED : `This page has a fault, and there is no answer: ${error}`);
+    return failed(error instanceof Stopped ? PAGE.stopped : PAGE.fault(error));
   } finally {
     it.wipe();
   }
 };
 
-const MEMORY = [
-  'This browser has 64-bit WebAssembly memory, so the modules run as they were built.',
-  'This browser has no 64-bit WebAssembly memory, so modules run that were lowered to 32 bits. That step is not proved.',
-];
-
 const example = (does) =>
-  element('p', '', 'An example with one wrong character: ',
+  element('p', '', PAGE.example,
     button('choice', () => does.choose(EXAMPLE), element('code', '', EXAMPLE)));
 
 const copy = async (it, text) => {
-  it.textContent = await copied(text) ? 'Copied' : 'It was not copied: select it and copy it';
+  it.textContent = await copied(text) ? PAGE.copied : PAGE.notCopied;
   byId('spoken').textContent = it.textContent;
 };
 
@@ -50,8 +43,14 @@ const reveal = (library) => (it, room, texts) => {
   const found = isShown ? answered(library, () => secretSaid(library, texts)) : [];
   room.replaceChildren(...(Array.isArray(found) ? shownSecret(found) : shownAnswer(found, {})));
   it.setAttribute('aria-expanded', String(isShown));
-  it.textContent = isShown ? 'Hide the secret' : 'Show the secret';
-  byId('spoken').textContent = isShown ? 'The secret is shown below the button.' : 'The secret is hidden.';
+  it.textContent = isShown ? PAGE.hide : PAGE.show;
+  byId('spoken').textContent = isShown ? PAGE.isShown : PAGE.isHidden;
+};
+
+// The field is as high as what is in it.
+const grown = (typed) => {
+  typed.style.height = 'auto';
+  typed.style.height = `${typed.scrollHeight + typed.offsetHeight - typed.clientHeight}px`;
 };
 
 const start = () => {
@@ -63,6 +62,7 @@ const start = () => {
     const found = answered(it, () => answer(it, typed.value));
     byId('answer').replaceChildren(...(found ? shownAnswer(found, does) : [example(does)]));
     clear.hidden = typed.value === '';
+    grown(typed);
     clearTimeout(timer);
     timer = setTimeout(() => { byId('spoken').textContent = found ? spoken(found) : ''; }, PAUSE);
   };
@@ -73,13 +73,14 @@ const start = () => {
   };
   const does = { copy, choose, reveal: reveal(it) };
   typed.addEventListener('input', show);
+  window.addEventListener('resize', () => grown(typed));
   clear.addEventListener('click', () => choose(''));
-  byId('memory').textContent = MEMORY[Number(isLowered)];
+  byId('memory').textContent = PAGE.memory[Number(isLowered)];
   show();
 };
 
 try {
   start();
 } catch (error) {
-  byId('answer').replaceChildren(...shownAnswer(failed(`This browser does not run the library: ${error}`), {}));
+  byId('answer').replaceChildren(...shownAnswer(failed(PAGE.cannotRun(error)), {}));
 }

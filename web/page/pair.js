@@ -1,6 +1,6 @@
 // A text beside the one that it was mended to, and the words for what was wrong. Places are those of the mended text.
-import { asciiLower, shown } from '../src/reasons.js';
-import { capital, counted, listed, nth, numeral } from './words.js';
+import { asciiLower } from '../src/reasons.js';
+import { MENDED } from './sentences.js';
 
 const isSame = (from, to) => asciiLower(from) === asciiLower(to);
 
@@ -44,60 +44,31 @@ export const columnsOf = (before, after, { at, taken, put } = { at: 0, taken: 0,
 // More changes than these are counted in a sentence, and listed below it.
 const MOST = 3;
 
-const beginningSaid = ({ from, to }) =>
-  (from ? `The beginning was wrong: “${from}” for “${to}”.` : `The beginning was missing: “${to}”.`);
-
-const wrongSaid = (changes) => {
-  const head = counted(changes.length, 'character was wrong', 'characters were wrong');
-  const each = changes.map(({ place, from, to }) => `the ${nth(place)}, ${shown(from)} for ${shown(to)}`);
-  return changes.length > MOST ? `${head}.` : `${head}: ${each.join('; ')}.`;
-};
-
-const foundSaid = (changes) => {
-  if (changes.length > MOST) return `${capital(numeral(changes.length))} characters that cannot be read were found.`;
-  const each = changes.map(({ place, to }) => `the ${nth(place)} is ${shown(to)}`);
-  const what = changes.length === 1 ? 'character that cannot be read was' : 'characters that cannot be read were';
-  return `The ${what} found: ${listed(each)}.`;
-};
-
-// What one edit mended, in words, with its characters as they were put in.
-const EDITS = {
-  swapped: (place, [first, second]) =>
-    `Two neighbours were swapped: the ${nth(place)} and the ${nth(place + 1)}, ${first} and ${second}.`,
-  leftOut: (place, [it]) => `One character too many: the ${nth(place)}, ${it}.`,
-  putIn: (place, [it]) => `One character is missing: the ${nth(place)}, ${it}.`,
-};
-
 /** How many characters an edit takes from its place, and puts there. */
 export const sizesOf = { swapped: { taken: 2, put: 2 }, leftOut: { taken: 1, put: 0 }, putIn: { taken: 0, put: 1 } };
 
-const IN_LOWER_CASE = 'Upper-case and lower-case letters are mixed: in lower case the text is right.';
-
-const changeSaid = ({ place, from, to }) =>
-  (from === '?' ? `Character ${place + 1}, which cannot be read, is ${shown(to)}.`
-    : `Character ${place + 1}: ${shown(from)} becomes ${shown(to)}.`);
-
 /** What was wrong with a text that one edit of `kind` mends at a place, in the form of `mendingOf`. */
 export const edited = (columns, { kind, place }) => {
-  const characters = columns.filter(({ isChanged }) => isChanged).map(({ from, to }) => shown(from ?? to));
-  return { headline: EDITS[kind](place, characters), changes: [], cost: 1, isBegun: false };
+  const characters = columns.filter(({ isChanged }) => isChanged).map(({ from, to }) => from ?? to);
+  return { headline: MENDED.edit(kind, place, characters), changes: [], count: 1, cost: 1, isBegun: false };
 };
 
 /**
- * What was wrong with a text: a `headline`, each of the `changes` where the headline counts them alone, and as `cost` how
- * much it was, those that cannot be read apart. A `beginning`, where it was mended, is told as a whole.
+ * What was wrong with a text: a `headline`, each of the `changes` where the headline counts them alone, their `count`, and as
+ * `cost` how much it was, those that cannot be read apart. A `beginning`, where it was mended, is told as a whole.
  */
 export const mendingOf = (columns, beginning = null) => {
-  const changes = columns.filter(({ isChanged, place }) => isChanged && place >= (beginning?.to.length ?? 0));
+  const changes = columns.filter(({ isChanged, place }) => isChanged && place >= (beginning?.to.length ?? 0))
+    .map(({ place: at, from, to }) => ({ at, from, to }));
   const wrong = changes.filter(({ from }) => from !== '?'), found = changes.filter(({ from }) => from === '?');
   const parts = [
-    ...(beginning ? [beginningSaid(beginning)] : []),
-    ...(wrong.length ? [wrongSaid(wrong)] : []),
-    ...(found.length ? [foundSaid(found)] : []),
+    ...(beginning ? [MENDED.beginning(beginning.from, beginning.to)] : []),
+    ...(wrong.length ? [MENDED.wrong(wrong, MOST)] : []),
+    ...(found.length ? [MENDED.restored(found, MOST)] : []),
   ];
   const isCounted = wrong.length > MOST || found.length > MOST;
   return {
-    headline: parts.join(' ') || IN_LOWER_CASE, changes: isCounted ? changes.map(changeSaid) : [],
-    cost: wrong.length + (beginning?.slips ?? 0), isBegun: beginning !== null,
+    headline: parts.join(' ') || MENDED.cases, changes: isCounted ? changes.map(MENDED.change) : [],
+    count: changes.length + Number(beginning !== null), cost: wrong.length + (beginning?.slips ?? 0), isBegun: beginning !== null,
   };
 };

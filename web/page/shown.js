@@ -1,4 +1,5 @@
 // An answer as elements of the page. Text only ever goes into the page as text.
+import { PAGE } from './sentences.js';
 
 const GROUP = 4;
 
@@ -64,12 +65,23 @@ const columnsOf = (text, marked = []) =>
 // The text itself, to be read out and copied.
 const whole = (text) => element('p', 'unseen', element('code', '', text));
 
-const copying = (text, does) => element('p', '', button('copy', (it) => does.copy(it, text), 'Copy it'));
+const copying = (text, does) => element('p', '', button('copy', (it) => does.copy(it, text), PAGE.copy));
 
-const shownOffer = (isAlone, isSecret, does) => ({ headline, columns, changes, text, said }) =>
-  element('section', 'offer', ...(isAlone ? [] : [element('h3', '', headline)]), rows(columns, mendedColumn), whole(text),
-    ...(isSecret ? [] : [copying(text, does)]), element('ul', 'changes', ...changes.map((it) => element('li', '', it))),
-    ...paragraphs('', said));
+// Warnings stand above the button that they are about, each in a block of its own.
+const warned = (warnings) => paragraphs('caution', warnings);
+
+// A text with a name, in groups of four.
+const grouped = (text) => text.replace(/(.{4})(?=.)/g, '$1 ');
+const shownFact = ({ name, text }) => element('p', 'fact', `${name} `, element('code', '', grouped(text)));
+
+const shownChanges = (changes) => element('ul', 'changes', ...changes.map((it) => element('li', '', it)));
+
+// A mended text. Where it has a button, the warnings are just above that, however long the text is. What is said of a secret
+// stands below the button that shows it.
+const shownOffer = (isAlone, { isSecret, warnings, secretOf }, title, does) => ({ headline, columns, changes, text, said, facts }) =>
+  element('section', 'offer', ...(isAlone ? [] : [element(title, '', headline)]), rows(columns, mendedColumn), whole(text),
+    ...(isSecret ? [] : [...warned(warnings), copying(text, does)]), shownChanges(changes),
+    ...paragraphs('', secretOf ? [] : said), ...facts.map(shownFact));
 
 const shownText = ({ tone, text, marked, isSecret }, does) => {
   const shown = rows(columnsOf(text, marked), wrongColumn);
@@ -84,8 +96,7 @@ const shownChoices = (choices, does) =>
 const shownString = ({ title, tone, headline, said, text, marked, offers = [] }) =>
   element('section', 'string', element('h3', `verdict ${tone}`, title), ...paragraphs('', headline ? [headline] : []),
     ...(text === undefined ? [] : [rows(columnsOf(text, marked), wrongColumn)]),
-    ...offers.flatMap(({ columns, changes, text: mended }) => [rows(columns, mendedColumn), whole(mended),
-      element('ul', 'changes', ...changes.map((it) => element('li', '', it)))]),
+    ...offers.flatMap(({ columns, changes, text: mended }) => [rows(columns, mendedColumn), whole(mended), shownChanges(changes)]),
     ...paragraphs('', said));
 
 /** A secret, of which each text has a name. */
@@ -94,35 +105,46 @@ export const shownSecret = (parts) => parts.flatMap(({ name, text }) =>
 
 // A button that shows a secret behind it, and hides it again.
 const shownButton = (texts, does) => {
-  const room = element('div', 'secret'), it = button('reveal', () => does.reveal(it, room, texts), 'Show the secret');
+  const room = element('div', 'secret'), it = button('reveal', () => does.reveal(it, room, texts), PAGE.show);
   it.setAttribute('aria-expanded', 'false');
   return [element('p', '', it), room];
 };
 
+// A part of a link, as it would be alone below a title.
+const shownPart = (does) => ({ title, ...part }) =>
+  element('section', 'part', element('p', 'title', title), ...shownAnswer({ notes: [], ...part }, does, 'h3'));
+
 /**
  * An answer as elements; `does` has what the buttons do: `copy` a text, `choose` one for the field, and `reveal` the secret
- * that strings give.
+ * that strings give. The verdict is a title of that level.
  */
-export const shownAnswer = (answer, does) => {
-  const { tone, verdict, notes, said, text, offers = [], choices = [], strings = [], secretOf, caution, isSecret } = answer;
-  const isSet = strings.length > 0;
+export const shownAnswer = (answer, does, title = 'h2') => {
+  const { tone, verdict, notes, said, text, facts = [], offers = [], choices = [], strings = [], parts = [], secretOf } = answer;
+  const isSet = strings.length > 0, { warnings = [], isSecret } = answer, below = title === 'h2' ? 'h3' : 'h4';
   return [
-    element('h2', `verdict ${tone}`, verdict),
+    element(title, `verdict ${tone}`, verdict),
+    ...(offers.length > 0 && !isSecret ? [] : warned(warnings)),
     ...(text === undefined ? [] : shownText(answer, does)),
-    ...offers.map(shownOffer(offers.length === 1, isSecret, does)),
+    ...offers.map(shownOffer(offers.length === 1, { isSecret, warnings, secretOf }, below, does)),
     ...paragraphs('', isSet ? said : []),
     ...(secretOf ? shownButton(secretOf, does) : []),
-    ...paragraphs('caution', caution ? [caution] : []),
+    ...paragraphs('', secretOf ? offers.flatMap((it) => it.said) : []),
     ...paragraphs('', isSet ? [] : said),
+    ...facts.map(shownFact),
     ...strings.map(shownString),
+    ...parts.map(shownPart(does)),
     ...shownChoices(choices, does),
     ...paragraphs('note', notes),
   ];
 };
 
+const factSaid = ({ name, text }) => `${name} ${text}`;
+
 /** An answer as one text, to be spoken. */
-export const spoken = ({ verdict, notes, said, offers = [], strings = [], caution }) => {
-  const offered = offers.flatMap(({ headline, changes, said: more }) => [headline, ...changes, ...more]);
+export const spoken = ({ verdict, notes = [], said, facts = [], offers = [], strings = [], parts = [], warnings = [] }) => {
+  const offered = offers.flatMap((it) => [it.headline, ...it.changes, ...it.said, ...it.facts.map(factSaid)]);
   const each = strings.map(({ title, headline, said: more }) => [`${title}.`, headline, ...more].filter(Boolean).join(' '));
-  return [...new Set([verdict, ...offered, ...(caution ? [caution] : []), ...said, ...each, ...notes])].join(' ');
+  const named = parts.map(({ title, ...part }) => `${title}: ${spoken(part)}`);
+  const all = [verdict, ...warnings, ...offered, ...said, ...facts.map(factSaid), ...each, ...named, ...notes];
+  return [...new Set(all)].join(' ');
 };

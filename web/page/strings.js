@@ -1,8 +1,8 @@
 // The codex32 strings that stand in what was put in, where there are several: on lines of their own, in groups, or one
 // behind another.
 import { CODEX32, knownBeginning, nearBeginnings } from './beginnings.js';
+import { AROUND } from './sentences.js';
 import { withoutMarks, withoutQuotes } from './typed.js';
-import { listed } from './words.js';
 
 const LINES = /[\n\r]+/, PIECES = /[\s,;|]+/;
 const BEGINNING = /^(?:bitcoin:)?(?:bcrt|bc|tb|ms)1/i;
@@ -18,7 +18,8 @@ const isNear = (text) => nearBeginnings(text).some(({ from, to, slips }) => to =
 const isLong = ({ length }) => length >= LEAST_LONG && length <= MOST;
 
 const begins = (piece) => BEGINNING.test(piece);
-const apart = (piece) => (piece.length > MOST ? piece.replace(WITHIN, ' ').split(' ') : [piece]);
+const isStringLike = (piece) => begins(piece) || isNear(piece);
+const apart = (piece) => (piece.length > MOST && isStringLike(piece) ? piece.replace(WITHIN, ' ').split(' ') : [piece]);
 
 // What a piece of a line is: the `first` of a string, `more` of the one before it, or a `label`, which is no part of any.
 const kindOf = (piece, last, isLineStart, isBefore, isRight) => {
@@ -33,11 +34,8 @@ const kindOf = (piece, last, isLineStart, isBefore, isRight) => {
 
 const MOST_LABELS = 3;
 
-const labelsSaid = (labels) => {
-  if (labels.length === 0) return [];
-  const each = labels.slice(0, MOST_LABELS).map((it) => `“${it}”`), more = labels.length > MOST_LABELS ? ['others'] : [];
-  return [`What stands beside a string in its line was left out: ${listed([...each, ...more])}.`];
-};
+const labelsSaid = (labels) =>
+  (labels.length === 0 ? [] : [AROUND.labels(labels.slice(0, MOST_LABELS), labels.length > MOST_LABELS)]);
 
 /**
  * The strings in what was put in, with notes on what was left out, or null where these are no several codex32 strings.

@@ -1,23 +1,26 @@
 // What the page says of a Bech32 or Bech32m text.
-import { NETWORKS, isAddressLike, nearBeginnings } from './beginnings.js';
-import { CHECKSUMS, invoiceSaid, kindOf, lengthOf } from './kinds.js';
-import { MOST_UNREAD, addressesByEdit, errorsFor, offersFor } from './offers.js';
-import { faultsOf, readingOf, unreadSaid } from './reading.js';
+import { ADDRESS_PARTS, isAddressLike, nearBeginnings } from './beginnings.js';
+import { CHECKSUMS, checksumsOf, kindOf, lengthOf, slipSaid } from './kinds.js';
+import { MOST_UNREAD, errorsFor, offersByEdit, offersFor } from './offers.js';
+import { faultsOf, readingOf, sizeOf, unreadSaid } from './reading.js';
 import { mended, refusal, unfinished, unmended } from './saying.js';
+import { LENGTH, NONE, OTHER, VALID, WARNINGS } from './sentences.js';
 import { tried } from './tried.js';
-import { capital, listed, numeral } from './words.js';
+import { listed } from './words.js';
 
-const verdictOf = (name, isAddress, text) => {
-  if (isAddress) return `This is a right ${name} address.`;
-  return invoiceSaid(text) ? 'This is a right Lightning invoice.' : `This is a right ${name} text.`;
+const verdictOf = (name, { isAddress, known }) => {
+  if (isAddress) return VALID.address(name);
+  return known ? VALID.known(known.what, name) : VALID.text(name);
 };
 
-// A text that begins like an address, with a right checksum, and is none. One of Bech32 may lack a `q` before its last `p`.
-const brokenText = (library, text, name, { why, said }) => {
-  const offers = addressesByEdit(library, readingOf(text, '0'));
-  const put = `What was put in has a right ${name} checksum, and is no address although it begins like one. ${why}`;
-  if (offers.length) return mended(offers, [put]);
-  return { tone: 'wrong', verdict: `The ${name} checksum is right, but do not send to this.`, said, text, marked: [] };
+const secretOf = ({ known }) => (known?.isSecret ? { warnings: [WARNINGS.key], isSecret: true } : {});
+
+// A text of a known kind with a right checksum that is none of that kind. One of Bech32 may lack a `q` before its last `p`.
+const brokenText = (library, text, name, { known, why }) => {
+  const offers = offersByEdit(library, readingOf(text, '0'));
+  if (offers.length) return mended(offers, [VALID.typed(name, known.network ? VALID.anAddress : known.what, why)]);
+  const verdict = known.network ? VALID.broken(name) : VALID.brokenText(name, known.what);
+  return { tone: 'wrong', verdict, said: [known.network ? VALID.why(why) : why], text, marked: [], ...secretOf({ known }) };
 };
 
 /** What is said of a text that a checksum accepts, or null. */
@@ -25,42 +28,48 @@ export const ofRightText = (library, text) => {
   for (const [checksum, name] of CHECKSUMS) {
     const { value } = tried(() => library.check(checksum, text));
     if (!value) continue;
-    const kind = kindOf(library, text, value, name), { isAddress, isBroken, said } = kind;
+    const kind = kindOf(library, text, value, name), { isBroken, known, said, facts } = kind;
     if (isBroken) return brokenText(library, text, name, kind);
-    return { tone: 'right', verdict: verdictOf(name, isAddress, text), said, text };
+    if (!known?.isSecret) return { tone: 'right', verdict: verdictOf(name, kind), said, facts, text };
+    return { tone: 'warning', verdict: VALID.secret(known.what, name), said, warnings: [WARNINGS.key], isSecret: true };
   }
   return null;
 };
 
 // ---- texts that are wrong
 
-const WRONG = 'The checksum of what was put in is wrong, that of Bech32m and that of Bech32.';
+const ADDRESSES_BEGIN = listed(ADDRESS_PARTS.map((part) => `“${part}1”`), 'or');
 
-const ADDRESSES_BEGIN = listed(Object.keys(NETWORKS).map((hrp) => `“${hrp}1”`), 'or');
-const ERRORS = ['nothing', 'no change of one character', 'no change of one character or two'];
-
-const NO_EDIT = 'Nor does leaving one out, putting one in, or swapping two.';
+const wrongSaid = ({ known }) => {
+  const checksums = known ? checksumsOf(known) : CHECKSUMS;
+  return checksums.length > 1 ? NONE.wrong : NONE.wrongFor(checksums[0][1]);
+};
 
 const nothingSaid = (library, it) => {
   const { length } = it.unread;
-  if (length > MOST_UNREAD) return `At most ${numeral(MOST_UNREAD)} characters that cannot be read are found.`;
-  const errors = ERRORS[errorsFor(library, it)], more = length && errors !== ERRORS[0] ? ' more' : '';
-  const makes = `${errors}${more} ${isAddressLike(it.text) ? 'makes an address of it' : 'makes the checksum right'}.`;
-  if (length === 0) return `${capital(makes)} ${NO_EDIT}`;
-  return `Whatever ${length === 1 ? 'this character is' : 'these characters are'}, ${makes}`;
+  if (length > MOST_UNREAD) return NONE.tooMany(MOST_UNREAD);
+  return NONE.tried(errorsFor(library, it), length, isAddressLike(it.text));
 };
 
 // Where the beginning of an address may have been meant.
 const beginningSaid = (text) => {
   const near = nearBeginnings(text).find(({ from, slips }) => slips === 1 && from !== '');
-  return near ? [`It begins with “${near.from}”. Addresses begin with ${ADDRESSES_BEGIN}.`] : [];
+  return near ? [NONE.beginning(near.from, ADDRESSES_BEGIN)] : [];
 };
+
+// A text of a part that the page does not know: nothing is offered.
+const unknownText = (text, it, faults) => {
+  const [verdict, ...said] = [...(it.unread.length ? [] : [wrongSaid(it)]), ...faults];
+  return { tone: 'wrong', verdict, said: [...said, NONE.unknown(it.part), ...beginningSaid(text)], text, marked: it.unread };
+};
+
+const isSaid = ({ known }) => (known && !known.network ? [VALID.begins(known.what)] : []);
 
 // A text that nothing mends: its length is told first, where no address has it.
 const unmendedText = (library, text, it, faults) => {
   const length = lengthOf(library, text);
   if (length?.isShort && faults.length === 0) return unfinished(text, length);
-  const said = [...(faults.length || length ? faults : [WRONG]), nothingSaid(library, it), ...beginningSaid(text)];
+  const said = [...(faults.length || length ? faults : [wrongSaid(it)]), nothingSaid(library, it), ...isSaid(it)];
   const canMore = it.unread.length < MOST_UNREAD;
   return length ? unmended(it, [...length.slip, ...said], canMore, length.sentence) : unmended(it, said, canMore);
 };
@@ -68,20 +77,40 @@ const unmendedText = (library, text, it, faults) => {
 // A text that was mended. Where that changed its length, the wrong one is told.
 const mendedText = (library, it, offers) => {
   const [{ faults, isBegun, isEdited }] = offers, length = isEdited ? lengthOf(library, it.text) : null;
-  const wrong = length ? [length.whole] : [WRONG];
+  const wrong = length ? [length.whole] : [wrongSaid(it)];
   const isTold = isBegun || faults.length > 0 || (it.unread.length > 0 && !isEdited);
   return mended(offers, isTold ? faults : wrong);
+};
+
+// Texts of known kinds may be longer than the library reads.
+const MOST = 1023;
+const longText = (it) => {
+  const { verdict, said } = OTHER.long(it.known.what, it.characters.length, MOST);
+  return { tone: 'other', verdict, said, ...secretOf(it) };
+};
+
+// The front of a text of a known kind that has a fixed length, with no fault so far, or null.
+const begunText = (text, it) => {
+  const size = sizeOf(it), { known, separator, unread, isMixed, characters: { length } } = it, sizes = known?.sizes;
+  if (!sizes || unread.length > 0 || isMixed || size >= Math.min(...sizes)) return null;
+  const lengths = sizes.map((wanted) => separator + 1 + wanted);
+  const slip = slipSaid(length, lengths), verdict = LENGTH.soFar(known.what, length, lengths);
+  return { tone: 'open', verdict, said: slip, text, marked: [], ...secretOf(it) };
 };
 
 /** What is said of a text that no checksum accepts. */
 export const ofWrongText = (library, text) => {
   const it = readingOf(text, '0');
+  if (it.known && !it.known.network && it.characters.length > MOST) return longText(it);
   const offers = offersFor(library, it);
   if (offers.length) return mendedText(library, it, offers);
   const first = tried(() => library.check('bech32m', text)).refused;
   if (it.separator < 0) return refusal(text, first);
+  const begun = begunText(text, it);
+  if (begun) return begun;
   const faults = [...faultsOf(it, MOST_UNREAD), ...unreadSaid(it)];
   const { refused } = tried(() => library.check('bech32m', it.filled));
-  if (refused && refused.code !== 'WRONG_CHECKSUM') return refusal(text, refused, faults, it.unread);
-  return unmendedText(library, text, it, [...faults, ...[invoiceSaid(text)].filter(Boolean)]);
+  if (refused && refused.code !== 'WRONG_CHECKSUM') return { ...refusal(text, refused, faults, it.unread), ...secretOf(it) };
+  if (!it.known) return unknownText(text, it, faults);
+  return { ...unmendedText(library, text, it, faults), ...secretOf(it) };
 };

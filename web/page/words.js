@@ -1,8 +1,6 @@
 // What sentences are made of: numbers, places and lists in words.
 
 const NUMERALS = ['no', 'one', 'two', 'three', 'four', 'five', 'six', 'seven', 'eight', 'nine', 'ten', 'eleven', 'twelve'];
-const ENDINGS = { one: 'st', two: 'nd', few: 'rd', other: 'th' };
-const ORDINALS = new Intl.PluralRules('en', { type: 'ordinal' });
 
 export const grouped = (n) => n.toLocaleString('en');
 export const numeral = (n) => NUMERALS[n] ?? grouped(n);
@@ -10,9 +8,6 @@ export const capital = (words) => words.charAt(0).toUpperCase() + words.slice(1)
 
 /** A number of things at the head of a sentence. */
 export const counted = (n, one, more) => `${capital(numeral(n))} ${n === 1 ? one : more}`;
-
-/** A place, from 0 on, as people count: the 1st, the 2nd. */
-export const nth = (place) => `${grouped(place + 1)}${ENDINGS[ORDINALS.select(place + 1)]}`;
 
 export const listed = (parts, word = 'and') =>
   (parts.length < 2 ? parts.join('') : `${parts.slice(0, -1).join(', ')} ${word} ${parts.at(-1)}`);

@@ -30,7 +30,10 @@ export const isLowered: boolean;
 /** A character that is to be changed: `from` stands at `place` of the text, from 0 on, and `to` is right. */
 export interface Change { readonly place: number; readonly from: string; readonly to: string }
 
-/** A text mended: in lower case, with these changes, none where it was right. It is a guess at what was meant. */
+/**
+ * A corrected text with its changes, none where the text was valid. It has the case of the text given: upper case where that
+ * has upper-case letters and no lower-case ones, else lower case. It is a guess at what was meant.
+ */
 export interface Correction { readonly text: string; readonly changes: readonly Change[] }
 
 /** The text of bytes under a human-readable part, in lower case. Throws `Refused`. */
@@ -64,7 +67,7 @@ export function nearest(
 /**
  * What is done to a mistyped text: two neighbours are `swapped`, a character is left out (`leftOut`) or put in (`putIn`).
  * `place` is from 0 on that of the first of the two, of the character that is left out, and of the one that is put in where
- * it then stands; `characters` are these one or two in lower case, those that are swapped as they were put in.
+ * it then stands; `characters` are these one or two in the case of the text, those that are swapped as they were put in.
  */
 export interface Edit {
   readonly kind: 'swapped' | 'leftOut' | 'putIn';
@@ -72,7 +75,7 @@ export interface Edit {
   readonly characters: string;
 }
 
-/** A text that one edit makes of another, in lower case. It is a guess at what was meant. */
+/** A text that one edit makes of another, in the case of that one. It is a guess at what was meant. */
 export interface NearEdit { readonly text: string; readonly edit: Edit }
 
 /**
@@ -101,10 +104,10 @@ export const codex32: {
   /**
    * The nearest string to a damaged one, in which each `?` is a character that cannot be read; null where there is
    * none. Twice the wrong characters, with the unreadable ones, are eight at most. Neither threshold nor share index is
-   * tested. Throws `Refused`.
+   * tested. The answer has the case of the text given. Throws `Refused`.
    */
   propose(text: string): Correction | null;
-  /** The same of a long string, of 125 to 127 characters. */
+  /** Like `propose`, for a long string of 125 to 127 characters. */
   proposeLong(text: string): Correction | null;
   /**
    * A share, or the secret at the share index `s`, of 48 to 93 characters or of 125 to 127: its threshold, 0 or from 2

@@ -39,14 +39,23 @@ const accepted = (answer, why) => {
   return answer;
 };
 
+// What a call finds for a text, in the case of that text: in upper case where it has upper-case letters and no others.
+const inCaseOf = (given, found) => (/[A-Z]/.test(given) && !/[a-z]/.test(given) ? found.toUpperCase() : found);
+
 // The places of a text at which another has other characters, and those that were given, in rising order.
 const changesOf = (before, after, given) =>
   Array.from(before, (from, place) => ({ place, from, to: after[place] }))
-    .filter(({ place, from, to }) => given.has(place) || asciiLower(from) !== to);
+    .filter(({ place, from, to }) => given.has(place) || asciiLower(from) !== asciiLower(to));
+
+// A correction as users get it, with its changes and those places that were given.
+const correctionOf = (given, found, known) => {
+  const after = inCaseOf(given, found);
+  return { text: after, changes: changesOf(given, after, new Set(known)) };
+};
 
 // An edit of a text by its place: that of the first of two that are swapped, of a character that is left out, or of one that
 // is put in, in the text that it makes.
-const editOf = (before, { kind, location, text: after }) => {
+const editOf = (before, after, { kind, location }) => {
   const it = kind === 'putIn' ? after : before, size = kind === 'swapped' ? 2 : 1;
   const place = it.length - size - location;
   return { kind, place, characters: it.slice(place, place + size) };
@@ -108,7 +117,7 @@ const mendingCalls = (calls, reasons) => ({
     const answer = calls.correct(number, given, known.map((place) => given.length - 1 - place));
     if (answer.number === NO_CORRECTION) return null;
     accepted(answer, (n) => reasons.text(n, given, number));
-    return { text: answer.text, changes: changesOf(given, answer.text, new Set(answer.errors.length ? known : [])) };
+    return correctionOf(given, answer.text, answer.errors.length ? known : []);
   },
   nearest(checksum, given, places = [], errors = 2) {
     const number = numberOf(checksum);
@@ -116,12 +125,15 @@ const mendingCalls = (calls, reasons) => ({
     if (![0, 1, 2].includes(errors)) throw new RangeError('the number of errors is none of 0, 1 and 2');
     const answer = calls.nearest(number, given, known.map((place) => given.length - 1 - place), errors);
     listable(answer, (n) => reasons.text(n, given, number));
-    return answer.texts.map((it) => ({ text: it, changes: changesOf(given, it, new Set(known)) }));
+    return answer.texts.map((it) => correctionOf(given, it, known));
   },
   nearEdits(checksum, given) {
     const number = numberOf(checksum), answer = calls.nearEdits(number, text(given));
     listable(answer, (n) => reasons.text(n, given, number));
-    return answer.edits.map((it) => ({ text: it.text, edit: editOf(asciiLower(given), it) }));
+    return answer.edits.map(({ text: found, ...edit }) => {
+      const after = inCaseOf(given, found);
+      return { text: after, edit: editOf(given, after, edit) };
+    });
   },
 });
 
@@ -174,13 +186,13 @@ const codex32Functions = (calls, reasons) => ({
     const answer = calls.propose(text(given));
     if (answer.number === NO_CORRECTION) return null;
     accepted(answer, (n) => reasons.damaged(n, given));
-    return { text: answer.text, changes: changesOf(given, answer.text, new Set()) };
+    return correctionOf(given, answer.text, []);
   },
   proposeLong(given) {
     const answer = calls.proposeLong(text(given));
     if (answer.number === NO_CORRECTION) return null;
     accepted(answer, (n) => reasons.damagedLong(n, given));
-    return { text: answer.text, changes: changesOf(given, answer.text, new Set()) };
+    return correctionOf(given, answer.text, []);
   },
   share(given) {
     const answer = accepted(calls.share(text(given)), (n) => reasons.share(n, given));

@@ -2,7 +2,11 @@
 import test from 'node:test';
 import assert from 'node:assert/strict';
 import { answer } from '../page/answer.js';
+import { MOST_FALSE, falseAnswers, textsByEdit, textsWithin } from '../page/chance.js';
 import { secretSaid } from '../page/codex32.js';
+import { errorsFor } from '../page/offers.js';
+import { readingOf, sizeOf } from '../page/reading.js';
+import { SET } from '../page/sentences.js';
 import { spoken } from '../page/shown.js';
 import { library } from '../src/library.js';
 import { compiled } from '../out/package/modules.js';
@@ -17,6 +21,7 @@ const all = (found) => JSON.stringify(found);
 const V0 = 'bc1qw508d6qejxtdg4y5r3zarvary0c5xw7kv8f3t4';
 const V1 = 'bc1p4w46h2at4w46h2at4w46h2at4w46h2at5kreae';
 const TAPROOT = 'bc1p0xlxvlhemja6c4dqv22uapctqupfhlxm9h8z3k2e72q4k9hcz7vqzk5jj0';
+const SILENT = 'sp1qqgste7k9hx0qftg6qmwlkqtwuy6cycyavzmzj85c6qdfhjdpdjtdgqjuexzk6murw56suy3e0rd2cgqvycxttddwsvgxe2usfpxumr70xc9pkqwv';
 const ENDS_IN_P = 'bc1qpvqqwpc8qurswpc8qurswpc8qurswpc86ndzqp';
 const STRING = 'ms10testsxxxxxxxxxxxxxxxxxxxxxxxxxx4nzvca9cmczlw';
 const SHARE = 'ms12testaxxxxxxxxxxxxxxxxxxxxxxxxxxk2htcew89530d';
@@ -32,44 +37,45 @@ test('nothing', () => {
 
 test('right addresses', () => {
   const found = said(V0);
-  assert.deepEqual([found.tone, found.verdict, found.notes], ['right', 'This is a right Bech32 address.', []]);
-  assert.deepEqual(found.said, ['It is a segwit address of Bitcoin.', 'It pays to the hash of a key (P2WPKH).',
-    'Witness version 0, program of 20 bytes: 751e76e8199196d454941c45d1b3a323f1433bd6']);
+  assert.deepEqual([found.tone, found.verdict, found.notes], ['right', 'This is a valid Bech32 address.', []]);
+  assert.deepEqual(found.said, ['It is a segwit address of Bitcoin.', 'It pays to the hash of a public key (P2WPKH).']);
+  assert.deepEqual(found.facts, [{ name: 'Witness version 0, program of 20 bytes:', text: '751e76e8199196d454941c45d1b3a323f1433bd6' }]);
   assert.equal(said(V0.toUpperCase()).tone, 'right');
-  assert.match(all(said(TAPROOT)), /right Bech32m address.*Taproot/);
+  assert.match(all(said(TAPROOT)), /valid Bech32m address.*Taproot/);
   assert.match(all(said('tb1qw508d6qejxtdg4y5r3zarvary0c5xw7kxpjzsx')), /the Bitcoin test networks/);
-  assert.match(all(said('ltc1qw508d6qejxtdg4y5r3zarvary0c5xw7kgmn4n9')), /of no Bitcoin network: its human-readable part is “ltc”/);
+  assert.match(all(said('ltc1qw508d6qejxtdg4y5r3zarvary0c5xw7kgmn4n9')), /This is a valid Bech32 address\..*It is a segwit address of Litecoin\./);
+  assert.match(all(said(it.segwit.encode('abcd', 1, new Uint8Array(32)))), /built like a segwit address, but this page knows no network with the part “abcd”/);
 });
 
 test('what stands around an address', () => {
   assert.deepEqual(said(`  ${V0}\n`).notes, []);
-  assert.deepEqual(said(V0.replace(/(....)/g, '$1 ')).notes, ['The spaces within the text were left out.']);
+  assert.deepEqual(said(V0.replace(/(....)/g, '$1 ')).notes, ['The spaces in it were left out.']);
   for (const scheme of ['bitcoin:', 'BITCOIN:', 'Bitcoin:']) {
     const found = said(`${scheme}${V0}`);
-    assert.deepEqual([found.tone, found.notes], ['right', [`The address was taken out of a link for payments (“${scheme}”).`]]);
+    assert.deepEqual([found.tone, found.notes], ['right', [`The “${scheme}” before it was left out.`]]);
   }
   const paid = said(`bitcoin:${V0}?amount=0.1&label=x`);
   assert.deepEqual([paid.tone, paid.notes.length], ['right', 1]);
   for (const quoted of [`"${V0}"`, `'${V0}'`, `“${V0}”,`, `«${V0}»`, `\`${V0}\``, `${V0}.`]) {
-    assert.deepEqual([said(quoted).tone, said(quoted).notes], ['right', ['The quotes or stops around it were left out.']], quoted);
+    assert.deepEqual([said(quoted).tone, said(quoted).notes], ['right', ['The quotes or punctuation around it were left out.']], quoted);
   }
   const unread = said(`bitcoin:${at(V0, 20, '?')}?amount=0.1`);
   assert.deepEqual(unread.offers.map(({ text }) => text), [V0]);
 });
 
 test('texts that are no addresses', () => {
-  assert.match(all(said('a12uel5l')), /right Bech32 text.*no address: a text with the human-readable part “a” and 0 characters of data/);
-  assert.match(all(said('a1lqfn3a')), /right Bech32m text/);
+  assert.match(all(said('a12uel5l')), /valid Bech32 text.*a text with the part “a” and 0 characters of data/);
+  assert.match(all(said('a1lqfn3a')), /valid Bech32m text/);
   const invoice = it.encode('bech32', 'lnbc2500u', new Uint8Array(300).fill(7));
-  assert.equal(said(`lightning:${invoice}`).verdict, 'This is a right Lightning invoice.');
-  assert.match(all(said(invoice)), /longer than an address\. It is read as a text/);
+  assert.equal(said(`lightning:${invoice}`).verdict, 'This is a Lightning invoice, and its Bech32 checksum is right.');
+  assert.match(all(said(invoice)), /tests its checksum, but not its amount or its signature/);
 });
 
 test('an address with the checksum of the other kind is no address', () => {
   const found = said('bc1p0xlxvlhemja6c4dqv22uapctqupfhlxm9h8z3k2e72q4k9hcz7vqh2y7hd');
-  assert.deepEqual([found.tone, found.verdict], ['wrong', 'The Bech32 checksum is right, but do not send to this.']);
-  assert.deepEqual(found.said, ['It is no address, although it begins like one. An address of this version has the other checksum, Bech32m.']);
-  assert.match(all(said('BC1QR508D6QEJXTDG4Y5R3ZARVARYV98GJ9P')), /do not send to this.*The program has 16 bytes/);
+  assert.deepEqual([found.tone, found.verdict], ['wrong', 'The Bech32 checksum is right, but this is not a valid address. Do not send to it.']);
+  assert.deepEqual(found.said, ['It begins like an address. An address of this version must have the other checksum, Bech32m.']);
+  assert.match(all(said('BC1QR508D6QEJXTDG4Y5R3ZARVARYV98GJ9P')), /Do not send to it.*The program has 16 bytes/);
 });
 
 test('each single error of an address is marked and mended, with a caution', () => {
@@ -78,53 +84,171 @@ test('each single error of an address is marked and mended, with a caution', () 
       const found = said(damaged), place = Array.from(text).findIndex((c, i) => c !== damaged[i]);
       const [offer] = found.offers;
       assert.equal(found.tone, 'mended');
-      assert.match(found.verdict, new RegExp(`^One character was wrong: the ${place + 1}[a-z]{2}, “${damaged[place]}” for “${text[place]}”\\.$`));
-      assert.match(found.caution, /^A correction is a guess/);
-      assert.deepEqual(found.said, ['The checksum of what was put in is wrong, that of Bech32m and that of Bech32.']);
+      assert.match(found.verdict, new RegExp(`^Character ${place + 1} should be ${text[place]}, not ${damaged[place]}\\.$`));
+      assert.match(found.warnings[0], /^Compare this with the source.*a correction is a guess/);
+      assert.deepEqual(found.said, ['As typed, the checksum is wrong for both Bech32m and Bech32.']);
       assert.deepEqual([offer.text, placesOf(offer), beforeOf(offer), offer.changes], [text, [place], damaged, []]);
     }
   }
 });
 
 test('both checksums, where both have an answer', () => {
-  // Two errors whose remainder is the difference of the two targets: either checksum takes one of them for right.
-  const bytes = new Uint8Array(620).fill(5), text = it.encode('bech32m', 'a', bytes);
-  const places = text.length - 2, seen = new Map();
-  for (let location = 0; location < places; location++) {
-    for (let value = 1; value < 32; value++) seen.set(effectOf(location, value), { location, value });
+  // An address of version 0 and one of another version that differ in three more characters: each is two changes away from
+  // a text between them. The four changes are those whose remainders add up to the difference of the two targets.
+  const text = it.segwit.encode('bc', 0, new Uint8Array(32).fill(5)), last = text.length - 4, pairs = new Map();
+  for (let location = 7; location < last; location++) {
+    for (let value = 1; value < 32; value++) pairs.set(effectOf(location, value), { location, value });
   }
-  const [sum, first] = [...seen].find(([effect]) => seen.has(effect ^ TARGETS.bech32 ^ TARGETS.bech32m));
-  const second = seen.get(sum ^ TARGETS.bech32 ^ TARGETS.bech32m);
-  const damaged = added(text, first), other = added(damaged, second);
-  const found = said(damaged);
-  assert.equal(found.verdict, 'Two texts are near to this one, and one at most is what was meant.');
-  assert.deepEqual(found.offers.map(({ said: [right], text: mended }) => [right, mended]).sort(),
-    [['It is then a right Bech32 text.', other], ['It is then a right Bech32m text.', text]]);
-  assert.match(found.caution, /^A correction is a guess/);
+  const found = () => {
+    for (let version = 1; version <= 16; version++) {
+      const first = { location: last, value: version }, wanted = effectOf(last, version) ^ TARGETS.bech32 ^ TARGETS.bech32m;
+      for (const [one, second] of pairs) {
+        for (const [two, third] of pairs) {
+          const fourth = pairs.get(wanted ^ one ^ two);
+          if (second.location < third.location && fourth && third.location < fourth.location) return [first, second, third, fourth];
+        }
+      }
+    }
+    return null;
+  };
+  const changes = found(), damaged = changes.slice(0, 2).reduce(added, text), other = changes.slice(2).reduce(added, damaged);
+  const both = said(damaged);
+  assert.equal(both.verdict, 'Two addresses are close to this. At most one of them is the one you want.');
+  assert.deepEqual(both.offers.map(({ said: [valid], text: mended }) => [valid, mended]).sort(),
+    [['With these changes it is a valid Bech32 address.', text], ['With these changes it is a valid Bech32m address.', other]]);
+  assert.match(both.warnings[0], /^Compare this with the source/);
 });
 
 test('a mended text that is an address with the checksum of the other kind is not offered', () => {
   const broken = 'bc1p0xlxvlhemja6c4dqv22uapctqupfhlxm9h8z3k2e72q4k9hcz7vqh2y7hd';
   const found = said(at(broken, 20, broken[20] === 'q' ? 'p' : 'q'));
   assert.deepEqual([found.tone, found.verdict, found.offers], ['wrong', 'No correction was found.', undefined]);
-  assert.ok(found.said.includes('No change of one character or two makes an address of it. Nor does leaving one out, putting one in, or swapping two.'));
+  assert.ok(found.said.includes('No change of one or two characters makes it a valid address. Nor does leaving one out, adding one, or swapping two.'));
 });
 
 test('how many wrong characters are looked for beside those that cannot be read', () => {
+  // One that a correction finds is not looked for again. In texts of 300 characters two would be found too often by chance.
   const asked = [], counting = { ...it, nearest: (...given) => { asked.push(given[3]); return it.nearest(...given); } };
-  const long = it.encode('bech32', 'a', new Uint8Array(60).fill(9));
-  const wrong = (text, unread) => Array.from(text, (c, i) => (i > 10 && i <= 10 + unread ? '?' : [2, 5, 30, 31, 32].includes(i) ? (c === 'q' ? 'p' : 'q') : c)).join('');
-  for (const [text, unread, errors] of [[V0, 0, 2], [V0, 1, 2], [V0, 2, 2], [V0, 3, 1], [long, 0, 2], [long, 1, 2], [long, 2, 1], [long, 3, 1]]) {
+  const texts = { 42: V0, 62: TAPROOT, 116: SILENT, 300: it.encode('bech32', 'lnbc', new Uint8Array(180).fill(9)) };
+  const wrong = (text, unread) => Array.from(text, (c, i) => (i > 15 && i <= 15 + unread ? '?' : [7, 12, 30, 31, 32].includes(i) ? (c === 'q' ? 'p' : 'q') : c)).join('');
+  for (const [length, unread, errors] of [[42, 0, 2], [42, 1, null], [42, 2, 1], [42, 3, null], [62, 0, 2], [62, 1, null], [62, 2, 1], [62, 3, null],
+    [116, 0, 2], [116, 2, 1], [300, 0, null], [300, 1, null], [300, 2, 1]]) {
     asked.length = 0;
-    answer(counting, wrong(text === V0 ? `a${V0.slice(2)}` : text, unread));
-    assert.ok(asked.length > 0 && asked.every((it) => it === errors), `${unread} in ${text.length}: ${asked}`);
+    const found = answer(counting, wrong(texts[length], unread));
+    assert.deepEqual(new Set(asked), new Set(errors === null ? [] : [errors]), `${unread} in ${length}: ${asked}`);
+    if (found.tone === 'wrong') assert.match(found.said.join(' '), errors === 2 ? /one or two characters/ : unread < 3 ? /of one character/ : /./);
   }
+});
+
+test('how many false answers are to be expected, and that none is shown above the stated figure', () => {
+  // By each checksum, of texts at random: of 59 characters of data, two of which are wrong, 15 in 10,000.
+  const round = (it) => Math.round(it * 10000);
+  assert.equal(round(falseAnswers(textsWithin(59, 0, 2))), 15);
+  assert.equal(round(falseAnswers(textsWithin(59, 1, 2))), 474);
+  assert.equal(textsWithin(3, 1, 1), 32 * (1 + 31 * 2));
+  assert.equal(textsByEdit(2), 1 + 2 + 3 * 32);
+  assert.equal(MOST_FALSE, 0.01);
+  for (const [text, most] of [[V0, 2], [TAPROOT, 2], [SILENT, 2], [`lnbc1${'q'.repeat(146)}`, 2], [`lnbc1${'q'.repeat(150)}`, 1], [`addr1${'q'.repeat(98)}`, 2], [`lnbc1${'q'.repeat(1000)}`, 1]]) {
+    const reading = readingOf(text, '0'), size = sizeOf(reading), errors = errorsFor(it, reading), checksums = reading.known.network ? 2 : 1;
+    assert.equal(errors, most, text);
+    assert.ok(falseAnswers(checksums * (textsWithin(size, 0, errors) + textsByEdit(size))) <= MOST_FALSE);
+    assert.ok(errors === 2 || falseAnswers(checksums * (textsWithin(size, 0, errors + 1) + textsByEdit(size))) > MOST_FALSE);
+  }
+});
+
+test('of a part that it does not know the page offers nothing', () => {
+  for (const hrp of ['a', 'abcd', 'ln0', 'lmo', 'lnp', 'iq', 'lg', 'tiq', 'el2', 'oh', 'x-foo', 'npud', 'spp', 'nc']) {
+    const text = it.encode('bech32', hrp, new Uint8Array(40).fill(3)), place = text.length - 9;
+    assert.equal(said(text).tone, 'right', hrp);
+    for (const typed of [at(text, place, text[place] === 'q' ? 'p' : 'q'), text.slice(0, -1), `${text}q`, at(text, place, '?')]) {
+      const found = said(typed);
+      assert.deepEqual([found.tone, found.offers], ['wrong', undefined], typed);
+      assert.match([found.verdict, ...found.said].join(' '), new RegExp(`(?:checksum is wrong for both.*|unreadable\\..*)This page does not know texts that begin with “${hrp}1”, so it offers no correction`));
+    }
+  }
+});
+
+test('what is mended has the case of what was typed', () => {
+  for (const text of [V0, TAPROOT, SILENT, STRING, LONG[0], it.encode('bech32', 'age-secret-key-', new Uint8Array(32).fill(7))]) {
+    const place = text.length - 9, wrong = at(text, place, text[place] === 'q' ? 'p' : 'q');
+    const missing = text.slice(0, place) + text.slice(place + 1), begun = `${text.slice(0, 2)}l${text.slice(3)}`;
+    const many = text.startsWith('ms1') || text === SILENT || text.startsWith('age') ? [wrong] : [wrong, missing, begun, text.slice(3), `${text.slice(0, 20)}-${text.slice(20)}`];
+    for (const typed of many) {
+      assert.deepEqual([said(typed).tone, said(typed).offers[0].text], ['mended', text], typed);
+      assert.deepEqual([said(typed.toUpperCase()).tone, said(typed.toUpperCase()).offers[0].text], ['mended', text.toUpperCase()], typed);
+    }
+    assert.equal(said(text.slice(0, 10).toUpperCase() + wrong.slice(10)).offers[0].text, text);
+  }
+});
+
+test('a mended text that has not the length of its kind is not offered', () => {
+  for (const [hrp, size] of [['npub', 31], ['age', 33], ['cosmos', 21], ['zs', 42], ['xch', 31]]) {
+    const text = it.encode(hrp === 'xch' ? 'bech32m' : 'bech32', hrp, new Uint8Array(size).fill(7)), place = text.length - 9;
+    assert.equal(said(at(text, place, text[place] === 'q' ? 'p' : 'q')).offers, undefined, hrp);
+  }
+  const short = it.encode('bech32', 'npub', new Uint8Array(31).fill(7));
+  assert.deepEqual([said(short).tone, said(short).verdict], ['wrong', 'The Bech32 checksum is right, but this is not a nostr public key. Do not use it.']);
+  assert.deepEqual(said(short).said, ['It has 61 characters, and such a text has 63.']);
+  const other = said(it.encode('bech32m', 'npub', new Uint8Array(32).fill(7)));
+  assert.deepEqual([other.tone, other.said], ['wrong', ['Such a text must have the other checksum, Bech32.']]);
+});
+
+test('the front of a text of a known kind', () => {
+  const npub = it.encode('bech32', 'npub', new Uint8Array(32).fill(7)), nsec = it.encode('bech32', 'nsec', new Uint8Array(32).fill(7));
+  assert.deepEqual([said(npub.slice(0, 30)).tone, said(npub.slice(0, 30)).verdict], ['open', 'This begins like a nostr public key: 30 characters so far, of 63.']);
+  assert.deepEqual(said(npub.slice(0, 61)).said, ['If this is all of it, two characters are missing.']);
+  assert.match(said('npub1').verdict, /: five characters so far, of 63\.$/);
+  assert.match(said('osmo1qqqqqqq').verdict, /^This begins like an Osmosis address: twelve characters so far, of 43 or 63\.$/);
+  assert.ok(said(nsec.slice(0, 30)).warnings.length === 1 && said(nsec.slice(0, 30)).isSecret);
+});
+
+test('secrets are warned of, and are not to be copied', () => {
+  const nsec = it.encode('bech32', 'nsec', new Uint8Array(32).fill(7)), age = it.encode('bech32', 'age-secret-key-', new Uint8Array(32).fill(7)).toUpperCase();
+  for (const text of [nsec, nsec.toUpperCase(), age, it.encode('bech32', 'secret-extended-key-main', new Uint8Array(169)), it.encode('bech32', 'addr_xsk', new Uint8Array(64))]) {
+    const found = said(text), wrong = said(at(text, text.length - 9, text.at(-9) === 'q' || text.at(-9) === 'Q' ? 'p' : 'q'));
+    assert.deepEqual([found.tone, found.isSecret, found.warnings.length], ['warning', true, 1], text);
+    assert.match(found.verdict, /^This is a secret: a.* private key\. Its Bech32 checksum is right\.$/);
+    assert.ok(wrong.isSecret && wrong.warnings.some((warning) => /^Clear the field now/.test(warning)), text);
+  }
+  const short = said(it.encode('bech32', 'nsec', new Uint8Array(31).fill(7)));
+  assert.deepEqual([short.tone, short.isSecret, short.warnings.length, short.said], ['wrong', true, 1, ['It has 61 characters, and such a text has 63.']]);
+  assert.match(said(age.toLowerCase()).said[0], /^age accepts this key only in upper case\./);
+  const file = `# created: 2026-01-01\n# public key: ${it.encode('bech32', 'age', new Uint8Array(32))}\n${age}\n`;
+  for (const typed of [file, `my key is ${nsec}`, `key: xprv9s21ZrQH143K3QTDL4LXw2F7HEK3wJUD2nW2nRk4stbPy6cq3jPPqjiChkVvvNKmPGJxWUtg6LnF5kejMRNNU3TGtRBeJgk33yuGBxrMPHi`]) {
+    assert.deepEqual([said(typed).tone, said(typed).warnings.length, said(typed).text], ['warning', 1, undefined], typed);
+    assert.match(said(typed).verdict, /^There is a secret in this text: .*\. Do not type it into any page\.$/);
+  }
+  for (const typed of [STRING, SHARE, STRING.slice(0, 40), at(at(STRING, 20, 'q'), 30, 'q')]) assert.ok(said(typed).warnings.some((it) => /^Type it only on a computer that is offline/.test(it)), typed);
+});
+
+test('schemes are taken off, and the parts of a link are read', () => {
+  const npub = it.encode('bech32', 'npub', new Uint8Array(32).fill(7)), invoice = it.encode('bech32', 'lnbc2500u', new Uint8Array(150).fill(7));
+  for (const [typed, verdict] of [[`nostr:${npub}`, /nostr public key/], [`NOSTR:${npub.toUpperCase()}`, /nostr public key/], [`lightning:${invoice}`, /Lightning invoice/],
+    [`Lightning://${invoice}`, /Lightning invoice/], [`zcash:${it.encode('bech32m', 'u', new Uint8Array(70))}?amount=1`, /unified Zcash address/], ['liquidnetwork:lq1qqf8er278e6n', /confidential Liquid/],
+    [`bitcoin:?sp=${SILENT}`, /silent payment address/], [`BITCOIN:?SP=${SILENT.toUpperCase()}`, /silent payment address/], [`bitcoin:?lno=lno1pqps7sjq`, /Lightning offer/], [`bitcoin:?lightning=${invoice}&amount=1`, /Lightning invoice/], [`bitcoin:?bc=${V0}`, /valid Bech32 address/]]) {
+    const found = said(typed);
+    assert.match(found.verdict, verdict, typed);
+    assert.match(found.notes.join(' '), /^The “[A-Za-z]+:” before it was left out\./, typed);
+  }
+  const found = said(`bitcoin:${at(V0, 27, 't')}?amount=1&sp=${SILENT}&lightning=${at(invoice, 60, 'q')}&lno=lno1pqps7sjq`);
+  assert.deepEqual([found.tone, found.verdict], ['other', 'This link names four ways to pay.']);
+  assert.deepEqual(found.parts.map(({ title, tone, offers }) => [title, tone, offers?.[0].text]), [['The address', 'mended', V0], ['The silent payment address (sp=)', 'right', undefined], ['The Lightning invoice (lightning=)', 'mended', invoice], ['The Lightning offer (lno=)', 'other', undefined]]);
+  assert.match(spoken(found), /The address: Character 28 should be r, not t\./);
+  assert.deepEqual([said('bitcoin:?amount=1').tone, said('bitcoin:?amount=1').verdict], ['other', 'This link has no address in it.']);
+  assert.equal(said(`bitcoin:?sp=${at(SILENT, 100, SILENT[100] === 'q' ? 'p' : 'q')}`).offers[0].text, SILENT);
+});
+
+test('of several texts of known kinds each is chosen', () => {
+  const npub = it.encode('bech32', 'npub', new Uint8Array(32).fill(7)), nsec = it.encode('bech32', 'nsec', new Uint8Array(32).fill(7));
+  assert.deepEqual([said(`${npub} ${SILENT}`).choices, said(`${npub} ${SILENT}`).verdict], [[npub, SILENT], 'Two texts stand here, and this page reads one at a time.']);
+  assert.match(said(`${nsec}\n${nsec.toUpperCase()}`).warnings.join('|'), /^Clear the field now[^|]*$/);
+  assert.equal(said(npub.replace(/(....)/g, '$1 ')).tone, 'right');
 });
 
 test('more changes than three are counted, and listed', () => {
   const found = said(at(at(at(at(STRING, 5, 'q'), 15, 'q'), 25, 'q'), 40, 'q'));
-  assert.equal(found.verdict, 'Four characters were wrong.');
-  assert.deepEqual(found.offers[0].changes.slice(0, 1), [`Character 6: “q” becomes “${STRING[5]}”.`]);
+  assert.equal(found.verdict, 'Four characters are wrong.');
+  assert.deepEqual(found.offers[0].changes.slice(0, 1), [`Character 6 should be ${STRING[5]}, not q.`]);
   assert.equal(found.offers[0].changes.length, 4);
 });
 
@@ -135,9 +259,9 @@ test('each missing, doubled and swapped character of an address is found, with i
       const { [place]: it, [place + 1]: next } = text, front = text.slice(0, place), behind = text.slice(place + 1);
       const end = place + /^(.)\1*/.exec(text.slice(place))[0].length - 1;
       for (const [typed, said1, columns] of [
-        [front + behind, /^One character is missing: the \d+(?:st|nd|rd|th), “.”\.$/, [`>${it}@${end}`]],
-        [front + it + it + behind, /^One character too many: the \d+(?:st|nd|rd|th), “.”\.$/, [`${it}>@${end + 1}`]],
-        [front + next + it + behind.slice(1), /^Two neighbours were swapped: the \d+.. and the \d+.., “.” and “.”\.$/, [`${next}>${it}@${place}`, `${it}>${next}@${place + 1}`]],
+        [front + behind, /^One character is missing: ., as character \d+\.$/, [`>${it}@${end}`]],
+        [front + it + it + behind, /^One character is too many: character \d+, .\.$/, [`${it}>@${end + 1}`]],
+        [front + next + it + behind.slice(1), /^Two neighbours are swapped: characters \d+ and \d+ should be .., not ..\.$/, [`${next}>${it}@${place}`, `${it}>${next}@${place + 1}`]],
       ]) {
         if (typed === text || typed.includes('undefined')) continue;
         const found = said(typed);
@@ -145,26 +269,26 @@ test('each missing, doubled and swapped character of an address is found, with i
         assert.match(found.verdict, said1);
         assert.deepEqual(columnsOf(found.offers[0]), columns, typed);
         assert.equal(beforeOf({ columns: found.offers[0].columns.map((one) => ({ from: one.from ?? '' })) }), typed);
-        assert.match(found.caution, /^A correction is a guess/);
+        assert.match(found.warnings[0], /^Compare this with the source/);
       }
     }
   }
 });
 
 test('a text that ends in p has a word on the weakness of Bech32, below one that wrong characters explain', () => {
-  const WORD = 'Bech32 also accepts a text that ends in “p” with any number of “q” before that. So look at the end of this one twice.';
+  const WORD = 'Bech32 accepts a text that ends in “p” with any number of “q” before that “p”. Check the end of this one twice.';
   const before = (text, end) => `${text.slice(0, -1)}${end}`;
   for (const [typed, verdict] of [
-    [before(ENDS_IN_P.slice(0, -1), 'p'), 'One character is missing: the 41st, “q”.'], [before(ENDS_IN_P, 'qp'), 'One character too many: the 42nd, “q”.'],
-    [before(ENDS_IN_P, ''), 'One character is missing: the 42nd, “p”.'], [before(ENDS_IN_P.slice(0, -1), 'pq'), 'Two neighbours were swapped: the 41st and the 42nd, “p” and “q”.'],
+    [before(ENDS_IN_P.slice(0, -1), 'p'), 'One character is missing: q, as character 41.'], [before(ENDS_IN_P, 'qp'), 'One character is too many: character 42, q.'],
+    [before(ENDS_IN_P, ''), 'One character is missing: p, as character 42.'], [before(ENDS_IN_P.slice(0, -1), 'pq'), 'Two neighbours are swapped: characters 41 and 42 should be qp, not pq.'],
   ]) {
     const found = said(typed), [offer] = found.offers;
     assert.deepEqual([found.tone, found.verdict, found.offers.length, offer.text], ['mended', verdict, 1, ENDS_IN_P]);
     assert.equal(offer.said.at(-1), WORD);
   }
-  assert.deepEqual(said(before(ENDS_IN_P.slice(0, -1), 'p')).said, ['What was put in has a right Bech32 checksum, and is no address although it begins like one. The program has 19 bytes; in version 0 it has 20 or 32.']);
+  assert.deepEqual(said(before(ENDS_IN_P.slice(0, -1), 'p')).said, ['As typed, it has a right Bech32 checksum, but it is not a valid address. The program has 19 bytes; in version 0 it has 20 or 32.']);
   // The last character was mistyped as another by one bit.
-  const right = it.encode('bech32', 'a', Uint8Array.of(1, 2, 3));
+  const right = it.encode('bech32', 'lnbc', Uint8Array.of(1, 2, 3));
   const typed = added(right, { location: 0, value: 1 }), below = said(typed);
   assert.deepEqual(below.offers.map(({ text }) => text), [right, `${typed}p`]);
   assert.deepEqual(below.offers.map((offer) => offer.said.includes(WORD)), [false, true]);
@@ -176,7 +300,7 @@ test('a text that ends in p has a word on the weakness of Bech32, below one that
 test('each wrong text has its sentence', () => {
   for (const [name, typed, sentence, mended] of WRONG) {
     const found = said(typed);
-    assert.match([found.verdict, ...(found.offers ?? []).flatMap((it) => it.said), ...found.said, ...found.notes].join(' '), sentence, name);
+    assert.match([found.verdict, ...(found.warnings ?? []), ...(found.offers ?? []).flatMap((it) => it.said), ...found.said, ...found.notes].join(' '), sentence, name);
     assert.equal(found.offers?.[0].text ?? null, mended, name);
     assert.equal(found.tone === 'mended', mended !== null, name);
   }
@@ -185,7 +309,7 @@ test('each wrong text has its sentence', () => {
 test('what is right is read as it is, whatever it looks like', () => {
   for (const hrp of ['"', "'a'", '0x', '3', 'xpub', 'bv', 'bcl', 'c', 'abcdefghijkbc', 'bitcoin:', 'a?b=']) {
     const text = it.encode('bech32', hrp, Uint8Array.of(1, 2, 3));
-    assert.deepEqual([said(text).verdict, said(text).notes], ['This is a right Bech32 text.', []], text);
+    assert.deepEqual([said(text).verdict, said(text).notes], ['This is a valid Bech32 text.', []], text);
   }
 });
 
@@ -221,42 +345,43 @@ test('faults that no correction mends', () => {
     assert.equal(found.tone, 'wrong');
     if (typeof sentence === 'string') assert.equal(found.verdict, sentence); else assert.match(found.verdict, sentence);
     assert.deepEqual(found.marked, marked, typed);
-    assert.equal(found.caution, undefined);
+    assert.equal(found.warnings, undefined);
   }
 });
 
 test('bad input gets a sentence', () => {
-  assert.match(said('q'.repeat(1 << 20)).verdict, /^What was put in has 1,048,576 characters, which is too long/);
+  assert.match(said('q'.repeat(1 << 20)).verdict, /^This has 1,048,576 characters, which is too long/);
   const kelvin = said(V0.replaceAll('k', '\u212a'));
-  assert.match(kelvin.verdict, /the 36th, the Kelvin sign, which looks like K \(U\+212A\) for “k”/);
+  assert.match(kelvin.verdict, /character 36 should be k, not the Kelvin sign, which looks like K \(U\+212A\)\./i);
   assert.equal(kelvin.offers[0].text, V0);
   assert.match(said(at(V0, 10, '\ud800')).verdict, /half of a character \(U\+D800\)/);
   assert.match(said('\udc00').verdict, /half of a character \(U\+DC00\)/);
   const turned = said(`\u202e${V0.slice(0, 10)}\u200f${V0.slice(10)}\u202c`);
-  assert.deepEqual(turned.notes, ['Marks that are not seen were left out: a mark of direction (U+202E), a right-to-left mark (U+200F), a mark of direction (U+202C).']);
+  assert.deepEqual(turned.notes, ['Invisible characters were left out: a mark of direction (U+202E), a right-to-left mark (U+200F), a mark of direction (U+202C).']);
   assert.equal(turned.tone, 'right');
-  assert.match(said('<img src=x onerror=alert(1)>').verdict, /may not stand/);
-  assert.match(said('bc1<script>alert(1)</script>').said[0], /^Ten characters were taken for ones that cannot be read: character 4, “<”; .*; and 7 more\. They may not stand behind the separator: letters and digits/);
+  assert.match(said('<img src=x onerror=alert(1)>').verdict, /are treated as unreadable/);
+  assert.match(said('bc1<script>alert(1)</script>').said[0], /^Ten characters are treated as unreadable: character 4, “<”; .*; and 7 more\. Letters and digits can stand there, but not/);
   assert.match(said('1\u{1f600}'.repeat(600)).verdict, /./);
 });
 
 test('codex32 strings', () => {
   const found = said(STRING);
-  assert.deepEqual([found.tone, found.verdict], ['right', 'This is a right codex32 string.']);
-  assert.deepEqual(found.said, ['It is the secret itself, and not a share of it.', 'Threshold 0, identifier “test”, share index “s”, 48 characters with a payload of 16 bytes.']);
-  assert.match(found.caution, /^Whoever has this string has a secret, or a share of it\. The place to type it is a machine that is offline.* The page keeps nothing: clear the field when you are done\.$/);
-  assert.match(all(said(SHARE)), /the share “a” of a secret, for which 2 shares are needed.*Put the others in as well, each on a line of its own/);
+  assert.deepEqual([found.tone, found.verdict], ['right', 'This is a valid codex32 string.']);
+  assert.deepEqual(found.said, ['It is the secret itself, not a share of it.', 'Threshold 0, identifier “test”, share index “s”, 48 characters with a payload of 16 bytes.']);
+  assert.deepEqual(found.warnings.length, 1);
+  assert.match(found.warnings[0], /^Type it only on a computer that is offline, with a copy of this page on its disk, and clear the field at the end: whoever sees this string has the secret, or a share of it\.$/);
+  assert.match(all(said(SHARE)), /It is share “a” of a secret\. It takes two shares to recover it\..*Put in the other shares as well, each on a line of its own/);
   assert.deepEqual([found.secretOf, said(SHARE).secretOf], [[STRING], undefined]);
   assert.equal(said(STRING.toUpperCase()).tone, 'right');
   const damaged = said(at(at(at(at(STRING, 5, 'q'), 15, 'q'), 25, 'q'), 40, 'q'));
-  assert.deepEqual([damaged.verdict, damaged.offers[0].text], ['Four characters were wrong.', STRING]);
-  assert.deepEqual([placesOf(damaged.offers[0]), damaged.said[0]], [[5, 15, 25, 40], 'The codex32 checksum of what was put in is wrong.']);
+  assert.deepEqual([damaged.verdict, damaged.offers[0].text], ['Four characters are wrong.', STRING]);
+  assert.deepEqual([placesOf(damaged.offers[0]), damaged.said[0]], [[5, 15, 25, 40], 'As typed, the codex32 checksum is wrong.']);
   assert.ok(found.isSecret && damaged.isSecret);
-  assert.match(damaged.caution, /^A correction is a guess/);
+  assert.match(damaged.warnings.join('|'), /^Compare this with the source.*\|Type it only on a computer that is offline/);
   const unread = said(`${STRING.slice(0, -8)}????????`);
-  assert.deepEqual([unread.verdict, unread.offers[0].text], ['Eight characters that cannot be read were found.', STRING]);
-  assert.match(all(said(`${STRING.slice(0, -9)}?????????`)), /No correction was found.*Nine characters cannot be read.*More than four characters are wrong/);
-  assert.match(all(said(`M${STRING.slice(1)}`)), /mixed.*in lower case/);
+  assert.deepEqual([unread.verdict, unread.offers[0].text], ['Eight unreadable characters are restored.', STRING]);
+  assert.match(all(said(`${STRING.slice(0, -9)}?????????`)), /No correction was found.*Nine characters are unreadable.*More than four characters are wrong/);
+  assert.match(all(said(`M${STRING.slice(1)}`)), /mixed\. In lower case the text is valid/);
 });
 
 test('codex32 strings that are none', () => {
@@ -267,7 +392,7 @@ test('codex32 strings that are none', () => {
   assert.match(said('ms10testaxxxxxxxxxxxxxxxxxxxxxxxxxxzd568kp774rau').verdict, /is no share index/);
   const broken = said('ms1qtestsxxxxxxxxxxxxxxxxxxxxxxxxxxq68ksv56lma??');
   assert.equal(broken.offers, undefined);
-  assert.match(all(broken), /No correction was found.*The nearest text with a right checksum is no codex32 string\. Character 4, “q”, is no threshold/);
+  assert.match(all(broken), /No correction was found.*The nearest text with a right checksum is not a codex32 string\. Character 4, “q”, is no threshold/);
 });
 
 test('long codex32 strings', () => {
@@ -283,7 +408,7 @@ test('long codex32 strings', () => {
 test('a string of no whole bytes', () => {
   const found = said('ms12xh04fm5amh7k7ay0jj7mgh3ndf4zdx0dmxgdrhz38hawaewk');
   assert.equal(found.tone, 'right');
-  assert.match(found.said[1], /^Threshold 2, identifier “xh04”, share index “f”, 52 characters with a payload that is no whole number of bytes\.$/);
+  assert.match(found.said[1], /^Threshold 2, identifier “xh04”, share index “f”, 52 characters with a payload that is not a whole number of bytes\.$/);
 });
 
 test('several codex32 strings', () => {
@@ -291,10 +416,11 @@ test('several codex32 strings', () => {
     const found = said(typed);
     assert.deepEqual([found.tone, found.isSecret, found.offers, found.choices], [tone, true, undefined, undefined], name);
     assert.match([found.verdict, ...found.said, ...found.notes].join(' '), sentence, name);
-    assert.deepEqual(found.strings.map(({ title }) => title.replace(/^String \d+(?:: | is )/, '')), titles, name);
+    assert.deepEqual(found.strings.map(({ title }) => title.replace(/^String \d+(?:: | )/, '')), titles, name);
     assert.equal(found.secretOf ? secretSaid(it, found.secretOf)[0].text : null, secret, name);
-    assert.match(found.caution, /Whoever has these strings has a secret, or shares of it\. The place to type them is a machine that is offline/, name);
-    assert.equal(/^A correction is a guess/.test(found.caution), found.strings.some((one) => one.tone === 'mended'), name);
+    assert.match(found.warnings.at(-1), /^Type them only on a computer that is offline, .*: whoever sees these strings has the secret, or shares of it\.$/, name);
+    assert.equal(found.warnings.length, found.strings.some((one) => one.tone === 'mended') ? 2 : 1, name);
+    assert.equal(/^Compare this with the source/.test(found.warnings[0]), found.warnings.length === 2, name);
     assert.doesNotMatch(JSON.stringify([found.verdict, found.said, found.strings.map(({ said }) => said)]) + spoken(found), /undefined|NaN|null/, name);
     assert.ok(secret === null || typed.toLowerCase().includes(secret) || !all(found).includes(secret), name);
   }
@@ -315,9 +441,9 @@ test('the secret with its bytes', () => {
 test('what is said of each string of a set', () => {
   const [right, mended, wrong] = said(`${CASH.a}\n${at(CASH.c, 10, 'q')}\n${CASH.d.slice(0, 20)}qqqqqqqqq${CASH.d.slice(29)}`).strings;
   assert.deepEqual(right, { title: 'String 1: share “a”', tone: 'right', said: ['Threshold 3, identifier “cash”, share index “a”, 48 characters with a payload of 16 bytes.'] });
-  assert.deepEqual([mended.tone, mended.headline, mended.offers.length, mended.offers[0].text, placesOf(mended.offers[0])], ['mended', `One character was wrong: the 11th, “q” for “${CASH.c[10]}”.`, 1, CASH.c, [10]]);
-  assert.deepEqual([wrong.title, wrong.tone, wrong.headline, wrong.marked], ['String 3 is not read', 'wrong', 'No correction was found.', []]);
-  assert.match(spoken(said(`${CASH.a}\n${CASH.c}`)), /^One more string is needed: the threshold is 3\. Whoever has these strings.* String 1: share “a”\. Threshold 3.* String 2: share “c”\. Threshold 3/);
+  assert.deepEqual([mended.tone, mended.headline, mended.offers.length, mended.offers[0].text, placesOf(mended.offers[0])], ['mended', `Character 11 should be ${CASH.c[10]}, not q.`, 1, CASH.c, [10]]);
+  assert.deepEqual([wrong.title, wrong.tone, wrong.headline, wrong.marked], ['String 3 cannot be read', 'wrong', 'No correction was found.', []]);
+  assert.match(spoken(said(`${CASH.a}\n${CASH.c}`)), /^One more share is needed: the threshold is 3\. Type them only on a computer.* String 1: share “a”\. Threshold 3.* String 2: share “c”\. Threshold 3/);
 });
 
 test('each two of the shares of BIP-93, and each three, in any order', () => {
@@ -332,13 +458,17 @@ test('each two of the shares of BIP-93, and each three, in any order', () => {
   }
 });
 
+test('how many more shares would reveal a mistake', () => {
+  assert.deepEqual([2, 7, 9, 10].map((count) => SET.noSpare(count).split('. ')[1]), ['third', 'eighth', 'tenth'].map((it) => `A${it === 'eighth' ? 'n' : ''} ${it} share would reveal a mistake.`).concat('Another share would reveal a mistake.'));
+});
+
 test('a set of 32 strings', () => {
   const two = [it.codex32.encode(2, 'tttt', 'q', new Uint8Array(64).fill(1)), it.codex32.encode(2, 'tttt', 'p', new Uint8Array(64).fill(2))];
   const texts = Array.from('qpzry9x8gf2tvdw0s3jn54khce6mua7l', (index) => it.codex32.derive(two, index));
   const found = said(texts.map((text) => text.replace(/(....)/g, '$1 ')).join('\n'));
   assert.deepEqual([found.tone, found.strings.length, found.verdict], ['right', 32, 'String 17 is the secret itself.']);
   assert.match(found.said[0], /^All 32 agree, and two would be enough\.$/);
-  assert.match(said(`${texts.join('\n')}\n${texts.join('\n')}`).verdict, /^What was put in has 8,191 characters|^String 17/);
+  assert.match(said(`${texts.join('\n')}\n${texts.join('\n')}`).verdict, /^This has 8,191 characters|^String 17/);
 });
 
 test('every prefix of a text has an answer', () => {

@@ -141,6 +141,9 @@ const nearEditsByTrying = (checksum, damaged) => {
   return [...found.values()];
 };
 
+const inUpperCase = ({ text, edit }) =>
+  ({ text: text.toUpperCase(), edit: { ...edit, characters: edit.characters.toUpperCase() } });
+
 test('a character missing, one too many, and two swapped are found, at each place, as by trying each edit', (t) => {
   let count = 0, byTrying = 0;
   for (const [checksum, text] of TEXTS) {
@@ -154,7 +157,7 @@ test('a character missing, one too many, and two swapped are found, at each plac
         byTrying++;
       }
       assert.equal(found.some((it) => it.text === text), damaged !== text, damaged);
-      assert.deepEqual(nearEdits(checksum, damaged.toUpperCase()), found);
+      assert.deepEqual(nearEdits(checksum, damaged.toUpperCase()), found.map(inUpperCase));
     }
   }
   t.diagnostic(`${count} texts, for ${byTrying} of which each edit was tried`);
@@ -173,7 +176,7 @@ test('places are told in rising order, with those that were right after all', ()
   const text = 'a12uel5l';
   assert.deepEqual(correct('bech32', 'a12uel5q', [4]).changes, [{ place: 4, from: 'e', to: 'e' }, { place: 7, from: 'q', to: 'l' }]);
   assert.deepEqual(correct('bech32', text, [4]), { text, changes: [] });
-  assert.deepEqual(correct('bech32', text.toUpperCase()), { text, changes: [] });
+  assert.deepEqual(correct('bech32', text.toUpperCase()), { text: text.toUpperCase(), changes: [] });
   assert.equal(correct('bech32', 'a12uel5q', [0]), null);
   assert.equal(correct('bech32', 'a12uel5q', [2, 3, 4, 5]), null);
   assert.throws(() => correct('bech32', text, [8]), RangeError);
@@ -206,6 +209,29 @@ test('each single error of a codex32 string is mended, and up to four, and up to
 });
 
 const LONG_STRING = 'ms100c8vsm32zxfguhpchtlupzry9x8gf2tvdw0s3jn54khce6mua7lqpzygsfjd6an074rxvcemlh8wu3tk925acdefghjklmnpqrstuvwxy06fhpv80undvarhrak';
+
+test('what is found has the case of the text given', () => {
+  const at = (text, ...places) => Array.from(text, (c, i) => (places.includes(i) ? 'q' : c)).join('');
+  for (const [checksum, text] of TEXTS) {
+    for (const given of [text, text.toUpperCase()]) {
+      const isUpper = given !== text, place = text.length - 2, damaged = at(text, place), typed = isUpper ? damaged.toUpperCase() : damaged;
+      const changes = [{ place, from: typed[place], to: given[place] }];
+      assert.deepEqual(correct(checksum, typed), { text: given, changes });
+      assert.deepEqual(nearest(checksum, typed), [{ text: given, changes }]);
+      assert.deepEqual(nearest(checksum, given), [{ text: given, changes: [] }]);
+      const left = given.slice(0, -1);
+      assert.deepEqual(nearEdits(checksum, left).find((it) => it.text === given), { text: given, edit: { kind: 'putIn', place: place + 1, characters: given.at(-1) } });
+    }
+  }
+  for (const [propose, text] of [[codex32.propose, STRING], [codex32.proposeLong, LONG_STRING]]) {
+    for (const given of [text, text.toUpperCase()]) {
+      const typed = `${given.slice(0, 20)}?${given.slice(21)}`;
+      assert.deepEqual(propose(typed), { text: given, changes: [{ place: 20, from: '?', to: given[20] }] });
+    }
+  }
+  // A text without a letter is in lower case.
+  assert.ok(nearest('bech32', '2122222222', [], 2).every((it) => it.text === it.text.toLowerCase()));
+});
 
 test('so is a long string', (t) => {
   assert.ok(acceptsLongCodex32(LONG_STRING) && !acceptsCodex32(LONG_STRING));

@@ -52,6 +52,13 @@ const wanted = (words, ...counts) => (counts.includes(words.length) ? words : er
 
 // ---- replies
 
+// The programs reply in lower case, and the package in the case of the text: that of the reply is compared, and then taken.
+const inLowerCase = (given, found) => {
+  const isUpper = /[A-Z]/.test(given) && !/[a-z]/.test(given);
+  assert.equal(found, isUpper ? found.toUpperCase() : found.toLowerCase(), given);
+  return found.toLowerCase();
+};
+
 const calls = bech32Calls(compiled().modules[0]);
 
 // The corrections by locations, as the program takes them: a place of the package has to be one of the text.
@@ -64,7 +71,7 @@ const corrected = (checksum, text, locations) => {
 const correctedByPlaces = (checksum, text, locations) => {
   if (locations.some((location) => location >= text.length)) return null;
   const correction = correct(checksum, text, locations.map((location) => text.length - 1 - location));
-  return correction ? correction.text : 'none';
+  return correction ? inLowerCase(text, correction.text) : 'none';
 };
 
 const OF_TEXTS = {
@@ -102,11 +109,11 @@ const OF_STRINGS = {
   },
   propose(words) {
     const proposal = codex32.propose(wanted(words, 2)[1]);
-    return proposal ? `some ${proposal.text}` : 'none';
+    return proposal ? `some ${inLowerCase(words[1], proposal.text)}` : 'none';
   },
   'propose-long'(words) {
     const proposal = codex32.proposeLong(wanted(words, 2)[1]);
-    return proposal ? `some ${proposal.text}` : 'none';
+    return proposal ? `some ${inLowerCase(words[1], proposal.text)}` : 'none';
   },
   share(words) {
     const { threshold, identifier, shareIndex, bytes } = codex32.share(wanted(words, 2)[1]);
@@ -153,8 +160,8 @@ for (const [program, commands] of [['b32', OF_TEXTS], ['c32', OF_STRINGS]]) {
 const MARKS = { swapped: 'x', leftOut: '-', putIn: '+' };
 
 // A text with the edit that makes it, as the rows have it: locations count from the end.
-const rowOf = ({ text, edit: { kind, place, characters } }, length) =>
-  `${text},${MARKS[kind]}${length - place - (kind === 'putIn' ? 0 : characters.length)}:${characters}`;
+const rowOf = ({ text, edit: { kind, place, characters } }, given) =>
+  `${inLowerCase(given, text)},${MARKS[kind]}${given.length - place - (kind === 'putIn' ? 0 : characters.length)}:${characters.toLowerCase()}`;
 
 test('the texts that one edit makes are those of the stored rows', (t) => {
   // These rows are the last ones, with a line of reply each.
@@ -164,7 +171,7 @@ test('the texts that one edit makes are those of the stored rows', (t) => {
   rows.forEach(([, name, given], i) => {
     const checksum = name.toLowerCase(), found = nearEdits(checksum, given);
     found.forEach((it) => check(checksum, it.text));
-    assert.equal(found.map((it) => rowOf(it, given.length)).join(' ') || 'none', replies[i], given);
+    assert.equal(found.map((it) => rowOf(it, given)).join(' ') || 'none', replies[i], given);
   });
   t.diagnostic(`${rows.length} rows`);
   assert.equal(rows.length, 300);

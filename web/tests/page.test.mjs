@@ -12,6 +12,7 @@ import { createHash } from 'node:crypto';
 import * as chromium from './browsers/chromium.mjs';
 import * as firefox from './browsers/firefox.mjs';
 import { until } from './browsers/browser.mjs';
+import { COUNT, KINDS_OF_TEXTS, textsOf } from './right-texts.mjs';
 import { CASH, SECRET, SETS, strings } from './sets.mjs';
 import { WRONG } from './wrong-texts.mjs';
 
@@ -21,6 +22,9 @@ const source = fs.readFileSync(FILE, 'utf8');
 
 const V0 = 'bc1qw508d6qejxtdg4y5r3zarvary0c5xw7kv8f3t4';
 const DAMAGED = 'bc1qw508d6qejxtdg4y5r3zarvaty0c5xw7kv8f3t4';
+// One wrong character, in a text that is longer than a screen.
+const SILENT = 'sp1qqgste7k9hx0qftg6qmwlkqtwuy6cycyavzmzj85c6qdfhjdpdjtdgqjqexzk6murw56suy3e0rd2cgqvycxttddwsvgxe2usfpxumr70xc9pkqwv';
+const NSEC = 'nsec1vl029mgpspedva04g90vltkh6fvh240zqtv9k0t9af8935ke9laqsnlfe5';
 const STRING = 'ms10testsxxxxxxxxxxxxxxxxxxxxxxxxxx4nzvca9cmczlw';
 
 // ---- the file
@@ -46,7 +50,7 @@ const SHOWN = `
   const answer = document.getElementById("answer"), all = (what) => [...answer.querySelectorAll(what)];
   const marked = (name) => all("mark." + name).map((it) => it.textContent).join("");
   const red = all("*").filter((it) => ["rgb(163, 13, 26)", "rgb(255, 143, 152)"].includes(getComputedStyle(it).color)).map((it) => it.className);
-  return { text: answer.innerText, struck: marked("struck"), mended: marked("mended"), red, codes: all("code").map((it) => it.textContent),
+  return { text: answer.innerText, struck: marked("struck"), mended: marked("mended"), red, warnings: all(".caution").map((it) => it.innerText), codes: all("code").map((it) => it.textContent),
     numbers: all(".number").map((it) => it.textContent), groups: all(".columns").map((it) => [...it.children].map((column) => column.children[0].textContent).join("")) };`;
 
 const shownFor = async (page, text) => {
@@ -54,35 +58,47 @@ const shownFor = async (page, text) => {
   return page.evaluate(SHOWN);
 };
 
+// What is shown for each of some texts: the tones, whether anything is offered, and the first verdict.
+const EACH = `
+  const typed = document.getElementById("typed"), answer = document.getElementById("answer"), count = (what) => answer.querySelectorAll(what).length;
+  return arguments[0].map((text) => {
+    typed.value = text;
+    typed.dispatchEvent(new Event("input"));
+    const verdicts = [...answer.querySelectorAll(".verdict")];
+    return { tones: verdicts.map((it) => it.classList[1]), verdict: verdicts[0].textContent, offers: count(".offer, mark.mended, .verdict.mended"), warnings: count(".caution"), buttons: count("button") };
+  });`;
+
 // What the answer says is spoken behind a pause, and what a button says is not to be mistaken for it.
 const isSpoken = (page) => until(() => page.evaluate('return document.getElementById("spoken").textContent !== "";'), 'word of the answer', 10);
 
 // A kind of text, what is said of it, and the characters that are struck out and mended.
 const KINDS = [
-  ['an address', V0, /This is a right Bech32 address\.[^]*segwit address of Bitcoin/, '', ''],
-  ['an address behind bitcoin:', `BITCOIN:${V0.toUpperCase()}`, /This is a right Bech32 address[^]*taken out of a link/, '', ''],
-  ['a payment text', 'a1lqfn3a', /This is a right Bech32m text/, '', ''],
-  ['one wrong character', DAMAGED, /One character was wrong: the 28th, “t” for “r”\.[^]*A correction is a guess[^]*The checksum of what was put in is wrong/, 't', 'r'],
-  ['a character that cannot be read', `${V0.slice(0, 27)}?${V0.slice(28)}`, /The character that cannot be read was found: the 28th is “r”\.[^]*A correction is a guess/, '?', 'r'],
-  ['two wrong characters', `${V0.slice(0, 11)}qq${V0.slice(13)}`, /Two characters were wrong[^]*A correction is a guess/, 'qq', V0.slice(11, 13)],
-  ['a missing character', V0.slice(0, 20) + V0.slice(21), /One character is missing: the 21st, “r”\.[^]*A correction is a guess[^]*41 characters; an address of version 0 has 42 or 62/, '', 'r'],
-  ['a character too many', `${V0.slice(0, 27)}r${V0.slice(27)}`, /One character too many: the 29th, “r”\.[^]*A correction is a guess/, 'r', ''],
-  ['two that were swapped', `${V0.slice(0, 22)}az${V0.slice(24)}`, /Two neighbours were swapped: the 23rd and the 24th, “a” and “z”\.[^]*A correction is a guess/, 'az', 'za'],
+  ['an address', V0, /This is a valid Bech32 address\.[^]*segwit address of Bitcoin[^]*Witness version 0, program of 20 bytes:\s+751e 76e8 1991 96d4 5494 1c45 d1b3 a323 f143 3bd6/, '', ''],
+  ['an address behind bitcoin:', `BITCOIN:${V0.toUpperCase()}`, /This is a valid Bech32 address[^]*The “BITCOIN:” before it was left out/, '', ''],
+  ['a payment text', 'a1lqfn3a', /This is a valid Bech32m text/, '', ''],
+  ['one wrong character', DAMAGED, /Character 28 should be r, not t\.[^]*Compare this with the source[^]*As typed, the checksum is wrong/, 't', 'r'],
+  ['a character that cannot be read', `${V0.slice(0, 27)}?${V0.slice(28)}`, /The unreadable character 28 is r\.[^]*Compare this with the source/, '?', 'r'],
+  ['two wrong characters', `${V0.slice(0, 11)}qq${V0.slice(13)}`, /Character 12 should be e, not q; character 13 should be j, not q\.[^]*Compare this with the source/, 'qq', V0.slice(11, 13)],
+  ['a missing character', V0.slice(0, 20) + V0.slice(21), /One character is missing: r, as character 21\.[^]*Compare this with the source[^]*41 characters\. An address of version 0 has 42 or 62/, '', 'r'],
+  ['a character too many', `${V0.slice(0, 27)}r${V0.slice(27)}`, /One character is too many: character 29, r\.[^]*Compare this with the source/, 'r', ''],
+  ['two that were swapped', `${V0.slice(0, 22)}az${V0.slice(24)}`, /Two neighbours are swapped: characters 23 and 24 should be za, not az\.[^]*Compare this with the source/, 'az', 'za'],
   ['three wrong characters', `${V0.slice(0, 11)}qq${V0.slice(13, 20)}q${V0.slice(21)}`, /No correction was found\./, '', ''],
-  ['a character that is no data', `${V0.slice(0, 27)}b${V0.slice(28)}`, /Character 28, “b”, was taken for one that cannot be read/, 'b', 'r'],
-  ['a missing beginning', V0.slice(3), /The beginning was missing: “bc1”\./, '', 'bc1'],
+  ['a character that is no data', `${V0.slice(0, 27)}b${V0.slice(28)}`, /Character 28, “b”, is treated as unreadable/, 'b', 'r'],
+  ['a missing beginning', V0.slice(3), /The beginning bc1 is missing\./, '', 'bc1'],
   ['no separator', 'qpzry', /There is no separator “1” in the text\./, '', ''],
-  ['a codex32 string', STRING, /This is a right codex32 string/, '', ''],
-  ['a damaged codex32 string', `${STRING.slice(0, 20)}qq?${STRING.slice(23)}`, /cannot be read was found[^]*A correction is a guess/, 'qq?', 'xxx'],
+  ['a codex32 string', STRING, /This is a valid codex32 string/, '', ''],
+  ['an offer', 'lno1pqps7sjqpgtyzm3qv4uxzmtsd3jjqer9wd3hy6tsw35k7msj', /begins like a Lightning offer \(BOLT12\), which has no checksum/, '', ''],
+  ['a link with two parts', `bitcoin:${V0}?lno=lno1pqps7sjqpgtyzm3qv4uxzmtsd3jjqer9wd3hy6tsw35k7msj`, /This link names two ways to pay\.[^]*The address\s+This is a valid Bech32 address[^]*The Lightning offer \(lno=\)\s+This begins like a Lightning offer/, '', ''],
+  ['a damaged codex32 string', `${STRING.slice(0, 20)}qq?${STRING.slice(23)}`, /should be x, not q\. The unreadable character 23 is x[^]*Compare this with the source/, 'qq?', 'xxx'],
 ];
 
 const HOSTILE = [
   ['a text of a megabyte', 'q'.repeat(1 << 20), /has 1,048,576 characters, which is too long/],
   ['a lone surrogate', 'bc1\ud800qqqqqqqq', /half of a character \(U\+D800\)/],
-  ['a right-to-left mark', `bc1q\u200f${V0.slice(4)}`, /Marks that are not seen were left out: a right-to-left mark \(U\+200F\)/],
+  ['a right-to-left mark', `bc1q\u200f${V0.slice(4)}`, /Invisible characters were left out: a right-to-left mark \(U\+200F\)/],
   ['the Kelvin sign', V0.replaceAll('k', '\u212a'), /the Kelvin sign, which looks like K/],
-  ['markup', 'bc1<img src=x onerror="window.ran=1"><script>window.ran=1</script>', /may not stand/],
-  ['markup in a human-readable part', '<script>window.ran=1</script>1qqqqqq', /No correction was found/],
+  ['markup', 'bc1<img src=x onerror="window.ran=1"><script>window.ran=1</script>', /treated as unreadable/],
+  ['markup in a human-readable part', '<script>window.ran=1</script>1qqqqqq', /the checksum is wrong for both Bech32m and Bech32/],
 ];
 
 // What a page tries to send, and what a script within it tries to run.
@@ -147,6 +163,12 @@ const CONTRAST = `
     return { is: it.tagName + '.' + it.className, ratio: (a + 0.05) / (b + 0.05) };
   }).filter(({ ratio }) => ratio < 4.5);`;
 
+// Where the warnings and the buttons stand.
+const SEEN = `
+  window.scrollTo(0, 0);
+  const placesOf = (what) => [...document.querySelectorAll("#answer " + what)].map((it) => { const { top, bottom } = it.getBoundingClientRect(); return { top, bottom }; });
+  return { above: placesOf(".caution"), below: placesOf(".copy, #answer .reveal") };`;
+
 const screens = process.env.PAGE_SCREENS;
 const pictured = async (page, name) => {
   if (!screens) return;
@@ -160,7 +182,8 @@ const PICTURES = [
   ['nothing', KINDS.find(([kind]) => kind === 'three wrong characters')[1]],
   ...[['missing', 'a missing character'], ['too-many', 'a character too many'], ['swapped', 'two that were swapped']].map(([name, kind]) => [name, KINDS.find(([it]) => it === kind)[1]]),
   ['weak', WRONG.find(([name]) => name === 'a missing q before the last p')[1]], ['open', V0.slice(0, 20)], ['warning', 'abandon ability able about above'], ['several', `${V0} ${DAMAGED}`],
-  ['codex32', KINDS.at(-1)[1]], ['refused', HOSTILE[4][1]], ['set', `${CASH.a}\n${CASH.c.slice(0, 20)}q?${CASH.c.slice(22)}\n${CASH.d.slice(0, 47)}`],
+  ['codex32', KINDS.at(-1)[1]], ['link', KINDS.at(-2)[1]], ['offer', KINDS.at(-3)[1]], ['secret', NSEC], ['secret-mended', `${NSEC.slice(0, 40)}q${NSEC.slice(41)}`],
+  ['taproot', 'bc1p0xlxvlhemja6c4dqv22uapctqupfhlxm9h8z3k2e72q4k9hcz7vqzk5jj0'], ['refused', HOSTILE[4][1]], ['set', `${CASH.a}\n${CASH.c.slice(0, 20)}q?${CASH.c.slice(22)}\n${CASH.d.slice(0, 47)}`],
 ];
 
 // A set that gives its secret, which is then shown.
@@ -190,7 +213,7 @@ const common = (browser) => async (t, page) => {
   await t.test('it runs from a disk, and has an example before there is a text', async () => {
     assert.match((await page.evaluate(SHOWN)).text, /^An example with one wrong character:\s+bc1qw508d6qejxtdg4y5r3zarvaty0c5xw7kv8f3t4$/);
     await page.evaluate('document.querySelector("#answer button").click();');
-    assert.match((await page.evaluate(SHOWN)).text, /One character was wrong: the 28th/);
+    assert.match((await page.evaluate(SHOWN)).text, /Character 28 should be r/);
     assert.deepEqual(await page.evaluate('return [document.activeElement.id, document.getElementById("typed").value];'), ['typed', DAMAGED]);
   });
   for (const [kind, text, wanted, struck, mended] of KINDS) {
@@ -198,7 +221,7 @@ const common = (browser) => async (t, page) => {
       const shown = await shownFor(page, text);
       assert.match(shown.text, wanted);
       assert.deepEqual([shown.struck, shown.mended], [struck, mended]);
-      if (mended) assert.ok([V0, STRING].includes(shown.codes[0]));
+      if (mended) assert.ok([V0, STRING].includes(shown.codes[0]), shown.codes[0]);
     });
   }
   await t.test('has the sentence of each wrong text, and nothing red where it was mended', async () => {
@@ -209,6 +232,15 @@ const common = (browser) => async (t, page) => {
       assert.deepEqual([shown.codes[0], shown.red], [mended, []], name);
     }
     t.diagnostic(`${WRONG.length} wrong texts`);
+  });
+  await t.test(`answers no right text by a correction: ${COUNT} of each kind`, async () => {
+    for (const [at, [name, , tone, verdict]] of KINDS_OF_TEXTS.entries()) {
+      const texts = textsOf(at), shown = await page.evaluate(EACH, texts);
+      shown.forEach((it, i) => assert.deepEqual([it.offers, it.tones[0]], [0, tone], `${name}: ${texts[i]}`));
+      shown.forEach((it, i) => assert.match(it.verdict, verdict, `${name}: ${texts[i]}`));
+      if (tone === 'warning') assert.ok(shown.every((it) => it.warnings > 0 && it.buttons === 0), name);
+    }
+    t.diagnostic(`${KINDS_OF_TEXTS.length} kinds`);
   });
   await t.test('the places of a text in groups of four', async () => {
     const { numbers, groups } = await shownFor(page, DAMAGED);
@@ -229,22 +261,23 @@ const common = (browser) => async (t, page) => {
       assert.equal(await page.evaluate('return document.getElementById("typed").value;'), copied);
     }
   });
-  await t.test('a codex32 string has no such button, since it is a secret', async () => {
-    for (const text of [STRING, KINDS.at(-1)[1], `msl${STRING.slice(3)}`]) {
+  await t.test('a secret has no such button', async () => {
+    for (const text of [STRING, KINDS.at(-1)[1], `msl${STRING.slice(3)}`, NSEC, `${NSEC.slice(0, 40)}q${NSEC.slice(41)}`, NSEC.toUpperCase()]) {
       await shownFor(page, text);
       assert.equal(await page.evaluate('return document.querySelectorAll(".copy").length;'), 0, text);
     }
   });
   await t.test('several codex32 strings: what each is, whether they suffice, and the secret behind a button', async () => {
-    const titles = 'return [...document.querySelectorAll("#answer h3")].map((it) => it.textContent.replace(/^String \\d+(?:: | is )/, ""));';
+    const titles = 'return [...document.querySelectorAll("#answer h3")].map((it) => it.textContent.replace(/^String \\d+(?:: | )/, ""));';
     const buttons = 'return [document.querySelectorAll(".reveal").length, document.querySelectorAll(".copy").length, document.querySelectorAll("#answer button").length];';
     for (const [name, text, tone, sentence, wanted, secret] of SETS) {
       const shown = await shownFor(page, text);
-      assert.match(shown.text.replace(/\s*\n\s*/g, ' '), new RegExp(sentence.source.replace(/^\^|\$$/g, '')), name);
+      const unwarned = shown.warnings.reduce((text, warning) => text.replace(warning, ''), shown.text).replace(/\s*\n\s*/g, ' ');
+      assert.match(unwarned, new RegExp(sentence.source.replace(/^\^|\$$/g, '')), name);
       assert.deepEqual(await page.evaluate(titles), wanted, name);
-      if (['right', 'mended'].includes(tone) && !wanted.includes('not read')) assert.deepEqual(shown.red, [], name);
+      if (['right', 'mended'].includes(tone) && !wanted.includes('cannot be read')) assert.deepEqual(shown.red, [], name);
       assert.deepEqual(await page.evaluate(buttons), secret ? [1, 0, 1] : [0, 0, 0], name);
-      assert.match(shown.text, /Whoever has these strings has a secret, or shares of it\. The place to type them is a machine that is offline, with a copy of this page on its disk\. The page keeps nothing/);
+      assert.match(shown.text, /Type them only on a computer that is offline, with a copy of this page on its disk, and clear the field at the end: whoever sees these strings has the secret, or shares of it\./);
       if (!secret) continue;
       assert.match((await page.evaluate(REVEALED)).replaceAll(/\s+/g, ' '), new RegExp(`The secret as a codex32 string: .*${secret} Its (?:16|64) bytes:`), name);
     }
@@ -283,7 +316,7 @@ const common = (browser) => async (t, page) => {
   await t.test('one of two addresses is chosen by a click', async () => {
     await shownFor(page, `${V0} ${DAMAGED}`);
     await page.evaluate('document.querySelectorAll(".choice")[1].click();');
-    assert.match((await page.evaluate(SHOWN)).text, /One character was wrong: the 28th/);
+    assert.match((await page.evaluate(SHOWN)).text, /Character 28 should be r/);
   });
   for (const [kind, text, wanted] of HOSTILE) {
     await t.test(`has a sentence for ${kind}`, async () => {
@@ -298,7 +331,7 @@ const common = (browser) => async (t, page) => {
     await page.press('Tab');
     assert.equal(await focused(), 'typed');
     await page.type(DAMAGED);
-    assert.match((await page.evaluate(SHOWN)).text, /the 28th/);
+    assert.match((await page.evaluate(SHOWN)).text, /Character 28 should be r/);
     await page.press('Tab');
     assert.equal(await focused(), 'clear');
     await page.press('Enter');
@@ -307,7 +340,7 @@ const common = (browser) => async (t, page) => {
     await page.press('Tab');
     assert.equal(await focused(), 'BUTTON');
     await page.press('Enter');
-    assert.match((await page.evaluate(SHOWN)).text, /the 28th/);
+    assert.match((await page.evaluate(SHOWN)).text, /Character 28 should be r/);
     await page.press('Tab');
     await page.press('Tab');
     assert.equal(await page.evaluate('return document.activeElement.className;'), 'copy');
@@ -320,7 +353,7 @@ const common = (browser) => async (t, page) => {
     await shownFor(page, DAMAGED);
     const spoken = 'return document.getElementById("spoken").textContent;';
     assert.equal(await page.evaluate(spoken), '');
-    assert.match(await until(async () => (await page.evaluate(spoken)) || null, 'spoken answer', 5), /^One character was wrong: the 28th, “t” for “r”\. It is then a right Bech32 address\..*A correction is a guess.*The checksum of what was put in is wrong/);
+    assert.match(await until(async () => (await page.evaluate(spoken)) || null, 'spoken answer', 5), /^Character 28 should be r, not t\. Compare this with the source.* With this change it is a valid Bech32 address\..*As typed, the checksum is wrong/);
     assert.deepEqual(await page.evaluate('const it = document.getElementById("spoken"); return [it.getAttribute("role"), it.getAttribute("aria-live"), document.querySelector(".rows").getAttribute("aria-hidden"), document.querySelector("label").control.id];'), ['status', 'polite', 'true', 'typed']);
   });
   await t.test('no text stands in the address, the history or a store', async () => {
@@ -346,7 +379,7 @@ const common = (browser) => async (t, page) => {
     assert.equal(await page.evaluate(RUN, browser === chromium), 'undefined');
   });
   await t.test('a changed byte stops its script', async () => {
-    for (const word of ['use strict', 'A correction is a guess', 'AGFzbQ']) {
+    for (const word of ['use strict', 'Compare this with the source', 'AGFzbQ']) {
       const at = byteOf(word) + 1;
       assert.ok(at > 0, word);
       await withChanged(page, at, async () => {
@@ -355,11 +388,31 @@ const common = (browser) => async (t, page) => {
       });
     }
     await withChanged(page, byteOf(':root {') + 1, async () => {
-      assert.match((await shownFor(page, V0)).text, /This is a right Bech32 address/);
+      assert.match((await shownFor(page, V0)).text, /This is a valid Bech32 address/);
       assert.equal(await page.evaluate('return getComputedStyle(document.querySelector("summary")).cursor;') === 'pointer', false);
     });
   });
   for (const [device, width] of [...browser.narrow, ['telephone', 390], ['desk', 1280]]) {
+    await t.test(`warnings stand above the buttons that they are about, and both are seen, on a ${device}`, async () => {
+      await page.visit(PAGE);
+      await page.size(width, 844);
+      for (const [text, warnings] of [[DAMAGED, 1], [`${V0.slice(0, 20)}${V0.slice(21)}`, 1], [SILENT, 1], [strings(CASH, 'acd'), 1], [`${strings(CASH, 'ac')}\n${CASH.d.slice(0, 20)}?${CASH.d.slice(21)}`, 2], [STRING, 1], [KINDS.at(-1)[1], 2]]) {
+        await shownFor(page, text);
+        const { above, below } = await page.evaluate(SEEN);
+        assert.equal(above.length, warnings, text);
+        const [button] = below;
+        const [{ top }] = above, end = text === SILENT ? top + 844 : 844;
+        assert.ok(above.every((it) => it.top >= 0 && it.bottom <= button.top) && (width < 390 || button.bottom <= end), `${text}: ${JSON.stringify({ above, below })}`);
+      }
+    });
+    await t.test(`the field shows all that is in it, on a ${device}`, async () => {
+      for (const text of ['', V0, strings(CASH, 'acdef'), 'q'.repeat(1023), `${V0}\n\n\n\n\n`, V0]) {
+        await shownFor(page, text);
+        const [high, seen, inner] = await page.evaluate('const it = document.getElementById("typed"); return [it.scrollHeight, it.clientHeight, it.offsetHeight];');
+        assert.ok(high <= seen, `${text.length}: ${high} of ${seen}`);
+        assert.ok(text.length > 60 || inner < 160, `${inner}`);
+      }
+    });
     await t.test(`it fits the width of a ${device}`, async () => {
       await page.visit(PAGE);
       await page.size(width, 900);
@@ -405,7 +458,7 @@ inBrowser(chromium, async (t, page) => {
     assert.ok(nodes.some(({ role, name }) => role === 'textbox' && /^A Bitcoin address/.test(name)));
     assert.ok(nodes.some(({ role, name }) => role === 'StaticText' && name === V0));
     assert.ok(nodes.some(({ role, name }) => role === 'button' && name === 'Copy it'));
-    assert.ok(nodes.some(({ role, name }) => role === 'heading' && /^One character was wrong: the 28th/.test(name)));
+    assert.ok(nodes.some(({ role, name }) => role === 'heading' && /^Character 28 should be r/.test(name)));
     assert.ok(!nodes.some(({ role, name }) => role === 'StaticText' && /^[a-z0-9]$/.test(name)));
   });
   await t.test('the button copies where the browser has no newer way', async () => {
@@ -429,8 +482,8 @@ inBrowser(chromium, async (t, page) => {
         return { exports };
       };`);
     await page.visit(PAGE);
-    assert.match((await shownFor(page, V0)).text, /The library stopped without an answer and was started anew/);
-    assert.match((await shownFor(page, V0)).text, /This is a right Bech32 address/);
+    assert.match((await shownFor(page, V0)).text, /The library stopped without an answer and was started again/);
+    assert.match((await shownFor(page, V0)).text, /This is a valid Bech32 address/);
     await undo();
   });
   await t.test('without 64-bit memory the lowered modules answer, and it says so', async () => {

@@ -30,6 +30,18 @@ export const residueOf = (checksum, text) => {
   return remainder([...expanded(text.slice(0, separator)), ...data]) ^ TARGETS[checksum];
 };
 
+/** The text of a human-readable part and characters of data, in lower case, with its checksum. */
+export const textOf = (checksum, hrp, data) => {
+  const sum = residueOf(checksum, `${hrp}1${data}qqqqqq`);
+  return `${hrp}1${data}${[25, 20, 15, 10, 5, 0].map((bits) => ALPHABET[sum >>> bits & 31]).join('')}`;
+};
+
+/** The characters of bytes, five bits each, with zero bits behind the last ones. */
+export const dataOf = (bytes) => {
+  const bits = Array.from(bytes, (byte) => byte.toString(2).padStart(8, '0')).join('');
+  return (bits.match(/.{1,5}/g) ?? []).map((it) => ALPHABET[parseInt(it.padEnd(5, '0'), 2)]).join('');
+};
+
 /** Whether a checksum accepts such a text. */
 export const accepts = (checksum, text) => residueOf(checksum, text) === 0;
 
@@ -43,13 +55,24 @@ const LONG_CODEX32 = {
   low: 70n, target: 0x43381e570bf4798ab26n,
 };
 
-const acceptedBy = ({ words, low, target }) => (text) => {
-  const data = Array.from(text.slice(3), (c) => BigInt(ALPHABET.indexOf(c)));
-  const end = data.reduce((sum, value) => {
-    const top = sum >> low, rest = sum & ((1n << low) - 1n);
-    return words.reduce((next, word, bit) => (top >> BigInt(bit) & 1n ? next ^ word : next), rest << 5n ^ value);
-  }, 0x23181b3n);
-  return end === target;
+/** The remainder of values by a checksum, from a first one on. */
+export const remainderBy = ({ words, low }, values, first) => values.reduce((sum, value) => {
+  const top = sum >> low, rest = sum & ((1n << low) - 1n);
+  return words.reduce((next, word, bit) => (top >> BigInt(bit) & 1n ? next ^ word : next), rest << 5n ^ BigInt(value));
+}, first);
+
+/** The characters of a remainder of so many elements. */
+export const charactersOf = (sum, count) =>
+  Array.from({ length: count }, (_, i) => ALPHABET[Number(sum >> BigInt(5 * (count - 1 - i)) & 31n)]).join('');
+
+const valuesOf = (data) => Array.from(data, (c) => ALPHABET.indexOf(c));
+const CODEX32_START = 0x23181b3n;
+const acceptedBy = (checksum) => (text) => remainderBy(checksum, valuesOf(text.slice(3)), CODEX32_START) === checksum.target;
+
+/** The codex32 string of a header and a payload, in lower case, with its checksum of 13 characters. */
+export const stringOf = (data) => {
+  const sum = remainderBy(CODEX32, [...valuesOf(data), ...Array(13).fill(0)], CODEX32_START) ^ CODEX32.target;
+  return `ms1${data}${charactersOf(sum, 13)}`;
 };
 
 /** Whether the codex32 checksum accepts a text in lower case that begins with `ms1`. */
