@@ -20,7 +20,9 @@ pub mod checksum {
         Bech32, Bech32m, Checksum, Engine, HrpFe32Iter, LocatorField, NoChecksum, PackedFe32,
         PackedNull,
     };
-    pub use bech32_detect::{accepted_texts_are_far, detects_four, detects_four_in};
+    pub use bech32_detect::{
+        accepted_texts_are_far, bursts_are_detected, detects_four, detects_four_in,
+    };
     pub use bech32_four::four_errors_are_detected;
 }
 

@@ -317,7 +317,7 @@ module _ {F : Type 0} {f : Ops F} (l : IsField f) where
   rest_of (x ∷ r) = r
 
   -- a step up of what is not zero leaves something, where the generator's constant coefficient is not zero
-  lowered : (g r : List F) → coefficient f g 0 ≢ f.zero → length r ≡ length g → step f g r f.zero ≡ zeros f (length g) → r ≡ zeros f (length g)
+  pub lowered : (g r : List F) → coefficient f g 0 ≢ f.zero → length r ≡ length g → step f g r f.zero ≡ zeros f (length g) → r ≡ zeros f (length g)
   lowered [] r n e h = absurd (n refl)
   lowered (c ∷ g) [] n e h = absurd (omega arith)
   lowered (c ∷ g) (b ∷ r) n e h =

@@ -1,5 +1,6 @@
 pub mod Answer
 pub mod Apart
+pub mod InARow
 pub mod Distances
 pub mod Four
 pub mod RowDigits

@@ -30,13 +30,13 @@ same_element-tells x y = step (eqb_tells x.value y.value)
     step (inr h) = inr (h.0, λ e. h.1 (ap (λ (z : Fe32). z.value) e))
 
 -- the coefficients of a text above those of its data part
-abbrev above_data : List ℕ → List Fe32
+abbrev pub above_data : List ℕ → List Fe32
 above_data hrp = appended (fe32.one ∷ []) (hrp_elements hrp)
 
-text_polynomial-reverse : (hrp : List ℕ) (elements : List Fe32) → text_polynomial hrp elements ≡ reverse elements ++ above_data hrp
+pub text_polynomial-reverse : (hrp : List ℕ) (elements : List Fe32) → text_polynomial hrp elements ≡ reverse elements ++ above_data hrp
 text_polynomial-reverse hrp elements = appended-append (fe32.one ∷ []) (hrp_elements hrp) elements ∙ appended-reverse (above_data hrp) elements
 
-above_data-lowered : (hrp other : List ℕ) → lowered other ≡ lowered hrp → above_data other ≡ above_data hrp
+pub above_data-lowered : (hrp other : List ℕ) → lowered other ≡ lowered hrp → above_data other ≡ above_data hrp
 above_data-lowered hrp other e =
     ap (λ (low : List ℕ). appended (fe32.one ∷ []) (map (λ b. fe32.element (b / 32)) low ++ (fe32.zero ∷ map fe32.element low))) e
 

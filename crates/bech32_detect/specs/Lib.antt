@@ -1,3 +1,4 @@
+pub mod Bursts
 pub mod Distance
 pub mod Rows
 pub mod Texts

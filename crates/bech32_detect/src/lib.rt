@@ -10,10 +10,12 @@ ghost use Rattle.bech32_poly.specs.Polynomial.{coefficient};
 ghost use Rattle.bech32_bch.specs.Detection.{DetectsFour};
 ghost use Rattle.bech32_detect.specs.Texts.{AreTextsFar};
 
+mod bursts;
 mod distance;
 mod rows;
 mod search;
 
+pub use self::bursts::bursts_are_detected;
 pub use self::distance::accepted_texts_are_far;
 use bech32_checksum::{Checksum, Engine};
 use rows::{row_of, term_rows};

@@ -4,13 +4,12 @@
 //! Standard: BIP-93.
 #![tactic(auto)]
 
+pub mod laws;
 mod nearest;
 mod string;
 
 pub use self::nearest::{propose, propose_in, propose_long, propose_long_in};
 pub use self::string::Codex32Str;
-/// What is proved of shares, recovery and secrecy among it: calls that do nothing.
-pub use codex32_shares::laws;
 pub use codex32_strings::damaged::{validate_damaged, validate_damaged_long};
 pub use codex32_strings::{
     Codex32, Codex32Error, DeriveError, EncodeError, Header, HeaderError, Identifier, LongCodex32,

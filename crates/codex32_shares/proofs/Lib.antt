@@ -8,3 +8,4 @@ pub mod Strings
 pub mod OfChecksum
 pub mod Agreed
 pub mod Given
+pub mod Dealt

@@ -27,3 +27,11 @@ module _ (code : Code) (hrp : List ℕ) (header : List Fe32) (n : ℕ) where
     size = h.size;
     ends = record { checksum = h.ends.checksum; is_checksum = record { size = h.ends.size; has_target = h.ends.remains }; given_is = h.ends.given_is };
   }
+
+  pub back_all : (xs : List Fe32) (ps texts : List (List Fe32)) → AreShareTexts (Ends fe32.ops (hrp_elements hrp) code.generator code.target) header n xs ps texts → AreShareTexts (EndsInChecksum (IsChecksumOf code hrp)) header n xs ps texts
+  back_all [] [] [] are = tt
+  back_all [] [] (t ∷ texts) are = absurd are
+  back_all [] (p ∷ ps) texts are = absurd are
+  back_all (x ∷ xs) [] texts are = absurd are
+  back_all (x ∷ xs) (p ∷ ps) [] are = absurd are
+  back_all (x ∷ xs) (p ∷ ps) (t ∷ texts) are = (back x p t are.0, back_all xs ps texts are.1)

@@ -51,7 +51,7 @@ module _ {F : Type 0} {o : Ops F} (l : IsField o) where
       let n : length header ≡ length header + 0 = omega arith in
       in_front (header ++ (x ∷ p)) c (length header) (omega arith) ∙ ap (coefficient o (header ++ (x ∷ p))) n ∙ behind header (x ∷ p) 0
 
-  payload_at : (header p c : List F) (x : F) (k : ℕ) → k < length p → coefficient o ((header ++ (x ∷ p)) ++ c) (length header + suc k) ≡ coefficient o p k
+  pub payload_at : (header p c : List F) (x : F) (k : ℕ) → k < length p → coefficient o ((header ++ (x ∷ p)) ++ c) (length header + suc k) ≡ coefficient o p k
   payload_at header p c x k h =
       let e : length (header ++ (x ∷ p)) ≡ length header + suc (length p) = length-append header (x ∷ p) in
       in_front (header ++ (x ∷ p)) c (length header + suc k) (omega arith) ∙ behind header (x ∷ p) (suc k)
@@ -114,7 +114,7 @@ module _ {F : Type 0} {o : Ops F} (l : IsField o) where
         let rest : (length texts ≡ length xs) × AllByRecursion (λ t. length t ≡ size_of) texts × (length ps ≡ length xs) × AllByRecursion (λ p. length p ≡ n) ps = all_as_long xs ps texts are.1 in
         (ap suc rest.0, (text_size x p t are.0, rest.1), ap suc rest.2, (are.0.size, rest.3))
 
-    shares_of : (xs : List F) (ps texts : List (List F)) → IsOnce xs → AreShareTexts (Ends o before low target) header n xs ps texts → AreShares xs texts size_of
+    pub shares_of : (xs : List F) (ps texts : List (List F)) → IsOnce xs → AreShareTexts (Ends o before low target) header n xs ps texts → AreShares xs texts size_of
     shares_of xs ps texts once are = let h = all_as_long xs ps texts are in record { once = once; one_each = h.0; alike = h.1 }
 
     payloads_of : (xs : List F) (ps texts : List (List F)) → IsOnce xs → AreShareTexts (Ends o before low target) header n xs ps texts → AreShares xs ps n

@@ -9,6 +9,7 @@ ghost use Rattle.bech32_poly.specs.Remainder.{IsRemainder};
 ghost use Rattle.bech32_poly.specs.RootSearch.{total_of};
 ghost use Rattle.bech32_checksum.specs.Code.{Code};
 ghost use Rattle.bech32_checksum.specs.TextPolynomial.{text_polynomial, IsChecksumOf, EndsInChecksum};
+ghost use Rattle.bech32_encode.specs.ExactlyOne.{ExactlyOne};
 ghost use Rattle.codex32_shares.specs.Points.{IsValueThrough, AreWeights};
 ghost use Rattle.codex32_shares.specs.Shares.{column, DoAgree, AreShares, IsDerived, AreDerived, IsShareText, AreShareTexts};
 
@@ -118,4 +119,32 @@ pub fn fewer_strings_say_nothing()
         × ((w b : List Fe32)
         → IsShareText (EndsInChecksum (IsChecksumOf code hrp)) header n s w b
         → IsDerived fe32.ops (s ∷ xs) (b ∷ texts) (length t) j t → (w ≡ u) × (b ≡ a)) }
+{}
+
+/// Perfect secrecy: whatever texts are known, one fewer than the threshold, given or derived, at
+/// indices other than s, and whatever text of their length is the secret at s, the dealer has
+/// exactly one choice of as many texts, at the indices that are dealt, by which the secret and the
+/// choice give the known texts. So where the dealer draws texts uniformly, each secret gives the
+/// known texts with the same probability.
+pub fn each_secret_has_one_dealing()
+    ensures { (n : ℕ) (s : Fe32) (dealt known : List Fe32) (secret : List Fe32)
+        (texts : List (List Fe32)) → IsOnce (s ∷ dealt) → IsOnce (s ∷ known)
+        → length dealt ≡ length known → AreShares known texts n → length secret ≡ n
+        → ExactlyOne (λ choice. AreShares dealt choice n
+        × AreDerived fe32.ops (s ∷ dealt) (secret ∷ choice) n known texts) }
+{}
+
+/// Perfect secrecy of strings of one header, at least one and one fewer than the threshold: for
+/// each string at s, the dealer has exactly one choice of payloads, and of their strings, by which
+/// that string and the choice give the known strings, the checksums among it.
+pub fn each_secret_has_one_dealing_of_strings()
+    ensures { (code : Code) (hrp : List ℕ) (header : List Fe32) (n : ℕ) (s : Fe32)
+        (dealt known : List Fe32) (payload secret : List Fe32) (payloads texts : List (List Fe32))
+        → IsOnce (s ∷ dealt) → IsOnce (s ∷ known)
+        → length dealt ≡ length known → 1 ≤ length known
+        → IsShareText (EndsInChecksum (IsChecksumOf code hrp)) header n s payload secret
+        → AreShareTexts (EndsInChecksum (IsChecksumOf code hrp)) header n known payloads texts
+        → ExactlyOne (λ (choice : List (List Fe32) × List (List Fe32)).
+        AreShareTexts (EndsInChecksum (IsChecksumOf code hrp)) header n dealt choice.0 choice.1
+        × AreDerived fe32.ops (s ∷ dealt) (secret ∷ choice.1) (length secret) known texts) }
 {}

@@ -54,7 +54,7 @@ first_six es front j e less = before es 6 j less ∙ ap (λ (u : List Fe32). coe
     before (e ∷ es) (suc m) zero less = refl
     before (e ∷ es) (suc m) (suc j) less = before es m j (omega (arith, less))
 
-taken : (given : List ℕ) (m : ℕ) → elements_of (take m given) ≡ take m (elements_of given)
+pub taken : (given : List ℕ) (m : ℕ) → elements_of (take m given) ≡ take m (elements_of given)
 taken given zero = refl
 taken [] (suc m) = refl
 taken (c ∷ cs) (suc m) = ap (λ (u : List Fe32). element_of c ∷ u) (taken cs m)
@@ -180,7 +180,7 @@ module _ (s : Share) (ss : List Share) (x : Fe32) (es : List Fe32) (whole : IsWh
   six : length (header_elements_of (threshold_of_share s) (identifier_of_share s) x) ≡ 6
   six = let full = s.header.identifier.full in let both = length-append s.header.identifier.elements (x ∷ []) in omega (arith, full, both)
 
-  header : take 6 es ≡ header_elements_of (threshold_of_share s) (identifier_of_share s) x
+  pub header : take 6 es ≡ header_elements_of (threshold_of_share s) (identifier_of_share s) x
   header = same_six es (header_elements_of (threshold_of_share s) (identifier_of_share s) x) six (omega (arith, long, given.size)) at
     where
       at : (j : ℕ) → j < 6 → coefficient ops es j ≡ coefficient ops (header_elements_of (threshold_of_share s) (identifier_of_share s) x) j

@@ -12,3 +12,5 @@ pub mod HeaderWords
 pub mod DerivedStrings
 pub mod EncodedStrings
 pub mod Put
+pub mod Changed
+pub mod OneString

@@ -56,7 +56,7 @@ share_of_text text hrp s is accepted part size = record { hrp = hrp; is_text = i
 
 -- ---- elements that are spelled
 
-hrp_of_strings : IsHrp ms
+pub hrp_of_strings : IsHrp ms
 hrp_of_strings = record { not_empty = omega arith; not_long = omega arith; graphic = refl; one_case = refl }
 
 pub string_of_elements : (text : List ℕ) (t : Threshold) (i : Identifier) (x : Fe32) (payload checksum : List Fe32)

@@ -1,10 +1,12 @@
 pub mod Code
 pub mod Damaged
 pub mod Derive
+pub mod Detection
 pub mod Encode
 pub mod Header
 pub mod HeaderParts
 pub mod Lengths
+pub mod Sets
 pub mod Share
 pub mod ShareParts
 pub mod Strings

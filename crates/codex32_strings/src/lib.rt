@@ -9,6 +9,7 @@ mod cases;
 mod checksum;
 pub mod damaged;
 mod derivation;
+mod detection;
 mod encoding;
 mod error;
 pub mod frame;
@@ -16,12 +17,14 @@ mod header;
 mod identifier;
 pub mod lengths;
 mod long;
+mod sets;
 mod share;
 mod threshold;
 pub mod unreadable;
 
 pub use self::checksum::Codex32;
 pub use self::derivation::{derive, derive_in, derive_into, recover, recover_in};
+pub use self::detection::changed_strings_are_no_strings;
 pub use self::encoding::{
     encode, encode_in, encode_into, encode_payload, encode_payload_in, encode_payload_into,
 };
@@ -29,5 +32,6 @@ pub use self::error::{Codex32Error, DeriveError, EncodeError, HeaderError, Paylo
 pub use self::header::{Header, parse_share_index, validate_header};
 pub use self::identifier::Identifier;
 pub use self::long::LongCodex32;
+pub use self::sets::{sets_give_one_string, strings_have_one_reading};
 pub use self::share::Share;
 pub use self::threshold::Threshold;

@@ -1,14 +1,23 @@
 //! Callers whose contracts rest on those of the library.
 
-ghost use Rattle.std.specs.Prelude.{◌≡◌, ◌⊎◌, ℕ, List, None, Ok, IfOk, IfErr, MatchOption, string_bytes};
+ghost use Rattle.std.specs.Prelude.{◌≡◌, ◌⊎◌, ℕ, List, None, Ok, IfOk, IfErr, IfSome, MatchOption, string_bytes};
+ghost use Rattle.bech32_bits.specs.Bits.{to_fes};
+ghost use Rattle.bech32_gf.specs.Fe32.{elements_of};
 ghost use Rattle.bech32_hrp.specs.Hrp.{lowered};
 ghost use Rattle.bech32_segwit.specs.SegwitDecoding.{IsSegwitDecodeRefusal};
 ghost use Rattle.codex32.specs.Nearest.{IsNearestText, IsProposeRefusal};
+ghost use Rattle.codex32_strings.specs.Encode.{IsEncodedString};
+ghost use Rattle.codex32_strings.specs.Header.{identifier_of_header, share_index_of_header, threshold_of_header};
+ghost use Rattle.codex32_strings.specs.HeaderParts.{secret_index};
+ghost use Rattle.codex32_strings.specs.Share.{IsShareString};
 ghost use Rattle.codex32_strings.specs.Strings.{IsCodex32};
 
+use bech32::Fe32;
 use bech32::primitives::decode::SegwitHrpstringError;
 use bech32::segwit::{self, DecodeError};
-use codex32::{Codex32Error, Codex32Str, propose};
+use codex32::{
+    Codex32Error, Codex32Str, Header, Share, derive, encode, encode_payload, propose, recover,
+};
 use std::alloc::Global;
 
 /// Reads a segwit address, and writes it in lower case.
@@ -44,4 +53,79 @@ pub fn proposal(alloc: Global, text: &str) -> Result<Option<String>, Codex32Erro
         return Ok(None);
     }
     propose(alloc, text)
+}
+
+/// A secret that two strings share, its own and one at random, as it is recovered from two others
+/// that are derived from these: its own string, whatever is random. None where a string is refused,
+/// where two are not enough, or out of memory.
+pub fn recovered(
+    alloc: Global,
+    own: &Header,
+    secret: &[u8],
+    other: &Header,
+    random: &[Fe32],
+    indices: (Fe32, Fe32),
+) -> Option<String>
+    requires { share_index_of_header own.now ≡ secret_index }
+    ensures encoded { IfSome result (λ s. IsEncodedString own.now secret.now (string_bytes s)) }
+    ensures string { IfSome result (λ s. (payload : List ℕ)
+        × IsShareString (string_bytes s) (threshold_of_header own.now)
+        (identifier_of_header own.now) secret_index payload
+        × (elements_of payload ≡ to_fes secret.now)) }
+{
+    let Ok(own_text) = encode(alloc, own, secret) else {
+        return None;
+    };
+    let Ok(other_text) = encode_payload(alloc, other, random) else {
+        return None;
+    };
+    let Ok(own_share) = Share::parse(&own_text) else {
+        return None;
+    };
+    let Ok(other_share) = Share::parse(&other_text) else {
+        return None;
+    };
+    let dealt = [own_share, other_share];
+    let Ok(first) = derive(alloc, &dealt, indices.0) else {
+        return None;
+    };
+    let Ok(second) = derive(alloc, &dealt, indices.1) else {
+        return None;
+    };
+    let Ok(first_share) = Share::parse(&first) else {
+        return None;
+    };
+    let Ok(second_share) = Share::parse(&second) else {
+        return None;
+    };
+    let Ok(text) = recover(alloc, &[first_share, second_share]) else {
+        return None;
+    };
+    Some(text)
+}
+
+/// The bytes of the secret, recovered so.
+pub fn recovered_bytes(
+    alloc: Global,
+    own: &Header,
+    secret: &[u8],
+    other: &Header,
+    random: &[Fe32],
+    indices: (Fe32, Fe32),
+) -> Option<Vec<u8>>
+    requires { share_index_of_header own.now ≡ secret_index }
+    ensures { IfSome result (λ v. v.items ≡ secret.now) }
+{
+    let text = recovered(alloc, own, secret, other, random, indices)?;
+    let Ok(share) = Share::parse(&text) else {
+        return None;
+    };
+    let Ok(count) = share.byte_count() else {
+        return None;
+    };
+    let Ok(mut bytes) = vec![in alloc; 0u8; count] else {
+        return None;
+    };
+    share.put_bytes(bytes.as_mut_slice());
+    Some(bytes)
 }
