@@ -19,6 +19,8 @@ pub extern "C" fn bech32_message(number: u32, message: &mut [u8], message_length
     ensures value { result ≡ 0
         → IsPut (bech32_sentence number) message.old message.new message_length.new }
     ensures accepts { length (bech32_sentence number) ≤ length message.old → result ≡ 0 }
+    ensures short { (result ≡ 0 → message_length.new ≤ 100)
+        × (100 ≤ length message.old → result ≡ 0) }
     ensures refused { result ≢ 0
         → (result ≡ 92) × (length message.old < length (bech32_sentence number)) }
     ensures same { result ≢ 0

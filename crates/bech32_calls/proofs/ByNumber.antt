@@ -1,18 +1,42 @@
 -- The checksum of a number, and calls that are refused by it.
-use Rattle.std.proofs.Common.{◌≡◌, ℕ, Option, Some, None, MatchOption}
-use Rattle.bech32_checksum.specs.Code.{Code}
+use Rattle.std.specs.Prelude.{if◌then◌else◌}
+use Rattle.std.proofs.Common.{◌≡◌, ◌==◌, ℕ, Bool, true, false, Option, Some, None, MatchOption}
+use Rattle.bech32_checksum.specs.Code.{Code, bech32, bech32m}
 use Rattle.bech32_calls.specs.Checksums.{code_of_number, ForChecksum, IsFaultBy}
 use Rattle.bech32_calls.specs.declared.refusal.Refusal.{Refusal}
 use Rattle.bech32_calls.specs.declared.refusal.Refusal.TheVariants.{BadNumber}
 
-module _ (P : Code → Type 0) (IsFault : Code → Refusal → Type 0) (e : Refusal) (none : (code : Code) → P code → IsFault code e → ⊥) where
-  no_fault : (o : Option Code) → MatchOption o ⊥ P → MatchOption o (e ≡ BadNumber) (λ code. IsFault code e) → ⊥
-  no_fault None h f = h
-  no_fault (Some code) h f = none code h f
+module _ (P : Code → Type 0) (Q : Type 0) (gives : (code : Code) → P code → Q) where
+  out_of : (o : Option Code) → MatchOption o ⊥ P → Q
+  out_of None h = absurd h
+  out_of (Some code) h = gives code h
 
-  -- nothing is wrong by the checksum of a number where nothing is by that checksum
-  pub no_fault_by : (n : ℕ) → ForChecksum n P → IsFaultBy n IsFault e → ⊥
-  no_fault_by n = no_fault (code_of_number n)
+  -- what follows by any checksum, and does not name it
+  pub from_checksum : (n : ℕ) → ForChecksum n P → Q
+  from_checksum n = out_of (code_of_number n)
+
+module _ (P : Code → Type 0) (Q : Type 0) (one : P bech32 → Q) (two : P bech32m → Q) where
+  out_of_either : (first second : Bool) → MatchOption (if first then Some bech32 else (if second then Some bech32m else None)) ⊥ P → Q
+  out_of_either true second h = one h
+  out_of_either false true h = two h
+  out_of_either false false h = absurd h
+
+  -- what follows by both checksums
+  pub from_either : (n : ℕ) → ForChecksum n P → Q
+  from_either n = out_of_either (n == 1) (n == 2)
+
+module _ (P : Code → Type 0) (IsFault : Code → Refusal → Type 0) (e : Refusal) (Q : Type 0) (gives : (code : Code) → P code → IsFault code e → Q) where
+  out_of_both : (o : Option Code) → MatchOption o ⊥ P → MatchOption o (e ≡ BadNumber) (λ code. IsFault code e) → Q
+  out_of_both None h f = absurd h
+  out_of_both (Some code) h f = gives code h f
+
+  -- what follows from what is wrong by a checksum of which something holds
+  pub from_both : (n : ℕ) → ForChecksum n P → IsFaultBy n IsFault e → Q
+  from_both n = out_of_both (code_of_number n)
+
+-- nothing is wrong by the checksum of a number where nothing is by that checksum
+pub no_fault_by : (P : Code → Type 0) (IsFault : Code → Refusal → Type 0) (e : Refusal) → ((code : Code) → P code → IsFault code e → ⊥) → (n : ℕ) → ForChecksum n P → IsFaultBy n IsFault e → ⊥
+no_fault_by P IsFault e none = from_both P IsFault e ⊥ none
 
 module _ (P Q : Code → Type 0) (more : (code : Code) → P code → Q code) where
   more_of : (o : Option Code) → MatchOption o ⊥ P → MatchOption o ⊥ Q

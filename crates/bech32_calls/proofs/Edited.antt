@@ -1,11 +1,12 @@
 -- Edits and the texts that they make put into buffers.
-use Rattle.std.specs.Prelude.{map, flat_map}
-use Rattle.std.proofs.Common.{◌≡◌, ◌<◌, ◌≤◌, ℕ, List, length, take, min, ap, subst, sym, refl, ◌∙◌, arith}
+use Rattle.std.specs.Prelude.{map, flat_map, false, None, Some, Result, Ok, Err, IfErr, IfOk}
+use Rattle.std.proofs.Common.{◌≡◌, ◌<◌, ◌≤◌, ◌+◌, ◌⊎◌, ℕ, zero, suc, List, [], ◌∷◌, length, length-append, take, min, inl, inr, ap, subst, sym, refl, ◌∙◌, arith}
+use Rattle.std.proofs.Math.Decide.{dec_lt}
 use Rattle.std.proofs.lemmas.List.{length-map, length-take-le, take-map, take_all}
 use Rattle.std.proofs.lemmas.Simd.{map-map}
 use Rattle.bech32_checksum.specs.Code.{Code}
-use Rattle.bech32_decode.specs.Text.{IsInGrammar}
-use Rattle.bech32_decode.proofs.Grammar.{not_in_grammar}
+use Rattle.bech32_decode.specs.Text.{IsInGrammar, text_refusal}
+use Rattle.bech32_decode.proofs.Grammar.{not_in_grammar, text_refusal-none}
 use Rattle.bech32_encode.specs.Buffers.{IsPut}
 use Rattle.bech32_near_edits.specs.NearEdits.{AreNearEdits, IsEditsRefusal}
 use Rattle.bech32_near_edits.specs.declared.edits.Edit.{Edit}
@@ -13,9 +14,11 @@ use Rattle.bech32_near_edits.specs.declared.error.EditsError.{EditsError}
 use Rattle.bech32_near_edits.specs.declared.error.EditsError.TheVariants.{Memory as OutOfMemory, Refused}
 use Rattle.bech32_calls.specs.Checksums.{ForChecksum, IsFaultBy}
 use Rattle.bech32_calls.specs.Fitting.{FirstFit, IsMost}
-use Rattle.bech32_calls.specs.NearEdits.{EditsFit, IsEditsFault, PutsEach, PutsEdits, PutsFirstEdits, number_of_change}
-use Rattle.bech32_calls.specs.declared.refusal.Refusal.TheVariants.{Memory}
-use Rattle.bech32_calls.proofs.ByNumber.{more_for, wrong_by}
+use Rattle.bech32_calls.specs.NearEdits.{EditsFit, IsEditsFault, LacksRoomForEdits, PutsEach, PutsEdits, PutsFirstEdits, number_of_change}
+use Rattle.bech32_calls.specs.declared.listed.Listed.{Listed}
+use Rattle.bech32_calls.specs.declared.refusal.Refusal.{Refusal}
+use Rattle.bech32_calls.specs.declared.refusal.Refusal.TheVariants.{Memory, NotUtf8, Text}
+use Rattle.bech32_calls.proofs.ByNumber.{from_both, more_for, wrong_by}
 use Rattle.bech32_calls.proofs.Fitting.{first_fit, first_fit_back, joined_first, most_as}
 use Rattle.bech32_calls.proofs.Letters.{IsUtf8-from_text}
 use Rattle.bech32_calls.proofs.Puts.{put-same}
@@ -30,6 +33,25 @@ untold text OutOfMemory is code h = h
 -- the same by the checksum of a number
 pub untold_by : (n : ℕ) (text : List ℕ) (e : EditsError) → IsInGrammar text → ForChecksum n (λ code. IsEditsRefusal code text e) → IsFaultBy n (IsEditsFault text) Memory
 untold_by n text e is = wrong_by (λ code. IsEditsRefusal code text e) (IsEditsFault text) Memory (untold text e is) n
+
+-- of a text in the grammar only memory may not suffice
+grammar_memory : (text : List ℕ) (e : Refusal) (code : Code) → IsInGrammar text → IsEditsFault text code e → e ≡ Memory
+grammar_memory text NotUtf8 code is h = absurd (h (IsUtf8-from_text text is.0 is.1 is.2))
+grammar_memory text (Text e) code is h =
+    let none : text_refusal text ≡ None = text_refusal-none text h.0 is in
+    let some : text_refusal text ≡ Some e = h.1 in
+    absurd (cc)
+grammar_memory text Memory code is h = refl
+grammar_memory text _ code is h = absurd h
+
+module _ (n : ℕ) (text : List ℕ) (is : ForChecksum n (λ _. IsInGrammar text)) where
+  -- the same by the checksum of a number
+  pub grammar_memory_by : (e : Refusal) → IsFaultBy n (IsEditsFault text) e → e ≡ Memory
+  grammar_memory_by e = from_both (λ _. IsInGrammar text) (IsEditsFault text) e (e ≡ Memory) (grammar_memory text e) n is
+
+pub memory_listed : {R : Type 0} (F : Refusal → Type 0) (r : Result R Refusal) → IfErr r (λ e. (e ≡ Memory) × F e) → IfErr r (λ e. e ≡ Memory)
+memory_listed F (Ok listed) h = tt
+memory_listed F (Err e) h = h.0
 
 -- ---- where some are
 
@@ -85,6 +107,51 @@ module _ {A : Type 0} (edit : A → Edit) (text : A → List ℕ) (items : List 
           fits = (omega (arith, is), omega (arith, is), fits);
           full = λ less next. omega (arith, is, less, next.0, next.1);
         }
+
+-- ---- where some do not fit
+
+-- the first of them are no longer than all
+length_first : {A : Type 0} (f : A → List ℕ) (n : ℕ) (items : List A) → length (flat_map f (take n items)) ≤ length (flat_map f items)
+length_first f zero items = omega arith
+length_first f (suc n) [] = omega arith
+length_first f (suc n) (x ∷ xs) = omega (arith, length-append (f x) (flat_map f (take n xs)), length-append (f x) (flat_map f xs), length_first f n xs)
+
+module _ (text kinds kinds' locations locations' texts texts' : List ℕ) (count : ℕ) (code : Code) (h : PutsFirstEdits text kinds kinds' locations locations' texts texts' count code) where
+  abbrev more : ℕ
+  more = h.put_count + 1
+
+  within : more ≤ count
+  within = omega (arith, h.lacks, h.count_is)
+
+  -- one buffer has no room for one more
+  lacking : (kinds_room locations_room texts_room : ℕ) → (EditsFit h.found kinds_room locations_room texts_room more → ⊥)
+      → (kinds_room < count) ⊎ ((locations_room < count) ⊎ (texts_room < length (flat_map (λ m. m.1) h.found)))
+  lacking kinds_room locations_room texts_room none = elim (dec_lt kinds_room more) [
+    | yes k ↦ inl (omega (arith, k, within))
+    | no k ↦ elim (dec_lt locations_room more) [
+      | yes l ↦ inr (inl (omega (arith, l, within)))
+      | no l ↦ elim (dec_lt texts_room (length (flat_map (λ m. m.1) (take more h.found)))) [
+        | yes t ↦ inr (inr (omega (arith, t, length_first (λ m. m.1) more h.found)))
+        | no t ↦ absurd (none (omega (arith, k), omega (arith, l), omega (arith, t)))
+      ]
+    ]
+  ]
+
+  lacks_room : LacksRoomForEdits text (length kinds) (length locations) (length texts) count code
+  lacks_room = record {
+    found = h.found;
+    near = h.near;
+    count_is = h.count_is;
+    lacks = lacking (length kinds) (length locations) (length texts) (h.most.full h.lacks);
+  }
+
+pub lacks_listed : (n : ℕ) (text kinds kinds' locations locations' texts texts' : List ℕ) (r : Result Listed Refusal)
+    → IfOk r (λ listed. listed.fit ≡ false → ForChecksum n (PutsFirstEdits text kinds kinds' locations locations' texts texts' listed.count))
+    → IfOk r (λ listed. listed.fit ≡ false → ForChecksum n (LacksRoomForEdits text (length kinds) (length locations) (length texts) listed.count))
+lacks_listed n text kinds kinds' locations locations' texts texts' (Ok listed) h = λ part.
+    more_for (PutsFirstEdits text kinds kinds' locations locations' texts texts' listed.count) (LacksRoomForEdits text (length kinds) (length locations) (length texts) listed.count)
+    (lacks_room text kinds kinds' locations locations' texts texts' listed.count) n (h part)
+lacks_listed n text kinds kinds' locations locations' texts texts' (Err e) h = tt
 
 -- ---- by the checksum of a number, for a copy of the list
 

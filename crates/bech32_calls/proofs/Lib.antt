@@ -7,6 +7,7 @@ pub mod Decoding
 pub mod Encoding
 pub mod Edited
 pub mod Ends
+pub mod Few
 pub mod Fitting
 pub mod Joined
 pub mod Letters

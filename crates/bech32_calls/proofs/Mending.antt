@@ -28,7 +28,7 @@ use Rattle.bech32_encode.specs.Buffers.{IsPut}
 use Rattle.bech32_refusals.specs.declared.error.ChecksumError.{ChecksumError}
 use Rattle.bech32_refusals.specs.declared.error.ChecksumError.TheVariants.{CodeLength, InvalidLength, InvalidResidue}
 use Rattle.bech32_correction.specs.MendedElements.{EndsIn, mended as mended_of}
-use Rattle.bech32_correction.specs.Mistyped.{AreInside, HasNoListing, IsListedInPlace, IsListingOf, IsRefusedFor, question_of}
+use Rattle.bech32_correction.specs.Mistyped.{AreInside, HasNoListing, HasResidue, IsListedInPlace, IsListingOf, IsRefusedFor, question_of}
 use Rattle.bech32_correction.specs.declared.correcting.Correction.{Correction}
 use Rattle.bech32_correction.specs.declared.correcting.Correction.TheVariants.{Accepted}
 use Rattle.bech32_correction.proofs.Sound.{sound_of}
@@ -104,14 +104,15 @@ module _ (code : Code) (text : List ℕ) where
   not_both h d residue a r =
       r.not_target (one_remainder code.generator (text_polynomial h (elements_of d)) r.read.remainder code.target r.read.is_remainder (valid-from_accepts code text h d r.read.grammar a).2)
 
-  no_other_refusal : (h d : List ℕ) (residue : List Fe32) (e : ChecksumError) → IsRefusedFor code text h d residue → IsRefusedByChecksum code text e → of_checksum e ≡ None → ⊥
+  -- a text whose residue is read is refused for nothing else
+  pub no_other_refusal : (h d : List ℕ) (residue : List Fe32) (e : ChecksumError) → HasResidue code text h d residue → IsRefusedByChecksum code text e → of_checksum e ≡ None → ⊥
   no_other_refusal h d residue (CodeLength e) a r none =
-      let over : code.code_length < length text = r.refusal.0 in let fits : length text ≤ code.code_length = a.read.text_length in omega arith
+      let over : code.code_length < length text = r.refusal.0 in let fits : length text ≤ code.code_length = a.text_length in omega arith
   no_other_refusal h d residue InvalidLength a r none =
-      let same = only-from_IsText text r.hrp r.data_part r.grammar h d a.read.grammar.split a.read.grammar.data_bytes in
+      let same = only-from_IsText text r.hrp r.data_part r.grammar h d a.grammar.split a.grammar.data_bytes in
       let one : length d ≡ length r.data_part = ap length same.1 in
       let short : length r.data_part < length code.generator = r.refusal.1 in
-      let room : length code.generator ≤ length d = a.read.data_length in
+      let room : length code.generator ≤ length d = a.data_length in
       omega arith
   no_other_refusal h d residue (InvalidResidue e) a r none = absurd (cc)
 
@@ -143,7 +144,7 @@ module _ (text given : List ℕ) (code : Code) where
       → of_checksum e ≡ None → ⊥
   no_checksum_fault listing e (inl h) r none =
       not_valid code (length text) r.hrp r.data_part e r.refusal (valid-from_accepts code text r.hrp r.data_part r.grammar h.0)
-  no_checksum_fault listing e (inr h) r none = no_other_refusal code text h.hrp h.data_part h.residue e h.refused r none
+  no_checksum_fault listing e (inr h) r none = no_other_refusal code text h.hrp h.data_part h.residue e h.refused.read r none
 
   no_solution : (listing : List (ℕ × Fe32)) → IsMending text given listing code → HasNoListing code bound text given → ⊥
   no_solution listing (inl h) none = not_both code text none.hrp none.data_part none.residue h.0 none.refused

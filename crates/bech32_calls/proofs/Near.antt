@@ -1,21 +1,27 @@
 -- Near texts put into a buffer, and why none are.
-use Rattle.std.specs.Prelude.{map, flat_map}
+use Rattle.std.specs.Prelude.{map, flat_map, false, None, Some, Result, Ok, Err, IfErr, IfOk}
 use Rattle.std.specs.List.{AllByRecursion}
-use Rattle.std.proofs.Common.{◌≡◌, ◌<◌, ◌≤◌, ◌+◌, ◌*◌, ℕ, zero, suc, List, [], ◌∷◌, ◌++◌, length, length-append, suc-mul, zero-mul, take, sym, ap, subst, ◌∙◌, arith}
+use Rattle.std.proofs.Common.{◌≡◌, ◌<◌, ◌≤◌, ◌+◌, ◌*◌, ℕ, zero, suc, List, [], ◌∷◌, ◌++◌, length, length-append, suc-mul, zero-mul, take, inl, refl, sym, mul-le-mul_right, ap, subst, ◌∙◌, arith}
 use Rattle.std.proofs.lemmas.List.{length-map, take_all}
 use Rattle.std.proofs.lemmas.List.Folds.{flat_map-map}
 use Rattle.bech32_gf.specs.declared.gf32.Fe32.{Fe32}
 use Rattle.bech32_checksum.specs.Code.{Code}
+use Rattle.bech32_decode.specs.Text.{text_refusal}
+use Rattle.bech32_decode.proofs.Grammar.{text_refusal-none}
 use Rattle.bech32_encode.specs.Buffers.{IsPut}
-use Rattle.bech32_near.specs.NearTexts.{AreNearTexts, IsNearText, LeavesResidue}
+use Rattle.bech32_near.specs.NearTexts.{AreNearTexts, IsNearText, IsOutOfMemory, LeavesResidue}
+use Rattle.caller_memory.specs.declared.memory.Memory.{Memory as Lent}
 use Rattle.bech32_calls.specs.Checksums.{ForChecksum, IsFaultBy}
 use Rattle.bech32_calls.specs.Correct.{IsResidueFault, bound}
 use Rattle.bech32_calls.specs.Fitting.{FirstFit, IsMost}
-use Rattle.bech32_calls.specs.Nearest.{IsNearFault, PutsFirstNear, PutsNear, joined}
+use Rattle.bech32_calls.specs.Nearest.{IsNearFault, IsNearFaultOrKept, IsRead, PutsFirstNear, PutsNear, joined}
+use Rattle.bech32_calls.specs.declared.listed.Listed.{Listed}
 use Rattle.bech32_calls.specs.declared.refusal.Refusal.{Refusal}
-use Rattle.bech32_calls.specs.declared.refusal.Refusal.TheVariants.{BadNumber, Memory}
-use Rattle.bech32_calls.proofs.ByNumber.{fault_by, more_for, wrong_by}
+use Rattle.bech32_calls.specs.declared.refusal.Refusal.TheVariants.{BadNumber, Checksum, Memory, NotUtf8, Text}
+use Rattle.bech32_calls.proofs.ByNumber.{fault_by, from_both, from_checksum, more_for, wrong_by}
 use Rattle.bech32_calls.proofs.Fitting.{joined_first, most_mapped}
+use Rattle.bech32_calls.proofs.Letters.{IsUtf8-from_text}
+use Rattle.bech32_calls.proofs.Mending.{no_other_refusal}
 use Rattle.bech32_calls.proofs.Puts.{put-same}
 
 -- ---- why nothing is put
@@ -31,11 +37,40 @@ near_unread_by n text given errors e few =
     fault_by (IsResidueFault text) (IsNearFault text given errors) e (near_unread text given errors e few) n
 
 -- the memory does not suffice for a text that was read
-pub near_memory_by : (n : ℕ) (text given : List ℕ) (errors window : ℕ) (residue : List Fe32) → errors ≤ 2 → ForChecksum n (λ code. LeavesResidue code text window residue)
-    → IsFaultBy n (IsNearFault text given errors) Memory
-near_memory_by n text given errors window residue few =
-    wrong_by (λ code. LeavesResidue code text window residue) (IsNearFault text given errors) Memory
-    (λ code h. (few, record { hrp = h.hrp; data_part = h.data_part; residue = residue; read = h.read })) n
+pub near_memory_by : (n : ℕ) (text given : List ℕ) (errors : ℕ) → errors ≤ 2 → ForChecksum n (λ code. IsOutOfMemory code bound text given errors) → IsFaultBy n (IsNearFault text given errors) Memory
+near_memory_by n text given errors few =
+    wrong_by (λ code. IsOutOfMemory code bound text given errors) (IsNearFault text given errors) Memory (λ code h. (few, h)) n
+
+-- the residue of a text is read
+pub read_by : (n : ℕ) (text : List ℕ) (window : ℕ) (residue : List Fe32) → ForChecksum n (λ code. LeavesResidue code text window residue) → ForChecksum n (IsRead text)
+read_by n text window residue =
+    more_for (λ code. LeavesResidue code text window residue) (IsRead text) (λ code h. record { hrp = h.hrp; data_part = h.data_part; residue = residue; read = h.read }) n
+
+-- the memory came back
+pub fault_or_kept : {R : Type 0} (n : ℕ) (text given : List ℕ) (errors : ℕ) (old new : Lent) (r : Result R Refusal) → IfErr r (λ e. IsFaultBy n (IsNearFault text given errors) e) → IfErr r (λ e. IsNearFaultOrKept n text given errors old new e)
+fault_or_kept n text given errors old new (Ok listed) h = tt
+fault_or_kept n text given errors old new (Err e) h = inl h
+
+-- where the residue of a text is read, only memory may not suffice
+read_memory : (text given : List ℕ) (errors : ℕ) (e : Refusal) → errors ≤ 2 → (code : Code) → IsRead text code → IsNearFault text given errors code e → e ≡ Memory
+read_memory text given errors BadNumber few code is h = absurd (omega (arith, few, h))
+read_memory text given errors Memory few code is h = refl
+read_memory text given errors NotUtf8 few code is h = absurd (h.1 (IsUtf8-from_text text is.hrp is.data_part is.read.grammar))
+read_memory text given errors (Text e) few code is h =
+    let none : text_refusal text ≡ None = text_refusal-none text h.1.0 (is.hrp, is.data_part, is.read.grammar) in
+    let some : text_refusal text ≡ Some e = h.1.1 in
+    absurd (cc)
+read_memory text given errors (Checksum e) few code is h = absurd (no_other_refusal code text is.hrp is.data_part is.residue e is.read h.1.1 h.1.2)
+read_memory text given errors _ few code is h = absurd h.1
+
+module _ (n : ℕ) (text given : List ℕ) (errors : ℕ) (few : errors ≤ 2) (is : ForChecksum n (IsRead text)) where
+  -- the same by the checksum of a number
+  pub read_memory_by : (e : Refusal) → IsFaultBy n (IsNearFault text given errors) e → e ≡ Memory
+  read_memory_by e = from_both (IsRead text) (IsNearFault text given errors) e (e ≡ Memory) (read_memory text given errors e few) n is
+
+  pub only_memory : {R : Type 0} (r : Result R Refusal) → IfErr r (λ e. IsFaultBy n (IsNearFault text given errors) e) → IfErr r (λ e. e ≡ Memory)
+  only_memory (Ok listed) h = tt
+  only_memory (Err e) h = read_memory_by e h
 
 -- ---- what is put
 
@@ -81,6 +116,22 @@ module _ {A : Type 0} (f : A → List (ℕ × Fe32) × List ℕ) (text given : L
     put = put-same (flat_map (λ m. (f m).1) (take n near)) (joined (take n (map f near))) old new (length (flat_map (λ m. (f m).1) (take n near))) (n * length text)
         (sym (joined_first f (λ m. m.1) near n)) (first_length n most.within) put;
   }
+
+-- those that do not fit are longer than the buffer
+long_first : (text given : List ℕ) (errors : ℕ) (old new : List ℕ) (count : ℕ) (code : Code) → PutsFirstNear text given errors old new count code → length old < count * length text
+long_first text given errors old new count code h =
+    let next : length (joined (take (h.put_count + 1) h.found)) ≤ length old → ⊥ = h.most.full h.lacks in
+    let size : length (joined (take (h.put_count + 1) h.found)) ≡ (h.put_count + 1) * length text =
+    joined_length code text given errors h.found (h.put_count + 1) (omega (arith, h.lacks)) h.near.near in
+    let few : (h.put_count + 1) * length text ≤ count * length text = mul-le-mul_right (length text) (omega (arith, h.lacks, h.count_is)) in
+    omega (arith, next, size, few)
+
+pub long_listed : (n : ℕ) (text given : List ℕ) (errors : ℕ) (old new : List ℕ) (r : Result Listed Refusal)
+    → IfOk r (λ listed. listed.fit ≡ false → ForChecksum n (PutsFirstNear text given errors old new listed.count))
+    → IfOk r (λ listed. listed.fit ≡ false → length old < listed.count * length text)
+long_listed n text given errors old new (Ok listed) h = λ part.
+    from_checksum (PutsFirstNear text given errors old new listed.count) (length old < listed.count * length text) (long_first text given errors old new listed.count) n (h part)
+long_listed n text given errors old new (Err e) h = tt
 
 -- ---- the same by the checksum of a number, for a copy of the list
 

@@ -9,6 +9,8 @@ use Rattle.bech32_near_edits.specs.declared.edits.Change.{Change}
 use Rattle.bech32_near_edits.specs.declared.edits.Change.TheVariants.{LeftOut, PutIn, Swapped}
 use Rattle.bech32_near_edits.specs.declared.edits.Edit.{Edit}
 use Rattle.bech32_near_edits.specs.declared.error.EditsError.TheVariants.{Memory as OutOfMemory}
+use Rattle.caller_memory.specs.Memory.{IsKept}
+use Rattle.caller_memory.specs.declared.memory.Memory.{Memory as Lent}
 use Rattle.bech32_calls.specs.Checksums.{ForChecksum, IsFaultBy}
 use Rattle.bech32_calls.specs.Fitting.{FirstFit, IsMost}
 use Rattle.bech32_calls.specs.declared.refusal.Refusal.{Refusal}
@@ -57,6 +59,16 @@ pub record PutsFirstEdits (text kinds kinds' locations locations' texts texts' :
       (length found) put_count
   pub put : PutsEach (take put_count found) kinds kinds' locations locations' texts texts'
 
+-- so many edits, which are all that make a text that the checksum accepts, are more than a buffer
+-- of one of these sizes has room for, or their texts, one behind another, are longer
+pub record LacksRoomForEdits (text : List ℕ)
+    (kinds_room locations_room texts_room count : ℕ) (code : Code) : Type 0 where
+  pub found : List (Edit × List ℕ)
+  pub near : AreNearEdits code text found
+  pub count_is : count ≡ length found
+  pub lacks : (kinds_room < count)
+      ⊎ ((locations_room < count) ⊎ (texts_room < length (flat_map (λ m. m.1) found)))
+
 -- why nothing is put into buffers: the bytes are not a text, or it is not in the grammar; or it
 -- is, one edit at least makes a text that the checksum accepts, and the memory does not suffice
 abbrev pub IsEditsFault : List ℕ → Code → Refusal → Type 0
@@ -65,9 +77,9 @@ IsEditsFault text code (Text e) = IsUtf8 text × (text_refusal text ≡ Some e)
 IsEditsFault text code Memory = IsEditsRefusal code text OutOfMemory
 IsEditsFault text code _ = ⊥
 
--- why nothing is put into buffers, or the memory that was lent did not come back: then nothing is
--- said but that the text is in the grammar
-abbrev pub IsEditsFaultOrKept : ℕ → List ℕ → ℕ → Refusal → Type 0
-IsEditsFaultOrKept checksum text size e =
+-- why nothing is put into buffers; or memory that had bytes did not come back: then nothing is said
+-- but that the text is in the grammar
+abbrev pub IsEditsFaultOrKept : ℕ → List ℕ → Lent → Lent → Refusal → Type 0
+IsEditsFaultOrKept checksum text old new e =
     IsFaultBy checksum (IsEditsFault text) e
-    ⊎ ((e ≡ Memory) × (size ≡ 0) × ForChecksum checksum (λ _. IsInGrammar text))
+    ⊎ ((e ≡ Memory) × IsKept old new × ForChecksum checksum (λ _. IsInGrammar text))

@@ -1,10 +1,13 @@
 -- The texts near a mistyped one put into a buffer, and why none are.
-use Rattle.std.specs.Prelude.{◌≡◌, ◌<◌, ◌≤◌, ◌*◌, ℕ, List, length, flat_map, take}
+use Rattle.std.specs.Prelude.{◌≡◌, ◌<◌, ◌≤◌, ◌*◌, ◌⊎◌, ℕ, List, length, flat_map, take}
 use Rattle.bech32_gf.specs.declared.gf32.Fe32.{Fe32}
 use Rattle.bech32_checksum.specs.Code.{Code}
 use Rattle.bech32_encode.specs.Buffers.{IsPut}
-use Rattle.bech32_near.specs.NearTexts.{AreNearTexts}
+use Rattle.bech32_near.specs.NearTexts.{AreNearTexts, IsOutOfMemory}
 use Rattle.bech32_correction.specs.Mistyped.{HasResidue}
+use Rattle.caller_memory.specs.Memory.{IsKept}
+use Rattle.caller_memory.specs.declared.memory.Memory.{Memory as Lent}
+use Rattle.bech32_calls.specs.Checksums.{ForChecksum, IsFaultBy}
 use Rattle.bech32_calls.specs.Correct.{IsResidueFault, bound}
 use Rattle.bech32_calls.specs.Fitting.{FirstFit, IsMost}
 use Rattle.bech32_calls.specs.declared.refusal.Refusal.{Refusal}
@@ -45,8 +48,16 @@ pub record IsRead (text : List ℕ) (code : Code) : Type 0 where
   pub read : HasResidue code text hrp data_part residue
 
 -- why no texts are put into a buffer: more than two errors are asked for; else no residue of the
--- text is read; or one is, and the memory does not suffice
+-- text is read; or one is, and memory runs out
 abbrev pub IsNearFault : List ℕ → List ℕ → ℕ → Code → Refusal → Type 0
 IsNearFault text given errors code BadNumber = 2 < errors
-IsNearFault text given errors code Memory = (errors ≤ 2) × IsRead text code
+IsNearFault text given errors code Memory =
+    (errors ≤ 2) × IsOutOfMemory code bound text given errors
 IsNearFault text given errors code e = (errors ≤ 2) × IsResidueFault text code e
+
+-- why no texts are put into a buffer; or memory that had bytes did not come back: then nothing is
+-- said but that at most two errors are asked for, and that the residue of the text is read
+abbrev pub IsNearFaultOrKept : ℕ → List ℕ → List ℕ → ℕ → Lent → Lent → Refusal → Type 0
+IsNearFaultOrKept checksum text given errors old new e =
+    IsFaultBy checksum (IsNearFault text given errors) e
+    ⊎ ((e ≡ Memory) × IsKept old new × (errors ≤ 2) × ForChecksum checksum (IsRead text))

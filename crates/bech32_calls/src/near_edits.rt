@@ -1,13 +1,13 @@
 //! Lists the texts that one edit makes of a text.
 
-ghost use Rattle.std.specs.Prelude.{◌≡◌, ◌⊎◌, length, map, string_bytes, take, true, false, IfErr, IfOk, MatchResult, OnErr};
+ghost use Rattle.std.specs.Prelude.{◌≡◌, ◌<◌, ◌⊎◌, length, map, string_bytes, take, true, false, IfErr, IfOk, MatchResult, OnErr};
 ghost use Rattle.bech32_checksum.specs.Code.{Code};
 ghost use Rattle.bech32_decode.specs.Text.{IsInGrammar};
 ghost use Rattle.bech32_near_edits.specs.NearEdits.{AreNearEdits, IsEditsRefusal};
-ghost use Rattle.caller_memory.specs.Memory.{LeavesMemory, memory_size};
+ghost use Rattle.caller_memory.specs.Memory.{IsKept, LeavesMemory, memory_size};
 ghost use Rattle.bech32_calls.specs.Checksums.{ForChecksum, IsFaultBy};
 ghost use Rattle.bech32_calls.specs.Fitting.{IsMost};
-ghost use Rattle.bech32_calls.specs.NearEdits.{EditsFit, IsEditsFault, IsEditsFaultOrKept, PutsEach, PutsEdits, PutsFirstEdits, number_of_change};
+ghost use Rattle.bech32_calls.specs.NearEdits.{EditsFit, IsEditsFault, IsEditsFaultOrKept, LacksRoomForEdits, PutsEach, PutsEdits, PutsFirstEdits, number_of_change};
 
 use crate::checksum::{BECH32, BECH32M};
 use crate::input::text_of;
@@ -142,15 +142,18 @@ fn put_edits(
 /// `kinds`: 1 where the characters at a location and above it are swapped, 2 where one is left out,
 /// 3 where one is put in; and the location into `locations`. Location 0 is the last character: of
 /// this text for one that is swapped or left out, of the new one for one that is put in. Where they
-/// do not fit in all three buffers, as many as do are put, the first. They are worked out in
-/// `memory`, which comes back whole.
+/// do not fit in all three buffers, as many as do are put, the first: then they are more than
+/// `kinds` or `locations` has room for, or their texts together are longer than `texts`. They are
+/// worked out in `memory`, which comes back whole.
 ///
 /// # Errors
 ///
 /// The first of: a number that is neither 1 nor 2; a text that is not UTF-8; why it is not in the
 /// grammar, all before any memory is taken. [`Refusal::Memory`] where `memory` does not suffice:
-/// then there is such a text, and `memory` is as it was; or it has no bytes, and the buffers may
-/// have changed.
+/// then there is such a text, and `memory` and the buffers are as they were; or `memory` had bytes
+/// and has none, and the buffers may have changed.
+///
+/// With the number of a checksum, nothing but [`Refusal::Memory`] where the text is in the grammar.
 pub fn put_near_edits(
     memory: &mut Memory,
     checksum: u32,
@@ -165,23 +168,26 @@ pub fn put_near_edits(
     ensures first { IfOk result (λ listed. listed.fit ≡ false → ForChecksum checksum
         (PutsFirstEdits bytes.now kinds.old kinds.new locations.old locations.new
         texts.old texts.new listed.count)) }
+    ensures room { IfOk result (λ listed. listed.fit ≡ false → ForChecksum checksum
+        (LacksRoomForEdits bytes.now (length kinds.old) (length locations.old) (length texts.old)
+        listed.count)) }
+    ensures accepts { ForChecksum checksum (λ _. IsInGrammar bytes.now)
+        → IfErr result (λ e. e ≡ Refusal.Memory) }
     ensures refused { IfErr result
-        (λ e. IsEditsFaultOrKept checksum bytes.now (memory_size memory.new) e) }
+        (λ e. IsEditsFaultOrKept checksum bytes.now memory.old memory.new e) }
     ensures same { IfErr result (λ e. ((kinds.new ≡ kinds.old) × (locations.new ≡ locations.old)
-        × (texts.new ≡ texts.old)) ⊎ ((e ≡ Refusal.Memory) × (memory_size memory.new ≡ 0))) }
+        × (texts.new ≡ texts.old)) ⊎ ((e ≡ Refusal.Memory) × IsKept memory.old memory.new)) }
     ensures memory { MatchResult result
         (λ _. memory.new ≡ memory.old)
-        (λ e. LeavesMemory memory.old memory.new (e ≡ Refusal.Memory)) }
+        (λ e. LeavesMemory memory.old memory.new
+        ((e ≡ Refusal.Memory) × (0 < memory_size memory.old))) }
 {
     let text = text_for(checksum, bytes)?;
     let lent = Lent::new(memory.take());
     let listed = put_edits(&lent, checksum, text, kinds, locations, texts);
     // Memory that does not come back did not suffice.
-    match lent.into_memory() {
-        Some(whole) => {
-            *memory = whole;
-            listed
-        }
-        None => Err(Refusal::Memory),
+    if !lent.put_back(memory) {
+        return Err(Refusal::Memory);
     }
+    listed
 }

@@ -1,13 +1,13 @@
 //! Lists the texts near to a mistyped one.
 
-ghost use Rattle.std.specs.Prelude.{◌≡◌, ◌≤◌, ◌⊎◌, length, map, flat_map, string_bytes, take, true, false, IfErr, IfOk, MatchResult, OnErr};
-ghost use Rattle.bech32_near.specs.NearTexts.{AreNearTexts, LeavesResidue};
+ghost use Rattle.std.specs.Prelude.{◌≡◌, ◌<◌, ◌≤◌, ◌*◌, ◌⊎◌, [], length, map, flat_map, string_bytes, take, true, false, IfErr, IfOk, MatchResult, OnErr};
+ghost use Rattle.bech32_near.specs.NearTexts.{AreNearTexts, IsOutOfMemory, LeavesResidue};
 ghost use Rattle.bech32_encode.specs.Buffers.{IsPut};
-ghost use Rattle.caller_memory.specs.Memory.{LeavesMemory, memory_size};
+ghost use Rattle.caller_memory.specs.Memory.{IsKept, LeavesMemory, memory_size};
 ghost use Rattle.bech32_calls.specs.Checksums.{ForChecksum, IsFaultBy};
 ghost use Rattle.bech32_calls.specs.Correct.{IsResidueFault, bound};
 ghost use Rattle.bech32_calls.specs.Fitting.{FirstFit, IsMost};
-ghost use Rattle.bech32_calls.specs.Nearest.{IsNearFault, PutsFirstNear, PutsNear};
+ghost use Rattle.bech32_calls.specs.Nearest.{IsNearFault, IsNearFaultOrKept, IsRead, PutsFirstNear, PutsNear};
 
 use crate::checksum::{BECH32, BECH32M};
 use crate::input::text_of;
@@ -46,9 +46,12 @@ fn near_by<'a, A: Allocator>(
 ) -> Result<Vec<Mended<&'a A>, &'a A>, AllocError>
     requires { ForChecksum checksum
         (λ code. LeavesResidue code read.now.text.now read.now.window read.now.residue) }
-    ensures { IfOk result (λ near. ForChecksum checksum
+    ensures { MatchResult result
+        (λ near. ForChecksum checksum
         (λ code. AreNearTexts code bound read.now.text.now given.now errors
-        (map (λ m. (m.listing, string_bytes m.text)) near.items))) }
+        (map (λ m. (m.listing, string_bytes m.text)) near.items)))
+        (λ _. ForChecksum checksum
+        (λ code. IsOutOfMemory code bound read.now.text.now given.now errors)) }
 {
     match checksum {
         BECH32 => {
@@ -119,15 +122,24 @@ fn put_near<A: Allocator>(
 /// lower case and one behind another, each as long as that one, and tells how many they are. They
 /// differ from it in at most `errors` characters, 0 to 2, of the data part outside `given`, the
 /// locations of at most three characters that are known to be wrong; location 0 is the last
-/// character. Where they do not fit, as many whole ones as do are put, the first. They are worked
-/// out in `memory`, which comes back whole.
+/// character. Without such locations there is one text at most, or at most half as many as this one
+/// has characters. Where they do not fit, which is only where all together are longer than the
+/// buffer, as many whole ones as do are put, the first. They are worked out in `memory`, which
+/// comes back whole.
 ///
 /// # Errors
 ///
 /// The first of: a number that is neither 1 nor 2, or more than two errors; a text that is not
 /// UTF-8; its first fault, but for a wrong checksum, all before any memory is taken.
-/// [`Refusal::Memory`] where `memory` does not suffice: then it is as it was, or it has no bytes
-/// and the buffer may have changed.
+/// [`Refusal::Memory`] where `memory` does not suffice: then `memory` and the buffer are as they
+/// were, or `memory` had bytes and has none, and the buffer may have changed. It is not returned
+/// where there is nothing to search: where more than three different locations are given, or one
+/// that is not in the data part. Where twice the errors and the different given locations are at
+/// most three, it is returned only where a text is near. Past that, memory is taken for listings,
+/// and beside given locations for a table of 288 bytes for each character of the data part.
+///
+/// With at most two errors, nothing but [`Refusal::Memory`] where the checksum accepts the text, or
+/// refuses it for its residue alone.
 pub fn put_nearest(
     memory: &mut Memory,
     checksum: u32,
@@ -140,13 +152,20 @@ pub fn put_nearest(
         (PutsNear bytes.now given.now errors texts.old texts.new listed.count)) }
     ensures first { IfOk result (λ listed. listed.fit ≡ false → ForChecksum checksum
         (PutsFirstNear bytes.now given.now errors texts.old texts.new listed.count)) }
-    ensures refused { IfErr result (λ e. IsFaultBy checksum
-        (IsNearFault bytes.now given.now errors) e) }
+    ensures few { given.now ≡ [] → IfOk result (λ listed. (listed.count ≤ 1)
+        ⊎ (2 * listed.count ≤ length bytes.now)) }
+    ensures room { IfOk result (λ listed. listed.fit ≡ false
+        → length texts.old < listed.count * length bytes.now) }
+    ensures accepts { errors ≤ 2 → ForChecksum checksum (IsRead bytes.now)
+        → IfErr result (λ e. e ≡ Refusal.Memory) }
+    ensures refused { IfErr result (λ e.
+        IsNearFaultOrKept checksum bytes.now given.now errors memory.old memory.new e) }
     ensures same { IfErr result (λ e. (texts.new ≡ texts.old)
-        ⊎ ((e ≡ Refusal.Memory) × (memory_size memory.new ≡ 0))) }
+        ⊎ ((e ≡ Refusal.Memory) × IsKept memory.old memory.new)) }
     ensures memory { MatchResult result
         (λ _. memory.new ≡ memory.old)
-        (λ e. LeavesMemory memory.old memory.new (e ≡ Refusal.Memory)) }
+        (λ e. LeavesMemory memory.old memory.new
+        ((e ≡ Refusal.Memory) × (0 < memory_size memory.old))) }
 {
     if errors > MOST_ERRORS {
         return Err(Refusal::BadNumber);
@@ -155,11 +174,8 @@ pub fn put_nearest(
     let lent = Lent::new(memory.take());
     let listed = put_near(&lent.arena(), checksum, &read, given, errors, texts);
     // Memory that does not come back did not suffice.
-    match lent.into_memory() {
-        Some(whole) => {
-            *memory = whole;
-            listed
-        }
-        None => Err(Refusal::Memory),
+    if !lent.put_back(memory) {
+        return Err(Refusal::Memory);
     }
+    listed
 }

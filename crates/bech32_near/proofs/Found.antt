@@ -85,7 +85,7 @@ module _ (code : Code) (bound errors : ℕ) (text given : List ℕ) (size : leng
               (listed_value code bound errors text given size (with_erasures [] given) (length data_part) h.pattern items (given_erasures (length data_part) given searched.1) h.listing),
         )
 
-    near_text : (items : List (ℕ × Fe32)) (new : List ℕ) → IsMendedText items text new → IsListing items → IsNearText code bound text given errors new
+    pub near_text : (items : List (ℕ × Fe32)) (new : List ℕ) → IsMendedText items text new → IsListing items → IsNearText code bound text given errors new
     near_text items new made h = record {
       hrp = hrp;
       data_part = data_part;

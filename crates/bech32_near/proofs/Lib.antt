@@ -1,3 +1,4 @@
 pub mod Differing
 pub mod Nearby
 pub mod Found
+pub mod OutOfMemory

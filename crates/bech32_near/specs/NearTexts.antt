@@ -1,5 +1,6 @@
 -- Which texts are near one: a checksum accepts them, and they differ from it in few characters.
-use Rattle.std.specs.Prelude.{◌≡◌, ◌⊎◌, ◌<◌, ◌≤◌, ◌==◌, ℕ, suc, cond, List, [], ◌∷◌, length, map}
+use Rattle.std.specs.Prelude.{◌≡◌, ◌⊎◌, ◌<◌, ◌≤◌, ◌==◌, ◌+◌, ◌*◌, ℕ, suc, cond}
+use Rattle.std.specs.Prelude.{List, [], ◌∷◌, length, map}
 use Rattle.std.specs.Prelude.{Option, Some, None}
 use Rattle.std.specs.List.{AllByRecursion}
 use Rattle.bech32_gf.specs.Fe32.{elements_of, ops}
@@ -119,10 +120,23 @@ IsSearch code text None = (length code.generator ≡ 0) × Accepts code text
 IsSearch code text (Some corrector) =
     (0 < length code.generator) × IsSearcherOf code text corrector
 
--- why no texts are looked for: the text is refused, but not for its residue; or it is refused for
--- nothing else, and there is no memory
-abbrev pub IsNearestRefusal : Code → List ℕ → CorrectError → Type 0
-IsNearestRefusal code text (Refused e) = IsRefusal code text e
-IsNearestRefusal code text Memory =
-    (hrp : List ℕ) × (data_part : List ℕ) × (residue : List Fe32)
-    × HasResidue code text hrp data_part residue
+-- Where memory runs out, the text is read by a checksum that has characters. If they are six at
+-- most, the given locations are in the data part and no more than the bound; and where twice the
+-- errors, with these, are no more than the bound, a text is near.
+pub record IsOutOfMemory (code : Code) (bound : ℕ) (text given : List ℕ) (errors : ℕ)
+    : Type 0 where
+  pub hrp : List ℕ
+  pub data_part : List ℕ
+  pub residue : List Fe32
+  pub read : HasResidue code text hrp data_part residue
+  pub some : 0 < length code.generator
+  pub searched : length code.generator ≤ 6
+      → AreInside data_part given × (length (with_erasures [] given) ≤ bound)
+  pub near : length code.generator ≤ 6 → 2 * errors + length (with_erasures [] given) ≤ bound
+      → (other : List ℕ) × IsNearText code bound text given errors other
+
+-- why no texts are listed: the text is refused, but not for its residue; or it is refused for
+-- nothing else, and memory ran out
+abbrev pub IsNearestRefusal : Code → ℕ → List ℕ → List ℕ → ℕ → CorrectError → Type 0
+IsNearestRefusal code bound text given errors (Refused e) = IsRefusal code text e
+IsNearestRefusal code bound text given errors Memory = IsOutOfMemory code bound text given errors

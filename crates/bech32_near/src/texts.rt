@@ -1,9 +1,9 @@
 //! All texts near a mistyped one.
 
-ghost use Rattle.std.specs.Prelude.{◌≡◌, ◌<◌, ℕ, List, length, map, IfOk, MatchResult, string_bytes};
+ghost use Rattle.std.specs.Prelude.{◌≡◌, ◌<◌, ℕ, List, length, map, IfOk, MatchResult, OnErr, string_bytes};
 ghost use Rattle.std.specs.List.{AllByRecursion};
 ghost use Rattle.bech32_correction.specs.Mistyped.{IsMendedText, IsPlacedIn};
-ghost use Rattle.bech32_near.specs.NearTexts.{AreNearestListings, AreNearTexts, IsNearestRefusal, IsSearch, IsSearcherOf, LeavesResidue};
+ghost use Rattle.bech32_near.specs.NearTexts.{AreNearestListings, AreNearTexts, IsNearestRefusal, IsOutOfMemory, IsSearch, IsSearcherOf, LeavesResidue};
 
 use crate::read::ReadText;
 use bech32_checksum::{Checksum, CorrectingChecksum};
@@ -31,9 +31,12 @@ fn listings_within<Ck: Checksum, A: Allocator + Copy>(
     given: &[usize],
     errors: usize,
 ) -> Result<Listings<A>, AllocError>
-    ensures { IfOk result (λ listings. (text : List ℕ) → 0 < length Ck.code.generator
+    ensures all { IfOk result (λ listings. (text : List ℕ) → 0 < length Ck.code.generator
         → IsSearcherOf Ck.code text corrector.now
         → AreNearestListings Ck.code Ck.bound text given.now errors listings.items) }
+    ensures memory { OnErr result ((text : List ℕ) → 0 < length Ck.code.generator
+        → IsSearcherOf Ck.code text corrector.now
+        → IsOutOfMemory Ck.code Ck.bound text given.now errors) }
 {
     match corrector.with(given)? {
         Some(erased) => nearest_listings(&erased, errors),
@@ -51,6 +54,7 @@ fn mended_all<A: Allocator + Copy>(
     ensures same { IfOk result (λ texts. map (λ m. m.listing) texts.items ≡ listings.items) }
     ensures each { IfOk result (λ texts.
         AllByRecursion (λ m. IsMendedText m.listing text.now (string_bytes m.text)) texts.items) }
+    ensures memory { OnErr result (0 < length listings.items) }
 {
     let mut texts = Vec::with_capacity(alloc, listings.len())?;
     for listing in listings {
@@ -64,7 +68,7 @@ fn mended_all<A: Allocator + Copy>(
 ///
 /// # Errors
 ///
-/// Out of memory.
+/// Out of memory, as of [`nearest`].
 pub fn nearest_of_read<Ck: CorrectingChecksum, A: Allocator + Copy>(
     alloc: A,
     read: &ReadText<'_>,
@@ -72,10 +76,11 @@ pub fn nearest_of_read<Ck: CorrectingChecksum, A: Allocator + Copy>(
     errors: usize,
 ) -> Result<NearTexts<Vec<Mended<A>, A>, Corrector<Ck, A>>, AllocError>
     requires { LeavesResidue Ck.code read.now.text.now read.now.window read.now.residue }
-    ensures { IfOk result (λ near.
-        AreNearTexts Ck.code Ck.bound read.now.text.now erasures.now errors
+    ensures { MatchResult result
+        (λ near. AreNearTexts Ck.code Ck.bound read.now.text.now erasures.now errors
         (map (λ m. (m.listing, string_bytes m.text)) near.texts.items)
-        × IsSearch Ck.code read.now.text.now near.corrector) }
+        × IsSearch Ck.code read.now.text.now near.corrector)
+        (λ _. IsOutOfMemory Ck.code Ck.bound read.now.text.now erasures.now errors) }
 {
     if Ck::CHECKSUM_LENGTH == 0 {
         return Ok(NearTexts {
@@ -107,7 +112,7 @@ pub fn nearest_in<Ck: CorrectingChecksum, A: Allocator + Copy>(
         (λ near. AreNearTexts Ck.code Ck.bound text.now erasures.now errors
         (map (λ m. (m.listing, string_bytes m.text)) near.texts.items)
         × IsSearch Ck.code text.now near.corrector)
-        (λ e. IsNearestRefusal Ck.code text.now e) }
+        (λ e. IsNearestRefusal Ck.code Ck.bound text.now erasures.now errors e) }
 {
     match ReadText::new::<Ck>(text) {
         Ok(read) => Ok(nearest_of_read::<Ck, A>(alloc, &read, erasures, errors)?),
@@ -136,7 +141,10 @@ pub fn nearest_in<Ck: CorrectingChecksum, A: Allocator + Copy>(
 ///
 /// As [`CheckedHrpstring::new`](bech32_decode::CheckedHrpstring::new), but for a wrong checksum.
 /// Out of memory is returned only for a text that is refused for nothing else: it is accepted, or
-/// its checksum is wrong.
+/// its checksum is wrong. For a checksum of at most six characters it is returned only where the
+/// erasures are in the data part and within the bound; and where twice `errors`, with the number of
+/// the erasures, is at most the bound, only where a text is near. Past the bound, memory is also
+/// taken to search with: [`nearest_listings`] says for what.
 pub fn nearest<Ck: CorrectingChecksum>(
     alloc: Global,
     text: &str,
@@ -147,7 +155,7 @@ pub fn nearest<Ck: CorrectingChecksum>(
         (λ near. AreNearTexts Ck.code Ck.bound text.now erasures.now errors
         (map (λ m. (m.listing, string_bytes m.text)) near.texts.items)
         × IsSearch Ck.code text.now near.corrector)
-        (λ e. IsNearestRefusal Ck.code text.now e) }
+        (λ e. IsNearestRefusal Ck.code Ck.bound text.now erasures.now errors e) }
 {
     nearest_in::<Ck, Global>(alloc, text, erasures, errors)
 }

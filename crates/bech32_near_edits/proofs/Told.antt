@@ -165,6 +165,7 @@ module _ (code : Code) (text hrp data_part : List ℕ) (is : IsText text hrp dat
     near_edits edits items a same made =
         let all : AreAll (IsAcceptedEdit code hrp old) (map edit_in items) = subst (λ u. AreAll (IsAcceptedEdit code hrp old) u) (sym same) a in
         let right : AllByRecursion Right items = right_all items all.each in record {
+          grammar = (hrp, data_part, is);
           each = each_told items made right;
           all = all_texts items made all.all;
           in_order = subst (λ u. AreInOrder u) (edits_in items) all.in_order;

@@ -8,7 +8,7 @@ use Rattle.bech32_hrp.specs.Hrp.{lowered}
 use Rattle.bech32_checksum.specs.Code.{Code}
 use Rattle.bech32_checksum.specs.Encoded.{spelled}
 use Rattle.bech32_decode.specs.Acceptance.{Accepts}
-use Rattle.bech32_decode.specs.Text.{IsText, text_refusal}
+use Rattle.bech32_decode.specs.Text.{IsInGrammar, IsText, text_refusal}
 use Rattle.bech32_near_edits.specs.Edits.{AreInOrder, IsEdit, IsToldEdit}
 use Rattle.bech32_near_edits.specs.declared.edits.Edit.{Edit}
 use Rattle.bech32_near_edits.specs.declared.error.EditsError.{EditsError}
@@ -35,10 +35,11 @@ pub record IsToldText (edit : Edit) (text new : List ℕ) : Type 0 where
   pub told : IsToldEdit edit (elements_of data_part) elements
   pub spelling : new ≡ spelled hrp elements
 
--- these are all texts other than the given one that one edit makes of it, and that the checksum
--- accepts: each once, in lower case, with its edit, in the order of the edits
+-- the text is in the grammar, and these are all texts other than it that one edit makes of it, and
+-- that the checksum accepts: each once, in lower case, with its edit, in the order of the edits
 pub record AreNearEdits (code : Code) (text : List ℕ) (found : List (Edit × List ℕ))
     : Type 0 where
+  pub grammar : IsInGrammar text
   pub each : AllByRecursion (λ m. IsToldText m.0 text m.1 × Accepts code m.1) found
   pub all : (edit : Edit) (other : List ℕ) → IsEditedText edit text other → Accepts code other
       → lowered other ≢ lowered text → IsAmong (lowered other) (map (λ m. m.1) found)

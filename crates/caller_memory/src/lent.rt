@@ -1,6 +1,6 @@
 //! A caller's memory as an allocator, which gives all of it as one block.
 
-ghost use Rattle.std.specs.Prelude.{◌≡◌, true, IfSome};
+ghost use Rattle.std.specs.Prelude.{◌≡◌, ◌<◌, true, false, IfSome};
 ghost use Rattle.caller_memory.specs.Memory.{memory_size};
 ghost use Rattle.caller_memory.specs.Ownership.{block_token};
 
@@ -39,6 +39,24 @@ impl Lent {
     {
         let Lent { slot, size: _ } = self;
         slot.into_inner()
+    }
+
+    /// Puts the memory back, where the block is not out, and tells whether it is whole again:
+    /// memory of no bytes always is.
+    pub fn put_back(self, memory: &mut Memory) -> bool
+        requires { memory_size (lent_memory self) ≡ 0 → memory.old ≡ lent_memory self }
+        ensures whole { result ≡ true → memory.new ≡ lent_memory self }
+        ensures kept { result ≡ false
+            → (0 < memory_size (lent_memory self)) × (memory.new ≡ memory.old) }
+    {
+        let size = self.size;
+        match self.into_memory() {
+            Some(whole) => {
+                *memory = whole;
+                true
+            }
+            None => size == 0,
+        }
     }
 
     /// An arena over all pages of the memory; where there are none, or the block is out, an arena

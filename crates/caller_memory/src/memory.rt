@@ -53,7 +53,7 @@ impl Memory {
     // The number of bytes, the memory again, and memory of no bytes.
     fn parts(self) -> (usize, (Memory, Memory))
         ensures { (result.0 ≡ memory_size self) × (result.1.0 ≡ self)
-            × (memory_size result.1.1 ≡ 0) }
+            × (memory_size result.1.1 ≡ 0) × (memory_size self ≡ 0 → result.1.1 ≡ self) }
     {
         let Memory { start, size } = self;
         (size, (Memory { start, size }, Memory { start, size: 0 }))
@@ -69,15 +69,17 @@ impl Memory {
 
     // Memory of no bytes, and the memory again.
     fn parted(self, _unused: ()) -> (Memory, Memory)
-        ensures { (memory_size result.0 ≡ 0) × (result.1 ≡ self) }
+        ensures { (memory_size result.0 ≡ 0) × (memory_size self ≡ 0 → result.0 ≡ self)
+            × (result.1 ≡ self) }
     {
         let (_size, (whole, none)) = self.parts();
         (none, whole)
     }
 
-    /// The memory, which leaves memory of no bytes behind.
+    /// The memory, which leaves memory of no bytes behind: the same where it had none.
     pub fn take(&mut self) -> Memory
-        ensures { (result ≡ self.old) × (memory_size self.new ≡ 0) }
+        ensures { (result ≡ self.old) × (memory_size self.new ≡ 0)
+            × (memory_size self.old ≡ 0 → self.new ≡ self.old) }
     {
         replace_with(self, (), Memory::parted)
     }

@@ -199,6 +199,53 @@ fn lists_with_too_little_memory(rt: HostRuntime) {
     }
 }
 
+// Where no text is near, no memory is needed within the bound on errors, nor for two errors without
+// erasures, nor where there is nothing to search.
+#[test]
+fn lists_none_without_memory(rt: HostRuntime) {
+    let two: &[u8] = b"BC1QW5Q8D6QEJXTDG4Y5R3ZARVARY0C5XW7KV8F3T5";
+    let rows: [(u32, &[u8], &[usize], usize); 9] = [
+        (1, b"a12uel5q", &[], 0),
+        (2, b"a12uel5l", &[], 0),
+        (1, two, &[], 1),
+        (1, two, &[1], 1),
+        (2, two, &[0, 1, 2], 0),
+        (2, two, &[], 2),
+        (2, b"a1lqfn3a", &[0, 1, 2, 3], 2),
+        (1, b"a12uel5l", &[6], 0),
+        (1, b"a12uel5l", &[0, 0, 7], 2),
+    ];
+    for (checksum, text, erasures, errors) in rows {
+        let asked = Asked {
+            checksum,
+            text,
+            erasures,
+            errors,
+        };
+        let mut memory = Memory::leaked(rt.alloc(), 0).expect(&rt, "memory");
+        puts_near(&rt, &mut memory, asked, 128, (0, b""));
+    }
+}
+
+// A near text needs memory: a mistyped one's, and one's own.
+#[test]
+fn lists_one_with_memory(rt: HostRuntime) {
+    let rows: [(u32, &[u8], &[usize], usize); 3] = [
+        (1, b"a12uel5l", &[], 0),
+        (1, b"a12uel5q", &[0], 0),
+        (2, b"a1lqfn3q", &[], 1),
+    ];
+    for (checksum, text, erasures, errors) in rows {
+        let asked = Asked {
+            checksum,
+            text,
+            erasures,
+            errors,
+        };
+        same(&rt, &near_number(&rt, rt.alloc(), 0, asked, 128), &91);
+    }
+}
+
 // The number with so many bytes of memory, which come back: 0 with the near text, or else nothing
 // is written.
 fn number_within(rt: &impl Abort, alloc: Global, size: usize) -> u32 {

@@ -5,8 +5,7 @@ use Rattle.bech32_calls.proofs.nearest.put_near.Goals as goal
 
 pub returns-in_default-clause-refused : goal.returns-in_default-clause-refused
 returns-in_default-clause-refused g c =
-    let read = c.args.read.now in
-    near_memory_by c.args.checksum read.text.now c.args.given.now c.args.errors read.window read.residue c.requires.few c.requires.read
+    near_memory_by c.args.checksum c.args.read.now.text.now c.args.given.now c.args.errors c.requires.few c.in_default.ensures
 
 pub returns-clause-all : goal.returns-clause-all
 returns-clause-all g c all =

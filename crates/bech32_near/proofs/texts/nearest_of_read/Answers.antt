@@ -1,8 +1,10 @@
 use Rattle.std.specs.Prelude.{string_bytes}
 use Rattle.std.proofs.Common.{rules, ◌≡◌, ◌<◌, length, sym, ◌∙◌, arith}
+use Rattle.std.proofs.lemmas.Result.{err_from_is_err_and}
 use Rattle.bech32_checksum.proofs.Target.{length-target}
 use Rattle.bech32_near.proofs.Found.{near_texts, none_found}
 use Rattle.bech32_near.proofs.Nearby.{all_placed, fits_code, search-from_residue}
+use Rattle.bech32_near.proofs.OutOfMemory.{memory-from_listings}
 use Rattle.bech32_near.proofs.texts.nearest_of_read.Goals as goal
 
 pub new-corrector-requires : goal.new-corrector-requires
@@ -28,7 +30,7 @@ mended_all-requires g c =
     let laws = g.met.Ck.Checksum in
     let size = length-target g.Ck.MidstateRepr.PackedFe32.number code g.Ck.Checksum.CODE_LENGTH g.Ck.Checksum.CHECKSUM_LENGTH g.Ck.Checksum.GENERATOR_SH g.Ck.Checksum.TARGET_RESIDUE laws.code_law ∙ sym laws.degree_law in
     let is = search-from_residue code read.text.now read.window read.residue c.new-corrector.result c.new-corrector.ensures some c.requires in
-    (search rules, all_placed code g.Ck.Checksum.bound c.args.errors read.text.now c.args.erasures.now size c.in_ok-listings.listings.items (c.in_ok-listings.ensures read.text.now is.0 is.1))
+    (search rules, all_placed code g.Ck.Checksum.bound c.args.errors read.text.now c.args.erasures.now size c.in_ok-listings.listings.items (c.in_ok-listings.ensures.all read.text.now is.0 is.1))
 
 pub returns-then-CHECKSUM_LENGTH-eq0 : goal.returns-then-CHECKSUM_LENGTH-eq0
 returns-then-CHECKSUM_LENGTH-eq0 g c =
@@ -47,6 +49,27 @@ returns g c =
     let size = length-target g.Ck.MidstateRepr.PackedFe32.number code g.Ck.Checksum.CODE_LENGTH g.Ck.Checksum.CHECKSUM_LENGTH g.Ck.Checksum.GENERATOR_SH g.Ck.Checksum.TARGET_RESIDUE laws.code_law ∙ sym laws.degree_law in
     let is = search-from_residue code read.text.now read.window read.residue c.new-corrector.result c.new-corrector.ensures some c.requires in (
       near_texts code g.Ck.Checksum.bound c.args.errors read.text.now c.args.erasures.now size (λ m. m.listing) (λ m. string_bytes m.text) c.in_ok-listings.listings.items c.in_ok-texts.texts.items
-          (c.in_ok-listings.ensures read.text.now is.0 is.1) c.in_ok-texts.ensures.same c.in_ok-texts.ensures.each,
+          (c.in_ok-listings.ensures.all read.text.now is.0 is.1) c.in_ok-texts.ensures.same c.in_ok-texts.ensures.each,
       is,
     )
+
+pub returns-in_err-listings : goal.returns-in_err-listings
+returns-in_err-listings g c =
+    let code = g.Ck.Checksum.code in
+    let read = c.args.read.now in
+    let some : 0 < length code.generator = omega (arith, g.met.Ck.Checksum.degree_law, c.CHECKSUM_LENGTH.ensures, c.if-CHECKSUM_LENGTH-eq0.false) in
+    let is = search-from_residue code read.text.now read.window read.residue c.new-corrector.result c.new-corrector.ensures some c.requires in
+    let p = err_from_is_err_and c.from_residual.result c.from_residual.ensures.1 in
+    rw p.1 (c.in_err-listings.ensures.memory read.text.now is.0 is.1)
+
+pub returns-in_err-texts : goal.returns-in_err-texts
+returns-in_err-texts g c =
+    let code = g.Ck.Checksum.code in
+    let read = c.args.read.now in
+    let some : 0 < length code.generator = omega (arith, g.met.Ck.Checksum.degree_law, c.CHECKSUM_LENGTH.ensures, c.if-CHECKSUM_LENGTH-eq0.false) in
+    let laws = g.met.Ck.Checksum in
+    let size = length-target g.Ck.MidstateRepr.PackedFe32.number code g.Ck.Checksum.CODE_LENGTH g.Ck.Checksum.CHECKSUM_LENGTH g.Ck.Checksum.GENERATOR_SH g.Ck.Checksum.TARGET_RESIDUE laws.code_law ∙ sym laws.degree_law in
+    let is = search-from_residue code read.text.now read.window read.residue c.new-corrector.result c.new-corrector.ensures some c.requires in
+    let p = err_from_is_err_and c.from_residual-in_err-texts.result c.from_residual-in_err-texts.ensures.1 in
+    rw p.1
+    (memory-from_listings code g.Ck.Checksum.bound c.args.errors read.text.now c.args.erasures.now size some c.in_ok-listings.listings.items (c.in_ok-listings.ensures.all read.text.now is.0 is.1) c.in_err-texts.ensures.memory)

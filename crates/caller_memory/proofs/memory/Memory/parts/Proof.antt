@@ -1,5 +1,5 @@
 -- `parts` reads a field, and cuts off no units. Assumes `Logic`.
-use Rattle.std.proofs.Common.{◌≡◌, ◌<◌, ◌^◌, List, [], ◌∷◌, ◌++◌, refl, lit<, w64}
+use Rattle.std.proofs.Common.{◌≡◌, ◌<◌, ◌^◌, List, [], ◌∷◌, ◌++◌, refl, sym, lit<, w64}
 use mir.Syntax.{Fn}
 use mir.Val.{Val, vint}
 use base.Logic.{SProp, emp}
@@ -52,6 +52,7 @@ parts_spec 𝓤 𝓛 𝓜 𝓡 wired =
     let told = sized_told p n vss.0 are.0.0 in
     let fits = told.1 in
     let none : (memory.the_row).Denot = record { start = p; size = 0 } in
+    let same : n ≡ 0 → none ≡ x = λ e i. record { start = p; size = sym e i } in
     let small : 0 < 2 ^ 64 = lit< tt in
     let Both : RattleType = Tuple (memory.the_row ∷ memory.the_row ∷ []) in
     let two : Val = pair_val (sized_val p n) (sized_val p 0) in
@@ -71,5 +72,5 @@ parts_spec 𝓤 𝓛 𝓜 𝓡 wired =
     use2 𝓛 (‵ (Both.own_val (x, none) (two ∷ []))) (pair_of 𝓛 memory.the_row memory.the_row x none (sized_val p n) (sized_val p 0)) $
     flt_i ! n (2 ^ 64) fits $ feq_i ! (List Val) (vint w64 n ∷ []) (vint w64 n ∷ []) refl $ fjoin ! $
     use2 𝓛 (‵ ((Tuple (usize ∷ Both ∷ [])).own_val (n, (x, none)) (pair_val (vint w64 n) two ∷ []))) (pair_of 𝓛 usize Both n (x, none) (vint w64 n) two) $
-    use0 𝓛 (raw (fact 𝓤 ((n ≡ n) × (x ≡ x) × (0 ≡ 0)))) (fact_i 𝓤 ((n ≡ n) × (x ≡ x) × (0 ≡ 0)) (emp 𝓤) (refl, refl, refl)) $ nothing ! $ nothing ! $ fjoin ! $ move ! (3 ∷ 0 ∷ 2 ∷ 1 ∷ []) $
+    use0 𝓛 (raw (fact 𝓤 ((n ≡ n) × (x ≡ x) × (0 ≡ 0) × (n ≡ 0 → none ≡ x)))) (fact_i 𝓤 ((n ≡ n) × (x ≡ x) × (0 ≡ 0) × (n ≡ 0 → none ≡ x)) (emp 𝓤) (refl, refl, refl, same)) $ nothing ! $ nothing ! $ fjoin ! $ move ! (3 ∷ 0 ∷ 2 ∷ 1 ∷ []) $
     by ! (leaves 𝓛 En₀ stays c z (pair_val (vint w64 n) two) (n, (x, none)) (tt, tt) (tt, tt))))
