@@ -1,7 +1,7 @@
 //! Derives codex32 strings from others of their set.
 
 ghost use Rattle.std.specs.Prelude.{◌≡◌, ◌≢◌, length};
-ghost use Rattle.codex32_calls.specs.Derive.{IsDeriveFault, PutsDerived};
+ghost use Rattle.codex32_calls.specs.Derive.{CanDerive, IsDeriveFault, PutsDerived};
 ghost use Rattle.codex32_calls.specs.Faults.{IsNumberOfCodex32};
 
 use codex32_calls::derive::put_derived;
@@ -28,6 +28,7 @@ pub extern "C" fn codex32_derive(
 ) -> u32
     ensures value { result ≡ 0
         → PutsDerived share_index texts.now lengths.now text.old text.new text_length.new }
+    ensures accepts { CanDerive share_index texts.now lengths.now (length text.old) → result ≡ 0 }
     ensures refused { result ≢ 0
         → IsNumberOfCodex32
         (IsDeriveFault share_index texts.now lengths.now (length text.old)) result }

@@ -1,9 +1,9 @@
 //! Makes codex32 strings of bytes, or the characters of a payload.
 
 ghost use Rattle.std.specs.Prelude.{◌≡◌, ◌≢◌, length};
-ghost use Rattle.codex32_calls.specs.Encode.{IsEncodeStringFault, PutsEncoded};
+ghost use Rattle.codex32_calls.specs.Encode.{CanEncode, IsEncodeStringFault, PutsEncoded};
 ghost use Rattle.codex32_calls.specs.Faults.{IsNumberOfCodex32};
-ghost use Rattle.codex32_calls.specs.Payload.{IsEncodePayloadFault, PutsEncodedPayload};
+ghost use Rattle.codex32_calls.specs.Payload.{CanEncodePayload, IsEncodePayloadFault, PutsEncodedPayload};
 
 use codex32_calls::encode::{put_encoded, put_encoded_payload};
 
@@ -29,6 +29,8 @@ pub extern "C" fn codex32_encode(
     ensures value { result ≡ 0
         → PutsEncoded threshold identifier.now share_index bytes.now text.old text.new
         text_length.new }
+    ensures accepts { CanEncode threshold identifier.now share_index bytes.now (length text.old)
+        → result ≡ 0 }
     ensures refused { result ≢ 0
         → IsNumberOfCodex32
         (IsEncodeStringFault threshold identifier.now share_index bytes.now (length text.old))
@@ -68,6 +70,8 @@ pub extern "C" fn codex32_encode_payload(
     ensures value { result ≡ 0
         → PutsEncodedPayload threshold identifier.now share_index payload.now text.old text.new
         text_length.new }
+    ensures accepts { CanEncodePayload threshold identifier.now share_index payload.now
+        (length text.old) → result ≡ 0 }
     ensures refused { result ≢ 0
         → IsNumberOfCodex32
         (IsEncodePayloadFault threshold identifier.now share_index payload.now (length text.old))

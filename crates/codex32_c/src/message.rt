@@ -23,6 +23,8 @@ pub extern "C" fn codex32_message(
     ensures value { result ≡ 0
         → IsPut (codex32_sentence number) message.old message.new message_length.new }
     ensures accepts { length (codex32_sentence number) ≤ length message.old → result ≡ 0 }
+    ensures short { (result ≡ 0 → message_length.new ≤ 100)
+        × (100 ≤ length message.old → result ≡ 0) }
     ensures refused { result ≢ 0
         → (result ≡ 92) × (length message.old < length (codex32_sentence number)) }
     ensures same { result ≢ 0

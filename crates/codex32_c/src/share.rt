@@ -2,7 +2,7 @@
 
 ghost use Rattle.std.specs.Prelude.{◌≡◌, ◌≢◌, length};
 ghost use Rattle.codex32_calls.specs.Faults.{IsNumberOfCodex32};
-ghost use Rattle.codex32_calls.specs.Share.{IsShareFault, PutsShare};
+ghost use Rattle.codex32_calls.specs.Share.{CanReadShare, IsShareFault, PutsShare};
 
 use codex32_calls::share::{characters_of, put_payload};
 
@@ -29,6 +29,7 @@ pub extern "C" fn codex32_share(
     ensures value { result ≡ 0
         → PutsShare text.now threshold.new identifier.new share_index.new
         bytes.old bytes.new bytes_length.new }
+    ensures accepts { CanReadShare text.now (length bytes.old) → result ≡ 0 }
     ensures refused { result ≢ 0
         → IsNumberOfCodex32 (IsShareFault text.now (length bytes.old)) result }
     ensures same { result ≢ 0

@@ -1,3 +1,5 @@
+mod every_length;
+mod memory;
 mod messages;
 mod shares;
 

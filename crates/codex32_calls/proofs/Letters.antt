@@ -19,10 +19,10 @@ IsAscii-from_graphic (b ∷ bs) h =
     let parts = and_parts (is_graphic b) (list_all is_graphic bs) h in
     IsAscii-cons b bs (ascii-from_graphic b parts.0) (IsAscii-from_graphic bs parts.1)
 
-IsUtf8-from_hrp : (bytes : List ℕ) → IsHrp bytes → IsUtf8 bytes
+pub IsUtf8-from_hrp : (bytes : List ℕ) → IsHrp bytes → IsUtf8 bytes
 IsUtf8-from_hrp bytes is = IsUtf8-from_ascii bytes (IsAscii-from_graphic bytes is.graphic)
 
-IsUtf8-from_text : (text hrp data_part : List ℕ) → IsText text hrp data_part → IsUtf8 text
+pub IsUtf8-from_text : (text hrp data_part : List ℕ) → IsText text hrp data_part → IsUtf8 text
 IsUtf8-from_text text hrp data_part is =
     subst IsUtf8 (sym is.split)
     (IsUtf8-append hrp (49 ∷ data_part) (IsUtf8-from_hrp hrp is.is_hrp)

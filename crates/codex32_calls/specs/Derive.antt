@@ -1,11 +1,11 @@
 -- The string at an index that texts give put into a buffer, and why none is.
-use Rattle.std.specs.Prelude.{◌≡◌, ◌⊎◌, ◌<◌, ◌==◌, ◌&&◌, nat_le, ℕ, Bool, true, false}
-use Rattle.std.specs.Prelude.{List, [], ◌∷◌, length, take, drop, None, Some}
+use Rattle.std.specs.Prelude.{◌≡◌, ◌⊎◌, ◌<◌, ◌≤◌, ◌+◌, ◌==◌, ◌&&◌, nat_le, ℕ, Bool, true}
+use Rattle.std.specs.Prelude.{false, List, [], ◌∷◌, length, take, drop, None, Some}
 use Rattle.std.specs.List.{sum}
 use Rattle.bech32_encode.specs.Buffers.{IsPut}
 use Rattle.bech32_gf.specs.Fe32.{element_of}
-use Rattle.codex32_strings.specs.Derive.{IsDeriveIntoRefusal, IsDerivedString, IsStringOfSet}
-use Rattle.codex32_strings.specs.Derive.{IsWholeSet}
+use Rattle.codex32_strings.specs.Derive.{DoContradict, IsDeriveIntoRefusal, IsDerivedString}
+use Rattle.codex32_strings.specs.Derive.{IsStringOfSet, IsWholeSet, size_of}
 use Rattle.codex32_strings.specs.Share.{AreSharesOf, IsEither}
 use Rattle.codex32_strings.specs.declared.share.Share.{Share}
 use Rattle.codex32_calls.specs.Encode.{share_index_number_fault}
@@ -48,7 +48,18 @@ pub record PutsDerived (share_index : ℕ) (texts lengths old new : List ℕ) (c
   pub is_text : IsDerivedOf share_index (texts_of texts lengths) text
   pub put : IsPut text old new count
 
--- it does not fit in a buffer of so many bytes
+-- Texts give a string at an index, and a buffer of so many bytes has room for it: each is a string
+-- of either length; their shares are a whole set, which does not contradict itself. The string is
+-- as long as each of them: three characters, and those of its elements.
+pub record CanDerive (share_index : ℕ) (texts lengths : List ℕ) (room : ℕ) : Type 0 where
+  pub asked : IsAsked share_index texts lengths
+  pub shares : List Share
+  pub are : AreSharesOf (texts_of texts lengths) shares
+  pub whole : IsWholeSet shares (element_of share_index)
+  pub agree : DoContradict shares → ⊥
+  pub fits : 3 + size_of shares ≤ room
+
+-- the string does not fit in a buffer of so many bytes
 pub record LacksRoomForDerived (share_index : ℕ) (texts lengths : List ℕ) (room : ℕ)
     : Type 0 where
   pub asked : IsAsked share_index texts lengths

@@ -1,11 +1,14 @@
 -- The string of a header and bytes put into a buffer, and why none is.
-use Rattle.std.specs.Prelude.{◌≡◌, ◌<◌, ◌==◌, ◌&&◌, ◌||◌, not, if◌then◌else◌, ℕ, true, false}
-use Rattle.std.specs.Prelude.{List, length, Option, None, Some}
+use Rattle.std.specs.Prelude.{◌≡◌, ◌<◌, ◌≤◌, ◌+◌, ◌==◌, ◌&&◌, ◌||◌, not, if◌then◌else◌, ℕ}
+use Rattle.std.specs.Prelude.{true, false, List, length, Option, None, Some}
+use Rattle.bech32_bits.specs.Bits.{to_fes}
+use Rattle.bech32_checksum.specs.Code.{Code}
 use Rattle.bech32_encode.specs.Buffers.{IsPut}
 use Rattle.bech32_gf.specs.Alphabet.{is_of_alphabet}
 use Rattle.bech32_gf.specs.Fe32.{element_of, elements_of}
 use Rattle.bech32_hrp.specs.Hrp.{first_of}
-use Rattle.codex32_strings.specs.Encode.{IsEncodedString, is_byte_count, is_long_byte_count}
+use Rattle.codex32_strings.specs.Encode.{IsEncodedString, code_of_byte_count, is_byte_count}
+use Rattle.codex32_strings.specs.Encode.{is_long_byte_count}
 use Rattle.codex32_strings.specs.Header.{identifier_of_header, share_index_of_header}
 use Rattle.codex32_strings.specs.Header.{threshold_of_header}
 use Rattle.codex32_strings.specs.HeaderParts.{identifier_elements, identifier_word_fault}
@@ -63,7 +66,20 @@ pub record PutsEncoded (threshold : ℕ) (identifier : List ℕ) (share_index : 
   pub is_text : IsEncodedOf threshold identifier share_index bytes text
   pub put : IsPut text old new count
 
--- it does not fit in a buffer of so many bytes
+-- the length of a string with so many characters of a payload: nine up to the share index, these,
+-- and those of its checksum
+abbrev pub string_length : Code → ℕ → ℕ
+string_length code n = 9 + n + length code.generator
+
+-- nothing is wrong with what a header is made of; a string has so many bytes; and a buffer of
+-- `room` bytes has room for it
+pub record CanEncode (threshold : ℕ) (identifier : List ℕ) (share_index : ℕ) (bytes : List ℕ)
+    (room : ℕ) : Type 0 where
+  pub fine : header_number_fault threshold identifier share_index ≡ None
+  pub counted : is_byte_count (length bytes) || is_long_byte_count (length bytes) ≡ true
+  pub fits : string_length (code_of_byte_count (length bytes)) (length (to_fes bytes)) ≤ room
+
+-- the string does not fit in a buffer of so many bytes
 pub record LacksRoomForEncoded (threshold : ℕ) (identifier : List ℕ) (share_index : ℕ)
     (bytes : List ℕ) (room : ℕ) : Type 0 where
   pub text : List ℕ

@@ -1,13 +1,14 @@
 -- The string of a header and the characters of a payload put into a buffer, and why none is.
-use Rattle.std.specs.Prelude.{◌≡◌, ◌<◌, ◌||◌, ℕ, true, false, List, length, None, Some}
+use Rattle.std.specs.Prelude.{◌≡◌, ◌<◌, ◌≤◌, ◌||◌, ℕ, true, false, List, length, None, Some}
 use Rattle.bech32_encode.specs.Buffers.{IsPut}
 use Rattle.bech32_gf.specs.Alphabet.{is_data}
 use Rattle.bech32_gf.specs.Fe32.{elements_of}
 use Rattle.bech32_hrp.specs.Hrp.{is_mixed_case}
-use Rattle.codex32_strings.specs.Encode.{IsEncodedPayload, is_long_payload_count, is_payload_count}
+use Rattle.codex32_strings.specs.Encode.{IsEncodedPayload, code_of_payload_count}
+use Rattle.codex32_strings.specs.Encode.{is_long_payload_count, is_payload_count}
 use Rattle.codex32_strings.specs.declared.error.EncodeError.TheVariants as encode_errors
 use Rattle.codex32_strings.specs.declared.header.Header.{Header as Head}
-use Rattle.codex32_calls.specs.Encode.{IsHeaderOf, header_number_fault}
+use Rattle.codex32_calls.specs.Encode.{IsHeaderOf, header_number_fault, string_length}
 use Rattle.codex32_calls.specs.declared.refusal.Refusal.{Refusal}
 use Rattle.codex32_calls.specs.declared.refusal.Refusal.TheVariants as refusals
 
@@ -40,7 +41,18 @@ pub record PutsEncodedPayload (threshold : ℕ) (identifier : List ℕ) (share_i
   pub is_text : IsEncodedPayloadOf threshold identifier share_index characters text
   pub put : IsPut text old new count
 
--- it does not fit in a buffer of so many bytes
+-- nothing is wrong with what a header is made of, nor with the characters; a string has so many of
+-- them; and a buffer of `room` bytes has room for it
+pub record CanEncodePayload (threshold : ℕ) (identifier : List ℕ) (share_index : ℕ)
+    (characters : List ℕ) (room : ℕ) : Type 0 where
+  pub fine : header_number_fault threshold identifier share_index ≡ None
+  pub is_payload : IsPayload characters
+  pub counted :
+      is_payload_count (length characters) || is_long_payload_count (length characters) ≡ true
+  pub fits :
+      string_length (code_of_payload_count (length characters)) (length characters) ≤ room
+
+-- the string does not fit in a buffer of so many bytes
 pub record LacksRoomForPayload (threshold : ℕ) (identifier : List ℕ) (share_index : ℕ)
     (characters : List ℕ) (room : ℕ) : Type 0 where
   pub text : List ℕ

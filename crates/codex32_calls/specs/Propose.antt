@@ -1,5 +1,5 @@
 -- The nearest text put into a buffer, and why none is.
-use Rattle.std.specs.Prelude.{◌≡◌, ◌<◌, ℕ, List, length, None}
+use Rattle.std.specs.Prelude.{◌≡◌, ◌<◌, ◌≤◌, ℕ, List, length, None}
 use Rattle.std.specs.Str.{IsUtf8}
 use Rattle.bech32_encode.specs.Buffers.{IsPut}
 use Rattle.codex32_calls.specs.Nearest.{IsNearest, IsNearestStringRefusal, damaged_refusal}
@@ -8,14 +8,24 @@ use Rattle.codex32_calls.specs.declared.refusal.Refusal.{Refusal}
 use Rattle.codex32_calls.specs.declared.refusal.Refusal.TheVariants.{NotUtf8, Text, NoNearest}
 use Rattle.codex32_calls.specs.declared.refusal.Refusal.TheVariants.{NoRoom}
 
--- the nearest text to a damaged one is put into a buffer
+-- the nearest text to a damaged one, of which nothing but the checksum is wrong, is put into a
+-- buffer
 pub record PutsNearest (kind : Kind) (text old new : List ℕ) (count : ℕ) : Type 0 where
+  pub framed : damaged_refusal kind text ≡ None
   pub nearest : List ℕ
   pub is_nearest : IsNearest kind text nearest
   pub put : IsPut nearest old new count
 
--- the nearest text does not fit in a buffer of so many bytes
+-- to such a one there is a nearest text, and a buffer of so many bytes has room for it
+pub record CanPropose (kind : Kind) (text : List ℕ) (room : ℕ) : Type 0 where
+  pub framed : damaged_refusal kind text ≡ None
+  pub nearest : List ℕ
+  pub is_nearest : IsNearest kind text nearest
+  pub fits : length nearest ≤ room
+
+-- the nearest text to such a one does not fit in a buffer of so many bytes
 pub record LacksRoomForNearest (kind : Kind) (text : List ℕ) (room : ℕ) : Type 0 where
+  pub framed : damaged_refusal kind text ≡ None
   pub nearest : List ℕ
   pub is_nearest : IsNearest kind text nearest
   pub lacks : room < length nearest

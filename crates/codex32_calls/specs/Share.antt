@@ -50,6 +50,14 @@ pub record HasPayload (P : List ℕ → Type 0) (text : List ℕ) : Type 0 where
   pub is_string : IsStringWith text header payload
   pub holds : P payload
 
+-- the text is a string of either length; at most four bits are left over behind the bytes of its
+-- payload, and these fit in a buffer of so many bytes
+abbrev pub CanReadShare : List ℕ → ℕ → Type 0
+CanReadShare text room =
+    HasPayload
+    (λ payload. (bits_left_over (length payload) ≤ 4)
+    × (length (to_bytes (elements_of payload)) ≤ room)) text
+
 -- why bytes are not a string of either length: they are not a text, or the text's first fault
 abbrev pub IsEitherFault : List ℕ → Refusal → Type 0
 IsEitherFault text refusals.NotUtf8 = ¬ (IsUtf8 text)

@@ -1,9 +1,9 @@
 //! Derives codex32 strings from others of their set.
 
-ghost use Rattle.std.specs.Prelude.{◌≡◌, ◌≤◌, ◌==◌, ℕ, length, take, true, IfErr, IfOk, MatchResult, OnErr};
+ghost use Rattle.std.specs.Prelude.{◌≡◌, ◌≤◌, ◌==◌, ℕ, length, take, true, IfErr, IfOk, IsOk, MatchResult, OnErr};
 ghost use Rattle.std.specs.List.{sum};
 ghost use Rattle.codex32_strings.specs.Share.{AreSharesOf};
-ghost use Rattle.codex32_calls.specs.Derive.{IsAsked, IsDeriveFault, IsDerivedOf, IsTextsFault, PutsDerived, are_lengths, texts_of};
+ghost use Rattle.codex32_calls.specs.Derive.{CanDerive, IsAsked, IsDeriveFault, IsDerivedOf, IsTextsFault, PutsDerived, are_lengths, texts_of};
 
 use crate::input::{share_index_of, share_of};
 use crate::refusal::Refusal;
@@ -82,6 +82,7 @@ pub fn put_derived(
 ) -> Result<usize, Refusal>
     ensures value { IfOk result
         (PutsDerived share_index texts.now lengths.now text.old text.new) }
+    ensures accepts { CanDerive share_index texts.now lengths.now (length text.old) → IsOk result }
     ensures refused { IfErr result
         (IsDeriveFault share_index texts.now lengths.now (length text.old)) }
     ensures same { OnErr result (text.new ≡ text.old) }

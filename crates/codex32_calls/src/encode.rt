@@ -1,12 +1,12 @@
 //! Makes codex32 strings of bytes, or the characters of a payload.
 
-ghost use Rattle.std.specs.Prelude.{◌≡◌, ◌≤◌, ◌||◌, true, false, length, take, IfErr, IfOk, MatchResult, OnErr};
+ghost use Rattle.std.specs.Prelude.{◌≡◌, ◌≤◌, ◌||◌, true, false, length, take, IfErr, IfOk, IsOk, MatchResult, OnErr};
 ghost use Rattle.bech32_encode.specs.Buffers.{IsPut};
 ghost use Rattle.bech32_gf.specs.Alphabet.{is_data};
 ghost use Rattle.bech32_gf.specs.Fe32.{elements_of};
 ghost use Rattle.codex32_strings.specs.Encode.{IsEncodedPayload, is_long_payload_count, is_payload_count};
-ghost use Rattle.codex32_calls.specs.Encode.{IsEncodeStringFault, PutsEncoded};
-ghost use Rattle.codex32_calls.specs.Payload.{IsEncodePayloadFault, PutsEncodedPayload};
+ghost use Rattle.codex32_calls.specs.Encode.{CanEncode, IsEncodeStringFault, PutsEncoded};
+ghost use Rattle.codex32_calls.specs.Payload.{CanEncodePayload, IsEncodePayloadFault, PutsEncodedPayload};
 
 use crate::input::{header_of, put_elements, validate_payload};
 use crate::refusal::Refusal;
@@ -30,6 +30,8 @@ pub fn put_encoded(
 ) -> Result<usize, Refusal>
     ensures value { IfOk result
         (PutsEncoded threshold identifier.now share_index bytes.now text.old text.new) }
+    ensures accepts { CanEncode threshold identifier.now share_index bytes.now (length text.old)
+        → IsOk result }
     ensures refused { IfErr result
         (IsEncodeStringFault threshold identifier.now share_index bytes.now (length text.old)) }
     ensures same { OnErr result (text.new ≡ text.old) }
@@ -78,6 +80,8 @@ pub fn put_encoded_payload(
 ) -> Result<usize, Refusal>
     ensures value { IfOk result
         (PutsEncodedPayload threshold identifier.now share_index payload.now text.old text.new) }
+    ensures accepts { CanEncodePayload threshold identifier.now share_index payload.now
+        (length text.old) → IsOk result }
     ensures refused { IfErr result
         (IsEncodePayloadFault threshold identifier.now share_index payload.now (length text.old)) }
     ensures same { OnErr result (text.new ≡ text.old) }

@@ -1,10 +1,10 @@
 //! Proposes the nearest text to a damaged codex32 string of either length.
 
-ghost use Rattle.std.specs.Prelude.{◌≡◌, ◌≤◌, ℕ, List, length, None, string_bytes, IfErr, IfOk, MatchOption, MatchResult, OnErr};
+ghost use Rattle.std.specs.Prelude.{◌≡◌, ◌≤◌, ◌<◌, ℕ, List, length, None, string_bytes, IfErr, IfOk, MatchOption, MatchResult, OnErr};
 ghost use Rattle.std.specs.Str.{IsUtf8};
-ghost use Rattle.caller_memory.specs.Memory.{LeavesMemory};
+ghost use Rattle.caller_memory.specs.Memory.{LeavesMemory, memory_size};
 ghost use Rattle.codex32_calls.specs.Nearest.{IsNearest, IsNearestStringRefusal, damaged_refusal};
-ghost use Rattle.codex32_calls.specs.Propose.{IsProposeFault, PutsNearest};
+ghost use Rattle.codex32_calls.specs.Propose.{CanPropose, IsProposeFault, PutsNearest};
 
 use crate::input::text_of;
 use crate::refusal::Refusal;
@@ -83,7 +83,8 @@ fn nearest_in<A: Allocator + Copy>(
     }
 }
 
-// The same with memory that comes back; if it does not, this is out of memory.
+// The same with memory that comes back; if it does not, this is out of memory. Memory of no bytes
+// is not lent at all: no text is worked out without any.
 fn nearest_with(
     memory: &mut Memory,
     kind: Kind,
@@ -94,9 +95,15 @@ fn nearest_with(
     ensures refused { IfErr result (λ e. (room : ℕ) → IsProposeFault kind text.now room e) }
     ensures memory { MatchResult result
         (λ _. memory.new ≡ memory.old)
-        (λ e. LeavesMemory memory.old memory.new (e ≡ Refusal.Text Codex32Error.Memory)) }
+        (λ e. LeavesMemory memory.old memory.new
+        ((e ≡ Refusal.Text Codex32Error.Memory) × (0 < memory_size memory.old))) }
 {
-    let lent = Lent::new(memory.take());
+    let (size, whole) = memory.take().with_size();
+    if size == 0 {
+        *memory = whole;
+        return Err(Refusal::Text(Codex32Error::Memory));
+    }
+    let lent = Lent::new(whole);
     let nearest = nearest_in(&lent.arena(), kind, text);
     match lent.into_memory() {
         Some(whole) => {
@@ -109,6 +116,11 @@ fn nearest_with(
 
 /// Puts the nearest text to any text, which is tested before anything is allocated, at the front of
 /// a buffer, and returns its length.
+///
+/// The memory holds the text as it is read and the one that is proposed; the locations of
+/// unreadable characters, if there are any; and what a corrector of 13 or 15 characters needs,
+/// where the checksum does not accept the text as it is read. So out of memory may be returned for
+/// a text without errors too.
 pub fn nearest_of(
     memory: &mut Memory,
     kind: Kind,
@@ -117,11 +129,14 @@ pub fn nearest_of(
 ) -> Result<usize, Refusal>
     ensures value { IfOk result
         (λ count. PutsNearest kind bytes.now proposed.old proposed.new count) }
+    ensures accepts { CanPropose kind bytes.now (length proposed.old)
+        → IfErr result (λ e. e ≡ Refusal.Text Codex32Error.Memory) }
     ensures refused { IfErr result (λ e. IsProposeFault kind bytes.now (length proposed.old) e) }
     ensures same { OnErr result (proposed.new ≡ proposed.old) }
     ensures memory { MatchResult result
         (λ _. memory.new ≡ memory.old)
-        (λ e. LeavesMemory memory.old memory.new (e ≡ Refusal.Text Codex32Error.Memory)) }
+        (λ e. LeavesMemory memory.old memory.new
+        ((e ≡ Refusal.Text Codex32Error.Memory) × (0 < memory_size memory.old))) }
 {
     let text = text_of(bytes)?;
     validate(kind, text)?;

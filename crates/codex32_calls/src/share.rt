@@ -1,9 +1,9 @@
 //! Reads codex32 strings of either length.
 
-ghost use Rattle.std.specs.Prelude.{◌≡◌, length, map, IfErr, IfOk, OnErr};
+ghost use Rattle.std.specs.Prelude.{◌≡◌, length, map, IfErr, IfOk, IsOk, OnErr};
 ghost use Rattle.bech32_checksum.specs.Encoded.{char_of_element};
 ghost use Rattle.codex32_strings.specs.HeaderParts.{identifier_elements};
-ghost use Rattle.codex32_calls.specs.Share.{IsShareFault, PutsPayload};
+ghost use Rattle.codex32_calls.specs.Share.{CanReadShare, IsShareFault, PutsPayload};
 
 use crate::input::share_of;
 use crate::refusal::Refusal;
@@ -24,6 +24,7 @@ pub fn characters_of(identifier: Identifier) -> [u8; 4]
 /// how many they are.
 pub fn put_payload(text: &[u8], bytes: &mut [u8]) -> Result<(Header, usize), Refusal>
     ensures value { IfOk result (λ p. PutsPayload text.now p.0 bytes.old bytes.new p.1) }
+    ensures accepts { CanReadShare text.now (length bytes.old) → IsOk result }
     ensures refused { IfErr result (λ e. IsShareFault text.now (length bytes.old) e) }
     ensures same { OnErr result (bytes.new ≡ bytes.old) }
 {

@@ -6,12 +6,14 @@
 //! Standard: none.
 #![tactic(auto)]
 
-ghost use Rattle.std.specs.Prelude.{◌≡◌};
+ghost use Rattle.std.specs.Prelude.{◌≡◌, ◌≤◌, length};
 ghost use Rattle.refusal_sentences.specs.Sentences.{bech32_sentence, codex32_sentence};
 
-/// What a number of `include/bech32.h` means, in ASCII; nothing for a number that is none of it.
+/// What a number of `include/bech32.h` means, in ASCII, at most 100 characters; nothing for a
+/// number that is none of it.
 pub fn bech32_sentence_of(number: u32) -> &'static str
-    ensures { result.now ≡ bech32_sentence number }
+    ensures sentence { result.now ≡ bech32_sentence number }
+    ensures short { length (bech32_sentence number) ≤ 100 }
 {
     match number {
         // The sentences of bech32.h.
@@ -47,9 +49,11 @@ pub fn bech32_sentence_of(number: u32) -> &'static str
     }
 }
 
-/// What a number of `include/codex32.h` means, in ASCII; nothing for a number that is none of it.
+/// What a number of `include/codex32.h` means, in ASCII, at most 100 characters; nothing for a
+/// number that is none of it.
 pub fn codex32_sentence_of(number: u32) -> &'static str
-    ensures { result.now ≡ codex32_sentence number }
+    ensures sentence { result.now ≡ codex32_sentence number }
+    ensures short { length (codex32_sentence number) ≤ 100 }
 {
     match number {
         // The sentences of codex32.h.

@@ -1,4 +1,7 @@
 use Rattle.std.proofs.Common.{arith, take}
+use Rattle.std.proofs.Common.{◌∙◌, length, sym}
+use Rattle.codex32_calls.specs.declared.refusal.Refusal.TheVariants as refusals
+use Rattle.codex32_calls.proofs.Accepted.{no_encode_fault}
 use Rattle.codex32_calls.proofs.encode.put_encoded.Goals as goal
 
 pub returns-then-count-text-clause-refused : goal.returns-then-count-text-clause-refused
@@ -28,3 +31,13 @@ returns-clause-value c = record {
     count_is = c.in_ok-count.ensures.put.count_is;
   };
 }
+
+pub returns-in_err-header-clause-accepts : goal.returns-in_err-header-clause-accepts
+returns-in_err-header-clause-accepts c can = absurd (let k = sym can.fine ∙ c.in_err-header.ensures in cc)
+
+pub returns-in_err-count-clause-accepts : goal.returns-in_err-count-clause-accepts
+returns-in_err-count-clause-accepts c can = absurd (let k = sym can.counted ∙ c.in_err-count.ensures.refused.1 in cc)
+
+pub returns-then-count-text-clause-accepts : goal.returns-then-count-text-clause-accepts
+returns-then-count-text-clause-accepts c can =
+    absurd (no_encode_fault c.args.threshold c.args.identifier.now c.args.share_index c.args.bytes.now (length c.args.text.now) refusals.NoRoom can (returns-then-count-text-clause-refused c))

@@ -1,6 +1,9 @@
 use Rattle.std.proofs.Common.{arith, take}
 use Rattle.std.proofs.lemmas.Result.{err_from_is_err_and}
 use Rattle.codex32_calls.proofs.Payloads.{refused-from_payload}
+use Rattle.std.proofs.Common.{◌∙◌, length, sym}
+use Rattle.codex32_calls.specs.declared.refusal.Refusal.TheVariants as refusals
+use Rattle.codex32_calls.proofs.Accepted.{no_encode_payload_fault}
 use Rattle.codex32_calls.proofs.encode.put_encoded_payload.Goals as goal
 
 pub returns-in_err-validate_payload-clause-refused : goal.returns-in_err-validate_payload-clause-refused
@@ -39,3 +42,20 @@ returns-clause-value c = record {
     count_is = c.in_ok-count.ensures.put.count_is;
   };
 }
+
+pub returns-in_err-header-clause-accepts : goal.returns-in_err-header-clause-accepts
+returns-in_err-header-clause-accepts c can = absurd (let k = sym can.fine ∙ c.in_err-header.ensures in cc)
+
+pub returns-in_err-validate_payload-clause-accepts : goal.returns-in_err-validate_payload-clause-accepts
+returns-in_err-validate_payload-clause-accepts c can =
+    let room = length c.args.text.now in
+    let e = c.in_err-validate_payload.field-0.0 in
+    absurd (no_encode_payload_fault c.args.threshold c.args.identifier.now c.args.share_index c.args.payload.now room e can
+    (refused-from_payload c.args.threshold c.args.identifier.now c.args.share_index c.args.payload.now room e c.in_ok-header.ensures.fine c.in_err-validate_payload.ensures))
+
+pub returns-in_err-count-clause-accepts : goal.returns-in_err-count-clause-accepts
+returns-in_err-count-clause-accepts c can = absurd (let k = sym can.counted ∙ c.in_err-count.ensures.refused.1 in cc)
+
+pub returns-then-count-text-clause-accepts : goal.returns-then-count-text-clause-accepts
+returns-then-count-text-clause-accepts c can =
+    absurd (no_encode_payload_fault c.args.threshold c.args.identifier.now c.args.share_index c.args.payload.now (length c.args.text.now) refusals.NoRoom can (returns-then-count-text-clause-refused c))
