@@ -2,6 +2,7 @@
 
     mistyped.py check LINES REPLIES    prints where the model's reply is another
     mistyped.py make COUNT SEED        COUNT lines of most kinds, each with a tab and the reply
+    mistyped.py every SEED             lines of every length, number of texts, erasures and errors
     mistyped.py plain COUNT SEED       compares COUNT lists of near texts with those of plain trying
 
 Near texts are found by trying every pattern of few errors, with the values at the erasures that go with
@@ -389,6 +390,65 @@ def make(count, seed):
     return 0
 
 
+def print_with_reply(line):
+    print(line + "\t" + reply(line.encode()))
+
+
+class Each(Lines):
+    """Lines that leave out no length and no number."""
+
+    def text_of(self, length, code, part="bc"):
+        """A text of so many characters that the checksum accepts, in lower case or in upper case."""
+        elements = [self.random.randrange(32) for _ in range(length - len(part) - 7)]
+        text = model.encoded(code, part, elements)
+        return text.upper() if self.one_in(4) else text
+
+    def nearest_of(self, text, name, erased, wrong, errors):
+        """A line with so many wrong characters outside so many erasures, which are wrong or not."""
+        changed, places = self.changed(text, erased + wrong)
+        words = ["nearest", name, changed, *[",".join(map(str, places[:erased]))][:erased], str(errors)]
+        return " ".join(words)
+
+    def by_number(self, most):
+        """For each number of near texts a line by each checksum."""
+        for name, code in CODES.items():
+            lacking = set(range(most + 1))
+            while lacking:
+                text = self.text_of(self.random.randint(20, 36), code)
+                line = self.nearest_of(text, name, 3, self.random.choice([0, 2, 3]), 2)
+                found = len(reply(line.encode()).split(" ")) - 1
+                if found in lacking:
+                    lacking.remove(found)
+                    yield line
+
+    def by_errors(self):
+        """By each checksum, with each number of erasures and each of errors that are allowed and made."""
+        for name, code in CODES.items():
+            for erased in range(MOST_ERASED + 1):
+                for errors in range(3):
+                    for wrong in range(errors + 2):
+                        text = self.text_of(self.random.randint(14, 45), code)
+                        yield self.nearest_of(text, name, erased, wrong, errors)
+
+    def by_length(self):
+        """Of each length, with each length of the data part: near texts, and an edit."""
+        for length in range(9, 97):
+            for name, code in CODES.items():
+                text = self.text_of(length, code)
+                erased, errors = self.random.choice([(0, 1), (0, 2), (1, 1), (2, 0), (2, 1), (3, 0)])
+                yield self.nearest_of(text, name, erased, errors, errors)
+                edited = next(it for it in iter(lambda: self.edited(text), None) if it != text)
+                yield f"edits {name} {edited}"
+
+
+def every(seed):
+    each = Each(f"every {seed}")
+    for lines in (each.by_number(12), each.by_errors(), each.by_length()):
+        for line in lines:
+            print_with_reply(line)
+    return 0
+
+
 def check(lines, replies):
     pairs = list(zip(Path(lines).read_bytes().split(b"\n"), Path(replies).read_text().split("\n")))
     wrong = [(line, want) for line, want in pairs[:-1] if reply(line) != want]
@@ -417,6 +477,8 @@ def main(words):
         return check(*words[1:])
     if len(words) == 3 and words[0] == "make":
         return make(int(words[1]), words[2])
+    if len(words) == 2 and words[0] == "every":
+        return every(words[1])
     if len(words) == 3 and words[0] == "plain":
         return plain(int(words[1]), words[2])
     return __doc__.strip()

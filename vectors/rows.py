@@ -1,6 +1,7 @@
 """Makes and compares rows of the vectors: a line of b32, a tab, and its reply.
 
     rows.py make COUNT SEED FOLDER       writes COUNT rows of each kind by the model
+    rows.py every SEED                   prints a row of `correct` for each length and checksum
     rows.py check FILE..                 prints where the model's reply is another
     rows.py compare PROGRAM FILE..       prints where a program's reply is another
 
@@ -189,6 +190,24 @@ def make(count, seed, folder):
             file.writelines(rows)
 
 
+def every(seed):
+    """Texts of each length with as many changed characters as are found, some of them erasures."""
+    maker = Maker(f"every {seed}")
+    for length in range(9, 97):
+        for name, code in model.CODES.items():
+            elements = [maker.random.randrange(32) for _ in range(length - 9)]
+            letters = list(model.encoded(code, "bc", elements))
+            erased, errors = maker.random.choice([(0, 1), (0, 1), (1, 1), (2, 0), (3, 0)])
+            places = maker.random.sample(range(3, length), erased + errors)
+            for place in places:
+                letters[place] = maker.random.choice(model.ALPHABET.replace(letters[place], ""))
+            text = "".join(letters)
+            locations = ",".join(str(length - 1 - place) for place in places[:erased])
+            line = " ".join(["correct", name, text.upper() if maker.one_in(4) else text, locations]).strip()
+            print(f"{word_of(line.encode())}\t{model.reply(line.encode())}")
+    return 0
+
+
 # --- comparing rows ---
 
 def rows_of(path):
@@ -236,6 +255,8 @@ def main(words):
     if words[:1] == ["make"] and len(words) == 4:
         make(int(words[1]), int(words[2]), words[3])
         return 0
+    if words[:1] == ["every"] and len(words) == 2:
+        return every(words[1])
     if words[:1] == ["check"] and len(words) > 1:
         return 1 if check(words[1:]) else 0
     if words[:1] == ["compare"] and len(words) > 2:

@@ -4,9 +4,11 @@ pub mod FewLocations
 pub mod HexWords
 pub mod LocationLists
 pub mod LocationWords
+pub mod OneAnswer
 pub mod Replies
 pub mod SegwitReplies
 pub mod SegwitSplit
 pub mod Sizes
 pub mod Split
+pub mod Unrefused
 pub mod VersionWords

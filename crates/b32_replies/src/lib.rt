@@ -11,6 +11,7 @@ mod decode;
 mod encode;
 pub mod error;
 pub mod hex_word;
+pub mod laws;
 mod location_word;
 mod refusal;
 pub mod reply;

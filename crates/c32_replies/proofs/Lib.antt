@@ -1,3 +1,4 @@
+pub mod OneAnswer
 pub mod Replies
 pub mod Sizes
 pub mod Split

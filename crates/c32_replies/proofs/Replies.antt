@@ -1,11 +1,12 @@
 -- What may be said of a line.
+use Rattle.std.specs.Prelude.{◌||◌, true}
 use Rattle.std.proofs.Common.{◌≡◌, ℕ, ◌≤◌, ◌<◌, inl, inr, List, [], ◌∷◌, ◌++◌, length, refl, codes, arith, length-append, subst, Some, None, Result}
 use Rattle.bech32_gf.specs.Fe32.{path}
 use Rattle.bech32_gf.specs.declared.gf32.Fe32.{Fe32}
 use Rattle.b32_replies.specs.Hex.{bytes_of, hex_of}
 use Rattle.b32_replies.proofs.Sizes.{length-hex_of}
-use Rattle.codex32_strings.specs.Derive.{IsDerivedString, IsStringOfSet}
-use Rattle.codex32_strings.specs.Encode.{IsEncodeStringRefusal, IsEncodedString}
+use Rattle.codex32_strings.specs.Derive.{IsDerivedString, IsStringOfSet, IsWholeSet}
+use Rattle.codex32_strings.specs.Encode.{IsEncodeStringRefusal, IsEncodedString, is_byte_count, is_long_byte_count}
 use Rattle.codex32_strings.specs.Header.{identifier_of_header, share_index_of_header, threshold_of_header}
 use Rattle.codex32_strings.specs.HeaderParts.{header_word_fault, secret_index, share_index_of_word, share_index_word_fault}
 use Rattle.codex32.specs.Nearest.{IsProposeRefusal}
@@ -80,11 +81,11 @@ module _ (threshold identifier share_index hex : List ℕ) where
   says-not_encoded bytes e digits fine h = inr (record { error = refusals.Encode e; is_refusal = (bytes, digits, fine, h); spelling = refl })
 
   pub says-encoded : (header : Header) (bytes text payload old new : List ℕ) → AreWordsOf threshold identifier share_index header → header_word_fault threshold identifier share_index ≡ None
-      → bytes_of hex ≡ Some bytes → IsEncodedString header bytes text → IsShareString text (threshold_of_header header) (identifier_of_header header) (share_index_of_header header) payload
+      → bytes_of hex ≡ Some bytes → is_byte_count (length bytes) || is_long_byte_count (length bytes) ≡ true → IsEncodedString header bytes text → IsShareString text (threshold_of_header header) (identifier_of_header header) (share_index_of_header header) payload
       → new ≡ old ++ (codes "ok " ++ text) → Adds (IsEncodeStringAnswer threshold identifier share_index hex) old new
-  says-encoded header bytes text payload old new words fine digits is string added = record {
+  says-encoded header bytes text payload old new words fine digits counted is string added = record {
     said = codes "ok " ++ text;
-    says = inl (record { header = header; words = words; fine = fine; bytes = bytes; digits = digits; text = text; is_encoded = is; spelling = refl });
+    says = inl (record { header = header; words = words; fine = fine; bytes = bytes; digits = digits; counted = counted; text = text; is_encoded = is; spelling = refl });
     size = omega (arith, string-size text _ _ _ payload string);
     added = added;
   }
@@ -96,11 +97,11 @@ set-size [] x text h = absurd h
 set-size (s ∷ ss) x text h = string-size text _ _ _ h.0 h.1
 
 module _ (x : Fe32) (texts : List (List ℕ)) where
-  pub says-derived : (shares : List Share) (text old new : List ℕ) → AreSharesOf texts shares → IsDerivedString shares x text → IsStringOfSet shares x text → new ≡ old ++ (codes "ok " ++ text)
+  pub says-derived : (shares : List Share) (text old new : List ℕ) → AreSharesOf texts shares → IsWholeSet shares x → IsDerivedString shares x text → IsStringOfSet shares x text → new ≡ old ++ (codes "ok " ++ text)
       → Adds (IsSharesAnswer x texts) old new
-  says-derived shares text old new are is string added = record {
+  says-derived shares text old new are whole is string added = record {
     said = codes "ok " ++ text;
-    says = inl (record { shares = shares; are = are; text = text; is_derived = is; spelling = refl });
+    says = inl (record { shares = shares; are = are; whole = whole; text = text; is_derived = is; is_string = string; spelling = refl });
     size = omega (arith, set-size shares x text string);
     added = added;
   }

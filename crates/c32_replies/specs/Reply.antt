@@ -1,14 +1,16 @@
 -- What may be said of a request. Of lines that ask for nothing `line_program` says it.
 use Rattle.std.specs.Prelude.{◌≡◌, ◌⊎◌, ◌<◌, ◌≤◌, ℕ, List, [], ◌∷◌, ◌++◌, codes, length, map}
-use Rattle.std.specs.Prelude.{Option, None, Some}
+use Rattle.std.specs.Prelude.{◌||◌, true, Option, None, Some}
 use Rattle.std.specs.List.{AllByRecursion}
 use Rattle.bech32_bits.specs.Bits.{to_bytes}
 use Rattle.bech32_checksum.specs.Encoded.{char_of_element}
 use Rattle.bech32_gf.specs.Fe32.{elements_of}
 use Rattle.bech32_gf.specs.declared.gf32.Fe32.{Fe32}
 use Rattle.b32_replies.specs.Hex.{bytes_of, hex_of}
-use Rattle.codex32_strings.specs.Derive.{IsDeriveRefusal, IsDerivedString}
+use Rattle.codex32_strings.specs.Derive.{IsDeriveRefusal, IsDerivedString, IsStringOfSet}
+use Rattle.codex32_strings.specs.Derive.{IsWholeSet}
 use Rattle.codex32_strings.specs.Encode.{IsEncodeStringRefusal, IsEncodedString}
+use Rattle.codex32_strings.specs.Encode.{is_byte_count, is_long_byte_count}
 use Rattle.codex32_strings.specs.Header.{identifier_of_header, share_index_of_header}
 use Rattle.codex32_strings.specs.Header.{threshold_of_header}
 use Rattle.codex32_strings.specs.HeaderParts.{header_word_fault, identifier_elements, secret_index}
@@ -53,8 +55,11 @@ abbrev pub IsParseAnswer : List ℕ → List ℕ → Type 0
 IsParseAnswer text said =
     SaysParts text said ⊎ SaysRefusal (IsStringRefusal text) number_of_codex32_error said
 
--- the nearest text is said, in lower case
-pub record SaysNearest (IsNearest : List ℕ → List ℕ → Type 0) (text said : List ℕ) : Type 0 where
+-- the nearest text is said, in lower case, of a text that has its grammar, its length and its
+-- human-readable part right
+pub record SaysNearest (IsNearest : List ℕ → List ℕ → Type 0)
+    (fault : List ℕ → Option Codex32Error) (text said : List ℕ) : Type 0 where
+  pub framed : fault (read_text text) ≡ None
   pub nearest : List ℕ
   pub is_nearest : IsNearest text nearest
   pub spelling : said ≡ codes "some " ++ nearest
@@ -71,14 +76,14 @@ pub record SaysNoNearest (IsNearest : List ℕ → List ℕ → Type 0)
 -- grammar, its length and its human-readable part right, out of memory
 abbrev pub IsProposeAnswer : List ℕ → List ℕ → Type 0
 IsProposeAnswer text said =
-    SaysNearest IsNearestText text said
+    SaysNearest IsNearestText frame_refusal text said
     ⊎ (SaysNoNearest IsNearestText frame_refusal text said
     ⊎ SaysRefusal (IsProposeRefusal text) number_of_codex32_error said)
 
 -- the answer to `propose-long`
 abbrev pub IsProposeLongAnswer : List ℕ → List ℕ → Type 0
 IsProposeLongAnswer text said =
-    SaysNearest IsNearestLongText text said
+    SaysNearest IsNearestLongText long_frame_refusal text said
     ⊎ (SaysNoNearest IsNearestLongText long_frame_refusal text said
     ⊎ SaysRefusal (IsProposeLongRefusal text) number_of_codex32_error said)
 
@@ -121,13 +126,14 @@ pub record AreWordsOf (threshold identifier share_index : List ℕ) (header : He
       identifier_elements (identifier_of_header header) ≡ elements_of identifier
   pub share_index_is : share_index_of_header header ≡ share_index_of_word share_index
 
--- the string of a header and bytes is said
+-- the string of a header and bytes, of which a string has so many, is said
 pub record SaysEncoded (threshold identifier share_index hex said : List ℕ) : Type 0 where
   pub header : Header
   pub words : AreWordsOf threshold identifier share_index header
   pub fine : header_word_fault threshold identifier share_index ≡ None
   pub bytes : List ℕ
   pub digits : bytes_of hex ≡ Some bytes
+  pub counted : is_byte_count (length bytes) || is_long_byte_count (length bytes) ≡ true
   pub text : List ℕ
   pub is_encoded : IsEncodedString header bytes text
   pub spelling : said ≡ codes "ok " ++ text
@@ -161,12 +167,14 @@ abbrev pub IsTextRefusal : List (List ℕ) → Codex32Error → Type 0
 IsTextRefusal [] e = ⊥
 IsTextRefusal (t ∷ ts) e = IsShareRefusal t e ⊎ (IsEither t × IsTextRefusal ts e)
 
--- the string at an index that the shares of texts give is said
+-- the string at an index that the shares of texts give, which are a whole set, is said
 pub record SaysDerived (x : Fe32) (texts : List (List ℕ)) (said : List ℕ) : Type 0 where
   pub shares : List CodexShare
   pub are : AreSharesOf texts shares
+  pub whole : IsWholeSet shares x
   pub text : List ℕ
   pub is_derived : IsDerivedString shares x text
+  pub is_string : IsStringOfSet shares x text
   pub spelling : said ≡ codes "ok " ++ text
 
 -- why no string is derived from texts, the first of: a text, in their order; what their shares are

@@ -7,6 +7,7 @@
 mod command;
 mod derive;
 mod encode;
+pub mod laws;
 mod parse;
 mod propose;
 mod refusal;

@@ -9,12 +9,12 @@ use Rattle.bech32_checksum.specs.Roots.{singleton_bound}
 use Rattle.bech32_bch.specs.Erasures.{with_erasures}
 use Rattle.bech32_bch.specs.Pattern.{errors_outside}
 use Rattle.bech32_near_patterns.specs.Nearest.{AreNearest}
-use Rattle.bech32_near.specs.NearTexts.{AreNearTexts, AreNearestListings, IsNearText, IsNearestRefusal, IsSearched, differences_outside}
+use Rattle.bech32_near.specs.NearTexts.{AreNearTexts, AreNearestListings, IsNearText, IsSearched, differences_outside}
 use Rattle.bech32_near.proofs.Differing.{differences, few_outside}
 use Rattle.b32_replies.proofs.FewLocations.{each_few, each_given, no_more, same_erasures}
 use Rattle.line_program.specs.Refused.{SaysRefusal, err}
 use Rattle.mend.specs.Numbers.{number_of_correct_error}
-use Rattle.mend.specs.Reply.{IsNearTextsAnswer, SaysNear}
+use Rattle.mend.specs.Reply.{IsNearTextsAnswer, IsNearTextsRefusal, SaysNear}
 use Rattle.mend.specs.Request.{errors_of_word}
 
 module _ (code : Code) (text few given : List ℕ) (errors : ℕ) (is : few ≡ take 4 (with_erasures [] given)) where
@@ -124,7 +124,7 @@ module _ (code : Code) (text few given : List ℕ) (errors : ℕ) (is : few ≡ 
 
 abbrev pub SaysBy : Code → List ℕ → List ℕ → List ℕ → Option ℕ → Type 0
 SaysBy code text given said o =
-    MatchOption o (said ≡ err 4) (λ errors. SaysNear code text given errors said ⊎ SaysRefusal (IsNearestRefusal code text) number_of_correct_error said)
+    MatchOption o (said ≡ err 4) (λ errors. SaysNear code text given errors said ⊎ SaysRefusal (IsNearTextsRefusal code text) number_of_correct_error said)
 
 by_errors : (code : Code) (text few given said : List ℕ) → few ≡ take 4 (with_erasures [] given) → (o : Option ℕ) → SaysBy code text few said o → SaysBy code text given said o
 by_errors code text few given said is None h = h

@@ -1,4 +1,5 @@
 pub mod Faults
 pub mod Few
+pub mod OneAnswer
 pub mod Replies
 pub mod Split

@@ -6,7 +6,7 @@ use Rattle.bech32_gf.specs.declared.gf32.Fe32.{Fe32}
 use Rattle.bech32_checksum.specs.Code.{Code}
 use Rattle.bech32_checksum.specs.Roots.{singleton_bound}
 use Rattle.bech32_correction.specs.declared.error.CorrectError.{CorrectError}
-use Rattle.bech32_correction.specs.declared.error.CorrectError.TheVariants.{Memory}
+use Rattle.bech32_correction.specs.declared.error.CorrectError.TheVariants.{Memory, Refused}
 use Rattle.bech32_near.specs.NearTexts.{AreNearTexts, IsNearestRefusal}
 use Rattle.bech32_near_edits.specs.declared.edits.Edit.{Edit}
 use Rattle.bech32_near_edits.specs.declared.error.EditsError.{EditsError}
@@ -17,7 +17,7 @@ use Rattle.line_program.specs.Reply.{IsReplyBy}
 use Rattle.line_program.proofs.Replied.{text-reply}
 use Rattle.mend.specs.Added.{AddsOrSaysNumber}
 use Rattle.mend.specs.Numbers.{number_of_correct_error, number_of_edits_error}
-use Rattle.mend.specs.Reply.{IsEditsAnswer, IsMendAnswer, IsNearTextsAnswer, SaysNear, said_of_edit, spaced}
+use Rattle.mend.specs.Reply.{IsEditsAnswer, IsMendAnswer, IsNearTextsAnswer, IsNearTextsRefusal, SaysNear, said_of_edit, spaced}
 use Rattle.mend.specs.Request.{MendRequest, errors_of_word, mend_request_of}
 use Rattle.mend.proofs.Few.{SaysBy}
 
@@ -28,6 +28,11 @@ adds-wider Says Wider (Err number) old new more h = (more (err number) h.0, h.1)
 
 -- ---- near texts
 
+-- why none are listed is why none are said
+pub refused_near : (code : Code) (bound : ℕ) (text given : List ℕ) (errors : ℕ) (e : CorrectError) → IsNearestRefusal code bound text given errors e → IsNearTextsRefusal code text e
+refused_near code bound text given errors (Refused e) h = h
+refused_near code bound text given errors Memory h = (h.hrp, h.data_part, h.residue, h.read)
+
 module _ (code : Code) (text given word : List ℕ) where
   pub says-bad_word : errors_of_word word ≡ None → IsNearTextsAnswer code text given word (err 4)
   says-bad_word is = subst (SaysBy code text given (err 4)) (sym is) refl
@@ -36,7 +41,7 @@ module _ (code : Code) (text given word : List ℕ) where
     pub says-near : (said : List ℕ) → SaysNear code text given errors said → IsNearTextsAnswer code text given word said
     says-near said h = subst (SaysBy code text given said) (sym is) (inl h)
 
-    pub says-refused : (e : CorrectError) → IsNearestRefusal code text e → IsNearTextsAnswer code text given word (err (number_of_correct_error e))
+    pub says-refused : (e : CorrectError) → IsNearTextsRefusal code text e → IsNearTextsAnswer code text given word (err (number_of_correct_error e))
     says-refused e h = subst (SaysBy code text given (err (number_of_correct_error e))) (sym is) (inr (record { error = e; is_refusal = h; spelling = refl }))
 
     pub says-no_memory : (said : List ℕ) → SaysNear code text given errors said → IsNearTextsAnswer code text given word (err 91)

@@ -6,7 +6,10 @@ use Rattle.bech32_checksum.specs.Code.{Code, bech32, bech32m}
 use Rattle.bech32_checksum.specs.Roots.{singleton_bound}
 use Rattle.bech32_decode.specs.Acceptance.{Accepts}
 use Rattle.bech32_decode.specs.Checked.{IsCheckedRefusal}
-use Rattle.bech32_near.specs.NearTexts.{AreNearTexts, IsNearestRefusal}
+use Rattle.bech32_correction.specs.Mistyped.{HasResidue, IsRefusal}
+use Rattle.bech32_correction.specs.declared.error.CorrectError.{CorrectError}
+use Rattle.bech32_correction.specs.declared.error.CorrectError.TheVariants.{Memory, Refused}
+use Rattle.bech32_near.specs.NearTexts.{AreNearTexts}
 use Rattle.bech32_near_edits.specs.declared.edits.Change.{Change}
 use Rattle.bech32_near_edits.specs.declared.edits.Change.TheVariants.{Swapped, LeftOut, PutIn}
 use Rattle.bech32_near_edits.specs.declared.edits.Edit.{Edit}
@@ -31,6 +34,14 @@ pub record SaysNear (code : Code) (text given : List ℕ) (errors : ℕ) (said :
   pub near : AreNearTexts code (singleton_bound 24 26) text given errors found
   pub spelling : said ≡ codes "ok" ++ spaced (map (λ m. m.1) found)
 
+-- why the texts near one are not said: it is refused, but not for its residue; or it is refused for
+-- nothing else, and there is no memory, be it for what is said
+abbrev pub IsNearTextsRefusal : Code → List ℕ → CorrectError → Type 0
+IsNearTextsRefusal code text (Refused e) = IsRefusal code text e
+IsNearTextsRefusal code text Memory =
+    (hrp : List ℕ) × (data_part : List ℕ) × (residue : List Fe32)
+    × HasResidue code text hrp data_part residue
+
 -- the answer to `nearest`, where these locations are known to be wrong: a word that is no number
 -- of errors is refused first, and out of memory is said only of a text that is refused for nothing
 -- else
@@ -39,7 +50,7 @@ IsNearTextsAnswer code text given word said =
     MatchOption (errors_of_word word)
     (said ≡ err 4)
     (λ errors. SaysNear code text given errors said
-    ⊎ SaysRefusal (IsNearestRefusal code text) number_of_correct_error said)
+    ⊎ SaysRefusal (IsNearTextsRefusal code text) number_of_correct_error said)
 
 -- the same where a word lists the locations: a word that lists none is refused
 abbrev pub IsNearTextsAtAnswer : Code → List ℕ → List ℕ → List ℕ → List ℕ → Type 0

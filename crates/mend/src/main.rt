@@ -9,6 +9,7 @@ mod added;
 mod command;
 mod edits;
 mod fault;
+mod laws;
 mod near;
 mod reply;
 

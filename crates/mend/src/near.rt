@@ -6,7 +6,7 @@ ghost use Rattle.bech32_near.specs.NearTexts.{AreNearTexts, IsNearestRefusal};
 ghost use Rattle.b32_replies.specs.Request.{code_of_name};
 ghost use Rattle.mend.specs.Added.{AddsOrSaysNumber};
 ghost use Rattle.mend.specs.Numbers.{number_of_correct_error};
-ghost use Rattle.mend.specs.Reply.{IsNearTextsAnswer, IsNearTextsAtAnswer, SaysNear};
+ghost use Rattle.mend.specs.Reply.{IsNearTextsAnswer, IsNearTextsAtAnswer, IsNearTextsRefusal, SaysNear};
 
 use crate::added::{NO_MEMORY, append_any};
 use crate::command::errors_in;
@@ -40,7 +40,8 @@ fn near_by(
     ensures { MatchResult result
         (λ near. AreNearTexts (code_of_name checksum) (singleton_bound 24 26) text.now given.now
         errors (map (λ m. (m.listing, string_bytes m.text)) near.items))
-        (λ e. IsNearestRefusal (code_of_name checksum) text.now e) }
+        (λ e. IsNearestRefusal (code_of_name checksum) (singleton_bound 24 26) text.now given.now
+        errors e) }
 {
     match checksum {
         ChecksumName::Bech32 => Ok(nearest::<Bech32>(alloc, text, given, errors)?.texts),
@@ -71,7 +72,7 @@ fn said_near(
 ) -> Result<Vec<u8>, CorrectError>
     ensures { MatchResult result
         (λ said. SaysNear (code_of_name checksum) text.now given.now errors said.items)
-        (λ e. IsNearestRefusal (code_of_name checksum) text.now e) }
+        (λ e. IsNearTextsRefusal (code_of_name checksum) text.now e) }
 {
     let near = near_by(alloc, checksum, text, given, errors)?;
     Ok(said_of(alloc, near.as_slice())?)

@@ -1,5 +1,6 @@
+use Rattle.std.specs.Prelude.{◌||◌, true}
 use Rattle.std.proofs.Common.{rules, ◌≡◌, ◌≤◌, ◌<◌, ◌++◌, arith, codes, refl, inl, length, string_bytes}
-use Rattle.codex32_strings.specs.Encode.{IsEncodedString}
+use Rattle.codex32_strings.specs.Encode.{IsEncodedString, is_byte_count, is_long_byte_count}
 use Rattle.codex32_strings.specs.declared.error.EncodeError.TheVariants as encode_errors
 use Rattle.line_program.proofs.Pieces.{two-pieces}
 use Rattle.c32_replies.proofs.Replies.{says-encoded, says-not_encoded}
@@ -24,9 +25,10 @@ returns-clause-answer g c =
     let few : c.in-Ok.size ≤ 64 = omega (arith, c.if-size-gt-ROOM.false) in
     let at = there few in
     let is : IsEncodedString header bytes text = rw at at c.in_ok-text.ensures.text in
+    let counted : is_byte_count (length bytes) || is_long_byte_count (length bytes) ≡ true = rw at at c.in_ok-text.ensures.refused in
     let (payload, string, elements) = c.in_ok-text.ensures.string in
     let first : c.append.new.out.items ≡ out ++ codes "ok " = search rules in
     let second : c.append-2.new.out.items ≡ c.append.new.out.items ++ text = search rules in
     says-encoded c.args.header.0.now c.args.header.1.now c.args.header.2.now c.args.hex.now header bytes text payload out _
     (record { threshold_is = threshold_is; identifier_is = identifier_is; share_index_is = share_index_is })
-    fine digits is string (two-pieces out (codes "ok ") text _ _ first second)
+    fine digits counted is string (two-pieces out (codes "ok ") text _ _ first second)
