@@ -1,8 +1,10 @@
 mod compare;
 mod correction;
+mod every_length;
 mod messages;
 pub mod paths;
 mod plain;
+mod room;
 mod root;
 mod segwit;
 mod walks;

@@ -2,6 +2,7 @@ mod by_definition;
 mod checksum;
 mod compare;
 mod damaged;
+mod every_length;
 mod hostile;
 mod known;
 mod lent_memory;

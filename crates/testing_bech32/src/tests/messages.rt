@@ -1,9 +1,10 @@
 use crate::tests::compare::same;
 use bech32::primitives::decode::{
-    CharError, ChecksumError, CodeLengthError, UncheckedHrpstring, UncheckedHrpstringError,
+    CharError, CheckedHrpstringError, ChecksumError, CodeLengthError, UncheckedHrpstring,
+    UncheckedHrpstringError,
 };
 use bech32::primitives::hrp;
-use bech32::{Bech32m, CorrectError, DecodeError, EncodeError};
+use bech32::{Bech32m, CorrectError, DecodeError, EditsError, EncodeError};
 use std::alloc::Global;
 use std::fmt;
 use std::process::Abort;
@@ -118,7 +119,28 @@ fn tells_why_a_text_is_not_corrected(rt: HostRuntime) {
             CorrectError::from(ChecksumError::InvalidLength),
             "invalid checksum: the checksummed string is not a valid length",
         ),
+        (
+            CorrectError::Refused(CheckedHrpstringError::Parse(parse)),
+            "parse failed: character error: mixed-case strings not allowed",
+        ),
+        (
+            CorrectError::Refused(CheckedHrpstringError::Checksum(ChecksumError::InvalidLength)),
+            "invalid checksum: the checksummed string is not a valid length",
+        ),
         (CorrectError::Memory, "out of memory"),
+    ] {
+        same(&rt, &shown(rt.alloc(), &error).as_str(), &message);
+    }
+}
+
+#[test]
+fn tells_why_edits_are_not_told(rt: HostRuntime) {
+    for (error, message) in [
+        (
+            EditsError::Refused(UncheckedHrpstringError::Char(CharError::MixedCase)),
+            "character error: mixed-case strings not allowed",
+        ),
+        (EditsError::Memory, "out of memory"),
     ] {
         same(&rt, &shown(rt.alloc(), &error).as_str(), &message);
     }

@@ -249,6 +249,10 @@ fn tells_what_is_wrong(rt: HostRuntime) {
             "encode error: encoded length 91 exceeds maximum (code length) 90",
         ),
         (
+            EncodeError::TooLong(SegwitCodeLengthError(91)),
+            "encode error: encoded length 91 exceeds maximum (code length) 90",
+        ),
+        (
             EncodeError::from(fmt::Error),
             "writing to formatter failed: an error occurred when formatting an argument",
         ),

@@ -133,3 +133,55 @@ fn arena_over_memory_that_is_out(rt: HostRuntime) {
     drop(block);
     same(&rt, &size_of_memory(lent.into_memory()), &Some(8192));
 }
+
+// Whether there is memory for each number of bytes up to a greatest one, and it comes back.
+fn has_all_up_to(lent: &Lent, most: usize) -> bool {
+    for count in 0..=most {
+        if !has_bytes(lent, count) {
+            return false;
+        }
+    }
+    true
+}
+
+#[test]
+fn gives_a_block_of_every_size(rt: HostRuntime) {
+    let lent = Lent::new(Memory::leaked(rt.alloc(), 65536).expect(&rt, "memory"));
+    let given = [has_all_up_to(&lent, 65536), has_bytes(&lent, 65537)];
+    same(&rt, &given, &[true, false]);
+    same(&rt, &size_of_memory(lent.into_memory()), &Some(65536));
+}
+
+// What memory of a size gives: all of it as a block, an arena over its pages, and it comes back.
+fn gives(alloc: Global, size: usize) -> Option<(bool, usize, usize)> {
+    let lent = Lent::new(Memory::leaked(alloc, size).ok()?);
+    let has_whole = has_numbers(&lent, size / 16);
+    let in_arena = lent.arena().chunk_capacity();
+    let back = size_of_memory(lent.into_memory())?;
+    Some((has_whole, in_arena, back))
+}
+
+// What it should give.
+fn wanted(size: usize) -> (bool, usize, usize) {
+    let pages = size.saturating_add(16) / 4096;
+    (true, (pages * 4096).saturating_sub(64), size)
+}
+
+// The first of some sizes at which it gives something else.
+fn first_fault(alloc: Global) -> Option<usize> {
+    for i in 0..=256usize {
+        let size = i * 256 + i % 16;
+        if gives(alloc, size) != Some(wanted(size)) {
+            return Some(size);
+        }
+    }
+    None
+}
+
+#[test]
+fn memory_of_many_sizes_gives_all_and_comes_back(rt: HostRuntime) {
+    same(&rt, &first_fault(rt.alloc()), &None);
+    for size in [100_000, 1 << 17, 1 << 23] {
+        same(&rt, &gives(rt.alloc(), size), &Some(wanted(size)));
+    }
+}

@@ -3,6 +3,7 @@
 use crate::tests::compare::same;
 use bech32_checksum::{Bech32, Bech32m};
 use bech32_detect::detects_four;
+use std::alloc::Global;
 use testing_tools::codes::{Degree8, Degree13, Tiny};
 
 // BIP-173, Checksum design, of Bech32; Bech32m has the same generator (BIP-350).
@@ -37,4 +38,21 @@ fn below_the_degree(rt: HostRuntime) {
         detects_four::<Degree13<93>>(rt.alloc(), 4).ok(),
     ];
     same(&rt, &answers, &[Some(true); 2]);
+}
+
+// The first of some lengths at which a checksum of degree 2 is out of memory, or does not detect
+// four errors just where there are at most two characters. `tools/every-length` tries each.
+fn first_fault(alloc: Global) -> Option<usize> {
+    for i in 0..65usize {
+        let length = 16 * i;
+        if detects_four::<Tiny<2>>(alloc, length).ok() != Some(length <= 2) {
+            return Some(length);
+        }
+    }
+    None
+}
+
+#[test]
+fn at_many_lengths(rt: HostRuntime) {
+    same(&rt, &first_fault(rt.alloc()), &None);
 }

@@ -57,6 +57,11 @@ fn tells_why_a_text_is_no_address(rt: HostRuntime) {
             ChecksumError::InvalidLength.into(),
             "invalid checksum: the checksummed string is not a valid length",
         ),
+        (
+            SegwitHrpstringError::Checksum(ChecksumError::InvalidLength),
+            "invalid checksum: the checksummed string is not a valid length",
+        ),
+        (SegwitHrpstringError::Memory, "out of memory"),
     ]
     .iter()
     {
