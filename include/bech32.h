@@ -1,24 +1,27 @@
 /*
- * Bech32 (BIP-173) and Bech32m (BIP-350): texts and segwit addresses, written and read.
+ * Bech32 (BIP-173) and Bech32m (BIP-350): texts and segwit addresses, written, read and mended.
  *
- * The library is proved: each function does what is said here of every input, ends, and reads and
- * writes no memory but the caller's, within the lengths that are given. It takes no memory but what a
- * caller lends to bech32_nearest and bech32_near_edits, keeps nothing between calls, and needs no
- * start-up; it calls memcpy, memmove and memset alone. Any number of threads may call it.
+ * The library is proved: for every input each function does what is said here, ends, and reads and
+ * writes no memory but the caller's, within the lengths that are given. Where something is tested and
+ * not proved, this says so. The library takes no memory but what a caller lends to bech32_nearest and
+ * bech32_near_edits, keeps nothing between calls, and needs no start-up; it calls memcpy, memmove and
+ * memset alone. Any number of threads may call it.
  *
- * Each function answers BECH32_OK, or the number of a refusal (below). On a refusal it writes
- * nothing, but for the place of bech32_fault, what stands in lent memory, and what is said of
- * bech32_nearest and bech32_near_edits: the buffers and the lengths stay as they were. Else what it
- * writes stands at the front of the buffer, and the bytes behind it stay as they were. Nothing is ended
- * by a zero byte.
+ * Each function returns BECH32_OK, or the number of a refusal (below). On a refusal it writes nothing:
+ * the buffers and the lengths stay as they were. The exceptions are the place of bech32_fault, lent
+ * memory, and what is said at bech32_nearest and bech32_near_edits. Otherwise the output stands at the
+ * front of the buffer, and the bytes behind it stay as they were. No output ends in a zero byte.
+ *
+ * All texts are written in lower case, those mended from text in upper case too. To give them back in
+ * upper case, change `a` to `z` into `A` to `Z`: the checksum accepts both.
  *
  * A buffer is a pointer and the number of bytes it has room for. A pointer beside a length or a room of
- * 0 is not followed, and may be null; no other pointer may be, and nothing that a function writes to may
- * overlap with anything else that it is given. These two, that the lengths are true, and what is said of
- * lent memory, are all that a caller owes.
+ * 0 is not followed, and may be null; no other pointer may be. Nothing that a function writes to may
+ * overlap with anything else that it is given. These two rules, true lengths, and what is said of lent
+ * memory are all that a caller owes.
  *
- * Lengths are in bytes, which are characters where the text is accepted or written. The C file of the
- * library, where it tests each access (MACHINE_IS_TESTED), refuses a text, a human-readable part or
+ * Lengths are in bytes; in a text that is accepted or written these are characters. The C file of the
+ * library, if it tests each access (MACHINE_IS_TESTED), refuses a text, a human-readable part or
  * elements of 2^32 bytes or more with BECH32_NO_MEMORY, before all else.
  *
  * This describes the version of the library that BECH32_VERSION names, which is that of the file
@@ -45,7 +48,7 @@ extern "C" {
 #define BECH32_BECH32 1u  /* BIP-173 */
 #define BECH32_BECH32M 2u /* BIP-350 */
 
-/* The remainders of right texts, as bech32_residue gives them. */
+/* The remainders of valid texts, as bech32_residue gives them. */
 #define BECH32_TARGET 1u
 #define BECH32M_TARGET 0x2bc830a3u
 
@@ -66,7 +69,7 @@ extern "C" {
 #define BECH32_LEFT_OUT 2u /* the character at location is left out */
 #define BECH32_PUT_IN 3u   /* a character is put in, and then stands at location */
 
-/* So many of them are usually enough room in bech32_near_edits: seldom more than two are found. */
+/* Room for this many edits is usually enough in bech32_near_edits: it seldom finds more than two. */
 #define BECH32_NEAR_EDITS 8u
 
 /* Answers. */
@@ -109,7 +112,7 @@ extern "C" {
  */
 uint32_t bech32_message(uint32_t number, uint8_t *message, size_t message_room, size_t *message_length);
 
-/* The version of the library that is linked: BECH32_VERSION_NUMBER where it is that of this header. */
+/* The version of the library that is linked: BECH32_VERSION_NUMBER if it is that of this header. */
 uint32_t bech32_version(void);
 
 /*
@@ -128,6 +131,10 @@ uint32_t bech32_encode(uint32_t checksum, const uint8_t *hrp, size_t hrp_length,
  * is put into `hrp`, and its bytes into `bytes`; *hrp_length and *bytes_length are their lengths. Bits
  * behind the last whole byte are dropped.
  *
+ * Decode an address by bech32_segwit_decode, not by this. The first element of an address is its
+ * witness version, so this puts the program shifted by five bits. That looks like a hash, but it is not
+ * the program.
+ *
  * Refusals, the first that applies: 2; 21, 22, 23, 11 to 15; 31, 32, 33; 92.
  */
 uint32_t bech32_decode(const uint8_t *text, size_t text_length, uint8_t *hrp, size_t hrp_room,
@@ -145,21 +152,26 @@ uint32_t bech32_check(uint32_t checksum, const uint8_t *text, size_t text_length
                       size_t *hrp_length, size_t *data_length);
 
 /*
- * Answers what bech32_check answers to a text, and where its fault stands, as a place in bytes from 0:
- *   13, 14    *place is that of the first character that may not stand in a human-readable part;
- *   21        that of the last character behind the separator that may not stand there (of the whole
- *             text, where it has no separator); of a character of several bytes it is the first;
- *   22        that of the first letter with one of the other case before it;
+ * Returns what bech32_check returns for a text, and says where the fault is.
+ *
+ * With four numbers one character is at fault, and *place, which is less than text_length, is where it
+ * begins, in bytes from 0:
+ *   13, 14    the first character that may not stand in a human-readable part;
+ *   21        the last character behind the separator that may not stand there (of the whole text, if it
+ *             has no separator);
+ *   22        the first letter with one of the other case before it.
+ * With the others no single character is at fault, and *place is a length. Show no place to people: with
+ * 23 and 31 to 33 it would be one behind the end of the text.
  *   11, 12    the length of the human-readable part;
  *   23, 31 to 33    the length of the text.
- * Of 0, 2 and 4 *place stays as it was. Of a text that bech32_decode or bech32_segwit_decode refuses
- * by 11 to 14 or 21 to 23, this answers the same number, by either checksum.
+ * With 0, 2 and 4 *place stays as it was. If bech32_decode or bech32_segwit_decode refuses a text with 11
+ * to 14 or 21 to 23, this returns the same number, by either checksum.
  */
 uint32_t bech32_fault(uint32_t checksum, const uint8_t *text, size_t text_length, size_t *place);
 
 /*
- * Encodes a segwit address of a witness version (0 to 16) and a program, in version 0 by Bech32 and
- * else by Bech32m. It is put into `text`, in lower case, and *text_length is its length.
+ * Encodes a segwit address of a witness version (0 to 16) and a program: version 0 by Bech32, the others
+ * by Bech32m. It is put into `text`, in lower case, and *text_length is its length.
  *
  * Refusals, the first that applies: 4 (a version above 31), 2, 11 to 15, 52, 46, 47, 48, 53, 92.
  */
@@ -170,8 +182,7 @@ uint32_t bech32_segwit_encode(const uint8_t *hrp, size_t hrp_length, uint32_t ve
 /*
  * Decodes a segwit address. Its human-readable part, in the case of the text, is put into `hrp`, and
  * its program into `program`; *hrp_length and *program_length are their lengths, and *version is the
- * witness version. Any human-readable part is accepted: the caller compares it with the one of its
- * network.
+ * witness version. Any human-readable part is accepted: compare it with that of your network.
  *
  * Refusals, the first that applies: 2; 41; 21, 22, 23, 11 to 15; 42, 43; 32, 33; 42, 44 to 48; 92.
  */
@@ -182,10 +193,9 @@ uint32_t bech32_segwit_decode(const uint8_t *text, size_t text_length, uint8_t *
 /*
  * Feeds elements, a byte from 0 to 31 each, to the engine of a checksum (BECH32_BECH32 or
  * BECH32_BECH32M). *residue is then the remainder of the polynomial 1 with the elements behind it,
- * the first the highest: six coefficients, five bits each, the constant term lowest. Where the
- * elements are those of a right text, with those of its human-readable part before them (the high
- * three bits of each byte in lower case, a zero, the low five bits of each), it is BECH32_TARGET or
- * BECH32M_TARGET.
+ * the first the highest: six coefficients, five bits each, the constant term lowest. For the elements of
+ * a valid text, with those of its human-readable part before them (the high three bits of each byte in
+ * lower case, a zero, the low five bits of each), it is BECH32_TARGET or BECH32M_TARGET.
  *
  * Refusals: 4.
  */
@@ -194,15 +204,16 @@ uint32_t bech32_residue(uint32_t checksum, const uint8_t *elements, size_t eleme
 
 /*
  * Mends a mistyped text by a checksum (BECH32_BECH32 or BECH32_BECH32M). `erasures` are the locations
- * of characters that are known to be wrong; location 0 is the last character. Where the checksum
- * accepts the text, *count is 0. Else *count locations are put into `locations`, each erasure once and
- * in the order given, then those of the other errors, and the elements to add there, from 0 to 31
- * each, into `values`: to add elements is to take the exclusive or of their five bits. The text in
- * lower case, with them added, is put into `mended`; *mended_length is its length, which is
- * text_length. locations_room and values_room are numbers of items: BECH32_MAX_LISTED are enough.
+ * of characters that are known to be wrong; location 0 is the last character. If the checksum accepts
+ * the text, *count is 0. Else *count locations are put into `locations`, each erasure once and in the
+ * order given, then those of the other errors, and the elements to add there, from 0 to 31 each, into
+ * `values`: to add elements is to take the exclusive or of their five bits. The text with them added, in
+ * lower case, is put into `mended`; *mended_length is its length, which is text_length. locations_room
+ * and values_room are numbers of items: BECH32_MAX_LISTED are enough.
  *
- * It is the one correction of the data part where twice the errors outside the erasures, with the
- * erasures, are three at most. It may not be what was meant: show it, and ask.
+ * It finds the correction of the data part in which twice the number of errors outside the erasures, plus
+ * the number of erasures, is at most three: there is at most one. It may not be what was meant: show it,
+ * and ask.
  *
  * Refusals, the first that applies: 4; 2; 21, 22, 23, 11 to 15; 31, 32; 34 (there is no such correction,
  * or an erasure is not in the data part); 92.
@@ -214,12 +225,14 @@ uint32_t bech32_correct(uint32_t checksum, const uint8_t *text, size_t text_leng
 
 /*
  * Memory that a function may use: `size` bytes from `start` on, aligned to 16 bytes, in which the caller
- * keeps nothing. Afterwards it is the caller's again, and this the same, with every number but 91. With
- * 91 it is so too, or the function keeps the memory, and `size` is 0. That it never keeps it, and that
- * 91 never comes where as many bytes are lent as is stated below, no proof says. It is tested:
- * tools/every-length lent and tools/nearest make calls at every length, each with just so many bytes, and
- * lists_or_wants_memory and lists_edits_or_wants_memory of bech32_c and proposes_or_wants_memory of
- * codex32_c with fewer.
+ * keeps nothing. With every number but 91 the memory is the caller's again afterwards, and this is
+ * unchanged. With 91 that is so too, or `size` was not 0 and the function keeps the memory and sets it
+ * to 0.
+ *
+ * Tested, and not proved: that no function ever keeps the memory, and that none returns 91 if as many
+ * bytes are lent as is stated below. tools/every-length lent and tools/nearest make calls at every length,
+ * each with exactly that many bytes; the tests lists_or_wants_memory and lists_edits_or_wants_memory of
+ * bech32_c, and proposes_or_wants_memory of codex32_c, lend fewer.
  */
 typedef struct {
     uint8_t *start;
@@ -227,14 +240,16 @@ typedef struct {
 } bech32_memory;
 
 /*
- * So many texts are near at most, and so many bytes suffice, for every text of that length, whatever the
- * checksum, the erasures and the errors. At 90 characters these are 460 texts and 423 kilobytes.
+ * The most near texts that any text of a length has, and the bytes that suffice for it, whatever the
+ * checksum, the erasures and the errors: 460 texts and 423 kilobytes at 90 characters. These figures, and
+ * those of the next two comments, are computed and tested, not proved: tools/nearest_check/most.c computes
+ * the most texts at each length, and tools/nearest lists them in exactly this memory and room. Proved is
+ * that without erasures there is one text at most, or at most text_length / 2.
  *
- * From 135 characters on the numbers are great, 860 megabytes at 1,023: beside three erasures that are 33
- * locations apart, a text that is accepted with other characters there has so many near texts. With most
- * others it has text_length * text_length / 68. It is enough to lend less, and more where that does not
- * suffice. tools/nearest_check/most.c computes the most texts at each length, and tools/nearest lists
- * them in just so much memory and room.
+ * From 135 characters on the figures are large, 860 megabytes at 1,023: beside three erasures that are 33
+ * locations apart, a text that is accepted with other characters there has that many near texts. Beside
+ * most other erasures it has text_length * text_length / 68. You may lend less, and call again with more
+ * if that does not suffice.
  */
 #define BECH32_NEAREST_TEXTS(text_length)                             \
     (64u + 3u * (text_length) + (text_length) * (text_length) / 64u + \
@@ -248,8 +263,8 @@ typedef struct {
                                 (((text_length) - 3u) / 33u - 3u))
 
 /*
- * The same for what has few texts, which is what may be shown to people: two errors with up to two
- * erasures in up to 90 characters, and with one in longer texts; one error with three.
+ * The same for searches with few results, which are the ones to show to people: two errors with up to two
+ * erasures in up to 90 characters, two errors with one erasure in longer texts, one error with three.
  */
 #define BECH32_NEAREST_FEW_TEXTS(text_length) (20u + ((text_length) > 90u ? (text_length) : 0u))
 #define BECH32_NEAREST_FEW_MEMORY(text_length) \
@@ -263,18 +278,23 @@ typedef struct {
  * Lists the texts near to a mistyped one: all that a checksum (BECH32_BECH32 or BECH32_BECH32M) accepts
  * and that differ from it in at most `errors` characters of the data part, 0 to BECH32_MAX_ERRORS, outside
  * `erasures`. These are the locations of at most three characters that are known to be wrong; location 0
- * is the last character. Where there are more, or one is not in the data part, no text is near.
+ * is the last character. If there are more, or one is not in the data part, no text is near.
  *
  * The texts, in lower case, are put into `texts` one behind another: *count texts of text_length bytes
- * each. *count may be 0. Where they do not all fit (92), *count is the number of all, so that *count times
- * text_length is the room that all take, and the first of them, texts_room / text_length whole ones, are
- * put. Where the checksum accepts the text, it is itself the first. Without erasures there is at most one
- * where the data part has up to 89 characters, as in each segwit address: the right one, if no more than
- * `errors` of its characters are wrong. With them, or in longer texts, there may be many. None may be what
- * was meant: show them, and ask.
+ * each. *count may be 0. If they do not all fit (92), *count is the number of all, so *count times
+ * text_length is the room that all take, and the first texts_room / text_length of them are put.
  *
- * Milliseconds of a call, where the wrong characters stand anywhere (at 2.5 GHz, the least of several),
- * and how many texts there are beside two and three erasures:
+ * Their order goes by the changes outside the erasures, from the highest location down: the text whose
+ * highest location is lower comes first; of two with the same, the one with the lower value added there;
+ * then likewise by the next location. A text without such changes is the first of all: if the checksum
+ * accepts the mistyped text, that is this text itself.
+ *
+ * Without erasures and with up to 89 characters in the data part, as in each segwit address, there is at
+ * most one text: the right one, if no more than `errors` of its characters are wrong. With erasures, or in
+ * longer texts, there may be many. It may be that none is what was meant: show them, and ask.
+ *
+ * Milliseconds of a call with wrong characters anywhere (at 2.5 GHz, the least of several), and how many
+ * texts there are beside two and three erasures:
  *
  *                 one error, erasures   | two errors, erasures         | texts, erasures
  *     characters     0, 1     2      3  |     0      1      2      3   |     2        3
@@ -288,37 +308,41 @@ typedef struct {
  * The most texts that there are (above) take 0.7 ms at 92 characters, 55 at 400, and 750 at 1,000.
  *
  * Refusals, the first that applies: 4; 2; 21, 22, 23, 11 to 15; 31, 32; 92; and 91 in place of 0 or 92
- * where `memory` does not suffice. Where the function keeps the memory (above), `texts` may have
- * changed; with every other refusal but 92, and with every other 91, it is as it was.
+ * where `memory` does not suffice. If the function keeps the memory (above), `texts` may have changed;
+ * with every other refusal but 92, and with every other 91, it is as it was.
+ *
+ * Such a 91 never comes with more than three different erasures, nor with one that is not in the data
+ * part. If twice `errors` plus the number of different erasures is at most three, it comes only where
+ * there is such a text. With more, memory may be needed before any text is found.
  */
 uint32_t bech32_nearest(uint32_t checksum, const uint8_t *text, size_t text_length,
                         const size_t *erasures, size_t erasures_length, size_t errors,
                         bech32_memory *memory, uint8_t *texts, size_t texts_room, size_t *count);
 
-/* So many bytes suffice for BECH32_NEAR_EDITS edits of a text; for more, lend more. */
+/* These bytes suffice for BECH32_NEAR_EDITS edits of a text; for more edits, lend more. */
 #define BECH32_NEAR_EDITS_MEMORY(text_length) (4096u + 16u * (text_length))
 
 /*
- * Lists the texts other than this one that one edit makes of it, and that a checksum (BECH32_BECH32 or
- * BECH32_BECH32M) accepts: two neighbours of the data part are swapped, one of its characters is left
- * out, or one is put in. The text need only be in the grammar: one may be mended that is too short for a
- * checksum, or too long, by one character.
+ * Lists the other texts that one edit makes of a text and that a checksum (BECH32_BECH32 or BECH32_BECH32M)
+ * accepts: two neighbours of the data part are swapped, one of its characters is left out, or one is put
+ * in. The text need only be in the grammar: one that is too short for a checksum by one character, or too
+ * long by one, can be mended too.
  *
- * *count, which may be 0, is their number. Of each what is done (BECH32_SWAPPED, BECH32_LEFT_OUT or
+ * *count, which may be 0, is their number. For each, what is done (BECH32_SWAPPED, BECH32_LEFT_OUT or
  * BECH32_PUT_IN) is put into `kinds`, and where into `locations`: location 0 is the last character, of this
- * text for one that is swapped or left out, of the new one for one that is put in. The new texts, in lower
- * case, are put into `texts` one behind another: each has text_length bytes where two are swapped, one less
- * where a character is left out, one more where one is put in. Swaps come first, then what leaves a
- * character out, then what puts one in; in each kind the locations rise. Each text stands once: of a run of
- * the same characters the last is left out, and one is put in behind a run of the same.
+ * text for a swap or a character left out, of the new text for a character put in. The new texts, in lower
+ * case, are put into `texts` one behind another: each has text_length bytes after a swap, one less if a
+ * character is left out, one more if one is put in. Swaps come first, then what leaves a character out, then
+ * what puts one in; in each kind the locations rise. Each text is listed once: of a run of equal characters
+ * the last is left out, and an equal one is put in behind the run.
  *
- * Where they do not all fit (92), *count is the number of all, and the first of them are put, as many as
- * all three buffers have room for. kinds_room and locations_room are numbers of items; *count times
- * (text_length + 1) bytes are always enough for `texts`. None may be what was meant: show them, and ask.
- * By BECH32_BECH32 a text that ends in `p` is accepted with any number of `q` before that, too.
+ * If they do not all fit (92), *count is the number of all, and the first of them are put, as many as all
+ * three buffers have room for. kinds_room and locations_room are numbers of items; *count times
+ * (text_length + 1) bytes are always enough for `texts`. It may be that none is what was meant: show them,
+ * and ask. BECH32_BECH32 accepts a text that ends in `p` with any number of `q` before the `p` as well.
  *
  * Refusals, the first that applies: 4; 2; 21, 22, 23, 11 to 15; 92; and 91 in place of 0 or 92 where
- * `memory` does not suffice. None is wanted where *count is 0. Where the function keeps the memory
+ * `memory` does not suffice. No memory is needed where *count is 0. If the function keeps the memory
  * (above), the buffers may have changed; with every other refusal but 92, and with every other 91, they
  * are as they were.
  */

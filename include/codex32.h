@@ -1,21 +1,25 @@
 /*
- * Codex32 (BIP-93): strings and shares, read, made and derived, the secret from shares, and the nearest
- * text to a damaged one.
+ * Codex32 (BIP-93): reads, makes and derives strings and shares, recovers the secret from shares, and
+ * proposes the nearest string to a damaged one.
  *
- * The library is proved: each function does what is said here of every input, ends, and reads and
- * writes no memory but the caller's, within the lengths that are given. It takes no memory but what a
- * caller lends it, keeps nothing between calls, and needs no start-up; it calls memcpy, memmove and
- * memset alone. Any number of threads may call it.
+ * The library is proved: for every input each function does what is said here, ends, and reads and
+ * writes no memory but the caller's, within the lengths that are given. Where something is tested and
+ * not proved, this says so. The library takes no memory but what a caller lends it, keeps nothing
+ * between calls, and needs no start-up; it calls memcpy, memmove and memset alone. Any number of threads
+ * may call it.
  *
- * Each function answers CODEX32_OK, or the number of a refusal (below). On a refusal it writes
- * nothing but what stands in lent memory. Else what it writes stands at the front of the buffer, and
- * the bytes behind it stay as they were. Nothing is ended by a zero byte.
+ * Each function returns CODEX32_OK, or the number of a refusal (below). On a refusal it writes
+ * nothing but lent memory. Otherwise the output stands at the front of the buffer, and the bytes behind
+ * it stay as they were. No output ends in a zero byte.
  *
- * A pointer beside a length or a room of 0 is not followed, and may be null; no other pointer may be,
- * and nothing that a function writes to may overlap with anything else that it is given. These two,
- * that the lengths are true, and what is said of lent memory, are all that a caller owes. The C file of
- * the library, where it tests each access (MACHINE_IS_TESTED), refuses a text or a payload of 2^32 bytes
- * or more with CODEX32_NO_MEMORY, before all else.
+ * All strings are written in lower case, those proposed for a string in upper case too. To give them
+ * back in upper case, change `a` to `z` into `A` to `Z`: the checksum accepts both.
+ *
+ * A pointer beside a length or a room of 0 is not followed, and may be null; no other pointer may be.
+ * Nothing that a function writes to may overlap with anything else that it is given. These two rules,
+ * true lengths, and what is said of lent memory are all that a caller owes. The C file of the library,
+ * if it tests each access (MACHINE_IS_TESTED), refuses a text or a payload of 2^32 bytes or more with
+ * CODEX32_NO_MEMORY, before all else.
  *
  * This describes the version of the library that CODEX32_VERSION names, which is that of the file
  * VERSION and of the packages over it.
@@ -44,14 +48,14 @@ extern "C" {
 #define CODEX32_MIN_LONG_TEXT 125u
 #define CODEX32_MAX_LONG_TEXT 127u
 
-/* Rooms that suffice: for the text of a string of either length, and for the bytes of its payload. */
+/* Enough room: for the text of a string of either length, and for the bytes of its payload. */
 #define CODEX32_TEXT_SIZE 127u
 #define CODEX32_BYTES_SIZE 64u
 
-/* A room that suffices for the sentence of a refusal. */
+/* Enough room for the sentence of a refusal. */
 #define CODEX32_MAX_MESSAGE 100u
 
-/* The length of the string of so many bytes, 16 to 44, or 63 or 64. */
+/* The length of the string of bytes_length bytes, 16 to 44, or 63 or 64. */
 #define CODEX32_ENCODED_SIZE(bytes_length)                                                         \
     (9u + (8u * (bytes_length) + 4u) / 5u + ((bytes_length) <= 44u ? 13u : 15u))
 
@@ -108,7 +112,7 @@ extern "C" {
  */
 uint32_t codex32_message(uint32_t number, uint8_t *message, size_t message_room, size_t *message_length);
 
-/* The version of the library that is linked: CODEX32_VERSION_NUMBER where it is that of this header. */
+/* The version of the library that is linked: CODEX32_VERSION_NUMBER if it is that of this header. */
 uint32_t codex32_version(void);
 
 /*
@@ -126,12 +130,12 @@ uint32_t codex32_parse(const uint8_t *text, size_t text_length, uint32_t *thresh
  * Reads a string of either length, 48 to 93 characters or 125 to 127: a share, or the secret at the index
  * `s` (BIP-93, codex32 and Long codex32 Strings). *threshold is its threshold, 0 or from 2 to 9;
  * `identifier` gets the four characters of its identifier, and *share_index that of its share index, in
- * lower case. The bytes of its payload are put into `bytes`, and *bytes_length is how many they are, 16 to
- * 44 or 63 or 64: CODEX32_BYTES_SIZE suffices. Up to four bits left over behind them, whatever they are,
- * are left out (BIP-93, Unshared Secret).
+ * lower case. The bytes of its payload are put into `bytes`, and *bytes_length is their number, 16 to 44 or
+ * 63 or 64: CODEX32_BYTES_SIZE suffices. Up to four bits left over behind them, whatever they are, are left
+ * out (BIP-93, Unshared Secret).
  *
- * The time that it takes, and which memory it reads, depend on the text. Nothing of it is kept, but
- * `bytes` is the secret, or a part of it: wipe it, and the text, when you are done.
+ * The time of the call, and which memory it reads, depend on the text. The library keeps nothing of it, but
+ * `bytes` is the secret, or a share of it: wipe it, and the text, when you are done.
  *
  * Refusals, the first that applies: 2; 21, 22, 23, 11 to 15; 82; 81; 33; 83; 84; 87; 92.
  */
@@ -147,11 +151,15 @@ uint32_t codex32_share(const uint8_t *text, size_t text_length, uint32_t *thresh
  * *text_length is its length, CODEX32_ENCODED_SIZE(bytes_length): CODEX32_TEXT_SIZE suffices. The bits left
  * over are zero.
  *
- * To share a secret, make its own string, at `s`, and one string fewer than the threshold at random, each at
- * another index, by codex32_encode_payload; codex32_derive makes the others of these. A string that is made
- * at random for sharing is made by that function and not of random bytes by this, since bits left over that
- * are zero tell a little of the secret to who has derived shares: at most three bits of 16 bytes, one of 32,
- * two of 64, none where the bytes fill whole characters.
+ * To split a secret, make its own string, at `s`, by this function, and one random string fewer than the
+ * threshold, each at another index, by codex32_encode_payload; codex32_derive makes the other shares from
+ * these.
+ *
+ * Don't make the random strings from random bytes by this function. The bits left over are zero, and that
+ * tells anyone who holds one share fewer than the threshold up to four bits of the end of the secret: as many
+ * as its last character holds (8 times the number of bytes, modulo 5), and at most threshold - 1 times the
+ * number of bits left over. These are one bit of 32 bytes, two of 64, three of 16 (two at threshold 2), four of
+ * 18, 23, 28, 33, 38, 43 or 63 from threshold 5 on, and none if the bytes fill whole characters.
  *
  * Refusals, the first that applies: 83, 85, 86, 84, 55, 92.
  */
@@ -162,14 +170,14 @@ uint32_t codex32_encode(uint32_t threshold, const uint8_t *identifier, size_t id
 /*
  * Makes the string of a header and the characters of a payload, in lower case. The header is given as to
  * codex32_encode. The payload's characters are of the alphabet, in one case, and 26 to 71 of them make a
- * string of 48 to 93, 101 or 103 a long one: as many as 16 to 44 bytes, 63 or 64 have, at most four bits
- * being left over, whatever they are. The string is put into `text`, and *text_length is its length,
+ * string of 48 to 93, 101 or 103 a long one: as many as 16 to 44 bytes, 63 or 64 have. At most four bits
+ * are left over, whatever they are. The string is put into `text`, and *text_length is its length,
  * CODEX32_PAYLOAD_AT + payload_length + 13, or of a long one + 15: CODEX32_TEXT_SIZE suffices.
  *
- * This makes the strings at random that a secret is shared with: of characters that are random, all 32 of
- * the alphabet equally likely, as many as the secret's own string has, and with the same threshold and
- * identifier. No randomness is here: take it from the operating system, and for each character the lowest
- * five bits of a random byte.
+ * Use it to make the random strings that a secret is split with: of as many characters as the payload of the
+ * secret's own string has, each drawn from all 32 of the alphabet with equal chance, and with the same
+ * threshold and identifier. The library draws no random numbers: take them from the operating system, and
+ * for each character the lowest five bits of a random byte.
  *
  * Refusals, the first that applies: 83, 85, 86, 84; of the payload 21, 22, 55; 92.
  */
@@ -181,10 +189,10 @@ uint32_t codex32_encode_payload(uint32_t threshold, const uint8_t *identifier, s
  * Derives the string at an index from others of its set, in lower case (BIP-93, Recovering Secret): at
  * CODEX32_SECRET_INDEX the secret. `share_index` is a character of the alphabet in either case. The texts
  * stand one behind another in `texts`, `count` of them, at most CODEX32_MAX_SHARES, and `lengths` are
- * theirs, which add up to texts_length. They have the same threshold, identifier and length, each another
- * index, and are as many as the threshold at least; with the threshold 0 the one string is the secret.
- * All are tested where there are more than the threshold. The string is put into `text`, and *text_length
- * is its length, that of each: CODEX32_TEXT_SIZE suffices.
+ * theirs, which add up to texts_length. They have the same threshold, identifier and length, and each
+ * another index; there are at least as many as the threshold. With the threshold 0 the one string is the
+ * secret. If there are more than the threshold, all are tested. The string is put into `text`, and
+ * *text_length is its length, that of each: CODEX32_TEXT_SIZE suffices.
  *
  * Refusals, the first that applies: 4; 86; of the texts in their order 2; 21, 22, 23, 11 to 15; 82; 81;
  * 33; 83; 84; then 62, 63, 84, 61, 64; 92.
@@ -195,27 +203,30 @@ uint32_t codex32_derive(uint32_t share_index, const uint8_t *texts, size_t texts
 
 /*
  * Memory that a function may use: `size` bytes from `start` on, aligned to 16 bytes, in which the caller
- * keeps nothing. Afterwards it is the caller's again, and this the same, with every number but 91. With
- * 91 it is so too, or the function keeps the memory, and `size` is 0. That it never keeps it, and that
- * 91 never comes where as many bytes are lent as is stated below, no proof says. It is tested:
- * tools/every-length lent makes calls at every length, each with just so many bytes, and
- * lists_or_wants_memory of bech32_c and proposes_or_wants_memory of codex32_c with fewer.
+ * keeps nothing. With every number but 91 the memory is the caller's again afterwards, and this is
+ * unchanged. With 91 that is so too, or `size` was not 0 and the function keeps the memory and sets it
+ * to 0.
+ *
+ * Tested, and not proved: that no function ever keeps the memory, and that none returns 91 if as many
+ * bytes are lent as is stated below. tools/every-length lent makes calls at every length, each with exactly
+ * that many bytes; the tests lists_or_wants_memory of bech32_c and names_the_least_memory of codex32_c
+ * lend fewer.
  */
 typedef struct {
     uint8_t *start;
     size_t size;
 } codex32_memory;
 
-/* So many bytes suffice for a text of so many bytes. */
+/* The bytes that suffice for a text of text_length bytes. */
 #define CODEX32_MEMORY(text_length) (16384u + 8u * (text_length))
 
 /*
  * Proposes the nearest text to a damaged codex32 string, in which each `?` behind the last `1` is a
- * character that cannot be read. It is the text in lower case with the same human-readable part and
- * length whose checksum is right, where twice the number of changed characters, with the number of the
- * unreadable ones, is at most 8; there is at most one. It is put into `proposed`, and *proposed_length is
- * its length, that of the text. It may not be what was meant: show it, and ask. Neither threshold nor
- * share index is tested.
+ * character that cannot be read. It has the same human-readable part and length, its checksum is right,
+ * and twice the number of changed characters, plus the number of unreadable ones, is at most 8; there is at
+ * most one such text. It is put into `proposed`, in lower case, and *proposed_length is its length, that of
+ * the damaged text. It may not be what was meant: show it, and ask. Neither threshold nor share index is
+ * tested.
  *
  * Refusals, the first that applies: 2; 21, 22, 23, 11 to 15; 82; 81; 34; 92; and 91 in place of 0, 34 or
  * 92 where `memory` does not suffice. With every refusal, 91 too, `proposed` is as it was.
@@ -224,8 +235,8 @@ uint32_t codex32_propose(const uint8_t *text, size_t text_length, codex32_memory
                          uint8_t *proposed, size_t proposed_room, size_t *proposed_length);
 
 /*
- * Proposes the nearest text to a damaged long string, of 125 to 127 characters, as codex32_propose has it, by
- * the checksum of long strings (BIP-93, Long codex32 Strings).
+ * Proposes the nearest text to a damaged long string, of 125 to 127 characters, within the bounds of
+ * codex32_propose, by the checksum of long strings (BIP-93, Long codex32 Strings).
  *
  * Refusals, the first that applies: 2; 21, 22, 23, 11 to 15; 82; 81; 34; 92; and 91 in place of 0, 34 or
  * 92 where `memory` does not suffice.

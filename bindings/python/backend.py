@@ -1,7 +1,7 @@
 """Builds the wheel of the source package: pip calls build_wheel.
 
-A C compiler (cc, or $CC) makes of bech32.c and codex32.c, in the folder c, the shared libraries that the package loads.
-Nothing but it and Python's own library is wanted, and no network.
+A C compiler (cc, or $CC) makes the shared libraries that the package loads from bech32.c and codex32.c in the folder c.
+Needs nothing but it and Python's own library, and no network.
 """
 
 import base64
@@ -36,7 +36,7 @@ def _shared(name, work):
     try:
         subprocess.run(words, check=True)
     except FileNotFoundError:
-        sys.exit(f"There is no C compiler {compiler[0]}, of which this package wants one: install it, or name one by CC.")
+        sys.exit(f"There is no C compiler {compiler[0]}, which this package needs: install one, or name one by CC.")
     return made.read_bytes()
 
 

@@ -62,7 +62,7 @@ fn archive(name: &str, object: &[u8]) -> Vec<u8> {
     all
 }
 
-// Compiles the C file of a library, and answers the folder that has the library.
+// Compiles the C file of a library, and returns the folder that has the library.
 fn compiled(name: &str, source: &Path, header: &Path) -> PathBuf {
     let target = env::var("TARGET").unwrap_or_default();
     let out = env::var_os("OUT_DIR").map_or_else(PathBuf::new, PathBuf::from);
@@ -94,9 +94,9 @@ fn compiled(name: &str, source: &Path, header: &Path) -> PathBuf {
         Ok(_) => stop(&[&format!("{by} does not compile {}.", source.display())]),
         Err(_) => stop(&[
             &format!(
-                "There is no C compiler {by}, which the target {target} wants: the library is"
+                "There is no C compiler {by}, which the target {target} needs: there the library is"
             ),
-            "compiled of C there. Install one, or name one by CC.",
+            "compiled from C. Install one, or name one by CC.",
         ]),
     }
     let library = out.join(if target.ends_with("msvc") {
@@ -144,9 +144,15 @@ fn folder_of(name: &str, top: &Path) -> PathBuf {
         stop(&[
             &format!("{} is not there.", library.display()),
             &format!(
-                "Run `rt lib` in crates/{name}_c, which proves and builds it, or name the folder"
+                "Run `rt lib` in crates/{name}_c, which proves and builds it, with the toolchain. Without it"
             ),
-            &format!("that holds {file} by the environment variable {variable}."),
+            &format!(
+                "set the environment variable {variable} to a folder that has a built {file},"
+            ),
+            &format!(
+                "or {} to the path of a {name}.c, as portable/build writes it.",
+                variable.replace("FOLDER", "SOURCE")
+            ),
         ]);
     }
     library.parent().unwrap_or(Path::new(".")).to_path_buf()

@@ -1,5 +1,5 @@
-/* Reads a codex32 string in its parts, refuses a damaged one, proposes the nearest text to it, and tests a
- * Bech32 text beside it: the two libraries go into one program. */
+/* Reads the parts of a codex32 string, refuses a damaged one, and proposes the nearest text to it. It also tests
+ * a Bech32 text: the two libraries go into one program. */
 #include <stdio.h>
 #include <string.h>
 

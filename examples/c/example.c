@@ -1,5 +1,6 @@
-/* Each function of bech32.h: encodes, decodes and tests texts, mends one, lists what is near to mistyped
- * ones, writes and reads addresses, feeds an engine, and says what a refusal means. */
+/* Each function of bech32.h: encodes, decodes and tests texts, mends one, lists the texts near to mistyped ones,
+ * writes and reads addresses, feeds an engine, and says what a refusal means. */
+#include <ctype.h>
 #include <stdio.h>
 #include <string.h>
 
@@ -10,6 +11,35 @@ static void put_refusal(FILE *out, const char *what, uint32_t number) {
     size_t message_length = 0;
     bech32_message(number, message, sizeof message, &message_length);
     fprintf(out, "%s: refusal %u, %.*s", what, (unsigned)number, (int)message_length, (char *)message);
+}
+
+/* Says why a text is refused, and where. With these four numbers one character is at fault, and bech32_fault
+ * gives its place. With the others it gives a length: print no place. */
+static void put_fault(const char *text) {
+    size_t hrp_length, data_length, place;
+    uint32_t number = bech32_check(BECH32_BECH32, (const uint8_t *)text, strlen(text), &hrp_length,
+                                   &data_length);
+    put_refusal(stdout, text, number);
+    if (number == BECH32_HRP_NOT_ASCII || number == BECH32_HRP_INVALID ||
+        number == BECH32_INVALID_CHARACTER || number == BECH32_MIXED_CASE) {
+        bech32_fault(BECH32_BECH32, (const uint8_t *)text, strlen(text), &place);
+        printf(": byte %u", (unsigned)place);
+    }
+    printf("\n");
+}
+
+static int has(const char *text, int (*is_one)(int)) {
+    while (*text != 0 && !is_one((unsigned char)*text)) {
+        text++;
+    }
+    return *text != 0;
+}
+
+/* The library writes lower case. A text that was typed in upper case is mended in upper case. */
+static void keep_case(const char *typed, uint8_t *text, size_t length) {
+    for (size_t i = 0; has(typed, isupper) && !has(typed, islower) && i < length; i++) {
+        text[i] = (uint8_t)toupper(text[i]);
+    }
 }
 
 /* Ends with a refusal that should not be. */
@@ -48,21 +78,16 @@ static int texts(void) {
     return 0;
 }
 
-/* Texts that are refused, where the fault of one stands, and how another is mended where its fourth
- * character from the end is doubtful. */
+/* Texts that are refused, and how another is mended whose fourth character from the end is doubtful. */
 static int corrections(void) {
     uint8_t mended[BECH32_MAX_TEXT], values[BECH32_MAX_LISTED];
-    size_t locations[BECH32_MAX_LISTED], count, mended_length, hrp_length, data_length, place;
+    size_t locations[BECH32_MAX_LISTED], count, mended_length;
     uint32_t number;
 
-    number = bech32_check(BECH32_BECH32, (const uint8_t *)"a12uel5m", 8, &hrp_length, &data_length);
-    put_refusal(stdout, "a12uel5m", number);
-    printf("\n");
-    number = bech32_fault(BECH32_BECH32, (const uint8_t *)"x1b4n0q5v", 9, &place);
-    put_refusal(stdout, "x1b4n0q5v", number);
-    printf(": byte %u\n", (unsigned)place);
+    put_fault("a12uel5m");
+    put_fault("x1b4n0q5v");
 
-    const char *mistyped = "a12uel5q";
+    const char *mistyped = "A12UEL5Q";
     const size_t erasures[] = {3};
     number = bech32_correct(BECH32_BECH32, (const uint8_t *)mistyped, strlen(mistyped), erasures, 1,
                             locations, BECH32_MAX_LISTED, values, BECH32_MAX_LISTED, &count, mended,
@@ -70,6 +95,7 @@ static int corrections(void) {
     if (number != BECH32_OK) {
         return refused("correct", number);
     }
+    keep_case(mistyped, mended, mended_length);
     printf("%s:", mistyped);
     for (size_t i = 0; i < count; i++) {
         printf(" %u at %u,", (unsigned)values[i], (unsigned)locations[i]);
@@ -78,8 +104,8 @@ static int corrections(void) {
     return 0;
 }
 
-/* The address that is near to one with two wrong characters, and the one that an edit makes of one in
- * which a character is missing, with what is done and where. The memory begins at a multiple of 16. */
+/* The address near to one with two wrong characters; and the address that an edit makes of one with a missing
+ * character, with what is done and where. The memory begins at a multiple of 16. */
 static int near_addresses(void) {
     static uint8_t bytes[BECH32_NEAREST_PLAIN_MEMORY(BECH32_MAX_SEGWIT_TEXT) + 15u];
     static const char *const done[] = {"", "swapped", "left out", "put in"};

@@ -1,6 +1,6 @@
-/* Shares a secret of 16 bytes, so that any two of three shares give it back, and recovers it of two (BIP-93,
- * Recovering Secret). A program that keeps secrets takes the random bytes from the operating system, and
- * wipes what it is done with by a function that no compiler leaves out; they are constant here. */
+/* Splits a secret of 16 bytes into three shares, any two of which recover it, and recovers it from two (BIP-93,
+ * Recovering Secret). The random bytes are constant here: a program that keeps secrets takes them from the
+ * operating system, and wipes what it is done with by a function that no compiler leaves out. */
 #include <stdio.h>
 #include <string.h>
 
@@ -13,7 +13,7 @@ typedef struct {
     size_t length;
 } Text;
 
-/* The string at an index that two others give. */
+/* Derives the string at an index from two others. */
 static uint32_t derive(uint32_t index, const Text *one, const Text *other, Text *derived) {
     uint8_t texts[2 * CODEX32_TEXT_SIZE];
     size_t lengths[2] = {one->length, other->length};
@@ -56,8 +56,8 @@ int main(void) {
         payload[i] = (uint8_t)"qpzry9x8gf2tvdw0s3jn54khce6mua7l"[random[i] & 31];
     }
 
-    /* The secret's own string, and one string fewer than the threshold of random characters. Of random bytes
-     * codex32_encode would make one whose last bits are zero, which tells a little of the secret. */
+    /* The secret's own string, and one string fewer than the threshold, of random characters. Made from random
+     * bytes by codex32_encode, its last bits would be zero, and a share would tell a little of the secret. */
     if (codex32_encode(THRESHOLD, identifier, CODEX32_IDENTIFIER_LENGTH, CODEX32_SECRET_INDEX, secret,
                        sizeof secret, whole.text, sizeof whole.text, &whole.length) != CODEX32_OK ||
         codex32_encode_payload(THRESHOLD, identifier, CODEX32_IDENTIFIER_LENGTH, 'a', payload,
@@ -75,7 +75,7 @@ int main(void) {
         }
     }
 
-    /* Any two give the secret. */
+    /* Any two recover the secret. */
     for (size_t i = 0; i < 3; i++) {
         if (derive(CODEX32_SECRET_INDEX, &shares[i], &shares[(i + 1) % 3], &recovered) != CODEX32_OK ||
             recovered.length != whole.length ||

@@ -1,10 +1,33 @@
-"""Calls the library that is named, a shared object: example.py LIBRARY. It decodes a segwit address,
-writes that of its program on the test network, refuses a text, and encodes and decodes bytes."""
+"""Calls the C library through ctypes: it decodes a segwit address, writes that of its program on the test network,
+refuses a text, and encodes and decodes bytes.
+
+    examples/python/example.py LIBRARY
+
+LIBRARY is bech32_c as a shared library. Where the toolchain is installed, `rt lib` in crates/bech32_c builds the static
+one, crates/bech32_c/out/libbech32_c.a; the package for C has it in its folder lib. Link it:
+
+    cc -shared -o libbech32_c.so -Wl,--whole-archive libbech32_c.a -Wl,--no-whole-archive
+
+Or compile the C file of that package:
+
+    cc -shared -fPIC -O2 -I include -o libbech32_c.so src/bech32.c
+
+The package for Python (bindings/python) has the library in it, and needs none of this."""
 
 import ctypes
+import os
 import sys
 
-LIBRARY = ctypes.CDLL(sys.argv[1])
+if sys.argv[1:] == ["--help"]:
+    sys.exit(print(__doc__))
+if len(sys.argv) != 2 or not os.path.isfile(sys.argv[1]):
+    print("examples/python/example.py: name the shared library to call; --help says how to make it", file=sys.stderr)
+    sys.exit(2)
+try:
+    LIBRARY = ctypes.CDLL(os.path.abspath(sys.argv[1]))
+except OSError as e:
+    print(f"examples/python/example.py: {sys.argv[1]} is no shared library for this system ({e})", file=sys.stderr)
+    sys.exit(2)
 BECH32, BECH32M = ctypes.c_uint32(1), ctypes.c_uint32(2)
 MAX_TEXT, MAX_HRP, MAX_BYTES, MAX_SEGWIT_PROGRAM = 1023, 83, 634, 40
 

@@ -1,15 +1,17 @@
-"""The functions of the shared libraries, as `bech32.h` and `codex32.h` declare them, and what they
-answer: a number, 0 or that of a refusal."""
+"""The functions of the shared libraries, as `bech32.h` and `codex32.h` declare them. Each returns a number: 0,
+or that of a refusal."""
 
 import ctypes
+import operator
 import threading
 from concurrent import futures
 from pathlib import Path
-from typing import Any, NoReturn, Optional, Tuple, Union
+from typing import Any, Iterable, List, NoReturn, Optional, Tuple, TypeVar, Union
 
 from . import errors
 
 Octets = Union[bytes, bytearray, memoryview]
+_Value = TypeVar("_Value")
 
 _FOLDER = Path(__file__).resolve().parent
 
@@ -46,15 +48,15 @@ def _library(name: str) -> ctypes.CDLL:
     file = _FOLDER / name
     if not file.is_file():
         raise ImportError(
-            f"{name} is not in {_FOLDER}. In a folder of sources it is not: build the wheel with "
-            "bindings/python/build, install it with pip, and import bech32_proved from elsewhere."
+            f"{name} is not in {_FOLDER}. A folder of sources has no library: build the wheel with "
+            "bindings/python/build, install it with pip, and import bech32_proved from another folder."
         )
     try:
         return ctypes.CDLL(str(file))
     except OSError as e:
         raise ImportError(
-            f"{file} does not load here ({e}). A wheel is for one system and kind of processor, which its "
-            "name tells."
+            f"{file} does not load here ({e}). A wheel is for one system and one kind of processor: its name "
+            "says which."
         ) from e
 
 
@@ -112,7 +114,7 @@ codex32_propose_long = _function(
 
 
 def interruptible(function: Any, *arguments: Any) -> int:
-    """What a function answers that may take long: Ctrl-C ends the wait for it, and not the function.
+    """What a function returns that may take long: Ctrl-C ends the wait for it, and not the function.
 
     A signal is handled in the main thread alone, and not before a function of the library is left. So the
     function runs in another thread, which keeps what it was given until it is done, and which the end of
@@ -120,13 +122,13 @@ def interruptible(function: Any, *arguments: Any) -> int:
     """
     if threading.current_thread() is not threading.main_thread():
         return int(function(*arguments))
-    answered: "futures.Future[int]" = futures.Future()
+    returned: "futures.Future[int]" = futures.Future()
 
     def run() -> None:
         try:
-            answered.set_result(function(*arguments))
+            returned.set_result(function(*arguments))
         except BaseException as e:
-            answered.set_exception(e)
+            returned.set_exception(e)
 
     try:
         threading.Thread(target=run, name="bech32_proved", daemon=True).start()
@@ -135,7 +137,7 @@ def interruptible(function: Any, *arguments: Any) -> int:
         return int(function(*arguments))
     while True:
         try:
-            return answered.result(_TURN)
+            return returned.result(_TURN)
         except futures.TimeoutError:
             continue
 
@@ -193,19 +195,52 @@ def given(data: bytes) -> Tuple[bytes, int]:
     return data, len(data)
 
 
-def utf8(text: str) -> bytes:
-    """The bytes of a text."""
-    if not isinstance(text, str):
-        raise TypeError(f"a text is wanted, and not {type(text).__name__}")
+def string(value: str, what: str = "text") -> str:
+    """An argument that has to be a `str`; `what` names it."""
+    if not isinstance(value, str):
+        raise TypeError(f"{what} must be a str, not {type(value).__name__}")
+    return value
+
+
+def whole(value: int, what: str) -> int:
+    """An argument that has to be a whole number; `what` names it."""
     try:
-        return text.encode("utf-8")
+        return operator.index(value)
+    except TypeError:
+        raise TypeError(f"{what} must be an int, not {type(value).__name__}") from None
+
+
+def listed(values: Iterable[_Value], said: str) -> List[_Value]:
+    """The items of an argument that has to be iterable and no one text; `said`, with its type, says so."""
+    try:
+        items = iter(values)
+    except TypeError:
+        raise TypeError(f"{said} {type(values).__name__}") from None
+    if isinstance(values, (str, bytes)):
+        raise TypeError(f"{said} {type(values).__name__}")
+    return list(items)
+
+
+def utf8(text: str, what: str = "text") -> bytes:
+    """The bytes of a text; `what` names the argument."""
+    try:
+        return string(text, what).encode("utf-8")
     except UnicodeEncodeError as e:
         raise errors.NotUnicode(text, e.start) from None
 
 
-def octets(data: Octets) -> bytes:
-    """The bytes of what holds bytes, and of no number."""
-    return bytes(memoryview(data))
+def octets(data: Octets, what: str = "data") -> memoryview:
+    """The bytes of an argument that holds bytes; `what` names it."""
+    try:
+        return memoryview(data)
+    except TypeError:
+        raise TypeError(f"{what} must be bytes, a bytearray or a memoryview, not {type(data).__name__}") from None
+
+
+def in_case_of(text: str, made: str) -> str:
+    """What was made of a text that the library accepts or mends, in its case: upper case where the text has
+    letters in upper case and none in lower case, and else lower case, as the library writes it."""
+    return made.upper() if text.isupper() else made
 
 
 def _place(text: str, data: bytes) -> Optional[int]:
@@ -217,12 +252,17 @@ def _place(text: str, data: bytes) -> Optional[int]:
     return len(data[: place.value].decode("utf-8"))
 
 
-def refuse(number: int, text: Optional[str] = None, looked_at: Optional[bytes] = None) -> NoReturn:
+def refuse(
+    number: int,
+    text: Optional[str] = None,
+    looked_at: Optional[bytes] = None,
+    sentence: Optional[str] = None,
+) -> NoReturn:
     """Raises the refusal of a number: of a text, where one is refused, and of the bytes of it that the
-    function looked at."""
+    function looked at; with another sentence than that of its class, where one is given."""
     place = None
     if text is not None and looked_at is not None and number in errors.OF_A_CHARACTER:
         place = _place(text, looked_at)
-    refused = errors.BY_NUMBER[number](text, place)
+    refused = errors.BY_NUMBER[number](text, place, sentence)
     refused.number = number
     raise refused

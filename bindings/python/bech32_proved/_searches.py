@@ -1,12 +1,12 @@
-"""Calls of the library that list texts, and count all of them where there is too little room."""
+"""Calls of the library that list texts, and that count them all even if there is too little room."""
 
 import ctypes
 from typing import Any, Callable, Tuple
 
 from ._library import MAX_TEXT, Lent, refuse
 
-# The bytes that texts are looked for in, at first, at first for each character of the longest texts that are
-# searched, and at most; and by what they grow where they do not suffice.
+# The bytes that a search is lent: at first, with as many more for each character of a text; at most; and the factor
+# by which they grow if they do not suffice.
 LEAST_MEMORY, OF_A_CHARACTER, MOST_MEMORY, _GROWTH = 1 << 16, 512, 1 << 28, 8
 
 # The lent memory does not suffice.
@@ -25,7 +25,7 @@ class Search:
         self._lent = Lent(self._size)
 
     def count(self, call: Callable[..., int], asked: Tuple[Any, ...], *room: Any) -> int:
-        """How many texts there are in all. As many as there is room for are put there."""
+        """How many texts there are in all. As many as fit are put into the room."""
         count = ctypes.c_size_t()
         while True:
             number = call(*asked, ctypes.byref(self._lent.memory), *room, ctypes.byref(count))
@@ -41,7 +41,7 @@ class Search:
 
 
 def texts(size: int) -> Tuple[Any, int]:
-    """Room for texts of so many bytes in all."""
+    """Room for texts of `size` bytes in all."""
     if size > MOST_MEMORY:
         raise MemoryError("there are more near texts than can be listed")
     return ctypes.create_string_buffer(max(size, 1)), size

@@ -1,13 +1,18 @@
-"""Codex32 strings (BIP-93): a secret shared in strings, any `threshold` of which give it back, and the nearest
-text to a damaged one.
+"""Codex32 strings (BIP-93): a secret split into shares, any `threshold` of which recover it, and the nearest string
+to a damaged one.
 
-A new secret of 16 to 44 bytes, or of 63 or 64, is shared so: `encode` makes its own string, at the index `s`, and
-`encode_payload` one string fewer than the threshold of random characters, as many as the payload of that one has
-(26 for 16 bytes, 52 for 32), each at another index. `derive` makes the others of these. Fewer shares than the
-threshold then say nothing of the secret. No randomness is here: take it from the operating system.
+To split a new secret of 16 to 44 bytes, or of 63 or 64:
 
-Random bytes by `encode` will not do: the bits that it leaves over are zero and not random, by which fewer shares
-may tell up to three of the last bits of the secret.
+1. `encode` makes the secret's own string, at the index `s`.
+2. `encode_payload` makes one string fewer than the threshold, each at another index, of random characters from the
+   operating system: as many as the payload of the secret's string has (26 for 16 bytes, 52 for 32).
+3. `derive` makes the other shares from these strings.
+
+Fewer shares than the threshold then say nothing about the secret. This package draws no random numbers.
+
+In step 2, don't use `encode` on random bytes. The bits that it leaves over are zero, and that tells anyone who holds
+one share fewer than the threshold up to four bits of the end of the secret, as many as its last character holds: one
+of 32 bytes, two of 64, three of 16, four of 18 or 63, none of 20 or 40.
 
     >>> import secrets
     >>> secret = bytes(range(16))
@@ -23,17 +28,17 @@ may tell up to three of the last bits of the secret.
     ...
     bech32_proved.errors.TooFewShares: there are fewer shares than the threshold
 
-Type secrets and shares on a machine that is offline. The library keeps nothing between calls, and the buffers
-that a call makes for itself are wiped after it. Texts and `bytes` are Python's, which cannot wipe them, and may
-keep copies; a `bytearray` that is given is the caller's to wipe. The time of a call, and which memory it reads,
-depend on the secret, since tables are read by its values.
+Type secrets and shares only on a computer that is offline. The library keeps nothing between calls, and the
+buffers that a call makes for itself are wiped after it. Python cannot wipe `str` and `bytes`, and may keep copies
+of them; a `bytearray` that you pass in is yours to wipe. The time of a call, and which memory it reads, depend on
+the secret, since tables are read by its values.
 """
 
 import ctypes
 from typing import Any, Iterable, List, NamedTuple, Optional, Tuple
 
 from . import _library
-from ._library import Buffer, Copied, Lent, Octets, given, refuse, utf8
+from ._library import Buffer, Copied, Lent, Octets, given, in_case_of, listed, octets, refuse, string, utf8, whole
 
 # Where the parts stand in a string, and what the strings of one set have in common.
 _IDENTIFIER = slice(4, 8)
@@ -47,9 +52,13 @@ _MAX_LONG_TEXT = 127
 _MAX_BYTES = 64
 _MAX_SHARES = 32
 
-# A character of a payload is not of the alphabet, or its letters have both cases.
+# A character of a payload is not of the alphabet, or its letters have both cases; and what is said of these.
 _INVALID_CHARACTER = 21
 _MIXED_CASE = 22
+_OF_A_PAYLOAD = {
+    _INVALID_CHARACTER: "a character of the payload is not of the alphabet",
+    _MIXED_CASE: "the payload has letters of both cases",
+}
 
 # There is no nearest text.
 _NO_NEAREST = 34
@@ -71,7 +80,7 @@ class Share(NamedTuple):
     """The parts of a codex32 string, in its case."""
 
     threshold: int
-    """How many shares make the secret, from 2 to 9, or 0 where it is the secret itself."""
+    """How many shares recover the secret, from 2 to 9, or 0 if this is the secret itself."""
 
     identifier: str
     """Four characters, which the shares of one secret have in common."""
@@ -87,7 +96,7 @@ class ShareWithBytes(NamedTuple):
     """What a string of either length holds."""
 
     threshold: int
-    """How many shares give the secret, from 2 to 9, or 0 where it is the secret itself."""
+    """How many shares recover the secret, from 2 to 9, or 0 if this is the secret itself."""
 
     identifier: str
     """Four characters, which the shares of one secret have in common, in lower case."""
@@ -140,8 +149,7 @@ def share(text: str) -> ShareWithBytes:
 
 def encode(threshold: int, identifier: str, share_index: str, data: Octets) -> str:
     """Makes the string of a header and bytes, in lower case: of 16 to 44 bytes one of 48 to 93 characters, of 63
-    or 64 a long one. The bits left over are zero: a string that is made at random for sharing is made by
-    `encode_payload`.
+    or 64 a long one. The bits left over are zero: to make a random string for sharing, use `encode_payload`.
 
     The threshold is 0, or from 2 to 9; the identifier, four characters of the alphabet in one case; the share
     index, a character of the alphabet in either case, `s` where the threshold is 0.
@@ -152,7 +160,7 @@ def encode(threshold: int, identifier: str, share_index: str, data: Octets) -> s
     Raises the first of: `BadThreshold`, `BadIdentifier`, `NoShareIndex`, `BadShareIndex`, `BadSize`.
     """
     header = _header(threshold, identifier, share_index)
-    text, copied = Buffer(_MAX_LONG_TEXT), Copied(bytearray(memoryview(data)))
+    text, copied = Buffer(_MAX_LONG_TEXT), Copied(bytearray(octets(data)))
     try:
         number = _library.codex32_encode(*header, *copied.given, *text.out)
         if number != 0:
@@ -168,8 +176,8 @@ def encode_payload(threshold: int, identifier: str, share_index: str, payload: s
     one case, and as many as 16 to 44 bytes have, from 26 to 71, or as 63 or 64 have, 101 or 103: at most four bits
     are left over, whatever they are. The header is that of `encode`.
 
-    This makes the strings at random that a secret is shared with, of as many characters as the payload of the
-    secret's own string has, all 32 of the alphabet equally likely.
+    Use it to make the random strings that a secret is split with: of as many characters as the payload of the
+    secret's own string has, each drawn from all 32 of the alphabet with equal chance.
 
         >>> encode_payload(2, "name", "a", "320ZYXWVUTSRQPNMLKJHGFEDCA")
         'ms12namea320zyxwvutsrqpnmlkjhgfedcaxrpp870hkkqrm'
@@ -180,13 +188,13 @@ def encode_payload(threshold: int, identifier: str, share_index: str, payload: s
     `InvalidCharacter`, `MixedCase`, `BadSize`.
     """
     header = _header(threshold, identifier, share_index)
-    copied = bytearray(utf8(payload))
+    copied = bytearray(utf8(payload, "payload"))
     text, characters = Buffer(_MAX_LONG_TEXT), Copied(copied)
     try:
         number = _library.codex32_encode_payload(*header, *characters.given, *text.out)
         if number in (_INVALID_CHARACTER, _MIXED_CASE):
             # Here a `1` is a character like `b`, and no separator.
-            refuse(number, payload, bytes(copied).replace(b"1", b"b"))
+            refuse(number, payload, bytes(copied).replace(b"1", b"b"), _OF_A_PAYLOAD[number])
         if number != 0:
             refuse(number)
         return text.text()
@@ -197,8 +205,8 @@ def encode_payload(threshold: int, identifier: str, share_index: str, payload: s
 
 def derive(texts: Iterable[str], share_index: str) -> str:
     """Derives the string at an index from others of its set, in lower case. They have the same threshold,
-    identifier and length, each another index, and are as many as the threshold at least; with the threshold 0
-    the one string is the secret. All are tested where there are more than the threshold.
+    identifier and length, and each another index; there are at least as many as the threshold. With the threshold
+    0 the one string is the secret. If there are more than the threshold, all are tested.
 
         >>> shares = ["MS12NAMEA320ZYXWVUTSRQPNMLKJHGFEDCAXRPP870HKKQRM"]
         >>> shares.append("MS12NAMECACDEFGHJKLMNPQRSTUVWXYZ023FTR2GDZMPY6PN")
@@ -213,21 +221,19 @@ def derive(texts: Iterable[str], share_index: str) -> str:
     `BadThreshold`; `BadShareIndex`; `OtherSet`, `IndexTwice`, `BadShareIndex`, `TooFewShares`,
     `Contradiction`.
     """
-    if isinstance(texts, str):
-        raise TypeError("texts are wanted, and not one")
-    listed, index = list(texts), _character(share_index)
+    index, shares = _character(share_index), _texts(texts)
     # Of no texts the index is told first.
     if _derived(index, [])[0] == _NO_SHARE_INDEX:
         refuse(_NO_SHARE_INDEX)
-    held = [_accepted(text) for text in listed]
+    held = [_accepted(text) for text in shares]
     if len(held) > _MAX_SHARES:
-        others = [text for text in listed if _set_of(text) != _set_of(listed[0])]
+        others = [text for text in shares if _set_of(text) != _set_of(shares[0])]
         number = _OTHER_SET if others else _INDEX_TWICE
     else:
         number, derived = _derived(index, held)
         if number == 0:
             return derived
-    refuse(number, _at_fault(number, listed))
+    refuse(number, _at_fault(number, shares))
 
 
 def recover(texts: Iterable[str]) -> str:
@@ -238,18 +244,20 @@ def recover(texts: Iterable[str]) -> str:
         >>> recover(shares)
         'ms12names6xqguzttxkeqnjsjzv4jv3nz5k3kwgsphuh6evw'
 
-    Raises what `derive` does, but for `NoShareIndex`.
+    Raises what `derive` raises, but for `NoShareIndex`.
     """
     return derive(texts, "s")
 
 
 def propose(text: str) -> Optional[str]:
-    """Proposes the nearest text to a damaged codex32 string, in lower case, or None where there is none.
-    Each `?` behind the last `1` is a character that cannot be read.
+    """Proposes the nearest text to a damaged codex32 string, in its case: in upper case if its letters are, else in
+    lower case. Returns None if there is none. Each `?` behind the last `1` is a character that cannot be read.
 
-    Twice the number of changed characters, with the number of the unreadable ones, is at most 8. There is
-    at most one such text. It may not be what was meant: show it, and ask. Neither threshold nor share index
-    is tested.
+        >>> propose("MS12NAME?320ZYXWVUTSRQPNMLKJHGFEDCAXRPP87?HKKQQQ")
+        'MS12NAMEA320ZYXWVUTSRQPNMLKJHGFEDCAXRPP870HKKQRM'
+
+    Twice the number of changed characters, plus the number of unreadable ones, is at most 8. There is at most one
+    such text. It may not be what was meant: show it, and ask. Neither threshold nor share index is tested.
 
     Raises the first of: `InvalidCharacter`, `MixedCase`, `NoSeparator`, `HrpEmpty`, `HrpTooLong`,
     `HrpNotAscii`, `HrpInvalid`, `HrpMixedCase`; `BadLength`; `NotMs`.
@@ -258,7 +266,8 @@ def propose(text: str) -> Optional[str]:
 
 
 def propose_long(text: str) -> Optional[str]:
-    """Proposes the nearest text to a damaged long string, of 125 to 127 characters, as `propose` has it.
+    """Proposes the nearest text to a damaged long string, of 125 to 127 characters, within the bounds of `propose`
+    and in the case of the damaged one. Returns None if there is none.
 
     Raises the first of: `InvalidCharacter`, `MixedCase`, `NoSeparator`, `HrpEmpty`, `HrpTooLong`,
     `HrpNotAscii`, `HrpInvalid`, `HrpMixedCase`; `BadLength`; `NotMs`.
@@ -276,14 +285,14 @@ def _proposed(function: Any, text: str, room: int) -> Optional[str]:
             return None
         if number != 0:
             refuse(number, text, _as_read(data))
-        return proposed.text()
+        return in_case_of(text, proposed.text())
     finally:
         lent.wipe()
         proposed.wipe()
 
 
 def _shared(data: bytes, held: Buffer) -> Tuple[int, Tuple[int, str, str]]:
-    # What the library answers of a string of either length, whose bytes it puts into a buffer, and its header.
+    # What the library returns for a string of either length, whose bytes it puts into a buffer, and its header.
     threshold, share_index = ctypes.c_uint32(), ctypes.c_uint32()
     identifier = ctypes.create_string_buffer(4)
     number = _library.codex32_share(
@@ -302,7 +311,7 @@ def _accepted(text: str) -> bytes:
 
 
 def _derived(index: int, held: List[bytes]) -> Tuple[int, str]:
-    # What the library answers of strings, and the one that it derives of them.
+    # What the library returns for strings, and the one that it derives from them.
     copied, text = Copied(bytearray().join(held)), Buffer(_MAX_LONG_TEXT)
     lengths = (ctypes.c_size_t * max(len(held), 1))(*map(len, held))
     try:
@@ -331,24 +340,25 @@ def _at_fault(number: int, texts: List[str]) -> Optional[str]:
 
 def _header(threshold: int, identifier: str, share_index: str) -> Tuple[int, bytes, int, int]:
     # A threshold, an identifier and a share index as the library takes them.
-    if not isinstance(threshold, int):
-        raise TypeError(f"a threshold is a number, and not {type(threshold).__name__}")
+    number = whole(threshold, "threshold")
+    named = string(identifier, "identifier").encode("utf-8", "surrogatepass")
+    index = _character(share_index)
     # The library takes a number of 32 bits.
-    if not 0 <= threshold < 2**32:
+    if not 0 <= number < 2**32:
         refuse(_BAD_THRESHOLD)
-    named = _word(identifier).encode("utf-8", "surrogatepass")
-    return (threshold, *given(named), _character(share_index))
-
-
-def _word(word: str) -> str:
-    if not isinstance(word, str):
-        raise TypeError(f"characters are wanted, and not {type(word).__name__}")
-    return word
+    return (number, *given(named), index)
 
 
 def _character(share_index: str) -> int:
     # A share index as the library takes it. More or less than one character are none.
-    return ord(_word(share_index)) if len(share_index) == 1 else 0
+    word = string(share_index, "share_index")
+    return ord(word) if len(word) == 1 else 0
+
+
+def _texts(texts: Iterable[str]) -> List[str]:
+    # The texts of shares.
+    given_texts = listed(texts, "texts must be a list of shares, not")
+    return [string(text, "each share of texts") for text in given_texts]
 
 
 def _as_read(data: bytes) -> bytes:

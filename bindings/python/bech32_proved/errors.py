@@ -6,6 +6,11 @@ A call names the first fault that applies, in the order that `bech32.h` and `cod
 from typing import Any, ClassVar, Dict, Optional, Tuple, Type
 
 
+# What is refused first in a text without a separator, and what is said of it.
+_INVALID_CHARACTER = 21
+_NO_SEPARATOR_AND_CHARACTER = "the text has no separator, '1', and a character that may not stand behind one"
+
+
 class Refused(ValueError):
     """A call refuses what it is given.
 
@@ -19,9 +24,13 @@ class Refused(ValueError):
     text: Optional[str]
     place: Optional[int]
 
-    def __init__(self, text: Optional[str] = None, place: Optional[int] = None) -> None:
+    def __init__(
+        self, text: Optional[str] = None, place: Optional[int] = None, said: Optional[str] = None
+    ) -> None:
         self.text, self.place = text, place
-        super().__init__(self.sentence + self._where())
+        # What is printed before the character: None for the sentence of the class.
+        self._said = said
+        super().__init__((said or self._sentence()) + self._where())
 
     @property
     def character(self) -> Optional[str]:
@@ -29,6 +38,12 @@ class Refused(ValueError):
         if self.text is None or self.place is None:
             return None
         return self.text[self.place : self.place + 1] or None
+
+    def _sentence(self) -> str:
+        # The sentence of the class, but for a text that has no separator for a character to stand behind.
+        if self.number == _INVALID_CHARACTER and self.text is not None and "1" not in self.text:
+            return _NO_SEPARATOR_AND_CHARACTER
+        return self.sentence
 
     def _where(self) -> str:
         character = self.character
@@ -39,8 +54,8 @@ class Refused(ValueError):
         return f": character {self.place + 1}, {shown}"
 
     def __reduce__(self) -> Tuple[Any, ...]:
-        # The arguments of an exception are its words; pickle and copy make one of text and place.
-        return type(self), (self.text, self.place), self.__dict__
+        # The arguments of an exception are its words; pickle and copy make one of what it was made of.
+        return type(self), (self.text, self.place, self._said), self.__dict__
 
 
 # Written by tools/refusals.

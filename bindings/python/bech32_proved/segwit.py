@@ -4,7 +4,7 @@ import ctypes
 from typing import NamedTuple
 
 from . import _library
-from ._library import Buffer, Octets, given, octets, refuse, utf8
+from ._library import Buffer, Octets, given, octets, refuse, utf8, whole
 
 # A version is above 31.
 _NO_ELEMENT = 4
@@ -29,14 +29,13 @@ def encode(hrp: str, version: int, program: Octets) -> str:
     Raises the first of: `HrpEmpty`, `HrpTooLong`, `HrpNotAscii`, `HrpInvalid`, `HrpMixedCase`,
     `BadVersion`, `ProgramTooShort`, `ProgramTooLong`, `ProgramNotV0`, `EncodedAddressTooLong`.
     """
-    if not isinstance(version, int):
-        raise TypeError(f"a witness version is a number, and not {type(version).__name__}")
+    witness_version = whole(version, "version")
     # The library takes a number of 32 bits.
-    if not 0 <= version < 2**32:
+    if not 0 <= witness_version < 2**32:
         refuse(_NO_ELEMENT)
-    text = Buffer(_library.MAX_ADDRESS)
+    text, held = Buffer(_library.MAX_ADDRESS), bytes(octets(program, "program"))
     number = _library.segwit_encode(
-        *given(utf8(hrp)), version, *given(octets(program)), *text.out
+        *given(utf8(hrp, "hrp")), witness_version, *given(held), *text.out
     )
     if number != 0:
         refuse(number, hrp)
@@ -44,7 +43,7 @@ def encode(hrp: str, version: int, program: Octets) -> str:
 
 
 def decode(text: str) -> Address:
-    """Decodes an address. Any human-readable part is accepted.
+    """Decodes an address. It accepts any human-readable part: compare it with that of your network.
 
     Raises the first of: `AddressTooLong`; `InvalidCharacter`, `MixedCase`, `NoSeparator`, `HrpEmpty`,
     `HrpTooLong`, `HrpNotAscii`, `HrpInvalid`, `HrpMixedCase`; `NoData`, `BadVersion`; `NoChecksum`,

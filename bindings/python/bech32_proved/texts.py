@@ -6,14 +6,14 @@ from functools import partial
 from typing import Any, Iterable, List, NamedTuple, Tuple
 
 from . import _library, _searches
-from ._library import Buffer, Octets, given, octets, refuse, utf8
+from ._library import Buffer, Octets, given, in_case_of, listed, octets, refuse, utf8, whole
 from .errors import WrongChecksum
 
 # The characters of the elements from 0 to 31.
 _CHARACTERS = "qpzry9x8gf2tvdw0s3jn54khce6mua7l"
 
-# The bytes that near texts are put into at first. Where all of them take more, the first search says how much, and
-# a second one puts them.
+# The bytes that near texts are put into at first. If all of them take more, the first search says how much, and a
+# second one puts them.
 _LEAST_ROOM = 1 << 14
 
 
@@ -34,7 +34,7 @@ class Decoded(NamedTuple):
     """Its human-readable part, in the case of the text."""
 
     data: bytes
-    """Its bytes. Bits behind the last whole byte are dropped."""
+    """Its bytes. Bits behind the last whole byte are dropped. Of an address these are not its program."""
 
 
 class DecodedWithChecksum(NamedTuple):
@@ -44,7 +44,7 @@ class DecodedWithChecksum(NamedTuple):
     """Its human-readable part, in the case of the text."""
 
     data: bytes
-    """Its bytes. Bits behind the last whole byte are dropped."""
+    """Its bytes. Bits behind the last whole byte are dropped. Of an address these are not its program."""
 
     checksum: Checksum
     """The checksum that accepts it."""
@@ -72,10 +72,10 @@ class Change(NamedTuple):
     """Where it stands, counted from 0 on. People count from 1, as what is printed does."""
 
     from_: str
-    """What stands there in the mistyped text, in lower case."""
+    """What stands there in the mistyped text."""
 
     to: str
-    """What stands there in the mended one."""
+    """What stands there in the mended one. Both have the case of the mistyped text."""
 
     def __str__(self) -> str:
         if self.from_ == self.to:
@@ -87,7 +87,7 @@ class Correction(NamedTuple):
     """How a mistyped text is mended."""
 
     text: str
-    """The mended text, in lower case."""
+    """The mended text, in the case of the mistyped one: in upper case if its letters are, else in lower case."""
 
     errors: Tuple[Tuple[int, int], ...]
     """The locations that were wrong, 0 that of the last character, with the element, from 0 to 31, that
@@ -102,7 +102,8 @@ class Correction(NamedTuple):
     def _change(self, location: int, value: int) -> Change:
         place = len(self.text) - 1 - location
         to = self.text[place]
-        return Change(place, _CHARACTERS[_CHARACTERS.index(to) ^ value], to)
+        from_ = _CHARACTERS[_CHARACTERS.index(to.lower()) ^ value]
+        return Change(place, in_case_of(self.text, from_), to)
 
 
 def encode(hrp: str, data: Octets, checksum: Checksum = Checksum.BECH32M) -> str:
@@ -113,7 +114,7 @@ def encode(hrp: str, data: Octets, checksum: Checksum = Checksum.BECH32M) -> str
     """
     text = Buffer(_library.MAX_TEXT)
     number = _library.encode(
-        Checksum(checksum).value, *given(utf8(hrp)), *given(octets(data)), *text.out
+        _number(checksum), *given(utf8(hrp, "hrp")), *given(bytes(octets(data))), *text.out
     )
     if number != 0:
         refuse(number, hrp)
@@ -121,7 +122,10 @@ def encode(hrp: str, data: Octets, checksum: Checksum = Checksum.BECH32M) -> str
 
 
 def decode(text: str) -> Decoded:
-    """Decodes a text that Bech32m or Bech32 accepts. `decode_with_checksum` tells which.
+    """Decodes a text that Bech32m or Bech32 accepts. `decode_with_checksum` also says which of them does.
+
+    Decode an address by `segwit.decode`, not by this. The first element of an address is its witness version, so
+    this returns the program shifted by five bits. That looks like a hash, but it is not the program.
 
     Raises the first of: `InvalidCharacter`, `MixedCase`, `NoSeparator`, `HrpEmpty`, `HrpTooLong`,
     `HrpNotAscii`, `HrpInvalid`, `HrpMixedCase`; `TextTooLong`, `NoChecksum`, `WrongChecksum`.
@@ -135,12 +139,12 @@ def decode(text: str) -> Decoded:
 
 
 def decode_with_checksum(text: str) -> DecodedWithChecksum:
-    """The same as `decode`, and which checksum accepts the text.
+    """Decodes a text like `decode`, and says which checksum accepts it. Decode an address by `segwit.decode`.
 
         >>> decode_with_checksum("A1LQFN3A").checksum
         <Checksum.BECH32M: 2>
 
-    Raises what `decode` does.
+    Raises what `decode` raises.
     """
     hrp, found = decode(text)
     try:
@@ -151,14 +155,14 @@ def decode_with_checksum(text: str) -> DecodedWithChecksum:
 
 
 def check(text: str, checksum: Checksum) -> Parts:
-    """Tests that a checksum accepts a text, and gives its parts.
+    """Tests that a checksum accepts a text, and returns its parts.
 
-    Raises what `decode` does.
+    Raises what `decode` raises.
     """
     data = utf8(text)
     hrp_length, data_length = ctypes.c_size_t(), ctypes.c_size_t()
     number = _library.check(
-        Checksum(checksum).value,
+        _number(checksum),
         *given(data),
         ctypes.byref(hrp_length),
         ctypes.byref(data_length),
@@ -170,46 +174,54 @@ def check(text: str, checksum: Checksum) -> Parts:
 
 
 def correct(text: str, checksum: Checksum, erasures: Iterable[int] = ()) -> Correction:
-    """Mends a mistyped text. `erasures` are the locations of characters that are known to be wrong; 0 is
-    the last character, and that of the character at a place is `len(text) - 1 - place`.
+    """Mends a mistyped text, in its case. `erasures` are the locations of characters that are known to be wrong;
+    0 is the last character, and the character at a place has the location `len(text) - 1 - place`.
 
-    It is the one correction of the characters behind the separator where twice the errors outside the
-    erasures, with the erasures, are three at most. It may not be what was meant: show it, and ask. `nearest`
-    finds two wrong characters.
+        >>> correct("A12UEL5Q", Checksum.BECH32).text
+        'A12UEL5L'
 
-    Raises what `check` does, but `NoCorrection` in place of `WrongChecksum`, where there is no such
-    correction or an erasure is not behind the separator.
+    It finds one wrong character; or one, beside one erasure; or up to three erasures. Within these bounds there
+    is at most one correction of the characters behind the separator. It may not be what was meant: show it, and
+    ask. `nearest` finds two wrong characters.
+
+    Raises what `check` raises, but `NoCorrection` in place of `WrongChecksum`: if there is no such correction, or
+    an erasure is not behind the separator. Of a negative location, `ValueError`.
     """
     data = utf8(text)
     room = _library.MAX_LISTED
     locations, count = (ctypes.c_size_t * room)(), ctypes.c_size_t()
     values, mended = ctypes.create_string_buffer(room), Buffer(_library.MAX_TEXT)
     number = _library.correct(
-        Checksum(checksum).value,
+        _number(checksum),
         *given(data),
-        *_locations(erasures),
+        *_as_sizes(_locations(erasures)),
         *(locations, room, values, room, ctypes.byref(count)),
         *mended.out,
     )
     if number != 0:
         refuse(number, text, data)
-    listed = zip(locations[: count.value], values.raw[: count.value])
-    return Correction(mended.text(), tuple(listed))
+    added = zip(locations[: count.value], values.raw[: count.value])
+    return Correction(in_case_of(text, mended.text()), tuple(added))
 
 
 def nearest(
     text: str, checksum: Checksum, erasures: Iterable[int] = (), errors: int = 2
 ) -> List[Correction]:
-    """Lists the texts near to a mistyped one: all that the checksum accepts and that differ from it in at
-    most `errors` characters, 0 to 2, behind the separator and outside `erasures`, the locations of
-    characters that are known to be wrong; 0 is the last character. There may be none.
+    """Lists the texts near to a mistyped one, in its case: all that the checksum accepts and that differ from it
+    in at most `errors` characters, 0 to 2, behind the separator and outside `erasures`. These are the locations
+    of characters that are known to be wrong; 0 is the last character. The list may be empty.
 
-    Where at most 89 characters stand behind the separator, two errors without erasures have one answer at
-    most, the right one where two characters are wrong. It may not be what was meant: of texts of 62
-    characters at random, some 15 of 10,000 have one. Show it, and ask.
+    With at most 89 characters behind the separator and no erasures, it has at most one text. If no more than
+    `errors` characters are wrong, that text is the right one. It may not be what was meant: of random texts of 62
+    characters, some 15 in 10,000 have a near one. Show it, and ask.
 
-    What the library takes for two errors, in milliseconds of a processor at 2.5 GHz, rounded, and how many
-    texts there are. Where these fill more than 16 KB there is a second search, which takes as long.
+    The order is that of the highest location of a change outside the erasures, then that of the element
+    added there, then that of the next such location. A text without such changes is first: one that the
+    checksum accepts is the first of its own list. The list is empty if an erasure is not behind the separator,
+    or if there are more than three.
+
+    The time of a search for two errors, in milliseconds of a processor at 2.5 GHz, rounded, and the number of
+    texts. If these fill more than 16 KB, there is a second search, which takes as long.
 
         characters   no erasure   one          two          three
         42           0.05, 1      0.1, 1       0.1, 1       0.1, 17
@@ -222,27 +234,21 @@ def nearest(
     One error takes at most 0.1 ms up to 90 characters, and 1.2 ms with three erasures at 1,000. From 135
     characters on a text may have far more near ones beside three erasures that are 33 locations apart.
 
-    What helps a person is a list of few texts: at most two errors with two erasures up to 90 characters,
-    two errors with one erasure in longer texts, and one error with three erasures. Beyond these the right
-    text stands among many that are as near.
+    What helps a person is a short list: at most two errors with two erasures up to 90 characters, two errors with
+    one erasure in longer texts, and one error with three erasures. Beyond these the right text is one of many
+    that are as near.
 
     Called in the main thread, it searches in another one, so that Ctrl-C ends the call at once. The library
-    cannot be stopped: the search goes on behind it to its end, or to that of the program, and keeps a
-    processor and its memory so long.
+    cannot be stopped: until the search, or the program, ends, it keeps a processor and its memory.
 
-    The order is that of the highest location of a change outside the erasures, then that of the element
-    added there, then that of the next such location. A text without such changes is first: one that the
-    checksum accepts is the first of its own list. The list is empty where an erasure is not behind the
-    separator, or where there are more than three.
-
-    Raises what `check` does, but for `WrongChecksum`; `ValueError` of more than two errors, and
-    `MemoryError` where the texts are too many for 256 MB.
+    Raises what `check` raises, but for `WrongChecksum`; `ValueError` of more than two errors or a negative
+    location, and `MemoryError` if the texts are too many for 256 MB.
     """
-    if errors not in range(3):
-        raise ValueError("the number of errors is none of 0, 1 and 2")
-    data, known = utf8(text), list(erasures)
-    number_of_errors = ctypes.c_size_t(errors)
-    asked = (Checksum(checksum).value, *given(data), *_locations(known), number_of_errors)
+    wrong = whole(errors, "errors")
+    if wrong not in range(3):
+        raise ValueError(f"errors must be 0, 1 or 2, not {wrong}")
+    data, known = utf8(text), _locations(erasures)
+    asked = (_number(checksum), *given(data), *_as_sizes(known), ctypes.c_size_t(wrong))
     search, texts = _searches.Search(text, data), _searches.texts(_LEAST_ROOM)
     call = partial(_library.interruptible, _library.nearest)
     count = search.count(call, asked, *texts)
@@ -250,14 +256,34 @@ def nearest(
         texts = _searches.texts(count * len(data))
         search.count(call, asked, *texts)
     found = texts[0][: count * len(data)].decode("ascii")
-    listed = [found[n : n + len(data)] for n in range(0, len(found), len(data))]
-    return [Correction(near, _changes(text, near, known)) for near in listed]
+    each = [found[n : n + len(data)] for n in range(0, len(found), len(data))]
+    return [Correction(in_case_of(text, near), _changes(text, near, known)) for near in each]
 
 
-def _locations(erasures: Iterable[int]) -> Tuple[Any, int]:
+def _number(checksum: Checksum) -> int:
+    # The number of a checksum in the library.
+    try:
+        return Checksum(checksum).value
+    except ValueError:
+        # Of what is no number the type alone: it may be data that stands in the wrong place.
+        shown = checksum if isinstance(checksum, int) else type(checksum).__name__
+        raise ValueError(f"checksum must be Checksum.BECH32 or Checksum.BECH32M, not {shown}") from None
+
+
+def _locations(erasures: Iterable[int]) -> List[int]:
+    # The locations of erasures.
+    known = listed(erasures, "erasures must be a list of locations, not")
+    located = [whole(location, "each location of erasures") for location in known]
+    for location in located:
+        if location < 0:
+            raise ValueError(f"a location of erasures is negative: {location} (0 is the last character)")
+    return located
+
+
+def _as_sizes(known: List[int]) -> Tuple[Any, int]:
     # Locations as a function takes them. One that no text has is one past the end of any.
-    known = [n if 0 <= n < _library.MAX_SIZE else _library.MAX_SIZE for n in erasures]
-    return (ctypes.c_size_t * max(len(known), 1))(*known), len(known)
+    sizes = [min(n, _library.MAX_SIZE) for n in known]
+    return (ctypes.c_size_t * max(len(sizes), 1))(*sizes), len(sizes)
 
 
 def _changes(text: str, near: str, erasures: List[int]) -> Tuple[Tuple[int, int], ...]:

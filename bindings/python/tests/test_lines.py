@@ -42,7 +42,7 @@ def edit_row(near, length):
     """A text with its edit as the rows have it: locations count from the end."""
     kind, place, characters = near.edit
     behind = length - place - (len(characters) if kind is not EditKind.PUT_IN else 0)
-    return f"{near.text},{MARKS[kind]}{behind}:{characters}"
+    return f"{near.text.lower()},{MARKS[kind]}{behind}:{characters.lower()}"
 
 
 def hexadecimal(data):
@@ -75,7 +75,8 @@ def b32(words):
 def mended(text, listed):
     alphabet = "qpzry9x8gf2tvdw0s3jn54khce6mua7l"
     items = "".join(f"{location}:{alphabet[value]} " for location, value in listed)
-    return f"ok {items}{text}" if listed else "fine"
+    # The program's texts are in lower case, the package's in the case of what was typed.
+    return f"ok {items}{text.lower()}" if listed else "fine"
 
 
 def c32(words):
@@ -85,7 +86,7 @@ def c32(words):
         return "ok " + " ".join(str(part) for part in share)
     if command in PROPOSALS and len(rest) == 1:
         nearest = PROPOSALS[command](rest[0])
-        return "none" if nearest is None else f"some {nearest}"
+        return "none" if nearest is None else f"some {nearest.lower()}"
     if command == "share" and len(rest) == 1:
         threshold, identifier, share_index, data, text = codex32.share(rest[0])
         assert text == rest[0]

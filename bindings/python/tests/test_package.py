@@ -1,5 +1,6 @@
 """Tests the package as it is installed, over the vectors of BIP-173, BIP-350 and BIP-93."""
 
+import array
 import contextlib
 import copy
 import ctypes
@@ -78,6 +79,7 @@ PRINTED = [
     ("\U0001f6001q", "the human-readable part has a character that is not ASCII: character 1, U+1F600"),
     ("a12ue\ud800l5l", "the text holds half of a surrogate pair, which is no character: character 6, U+D800"),
     ("pzry9x0s0muk", "the text has no separator, '1'"),
+    ("hello", "the text has no separator, '1', and a character that may not stand behind one: character 5, o"),
     ("A1G7SGD8", "the checksum is wrong"),
 ]
 
@@ -145,7 +147,7 @@ class Texts(unittest.TestCase):
                 self.assertEqual(decode(text).hrp, hrp)
                 self.assertEqual(decode_with_checksum(text), (*decode(text), right))
                 self.assertRaises(errors.WrongChecksum, check, text, wrong)
-                self.assertEqual(correct(text, right, [0]), (text.lower(), ()))
+                self.assertEqual(correct(text, right, [0]), (text, ()))
 
     def test_refuses(self):
         for text, error, place in REFUSED:
@@ -190,7 +192,7 @@ class Texts(unittest.TestCase):
         mended = correct("bc1qar0srrr7xfkvy5l64qlydnw9re59gtzzwf5mdx", Checksum.BECH32, [0])
         self.assertEqual(mended.text, "bc1qar0srrr7xfkvy5l643lydnw9re59gtzzwf5mdq")
         self.assertEqual([location for location, _ in mended.errors], [0, 20])
-        for erasures in [(1, 2), (0, 1, 2, 3), (6,), (-1,), (2**64,), (2**64 - 1,)]:
+        for erasures in [(1, 2), (0, 1, 2, 3), (6,), (2**64,), (2**64 - 1,)]:
             with self.subTest(erasures), self.assertRaises(errors.NoCorrection):
                 correct("a12uel5q", Checksum.BECH32, erasures)
         with self.assertRaises(errors.InvalidCharacter) as raised:
@@ -198,7 +200,8 @@ class Texts(unittest.TestCase):
         self.assertEqual(raised.exception.place, 2)
 
     def test_says_the_changes(self):
-        self.assertEqual(correct("A12UEL5Q", Checksum.BECH32).changes, ((7, "q", "l"),))
+        self.assertEqual(correct("a12uel5q", Checksum.BECH32).changes, ((7, "q", "l"),))
+        self.assertEqual(correct("A12UEL5Q", Checksum.BECH32).changes, ((7, "Q", "L"),))
         self.assertEqual(correct("a12uel5l", Checksum.BECH32).changes, ())
         for text, listed, near in NEAR:
             places = sorted(len(text) - 1 - location for location, _ in listed)
@@ -217,7 +220,7 @@ class Texts(unittest.TestCase):
         for text, listed, near in NEAR:
             with self.subTest(text):
                 self.assertEqual(nearest(text, Checksum.BECH32), [(near, listed)])
-                self.assertEqual(nearest(text.upper(), Checksum.BECH32), [(near, listed)])
+                self.assertEqual(nearest(text.upper(), Checksum.BECH32), [(near.upper(), listed)])
                 self.assertEqual(nearest(text, Checksum.BECH32, errors=1), [])
                 # The first of the two is known to be wrong.
                 known = [listed[0][0]]
@@ -225,9 +228,9 @@ class Texts(unittest.TestCase):
                 self.assertEqual(correct(text, Checksum.BECH32, known), (near, listed))
         for text in BECH32:
             with self.subTest(text):
-                self.assertEqual(nearest(text, Checksum.BECH32)[0], (text.lower(), ()))
+                self.assertEqual(nearest(text, Checksum.BECH32)[0], (text, ()))
                 known = nearest(text, Checksum.BECH32, iter([1, 0, 1]), 0)
-                self.assertEqual(known, [(text.lower(), ((1, 0), (0, 0)))])
+                self.assertEqual(known, [(text, ((1, 0), (0, 0)))])
         damaged = ("a12qqq5l", Checksum.BECH32, (4, 3, 2), 0)
         self.assertEqual(nearest(*damaged), [("a12uel5l", ((4, 28), (3, 25), (2, 31)))])
         found = nearest("a1" + "z" * 1021, Checksum.BECH32)
@@ -263,7 +266,7 @@ class Texts(unittest.TestCase):
             self.assertEqual(len(asked), calls)
 
     def test_lists_no_near_texts(self):
-        for erasures in [(0, 1, 2, 3), (6,), (-1,), (2**64,), (2**64 - 1,)]:
+        for erasures in [(0, 1, 2, 3), (6,), (2**64,), (2**64 - 1,)]:
             with self.subTest(erasures):
                 self.assertEqual(nearest("a12uel5l", Checksum.BECH32, erasures), [])
         for count in [-1, 3, 2**64]:
@@ -289,7 +292,9 @@ class Texts(unittest.TestCase):
                     if text == ADDRESS:
                         continue
                     [near] = near_edits(text, Checksum.BECH32)
-                    self.assertEqual((near.text, near.edit.kind, near.edit.characters), (ADDRESS, kind, edited))
+                    wanted = (ADDRESS.upper(), edited.upper()) if text.isupper() else (ADDRESS, edited)
+                    self.assertEqual((near.text, near.edit.characters), wanted)
+                    self.assertEqual(near.edit.kind, kind)
                     # Of a run of the same the last one is named.
                     run = len(behind) - len(behind.lstrip(character))
                     places = {EditKind.SWAPPED: place, EditKind.PUT_IN: place + run, EditKind.LEFT_OUT: place + 1 + run}
@@ -319,12 +324,125 @@ class Texts(unittest.TestCase):
                 near_edits(text, Checksum.BECH32)
             self.assertEqual((raised.exception.text, raised.exception.place), (text, place))
 
-    def test_wants_texts_and_bytes(self):
-        self.assertRaises(TypeError, decode, b"a12uel5l")
-        self.assertRaises(TypeError, encode, "a", 5)
-        self.assertRaises(TypeError, encode, "a", "text")
-        self.assertRaises(ValueError, encode, "a", b"", 3)
-        self.assertRaises(TypeError, segwit.encode, "bc", "0", PROGRAM)
+    def test_keeps_the_case(self):
+        """Whoever types upper case gets upper case: age refuses a secret key in lower case."""
+        lower = encode("age-secret-key-", bytes(range(32)), Checksum.BECH32)
+        for key in (lower, lower.upper()):
+            self.assertTrue(key == lower or key.startswith("AGE-SECRET-KEY-1"))
+            one, two = (key[:-9] + key[-2] * count + key[count - 9 :] for count in (1, 2))
+            missing, swapped = key[:30] + key[31:], key[:40] + key[41] + key[40] + key[42:]
+            self.assertEqual(len({key, one, two, missing, swapped}), 5)
+            mended = correct(one, Checksum.BECH32)
+            self.assertEqual(mended.text, key)
+            self.assertEqual(mended.changes, ((len(key) - 9, one[-9], key[-9]),))
+            for text in (one, two):
+                [near] = nearest(text, Checksum.BECH32)
+                self.assertEqual(near.text, key)
+                for place, from_, to in near.changes:
+                    self.assertEqual((from_, to), (text[place], key[place]))
+            for text in (missing, swapped):
+                [near] = near_edits(text, Checksum.BECH32)
+                self.assertEqual(near.text, key)
+                self.assertIn(near.edit.characters, (key[30], swapped[40:42]))
+            self.assertEqual(correct(key, Checksum.BECH32), (key, ()))
+            self.assertEqual(nearest(key, Checksum.BECH32), [(key, ())])
+        # A text without letters is mended in lower case.
+        without = encode("0", bytes(5 * [0x42]), Checksum.BECH32)
+        found = nearest("01" + "2" * 12, Checksum.BECH32, (0, 1, 2), 2)
+        self.assertTrue(found and all(it.text == it.text.lower() for it in found))
+        self.assertEqual(correct(without, Checksum.BECH32).text, without)
+
+    def test_says_which_argument_is_wrong(self):
+        """Of each argument of each call: what it must be, and what was given; nothing of what stands inside."""
+        text, a, bech32 = "a12uel5l", "ms12namea320zyxwvutsrqpnmlkjhgfedcaxrpp870hkkqrm", Checksum.BECH32
+        header, data = (2, "name", "s"), bytes(16)
+        for call, arguments, words in (
+            (encode, (5, b""), "hrp must be a str, not int"),
+            (encode, ("abc", "x"), "data must be bytes, a bytearray or a memoryview, not str"),
+            (encode, ("abc", None), "data must be bytes, a bytearray or a memoryview, not NoneType"),
+            (encode, ("abc", 5), "data must be bytes, a bytearray or a memoryview, not int"),
+            (encode, ("abc", [1, 2]), "data must be bytes, a bytearray or a memoryview, not list"),
+            (decode, (b"a12uel5l",), "text must be a str, not bytes"),
+            (decode_with_checksum, (None,), "text must be a str, not NoneType"),
+            (check, (5, bech32), "text must be a str, not int"),
+            (correct, (None, bech32), "text must be a str, not NoneType"),
+            (correct, (text, bech32, None), "erasures must be a list of locations, not NoneType"),
+            (correct, (text, bech32, 3), "erasures must be a list of locations, not int"),
+            (correct, (text, bech32, "12"), "erasures must be a list of locations, not str"),
+            (correct, (text, bech32, b"12"), "erasures must be a list of locations, not bytes"),
+            (correct, (text, bech32, [1.0]), "each location of erasures must be an int, not float"),
+            (nearest, (None, bech32), "text must be a str, not NoneType"),
+            (nearest, (text, bech32, 1), "erasures must be a list of locations, not int"),
+            (nearest, (text, bech32, ["1"]), "each location of erasures must be an int, not str"),
+            (nearest, (text, bech32, (), 1.0), "errors must be an int, not float"),
+            (nearest, (text, bech32, (), None), "errors must be an int, not NoneType"),
+            (near_edits, (None, bech32), "text must be a str, not NoneType"),
+            (segwit.encode, (None, 0, PROGRAM), "hrp must be a str, not NoneType"),
+            (segwit.encode, ("bc", "0", PROGRAM), "version must be an int, not str"),
+            (segwit.encode, ("bc", 0.0, PROGRAM), "version must be an int, not float"),
+            (segwit.encode, ("bc", 0, "ab"), "program must be bytes, a bytearray or a memoryview, not str"),
+            (segwit.decode, (b"bc1",), "text must be a str, not bytes"),
+            (codex32.parse, (None,), "text must be a str, not NoneType"),
+            (codex32.share, (b"ms1",), "text must be a str, not bytes"),
+            (codex32.encode, ("2", "name", "s", data), "threshold must be an int, not str"),
+            (codex32.encode, (None, "name", "s", data), "threshold must be an int, not NoneType"),
+            (codex32.encode, (2, b"name", "s", data), "identifier must be a str, not bytes"),
+            (codex32.encode, (2, "name", None, data), "share_index must be a str, not NoneType"),
+            (codex32.encode, (*header, "ab"), "data must be bytes, a bytearray or a memoryview, not str"),
+            (codex32.encode_payload, (None, "name", "a", "q"), "threshold must be an int, not NoneType"),
+            (codex32.encode_payload, (2, None, "a", "q"), "identifier must be a str, not NoneType"),
+            (codex32.encode_payload, (2, "name", 16, "q"), "share_index must be a str, not int"),
+            (codex32.encode_payload, (*header, b"q"), "payload must be a str, not bytes"),
+            (codex32.derive, (a, "s"), "texts must be a list of shares, not str"),
+            (codex32.derive, (a.encode(), "s"), "texts must be a list of shares, not bytes"),
+            (codex32.derive, (None, "s"), "texts must be a list of shares, not NoneType"),
+            (codex32.derive, ([a, None], "s"), "each share of texts must be a str, not NoneType"),
+            (codex32.derive, ([a], None), "share_index must be a str, not NoneType"),
+            (codex32.derive, ([a], ["s"]), "share_index must be a str, not list"),
+            (codex32.recover, (a,), "texts must be a list of shares, not str"),
+            (codex32.recover, (5,), "texts must be a list of shares, not int"),
+            (codex32.recover, ([5],), "each share of texts must be a str, not int"),
+            (codex32.propose, (None,), "text must be a str, not NoneType"),
+            (codex32.propose_long, (b"ms1",), "text must be a str, not bytes"),
+        ):
+            with self.subTest(words), self.assertRaises(TypeError) as raised:
+                call(*arguments)
+            self.assertEqual(str(raised.exception), words)
+        for checksum, shown in ((3, "3"), (0, "0"), (None, "NoneType"), ("bech32", "str"), ([], "list"), (b"x", "bytes")):
+            words = f"checksum must be Checksum.BECH32 or Checksum.BECH32M, not {shown}"
+            for call, arguments in (
+                (encode, ("a", b"", checksum)),
+                (check, (text, checksum)),
+                (correct, (text, checksum)),
+                (nearest, (text, checksum)),
+                (near_edits, (text, checksum)),
+            ):
+                with self.subTest(words), self.assertRaises(ValueError) as raised:
+                    call(*arguments)
+                self.assertEqual(str(raised.exception), words)
+        for location in (-1, -(2**64), -(2**70)):
+            words = f"a location of erasures is negative: {location} (0 is the last character)"
+            for call in (correct, nearest):
+                for mistyped in (text, "a12uel5q"):
+                    with self.subTest(words), self.assertRaises(ValueError) as raised:
+                        call(mistyped, bech32, [0, location])
+                    self.assertEqual((type(raised.exception), str(raised.exception)), (ValueError, words))
+        for count in (-1, 3, 2**64):
+            with self.assertRaises(ValueError) as raised:
+                nearest(text, bech32, (), count)
+            self.assertEqual(str(raised.exception), f"errors must be 0, 1 or 2, not {count}")
+
+    def test_takes_whole_numbers_of_other_types(self):
+        class Two:
+            def __index__(self):
+                return 2
+
+        two = Two()
+        self.assertEqual(correct("a12uelzl", Checksum.BECH32, [two]), correct("a12uelzl", Checksum.BECH32, [2]))
+        self.assertEqual(nearest("a12uelqq", Checksum.BECH32, [two], two), nearest("a12uelqq", Checksum.BECH32, [2], 2))
+        self.assertEqual(segwit.encode("bc", two, PROGRAM), segwit.encode("bc", 2, PROGRAM))
+        self.assertEqual(codex32.encode(two, "test", "s", bytes(16)), codex32.encode(2, "test", "s", bytes(16)))
+        self.assertEqual(encode("a", array.array("B", b"xyz")), encode("a", b"xyz"))
 
 
 class Addresses(unittest.TestCase):
@@ -498,6 +616,11 @@ class Codex32(unittest.TestCase):
                 codex32.encode_payload(*words)
             self.assertEqual(raised.exception.place, place)
             self.assertEqual(raised.exception.text, None if place is None else words[3])
+            said = {
+                errors.InvalidCharacter: "a character of the payload is not of the alphabet: character ",
+                errors.MixedCase: "the payload has letters of both cases: character ",
+            }
+            self.assertTrue(str(raised.exception).startswith(said.get(error, error.sentence)))
         self.assertRaises(TypeError, codex32.encode_payload, "0", "test", "s", payload)
         self.assertRaises(TypeError, codex32.encode_payload, 0, b"test", "s", payload)
         self.assertRaises(TypeError, codex32.encode_payload, 0, "test", 16, payload)
@@ -519,6 +642,34 @@ class Codex32(unittest.TestCase):
                         for other in others:
                             secrets.setdefault(codex32.derive([secret, other], index), set()).add(secret)
                     self.assertLessEqual({len(it) for it in secrets.values()}, wanted)
+
+    def test_what_four_shares_of_five_say(self):
+        # Of 18 bytes the last character of the secret's payload holds four bits. Four shares tell all of them if the
+        # other strings were made of random bytes, and none if they were made of random characters.
+        strings, shares, count, alphabet = "scku6", "fg5x", 29, texts._CHARACTERS
+
+        def seen(at, bit):
+            # The last characters of the shares, as one number, where one string ends in a bit and the others in zeros.
+            ends = [bit if place == at else 0 for place in range(5)]
+            payloads = [alphabet[end].rjust(count, "q") for end in ends]
+            whole = [codex32.encode_payload(5, "cash", *it) for it in zip(strings, payloads)]
+            last = [codex32.derive(whole, index)[8 + count] for index in shares]
+            return sum(alphabet.index(it) << 5 * n for n, it in enumerate(last))
+
+        def rank(rows):
+            found = {}
+            for row in rows:
+                while row and row.bit_length() in found:
+                    row ^= found[row.bit_length()]
+                found.setdefault(row.bit_length(), row)
+            return len(found) - (0 in found)
+
+        self.assertEqual(codex32.encode(5, "cash", "s", bytes(17) + b"\1")[8 + count], alphabet[2])
+        secret = [seen(0, 2 << n) for n in range(4)]
+        for lowest, told in ((2, 4), (1, 0)):
+            bits = [lowest << n for n in range(5) if lowest << n < 32]
+            others = [seen(at, bit) for at in range(1, 5) for bit in bits]
+            self.assertEqual(rank(secret + others) - rank(others), told)
 
     def test_refuses_sets(self):
         unlike = codex32.encode(2, "name", "d", bytes(16))
@@ -559,13 +710,16 @@ class Codex32(unittest.TestCase):
         self.assertRaises(errors.BadLength, codex32.propose, LONG)
 
     def test_proposes_long_strings(self):
-        self.assertEqual(codex32.propose_long(LONG.upper()), LONG)
+        self.assertEqual(codex32.propose_long(LONG), LONG)
+        self.assertEqual(codex32.propose_long(LONG.upper()), LONG.upper())
+        self.assertEqual(codex32.propose_long(LONG[:20].upper() + "?" * 8 + LONG[28:].upper()), LONG.upper())
         self.assertEqual(codex32.propose_long(LONG[:20] + "?" * 8 + LONG[28:]), LONG)
         self.assertIsNone(codex32.propose_long(LONG[:20] + "?" * 9 + LONG[29:]))
         self.assertRaises(errors.BadLength, codex32.propose_long, SECRET)
         # A share that is mended, and then used.
         mended = codex32.propose(SHARE.replace("ZYX", "Z?P"))
-        self.assertEqual(mended, SHARE.lower())
+        self.assertEqual(mended, SHARE)
+        self.assertEqual(codex32.propose(SHARE.lower().replace("zyx", "z?p")), SHARE.lower())
         self.assertEqual(codex32.recover([mended, OTHER_SHARE])[:9], "ms12names")
 
     def test_wipes_what_it_copies(self):
@@ -605,11 +759,11 @@ class Package(unittest.TestCase):
             self.assertTrue(issubclass(error, bech32_proved.Refused))
             self.assertTrue(error().number == number or error is errors.BadVersion)
             self.assertTrue(issubclass(error, ValueError) and error.sentence)
-            self.assertEqual(str(error("xyzb", 3)), error.sentence + ": character 4, b")
+            self.assertEqual(str(error("xy1b", 3)), error.sentence + ": character 4, b")
 
     def test_errors_are_copied(self):
         for error in errors.BY_NUMBER.values():
-            for refused in (error(), error("a1b"), error("a1b", 2)):
+            for refused in (error(), error("a1b"), error("a1b", 2), error("ab", 1), error("ab", 1, "it is wrong")):
                 for again in copies(refused):
                     self.assertIs(type(again), error)
                     self.assertEqual(str(again), str(refused))

@@ -15,7 +15,7 @@ pub trait Checksum: sealed::Known {
     /// The characters of the checksum.
     const CHECKSUM_LENGTH: usize;
 
-    /// The remainder that a right text leaves.
+    /// The remainder that a valid text leaves.
     const TARGET_RESIDUE: Self::MidstateRepr;
 }
 
@@ -81,7 +81,7 @@ const LENGTH: usize = 6;
 pub struct Code {
     /// Its number in the library's calls.
     pub number: u32,
-    /// The remainder that a right text leaves, six elements of five bits, the constant term lowest.
+    /// The remainder that a valid text leaves, six elements of five bits, the constant term lowest.
     pub target: u32,
 }
 
@@ -251,7 +251,7 @@ impl<Ck: Checksum> Engine<Ck> {
         self.residue = Ck::MidstateRepr::pack((0..LENGTH).rev().map(|n| residue.unpack(n)));
     }
 
-    /// Puts in the remainder of right texts, behind which the engine holds the elements of the checksum.
+    /// Puts in the remainder of valid texts, behind which the engine holds the elements of the checksum.
     pub fn input_target_residue(&mut self) {
         for n in (0..Ck::CHECKSUM_LENGTH).rev() {
             self.input_fe(Fe32::of_low_bits(Ck::TARGET_RESIDUE.unpack(n).into()));

@@ -1,5 +1,5 @@
 //! Codex32 ([BIP-93]): a secret in strings that can be copied by hand, and shares of it, any `threshold` of
-//! which give it back, and fewer of which say nothing of it.
+//! which recover it, and fewer of which say nothing about it.
 //!
 //! Strings are read, made and derived by the static library `codex32_c`, each function of which is proved to
 //! do what its contract says of every input. This module is there by the feature `codex32`, which is on
@@ -7,14 +7,19 @@
 //!
 //! # A new secret, shared
 //!
-//! A secret of 16 to 44 bytes, or of 63 or 64, is shared so: [`encode`] makes its own string, at the index `s`,
-//! and [`encode_payload`] one string fewer than the threshold of random characters, as many as the payload of
-//! that one has (26 for 16 bytes, 52 for 32), each at another index. [`derive()`] makes the others of these, as
-//! many as are wanted. Fewer shares than the threshold then say nothing of the secret. No randomness is here:
-//! take it from the operating system, and for each character the lowest five bits of a random byte.
+//! To split a new secret of 16 to 44 bytes, or of 63 or 64:
 //!
-//! Random bytes by [`encode`] will not do: the bits that it leaves over are zero and not random, by which fewer
-//! shares may tell up to three of the last bits of the secret.
+//! 1. [`encode`] makes the secret's own string, at the index `s`.
+//! 2. [`encode_payload`] makes one string fewer than the threshold, each at another index, of random characters:
+//!    as many as the payload of the secret's string has (26 for 16 bytes, 52 for 32).
+//! 3. [`derive()`] makes the other shares from these strings.
+//!
+//! Fewer shares than the threshold then say nothing about the secret. This crate draws no random numbers: take
+//! them from the operating system, and for each character the lowest five bits of a random byte.
+//!
+//! In step 2, don't use [`encode`] on random bytes. The bits that it leaves over are zero, and that tells anyone
+//! who holds one share fewer than the threshold up to four bits of the end of the secret, as many as its last
+//! character holds: one of 32 bytes, two of 64, three of 16, four of 18 or 63, none of 20 or 40.
 //!
 //! ```
 //! use bech32_proved::codex32::{self, Header, Identifier, Refusal, Share, Threshold};
@@ -36,12 +41,12 @@
 //! let a = codex32::encode_payload(&at(Fe32::A)?, first)?;
 //! let c = codex32::encode_payload(&at(Fe32::C)?, second)?;
 //!
-//! // Further shares of these.
+//! // Further shares from these.
 //! let set = [Share::parse(&whole)?, Share::parse(&a)?, Share::parse(&c)?];
 //! let d = codex32::derive(&set, Fe32::D)?;
 //! let e = codex32::derive(&set, Fe32::E)?;
 //!
-//! // Any three of the shares a, c, d, e give back the secret, and two do not.
+//! // Any three of the shares a, c, d, e recover the secret, and two do not.
 //! let shares = [Share::parse(&e)?, Share::parse(&a)?, Share::parse(&d)?];
 //! let recovered = codex32::recover(&shares)?;
 //! assert_eq!(recovered, whole);
@@ -53,14 +58,14 @@
 //! # Damaged strings
 //!
 //! [`propose`] and [`propose_long`] look for the nearest string to a damaged one. A string that was proposed
-//! may not be what was meant: show it, and ask. More shares than the threshold are all tested, so that a
-//! wrong one is found where there is one to spare.
+//! may not be what was meant: show it, and ask. If there are more shares than the threshold, all are tested, so
+//! one share to spare reveals a wrong one.
 //!
 //! # Secrets
 //!
-//! Type secrets and shares on a machine that is offline. The library keeps nothing between calls; what this
-//! crate copies out of a text for a call it puts zeros over afterwards. Texts, bytes and the strings that are
-//! returned are the caller's to wipe. The time of a call, and which memory it reads, depend on the secret,
+//! Type secrets and shares only on a computer that is offline. The library keeps nothing between calls; what
+//! this crate copies out of a text for a call, it overwrites with zeros afterwards. Texts, bytes and the strings
+//! that are returned are yours to wipe. The time of a call, and which memory it reads, depend on the secret,
 //! since tables are read by its values.
 //!
 //! [BIP-93]: <https://github.com/bitcoin/bips/blob/master/bip-0093.mediawiki>
@@ -74,6 +79,7 @@ pub use refusal::Refusal;
 pub use share::Share;
 
 use crate::raw::{self, Block};
+use crate::text::in_case_of;
 use crate::Fe32;
 
 /// The characters that a string has at most.
@@ -108,8 +114,8 @@ fn written<E>(put: impl FnOnce(&mut [u8]) -> Result<usize, E>) -> Result<String,
 }
 
 /// Makes the string of a header and bytes, in lower case: of 16 to 44 bytes one of 48 to 93 characters, of 63
-/// or 64 a long one, of 125 or 127. The bits that are left over are zero: a string that is made at random for
-/// sharing is made by [`encode_payload`].
+/// or 64 a long one, of 125 or 127. The bits that are left over are zero: to make a random string for sharing,
+/// use [`encode_payload`].
 ///
 /// ```
 /// use bech32_proved::codex32::{encode, Header, Identifier, Refusal, Threshold};
@@ -138,8 +144,8 @@ pub fn encode(header: &Header, bytes: &[u8]) -> Result<String, Refusal> {
 /// one case, and as many as 16 to 44 bytes have, from 26 to 71, or as 63 or 64 have, 101 or 103: at most four
 /// bits are left over, whatever they are.
 ///
-/// This makes the strings at random that a secret is shared with, of as many characters as the payload of the
-/// secret's own string has, all 32 of the alphabet equally likely.
+/// Use it to make the random strings that a secret is split with: of as many characters as the payload of the
+/// secret's own string has, each drawn from all 32 of the alphabet with equal chance.
 ///
 /// ```
 /// use bech32_proved::codex32::{encode_payload, Header, Identifier, Refusal, Threshold};
@@ -165,11 +171,11 @@ pub fn encode_payload(header: &Header, characters: &str) -> Result<String, Refus
 }
 
 /// Derives the string at an index from others of its set, in lower case (BIP-93, Recovering Secret). They have
-/// the same threshold, identifier and length, each another index, and are as many as the threshold at least;
-/// with the threshold 0 the one string is the secret. More than the threshold are all tested: they lie on one
-/// polynomial, or contradict each other.
+/// the same threshold, identifier and length, and each another index; there are at least as many as the
+/// threshold. With the threshold 0 the one string is the secret. If there are more than the threshold, all are
+/// tested: they lie on one polynomial, or contradict each other.
 ///
-/// The string has the threshold and the identifier of the set and the index that is asked for, and its
+/// The string has the threshold and the identifier of the set and the index that you ask for, and its
 /// checksum is right.
 ///
 /// ```
@@ -189,8 +195,8 @@ pub fn encode_payload(header: &Header, characters: &str) -> Result<String, Refus
 ///
 /// # Errors
 ///
-/// The first of: [`Refusal::OtherSet`], where a share has another threshold, identifier or length than the
-/// first; [`Refusal::IndexTwice`]; [`Refusal::BadShareIndex`], where the threshold is 0 and the index not `s`;
+/// The first of: [`Refusal::OtherSet`], if a share has another threshold, identifier or length than the
+/// first; [`Refusal::IndexTwice`]; [`Refusal::BadShareIndex`], if the threshold is 0 and the index not `s`;
 /// [`Refusal::TooFewShares`]; [`Refusal::Contradiction`].
 pub fn derive(shares: &[Share<'_>], share_index: Fe32) -> Result<String, Refusal> {
     if shares.len() > MAX_SHARES {
@@ -239,11 +245,12 @@ pub fn recover(shares: &[Share<'_>]) -> Result<String, Refusal> {
 }
 
 /// Proposes the nearest string to a damaged one of 48 to 93 characters, in which each `?` behind the last `1`
-/// is a character that cannot be read: None where there is none.
+/// is a character that cannot be read. Returns None if there is none.
 ///
-/// It is the text in lower case with the same human-readable part and length whose checksum is right, where
-/// twice the number of changed characters, with the number of the unreadable ones, is at most 8; there is at
-/// most one. **It may not be what was meant**: show it, and ask. Neither threshold nor share index is tested.
+/// It has the same human-readable part and length, its checksum is right, and twice the number of changed
+/// characters, plus the number of unreadable ones, is at most 8; there is at most one such string. It is in
+/// upper case if the letters of the damaged one are, else in lower case. **It may not be what was meant**: show
+/// it, and ask. Neither threshold nor share index is tested.
 ///
 /// ```
 /// use bech32_proved::codex32::propose;
@@ -251,6 +258,7 @@ pub fn recover(shares: &[Share<'_>]) -> Result<String, Refusal> {
 /// let damaged = "ms12name?320zyxwvutsrqpnmlkjhgfedcaxrpp87?hkkqqq";
 /// let proposed = "ms12namea320zyxwvutsrqpnmlkjhgfedcaxrpp870hkkqrm";
 /// assert_eq!(propose(damaged)?.as_deref(), Some(proposed));
+/// assert_eq!(propose(&damaged.to_uppercase())?, Some(proposed.to_uppercase()));
 ///
 /// let lost = "ms12name?????????utsrqpnmlkjhgfedcaxrpp870hkkqrm";
 /// assert_eq!(propose(lost)?, None);
@@ -267,7 +275,8 @@ pub fn propose(s: &str) -> Result<Option<String>, Refusal> {
     proposed_by(raw::codex32_propose, s)
 }
 
-/// Proposes the nearest string to a damaged long one, of 125 to 127 characters, as [`propose`] has it.
+/// Proposes the nearest string to a damaged long one, of 125 to 127 characters, within the bounds of [`propose`]
+/// and in the case of the damaged one. Returns None if there is none.
 ///
 /// # Errors
 ///
@@ -285,6 +294,6 @@ fn proposed_by(propose: Propose, s: &str) -> Result<Option<String>, Refusal> {
     wipe(&mut memory, Block::ZEROS);
     match proposed {
         Err(Refusal::NoNearest) => Ok(None),
-        other => other.map(Some),
+        other => other.map(|proposed| Some(in_case_of(s, proposed))),
     }
 }

@@ -3,7 +3,7 @@
 use crate::checksum::CorrectingChecksum;
 use crate::lent::{Lent, MOST_MEMORY};
 use crate::raw;
-use crate::text::{ascii, MAX_TEXT_LENGTH};
+use crate::text::{ascii, in_case_of, is_in_upper_case, MAX_TEXT_LENGTH};
 use crate::{Fe32, Refusal};
 use std::fmt;
 use std::iter::once;
@@ -11,8 +11,8 @@ use std::iter::once;
 // The locations that a correction has at most.
 const MAX_LISTED: usize = 3;
 
-// The bytes that near texts are put into at first. Where all of them take more, the first search says how
-// much, and a second one puts them.
+// The bytes that near texts are put into at first. If all of them take more, the first search says how much,
+// and a second one puts them.
 const LEAST_ROOM: usize = 16 << 10;
 
 /// How a mistyped text is mended.
@@ -30,7 +30,8 @@ impl Correction {
         self.errors.iter().copied()
     }
 
-    /// The mended text, in lower case, which the checksum accepts.
+    /// The mended text, which the checksum accepts, in the case of the mistyped one: in upper case if its
+    /// letters are, else in lower case.
     pub fn as_str(&self) -> &str {
         &self.text
     }
@@ -43,18 +44,23 @@ impl Correction {
     ///
     /// let correction = correct::<Bech32>("BC1QAR0SRRR7XFKVY5L643LYDNW9RE59GTZZWF5MDX", &[])?;
     /// let changes = correction.changes();
-    /// assert_eq!(changes, [Change { place: 41, from: 'x', to: 'q' }]);
-    /// assert_eq!(changes[0].to_string(), "character 42: x becomes q");
+    /// assert_eq!(changes, [Change { place: 41, from: 'X', to: 'Q' }]);
+    /// assert_eq!(changes[0].to_string(), "character 42: X becomes Q");
     /// # Ok::<(), bech32_proved::Refusal>(())
     /// ```
     pub fn changes(&self) -> Vec<Change> {
+        let is_upper = is_in_upper_case(&self.text);
+        let shown = |element: Fe32| match element.to_char() {
+            c if is_upper => c.to_ascii_uppercase(),
+            c => c,
+        };
         let change = |(location, value): (usize, Fe32)| {
             let place = self.text.len() - 1 - location;
             let element = Fe32::from_char_unchecked(self.text.as_bytes()[place]);
             Change {
                 place,
-                from: (element - value).to_char(),
-                to: element.to_char(),
+                from: shown(element - value),
+                to: shown(element),
             }
         };
         let mut changes: Vec<Change> = self.bch_errors().map(change).collect();
@@ -69,9 +75,9 @@ impl Correction {
 pub struct Change {
     /// How many characters stand before it. People count from 1, as this change's words do.
     pub place: usize,
-    /// What stands there in the mistyped text, in lower case.
+    /// What stands there in the mistyped text.
     pub from: char,
-    /// What stands there in the mended one.
+    /// What stands there in the mended one. Both have the case of the mistyped text.
     pub to: char,
 }
 
@@ -86,13 +92,13 @@ impl fmt::Display for Change {
     }
 }
 
-/// Mends a mistyped text by a checksum. `erasures` are the locations of characters that are known
-/// to be wrong; location 0 is the last character, as in the names of the Rust crate, and that of the
-/// character at a place is `s.len() - 1 - place`.
+/// Mends a mistyped text by a checksum, in the case of the text. `erasures` are the locations of characters
+/// that are known to be wrong; location 0 is the last character, as in the names of the Rust crate, and the
+/// character at a place has the location `s.len() - 1 - place`.
 ///
-/// The answer is the one correction of the data part where twice the errors outside the erasures,
-/// with the erasures, are three at most. **It may not be what was meant**: show it, and ask. Two wrong
-/// characters are found by [`nearest`].
+/// It finds one wrong character; or one, beside one erasure; or up to three erasures. Within these bounds
+/// there is at most one correction of the data part. **It may not be what was meant**: show it, and ask.
+/// [`nearest`] finds two wrong characters.
 ///
 /// ```
 /// use bech32_proved::{correct, Bech32, Fe32, Refusal};
@@ -105,14 +111,16 @@ impl fmt::Display for Change {
 /// assert_eq!(correct::<Bech32>(two, &[]), Err(Refusal::NoCorrection));
 /// let correction = correct::<Bech32>(two, &[0])?;
 /// assert_eq!(correction.as_str(), "bc1qar0srrr7xfkvy5l643lydnw9re59gtzzwf5mdq");
+///
+/// assert_eq!(correct::<Bech32>("A12UEL5Q", &[])?.as_str(), "A12UEL5L");
 /// # Ok::<(), Refusal>(())
 /// ```
 ///
 /// # Errors
 ///
 /// The [`Refusal`] that [`CheckedHrpstring::new`](crate::primitives::decode::CheckedHrpstring::new) has, but
-/// [`Refusal::NoCorrection`] in place of a wrong checksum, where there is no such
-/// correction or an erasure is not in the data part.
+/// [`Refusal::NoCorrection`] in place of a wrong checksum: if there is no such correction, or an erasure is
+/// not in the data part.
 pub fn correct<Ck: CorrectingChecksum>(s: &str, erasures: &[usize]) -> Result<Correction, Refusal> {
     let (mut locations, mut values) = ([0; MAX_LISTED], [0; MAX_LISTED]);
     let mut mended = [0; MAX_TEXT_LENGTH];
@@ -125,27 +133,27 @@ pub fn correct<Ck: CorrectingChecksum>(s: &str, erasures: &[usize]) -> Result<Co
         &mut mended,
     )?;
     let errors = locations[..count].iter().zip(&values).map(|(l, v)| {
-        let value = Fe32::try_from(*v).expect("the library answers elements");
+        let value = Fe32::try_from(*v).expect("the library's values are elements");
         (*l, value)
     });
     Ok(Correction {
         errors: errors.collect(),
-        text: ascii(&mended[..length]).to_owned(),
+        text: in_case_of(s, ascii(&mended[..length]).to_owned()),
     })
 }
 
-/// Lists the texts near to a mistyped one: all that a checksum accepts and that differ from it in at
-/// most `errors` characters, 0 to 2, of the data part outside `erasures`, the locations of characters
-/// that are known to be wrong. Location 0 is the last character. There may be no such text.
+/// Lists the texts near to a mistyped one, in its case: all that a checksum accepts and that differ from it
+/// in at most `errors` characters, 0 to 2, of the data part outside `erasures`. These are the locations of
+/// characters that are known to be wrong; location 0 is the last character. The list may be empty.
 ///
-/// Where the data part has at most 89 characters, two errors without erasures have one answer at most,
-/// the right one where two characters are wrong. **It may not be what was meant**: of texts of 62
-/// characters at random, some 15 of 10,000 have one. Show it, and ask.
+/// With at most 89 characters in the data part and no erasures, it has at most one text. If no more than
+/// `errors` characters are wrong, that text is the right one. **It may not be what was meant**: of random
+/// texts of 62 characters, some 15 in 10,000 have a near one. Show it, and ask.
 ///
-/// # What it takes
+/// # Time
 ///
-/// Two errors, in milliseconds of a processor at 2.5 GHz, rounded, and how many texts there are. Where
-/// these fill more than 16 KB there is a second search, which takes as long.
+/// A search for two errors, in milliseconds of a processor at 2.5 GHz, rounded, and the number of texts. If
+/// these fill more than 16 KB, there is a second search, which takes as long.
 ///
 /// | characters | no erasure | one | two | three |
 /// |---|---|---|---|---|
@@ -159,16 +167,16 @@ pub fn correct<Ck: CorrectingChecksum>(s: &str, erasures: &[usize]) -> Result<Co
 /// One error takes at most 0.1 ms up to 90 characters, and 1.2 ms with three erasures at 1,000. From 135
 /// characters on a text may have far more near ones beside three erasures that are 33 locations apart.
 ///
-/// What helps a person is a list of few texts: at most two errors with two erasures up to 90 characters,
-/// two errors with one erasure in longer texts, and one error with three erasures. Beyond these the right
-/// text stands among many that are as near.
+/// What helps a person is a short list: at most two errors with two erasures up to 90 characters, two errors
+/// with one erasure in longer texts, and one error with three erasures. Beyond these the right text is one of
+/// many that are as near.
 ///
 /// # The order
 ///
 /// The order is that of the highest location of a change outside the erasures, then that of the
 /// element added there, then that of the next such location. A text without such changes is first:
-/// one that the checksum accepts is the first of its own list. The list is empty where an erasure is not
-/// in the data part, or where there are more than three.
+/// one that the checksum accepts is the first of its own list. The list is empty if an erasure is not in
+/// the data part, or if there are more than three.
 ///
 /// ```
 /// use bech32_proved::{nearest, Bech32, Fe32, Refusal};
@@ -188,7 +196,7 @@ pub fn correct<Ck: CorrectingChecksum>(s: &str, erasures: &[usize]) -> Result<Co
 ///
 /// [`Refusal::BadNumber`] of more than two errors; else the [`Refusal`] that
 /// [`CheckedHrpstring::new`](crate::primitives::decode::CheckedHrpstring::new) has, but for a wrong checksum;
-/// else [`Refusal::NoMemory`] or [`Refusal::NoRoom`] where the texts are too many for 256 MB.
+/// else [`Refusal::NoMemory`] or [`Refusal::NoRoom`] if the texts are too many for 256 MB.
 pub fn nearest<Ck: CorrectingChecksum>(
     s: &str,
     erasures: &[usize],
@@ -197,7 +205,7 @@ pub fn nearest<Ck: CorrectingChecksum>(
     nearest_from::<Ck>(LEAST_ROOM, s, erasures, errors)
 }
 
-// The same, first with so much room for the texts.
+// Like `nearest`, first with `least` bytes of room for the texts.
 fn nearest_from<Ck: CorrectingChecksum>(
     least: usize,
     s: &str,
@@ -206,7 +214,7 @@ fn nearest_from<Ck: CorrectingChecksum>(
 ) -> Result<Vec<Correction>, Refusal> {
     let (number, text) = (Ck::NUMBER, s.as_bytes());
     let mut lent = Lent::for_text(s.len());
-    // As many as there is room for; answered is the number of all.
+    // Puts as many as there is room for, and returns the number of all.
     let mut put = |texts: &mut [u8]| {
         lent.to(|lent| raw::nearest(number, text, erasures, errors, lent, texts))
     };
@@ -238,7 +246,7 @@ fn correction_to(near: &str, s: &str, erasures: &[usize]) -> Correction {
     }
     Correction {
         errors,
-        text: near.to_owned(),
+        text: in_case_of(s, near.to_owned()),
     }
 }
 

@@ -2,11 +2,11 @@
 
 use crate::checksum::CorrectingChecksum;
 use crate::lent::{Lent, MOST_MEMORY};
-use crate::text::ascii;
+use crate::text::{ascii, in_case_of};
 use crate::{raw, Refusal};
 use std::fmt;
 
-// The texts that there is room for at first. Where there are more, the first call says how many, and a second
+// The texts that there is room for at first. If there are more, the first call says how many, and a second
 // one puts them.
 const LEAST_TEXTS: usize = 8;
 
@@ -15,14 +15,14 @@ const SWAPPED: u8 = 1;
 const LEFT_OUT: u8 = 2;
 
 /// What is done to a mistyped text to make another of it. A place is the number of characters that stand
-/// before: people count from 1, as this edit's words do.
+/// before: people count from 1, as this edit's words do. Characters have the case of the mistyped text.
 #[derive(Clone, Copy, Debug, PartialEq, Eq, Hash)]
 pub enum Edit {
     /// Two neighbours are swapped.
     Swapped {
         /// Where the first of them stands.
         place: usize,
-        /// What stands there in the mistyped text, in lower case.
+        /// What stands there in the mistyped text.
         first: char,
         /// What stands behind it.
         second: char,
@@ -31,7 +31,7 @@ pub enum Edit {
     LeftOut {
         /// Where it stands in the mistyped text.
         place: usize,
-        /// That character, in lower case.
+        /// That character.
         character: char,
     },
     /// A character is put in.
@@ -80,23 +80,24 @@ impl NearEdit {
         self.edit
     }
 
-    /// The text that it makes, in lower case, which the checksum accepts.
+    /// The text that it makes, which the checksum accepts, in the case of the mistyped one: in upper case if
+    /// its letters are, else in lower case.
     pub fn as_str(&self) -> &str {
         &self.text
     }
 }
 
-/// Lists the texts that one edit makes of a mistyped one: all others that a checksum accepts and that come
-/// from it by leaving out one character of the data part, by putting one in, or by swapping two neighbours.
-/// Each stands once. The human-readable part stays as it is.
+/// Lists the texts that one edit makes of a mistyped one, in its case: all others that a checksum accepts and
+/// that come from it by leaving out one character of the data part, by putting one in, or by swapping two
+/// neighbours. Each is listed once. The human-readable part stays as it is.
 ///
-/// Of a text in which one character is missing or too many, or two neighbours are swapped, the right one is
-/// nearly always the only answer, and of other texts there is nearly never one. **It may not be what was
-/// meant**: show it, and ask.
+/// If one character is missing or too many, or two neighbours are swapped, the right text is nearly always the
+/// only one listed; of other texts the list is nearly always empty. **It may not be what was meant**: show it,
+/// and ask.
 ///
-/// By [`Bech32`](crate::Bech32) a text that ends in `p` is accepted with any number of `q` before that as well. So
-/// where the text that is found ends in `p`, an edit of its last two characters says little: a text that
-/// [`nearest`](crate::nearest) finds is to be asked of first. [`Bech32m`](crate::Bech32m) has no such weakness.
+/// [`Bech32`](crate::Bech32) accepts a text that ends in `p` with any number of `q` before the `p` as well. So if
+/// the text that is found ends in `p`, an edit of its last two characters says little: ask first about a text
+/// that [`nearest`](crate::nearest) finds. [`Bech32m`](crate::Bech32m) has no such weakness.
 ///
 /// ```
 /// use bech32_proved::{near_edits, Bech32, Edit};
@@ -115,20 +116,21 @@ impl NearEdit {
 ///
 /// # The order
 ///
-/// Swaps are first, then what leaves a character out, then what puts one in, and of each kind that with the
-/// fewest characters behind it. Where several edits make one text, that with the fewest behind it is told:
-/// of a run of equal characters the last one is left out, and one that is the same is put in behind the run.
+/// Swaps come first, then what leaves a character out, then what puts one in; in each kind, those with fewer
+/// characters behind them come first. If several edits make the same text, the one with the fewest characters
+/// behind it is listed: of a run of equal characters the last is left out, and an equal one is put in behind
+/// the run.
 ///
 /// # Errors
 ///
 /// The [`Refusal`] that [`UncheckedHrpstring::new`](crate::primitives::decode::UncheckedHrpstring::new) has:
 /// the text may have any length, and any number of characters behind its separator. Else
-/// [`Refusal::NoMemory`] or [`Refusal::NoRoom`] where the texts are too many for 256 MB.
+/// [`Refusal::NoMemory`] or [`Refusal::NoRoom`] if the texts are too many for 256 MB.
 pub fn near_edits<Ck: CorrectingChecksum>(s: &str) -> Result<Vec<NearEdit>, Refusal> {
     near_edits_from::<Ck>(LEAST_TEXTS, s)
 }
 
-// The same, first with room for so many texts.
+// Like `near_edits`, first with room for `least` texts.
 fn near_edits_from<Ck: CorrectingChecksum>(
     least: usize,
     s: &str,
@@ -153,7 +155,7 @@ struct Room {
 }
 
 impl Room {
-    // Room for so many.
+    // Room for `count` of them.
     fn of(count: usize, s: &str) -> Room {
         Room {
             kinds: vec![0; count],
@@ -162,7 +164,7 @@ impl Room {
         }
     }
 
-    // Puts as many as there is room for, and answers how many there are.
+    // Puts as many as there is room for, and returns how many there are.
     fn fill<Ck: CorrectingChecksum>(&mut self, lent: &mut Lent, s: &str) -> Result<usize, Refusal> {
         let (kinds, locations, texts) = (&mut self.kinds, &mut self.locations, &mut self.texts);
         lent.to(|lent| raw::near_edits(Ck::NUMBER, s.as_bytes(), lent, kinds, locations, texts))
@@ -175,9 +177,10 @@ impl Room {
         let near = |(kind, location): (&u8, &usize)| {
             let (text, others) = rest.split_at(length_by(*kind, s.len()));
             rest = others;
+            let text = in_case_of(s, ascii(text).to_owned());
             NearEdit {
-                edit: edit_of(*kind, *location, s, text),
-                text: ascii(text).to_owned(),
+                edit: edit_of(*kind, *location, s, &text),
+                text,
             }
         };
         edits.map(near).collect()
@@ -194,8 +197,8 @@ fn length_by(kind: u8, length: usize) -> usize {
 }
 
 // The edit of a text that makes another one, by its kind and the characters that stand behind it.
-fn edit_of(kind: u8, location: usize, s: &str, text: &[u8]) -> Edit {
-    let old = |place: usize| char::from(s.as_bytes()[place].to_ascii_lowercase());
+fn edit_of(kind: u8, location: usize, s: &str, text: &str) -> Edit {
+    let old = |place: usize| char::from(s.as_bytes()[place]);
     match kind {
         SWAPPED => {
             let place = s.len() - 2 - location;
@@ -216,7 +219,7 @@ fn edit_of(kind: u8, location: usize, s: &str, text: &[u8]) -> Edit {
             let place = text.len() - 1 - location;
             Edit::PutIn {
                 place,
-                character: char::from(text[place]),
+                character: char::from(text.as_bytes()[place]),
             }
         }
     }

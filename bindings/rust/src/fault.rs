@@ -12,7 +12,13 @@ pub struct Fault {
     place: usize,
     // How many characters stand before the one at fault, and that one.
     character: Option<(usize, char)>,
+    // Whether the text has a separator for a character to stand behind.
+    has_separator: bool,
 }
+
+// What is said of a character that is refused in a text without a separator.
+const NO_SEPARATOR_AND_CHARACTER: &str =
+    "the text has no separator, 1, and a character that may not stand behind one";
 
 impl Fault {
     /// Why the text is refused.
@@ -20,15 +26,15 @@ impl Fault {
         self.refusal
     }
 
-    /// Where the character at fault begins in the text, in bytes from 0. Where no character is, the
-    /// length at fault: that of a human-readable part that is empty or too long, and else that of the
-    /// text.
+    /// Where the character at fault begins in the text, in bytes from 0, if [`character`](Self::character)
+    /// is some. Else no single character is at fault, and this is a length, to be shown to nobody: that of a
+    /// human-readable part that is empty or too long, and of every other text its own.
     pub fn place(&self) -> usize {
         self.place
     }
 
-    /// The character at fault, where one is, with its place in the text: how many characters stand
-    /// before it. People count from 1, as this fault's words do.
+    /// The character at fault, if one is, with its place in the text: how many characters stand before it.
+    /// People count from 1, as this fault's words do.
     pub fn character(&self) -> Option<(usize, char)> {
         self.character
     }
@@ -36,7 +42,11 @@ impl Fault {
 
 impl fmt::Display for Fault {
     fn fmt(&self, f: &mut fmt::Formatter<'_>) -> fmt::Result {
-        write!(f, "{}", self.refusal)?;
+        if self.refusal == Refusal::InvalidCharacter && !self.has_separator {
+            f.write_str(NO_SEPARATOR_AND_CHARACTER)?;
+        } else {
+            write!(f, "{}", self.refusal)?;
+        }
         match self.character {
             // What would not show, or may be taken for another, has its code point.
             Some((place, c)) if c.is_ascii_graphic() => write!(f, ": character {}, {c}", place + 1),
@@ -48,7 +58,7 @@ impl fmt::Display for Fault {
 
 impl Error for Fault {}
 
-/// Why a checksum does not accept a text, and where the text is at fault: None where it is accepted.
+/// Why a checksum does not accept a text, and where the text is at fault: None if it is accepted.
 /// Faults of the characters and of the human-readable part are the same by each checksum.
 ///
 /// ```
@@ -81,5 +91,6 @@ pub fn fault<Ck: Checksum>(s: &str) -> Option<Fault> {
         refusal,
         place,
         character: of_character.then(character).flatten(),
+        has_separator: s.contains('1'),
     })
 }

@@ -77,7 +77,7 @@ impl<I: Iterator<Item = Fe32>> Fe32IterExt for I {}
 #[derive(Clone, Debug)]
 pub struct BytesToFes<I: Iterator<Item = u8>> {
     bytes: Fuse<I>,
-    // The bits that were taken and not given: so many, the lowest.
+    // The bits that were taken and not given: `count` of them, the lowest.
     bits: u32,
     count: u32,
 }
@@ -122,7 +122,7 @@ impl<I: Iterator<Item = u8>> FusedIterator for BytesToFes<I> {}
 #[derive(Clone, Debug)]
 pub struct FesToBytes<I: Iterator<Item = Fe32>> {
     elements: Fuse<I>,
-    // The bits that were taken and not given: so many, the lowest.
+    // The bits that were taken and not given: `count` of them, the lowest.
     bits: u32,
     count: u32,
     // Whether zeros fill the last byte.

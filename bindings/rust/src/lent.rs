@@ -4,15 +4,15 @@ use crate::raw::Block;
 use crate::text::MAX_TEXT_LENGTH;
 use crate::Refusal;
 
-// The bytes that a call is lent at first, and so many more for each character of the longest texts that are
-// searched.
+// The bytes that a call is lent at first, and how many more for each character of a text, up to the longest that
+// is searched.
 const LEAST_MEMORY: usize = 64 << 10;
 const OF_A_CHARACTER: usize = 512;
 
 /// The bytes that a call is lent at most, and that its texts fill at most.
 pub const MOST_MEMORY: usize = 256 << 20;
 
-// By so much they grow where they do not suffice.
+// The factor by which they grow if they do not suffice.
 const GROWTH: usize = 8;
 
 /// Memory that calls are lent one after another.
@@ -21,19 +21,19 @@ pub struct Lent {
 }
 
 impl Lent {
-    /// As much as suffices for what is near to most texts of so many characters.
+    /// As much as suffices for most texts of `length` characters.
     pub fn for_text(length: usize) -> Lent {
         Lent::of(LEAST_MEMORY + OF_A_CHARACTER * length.min(MAX_TEXT_LENGTH))
     }
 
-    // So many bytes.
+    // Memory of `size` bytes.
     fn of(size: usize) -> Lent {
         Lent {
             blocks: vec![Block::ZEROS; size / Block::SIZE],
         }
     }
 
-    /// What a call answers, which is made again with more memory while there is too little.
+    /// What a call returns. It is made again with more memory while there is too little.
     pub fn to<T>(
         &mut self,
         mut call: impl FnMut(&mut [Block]) -> Result<T, Refusal>,
@@ -44,7 +44,7 @@ impl Lent {
                 Err(Refusal::NoMemory) if size < MOST_MEMORY => {
                     *self = Lent::of(MOST_MEMORY.min(GROWTH * size));
                 }
-                answer => return answer,
+                other => return other,
             }
         }
     }

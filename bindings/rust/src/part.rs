@@ -91,8 +91,8 @@ impl Hrp {
         Hrp::parse(&data.to_string())
     }
 
-    /// A part that is not tested, with `X` in place of each byte that is not from 33 to 126. Of one
-    /// that [`Hrp::parse`] would refuse, the calls that write texts may answer an error.
+    /// A part that is not tested, with `X` in place of each byte that is not from 33 to 126. The calls that
+    /// write texts may return an error for one that [`Hrp::parse`] would refuse.
     ///
     /// # Panics
     ///

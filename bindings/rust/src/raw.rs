@@ -121,30 +121,30 @@ fn lent(memory: &mut [Block]) -> Memory {
     }
 }
 
-// What a call answered, where it did not refuse: its value, or the refusal that has the number.
+// What a call returned: its value, or the refusal that has the number.
 fn known<T, R>(number: u32, refusal: Option<R>, value: T) -> Result<T, R> {
     match (number, refusal) {
         (0, _) => Ok(value),
         (_, Some(refusal)) => Err(refusal),
-        (_, None) => panic!("the library answered {number}, which this crate does not know"),
+        (_, None) => panic!("the library returned {number}, which this crate does not know"),
     }
 }
 
 // The same of a call of bech32_c.
-fn answered<T>(number: u32, value: T) -> Result<T, Refusal> {
+fn returned<T>(number: u32, value: T) -> Result<T, Refusal> {
     known(number, Refusal::from_number(number), value)
 }
 
 // The same of a call that counts all of what it lists, and puts what there is room for.
 #[cfg(feature = "correct")]
 fn counted(number: u32, count: usize) -> Result<usize, Refusal> {
-    match answered(number, count) {
+    match returned(number, count) {
         Err(Refusal::NoRoom) => Ok(count),
-        answer => answer,
+        other => other,
     }
 }
 
-/// Puts the text of a human-readable part and bytes into a buffer, and answers its length.
+/// Puts the text of a human-readable part and bytes into a buffer, and returns its length.
 pub fn encode(checksum: u32, hrp: &[u8], bytes: &[u8], text: &mut [u8]) -> Result<usize, Refusal> {
     let mut length = 0;
     // SAFETY: each pointer stands with the length of its slice, and no two slices that are written
@@ -161,10 +161,10 @@ pub fn encode(checksum: u32, hrp: &[u8], bytes: &[u8], text: &mut [u8]) -> Resul
             &mut length,
         )
     };
-    answered(number, length)
+    returned(number, length)
 }
 
-/// Puts the human-readable part and the bytes of a text into buffers, and answers their lengths.
+/// Puts the human-readable part and the bytes of a text into buffers, and returns their lengths.
 pub fn decode(text: &[u8], hrp: &mut [u8], bytes: &mut [u8]) -> Result<(usize, usize), Refusal> {
     let (mut hrp_length, mut bytes_length) = (0, 0);
     // SAFETY: as in `encode`.
@@ -180,7 +180,7 @@ pub fn decode(text: &[u8], hrp: &mut [u8], bytes: &mut [u8]) -> Result<(usize, u
             &mut bytes_length,
         )
     };
-    answered(number, (hrp_length, bytes_length))
+    returned(number, (hrp_length, bytes_length))
 }
 
 /// The lengths of the human-readable part and of the data part, without the checksum, of a text.
@@ -196,7 +196,7 @@ pub fn check(checksum: u32, text: &[u8]) -> Result<(usize, usize), Refusal> {
             &mut data_length,
         )
     };
-    answered(number, (hrp_length, data_length))
+    returned(number, (hrp_length, data_length))
 }
 
 /// Why a text is not accepted, and where its fault stands.
@@ -204,7 +204,7 @@ pub fn fault(checksum: u32, text: &[u8]) -> Result<(), (Refusal, usize)> {
     let mut place = 0;
     // SAFETY: as in `encode`.
     let number = unsafe { c::bech32_fault(checksum, text.as_ptr(), text.len(), &mut place) };
-    answered(number, ()).map_err(|refusal| (refusal, place))
+    returned(number, ()).map_err(|refusal| (refusal, place))
 }
 
 /// The remainder that elements leave, a byte from 0 to 31 each.
@@ -213,10 +213,10 @@ pub fn residue(checksum: u32, elements: &[u8]) -> Result<u32, Refusal> {
     // SAFETY: as in `encode`.
     let number =
         unsafe { c::bech32_residue(checksum, elements.as_ptr(), elements.len(), &mut residue) };
-    answered(number, residue)
+    returned(number, residue)
 }
 
-/// Puts a segwit address into a buffer, and answers its length.
+/// Puts a segwit address into a buffer, and returns its length.
 pub fn segwit_encode(
     hrp: &[u8],
     version: u32,
@@ -237,10 +237,10 @@ pub fn segwit_encode(
             &mut length,
         )
     };
-    answered(number, length)
+    returned(number, length)
 }
 
-/// Puts the human-readable part and the program of a segwit address into buffers, and answers the
+/// Puts the human-readable part and the program of a segwit address into buffers, and returns the
 /// length of the one, the witness version, and the length of the other.
 pub fn segwit_decode(
     text: &[u8],
@@ -262,11 +262,11 @@ pub fn segwit_decode(
             &mut program_length,
         )
     };
-    answered(number, (hrp_length, version, program_length))
+    returned(number, (hrp_length, version, program_length))
 }
 
 /// Puts the locations of a correction, the values to add there and the mended text into buffers,
-/// and answers how many locations there are and the length of the text.
+/// and returns how many locations there are and the length of the text.
 #[cfg(feature = "correct")]
 pub fn correct(
     checksum: u32,
@@ -295,10 +295,10 @@ pub fn correct(
             &mut mended_length,
         )
     };
-    answered(number, (count, mended_length))
+    returned(number, (count, mended_length))
 }
 
-/// Puts the texts near to a text into a buffer, one behind another, as many as it has room for, and answers
+/// Puts the texts near to a text into a buffer, one behind another, as many as it has room for, and returns
 /// how many there are in all. The memory is for the call's own use.
 #[cfg(feature = "correct")]
 pub fn nearest(
@@ -331,7 +331,7 @@ pub fn nearest(
     counted(number, count)
 }
 
-/// Puts what one edit makes of a text into buffers, as much as they have room for, and answers how many such
+/// Puts what one edit makes of a text into buffers, as much as they have room for, and returns how many such
 /// texts there are in all: the kind of each edit, its location, and the texts, one behind another. The
 /// memory is for the call's own use.
 #[cfg(feature = "correct")]
@@ -363,7 +363,7 @@ pub fn near_edits(
     counted(number, count)
 }
 
-/// Reads a string of either length, puts the bytes of its payload into a buffer, and answers how many they
+/// Reads a string of either length, puts the bytes of its payload into a buffer, and returns how many they
 /// are.
 #[cfg(feature = "codex32")]
 pub fn codex32_share(text: &[u8], bytes: &mut [u8]) -> Result<usize, codex32::Refusal> {
@@ -384,7 +384,7 @@ pub fn codex32_share(text: &[u8], bytes: &mut [u8]) -> Result<usize, codex32::Re
     known(number, codex32::Refusal::from_number(number), length)
 }
 
-/// Puts the string of a header and bytes into a buffer, and answers its length.
+/// Puts the string of a header and bytes into a buffer, and returns its length.
 #[cfg(feature = "codex32")]
 pub fn codex32_encode(
     threshold: u32,
@@ -411,7 +411,7 @@ pub fn codex32_encode(
     known(number, codex32::Refusal::from_number(number), length)
 }
 
-/// Puts the string of a header and the characters of a payload into a buffer, and answers its length.
+/// Puts the string of a header and the characters of a payload into a buffer, and returns its length.
 #[cfg(feature = "codex32")]
 pub fn codex32_encode_payload(
     threshold: u32,
@@ -438,7 +438,7 @@ pub fn codex32_encode_payload(
     known(number, codex32::Refusal::from_number(number), length)
 }
 
-/// Puts the string at an index into a buffer, and answers its length. The others of its set stand one behind
+/// Puts the string at an index into a buffer, and returns its length. The others of its set stand one behind
 /// another in `texts`, with their lengths.
 #[cfg(feature = "codex32")]
 pub fn codex32_derive(
@@ -464,7 +464,7 @@ pub fn codex32_derive(
     known(number, codex32::Refusal::from_number(number), length)
 }
 
-/// Puts the nearest string to a damaged one into a buffer, and answers its length. The memory is for the
+/// Puts the nearest string to a damaged one into a buffer, and returns its length. The memory is for the
 /// call's own use.
 #[cfg(feature = "codex32")]
 pub fn codex32_propose(

@@ -20,7 +20,7 @@ pub fn is_valid_witness_version(witness_version: Fe32) -> bool {
     validate_witness_version(witness_version).is_ok()
 }
 
-/// Whether a witness program of this version may have so many bytes: 2 to 40, and 20 or 32 in
+/// Whether a witness program of this version may have `length` bytes: 2 to 40, and 20 or 32 in
 /// version 0.
 pub fn is_valid_witness_program_length(length: usize, witness_version: Fe32) -> bool {
     validate_witness_program_length(length, witness_version).is_ok()
@@ -59,7 +59,7 @@ pub fn validate_witness_program_length(
         .map_or(Ok(()), Err)
 }
 
-// Why the library writes no address with a program of so many bytes. It fits in the buffer with this
+// Why the library writes no address with a program of `length` bytes. It fits in the buffer with this
 // human-readable part, so that only version and length are refused.
 fn refusal_of(length: usize, version: Fe32) -> Option<Refusal> {
     let mut address = [0; MAX_STRING_LENGTH];

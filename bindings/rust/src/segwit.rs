@@ -89,7 +89,7 @@ pub fn encode_v1(hrp: Hrp, witness_program: &[u8]) -> Result<String, EncodeError
 ///
 /// # Errors
 ///
-/// Where there is no such address, of which nothing is written, or the writer fails.
+/// If there is no such address, and then nothing is written; or if the writer fails.
 pub fn encode_to_fmt_unchecked<W: fmt::Write>(
     fmt: &mut W,
     hrp: Hrp,
@@ -103,7 +103,7 @@ pub fn encode_to_fmt_unchecked<W: fmt::Write>(
 ///
 /// # Errors
 ///
-/// Where there is no such address, of which nothing is written, or the writer fails.
+/// If there is no such address, and then nothing is written; or if the writer fails.
 pub fn encode_lower_to_fmt_unchecked<W: fmt::Write>(
     fmt: &mut W,
     hrp: Hrp,
@@ -115,11 +115,11 @@ pub fn encode_lower_to_fmt_unchecked<W: fmt::Write>(
     fmt.write_str(address.map_err(|_| fmt::Error)?)
 }
 
-/// Writes a segwit address, in upper case, as it is wanted in a QR code.
+/// Writes a segwit address, in upper case, for a QR code.
 ///
 /// # Errors
 ///
-/// Where there is no such address, of which nothing is written, or the writer fails.
+/// If there is no such address, and then nothing is written; or if the writer fails.
 pub fn encode_upper_to_fmt_unchecked<W: fmt::Write>(
     fmt: &mut W,
     hrp: Hrp,
@@ -137,7 +137,7 @@ pub fn encode_upper_to_fmt_unchecked<W: fmt::Write>(
 ///
 /// # Errors
 ///
-/// Where there is no such address, of which nothing is written, or the writer fails.
+/// If there is no such address, and then nothing is written; or if the writer fails.
 pub fn encode_to_writer_unchecked<W: io::Write>(
     w: &mut W,
     hrp: Hrp,
@@ -151,7 +151,7 @@ pub fn encode_to_writer_unchecked<W: io::Write>(
 ///
 /// # Errors
 ///
-/// Where there is no such address, of which nothing is written, or the writer fails.
+/// If there is no such address, and then nothing is written; or if the writer fails.
 pub fn encode_lower_to_writer_unchecked<W: io::Write>(
     w: &mut W,
     hrp: Hrp,
@@ -163,11 +163,11 @@ pub fn encode_lower_to_writer_unchecked<W: io::Write>(
     w.write_all(address.map_err(unwritten)?.as_bytes())
 }
 
-/// Writes a segwit address, in upper case, as it is wanted in a QR code.
+/// Writes a segwit address, in upper case, for a QR code.
 ///
 /// # Errors
 ///
-/// Where there is no such address, of which nothing is written, or the writer fails.
+/// If there is no such address, and then nothing is written; or if the writer fails.
 pub fn encode_upper_to_writer_unchecked<W: io::Write>(
     w: &mut W,
     hrp: Hrp,

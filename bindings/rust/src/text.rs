@@ -22,6 +22,22 @@ pub(crate) fn ascii(bytes: &[u8]) -> &str {
     std::str::from_utf8(bytes).expect("the library's characters are ASCII")
 }
 
+/// Whether a text in the grammar has letters in upper case, and so none in lower case.
+#[cfg(any(feature = "codex32", feature = "correct"))]
+pub(crate) fn is_in_upper_case(s: &str) -> bool {
+    let has = |is_one: fn(&u8) -> bool| s.bytes().any(|byte| is_one(&byte));
+    has(u8::is_ascii_uppercase) && !has(u8::is_ascii_lowercase)
+}
+
+/// What the library made of a text, in lower case, in the case of that text.
+#[cfg(any(feature = "codex32", feature = "correct"))]
+pub(crate) fn in_case_of(s: &str, mut made: String) -> String {
+    if is_in_upper_case(s) {
+        made.make_ascii_uppercase();
+    }
+    made
+}
+
 /// The characters of a text: five bits of the bytes each, rounded up, behind the human-readable part and
 /// the separator, and those of the checksum.
 pub(crate) fn length_of<Ck: Checksum>(hrp: &Hrp, data: &[u8]) -> usize {
@@ -190,6 +206,10 @@ fn unwritten(e: EncodeError) -> EncodeIoError {
 /// Decodes a text that Bech32m or Bech32 accepts: its human-readable part, in the case of the text,
 /// and its bytes. Bits behind the last whole byte are dropped.
 ///
+/// **Decode an address by [`segwit::decode`](crate::segwit::decode), not by this.** The first element of an
+/// address is its witness version, so this returns the program shifted by five bits. That looks like a hash,
+/// but it is not the program.
+///
 /// ```
 /// use bech32_proved::primitives::decode::ChecksumError;
 /// use bech32_proved::{decode, DecodeError, Hrp};
@@ -214,7 +234,8 @@ pub fn decode(s: &str) -> Result<(Hrp, Vec<u8>), DecodeError> {
     ))
 }
 
-/// The same as [`decode`], and which checksum accepts the text.
+/// Decodes a text like [`decode`], and says which checksum accepts it. Decode an address by
+/// [`segwit::decode`](crate::segwit::decode).
 ///
 /// ```
 /// use bech32_proved::{decode_with_checksum, Variant};

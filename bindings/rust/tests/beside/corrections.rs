@@ -19,7 +19,7 @@ const BOUND: usize = 3;
 /// `correct` looks in the data part, and takes an erasure once.
 pub fn expected<Ck: Checksum>(text: &str, erasures: &[usize]) -> Expected {
     let error = match CheckedHrpstring::new::<Ck>(text) {
-        Ok(_) => return reply(text, &[], text.to_lowercase()).into(),
+        Ok(_) => return reply(text, &[], text.to_owned()).into(),
         Err(error) => error,
     };
     if error.residue_error().is_none() {
@@ -69,8 +69,7 @@ fn no_pattern() -> Expected {
 // stand there before and after.
 fn reply(text: &str, listing: &[(usize, Fe32)], mended: String) -> Result<Vec<Vec<u8>>, u32> {
     let listing: Vec<(usize, u8)> = listing.iter().map(|(l, v)| (*l, v.to_u8())).collect();
-    let lower = text.to_lowercase();
-    let pairs = lower.chars().zip(mended.chars()).enumerate();
+    let pairs = text.chars().zip(mended.chars()).enumerate();
     let changes = pairs.filter(|(place, _)| {
         let location = text.len() - 1 - place;
         listing.iter().any(|(listed, _)| *listed == location)
@@ -98,8 +97,8 @@ fn data_length(text: &str) -> usize {
     text.rsplit_once('1').map_or(0, |(_, data)| data.len())
 }
 
-// The text with a listing's values added, where the checksum accepts it and the listing is within
-// the bound.
+// The text with a listing's values added, in its case, where the checksum accepts it and the listing is
+// within the bound.
 fn mended<Ck: Checksum>(
     text: &str,
     erasures: &[usize],
@@ -115,7 +114,10 @@ fn mended<Ck: Checksum>(
         .iter()
         .filter(|(l, _)| !erasures.contains(l))
         .count();
-    let mended: String = characters.into_iter().collect();
+    let mut mended: String = characters.into_iter().collect();
+    if text.contains(|c: char| c.is_ascii_uppercase()) {
+        mended.make_ascii_uppercase();
+    }
     let accepted = CheckedHrpstring::new::<Ck>(&mended).is_ok();
     (accepted && 2 * errors + erasures.len() <= BOUND).then_some(mended)
 }

@@ -88,7 +88,12 @@ fn share_line(text: &str) -> Result<String, Refusal> {
 // What c32 replies to a line.
 fn reply(words: &[&str]) -> Result<String, Refusal> {
     let ok = |text| format!("ok {text}");
-    let some = |text: Option<String>| text.map_or("none".to_owned(), |text| format!("some {text}"));
+    // The program proposes in lower case, this crate in the case of what was typed.
+    let some = |text: Option<String>| {
+        text.map_or("none".to_owned(), |text| {
+            format!("some {}", text.to_lowercase())
+        })
+    };
     match words {
         ["share", text] => share_line(text),
         ["encode", threshold, identifier, share_index, "-"] => {
@@ -320,6 +325,10 @@ fn a_mended_share_is_used() {
     assert_eq!(digits(&bytes.unwrap()), "d1808e096b35b209ca12132b264662a5");
     let damaged = LONG.replace("zxfguhpc", "????????");
     assert_eq!(propose_long(&damaged), Ok(Some(LONG.to_owned())));
+    let damaged = damaged.to_uppercase();
+    assert_eq!(propose_long(&damaged), Ok(Some(LONG.to_uppercase())));
+    let damaged = A.replace("320Z", "3?0Q").replace("870H", "8?0H");
+    assert_eq!(propose(&damaged), Ok(Some(A.to_owned())));
     let damaged = LONG.replace("zxfguhpch", "?????????");
     assert_eq!(propose_long(&damaged), Ok(None));
 }

@@ -99,6 +99,12 @@ fn says_which_character_is_at_fault() {
             "the text has no separator, 1",
         ),
         (
+            "h\u{e9}llo",
+            CharError::InvalidChar('o').into(),
+            5,
+            "the text has no separator, 1, and a character that may not stand behind one: character 5, o",
+        ),
+        (
             "\u{20}1nwldj5",
             HrpError::InvalidAsciiByte(0x20).into(),
             0,
@@ -453,7 +459,8 @@ mod corrections {
     use super::{number, rows};
     use bech32_proved::primitives::decode::CheckedHrpstring;
     use bech32_proved::{
-        correct, nearest, Bech32, Bech32m, Change, CorrectingChecksum, Correction, Fe32, Refusal,
+        correct, encode, near_edits, nearest, Bech32, Bech32m, Change, CorrectingChecksum,
+        Correction, Edit, Fe32, Hrp, Refusal,
     };
 
     // A text with two wrong characters, what is added to it, and the one near text, by Bech32.
@@ -505,14 +512,22 @@ mod corrections {
     #[test]
     fn changes_are_places_and_characters() {
         let (text, _, near) = NEAR[0];
-        for text in [text.to_owned(), text.to_uppercase()] {
+        for (text, near, wanted) in [
+            (
+                text.to_owned(),
+                near.to_owned(),
+                ["character 22: q becomes 3", "character 42: x becomes q"],
+            ),
+            (
+                text.to_uppercase(),
+                near.to_uppercase(),
+                ["character 22: Q becomes 3", "character 42: X becomes Q"],
+            ),
+        ] {
             let found = nearest::<Bech32>(&text, &[], 2).unwrap();
             let changes = found[0].changes();
             let words: Vec<String> = changes.iter().map(Change::to_string).collect();
-            assert_eq!(
-                words,
-                ["character 22: q becomes 3", "character 42: x becomes q"]
-            );
+            assert_eq!(words, wanted);
             assert_eq!(found[0].as_str(), near);
         }
         let known = nearest::<Bech32>("a12uel5l", &[2], 0).unwrap();
@@ -522,8 +537,49 @@ mod corrections {
     #[test]
     fn leaves_accepted_texts() {
         let correction = correct::<Bech32m>("A1LQFN3A", &[0, 1, 2]).unwrap();
-        assert_eq!(correction.as_str(), "a1lqfn3a");
+        assert_eq!(correction.as_str(), "A1LQFN3A");
         assert_eq!(correction.bch_errors().count(), 0);
+    }
+
+    // Whoever types upper case gets upper case: age refuses a secret key in lower case.
+    #[test]
+    fn keeps_the_case() {
+        let part = Hrp::parse("age-secret-key-").unwrap();
+        let lower = encode::<Bech32>(part, &[0x5a; 32]).unwrap();
+        for key in [lower.clone(), lower.to_uppercase()] {
+            assert!(key == lower || key.starts_with("AGE-SECRET-KEY-1"));
+            let in_case = |c: char| {
+                if key == lower {
+                    c
+                } else {
+                    c.to_ascii_uppercase()
+                }
+            };
+            let to = key.chars().nth(40).unwrap();
+            let from = ['q', 'p'].map(in_case).into_iter().find(|c| *c != to);
+            let from = from.unwrap();
+            let (front, behind) = (&key[..40], &key[41..]);
+            let one = format!("{front}{from}{behind}");
+            let correction = correct::<Bech32>(&one, &[]).unwrap();
+            assert_eq!(correction.as_str(), key);
+            let place = 40;
+            assert_eq!(correction.changes(), [Change { place, from, to }]);
+            assert_eq!(nearest::<Bech32>(&one, &[], 2), Ok(vec![correction]));
+            let missing = format!("{front}{behind}");
+            let found = near_edits::<Bech32>(&missing).unwrap();
+            assert_eq!((found.len(), found[0].as_str()), (1, key.as_str()));
+            let Edit::PutIn { character, .. } = found[0].edit() else {
+                panic!("a character is missing");
+            };
+            assert_eq!(character, to);
+        }
+        // A text without letters is mended in lower case.
+        let digits = format!("01{}", "2".repeat(12));
+        let found = nearest::<Bech32>(&digits, &[0, 1, 2], 2).unwrap();
+        assert!(!found.is_empty());
+        for near in found {
+            assert_eq!(near.as_str(), near.as_str().to_lowercase());
+        }
     }
 
     #[test]
@@ -565,7 +621,8 @@ mod corrections {
             assert_eq!(found, [(near, listed.to_vec())]);
             let upper_case = text.to_uppercase();
             let again = nearest::<Bech32>(&upper_case, &[], 2).unwrap();
-            assert!(again.iter().map(parts).eq(found));
+            let again: Vec<_> = again.iter().map(parts).collect();
+            assert_eq!(again, [(near.to_uppercase().as_str(), listed.to_vec())]);
             assert_eq!(nearest::<Bech32>(text, &[], 1), Ok(vec![]));
         }
     }
@@ -573,11 +630,10 @@ mod corrections {
     // An accepted text is the first of its own list.
     fn is_first<Ck: CorrectingChecksum>(text: &str) {
         let alone = nearest::<Ck>(text, &[], 0).unwrap();
-        let own = text.to_lowercase();
-        assert!(alone.iter().map(parts).eq([(own.as_str(), vec![])]));
+        assert!(alone.iter().map(parts).eq([(text, vec![])]));
         let known = nearest::<Ck>(text, &[1, 0, 1], 0).unwrap();
         let zeros = vec![(1, 0), (0, 0)];
-        assert!(known.iter().map(parts).eq([(own.as_str(), zeros)]));
+        assert!(known.iter().map(parts).eq([(text, zeros)]));
         let found = nearest::<Ck>(text, &[], 2).unwrap();
         assert_eq!(found.first(), alone.first());
         assert!(found.len() == 1 || text.len() > 89);
@@ -648,10 +704,10 @@ mod edits {
 
     const ADDRESS: &str = "bc1qw508d6qejxtdg4y5r3zarvary0c5xw7kv8f3t4";
 
-    // A text with its edit as the rows have it, which count from the end.
+    // A text with its edit as the rows have it, which count from the end and are in lower case.
     fn row(near: &NearEdit, length: usize) -> String {
         let text = near.as_str();
-        match near.edit() {
+        let row = match near.edit() {
             Edit::Swapped {
                 place,
                 first,
@@ -661,7 +717,8 @@ mod edits {
                 format!("{text},-{}:{character}", length - 1 - place)
             }
             Edit::PutIn { place, character } => format!("{text},+{}:{character}", length - place),
-        }
+        };
+        row.to_lowercase()
     }
 
     fn rows<Ck: CorrectingChecksum>(text: &str) -> String {
@@ -692,10 +749,14 @@ mod edits {
         assert_eq!(count, 51);
     }
 
-    // What is said of the one edit that makes the address of a text.
+    // What is said of the one edit that makes the address, in the case of a text, of this text.
     fn said(text: &str) -> String {
         let found = near_edits::<Bech32>(text).unwrap();
-        assert_eq!((found.len(), found[0].as_str()), (1, ADDRESS));
+        let address = match text.starts_with('B') {
+            true => ADDRESS.to_uppercase(),
+            false => ADDRESS.to_owned(),
+        };
+        assert_eq!((found.len(), found[0].as_str()), (1, address.as_str()));
         found[0].edit().to_string()
     }
 
@@ -710,9 +771,10 @@ mod edits {
             let left_out = said(&format!("{front}{c}{behind}").to_uppercase());
             if !next {
                 assert_eq!(put_in, format!("character {number}: {c} is put in"));
+                let upper_case = c.to_ascii_uppercase();
                 assert_eq!(
                     left_out,
-                    format!("character {}: {c} is left out", number + 1)
+                    format!("character {}: {upper_case} is left out", number + 1)
                 );
             }
             let Some(other) = rest.chars().next().filter(|it| *it != c) else {
