@@ -1,23 +1,16 @@
 -- Strings in their parts, and that these are not refused.
-use Rattle.std.specs.Prelude.{◌↔◌, ◌&&◌, not, nat_le, IfErr, IfOk, IsOk, MatchResult}
+use Rattle.std.specs.Prelude.{◌↔◌, nat_le, IfErr, IfOk, IsOk, MatchResult}
 use Rattle.std.specs.Char.{to_ascii_lowercase}
 use Rattle.std.specs.Str.{IsUtf8}
-use Rattle.std.proofs.Common.{◌≡◌, ℕ, ◌+◌, ◌-◌, ◌<◌, ◌≤◌, Bool, true, false, cond, eqb, List, [], ◌∷◌, ◌++◌, Option, Some, None, Result, Ok, Err, length, take, drop, get_or, inl, inr, refl, sym, ap, subst, ◌∙◌, arith}
-use Rattle.std.proofs.lemmas.Bool.{and_cases, and_from, and_left, and_parts, and_right, cases_Bool, cond-false, cond-true, eq-eqb, eqb-true, false_from_ne_true, le-leb, leb-true, not-false, not_from_true}
-use Rattle.std.proofs.lemmas.List.{length-append, length-drop, length-map, take-append-drop}
-use Rattle.bech32_hrp.specs.Hrp.{first_of, lowered}
+use Rattle.std.proofs.Common.{◌≡◌, ℕ, ◌+◌, ◌-◌, ◌<◌, ◌≤◌, true, List, [], ◌∷◌, ◌++◌, None, Result, Ok, Err, length, take, drop, get_or, inl, inr, refl, sym, ap, subst, ◌∙◌, arith}
+use Rattle.std.proofs.lemmas.Bool.{and_from, le-leb}
+use Rattle.std.proofs.lemmas.List.{length-drop, take-append-drop}
 use Rattle.bech32_decode.specs.Acceptance.{IsAccepted}
-use Rattle.bech32_decode.specs.Text.{IsText, split_at_last, text_refusal}
-use Rattle.bech32_decode.proofs.Decoding.{not_valid}
 use Rattle.bech32_decode.proofs.Grammar.{none_first, only-from_IsText, text_refusal-none}
-use Rattle.bech32_decode.proofs.Texts.{split_at_last-at}
-use Rattle.bech32_refusals.specs.declared.error.UncheckedHrpstringError.{UncheckedHrpstringError}
-use Rattle.bech32_checksum.specs.Code.{Code}
 use Rattle.codex32_strings.specs.Code.{codex32}
 use Rattle.codex32.specs.Parts.{IsStringOf, identifier_of, payload_of, share_index_of, threshold_of}
-use Rattle.codex32_strings.specs.Strings.{IsBodyRefusal, IsBodyRefusalBy, IsCodex32, IsString, IsStringRefusal, as_text, frame_refusal, frame_refusal_by, header_fault, hrp_fault, is_ms, is_threshold, is_within, codex32_length_fault, part_fault, share_index_fault, threshold_fault}
+use Rattle.codex32_strings.specs.Strings.{IsBodyRefusal, IsCodex32, IsString, IsStringRefusal, frame_refusal, header_fault, is_threshold, is_within, share_index_fault, threshold_fault}
 use Rattle.codex32_strings.specs.declared.error.Codex32Error.{Codex32Error}
-use Rattle.codex32_strings.specs.declared.error.Codex32Error.TheVariants.{Text, Length, Hrp, Checksum, Threshold, ShareIndex, Memory}
 use Rattle.codex32.specs.declared.string.Codex32Str.{Codex32Str}
 use Rattle.codex32_strings.proofs.Strings.{IsFramed, body_refuted, header_none, none_share_index, none_threshold, not_refused}
 

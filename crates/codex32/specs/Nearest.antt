@@ -1,13 +1,12 @@
 -- The nearest text to a damaged one (BIP-93, Error Correction).
-use Rattle.std.specs.Prelude.{◌≡◌, ◌⊎◌, ◌≤◌, ◌<◌, ◌+◌, ◌*◌, ◌==◌, ◌||◌, if◌then◌else◌}
-use Rattle.std.specs.Prelude.{ℕ, Bool, List, [], ◌∷◌, ◌++◌, map, length, Option, None, Some}
+use Rattle.std.specs.Prelude.{◌≡◌, ◌⊎◌, ◌≤◌, ◌<◌, ◌+◌, ◌*◌}
+use Rattle.std.specs.Prelude.{ℕ, Bool, List, [], ◌∷◌, ◌++◌, length, Option, None, Some}
 use Rattle.std.specs.Prelude.{MatchOption}
-use Rattle.bech32_gf.specs.Fe32.{element_of, elements_of, ops}
+use Rattle.bech32_gf.specs.Fe32.{elements_of, ops}
 use Rattle.bech32_gf.specs.declared.gf32.Fe32.{Fe32}
 use Rattle.bech32_checksum.specs.Encoded.{spelled}
 use Rattle.bech32_decode.specs.Acceptance.{Accepts}
-use Rattle.bech32_detect.specs.Distance.{same_element}
-use Rattle.bech32_decode.specs.Text.{IsText, split_at_last}
+use Rattle.bech32_decode.specs.Text.{IsText}
 use Rattle.bech32_correction.specs.MendedElements.{mended}
 use Rattle.bech32_correction.specs.Mistyped.{HasNoListing, IsListingOf}
 use Rattle.bech32_checksum.specs.Code.{Code}

@@ -13,6 +13,7 @@ pub use self::string::Codex32Str;
 pub use codex32_strings::damaged::{validate_damaged, validate_damaged_long};
 pub use codex32_strings::{
     Codex32, Codex32Error, DeriveError, EncodeError, Header, HeaderError, Identifier, LongCodex32,
-    PayloadError, Share, Threshold, derive, derive_in, derive_into, encode, encode_in, encode_into,
-    encode_payload, encode_payload_in, encode_payload_into, parse_share_index, recover, recover_in,
+    PayloadError, Share, SplitError, Threshold, derive, derive_in, derive_into, encode, encode_in,
+    encode_into, encode_payload, encode_payload_in, encode_payload_into, parse_share_index,
+    random_count, recover, recover_in, split_into,
 };

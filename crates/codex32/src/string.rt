@@ -4,7 +4,8 @@ ghost use Rattle.std.specs.Prelude.{◌≡◌, ◌↔◌, ◌≤◌, ◌-◌, le
 ghost use Rattle.std.specs.Str.{IsAscii};
 ghost use Rattle.codex32_strings.specs.Strings.{IsCodex32, IsStringRefusal};
 
-use codex32_strings::frame::framed;
+use codex32_steady_texts::residue::validate_data_part;
+use codex32_strings::frame::data_part_of;
 use codex32_strings::lengths::Lengths;
 use codex32_strings::{Codex32, Codex32Error, validate_header};
 
@@ -45,9 +46,9 @@ impl<'s> Codex32Str<'s> {
             (λ s. IsStringOf text.now s)
             (λ e. IsStringRefusal text.now e) }
     {
-        let unchecked = framed(Lengths::Short, text)?;
-        unchecked.validate_checksum::<Codex32>()?;
-        validate_header(unchecked.data_part_ascii())?;
+        let data_part = data_part_of(Lengths::Short, text)?;
+        validate_data_part::<Codex32>(text.len(), &text.as_bytes()[..2], data_part)?;
+        validate_header(data_part)?;
         Ok(Self::cut(text))
     }
 

@@ -9,19 +9,21 @@ ghost use Rattle.codex32_shares.specs.Shares.{AreShares, DoAgree, IsDerived, IsG
 use crate::share::share_at;
 use crate::text::IndexedText;
 use bech32_gf::gf32::Fe32;
+use codex32_steady::element_of_character;
 
-// Whether these are the elements of characters.
+// Whether these are the elements of characters. Each is looked at, and only whether all are the
+// same can be told.
+#[inline(never)]
 fn are_elements_of(elements: &[Fe32], characters: &[u8]) -> bool
     requires size { length elements.now ≡ length characters.now }
     requires of_alphabet { is_data characters.now ≡ true }
     ensures { IsTrue result ↔ (elements.now ≡ elements_of characters.now) }
 {
+    let mut same = true;
     for i in 0..characters.len() {
-        if elements[i] != Fe32::from_char_unchecked(characters[i]) {
-            return false;
-        }
+        same &= elements[i] == element_of_character(characters[i]);
     }
-    true
+    same
 }
 
 // Whether a text is the one that shares give at its index.
@@ -40,8 +42,8 @@ fn is_given_by<T: IndexedText>(room: &mut [Fe32], shares: &[T], text: &T) -> boo
 }
 
 // Whether shares do not contradict each other, where as many as `count` of them give the others: at
-// each place, one polynomial of degree below that has the elements of all. The elements that the
-// first ones give are written to `room`.
+// each place, one polynomial of degree below that has the elements of all. Which of them does not go
+// with the others is not told. The elements that the first ones give are written to `room`.
 fn agree<T: IndexedText>(room: &mut [Fe32], shares: &[T], count: usize) -> bool
     requires within { count ≤ length shares.now }
     requires few { count ≤ 9 }
@@ -51,12 +53,11 @@ fn agree<T: IndexedText>(room: &mut [Fe32], shares: &[T], count: usize) -> bool
         (map (λ t. elements_of (T.characters_of t)) shares.now) (length room.old) }
     ensures size { length room.new ≡ length room.old }
 {
+    let mut agrees = true;
     for i in count..shares.len() {
-        if !is_given_by(room, &shares[..count], &shares[i]) {
-            return false;
-        }
+        agrees &= is_given_by(room, &shares[..count], &shares[i]);
     }
-    true
+    agrees
 }
 
 /// Writes the elements of the text of the index x that shares give, where as many as `count` of

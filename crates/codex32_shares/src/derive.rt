@@ -14,6 +14,7 @@ ghost use Rattle.codex32_shares.specs.Shares.{combined, AreShares, IsDerived};
 use crate::text::IndexedText;
 use bech32_gf::gf32::Fe32;
 use bech32_poly::arithmetic::Arithmetic;
+use codex32_steady::multiple_of_character;
 
 // Makes all elements zero.
 fn clear<F: Arithmetic>(target: &mut [F])
@@ -32,8 +33,7 @@ fn add_multiple(target: &mut [Fe32], factor: Fe32, characters: &[u8])
         ≡ add fe32.ops target.old (scale fe32.ops factor (elements_of characters.now)) }
 {
     for i in 0..characters.len() {
-        let element = Fe32::from_char_unchecked(characters[i]);
-        target[i] = target[i].plus(factor.times(element));
+        target[i] = target[i].plus(multiple_of_character(factor, characters[i]));
     }
 }
 

@@ -9,6 +9,7 @@ pub mod Lengths
 pub mod Sets
 pub mod Share
 pub mod ShareParts
+pub mod Split
 pub mod Strings
 pub mod Thresholds
 pub mod laws

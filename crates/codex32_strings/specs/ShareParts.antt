@@ -1,15 +1,12 @@
 -- The places of a data part: six elements of the header, the payload, the checksum (BIP-93, codex32
 -- and Long codex32 Strings).
-use Rattle.std.specs.Prelude.{◌≡◌, ◌+◌, ◌-◌, ◌*◌, ◌%◌, ℕ, List, [], ◌∷◌, length, take, drop}
+use Rattle.std.specs.Prelude.{◌≡◌, ◌+◌, ◌-◌, ◌*◌, ◌%◌, ℕ, List, length, take, drop}
 use Rattle.bech32_gf.specs.Fe32.{elements_of, ops}
 use Rattle.bech32_poly.specs.Division.{remainder_of}
 use Rattle.bech32_checksum.specs.Code.{Code}
 use Rattle.bech32_checksum.specs.TextPolynomial.{text_polynomial}
+pub use Rattle.codex32_steady_texts.specs.Parts.{ms}
 use Rattle.codex32_strings.specs.Code.{code_of_length}
-
--- the human-readable part
-abbrev pub ms : List ℕ
-ms = 109 ∷ 115 ∷ []
 
 -- the checksum of a data part, which stands behind three characters
 abbrev pub code_of_data : List ℕ → Code

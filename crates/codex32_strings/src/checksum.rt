@@ -9,6 +9,7 @@ ghost use Rattle.codex32_strings.specs.laws.RootLaws.{codex32_roots};
 ghost use Rattle.bech32_gf_ext.specs.Fe1024 as fe1024;
 ghost use Rattle.bech32_checksum.specs.Roots.{HasLawfulRoots};
 
+use crate::products::{WORDS, product_with};
 use bech32::primitives::gf32_ext::Fe32Ext;
 use bech32::{Checksum, CorrectingChecksum, Fe32, Fe1024};
 
@@ -56,15 +57,14 @@ impl Checksum for Codex32 {
 
     const CHECKSUM_LENGTH: usize = 13;
 
-    const GENERATOR_SH: [u128; 5] = [
-        0x19dc500ce73fde210,
-        0x1bfae00def77fe529,
-        0x1fbd920fffe7bee52,
-        0x1739640bdeee3fdad,
-        0x07729a039cfc75f5a,
-    ];
+    const GENERATOR_SH: [u128; 5] = WORDS;
 
     const TARGET_RESIDUE: u128 = 0x10ce0795c2fd1e62a;
+
+    #[inline]
+    fn generator_times(element: Fe32) -> u128 {
+        product_with(element)
+    }
 
     ghost packing_laws = { codes.codex32_keeps };
 

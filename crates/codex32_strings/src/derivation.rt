@@ -16,6 +16,7 @@ use crate::threshold::Threshold;
 use bech32::Fe32;
 use codex32_shares::agreement::given_at;
 use codex32_shares::once::are_indices_once;
+use codex32_steady_texts::text::put_spelled;
 use std::alloc::{AllocError, Allocator, Global};
 
 // The most elements of a string: those behind three characters of 127.
@@ -78,27 +79,6 @@ fn validate_set(shares: &[Share<'_>], index: Fe32) -> Result<usize, DeriveError>
         return Err(DeriveError::TooFew);
     }
     Ok(count)
-}
-
-// Puts the characters of elements, in lower case, behind the first three.
-fn put_characters(text: &mut [u8], elements: &[Fe32])
-    requires { length text.old ≡ 3 + length elements.now }
-    ensures { text.new ≡ take 3 text.old ++ map char_of_element elements.now }
-{
-    for i in 0..elements.len() {
-        text[3 + i] = elements[i].to_char() as u8;
-    }
-}
-
-// Puts the text of elements.
-fn put_spelled(text: &mut [u8], elements: &[Fe32])
-    requires { length text.old ≡ 3 + length elements.now }
-    ensures { text.new ≡ spelled ms elements.now }
-{
-    text[0] = b'm';
-    text[1] = b's';
-    text[2] = b'1';
-    put_characters(text, elements);
 }
 
 // The text of elements.

@@ -5,7 +5,6 @@ ghost use Rattle.bech32_bits.specs.Bits.{fes_count, to_fes};
 ghost use Rattle.bech32_checksum.specs.Encoded.{IsEncodedText};
 ghost use Rattle.bech32_encode.specs.Buffers.{IsPut};
 ghost use Rattle.bech32_gf.specs.Fe32.{elements_of};
-ghost use Rattle.bech32_hrp.specs.HrpBytes.{hrp_bytes};
 ghost use Rattle.codex32_strings.specs.Encode.{IsEncodePayloadRefusal, IsEncodeStringRefusal, IsEncodedPayload, IsEncodedString, is_byte_count, is_long_byte_count, is_long_payload_count, is_payload_count};
 ghost use Rattle.codex32_strings.specs.Header.{header_elements, identifier_of_header, share_index_of_header, threshold_of_header};
 ghost use Rattle.codex32_strings.specs.Share.{IsShareString};
@@ -15,8 +14,8 @@ use crate::checksum::Codex32;
 use crate::error::EncodeError;
 use crate::header::Header;
 use crate::long::LongCodex32;
-use bech32::primitives::encode::put_text;
-use bech32::{ByteIterExt, Checksum, Fe32, Hrp};
+use bech32::{ByteIterExt, Checksum, Fe32};
+use codex32_steady_texts::text::put_text;
 use std::alloc::{AllocError, Allocator, Global};
 
 // The most elements of a payload: those of 64 bytes.
@@ -24,13 +23,6 @@ const MOST_OF_PAYLOAD: usize = 103;
 
 // The most that stand before a checksum: six of a header, and those.
 const MOST: usize = 109;
-
-// The human-readable part of all strings.
-fn part() -> Hrp
-    ensures { hrp_bytes result ≡ ms }
-{
-    Hrp::of_bytes(b"ms")
-}
 
 // Puts the elements of a header, and behind them those of a payload.
 fn put_elements(elements: &mut [Fe32], header: &Header, payload: &[Fe32])
@@ -49,7 +41,7 @@ fn text_in<Ck: Checksum, A: Allocator>(alloc: A, elements: &[Fe32]) -> Result<St
     ensures { IfOk result (λ s. IsEncodedText Ck.code ms elements.now (string_bytes s)) }
 {
     let mut text = vec![in alloc; 0u8; 3 + elements.len() + Ck::CHECKSUM_LENGTH]?;
-    put_text::<_, Ck>(&part(), None, elements.iter().copied(), text.as_mut_slice());
+    put_text::<Ck>(text.as_mut_slice(), elements);
     // All of it is ASCII: what the call requires is proved.
     Ok(unsafe { String::from_utf8_unchecked(text) })
 }
@@ -79,7 +71,9 @@ fn put_encoded<Ck: Checksum>(buffer: &mut [u8], elements: &[Fe32]) -> usize
     ensures text { IsEncodedText Ck.code ms elements.now (take result buffer.new) }
     ensures put { IsPut (take result buffer.new) buffer.old buffer.new result }
 {
-    put_text::<_, Ck>(&part(), None, elements.iter().copied(), buffer)
+    let count = 3 + elements.len() + Ck::CHECKSUM_LENGTH;
+    put_text::<Ck>(&mut buffer[..count], elements);
+    count
 }
 
 // The same of a header and at most 103 elements.
@@ -151,9 +145,10 @@ pub fn encode_payload_into(
 /// Secret and Long codex32 Strings). There are as many as 16 to 44 bytes, 63 or 64 have: at most
 /// four bits are left over behind their bytes, whatever they are.
 ///
-/// This makes the strings at random that a secret is shared with: of elements that are random, all
-/// of them equally likely, as many as those of the secret's own string. Of those the laws of
-/// secrecy speak.
+/// To split a secret into shares, use [`split_into`], which makes its first shares so, of random
+/// elements.
+///
+/// [`split_into`]: crate::split_into
 ///
 /// # Errors
 ///
@@ -251,13 +246,11 @@ pub fn encode_into(buffer: &mut [u8], header: &Header, bytes: &[u8]) -> Result<u
 /// of 48 to 93 characters, of 63 or 64 a long one (BIP-93, Unshared Secret and Long codex32
 /// Strings). The bits that are left over are zero.
 ///
-/// It is the secret, where the header's share index is `s`, or a share. To share a secret, a caller
-/// makes its own string, and one fewer than the threshold at random; [`derive_in`] makes the others
-/// of them. A string at random is made by [`encode_payload_in`], not of random bytes here: bits
-/// left over that are zero tell a little of the secret to who has derived shares (at most three
-/// bits of 16 bytes, one of 32, two of 64, none where the bytes fill whole characters).
+/// It is the secret, where the header's share index is `s`, or a share. To split a secret into
+/// shares, use [`split_into`]: shares of random bytes that are made here may tell some bits of the
+/// secret, since the bits that are left over are not random.
 ///
-/// [`derive_in`]: crate::derive_in
+/// [`split_into`]: crate::split_into
 ///
 /// # Errors
 ///

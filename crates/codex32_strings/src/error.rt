@@ -136,3 +136,23 @@ impl From<AllocError> for DeriveError {
         Self::Memory
     }
 }
+
+/// Why a secret is not split into shares.
+#[derive(Clone, Copy, Debug, PartialEq, Eq, Drop, Error)]
+pub enum SplitError {
+    /// The threshold is 0: shares do not stand at `s`.
+    #[error("the threshold is 0: the secret is not shared")]
+    Unshared,
+    /// The secret has neither 16 to 44 bytes nor 63 or 64.
+    #[error("a codex32 string has 16 to 44 bytes, a long one 63 or 64")]
+    Size,
+    /// There are fewer shares than the threshold, or more than 31.
+    #[error("there are fewer shares than the threshold, or more than 31")]
+    Count,
+    /// There are not as many random bytes as characters are drawn.
+    #[error("there are not as many random bytes as characters are drawn")]
+    Random,
+    /// The buffer is too small.
+    #[error("the buffer is too small")]
+    NoRoom,
+}

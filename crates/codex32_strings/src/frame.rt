@@ -1,6 +1,6 @@
 //! What is asked of a text before its checksum: the grammar, the length, the human-readable part.
 
-ghost use Rattle.std.specs.Prelude.{◌≡◌, length, None, Some, MatchResult};
+ghost use Rattle.std.specs.Prelude.{◌≡◌, length, take, None, Some, MatchResult};
 ghost use Rattle.bech32_hrp.specs.Hrp.{first_of};
 ghost use Rattle.bech32_decode.specs.Parts.{unchecked_data, unchecked_length, unchecked_part};
 ghost use Rattle.bech32_decode.specs.Text.{IsText};
@@ -10,6 +10,8 @@ ghost use Rattle.codex32_strings.specs.Strings.{frame_refusal_by, is_ms, codex32
 use crate::error::Codex32Error;
 use crate::lengths::Lengths;
 use bech32::primitives::decode::UncheckedHrpstring;
+use codex32_steady_texts::data_part::plain_data_part;
+use codex32_steady_texts::parts::parts_of;
 
 // Whether a human-readable part is `ms`, in either case.
 fn is_of_codex32(hrp: &[u8]) -> bool
@@ -51,4 +53,39 @@ pub fn framed(lengths: Lengths, text: &str) -> Result<UncheckedHrpstring<'_>, Co
     let unchecked = UncheckedHrpstring::new(text)?;
     validate_outline(lengths, text.len(), unchecked.hrp().as_bytes())?;
     Ok(unchecked)
+}
+
+// The data part of a text, as [`data_part_of`] has it, where nothing can be told of the characters
+// but the place of the first fault, and what stands there. Out of line: few texts come here.
+#[cold]
+#[inline(never)]
+fn outlined(lengths: Lengths, text: &str) -> Result<&[u8], Codex32Error>
+    ensures { MatchResult result
+        (λ d. (frame_refusal_by (may_have lengths) text.now ≡ None)
+        × IsText text.now (take 2 text.now) d.now)
+        (λ e. frame_refusal_by (may_have lengths) text.now ≡ Some e) }
+{
+    let (part, data_part) = parts_of(text)?;
+    validate_outline(lengths, text.len(), part)?;
+    Ok(data_part)
+}
+
+/// The data part of a text in the grammar, of as many characters as the strings that are meant,
+/// whose human-readable part is `ms` in either case.
+///
+/// Of the characters of a text nothing can be told but its first fault: what it is, and where, but
+/// for letters of both cases, of which no place is told.
+pub fn data_part_of(lengths: Lengths, text: &str) -> Result<&[u8], Codex32Error>
+    ensures { MatchResult result
+        (λ d. (frame_refusal_by (may_have lengths) text.now ≡ None)
+        × IsText text.now (take 2 text.now) d.now)
+        (λ e. frame_refusal_by (may_have lengths) text.now ≡ Some e) }
+{
+    let Some(data_part) = plain_data_part(text.as_bytes()) else {
+        return outlined(lengths, text);
+    };
+    if !lengths.have(text.len()) {
+        return Err(Codex32Error::Length);
+    }
+    Ok(data_part)
 }

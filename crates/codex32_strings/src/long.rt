@@ -9,6 +9,7 @@ ghost use Rattle.codex32_strings.specs.laws.LongRootLaws.{long_codex32_roots};
 ghost use Rattle.bech32_gf_ext.specs.Fe1024 as fe1024;
 ghost use Rattle.bech32_checksum.specs.Roots.{HasLawfulRoots};
 
+use crate::products::{LONG_WORDS, long_product_with};
 use bech32::primitives::gf32_ext::Fe32Ext;
 use bech32::{Checksum, CorrectingChecksum, Fe32, Fe1024};
 
@@ -57,15 +58,14 @@ impl Checksum for LongCodex32 {
 
     const CHECKSUM_LENGTH: usize = 15;
 
-    const GENERATOR_SH: [u128; 5] = [
-        0x3d59d273535ea62d897,
-        0x7a9becb6361c6c51507,
-        0x543f9b7e6c38d8a2a0e,
-        0x0c577eaeccf1990d13c,
-        0x1887f74f8dc71b10651,
-    ];
+    const GENERATOR_SH: [u128; 5] = LONG_WORDS;
 
     const TARGET_RESIDUE: u128 = 0x43381e570bf4798ab26;
+
+    #[inline]
+    fn generator_times(element: Fe32) -> u128 {
+        long_product_with(element)
+    }
 
     ghost packing_laws = { codes.long_codex32_keeps };
 

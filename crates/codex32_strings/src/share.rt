@@ -4,7 +4,7 @@ ghost use Rattle.std.specs.Prelude.{◌≡◌, ◌+◌, true, length, take};
 ghost use Rattle.bech32_gf.specs.Alphabet.{is_data};
 ghost use Rattle.bech32_gf.specs.Fe32.{elements_of};
 ghost use Rattle.std.specs.Prelude.{MatchResult};
-ghost use Rattle.bech32_decode.specs.Refusals.{IsValidBy, IsInvalidBy};
+ghost use Rattle.bech32_decode.specs.Refusals.{HasValidChecksum, IsChecksumRefusal};
 ghost use Rattle.codex32_strings.specs.Code.{code_of_length};
 ghost use Rattle.codex32_strings.specs.Header.{header_elements};
 ghost use Rattle.codex32_strings.specs.ShareParts.{HasTarget, payload_in};
@@ -12,17 +12,17 @@ ghost use Rattle.codex32_strings.specs.Strings.{is_within_either};
 
 use crate::checksum::Codex32;
 use crate::error::{Codex32Error, PayloadError};
-use crate::frame::framed;
+use crate::frame::data_part_of;
 use crate::header::{Header, validate_header};
 use crate::identifier::Identifier;
 use crate::lengths::Lengths;
 use crate::long::LongCodex32;
 use crate::threshold::Threshold;
 use bech32::Fe32;
-use bech32::primitives::decode::{
-    ChecksumError, UncheckedHrpstring, data_bytes_count, put_data_bytes,
-};
+use bech32::primitives::decode::{ChecksumError, data_bytes_count};
 use codex32_shares::text::IndexedText;
+use codex32_steady_texts::payload::put_payload_bytes;
+use codex32_steady_texts::residue::validate_data_part;
 
 /// A codex32 string of either length in its parts: of 48 to 93 characters with the checksum of 13,
 /// or of 125 to 127 with that of 15 (BIP-93, codex32 and Long codex32 Strings): a share, or the
@@ -49,15 +49,16 @@ fn checksum_length(count: usize) -> usize
 }
 
 // Tests the checksum of a text of so many characters: that of 13, or of more than 93 that of 15.
-fn validate_checksum(count: usize, unchecked: &UncheckedHrpstring<'_>) -> Result<(), ChecksumError>
+fn validate_checksum(count: usize, part: &[u8], data_part: &[u8]) -> Result<(), ChecksumError>
+    requires { is_data data_part.now ≡ true }
     ensures { MatchResult result
-        (λ _. IsValidBy (code_of_length count) unchecked.now)
-        (λ e. IsInvalidBy (code_of_length count) unchecked.now e) }
+        (λ _. HasValidChecksum (code_of_length count) count part.now data_part.now)
+        (λ e. IsChecksumRefusal (code_of_length count) count part.now data_part.now e) }
 {
     if count <= 93 {
-        unchecked.validate_checksum::<Codex32>()
+        validate_data_part::<Codex32>(count, part, data_part)
     } else {
-        unchecked.validate_checksum::<LongCodex32>()
+        validate_data_part::<LongCodex32>(count, part, data_part)
     }
 }
 
@@ -72,9 +73,8 @@ impl<'s> Share<'s> {
             (λ s. IsShareOf text.now s)
             (λ e. IsShareRefusal text.now e) }
     {
-        let unchecked = framed(Lengths::Either, text)?;
-        validate_checksum(text.len(), &unchecked)?;
-        let data_part = unchecked.data_part_ascii();
+        let data_part = data_part_of(Lengths::Either, text)?;
+        validate_checksum(text.len(), &text.as_bytes()[..2], data_part)?;
         validate_header(data_part)?;
         Ok(Share {
             header: Header::of_data_part(data_part),
@@ -159,7 +159,7 @@ impl<'s> Share<'s> {
         ensures count { result ≡ length (bytes_of_share self.now) }
         ensures buffer { buffer.new ≡ bytes_of_share self.now ++ drop result buffer.old }
     {
-        put_data_bytes(self.payload.as_bytes(), buffer)
+        put_payload_bytes(self.payload.as_bytes(), buffer)
     }
 
     // How many characters stand behind the separator.

@@ -1,4 +1,4 @@
-use Rattle.std.proofs.Common.{◌≡◌, ◌+◌, ◌<◌, ℕ, length, take, get_or, set, arith, sym, subst}
+use Rattle.std.proofs.Common.{◌≡◌, ◌+◌, ◌<◌, ℕ, length, take, get_or, set, arith, refl, sym, subst}
 use Rattle.std.proofs.lemmas.List.{take_all}
 use Rattle.bech32_gf.specs.Fe32 as fe32
 use Rattle.bech32_gf.specs.Fe32.{element_of, elements_of}
@@ -20,11 +20,11 @@ loop-i-preserved c =
     let room : 0 + i < length c.args.target.now = omega (arith, within, c.requires.size) in
     let e : 0 + i ≡ i = omega arith in
     let o = fe32.ops in
-    let y = c.from_char_unchecked-element.result in
+    let y = element_of (get_or characters i 0) in
     subst (λ k. set c.loop-i.target k c.plus.result ≡ add o c.args.target.now (scale o c.args.factor (take (i + 1) (elements_of characters)))) e
-    (place_written is_field c.args.target.now (elements_of characters) c.loop-i.target c.args.factor c.index-target-i.result y c.times.result c.plus.result 0 i inside room
+    (place_written is_field c.args.target.now (elements_of characters) c.loop-i.target c.args.factor c.index-target-i.result y c.multiple_of_character.result c.plus.result 0 i inside room
     c.loop-i.invariant (subst (λ k. c.index-target-i.result ≡ get_or c.loop-i.target k c.index-target-i.result) (sym e) c.index-target-i.is)
-    (map_or element_of characters i y 0 within c.from_char_unchecked-element.ensures) c.times.ensures c.plus.ensures)
+    (map_or element_of characters i y 0 within refl) c.multiple_of_character.ensures c.plus.ensures)
 
 pub returns : goal.returns
 returns c =

@@ -1,0 +1,2 @@
+pub mod ByteWalks
+pub mod FirstFault
