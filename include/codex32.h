@@ -1,6 +1,6 @@
 /*
- * Codex32 (BIP-93): reads, makes and derives strings and shares, recovers the secret from shares, and
- * proposes the nearest string to a damaged one.
+ * Codex32 (BIP-93): splits a secret into shares and recovers it from them, reads, makes and derives
+ * strings, and proposes the nearest string to a damaged one.
  *
  * The library is proved: for every input each function does what is said here, ends, and reads and
  * writes no memory but the caller's, within the lengths that are given. Where something is tested and
@@ -20,6 +20,19 @@
  * true lengths, and what is said of lent memory are all that a caller owes. The C file of the library,
  * if it tests each access (MACHINE_IS_TESTED), refuses a text or a payload of 2^32 bytes or more with
  * CODEX32_NO_MEMORY, before all else.
+ *
+ * Secrets are the characters behind the share index of a text, the bytes of a payload, and random bytes.
+ * The time of a call, and which memory it reads, do not depend on them, but in codex32_propose and
+ * codex32_propose_long. They may depend on all else: lengths and numbers, threshold, identifier, share
+ * index and case; on which refusal is returned; on whether a checksum is right; on where the first fault
+ * of a text stands, and on the character there; on what is not ASCII; and on whether a share beyond the
+ * threshold is the one that the others give. This is tested, and not proved: tools/steady looks in the
+ * machine code for branches and addresses that depend on secrets, in the static library for Linux on
+ * x86-64, and in the C file as gcc and clang compile it there. Not tested: other builds, and
+ * instructions that take longer for some numbers.
+ *
+ * The library keeps nothing of a secret, but its calls leave copies on the stack. To leave none, call
+ * codex32_wipe_stack after them, and codex32_wipe for what you hold yourself (both at the end).
  *
  * This describes the version of the library that CODEX32_VERSION names, which is that of the file
  * VERSION and of the packages over it.
@@ -59,9 +72,15 @@ extern "C" {
 #define CODEX32_ENCODED_SIZE(bytes_length)                                                         \
     (9u + (8u * (bytes_length) + 4u) / 5u + ((bytes_length) <= 44u ? 13u : 15u))
 
-/* The share index of the secret, and the most strings of a set. */
+/* The share index of the secret, the most strings of a set, and the most shares that codex32_split makes:
+ * one at each index but that of the secret. */
 #define CODEX32_SECRET_INDEX ((uint32_t)'s')
 #define CODEX32_MAX_SHARES 32u
+#define CODEX32_MAX_SPLIT 31u
+
+/* The random bytes that codex32_split takes: one for each character of the payloads that are drawn. */
+#define CODEX32_RANDOM_SIZE(threshold, secret_length)                                              \
+    (((threshold) - 1u) * ((8u * (secret_length) + 4u) / 5u))
 
 /* Where the parts of a codex32 string stand in its text, counted from 0. */
 #define CODEX32_THRESHOLD_AT 3u
@@ -91,6 +110,8 @@ extern "C" {
                                            first */
 #define CODEX32_INDEX_TWICE 63u         /* two shares have one index */
 #define CODEX32_CONTRADICTION 64u       /* the shares contradict each other */
+#define CODEX32_BAD_COUNT 65u           /* there are fewer shares than the threshold, or more than 31 */
+#define CODEX32_BAD_RANDOM 66u          /* there are not as many random bytes as characters are drawn */
 #define CODEX32_NOT_MS 81u              /* the human-readable part is not `ms` */
 #define CODEX32_BAD_LENGTH 82u          /* a codex32 string has 48 to 93 characters, a long one 125 to
                                            127 */
@@ -134,7 +155,6 @@ uint32_t codex32_parse(const uint8_t *text, size_t text_length, uint32_t *thresh
  * 63 or 64: CODEX32_BYTES_SIZE suffices. Up to four bits left over behind them, whatever they are, are left
  * out (BIP-93, Unshared Secret).
  *
- * The time of the call, and which memory it reads, depend on the text. The library keeps nothing of it, but
  * `bytes` is the secret, or a share of it: wipe it, and the text, when you are done.
  *
  * Refusals, the first that applies: 2; 21, 22, 23, 11 to 15; 82; 81; 33; 83; 84; 87; 92.
@@ -151,15 +171,7 @@ uint32_t codex32_share(const uint8_t *text, size_t text_length, uint32_t *thresh
  * *text_length is its length, CODEX32_ENCODED_SIZE(bytes_length): CODEX32_TEXT_SIZE suffices. The bits left
  * over are zero.
  *
- * To split a secret, make its own string, at `s`, by this function, and one random string fewer than the
- * threshold, each at another index, by codex32_encode_payload; codex32_derive makes the other shares from
- * these.
- *
- * Don't make the random strings from random bytes by this function. The bits left over are zero, and that
- * tells anyone who holds one share fewer than the threshold up to four bits of the end of the secret: as many
- * as its last character holds (8 times the number of bytes, modulo 5), and at most threshold - 1 times the
- * number of bits left over. These are one bit of 32 bytes, two of 64, three of 16 (two at threshold 2), four of
- * 18, 23, 28, 33, 38, 43 or 63 from threshold 5 on, and none if the bytes fill whole characters.
+ * To share a secret, call codex32_split: this function does not make shares that keep it.
  *
  * Refusals, the first that applies: 83, 85, 86, 84, 55, 92.
  */
@@ -174,10 +186,7 @@ uint32_t codex32_encode(uint32_t threshold, const uint8_t *identifier, size_t id
  * are left over, whatever they are. The string is put into `text`, and *text_length is its length,
  * CODEX32_PAYLOAD_AT + payload_length + 13, or of a long one + 15: CODEX32_TEXT_SIZE suffices.
  *
- * Use it to make the random strings that a secret is split with: of as many characters as the payload of the
- * secret's own string has, each drawn from all 32 of the alphabet with equal chance, and with the same
- * threshold and identifier. The library draws no random numbers: take them from the operating system, and
- * for each character the lowest five bits of a random byte.
+ * To share a secret, call codex32_split, which makes all of its strings.
  *
  * Refusals, the first that applies: 83, 85, 86, 84; of the payload 21, 22, 55; 92.
  */
@@ -200,6 +209,50 @@ uint32_t codex32_encode_payload(uint32_t threshold, const uint8_t *identifier, s
 uint32_t codex32_derive(uint32_t share_index, const uint8_t *texts, size_t texts_length,
                         const size_t *lengths, size_t count, uint8_t *text, size_t text_room,
                         size_t *text_length);
+
+/*
+ * Splits a secret into `count` shares in lower case, of which any `threshold` recover it, and fewer say
+ * nothing of it if the random bytes are uniform (BIP-93). The secret has 16 to 44 bytes, or 63 or 64.
+ * `threshold` is from 2 to 9; the identifier, four characters of the alphabet in one case; `count`, from
+ * the threshold to CODEX32_MAX_SPLIT. The shares stand one behind another in `texts`, and *text_length is
+ * the length of each, CODEX32_ENCODED_SIZE(secret_length). From the first on, their indices are `a`, `c`,
+ * `d` and so on in `acdefghjklmnpqrtuvwxyz023456789`.
+ *
+ * `random` has CODEX32_RANDOM_SIZE(threshold, secret_length) bytes, random_length of them. Take them
+ * from the operating system's generator of random numbers, make no shares where it fails, use them for
+ * one call alone, and wipe them, and the secret, when you are done. The payloads of all shares before
+ * the `threshold`-th are drawn: each random byte gives one of their characters, in their order, by its
+ * lowest five bits. The other shares are derived from these and the secret's own string, that of
+ * codex32_encode at CODEX32_SECRET_INDEX.
+ *
+ * Proved, whatever the bytes of `random` are: any `threshold` of the shares recover the secret. Proved too:
+ * whichever threshold - 1 shares are known, for each secret of this length exactly one choice of the drawn
+ * characters gives these shares. So they say nothing of the secret, nor do fewer, if the random bytes are
+ * uniform. No proof says that they are.
+ *
+ * Refusals, the first that applies: 83, 85, 84 (the threshold is 0), 55, 65, 66, 92.
+ */
+uint32_t codex32_split(uint32_t threshold, const uint8_t *identifier, size_t identifier_length,
+                       const uint8_t *secret, size_t secret_length, const uint8_t *random,
+                       size_t random_length, size_t count, uint8_t *texts, size_t texts_room,
+                       size_t *text_length);
+
+/*
+ * Recovers a secret from shares of one set: the bytes of the string that codex32_derive makes of them at
+ * CODEX32_SECRET_INDEX (BIP-93, Recovering Secret). The texts stand one behind another in `texts`,
+ * `count` of them, at most CODEX32_MAX_SHARES, and `lengths` are theirs, which add up to texts_length.
+ * They have the same threshold, identifier and length, and each another index; there are at least as
+ * many as the threshold. If there are more, all are tested; if there are not, a share of another secret
+ * gives other bytes, unnoticed. With the threshold 0 the one string is the secret. The bytes are put
+ * into `bytes`, and *bytes_length is their number, 16 to 44 or 63 or 64: CODEX32_BYTES_SIZE suffices. Up
+ * to four bits left over behind them, whatever they are, are left out. Wipe the bytes, and the texts,
+ * when you are done.
+ *
+ * Refusals, the first that applies: 4; of the texts in their order 2; 21, 22, 23, 11 to 15; 82; 81; 33;
+ * 83; 84; then 62, 63, 61, 64; 87; 92.
+ */
+uint32_t codex32_recover(const uint8_t *texts, size_t texts_length, const size_t *lengths, size_t count,
+                         uint8_t *bytes, size_t bytes_room, size_t *bytes_length);
 
 /*
  * Memory that a function may use: `size` bytes from `start` on, aligned to 16 bytes, in which the caller
@@ -226,7 +279,7 @@ typedef struct {
  * and twice the number of changed characters, plus the number of unreadable ones, is at most 8; there is at
  * most one such text. It is put into `proposed`, in lower case, and *proposed_length is its length, that of
  * the damaged text. It may not be what was meant: show it, and ask. Neither threshold nor share index is
- * tested.
+ * tested. The time of the call, and which memory it reads, depend on the text and on its errors.
  *
  * Refusals, the first that applies: 2; 21, 22, 23, 11 to 15; 82; 81; 34; 92; and 91 in place of 0, 34 or
  * 92 where `memory` does not suffice. With every refusal, 91 too, `proposed` is as it was.
@@ -236,13 +289,68 @@ uint32_t codex32_propose(const uint8_t *text, size_t text_length, codex32_memory
 
 /*
  * Proposes the nearest text to a damaged long string, of 125 to 127 characters, within the bounds of
- * codex32_propose, by the checksum of long strings (BIP-93, Long codex32 Strings).
+ * codex32_propose, by the checksum of long strings (BIP-93, Long codex32 Strings). The time of the call,
+ * and which memory it reads, depend on the text and on its errors.
  *
  * Refusals, the first that applies: 2; 21, 22, 23, 11 to 15; 82; 81; 34; 92; and 91 in place of 0, 34 or
  * 92 where `memory` does not suffice.
  */
 uint32_t codex32_propose_long(const uint8_t *text, size_t text_length, codex32_memory *memory,
                               uint8_t *proposed, size_t proposed_room, size_t *proposed_length);
+
+/*
+ * Fills `size` bytes from `start` on with zeros, and no compiler leaves that out: for secrets, shares,
+ * random bytes, and buffers that they stood in. Like the next function it is C of this header, tested
+ * and not proved.
+ */
+static inline void codex32_wipe(void *start, size_t size) {
+    volatile uint8_t *bytes = (volatile uint8_t *)start;
+    while (size > 0) {
+        bytes[--size] = 0;
+    }
+}
+
+/* More bytes of the stack than any function of the library takes. A program that has less stack, and calls
+ * few of them, may define a smaller number before it includes this header. */
+#ifndef CODEX32_STACK_SIZE
+#define CODEX32_STACK_SIZE 16384u
+#endif
+
+/* A function that is no part of its caller, and leaves zeros in registers where the compiler knows how: gcc
+ * from 11 on, clang from 15 on. */
+#if defined(__has_attribute)
+#if __has_attribute(zero_call_used_regs) && (defined(__x86_64__) || defined(__aarch64__))
+#define CODEX32_APART static __attribute__((noinline, unused, zero_call_used_regs("all")))
+#endif
+#endif
+#ifndef CODEX32_APART
+#if defined(__GNUC__)
+#define CODEX32_APART static __attribute__((noinline, unused))
+#elif defined(_MSC_VER)
+#define CODEX32_APART static __inline __declspec(noinline)
+#else
+#define CODEX32_APART static inline
+#endif
+#endif
+
+/*
+ * Fills CODEX32_STACK_SIZE bytes of the stack below the function that calls it with zeros, in which
+ * calls of the library left copies of secrets: call it after them, in the function that made them or in
+ * one that called that. tools/steady searches the stack for what is left behind each call: no eight
+ * characters, elements or bytes of a secret in a row. The C file of the library fills its own stack with
+ * zeros before a call ends, but not what the C compiler puts elsewhere: call it there too.
+ *
+ * What stays: your own variables and the copies that your compiler makes of them, registers that the
+ * compiler does not clear, and what the system copied: memory that was swapped out or dumped, and what
+ * was saved of registers and stack for a signal or another thread.
+ */
+CODEX32_APART void codex32_wipe_stack(void) {
+    volatile uint64_t room[CODEX32_STACK_SIZE / 8u + 1u];
+    volatile uint64_t *at = room, *const end = room + sizeof room / 8u;
+    while (at != end) {
+        *at++ = 0;
+    }
+}
 
 #ifdef __cplusplus
 }

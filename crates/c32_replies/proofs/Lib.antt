@@ -1,5 +1,8 @@
 pub mod OneAnswer
+pub mod Outcomes
 pub mod Replies
+pub mod Shares
 pub mod Sizes
-pub mod Split
+pub mod SplitAnswer
 pub mod Texts
+pub mod Words

@@ -85,6 +85,8 @@ module _ (text said payload : List ℕ) (t : Threshold) (i : Identifier) (x : Fe
   not_left_over (refusals.Header e) h = h
   not_left_over (refusals.Encode e) h = h
   not_left_over (refusals.Derive e) h = h
+  not_left_over (refusals.Split e) h = h
+  not_left_over refusals.BadNumber h = h
 
   pub read : IsShareAnswer text said → SaysShare text said
   read (inl s) = s
@@ -107,6 +109,8 @@ module _ (threshold identifier share_index hex bytes said : List ℕ) (digits : 
   not_encoded (refusals.Text e) spelling h = absurd h
   not_encoded (refusals.Payload e) spelling h = absurd h
   not_encoded (refusals.Derive e) spelling h = absurd h
+  not_encoded (refusals.Split e) spelling h = absurd h
+  not_encoded refusals.BadNumber spelling h = absurd h
 
   pub encoded : IsEncodeStringAnswer threshold identifier share_index hex said → SaysEncoded threshold identifier share_index hex said ⊎ (said ≡ err 91)
   encoded (inl s) = inl s
@@ -240,6 +244,8 @@ module _ (x : Fe32) (texts : List (List ℕ)) (shares : List Share) (are : AreSh
   not_derived (refusals.Header e) said spelling h = absurd h
   not_derived (refusals.Payload e) said spelling h = absurd h
   not_derived (refusals.Encode e) said spelling h = absurd h
+  not_derived (refusals.Split e) said spelling h = absurd h
+  not_derived refusals.BadNumber said spelling h = absurd h
 
   pub derived : (said : List ℕ) → IsSharesAnswer x texts said → SaysDerived x texts said ⊎ (said ≡ err 91)
   derived said (inl s) = inl s

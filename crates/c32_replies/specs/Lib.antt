@@ -1,3 +1,5 @@
+pub mod Added
 pub mod Numbers
 pub mod Reply
 pub mod Request
+pub mod Split

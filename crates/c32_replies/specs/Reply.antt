@@ -33,7 +33,8 @@ use Rattle.codex32_numbers.specs.Numbers.{number_of_codex32_error, number_of_hea
 use Rattle.line_program.specs.Refused.{SaysRefusal}
 use Rattle.c32_replies.specs.Numbers.{number_of_codex32_reply}
 use Rattle.c32_replies.specs.Request.{Codex32Request, Parse, Propose, ProposeLong, Share}
-use Rattle.c32_replies.specs.Request.{Encode, Derive, Recover}
+use Rattle.c32_replies.specs.Request.{Encode, Derive, Recover, Split}
+use Rattle.c32_replies.specs.Split.{IsSplitAnswer}
 use Rattle.c32_replies.specs.declared.refusal.Refusal.{Refusal}
 use Rattle.c32_replies.specs.declared.refusal.Refusal.TheVariants as refusals
 
@@ -208,3 +209,4 @@ IsCodex32Answer (Encode threshold identifier share_index hex) said =
     IsEncodeStringAnswer threshold identifier share_index hex said
 IsCodex32Answer (Derive share_index texts) said = IsDeriveAnswer share_index texts said
 IsCodex32Answer (Recover texts) said = IsSharesAnswer secret_index texts said
+IsCodex32Answer (Split asked) said = IsSplitAnswer asked said

@@ -2,9 +2,19 @@
 
 ghost use Rattle.std.specs.Prelude.{◌≡◌, MatchOption, Some, None};
 ghost use Rattle.line_program.specs.Words.{words};
-ghost use Rattle.c32_replies.specs.Request.{codex32_request_of, encode_arguments, codex32_request_of_command, nonempty_words};
+ghost use Rattle.c32_replies.specs.Request.{codex32_request_of, encode_arguments, codex32_request_of_command, nonempty_words, split_arguments};
 
 use line_program::{first_word, only_word};
+
+/// The words of `split`.
+#[derive(Clone, Copy, Debug)]
+pub struct SplitWords<'a> {
+    pub threshold: &'a str,
+    pub count: &'a str,
+    pub identifier: &'a str,
+    pub hex: &'a str,
+    pub random: &'a str,
+}
 
 /// What a line asks for, each argument as its word; several texts with the spaces between them.
 #[derive(Clone, Copy, Debug)]
@@ -41,6 +51,8 @@ pub enum Command<'a> {
     Recover {
         texts: &'a str,
     },
+    /// `split THRESHOLD COUNT IDENTIFIER HEX RANDOM`: shares of a secret, drawn by random bytes.
+    Split(SplitWords<'a>),
 }
 
 // The text, where none of its words is empty.
@@ -87,6 +99,7 @@ impl<'a> Command<'a> {
             "recover" => Some(Command::Recover {
                 texts: all_words(arguments)?,
             }),
+            "split" => Command::parse_split(arguments),
             _ => None,
         }
     }
@@ -107,5 +120,25 @@ impl<'a> Command<'a> {
             share_index,
             hex: only_word(hex)?,
         })
+    }
+
+    // Reads what stands behind `split`.
+    fn parse_split(arguments: &'a str) -> Option<Command<'a>>
+        ensures { MatchOption result
+            (split_arguments (words arguments.now) ≡ None)
+            (λ command.
+            split_arguments (words arguments.now) ≡ Some (codex32_request_of_command command)) }
+    {
+        let (threshold, arguments) = first_word(arguments)?;
+        let (count, arguments) = first_word(arguments)?;
+        let (identifier, arguments) = first_word(arguments)?;
+        let (hex, random) = first_word(arguments)?;
+        Some(Command::Split(SplitWords {
+            threshold,
+            count,
+            identifier,
+            hex,
+            random: only_word(random)?,
+        }))
     }
 }

@@ -17,6 +17,8 @@ ghost use Rattle.codex32_strings.specs.declared.share.Share.{Share as AShare};
 ghost use Rattle.codex32_strings.specs.declared.threshold.Threshold.{Threshold};
 ghost use Rattle.line_program.specs.Refused.{err};
 ghost use Rattle.c32_replies.specs.Reply.{IsDeriveAnswer, IsEncodeStringAnswer, IsParseAnswer, IsProposeAnswer, IsProposeLongAnswer, IsShareAnswer, IsSharesAnswer, SaysDerived, SaysEncoded, SaysNearest, SaysNoNearest, SaysParts, SaysShare};
+ghost use Rattle.c32_replies.specs.Request.{AskedSplit};
+ghost use Rattle.c32_replies.specs.Split.{IsAskedBy, IsSplitAnswer, SaysShares, split_fault};
 
 /// `parse`: the parts of a codex32 string are said.
 pub fn strings_are_parsed()
@@ -69,4 +71,13 @@ pub fn strings_are_derived()
     ensures word { (share_index : List ℕ) (texts : List (List ℕ)) (said : List ℕ)
         → share_index_word_fault share_index ≡ None → IsDeriveAnswer share_index texts said
         → IsSharesAnswer (share_index_of_word share_index) texts said }
+{}
+
+/// `split`: of words for a number of shares, a secret, random bytes, a threshold and an identifier,
+/// for which nothing is wrong with a split, the shares are said.
+pub fn secrets_are_split()
+    ensures { (asked : AskedSplit) (count : ℕ) (secret random said : List ℕ) (t : Threshold)
+        (i : Identifier) → IsAskedBy asked count secret random t i
+        → split_fault t count secret random ≡ None → IsSplitAnswer asked said
+        → SaysShares asked said ⊎ (said ≡ err 91) }
 {}

@@ -4,7 +4,9 @@
 //! Standard: BIP-93.
 #![tactic(auto)]
 
+mod added;
 mod command;
+mod count_word;
 mod derive;
 mod encode;
 pub mod laws;
@@ -13,3 +15,4 @@ mod propose;
 mod refusal;
 pub mod reply;
 mod share;
+mod split;

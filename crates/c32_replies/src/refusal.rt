@@ -3,15 +3,17 @@
 ghost use Rattle.std.specs.Prelude.{◌≡◌, ◌<◌};
 ghost use Rattle.c32_replies.specs.Numbers.{number_of_codex32_reply};
 
-use codex32::{Codex32Error, DeriveError, EncodeError, HeaderError, PayloadError};
+use codex32::{Codex32Error, DeriveError, EncodeError, HeaderError, PayloadError, SplitError};
 use codex32_numbers::{
     codex32_error_number, derive_error_number, encode_error_number, header_error_number,
-    payload_error_number,
+    payload_error_number, split_error_number,
 };
 
 /// Why a command is refused.
 #[derive(Clone, Copy, Debug, PartialEq, Eq, Drop)]
 pub enum Refusal {
+    /// A word that should be a number of shares is not.
+    BadNumber,
     /// A word that should be bytes in hex is not.
     BadHex,
     /// A word that should be a part of a header is not, or the parts do not go together.
@@ -24,6 +26,8 @@ pub enum Refusal {
     Encode(EncodeError),
     /// The shares give no string.
     Derive(DeriveError),
+    /// The secret is not split.
+    Split(SplitError),
 }
 
 impl Refusal {
@@ -33,12 +37,14 @@ impl Refusal {
         ensures small { result < 100 }
     {
         match self {
+            Refusal::BadNumber => 4,
             Refusal::BadHex => 5,
             Refusal::Header(e) => header_error_number(e),
             Refusal::Text(e) => codex32_error_number(e),
             Refusal::Payload(e) => payload_error_number(e),
             Refusal::Encode(e) => encode_error_number(e),
             Refusal::Derive(e) => derive_error_number(e),
+            Refusal::Split(e) => split_error_number(e),
         }
     }
 }
@@ -90,5 +96,15 @@ impl From<DeriveError> for Refusal {
 
     fn from(e: DeriveError) -> Refusal {
         Refusal::Derive(e)
+    }
+}
+
+impl From<SplitError> for Refusal {
+    ghost use Rattle.c32_replies.specs.declared.refusal.Refusal.TheVariants.{Split};
+
+    ghost from_gives = { λ e r. r ≡ Split e };
+
+    fn from(e: SplitError) -> Refusal {
+        Refusal::Split(e)
     }
 }

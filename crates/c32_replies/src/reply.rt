@@ -1,17 +1,18 @@
 //! The replies to commands, by which `line_program` replies to a line.
 
-ghost use Rattle.std.specs.Prelude.{◌+◌, ◌≤◌, vec_len, vec_capacity};
-ghost use Rattle.line_program.specs.Added.{AddsOrRefuses};
+ghost use Rattle.std.specs.Prelude.{◌+◌, ◌<◌, ◌≤◌, vec_len, vec_capacity, IfErr, OnOk};
+ghost use Rattle.line_program.specs.Reply.{IsReplyBy};
+ghost use Rattle.c32_replies.specs.Added.{AddsAnyOrRefuses};
 ghost use Rattle.c32_replies.specs.Numbers.{number_of_codex32_reply};
 ghost use Rattle.c32_replies.specs.Reply.{IsCodex32Answer};
-ghost use Rattle.c32_replies.specs.Request.{Codex32Request, codex32_request_of, codex32_request_of_command};
+ghost use Rattle.c32_replies.specs.Request.{codex32_request_of, codex32_request_of_command};
 
 use crate::command::Command;
 use crate::parse::parse;
 use crate::refusal::Refusal;
 use crate::share::share;
 use bech32::Fe32;
-use line_program::{Execute, NotExecuted};
+use line_program::{LINE_LIMIT, Replies, append, append_refusal, text_of};
 use std::alloc::Allocator;
 
 /// The commands of this program, answered with memory from `alloc`.
@@ -23,9 +24,11 @@ pub struct Commands<A> {
 impl<A: Allocator + Copy> Commands<A> {
     // Adds the answer to a command, or leaves all as it was.
     fn answer(&self, command: Command<'_>, out: &mut Vec<u8>) -> Result<(), Refusal>
-        requires { vec_len out.old + 2047 ≤ vec_capacity out.old }
-        ensures answer { AddsOrRefuses (IsCodex32Answer (codex32_request_of_command command.entry))
-            number_of_codex32_reply result out.old.items out.new.items }
+        requires { vec_len out.old + 2048 ≤ vec_capacity out.old }
+        ensures answer { AddsAnyOrRefuses
+            (IsCodex32Answer (codex32_request_of_command command.entry)) number_of_codex32_reply
+            result out.old.items out.new.items }
+        ensures room { OnOk result (vec_len out.new + 1 ≤ vec_capacity out.new) }
         ensures capacity { vec_capacity out.old ≤ vec_capacity out.new }
     {
         match command {
@@ -41,24 +44,47 @@ impl<A: Allocator + Copy> Commands<A> {
             } => self.encode((threshold, identifier, share_index), hex, out),
             Command::Derive { share_index, texts } => self.derive(share_index, texts, out),
             Command::Recover { texts } => self.derive_at(Fe32::S, texts, out),
+            Command::Split(words) => self.split(&words, out),
+        }
+    }
+
+    // Adds what is said of a line, or leaves all as it was and returns the number of the refusal.
+    fn answer_line(&self, line: &[u8], out: &mut Vec<u8>) -> Result<(), u8>
+        requires { vec_len out.old + 2048 ≤ vec_capacity out.old }
+        ensures answer { AddsAnyOrRefuses (IsReplyBy codex32_request_of IsCodex32Answer line.now)
+            (λ number. number) result out.old.items out.new.items }
+        ensures small { IfErr result (λ number. number < 100) }
+        ensures room { OnOk result (vec_len out.new + 1 ≤ vec_capacity out.new) }
+        ensures capacity { vec_capacity out.old ≤ vec_capacity out.new }
+    {
+        if line.len() > LINE_LIMIT {
+            return Err(1);
+        }
+        let Some(text) = text_of(line) else {
+            return Err(2);
+        };
+        let Some(command) = Command::parse(text) else {
+            return Err(3);
+        };
+        match self.answer(command, out) {
+            Ok(()) => Ok(()),
+            Err(e) => Err(e.number()),
         }
     }
 }
 
-impl<A: Allocator + Copy> Execute for Commands<A> {
-    ghost request = { Codex32Request };
+// The shares of a secret may be longer than the room that the commands of `Execute` have.
+impl<A: Allocator + Copy> Replies for Commands<A> {
+    ghost use Rattle.line_program.specs.laws.LongLines.{long_lines};
 
-    ghost request_of = { codex32_request_of };
+    ghost is_reply = { IsReplyBy codex32_request_of IsCodex32Answer };
 
-    ghost is_answer = { IsCodex32Answer };
+    ghost too_long = { long_lines codex32_request_of IsCodex32Answer };
 
-    fn execute(&self, text: &str, out: &mut Vec<u8>) -> Result<(), NotExecuted> {
-        let Some(command) = Command::parse(text) else {
-            return Err(NotExecuted::NoCommand);
-        };
-        match self.answer(command, out) {
-            Ok(()) => Ok(()),
-            Err(e) => Err(NotExecuted::Refused(e.number())),
+    fn reply(&self, line: &[u8], out: &mut Vec<u8>) {
+        if let Err(number) = self.answer_line(line, out) {
+            append_refusal(out, number);
         }
+        append(out, b"\n");
     }
 }

@@ -17,6 +17,8 @@ pub mod encode;
 pub mod message;
 pub mod parse;
 pub mod propose;
+pub mod recover;
 pub mod share;
+pub mod split;
 #[cfg(test)]
 mod tests;

@@ -2,6 +2,7 @@ mod every_length;
 mod memory;
 mod messages;
 mod shares;
+mod splits;
 
 use crate::parse::codex32_parse;
 use crate::propose::codex32_propose;

@@ -28,7 +28,7 @@ use Rattle.codex32_calls.proofs.Letters.{IsUtf8-from_text}
 
 -- ---- strings
 
-utf8-from_either : (t : List ℕ) → IsEither t → IsUtf8 t
+pub utf8-from_either : (t : List ℕ) → IsEither t → IsUtf8 t
 utf8-from_either t (threshold, identifier, x, payload, is) = IsUtf8-from_text t is.hrp (is.front ++ (payload ++ is.checksum)) is.accepted.grammar
 
 pub no_either_fault : (t : List ℕ) (e : Refusal) → IsEither t → IsEitherFault t e → ⊥
@@ -44,6 +44,7 @@ no_either_fault t (refusals.Header e) is h = h
 no_either_fault t (refusals.Payload e) is h = h
 no_either_fault t (refusals.Encode e) is h = h
 no_either_fault t (refusals.Derive e) is h = h
+no_either_fault t (refusals.Split e) is h = h
 no_either_fault t refusals.NoNearest is h = h
 no_either_fault t refusals.NoRoom is h = h
 
@@ -76,6 +77,7 @@ module _ (t : List ℕ) (room : ℕ) where
   no_share_fault (refusals.Header e) can h = h
   no_share_fault (refusals.Encode e) can h = h
   no_share_fault (refusals.Derive e) can h = h
+  no_share_fault (refusals.Split e) can h = h
   no_share_fault refusals.NoNearest can h = h
 
 -- ---- strings that are made
@@ -103,6 +105,7 @@ module _ (t : ℕ) (w : List ℕ) (x : ℕ) (given : List ℕ) (room : ℕ) wher
   no_encode_fault refusals.MixedCase can h = h
   no_encode_fault (refusals.Payload e) can h = h
   no_encode_fault (refusals.Derive e) can h = h
+  no_encode_fault (refusals.Split e) can h = h
   no_encode_fault refusals.NoNearest can h = h
 
   no_room-payload : CanEncodePayload t w x given room → LacksRoomForPayload t w x given room → ⊥
@@ -124,4 +127,5 @@ module _ (t : ℕ) (w : List ℕ) (x : ℕ) (given : List ℕ) (room : ℕ) wher
   no_encode_payload_fault refusals.BadLengths can h = h.1
   no_encode_payload_fault (refusals.Payload e) can h = h.1
   no_encode_payload_fault (refusals.Derive e) can h = h.1
+  no_encode_payload_fault (refusals.Split e) can h = h.1
   no_encode_payload_fault refusals.NoNearest can h = h.1

@@ -3,6 +3,8 @@ mod Inputs
 mod Letters
 mod Payloads
 mod Proposals
+mod Recovered
 mod SameShares
 mod Sizes
+mod Splits
 mod Texts

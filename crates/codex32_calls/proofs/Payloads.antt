@@ -15,5 +15,6 @@ refused-from_payload t w x cs room (refusals.Header e) fine h = absurd h
 refused-from_payload t w x cs room (refusals.Payload e) fine h = absurd h
 refused-from_payload t w x cs room (refusals.Encode e) fine h = absurd h
 refused-from_payload t w x cs room (refusals.Derive e) fine h = absurd h
+refused-from_payload t w x cs room (refusals.Split e) fine h = absurd h
 refused-from_payload t w x cs room refusals.NoNearest fine h = absurd h
 refused-from_payload t w x cs room refusals.NoRoom fine h = absurd h

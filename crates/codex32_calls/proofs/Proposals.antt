@@ -76,6 +76,7 @@ only_memory kind text room (refusals.Header e) can h = absurd h
 only_memory kind text room (refusals.Payload e) can h = absurd h
 only_memory kind text room (refusals.Encode e) can h = absurd h
 only_memory kind text room (refusals.Derive e) can h = absurd h
+only_memory kind text room (refusals.Split e) can h = absurd h
 
 pub utf8-from_can : (kind : Kind) (text : List ℕ) (room : ℕ) → CanPropose kind text room → IsUtf8 text
 utf8-from_can kind text room can = utf8-from_kind kind text can.nearest can.is_nearest

@@ -24,7 +24,7 @@ use Rattle.codex32_calls.proofs.Accepted.{no_either_fault}
 use Rattle.codex32_calls.proofs.Texts.{either-from_share}
 
 -- two shares have the same parts
-record IsSame (s r : Share) : Type 0 where
+pub record IsSame (s r : Share) : Type 0 where
   threshold : threshold_of_share s ≡ threshold_of_share r
   identifier : identifier_of_share s ≡ identifier_of_share r
   index : index_of_share s ≡ index_of_share r
@@ -40,13 +40,13 @@ same_share t s r a b =
       characters = (only-from_IsText t b.hrp (characters_of_share r) b.is_text a.hrp (characters_of_share s) a.is_text.split a.is_text.data_bytes).1;
     }
 
-abbrev AreSame : List Share → List Share → Type 0
+abbrev pub AreSame : List Share → List Share → Type 0
 AreSame [] [] = Unit {0}
 AreSame [] (r ∷ rs) = ⊥
 AreSame (s ∷ ss) [] = ⊥
 AreSame (s ∷ ss) (r ∷ rs) = IsSame s r × AreSame ss rs
 
-same_shares : (ts : List (List ℕ)) (ss rs : List Share) → AreSharesOf ts ss → AreSharesOf ts rs → AreSame ss rs
+pub same_shares : (ts : List (List ℕ)) (ss rs : List Share) → AreSharesOf ts ss → AreSharesOf ts rs → AreSame ss rs
 same_shares [] [] [] a b = tt
 same_shares [] [] (r ∷ rs) a b = absurd b
 same_shares [] (s ∷ ss) rs a b = absurd a
@@ -81,7 +81,7 @@ set-same [] (r ∷ rs) h set = absurd h
 set-same (s ∷ ss) [] h set = absurd h
 set-same (s ∷ ss) (r ∷ rs) h set = members s r h.0 (s ∷ ss) (r ∷ rs) h set
 
-size-same : (ss rs : List Share) → AreSame ss rs → size_of ss ≡ size_of rs
+pub size-same : (ss rs : List Share) → AreSame ss rs → size_of ss ≡ size_of rs
 size-same [] [] h = refl
 size-same [] (r ∷ rs) h = absurd h
 size-same (s ∷ ss) [] h = absurd h
@@ -93,7 +93,7 @@ count-same [] (r ∷ rs) h = absurd h
 count-same (s ∷ ss) [] h = absurd h
 count-same (s ∷ ss) (r ∷ rs) h = ap (λ (t : Threshold). points_of t) h.0.threshold
 
-length-same : (ss rs : List Share) → AreSame ss rs → length ss ≡ length rs
+pub length-same : (ss rs : List Share) → AreSame ss rs → length ss ≡ length rs
 length-same [] [] h = refl
 length-same [] (r ∷ rs) h = absurd h
 length-same (s ∷ ss) [] h = absurd h
@@ -164,5 +164,6 @@ module _ (x : ℕ) (texts lengths : List ℕ) (room : ℕ) where
   no_derive_fault refusals.InvalidCharacter can h = no_texts refusals.InvalidCharacter can h.1
   no_derive_fault refusals.MixedCase can h = no_texts refusals.MixedCase can h.1
   no_derive_fault (refusals.Payload e) can h = no_texts (refusals.Payload e) can h.1
+  no_derive_fault (refusals.Split e) can h = no_texts (refusals.Split e) can h.1
   no_derive_fault (refusals.Encode e) can h = no_texts (refusals.Encode e) can h.1
   no_derive_fault refusals.NoNearest can h = no_texts refusals.NoNearest can h.1

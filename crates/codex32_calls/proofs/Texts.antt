@@ -62,7 +62,7 @@ fault-first texts [] n e some is f = absurd (omega (arith, some))
 fault-first texts (m ∷ ns) n e some is f = inl (subst (λ (k : ℕ). IsEitherFault (take k texts) e) is f)
 
 -- of texts there are no other refusals
-never : (e : Refusal) → ((t : List ℕ) → IsEitherFault t e → ⊥) → (ts : List (List ℕ)) → IsTextsFault ts e → ⊥
+pub never : (e : Refusal) → ((t : List ℕ) → IsEitherFault t e → ⊥) → (ts : List (List ℕ)) → IsTextsFault ts e → ⊥
 never e nowhere [] h = h
 never e nowhere (t ∷ ts) (inl f) = nowhere t f
 never e nowhere (t ∷ ts) (inr more) = never e nowhere ts more.1
@@ -78,5 +78,6 @@ refused-from_texts x texts lengths left (refusals.Header e) asked h = absurd (ne
 refused-from_texts x texts lengths left (refusals.Payload e) asked h = (asked, h)
 refused-from_texts x texts lengths left (refusals.Encode e) asked h = (asked, h)
 refused-from_texts x texts lengths left (refusals.Derive e) asked h = absurd (never (refusals.Derive e) (λ t f. f) (texts_of texts lengths) h)
+refused-from_texts x texts lengths left (refusals.Split e) asked h = (asked, h)
 refused-from_texts x texts lengths left refusals.NoNearest asked h = (asked, h)
 refused-from_texts x texts lengths left refusals.NoRoom asked h = absurd (never refusals.NoRoom (λ t f. f) (texts_of texts lengths) h)

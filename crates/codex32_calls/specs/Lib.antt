@@ -6,4 +6,6 @@ pub mod Numbers
 pub mod Parse
 pub mod Payload
 pub mod Propose
+pub mod Recover
 pub mod Share
+pub mod Split

@@ -4,12 +4,12 @@
 use Rattle.std.specs.Prelude.{ℕ}
 use Rattle.codex32_numbers.specs.Numbers.{number_of_codex32_error, number_of_derive_error}
 use Rattle.codex32_numbers.specs.Numbers.{number_of_codex32_encode_error, number_of_header_error}
-use Rattle.codex32_numbers.specs.Numbers.{number_of_payload_error}
+use Rattle.codex32_numbers.specs.Numbers.{number_of_payload_error, number_of_split_error}
 use Rattle.codex32_calls.specs.declared.refusal.Refusal.{Refusal}
 use Rattle.codex32_calls.specs.declared.refusal.Refusal.TheVariants.{NotUtf8, BadLengths, Text}
 use Rattle.codex32_calls.specs.declared.refusal.Refusal.TheVariants.{InvalidCharacter, MixedCase}
 use Rattle.codex32_calls.specs.declared.refusal.Refusal.TheVariants.{Header, Payload, Encode}
-use Rattle.codex32_calls.specs.declared.refusal.Refusal.TheVariants.{Derive}
+use Rattle.codex32_calls.specs.declared.refusal.Refusal.TheVariants.{Derive, Split}
 use Rattle.codex32_calls.specs.declared.refusal.Refusal.TheVariants.{NoNearest, NoRoom}
 
 abbrev pub number_of_codex32_refusal : Refusal → ℕ
@@ -22,5 +22,6 @@ number_of_codex32_refusal (Header e) = number_of_header_error e
 number_of_codex32_refusal (Payload e) = number_of_payload_error e
 number_of_codex32_refusal (Encode e) = number_of_codex32_encode_error e
 number_of_codex32_refusal (Derive e) = number_of_derive_error e
+number_of_codex32_refusal (Split e) = number_of_split_error e
 number_of_codex32_refusal NoNearest = 34
 number_of_codex32_refusal NoRoom = 92

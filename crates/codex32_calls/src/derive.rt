@@ -11,13 +11,13 @@ use bech32_encode::put_at_front;
 use codex32::{DeriveError, Share, derive_into};
 
 // The most characters that a string has.
-const LONGEST: usize = 127;
+pub(crate) const LONGEST: usize = 127;
 
 // The most strings of a set.
-const MOST: usize = 32;
+pub(crate) const MOST: usize = 32;
 
 // Whether lengths add up to this.
-fn do_add_up(lengths: &[usize], total: usize) -> bool
+pub(crate) fn do_add_up(lengths: &[usize], total: usize) -> bool
     ensures { result ≡ (sum lengths.now == total) }
 {
     let mut left = total;
@@ -49,7 +49,7 @@ fn put_shares<'t>(room: &mut [Share<'t>], texts: &'t [u8], lengths: &[usize]) ->
 }
 
 // Puts the string at an index that texts give, and returns its length.
-fn put_string(
+pub(crate) fn put_string(
     room: &mut [u8],
     share_index: u32,
     texts: &[u8],

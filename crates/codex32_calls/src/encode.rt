@@ -8,11 +8,12 @@ ghost use Rattle.codex32_strings.specs.Encode.{IsEncodedPayload, is_long_payload
 ghost use Rattle.codex32_calls.specs.Encode.{CanEncode, IsEncodeStringFault, PutsEncoded};
 ghost use Rattle.codex32_calls.specs.Payload.{CanEncodePayload, IsEncodePayloadFault, PutsEncodedPayload};
 
-use crate::input::{header_of, put_elements, validate_payload};
+use crate::input::{header_of, validate_payload};
 use crate::refusal::Refusal;
 use bech32::Fe32;
 use bech32_encode::put_at_front;
 use codex32::{EncodeError, Header, encode_into, encode_payload_into};
+use codex32_steady::put_elements;
 
 // The most characters that a string has.
 const LONGEST: usize = 127;

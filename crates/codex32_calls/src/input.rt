@@ -1,11 +1,8 @@
 //! Reads what a C program gives.
 
-ghost use Rattle.std.specs.Prelude.{◌≡◌, true, length, None, Some, MatchResult};
-ghost use Rattle.std.specs.List.{list_any};
+ghost use Rattle.std.specs.Prelude.{◌≡◌, None, Some, MatchResult};
 ghost use Rattle.std.specs.Str.{IsUtf8};
-ghost use Rattle.bech32_gf.specs.Alphabet.{is_data};
 ghost use Rattle.bech32_gf.specs.Fe32.{element_of, elements_of};
-ghost use Rattle.bech32_hrp.specs.Hrp.{is_lower, is_mixed_case, is_upper};
 ghost use Rattle.codex32_strings.specs.HeaderParts.{identifier_elements, identifier_word_fault, threshold_number};
 ghost use Rattle.codex32_strings.specs.Share.{IsShareOf};
 ghost use Rattle.codex32_calls.specs.Encode.{IsHeaderOf, header_number_fault, share_index_number_fault, threshold_number_fault};
@@ -15,6 +12,7 @@ ghost use Rattle.codex32_calls.specs.Share.{IsEitherFault};
 use crate::refusal::Refusal;
 use bech32::Fe32;
 use codex32::{Header, HeaderError, Identifier, Share, Threshold};
+use codex32_steady::{are_of_alphabet, has_both_cases};
 
 /// The text of bytes.
 pub fn text_of(bytes: &[u8]) -> Result<&str, Refusal>
@@ -38,8 +36,8 @@ pub fn share_of(bytes: &[u8]) -> Result<Share<'_>, Refusal>
     Ok(share)
 }
 
-// The threshold of this number.
-fn threshold_of(number: u32) -> Result<Threshold, HeaderError>
+/// The threshold of this number.
+pub fn threshold_of(number: u32) -> Result<Threshold, HeaderError>
     ensures { MatchResult result
         (λ t. (threshold_number_fault number ≡ None) × (threshold_number t ≡ number))
         (λ e. threshold_number_fault number ≡ Some e) }
@@ -53,8 +51,8 @@ fn threshold_of(number: u32) -> Result<Threshold, HeaderError>
     }
 }
 
-// The identifier of four characters.
-fn identifier_of(characters: &[u8]) -> Result<Identifier, HeaderError>
+/// The identifier of four characters.
+pub fn identifier_of(characters: &[u8]) -> Result<Identifier, HeaderError>
     ensures { MatchResult result
         (λ i. (identifier_word_fault characters.now ≡ None)
         × (identifier_elements i ≡ elements_of characters.now))
@@ -93,36 +91,6 @@ pub fn header_of(threshold: u32, identifier: &[u8], share_index: u32) -> Result<
     Header::new(threshold, identifier, share_index)
 }
 
-// Whether characters are of the alphabet, in either case.
-fn are_of_alphabet(characters: &[u8]) -> bool
-    ensures { result ≡ is_data characters.now }
-{
-    characters
-        .iter()
-        .all(|c| Fe32::from_char(char::from(*c)).is_ok())
-}
-
-// Whether a lower-case letter stands among characters.
-fn has_lower(characters: &[u8]) -> bool
-    ensures { result ≡ list_any is_lower characters.now }
-{
-    characters.iter().any(|c| c.is_ascii_lowercase())
-}
-
-// Whether an upper-case letter stands among characters.
-fn has_upper(characters: &[u8]) -> bool
-    ensures { result ≡ list_any is_upper characters.now }
-{
-    characters.iter().any(|c| c.is_ascii_uppercase())
-}
-
-// Whether letters of both cases stand among characters.
-fn has_both_cases(characters: &[u8]) -> bool
-    ensures { result ≡ is_mixed_case characters.now }
-{
-    has_lower(characters) && has_upper(characters)
-}
-
 /// Tests the characters of a payload, of whatever number.
 pub fn validate_payload(characters: &[u8]) -> Result<(), Refusal>
     ensures { MatchResult result
@@ -136,15 +104,4 @@ pub fn validate_payload(characters: &[u8]) -> Result<(), Refusal>
         return Err(Refusal::MixedCase);
     }
     Ok(())
-}
-
-/// Puts the elements of characters.
-pub fn put_elements(elements: &mut [Fe32], characters: &[u8])
-    requires size { length elements.old ≡ length characters.now }
-    requires of_alphabet { is_data characters.now ≡ true }
-    ensures { elements.new ≡ elements_of characters.now }
-{
-    for i in 0..characters.len() {
-        elements[i] = Fe32::from_char_unchecked(characters[i]);
-    }
 }

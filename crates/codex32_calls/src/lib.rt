@@ -14,5 +14,7 @@ pub mod encode;
 mod input;
 pub mod parse;
 pub mod propose;
+pub mod recover;
 pub mod refusal;
 pub mod share;
+pub mod split;

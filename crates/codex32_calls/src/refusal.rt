@@ -3,10 +3,10 @@
 ghost use Rattle.std.specs.Prelude.{◌≡◌, ◌<◌};
 ghost use Rattle.codex32_calls.specs.Numbers.{number_of_codex32_refusal};
 
-use codex32::{Codex32Error, DeriveError, EncodeError, HeaderError, PayloadError};
+use codex32::{Codex32Error, DeriveError, EncodeError, HeaderError, PayloadError, SplitError};
 use codex32_numbers::{
     codex32_error_number, derive_error_number, encode_error_number, header_error_number,
-    payload_error_number,
+    payload_error_number, split_error_number,
 };
 
 /// Why a call writes nothing.
@@ -30,6 +30,8 @@ pub enum Refusal {
     Encode(EncodeError),
     /// No string is derived from shares.
     Derive(DeriveError),
+    /// The secret is not split.
+    Split(SplitError),
     /// There is no nearest text.
     NoNearest,
     /// A buffer is too small.
@@ -52,6 +54,7 @@ impl Refusal {
             Refusal::Payload(e) => payload_error_number(e),
             Refusal::Encode(e) => encode_error_number(e),
             Refusal::Derive(e) => derive_error_number(e),
+            Refusal::Split(e) => split_error_number(e),
             Refusal::NoNearest => 34,
             Refusal::NoRoom => 92,
         };
@@ -106,5 +109,15 @@ impl From<DeriveError> for Refusal {
 
     fn from(e: DeriveError) -> Refusal {
         Refusal::Derive(e)
+    }
+}
+
+impl From<SplitError> for Refusal {
+    ghost use Rattle.codex32_calls.specs.declared.refusal.Refusal.TheVariants as refusals;
+
+    ghost from_gives = { λ e r. r ≡ refusals.Split e };
+
+    fn from(e: SplitError) -> Refusal {
+        Refusal::Split(e)
     }
 }

@@ -1,6 +1,6 @@
 -- The numbers of refusals of codex32 strings: those of `bech32_numbers` for the grammar and the
 -- checksum, 55 for a string that is not written, from 61 for shares, from 81 for what codex32 asks
--- besides, and 91 for out of memory.
+-- besides, 91 for out of memory, and 92 for a buffer that is too small.
 use Rattle.std.specs.Prelude.{ℕ}
 use Rattle.bech32_numbers.specs.Numbers.{number_of_text_error, number_of_checksum_error}
 use Rattle.codex32_strings.specs.declared.error.Codex32Error.{Codex32Error}
@@ -29,6 +29,14 @@ use Rattle.codex32_strings.specs.declared.error.HeaderError.TheVariants.{
 }
 use Rattle.codex32_strings.specs.declared.error.PayloadError.{PayloadError}
 use Rattle.codex32_strings.specs.declared.error.PayloadError.TheVariants.{LeftOver}
+use Rattle.codex32_strings.specs.declared.error.SplitError.{SplitError}
+use Rattle.codex32_strings.specs.declared.error.SplitError.TheVariants.{
+  Unshared as UnsharedSplit,
+  Size as SplitSize,
+  Count,
+  Random,
+  NoRoom,
+}
 
 -- of a text that is not a codex32 string, or for which no nearest text is looked for
 abbrev pub number_of_codex32_error : Codex32Error → ℕ
@@ -64,3 +72,11 @@ number_of_derive_error IndexTwice = 63
 number_of_derive_error Contradiction = 64
 number_of_derive_error UnsharedSet = 84
 number_of_derive_error DeriveMemory = 91
+
+-- of a secret that is not split
+abbrev pub number_of_split_error : SplitError → ℕ
+number_of_split_error SplitSize = 55
+number_of_split_error Count = 65
+number_of_split_error Random = 66
+number_of_split_error UnsharedSplit = 84
+number_of_split_error NoRoom = 92

@@ -1,7 +1,7 @@
-//! The numbers of the refusals of `codex32`, from 11 to 91, that programs and the functions for C
+//! The numbers of the refusals of `codex32`, from 11 to 92, that programs and the functions for C
 //! print or return in their place. An error that carries another has its number.
 //!
-//! Numbers from 1 to 9 and from 92 are left to the programs.
+//! Numbers from 1 to 9 and from 93 are left to the programs.
 //!
 //! Below it: `codex32`, `bech32_numbers`.
 //! Standard: none.
@@ -9,10 +9,10 @@
 
 ghost use Rattle.std.specs.Prelude.{◌≡◌};
 ghost use Rattle.bech32_numbers.specs.Numbers.{IsSmall};
-ghost use Rattle.codex32_numbers.specs.Numbers.{number_of_codex32_error, number_of_derive_error, number_of_codex32_encode_error, number_of_header_error, number_of_payload_error};
+ghost use Rattle.codex32_numbers.specs.Numbers.{number_of_codex32_error, number_of_derive_error, number_of_codex32_encode_error, number_of_header_error, number_of_payload_error, number_of_split_error};
 
 use bech32_numbers::{checksum_error_number, text_error_number};
-use codex32::{Codex32Error, DeriveError, EncodeError, HeaderError, PayloadError};
+use codex32::{Codex32Error, DeriveError, EncodeError, HeaderError, PayloadError, SplitError};
 
 /// The number, 11 to 33, 81 to 84 or 91, of a text that is not a codex32 string, or for which no
 /// nearest text is looked for.
@@ -77,5 +77,19 @@ pub fn derive_error_number(e: DeriveError) -> u8
         DeriveError::Contradiction => 64,
         DeriveError::Unshared => 84,
         DeriveError::Memory => 91,
+    }
+}
+
+/// The number, 55, 65, 66, 84 or 92, of a secret that is not split.
+pub fn split_error_number(e: SplitError) -> u8
+    ensures value { result ≡ number_of_split_error e }
+    ensures small { IsSmall result }
+{
+    match e {
+        SplitError::Size => 55,
+        SplitError::Count => 65,
+        SplitError::Random => 66,
+        SplitError::Unshared => 84,
+        SplitError::NoRoom => 92,
     }
 }

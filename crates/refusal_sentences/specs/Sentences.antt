@@ -57,6 +57,8 @@ codex32_sentence n =
     else (if n == 62 then codes "a share has another threshold, identifier or length than the first"
     else (if n == 63 then codes "two shares have one index"
     else (if n == 64 then codes "the shares contradict each other"
+    else (if n == 65 then codes "there are fewer shares than the threshold, or more than 31"
+    else (if n == 66 then codes "there are not as many random bytes as characters are drawn"
     else (if n == 81 then codes "the human-readable part is not `ms`"
     else (if n == 82 then codes "a codex32 string has 48 to 93 characters, a long one 125 to 127"
     else (if n == 83 then codes "the threshold is neither 0 nor a digit from 2 to 9"
@@ -66,6 +68,6 @@ codex32_sentence n =
     else (if n == 87 then codes "more than four bits stand behind the bytes of the payload"
     else (if n == 91 then codes "the lent memory did not suffice"
     else (if n == 92 then codes "a buffer is too small"
-    else [])))))))))))))))))))))))))
+    else [])))))))))))))))))))))))))))
 
 -- End of the sentences.

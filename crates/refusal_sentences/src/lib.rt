@@ -74,6 +74,8 @@ pub fn codex32_sentence_of(number: u32) -> &'static str
         62 => "a share has another threshold, identifier or length than the first",
         63 => "two shares have one index",
         64 => "the shares contradict each other",
+        65 => "there are fewer shares than the threshold, or more than 31",
+        66 => "there are not as many random bytes as characters are drawn",
         81 => "the human-readable part is not `ms`",
         82 => "a codex32 string has 48 to 93 characters, a long one 125 to 127",
         83 => "the threshold is neither 0 nor a digit from 2 to 9",

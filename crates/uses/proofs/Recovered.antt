@@ -1,7 +1,7 @@
 -- Of strings that are recovered.
 use Rattle.std.specs.List.{list_all}
-use Rattle.std.specs.Prelude.{nat_lt, true}
-use Rattle.std.proofs.Common.{◌≡◌, ℕ, List, [], ◌∷◌, ◌++◌, inl, length, map, take, refl, sym, ap, subst, ◌∙◌}
+use Rattle.std.specs.Prelude.{nat_lt, true, IfSome}
+use Rattle.std.proofs.Common.{◌≡◌, ℕ, List, [], ◌∷◌, ◌++◌, inl, length, map, take, Option, Some, None, refl, sym, ap, subst, ◌∙◌, arith}
 use Rattle.bech32_hrp.specs.Hrp.{lowered}
 use Rattle.bech32_bits.specs.Bits.{to_bytes, to_fes}
 use Rattle.bech32_bits.proofs.RoundTrip.{to_bytes-to_fes}
@@ -12,9 +12,10 @@ use Rattle.bech32_decode.proofs.Spelling.{characters-elements, lower_text, spell
 use Rattle.codex32_strings.specs.Derive.{DoContradict, IsDerivedString, IsUnshared, IsWholeSet}
 use Rattle.codex32_strings.specs.Encode.{IsEncodedString}
 use Rattle.codex32_strings.specs.Header.{header_elements, identifier_of_header, share_index_of_header, threshold_of_header}
-use Rattle.codex32_strings.specs.HeaderParts.{secret_index}
+use Rattle.codex32_strings.specs.HeaderParts.{secret_index, threshold_number}
 use Rattle.codex32_strings.specs.Share.{IsShareOf, IsShareString, bytes_of_share, identifier_of_share, index_of_share, payload_of_share, threshold_of_share}
 use Rattle.codex32_strings.specs.ShareParts.{ms}
+use Rattle.codex32_strings.specs.Split.{Recovers, text_at}
 use Rattle.codex32_strings.specs.declared.header.Header.{Header}
 use Rattle.codex32_strings.specs.declared.share.Share.{Share}
 use Rattle.codex32_strings.specs.declared.identifier.Identifier.{Identifier}
@@ -55,12 +56,29 @@ same_text own other one two x y own_text first second text header bytes payload 
     let only = sets.one dealt secret_index whole consistent in
     only.2 text given ∙ sym (only.2 (lowered own_text) low) ∙ encoded_low header bytes own_text encoded
 
+-- two shares of a secret that is split give its bytes
+pub given_bytes : (t : Threshold) (i : Identifier) (secret : List ℕ) (n : ℕ) (texts : List ℕ) (first third own : Share) (text : List ℕ) → Recovers t i secret 3 n texts → threshold_number t ≡ 2
+    → IsShareOf (text_at n texts 0) first → IsShareOf (text_at n texts 2) third → IsWholeSet (first ∷ third ∷ []) secret_index → IsDerivedString (first ∷ third ∷ []) secret_index text → IsShareOf text own
+    → bytes_of_share own ≡ secret
+given_bytes t i secret n texts first third own text recovers two of_first of_third whole derived of =
+    let shares : List Share = first ∷ third ∷ [] in
+    let give = recovers shares ((0, omega arith, of_first), ((2, omega arith, of_third), tt)) whole.once (omega (arith, two)) in
+    let only = sets.one shares secret_index give.whole give.agree in
+    let same : text ≡ give.own = only.2 text derived ∙ sym (only.2 give.own give.is_derived) in
+    give.is_read own (subst (λ (u : List ℕ). IsShareOf u own) same of)
+
 -- the bytes of a string of bytes
 pub same_bytes : (text bytes payload : List ℕ) (s : Share) (t : Threshold) (i : Identifier) (x : Fe32) → IsShareOf text s → IsShareString text t i x payload → elements_of payload ≡ to_fes bytes
     → list_all (λ b. nat_lt b 256) bytes ≡ true → bytes_of_share s ≡ bytes
 same_bytes text bytes payload s t i x of string elements below =
     ap (λ (p : List ℕ). to_bytes (elements_of p)) (sets.same_parts text (threshold_of_share s) t (identifier_of_share s) i (index_of_share s) x (payload_of_share s) payload of.is_string string).3
     ∙ ap to_bytes elements ∙ to_bytes-to_fes bytes below
+
+-- of whatever share a text has, the bytes are those
+pub bytes-given : {V : Type 0} (items : V → List ℕ) (text secret : List ℕ) (r : Option V) → IfSome r (λ v. (s : Share) × IsShareOf text s × (items v ≡ bytes_of_share s)) → ((s : Share) → IsShareOf text s → bytes_of_share s ≡ secret)
+    → IfSome r (λ v. items v ≡ secret)
+bytes-given items text secret (Some v) h same = h.2 ∙ same h.0 h.1
+bytes-given items text secret None h same = tt
 
 -- what is put into a buffer of as many bytes
 pub taken_front : (n : ℕ) (b rest behind new : List ℕ) → n ≡ length b → new ≡ b ++ rest → take n (new ++ behind) ≡ b

@@ -9,14 +9,16 @@ ghost use Rattle.codex32.specs.Nearest.{IsNearestText, IsProposeRefusal};
 ghost use Rattle.codex32_strings.specs.Encode.{IsEncodedString};
 ghost use Rattle.codex32_strings.specs.Header.{identifier_of_header, share_index_of_header, threshold_of_header};
 ghost use Rattle.codex32_strings.specs.HeaderParts.{secret_index};
-ghost use Rattle.codex32_strings.specs.Share.{IsShareString};
+ghost use Rattle.codex32_strings.specs.Share.{IsShareOf, IsShareString, bytes_of_share};
 ghost use Rattle.codex32_strings.specs.Strings.{IsCodex32};
+ghost use Rattle.codex32_strings.specs.declared.share.Share.{Share as AShare};
 
 use bech32::Fe32;
 use bech32::primitives::decode::SegwitHrpstringError;
 use bech32::segwit::{self, DecodeError};
 use codex32::{
-    Codex32Error, Codex32Str, Header, Share, derive, encode, encode_payload, propose, recover,
+    Codex32Error, Codex32Str, Header, Identifier, Share, Threshold, derive, encode, encode_payload,
+    propose, recover, split_into,
 };
 use std::alloc::Global;
 
@@ -104,6 +106,24 @@ pub fn recovered(
     Some(text)
 }
 
+// The bytes of the payload of a string.
+fn bytes_of(alloc: Global, text: &str) -> Option<Vec<u8>>
+    ensures { IfSome result (λ v. (s : AShare) × IsShareOf text.now s
+        × (v.items ≡ bytes_of_share s)) }
+{
+    let Ok(share) = Share::parse(text) else {
+        return None;
+    };
+    let Ok(count) = share.byte_count() else {
+        return None;
+    };
+    let Ok(mut bytes) = vec![in alloc; 0u8; count] else {
+        return None;
+    };
+    share.put_bytes(bytes.as_mut_slice());
+    Some(bytes)
+}
+
 /// The bytes of the secret, recovered so.
 pub fn recovered_bytes(
     alloc: Global,
@@ -117,15 +137,42 @@ pub fn recovered_bytes(
     ensures { IfSome result (λ v. v.items ≡ secret.now) }
 {
     let text = recovered(alloc, own, secret, other, random, indices)?;
-    let Ok(share) = Share::parse(&text) else {
+    bytes_of(alloc, &text)
+}
+
+// The share of the bytes of a text.
+fn share_of(bytes: &[u8]) -> Option<Share<'_>>
+    ensures { IfSome result (λ s. IsShareOf bytes.now s) }
+{
+    let Ok(text) = str::from_utf8(bytes) else {
         return None;
     };
-    let Ok(count) = share.byte_count() else {
+    let Ok(share) = Share::parse(text) else {
         return None;
     };
-    let Ok(mut bytes) = vec![in alloc; 0u8; count] else {
+    Some(share)
+}
+
+/// The bytes of a secret that is split into three shares, as the first and the third give them
+/// back: the secret, whatever is random. None where it is not split, or out of memory.
+pub fn given_back(
+    alloc: Global,
+    identifier: Identifier,
+    secret: &[u8],
+    random: &[u8],
+) -> Option<Vec<u8>>
+    ensures { IfSome result (λ v. v.items ≡ secret.now) }
+{
+    let threshold = Threshold::new(2)?;
+    let mut buffer = [0u8; 381];
+    let Ok(size) = split_into(&mut buffer, threshold, identifier, secret, 3, random) else {
         return None;
     };
-    share.put_bytes(bytes.as_mut_slice());
-    Some(bytes)
+    let (front, behind) = buffer[..3 * size].split_at(2 * size);
+    let first = share_of(&front[..size])?;
+    let third = share_of(&behind[..size])?;
+    let Ok(text) = recover(alloc, &[first, third]) else {
+        return None;
+    };
+    bytes_of(alloc, &text)
 }

@@ -29,7 +29,7 @@ fn says(rt: &impl Abort, number: u32, sentence: &[u8]) {
 
 #[test]
 fn says_sentences(rt: HostRuntime) {
-    let rows: [(u32, &[u8]); 7] = [
+    let rows: [(u32, &[u8]); 8] = [
         (2, b"a text or a human-readable part is not UTF-8"),
         (
             4,
@@ -38,6 +38,10 @@ fn says_sentences(rt: HostRuntime) {
         (33, b"the checksum is wrong"),
         (34, b"there is no nearest text"),
         (64, b"the shares contradict each other"),
+        (
+            65,
+            b"there are fewer shares than the threshold, or more than 31",
+        ),
         (81, b"the human-readable part is not `ms`"),
         (92, b"a buffer is too small"),
     ];
@@ -48,7 +52,7 @@ fn says_sentences(rt: HostRuntime) {
 
 #[test]
 fn says_nothing_of_other_numbers(rt: HostRuntime) {
-    for number in [0, 1, 3, 31, 32, 41, 65, 90, 93, 256, u32::MAX] {
+    for number in [0, 1, 3, 31, 32, 41, 67, 90, 93, 256, u32::MAX] {
         says(&rt, number, b"");
     }
 }

@@ -1,6 +1,6 @@
 use Rattle.std.proofs.Common.{◌∙◌}
 use Rattle.line_program.specs.Words.{words}
-use Rattle.c32_replies.proofs.Split.{no-texts, one-empty}
+use Rattle.c32_replies.proofs.Words.{no-texts, one-empty}
 use Rattle.c32_replies.proofs.command.all_words.Goals as goal
 
 pub returns-in_err-only_word : goal.returns-in_err-only_word

@@ -1,7 +1,7 @@
 use Rattle.std.proofs.Common.{◌≡◌, ◌∷◌, refl, codes}
 use Rattle.line_program.specs.Words.{words}
 use Rattle.c32_replies.specs.Request.{Parse, Propose, ProposeLong, Share}
-use Rattle.c32_replies.proofs.Split.{derive-no-index, derive-texts, no-text, recover-texts}
+use Rattle.c32_replies.proofs.Words.{derive-no-index, derive-texts, no-text, recover-texts}
 use Rattle.c32_replies.proofs.command.Command.parse.Goals as goal
 
 pub returns-in_err-only_word-in-parse : goal.returns-in_err-only_word-in-parse

@@ -1,6 +1,6 @@
 use Rattle.std.proofs.Common.{◌≡◌, ◌∷◌}
 use Rattle.line_program.specs.Words.{words}
-use Rattle.c32_replies.proofs.Split.{encode-no-hex}
+use Rattle.c32_replies.proofs.Words.{encode-no-hex}
 use Rattle.c32_replies.proofs.command.Command.parse_encode.Goals as goal
 
 pub returns-in_err-only_word : goal.returns-in_err-only_word

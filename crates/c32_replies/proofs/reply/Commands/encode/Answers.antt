@@ -1,11 +1,15 @@
 use Rattle.std.specs.Prelude.{◌||◌, true}
-use Rattle.std.proofs.Common.{rules, ◌≡◌, ◌≤◌, ◌<◌, ◌++◌, arith, codes, refl, inl, length, string_bytes}
+use Rattle.std.proofs.Common.{rules, inr, ◌≡◌, ◌≤◌, ◌<◌, ◌++◌, arith, codes, refl, inl, length, string_bytes}
 use Rattle.codex32_strings.specs.Encode.{IsEncodedString, is_byte_count, is_long_byte_count}
 use Rattle.codex32_strings.specs.declared.error.EncodeError.TheVariants as encode_errors
 use Rattle.line_program.proofs.Pieces.{two-pieces}
 use Rattle.c32_replies.proofs.Replies.{says-encoded, says-not_encoded}
 use Rattle.c32_replies.proofs.Sizes.{too-many}
+use Rattle.c32_replies.specs.declared.refusal.Refusal.TheVariants as refusals
 use Rattle.c32_replies.proofs.reply.Commands.encode.Goals as goal
+
+pub returns-in_default-clause-answer : goal.returns-in_default-clause-answer
+returns-in_default-clause-answer g c = (inr (record { error = refusals.BadHex; is_refusal = c.in_default.ensures.put.1; spelling = refl }), refl)
 
 pub returns-then-size-gt-ROOM-clause-answer : goal.returns-then-size-gt-ROOM-clause-answer
 returns-then-size-gt-ROOM-clause-answer g c =

@@ -1,9 +1,9 @@
 -- The words of a line, and lines that ask for nothing.
-use Rattle.std.proofs.Common.{◌≡◌, ◌≢◌, ℕ, ◌==◌, Bool, true, false, ◌||◌, List, [], ◌∷◌, length, refl, ap, ◌∙◌, arith, None, Some, Option, if◌then◌else◌, codes}
+use Rattle.std.proofs.Common.{◌≡◌, ◌≢◌, ℕ, ◌==◌, Bool, true, false, ◌||◌, List, [], ◌∷◌, length, refl, sym, ap, subst, ◌∙◌, arith, None, Some, Option, if◌then◌else◌, codes}
 use Rattle.std.specs.List.{list_any}
 use Rattle.std.proofs.lemmas.List.Splits.{length-slice_split}
 use Rattle.line_program.specs.Words.{words, is_empty}
-use Rattle.c32_replies.specs.Request.{Codex32Request, Derive, Encode, Recover, codex32_request_of, codex32_request_of_words, derive_request, encode_arguments, one_word, string_request, nonempty_words}
+use Rattle.c32_replies.specs.Request.{Codex32Request, Derive, Encode, Recover, codex32_request_of, codex32_request_of_words, derive_request, encode_arguments, one_word, split_arguments, split_request, string_request, nonempty_words}
 
 if-none : {A : Type 0} (b : Bool) (r : Option A) → r ≡ None → (if b then None else r) ≡ None
 if-none true r e = refl
@@ -58,6 +58,39 @@ encode-no-hex arguments threshold identifier share_index (x ∷ y ∷ more) e em
 encode-no-hex arguments threshold identifier share_index (x ∷ []) e empty =
     let none : x ≡ [] = empty x refl in
     rw (e, none) (one-of-four (is_empty threshold) (is_empty identifier) (is_empty share_index) (Some (Encode threshold identifier share_index [])))
+
+-- where the last of five words is empty
+one-of-five : {A : Type 0} (a b c d : Bool) (some : Option A) → (if (a || (b || (c || (d || (true || false))))) then None else some) ≡ None
+one-of-five true b c d some = refl
+one-of-five false b c d some = one-of-four b c d some
+
+-- `split` with no last word, or an empty one
+pub split-no-random : (arguments : List (List ℕ)) (threshold count identifier hex : List ℕ) (last : List (List ℕ)) → arguments ≡ threshold ∷ count ∷ identifier ∷ hex ∷ last
+    → ((word : List ℕ) → last ≡ word ∷ [] → word ≡ []) → split_arguments arguments ≡ None
+split-no-random arguments threshold count identifier hex [] e empty = rw e (if-none (list_any is_empty (threshold ∷ count ∷ identifier ∷ hex ∷ [])) (split_request (threshold ∷ count ∷ identifier ∷ hex ∷ [])) refl)
+split-no-random arguments threshold count identifier hex (x ∷ y ∷ more) e empty =
+    rw e (if-none (list_any is_empty (threshold ∷ count ∷ identifier ∷ hex ∷ x ∷ y ∷ more)) (split_request (threshold ∷ count ∷ identifier ∷ hex ∷ x ∷ y ∷ more)) refl)
+split-no-random arguments threshold count identifier hex (x ∷ []) e empty =
+    let none : x ≡ [] = empty x refl in
+    rw (e, none) (one-of-five (is_empty threshold) (is_empty count) (is_empty identifier) (is_empty hex) (split_request (threshold ∷ count ∷ identifier ∷ hex ∷ [] ∷ [])))
+
+-- `split` with no fourth word, or an empty one
+pub split-no-hex : (arguments : List (List ℕ)) (threshold count identifier : List ℕ) (rest : List (List ℕ)) → arguments ≡ threshold ∷ count ∷ identifier ∷ rest
+    → ((first second : List ℕ) (more : List (List ℕ)) → rest ≡ first ∷ second ∷ more → first ≡ []) → split_arguments arguments ≡ None
+split-no-hex arguments threshold count identifier [] e empty = rw e (if-none (list_any is_empty (threshold ∷ count ∷ identifier ∷ [])) (split_request (threshold ∷ count ∷ identifier ∷ [])) refl)
+split-no-hex arguments threshold count identifier (x ∷ []) e empty = rw e (if-none (list_any is_empty (threshold ∷ count ∷ identifier ∷ x ∷ [])) (split_request (threshold ∷ count ∷ identifier ∷ x ∷ [])) refl)
+split-no-hex arguments threshold count identifier (x ∷ y ∷ more) e empty =
+    let none : x ≡ [] = empty x y more refl in
+    rw e (subst (λ (w : List ℕ). split_arguments (threshold ∷ count ∷ identifier ∷ w ∷ y ∷ more) ≡ None) (sym none) (one-of-four (is_empty threshold) (is_empty count) (is_empty identifier) (split_request (threshold ∷ count ∷ identifier ∷ [] ∷ y ∷ more))))
+
+not-empty : (word : List ℕ) → word ≢ [] → is_empty word ≡ false
+not-empty [] some = absurd (some refl)
+not-empty (b ∷ bs) some = refl
+
+-- `split` with five words
+pub split-words : (arguments : List (List ℕ)) (threshold count identifier hex random : List ℕ) → arguments ≡ threshold ∷ count ∷ identifier ∷ hex ∷ random ∷ []
+    → threshold ≢ [] → count ≢ [] → identifier ≢ [] → hex ≢ [] → random ≢ [] → split_arguments arguments ≡ split_request (threshold ∷ count ∷ identifier ∷ hex ∷ random ∷ [])
+split-words arguments threshold count identifier hex random e a b c d f = rw (e, not-empty threshold a, not-empty count b, not-empty identifier c, not-empty hex d, not-empty random f) refl
 
 -- ---- texts
 
