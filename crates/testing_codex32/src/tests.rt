@@ -11,3 +11,4 @@ mod messages;
 mod payloads;
 mod programs;
 mod shares;
+mod splitting;

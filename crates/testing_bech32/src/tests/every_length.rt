@@ -23,9 +23,8 @@ pub fn front_of(text: &str) -> &str {
 /// The text with another character at its end.
 pub fn mistyped(alloc: Global, text: &str) -> Result<String, AllocError> {
     let last = if text.ends_with('q') { 'p' } else { 'q' };
-    let mut other = String::from_str(alloc, front_of(text))?;
-    other.push(last)?;
-    Ok(other)
+    let front = front_of(text);
+    format!(in alloc; "{front}{last}")
 }
 
 // Whether a text has these bytes under this part.
@@ -67,23 +66,41 @@ pub fn is_edited(heap: &LocalHeap, edited: &str, text: &str) -> bool {
 }
 
 // Whether a text is found by each call that takes memory.
-fn is_found(alloc: Global, text: &str) -> Result<bool, AllocError> {
-    let heap = LocalHeap::new(alloc, 1 << 16)?;
-    let mistyped = mistyped(alloc, text)?;
-    Ok(
-        is_corrected(&heap, &mistyped, text)
-            && is_near(&heap, &mistyped, text, &[], 1)
-            && is_edited(&heap, front_of(text), text),
-    )
+fn is_found_by(heap: &LocalHeap, mistyped: &str, text: &str) -> bool {
+    is_corrected(heap, mistyped, text)
+        && is_near(heap, mistyped, text, &[], 1)
+        && is_edited(heap, front_of(text), text)
+}
+
+// The same of a text mistyped at its end.
+fn is_found_in(alloc: Global, heap: &LocalHeap, text: &str) -> bool {
+    match mistyped(alloc, text) {
+        Ok(mistyped) => is_found_by(heap, &mistyped, text),
+        Err(_) => false,
+    }
+}
+
+// The same with ample memory.
+fn is_found(alloc: Global, text: &str) -> bool {
+    match LocalHeap::new(alloc, 1 << 16) {
+        Ok(heap) => is_found_in(alloc, &heap, text),
+        Err(_) => false,
+    }
+}
+
+/// The length of a text, if all is right with it.
+pub fn length_if(is_right: bool, text: &str) -> Option<usize> {
+    if is_right { Some(text.len()) } else { None }
 }
 
 // The length of the text of bytes, if each call that takes memory gives what it should.
 fn length_of(alloc: Global, part: &str, bytes: &[u8]) -> Option<usize> {
-    let text = text_of(alloc, part, bytes)?;
-    if is_decoded(alloc, &text, part, bytes) && is_found(alloc, &text).ok()? {
-        Some(text.len())
-    } else {
-        None
+    match text_of(alloc, part, bytes) {
+        Some(text) => length_if(
+            is_decoded(alloc, &text, part, bytes) && is_found(alloc, &text),
+            &text,
+        ),
+        None => None,
     }
 }
 

@@ -119,38 +119,44 @@ fn checksums_by_each_path(rt: HostRuntime) {
     encodes::<primitives::checksum::NoChecksum>(&rt, alloc, "a1");
 }
 
+// Whether the listing of each checksum accepts a text.
+fn accepted(text: &str) -> [bool; 2] {
+    [
+        matches!(bech32_listing(text, &[]), Ok(Correction::Accepted)),
+        matches!(bech32m_listing(text, &[]), Ok(Correction::Accepted)),
+    ]
+}
+
 // Each listing accepts the text of its own checksum, and not that of the other.
 #[test]
 fn listings_by_each_path(rt: HostRuntime) {
-    for (text, by_bech32, by_bech32m) in [("a12uel5l", true, false), ("a1lqfn3a", false, true)] {
-        let found = (
-            text,
-            matches!(bech32_listing(text, &[]), Ok(Correction::Accepted)),
-            matches!(bech32m_listing(text, &[]), Ok(Correction::Accepted)),
-        );
-        same(&rt, &found, &(text, by_bech32, by_bech32m));
-    }
+    let found = [accepted("a12uel5l"), accepted("a1lqfn3a")];
+    same(&rt, &found, &[[true, false], [false, true]]);
 }
 
 #[test]
 fn sizes_by_each_path(rt: HostRuntime) {
-    same(&rt, &primitives::NO_ALLOC_MAX_LENGTH, &7);
-    same(&rt, &primitives::correction::NO_ALLOC_MAX_LENGTH, &7);
-    same(&rt, &primitives::correction::MAX_DEGREE, &25);
-    same(&rt, &primitives::decode::MAX_DEGREE, &25);
-    same(&rt, &primitives::segwit::MAX_STRING_LENGTH, &90);
+    let found = [
+        primitives::NO_ALLOC_MAX_LENGTH,
+        primitives::correction::NO_ALLOC_MAX_LENGTH,
+        primitives::correction::MAX_DEGREE,
+        primitives::decode::MAX_DEGREE,
+        primitives::segwit::MAX_STRING_LENGTH,
+    ];
+    same(&rt, &found, &[7, 7, 25, 25, 90]);
+}
+
+// Fails where a part is another one.
+fn is_part(rt: &impl Abort, part: root::Hrp, want: &str) {
+    same(rt, &part.as_str(), &want);
 }
 
 #[test]
 fn parts_by_each_path(rt: HostRuntime) {
-    for (part, want) in [
-        (hrp::BC, "bc"),
-        (hrp::TB, "tb"),
-        (hrp::BCRT, "bcrt"),
-        (primitives::hrp::BC, "bc"),
-        (primitives::hrp::TB, "tb"),
-        (primitives::hrp::BCRT, "bcrt"),
-    ] {
-        same(&rt, &part.as_str(), &want);
-    }
+    is_part(&rt, hrp::BC, "bc");
+    is_part(&rt, hrp::TB, "tb");
+    is_part(&rt, hrp::BCRT, "bcrt");
+    is_part(&rt, primitives::hrp::BC, "bc");
+    is_part(&rt, primitives::hrp::TB, "tb");
+    is_part(&rt, primitives::hrp::BCRT, "bcrt");
 }

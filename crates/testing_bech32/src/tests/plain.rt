@@ -56,14 +56,22 @@ fn agree(rt: &impl Abort, alloc: Global, text: &str) {
     same(rt, &(text, is_decoded), &(text, is_bech32 || is_bech32m));
 }
 
+// A text in upper case.
+fn in_upper_case(rt: &impl Abort, alloc: Global, text: &str) -> String {
+    text.to_uppercase(alloc).expect(rt, "memory")
+}
+
+// A text with a character more.
+fn longer(rt: &impl Abort, alloc: Global, text: &str) -> String {
+    format!(in alloc; "{text}q").expect(rt, "memory")
+}
+
 // The same for a text, the text changed, in upper case, and with a character more.
 fn agree_around(rt: &impl Abort, alloc: Global, text: &str) {
     agree(rt, alloc, text);
     agree(rt, alloc, &changed(rt, alloc, text));
-    let upper = text.to_uppercase(alloc).expect(rt, "memory");
-    agree(rt, alloc, &upper);
-    let longer = format!(in alloc; "{text}q").expect(rt, "memory");
-    agree(rt, alloc, &longer);
+    agree(rt, alloc, &in_upper_case(rt, alloc, text));
+    agree(rt, alloc, &longer(rt, alloc, text));
 }
 
 #[test]
@@ -87,13 +95,26 @@ fn letters(rt: &impl Abort, alloc: Global, count: usize, behind: &str) -> String
     text
 }
 
+// Zeros of which Bech32m makes a text.
+fn zeros() -> [u8; 632] {
+    [0; 632]
+}
+
+// The longest text of zeros by Bech32m.
+fn longest(rt: &impl Abort, alloc: Global) -> String {
+    let hrp = Hrp::parse("abcd").expect(rt, "a human-readable part");
+    encode::<Bech32m>(alloc, hrp, &zeros()).expect(rt, "a text")
+}
+
 #[test]
 fn knows_the_limits(rt: HostRuntime) {
     let alloc = rt.alloc();
-    let hrp = Hrp::parse("abcd").expect(&rt, "a human-readable part");
-    let text = encode::<Bech32m>(alloc, hrp, &[0; 632]).expect(&rt, "a text");
-    assert!(rt; is_accepted(&rt, alloc, PlainChecksum::Bech32m, &text));
-    assert!(rt; !is_accepted(&rt, alloc, PlainChecksum::Bech32, &text));
+    let text = longest(&rt, alloc);
+    let accepted = [
+        is_accepted(&rt, alloc, PlainChecksum::Bech32m, &text),
+        is_accepted(&rt, alloc, PlainChecksum::Bech32, &text),
+    ];
+    same(&rt, &accepted, &[true, false]);
     refuses(&rt, alloc, &letters(&rt, alloc, 1, &text));
     refuses(&rt, alloc, &letters(&rt, alloc, 84, "1qqqqqq"));
 }
@@ -112,21 +133,22 @@ fn encodes<Ck: Checksum>(
     same_items(rt, fast.as_bytes(), &text);
 }
 
+// The same by either checksum under a part.
+fn encodes_by_both(rt: &impl Abort, alloc: Global, part: &str, data: &[u8]) {
+    let hrp = Hrp::parse(part).expect(rt, "a human-readable part");
+    encodes::<Bech32>(rt, alloc, PlainChecksum::Bech32, hrp, data);
+    encodes::<Bech32m>(rt, alloc, PlainChecksum::Bech32m, hrp, data);
+}
+
 #[test]
 fn encodes_by_the_definition(rt: HostRuntime) {
     let alloc = rt.alloc();
-    for (part, data) in [
-        ("a", [].as_slice()),
-        ("A", [0xff].as_slice()),
-        ("test", [0; 2].as_slice()),
-        ("split1", [1, 2, 3].as_slice()),
-        ("BC", [0xab; 20].as_slice()),
-        ("~!", [0x80, 0, 0, 1].as_slice()),
-        ("tb", [0x5a; 33].as_slice()),
-        ("x", b"hello".as_slice()),
-    ] {
-        let hrp = Hrp::parse(part).expect(&rt, "a human-readable part");
-        encodes::<Bech32>(&rt, alloc, PlainChecksum::Bech32, hrp, data);
-        encodes::<Bech32m>(&rt, alloc, PlainChecksum::Bech32m, hrp, data);
-    }
+    encodes_by_both(&rt, alloc, "a", &[]);
+    encodes_by_both(&rt, alloc, "A", &[0xff]);
+    encodes_by_both(&rt, alloc, "test", &[0; 2]);
+    encodes_by_both(&rt, alloc, "split1", &[1, 2, 3]);
+    encodes_by_both(&rt, alloc, "BC", &[0xab; 20]);
+    encodes_by_both(&rt, alloc, "~!", &[0x80, 0, 0, 1]);
+    encodes_by_both(&rt, alloc, "tb", &[0x5a; 33]);
+    encodes_by_both(&rt, alloc, "x", b"hello");
 }

@@ -1,7 +1,9 @@
 //! How much memory calls need: figures that were found by trying, and a little more.
 
 use crate::tests::compare::same;
-use crate::tests::every_length::{front_of, is_corrected, is_edited, is_near, mistyped, text_of};
+use crate::tests::every_length::{
+    front_of, is_corrected, is_edited, is_near, length_if, mistyped, text_of,
+};
 use linked_list_allocator::LocalHeap;
 use std::alloc::Global;
 
@@ -37,12 +39,13 @@ fn suffices(alloc: Global, (call, bytes): (Call, usize), mistyped: &str, text: &
 }
 
 // Whether the memory of each row suffices to find a text.
-fn all_suffice(alloc: Global, text: &str, rows: &[(Call, usize)]) -> Option<bool> {
-    let mistyped = mistyped(alloc, text).ok()?;
-    Some(
-        rows.iter()
+fn all_suffice(alloc: Global, text: &str, rows: &[(Call, usize)]) -> bool {
+    match mistyped(alloc, text) {
+        Ok(mistyped) => rows
+            .iter()
             .all(|row| suffices(alloc, *row, &mistyped, text)),
-    )
+        Err(_) => false,
+    }
 }
 
 // Bytes of which the first so many are in a text.
@@ -52,11 +55,9 @@ fn bytes() -> [u8; 640] {
 
 // The length of the text of so many bytes under a part, if the memory of each row suffices for it.
 fn length_of(alloc: Global, part: &str, count: usize, rows: &[(Call, usize)]) -> Option<usize> {
-    let text = text_of(alloc, part, bytes().get(..count)?)?;
-    if all_suffice(alloc, &text, rows)? {
-        Some(text.len())
-    } else {
-        None
+    match text_of(alloc, part, bytes().get(..count)?) {
+        Some(text) => length_if(all_suffice(alloc, &text, rows), &text),
+        None => None,
     }
 }
 

@@ -1,4 +1,4 @@
-use crate::tests::compare::{same, same_items};
+use crate::tests::compare::same;
 use bech32::primitives::decode::{
     CharError, CheckedHrpstring, ChecksumError, CodeLengthError, InvalidResidueError,
     UncheckedHrpstring, UncheckedHrpstringError,
@@ -9,8 +9,9 @@ use bech32::{
     encode, encode_in, encoded_length, encoded_length_of_part,
 };
 use linked_list_allocator::LocalHeap;
-use std::alloc::{AllocError, Global};
+use std::alloc::Global;
 use std::process::Abort;
+use testing_tools::compare::first_difference;
 use testing_tools::heaps::{InHeap, right_or_wants_memory};
 
 // The 20 bytes of a known text.
@@ -25,7 +26,20 @@ const TEXT_BY_BECH32: &str = "test1lu08d6qejxtdg4y5r3zarvary0c5xw7kw79nnx";
 const TEXT_BY_BECH32M: &str = "test1lu08d6qejxtdg4y5r3zarvary0c5xw7kmz4lky";
 
 // As many bytes as fit the code behind a part of one character.
-const MOST: [u8; 634] = [0xa5; 634];
+fn most() -> [u8; 634] {
+    [0xa5; 634]
+}
+
+// As many zeros as fit the code behind a part of four characters.
+fn zeros() -> [u8; 632] {
+    [0; 632]
+}
+
+// The refusal of a text of 1,024 characters.
+const TOO_LONG: CodeLengthError = CodeLengthError {
+    encoded_length: 1024,
+    code_length: 1023,
+};
 
 // The text of a part and bytes by a checksum.
 fn encoded<Ck: Checksum>(rt: &impl Abort, alloc: Global, part: &str, data: &[u8]) -> String {
@@ -42,64 +56,66 @@ fn encodes<Ck: Checksum>(rt: &impl Abort, alloc: Global, part: &str, data: &[u8]
 #[test]
 fn encodes_known_texts(rt: HostRuntime) {
     let alloc = rt.alloc();
-    for (part, data, bech32, bech32m) in [
-        (
-            "abc",
-            [0xab; 20].as_slice(),
-            "abc14w46h2at4w46h2at4w46h2at4w46h2atsghld7",
-            "abc14w46h2at4w46h2at4w46h2at4w46h2at958ngu",
-        ),
-        ("test", PROGRAM.as_slice(), TEXT_BY_BECH32, TEXT_BY_BECH32M),
-        ("a", [].as_slice(), "a12uel5l", "a1lqfn3a"),
-        ("A", [].as_slice(), "a12uel5l", "a1lqfn3a"),
-    ] {
-        encodes::<Bech32>(&rt, alloc, part, data, bech32);
-        encodes::<Bech32m>(&rt, alloc, part, data, bech32m);
-    }
+    let (bech32, bech32m) = (
+        "abc14w46h2at4w46h2at4w46h2at4w46h2atsghld7",
+        "abc14w46h2at4w46h2at4w46h2at4w46h2at958ngu",
+    );
+    encodes::<Bech32>(&rt, alloc, "abc", &[0xab; 20], bech32);
+    encodes::<Bech32m>(&rt, alloc, "abc", &[0xab; 20], bech32m);
+    encodes::<Bech32>(&rt, alloc, "test", &PROGRAM, TEXT_BY_BECH32);
+    encodes::<Bech32m>(&rt, alloc, "test", &PROGRAM, TEXT_BY_BECH32M);
+    encodes::<Bech32>(&rt, alloc, "a", &[], "a12uel5l");
+    encodes::<Bech32m>(&rt, alloc, "a", &[], "a1lqfn3a");
+    encodes::<Bech32>(&rt, alloc, "A", &[], "a12uel5l");
+    encodes::<Bech32m>(&rt, alloc, "A", &[], "a1lqfn3a");
+}
+
+// A part in lower case.
+fn in_lower_case(rt: &impl Abort, alloc: Global, part: &str) -> Hrp {
+    let lower = part.to_lowercase(alloc).expect(rt, "memory");
+    Hrp::parse(&lower).expect(rt, "a human-readable part")
 }
 
 // Fails where a text is decoded otherwise.
 fn decodes(rt: &impl Abort, alloc: Global, text: &str, part: &str, data: &[u8]) {
+    let lower = in_lower_case(rt, alloc, part);
     let (hrp, bytes) = decode(alloc, text).expect(rt, "a text");
-    let lower = part.to_lowercase(alloc).expect(rt, "memory");
-    let lower = Hrp::parse(&lower).expect(rt, "a human-readable part");
-    same(rt, &(text, hrp.as_str(), hrp), &(text, part, lower));
-    same_items(rt, &bytes, data);
+    let front = (hrp.as_str(), hrp);
+    same(
+        rt,
+        &(text, front, bytes.as_slice()),
+        &(text, (part, lower), data),
+    );
 }
 
 #[test]
 fn decodes_known_texts(rt: HostRuntime) {
     let alloc = rt.alloc();
-    for (text, part, data) in [
-        ("a12uel5l", "a", [].as_slice()),
-        ("a1lqfn3a", "a", [].as_slice()),
-        ("A1LQFN3A", "A", [].as_slice()),
-        (
-            "abc14w46h2at4w46h2at4w46h2at4w46h2at958ngu",
-            "abc",
-            [0xab; 20].as_slice(),
-        ),
-        (TEXT_BY_BECH32, "test", PROGRAM.as_slice()),
-        (TEXT_BY_BECH32M, "test", PROGRAM.as_slice()),
-    ] {
-        decodes(&rt, alloc, text, part, data);
-    }
+    decodes(&rt, alloc, "a12uel5l", "a", &[]);
+    decodes(&rt, alloc, "a1lqfn3a", "a", &[]);
+    decodes(&rt, alloc, "A1LQFN3A", "A", &[]);
+    let text = "abc14w46h2at4w46h2at4w46h2at4w46h2at958ngu";
+    decodes(&rt, alloc, text, "abc", &[0xab; 20]);
+    decodes(&rt, alloc, TEXT_BY_BECH32, "test", &PROGRAM);
+    decodes(&rt, alloc, TEXT_BY_BECH32M, "test", &PROGRAM);
+}
+
+// The length of the text of bytes by a checksum; fails where it is not decoded to them.
+fn comes_back<Ck: Checksum>(rt: &impl Abort, alloc: Global, part: &str, data: &[u8]) -> usize {
+    let text = encoded::<Ck>(rt, alloc, part, data);
+    decodes(rt, alloc, &text, part, data);
+    text.len()
 }
 
 #[test]
 fn fills_the_code(rt: HostRuntime) {
     let alloc = rt.alloc();
-    let data = [0; 632];
-    let text = encoded::<Bech32m>(&rt, alloc, "abcd", &data);
-    same(&rt, &text.len(), &1023);
-    decodes(&rt, alloc, &text, "abcd", &data);
-    let too_long = EncodeError::TooLong(CodeLengthError {
-        encoded_length: 1024,
-        code_length: 1023,
-    });
+    let data = zeros();
+    let length = comes_back::<Bech32m>(&rt, alloc, "abcd", &data);
     let hrp = Hrp::parse("abcde").expect(&rt, "a human-readable part");
     let refusal = encode::<Bech32m>(alloc, hrp, &data).err();
-    same(&rt, &refusal, &Some(too_long));
+    let want = Some(EncodeError::TooLong(TOO_LONG));
+    same(&rt, &(length, refusal), &(1023, want));
 }
 
 // Fails where a text is decoded, or refused otherwise.
@@ -122,36 +138,40 @@ fn repeated(
     text.expect(rt, "memory")
 }
 
+// Fails where a text is not refused for a character so.
+fn refuses_character(rt: &impl Abort, alloc: Global, text: &str, error: CharError) {
+    let refusal = DecodeError::Parse(UncheckedHrpstringError::Char(error));
+    refuses(rt, alloc, text, refusal);
+}
+
+// Fails where a text is not refused for its human-readable part so.
+fn refuses_part(rt: &impl Abort, alloc: Global, text: &str, error: hrp::Error) {
+    let refusal = DecodeError::Parse(UncheckedHrpstringError::Hrp(error));
+    refuses(rt, alloc, text, refusal);
+}
+
+#[test]
+fn refuses_at_the_first_character(rt: HostRuntime) {
+    let alloc = rt.alloc();
+    refuses_character(&rt, alloc, "", CharError::MissingSeparator);
+    refuses_character(&rt, alloc, "qpzry", CharError::MissingSeparator);
+    refuses_character(&rt, alloc, "abcdef", CharError::InvalidChar('b'));
+    refuses_character(&rt, alloc, "a1B", CharError::InvalidChar('B'));
+    refuses_character(&rt, alloc, "a1é", CharError::InvalidChar('é'));
+    refuses_character(&rt, alloc, "Q1q", CharError::MixedCase);
+    refuses_character(&rt, alloc, "aB1qqqqqq", CharError::MixedCase);
+}
+
 #[test]
 fn refuses_at_the_first_fault(rt: HostRuntime) {
     let alloc = rt.alloc();
-    for (text, error) in [
-        ("", CharError::MissingSeparator),
-        ("qpzry", CharError::MissingSeparator),
-        ("abcdef", CharError::InvalidChar('b')),
-        ("a1B", CharError::InvalidChar('B')),
-        ("a1é", CharError::InvalidChar('é')),
-        ("Q1q", CharError::MixedCase),
-        ("aB1qqqqqq", CharError::MixedCase),
-    ] {
-        let refusal = DecodeError::Parse(UncheckedHrpstringError::Char(error));
-        refuses(&rt, alloc, text, refusal);
-    }
+    refuses_part(&rt, alloc, "1qqqqqq", hrp::Error::Empty);
     let long_part = repeated(&rt, alloc, "", "a", 84, "1qqqqqq");
-    for (text, error) in [
-        ("1qqqqqq", hrp::Error::Empty),
-        (long_part.as_str(), hrp::Error::TooLong(84)),
-        ("é1qqqqqq", hrp::Error::NonAsciiChar('é')),
-        ("a 1qqqqqq", hrp::Error::InvalidAsciiByte(0x20)),
-    ] {
-        let refusal = DecodeError::Parse(UncheckedHrpstringError::Hrp(error));
-        refuses(&rt, alloc, text, refusal);
-    }
+    refuses_part(&rt, alloc, &long_part, hrp::Error::TooLong(84));
+    refuses_part(&rt, alloc, "é1qqqqqq", hrp::Error::NonAsciiChar('é'));
+    refuses_part(&rt, alloc, "a 1qqqqqq", hrp::Error::InvalidAsciiByte(0x20));
     let long_text = repeated(&rt, alloc, "a1", "q", 1022, "");
-    let too_long = ChecksumError::CodeLength(CodeLengthError {
-        encoded_length: 1024,
-        code_length: 1023,
-    });
+    let too_long = ChecksumError::CodeLength(TOO_LONG);
     refuses(&rt, alloc, &long_text, DecodeError::Checksum(too_long));
     let too_short = ChecksumError::InvalidLength;
     refuses(&rt, alloc, "a1", DecodeError::Checksum(too_short));
@@ -186,36 +206,30 @@ fn reads_elements(rt: HostRuntime) {
     let checked = CheckedHrpstring::new::<NoChecksum>("A1QPZR").expect(&rt, "a text");
     let elements = checked.fe32_iter();
     let counts = (elements.len(), elements.size_hint());
-    same(&rt, &counts, &(4, (4, Some(4))));
-    let elements: Result<Vec<Fe32>, AllocError> = elements.collect(rt.alloc());
     let wanted = [Fe32::Q, Fe32::P, Fe32::Z, Fe32::R];
-    same_items(&rt, &elements.expect(&rt, "memory"), &wanted);
+    let difference = first_difference(elements, &wanted);
+    same(&rt, &(counts, difference), &((4, (4, Some(4))), None));
 }
 
 // Fails where the length of the text of so many zeros is another.
-fn counts(rt: &impl Abort, alloc: Global, size: usize, length: Result<usize, CodeLengthError>) {
+fn counts(rt: &impl Abort, size: usize, length: Result<usize, CodeLengthError>) {
     let part = Hrp::parse("abcde").expect(rt, "a human-readable part");
-    let data: Result<Vec<u8>, AllocError> = vec![in alloc; 0u8; size];
-    let data = data.expect(rt, "memory");
-    let found = (
-        encoded_length::<Bech32>(part, &data),
-        encoded_length::<Bech32m>(part, &data),
-        encoded_length_of_part::<Bech32>(part.as_bytes(), &data),
-    );
-    same(rt, &found, &(length, length, length));
+    let zeros = zeros();
+    let data = zeros.get(..size).expect(rt, "at most 632 zeros");
+    let found = [
+        encoded_length::<Bech32>(part, data),
+        encoded_length::<Bech32m>(part, data),
+        encoded_length_of_part::<Bech32>(part.as_bytes(), data),
+    ];
+    same(rt, &(size, found), &(size, [length; 3]));
 }
 
 #[test]
 fn counts_characters(rt: HostRuntime) {
-    let alloc = rt.alloc();
-    let too_long = Err(CodeLengthError {
-        encoded_length: 1024,
-        code_length: 1023,
-    });
-    counts(&rt, alloc, 0, Ok(12));
-    counts(&rt, alloc, 48, Ok(89));
-    counts(&rt, alloc, 49, Ok(91));
-    counts(&rt, alloc, 632, too_long);
+    counts(&rt, 0, Ok(12));
+    counts(&rt, 48, Ok(89));
+    counts(&rt, 49, Ok(91));
+    counts(&rt, 632, Err(TOO_LONG));
 }
 
 struct KnownText;
@@ -261,16 +275,16 @@ fn decodes_or_wants_memory(rt: HostRuntime) {
     right_or_wants_memory(rt.alloc(), &KnownParts, (16, 16)).expect(&rt, "right, or out of memory");
 }
 
-// Fails where the text of bytes is not decoded to them.
-fn comes_back<Ck: Checksum>(rt: &impl Abort, alloc: Global, data: &[u8]) {
-    let text = encoded::<Ck>(rt, alloc, "a", data);
-    decodes(rt, alloc, &text, "a", data);
+// Decodes the texts of bytes by either checksum, for each number of them from none on.
+fn come_back(rt: &impl Abort, alloc: Global, bytes: &[u8]) {
+    for size in 0..=bytes.len() {
+        let data = bytes.get(..size).expect(rt, "so many bytes");
+        comes_back::<Bech32>(rt, alloc, "a", data);
+        comes_back::<Bech32m>(rt, alloc, "a", data);
+    }
 }
 
 #[test]
 fn decodes_every_length(rt: HostRuntime) {
-    for size in 0..635usize {
-        comes_back::<Bech32>(&rt, rt.alloc(), &MOST[..size]);
-        comes_back::<Bech32m>(&rt, rt.alloc(), &MOST[..size]);
-    }
+    come_back(&rt, rt.alloc(), &most());
 }

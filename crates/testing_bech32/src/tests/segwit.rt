@@ -1,4 +1,4 @@
-use crate::tests::compare::{same, same_items};
+use crate::tests::compare::{prints, same};
 use bech32_decode::segwit::{InvalidWitnessVersionError, WitnessLengthError};
 use bech32_decode::{
     CharError, ChecksumError, PaddingError, SegwitCodeLengthError, SegwitHrpstring,
@@ -12,10 +12,9 @@ use bech32_segwit::{
     encoded_length_of_part,
 };
 use linked_list_allocator::LocalHeap;
-use std::alloc::{AllocError, Allocator, Global};
+use std::alloc::Global;
 use std::fmt;
 use std::process::Abort;
-use testing_tools::compare::shown;
 use testing_tools::heaps::{InHeap, right_or_wants_memory};
 
 // Programs, and addresses of version 0 and 1 (BIP-173, BIP-350).
@@ -39,6 +38,11 @@ const TAPROOT: &str = "bc1p4w46h2at4w46h2at4w46h2at4w46h2at5kreae";
 // 91 characters.
 const TOO_LONG: &str =
     "anhrpthatistwentycha1pqyqszqgpqyqszqgpqyqszqgpqyqszqgpqyqszqgpqyqszqgpqyqszqgpqyqszqgqfrwjz";
+
+// Zeros of which the first so many are in a program.
+fn zeros() -> [u8; 632] {
+    [0; 632]
+}
 
 // A text that is an address of these; fails where there is none.
 fn address(rt: &impl Abort, alloc: Global, hrp: Hrp, version: Fe32, program: &[u8]) -> String {
@@ -74,8 +78,8 @@ fn encodes_known_addresses(rt: HostRuntime) {
 // Fails where an address is decoded otherwise.
 fn decodes(rt: &impl Abort, alloc: Global, text: &str, want: (&str, Fe32), program: &[u8]) {
     let (hrp, version, found) = decode(alloc, text).expect(rt, "an address");
-    same(rt, &(hrp.as_str(), version), &want);
-    same_items(rt, &found, program);
+    let front = (hrp.as_str(), version);
+    same(rt, &(text, front, found.as_slice()), &(text, want, program));
 }
 
 #[test]
@@ -100,12 +104,13 @@ fn refuses(
     size: usize,
     error: EncodeError,
 ) {
-    let program = [0; 41];
-    let program = program.get(..size).expect(rt, "at most 41 zeros");
-    let refusal = encode(alloc, hrp, version, program).err();
-    same(rt, &(size, refusal), &(size, Some(error)));
-    let tested = address_length_of_part(hrp.as_bytes(), version, program).err();
-    same(rt, &(size, tested), &(size, Some(error)));
+    let zeros = zeros();
+    let program = zeros.get(..size).expect(rt, "at most 632 zeros");
+    let refusals = [
+        encode(alloc, hrp, version, program).err(),
+        address_length_of_part(hrp.as_bytes(), version, program).err(),
+    ];
+    same(rt, &(size, refusals), &(size, [Some(error); 2]));
 }
 
 // Fails where the longest program does not fill an address under a part of 18 characters.
@@ -124,199 +129,157 @@ fn refuses_to_encode_in_order(rt: HostRuntime) {
     let too_many = EncodeError::WitnessLength(WitnessLengthError::TooLong);
     let invalid = EncodeError::WitnessLength(WitnessLengthError::InvalidSegwitV0);
     let too_long = EncodeError::TooLong(SegwitCodeLengthError(91));
-    for (hrp, version, size, error) in [
-        (long_part, Fe32::_3, 41usize, above_16),
-        (hrp::BC, Fe32::_3, 2, above_16),
-        (hrp::BC, VERSION_1, 1, too_short),
-        (long_part, VERSION_1, 41, too_many),
-        (long_part, VERSION_0, 40, invalid),
-        (hrp::BC, VERSION_0, 2, invalid),
-        (long_part, VERSION_1, 40, too_long),
-    ] {
-        refuses(&rt, alloc, hrp, version, size, error);
-    }
+    refuses(&rt, alloc, long_part, Fe32::_3, 41, above_16);
+    refuses(&rt, alloc, hrp::BC, Fe32::_3, 2, above_16);
+    refuses(&rt, alloc, hrp::BC, VERSION_1, 1, too_short);
+    refuses(&rt, alloc, long_part, VERSION_1, 41, too_many);
+    refuses(&rt, alloc, long_part, VERSION_0, 40, invalid);
+    refuses(&rt, alloc, hrp::BC, VERSION_0, 2, invalid);
+    refuses(&rt, alloc, long_part, VERSION_1, 40, too_long);
     let refusals = [
         encode_v0(alloc, hrp::BC, &[0; 2]).err(),
         encode_v1(alloc, long_part, &[0; 40]).err(),
     ];
-    same_items(&rt, &refusals, &[Some(invalid), Some(too_long)]);
+    same(&rt, &refusals, &[Some(invalid), Some(too_long)]);
     fills_an_address(&rt, alloc);
 }
 
 // Fails where the length of the address of so many zeros is another.
-fn counts(
-    rt: &impl Abort,
-    alloc: Global,
-    size: usize,
-    length: Result<usize, SegwitCodeLengthError>,
-) {
+fn counts(rt: &impl Abort, size: usize, length: Result<usize, SegwitCodeLengthError>) {
     let part = Hrp::parse("abcde").expect(rt, "a human-readable part");
-    let program: Result<Vec<u8>, AllocError> = vec![in alloc; 0u8; size];
-    let program = program.expect(rt, "memory");
-    for version in [VERSION_0, VERSION_1, Fe32::L] {
-        let found = encoded_length(part, version, &program);
-        same(rt, &(version, found), &(version, length));
-    }
-    let found = encoded_length_of_part(part.as_bytes(), &program);
-    same(rt, &found, &length);
+    let zeros = zeros();
+    let program = zeros.get(..size).expect(rt, "at most 632 zeros");
+    let found = [
+        encoded_length(part, VERSION_0, program),
+        encoded_length(part, VERSION_1, program),
+        encoded_length(part, Fe32::L, program),
+        encoded_length_of_part(part.as_bytes(), program),
+    ];
+    same(rt, &(size, found), &(size, [length; 4]));
 }
 
 #[test]
 fn counts_the_version(rt: HostRuntime) {
-    let alloc = rt.alloc();
-    counts(&rt, alloc, 0, Ok(13));
-    counts(&rt, alloc, 48, Ok(90));
-    counts(&rt, alloc, 49, Err(SegwitCodeLengthError(92)));
-    counts(&rt, alloc, 632, Err(SegwitCodeLengthError(1025)));
+    counts(&rt, 0, Ok(13));
+    counts(&rt, 48, Ok(90));
+    counts(&rt, 49, Err(SegwitCodeLengthError(92)));
+    counts(&rt, 632, Err(SegwitCodeLengthError(1025)));
 }
 
 // Fails where a text is decoded or read as an address, or refused otherwise.
 fn is_refused(rt: &impl Abort, alloc: Global, text: &str, error: SegwitHrpstringError) {
     let refusal = decode(alloc, text).err();
-    same(rt, &(text, refusal), &(text, Some(DecodeError(error))));
     let read = SegwitHrpstring::new(text).err();
-    same(rt, &(text, read), &(text, Some(error)));
+    let want = (Some(DecodeError(error)), Some(error));
+    same(rt, &(text, (refusal, read)), &(text, want));
 }
 
 // Fails where a program of a wrong length is refused otherwise.
-fn refuses_lengths(rt: &impl Abort, alloc: Global) {
-    for (text, error) in [
-        (
-            "bc1pw5dgrnzv",
-            SegwitHrpstringError::WitnessLength(WitnessLengthError::TooShort),
-        ),
-        (
-            "bc1p0xlxvlhemja6c4dqv22uapctqupfhlxm9h8z3k2e72q4k9hcz7v8n0nx0muaewav253zgeav",
-            SegwitHrpstringError::WitnessLength(WitnessLengthError::TooLong),
-        ),
-        (
-            "BC1QR508D6QEJXTDG4Y5R3ZARVARYV98GJ9P",
-            SegwitHrpstringError::WitnessLength(WitnessLengthError::InvalidSegwitV0),
-        ),
-    ] {
-        is_refused(rt, alloc, text, error);
-    }
+fn refuses_length(rt: &impl Abort, alloc: Global, text: &str, error: WitnessLengthError) {
+    is_refused(rt, alloc, text, SegwitHrpstringError::WitnessLength(error));
+}
+
+#[test]
+fn refuses_to_decode_wrong_lengths(rt: HostRuntime) {
+    let alloc = rt.alloc();
+    refuses_length(&rt, alloc, "bc1pw5dgrnzv", WitnessLengthError::TooShort);
+    let text = "bc1p0xlxvlhemja6c4dqv22uapctqupfhlxm9h8z3k2e72q4k9hcz7v8n0nx0muaewav253zgeav";
+    refuses_length(&rt, alloc, text, WitnessLengthError::TooLong);
+    let text = "BC1QR508D6QEJXTDG4Y5R3ZARVARYV98GJ9P";
+    refuses_length(&rt, alloc, text, WitnessLengthError::InvalidSegwitV0);
 }
 
 #[test]
 fn refuses_to_decode_in_order(rt: HostRuntime) {
     let alloc = rt.alloc();
-    refuses_lengths(&rt, alloc);
+    is_refused(&rt, alloc, TOO_LONG, SegwitHrpstringError::TooLong(91));
     let missing = UncheckedHrpstringError::Char(CharError::MissingSeparator);
-    for (text, error) in [
-        (TOO_LONG, SegwitHrpstringError::TooLong(91)),
-        ("qpzry", SegwitHrpstringError::Unchecked(missing)),
-        ("a1", SegwitHrpstringError::NoData),
-        (
-            "a1lqfn3a",
-            SegwitHrpstringError::InvalidWitnessVersion(Fe32::L),
-        ),
-        (
-            "a1q",
-            SegwitHrpstringError::Checksum(ChecksumError::InvalidLength),
-        ),
-        (
-            "tb1qrp33g0q5c5txsp9arysrx4k6zdkfs4nce4xj0gdcccefvpysxf3pjxtptv",
-            SegwitHrpstringError::Padding(PaddingError::NonZero),
-        ),
-        (
-            "bc1p0xlxvlhemja6c4dqv22uapctqupfhlxm9h8z3k2e72q4k9hcz7v07qwwzcrf",
-            SegwitHrpstringError::Padding(PaddingError::TooMuch),
-        ),
-        (
-            "BC130XLXVLHEMJA6C4DQV22UAPCTQUPFHLXM9H8Z3K2E72Q4K9HCZ7VQ7ZWS8R",
-            SegwitHrpstringError::InvalidWitnessVersion(Fe32::_3),
-        ),
-    ] {
-        is_refused(&rt, alloc, text, error);
-    }
+    let missing = SegwitHrpstringError::Unchecked(missing);
+    is_refused(&rt, alloc, "qpzry", missing);
+    is_refused(&rt, alloc, "a1", SegwitHrpstringError::NoData);
+    let version_31 = SegwitHrpstringError::InvalidWitnessVersion(Fe32::L);
+    is_refused(&rt, alloc, "a1lqfn3a", version_31);
+    let length = SegwitHrpstringError::Checksum(ChecksumError::InvalidLength);
+    is_refused(&rt, alloc, "a1q", length);
+    let text = "tb1qrp33g0q5c5txsp9arysrx4k6zdkfs4nce4xj0gdcccefvpysxf3pjxtptv";
+    let non_zero = SegwitHrpstringError::Padding(PaddingError::NonZero);
+    is_refused(&rt, alloc, text, non_zero);
+    let text = "bc1p0xlxvlhemja6c4dqv22uapctqupfhlxm9h8z3k2e72q4k9hcz7v07qwwzcrf";
+    let too_much = SegwitHrpstringError::Padding(PaddingError::TooMuch);
+    is_refused(&rt, alloc, text, too_much);
+    let text = "BC130XLXVLHEMJA6C4DQV22UAPCTQUPFHLXM9H8Z3K2E72Q4K9HCZ7VQ7ZWS8R";
+    let version_17 = SegwitHrpstringError::InvalidWitnessVersion(Fe32::_3);
+    is_refused(&rt, alloc, text, version_17);
+}
+
+#[test]
+fn tells_why_there_is_no_address(rt: HostRuntime) {
+    let alloc = rt.alloc();
+    let message = "witness version: invalid segwit witness version: 17 (bech32 character: '3')";
+    let version = InvalidWitnessVersionError(Fe32::_3);
+    prints(&rt, alloc, &EncodeError::from(version), message);
+    let message = "witness length: witness program is less than 2 bytes long";
+    let length = WitnessLengthError::TooShort;
+    prints(&rt, alloc, &EncodeError::from(length), message);
+    let message = "encode error: encoded length 91 exceeds maximum (code length) 90";
+    let too_long = SegwitCodeLengthError(91);
+    prints(&rt, alloc, &EncodeError::from(too_long), message);
+    prints(&rt, alloc, &EncodeError::TooLong(too_long), message);
+    let message = "writing to formatter failed: an error occurred when formatting an argument";
+    prints(&rt, alloc, &EncodeError::from(fmt::Error), message);
+    prints(&rt, alloc, &EncodeError::Memory, "out of memory");
 }
 
 #[test]
 fn tells_what_is_wrong(rt: HostRuntime) {
     let alloc = rt.alloc();
-    for (error, message) in [
-        (
-            EncodeError::from(InvalidWitnessVersionError(Fe32::_3)),
-            "witness version: invalid segwit witness version: 17 (bech32 character: '3')",
-        ),
-        (
-            EncodeError::from(WitnessLengthError::TooShort),
-            "witness length: witness program is less than 2 bytes long",
-        ),
-        (
-            EncodeError::from(SegwitCodeLengthError(91)),
-            "encode error: encoded length 91 exceeds maximum (code length) 90",
-        ),
-        (
-            EncodeError::TooLong(SegwitCodeLengthError(91)),
-            "encode error: encoded length 91 exceeds maximum (code length) 90",
-        ),
-        (
-            EncodeError::from(fmt::Error),
-            "writing to formatter failed: an error occurred when formatting an argument",
-        ),
-        (EncodeError::Memory, "out of memory"),
-    ] {
-        same(&rt, &shown(alloc, &error).as_str(), &message);
-    }
-    for (error, message) in [
-        (
-            SegwitHrpstringError::NoData,
-            "decoding segwit address failed: no data found after removing the checksum",
-        ),
-        (
-            SegwitHrpstringError::Memory,
-            "decoding segwit address failed: out of memory",
-        ),
-    ] {
-        same(&rt, &shown(alloc, &DecodeError(error)).as_str(), &message);
+    let message = "decoding segwit address failed: no data found after removing the checksum";
+    let error = DecodeError(SegwitHrpstringError::NoData);
+    prints(&rt, alloc, &error, message);
+    let message = "decoding segwit address failed: out of memory";
+    let error = DecodeError(SegwitHrpstringError::Memory);
+    prints(&rt, alloc, &error, message);
+}
+
+// Whether this text was made; `None` where there is too little memory.
+fn is_text(made: Result<String<&LocalHeap>, EncodeError>, want: &str) -> Option<bool> {
+    match made {
+        Ok(text) => Some(text.as_str() == want),
+        Err(EncodeError::Memory) => None,
+        Err(_) => Some(false),
     }
 }
 
-// Whether it was out of memory; fails if the result is neither that nor the text.
-fn wants_memory<A: Allocator>(
-    rt: &impl Abort,
-    text: &Result<String<A>, EncodeError>,
-    wanted: &str,
-) -> bool {
-    match text {
-        Ok(text) => {
-            same(rt, &text.as_str(), &wanted);
-            false
-        }
-        Err(error) => {
-            same(rt, error, &EncodeError::Memory);
-            true
+// Three known addresses, each by another call.
+enum Known {
+    OfAnyVersion,
+    OfVersion0,
+    OfVersion1,
+}
+
+impl InHeap for Known {
+    fn is_right(&self, _alloc: Global, heap: &LocalHeap) -> Option<bool> {
+        match self {
+            Known::OfAnyVersion => {
+                is_text(encode_in(heap, hrp::BC, VERSION_1, &LONG_PROGRAM), TWICE)
+            }
+            Known::OfVersion0 => is_text(encode_v0_in(heap, hrp::BC, &PROGRAM), ADDRESS),
+            Known::OfVersion1 => is_text(encode_v1_in(heap, hrp::BC, &[0xab; 20]), TAPROOT),
         }
     }
 }
 
-// Which of three addresses run out of memory in a heap of so many bytes.
-fn encodes_in(rt: &impl Abort, alloc: Global, bytes: usize) -> [bool; 3] {
-    let heap = LocalHeap::new(alloc, bytes).expect(rt, "memory");
-    let long = encode_in(&heap, hrp::BC, VERSION_1, &LONG_PROGRAM);
-    let of_version_0 = encode_v0_in(&heap, hrp::BC, &PROGRAM);
-    let of_version_1 = encode_v1_in(&heap, hrp::BC, &[0xab; 20]);
-    [
-        wants_memory(rt, &long, TWICE),
-        wants_memory(rt, &of_version_0, ADDRESS),
-        wants_memory(rt, &of_version_1, TAPROOT),
-    ]
+// Fails where the call is not right, or out of memory, or is either on each heap.
+fn is_right_or_wants_memory<C: InHeap>(rt: &impl Abort, alloc: Global, call: &C) {
+    right_or_wants_memory(alloc, call, (16, 16)).expect(rt, "right, or out of memory");
 }
 
 #[test]
 fn encodes_or_wants_memory(rt: HostRuntime) {
-    let mut refused = [0u32; 3];
-    for size in 0..16usize {
-        let [first, second, third] = encodes_in(&rt, rt.alloc(), 16 * size);
-        refused[0] = refused[0].saturating_add(u32::from(first));
-        refused[1] = refused[1].saturating_add(u32::from(second));
-        refused[2] = refused[2].saturating_add(u32::from(third));
-    }
-    for count in refused {
-        assert!(rt; 1 <= count && count < 16);
-    }
+    let alloc = rt.alloc();
+    is_right_or_wants_memory(&rt, alloc, &Known::OfAnyVersion);
+    is_right_or_wants_memory(&rt, alloc, &Known::OfVersion0);
+    is_right_or_wants_memory(&rt, alloc, &Known::OfVersion1);
 }
 
 // The parts of a known address. What is not an address is refused on a heap as elsewhere.
@@ -340,10 +303,7 @@ impl InHeap for KnownAddress {
 
 #[test]
 fn decodes_or_wants_memory(rt: HostRuntime) {
-    right_or_wants_memory(rt.alloc(), &KnownAddress, (16, 16)).expect(
-        &rt,
-        "right, or out of memory",
-    );
+    is_right_or_wants_memory(&rt, rt.alloc(), &KnownAddress);
 }
 
 // Fails where the address of a program is not decoded to it.
@@ -352,14 +312,19 @@ fn comes_back(rt: &impl Abort, alloc: Global, version: Fe32, program: &[u8]) {
     decodes(rt, alloc, &text, ("bc", version), program);
 }
 
+// Decodes the addresses of a version, of each program from 2 bytes on.
+fn come_back(rt: &impl Abort, alloc: Global, version: Fe32, bytes: &[u8]) {
+    for size in 2..=bytes.len() {
+        let program = bytes.get(..size).expect(rt, "so many bytes");
+        comes_back(rt, alloc, version, program);
+    }
+}
+
 #[test]
 fn decodes_programs_of_every_length(rt: HostRuntime) {
     let alloc = rt.alloc();
-    for size in [20, 32] {
-        comes_back(&rt, alloc, VERSION_0, &LONG_PROGRAM[..size]);
-    }
-    for size in 2..41usize {
-        comes_back(&rt, alloc, VERSION_1, &LONG_PROGRAM[..size]);
-        comes_back(&rt, alloc, Fe32::S, &LONG_PROGRAM[..size]);
-    }
+    comes_back(&rt, alloc, VERSION_0, &LONG_PROGRAM[..20]);
+    comes_back(&rt, alloc, VERSION_0, &LONG_PROGRAM[..32]);
+    come_back(&rt, alloc, VERSION_1, &LONG_PROGRAM);
+    come_back(&rt, alloc, Fe32::S, &LONG_PROGRAM);
 }

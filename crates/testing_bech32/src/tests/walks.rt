@@ -24,23 +24,26 @@ fn is_read_by_bech32m(text: &str) -> bool {
 // Valid texts of BIP-173.
 #[test]
 fn texts_are_read(rt: HostRuntime) {
-    same(&rt, &is_read("A12UEL5L"), &true);
-    same(&rt, &is_read("a12uel5l"), &true);
-    let text = "abcdef1qpzry9x8gf2tvdw0s3jn54khce6mua7lmqqqxw";
-    same(&rt, &is_read(text), &true);
-    let text = "split1checkupstagehandshakeupstreamerranterredcaperred2y9e3w";
-    same(&rt, &is_read(text), &true);
-    same(&rt, &is_read("?1ezyfcl"), &true);
+    let are_read = [
+        is_read("A12UEL5L"),
+        is_read("a12uel5l"),
+        is_read("abcdef1qpzry9x8gf2tvdw0s3jn54khce6mua7lmqqqxw"),
+        is_read("split1checkupstagehandshakeupstreamerranterredcaperred2y9e3w"),
+        is_read("?1ezyfcl"),
+    ];
+    same(&rt, &are_read, &[true; 5]);
 }
 
 // Valid texts of BIP-350.
 #[test]
 fn texts_are_read_by_bech32m(rt: HostRuntime) {
-    same(&rt, &is_read_by_bech32m("A1LQFN3A"), &true);
-    same(&rt, &is_read_by_bech32m("a1lqfn3a"), &true);
-    let text = "abcdef1l7aum6echk45nj3s0wdvt2fg8x9yrzpqzd3ryx";
-    same(&rt, &is_read_by_bech32m(text), &true);
-    same(&rt, &is_read_by_bech32m("?1v759aa"), &true);
+    let are_read = [
+        is_read_by_bech32m("A1LQFN3A"),
+        is_read_by_bech32m("a1lqfn3a"),
+        is_read_by_bech32m("abcdef1l7aum6echk45nj3s0wdvt2fg8x9yrzpqzd3ryx"),
+        is_read_by_bech32m("?1v759aa"),
+    ];
+    same(&rt, &are_read, &[true; 4]);
 }
 
 // A part with a `1` in it is read by the rules alone.
@@ -48,18 +51,21 @@ fn texts_are_read_by_bech32m(rt: HostRuntime) {
 fn two_separators_are_not_read(rt: HostRuntime) {
     let text =
         "11qqqqqqqqqqqqqqqqqqqqqqqqqqqqqqqqqqqqqqqqqqqqqqqqqqqqqqqqqqqqqqqqqqqqqqqqqqqqqqqqqqc8247j";
-    same(&rt, &is_read(text), &false);
-    same(&rt, &CheckedHrpstring::new::<Bech32>(text).is_ok(), &true);
+    let is_accepted = CheckedHrpstring::new::<Bech32>(text).is_ok();
+    same(&rt, &(is_read(text), is_accepted), &(false, true));
 }
 
 #[test]
 fn faults_are_not_read(rt: HostRuntime) {
-    same(&rt, &is_read("a12UEL5L"), &false);
-    same(&rt, &is_read("a12uel5b"), &false);
-    same(&rt, &is_read("a12ubl5l"), &false);
-    same(&rt, &is_read("12uel5l"), &false);
-    same(&rt, &is_read("pzry9x0s0muk"), &false);
-    same(&rt, &is_read(""), &false);
+    let are_read = [
+        is_read("a12UEL5L"),
+        is_read("a12uel5b"),
+        is_read("a12ubl5l"),
+        is_read("12uel5l"),
+        is_read("pzry9x0s0muk"),
+        is_read(""),
+    ];
+    same(&rt, &are_read, &[false; 6]);
 }
 
 // The version of an address that one walk reads, and how many characters its program has.
@@ -74,13 +80,19 @@ fn address_in(text: &str) -> Option<Result<(Fe32, usize), SegwitHrpstringError>>
 #[test]
 fn addresses_of_every_length(rt: HostRuntime) {
     let taproot = "bc1p0xlxvlhemja6c4dqv22uapctqupfhlxm9h8z3k2e72q4k9hcz7vqzk5jj0";
-    same(&rt, &address_in(taproot), &Some(Ok((Fe32::P, 52))));
     let long =
         "anhrpthatistwentycha1pqyqszqgpqyqszqgpqyqszqgpqyqszqgpqyqszqgpqyqszqgpqyqszqgpqyqszqgccg8y6";
-    let too_long = SegwitHrpstringError::TooLong(91);
-    same(&rt, &address_in(long), &Some(Err(too_long)));
-    let no_data = SegwitHrpstringError::NoData;
-    same(&rt, &address_in("?1v759aa"), &Some(Err(no_data)));
-    let version = SegwitHrpstringError::InvalidWitnessVersion(Fe32::L);
-    same(&rt, &address_in("a1lqfn3a"), &Some(Err(version)));
+    let found = [
+        address_in(taproot),
+        address_in(long),
+        address_in("?1v759aa"),
+        address_in("a1lqfn3a"),
+    ];
+    let want = [
+        Some(Ok((Fe32::P, 52))),
+        Some(Err(SegwitHrpstringError::TooLong(91))),
+        Some(Err(SegwitHrpstringError::NoData)),
+        Some(Err(SegwitHrpstringError::InvalidWitnessVersion(Fe32::L))),
+    ];
+    same(&rt, &found, &want);
 }

@@ -1,6 +1,6 @@
 use crate::tests::compare::same;
 use bech32_refusals::{CharError, ChecksumError, UncheckedHrpstringError};
-use codex32::{Codex32Error, DeriveError, EncodeError, HeaderError, PayloadError};
+use codex32::{Codex32Error, DeriveError, EncodeError, HeaderError, PayloadError, SplitError};
 use testing_tools::compare::shown;
 
 #[test]
@@ -94,6 +94,31 @@ fn tells_why_shares_give_no_string(rt: HostRuntime) {
             "the shares contradict each other",
         ),
         (DeriveError::Memory, "out of memory"),
+    ] {
+        same(&rt, &shown(rt.alloc(), &error).as_str(), &message);
+    }
+}
+
+#[test]
+fn tells_why_a_secret_is_not_split(rt: HostRuntime) {
+    for (error, message) in [
+        (
+            SplitError::Unshared,
+            "the threshold is 0: the secret is not shared",
+        ),
+        (
+            SplitError::Size,
+            "a codex32 string has 16 to 44 bytes, a long one 63 or 64",
+        ),
+        (
+            SplitError::Count,
+            "there are fewer shares than the threshold, or more than 31",
+        ),
+        (
+            SplitError::Random,
+            "there are not as many random bytes as characters are drawn",
+        ),
+        (SplitError::NoRoom, "the buffer is too small"),
     ] {
         same(&rt, &shown(rt.alloc(), &error).as_str(), &message);
     }

@@ -1,27 +1,29 @@
-use crate::tests::compare::{same, same_items};
+use crate::tests::compare::{prints, same, same_items};
 use bech32_gf::field::{Bech32Field, ExtensionField, Field, MultiplicativeOrder};
 use bech32_gf::gf32::Fe32;
+use std::alloc::Global;
+use std::process::Abort;
 use testing_tools::code::Code;
-use testing_tools::compare::shown;
 use testing_tools::seven::Seven;
 
 #[test]
 fn multiples_by_any_integer(rt: HostRuntime) {
-    for row in [
-        (-3, Fe32::Z),
-        (0, Fe32::Q),
-        (i64::MIN, Fe32::Q),
-        (i64::MAX, Fe32::Z),
-    ]
-    .iter()
-    {
-        let (n, multiple) = *row;
-        same(&rt, &(n, Fe32::Z.muli(n)), &(n, multiple));
-    }
-    for row in [(-2, 1), (0, 0), (5, 1), (i64::MIN, 4), (i64::MAX, 0)].iter() {
-        let (n, multiple) = *row;
-        same(&rt, &(n, Seven::new(3).muli(n)), &(n, Seven::new(multiple)));
-    }
+    let of_z = [
+        Fe32::Z.muli(-3),
+        Fe32::Z.muli(0),
+        Fe32::Z.muli(i64::MIN),
+        Fe32::Z.muli(i64::MAX),
+    ];
+    same_items(&rt, &of_z, &[Fe32::Z, Fe32::Q, Fe32::Q, Fe32::Z]);
+    let three = Seven::new(3);
+    let of_three = [
+        three.muli(-2),
+        three.muli(0),
+        three.muli(5),
+        three.muli(i64::MIN),
+        three.muli(i64::MAX),
+    ];
+    same_items(&rt, &of_three, &[1, 0, 1, 4, 0].map(Seven::new));
 }
 
 #[test]
@@ -53,14 +55,7 @@ fn powers_of_numbers_by_any_integer(rt: HostRuntime) {
         three.powi(i64::MIN),
         three.powi(i64::MAX),
     ];
-    let want = [
-        Seven::new(5),
-        Seven::new(4),
-        Seven::new(1),
-        Seven::new(4),
-        Seven::new(3),
-    ];
-    same_items(&rt, &powers, &want);
+    same_items(&rt, &powers, &[5, 4, 1, 4, 3].map(Seven::new));
     same(&rt, &three.multiplicative_inverse(), &Seven::new(5));
 }
 
@@ -72,16 +67,24 @@ pub fn order_of<F: Field>(x: F) -> Option<usize> {
     Some(x.multiplicative_order())
 }
 
+// The order that an element has to have.
+fn wanted_order(x: Fe32) -> Option<usize> {
+    match x {
+        Fe32::Q => None,
+        Fe32::P => Some(1),
+        _ => Some(31),
+    }
+}
+
 #[test]
 fn orders_of_all_elements(rt: HostRuntime) {
     for x in Fe32::iter_alpha() {
-        let order = match x {
-            Fe32::Q => None,
-            Fe32::P => Some(1),
-            _ => Some(31),
-        };
-        same(&rt, &(x, order_of(x)), &(x, order));
+        same(&rt, &(x, order_of(x)), &(x, wanted_order(x)));
     }
+}
+
+#[test]
+fn orders_modulo_seven(rt: HostRuntime) {
     let orders = [
         order_of(Seven::new(1)),
         order_of(Seven::new(2)),
@@ -123,11 +126,16 @@ fn walks_over_powers(rt: HostRuntime) {
     same(&rt, &last, &Some(Seven::new(6)));
 }
 
+// The powers of an element from the exponent 0 to 30, as a text.
+fn characters_of_powers(rt: &impl Abort, alloc: Global, x: Fe32) -> String {
+    let powers = x.powers_range(0, 30);
+    let text: Result<String, _> = powers.map(Fe32::to_char).collect(alloc);
+    text.expect(rt, "memory")
+}
+
 #[test]
 fn characters_of_a_range_of_powers(rt: HostRuntime) {
-    let powers = Fe32::_5.powers_range(0, 30);
-    let text: Result<String, _> = powers.map(|power| power.to_char()).collect(rt.alloc());
-    let text = text.expect(&rt, "memory");
+    let text = characters_of_powers(&rt, rt.alloc(), Fe32::_5);
     same(&rt, &text.as_str(), &"p529kt3uw8hlmecvxr470na6djfsgyz");
 }
 
@@ -177,7 +185,7 @@ fn constants_of_the_field_of_32(rt: HostRuntime) {
 #[test]
 fn rust_code_of_elements(rt: HostRuntime) {
     let alloc = rt.alloc();
-    same(&rt, &shown(alloc, &Code(Fe32::Z)).as_str(), &"Fe32::Z");
-    same(&rt, &shown(alloc, &Code(Fe32::_9)).as_str(), &"Fe32::_9");
-    same(&rt, &shown(alloc, &Code(Fe32::Q)).as_str(), &"Fe32::Q");
+    prints(&rt, alloc, &Code(Fe32::Z), "Fe32::Z");
+    prints(&rt, alloc, &Code(Fe32::_9), "Fe32::_9");
+    prints(&rt, alloc, &Code(Fe32::Q), "Fe32::Q");
 }

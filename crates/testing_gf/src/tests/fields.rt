@@ -7,7 +7,6 @@ use crate::tests::compare::{same, same_items};
 use bech32_gf::field::{ExtensionField, Field, MultiplicativeOrder};
 use bech32_gf::gf32::Fe32;
 use bech32_gf_ext::{Fe1024, Fe32768};
-use std::process::Abort;
 use testing_tools::seven::Seven;
 
 // x^2 - y^2, which is (x + y)(x - y).
@@ -41,18 +40,22 @@ fn there_and_back<E: ExtensionField>(x: E::BaseField) -> Option<E::BaseField>
     E::from(x).to_base()
 }
 
-// Fails where the constant is not what the function returns, whose contract is the list of
-// divisors.
-fn has_one_list_of_factors<F: Field>(rt: &impl Abort) {
-    same_items(rt, F::MULTIPLICATIVE_ORDER_FACTORS, F::order_factors());
-}
-
+// Each constant is what the function returns, whose contract is the list of divisors.
 #[test]
 fn factors_of_orders(rt: HostRuntime) {
-    has_one_list_of_factors::<Fe32>(&rt);
-    has_one_list_of_factors::<Fe1024>(&rt);
-    has_one_list_of_factors::<Fe32768>(&rt);
-    has_one_list_of_factors::<Seven>(&rt);
+    let constants = [
+        Fe32::MULTIPLICATIVE_ORDER_FACTORS,
+        Fe1024::MULTIPLICATIVE_ORDER_FACTORS,
+        Fe32768::MULTIPLICATIVE_ORDER_FACTORS,
+        Seven::MULTIPLICATIVE_ORDER_FACTORS,
+    ];
+    let returned = [
+        Fe32::order_factors(),
+        Fe1024::order_factors(),
+        Fe32768::order_factors(),
+        Seven::order_factors(),
+    ];
+    same_items(&rt, &constants, &returned);
 }
 
 #[test]

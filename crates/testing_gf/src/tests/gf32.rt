@@ -1,4 +1,4 @@
-use crate::tests::compare::{same, same_items};
+use crate::tests::compare::{prints, same, same_items};
 use bech32_gf::gf32::{Fe32, FromCharError, plain};
 use std::process::Abort;
 use testing_tools::known::ELEMENTS;
@@ -96,34 +96,33 @@ fn low_bits(rt: HostRuntime) {
     same_items(&rt, &got, &[Fe32::L, Fe32::_5]);
 }
 
-#[test]
-fn other_characters(rt: HostRuntime) {
-    for c in ['b', 'i', 'o', '1', 'B', ' ', '\u{7f}'].iter() {
-        same(&rt, &Fe32::from_char(*c), &Err(FromCharError::Invalid(*c)));
+// Fails where one of these gives an element, or is refused otherwise than as outside the alphabet.
+fn are_invalid(rt: &impl Abort, characters: &[char]) {
+    for c in characters.iter() {
+        same(rt, &Fe32::from_char(*c), &Err(FromCharError::Invalid(*c)));
     }
-    for c in ['é', '\u{80}', 'ƀ', '💥'].iter() {
-        same(&rt, &Fe32::from_char(*c), &Err(FromCharError::NotAscii(*c)));
+}
+
+// The same of refusals as outside ASCII.
+fn are_not_ascii(rt: &impl Abort, characters: &[char]) {
+    for c in characters.iter() {
+        same(rt, &Fe32::from_char(*c), &Err(FromCharError::NotAscii(*c)));
     }
 }
 
 #[test]
+fn other_characters(rt: HostRuntime) {
+    are_invalid(&rt, &['b', 'i', 'o', '1', 'B', ' ', '\u{7f}']);
+    are_not_ascii(&rt, &['é', '\u{80}', 'ƀ', '💥']);
+}
+
+#[test]
 fn texts_of_refusals(rt: HostRuntime) {
-    for row in [
-        (
-            FromCharError::Invalid('b'),
-            "tried to interpret a character as a GF32 element but it is not of the alphabet: b",
-        ),
-        (
-            FromCharError::NotAscii('é'),
-            "tried to interpret a character as a GF32 element but it is not ASCII: é",
-        ),
-    ]
-    .iter()
-    {
-        let (error, want) = *row;
-        let text = error.to_string(rt.alloc()).expect(&rt, "memory");
-        same(&rt, &text.as_str(), &want);
-    }
+    let message =
+        "tried to interpret a character as a GF32 element but it is not of the alphabet: b";
+    prints(&rt, rt.alloc(), &FromCharError::Invalid('b'), message);
+    let message = "tried to interpret a character as a GF32 element but it is not ASCII: é";
+    prints(&rt, rt.alloc(), &FromCharError::NotAscii('é'), message);
 }
 
 // The product of two elements, as a character, and that by the definition.
@@ -139,10 +138,16 @@ fn same_row(rt: &impl Abort, a: Fe32, row: &[u8; 32]) {
     }
 }
 
+// The rows of products.
+fn products() -> [&'static [u8; 32]; 32] {
+    PRODUCTS
+}
+
 #[test]
 fn all_products(rt: HostRuntime) {
+    let products = products();
     for i in 0..32u8 {
-        same_row(&rt, Fe32::from_low_bits(i), PRODUCTS[i as usize]);
+        same_row(&rt, Fe32::from_low_bits(i), products[i as usize]);
     }
 }
 

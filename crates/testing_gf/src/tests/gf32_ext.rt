@@ -4,14 +4,16 @@ ghost use Rattle.std.specs.Prelude.{◌≢◌};
 ghost use Rattle.bech32_gf_ext.specs.Fe1024 as pairs;
 ghost use Rattle.bech32_gf_ext.specs.Fe32768 as triples;
 
-use crate::tests::compare::{same, same_items};
+use crate::tests::compare::{prints, same, same_items};
 use crate::tests::field::order_of;
 use crate::tests::operators::each_form;
 use bech32_gf::field::{Bech32Field, ExtensionField, Field, MultiplicativeOrder};
 use bech32_gf::gf32::Fe32;
 use bech32_gf_ext::{Fe1024, Fe32768};
+use std::alloc::Global;
+use std::fmt::{Debug, Display};
+use std::process::Abort;
 use testing_tools::code::Code;
-use testing_tools::compare::shown;
 
 #[test]
 fn orders_of_pairs(rt: HostRuntime) {
@@ -215,19 +217,26 @@ fn negatives_and_sums(rt: HostRuntime) {
     same_items(&rt, &[-x, [x, y, x].into_iter().sum::<Fe32768>()], &[x, y]);
 }
 
+// What displaying and debugging an element prints.
+fn both_ways<T: Display + Debug>(rt: &impl Abort, alloc: Global, x: &T) -> String {
+    format!(in alloc; "{x} {x:?}").expect(rt, "memory")
+}
+
 #[test]
 fn printed_pairs(rt: HostRuntime) {
     let pair = Fe1024::new([Fe32::P, Fe32::X]);
-    let text = format!(in rt.alloc(); "{pair} {pair:?}");
-    same(&rt, &text.expect(&rt, "memory").as_str(), &"px px");
+    same(&rt, &both_ways(&rt, rt.alloc(), &pair).as_str(), &"px px");
     same(&rt, &<Fe1024 as Bech32Field>::NAME, &"Fe1024");
 }
 
 #[test]
 fn printed_triples(rt: HostRuntime) {
     let triple = Fe32768::new([Fe32::_9, Fe32::Q, Fe32::L]);
-    let text = format!(in rt.alloc(); "{triple} {triple:?}");
-    same(&rt, &text.expect(&rt, "memory").as_str(), &"9ql 9ql");
+    same(
+        &rt,
+        &both_ways(&rt, rt.alloc(), &triple).as_str(),
+        &"9ql 9ql",
+    );
     same(&rt, &<Fe32768 as Bech32Field>::NAME, &"Fe32768");
 }
 
@@ -235,12 +244,9 @@ fn printed_triples(rt: HostRuntime) {
 fn rust_code(rt: HostRuntime) {
     let alloc = rt.alloc();
     let pair = Code(Fe1024::new([Fe32::P, Fe32::X]));
-    same(
-        &rt,
-        &shown(alloc, &pair).as_str(),
-        &"Fe32Ext { inner: [Fe32::P, Fe32::X] }",
-    );
+    let code = "Fe32Ext { inner: [Fe32::P, Fe32::X] }";
+    prints(&rt, alloc, &pair, code);
     let triple = Code(Fe32768::new([Fe32::_9, Fe32::Q, Fe32::L]));
     let code = "Fe32Ext { inner: [Fe32::_9, Fe32::Q, Fe32::L] }";
-    same(&rt, &shown(alloc, &triple).as_str(), &code);
+    prints(&rt, alloc, &triple, code);
 }

@@ -3,8 +3,8 @@ use super::given::{
     Check, Writes, behind_each_part, fronts, known_address, known_addresses, known_texts,
     long_address, of_each_length, of_each_version, part,
 };
-use super::known::{DATA, KINDS};
-use crate::tests::compare::{same, same_items};
+use super::known::{KINDS, data, zeros};
+use crate::tests::compare::same;
 use bech32::segwit::VERSION_0;
 use bech32::{Bech32m, EncodeIoError, encode_to_writer};
 use std::alloc::Global;
@@ -101,8 +101,8 @@ impl Writes for InVec {
     fn writes(rt: &impl Abort, alloc: Global, form: Form, given: &Given<'_>, want: &str) {
         let mut bytes = Vec::new(alloc);
         let outcome = to_writer(form, &mut bytes, given).map_err(kind);
-        same(rt, &(form, outcome), &(form, Ok(())));
-        same_items(rt, &bytes, want.as_bytes());
+        let found = (form, outcome, bytes.as_slice());
+        same(rt, &found, &(form, Ok(()), want.as_bytes()));
     }
 }
 
@@ -115,7 +115,7 @@ fn known_texts_to_a_vec(rt: HostRuntime) {
 fn nothing_is_written_of_a_long_text(rt: HostRuntime) {
     let hrp = part(&rt, "abcde");
     let mut bytes = Vec::new(rt.alloc());
-    let outcome = encode_to_writer::<Bech32m, Vec<u8>>(&mut bytes, hrp, &[0; 632]).map_err(kind);
+    let outcome = encode_to_writer::<Bech32m, Vec<u8>>(&mut bytes, hrp, &zeros()).map_err(kind);
     same(&rt, &(outcome, bytes.len()), &(Err(None), 0));
 }
 
@@ -130,63 +130,77 @@ fn outcome_at(w: &Narrow, is_cut: bool) -> Result<(), Option<io::ErrorKind>> {
 
 // Fails where a form does not write as far as a writer has room, goes on when it failed, tells
 // another error, flushes it, or makes a call that is for nothing.
-fn fails_behind(rt: &impl Abort, (form, given): (Form, &Given<'_>), whole: &[u8], mut w: Narrow) {
-    let outcome = to_writer(form, &mut w, given).map_err(kind);
+fn fails_behind(rt: &impl Abort, (form, given): (Form, &Given<'_>), whole: &[u8], w: &mut Narrow) {
+    let outcome = to_writer(form, w, given).map_err(kind);
     let is_cut = w.room < whole.len();
-    let want = outcome_at(&w, is_cut);
+    let want = outcome_at(w, is_cut);
     let count = w.room.min(whole.len());
+    let begins = whole.starts_with(w.got.as_slice());
+    let are_few = w.calls <= count.saturating_add(w.failures);
+    let writer = (form, w.room, w.step);
+    let found = (outcome, (w.got.len(), w.failures, w.flushes));
+    let want = (want, (count, usize::from(is_cut), 0));
     same(
         rt,
-        &(
-            form,
-            w.room,
-            w.step,
-            outcome,
-            w.got.len(),
-            w.failures,
-            w.flushes,
-        ),
-        &(form, w.room, w.step, want, count, usize::from(is_cut), 0),
+        &(writer, found, (begins, are_few)),
+        &(writer, want, (true, true)),
     );
-    same(rt, &whole.starts_with(w.got.as_slice()), &true);
-    assert!(rt; w.calls <= count.saturating_add(w.failures));
 }
 
-// A writer that has room for all of it takes what each form writes, byte by byte and at once.
-fn takes_all(rt: &impl Abort, alloc: Global, given: &Given<'_>) {
-    for form in FORMS {
-        let whole = written(rt, alloc, form, given);
-        for step in [1usize, 2000] {
-            let w = Narrow::new(alloc, whole.len(), step, None);
-            fails_behind(rt, (form, given), &whole, w);
-        }
+// The same of a writer with this room, which takes so many bytes a call.
+fn fails_at(
+    rt: &impl Abort,
+    alloc: Global,
+    form: (Form, &Given<'_>),
+    whole: &[u8],
+    (room, step): (usize, usize),
+    error: Option<io::Error>,
+) {
+    let mut w = Narrow::new(alloc, room, step, error);
+    fails_behind(rt, form, whole, &mut w);
+}
+
+// A writer that has room for all of it takes what a form writes, byte by byte and at once.
+fn is_taken(rt: &impl Abort, alloc: Global, form: Form, given: &Given<'_>) {
+    let whole = written(rt, alloc, form, given);
+    let room = whole.len();
+    fails_at(rt, alloc, (form, given), &whole, (room, 1), None);
+    fails_at(rt, alloc, (form, given), &whole, (room, 2000), None);
+}
+
+// Each byte of a text that a form writes fails in turn.
+fn bytes_fail(rt: &impl Abort, alloc: Global, form: (Form, &Given<'_>), whole: &[u8]) {
+    let full = Some(io::Error::from(io::ErrorKind::StorageFull));
+    for room in 0..=whole.len() {
+        fails_at(rt, alloc, form, whole, (room, 1), full);
+        fails_at(rt, alloc, form, whole, (room, 7), full);
+        fails_at(rt, alloc, form, whole, (room, 100), full);
     }
 }
 
 // Each byte of what a form writes fails in turn.
 fn each_byte_fails(rt: &impl Abort, alloc: Global, form: Form, given: &Given<'_>) {
-    let full = io::Error::from(io::ErrorKind::StorageFull);
     let whole = written(rt, alloc, form, given);
-    for room in 0..=whole.len() {
-        for step in [1usize, 7, 100] {
-            let w = Narrow::new(alloc, room, step, Some(full));
-            fails_behind(rt, (form, given), &whole, w);
-        }
+    bytes_fail(rt, alloc, (form, given), &whole);
+}
+
+// Each byte of what each form writes fails in turn.
+fn each_byte_of_each_form_fails(rt: &impl Abort, alloc: Global, given: &Given<'_>) {
+    for form in FORMS {
+        each_byte_fails(rt, alloc, form, given);
     }
 }
 
 #[test]
 fn every_byte_may_fail(rt: HostRuntime) {
-    let hrp = part(&rt, "test");
-    for form in FORMS {
-        for size in 0..41usize {
-            let given = Given {
-                hrp,
-                version: VERSION_0,
-                data: &DATA[..size],
-            };
-            each_byte_fails(&rt, rt.alloc(), form, &given);
-        }
+    let (hrp, data) = (part(&rt, "test"), data());
+    for size in 0..41usize {
+        let given = Given {
+            hrp,
+            version: VERSION_0,
+            data: &data[..size],
+        };
+        each_byte_of_each_form_fails(&rt, rt.alloc(), &given);
     }
 }
 
@@ -194,7 +208,9 @@ enum TakesAll {}
 
 impl Check for TakesAll {
     fn check(rt: &impl Abort, alloc: Global, given: &Given<'_>) {
-        takes_all(rt, alloc, given);
+        for form in FORMS {
+            is_taken(rt, alloc, form, given);
+        }
     }
 }
 
@@ -228,13 +244,18 @@ fn ends_at(rt: &impl Abort, form: Form, first: Option<io::ErrorKind>, want: io::
     );
 }
 
+// The same of a writer that takes nothing, and of one with an error of each kind.
+fn ends_at_each(rt: &impl Abort, form: Form) {
+    ends_at(rt, form, None, io::ErrorKind::WriteZero);
+    for kind in KINDS {
+        ends_at(rt, form, Some(kind), kind);
+    }
+}
+
 #[test]
 fn the_first_error_ends_the_call(rt: HostRuntime) {
     for form in FORMS {
-        ends_at(&rt, form, None, io::ErrorKind::WriteZero);
-        for kind in KINDS {
-            ends_at(&rt, form, Some(kind), kind);
-        }
+        ends_at_each(&rt, form);
     }
 }
 
@@ -246,26 +267,36 @@ fn told(outcome: Result<(), EncodeIoError>) -> Option<io::Error> {
     }
 }
 
+// The error that a form tells where its writer returns this one.
+fn told_by(alloc: Global, form: Form, error: io::Error) -> Option<io::Error> {
+    let mut w = Narrow::new(alloc, 5, 7, Some(error));
+    told(to_writer(form, &mut w, &known_address()))
+}
+
+// What debugging an error prints.
+fn debugged(rt: &impl Abort, alloc: Global, error: io::Error) -> String {
+    format!(in alloc; "{error:?}").expect(rt, "memory")
+}
+
 // Fails where a form tells another error than the one that its writer returned.
 fn tells(rt: &impl Abort, alloc: Global, form: Form, error: io::Error) {
-    let mut w = Narrow::new(alloc, 5, 7, Some(error));
-    let got = told(to_writer(form, &mut w, &known_address())).expect(rt, "it fails");
-    let got = format!(in alloc; "{got:?}").expect(rt, "memory");
-    let want = format!(in alloc; "{error:?}").expect(rt, "memory");
+    let got = told_by(alloc, form, error).expect(rt, "it fails");
+    let (got, want) = (debugged(rt, alloc, got), debugged(rt, alloc, error));
     same(rt, &got.as_str(), &want.as_str());
 }
 
 // A kind alone, the system's number of an error, and an error with words.
+fn tells_each(rt: &impl Abort, alloc: Global, form: Form) {
+    let kind = io::ErrorKind::StorageFull;
+    tells(rt, alloc, form, io::Error::from(kind));
+    tells(rt, alloc, form, io::Error::from_raw_os_error(28));
+    tells(rt, alloc, form, io::Error::new(kind, "the tape is full"));
+}
+
 #[test]
 fn the_error_is_the_writers_own(rt: HostRuntime) {
     for form in FORMS {
-        for error in [
-            io::Error::from(io::ErrorKind::StorageFull),
-            io::Error::from_raw_os_error(28),
-            io::Error::new(io::ErrorKind::StorageFull, "the tape is full"),
-        ] {
-            tells(&rt, rt.alloc(), form, error);
-        }
+        tells_each(&rt, rt.alloc(), form);
     }
 }
 

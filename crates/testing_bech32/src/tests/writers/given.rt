@@ -2,8 +2,8 @@
 
 use super::forms::{Form, Given};
 use super::known::{
-    ADDRESS, ADDRESS_PROGRAM, DATA, FRONT, LONG_PART, LONGEST_PART, PROGRAM, TEXT, UPPER_ADDRESS,
-    UPPER_TEXT,
+    ADDRESS, ADDRESS_PROGRAM, FRONT, LONG_PART, LONGEST_PART, PROGRAM, TEXT, UPPER_ADDRESS,
+    UPPER_TEXT, data,
 };
 use bech32::hrp::BC;
 use bech32::segwit::{VERSION_0, VERSION_1};
@@ -75,12 +75,12 @@ pub fn fronts<W: Writes>(rt: &impl Abort, alloc: Global) {
 
 /// Tests texts of every length.
 pub fn of_each_length<C: Check>(rt: &impl Abort, alloc: Global) {
-    let hrp = part(rt, "abcd");
-    for size in 0..633usize {
+    let (hrp, data) = (part(rt, "abcd"), data());
+    for size in 0..=data.len() {
         let given = Given {
             hrp,
             version: VERSION_1,
-            data: &DATA[..size],
+            data: &data[..size],
         };
         C::check(rt, alloc, &given);
     }

@@ -35,7 +35,14 @@ pub const LONGEST_PART: &str =
     "an83characterlonghumanreadablepartthatcontainsthetheexcludedcharactersbioandnumber1";
 
 /// As many bytes as the code has room for behind a human-readable part of four characters.
-pub const DATA: [u8; 632] = [0xa5; 632];
+pub fn data() -> [u8; 632] {
+    [0xa5; 632]
+}
+
+/// As many zeros, of which a human-readable part of five characters makes a text that is too long.
+pub fn zeros() -> [u8; 632] {
+    [0; 632]
+}
 
 /// Each kind of error.
 pub const KINDS: [io::ErrorKind; 42] = [

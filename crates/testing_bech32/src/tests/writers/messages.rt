@@ -1,8 +1,7 @@
-use crate::tests::compare::same;
+use crate::tests::compare::prints;
 use bech32::EncodeIoError;
 use bech32::primitives::decode::CodeLengthError;
 use std::io;
-use testing_tools::compare::shown;
 
 #[test]
 fn tells_why_a_text_is_not_written(rt: HostRuntime) {
@@ -11,8 +10,8 @@ fn tells_why_a_text_is_not_written(rt: HostRuntime) {
         code_length: 1023,
     });
     let message = "encode error: encoded length 1024 exceeds maximum (code length) 1023";
-    same(&rt, &shown(rt.alloc(), &too_long).as_str(), &message);
+    prints(&rt, rt.alloc(), &too_long, message);
     let failed = EncodeIoError::Write(io::Error::from(io::ErrorKind::WriteZero));
     let message = "encode to writer failed: write zero";
-    same(&rt, &shown(rt.alloc(), &failed).as_str(), &message);
+    prints(&rt, rt.alloc(), &failed, message);
 }

@@ -3,17 +3,18 @@ use super::given::{
     Check, Writes, behind_each_part, fronts, known_addresses, known_texts, long_address,
     of_each_length, of_each_version, part,
 };
-use super::known::{PROGRAM, TEXT, UPPER_TEXT};
+use super::known::{PROGRAM, TEXT, UPPER_TEXT, zeros};
 use crate::tests::compare::same;
 use bech32::primitives::decode::CodeLengthError;
 use bech32::{
-    Bech32, Bech32m, EncodeError, encode_lower, encode_lower_in, encode_to_fmt, encode_upper,
+    Bech32, Bech32m, EncodeError, Hrp, encode_lower, encode_lower_in, encode_to_fmt, encode_upper,
     encode_upper_in,
 };
 use linked_list_allocator::LocalHeap;
-use std::alloc::{Allocator, Global};
+use std::alloc::Global;
 use std::fmt;
 use std::process::Abort;
+use testing_tools::heaps::{InHeap, right_or_wants_memory};
 
 // Takes as many pieces as `left`, fails at the next one, and would take all from then on.
 #[derive(Drop)]
@@ -42,43 +43,46 @@ fn known_texts_in_memory(rt: HostRuntime) {
     same(&rt, &(lower.as_str(), upper.as_str()), &(TEXT, UPPER_TEXT));
 }
 
-// Whether it was out of memory; fails if the result is neither that nor the text.
-fn wants_memory<A: Allocator>(
-    rt: &impl Abort,
-    outcome: Result<String<A>, EncodeError>,
-    text: &str,
-) -> bool {
-    match outcome {
-        Ok(found) => {
-            same(rt, &found.as_str(), &text);
-            false
-        }
-        Err(error) => {
-            same(rt, &error, &EncodeError::Memory);
-            true
-        }
+// Whether this text was made; `None` where there is too little memory.
+fn is_text(made: Result<String<&LocalHeap>, EncodeError>, want: &str) -> Option<bool> {
+    match made {
+        Ok(text) => Some(text.as_str() == want),
+        Err(EncodeError::Memory) => None,
+        Err(_) => Some(false),
     }
 }
 
-// Whether a known text in lower and in upper case runs out of memory in a heap of so many bytes.
-fn known_texts_in(rt: &impl Abort, alloc: Global, bytes: usize) -> (bool, bool) {
-    let hrp = part(rt, "test");
-    let heap = LocalHeap::new(alloc, bytes).expect(rt, "memory");
-    let lower = encode_lower_in::<Bech32, &LocalHeap>(&heap, hrp, &PROGRAM);
-    let lower = wants_memory(rt, lower, TEXT);
-    let upper = encode_upper_in::<Bech32, &LocalHeap>(&heap, hrp, &PROGRAM);
-    (lower, wants_memory(rt, upper, UPPER_TEXT))
+// A known text in lower or in upper case.
+#[derive(Drop)]
+enum Known {
+    Lower(Hrp),
+    Upper(Hrp),
+}
+
+impl InHeap for Known {
+    fn is_right(&self, _alloc: Global, heap: &LocalHeap) -> Option<bool> {
+        match self {
+            Known::Lower(hrp) => {
+                is_text(
+                    encode_lower_in::<Bech32, &LocalHeap>(heap, *hrp, &PROGRAM),
+                    TEXT,
+                )
+            }
+            Known::Upper(hrp) => is_text(
+                encode_upper_in::<Bech32, &LocalHeap>(heap, *hrp, &PROGRAM),
+                UPPER_TEXT,
+            ),
+        }
+    }
 }
 
 #[test]
 fn known_texts_or_out_of_memory(rt: HostRuntime) {
-    let mut refused = (0u32, 0u32);
-    for size in 0..16usize {
-        let (lower, upper) = known_texts_in(&rt, rt.alloc(), 16 * size);
-        refused.0 = refused.0.saturating_add(u32::from(lower));
-        refused.1 = refused.1.saturating_add(u32::from(upper));
-    }
-    assert!(rt; 1 <= refused.0 && refused.0 < 16 && refused.1 == refused.0);
+    let hrp = part(&rt, "test");
+    let lower = right_or_wants_memory(rt.alloc(), &Known::Lower(hrp), (16, 16));
+    let upper = right_or_wants_memory(rt.alloc(), &Known::Upper(hrp), (16, 16));
+    let lower = lower.expect(&rt, "right, or out of memory");
+    same(&rt, &upper, &Ok(lower));
 }
 
 enum InString {}
@@ -100,12 +104,43 @@ fn known_texts_to_a_string(rt: HostRuntime) {
 fn nothing_is_written_of_a_long_text(rt: HostRuntime) {
     let hrp = part(&rt, "abcde");
     let mut text = String::new(rt.alloc());
-    let outcome = encode_to_fmt::<Bech32m, String>(&mut text, hrp, &[0; 632]);
+    let outcome = encode_to_fmt::<Bech32m, String>(&mut text, hrp, &zeros());
     let too_long = EncodeError::TooLong(CodeLengthError {
         encoded_length: 1024,
         code_length: 1023,
     });
     same(&rt, &(outcome, text.as_str()), &(Err(too_long), ""));
+}
+
+// What comes of a text at a writer: the outcome, how many calls were made, and whether what they
+// took begins the text, and is all of it.
+type Cut = (Result<(), EncodeError>, usize, (bool, bool));
+
+// The same of what a form writes.
+fn cut(form: Form, given: &Given<'_>, whole: &[u8], w: &mut Budget) -> Cut {
+    let outcome = to_fmt(form, w, given);
+    let begins = whole.starts_with(w.text.as_bytes());
+    (outcome, w.calls, (begins, w.text.len() == whole.len()))
+}
+
+// The same at a writer that fails at the call behind `left` others.
+fn cut_at(alloc: Global, form: Form, given: &Given<'_>, whole: &[u8], left: usize) -> Cut {
+    let mut w = Budget {
+        text: String::new(alloc),
+        left,
+        calls: 0,
+    };
+    cut(form, given, whole, &mut w)
+}
+
+// What has to come of a text in so many calls at most, where the call behind `left` others fails.
+fn wanted(calls: usize, left: usize) -> Cut {
+    if left < calls {
+        let error = EncodeError::Fmt(fmt::Error);
+        (Err(error), left.saturating_add(1), (true, false))
+    } else {
+        (Ok(()), calls, (true, true))
+    }
 }
 
 // Fails where a form does not write all that it is given, or goes on or tells otherwise where the
@@ -117,47 +152,27 @@ fn is_cut(
     whole: &[u8],
     left: usize,
 ) -> bool {
-    let mut w = Budget {
-        text: String::new(alloc),
-        left,
-        calls: 0,
-    };
-    let outcome = to_fmt(form, &mut w, given);
-    let is_cut = left < w.calls;
-    let last = if is_cut {
-        left.saturating_add(1)
-    } else {
-        w.calls
-    };
-    let begins = whole.starts_with(w.text.as_bytes());
-    let is_whole = w.text.len() == whole.len();
-    same(
-        rt,
-        &(form, left, outcome, w.calls, begins, is_whole),
-        &(form, left, failure(is_cut), last, true, !is_cut),
-    );
-    is_cut
+    let found = cut_at(alloc, form, given, whole, left);
+    let (_, calls, _) = found;
+    same(rt, &(form, left, found), &(form, left, wanted(calls, left)));
+    left < calls
 }
 
-// The outcome of a text that is cut, or is not.
-fn failure(is_cut: bool) -> Result<(), EncodeError> {
-    if is_cut {
-        Err(EncodeError::Fmt(fmt::Error))
-    } else {
-        Ok(())
+// Fails each call of a form in turn, and then none: how many there are, or ten if there are more.
+fn calls_of(rt: &impl Abort, alloc: Global, form: (Form, &Given<'_>), whole: &[u8]) -> usize {
+    for left in 0..10usize {
+        if !is_cut(rt, alloc, form, whole, left) {
+            return left;
+        }
     }
+    10
 }
 
 // Fails each call of a form in turn, and then none. There is one, and there are less than ten.
 fn each_call_fails(rt: &impl Abort, alloc: Global, form: Form, given: &Given<'_>) {
     let whole = written(rt, alloc, form, given);
-    for left in 0..10usize {
-        if !is_cut(rt, alloc, (form, given), &whole, left) {
-            assert!(rt; 1 <= left);
-            return;
-        }
-    }
-    assert!(rt; false);
+    let calls = calls_of(rt, alloc, (form, given), &whole);
+    same(rt, &(form, 1 <= calls && calls < 10), &(form, true));
 }
 
 enum EachFormFails {}
@@ -193,11 +208,6 @@ fn unchecked_addresses_to_a_string(rt: HostRuntime) {
 #[test]
 fn unchecked_addresses_are_cut(rt: HostRuntime) {
     fronts::<InString>(&rt, rt.alloc());
-    let mut w = Budget {
-        text: String::new(rt.alloc()),
-        left: 0,
-        calls: 0,
-    };
-    let outcome = to_fmt(Form::Address, &mut w, &long_address(&rt));
+    let (outcome, _, _) = cut_at(rt.alloc(), Form::Address, &long_address(&rt), &[], 0);
     same(&rt, &outcome, &Err(EncodeError::Fmt(fmt::Error)));
 }

@@ -8,8 +8,10 @@ use testing_tools::heaps::{InHeap, right_or_wants_memory};
 
 // Whether a generator of degree 1 is refused as such.
 fn refuses_degree_1(heap: &LocalHeap) -> bool {
-    let one = PrintImpl::<Fe32>::new_in(heap, "One", &[Fe32::P], &[Fe32::P]);
-    one.err() == Some(PrintError::Degree)
+    match PrintImpl::<Fe32>::new_in(heap, "One", &[Fe32::P], &[Fe32::P]) {
+        Ok(_) => false,
+        Err(error) => error == PrintError::Degree,
+    }
 }
 
 // The block of a small generator, which is printed as ever.
