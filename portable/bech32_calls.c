@@ -219,8 +219,8 @@ uint32_t bech32_nearest(uint32_t checksum, const uint8_t *text, size_t text_leng
     return number;
 }
 
-/* So many locations are put in the library's form beside the other numbers; more, of which few texts have as many, at the
- * end of the lent memory. */
+/* At most this many locations are put in the library's form beside the other numbers. More, which few texts have, are put
+ * at the end of the lent memory. */
 #define FEW_EDITS (2u * BECH32_NEAR_EDITS)
 
 /* A location that no edit has: what stands where the library put none. */

@@ -119,6 +119,44 @@ uint32_t codex32_derive(uint32_t share_index, const uint8_t *texts, size_t texts
     return number;
 }
 
+uint32_t codex32_split(uint32_t threshold, const uint8_t *identifier, size_t identifier_length, const uint8_t *secret,
+                       size_t secret_length, const uint8_t *random, size_t random_length, size_t count, uint8_t *texts,
+                       size_t texts_room, size_t *text_length) {
+    NUMBERS(1);
+    MACHINE(codex32_split);
+    u64 identifier_size = SOME(identifier_length), secret_size = SOME(secret_length), random_size = SOME(random_length);
+    u64 texts_size = SOME(texts_room), identifier_at = lend(&m, identifier, identifier_size);
+    u64 secret_at = lend(&m, secret, secret_size), random_at = lend(&m, random, random_size);
+    u64 texts_at = lend_room(&m, texts, texts_size), at = lend_room(&m, numbers, sizeof number_words);
+    uint32_t number = of_codex32_split(&m, threshold, identifier_at, identifier_size, secret_at, secret_size, random_at,
+                                       random_size, count, texts_at, texts_size, at);
+    if (number == CODEX32_OK) {
+        *text_length = (size_t)get_64(numbers);
+    }
+    wipe(stack, sizeof stack);
+    return number;
+}
+
+uint32_t codex32_recover(const uint8_t *texts, size_t texts_length, const size_t *lengths, size_t count, uint8_t *bytes,
+                         size_t bytes_room, size_t *bytes_length) {
+    GIVEN(CODEX32_MAX_SHARES + 1u);
+    NUMBERS(1);
+    if (IS_TOO_LONG(texts_length)) {
+        return CODEX32_NO_MEMORY;
+    }
+    MACHINE(codex32_recover);
+    u64 given_count = put_lengths(given, lengths, count), bytes_size = SOME(bytes_room);
+    u64 texts_at = lend(&m, texts, texts_length), given_at = lend(&m, given, 8 * given_count);
+    u64 bytes_at = lend_room(&m, bytes, bytes_size), at = lend_room(&m, numbers, sizeof number_words);
+    uint32_t number =
+        of_codex32_recover(&m, texts_at, texts_length, given_at, given_count, bytes_at, bytes_size, at);
+    if (number == CODEX32_OK) {
+        *bytes_length = (size_t)get_64(numbers);
+    }
+    wipe(stack, sizeof stack);
+    return number;
+}
+
 uint32_t codex32_propose(const uint8_t *text, size_t text_length, codex32_memory *memory, uint8_t *proposed,
                          size_t proposed_room, size_t *proposed_length) {
     NUMBERS(3);

@@ -56,7 +56,7 @@ ALIGNED(16) static const union {
 
 typedef struct {
     u8 *at;
-    size_t readable; /* so many bytes */
+    size_t readable; /* as many bytes */
     size_t writable; /* as many, or none */
 } Part;
 #endif
@@ -76,7 +76,7 @@ OWN void trap(void) {
     }
 }
 
-/* So many bytes as the processor's memory may have. */
+/* A number of bytes, where the processor's memory may have as many. */
 OWN size_t size_of(u64 size) {
     if (NEVER(size > SIZE_MAX)) {
         trap();
@@ -340,7 +340,7 @@ OWN void MEMORY_FILL(const Machine *m, u64 to, u32 byte, u64 size) {
     }
 }
 
-/* What a function of the library begins with: so many bytes of the stack are there. */
+/* What a function of the library begins with: this many bytes of the stack are there. */
 #define FRAME(m, size)                                             \
     do {                                                           \
         if (NEVER((m)->stack_pointer - (m)->stack_low < (size))) { \
@@ -373,7 +373,7 @@ OWN void MULTIPLY_128(Machine *m, u64 to, u64 a, u64 a_high, u64 b, u64 b_high) 
     I64_STORE(m, to + 8, a_1 * b_1 + (middle >> 32) + (other >> 32) + a * b_high + a_high * b);
 }
 
-/* A number of 128 bits, its low half and its high one, by so many bits to the right, below 128, is put at an address. */
+/* A number of 128 bits, its low half and its high one, by a number of bits to the right, below 128, is put at an address. */
 OWN void SHIFT_RIGHT_128(Machine *m, u64 to, u64 low, u64 high, u32 by) {
     u64 next = by & 64 ? 0 : high;
     low = by & 64 ? high : low;

@@ -44,7 +44,7 @@
 #endif
 
 #define AREA 4096u     /* the bytes between two pages that nobody may touch */
-#define MOST 1100u     /* a text, a part or bytes have at most so many bytes here, most of the time */
+#define MOST 1100u     /* a text, a part or bytes have at most this many bytes here, most of the time */
 #define NUMBERS 100u   /* refusals have numbers below this */
 
 /* What was being called, for the message of a failure. */
@@ -115,7 +115,7 @@ static void place(Area *area, const void *content, size_t length, size_t alignme
     area->length = length;
 }
 
-/* The area is as it was but for so many bytes at the front of its buffer. */
+/* The area is as it was but for this many bytes at the front of its buffer. */
 static void expect_kept(Area *area, size_t written, const char *what) {
     ALLOW(area->bytes, AREA);
     if (written == 0) {
@@ -144,7 +144,7 @@ static size_t length_in(Area *area) {
     return length;
 }
 
-/* So many bytes that there is often, and not always, room for what is written. */
+/* A number of bytes with which there is often, but not always, room for what is written. */
 static size_t room(size_t usual) {
     switch (below(6)) {
     case 0: return below(MOST);
@@ -755,12 +755,17 @@ static const uint32_t of_codex32_encode[] = {55, 83, 84, 85, 86, 92, 0};
 static const uint32_t of_codex32_encode_payload[] = {21, 22, 55, 83, 84, 85, 86, 92, 0};
 static const uint32_t of_codex32_derive[] = {2, 4, 11, 12, 13, 14, 15, 21, 22, 23, 33, 61, 62, 63, 64,
                                              81, 82, 83, 84, 86, 92, 0};
+static const uint32_t of_codex32_split[] = {55, 65, 66, 83, 84, 85, 92, 0};
+static const uint32_t of_codex32_recover[] = {2, 4, 11, 12, 13, 14, 15, 21, 22, 23, 33, 61, 62, 63, 64,
+                                              81, 82, 83, 84, 87, 92, 0};
 static const uint32_t of_codex32_propose_long[] = {2, 11, 12, 13, 14, 15, 21, 22, 23, 34, 81, 82, 91,
                                                    92, 0};
 static Function read_share = {"codex32_share", 0, {0}, of_codex32_share};
 static Function encode_codex32 = {"codex32_encode", 0, {0}, of_codex32_encode};
 static Function encode_payload = {"codex32_encode_payload", 0, {0}, of_codex32_encode_payload};
 static Function derive_codex32 = {"codex32_derive", 0, {0}, of_codex32_derive};
+static Function split_codex32 = {"codex32_split", 0, {0}, of_codex32_split};
+static Function recover_codex32 = {"codex32_recover", 0, {0}, of_codex32_recover};
 static Function propose_long_codex32 = {"codex32_propose_long", 0, {0}, of_codex32_propose_long};
 static Area identifier_area, lengths_area;
 
@@ -1075,6 +1080,210 @@ static void try_codex32_derive(void) {
            "another text comes back");
 }
 
+/* The texts of a set, some mistake in them at times, or strings with six bits left over. */
+static void random_set(void) {
+    static const char *of_two[] = {"ms12xh04fm5amh7k7ay0jj7mgh3ndf4zdx0dmxgdrhz38hawaewk",
+                                   "ms12xh04azr4k7e2n9c0twmg5yqd8lup3vxs6hj7gh6sdaqwtg68"};
+    static const char *alone[] = {"ms10xh04szr4k7e2n9c0twmg5yqd8lup3vxs6hjtq8gu9wgjv3s5"};
+    random_texts();
+    if (percent(40)) {
+        mistake_in_texts();
+    }
+    if (percent(4)) {
+        text_length = 0;
+        texts_count = 1 + below(2);
+        for (size_t i = 0; i < texts_count; i++) {
+            lengths[i] = strlen(alone[0]);
+            memcpy(text + text_length, texts_count == 1 ? alone[i] : of_two[i], lengths[i]);
+            text_length += lengths[i];
+        }
+    }
+}
+
+static void try_codex32_recover(void) {
+    static uint8_t derived[AREA], ample[AREA];
+    uint8_t any_name[CODEX32_IDENTIFIER_LENGTH];
+    uint32_t threshold, share_index;
+    size_t length = 0, derived_length = 0, again = 0;
+    begin(&recover_codex32);
+    random_set();
+    /* The bytes are those of the secret's string. */
+    uint32_t expected = codex32_derive(CODEX32_SECRET_INDEX, text, text_length, lengths, texts_count, derived,
+                                       sizeof derived, &derived_length);
+    if (expected == CODEX32_OK) {
+        expected = codex32_share(derived, derived_length, &threshold, any_name, &share_index, ample,
+                                 CODEX32_BYTES_SIZE, &length);
+    }
+    place(&read_1, text, text_length, 1);
+    place(&lengths_area, lengths, texts_count * sizeof *lengths, sizeof *lengths);
+    place(&written_1, NULL, room(expected == CODEX32_OK ? length : CODEX32_BYTES_SIZE), 1);
+    size_t *told = new_length(&length_1);
+    uint32_t number = codex32_recover(read_1.buffer, text_length,
+                                      (const size_t *)(const void *)lengths_area.buffer, texts_count,
+                                      written_1.buffer, written_1.length, told);
+    int is_ok = number == CODEX32_OK;
+    count(&recover_codex32, number);
+    expect_number(number, expected, length <= written_1.length);
+    expect_kept(&read_1, 0, "the texts changed");
+    expect_kept(&lengths_area, 0, "their lengths changed");
+    expect_kept(&written_1, is_ok ? length : 0, "the buffer changed elsewhere");
+    expect_kept(&length_1, is_ok ? sizeof length : 0, "the length changed");
+    expect(!is_ok || (length_in(&length_1) == length && memcmp(written_1.buffer, ample, length) == 0),
+           "other bytes than those of the secret's string");
+    expect(codex32_recover(text, text_length, lengths, texts_count, ample, CODEX32_BYTES_SIZE, &again) ==
+               expected,
+           "the room that the header states does not suffice");
+}
+
+/* A secret to split: the random bytes, and the indices of its shares. */
+static uint8_t drawn[AREA];
+static size_t drawn_length;
+static const char share_indices[] = "acdefghjklmnpqrtuvwxyz023456789";
+
+static int is_name(size_t length) {
+    int has_lower = 0, has_upper = 0;
+    for (size_t i = 0; i < length; i++) {
+        if (name[i] == 0 || strchr(alphabet, lowered(name[i])) == NULL) {
+            return 0;
+        }
+        has_lower = has_lower || (name[i] >= 'a' && name[i] <= 'z');
+        has_upper = has_upper || (name[i] >= 'A' && name[i] <= 'Z');
+    }
+    return length == sizeof name && !(has_lower && has_upper);
+}
+
+/* What the header says of a secret in `data` and random bytes in `drawn`. */
+static uint32_t split_refusal(uint32_t threshold, size_t name_length, size_t shares) {
+    if (threshold == 1 || threshold > 9) {
+        return CODEX32_BAD_THRESHOLD;
+    }
+    if (!is_name(name_length)) {
+        return CODEX32_BAD_IDENTIFIER;
+    }
+    if (threshold == 0) {
+        return CODEX32_BAD_SHARE_INDEX;
+    }
+    if ((data_length < 16 || data_length > 44) && data_length != 63 && data_length != 64) {
+        return CODEX32_BAD_SIZE;
+    }
+    if (shares < threshold || shares > CODEX32_MAX_SPLIT) {
+        return CODEX32_BAD_COUNT;
+    }
+    return drawn_length == CODEX32_RANDOM_SIZE(threshold, data_length) ? CODEX32_OK : CODEX32_BAD_RANDOM;
+}
+
+/* The shares are those that the other functions make: by the random characters, and derived. */
+static void expect_shares(uint32_t threshold, const uint8_t *shares, size_t shares_count, size_t length) {
+    uint8_t set[9 * CODEX32_TEXT_SIZE], payload[CODEX32_TEXT_SIZE], one[CODEX32_TEXT_SIZE];
+    size_t set_lengths[9], characters = (8 * data_length + 4) / 5, n = 0, any = below(shares_count);
+    for (uint32_t i = 0; i < threshold; i++) {
+        set_lengths[i] = length;
+    }
+    for (size_t i = 0; i + 1 < threshold; i++) {
+        for (size_t j = 0; j < characters; j++) {
+            payload[j] = (uint8_t)alphabet[drawn[i * characters + j] & 31];
+        }
+        expect(codex32_encode_payload(threshold, name, sizeof name, (uint8_t)share_indices[i], payload, characters,
+                                      set + i * length, sizeof one, &n) == CODEX32_OK &&
+                   n == length && memcmp(set + i * length, shares + i * length, length) == 0,
+               "a share is not that of the random bytes");
+    }
+    expect(codex32_encode(threshold, name, sizeof name, CODEX32_SECRET_INDEX, data, data_length,
+                          set + (threshold - 1) * length, sizeof one, &n) == CODEX32_OK &&
+               n == length,
+           "the secret has no string");
+    for (size_t i = threshold - 1; i < shares_count; i++) {
+        if (i == any || i + 1 == shares_count) {
+            expect(codex32_derive((uint8_t)share_indices[i], set, threshold * length, set_lengths, threshold, one,
+                                  sizeof one, &n) == CODEX32_OK &&
+                       n == length && memcmp(one, shares + i * length, length) == 0,
+                   "a share is not the derived one");
+        }
+    }
+}
+
+/* As many of the shares as the threshold, or some more, recover the secret, in whatever order they come. */
+static void expect_secret(uint32_t threshold, const uint8_t *shares, size_t shares_count, size_t length) {
+    static uint8_t some[AREA];
+    uint8_t back[CODEX32_BYTES_SIZE];
+    size_t order[CODEX32_MAX_SPLIT] = {0}, some_lengths[CODEX32_MAX_SPLIT], n = 0;
+    size_t more = percent(70) ? 0 : below(shares_count - threshold + 1), taken = threshold + more;
+    for (size_t i = 0; i < shares_count; i++) {
+        size_t at = below(i + 1);
+        order[i] = order[at];
+        order[at] = i;
+    }
+    for (size_t i = 0; i < taken; i++) {
+        memcpy(some + i * length, shares + order[i] * length, length);
+        some_lengths[i] = length;
+    }
+    expect(codex32_recover(some, taken * length, some_lengths, taken, back, sizeof back, &n) == CODEX32_OK &&
+               n == data_length && memcmp(back, data, n) == 0,
+           "shares do not recover the secret");
+    expect(codex32_recover(some, (threshold - 1) * length, some_lengths, threshold - 1, back, sizeof back, &n) ==
+               CODEX32_TOO_FEW_SHARES,
+           "fewer shares than the threshold are not refused");
+}
+
+static void random_drawn(uint32_t threshold) {
+    int is_known = threshold >= 2 && threshold <= 9 && data_length <= 64;
+    drawn_length = is_known && percent(95) ? CODEX32_RANDOM_SIZE(threshold, data_length) : below(MOST);
+    for (size_t i = 0; i < drawn_length; i++) {
+        drawn[i] = (uint8_t)next_number();
+    }
+}
+
+/* A name in either case, and with some mistake at times. */
+static void random_written_name(void) {
+    int is_upper = percent(20);
+    random_name();
+    for (size_t i = 0; is_upper && i < sizeof name; i++) {
+        name[i] = name[i] >= 'a' ? (uint8_t)(name[i] - 32) : name[i];
+    }
+    if (percent(5)) {
+        name[below(sizeof name)] = (uint8_t)below(256);
+    }
+}
+
+static void try_codex32_split(void) {
+    static uint8_t ample[AREA];
+    size_t length = 0, name_length = percent(97) ? sizeof name : below(sizeof name);
+    uint32_t threshold = percent(90) ? 2 + (uint32_t)below(8) : random_threshold();
+    size_t shares = percent(80) ? threshold + below(4) : percent(80) ? below(40) : (size_t)next_number();
+    begin(&split_codex32);
+    random_written_name();
+    random_secret();
+    random_drawn(threshold);
+    uint32_t expected = codex32_split(threshold, name, name_length, data, data_length, drawn, drawn_length,
+                                      shares, ample, sizeof ample, &length);
+    expect(expected == split_refusal(threshold, name_length, shares), "another answer than the header's");
+    size_t size = expected == CODEX32_OK ? shares * length : 0;
+    place(&identifier_area, name, name_length, 1);
+    place(&read_1, data, data_length, 1);
+    place(&read_2, drawn, drawn_length, 1);
+    place(&written_1, NULL, room(expected == CODEX32_OK ? size : CODEX32_TEXT_SIZE), 1);
+    size_t *told = new_length(&length_1);
+    uint32_t number =
+        codex32_split(threshold, identifier_area.buffer, name_length, read_1.buffer, data_length, read_2.buffer,
+                      drawn_length, shares, written_1.buffer, written_1.length, told);
+    int is_ok = number == CODEX32_OK;
+    count(&split_codex32, number);
+    expect_number(number, expected, size <= written_1.length);
+    expect_kept(&identifier_area, 0, "the identifier changed");
+    expect_kept(&read_1, 0, "the secret changed");
+    expect_kept(&read_2, 0, "the random bytes changed");
+    expect_kept(&written_1, is_ok ? size : 0, "the buffer changed elsewhere");
+    expect_kept(&length_1, is_ok ? sizeof length : 0, "the length changed");
+    if (!is_ok) {
+        return;
+    }
+    expect(length_in(&length_1) == length && length == CODEX32_ENCODED_SIZE(data_length) &&
+               memcmp(written_1.buffer, ample, size) == 0,
+           "other shares");
+    expect_shares(threshold, ample, shares, length);
+    expect_secret(threshold, ample, shares, length);
+}
+
 static void try_codex32_propose_long(void) {
     static uint8_t ample[AREA];
     size_t length = 0;
@@ -1343,8 +1552,8 @@ static void try_message(void) {
 }
 
 static void try_codex32_message(void) {
-    const uint32_t *known[] = {of_codex32_share, of_codex32_encode, of_codex32_derive,
-                               of_codex32_propose};
+    const uint32_t *known[] = {of_codex32_share, of_codex32_encode, of_codex32_derive, of_codex32_split,
+                               of_codex32_recover, of_codex32_propose};
     expect(codex32_version() == CODEX32_VERSION_NUMBER, "another version");
     try_sentence(&codex32_message_calls, codex32_message, known[below(sizeof known / sizeof *known)]);
 }
@@ -1366,7 +1575,8 @@ int main(int argc, char **argv) {
         try_segwit_encode, try_segwit_decode, try_residue, try_correct,
 #ifndef FIRST_CALLS_ALONE
         try_codex32_parse, try_codex32_propose, try_codex32_share,
-        try_codex32_encode, try_codex32_encode_payload, try_codex32_derive, try_codex32_propose_long,
+        try_codex32_encode, try_codex32_encode_payload, try_codex32_derive, try_codex32_split,
+        try_codex32_recover, try_codex32_propose_long,
         try_nearest, try_near_edits, try_message, try_codex32_message,
 #endif
     };
@@ -1398,6 +1608,8 @@ int main(int argc, char **argv) {
     print(&encode_codex32);
     print(&encode_payload);
     print(&derive_codex32);
+    print(&split_codex32);
+    print(&recover_codex32);
     print(&propose_long_codex32);
     print(&nearest);
     print(&near_edits);

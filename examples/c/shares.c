@@ -1,96 +1,143 @@
-/* Splits a secret of 16 bytes into three shares, any two of which recover it, and recovers it from two (BIP-93,
- * Recovering Secret). The random bytes are constant here: a program that keeps secrets takes them from the
- * operating system, and wipes what it is done with by a function that no compiler leaves out. */
+/* Splits a new secret of 16 bytes into three shares, any two of which recover it, and recovers it from two (BIP-93).
+ * The random bytes are those of the operating system; where it gives none, no share is made. What is secret is
+ * wiped. It prints the shares only if it is called with a word: shares show. */
+#ifdef _WIN32
+#define _CRT_RAND_S
+#endif
 #include <stdio.h>
+#include <stdlib.h>
 #include <string.h>
+#if defined(__linux__)
+#include <errno.h>
+#include <sys/random.h>
+#elif defined(__APPLE__)
+#include <sys/random.h>
+#elif !defined(_WIN32)
+#include <unistd.h>
+#endif
 
 #include "codex32.h"
 
 #define THRESHOLD 2u
+#define COUNT 3u
+#define SIZE 16u
+#define LENGTH CODEX32_ENCODED_SIZE(SIZE)
 
 typedef struct {
-    uint8_t text[CODEX32_TEXT_SIZE];
-    size_t length;
-} Text;
+    uint8_t secret[SIZE], texts[COUNT * LENGTH];
+} Shared;
 
-/* Derives the string at an index from two others. */
-static uint32_t derive(uint32_t index, const Text *one, const Text *other, Text *derived) {
-    uint8_t texts[2 * CODEX32_TEXT_SIZE];
-    size_t lengths[2] = {one->length, other->length};
-    memcpy(texts, one->text, one->length);
-    memcpy(texts + one->length, other->text, other->length);
-    return codex32_derive(index, texts, one->length + other->length, lengths, 2, derived->text,
-                          sizeof derived->text, &derived->length);
+/* Fills bytes with random ones of the operating system, or returns 0. */
+static int fill_random(uint8_t *bytes, size_t count) {
+    size_t done = 0;
+#if defined(__linux__)
+    while (done < count) {
+        ssize_t got = getrandom(bytes + done, count - done, 0);
+        if (got > 0) {
+            done += (size_t)got;
+        } else if (got == 0 || errno != EINTR) {
+            return 0;
+        }
+    }
+#elif defined(_WIN32)
+    for (; done < count; done++) {
+        unsigned number;
+        if (rand_s(&number) != 0) {
+            return 0;
+        }
+        bytes[done] = (uint8_t)(number & 255u);
+    }
+#else
+    /* At most 256 bytes in one call. */
+    while (done < count) {
+        size_t some = count - done < 256u ? count - done : 256u;
+        if (getentropy(bytes + done, some) != 0) {
+            return 0;
+        }
+        done += some;
+    }
+#endif
+    return done == count;
 }
 
-static int show(const char *what, const Text *text) {
-    uint32_t threshold, index;
-    uint8_t identifier[CODEX32_IDENTIFIER_LENGTH], bytes[CODEX32_BYTES_SIZE];
-    size_t count;
-    uint32_t number = codex32_share(text->text, text->length, &threshold, identifier, &index, bytes,
-                                    sizeof bytes, &count);
-    if (number != CODEX32_OK) {
-        return 1;
-    }
-    printf("%s: %.*s\n  threshold %u, identifier %.4s, index %c, bytes ", what, (int)text->length,
-           (const char *)text->text, (unsigned)threshold, (const char *)identifier, (int)index);
-    for (size_t i = 0; i < count; i++) {
-        printf("%02x", bytes[i]);
-    }
-    printf("\n");
+static int fail(const char *what, uint32_t number) {
+    uint8_t message[CODEX32_MAX_MESSAGE];
+    size_t length = 0;
+    codex32_message(number, message, sizeof message, &length);
+    fprintf(stderr, "%s: refusal %u, %.*s\n", what, (unsigned)number, (int)length, (const char *)message);
     return 0;
 }
 
-int main(void) {
-    const uint8_t *identifier = (const uint8_t *)"test";
-    const uint8_t secret[16] = {0xd1, 0x80, 0x8e, 0x09, 0x6b, 0x35, 0xb2, 0x09,
-                                0xca, 0x12, 0x13, 0x2b, 0x26, 0x46, 0x62, 0xa5};
-    const uint8_t random[26] = {0x45, 0x3d, 0x8c, 0x10, 0xf7, 0x22, 0x9e, 0xb6, 0x08,
-                                0x61, 0xd4, 0x3a, 0xee, 0x57, 0x90, 0x1b, 0xc9, 0x76,
-                                0x02, 0xad, 0x5f, 0xe8, 0x34, 0x8b, 0xd1, 0x6a};
-    uint8_t payload[sizeof random];
-    Text whole, shares[3], recovered;
+/* Makes a secret and its shares. If you have a secret, put it there in place of random bytes. */
+static int share(Shared *shared) {
+    static const uint8_t identifier[] = {'c', 'a', 's', 'h'};
+    uint8_t random[CODEX32_RANDOM_SIZE(THRESHOLD, SIZE)];
+    size_t length;
+    if (!fill_random(shared->secret, sizeof shared->secret) || !fill_random(random, sizeof random)) {
+        fprintf(stderr, "the operating system gives no random bytes: no shares are made\n");
+        return 0;
+    }
+    uint32_t number = codex32_split(THRESHOLD, identifier, sizeof identifier, shared->secret,
+                                    sizeof shared->secret, random, sizeof random, COUNT, shared->texts,
+                                    sizeof shared->texts, &length);
+    codex32_wipe(random, sizeof random);
+    return number == CODEX32_OK || fail("codex32_split", number);
+}
 
-    /* Random characters: of each byte the lowest five bits. */
-    for (size_t i = 0; i < sizeof random; i++) {
-        payload[i] = (uint8_t)"qpzry9x8gf2tvdw0s3jn54khce6mua7l"[random[i] & 31];
+/* Whether some of the shares recover the secret: all bytes are compared, wherever they differ. */
+static int recovers(const Shared *shared, const size_t *which, size_t count) {
+    uint8_t texts[COUNT * LENGTH], bytes[CODEX32_BYTES_SIZE], difference = 0;
+    size_t lengths[COUNT], length = 0;
+    for (size_t i = 0; i < count; i++) {
+        memcpy(texts + i * LENGTH, shared->texts + which[i] * LENGTH, LENGTH);
+        lengths[i] = LENGTH;
     }
+    uint32_t number = codex32_recover(texts, count * LENGTH, lengths, count, bytes, sizeof bytes, &length);
+    for (size_t i = 0; number == CODEX32_OK && i < SIZE; i++) {
+        difference |= (uint8_t)(bytes[i] ^ shared->secret[i]);
+    }
+    codex32_wipe(texts, sizeof texts);
+    codex32_wipe(bytes, sizeof bytes);
+    if (number != CODEX32_OK) {
+        return fail("codex32_recover", number);
+    }
+    return length == SIZE && difference == 0;
+}
 
-    /* The secret's own string, and one string fewer than the threshold, of random characters. Made from random
-     * bytes by codex32_encode, its last bits would be zero, and a share would tell a little of the secret. */
-    if (codex32_encode(THRESHOLD, identifier, CODEX32_IDENTIFIER_LENGTH, CODEX32_SECRET_INDEX, secret,
-                       sizeof secret, whole.text, sizeof whole.text, &whole.length) != CODEX32_OK ||
-        codex32_encode_payload(THRESHOLD, identifier, CODEX32_IDENTIFIER_LENGTH, 'a', payload,
-                               sizeof payload, shares[0].text, sizeof shares[0].text,
-                               &shares[0].length) != CODEX32_OK) {
-        return 1;
+/* Any two recover the secret, and all three do, which are tested then. */
+static int all_recover(const Shared *shared) {
+    static const size_t which[] = {0, 1, 2, 0, 2};
+    return recovers(shared, which, 2) && recovers(shared, which + 1, 2) && recovers(shared, which + 3, 2) &&
+           recovers(shared, which, 3);
+}
+
+/* One share alone is refused. */
+static int one_is_refused(const Shared *shared) {
+    static const size_t lengths[] = {LENGTH};
+    uint8_t bytes[CODEX32_BYTES_SIZE];
+    size_t length;
+    uint32_t number = codex32_recover(shared->texts, LENGTH, lengths, 1, bytes, sizeof bytes, &length);
+    printf("one share alone: refusal %u\n", (unsigned)number);
+    return number == CODEX32_TOO_FEW_SHARES;
+}
+
+static void show(const Shared *shared) {
+    for (size_t i = 0; i < COUNT; i++) {
+        printf("%.*s\n", (int)LENGTH, (const char *)shared->texts + i * LENGTH);
     }
-    if (derive('c', &whole, &shares[0], &shares[1]) != CODEX32_OK ||
-        derive('d', &whole, &shares[0], &shares[2]) != CODEX32_OK) {
-        return 1;
-    }
-    for (size_t i = 0; i < 3; i++) {
-        if (show("share", &shares[i]) != 0) {
-            return 1;
+}
+
+int main(int words, char **word) {
+    Shared shared;
+    int is_done = share(&shared);
+    if (is_done) {
+        printf("%u shares of %u characters: any %u recover the secret\n", COUNT, LENGTH, THRESHOLD);
+        if (words > 1 && strcmp(word[1], "show") == 0) {
+            show(&shared);
         }
+        is_done = all_recover(&shared) && one_is_refused(&shared);
     }
-
-    /* Any two recover the secret. */
-    for (size_t i = 0; i < 3; i++) {
-        if (derive(CODEX32_SECRET_INDEX, &shares[i], &shares[(i + 1) % 3], &recovered) != CODEX32_OK ||
-            recovered.length != whole.length ||
-            memcmp(recovered.text, whole.text, whole.length) != 0) {
-            return 1;
-        }
-    }
-    if (show("secret", &recovered) != 0) {
-        return 1;
-    }
-
-    /* One alone is refused. */
-    uint32_t number = codex32_derive(CODEX32_SECRET_INDEX, shares[0].text, shares[0].length,
-                                     &shares[0].length, 1, recovered.text, sizeof recovered.text,
-                                     &recovered.length);
-    printf("one share: refusal %u\n", (unsigned)number);
-    return number == CODEX32_TOO_FEW_SHARES ? 0 : 1;
+    codex32_wipe(&shared, sizeof shared);
+    codex32_wipe_stack();
+    return is_done ? 0 : 1;
 }

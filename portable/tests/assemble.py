@@ -20,7 +20,7 @@ CONSTANTS = {"TABLE": b"".join((0x0123456789ABCDEF * n % (1 << 64)).to_bytes(8, 
 
 
 def leb(value, size=0):
-    """A number without a sign, in so many bytes at least."""
+    """A number without a sign, in at least this many bytes."""
     out = []
     while True:
         byte, value = value & 127, value >> 7
@@ -176,7 +176,7 @@ BOTH_32 = "local.get:0 i32.wrap_i64 local.get:1 i32.wrap_i64"
 
 
 def frame(size, words):
-    """Instructions over so many bytes of the stack, which local 2 points to, and what they leave as the answer."""
+    """Instructions over this many bytes of the stack, which local 2 points to, and what they leave as the answer."""
     return (f"global.get:0 i64.const:{size} i64.sub local.tee:2 global.set:0 {words} "
             f"local.get:2 i64.const:{size} i64.add global.set:0")
 

@@ -2,7 +2,7 @@
  * Calls of the C functions, as in docs/BENCHMARKS.md, to count their instructions.
  *
  *     bench              prints the rows
- *     bench ROW CALLS    makes so many calls of one, counted from 0
+ *     bench ROW CALLS    makes CALLS calls of one, counted from 0
  */
 #include <stdio.h>
 #include <stdlib.h>
@@ -93,7 +93,7 @@ static uint32_t propose_long(void) {
     return codex32_propose_long(text, text_length, &memory, out, 127, &length);
 }
 
-/* As many strings as their threshold, of so many bytes. */
+/* As many strings as their threshold, of this many bytes. */
 static void of_set(uint32_t threshold, size_t size) {
     static const uint8_t letters[] = "acdefghjk";
     for (set_length = set_count = 0; set_count < threshold; set_count++) {

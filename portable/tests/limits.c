@@ -67,6 +67,15 @@ static uint32_t derive(void) {
     return codex32_derive(CODEX32_SECRET_INDEX, text, text_length, &text_length, 1, out, room, &length);
 }
 
+/* The text's characters are the secret and the random bytes. */
+static uint32_t split(void) {
+    return codex32_split(2, (const u8 *)"test", 4, text, 16, text, 26, 2, out, 2 * room, &length);
+}
+
+static uint32_t recover(void) {
+    return codex32_recover(text, text_length, &text_length, 1, out, room, &length);
+}
+
 static uint32_t propose_long(void) {
     codex32_memory memory = {lent, memory_size};
     return codex32_propose_long(text, text_length, &memory, out, room, &length);
@@ -107,6 +116,8 @@ static void try_string(const char *of, uint32_t parsed, uint32_t proposed, uint3
     expect_zeros(encode, encoded, stack_codex32_encode);
     expect_zeros(encode_payload, shared == CODEX32_INVALID_CHARACTER ? shared : encoded, stack_codex32_encode_payload);
     expect_zeros(derive, derived, stack_codex32_derive);
+    expect_zeros(split, encoded, stack_codex32_split);
+    expect_zeros(recover, derived, stack_codex32_recover);
     expect_zeros(propose_long, proposed_long, stack_codex32_propose_long);
 }
 
@@ -132,6 +143,7 @@ static void try_long(size_t most) {
     expect(codex32_propose(text, most, &memory, out, sizeof out, &length) == CODEX32_NO_MEMORY, "codex32_propose");
     expect(codex32_share(text, most, &word, out, &word, out, sizeof out, &length) == CODEX32_NO_MEMORY, "codex32_share");
     expect(codex32_derive('s', text, most, &text_length, 1, out, sizeof out, &length) == CODEX32_NO_MEMORY, "codex32_derive");
+    expect(codex32_recover(text, most, &text_length, 1, out, sizeof out, &length) == CODEX32_NO_MEMORY, "codex32_recover");
     expect(codex32_propose_long(text, most, &memory, out, sizeof out, &length) == CODEX32_NO_MEMORY, "codex32_propose_long");
     expect(codex32_encode_payload(2, (const u8 *)"test", 4, 'a', text, most, out, sizeof out, &length) == CODEX32_NO_MEMORY,
            "codex32_encode_payload");
@@ -139,6 +151,14 @@ static void try_long(size_t most) {
     expect(codex32_encode_payload(2, text, most, 'a', text, 26, out, sizeof out, &length) == CODEX32_BAD_IDENTIFIER,
            "an identifier beside a payload");
     expect(codex32_encode(2, (const u8 *)"test", 4, 'a', text, most, out, sizeof out, &length) == CODEX32_BAD_SIZE, "bytes");
+    expect(codex32_split(2, text, most, text, 16, text, 26, 2, out, sizeof out, &length) == CODEX32_BAD_IDENTIFIER,
+           "an identifier beside a secret");
+    expect(codex32_split(2, (const u8 *)"test", 4, text, most, text, 26, 2, out, sizeof out, &length) == CODEX32_BAD_SIZE,
+           "a secret");
+    expect(codex32_split(2, (const u8 *)"test", 4, text, 16, text, most, 2, out, sizeof out, &length) == CODEX32_BAD_RANDOM,
+           "random bytes");
+    expect(codex32_split(2, (const u8 *)"test", 4, text, 16, text, 26, most, out, sizeof out, &length) == CODEX32_BAD_COUNT,
+           "shares");
     expect(memory.start == lent && memory.size == sizeof lent, "the memory that is lent");
 }
 

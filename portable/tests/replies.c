@@ -603,6 +603,38 @@ static uint32_t try_derive(void) {
     return number;
 }
 
+static uint32_t try_recover(void) {
+    size_t length = 7777;
+    make_set();
+    below(2) ? change_set() : (void)0;
+    uint32_t number = codex32_recover(set, set_length, lengths, count_of_texts, out, room(64, data_length), &length);
+    put_size(length);
+    return number;
+}
+
+static uint32_t try_split(void) {
+    static uint8_t random[8 * 103], shares[CODEX32_MAX_SPLIT * CODEX32_TEXT_SIZE + 1];
+    size_t length = 7777;
+    uint32_t threshold = below(12) ? 2 + below(8) : below(3) ? below(12) : next();
+    make_name();
+    make_secret();
+    size_t name_length = below(20) ? sizeof name : below(sizeof name);
+    size_t count = below(6) ? threshold + below(4) : below(6) ? below(40) : next();
+    int is_any = threshold < 2 || threshold > 9 || data_length > 64 || !below(12);
+    size_t drawn = is_any ? below(sizeof random) : CODEX32_RANDOM_SIZE(threshold, data_length);
+    size_t wanted = count <= CODEX32_MAX_SPLIT && data_length <= 64 ? count * CODEX32_ENCODED_SIZE(data_length) : 100;
+    size_t room_1 = room(sizeof shares - 1, wanted);
+    for (size_t i = 0; i < sizeof random; i++) {
+        random[i] = (uint8_t)next();
+    }
+    memset(shares, 0xa5, sizeof shares);
+    uint32_t number =
+        codex32_split(threshold, name, name_length, data, data_length, random, drawn, count, shares, room_1, &length);
+    put_size(length);
+    put(shares, sizeof shares);
+    return number;
+}
+
 static uint32_t try_propose_long(void) {
     size_t length = 7777;
     codex32_memory memory = {lent, below(5) ? CODEX32_MEMORY(127) : below(20000)};
@@ -642,6 +674,8 @@ static const struct {
     {"codex32_encode", try_codex32_encode},
     {"encode_payload", try_encode_payload},
     {"derive", try_derive},
+    {"split", try_split},
+    {"recover", try_recover},
     {"propose_long", try_propose_long},
 };
 

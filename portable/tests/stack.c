@@ -18,6 +18,8 @@ static unsigned stack_size;
 #define stack_codex32_encode stack_size
 #define stack_codex32_encode_payload stack_size
 #define stack_codex32_derive stack_size
+#define stack_codex32_split stack_size
+#define stack_codex32_recover stack_size
 #define stack_codex32_propose_long stack_size
 #define stack_codex32_message stack_size
 #define stack_codex32_version stack_size
@@ -95,25 +97,49 @@ static uint32_t try_encode_payload(unsigned n) {
                                   n % 3 ? 103 - n % 4 : n, out, n % 9 ? 127 : 20, &length);
 }
 
-/* Sets of each threshold, with strings to spare or without, of which some contradict each other. */
-static uint32_t try_derive(unsigned n) {
+static u8 texts[10 * 127];
+static size_t lengths[10], total;
+
+/* A set of each threshold, with a string to spare or without, which some of the sets contradict: how many strings. */
+static size_t make_texts(unsigned n) {
     static const u8 letters[] = "acdefghjkl";
-    static u8 texts[10 * 127], bytes[64];
-    size_t lengths[10], total = 0, threshold = 2 + n % 8, spare = n / 8 % 2;
+    static u8 bytes[64];
+    size_t threshold = 2 + n % 8, spare = n / 8 % 2;
+    total = 0;
     for (size_t i = 0; i < threshold + spare; i++) {
         bytes[3] = (u8)(i + n);
         u8 *at = texts + total;
         int is_derived = i >= threshold && n % 3;
         if (!is_derived && codex32_encode((uint32_t)threshold, (const u8 *)"test", 4, letters[i], bytes, n % 5 ? 16 : 64, at,
                                           127, &lengths[i]) != CODEX32_OK) {
-            return 1;
+            return 0;
         }
         if (is_derived && codex32_derive(letters[i], texts, total, lengths, i, at, 127, &lengths[i]) != CODEX32_OK) {
-            return 1;
+            return 0;
         }
         total += lengths[i];
     }
-    return codex32_derive(n % 7 ? 's' : 'c', texts, total, lengths, threshold + spare - !(n % 10), out, 127, &length);
+    return threshold + spare - !(n % 10);
+}
+
+static uint32_t try_derive(unsigned n) {
+    size_t count = make_texts(n);
+    return codex32_derive(n % 7 ? 's' : 'c', texts, total, lengths, count, out, 127, &length);
+}
+
+static uint32_t try_recover(unsigned n) {
+    size_t count = make_texts(n);
+    return codex32_recover(texts, total, lengths, count, out, n % 5 ? 64 : 3, &length);
+}
+
+/* Of each threshold, into as few shares and into as many as there can be. */
+static uint32_t try_split(unsigned n) {
+    static const u8 bytes[1024] = "0123456789abcdef0123456789abcdef0123456789abcdef0123456789abcdef";
+    uint32_t threshold = n % 11;
+    size_t size = n % 3 ? 64 - n % 4 / 2 : n, count = n % 2 ? CODEX32_MAX_SPLIT : threshold + n % 5;
+    size_t drawn = threshold < 2 || n % 7 == 0 ? n : CODEX32_RANDOM_SIZE(threshold, size);
+    return codex32_split(threshold, (const u8 *)"test", n % 13 ? 4 : 3, bytes, size, bytes, drawn, count, out,
+                         n % 9 ? sizeof out : 20, &length);
 }
 
 static uint32_t try_propose_long(unsigned n) {
@@ -143,6 +169,8 @@ static const struct {
     {"codex32_encode", try_encode, STATED_encode},
     {"codex32_encode_payload", try_encode_payload, STATED_encode_payload},
     {"codex32_derive", try_derive, STATED_derive},
+    {"codex32_split", try_split, STATED_split},
+    {"codex32_recover", try_recover, STATED_recover},
     {"codex32_propose", try_propose, STATED_propose},
     {"codex32_propose_long", try_propose_long, STATED_propose_long},
     {"codex32_message", try_message, STATED_message},
@@ -250,7 +278,7 @@ static const struct {
 
 #define CALLS 60u
 
-/* Whether none of the calls of a function traps with a stack of so many bytes. */
+/* Whether none of the calls of a function traps with a stack of this many bytes. */
 static int suffices(unsigned function, unsigned size) {
     static unsigned n;
     stack_size = size;
