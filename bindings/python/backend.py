@@ -19,7 +19,8 @@ from pathlib import Path
 
 HERE = Path(__file__).resolve().parent
 NAME = "bech32_proved"
-LIBRARIES = ("bech32", "codex32")
+# The libraries, with what is compiled beside each.
+LIBRARIES = {"bech32": [], "codex32": ["wipe"]}
 
 
 def _version():
@@ -32,7 +33,8 @@ def _shared(name, work):
     options = ["-dynamiclib"] if sys.platform == "darwin" else ["-shared"]
     options += [] if sys.platform == "win32" else ["-fPIC"]
     compiler = shlex.split(os.environ.get("CC", "cc"))
-    words = [*compiler, "-std=c99", "-O2", *options, "-I", str(HERE / "c"), "-o", str(made), str(HERE / "c" / f"{name}.c")]
+    sources = [str(HERE / "c" / f"{it}.c") for it in [name, *LIBRARIES[name]]]
+    words = [*compiler, "-std=c99", "-O2", *options, "-I", str(HERE / "c"), "-o", str(made), *sources]
     try:
         subprocess.run(words, check=True)
     except FileNotFoundError:

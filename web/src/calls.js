@@ -2,6 +2,7 @@
 // refusal, or 0 and with it what the function wrote.
 import { Instance } from './instance.js';
 import { LIST_REGIONS, listed, nearEditsOf, nearestOf } from './lists.js';
+import { ALPHABET } from './reasons.js';
 
 /** The numbers of the checksums. */
 export const CHECKSUMS = { bech32: 1, bech32m: 2 };
@@ -16,8 +17,13 @@ const MAX_TEXT = 1023, MAX_HRP = 83, MAX_BYTES = 634, MAX_SEGWIT_TEXT = 90, MAX_
 const MAX_CODEX32 = 127, MAX_CODEX32_BYTES = 64, IDENTIFIER = 4;
 const CODEX32_MEMORY = 16384 + 8 * MAX_CODEX32;
 
-/** So many strings may be put together: there is one for each share index. */
+/** The most strings that may be put together: one for each share index. */
 export const MOST_SHARES = 32;
+
+// So many shares a secret is split into at most, of so many random bytes at most, and so many characters in all.
+const MOST_SPLIT = MOST_SHARES - 1, MOST_RANDOM = 8 * 103, SHARES_ROOM = MOST_SPLIT * MAX_CODEX32;
+
+const BAD_RANDOM = 66;
 
 // Room for the locations of a correction: bech32_correct lists three at most.
 const MAX_LISTED = 8;
@@ -33,14 +39,23 @@ const BECH32_REGIONS = {
   hrpOut: MAX_HRP, hrpLength: SIZE, out: MAX_TEXT, outLength: SIZE, version: SIZE,
   locations: SIZE * MAX_LISTED, values: MAX_LISTED, ...LIST_REGIONS,
 };
-// An identifier of more bytes is none, and of more bytes there is no string. What does not fit here is left out.
-const IDENTIFIER_ROOM = 16, SECRET_ROOM = 96;
+// An identifier of more bytes is none, of more bytes there is no string, and more random bytes are too many. What does not
+// fit here is left out.
+const IDENTIFIER_ROOM = 16, SECRET_ROOM = 96, RANDOM_ROOM = MOST_RANDOM + SIZE;
 
 const CODEX32_REGIONS = {
   text: TEXT_ROOM, threshold: SIZE, shareIndex: SIZE, payloadLength: SIZE,
   texts: MOST_SHARES * TEXT_ROOM, lengths: MOST_SHARES * SIZE, identifier: IDENTIFIER_ROOM, bytes: SECRET_ROOM,
   memory: 2 * SIZE, lent: CODEX32_MEMORY, identifierOut: IDENTIFIER, out: MAX_CODEX32, outLength: SIZE,
+  random: RANDOM_ROOM, shares: SHARES_ROOM,
 };
+
+// The random bytes that a secret is split by: one for each character that is drawn.
+const randomOf = (threshold, bytes) => (threshold - 1) * Math.ceil((8 * bytes) / 5);
+
+// An identifier that stands for one that is not drawn yet, and one of four random bytes' lowest five bits.
+const ANY = ALPHABET[0].repeat(IDENTIFIER);
+const drawnIdentifier = (draw) => Array.from(draw(new Uint8Array(IDENTIFIER)), (byte) => ALPHABET[byte & 31]).join('');
 
 // Erasures are locations, of which 0 is the last character.
 const erasuresOf = (given) => [...new Set(given)].slice(0, MAX_TEXT);
@@ -131,12 +146,16 @@ const putTexts = (it, texts) => {
   return BigInt(end);
 };
 
-/** The calls of the module of `codex32_c`. Its memory is wiped after each, since a codex32 string is a secret. */
+/**
+ * The calls of the module of `codex32_c`. Its memory is wiped after each, since a codex32 string is a secret. Texts are strings
+ * or Uint8Arrays, and so are those that are made, by the last argument.
+ */
 export const codex32Calls = (module) => {
   const it = new Instance(module, CODEX32_REGIONS);
   const p = (region) => it.pointer(region);
   const shareIndexOut = () => String.fromCharCode(it.number('shareIndex'));
-  const made = (number) => (number ? { number } : { number, text: it.text('out', it.size('outLength')) });
+  const textIn = (region, length, asBytes, from) => (asBytes ? it.copy : it.text).call(it, region, length, from);
+  const made = (number, asBytes) => (number ? { number } : { number, text: textIn('out', it.size('outLength'), asBytes) });
   const wiped = (call) => (...given) => {
     try {
       return call(...given);
@@ -173,22 +192,50 @@ export const codex32Calls = (module) => {
       };
     }),
     /** `shareIndex` is the code of a character here, as of `encodePayload` and `derive`. */
-    encode: wiped((threshold, identifier, shareIndex, bytes) => {
+    encode: wiped((threshold, identifier, shareIndex, bytes, asBytes) => {
       const { length } = it.putText('identifier', identifier), size = it.putBytes('bytes', bytes);
       return made(it.call('codex32_encode', threshold, p('identifier'), length, shareIndex, p('bytes'), size, p('out'),
-        BigInt(MAX_CODEX32), p('outLength')));
+        BigInt(MAX_CODEX32), p('outLength')), asBytes);
     }),
     /** A payload is given to the library as far as a text is: of longer ones there is no string. */
-    encodePayload: wiped((threshold, identifier, shareIndex, payload) => {
+    encodePayload: wiped((threshold, identifier, shareIndex, payload, asBytes) => {
       const { length } = it.putText('identifier', identifier), { length: size } = it.putText('text', payload);
       return made(it.call('codex32_encode_payload', threshold, p('identifier'), length, shareIndex, p('text'), size, p('out'),
-        BigInt(MAX_CODEX32), p('outLength')));
+        BigInt(MAX_CODEX32), p('outLength')), asBytes);
     }),
-    derive: wiped((shareIndex, texts) => {
+    derive: wiped((shareIndex, texts, asBytes) => {
       const length = putTexts(it, texts);
       if (length === null) return { number: CODEX32_BAD_LENGTH };
       return made(it.call('codex32_derive', shareIndex, p('texts'), length, p('lengths'), BigInt(texts.length), p('out'),
-        BigInt(MAX_CODEX32), p('outLength')));
+        BigInt(MAX_CODEX32), p('outLength')), asBytes);
+    }),
+    recover: wiped((texts) => {
+      const length = putTexts(it, texts);
+      if (length === null) return { number: CODEX32_BAD_LENGTH };
+      const number = it.call('codex32_recover', p('texts'), length, p('lengths'), BigInt(texts.length), p('out'),
+        BigInt(MAX_CODEX32_BYTES), p('outLength'));
+      return number ? { number } : { number, bytes: it.copy('out', it.size('outLength')) };
+    }),
+    /**
+     * `random` are the random bytes, or null: then `draw` puts them into an array, once all else is in order, and draws an
+     * identifier where that is null.
+     */
+    split: wiped((threshold, identifier, secret, count, { random, draw, asBytes }) => {
+      const size = it.putBytes('bytes', secret);
+      const called = (named, randomLength) => {
+        const { length } = it.putText('identifier', named);
+        return it.call('codex32_split', threshold, p('identifier'), length, p('bytes'), size, p('random'), randomLength,
+          BigInt(count), p('shares'), BigInt(SHARES_ROOM), p('outLength'));
+      };
+      let number = called(identifier ?? ANY, it.putBytes('random', random ?? new Uint8Array()));
+      if (random === null && number === BAD_RANDOM) {
+        const length = randomOf(threshold, secret.length);
+        draw(it.part('random', length));
+        number = called(identifier ?? drawnIdentifier(draw), BigInt(length));
+      }
+      if (number) return { number };
+      const length = it.size('outLength');
+      return { number, texts: Array.from({ length: count }, (_, i) => textIn('shares', length, asBytes, i * length)) };
     }),
   };
 };

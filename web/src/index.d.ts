@@ -7,8 +7,8 @@ export type Code =
   | 'MIXED_CASE' | 'NO_SEPARATOR' | 'TEXT_TOO_LONG' | 'NO_CHECKSUM' | 'WRONG_CHECKSUM' | 'ADDRESS_TOO_LONG'
   | 'NO_DATA' | 'BAD_VERSION' | 'PADDING_TOO_LONG' | 'PADDING_NOT_ZERO' | 'PROGRAM_TOO_SHORT' | 'PROGRAM_TOO_LONG'
   | 'PROGRAM_NOT_V0' | 'ENCODED_TOO_LONG' | 'ENCODED_BAD_VERSION' | 'ENCODED_ADDRESS_TOO_LONG' | 'BAD_SIZE'
-  | 'TOO_FEW_SHARES' | 'OTHER_SET' | 'INDEX_TWICE' | 'CONTRADICTION' | 'NOT_MS' | 'BAD_LENGTH' | 'BAD_THRESHOLD'
-  | 'BAD_SHARE_INDEX' | 'BAD_IDENTIFIER' | 'NO_SHARE_INDEX' | 'BITS_LEFT_OVER';
+  | 'TOO_FEW_SHARES' | 'OTHER_SET' | 'INDEX_TWICE' | 'CONTRADICTION' | 'BAD_COUNT' | 'BAD_RANDOM' | 'NOT_MS'
+  | 'BAD_LENGTH' | 'BAD_THRESHOLD' | 'BAD_SHARE_INDEX' | 'BAD_IDENTIFIER' | 'NO_SHARE_INDEX' | 'BITS_LEFT_OVER';
 
 /** A refusal. Its `message` is a sentence with the figures and the character at fault. */
 export class Refused extends Error {
@@ -98,7 +98,45 @@ export const segwit: {
   decode(text: string): { hrp: string; version: number; program: Uint8Array };
 };
 
+/**
+ * A text that is a secret: a string, or its characters as a Uint8Array, which can be wiped by `fill(0)`. Of a text that is
+ * given as a Uint8Array a refusal has a general sentence, and shows no character.
+ */
+export type SecretText = string | Uint8Array;
+
+/** What a text that is a secret is returned as: a string, or with `into: Uint8Array` its characters as a Uint8Array. */
+export interface AsString { readonly into?: StringConstructor }
+export interface AsBytes { readonly into: Uint8ArrayConstructor }
+
+/**
+ * `random` are bytes for a test, one for each character that is drawn, in place of those of `crypto.getRandomValues`. A
+ * secret that is shared by bytes that others know is no secret.
+ */
+export interface HowString extends AsString { readonly random?: Uint8Array }
+export interface HowBytes extends AsBytes { readonly random?: Uint8Array }
+
 export const codex32: {
+  /**
+   * Splits a secret of 16 to 44 bytes, or of 63 or 64, into `count` shares, from the threshold to 31: any `threshold` of them,
+   * 2 to 9, give it to `recover`, and fewer say nothing of it. The shares are in lower case, at the first indices of
+   * `acdefghjklmnpqrtuvwxyz023456789`. The characters of those before the `threshold`-th are the lowest five bits of random
+   * bytes of `crypto.getRandomValues`, and the others are derived from these and the secret's own string; where that has no
+   * random bytes, what it throws is thrown, and there is no share. The identifier, four characters of the alphabet, is the
+   * same in all shares, and tells them from those of another secret: it is drawn at random where it is left out or null,
+   * which the standard leaves free. Throws `Refused`.
+   */
+  split(
+    secret: Uint8Array, threshold: number, count: number, identifier?: string | null, options?: HowString,
+  ): string[];
+  split(
+    secret: Uint8Array, threshold: number, count: number, identifier: string | null | undefined, options: HowBytes,
+  ): Uint8Array[];
+  /**
+   * The bytes of the secret of shares, as many as the threshold at least. All of them are tested where there are more; where
+   * there are not, a share of another secret gives other bytes, unnoticed. Throws `Refused`, with `which` for the string at
+   * fault, and `RangeError` where there are more than 32.
+   */
+  recover(texts: Iterable<SecretText>): Uint8Array;
   /** The parts of a codex32 string of 48 to 93 characters, in its case. Throws `Refused`. */
   parse(text: string): { threshold: number; identifier: string; shareIndex: string; payload: string };
   /**
@@ -114,25 +152,30 @@ export const codex32: {
    * to 9, its identifier and share index in lower case, and the bytes of its payload, without up to four bits behind the
    * last whole one. Throws `Refused`.
    */
-  share(text: string): { threshold: number; identifier: string; shareIndex: string; bytes: Uint8Array };
+  share(text: SecretText): { threshold: number; identifier: string; shareIndex: string; bytes: Uint8Array };
   /**
    * The string of 16 to 44 bytes, or the long one of 63 or 64, in lower case. The identifier is four characters of the
-   * alphabet, and the share index one of them, `s` where the threshold is 0. The bits left over are zero: a string that is
-   * made at random for sharing is made by `encodePayload`. Throws `Refused`.
+   * alphabet, and the share index one of them, `s` where the threshold is 0. The bits left over are zero. A secret is shared by
+   * `split`. Throws `Refused`.
    */
-  encode(threshold: number, identifier: string, shareIndex: string, bytes: Uint8Array): string;
+  encode(threshold: number, identifier: string, shareIndex: string, bytes: Uint8Array, options?: AsString): string;
+  encode(threshold: number, identifier: string, shareIndex: string, bytes: Uint8Array, options: AsBytes): Uint8Array;
   /**
    * The string of the characters of a payload, in lower case, with a header as of `encode`. They are of the alphabet, in
    * one case, and as many as 16 to 44 bytes have, from 26 to 71, or as 63 or 64 have, 101 or 103: at most four bits are
    * left over, whatever they are. Throws `Refused`, with a `place` in the payload.
    */
-  encodePayload(threshold: number, identifier: string, shareIndex: string, payload: string): string;
+  encodePayload(
+    threshold: number, identifier: string, shareIndex: string, payload: SecretText, options?: AsString,
+  ): string;
+  encodePayload(
+    threshold: number, identifier: string, shareIndex: string, payload: SecretText, options: AsBytes,
+  ): Uint8Array;
   /**
    * The string at a share index, from others of its set, as many as the threshold at least; the threshold, identifier and
-   * length of all are the same, and each has another share index. All of them are tested where there are more. Throws
-   * `Refused`, with `which` for the string at fault, and `RangeError` where there are more than 32.
+   * length of all are the same, and each has another share index. All of them are tested where there are more. At `s` it is
+   * the secret's own. Throws `Refused`, with `which` for the string at fault, and `RangeError` where there are more than 32.
    */
-  derive(texts: Iterable<string>, shareIndex: string): string;
-  /** The secret: the string at the share index `s`. */
-  recover(texts: Iterable<string>): string;
+  derive(texts: Iterable<SecretText>, shareIndex: string, options?: AsString): string;
+  derive(texts: Iterable<SecretText>, shareIndex: string, options: AsBytes): Uint8Array;
 };

@@ -92,9 +92,17 @@ export class Instance {
     return BigInt(this.at[region]);
   }
 
-  /** Puts a text into a region, as UTF-8, from a place on: its length in bytes, and whether there was room for all of it. */
+  /**
+   * Puts a text into a region, as UTF-8, from a place on: its length in bytes, and whether there was room for all of it. The
+   * text is a string, or a Uint8Array.
+   */
   putText(region, text, from = 0) {
     const room = this.bytes.subarray(this.at[region] + from, this.at[region] + this.#sizes[region]);
+    if (typeof text !== 'string') {
+      const put = text.subarray(0, room.length);
+      room.set(put);
+      return { length: BigInt(put.length), isWhole: put.length === text.length };
+    }
     const { read, written } = new TextEncoder().encodeInto(text, room);
     return { length: BigInt(written), isWhole: read === text.length };
   }
@@ -119,14 +127,20 @@ export class Instance {
     return this.view.getUint32(this.at[region], true);
   }
 
-  copy(region, length) {
-    return this.bytes.slice(this.at[region], this.at[region] + length);
+  /** The bytes of a region itself, as many from its front. */
+  part(region, length) {
+    return this.bytes.subarray(this.at[region], this.at[region] + length);
+  }
+
+  copy(region, length, from = 0) {
+    const at = this.at[region] + from;
+    return this.bytes.slice(at, at + length);
   }
 
   /** How many of JavaScript's characters the bytes at the front of a region are, which are UTF-8: of four bytes, two. */
   characters(region, length) {
     const units = (byte) => (byte >= 0xf0 ? 2 : Number((byte & 0xc0) !== 0x80));
-    return this.bytes.subarray(this.at[region], this.at[region] + length).reduce((sum, byte) => sum + units(byte), 0);
+    return this.part(region, length).reduce((sum, byte) => sum + units(byte), 0);
   }
 
   /** A text of ASCII characters in a region, of which it is the front or stands behind others. */

@@ -20,7 +20,7 @@ export class Refused extends Error {
   }
 }
 
-const NO_CORRECTION = 34, NO_MEMORY = 91, NO_ROOM = 92;
+const NOT_UTF8 = 2, NO_CORRECTION = 34, NO_MEMORY = 91, NO_ROOM = 92;
 
 const text = (it, what = 'the text') => {
   if (typeof it !== 'string') throw new TypeError(`${what} is no string`);
@@ -30,11 +30,23 @@ const bytes = (it, what) => {
   if (!(it instanceof Uint8Array)) throw new TypeError(`${what} are no Uint8Array`);
   return it;
 };
+// A text that is a secret: a string, or a Uint8Array, which can be wiped.
+const secretText = (it, what = 'the text') => {
+  if (typeof it !== 'string' && !(it instanceof Uint8Array)) throw new TypeError(`${what} is no string and no Uint8Array`);
+  return it;
+};
+// Whether texts are wanted as Uint8Arrays.
+const asBytes = ({ into = String } = {}) => {
+  if (into !== String && into !== Uint8Array) throw new TypeError('into is neither String nor Uint8Array');
+  return into === Uint8Array;
+};
 const numberOf = (checksum) => {
   if (!Object.hasOwn(CHECKSUMS, checksum)) throw new TypeError("the checksum is neither 'bech32' nor 'bech32m'");
   return CHECKSUMS[checksum];
 };
 const accepted = (answer, why) => {
+  // A string is always UTF-8.
+  if (answer.number === NOT_UTF8) throw new TypeError('a text is not UTF-8');
   if (answer.number) throw new Refused(why(answer.number));
   return answer;
 };
@@ -139,40 +151,61 @@ const mendingCalls = (calls, reasons) => ({
 
 // The strings of a set, and the code of a share index: 0 where it is no one character.
 const textsOf = (given) => {
-  if (typeof given === 'string') throw new TypeError('the strings are one string, and no list of them');
-  const texts = [...given].map((it) => text(it, 'one of the strings'));
+  if (typeof given === 'string' || given instanceof Uint8Array) {
+    throw new TypeError('the strings are one string, and no list of them');
+  }
+  const texts = [...given].map((it) => secretText(it, 'one of the strings'));
   if (texts.length > MOST_SHARES) throw new RangeError(`there are more than ${MOST_SHARES} strings`);
   return texts;
 };
 const codeOf = (shareIndex) => (text(shareIndex, 'the share index').length === 1 ? shareIndex.charCodeAt(0) : 0);
 
-const SECRET_INDEX = 's';
-
-const setCalls = (calls, reasons) => {
-  const derive = (given, shareIndex) => {
-    const texts = textsOf(given), answer = calls.derive(codeOf(shareIndex), texts);
+const setCalls = (calls, reasons) => ({
+  derive(given, shareIndex, options) {
+    const texts = textsOf(given), answer = calls.derive(codeOf(shareIndex), texts, asBytes(options));
     return accepted(answer, (n) => reasons.set(n, texts, shareIndex)).text;
-  };
-  return { derive, recover: (given) => derive(given, SECRET_INDEX) };
-};
+  },
+  recover(given) {
+    const texts = textsOf(given);
+    return accepted(calls.recover(texts), (n) => reasons.set(n, texts, null)).bytes;
+  },
+});
 
 // What stands before the payload of a string, as the library takes it.
-const headerOf = (threshold, identifier, shareIndex) => {
+const thresholdOf = (threshold) => {
   if (!Number.isInteger(threshold) || threshold < 0 || threshold > 31) {
     throw new RangeError('the threshold is no integer from 0 to 31');
   }
-  return [threshold, text(identifier, 'the identifier'), codeOf(shareIndex)];
+  return threshold;
 };
+const headerOf = (threshold, identifier, shareIndex) =>
+  [thresholdOf(threshold), text(identifier, 'the identifier'), codeOf(shareIndex)];
 
 const makingCalls = (calls, reasons) => ({
-  encode(threshold, identifier, shareIndex, data) {
-    const given = headerOf(threshold, identifier, shareIndex), answer = calls.encode(...given, bytes(data, 'the data'));
+  encode(threshold, identifier, shareIndex, data, options) {
+    const given = headerOf(threshold, identifier, shareIndex);
+    const answer = calls.encode(...given, bytes(data, 'the data'), asBytes(options));
     return accepted(answer, (n) => reasons.stringEncoding(n, threshold, identifier, shareIndex, data)).text;
   },
-  encodePayload(threshold, identifier, shareIndex, payload) {
+  encodePayload(threshold, identifier, shareIndex, payload, options) {
     const given = headerOf(threshold, identifier, shareIndex);
-    const answer = calls.encodePayload(...given, text(payload, 'the payload'));
+    const answer = calls.encodePayload(...given, secretText(payload, 'the payload'), asBytes(options));
     return accepted(answer, (n) => reasons.payloadEncoding(n, threshold, identifier, shareIndex, payload)).text;
+  },
+});
+
+// Random bytes of the operating system. A failure is thrown.
+const draw = (array) => crypto.getRandomValues(array);
+
+const splittingCalls = (calls, reasons) => ({
+  split(secret, threshold, count, identifier = null, options = {}) {
+    thresholdOf(threshold);
+    if (!Number.isSafeInteger(count) || count < 0) throw new RangeError('the number of shares is no integer from 0 on');
+    if (identifier !== null) text(identifier, 'the identifier');
+    const random = options.random === undefined ? null : bytes(options.random, 'the random bytes');
+    const how = { random, draw, asBytes: asBytes(options) };
+    const answer = calls.split(threshold, identifier, bytes(secret, 'the bytes of the secret'), count, how);
+    return accepted(answer, (n) => reasons.splitting(n, threshold, identifier, { secret, count, random })).texts;
   },
 });
 
@@ -195,12 +228,13 @@ const codex32Functions = (calls, reasons) => ({
     return correctionOf(given, answer.text, []);
   },
   share(given) {
-    const answer = accepted(calls.share(text(given)), (n) => reasons.share(n, given));
+    const answer = accepted(calls.share(secretText(given)), (n) => reasons.share(n, given));
     const { threshold, identifier, shareIndex, bytes: data } = answer;
     return { threshold, identifier, shareIndex, bytes: data };
   },
   ...makingCalls(calls, reasons),
   ...setCalls(calls, reasons),
+  ...splittingCalls(calls, reasons),
 });
 
 // What reasons ask. A text that is accepted is so by one checksum.

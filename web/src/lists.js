@@ -5,7 +5,7 @@ const SIZE = 8;
 const NO_MEMORY = 91, NO_ROOM = 92;
 
 // Room for the texts and for the edits that make them, and memory that they are worked out in, which suffices for most. Where
-// they do not, the room that the call tells is made, or so many times as much memory, up to the most.
+// they do not, the room that the call tells is made, or this many times as much memory, up to the most.
 const ROOM = 16384, EDITS = 8, MEMORY = 65536 + 512 * 1024, MORE = 8, MOST = 1 << 28;
 
 /** The regions that these calls want beside `text` and `erasures`. */

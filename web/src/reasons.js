@@ -12,8 +12,9 @@ export const CODES = {
   33: 'WRONG_CHECKSUM', 41: 'ADDRESS_TOO_LONG', 42: 'NO_DATA', 43: 'BAD_VERSION', 44: 'PADDING_TOO_LONG',
   45: 'PADDING_NOT_ZERO', 46: 'PROGRAM_TOO_SHORT', 47: 'PROGRAM_TOO_LONG', 48: 'PROGRAM_NOT_V0',
   51: 'ENCODED_TOO_LONG', 52: 'ENCODED_BAD_VERSION', 53: 'ENCODED_ADDRESS_TOO_LONG', 55: 'BAD_SIZE',
-  61: 'TOO_FEW_SHARES', 62: 'OTHER_SET', 63: 'INDEX_TWICE', 64: 'CONTRADICTION', 81: 'NOT_MS', 82: 'BAD_LENGTH',
-  83: 'BAD_THRESHOLD', 84: 'BAD_SHARE_INDEX', 85: 'BAD_IDENTIFIER', 86: 'NO_SHARE_INDEX', 87: 'BITS_LEFT_OVER',
+  61: 'TOO_FEW_SHARES', 62: 'OTHER_SET', 63: 'INDEX_TWICE', 64: 'CONTRADICTION', 65: 'BAD_COUNT', 66: 'BAD_RANDOM',
+  81: 'NOT_MS', 82: 'BAD_LENGTH', 83: 'BAD_THRESHOLD', 84: 'BAD_SHARE_INDEX', 85: 'BAD_IDENTIFIER',
+  86: 'NO_SHARE_INDEX', 87: 'BITS_LEFT_OVER',
 };
 
 // What is said of a refusal that no sentence with figures fits.
@@ -45,6 +46,8 @@ const SENTENCES = {
   62: 'A share has another threshold, identifier or length than the first.',
   63: 'Two shares have one index.',
   64: 'The shares contradict each other.',
+  65: 'There are fewer shares than the threshold, or more than 31.',
+  66: 'There are not as many random bytes as characters are drawn.',
   81: 'The human-readable part is not “ms”.',
   82: 'A codex32 string has 48 to 93 characters, a long one 125 to 127.',
   83: 'The threshold is neither 0 nor a digit from 2 to 9.',
@@ -267,11 +270,12 @@ const ofCodex32 = (calls, number, text, ofLength = badLength) => {
   }
 };
 
-// The parts of a string that is right, by their places.
+// The parts of a string that is right, by their places. Of one that is a Uint8Array no string is made but of its header.
 const PAYLOAD_AT = 9, LONG = 94;
+const headOf = (text) => (typeof text === 'string' ? text : String.fromCharCode(...text.subarray(0, PAYLOAD_AT)));
 const partsOf = (text) => {
-  const { length, 3: threshold, 8: shareIndex } = text;
-  return { threshold, identifier: asciiLower(text.slice(4, 8)), shareIndex: lower(shareIndex ?? ''), length };
+  const { length } = text, head = headOf(text), { 3: threshold, 8: shareIndex } = head;
+  return { threshold, identifier: asciiLower(head.slice(4, 8)), shareIndex: lower(shareIndex ?? ''), length };
 };
 const payloadOf = ({ length }) => length - PAYLOAD_AT - (length < LONG ? 13 : 15);
 
@@ -280,7 +284,18 @@ const leftOver = (text) => {
   return nowhere(`Behind the last whole byte of the payload stand ${said} bits, and at most four may.`);
 };
 
-const ofShare = (calls, number, text) => (number === 87 ? leftOver(text) : ofCodex32(calls, number, text, badShareLength));
+// Of a text that is a Uint8Array no string is made, and no character is shown: the place alone is told.
+const PLACES = { 83: 3, 84: 8 };
+const ofBytes = (calls, number, text) => {
+  const place = [13, 14, 21, 22].includes(number) ? calls.fault(text) : PLACES[number] ?? null;
+  return { place, sentence: SENTENCES[number] };
+};
+
+const ofShare = (calls, number, text) => {
+  if (number === 87) return leftOver(text);
+  if (typeof text !== 'string') return ofBytes(calls, number, text);
+  return ofCodex32(calls, number, text, badShareLength);
+};
 
 const noShareIndex = (shareIndex) => {
   const { length } = Array.from(shareIndex);
@@ -400,9 +415,24 @@ const ofStringEncoding = (number, threshold, identifier, shareIndex, { length })
   }
 };
 
-// Of the characters of a payload: there a `1` is one like `b`, and no separator.
+// The fault of the characters of a payload. There a `1` is one like `b`, and no separator.
+const faultOfPayload = (calls, payload) => {
+  if (typeof payload === 'string') return calls.fault(payload.replaceAll('1', 'b'));
+  const looked = payload.map((code) => (code === 0x31 ? 0x62 : code));
+  try {
+    return calls.fault(looked);
+  } finally {
+    looked.fill(0);
+  }
+};
+
+const OF_A_PAYLOAD = {
+  21: 'A character of the payload may not stand there.', 22: 'The payload has letters of both cases.',
+};
+
 const ofPayload = (calls, number, payload) => {
-  const placeOfFault = () => calls.fault(payload.replaceAll('1', 'b'));
+  const placeOfFault = () => faultOfPayload(calls, payload);
+  if (typeof payload !== 'string' && number in OF_A_PAYLOAD) return { place: placeOfFault(), sentence: OF_A_PAYLOAD[number] };
   switch (number) {
     case 21: {
       const place = placeOfFault();
@@ -410,10 +440,28 @@ const ofPayload = (calls, number, payload) => {
     }
     case 22: return cases(payload, placeOfFault());
     case 55: {
-      const has = counted(Array.from(payload).length, 'character', 'characters');
+      const length = typeof payload === 'string' ? Array.from(payload).length : payload.length;
+      const has = counted(length, 'character', 'characters');
       return nowhere(`The payload has ${has}; it has as many as 16 to 44 bytes have, from 26 to 71, or as 63 or 64 have, 101 or 103.`);
     }
     default: return null;
+  }
+};
+
+const MOST_SPLIT = 31;
+
+const ofSplitting = (number, threshold, identifier, { secret, count, random }) => {
+  switch (number) {
+    case 65: {
+      const has = count === 1 ? 'There is one share' : `There are ${grouped(count)} shares`;
+      return nowhere(`${has}; with the threshold ${threshold} there are from ${threshold} to ${MOST_SPLIT}.`);
+    }
+    case 66: {
+      const has = random.length === 1 ? 'There is one random byte' : `There are ${grouped(random.length)} random bytes`;
+      return nowhere(`${has}; one is taken for each character that is drawn, ${(threshold - 1) * elementsOf(secret.length)}.`);
+    }
+    case 84: return nowhere('The threshold is 0; a secret that is shared has one from 2 to 9.');
+    default: return ofStringEncoding(number, threshold, identifier, null, secret);
   }
 };
 
@@ -439,6 +487,7 @@ export const reasonsOf = (calls) => ({
   set: (number, texts, shareIndex) => reason(number, ofSet(calls, number, texts, shareIndex)),
   stringEncoding: (number, ...given) => reason(number, ofStringEncoding(number, ...given)),
   payloadEncoding: (number, ...given) => reason(number, ofPayloadEncoding(calls, number, ...given)),
+  splitting: (number, ...given) => reason(number, ofSplitting(number, ...given)),
   encoding: (number, hrp, bytes) => reason(number, ofEncoding(calls, number, hrp, bytes)),
   addressEncoding: (number, hrp, version, program) =>
     reason(number, ofAddressEncoding(calls, number, hrp, version, program)),

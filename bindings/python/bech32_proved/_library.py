@@ -6,12 +6,14 @@ import operator
 import threading
 from concurrent import futures
 from pathlib import Path
-from typing import Any, Iterable, List, NoReturn, Optional, Tuple, TypeVar, Union
+from typing import Any, Iterable, List, NoReturn, Optional, Tuple, Type, TypeVar, Union, cast
 
 from . import errors
 
 Octets = Union[bytes, bytearray, memoryview]
+Text = Union[str, bytearray]
 _Value = TypeVar("_Value")
+_Made = TypeVar("_Made", str, bytes, bytearray)
 
 _FOLDER = Path(__file__).resolve().parent
 
@@ -105,12 +107,32 @@ codex32_encode_payload = _function(
 codex32_derive = _function(
     _CODEX32, "codex32_derive", _NUMBER, *_IN, ctypes.POINTER(_SIZE), _SIZE, *_OUT
 )
+codex32_split = _function(
+    _CODEX32, "codex32_split", _NUMBER, *_IN, *_IN, *_IN, _SIZE, *_OUT
+)
+codex32_recover = _function(
+    _CODEX32, "codex32_recover", *_IN, ctypes.POINTER(_SIZE), _SIZE, *_OUT
+)
 codex32_propose = _function(
     _CODEX32, "codex32_propose", *_IN, ctypes.POINTER(Memory), *_OUT
 )
 codex32_propose_long = _function(
     _CODEX32, "codex32_propose_long", *_IN, ctypes.POINTER(Memory), *_OUT
 )
+
+
+# codex32_wipe_stack, which is a function of the header alone (wipe.c).
+wipe_stack = getattr(_CODEX32, "bech32_proved_wipe_stack")
+wipe_stack.restype, wipe_stack.argtypes = None, ()
+
+
+def secretly(function: Any, *arguments: Any) -> int:
+    """What a function returns that is called on secrets. What it left on the stack is wiped: both are called here,
+    so that their parts of the stack begin at the same place."""
+    try:
+        return int(function(*arguments))
+    finally:
+        wipe_stack()
 
 
 def interruptible(function: Any, *arguments: Any) -> int:
@@ -157,16 +179,33 @@ class Lent:
 
 
 class Copied:
-    """Bytes that a call reads, and that are wiped after it."""
+    """Bytes that a call reads. They are wiped after it, unless they are the caller's."""
 
-    def __init__(self, copied: bytearray) -> None:
-        self._bytes, size = copied, len(copied)
-        # The pointer to none is not null.
-        self.given = ((ctypes.c_char * size).from_buffer(copied) if size else b"", size)
+    def __init__(self, octets: bytearray, is_ours: bool = True) -> None:
+        self.octets, self._is_ours = octets, is_ours
+        self.given = given(octets)
 
     def wipe(self) -> None:
-        """Puts zeros into all of it."""
-        self._bytes[:] = bytes(len(self._bytes))
+        """Puts zeros into all of it where it is no memory of the caller's, which is given back."""
+        self.given = given(b"")
+        if self._is_ours:
+            self.octets[:] = bytes(len(self.octets))
+
+
+def copied_text(text: Text, what: str) -> Copied:
+    """The bytes of a text, where it is a `bytearray` those in its own memory; `what` names the argument."""
+    if isinstance(text, bytearray):
+        return Copied(text, is_ours=False)
+    if not isinstance(text, str):
+        raise TypeError(f"{what} must be a str or a bytearray, not {type(text).__name__}")
+    return Copied(bytearray(utf8(text)))
+
+
+def copied_octets(data: Octets, what: str) -> Copied:
+    """Bytes, where they are a `bytearray` those in its own memory; `what` names the argument."""
+    if isinstance(data, bytearray):
+        return Copied(data, is_ours=False)
+    return Copied(bytearray(octets(data, what)))
 
 
 class Buffer:
@@ -177,22 +216,31 @@ class Buffer:
         self._length = _SIZE()
         self.out = (self._bytes, _SIZE(room), ctypes.byref(self._length))
 
+    def made(self, into: Type[_Made], place: int = 0) -> _Made:
+        """What was written, as a `str`, `bytes` or a `bytearray`; the one at a place of several of one length."""
+        length = self._length.value
+        written = memoryview(self._bytes)[place * length : (place + 1) * length]
+        made: Any = str(written, "ascii") if into is str else into(written)  # type: ignore[call-arg]
+        return cast(_Made, made)
+
     def bytes(self) -> bytes:
         """What was written."""
-        return self._bytes.raw[: self._length.value]
+        return self.made(bytes)
 
     def text(self) -> str:
         """What was written, which is ASCII."""
-        return self.bytes().decode("ascii")
+        return self.made(str)
 
     def wipe(self) -> None:
         """Puts zeros into all of it."""
         ctypes.memset(self._bytes, 0, len(self._bytes))
 
 
-def given(data: bytes) -> Tuple[bytes, int]:
+def given(data: Union[bytes, bytearray]) -> Tuple[Any, int]:
     """Bytes as a function takes them: a pointer, which is never null, and a length."""
-    return data, len(data)
+    if isinstance(data, bytearray) and data:
+        return (ctypes.c_char * len(data)).from_buffer(data), len(data)
+    return bytes(data), len(data)
 
 
 def string(value: str, what: str = "text") -> str:
@@ -237,32 +285,40 @@ def octets(data: Octets, what: str = "data") -> memoryview:
         raise TypeError(f"{what} must be bytes, a bytearray or a memoryview, not {type(data).__name__}") from None
 
 
-def in_case_of(text: str, made: str) -> str:
+def in_case_of(text: Text, made: _Made) -> _Made:
     """What was made of a text that the library accepts or mends, in its case: upper case where the text has
     letters in upper case and none in lower case, and else lower case, as the library writes it."""
-    return made.upper() if text.isupper() else made
+    if not text.isupper():
+        return made
+    if not isinstance(made, bytearray):
+        return made.upper()
+    # In its place: what `upper` makes of it is another one.
+    for place, byte in enumerate(made):
+        if ord("a") <= byte <= ord("z"):
+            made[place] = byte - 32
+    return made
 
 
-def _place(text: str, data: bytes) -> Optional[int]:
+def _place(data: Union[bytes, bytearray]) -> Optional[int]:
     # The character at fault in a text that is refused for its characters, by either checksum.
     place = _SIZE()
     number = fault(1, *given(data), ctypes.byref(place))
     if number not in errors.OF_A_CHARACTER:
         return None
-    return len(data[: place.value].decode("utf-8"))
+    return sum(errors.begins_character(byte) for byte in data[: place.value])
 
 
 def refuse(
     number: int,
-    text: Optional[str] = None,
-    looked_at: Optional[bytes] = None,
+    text: Optional[Text] = None,
+    looked_at: Union[bytes, bytearray, None] = None,
     sentence: Optional[str] = None,
 ) -> NoReturn:
     """Raises the refusal of a number: of a text, where one is refused, and of the bytes of it that the
     function looked at; with another sentence than that of its class, where one is given."""
     place = None
     if text is not None and looked_at is not None and number in errors.OF_A_CHARACTER:
-        place = _place(text, looked_at)
+        place = _place(looked_at)
     refused = errors.BY_NUMBER[number](text, place, sentence)
     refused.number = number
     raise refused

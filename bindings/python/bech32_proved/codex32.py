@@ -1,56 +1,68 @@
 """Codex32 strings (BIP-93): a secret split into shares, any `threshold` of which recover it, and the nearest string
 to a damaged one.
 
-To split a new secret of 16 to 44 bytes, or of 63 or 64:
+`split` makes the shares of a secret of 16 to 44 bytes, or of 63 or 64, and `recover` gives its bytes back:
 
-1. `encode` makes the secret's own string, at the index `s`.
-2. `encode_payload` makes one string fewer than the threshold, each at another index, of random characters from the
-   operating system: as many as the payload of the secret's string has (26 for 16 bytes, 52 for 32).
-3. `derive` makes the other shares from these strings.
-
-Fewer shares than the threshold then say nothing about the secret. This package draws no random numbers.
-
-In step 2, don't use `encode` on random bytes. The bits that it leaves over are zero, and that tells anyone who holds
-one share fewer than the threshold up to four bits of the end of the secret, as many as its last character holds: one
-of 32 bytes, two of 64, three of 16, four of 18 or 63, none of 20 or 40.
-
-    >>> import secrets
     >>> secret = bytes(range(16))
-    >>> whole = encode(3, "cash", "s", secret)
-    >>> alphabet = "qpzry9x8gf2tvdw0s3jn54khce6mua7l"
-    >>> random = ["".join(secrets.choice(alphabet) for _ in range(26)) for _ in "ac"]
-    >>> a, c = (encode_payload(3, "cash", *it) for it in zip("ac", random))
-    >>> d, e = (derive([whole, a, c], index) for index in "de")
-    >>> share(recover([e, a, d])).data == secret
+    >>> shares = split(secret, 3, 5)
+    >>> recover(shares[2:]) == secret
     True
-    >>> recover([a, d])
+    >>> recover(shares[3:])
     Traceback (most recent call last):
     ...
     bech32_proved.errors.TooFewShares: there are fewer shares than the threshold
 
-Type secrets and shares only on a computer that is offline. The library keeps nothing between calls, and the
-buffers that a call makes for itself are wiped after it. Python cannot wipe `str` and `bytes`, and may keep copies
-of them; a `bytearray` that you pass in is yours to wipe. The time of a call, and which memory it reads, depend on
-the secret, since tables are read by its values.
+Fewer shares than the threshold say nothing about the secret. `encode` makes the string of a secret that is not shared,
+and `derive` one share more of a set.
+
+Type secrets and shares only on a computer that is offline. Python cannot wipe `str` and `bytes`, and may keep copies of
+them. So a text or bytes may be given as a `bytearray`, which is read where it lies, and with `into=bytearray` what is
+returned is one: nothing is then left of them but these, which are yours to wipe.
+
+    >>> secret = bytearray(range(16))
+    >>> shares = split(secret, 2, 3, "cash", into=bytearray)
+    >>> recovered = recover(shares[1:], into=bytearray)
+    >>> recovered == secret
+    True
+    >>> for it in [secret, recovered, *shares]:
+    ...     it[:] = bytes(len(it))
+
+The buffers that a call makes for itself, and the stack that the library used, are wiped after it. The branches that
+the library takes, and the memory that it reads, do not depend on a secret, but in `propose` and `propose_long`, and
+where the place of a character at fault is looked for. That is tested in the machine code for Linux on x86-64, and not
+proved; nothing is said of what Python does.
 """
 
 import ctypes
-from typing import Any, Iterable, List, NamedTuple, Optional, Tuple
+import secrets
+from typing import Any, Iterable, List, NamedTuple, NoReturn, Optional, Tuple, Type, Union, overload
 
 from . import _library
-from ._library import Buffer, Copied, Lent, Octets, given, in_case_of, listed, octets, refuse, string, utf8, whole
+from ._library import MAX_SIZE, Buffer, Copied, Lent, Octets, Text, copied_octets, copied_text, given, in_case_of
+from ._library import listed, refuse, secretly, string, utf8, whole
 
 # Where the parts stand in a string, and what the strings of one set have in common.
 _IDENTIFIER = slice(4, 8)
-_SHARE_INDEX = 8
+_SHARE_INDEX = slice(8, 9)
 _PAYLOAD = 9
 _COMMON = slice(3, 8)
 
-# The most characters of a string, and of one of either length; the most bytes of one; the most strings of a set.
+# The most characters of a string, and of one of either length; the most bytes of one; the most strings of a set, and
+# the most shares that a secret is split into.
 _MAX_TEXT = 93
 _MAX_LONG_TEXT = 127
 _MAX_BYTES = 64
 _MAX_SHARES = 32
+_MAX_SPLIT = 31
+
+_ALPHABET = b"qpzry9x8gf2tvdw0s3jn54khce6mua7l"
+
+# An identifier that stands for one that is not drawn yet.
+_ANY = b"qqqq"
+
+# A text is not UTF-8: a `str` is not refused so, but as `NotUnicode`.
+_NOT_UTF8 = 2
+_NO_TEXT = "the text is not UTF-8"
 
 # A character of a payload is not of the alphabet, or its letters have both cases; and what is said of these.
 _INVALID_CHARACTER = 21
@@ -66,6 +78,9 @@ _NO_NEAREST = 34
 # A share is of another set than the first, or an index stands twice.
 _OTHER_SET = 62
 _INDEX_TWICE = 63
+
+# There are not as many random bytes as are drawn.
+_BAD_RANDOM = 66
 
 # What is given is no threshold, or no share index.
 _BAD_THRESHOLD = 83
@@ -88,8 +103,8 @@ class Share(NamedTuple):
     share_index: str
     """The character of the share, `s` or `S` of the secret."""
 
-    payload: str
-    """What it holds, a character for each five bits."""
+    payload: Text
+    """What it holds, a character for each five bits: a `str`, or of a `bytearray` a `bytearray`."""
 
 
 class ShareWithBytes(NamedTuple):
@@ -104,52 +119,64 @@ class ShareWithBytes(NamedTuple):
     share_index: str
     """The character of the share, `s` of the secret, in lower case."""
 
-    data: bytes
+    data: Union[bytes, bytearray]
     """Its bytes, 16 to 44, or 63 or 64. At most four bits behind them, whatever they are, are left out."""
 
-    text: str
-    """The string itself."""
+    text: Text
+    """The string itself, as it was given."""
 
 
-def parse(text: str) -> Share:
+def parse(text: Text) -> Share:
     """Reads a codex32 string of 48 to 93 characters.
 
     Raises the first of: `InvalidCharacter`, `MixedCase`, `NoSeparator`, `HrpEmpty`, `HrpTooLong`,
     `HrpNotAscii`, `HrpInvalid`, `HrpMixedCase`; `BadLength`; `NotMs`; `WrongChecksum`; `BadThreshold`;
     `BadShareIndex`.
     """
-    data = utf8(text)
+    data = copied_text(text, "text")
     threshold, share_index, length = ctypes.c_uint32(), ctypes.c_uint32(), ctypes.c_size_t()
-    number = _library.codex32_parse(
-        *given(data), ctypes.byref(threshold), ctypes.byref(share_index), ctypes.byref(length)
-    )
-    if number != 0:
-        refuse(number, text, data)
-    payload = text[_PAYLOAD : _PAYLOAD + length.value]
-    return Share(threshold.value, text[_IDENTIFIER], chr(share_index.value), payload)
+    outs = (ctypes.byref(threshold), ctypes.byref(share_index), ctypes.byref(length))
+    try:
+        number = secretly(_library.codex32_parse, *data.given, *outs)
+        if number != 0:
+            _refuse(number, text, data)
+        payload = text[_PAYLOAD : _PAYLOAD + length.value]
+        return Share(threshold.value, _part(text, _IDENTIFIER), chr(share_index.value), payload)
+    finally:
+        data.wipe()
 
 
-def share(text: str) -> ShareWithBytes:
+def share(text: Text, *, into: Union[Type[bytes], Type[bytearray]] = bytes) -> ShareWithBytes:
     """Reads a string of either length, 48 to 93 characters or 125 to 127: a share, or the secret at the index
-    `s`.
+    `s`. Its bytes are `bytes`, or a `bytearray` with `into=bytearray`.
 
     Raises the first of: `InvalidCharacter`, `MixedCase`, `NoSeparator`, `HrpEmpty`, `HrpTooLong`,
     `HrpNotAscii`, `HrpInvalid`, `HrpMixedCase`; `BadLength`; `NotMs`; `WrongChecksum`; `BadThreshold`;
     `BadShareIndex`; `BitsLeftOver`.
     """
-    data, held = utf8(text), Buffer(_MAX_BYTES)
+    _tested(into, bytes)
+    data, held = copied_text(text, "text"), Buffer(_MAX_BYTES)
     try:
         number, header = _shared(data, held)
         if number != 0:
-            refuse(number, text, data)
-        return ShareWithBytes(*header, held.bytes(), text)
+            _refuse(number, text, data)
+        held_bytes: Any = held.made(into)
+        return ShareWithBytes(*header, held_bytes, text)
     finally:
+        data.wipe()
         held.wipe()
 
 
-def encode(threshold: int, identifier: str, share_index: str, data: Octets) -> str:
+@overload
+def encode(threshold: int, identifier: str, share_index: str, data: Octets) -> str: ...
+@overload
+def encode(
+    threshold: int, identifier: str, share_index: str, data: Octets, *, into: Type[bytearray]
+) -> bytearray: ...
+def encode(threshold: int, identifier: str, share_index: str, data: Octets, *, into: Any = str) -> Any:
     """Makes the string of a header and bytes, in lower case: of 16 to 44 bytes one of 48 to 93 characters, of 63
-    or 64 a long one. The bits left over are zero: to make a random string for sharing, use `encode_payload`.
+    or 64 a long one. The bits left over are zero. To share a secret, call `split`. The string is a `str`, or with
+    `into=bytearray` a `bytearray`.
 
     The threshold is 0, or from 2 to 9; the identifier, four characters of the alphabet in one case; the share
     index, a character of the alphabet in either case, `s` where the threshold is 0.
@@ -159,25 +186,32 @@ def encode(threshold: int, identifier: str, share_index: str, data: Octets) -> s
 
     Raises the first of: `BadThreshold`, `BadIdentifier`, `NoShareIndex`, `BadShareIndex`, `BadSize`.
     """
+    _tested(into, str)
     header = _header(threshold, identifier, share_index)
-    text, copied = Buffer(_MAX_LONG_TEXT), Copied(bytearray(octets(data)))
+    text, held = Buffer(_MAX_LONG_TEXT), copied_octets(data, "data")
     try:
-        number = _library.codex32_encode(*header, *copied.given, *text.out)
+        number = secretly(_library.codex32_encode, *header, *held.given, *text.out)
         if number != 0:
             refuse(number)
-        return text.text()
+        return text.made(into)
     finally:
-        copied.wipe()
+        held.wipe()
         text.wipe()
 
 
-def encode_payload(threshold: int, identifier: str, share_index: str, payload: str) -> str:
+@overload
+def encode_payload(threshold: int, identifier: str, share_index: str, payload: Text) -> str: ...
+@overload
+def encode_payload(
+    threshold: int, identifier: str, share_index: str, payload: Text, *, into: Type[bytearray]
+) -> bytearray: ...
+def encode_payload(
+    threshold: int, identifier: str, share_index: str, payload: Text, *, into: Any = str
+) -> Any:
     """Makes the string of a header and the characters of its payload, in lower case. They are of the alphabet, in
     one case, and as many as 16 to 44 bytes have, from 26 to 71, or as 63 or 64 have, 101 or 103: at most four bits
-    are left over, whatever they are. The header is that of `encode`.
-
-    Use it to make the random strings that a secret is split with: of as many characters as the payload of the
-    secret's own string has, each drawn from all 32 of the alphabet with equal chance.
+    are left over, whatever they are. The header is that of `encode`, and so is what is returned. To share a secret,
+    call `split`.
 
         >>> encode_payload(2, "name", "a", "320ZYXWVUTSRQPNMLKJHGFEDCA")
         'ms12namea320zyxwvutsrqpnmlkjhgfedcaxrpp870hkkqrm'
@@ -187,26 +221,32 @@ def encode_payload(threshold: int, identifier: str, share_index: str, payload: s
     Raises the first of: `BadThreshold`, `BadIdentifier`, `NoShareIndex`, `BadShareIndex`;
     `InvalidCharacter`, `MixedCase`, `BadSize`.
     """
+    _tested(into, str)
     header = _header(threshold, identifier, share_index)
-    copied = bytearray(utf8(payload, "payload"))
-    text, characters = Buffer(_MAX_LONG_TEXT), Copied(copied)
+    text, held = Buffer(_MAX_LONG_TEXT), copied_text(payload, "payload")
     try:
-        number = _library.codex32_encode_payload(*header, *characters.given, *text.out)
+        number = secretly(_library.codex32_encode_payload, *header, *held.given, *text.out)
         if number in (_INVALID_CHARACTER, _MIXED_CASE):
             # Here a `1` is a character like `b`, and no separator.
-            refuse(number, payload, bytes(copied).replace(b"1", b"b"), _OF_A_PAYLOAD[number])
+            looked_at = Copied(held.octets.replace(b"1", b"b"))
+            _refuse(number, payload, looked_at, _OF_A_PAYLOAD[number])
         if number != 0:
             refuse(number)
-        return text.text()
+        return text.made(into)
     finally:
-        characters.wipe()
+        held.wipe()
         text.wipe()
 
 
-def derive(texts: Iterable[str], share_index: str) -> str:
+@overload
+def derive(texts: Iterable[Text], share_index: str) -> str: ...
+@overload
+def derive(texts: Iterable[Text], share_index: str, *, into: Type[bytearray]) -> bytearray: ...
+def derive(texts: Iterable[Text], share_index: str, *, into: Any = str) -> Any:
     """Derives the string at an index from others of its set, in lower case. They have the same threshold,
     identifier and length, and each another index; there are at least as many as the threshold. With the threshold
-    0 the one string is the secret. If there are more than the threshold, all are tested.
+    0 the one string is the secret. If there are more than the threshold, all are tested. The string is a `str`, or
+    with `into=bytearray` a `bytearray`.
 
         >>> shares = ["MS12NAMEA320ZYXWVUTSRQPNMLKJHGFEDCAXRPP870HKKQRM"]
         >>> shares.append("MS12NAMECACDEFGHJKLMNPQRSTUVWXYZ023FTR2GDZMPY6PN")
@@ -221,35 +261,104 @@ def derive(texts: Iterable[str], share_index: str) -> str:
     `BadThreshold`; `BadShareIndex`; `OtherSet`, `IndexTwice`, `BadShareIndex`, `TooFewShares`,
     `Contradiction`.
     """
+    _tested(into, str)
     index, shares = _character(share_index), _texts(texts)
+    with_index = (_library.codex32_derive, index)
     # Of no texts the index is told first.
-    if _derived(index, [])[0] == _NO_SHARE_INDEX:
+    if _called(with_index, [], Buffer(1)) == _NO_SHARE_INDEX:
         refuse(_NO_SHARE_INDEX)
-    held = [_accepted(text) for text in shares]
-    if len(held) > _MAX_SHARES:
-        others = [text for text in shares if _set_of(text) != _set_of(shares[0])]
-        number = _OTHER_SET if others else _INDEX_TWICE
-    else:
-        number, derived = _derived(index, held)
-        if number == 0:
-            return derived
-    refuse(number, _at_fault(number, shares))
+    return _made_of(shares, with_index, Buffer(_MAX_LONG_TEXT), into)
 
 
-def recover(texts: Iterable[str]) -> str:
-    """Recovers the secret's string, that at the index `s`, from shares: `derive` of them at `s`.
+@overload
+def split(secret: Octets, threshold: int, count: int, identifier: Optional[str] = None) -> List[str]: ...
+@overload
+def split(
+    secret: Octets, threshold: int, count: int, identifier: Optional[str] = None, *, into: Type[bytearray]
+) -> List[bytearray]: ...
+def split(
+    secret: Octets,
+    threshold: int,
+    count: int,
+    identifier: Optional[str] = None,
+    *,
+    into: Any = str,
+    _random: Optional[Octets] = None,
+) -> Any:
+    """Splits a secret of 16 to 44 bytes, or of 63 or 64, into `count` shares, from the threshold to 31: any
+    `threshold` of them, 2 to 9, give it to `recover`, and fewer say nothing about it.
+
+    Proved of the library, whatever the random bytes are: any `threshold` of the shares recover the secret. Proved
+    too: whichever `threshold` - 1 shares are known, for each secret of this length exactly one choice of the drawn
+    characters gives these. So they say nothing about the secret if the random bytes are uniform, which no proof
+    says.
+
+    The shares are in lower case, at the first indices of `acdefghjklmnpqrtuvwxyz023456789`, each a `str`, or with
+    `into=bytearray` a `bytearray`. The characters of those before the `threshold`-th are the lowest five bits of
+    the operating system's random bytes (`secrets`), and the others are derived from these and the secret's own
+    string (BIP-93). If the system has no random bytes, what `secrets` raises is raised here, and there is no share.
+    The identifier, four characters of the alphabet in one case, is the same in all shares, and tells them from those
+    of another secret: None draws it at random too, which the standard leaves free.
+
+        >>> shares = split(bytes(16), 2, 3, "cash")
+        >>> [text[:9] for text in shares]
+        ['ms12casha', 'ms12cashc', 'ms12cashd']
+
+    Raises the first of: `BadThreshold`, `BadIdentifier`, `BadShareIndex`, `BadSize`, `BadCount`,
+    `BadRandom`.
+    """
+    _tested(into, str)
+    number, named = _threshold(threshold), _ANY if identifier is None else _named(identifier)
+    most = min(max(whole(count, "count"), 0), MAX_SIZE)
+    held, texts = copied_octets(secret, "secret"), Buffer(_MAX_SPLIT * _MAX_LONG_TEXT)
+    random = copied_octets(b"" if _random is None else _random, "_random")
+    try:
+        answer = _split(number, named, held, random, most, texts)
+        if _random is None and answer == _BAD_RANDOM:
+            # All else is in order.
+            random = Copied(bytearray((number - 1) * ((8 * len(held.octets) + 4) // 5)))
+            _draw(random.octets)
+            named = _drawn_identifier() if identifier is None else named
+            answer = _split(number, named, held, random, most, texts)
+        if answer != 0:
+            refuse(answer)
+        return [texts.made(into, place) for place in range(most)]
+    finally:
+        held.wipe()
+        random.wipe()
+        texts.wipe()
+
+
+@overload
+def recover(texts: Iterable[Text]) -> bytes: ...
+@overload
+def recover(texts: Iterable[Text], *, into: Type[bytearray]) -> bytearray: ...
+def recover(texts: Iterable[Text], *, into: Any = bytes) -> Any:
+    """Recovers the bytes of a secret from shares of it, at least as many as the threshold. If there are more, all are
+    tested; if there are not, a share of another secret gives other bytes, unnoticed. The bytes are `bytes`, or with
+    `into=bytearray` a `bytearray`. The secret's own string is `derive` of the shares at `s`; its identifier and
+    threshold are those of each of them (`share`).
 
         >>> shares = ["MS12NAMEA320ZYXWVUTSRQPNMLKJHGFEDCAXRPP870HKKQRM"]
         >>> shares.append("MS12NAMECACDEFGHJKLMNPQRSTUVWXYZ023FTR2GDZMPY6PN")
-        >>> recover(shares)
-        'ms12names6xqguzttxkeqnjsjzv4jv3nz5k3kwgsphuh6evw'
+        >>> recover(shares).hex()
+        'd1808e096b35b209ca12132b264662a5'
 
-    Raises what `derive` raises, but for `NoShareIndex`.
+    The text of what is raised is as of `derive`.
+
+    Raises the first of: `InvalidCharacter`, `MixedCase`, `NoSeparator`, `HrpEmpty`, `HrpTooLong`,
+    `HrpNotAscii`, `HrpInvalid`, `HrpMixedCase`; `BadLength`; `NotMs`; `WrongChecksum`; `BadThreshold`;
+    `BadShareIndex`; `OtherSet`, `IndexTwice`, `TooFewShares`, `Contradiction`; `BitsLeftOver`.
     """
-    return derive(texts, "s")
+    _tested(into, bytes)
+    return _made_of(_texts(texts), (_library.codex32_recover,), Buffer(_MAX_BYTES), into)
 
 
-def propose(text: str) -> Optional[str]:
+@overload
+def propose(text: Text) -> Optional[str]: ...
+@overload
+def propose(text: Text, *, into: Type[bytearray]) -> Optional[bytearray]: ...
+def propose(text: Text, *, into: Any = str) -> Any:
     """Proposes the nearest text to a damaged codex32 string, in its case: in upper case if its letters are, else in
     lower case. Returns None if there is none. Each `?` behind the last `1` is a character that cannot be read.
 
@@ -257,96 +366,171 @@ def propose(text: str) -> Optional[str]:
         'MS12NAMEA320ZYXWVUTSRQPNMLKJHGFEDCAXRPP870HKKQRM'
 
     Twice the number of changed characters, plus the number of unreadable ones, is at most 8. There is at most one
-    such text. It may not be what was meant: show it, and ask. Neither threshold nor share index is tested.
+    such text. It may not be what was meant: show it, and ask. Neither threshold nor share index is tested. The text
+    is a `str`, or with `into=bytearray` a `bytearray`. The time of a call, and which memory it reads, depend on the
+    text and its errors.
 
     Raises the first of: `InvalidCharacter`, `MixedCase`, `NoSeparator`, `HrpEmpty`, `HrpTooLong`,
     `HrpNotAscii`, `HrpInvalid`, `HrpMixedCase`; `BadLength`; `NotMs`.
     """
-    return _proposed(_library.codex32_propose, text, _MAX_TEXT)
+    return _proposed(_library.codex32_propose, text, _MAX_TEXT, into)
 
 
-def propose_long(text: str) -> Optional[str]:
+@overload
+def propose_long(text: Text) -> Optional[str]: ...
+@overload
+def propose_long(text: Text, *, into: Type[bytearray]) -> Optional[bytearray]: ...
+def propose_long(text: Text, *, into: Any = str) -> Any:
     """Proposes the nearest text to a damaged long string, of 125 to 127 characters, within the bounds of `propose`
     and in the case of the damaged one. Returns None if there is none.
 
     Raises the first of: `InvalidCharacter`, `MixedCase`, `NoSeparator`, `HrpEmpty`, `HrpTooLong`,
     `HrpNotAscii`, `HrpInvalid`, `HrpMixedCase`; `BadLength`; `NotMs`.
     """
-    return _proposed(_library.codex32_propose_long, text, _MAX_LONG_TEXT)
+    return _proposed(_library.codex32_propose_long, text, _MAX_LONG_TEXT, into)
 
 
-def _proposed(function: Any, text: str, room: int) -> Optional[str]:
-    data = utf8(text)
-    lent = Lent(16384 + 8 * len(data))
-    proposed = Buffer(room)
+def _proposed(function: Any, text: Text, room: int, into: Any) -> Any:
+    _tested(into, str)
+    data = copied_text(text, "text")
+    lent, proposed = Lent(16384 + 8 * len(data.octets)), Buffer(room)
     try:
-        number = function(*given(data), ctypes.byref(lent.memory), *proposed.out)
+        number = secretly(function, *data.given, ctypes.byref(lent.memory), *proposed.out)
         if number == _NO_NEAREST:
             return None
         if number != 0:
-            refuse(number, text, _as_read(data))
-        return in_case_of(text, proposed.text())
+            _refuse(number, text, Copied(_as_read(data.octets)))
+        return in_case_of(text, proposed.made(into))
     finally:
+        data.wipe()
         lent.wipe()
         proposed.wipe()
 
 
-def _shared(data: bytes, held: Buffer) -> Tuple[int, Tuple[int, str, str]]:
+def _tested(into: Any, other: type) -> None:
+    # What a result is made, which is a type.
+    if into is not other and into is not bytearray:
+        shown = into.__name__ if isinstance(into, type) else f"a value of {type(into).__name__}"
+        raise TypeError(f"into must be {other.__name__} or bytearray, not {shown}")
+
+
+def _refuse(number: int, text: Text, looked_at: Copied, sentence: Optional[str] = None) -> NoReturn:
+    # Raises the refusal of a text, and wipes what was looked at. Where a place is looked for, the other library is
+    # called, and leaves something on the stack too.
+    try:
+        refuse(number, text, looked_at.octets, _NO_TEXT if number == _NOT_UTF8 else sentence)
+    finally:
+        looked_at.wipe()
+        _library.wipe_stack()
+
+
+def _shared(data: Copied, held: Buffer) -> Tuple[int, Tuple[int, str, str]]:
     # What the library returns for a string of either length, whose bytes it puts into a buffer, and its header.
     threshold, share_index = ctypes.c_uint32(), ctypes.c_uint32()
     identifier = ctypes.create_string_buffer(4)
-    number = _library.codex32_share(
-        *given(data), ctypes.byref(threshold), identifier, ctypes.byref(share_index), *held.out
-    )
+    outs = (ctypes.byref(threshold), identifier, ctypes.byref(share_index), *held.out)
+    number = secretly(_library.codex32_share, *data.given, *outs)
     return number, (threshold.value, identifier.raw.decode("ascii"), chr(share_index.value))
 
 
-def _accepted(text: str) -> bytes:
-    # The bytes of a text that is a string of either length.
-    data = utf8(text)
-    number, _ = _shared(data, Buffer(1))
-    if number not in (_BITS_LEFT_OVER, _NO_ROOM):
-        refuse(number, text, data)
-    return data
+def _split(number: int, named: bytes, held: Copied, random: Copied, count: int, texts: Buffer) -> int:
+    # What the library returns where it splits a secret.
+    rest = (*held.given, *random.given, count, *texts.out)
+    return secretly(_library.codex32_split, number, *given(named), *rest)
 
 
-def _derived(index: int, held: List[bytes]) -> Tuple[int, str]:
-    # What the library returns for strings, and the one that it derives from them.
-    copied, text = Copied(bytearray().join(held)), Buffer(_MAX_LONG_TEXT)
-    lengths = (ctypes.c_size_t * max(len(held), 1))(*map(len, held))
+def _made_of(texts: List[Text], call: Tuple[Any, ...], made: Buffer, into: Any) -> Any:
+    # What a call makes of the strings of a set.
+    held = [copied_text(text, "each share of texts") for text in texts]
     try:
-        number = _library.codex32_derive(index, *copied.given, lengths, len(held), *text.out)
-        return number, text.text()
+        for text, data in zip(texts, held):
+            # There is no room for its bytes, which is said behind all faults of the text.
+            number, _ = _shared(data, Buffer(1))
+            if number not in (_BITS_LEFT_OVER, _NO_ROOM):
+                _refuse(number, text, data)
+        if len(held) <= _MAX_SHARES:
+            number = _called(call, held, made)
+        else:
+            number = _OTHER_SET if any(_set_of(text) != _set_of(texts[0]) for text in texts) else _INDEX_TWICE
+        if number != 0:
+            refuse(number, _at_fault(number, texts))
+        return made.made(into)
+    finally:
+        for data in held:
+            data.wipe()
+        made.wipe()
+
+
+def _called(call: Tuple[Any, ...], held: List[Copied], made: Buffer) -> int:
+    # What a function of the library returns for strings, which stand one behind another for it.
+    sizes = [len(data.octets) for data in held]
+    copied, end = Copied(bytearray(sum(sizes))), 0
+    lengths = (ctypes.c_size_t * max(len(sizes), 1))(*sizes)
+    function, *before = call
+    try:
+        # A slice of a `bytearray` would be assigned by another copy, and one of a view is not.
+        with memoryview(copied.octets) as joined:
+            for data, size in zip(held, sizes):
+                joined[end : end + size] = data.octets
+                end += size
+        return secretly(function, *before, *copied.given, lengths, len(sizes), *made.out)
     finally:
         copied.wipe()
-        text.wipe()
 
 
-def _set_of(text: str) -> Tuple[str, int]:
+def _part(text: Text, part: slice) -> str:
+    # Characters of a text that is accepted.
+    found = text[part]
+    return found if isinstance(found, str) else found.decode("ascii")
+
+
+def _set_of(text: Text) -> Tuple[str, int]:
     # What the strings of one set have in common.
-    return text[_COMMON].lower(), len(text)
+    return _part(text, _COMMON).lower(), len(text)
 
 
-def _at_fault(number: int, texts: List[str]) -> Optional[str]:
+def _at_fault(number: int, texts: List[Text]) -> Optional[Text]:
     # The first text for which strings give none.
+    indices = [_part(text, _SHARE_INDEX).lower() for text in texts]
     for place, text in enumerate(texts):
-        before = {it[_SHARE_INDEX].lower() for it in texts[:place]}
         if number == _OTHER_SET and _set_of(text) != _set_of(texts[0]):
             return text
-        if number == _INDEX_TWICE and text[_SHARE_INDEX].lower() in before:
+        if number == _INDEX_TWICE and indices[place] in indices[:place]:
             return text
     return None
+
+
+def _threshold(threshold: int) -> int:
+    # A threshold as the library takes it, which is a number of 32 bits.
+    number = whole(threshold, "threshold")
+    if not 0 <= number < 2**32:
+        refuse(_BAD_THRESHOLD)
+    return number
+
+
+def _named(identifier: str) -> bytes:
+    # An identifier as the library takes it.
+    return string(identifier, "identifier").encode("utf-8", "surrogatepass")
+
+
+def _draw(buffer: bytearray) -> None:
+    # Fills a buffer with random bytes, each drawn by itself: no `bytes` holds several of them.
+    for place in range(len(buffer)):
+        buffer[place] = secrets.randbits(8)
+
+
+def _drawn_identifier() -> bytes:
+    # Four characters at random.
+    drawn = bytearray(4)
+    _draw(drawn)
+    return bytes(_ALPHABET[byte & 31] for byte in drawn)
 
 
 def _header(threshold: int, identifier: str, share_index: str) -> Tuple[int, bytes, int, int]:
     # A threshold, an identifier and a share index as the library takes them.
     number = whole(threshold, "threshold")
-    named = string(identifier, "identifier").encode("utf-8", "surrogatepass")
-    index = _character(share_index)
-    # The library takes a number of 32 bits.
-    if not 0 <= number < 2**32:
-        refuse(_BAD_THRESHOLD)
-    return (number, *given(named), index)
+    named, index = _named(identifier), _character(share_index)
+    return (_threshold(number), *given(named), index)
 
 
 def _character(share_index: str) -> int:
@@ -355,13 +539,18 @@ def _character(share_index: str) -> int:
     return ord(word) if len(word) == 1 else 0
 
 
-def _texts(texts: Iterable[str]) -> List[str]:
+def _texts(texts: Iterable[Text]) -> List[Text]:
     # The texts of shares.
-    given_texts = listed(texts, "texts must be a list of shares, not")
-    return [string(text, "each share of texts") for text in given_texts]
+    said = "texts must be a list of shares, not"
+    if isinstance(texts, bytearray):
+        raise TypeError(f"{said} bytearray")
+    return listed(texts, said)
 
 
-def _as_read(data: bytes) -> bytes:
+def _as_read(data: bytearray) -> bytearray:
     # Behind the last `1`, each character that cannot be read is looked at as `0`, which has no case.
-    front, separator, behind = data.rpartition(b"1")
-    return front + separator + behind.replace(b"?", b"0") if separator else data
+    read = data[:]
+    for place in range(read.rfind(b"1") + 1, len(read)):
+        if b"1" in read and read[place] == ord("?"):
+            read[place] = ord("0")
+    return read

@@ -3,7 +3,7 @@
 A call names the first fault that applies, in the order that `bech32.h` and `codex32.h` state for it.
 """
 
-from typing import Any, ClassVar, Dict, Optional, Tuple, Type
+from typing import Any, ClassVar, Dict, Optional, Tuple, Type, Union
 
 
 # What is refused first in a text without a separator, and what is said of it.
@@ -11,21 +11,27 @@ _INVALID_CHARACTER = 21
 _NO_SEPARATOR_AND_CHARACTER = "the text has no separator, '1', and a character that may not stand behind one"
 
 
+def begins_character(byte: int) -> bool:
+    """Whether a byte of UTF-8 is the first of a character."""
+    return byte & 0xC0 != 0x80
+
+
 class Refused(ValueError):
     """A call refuses what it is given.
 
-    `text` is the text that is refused, where one is, `place` that of the character at fault, counted in
-    characters from 0, and `character` that character, where one is. What is printed is for people: it names
-    the character, and counts from 1. `number` is that of the refusal in `bech32.h` and `codex32.h`.
+    `text` is the text that is refused, where one is: what was given, and no copy of it. `place` is that of the
+    character at fault, counted in characters from 0, and `character` that character, where one is. What is printed
+    is for people: it names the character, and counts from 1. `number` is that of the refusal in `bech32.h` and
+    `codex32.h`.
     """
 
     sentence: ClassVar[str] = "what was given is refused"
     number: int = 0
-    text: Optional[str]
+    text: Union[str, bytearray, None]
     place: Optional[int]
 
     def __init__(
-        self, text: Optional[str] = None, place: Optional[int] = None, said: Optional[str] = None
+        self, text: Union[str, bytearray, None] = None, place: Optional[int] = None, said: Optional[str] = None
     ) -> None:
         self.text, self.place = text, place
         # What is printed before the character: None for the sentence of the class.
@@ -37,11 +43,16 @@ class Refused(ValueError):
         """The character at fault, where one is."""
         if self.text is None or self.place is None:
             return None
-        return self.text[self.place : self.place + 1] or None
+        if isinstance(self.text, str):
+            return self.text[self.place : self.place + 1] or None
+        begins = [at for at, byte in enumerate(self.text) if begins_character(byte)]
+        start, *rest = begins[self.place : self.place + 2] or [len(self.text)]
+        return self.text[start : rest[0] if rest else None].decode("utf-8", "replace") or None
 
     def _sentence(self) -> str:
         # The sentence of the class, but for a text that has no separator for a character to stand behind.
-        if self.number == _INVALID_CHARACTER and self.text is not None and "1" not in self.text:
+        separator: Any = "1" if isinstance(self.text, str) else b"1"
+        if self.number == _INVALID_CHARACTER and self.text is not None and separator not in self.text:
             return _NO_SEPARATOR_AND_CHARACTER
         return self.sentence
 
@@ -257,6 +268,20 @@ class Contradiction(Refused):
     number = 64
 
 
+class BadCount(Refused):
+    """There are fewer shares than the threshold, or more than 31."""
+
+    sentence = "there are fewer shares than the threshold, or more than 31"
+    number = 65
+
+
+class BadRandom(Refused):
+    """There are not as many random bytes as characters are drawn."""
+
+    sentence = "there are not as many random bytes as characters are drawn"
+    number = 66
+
+
 class NotMs(Refused):
     """The human-readable part is not `ms`."""
 
@@ -341,6 +366,8 @@ BY_NUMBER: Dict[int, Type[Refused]] = {
     62: OtherSet,
     63: IndexTwice,
     64: Contradiction,
+    65: BadCount,
+    66: BadRandom,
     81: NotMs,
     82: BadLength,
     83: BadThreshold,

@@ -95,11 +95,29 @@ def c32(words):
         # No digit is a threshold of two characters.
         threshold = int(rest[0]) if len(rest[0]) == 1 and rest[0].isdigit() else 10
         return f"ok {codex32.encode(threshold, *rest[1:3], data_of(rest[3]))}"
+    if command == "split" and len(rest) == 5:
+        threshold = int(rest[0]) if len(rest[0]) == 1 and rest[0].isdigit() else 10
+        secret, random = data_of(rest[3]), data_of(rest[4])
+        return "ok " + " ".join(codex32.split(secret, threshold, int(rest[1]), rest[2], _random=random))
     if command == "derive" and len(rest) > 1:
         return f"ok {codex32.derive(rest[1:], rest[0])}"
     if command == "recover" and rest:
-        return f"ok {codex32.recover(rest)}"
+        return recovered(rest)
     return None
+
+
+def recovered(texts):
+    """The secret's string, whose bytes `recover` gives."""
+    text = codex32.derive(texts, "s")
+    try:
+        wanted = codex32.share(text).data
+    except errors.BitsLeftOver:
+        wanted = None
+    try:
+        assert codex32.recover(texts) == wanted
+    except errors.BitsLeftOver:
+        assert wanted is None
+    return f"ok {text}"
 
 
 class Lines(unittest.TestCase):

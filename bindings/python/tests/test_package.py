@@ -21,7 +21,7 @@ from unittest import mock
 import bech32_proved
 from bech32_proved import Checksum, Edit, EditKind, check, codex32, correct, decode, decode_with_checksum
 from bech32_proved import _searches, edits, encode, errors, near_edits, nearest, segwit, texts
-from bech32_proved._library import Copied, Lent, interruptible
+from bech32_proved._library import Lent, interruptible
 
 PROGRAM = bytes.fromhex("751e76e8199196d454941c45d1b3a323f1433bd6")
 
@@ -382,8 +382,8 @@ class Texts(unittest.TestCase):
             (segwit.encode, ("bc", 0.0, PROGRAM), "version must be an int, not float"),
             (segwit.encode, ("bc", 0, "ab"), "program must be bytes, a bytearray or a memoryview, not str"),
             (segwit.decode, (b"bc1",), "text must be a str, not bytes"),
-            (codex32.parse, (None,), "text must be a str, not NoneType"),
-            (codex32.share, (b"ms1",), "text must be a str, not bytes"),
+            (codex32.parse, (None,), "text must be a str or a bytearray, not NoneType"),
+            (codex32.share, (b"ms1",), "text must be a str or a bytearray, not bytes"),
             (codex32.encode, ("2", "name", "s", data), "threshold must be an int, not str"),
             (codex32.encode, (None, "name", "s", data), "threshold must be an int, not NoneType"),
             (codex32.encode, (2, b"name", "s", data), "identifier must be a str, not bytes"),
@@ -392,18 +392,19 @@ class Texts(unittest.TestCase):
             (codex32.encode_payload, (None, "name", "a", "q"), "threshold must be an int, not NoneType"),
             (codex32.encode_payload, (2, None, "a", "q"), "identifier must be a str, not NoneType"),
             (codex32.encode_payload, (2, "name", 16, "q"), "share_index must be a str, not int"),
-            (codex32.encode_payload, (*header, b"q"), "payload must be a str, not bytes"),
+            (codex32.encode_payload, (*header, b"q"), "payload must be a str or a bytearray, not bytes"),
             (codex32.derive, (a, "s"), "texts must be a list of shares, not str"),
             (codex32.derive, (a.encode(), "s"), "texts must be a list of shares, not bytes"),
+            (codex32.derive, (bytearray(a.encode()), "s"), "texts must be a list of shares, not bytearray"),
             (codex32.derive, (None, "s"), "texts must be a list of shares, not NoneType"),
-            (codex32.derive, ([a, None], "s"), "each share of texts must be a str, not NoneType"),
+            (codex32.derive, ([a, None], "s"), "each share of texts must be a str or a bytearray, not NoneType"),
             (codex32.derive, ([a], None), "share_index must be a str, not NoneType"),
             (codex32.derive, ([a], ["s"]), "share_index must be a str, not list"),
             (codex32.recover, (a,), "texts must be a list of shares, not str"),
             (codex32.recover, (5,), "texts must be a list of shares, not int"),
-            (codex32.recover, ([5],), "each share of texts must be a str, not int"),
-            (codex32.propose, (None,), "text must be a str, not NoneType"),
-            (codex32.propose_long, (b"ms1",), "text must be a str, not bytes"),
+            (codex32.recover, ([5],), "each share of texts must be a str or a bytearray, not int"),
+            (codex32.propose, (None,), "text must be a str or a bytearray, not NoneType"),
+            (codex32.propose_long, (b"ms1",), "text must be a str or a bytearray, not bytes"),
         ):
             with self.subTest(words), self.assertRaises(TypeError) as raised:
                 call(*arguments)
@@ -566,17 +567,19 @@ class Codex32(unittest.TestCase):
 
     def test_derives(self):
         self.assertEqual(codex32.derive([SHARE, OTHER_SHARE], "D"), "ms12namedll4f8jlh4e5vdvuldlfxu2jhdnlsm97xvenrxeg")
-        secret = codex32.recover(iter([OTHER_SHARE, SHARE]))
+        secret = codex32.derive(iter([OTHER_SHARE, SHARE]), "s")
         self.assertEqual(secret, "ms12names6xqguzttxkeqnjsjzv4jv3nz5k3kwgsphuh6evw")
-        self.assertEqual(codex32.share(secret).data.hex(), "d1808e096b35b209ca12132b264662a5")
-        self.assertEqual(codex32.recover([SECRET]), SECRET)
-        self.assertEqual(codex32.recover([LONG.upper()]), LONG)
+        self.assertEqual(codex32.recover(iter([OTHER_SHARE, SHARE])).hex(), "d1808e096b35b209ca12132b264662a5")
+        self.assertEqual(codex32.derive([SECRET], "S"), SECRET)
+        self.assertEqual(codex32.derive([LONG.upper()], "s"), LONG)
+        self.assertEqual(codex32.recover([LONG.upper()]), codex32.share(LONG).data)
         # All of a set, any two of which give each.
         whole = [codex32.derive([SHARE, OTHER_SHARE], index) for index in texts._CHARACTERS]
         for n, text in enumerate(whole):
             two = [whole[(n + 3) % 32], whole[(n + 20) % 32]]
             self.assertEqual(codex32.derive(two, text[8]), text)
-        self.assertEqual(codex32.recover(whole), secret)
+        self.assertEqual(codex32.derive(whole, "s"), secret)
+        self.assertEqual(codex32.recover(whole), codex32.share(secret).data)
 
     def test_makes_strings_of_characters(self):
         for text in (SECRET, SHARE, OTHER_SHARE, "ms13casha320zyxwvutsrqpnmlkjhgfedca2a8d0zehn8a0t"):
@@ -695,6 +698,10 @@ class Codex32(unittest.TestCase):
             with self.subTest((given, index)), self.assertRaises(error) as raised:
                 codex32.derive(given, index)
             self.assertEqual(raised.exception.text, text)
+            if index == "s":
+                with self.assertRaises(error) as raised:
+                    codex32.recover(given)
+                self.assertEqual(raised.exception.text, text)
         self.assertRaises(TypeError, codex32.recover, SHARE)
         self.assertRaises(TypeError, codex32.recover, [SHARE.encode()])
         self.assertRaises(TypeError, codex32.derive, [SHARE], 16)
@@ -720,14 +727,7 @@ class Codex32(unittest.TestCase):
         mended = codex32.propose(SHARE.replace("ZYX", "Z?P"))
         self.assertEqual(mended, SHARE)
         self.assertEqual(codex32.propose(SHARE.lower().replace("zyx", "z?p")), SHARE.lower())
-        self.assertEqual(codex32.recover([mended, OTHER_SHARE])[:9], "ms12names")
-
-    def test_wipes_what_it_copies(self):
-        copied = Copied(bytearray(b"secret"))
-        self.assertEqual(copied.given[0].raw, b"secret")
-        copied.wipe()
-        self.assertEqual(copied.given[0].raw, bytes(6))
-        self.assertEqual(Copied(bytearray()).given, (b"", 0))
+        self.assertEqual(codex32.recover([mended, OTHER_SHARE])[:2].hex(), "d180")
 
 
 # A call that never ends, which no signal interrupts, in place of one of the library, and what Ctrl-C makes of it.

@@ -3,12 +3,18 @@
 //!
 //! What a caller owes the library, a slice gives: its pointer is never null, its length is true,
 //! and what a mutable one covers nothing else covers.
+//!
+//! Each call of codex32 ends with `wipe_stack`.
 
 #[cfg(feature = "codex32")]
 use crate::codex32;
 #[cfg(any(feature = "codex32", feature = "correct"))]
 use crate::declared::Memory;
 use crate::Refusal;
+#[cfg(feature = "codex32")]
+use std::mem::MaybeUninit;
+#[cfg(feature = "codex32")]
+use std::sync::atomic::{compiler_fence, Ordering};
 
 mod c {
     crate::declared::declare!(
@@ -77,6 +83,30 @@ mod c_codex32 {
             text_length: *mut usize,
         ) -> u32;
 
+        pub fn codex32_split(
+            threshold: u32,
+            identifier: *const u8,
+            identifier_length: usize,
+            secret: *const u8,
+            secret_length: usize,
+            random: *const u8,
+            random_length: usize,
+            count: usize,
+            texts: *mut u8,
+            texts_room: usize,
+            text_length: *mut usize,
+        ) -> u32;
+
+        pub fn codex32_recover(
+            texts: *const u8,
+            texts_length: usize,
+            lengths: *const usize,
+            count: usize,
+            bytes: *mut u8,
+            bytes_room: usize,
+            bytes_length: *mut usize,
+        ) -> u32;
+
         pub fn codex32_propose(
             text: *const u8,
             text_length: usize,
@@ -110,6 +140,39 @@ impl Block {
 
     /// Zeros.
     pub const ZEROS: Block = Block([0; Block::SIZE]);
+}
+
+/// Puts zeros over items, which no compiler leaves out.
+#[cfg(feature = "codex32")]
+pub fn wipe<T: Copy>(items: &mut [T], zero: T) {
+    for item in items {
+        // SAFETY: what is borrowed may be written to.
+        unsafe { std::ptr::write_volatile(item, zero) };
+    }
+    compiler_fence(Ordering::SeqCst);
+}
+
+// More of the stack than any function of the library takes: CODEX32_STACK_SIZE, in items of eight bytes.
+#[cfg(feature = "codex32")]
+const STACK: usize = 16384 / 8;
+
+// Puts zeros over the stack below the function that calls it, where a call of the library left copies of a
+// secret. The functions here call it behind the library, so that both begin at the same place.
+#[cfg(feature = "codex32")]
+#[inline(never)]
+fn wipe_stack() {
+    wipe(
+        &mut [MaybeUninit::<u64>::uninit(); STACK],
+        MaybeUninit::new(0),
+    );
+}
+
+// What a call of codex32_c returned. What it left on the stack is wiped.
+#[cfg(feature = "codex32")]
+#[inline(always)]
+fn wiped<T>(number: u32, value: T) -> Result<T, codex32::Refusal> {
+    wipe_stack();
+    known(number, codex32::Refusal::from_number(number), value)
 }
 
 // Memory as a function takes it.
@@ -381,7 +444,7 @@ pub fn codex32_share(text: &[u8], bytes: &mut [u8]) -> Result<usize, codex32::Re
             &mut length,
         )
     };
-    known(number, codex32::Refusal::from_number(number), length)
+    wiped(number, length)
 }
 
 /// Puts the string of a header and bytes into a buffer, and returns its length.
@@ -408,7 +471,7 @@ pub fn codex32_encode(
             &mut length,
         )
     };
-    known(number, codex32::Refusal::from_number(number), length)
+    wiped(number, length)
 }
 
 /// Puts the string of a header and the characters of a payload into a buffer, and returns its length.
@@ -435,7 +498,7 @@ pub fn codex32_encode_payload(
             &mut length,
         )
     };
-    known(number, codex32::Refusal::from_number(number), length)
+    wiped(number, length)
 }
 
 /// Puts the string at an index into a buffer, and returns its length. The others of its set stand one behind
@@ -461,7 +524,61 @@ pub fn codex32_derive(
             &mut length,
         )
     };
-    known(number, codex32::Refusal::from_number(number), length)
+    wiped(number, length)
+}
+
+/// Puts shares of a secret into a buffer, `count` of them, one behind another, and returns the length of each.
+#[cfg(feature = "codex32")]
+pub fn codex32_split(
+    threshold: u32,
+    identifier: &[u8],
+    secret: &[u8],
+    random: &[u8],
+    count: usize,
+    texts: &mut [u8],
+) -> Result<usize, codex32::Refusal> {
+    let mut length = 0;
+    // SAFETY: as in `encode`.
+    let number = unsafe {
+        c_codex32::codex32_split(
+            threshold,
+            identifier.as_ptr(),
+            identifier.len(),
+            secret.as_ptr(),
+            secret.len(),
+            random.as_ptr(),
+            random.len(),
+            count,
+            texts.as_mut_ptr(),
+            texts.len(),
+            &mut length,
+        )
+    };
+    wiped(number, length)
+}
+
+/// Puts the bytes of the secret of shares into a buffer, and returns how many they are. The shares stand one
+/// behind another in `texts`, with their lengths.
+#[cfg(feature = "codex32")]
+pub fn codex32_recover(
+    texts: &[u8],
+    lengths: &[usize],
+    bytes: &mut [u8],
+) -> Result<usize, codex32::Refusal> {
+    let mut length = 0;
+    // SAFETY: as in `codex32_derive`.
+    let number = unsafe {
+        c_codex32::codex32_recover(
+            texts.as_ptr(),
+            texts.len(),
+            lengths.as_ptr(),
+            lengths.len(),
+            bytes.as_mut_ptr(),
+            bytes.len(),
+            &mut length,
+        )
+    };
+    wiped(number, length)
 }
 
 /// Puts the nearest string to a damaged one into a buffer, and returns its length. The memory is for the
@@ -484,7 +601,7 @@ pub fn codex32_propose(
             &mut length,
         )
     };
-    known(number, codex32::Refusal::from_number(number), length)
+    wiped(number, length)
 }
 
 /// The same for a damaged long string.
@@ -506,5 +623,5 @@ pub fn codex32_propose_long(
             &mut length,
         )
     };
-    known(number, codex32::Refusal::from_number(number), length)
+    wiped(number, length)
 }

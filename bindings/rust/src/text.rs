@@ -30,7 +30,7 @@ pub(crate) fn is_in_upper_case(s: &str) -> bool {
 }
 
 /// What the library made of a text, in lower case, in the case of that text.
-#[cfg(any(feature = "codex32", feature = "correct"))]
+#[cfg(feature = "correct")]
 pub(crate) fn in_case_of(s: &str, mut made: String) -> String {
     if is_in_upper_case(s) {
         made.make_ascii_uppercase();

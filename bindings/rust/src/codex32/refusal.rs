@@ -7,7 +7,8 @@ crate::refusal::refusals! {
     /// refusal that applies, in the order that its documentation states.
     ///
     /// Where in a text a fault of its characters stands, those with the numbers 11 to 23, [`fault()`] says
-    /// by any checksum: `fault::<NoChecksum>(text)`.
+    /// by any checksum: `fault::<NoChecksum>(text)`. It is no call on secrets: what it reads, and leaves on the
+    /// stack, depends on the text.
     ///
     /// ```
     /// use bech32_proved::codex32::{Refusal, Share};
@@ -41,6 +42,8 @@ crate::refusal::refusals! {
         OtherSet = 62, "a share has another threshold, identifier or length than the first";
         IndexTwice = 63, "two shares have one index";
         Contradiction = 64, "the shares contradict each other";
+        BadCount = 65, "there are fewer shares than the threshold, or more than 31";
+        BadRandom = 66, "there are not as many random bytes as characters are drawn";
         NotMs = 81, "the human-readable part is not ms";
         BadLength = 82, "a codex32 string has 48 to 93 characters, a long one 125 to 127";
         BadThreshold = 83, "the threshold is neither 0 nor a digit from 2 to 9";

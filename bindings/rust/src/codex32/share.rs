@@ -1,6 +1,6 @@
 //! Strings of either length in their parts.
 
-use super::{Header, Identifier, Refusal, Threshold, MAX_BYTES};
+use super::{Header, Identifier, Refusal, SecretBytes, Threshold, MAX_BYTES};
 use crate::{raw, Fe32};
 use std::fmt;
 
@@ -13,9 +13,11 @@ const LONG_CHECKSUM_LENGTH: usize = 15;
 
 /// A string of either length, 48 to 93 characters or 125 to 127: a share, or the secret at the index `s`
 /// (BIP-93, codex32 and Long codex32 Strings). Its checksum is right, and its header lawful. It borrows the
-/// text, and copies nothing of its payload.
+/// text, and copies nothing of its payload: whoever holds the text wipes it, as a [`SecretText`] does.
 ///
-/// Printed for debugging, it shows its header alone.
+/// Printed for debugging, it shows its header alone. Compare shares by their text, as a [`SecretText`].
+///
+/// [`SecretText`]: super::SecretText
 ///
 /// ```
 /// use bech32_proved::codex32::{Refusal, Share};
@@ -99,11 +101,10 @@ impl<'s> Share<'s> {
     /// # Errors
     ///
     /// [`Refusal::BitsLeftOver`] where more than four are left over.
-    pub fn to_bytes(&self) -> Result<Vec<u8>, Refusal> {
-        let mut bytes = vec![0; MAX_BYTES];
-        let count = raw::codex32_share(self.text.as_bytes(), &mut bytes)?;
-        bytes.truncate(count);
-        Ok(bytes)
+    pub fn to_bytes(&self) -> Result<SecretBytes, Refusal> {
+        SecretBytes::put(MAX_BYTES, |bytes| {
+            raw::codex32_share(self.text.as_bytes(), bytes)
+        })
     }
 
     /// The whole text, in its case.
@@ -117,6 +118,12 @@ impl<'s> Share<'s> {
         self.threshold() == other.threshold()
             && self.identifier() == other.identifier()
             && self.text.len() == other.text.len()
+    }
+}
+
+impl AsRef<str> for Share<'_> {
+    fn as_ref(&self) -> &str {
+        self.text
     }
 }
 

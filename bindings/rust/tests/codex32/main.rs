@@ -1,9 +1,11 @@
 //! Strings of BIP-93 and shares: its vectors, lines of the program c32 with the replies of a model, and each
 //! refusal.
 
+mod split;
+
 use bech32_proved::codex32::{
-    derive, encode, encode_payload, propose, propose_long, recover, Header, Identifier, Refusal,
-    Share, Threshold, MAX_SHARES,
+    derive, encode, encode_payload, propose, propose_long, recover, split_with, Header, Identifier,
+    Refusal, SecretText, Share, Threshold, MAX_SHARES,
 };
 use bech32_proved::{fault, Fe32, NoChecksum};
 use std::collections::HashSet;
@@ -24,6 +26,9 @@ const CASH: [&str; 3] = [
     "ms13casha320zyxwvutsrqpnmlkjhgfedca2a8d0zehn8a0t",
     "ms13cashcacdefghjklmnpqrstuvwxyz023949xq35my48dr",
 ];
+
+// What its secret's string holds.
+const CASH_BYTES: &str = "ffeeddccbbaa99887766554433221100";
 
 const LONG: &str = "ms100c8vsm32zxfguhpchtlupzry9x8gf2tvdw0s3jn54khce6mua7lqpzygsfjd6an074rxvcemlh8wu3tk925acdefghjklmnpqrstuvwxy06fhpv80undvarhrak";
 
@@ -56,18 +61,14 @@ fn index(word: &str) -> Result<Fe32, Refusal> {
 }
 
 fn header(threshold: &str, identifier: &str, share_index: &str) -> Result<Header, Refusal> {
-    // No digit is a threshold of two characters.
-    let number = match threshold.as_bytes() {
-        [digit @ b'0'..=b'9'] => digit - b'0',
-        _ => 10,
-    };
-    let threshold = Threshold::new(number)?;
+    let threshold = threshold_of(threshold)?;
     let identifier = Identifier::parse(identifier)?;
     Header::new(threshold, identifier, index(share_index)?)
 }
 
 // The bytes of hexadecimal digits, and the digits of bytes.
 fn bytes(digits: &str) -> Vec<u8> {
+    let digits = digits.trim_matches('-');
     let pairs = (0..digits.len()).step_by(2).map(|i| &digits[i..i + 2]);
     pairs
         .map(|pair| u8::from_str_radix(pair, 16).unwrap())
@@ -85,11 +86,34 @@ fn share_line(text: &str) -> Result<String, Refusal> {
     Ok(format!("ok {threshold} {identifier} {share_index} {bytes}"))
 }
 
+fn threshold_of(word: &str) -> Result<Threshold, Refusal> {
+    // No digit is a threshold of two characters.
+    let number = match word.as_bytes() {
+        [digit @ b'0'..=b'9'] => digit - b'0',
+        _ => 10,
+    };
+    Threshold::new(number)
+}
+
+fn split_line(
+    threshold: &str,
+    count: &str,
+    identifier: &str,
+    secret: &[u8],
+    random: &[u8],
+) -> Result<String, Refusal> {
+    let (threshold, identifier) = (threshold_of(threshold)?, Identifier::parse(identifier)?);
+    let count = count.parse().unwrap();
+    let shares = split_with(secret, threshold, count, identifier, random)?;
+    let texts: Vec<&str> = shares.iter().map(SecretText::as_str).collect();
+    Ok(format!("ok {}", texts.join(" ")))
+}
+
 // What c32 replies to a line.
 fn reply(words: &[&str]) -> Result<String, Refusal> {
-    let ok = |text| format!("ok {text}");
+    let ok = |text: SecretText| format!("ok {}", text.as_str());
     // The program proposes in lower case, this crate in the case of what was typed.
-    let some = |text: Option<String>| {
+    let some = |text: Option<SecretText>| {
         text.map_or("none".to_owned(), |text| {
             format!("some {}", text.to_lowercase())
         })
@@ -102,11 +126,19 @@ fn reply(words: &[&str]) -> Result<String, Refusal> {
         ["encode", threshold, identifier, share_index, hex] => {
             encode(&header(threshold, identifier, share_index)?, &bytes(hex)).map(ok)
         }
+        ["split", threshold, count, identifier, hex, random] => {
+            split_line(threshold, count, identifier, &bytes(hex), &bytes(random))
+        }
         ["derive", share_index, texts @ ..] => {
             let share_index = index(share_index)?;
-            derive(&shares(texts)?, share_index).map(ok)
+            derive(texts, share_index).map(ok)
         }
-        ["recover", texts @ ..] => recover(&shares(texts)?).map(ok),
+        ["recover", texts @ ..] => {
+            let secret = derive(texts, Fe32::S);
+            let wanted = secret.clone().and_then(|it| Share::parse(&it)?.to_bytes());
+            assert_eq!(recover(texts), wanted);
+            secret.map(ok)
+        }
         ["propose", text] => propose(text).map(some),
         ["propose-long", text] => propose_long(text).map(some),
         _ => panic!("no line of c32: {words:?}"),
@@ -126,7 +158,7 @@ fn answers_lines_as_a_model_does() {
     }
     assert!(count > 150);
     for number in [
-        21, 22, 23, 33, 55, 61, 62, 63, 64, 81, 82, 83, 84, 85, 86, 87,
+        21, 22, 23, 33, 55, 61, 62, 63, 64, 65, 66, 81, 82, 83, 84, 85, 86, 87,
     ] {
         assert!(numbers.contains(&number.to_string()), "{number}");
     }
@@ -220,7 +252,7 @@ fn encodes_so_many_bytes() {
             let text = text.unwrap();
             assert!(text.starts_with("ms12casha"));
             let share = Share::parse(&text).unwrap();
-            assert_eq!(share.to_bytes(), Ok(bytes));
+            assert_eq!(share.to_bytes().unwrap(), bytes);
             assert_eq!(share.header(), header);
         } else {
             assert_eq!(text, Err(Refusal::BadSize), "{size}");
@@ -242,7 +274,7 @@ fn encodes_characters_of_a_payload() {
     }
     let header = header("2", "name", "A").unwrap();
     for count in 0..150 {
-        // A secret of so many bytes has as many characters, the last with bits that are left over.
+        // A secret of this many bytes has as many characters, the last with bits that are left over.
         let is_lawful = matches!(count, 26..=71 | 101 | 103) && 5 * count % 8 <= 4;
         let payload = "l".repeat(count);
         let text = encode_payload(&header, &payload);
@@ -286,7 +318,7 @@ fn in_each_order(texts: [&str; 3], share_index: Fe32) -> String {
         [c, a, b],
         [c, b, a],
     ];
-    let mut found = orders.map(|order| derive(&shares(&order).unwrap(), share_index).unwrap());
+    let mut found = orders.map(|order| derive(&order, share_index).unwrap().to_string());
     found.sort();
     assert_eq!(found[0], found[5]);
     let [first, ..] = found;
@@ -302,14 +334,15 @@ fn any_threshold_of_a_set_gives_the_others() {
     assert!(CASH.iter().all(|text| texts.contains(text)));
     for i in 0..32 {
         let three = [texts[i], texts[(i + 5) % 32], texts[(i + 12) % 32]];
-        assert_eq!(recover(&shares(&three).unwrap()).unwrap(), CASH[0]);
+        assert_eq!(derive(&three, Fe32::S).unwrap(), CASH[0]);
         let fourth = (i + 3) % 32;
         let share_index = Share::parse(texts[fourth]).unwrap().share_index();
         assert_eq!(in_each_order(three, share_index), texts[fourth]);
     }
     // More than the threshold are tested, all of them at once too.
     assert_eq!(texts.len(), MAX_SHARES);
-    assert_eq!(recover(&shares(&texts).unwrap()).unwrap(), CASH[0]);
+    assert_eq!(derive(&texts, Fe32::S).unwrap(), CASH[0]);
+    assert_eq!(digits(&recover(&texts).unwrap()), CASH_BYTES);
 }
 
 #[test]
@@ -320,15 +353,17 @@ fn a_mended_share_is_used() {
         .replace("870h", "8?0h");
     let mended = propose(&damaged).unwrap().unwrap();
     assert_eq!(mended, A.to_lowercase());
-    let secret = recover(&shares(&[&mended, C]).unwrap()).unwrap();
-    let bytes = Share::parse(&secret).unwrap().to_bytes();
-    assert_eq!(digits(&bytes.unwrap()), "d1808e096b35b209ca12132b264662a5");
+    let bytes = recover(&[&mended, C]).unwrap();
+    assert_eq!(digits(&bytes), "d1808e096b35b209ca12132b264662a5");
     let damaged = LONG.replace("zxfguhpc", "????????");
-    assert_eq!(propose_long(&damaged), Ok(Some(LONG.to_owned())));
+    assert_eq!(propose_long(&damaged).unwrap().unwrap(), LONG);
     let damaged = damaged.to_uppercase();
-    assert_eq!(propose_long(&damaged), Ok(Some(LONG.to_uppercase())));
+    assert_eq!(
+        propose_long(&damaged).unwrap().unwrap(),
+        LONG.to_uppercase()
+    );
     let damaged = A.replace("320Z", "3?0Q").replace("870H", "8?0H");
-    assert_eq!(propose(&damaged), Ok(Some(A.to_owned())));
+    assert_eq!(propose(&damaged).unwrap().unwrap(), A);
     let damaged = LONG.replace("zxfguhpch", "?????????");
     assert_eq!(propose_long(&damaged), Ok(None));
 }
@@ -368,8 +403,22 @@ fn refuses_sets() {
         ),
     ] {
         assert_eq!(derive(&given, share_index), Err(refusal), "{given:?}");
+        if share_index == Fe32::S {
+            assert_eq!(recover(&given), Err(refusal), "{given:?}");
+        }
     }
-    assert_eq!(recover(&secret).unwrap(), SECRET);
+    assert_eq!(derive(&secret, Fe32::S).unwrap(), SECRET);
+    assert_eq!(recover(&secret), secret[0].to_bytes());
+    // Texts are refused first, in their order, more than there are indices too.
+    for (texts, refusal) in [
+        (vec![A, SECRET, "ms1"], Refusal::BadLength),
+        (vec![A, "ms1", "ms1b"], Refusal::BadLength),
+        (vec![A, "ms1b", "ms1"], Refusal::InvalidCharacter),
+        ([vec![A; 33], vec!["ms1"]].concat(), Refusal::BadLength),
+    ] {
+        assert_eq!(derive(&texts, Fe32::D), Err(refusal), "{texts:?}");
+        assert_eq!(recover(&texts), Err(refusal), "{texts:?}");
+    }
     // A string whose payload holds no whole bytes is one of a set all the same.
     let odd = "ms14lvh96q5zxeuujvzg58w59yc7s38yyfhkh8q0nuzggke5jv9s";
     let odd = Share::parse(odd).unwrap();
