@@ -1,6 +1,6 @@
-// Makes the page and the JavaScript package of modules that are built: node assemble.mjs MODULES OUT
+// Makes the pages and the JavaScript package of modules that are built: node assemble.mjs MODULES OUT
 //
-// MODULES has bech32_c.wasm, codex32_c.wasm, and both as NAME.lowered.wasm. OUT gets index.html and package/.
+// MODULES has bech32_c.wasm, codex32_c.wasm, and both as NAME.lowered.wasm. OUT gets index.html, share.html and package/.
 // Wants Node 20 or later, and nothing else.
 import fs from 'node:fs';
 import path from 'node:path';
@@ -28,14 +28,19 @@ const modulesSource = () => filled(read('src', 'modules.js'), {
   BECH32_C_LOWERED: base64('bech32_c.lowered'), CODEX32_C_LOWERED: base64('codex32_c.lowered'),
 });
 
-// ---- the page
+// ---- the pages
 
-// The files of the page's script, each behind those that it imports.
-const SCRIPT = [
-  ...['reasons', 'instance', 'lists', 'calls', 'library', 'modules'].map((name) => `src/${name}.js`),
-  ...['words', 'sentences', 'tried', 'links', 'typed', 'parts', 'others', 'beginnings', 'pair', 'chance', 'reading', 'kinds',
-    'saying', 'codex32', 'offers', 'texts', 'strings', 'shares', 'answer', 'shown', 'copy', 'page'].map((name) => `page/${name}.js`),
-];
+// The files that a page's script is made of, each behind those that it imports.
+const LIBRARY = ['reasons', 'instance', 'lists', 'calls', 'library', 'modules'].map((name) => `src/${name}.js`);
+const SAYING = ['words', 'sentences', 'tried', 'links', 'typed', 'parts', 'others', 'beginnings', 'pair', 'chance', 'reading', 'kinds',
+  'saying', 'codex32', 'offers', 'texts', 'strings', 'shares', 'answer', 'shown', 'asking', 'fields'];
+const PAGES = {
+  'index.html': { template: 'page.html', styles: ['page.css'], scripts: [...SAYING, 'copy', 'page'] },
+  'share.html': {
+    template: 'share.html', styles: ['page.css', 'share.css'],
+    scripts: [...SAYING, 'network', 'splitting', 'collecting', 'sheets', 'split', 'recover', 'share'],
+  },
+};
 
 const variable = (file) => `$${path.basename(file, '.js')}`;
 
@@ -56,8 +61,9 @@ const asFunction = (file, source) => {
   return `const ${variable(file)} = (() => {\n${body}return { ${exported.join(', ')} };\n})();\n`;
 };
 
-const script = () => {
-  const parts = SCRIPT.map((file) => asFunction(file, file === 'src/modules.js' ? modulesSource() : read(file)));
+const script = (names) => {
+  const files = [...LIBRARY, ...names.map((name) => `page/${name}.js`)];
+  const parts = files.map((file) => asFunction(file, file === 'src/modules.js' ? modulesSource() : read(file)));
   const text = `'use strict';\n{\n${parts.join('')}}\n`;
   if (/<\/script|<!--/i.test(text)) throw new Error('the script has words that end a script');
   return text;
@@ -70,11 +76,11 @@ const policy = (js, css) => [
   "require-trusted-types-for 'script'", "trusted-types 'none'",
 ].join('; ');
 
-const page = (version) => {
-  const js = script(), css = read('page', 'page.css');
+const page = ({ template, styles, scripts }, version) => {
+  const js = script(scripts), css = styles.map((name) => read('page', name)).join('');
   const sums = ['bech32_c', 'codex32_c'].map((name) => `${name} ${sha256(wasm(name), 'hex')}`).join(', ');
   const values = { POLICY: policy(js, css), STYLE: css, VERSION: version, SUMS: sums, SCRIPT: js };
-  return filled(read('page', 'page.html'), values);
+  return filled(read('page', template), values);
 };
 
 // ---- the package
@@ -94,4 +100,4 @@ const folder = path.join(out, 'package');
 fs.rmSync(folder, { recursive: true, force: true });
 fs.mkdirSync(folder, { recursive: true });
 for (const [name, text] of Object.entries(packageFiles())) fs.writeFileSync(path.join(folder, name), text);
-fs.writeFileSync(path.join(out, 'index.html'), page(version));
+for (const [name, parts] of Object.entries(PAGES)) fs.writeFileSync(path.join(out, name), page(parts, version));

@@ -17,13 +17,14 @@ const MOST = 4096, MOST_OF_SET = 8192;
 
 const tooLong = ({ length }) => ({ tone: 'wrong', verdict: OTHER.tooLong(length), notes: [], said: [] });
 
-const isRight = (library) => (text) =>
+/** Whether a checksum of Bech32 or Bech32m accepts a text. */
+export const isRight = (library) => (text) =>
   text !== '' && CHECKSUMS.some(([checksum]) => tried(() => library.check(checksum, text)).value);
 
 const BEGUN = { tone: 'open', verdict: OTHER.begun, said: [] };
 
-// What a text is is found before anything is mended.
-const ofText = (library, text) => {
+/** What is said of one text. What it is is found before anything is mended. */
+export const ofText = (library, text) => {
   if (isBegun(text)) return BEGUN;
   if (asciiLower(text).startsWith(CODEX32)) return ofCodex32(library, text);
   return untested(text) ?? ofRightText(library, text) ?? otherKind(text) ?? ofWrongText(library, text);

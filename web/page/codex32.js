@@ -82,7 +82,8 @@ export const ofCodex32 = (library, text) => {
 /** The secret of strings that give it, as sentences with texts: what the button shows. */
 export const secretSaid = (library, texts) => {
   const own = texts.find((it) => partsOf(library, it).parts?.shareIndex === SECRET_INDEX);
-  const text = asciiLower(own ?? library.codex32.recover(texts)), { value } = tried(() => library.codex32.share(text));
+  const text = asciiLower(own ?? library.codex32.derive(texts, SECRET_INDEX)), { value } = tried(() => library.codex32.share(text));
   const bytes = value ? { name: STRING.bytes(value.bytes.length), text: hex(value.bytes) } : { name: STRING.noBytes, text: null };
+  value?.bytes.fill(0);
   return [{ name: STRING.secret, text }, bytes];
 };

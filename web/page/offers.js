@@ -11,10 +11,10 @@ import { faultsOf, inCaseOf, readingOf, sizeOf } from './reading.js';
 import { MENDED, VALID, WARNINGS } from './sentences.js';
 import { tried } from './tried.js';
 
-/** So many characters that cannot be read are found. */
+/** The most unreadable characters that are found. */
 export const MOST_UNREAD = 3;
 
-// So many wrong characters are looked for at most, and a correction finds as many beside those that cannot be read.
+// The most wrong characters that are looked for; a correction finds as many beside unreadable ones.
 const MOST_ERRORS = 2;
 const correctedErrors = ({ unread }) => Math.floor((MOST_UNREAD - unread.length) / 2);
 
@@ -36,7 +36,7 @@ export const errorsFor = (library, it) => {
 
 // ---- the offers
 
-// What is said of a text that the checksum of this name accepts, with so many changes.
+// What is said of a text that the checksum of this name accepts, with this many changes.
 const acceptedOf = (library, text, [checksum, name], count) => {
   const kind = kindOf(library, text, library.check(checksum, text), name), { isAddress, isBroken, known, said, facts } = kind;
   const right = isAddress ? [MENDED.address(count, name)] : [MENDED.text(count, name), VALID.is(known.what)];

@@ -4,7 +4,7 @@ import { asciiLower } from '../src/reasons.js';
 
 const BECH32 = 'bech32', BECH32M = 'bech32m';
 
-// The characters behind the separator of so many bytes: the data and the checksum.
+// The characters behind the separator of this many bytes: the data and the checksum.
 const ofBytes = (...sizes) => sizes.map((size) => Math.ceil((8 * size) / 5) + 6);
 
 const segwit = (network) => ({ network, what: `a segwit address of ${network}`, checksum: null, sizes: null });

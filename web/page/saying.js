@@ -28,6 +28,9 @@ export const mended = (offers, faults) => {
   return { ...shown, isSecret: offers.some((offer) => offer.isSecret), ...(secretOf && { secretOf }) };
 };
 
+/** An answer that is no more than this sentence. */
+export const failed = (sentence) => ({ tone: 'wrong', verdict: sentence, notes: [], said: [] });
+
 /** That nothing mends a text, and what else is known of it. Where more of it may be left open, that is said. */
 export const unmended = ({ text, unread }, said, canMore, verdict = NONE.verdict) =>
   ({ tone: 'wrong', verdict, said: [...said, ...(canMore ? [NONE.unsure] : [])], text, marked: unread });

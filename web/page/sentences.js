@@ -294,6 +294,88 @@ export const SET = {
   isOther: (first, part, own, other) => `is of another set than ${name(first)}: ${DIFFER[part](own, other)}.`,
 };
 
+// ---- the page for sharing: splitting, sheets of paper, recovering
+
+export const NETWORK = {
+  online: 'This browser reports a network connection. Disconnect this computer before you type or make a secret.',
+  offline: 'This browser reports no network connection. That can be wrong: check the cable and the wireless switch yourself.',
+  loaded: 'This page was not opened from a disk. Save it, and open the copy on a computer without network.',
+};
+
+export const FORGET = {
+  button: 'Forget all',
+  done: 'All fields, shares and sheets of this page are cleared.',
+  kept: 'The browser and the system may still hold copies in memory, and on the disk where memory was swapped out. '
+    + 'Close the browser and turn the computer off.',
+};
+
+const PAPER = 'under “Recover a secret”, from the paper';
+
+export const SPLIT = {
+  title: 'Split a secret',
+  kind: 'Which secret',
+  kinds: { 16: 'A new one of 16 bytes', 32: 'A new one of 32 bytes', own: 'My own, as hexadecimal digits' },
+  own: 'Your secret, in 32 or 64 hexadecimal digits',
+  ownHelp: 'These are its 16 or 32 bytes: the seed that a wallet makes its keys from (BIP-32). Seed words are not read here.',
+  threshold: 'Shares needed to recover it', count: 'Shares in all',
+  identifier: 'Identifier',
+  identifierHelp: 'Four letters or digits, but not 1, b, i or o, to tell this secret from others. Left empty, it is drawn at random.',
+  make: 'Make the shares', makeOthers: 'Make other shares in place of these',
+  // What is wrong with the fields.
+  empty: 'Type your secret first.',
+  strange: (at, character) => `Character ${place(at)}, ${shown(character)}, is not a hexadecimal digit. These are 0 to 9 and a to f.`,
+  size: (count) => `${counted(count, 'hexadecimal digit stands', 'hexadecimal digits stand')} here. `
+    + 'A secret of 16 bytes has 32 of them, and one of 32 bytes has 64.',
+  string: 'This begins like a codex32 string. Put it in under “Recover a secret”.',
+  few: (count, threshold) => `${counted(count, '', 'shares')} are too few: ${numeral(threshold)} are needed to recover the secret.`,
+  identifierStrange: (at, character) => `Character ${place(at)} of the identifier, ${shown(character)}, cannot stand there. `
+    + 'Letters and digits can, but not 1, b, i or o.',
+  identifierSize: (count) => `An identifier has four characters, and this one has ${numeral(count)}.`,
+  noRandom: (error) => `No shares were made, because the browser gave no random bytes. ${error}`,
+  differ: 'The shares that were made do not recover the secret, so they are not shown. This is a fault of the browser or of this page.',
+  // What was made.
+  made: (count, threshold) => `${counted(count, '', 'shares')} are made. `
+    + (count === threshold ? 'All of them are needed to recover the secret.' : `Any ${numeral(threshold)} of them recover the secret.`),
+  tried: 'All of them together were tried, and gave the secret back.',
+  shown: `To see the new secret, put shares in ${PAPER}. That also tests what is on it.`,
+  test: `To test the paper, put shares in ${PAPER}.`,
+  apart: 'Shares of two splits do not go together, even where the secret is the same.',
+  seen: 'Show a share only where nobody else and no camera sees the screen.',
+  printed: 'Printing makes copies: the print queue of this computer and the memory of the printer may keep them. '
+    + 'Use a printer on a cable that has no network, do not print to a file, or copy the shares by hand.',
+  printAll: 'Print all sheets', print: 'Print this sheet', show: 'Show this share', hide: 'Hide this share',
+};
+
+export const SHEET = {
+  title: (shareIndex, identifier) => `Share “${shareIndex}” of the secret “${identifier}”`,
+  number: (at, count) => `Sheet ${at + 1} of ${count}`,
+  facts: ({ threshold, identifier, shareIndex, length }) =>
+    `Threshold ${threshold}, identifier “${identifier}”, share index “${shareIndex}”, ${length} characters.`,
+  wanted: (count, threshold) => (count === threshold ? `All ${numeral(count)} shares are needed to recover the secret. `
+    : `Any ${numeral(threshold)} of the ${numeral(count)} shares recover the secret, so whoever has ${numeral(threshold)} of them has it. `)
+    + 'Keep each sheet in another place.',
+  text: (from, to) => `The share as a codex32 string (BIP-93), places ${from} to ${to}:`,
+  checksum: (from, to) => `Its checksum, places ${from} to ${to}:`,
+  boxes: 'A box for each place, to mend it by hand:',
+  mend: 'Copy what you can read, and write ? for the rest. The page that made this sheet, share.html, corrects up to four wrong '
+    + 'characters or eight unreadable ones; a wrong one counts as two. Use it on a computer without network.',
+  alphabet: 'The characters that can stand behind “ms1”, with their values:',
+  rows: { value: 'Value', character: 'Character' },
+  none: 'There is no sheet to print: make shares first.',
+};
+
+export const RECOVER = {
+  title: 'Recover a secret',
+  label: 'One share',
+  help: 'Put in one share after another. Each begins with ms1. Write ? for each character that you are not sure of.',
+  add: 'Add this string', addMended: 'Add the corrected string',
+  begun: 'A codex32 string begins like this.',
+  other: 'This is not a codex32 string. Those begin with ms1.',
+  several: 'Several strings stand here. Put them in one after another.',
+  remove: (at) => `Remove string ${at + 1}`,
+  seen: 'Show the secret only where nobody else and no camera sees the screen.',
+};
+
 // ---- the page around an answer
 
 export const PAGE = {

@@ -73,7 +73,7 @@ const textsOf = (shares) => shares.map(({ text }) => text);
 const agree = (library, shares) =>
   tried(() => library.codex32.derive(textsOf(shares), shares[0].parts.shareIndex)).value !== null;
 
-// The one share without which the others agree, where so many of them are left that it is seen.
+// The one share without which the others agree, where enough of them are left to tell.
 const oddOne = (library, shares, wanted) => {
   if (shares.length < wanted + 2) return null;
   const found = shares.filter((it) => agree(library, shares.filter((other) => other !== it)));

@@ -10,12 +10,18 @@ export const element = (name, className, ...children) => {
   return it;
 };
 
-const paragraphs = (className, sentences) => sentences.map((sentence) => element('p', className, sentence));
+export const paragraphs = (className, sentences) => sentences.map((sentence) => element('p', className, sentence));
 
-// What a reader of the screen is told otherwise.
-const unspoken = (it) => {
-  it.setAttribute('aria-hidden', 'true');
+// No text of a user goes to a service that translates pages.
+const untranslated = (it) => {
+  it.translate = false;
   return it;
+};
+
+/** What a reader of the screen is told otherwise. */
+export const unspoken = (it) => {
+  it.setAttribute('aria-hidden', 'true');
+  return untranslated(it);
 };
 
 export const button = (className, does, ...children) => {
@@ -62,8 +68,8 @@ const columnsOf = (text, marked = []) =>
 
 // ---- an answer
 
-// The text itself, to be read out and copied.
-const whole = (text) => element('p', 'unseen', element('code', '', text));
+/** The text itself, to be read out and copied. */
+export const whole = (text) => element('p', 'unseen', untranslated(element('code', '', text)));
 
 const copying = (text, does) => element('p', '', button('copy', (it) => does.copy(it, text), PAGE.copy));
 
@@ -92,8 +98,8 @@ const shownText = ({ tone, text, marked, isSecret }, does) => {
 const shownChoices = (choices, does) =>
   choices.map((text) => element('p', '', button('choice', () => does.choose(text), element('code', '', text))));
 
-// A string of a set: its title, and what is said of it. It has no button, since it is a secret.
-const shownString = ({ title, tone, headline, said, text, marked, offers = [] }) =>
+/** A string of a set: its title, and what is said of it. It has no button, since it is a secret. */
+export const shownString = ({ title, tone, headline, said, text, marked, offers = [] }) =>
   element('section', 'string', element('h3', `verdict ${tone}`, title), ...paragraphs('', headline ? [headline] : []),
     ...(text === undefined ? [] : [rows(columnsOf(text, marked), wrongColumn)]),
     ...offers.flatMap(({ columns, changes, text: mended }) => [rows(columns, mendedColumn), whole(mended), shownChanges(changes)]),
@@ -103,8 +109,8 @@ const shownString = ({ title, tone, headline, said, text, marked, offers = [] })
 export const shownSecret = (parts) => parts.flatMap(({ name, text }) =>
   [element('p', '', name), ...(text === null ? [] : [rows(columnsOf(text), wrongColumn), whole(text)])]);
 
-// A button that shows a secret behind it, and hides it again.
-const shownButton = (texts, does) => {
+/** A button that shows a secret behind it, and hides it again. */
+export const shownButton = (texts, does) => {
   const room = element('div', 'secret'), it = button('reveal', () => does.reveal(it, room, texts), PAGE.show);
   it.setAttribute('aria-expanded', 'false');
   return [element('p', '', it), room];

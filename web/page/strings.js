@@ -7,7 +7,7 @@ import { withoutMarks, withoutQuotes } from './typed.js';
 const LINES = /[\n\r]+/, PIECES = /[\s,;|]+/;
 const BEGINNING = /^(?:bitcoin:)?(?:bcrt|bc|tb|ms)1/i;
 
-// A string has at least so many characters without its beginning.
+// A string has at least this many characters without its beginning.
 const WHOLE = 45;
 
 // One that has more is two or more without a space, each of which begins with `ms1`: a `1` is no data.

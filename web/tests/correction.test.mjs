@@ -262,9 +262,9 @@ test('strings of bytes of each length, and those that are derived of them, are a
     const texts = Array.from({ length: threshold }, (_, i) => codex32.encode(threshold, 'test', ALPHABET[i], random(length)));
     const more = ['s', 'l', 'm'].map((index) => codex32.derive(texts, index));
     assert.ok([...texts, ...more].every(isAccepted), String(length));
-    assert.equal(codex32.recover([...texts.slice(3), ...more].slice(0, threshold)), more[0]);
+    assert.equal(codex32.derive([...texts.slice(3), ...more].slice(0, threshold), 's'), more[0]);
     assert.equal(codex32.derive([...more, ...texts].slice(0, threshold), ALPHABET[0]), texts[0]);
-    assert.equal(codex32.recover([...texts, more[2]]), more[0]);
+    assert.equal(codex32.derive([...texts, more[2]], 's'), more[0]);
   }
 });
 

@@ -71,6 +71,11 @@ test('so are shares, long strings, sets and what is made of bytes', () => withIn
     () => codex32.recover([...SHARES, other]), () => codex32.recover([SHARES[0], LONG]), () => codex32.recover([SHARES[0], `${SHARES[1].slice(0, -1)}b`]),
     () => codex32.recover([SHARES[0], 'é'.repeat(3000)]), () => codex32.proposeLong(long), () => codex32.proposeLong(`${LONG.slice(0, 20)}${'q'.repeat(20)}${LONG.slice(40)}`),
     () => codex32.proposeLong('?'.repeat(127)),
+    () => codex32.split(bytes, 9, 31), () => codex32.split(bytes.subarray(0, 16), 2, 2, null, { into: Uint8Array }), () => codex32.split(bytes, 9, 8), () => codex32.split(bytes.subarray(0, 15), 2, 2),
+    () => codex32.split(bytes, 2, 2, 'test', { random: new Uint8Array(103).fill(0x55) }), () => codex32.split(bytes, 2, 2, 'test', { random: new Uint8Array(102).fill(0x55) }),
+    ...[SHARES[0], LONG, `${LONG.slice(0, -1)}q`, `${LONG.slice(0, -1)}b`].map((text) => () => codex32.share(new TextEncoder().encode(text))),
+    () => codex32.recover(SHARES.map((text) => new TextEncoder().encode(text))), () => codex32.derive(SHARES, 'd', { into: Uint8Array }),
+    () => codex32.encodePayload(2, 'test', 'a', new Uint8Array(26).fill(0x62)),
   ];
   let refused = 0;
   for (const call of calls) {
@@ -83,6 +88,33 @@ test('so are shares, long strings, sets and what is made of bytes', () => withIn
     assert.ok(isFresh(memoryOf(started[1]), FRESH[1]) && isFresh(memoryOf(started[0]), FRESH[0]), String(call));
   }
   assert.ok(refused > 5 && refused < calls.length - 5 && started.length === 2, String(refused));
+}));
+
+test('a secret is wiped where there are no random bytes', () => withInstances((started) => {
+  const { codex32 } = library(...modules), { getRandomValues } = crypto, secret = new Uint8Array(16).fill(0xab);
+  let left = 0;
+  crypto.getRandomValues = (array) => {
+    if (left-- <= 0) throw new Error('no random bytes');
+    return getRandomValues.call(crypto, array);
+  };
+  try {
+    // Those of the characters are drawn first, and those of the identifier then.
+    for (const [drawn, identifier] of [[0, 'test'], [0, null], [1, null]]) {
+      left = drawn;
+      assert.throws(() => codex32.split(secret, 2, 2, identifier), /no random bytes/);
+      assert.ok(isFresh(memoryOf(started[1]), FRESH[1]));
+    }
+    // What is refused draws nothing.
+    left = 0;
+    for (const [length, threshold, count, identifier] of [[16, 1, 2, null], [16, 0, 2, null], [15, 2, 2, null], [16, 2, 1, null], [16, 2, 32, 'test']]) {
+      assert.throws(() => codex32.split(secret.subarray(0, length), threshold, count, identifier), Refused);
+    }
+    left = 2;
+    assert.equal(codex32.split(secret, 2, 2).length, 2);
+  } finally {
+    delete crypto.getRandomValues;
+  }
+  assert.equal(crypto.getRandomValues, getRandomValues);
 }));
 
 test('wipe leaves the memory of the other module as it was at first', () => withInstances((started) => {

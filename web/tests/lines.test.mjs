@@ -102,6 +102,16 @@ const OF_TEXTS = {
   },
 };
 
+// What a call returns, or the number of its refusal as bytes.
+const refusedAs = (call) => {
+  try {
+    return call();
+  } catch (error) {
+    if (!(error instanceof Refused)) throw error;
+    return [error.number];
+  }
+};
+
 const OF_STRINGS = {
   parse(words) {
     const { threshold, identifier, shareIndex, payload } = codex32.parse(wanted(words, 2)[1]);
@@ -123,13 +133,20 @@ const OF_STRINGS = {
     const [, threshold, identifier, shareIndex, hex] = wanted(words, 5), bytes = hexOf(hex);
     return `ok ${codex32.encode(/^[0-9]$/.test(threshold) ? Number(threshold) : err(83), identifier, shareIndex, bytes)}`;
   },
+  split(words) {
+    const [, threshold, number, identifier, hex, bytes] = wanted(words, 6);
+    const count = /^(?:[0-9]|[1-9][0-9])$/.test(number) ? Number(number) : err(4), secret = hexOf(hex), random = hexOf(bytes);
+    return `ok ${codex32.split(secret, /^[0-9]$/.test(threshold) ? Number(threshold) : err(83), count, identifier, { random }).join(' ')}`;
+  },
   derive([, shareIndex, ...texts]) {
     if (texts.length === 0) err(3);
     return `ok ${codex32.derive(texts, shareIndex)}`;
   },
   recover([, ...texts]) {
     if (texts.length === 0) err(3);
-    return `ok ${codex32.recover(texts)}`;
+    const own = codex32.derive(texts, 's'), bytesOf = (call) => hexWord(refusedAs(call));
+    assert.equal(bytesOf(() => codex32.recover(texts)), bytesOf(() => codex32.share(own).bytes), own);
+    return `ok ${own}`;
   },
 };
 

@@ -56,7 +56,7 @@ test('it installs without network, and its README is so', withNpm, () => inFolde
   assert.ok(readme.includes(`${name}-${version}.tgz`));
 }));
 
-const USE = `import { encode, decode, check, correct, nearEdits, segwit, codex32, isLowered, Refused, Stopped, type Checksum, type Code, type Correction, type Edit, type NearEdit } from '${name}';
+const USE = `import { encode, decode, check, correct, nearEdits, segwit, codex32, isLowered, Refused, Stopped, type Checksum, type Code, type Correction, type Edit, type NearEdit, type SecretText } from '${name}';
 const checksum: Checksum = decode('a').checksum;
 const text: string = encode(checksum, 'a', new Uint8Array());
 const { hrp, data }: { hrp: string; data: string } = check('bech32', text);
@@ -67,7 +67,11 @@ if (edit?.kind === 'swapped') console.log(edit.place + 1, edit.characters);
 const version: number = segwit.decode(segwit.encode(hrp, 1, new Uint8Array(2))).version;
 const parts: string = codex32.parse(data).identifier + codex32.propose(text)?.text;
 const { threshold, identifier, shareIndex, bytes }: { threshold: number; identifier: string; shareIndex: string; bytes: Uint8Array } = codex32.share(text);
-const derived: string = codex32.derive(new Set([codex32.encode(threshold, identifier, shareIndex, bytes)]), 's') + codex32.recover([text]) + codex32.proposeLong(text)?.text + codex32.encodePayload(threshold, identifier, shareIndex, parts);
+const derived: string = codex32.derive(new Set([codex32.encode(threshold, identifier, shareIndex, bytes)]), 's') + codex32.recover([text]).length + codex32.proposeLong(text)?.text + codex32.encodePayload(threshold, identifier, shareIndex, parts);
+const shares: string[] = codex32.split(bytes, 2, 3), wiped: Uint8Array[] = codex32.split(bytes, 2, 3, null, { into: Uint8Array }), named: string[] = codex32.split(bytes, 2, 3, 'test', { into: String, random: bytes });
+const secret: Uint8Array = codex32.recover([...shares, ...wiped, ...named]), own: Uint8Array = codex32.derive(wiped, 's', { into: Uint8Array });
+const made: Uint8Array = codex32.encode(0, 'test', 's', secret, { into: Uint8Array }), again: string = codex32.encodePayload(0, 'test', 's', made, { into: String }) + codex32.share(own).identifier;
+const kept: SecretText = again;
 const lowered: boolean = isLowered;
 try { decode(text); } catch (error) { if (error instanceof Refused) { const code: Code = error.code, at: number | null = error.place, which: number | null = error.which; console.log(code, at, which); } if (error instanceof Stopped) throw error; }
 // @ts-expect-error
@@ -77,8 +81,12 @@ decode(5);
 // @ts-expect-error
 codex32.encode(2, 'test', 0, bytes);
 // @ts-expect-error
-codex32.encodePayload(2, 'test', 'a', bytes);
-console.log(place, version, parts, lowered, derived);
+codex32.encodePayload(2, 'test', 'a', 5);
+// @ts-expect-error
+codex32.split('secret', 2, 3);
+// @ts-expect-error
+const wrong: string[] = codex32.split(bytes, 2, 3, null, { into: Uint8Array });
+console.log(place, version, parts, lowered, derived, kept, wrong);
 `;
 
 const withTypes = withNpm.skip ? withNpm : has('tsc') ? {} : { skip: 'TypeScript (tsc) is not installed here, so the types were not tried' };

@@ -4,14 +4,11 @@
 import test from 'node:test';
 import assert from 'node:assert/strict';
 import fs from 'node:fs';
-import http from 'node:http';
-import os from 'node:os';
-import path from 'node:path';
 import { fileURLToPath, pathToFileURL } from 'node:url';
-import { createHash } from 'node:crypto';
 import * as chromium from './browsers/chromium.mjs';
 import * as firefox from './browsers/firefox.mjs';
 import { until } from './browsers/browser.mjs';
+import { CONTRAST, LEAK, NAMES_ANOTHER, RUN, inBrowser, pictured, policiesOf, withChanged, withServer } from './browsers/checks.mjs';
 import { COUNT, KINDS_OF_TEXTS, textsOf } from './right-texts.mjs';
 import { CASH, SECRET, SETS, strings } from './sets.mjs';
 import { WRONG } from './wrong-texts.mjs';
@@ -29,18 +26,14 @@ const STRING = 'ms10testsxxxxxxxxxxxxxxxxxxxxxxxxxx4nzvca9cmczlw';
 
 // ---- the file
 
-const between = (text, from, to) => text.slice(text.indexOf(from) + from.length, text.indexOf(to, text.indexOf(from)));
-const hash = (text) => createHash('sha256').update(text).digest('base64');
-
 test('the policy allows the script and the style that stand in the file, and nothing else', () => {
-  const policy = between(source, 'Content-Security-Policy" content="', '">');
-  const js = between(source, '<script>', '</script>'), css = between(source, '<style>', '</style>');
-  assert.equal(policy, `default-src 'none'; script-src 'sha256-${hash(js)}' 'wasm-unsafe-eval'; style-src 'sha256-${hash(css)}'; base-uri 'none'; form-action 'none'; require-trusted-types-for 'script'; trusted-types 'none'`);
+  const [policy, wanted] = policiesOf(source);
+  assert.equal(policy, wanted);
   assert.ok(source.indexOf('Content-Security-Policy') < source.indexOf('<style>'));
 });
 
 test('the file names no other, and no address', () => {
-  assert.doesNotMatch(source, /https?:|\/\/[a-z]+\.|<link|<img|<iframe|\bsrc=|\bhref=|innerHTML|localStorage|document\.cookie|location\.hash|history\./);
+  assert.doesNotMatch(source, NAMES_ANOTHER);
 });
 
 // ---- in a browser
@@ -101,80 +94,16 @@ const HOSTILE = [
   ['markup in a human-readable part', '<script>window.ran=1</script>1qqqqqq', /the checksum is wrong for both Bech32m and Bech32/],
 ];
 
-// What a page tries to send, and what a script within it tries to run.
-const LEAK = `
-  const to = arguments[0];
-  const tries = [() => fetch(to + 'fetch').catch(() => {}), () => { new Image().src = to + 'image'; }, () => navigator.sendBeacon(to + 'beacon', 'x'),
-    () => { new WebSocket(to.replace('http', 'ws') + 'socket'); }, () => { new EventSource(to + 'events'); }, () => { const it = new XMLHttpRequest(); it.open('GET', to + 'xhr'); it.send(); },
-    ...['iframe', 'script', 'img'].map((name) => () => { const it = document.createElement(name); it.src = to + name; document.body.append(it); }),
-    () => { const it = document.createElement('link'); it.rel = 'stylesheet'; it.href = to + 'style'; document.head.append(it); },
-    () => { const frame = document.createElement('iframe'), it = document.createElement('form'); frame.name = it.target = 'frame'; it.action = to + 'form'; document.body.append(frame, it); it.submit(); }];
-  for (const one of tries) try { one(); } catch {}
-  await new Promise((done) => setTimeout(done, 1500));
-  return tries.length;`;
-const RUN = `
-  const run = [() => { const it = document.createElement('p'); it.setAttribute('onclick', 'window.ran = 1'); document.body.append(it); it.click(); },
-    () => { const it = document.createElement('script'); it.textContent = 'window.ran = 1'; document.body.append(it); }, ...(arguments[0] ? [() => { eval('window.ran = 1'); }, () => { new Function('window.ran = 1')(); }, () => { setTimeout('window.ran = 1', 0); },
-    () => { document.body.innerHTML = '<img src=x onerror="window.ran = 1">'; }] : [])];
-  for (const one of run) try { one(); } catch {}
-  await new Promise((done) => setTimeout(done, 300));
-  return String(window.ran);`;
-
-const withServer = async (body) => {
-  const hits = [];
-  const server = http.createServer((request, response) => {
-    hits.push(request.url);
-    response.end(request.url === '/page' ? '<!doctype html><title>.</title><body>' : '');
-  });
-  server.on('upgrade', (request, socket) => {
-    hits.push(request.url);
-    socket.destroy();
-  });
-  await new Promise((done) => server.listen(0, '127.0.0.1', done));
-  try {
-    await body(`http://127.0.0.1:${server.address().port}/`, hits);
-  } finally {
-    server.closeAllConnections();
-    server.close();
-  }
-};
-
-// The copy of the page with one byte changed, and what is seen of it.
-const withChanged = async (page, at, body) => {
-  const folder = fs.mkdtempSync(path.join(os.tmpdir(), 'changed-'));
-  const file = path.join(folder, 'index.html');
-  const bytes = Buffer.from(source);
-  bytes[at] ^= 1;
-  fs.writeFileSync(file, bytes);
-  try {
-    await page.visit(pathToFileURL(file).href);
-    await body();
-  } finally {
-    fs.rmSync(folder, { recursive: true });
-  }
-};
 const byteOf = (word) => Buffer.from(source).indexOf(word);
 
-const CONTRAST = `
-  const light = (color) => { const parts = color.match(/[\\d.]+/g).slice(0, 3).map((it) => it / 255).map((it) => it <= 0.04045 ? it / 12.92 : ((it + 0.055) / 1.055) ** 2.4); return 0.2126 * parts[0] + 0.7152 * parts[1] + 0.0722 * parts[2]; };
-  const ground = (it) => { for (; it; it = it.parentElement) { const { backgroundColor: color } = getComputedStyle(it); if (!/, 0\\)|transparent/.test(color)) return color; } return 'rgb(255, 255, 255)'; };
-  return [...document.querySelectorAll('h1, h2, h3, label, #help, textarea, button, #answer p, #answer li, code, mark, .column span, .number, summary, footer p')].filter((it) => it.checkVisibility()).map((it) => {
-    const [a, b] = [light(getComputedStyle(it).color), light(ground(it))].sort((x, y) => y - x);
-    return { is: it.tagName + '.' + it.className, ratio: (a + 0.05) / (b + 0.05) };
-  }).filter(({ ratio }) => ratio < 4.5);`;
+// The elements whose text is read.
+const READ = 'h1, h2, h3, label, #help, textarea, button, #answer p, #answer li, code, mark, .column span, .number, summary, footer p';
 
 // Where the warnings and the buttons stand.
 const SEEN = `
   window.scrollTo(0, 0);
   const placesOf = (what) => [...document.querySelectorAll("#answer " + what)].map((it) => { const { top, bottom } = it.getBoundingClientRect(); return { top, bottom }; });
   return { above: placesOf(".caution"), below: placesOf(".copy, #answer .reveal") };`;
-
-const screens = process.env.PAGE_SCREENS;
-const pictured = async (page, name) => {
-  if (!screens) return;
-  fs.mkdirSync(screens, { recursive: true });
-  fs.writeFileSync(path.join(screens, `${name}.png`), await page.screenshot());
-};
 
 // One text of each form that an answer has.
 const PICTURES = [
@@ -189,22 +118,6 @@ const PICTURES = [
 // A set that gives its secret, which is then shown.
 const REVEALED = 'const it = document.querySelector(".reveal"); it.focus(); it.click(); return document.querySelector(".secret").innerText;';
 const IN_PAGE = 'const page = document.documentElement.cloneNode(true); page.querySelectorAll("script").forEach((it) => it.remove()); return page.outerHTML.toLowerCase().includes(arguments[0]);';
-
-const inBrowser = (browser, body) => {
-  if (!browser.program) {
-    test(browser.name, { skip: `${browser.name} is not installed here, so the page was not tried in it: apt-get install ${browser.packageName}` }, () => {});
-    return;
-  }
-  test(browser.name, { timeout: 600000 }, async (t) => {
-    const page = await browser.open();
-    t.diagnostic(page.version);
-    try {
-      await body(t, page);
-    } finally {
-      await page.stop();
-    }
-  });
-};
 
 const common = (browser) => async (t, page) => {
   await page.size(1280, 900);
@@ -382,12 +295,12 @@ const common = (browser) => async (t, page) => {
     for (const word of ['use strict', 'Compare this with the source', 'AGFzbQ']) {
       const at = byteOf(word) + 1;
       assert.ok(at > 0, word);
-      await withChanged(page, at, async () => {
+      await withChanged(page, source, at, async () => {
         const { text } = await shownFor(page, DAMAGED);
         assert.match(text, /^\W*The script of this page did not run/);
       });
     }
-    await withChanged(page, byteOf(':root {') + 1, async () => {
+    await withChanged(page, source, byteOf(':root {') + 1, async () => {
       assert.match((await shownFor(page, V0)).text, /This is a valid Bech32 address/);
       assert.equal(await page.evaluate('return getComputedStyle(document.querySelector("summary")).cursor;') === 'pointer', false);
     });
@@ -423,12 +336,12 @@ const common = (browser) => async (t, page) => {
       }
       for (const [name, text] of PICTURES) {
         await shownFor(page, text);
-        assert.deepEqual(await page.evaluate(CONTRAST), [], name);
+        assert.deepEqual(await page.evaluate(CONTRAST, READ), [], name);
         await pictured(page, `${browser.name}-${device}-light-${name}`);
       }
       await shownFor(page, strings(CASH, 'acde'));
       await page.evaluate(REVEALED);
-      assert.deepEqual(await page.evaluate(CONTRAST), []);
+      assert.deepEqual(await page.evaluate(CONTRAST, READ), []);
       await pictured(page, `${browser.name}-${device}-light-revealed`);
     });
   }
@@ -514,12 +427,12 @@ for (const browser of [firefox, chromium]) {
         await page.visit(PAGE);
         for (const [name, text] of PICTURES) {
           await shownFor(page, text);
-          assert.deepEqual(await page.evaluate(CONTRAST), [], name);
+          assert.deepEqual(await page.evaluate(CONTRAST, READ), [], name);
           await pictured(page, `${browser.name}-${device}-dark-${name}`);
         }
         await shownFor(page, strings(CASH, 'acde'));
         await page.evaluate(REVEALED);
-        assert.deepEqual(await page.evaluate(CONTRAST), []);
+        assert.deepEqual(await page.evaluate(CONTRAST, READ), []);
         await pictured(page, `${browser.name}-${device}-dark-revealed`);
         const ground = await page.evaluate('return getComputedStyle(document.body).backgroundColor;');
         assert.equal(ground, 'rgb(22, 22, 22)');

@@ -61,7 +61,7 @@ export const remainderBy = ({ words, low }, values, first) => values.reduce((sum
   return words.reduce((next, word, bit) => (top >> BigInt(bit) & 1n ? next ^ word : next), rest << 5n ^ BigInt(value));
 }, first);
 
-/** The characters of a remainder of so many elements. */
+/** The characters of a remainder of this many elements. */
 export const charactersOf = (sum, count) =>
   Array.from({ length: count }, (_, i) => ALPHABET[Number(sum >> BigInt(5 * (count - 1 - i)) & 31n)]).join('');
 

@@ -22,6 +22,12 @@ const LONG_STRING = 'ms100c8vsm32zxfguhpchtlupzry9x8gf2tvdw0s3jn54khce6mua7lqpzy
 const made = (threshold, identifier, shareIndex, length = 16) => codex32.encode(threshold, identifier, shareIndex, new Uint8Array(length).fill(7));
 const madeOf = (payload, header = [2, 'test', 'a']) => codex32.encodePayload(...header, payload);
 
+const octets = (text) => new TextEncoder().encode(text);
+const split = (length, threshold, count, identifier = 'test', options = {}) => codex32.split(new Uint8Array(length).fill(7), threshold, count, identifier, options);
+
+// A string whose payload holds no whole bytes.
+const ODD = 'ms14lvh96q5zxeuujvzg58w59yc7s38yyfhkh8q0nuzggke5jv9s';
+
 const LETTERS = 'letters and digits may, but not 1, b, i and o.';
 const LONG = 'q'.repeat(1017);
 
@@ -115,6 +121,32 @@ const CASES = [
   [() => codex32.recover([A]), 'TOO_FEW_SHARES', null, 'There is one string, and the threshold is 2.'],
   [() => codex32.recover([made(3, 'test', 'a'), made(3, 'test', 'c')]), 'TOO_FEW_SHARES', null, 'There are 2 strings, and the threshold is 3.'],
   [() => codex32.recover([A, C, made(2, 'name', 'd')]), 'CONTRADICTION', null, 'The strings contradict each other: at least one of them is wrong, or is of another secret.'],
+  [() => codex32.recover([ODD.replace('ms14', 'ms10')]), 'WRONG_CHECKSUM', null, 'String 1: The checksum is wrong.', 0],
+  [() => codex32.recover([ODD]), 'TOO_FEW_SHARES', null, 'There is one string, and the threshold is 4.'],
+  [() => split(16, 1, 0, ''), 'BAD_THRESHOLD', null, 'The threshold is 1; it is 0, or from 2 to 9.'],
+  [() => split(0, 0, 0, 'tebt'), 'BAD_IDENTIFIER', null, 'The identifier has “b”, which may not stand there: letters and digits may, but not 1, b, i and o.'],
+  [() => split(0, 0, 0), 'BAD_SHARE_INDEX', null, 'The threshold is 0; a secret that is shared has one from 2 to 9.'],
+  ...[0, 15, 45, 62, 65, 5000].map((length) => [() => split(length, 2, 0), 'BAD_SIZE', null, `Of ${length === 5000 ? '5,000' : length} bytes there is no codex32 string; it has from 16 to 44, or 63 or 64.`]),
+  [() => split(16, 2, 1), 'BAD_COUNT', null, 'There is one share; with the threshold 2 there are from 2 to 31.'],
+  [() => split(16, 9, 8), 'BAD_COUNT', null, 'There are 8 shares; with the threshold 9 there are from 9 to 31.'],
+  [() => split(16, 2, 2 ** 40), 'BAD_COUNT', null, 'There are 1,099,511,627,776 shares; with the threshold 2 there are from 2 to 31.'],
+  [() => split(16, 2, 2, 'test', { random: new Uint8Array(1) }), 'BAD_RANDOM', null, 'There is one random byte; one is taken for each character that is drawn, 26.'],
+  ...[0, 51, 53, 5000].map((length) => [() => split(16, 3, 5, 'test', { random: new Uint8Array(length) }), 'BAD_RANDOM', null, `There are ${length === 5000 ? '5,000' : length} random bytes; one is taken for each character that is drawn, 52.`]),
+
+  // Of what is given as bytes no character is shown.
+  [() => codex32.share(octets('ms10testsxxxbxxxx')), 'INVALID_CHARACTER', 12, 'A character behind the separator may not stand there.'],
+  [() => codex32.share(octets(A.replace('X', 'x'))), 'MIXED_CASE', 14, 'The text has letters of both cases.'],
+  [() => codex32.share(octets(`${LONG_STRING.slice(0, -1)}q`)), 'WRONG_CHECKSUM', null, 'The checksum is wrong.'],
+  [() => codex32.share(octets('ms1qtestsxxxxxxxxxxxxxxxxxxxxxxxxxxq68ksv56lmaq5')), 'BAD_THRESHOLD', 3, 'The threshold is neither 0 nor a digit from 2 to 9.'],
+  [() => codex32.share(octets('ms10testaxxxxxxxxxxxxxxxxxxxxxxxxxxzd568kp774rau')), 'BAD_SHARE_INDEX', 8, 'The threshold is 0, and the share index is not “s”.'],
+  [() => codex32.share(octets('ms12xh04fm5amh7k7ay0jj7mgh3ndf4zdx0dmxgdrhz38hawaewk')), 'BITS_LEFT_OVER', null, 'Behind the last whole byte of the payload stand six bits, and at most four may.'],
+  [() => codex32.share(new Uint8Array(5000)), 'BAD_LENGTH', null, 'A codex32 string has 48 to 93 characters, a long one 125 to 127.'],
+  [() => codex32.recover([A, octets(`MT${C.slice(2)}`)]), 'NOT_MS', null, 'String 2: The human-readable part is not “ms”.', 1],
+  [() => codex32.recover([octets(A), made(3, 'name', 'd')]), 'OTHER_SET', null, 'String 2 is of another set than string 1: its threshold is 3, and not 2.', 1],
+  [() => codex32.recover([octets(C), A, octets(A.toLowerCase())]), 'INDEX_TWICE', null, 'Strings 2 and 3 have one share index, “a”.', 2],
+  [() => madeOf(octets(A.slice(9, 35).replace('Z', '1'))), 'INVALID_CHARACTER', 3, 'A character of the payload may not stand there.'],
+  [() => madeOf(octets(A.slice(9, 35).replace('X', 'x'))), 'MIXED_CASE', 5, 'The payload has letters of both cases.'],
+  [() => madeOf(octets('qqq')), 'BAD_SIZE', null, 'The payload has 3 characters; it has as many as 16 to 44 bytes have, from 26 to 71, or as 63 or 64 have, 101 or 103.'],
 ];
 
 for (const [call, ...wanted] of CASES) test(`${wanted[0]}: ${String(call).slice(6, 80)}`, () => assert.deepEqual(refusal(call), wanted));
@@ -146,11 +178,12 @@ test('texts of a megabyte', () => {
 test('values of another type', () => {
   for (const call of [() => decode(5), () => decode(), () => check('bech32', null), () => check('bech33', 'a'), () => check('toString', 'a'),
     () => correct(1, 'a'), () => encode('bech32', 'a', [1]), () => encode('bech32', 1, new Uint8Array()), () => segwit.encode('bc', 0, 'x'),
-    () => codex32.parse(undefined), () => codex32.propose({}), () => codex32.proposeLong(1), () => codex32.share([]), () => codex32.recover(A), () => codex32.recover(7), () => codex32.recover([A, 7]),
+    () => codex32.parse(undefined), () => codex32.propose({}), () => codex32.proposeLong(1), () => codex32.share([]), () => codex32.recover(octets(A)), () => codex32.share(Uint8Array.of(109, 115, 49, 255)), () => codex32.recover([A, Uint8Array.of(255)]), () => codex32.recover(A), () => codex32.recover(7), () => codex32.recover([A, 7]),
     () => codex32.derive([A, C]), () => codex32.encode(2, 'test', 'a', [1]), () => codex32.encode(2, 7, 'a', new Uint8Array(16)), () => codex32.encode(2, 'test', 0, new Uint8Array(16)),
-    () => madeOf(new Uint8Array(26)), () => madeOf(), () => madeOf('q', [2, 7, 'a']), () => madeOf('q', [2, 'test', 0])]) assert.throws(call, TypeError);
+    () => codex32.split('x', 2, 2), () => codex32.split([1], 2, 2), () => split(16, 2, 2, 7), () => split(16, 2, 2, 'test', { random: [1] }), () => split(16, 2, 2, 'test', { into: Array }), () => split(16, 2, 2, 'test', null),
+    () => codex32.derive([A, C], 's', { into: 'Uint8Array' }), () => madeOf([1]), () => madeOf(), () => madeOf('q', [2, 7, 'a']), () => madeOf('q', [2, 'test', 0])]) assert.throws(call, TypeError);
   for (const call of [() => segwit.encode('bc', 32, new Uint8Array(2)), () => segwit.encode('bc', 0.5, new Uint8Array(2)), () => segwit.encode('bc', -1, new Uint8Array(2)),
-    () => made('2', 'test', 'a'), () => made(32, 'test', 'a'), () => madeOf('q', ['2', 'test', 'a']), () => madeOf('q', [32, 'test', 'a']), () => codex32.recover(Array(33).fill(A)), () => correct('bech32', 'a12uel5l', [-1]), () => correct('bech32', 'a12uel5l', [0.5]), () => correct('bech32', 'a12uel5l', ['1'])]) assert.throws(call, RangeError);
+    () => made('2', 'test', 'a'), () => made(32, 'test', 'a'), () => madeOf('q', ['2', 'test', 'a']), () => madeOf('q', [32, 'test', 'a']), () => codex32.recover(Array(33).fill(A)), () => split(16, 32, 2), () => split(16, 0.5, 2), () => split(16, 2, -1), () => split(16, 2, 2.5), () => split(16, 2, '2'), () => split(16, 2, 2 ** 60), () => correct('bech32', 'a12uel5l', [-1]), () => correct('bech32', 'a12uel5l', [0.5]), () => correct('bech32', 'a12uel5l', ['1'])]) assert.throws(call, RangeError);
 });
 
 // ---- all stored lines: the place is that of a character at fault

@@ -3,7 +3,7 @@
 import { createHash } from 'node:crypto';
 import { ALPHABET, charactersOf, dataOf, numbersFrom, remainderBy, stringOf, textOf } from './reference.mjs';
 
-/** So many texts of each kind are typed. */
+/** How many texts of each kind are typed. */
 export const COUNT = 60;
 
 // ---- encoders
@@ -144,7 +144,7 @@ export const KINDS_OF_TEXTS = [
   ['addresses of payment servers', (below) => `OH1${characters(below, 55).toUpperCase()}`, 'wrong', /checksum is wrong/],
 ];
 
-/** So many texts of the kind at a place, the same at each run. */
+/** A number of texts of the kind at a place, the same at each run. */
 export const textsOf = (at, count = COUNT) => {
   const [, make] = KINDS_OF_TEXTS[at], below = numbersFrom(1000 + at);
   return Array.from({ length: count }, () => make(below));

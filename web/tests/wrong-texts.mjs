@@ -49,7 +49,7 @@ export const WRONG = [
   ['a character that is not sure', put(V0, [27, '?']), /The unreadable character 28 is r\./, V0],
   ['three that are not sure', put(V0, [10, '?'], [20, '?'], [30, '?']), /The unreadable characters are restored: 11 is q, 21 is r and 31 is c\./, V0],
   ['one wrong beside two that are not sure', put(V0, [10, '?'], [20, '?'], [40, 'q']), /Character 41 should be t, not q\. The unreadable characters are restored: 11 is q and 21 is r\./, V0],
-  // Beside so many that are not sure, one wrong character or two would be found too often by chance.
+  // Beside this many that are not sure, one wrong character or two would be found too often by chance.
   ['one wrong beside three that are not sure', put(V0, [10, '?'], [20, '?'], [30, '?'], [40, 'q']), /No correction was found\.[^]*Three characters are unreadable\.[^]*Whatever the unreadable characters are, this is not a valid address\./, null],
   ['two wrong beside two that are not sure', put(V0, [10, '?'], [20, '?'], [30, 'q'], [40, 'q']), /No correction was found\.[^]*Whatever the unreadable characters are, no further change of one character makes it a valid address\./, null],
   ['two wrong beside one that is not sure', put(V0, [10, '?'], [30, 'q'], [40, 'q']), /No correction was found\.[^]*Whatever the unreadable character is, no further change of one character makes it a valid address\./, null],

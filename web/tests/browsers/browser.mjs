@@ -26,12 +26,17 @@ export const until = async (ask, what, seconds = 60) => {
   throw new Error(`no ${what} within ${seconds} seconds`);
 };
 
-/** Starts a browser in a folder of its own, and gives what ends it and takes the folder away. */
+/** Starts a browser in a folder of its own, and gives what quits it, and what ends it and takes the folder away. */
 export const started = (program, wordsOf, stdio) => {
   const folder = fs.mkdtempSync(path.join(os.tmpdir(), 'page-'));
   const env = { ...process.env, HOME: folder, XDG_RUNTIME_DIR: folder, TMPDIR: folder, MOZ_CRASHREPORTER_DISABLE: '1' };
   const child = spawn(program, wordsOf(folder), { stdio, env, detached: true });
   const ended = new Promise((done) => child.once('exit', done));
+  // Ends the browser as its window does, by a call, which then writes what it keeps.
+  const quit = async (call) => {
+    call().catch(() => {});
+    await Promise.race([ended, new Promise((done) => setTimeout(done, 20000).unref())]);
+  };
   const stop = async () => {
     try {
       process.kill(-child.pid, 'SIGKILL');
@@ -41,5 +46,5 @@ export const started = (program, wordsOf, stdio) => {
     await ended;
     fs.rmSync(folder, { recursive: true, force: true, maxRetries: 20, retryDelay: 100 });
   };
-  return { folder, child, stop };
+  return { folder, child, quit, stop };
 };

@@ -1,5 +1,5 @@
 // Chromium without a window, by its protocol over a pipe.
-import { programOf, started } from './browser.mjs';
+import { programOf, started, until } from './browser.mjs';
 
 export const program = programOf('chromium', 'chromium-browser', 'google-chrome');
 export const name = 'Chromium';
@@ -18,11 +18,14 @@ const messagesOf = (stream, take) => {
   });
 };
 
+/** What stands in a file that the browser keeps. */
+export const plain = (bytes) => bytes;
+
 /** A page of a new browser, which prefers light or dark. */
 export const open = async (colors = 'light') => {
   const words = (folder) => ['--headless=new', '--no-sandbox', '--disable-gpu', '--disable-dev-shm-usage', '--no-first-run', '--disable-extensions',
     '--disable-background-networking', '--disable-component-update', '--remote-debugging-pipe', `--user-data-dir=${folder}`, 'about:blank'];
-  const { child, stop } = started(program, words, ['ignore', 'ignore', 'ignore', 'pipe', 'pipe']);
+  const { folder, child, quit, stop } = started(program, words, ['ignore', 'ignore', 'ignore', 'pipe', 'pipe']);
   const waiting = new Map(), listeners = [];
   let count = 0, session;
   messagesOf(child.stdio[4], ({ id, result, error, method, params }) => {
@@ -56,7 +59,7 @@ export const open = async (colors = 'light') => {
   };
 
   return {
-    stop, requests, logged, evaluate,
+    stop, requests, logged, evaluate, folder,
     version: (await call('Browser.getVersion')).product,
     async visit(url) {
       const loaded = new Promise((done) => listeners.push((method) => method === 'Page.loadEventFired' && done()));
@@ -65,6 +68,21 @@ export const open = async (colors = 'light') => {
     },
     async size(width, height) {
       await call('Emulation.setDeviceMetricsOverride', { width, height, deviceScaleFactor: 1, mobile: width < 600 });
+    },
+    /** Goes back to the page before this one. */
+    async back() {
+      const { currentIndex, entries } = await call('Page.getNavigationHistory');
+      await call('Page.navigateToHistoryEntry', { entryId: entries[currentIndex - 1].id });
+      await until(async () => (await evaluate('return [location.href, document.readyState].join();').catch(() => '')) === `${entries[currentIndex - 1].url},complete`, 'page before', 10);
+    },
+    quit: () => quit(() => call('Browser.close')),
+    /** Shows the page as it is printed, or on a screen again. */
+    async asPrinted(isPrinted) {
+      await call('Emulation.setEmulatedMedia', { media: isPrinted ? 'print' : '', features: [{ name: 'prefers-color-scheme', value: colors }] });
+    },
+    /** The page printed to a file, on paper of that size in inches. */
+    async pdf(paperWidth, paperHeight) {
+      return Buffer.from((await call('Page.printToPDF', { paperWidth, paperHeight, preferCSSPageSize: false })).data, 'base64');
     },
     /** Runs a script in each page before its own. */
     async before(source) {

@@ -13,7 +13,7 @@ export const narrow = [];
 
 const PREFERENCES = {
   'marionette.port': 0, 'browser.shell.checkDefaultBrowser': false, 'browser.startup.page': 0,
-  'app.update.auto': false, 'datareporting.policy.dataSubmissionEnabled': false, 'toolkit.telemetry.enabled': false,
+  'browser.sessionstore.interval': 1000, 'app.update.auto': false, 'datareporting.policy.dataSubmissionEnabled': false, 'toolkit.telemetry.enabled': false,
   'network.captive-portal-service.enabled': false, 'network.connectivity-service.enabled': false,
 };
 
@@ -31,6 +31,33 @@ const messagesOf = (socket, take) => {
   });
 };
 
+// Of a number of LZ4, as it begins and with the bytes that follow on it.
+const numberAt = (bytes, from, begun) => {
+  let at = from, sum = begun;
+  for (let more = begun === 15; more; at++) {
+    sum += bytes[at];
+    more = bytes[at] === 255;
+  }
+  return { at, sum };
+};
+
+/** What stands in a file that the browser keeps: some are packed by LZ4, behind a name and a size. */
+export const plain = (bytes) => {
+  if (bytes.toString('latin1', 0, 8) !== 'mozLz40\0') return bytes;
+  const out = Buffer.alloc(bytes.readUInt32LE(8));
+  let end = 0;
+  for (let from = 12; from < bytes.length;) {
+    const token = bytes[from], own = numberAt(bytes, from + 1, token >> 4);
+    end += bytes.copy(out, end, own.at, own.at + own.sum);
+    from = own.at + own.sum;
+    if (from >= bytes.length) break;
+    const again = numberAt(bytes, from + 2, token & 15), back = bytes.readUInt16LE(from);
+    for (let left = again.sum + 4; left > 0; left--, end++) out[end] = out[end - back];
+    from = again.at;
+  }
+  return out;
+};
+
 const COLORS = { dark: 0, light: 1 };
 
 /** A page of a new browser, which prefers light or dark. */
@@ -40,7 +67,7 @@ export const open = async (colors = 'light') => {
     fs.writeFileSync(path.join(folder, 'user.js'), lines.join(''));
     return ['--headless', '--marionette', '--no-remote', '--profile', folder];
   };
-  const { folder, stop } = started(program, words, ['ignore', 'ignore', 'ignore']);
+  const { folder, quit, stop } = started(program, words, ['ignore', 'ignore', 'ignore']);
   const file = path.join(folder, 'MarionetteActivePort');
   const port = await until(() => fs.existsSync(file) && Number(fs.readFileSync(file, 'utf8')), 'port of Firefox');
   const socket = net.connect(port, '127.0.0.1');
@@ -69,12 +96,19 @@ export const open = async (colors = 'light') => {
   const pressed = (value) => call('WebDriver:PerformActions', { actions: [{ type: 'key', id: 'keys', actions: [{ type: 'keyDown', value }, { type: 'keyUp', value }] }] });
 
   return {
-    evaluate, version: `Firefox/${capabilities.browserVersion}`,
+    evaluate, folder, version: `Firefox/${capabilities.browserVersion}`,
     async stop() {
       socket.destroy();
       await stop();
     },
     visit: (url) => call('WebDriver:Navigate', { url }),
+    back: () => call('WebDriver:Back'),
+    quit: () => quit(() => call('Marionette:Quit', { flags: ['eAttemptQuit'] })),
+    /** The page printed to a file, on paper of that size in inches. */
+    async pdf(width, height) {
+      const centimetres = (inches) => 2.54 * inches;
+      return Buffer.from((await call('WebDriver:Print', { page: { width: centimetres(width), height: centimetres(height) } })).value, 'base64');
+    },
     /** The width is that of the window, and no less than Firefox allows, which is some 500 pixels. */
     async size(width, height) {
       await call('WebDriver:SetWindowRect', { width, height });
