@@ -1,6 +1,6 @@
 /*
- * So many calls of bech32_nearest: near COUNT, for an address of 62 characters with two wrong ones; near COUNT BYTES, for a
- * text of so many bytes (51 are 90 characters, 620 are 1,000) with two wrong ones beside three erasures.
+ * COUNT calls of bech32_nearest: near COUNT, for an address of 62 characters with two wrong ones; near COUNT BYTES, for a
+ * text of BYTES bytes (51 are 90 characters, 620 are 1,000) with two wrong ones beside three erasures.
  */
 #include "bech32.h"
 

@@ -1,4 +1,4 @@
-/* So many derivations of a secret of 64 bytes from nine shares, of a threshold of 9: shares COUNT */
+/* COUNT derivations of a secret of 64 bytes from nine shares, of a threshold of 9: shares COUNT */
 #include "codex32.h"
 
 #include <stdio.h>

@@ -103,7 +103,7 @@ class Damaged:
         return with_checksum(code, front)
 
     def damaged(self, text, marks, changes):
-        """The text with so many marks and so many other characters changed."""
+        """The text with this many marks and this many other characters changed."""
         letters = list(text)
         places = self.random.sample(range(3, len(text)), marks + changes)
         for place in places[:marks]:

@@ -20,7 +20,7 @@ import model
 from model import ALPHABET, CODES, Refusal, VALUE
 from rows import Maker, ODD_PARTS
 
-# So many erasures are taken at most, as many as the code's bound.
+# The most erasures that are taken: as many as the code's bound.
 MOST_ERASED = 3
 
 
@@ -35,7 +35,7 @@ def packed(coefficients):
 
 
 def patterns(code, residue, erasures, errors, window):
-    """Each pattern below the window with this remainder and at most so many errors outside the erasures."""
+    """Each pattern below the window with this remainder and at most this many errors outside the erasures."""
     remains = {location: [packed(model.times(value, model.term(code, location))) for value in range(32)]
                for location in range(window)}
     of_erasures = {}
@@ -239,7 +239,7 @@ class Lines(Maker):
         return name if not self.one_in(8) else self.random.choice(list(CODES))
 
     def changed(self, text, count):
-        """The text with so many characters of its data part changed, and where."""
+        """The text with this many characters of its data part changed, and where."""
         start, letters, places = text.rfind("1") + 1, list(text), []
         for place in self.random.sample(range(start, len(text)), min(count, len(text) - start)):
             letter = self.random.choice(ALPHABET)
@@ -248,7 +248,7 @@ class Lines(Maker):
         return "".join(letters), places
 
     def sized(self, length):
-        """An accepted text with a data part of so many characters."""
+        """An accepted text with a data part of this many characters."""
         code = CODES[self.random.choice(list(CODES))]
         elements = [self.random.randrange(32) for _ in range(length - 6)]
         text = model.encoded(code, self.good_part(), elements)
@@ -371,7 +371,7 @@ class Lines(Maker):
         return self.mistyped(line, self.random.randint(1, 3))
 
 
-# So many of each kind, in parts of a count.
+# How many of each kind, in parts of a count.
 KINDS = {"nearest": 1, "many": 1 / 8, "fault": 1, "checksum": 1, "odd": 1, "edits": 1, "edits_at_limits": 1 / 4,
          "odd_edits": 1 / 4, "several_edits": 1 / 16}
 
@@ -398,13 +398,13 @@ class Each(Lines):
     """Lines that leave out no length and no number."""
 
     def text_of(self, length, code, part="bc"):
-        """A text of so many characters that the checksum accepts, in lower case or in upper case."""
+        """A text of this many characters that the checksum accepts, in lower case or in upper case."""
         elements = [self.random.randrange(32) for _ in range(length - len(part) - 7)]
         text = model.encoded(code, part, elements)
         return text.upper() if self.one_in(4) else text
 
     def nearest_of(self, text, name, erased, wrong, errors):
-        """A line with so many wrong characters outside so many erasures, which are wrong or not."""
+        """A line with this many wrong characters outside this many erasures, which are wrong or not."""
         changed, places = self.changed(text, erased + wrong)
         words = ["nearest", name, changed, *[",".join(map(str, places[:erased]))][:erased], str(errors)]
         return " ".join(words)

@@ -93,7 +93,7 @@ def bits_of(values, size):
 
 
 def cut(bits, size):
-    """Numbers of so many bits each; a last part that is shorter is left over."""
+    """Numbers of this many bits each; a last part that is shorter is left over."""
     whole = len(bits) // size * size
     numbers = [int("".join(map(str, bits[i:i + size])), 2) for i in range(0, whole, size)]
     return numbers, bits[whole:]
@@ -277,7 +277,7 @@ def singles(code, window):
 
 
 def errors_with(code, rest, count, window, taken):
-    """Each pattern of so many elements, below the window and outside what is taken, that leaves
+    """Each pattern of this many elements, below the window and outside what is taken, that leaves
     this remainder. The last element is found among all patterns of one."""
     if count == 0:
         if not any(rest):

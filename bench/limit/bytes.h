@@ -24,7 +24,7 @@ INLINE void put_number(uint8_t *bytes, uint64_t number) {
     memcpy(bytes, &number, sizeof number);
 }
 
-/* Puts so many bytes of words, and nothing behind them. */
+/* Puts the first bytes of words, as many as are asked for, and nothing behind them. */
 INLINE void put_bytes(const uint64_t *words, size_t length, uint8_t *bytes) {
     size_t i = 0;
     for (; i + 8 <= length; i += 5) {

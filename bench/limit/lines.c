@@ -263,7 +263,7 @@ static uint32_t fault(uint32_t checksum, Word text) {
     return BECH32_OK;
 }
 
-/* A command that names a checksum, in the second of so many words. */
+/* A command that names a checksum, in the second of its words. */
 static uint32_t execute_by(uint32_t checksum, const Word *words, size_t count) {
     if (checksum == 0) {
         return NO_COMMAND;

@@ -72,7 +72,7 @@ INLINE uint32_t step_low_bits(uint32_t remainder, const uint8_t *hrp, size_t len
 }
 
 /* The last characters of a text, fewer than eight, as a word: those before them are read with them
- * where there are so many. */
+ * where there are that many. */
 INLINE uint64_t rest(const uint8_t *text, size_t length, size_t count) {
     if (length >= 8) {
         return eight(text + length - 8);

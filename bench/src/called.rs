@@ -67,7 +67,7 @@ fn call<'w>(kind: &str, word: &'w str) -> Box<dyn Fn() -> usize + 'w> {
     }
 }
 
-/// The number of bytes of so many calls.
+/// The number of bytes of this many calls.
 pub fn called(kind: &str, word: &str, calls: usize) -> usize {
     let call = call(kind, word);
     (0..calls).map(|_| call()).sum()

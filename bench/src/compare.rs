@@ -179,7 +179,7 @@ impl Compared {
     }
 }
 
-/// Compares the replies of the measured workloads, to inputs that are refused, and of so many rounds
+/// Compares the replies of the measured workloads, to inputs that are refused, and of this many rounds
 /// of others.
 pub fn compare(rounds: u64) -> Compared {
     let (mut numbers, mut compared) = (Numbers(1), Compared::default());

@@ -100,7 +100,7 @@ fn proposed(text: &str) -> usize {
         .sum()
 }
 
-/// The sum of what so many calls answer: of 32 times each location and its value, or of each byte of
+/// The sum of what this many calls answer: of 32 times each location and its value, or of each byte of
 /// the nearest text times its index.
 pub fn corrected(kind: &str, calls: usize) -> usize {
     (0..calls)

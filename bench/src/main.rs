@@ -6,7 +6,7 @@
 //!     bench count SIDE N K           K calls of operation N, for a count of instructions: SIDE is
 //!                                    ours, crate or limit
 //!     bench calls                    the calls from Rattle: kind, bytes or text, name of the row
-//!     bench called KIND WORD K       the crate's K calls of a kind on so many bytes or a text, for a count
+//!     bench called KIND WORD K       the crate's K calls of a kind on a number of bytes or a text, for a count
 //!     bench written fmt|bytes SIZE K K texts of SIZE bytes written by the crate, for the same
 //!     bench kinds                    what is corrected beside Bech32's own texts, with the name of its row
 //!     bench corrected KIND K         the crate's K corrections of it, for the same

@@ -13,7 +13,7 @@ impl Numbers {
         (self.0 >> 33) % n
     }
 
-    /// So many bytes at most.
+    /// At most this many bytes.
     pub fn bytes(&mut self, most: u64) -> Vec<u8> {
         let n = self.below(most + 1);
         (0..n).map(|_| self.below(256) as u8).collect()

@@ -23,7 +23,7 @@ pub fn residue(checksum: u32, values: &[Fe32]) -> u32 {
     }
 }
 
-/// Writes the text of so many bytes in each call, to a new string or to a new byte vector, and says
+/// Writes the text of this many bytes in each call, to a new string or to a new byte vector, and says
 /// how many bytes were written.
 pub fn written(kind: &str, size: usize, calls: usize) -> usize {
     let hrp = Hrp::parse("abcd").unwrap();

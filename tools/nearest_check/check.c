@@ -111,7 +111,7 @@ static size_t below(size_t limit)
     return (size_t)(state % limit);
 }
 
-/* Changes so many different characters of the data part. */
+/* Changes this many different characters of the data part. */
 static void mistype(char *text, size_t errors)
 {
     size_t first = (size_t)(strrchr(text, '1') - text) + 1, length = strlen(text) - first, places[3];

@@ -5,7 +5,7 @@
 
 A text is a polynomial over the field with 32 elements (BIP-173, Checksum): its remainder by the generator, in long division,
 is the checksum's constant where the text is right. Near to a text are those that differ from it at the erasures in any way
-and in at most so many other characters of the data part, and are right. Their order: by the highest location of a difference
+and in at most this many other characters of the data part, and are right. Their order: by the highest location of a difference
 outside the erasures, then by the value added there, then by the next such location; with no such difference first.
 """
 import random

@@ -1,5 +1,5 @@
 /*
- * How many texts bech32_nearest lists at most, of all texts whose data part has so many characters.
+ * How many texts bech32_nearest lists at most, of all texts whose data part has this many characters.
  *
  *     most accepted ERRORS MOST           three erasures of a text that is accepted with other characters there: for each
  *                                         number of characters up to MOST the most texts, and the erasures
@@ -58,7 +58,7 @@ static void fields(void) {
     }
 }
 
-/* The number of directions of so many elements. */
+/* The number of directions of this many elements. */
 static uint32_t directions(int size) {
     return ((1u << 5 * size) - 1) / 31;
 }
@@ -88,7 +88,7 @@ static void plane(void) {
     }
 }
 
-/* What is left of each column where those of so many erasures are taken out, each with one element of all. */
+/* What is left of each column where those of this many erasures are taken out, each with one element of all. */
 static void without(const int *erasures, int count, uint32_t *left) {
     memcpy(left, column, sizeof column);
     for (int j = 0; j < count; j++) {
@@ -141,7 +141,7 @@ static void accepted(int most) {
     }
 }
 
-/* The most texts where something is left, and so many columns have each direction. */
+/* The most texts where something is left, and this many columns have each direction. */
 static uint32_t most_of(const uint16_t *columns) {
     uint32_t all = 0, own = 0, most = 0, squares[POINTS + 1] = {0};
     for (int i = 1; i <= POINTS; i++) {

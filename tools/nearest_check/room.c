@@ -2,7 +2,7 @@
  * Whether bech32_nearest does with as much memory, and as much room for texts, as bech32.h states.
  *
  *     room worst               lines of `most accepted 2 ..` on standard input: characters of the data part, how many
- *                              texts there are (0: any number), and the erasures. So many are listed, of a text that
+ *                              texts there are (0: any number), and the erasures. As many are listed, of a text that
  *                              is accepted with other characters there
  *     room all FROM TO         at each length of text, with three erasures anywhere and two errors
  *     room few                 at each length: less memory, for no erasures or one (and two, up to 90 characters) with
@@ -31,7 +31,7 @@ static size_t below(size_t n)
     return (size_t)(state >> 33) % n;
 }
 
-/* A text of so many characters that is accepted: random elements, and what leaves the residue of a right text. */
+/* A text of this many characters that is accepted: random elements, and what leaves the residue of a right text. */
 static void make_text(size_t characters)
 {
     uint8_t elements[LONGEST + 1] = {3, 0, 1};
@@ -54,7 +54,7 @@ static void change(size_t location)
     *at = (uint8_t)alphabet[(size_t)(strchr(alphabet, *at) - alphabet) ^ (1 + below(31))];
 }
 
-/* Lists the texts with just so much memory and room; there have to be so many, or any number from 1 on. */
+/* Lists the texts with just this much memory and room; there have to be this many, or any number from 1 on. */
 static void list(const size_t *erasures, size_t given, size_t errors, size_t size, size_t room, long wanted)
 {
     bech32_memory memory = {lent, size};

@@ -5,7 +5,7 @@ use bech32::primitives::decode::{CheckedHrpstring, CheckedHrpstringError};
 use bech32::{segwit, Bech32, Bech32m, Checksum, CorrectableError, Fe32, Hrp};
 use std::panic::{catch_unwind, AssertUnwindSafe};
 
-/// A line may have so many bytes.
+/// A line may have this many bytes.
 pub const LINE_LIMIT: usize = 4096;
 
 const HIGHEST_VERSION: usize = 31;

@@ -7,7 +7,7 @@ use std::thread;
 
 const CHUNK: u64 = 100_000;
 
-// So many disagreements are printed.
+// The most disagreements that are printed.
 const PRINTED: u64 = 1000;
 
 /// A program that answers lines, and what the Rust crate says of its replies.
@@ -57,7 +57,7 @@ pub struct Met {
 }
 
 impl Run {
-    /// Goes through all lines, so many at a time that they fit in memory.
+    /// Goes through all lines, as many at a time as fit in memory.
     pub fn of<S: Subject>(&self, subject: &S) -> io::Result<Met> {
         let mut met = Met::default();
         while met.lines < self.lines {

@@ -8,7 +8,7 @@ use std::sync::OnceLock;
 
 const PLACES: usize = Bech32::CODE_LENGTH;
 
-// Twice the errors outside the given locations, and these, are at most so many.
+// Twice the errors outside the given locations, and these, are at most this many.
 const BOUND: usize = 3;
 
 // The remainders of single terms, which are those of both checksums: for each location and element,
@@ -50,7 +50,7 @@ fn times(value: u8, remainder: u32) -> u32 {
 }
 
 /// Whether a pattern in the data part of a text, which the checksum refuses for its residue, has that
-/// residue as remainder: with at most so many errors outside the given locations as the bound allows.
+/// residue as remainder: with at most as many errors outside the given locations as the bound allows.
 pub fn has_solution<Ck: Checksum<MidstateRepr = u32>>(text: &str, given: &[usize]) -> bool {
     static TERMS: OnceLock<Terms> = OnceLock::new();
     let Ok(text) = UncheckedHrpstring::new(text) else {
@@ -76,7 +76,7 @@ pub fn has_solution<Ck: Checksum<MidstateRepr = u32>>(text: &str, given: &[usize
     )
 }
 
-// Whether a remainder is that of elements at the given locations and so many others, one at most,
+// Whether a remainder is that of elements at the given locations and this many others, one at most,
 // below the window.
 fn is_sum(terms: &Terms, rest: u32, given: &[usize], errors: usize, window: usize) -> bool {
     match given.split_first() {

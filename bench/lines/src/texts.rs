@@ -188,7 +188,7 @@ pub fn meaningless(random: &mut Random) -> String {
     String::from_utf8(text).expect("ASCII")
 }
 
-/// The text with so many changes.
+/// The text with this many changes.
 pub fn mistyped(random: &mut Random, text: &str, changes: usize) -> String {
     let mut text: Vec<char> = text.chars().collect();
     for _ in 0..changes {

@@ -10,10 +10,10 @@ use bech32::{CorrectableError, Fe32};
 /// The characters before the parts' own: the human-readable part and the separator.
 pub const FRONT: &str = "ms1";
 
-/// A string of codex32 has at least so many characters.
+/// A string of codex32 has at least this many characters.
 pub const SHORTEST: usize = 48;
 
-/// A string of codex32 has at most so many characters.
+/// A string of codex32 has at most this many characters.
 pub const LONGEST: usize = 93;
 
 /// The characters of the checksum.

@@ -67,7 +67,7 @@ impl Tables {
         std::array::from_fn(|i| digits[i] ^ multiples[usize::from(pivot.digits[i])])
     }
 
-    // Whether a remainder is a sum of multiples of so many of the columns at most. With the columns
+    // Whether a remainder is a sum of multiples of at most this many of the columns. With the columns
     // that were eliminated before these are eight at most, which no equation ties to one another.
     fn is_sum(&self, remainder: &Digits, columns: &[Digits], most: usize) -> bool {
         let Some(remainder_pivot) = self.pivot(remainder) else {
@@ -109,7 +109,7 @@ struct Pivot {
 }
 
 /// Whether the residue of a text, with at most eight characters that cannot be read, is that of
-/// elements at these and at so many further locations of the data part as the bound allows.
+/// elements at these and at as many further locations of the data part as the bound allows.
 pub fn has_solution(text: &Damaged) -> bool {
     let tables = Tables::get();
     let read = UncheckedHrpstring::new(&text.read).expect("a text of the grammar");

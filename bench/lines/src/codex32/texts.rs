@@ -131,7 +131,7 @@ pub fn damaged(random: &mut Random) -> Text {
     }
 }
 
-// The text with so many characters behind the separator changed into others, and so many others made
+// The text with this many characters behind the separator changed into others, and this many others made
 // unreadable.
 fn with_other_characters(
     random: &mut Random,
