@@ -42,8 +42,8 @@ fn is_given_by<T: IndexedText>(room: &mut [Fe32], shares: &[T], text: &T) -> boo
 }
 
 // Whether shares do not contradict each other, where as many as `count` of them give the others: at
-// each place, one polynomial of degree below that has the elements of all. Which of them does not go
-// with the others is not told. The elements that the first ones give are written to `room`.
+// each place, one polynomial of degree below that has the elements of all. Which of them does not
+// go with the others is not told. The elements that the first ones give are written to `room`.
 fn agree<T: IndexedText>(room: &mut [Fe32], shares: &[T], count: usize) -> bool
     requires within { count ≤ length shares.now }
     requires few { count ≤ 9 }

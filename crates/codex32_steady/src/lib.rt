@@ -126,8 +126,8 @@ fn mask_at(masks: u64, place: u8) -> u128
 
 /// The sum without carry of the words at the set bits of a number.
 ///
-/// Each mask is made of a byte that may have been any, for all that a compiler sees: of a single bit
-/// it makes a branch.
+/// Each mask is made of a byte that may have been any, for all that a compiler sees: of a single
+/// bit it makes a branch.
 #[inline]
 pub fn chosen_sum(words: [u128; 5], bits: u8) -> u128
     requires { bits < 32 }
@@ -179,8 +179,8 @@ pub fn has_both_cases(bytes: &[u8]) -> bool
     lower & upper
 }
 
-/// Where the bytes at the end of a text begin that are of the alphabet: behind the last that is not.
-/// Each is looked at, and only that place can be told.
+/// Where the bytes at the end of a text begin that are of the alphabet: behind the last that is
+/// not. Each is looked at, and only that place can be told.
 ///
 /// It is how many bytes are not of the alphabet, or have one behind them that is not.
 #[inline(never)]
@@ -198,8 +198,8 @@ pub fn data_start(bytes: &[u8]) -> usize
     start
 }
 
-/// How many bytes stand before the first that may not stand in a human-readable part. Each is looked
-/// at, and only that number can be told.
+/// How many bytes stand before the first that may not stand in a human-readable part. Each is
+/// looked at, and only that number can be told.
 #[inline(never)]
 pub fn graphic_count(bytes: &[u8]) -> usize
     ensures bound { result ≤ length bytes.now }

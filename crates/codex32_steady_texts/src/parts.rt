@@ -82,8 +82,8 @@ fn part_fault(front: &str) -> Option<hrp::Error>
     character_fault(front)
 }
 
-/// The parts of a text, or its first fault. Of its characters nothing can be told but where that is,
-/// and what stands there.
+/// The parts of a text, or its first fault. Of its characters nothing can be told but where that
+/// is, and what stands there.
 #[inline(never)]
 pub fn parts_of(text: &str) -> Result<(&[u8], &[u8]), UncheckedHrpstringError>
     ensures { MatchResult result

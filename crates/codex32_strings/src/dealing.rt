@@ -216,7 +216,8 @@ fn put_all_derived(texts: &mut [u8], base: &[Share<'_>], from: usize, count: usi
     }
 }
 
-// Puts so many shares, from number `drawn` on, that the secret's own string and the first texts give.
+// Puts the shares from number `drawn` on, `count` of them, which the secret's own string and the
+// first texts give.
 fn put_given<'t>(rest: &mut [u8], own: &'t [u8], first: &'t [u8], drawn: usize, count: usize)
     requires few { drawn ≤ 8 }
     requires most { drawn + count ≤ 31 }

@@ -1,5 +1,5 @@
-//! Splits of secrets: known ones, whose shares were made by another program, and that shares of them
-//! recover the secret.
+//! Splits of secrets: known ones, whose shares were made by another program, and that shares of
+//! them recover the secret.
 
 use crate::tests::compare::same;
 use bech32_gf::gf32::Fe32;
@@ -131,8 +131,8 @@ fn any_three_of_five_recover(rt: HostRuntime) {
     }
 }
 
-// Why a secret is not split, by the numbers of its bytes, of shares, of random bytes, and of bytes in
-// the buffer.
+// Why a secret is not split, by the numbers of its bytes, of shares, of random bytes, and of bytes
+// in the buffer.
 fn refusal_of(
     threshold: u8,
     (size, count, random, room): (usize, usize, usize, usize),
