@@ -38,9 +38,6 @@ module _ {F K : Type 0} {f : Ops F} {o : Ops K} (fl : IsField f) (l : IsField o)
   module _ (b : K) (start count w : ℕ) (g residue : List F) (s : List ℕ) (listing : List (ℕ × F)) (apart : (x y : F) → embed x ≡ embed y → x ≡ y)
       (usable : AreUsableRoots f o embed g b start count w) (erased : AreErasures w s) (h : IsCandidate f w s count listing)
       (left_over : IsSamePolynomial f (remainder_of f g (pattern_polynomial f listing)) residue) where
-    found : List ℕ
-    found = h.errors
-
     once : IsOnce (s ++ h.errors)
     once = once-append s h.errors erased.once (once_in_order h.errors h.are_errors.in_order) (λ x m k. look (λ i. IsAmong i s → ⊥) x h.errors h.are_errors.outside k m)
 

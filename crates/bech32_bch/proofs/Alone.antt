@@ -14,9 +14,6 @@ use Rattle.bech32_poly.proofs.Zero.{product_not_zero, difference_zero, mul_cance
 use Rattle.bech32_poly.specs.Pattern.{power_sum}
 use Rattle.bech32_bch.proofs.Knock.{knocks-cong, isolate, Covered}
 
-pub Known : Bool → ℕ → ℕ → Type 0
-Known b m i = (b ≡ true × (m ≡ i)) ⊎ (b ≡ false × (m ≢ i))
-
 pub mem-without : (m i : ℕ) (ms : List ℕ) → IsAmong m ms → m ≢ i → IsAmong m (without i ms)
 mem-without m i [] h n = h
 mem-without m i (k ∷ ms) h n = step (eqb_tells k i) h (λ r. mem-without m i ms r n)

@@ -80,10 +80,6 @@ module _ {K : Type 0} {o : Ops K} (l : IsField o) (same : K → K → Bool) (tel
     may_be_located half (Some found) h = subst (AreErrorLocations w s (length items)) (sym h.0) (may_be_errors half (take degree (roots_below o same r b w)) h.1.0 refl h.1.1)
 
     module _ (start : ℕ) (e : List (ℕ × K)) (h : AreSumsOf o b start w s items e) where
-      -- the locations of the pattern outside the erasures
-      ms : List ℕ
-      ms = outside s e
-
       heavy : (m : ℕ) → power o (power o b m) start ≢ o.zero
       heavy m = power_not_zero l (power o b m) (power_not_zero l b steps.order.not_zero m) start
 

@@ -204,7 +204,7 @@ module _ {F : Type 0} {f : Ops F} (fl : IsField f) where
           same true r = r
           same false r = omega arith
 
--- so many values of a pattern, from one location on
+-- this many values of a pattern, from one location on
 abbrev pub values_from : {F : Type 0} → Ops F → List (ℕ × F) → ℕ → ℕ → List F
 values_from f e i zero = []
 values_from f e i (suc n) = value_of_pattern_at f e i ∷ values_from f e (suc i) n

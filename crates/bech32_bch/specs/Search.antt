@@ -20,7 +20,7 @@ pub record HasLongOrder {K : Type 0} (o : Ops K) (b : K) (w : ℕ) : Type 0 wher
   pub is_order : IsOrder o b order
   pub long_enough : w ≤ order
 
--- so many powers of the base from the exponent `start` on are roots of the generator,
+-- this many powers of the base from the exponent `start` on are roots of the generator,
 -- which has no lower degree
 pub record AreUsableRoots {F K : Type 0} (f : Ops F)
     (o : Ops K) (embed : F → K) (g : List F) (b : K)

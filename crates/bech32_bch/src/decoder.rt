@@ -18,7 +18,7 @@ use bech32_poly::arithmetic::Extension;
 use bech32_poly::fieldvec::FieldVec;
 use std::alloc::{AllocError, Allocator};
 
-/// So many powers of a base, from one exponent on.
+/// A number of powers of a base, from one exponent on.
 #[derive(Clone, Copy)]
 pub struct Roots<E: Extension> {
     /// The base.

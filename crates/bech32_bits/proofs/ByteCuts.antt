@@ -74,7 +74,7 @@ pub end_of_one : (padded : Bool) (c h f : ℕ) (r : Option ℕ) (rest : List Fe3
 end_of_one padded c h f r rest l e z =
     ap (cut_bytes padded) (join-five c h f (fe_bits rest) l) ∙ end_of_held padded (c + 5) (h * 32 + f) r rest e z
 
--- how many bytes so many bits of a number and then elements give
+-- how many bytes this many bits of a number and then elements give
 pub length-cut_bytes : (padded : Bool) (k n : ℕ) (fes : List Fe32) → length (cut_bytes padded (bits k n ++ fe_bits fes)) ≡ count_bytes padded k (length fes)
 length-cut_bytes true k n fes =
     let all : length (fe_bits fes) ≡ 5 * length fes = length-fe_bits fes in

@@ -118,14 +118,14 @@ length-to_bytes fes =
     let all : length (fe_bits fes) ≡ 5 * length fes = length-fe_bits fes in
     length-cut_in_eights (fe_bits fes) ∙ (omega arith)
 
--- how many elements so many bits of a number and then bytes give
+-- how many elements this many bits of a number and then bytes give
 pub length-fives : (k n : ℕ) (bytes : List ℕ) → length (cut_in_fives (bits k n ++ byte_bits bytes)) ≡ fes_count k (length bytes)
 length-fives k n bytes =
     let all : length (byte_bits bytes) ≡ 8 * length bytes = length-byte_bits bytes in
     let held : length (bits k n) ≡ k = length-bits k n in
     length-cut_in_fives (bits k n ++ byte_bits bytes) ∙ simp length-append (omega arith)
 
--- how many bytes so many bits of a number and then elements give
+-- how many bytes this many bits of a number and then elements give
 pub length-eights : (k n : ℕ) (fes : List Fe32) → length (cut_in_eights (bits k n ++ fe_bits fes)) ≡ bytes_count k (length fes)
 length-eights k n fes =
     let all : length (fe_bits fes) ≡ 5 * length fes = length-fe_bits fes in

@@ -60,11 +60,11 @@ to_bytes fes = cut_in_eights (fe_bits fes)
 abbrev pub to_bytes_zeropad : List Fe32 → List ℕ
 to_bytes_zeropad fes = cut_in_eights_zeropad (fe_bits fes)
 
--- how many elements so many held bits and then n bytes give
+-- how many elements this many held bits and then n bytes give
 abbrev pub fes_count : ℕ → ℕ → ℕ
 fes_count held n = (8 * n + held + 4) / 5
 
--- how many bytes so many held bits and then n elements give
+-- how many bytes this many held bits and then n elements give
 abbrev pub bytes_count : ℕ → ℕ → ℕ
 bytes_count held n = (5 * n + held) / 8
 

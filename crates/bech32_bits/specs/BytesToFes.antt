@@ -31,7 +31,7 @@ fes_steps steps = Adapts steps fes_source fes_gives
 abbrev pub fes_can : {I : Type 0} → (I → Type 0) → BytesToFes I → Type 0
 fes_can can s = fuse_can can (fes_source s)
 
--- how many elements come where so many bytes do
+-- how many elements come where this many bytes do
 abbrev pub fes_from : {I : Type 0} → BytesToFes I → ℕ → ℕ
 fes_from s n = fes_count s.count n
 

@@ -36,7 +36,7 @@ bytes_steps steps = Adapts steps bytes_source bytes_gives
 abbrev pub bytes_can : {I : Type 0} → (I → Type 0) → FesToBytes I → Type 0
 bytes_can can s = fuse_can can (bytes_source s)
 
--- how many bytes come where so many elements do
+-- how many bytes come where this many elements do
 abbrev pub bytes_from : {I : Type 0} → FesToBytes I → ℕ → ℕ
 bytes_from s n = count_bytes s.padded s.count n
 

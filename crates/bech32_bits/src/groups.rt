@@ -16,7 +16,7 @@ fn word_of_four(a: Fe32, b: Fe32, c: Fe32, d: Fe32) -> u64
     (front * 32 + u64::from(c.to_u8())) * 32 + u64::from(d.to_u8())
 }
 
-// The byte of the eight bits that stand above so many lowest bits of a word.
+// The byte of the eight bits that stand above this many lowest bits of a word.
 #[inline]
 fn byte_in(word: u64, below: u8) -> u8
     requires { below < 64 }
@@ -25,7 +25,7 @@ fn byte_in(word: u64, below: u8) -> u8
     (word >> below & 255) as u8
 }
 
-// The element of the five bits that stand above so many lowest bits of a word.
+// The element of the five bits that stand above this many lowest bits of a word.
 #[inline]
 fn element_in(word: u64, below: u8) -> Fe32
     requires { below < 64 }

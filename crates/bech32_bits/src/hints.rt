@@ -3,7 +3,7 @@
 ghost use Rattle.std.specs.Prelude.{◌≡◌, ◌+◌};
 ghost use Rattle.bech32_bits.specs.SizeHints.{hint_map};
 
-/// The bounds where so many more items come.
+/// The bounds where this many more items come.
 #[inline]
 pub fn longer_hint(hint: (usize, Option<usize>), more: usize) -> (usize, Option<usize>)
     ensures { result ≡ hint_map (λ n. n + more) hint }

@@ -23,7 +23,7 @@ use bech32_gf::gf32::Fe32;
 use std::alloc::AllocError;
 use std::iter::{ExactSizeIterator, Fuse, FusedIterator};
 
-// The element of the five bits that stand above so many lowest bits of a value.
+// The element of the five bits that stand above this many lowest bits of a value.
 #[inline]
 fn element_above(value: u16, below: u8) -> Fe32
     requires { below < 16 }
@@ -32,7 +32,7 @@ fn element_above(value: u16, below: u8) -> Fe32
     Fe32::from_low_bits((value >> below & 31) as u8)
 }
 
-// The byte of the eight bits that stand above so many lowest bits of a value.
+// The byte of the eight bits that stand above this many lowest bits of a value.
 #[inline]
 fn byte_above(value: u16, below: u8) -> u8
     requires { below < 16 }
@@ -111,7 +111,7 @@ impl<I: Clone> Clone for BytesToFes<I> {
     }
 }
 
-// How many elements so many held bits and then so many bytes give, where that fits.
+// How many elements this many held bits and then this many bytes give, where that fits.
 fn fes_len(bytes: usize, held: u8) -> Option<usize>
     requires { held ≤ 7 }
     ensures { SomeIff result (fes_count held bytes < 2 ^ 64) (fes_count held bytes) }
@@ -209,7 +209,7 @@ fn bytes_hint(padded: bool, fes: (usize, Option<usize>), held: u8) -> (usize, Op
     (bytes_len(padded, fes.0, held), upper)
 }
 
-// How many bytes so many held bits and then so many elements give.
+// How many bytes this many held bits and then this many elements give.
 fn bytes_len(padded: bool, fes: usize, held: u8) -> usize
     requires { held ≤ 7 }
     ensures { result ≡ count_bytes padded held fes }

@@ -34,7 +34,7 @@ pub fn plain_to_bytes(alloc: Global, fes: &[Fe32]) -> Result<Vec<u8>, AllocError
     eights(alloc, &all)
 }
 
-// Appends so many lowest bits of a number, highest first.
+// Appends this many lowest bits of a number, highest first.
 fn push_bits(out: &mut Vec<u8>, number: u8, count: u8) -> Result<(), AllocError>
     requires { count ≤ 8 }
     ensures { OnOk result (out.new.items ≡ out.old.items ++ bits count number) }

@@ -5,7 +5,7 @@ use mathlib.Core.Logic.{◌≢◌}
 use Rattle.std.proofs.Math.Decide.{dec_lt}
 use Rattle.std.proofs.Math.Nat.{mod-add-mod, mul-mod_right}
 use Rattle.std.proofs.lemmas.Nat.{mul-mod_first}
-use Rattle.bech32_block.specs.Series.{IsLeastPower, IsPeriod}
+use Rattle.bech32_block.specs.Series.{IsPeriod}
 
 -- `at` is the exponent of the k-th power, and none before is `wanted`
 pub record Tried (n d wanted k at : ℕ) : Type 0 where
@@ -31,9 +31,6 @@ tried_more n d wanted k at at' t differ e = record {
     | no p ↦ let same : j ≡ k = omega arith in λ q. differ (t.stands ∙ ap (λ m. (m * d) % n) (sym same) ∙ q)
   ];
 }
-
-pub found : (n d wanted k at : ℕ) → Tried n d wanted k at → at ≡ wanted → IsLeastPower n d wanted k
-found n d wanted k at t e = record { gives = sym t.stands ∙ e; least = t.none }
 
 -- n powers are all
 pub never : (n d wanted k at : ℕ) → 0 < n → n ≤ k → Tried n d wanted k at → (m : ℕ) → (m * d) % n ≢ wanted

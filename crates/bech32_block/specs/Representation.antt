@@ -1,7 +1,7 @@
 -- The integers that words are packed into.
 use Rattle.std.specs.Prelude.{ℕ, List, codes, if◌then◌else◌, nat_le}
 
--- the smallest of u32, u64 and u128 into which so many elements fit: six, twelve and twenty-five
+-- the smallest of u32, u64 and u128 into which this many elements fit: six, twelve and twenty-five
 abbrev pub representation : ℕ → List ℕ
 representation degree =
     if nat_le degree 6 then codes "u32"

@@ -17,6 +17,11 @@ pub record RootField (E : Type 0) : Type 0 where
   pub generator : E
   pub order : ℕ
 
+-- the field with these
+abbrev pub root_field : {E : Type 0} → Ops E → (E → E → Bool) → (Fe32 → E) → E → ℕ → RootField E
+root_field ops same embed generator order =
+    record { ops = ops; same = same; embed = embed; generator = generator; order = order }
+
 -- the exponents of the roots, as powers of the field's element, in rising order: each
 -- root that is not zero once
 abbrev pub roots_of : {E : Type 0} → RootField E → List Fe32 → List ℕ

@@ -6,7 +6,7 @@ use Rattle.std.specs.List.{Contains}
 abbrev pub series_term : ℕ → ℕ → ℕ → ℕ → ℕ
 series_term n first step k = (first + k * step) % n
 
--- so many roots r, rq, rq^2, .., pairwise different; q is not one. `roots` lists
+-- this many roots r, rq, rq^2, .., pairwise different; q is not one. `roots` lists
 -- the exponents of all roots.
 pub record IsSeries (n : ℕ) (roots : List ℕ) (first step count : ℕ) : Type 0 where
   pub step_positive : 0 < step

@@ -33,7 +33,7 @@ fn write_digits<W: fmt::Write>(word: u128, count: usize, f: &mut fmt::Formatter<
     write_digits(word, rest, f)
 }
 
-/// A number, shown as `0x` and so many digits.
+/// A number, shown as `0x` and this many digits.
 #[derive(Clone, Copy)]
 pub(crate) struct Hex {
     pub(crate) word: u128,

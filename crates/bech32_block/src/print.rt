@@ -6,6 +6,7 @@ ghost use Rattle.bech32_block.specs.Block.{comment_text, opening_text, packing_t
 ghost use Rattle.bech32_block.specs.Block.{field_text, base_text, exponents_text, roots_text};
 ghost use Rattle.bech32_block.specs.Block.{lengths_text, words_text, target_text, packed_text};
 ghost use Rattle.bech32_block.specs.Refusals.{IsPrintRefusal};
+ghost use Rattle.bech32_block.specs.Roots.{root_field};
 
 use crate::error::PrintError;
 use crate::hex::Hex;
@@ -54,26 +55,16 @@ impl<'a, E: NamedField + ExtensionField<BaseField = Fe32>> PrintImpl<'a, E> {
         requires some { 0 < length generator.now }
         requires few { length generator.now ≤ 25 }
         requires as_many { length target.now ≡ length generator.now }
-        ensures block { IfOk result (λ p. IsBlock (record {
-          ops = E.ops;
-          same = E.eq;
-          embed = E.embed;
-          generator = E.GENERATOR;
-          order = E.MULTIPLICATIVE_ORDER;
-        }) E.rust_code E.field_name
-            name.now generator.now target.now (block_of E.rust_code p)) }
-        ensures refused { IfErr result (IsPrintRefusal (record {
-          ops = E.ops;
-          same = E.eq;
-          embed = E.embed;
-          generator = E.GENERATOR;
-          order = E.MULTIPLICATIVE_ORDER;
-        }) generator.now) }
+        ensures block { IfOk result (λ p. IsBlock
+            (root_field E.ops E.eq E.embed E.GENERATOR E.MULTIPLICATIVE_ORDER)
+            E.rust_code E.field_name name.now generator.now target.now (block_of E.rust_code p)) }
+        ensures refused { IfErr result (IsPrintRefusal
+            (root_field E.ops E.eq E.embed E.GENERATOR E.MULTIPLICATIVE_ORDER) generator.now) }
     {
         Self::new_in(alloc, name, generator, target)
     }
 
-    /// The same with memory from any allocator.
+    /// A block as [`new`](PrintImpl::new) makes it, with memory from any allocator.
     ///
     /// # Errors
     ///
@@ -88,21 +79,11 @@ impl<'a, E: NamedField + ExtensionField<BaseField = Fe32>> PrintImpl<'a, E> {
         requires some { 0 < length generator.now }
         requires few { length generator.now ≤ 25 }
         requires as_many { length target.now ≡ length generator.now }
-        ensures block { IfOk result (λ p. IsBlock (record {
-          ops = E.ops;
-          same = E.eq;
-          embed = E.embed;
-          generator = E.GENERATOR;
-          order = E.MULTIPLICATIVE_ORDER;
-        }) E.rust_code E.field_name
-            name.now generator.now target.now (block_of E.rust_code p)) }
-        ensures refused { IfErr result (IsPrintRefusal (record {
-          ops = E.ops;
-          same = E.eq;
-          embed = E.embed;
-          generator = E.GENERATOR;
-          order = E.MULTIPLICATIVE_ORDER;
-        }) generator.now) }
+        ensures block { IfOk result (λ p. IsBlock
+            (root_field E.ops E.eq E.embed E.GENERATOR E.MULTIPLICATIVE_ORDER)
+            E.rust_code E.field_name name.now generator.now target.now (block_of E.rust_code p)) }
+        ensures refused { IfErr result (IsPrintRefusal
+            (root_field E.ops E.eq E.embed E.GENERATOR E.MULTIPLICATIVE_ORDER) generator.now) }
     {
         if generator.len() == 1 {
             return Err(PrintError::Degree);

@@ -6,7 +6,7 @@ ghost use Rattle.bech32_poly.specs.Embedding.{value_in};
 ghost use Rattle.bech32_poly.specs.Remainder.{monic};
 ghost use Rattle.bech32_checksum.specs.Roots.{HasLawfulRoots};
 ghost use Rattle.bech32_block.specs.Refusals.{IsPrintRefusal};
-ghost use Rattle.bech32_block.specs.Roots.{RootField, AreOfLongestSeries, HasAllRoots, roots_of};
+ghost use Rattle.bech32_block.specs.Roots.{AreOfLongestSeries, HasAllRoots, root_field, roots_of};
 ghost use Rattle.bech32_words.specs.Words.{code_of_written};
 
 use crate::error::PrintError;
@@ -42,13 +42,9 @@ fn root_exponents<E: ExtensionField<BaseField = Fe32>, A: Allocator>(
     alloc: A,
     generator: &[Fe32],
 ) -> Result<Vec<usize, A>, AllocError>
-    ensures { IfOk result (λ roots. roots.items ≡ roots_of (record {
-      ops = E.ops;
-      same = E.eq;
-      embed = E.embed;
-      generator = E.GENERATOR;
-      order = E.MULTIPLICATIVE_ORDER;
-    }) generator.now) }
+    ensures { IfOk result (λ roots. roots.items
+        ≡ roots_of (root_field E.ops E.eq E.embed E.GENERATOR E.MULTIPLICATIVE_ORDER)
+        generator.now) }
 {
     let mut roots = Vec::new(alloc);
     let mut power = E::ONE;
@@ -74,31 +70,15 @@ impl<E: ExtensionField<BaseField = Fe32>> Roots<E> {
     ) -> Result<Self, PrintError>
         requires some { 2 ≤ length generator.now }
         requires few { length generator.now ≤ 25 }
-        ensures split { IfOk result (λ _. HasAllRoots (record {
-          ops = E.ops;
-          same = E.eq;
-          embed = E.embed;
-          generator = E.GENERATOR;
-          order = E.MULTIPLICATIVE_ORDER;
-        }) generator.now) }
+        ensures split { IfOk result (λ _. HasAllRoots
+            (root_field E.ops E.eq E.embed E.GENERATOR E.MULTIPLICATIVE_ORDER) generator.now) }
         ensures series { IfOk result (λ r.
-            let f : RootField E = record {
-              ops = E.ops;
-              same = E.eq;
-              embed = E.embed;
-              generator = E.GENERATOR;
-              order = E.MULTIPLICATIVE_ORDER;
-            } in
+            let f = root_field E.ops E.eq E.embed E.GENERATOR E.MULTIPLICATIVE_ORDER in
             AreOfLongestSeries f (roots_of f generator.now) r.base r.start r.end r.code_length) }
         ensures lawful { IfOk result (λ r. (target : List Fe32) → HasLawfulRoots E.ops E.embed
             (code_of_written generator.now target r.code_length) r.base r.start r.end) }
-        ensures refused { IfErr result (IsPrintRefusal (record {
-          ops = E.ops;
-          same = E.eq;
-          embed = E.embed;
-          generator = E.GENERATOR;
-          order = E.MULTIPLICATIVE_ORDER;
-        }) generator.now) }
+        ensures refused { IfErr result (IsPrintRefusal
+            (root_field E.ops E.eq E.embed E.GENERATOR E.MULTIPLICATIVE_ORDER) generator.now) }
     {
         let order = E::MULTIPLICATIVE_ORDER;
         let roots = root_exponents::<E, A>(alloc, generator)?;

@@ -29,10 +29,10 @@ digits-packed (x ∷ p) =
 pub digits-packed_six : (n : ℕ) (p : List Fe32) → length p ≡ 6 → n ≡ packed p → digits 6 n ≡ p
 digits-packed_six n p size e = ap (digits 6) e ∙ ap (λ d. digits d (packed p)) (sym size) ∙ digits-packed p
 
-digits-multiple : (n r : ℕ) (v : Fe32) → n ≡ packed (scale fe32.ops v (digits 6 r)) → digits 6 n ≡ scale fe32.ops v (digits 6 r)
+pub digits-multiple : (n r : ℕ) (v : Fe32) → n ≡ packed (scale fe32.ops v (digits 6 r)) → digits 6 n ≡ scale fe32.ops v (digits 6 r)
 digits-multiple n r v e = digits-packed_six n (scale fe32.ops v (digits 6 r)) (length-scale is_field v (digits 6 r)) e
 
-digits-xor : (a b : ℕ) → digits 6 (bit_xor a b) ≡ add fe32.ops (digits 6 a) (digits 6 b)
+pub digits-xor : (a b : ℕ) → digits 6 (bit_xor a b) ≡ add fe32.ops (digits 6 a) (digits 6 b)
 digits-xor a b = tabulated 6 (digit_of (bit_xor a b)) (λ n. fe32.add (digit_of a n) (digit_of b n)) (λ n below. xor_digits a b (bit_xor a b) refl n)
 
 -- a row from which another one was taken
@@ -50,7 +50,7 @@ gathered v b a p q =
     ∙ ap (add fe32.ops (scale fe32.ops v p)) (sym (scale-add_elements is_field (fe32.mul v b) a q))
 
 -- a row to which a multiple of another one was added
-added : (r m s : ℕ) (b : Fe32) → m ≡ packed (scale fe32.ops b (digits 6 s)) → digits 6 (bit_xor r m) ≡ add fe32.ops (digits 6 r) (scale fe32.ops b (digits 6 s))
+pub added : (r m s : ℕ) (b : Fe32) → m ≡ packed (scale fe32.ops b (digits 6 s)) → digits 6 (bit_xor r m) ≡ add fe32.ops (digits 6 r) (scale fe32.ops b (digits 6 s))
 added r m s b e = digits-xor r m ∙ ap (add fe32.ops (digits 6 r)) (digits-multiple m s b e)
 
 pub one : (r m s : ℕ) (v : Fe32) → m ≡ packed (scale fe32.ops v (digits 6 s)) → m ≡ r → digits 6 r ≡ scale fe32.ops v (digits 6 s)
@@ -93,7 +93,7 @@ three r p s q m n k v w a b c em en ek e =
 -- ---- patterns
 
 -- the remainder of errors is that of the first one and that of the others
-first_and_others : (i : ℕ) (v : Fe32) (others : List (ℕ × Fe32)) → i < 1023 → remainder_of fe32.ops bech32.generator (pattern_polynomial fe32.ops ((i, v) ∷ others))
+pub first_and_others : (i : ℕ) (v : Fe32) (others : List (ℕ × Fe32)) → i < 1023 → remainder_of fe32.ops bech32.generator (pattern_polynomial fe32.ops ((i, v) ∷ others))
     ≡ add fe32.ops (scale fe32.ops v (digits 6 (row i))) (remainder_of fe32.ops bech32.generator (pattern_polynomial fe32.ops others))
 first_and_others i v others h =
     remainder_of-add is_field bech32.generator (monomial fe32.ops i v) (pattern_polynomial fe32.ops others)

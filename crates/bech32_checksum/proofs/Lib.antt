@@ -1,3 +1,4 @@
+pub mod Beside
 pub mod DigitRows
 pub mod Digits
 pub mod EightSteps
@@ -6,6 +7,7 @@ pub mod Erased
 pub mod HrpInput
 pub mod HrpPlaces
 pub mod Input
+pub mod NoValues
 pub mod OneError
 pub mod PackedRows
 pub mod PackedRuns

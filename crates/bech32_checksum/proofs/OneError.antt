@@ -16,7 +16,7 @@ use Rattle.bech32_poly.specs.Remainder.{IsRemainder}
 use Rattle.bech32_poly.proofs.Lists.{length-scale, same_cons, scale-scale, scale-zero}
 use Rattle.bech32_poly.proofs.Remainder.{remainder_exists, remainder_of-itself, remainder_of-same, remainder_of-scale, remainder_unique}
 use Rattle.bech32_checksum.specs.Code.{bech32}
-use Rattle.bech32_checksum.specs.OneError.{IsLeftBy, leading, packed}
+use Rattle.bech32_checksum.specs.OneError.{IsLeftBy, key, leading, packed}
 use Rattle.bech32_checksum.specs.Packed.{digits}
 use Rattle.bech32_checksum.proofs.EightSteps.{residue_step}
 use Rattle.bech32_checksum.proofs.Residue.{one_is_residue}
@@ -61,7 +61,7 @@ remainder_is i v h =
     ∙ ap (scale fe32.ops v) (sym (remainder_unique is_field bech32.generator (monomial fe32.ops i fe32.one) (digits 6 (row i)) (row_is i h)))
 
 -- a residue of six elements that an error leaves is its value times the remainder of the power of x
-left_is : (l : List Fe32) (i : ℕ) (v : Fe32) → length l ≡ 6 → i < 1023 → IsLeftBy bech32.generator l ((i, v) ∷ []) → l ≡ scale fe32.ops v (digits 6 (row i))
+pub left_is : (l : List Fe32) (i : ℕ) (v : Fe32) → length l ≡ 6 → i < 1023 → IsLeftBy bech32.generator l ((i, v) ∷ []) → l ≡ scale fe32.ops v (digits 6 (row i))
 left_is l i v size h left =
     sym (remainder_of-itself is_field bech32.generator l size)
     ∙ sym (remainder_of-same is_field bech32.generator left.0 l left.2)
@@ -82,15 +82,15 @@ is_left l i v h e = leaves l ((i, v) ∷ []) (e ∙ sym (remainder_is i v h))
 
 -- ---- keys
 
-is_zero : (x : Fe32) → (x ≡ fe32.zero) ⊎ (x ≢ fe32.zero)
+pub is_zero : (x : Fe32) → (x ≡ fe32.zero) ⊎ (x ≢ fe32.zero)
 is_zero x = go (x.value == 0) refl
   where
     go : (b : Bool) → (x.value == 0) ≡ b → (x ≡ fe32.zero) ⊎ (x ≢ fe32.zero)
     go true e = inl ((eq_is_equal x fe32.zero).0 e)
     go false e = inr (λ z. let no : true ≡ false = sym ((eq_is_equal x fe32.zero).1 z) ∙ e in cc no)
 
-not_zero : (x : Fe32) → x ≢ fe32.zero → (x.value == 0) ≡ false
-not_zero x n = go (x.value == 0) refl
+pub not_zero_value : (x : Fe32) → x ≢ fe32.zero → (x.value == 0) ≡ false
+not_zero_value x n = go (x.value == 0) refl
   where
     go : (b : Bool) → (x.value == 0) ≡ b → (x.value == 0) ≡ false
     go true e = absurd (n ((eq_is_equal x fe32.zero).0 e))
@@ -100,13 +100,13 @@ pub leading-skip : (x : Fe32) (p : List Fe32) → x ≡ fe32.zero → leading (x
 leading-skip x p e = ap (λ b. cond b (leading p) x) ((eq_is_equal x fe32.zero).1 e)
 
 pub leading-take : (x : Fe32) (p : List Fe32) → x ≢ fe32.zero → leading (x ∷ p) ≡ x
-leading-take x p n = ap (λ b. cond b (leading p) x) (not_zero x n)
+leading-take x p n = ap (λ b. cond b (leading p) x) (not_zero_value x n)
 
 leading-zeros : (n : ℕ) → leading (zeros fe32.ops n) ≡ fe32.zero
 leading-zeros zero = refl
 leading-zeros (suc n) = leading-skip fe32.zero (zeros fe32.ops n) refl ∙ leading-zeros n
 
-product_some : (v x : Fe32) → v ≢ fe32.zero → x ≢ fe32.zero → fe32.mul v x ≢ fe32.zero
+pub product_some : (v x : Fe32) → v ≢ fe32.zero → x ≢ fe32.zero → fe32.mul v x ≢ fe32.zero
 product_some v x nv nx z =
     nv (sym (is_field.mul_one v) ∙ ap (fe32.mul v) (sym (is_field.mul_inv x nx)) ∙ sym (is_field.mul_assoc v x (fe32.inv x))
     ∙ ap (λ y. fe32.mul y (fe32.inv x)) z ∙ is_field.mul_comm fe32.zero (fe32.inv x) ∙ mul_zero is_field (fe32.inv x))
@@ -118,11 +118,8 @@ leading-scale v (x ∷ p) n = elim (is_zero x) [
   | inr k ↦ leading-take (fe32.mul v x) (scale fe32.ops v p) (product_some v x n k) ∙ ap (fe32.mul v) (sym (leading-take x p k))
 ]
 
-abbrev pub key : List Fe32 → ℕ
-key p = packed (scale fe32.ops (fe32.inv (leading p)) p)
-
 -- the inverse of a product, times one of its factors
-inverse_left : (v l : Fe32) → l ≢ fe32.zero → fe32.mul v l ≢ fe32.zero → fe32.mul (fe32.inv (fe32.mul v l)) v ≡ fe32.inv l
+pub inverse_left : (v l : Fe32) → l ≢ fe32.zero → fe32.mul v l ≢ fe32.zero → fe32.mul (fe32.inv (fe32.mul v l)) v ≡ fe32.inv l
 inverse_left v l nl n =
     let whole = fe32.mul v l in
     let e : fe32.mul (fe32.inv l) whole ≡ v =
@@ -134,7 +131,7 @@ scaled_some : (v : Fe32) (p : List Fe32) → leading (scale fe32.ops v p) ≢ fe
 scaled_some v p n z = n (ap (λ u. leading (scale fe32.ops u p)) z ∙ ap leading (scale-zero is_field p) ∙ leading-zeros (length p))
 
 -- a multiple that is not zero has the same key
-key-scale : (v : Fe32) (p : List Fe32) → leading (scale fe32.ops v p) ≢ fe32.zero → key (scale fe32.ops v p) ≡ key p
+pub key-scale : (v : Fe32) (p : List Fe32) → leading (scale fe32.ops v p) ≢ fe32.zero → key (scale fe32.ops v p) ≡ key p
 key-scale v p n =
     let some = scaled_some v p n in
     let whole = leading-scale v p some in
@@ -170,12 +167,12 @@ unfolding product
 entry_is h l =
     eqb-true _ _ (each_below-at 1024 (λ h. get_or KEYS h 0 == packed (scale fe32.ops (fe32.element (get_or ANSWERS h 0)) (digits 6 (get_or POWERS_OF_X (get_or ANSWERS h 0 / 32) 0)))) refl h l)
 
-key_there : (i : ℕ) → i < 1023 → get_or KEYS (slot (key (digits 6 (get_or POWERS_OF_X i 0)))) 0 ≡ key (digits 6 (get_or POWERS_OF_X i 0))
+pub key_there : (i : ℕ) → i < 1023 → get_or KEYS (slot (key (digits 6 (get_or POWERS_OF_X i 0)))) 0 ≡ key (digits 6 (get_or POWERS_OF_X i 0))
 unfolding product product_of inverse
 key_there i l =
     eqb-true _ _ (each_below-at 1023 (λ i. get_or KEYS (slot (key (digits 6 (get_or POWERS_OF_X i 0)))) 0 == key (digits 6 (get_or POWERS_OF_X i 0))) refl i l)
 
-answer_there : (i : ℕ) → i < 1023 → get_or ANSWERS (slot (key (digits 6 (get_or POWERS_OF_X i 0)))) 0 / 32 ≡ i
+pub answer_there : (i : ℕ) → i < 1023 → get_or ANSWERS (slot (key (digits 6 (get_or POWERS_OF_X i 0)))) 0 / 32 ≡ i
 unfolding product product_of inverse
 answer_there i l =
     eqb-true _ _ (each_below-at 1023 (λ i. get_or ANSWERS (slot (key (digits 6 (get_or POWERS_OF_X i 0)))) 0 / 32 == i) refl i l)

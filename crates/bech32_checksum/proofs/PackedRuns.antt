@@ -20,7 +20,7 @@ All-everywhere xs P h = λ k d below.
 pub All-items : {S : Type 0} {steps : S → Option ℕ → S → Type 0} (p : Run steps) → AllItems p (λ v. v < 32) → All (λ v. v < 32) p.items
 All-items p h = All-everywhere p.items (λ v. v < 32) (each_of p (λ v. v < 32) h)
 
--- the values so far and the next one fit a row of so many places
+-- the values so far and the next one fit a row of this many places
 abbrev FitsRow : ℕ → List ℕ → ℕ → Type 0
 FitsRow width xs x = (length xs + 1 ≤ width) × All (λ v. v < 32) (xs ++ (x ∷ []))
 

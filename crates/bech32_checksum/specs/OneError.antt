@@ -1,11 +1,12 @@
 -- Errors that leave a residue, and the single one among them.
 use Rattle.std.specs.Prelude.{◌≡◌, ◌≢◌, ◌<◌, ◌==◌, ◌+◌, ◌*◌, cond, ℕ, List, [], ◌∷◌}
 use Rattle.std.specs.Prelude.{Option, Some, None}
-use Rattle.bech32_gf.specs.Fe32.{ops, zero}
+use Rattle.bech32_gf.specs.Fe32.{inv, ops, zero}
 use Rattle.bech32_gf.specs.declared.gf32.Fe32.{Fe32}
 use Rattle.bech32_poly.specs.Pattern.{pattern_polynomial}
-use Rattle.bech32_poly.specs.Polynomial.{IsSamePolynomial}
+use Rattle.bech32_poly.specs.Polynomial.{IsSamePolynomial, scale}
 use Rattle.bech32_poly.specs.Remainder.{IsRemainder}
+use Rattle.bech32_checksum.specs.Packed.{digit_of}
 
 -- the polynomial of these errors has the residue as remainder, by the generator with these lower
 -- coefficients
@@ -37,6 +38,27 @@ IsSingle generator code_length residue None =
 IsSingle generator code_length residue (Some error) =
     IsOnlyError generator code_length residue error
 
+-- elements at a location and at one below a window that together leave the residue, or None where
+-- none do
+abbrev pub IsBeside : List Fe32 → ℕ → List Fe32 → ℕ → Option (Fe32 × (ℕ × Fe32)) → Type 0
+IsBeside generator window residue location None = (v : Fe32) (i : ℕ) (w : Fe32) → i < window
+    → IsLeftBy generator residue ((location, v) ∷ (i, w) ∷ []) → ⊥
+IsBeside generator window residue location (Some found) = (found.1.0 < window)
+    × IsLeftBy generator residue ((location, found.0) ∷ found.1 ∷ [])
+
+-- elements at the locations that together leave the residue, or None where none do
+abbrev pub AreOnlyValues : List Fe32 → List Fe32 → List ℕ → Option (List Fe32) → Type 0
+AreOnlyValues generator residue locations None =
+    (values : List Fe32) → IsLeftBy generator residue (valued locations values) → ⊥
+AreOnlyValues generator residue locations (Some values) =
+    IsLeftBy generator residue (valued locations values)
+
+-- a place of six at which a number has a digit that is not zero, as the number of the bits below
+-- it, and the inverse of the digit
+abbrev pub IsPivotOf : ℕ → ℕ → Fe32 → Type 0
+IsPivotOf number bit inverse = (k : ℕ) × (k < 6) × (bit ≡ 5 * k)
+    × (digit_of number k ≢ zero) × (inverse ≡ inv (digit_of number k))
+
 -- the first element of a list that is not zero, and zero where there is none
 abbrev pub leading : List Fe32 → Fe32
 leading [] = zero
@@ -46,3 +68,7 @@ leading (x ∷ p) = cond (x.value == 0) (leading p) x
 abbrev pub packed : List Fe32 → ℕ
 packed [] = 0
 packed (x ∷ p) = x.value + 32 * packed p
+
+-- the elements divided by the first one that is not zero, packed
+abbrev pub key : List Fe32 → ℕ
+key p = packed (scale ops (inv (leading p)) p)

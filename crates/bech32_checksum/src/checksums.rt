@@ -9,6 +9,7 @@ ghost use Rattle.bech32_checksum.specs.laws.CodeLaws as codes;
 ghost use Rattle.bech32_checksum.specs.laws.RootLaws as roots;
 ghost use Rattle.bech32_checksum.specs.Roots.{HasLawfulRoots};
 
+mod beside;
 mod eights;
 mod erased;
 mod locations;
@@ -18,6 +19,7 @@ mod products;
 mod twos;
 mod words;
 
+use self::beside::one_beside_by_rows;
 use self::eights::after_eight_by_tables;
 use self::erased::values_by_rows;
 use self::ones::one_error_by_tables;
@@ -170,8 +172,17 @@ impl Checksum for Bech32 {
     }
 
     #[inline]
-    fn values_at(residue: &[Fe32], locations: &[usize]) -> Option<[Fe32; 3]> {
+    fn values_or_none(residue: &[Fe32], locations: &[usize]) -> Option<Option<[Fe32; 3]>> {
         values_by_rows(residue, locations)
+    }
+
+    #[inline]
+    fn one_beside(
+        residue: &[Fe32],
+        location: usize,
+        window: usize,
+    ) -> Option<Option<(Fe32, (usize, Fe32))>> {
+        one_beside_by_rows(residue, location, window)
     }
 
     ghost packing_laws = { codes.bech32_keeps };
@@ -265,8 +276,17 @@ impl Checksum for Bech32m {
     }
 
     #[inline]
-    fn values_at(residue: &[Fe32], locations: &[usize]) -> Option<[Fe32; 3]> {
+    fn values_or_none(residue: &[Fe32], locations: &[usize]) -> Option<Option<[Fe32; 3]>> {
         values_by_rows(residue, locations)
+    }
+
+    #[inline]
+    fn one_beside(
+        residue: &[Fe32],
+        location: usize,
+        window: usize,
+    ) -> Option<Option<(Fe32, (usize, Fe32))>> {
+        one_beside_by_rows(residue, location, window)
     }
 
     ghost packing_laws = { codes.bech32m_keeps };

@@ -11,7 +11,7 @@ ghost use Rattle.bech32_poly.specs.Polynomial.{scale};
 ghost use Rattle.bech32_hrp.specs.Hrp.{lowered};
 ghost use Rattle.bech32_checksum.specs.Packed.{HasDigits, IsRowOf, sum_of_words};
 ghost use Rattle.bech32_checksum.specs.Code.{Code, code_of, IsResidueOf, IsResidueAfter};
-ghost use Rattle.bech32_checksum.specs.OneError.{IsLeftBy, IsSingle, valued};
+ghost use Rattle.bech32_checksum.specs.OneError.{AreOnlyValues, IsBeside, IsLeftBy, IsSingle, valued};
 ghost use Rattle.bech32_checksum.specs.PackingLaws.{KeepsPackingLaws};
 ghost use Rattle.bech32_checksum.specs.Word.{two_elements, word_elements};
 ghost use Rattle.bech32_checksum.specs.Roots.{HasLawfulRoots, singleton_bound};
@@ -207,15 +207,42 @@ pub trait Checksum {
         None
     }
 
-    /// The elements at up to three locations that together leave a residue, where the checksum has
-    /// a way of its own to find them; `None` says nothing.
+    /// The elements at up to three locations that together leave a residue, if any, where the
+    /// checksum has a way of its own to find them; the outer `None` says nothing.
     ///
     /// The provided one says nothing, and correctors then search. Whoever defines a checksum may
     /// read tables.
     #[inline]
-    fn values_at(_residue: &[Fe32], _locations: &[usize]) -> Option<[Fe32; 3]>
+    fn values_or_none(_residue: &[Fe32], _locations: &[usize]) -> Option<Option<[Fe32; 3]>>
         ensures { MatchOption result ⊤
-            (λ values. IsLeftBy code.generator _residue.now (valued _locations.now values)) }
+            (λ found. AreOnlyValues code.generator _residue.now _locations.now found) }
+    {
+        None
+    }
+
+    /// The elements at up to three locations that together leave a residue, where
+    /// [`Self::values_or_none`] finds them; `None` says nothing.
+    #[inline]
+    fn values_at(residue: &[Fe32], locations: &[usize]) -> Option<[Fe32; 3]>
+        ensures { MatchOption result ⊤
+            (λ values. IsLeftBy code.generator residue.now (valued locations.now values)) }
+    {
+        Self::values_or_none(residue, locations)?
+    }
+
+    /// The element at a location and the single error below a window that together leave a residue,
+    /// if any, where the checksum has a way of its own to find them; the outer `None` says nothing.
+    ///
+    /// The provided one says nothing, and correctors then search. Whoever defines a checksum may
+    /// read tables.
+    #[inline]
+    fn one_beside(
+        _residue: &[Fe32],
+        _location: usize,
+        _window: usize,
+    ) -> Option<Option<(Fe32, (usize, Fe32))>>
+        ensures { MatchOption result ⊤
+            (λ found. IsBeside code.generator _window _residue.now _location found) }
     {
         None
     }
@@ -425,7 +452,8 @@ impl<Ck: Checksum> Engine<Ck> {
         self.input_part(hrp.as_bytes());
     }
 
-    /// The same of the bytes of a human-readable part.
+    /// Takes the elements of a human-readable part that is given as bytes, as [`Engine::input_hrp`]
+    /// does.
     #[inline]
     pub fn input_part(&mut self, part: &[u8])
         ensures { IsResidueAfter Ck.MidstateRepr.number Ck.code self.old

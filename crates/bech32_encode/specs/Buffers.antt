@@ -1,7 +1,7 @@
 -- Bytes at the front of a caller's buffer.
 use Rattle.std.specs.Prelude.{◌≡◌, ◌≤◌, ℕ, List, ◌++◌, length, take, drop, min}
 
--- so many bytes stand at the front of a buffer, and behind them it is as it was
+-- this many bytes stand at the front of a buffer, and behind them it is as it was
 pub record IsPut (bytes old new : List ℕ) (count : ℕ) : Type 0 where
   pub fits : length bytes ≤ length old
   pub buffer : new ≡ bytes ++ drop (length bytes) old

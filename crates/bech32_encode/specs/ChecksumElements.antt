@@ -14,7 +14,8 @@ checksum_of code p =
     reverse (remainder_of fe32.ops code.generator (appended p (reverse code.target)))
 
 -- elements, and behind them their checksum, where the polynomial before them leaves a packed
--- residue; once they have ended the residue is the checksum, of which so many elements are to come
+-- residue; once they have ended the residue is the checksum, of which this many elements are to
+-- come
 abbrev pub then_checksum : {R : Type 0} → (R → ℕ) → Code → R → Option ℕ → List Fe32 → List Fe32
 then_checksum number code residue None xs =
     xs ++ checksum_of code (appended (digits (length code.generator) (number residue)) xs)

@@ -33,7 +33,7 @@ impl<'hrp, I, Ck: Checksum> Adaptor for ByteIter<'hrp, I, Ck> {
 }
 
 impl<'hrp, I: Iterator<Item = Fe32>, Ck: Checksum> ByteIter<'hrp, I, Ck> {
-    /// The same characters as bytes.
+    /// The bytes of the characters that are to come.
     #[inline]
     pub fn new(chars: CharIter<'hrp, I, Ck>) -> Self
         ensures source { ⟦<ByteIter<'hrp, I, Ck> as Adaptor>⟧.source result

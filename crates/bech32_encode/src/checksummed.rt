@@ -178,7 +178,7 @@ impl<I: Iterator<Item = Fe32>, Ck: Checksum> Checksummed<I, Ck> {
         }
     }
 
-    // Gives the next element of the residue, of which so many are to come.
+    // Gives the next element of the residue, of which this many are to come.
     #[inline]
     fn next_of_residue(&mut self, left: usize) -> Option<Fe32>
         requires few { left ≤ Ck.CHECKSUM_LENGTH }

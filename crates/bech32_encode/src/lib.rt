@@ -73,8 +73,8 @@ impl<'hrp, I: Iterator<Item = Fe32>, Ck: Checksum> Encoder<'hrp, I, Ck> {
         }
     }
 
-    /// The same with this witness version before the elements. Any element may be one here; BIP-173
-    /// (Segwit address format) allows those up to 16.
+    /// This encoder, with a witness version before the elements. Any element may be one here;
+    /// BIP-173 (Segwit address format) allows those up to 16.
     #[inline]
     pub fn with_witness_version(mut self, version: Fe32) -> Self
         ensures elements { encoder_elements result ≡ encoder_elements self.entry }

@@ -15,15 +15,16 @@ use bech32_gf::gf32::Fe32;
 use bech32_hrp::Hrp;
 use std::alloc::{AllocError, Allocator};
 
-/// The length of the text of a human-readable part and so many bytes, or `usize::MAX` where it does
-/// not fit.
+/// The length of the text of a human-readable part and this many bytes, or `usize::MAX` where it
+/// does not fit.
 pub fn text_length<Ck: Checksum>(hrp: &Hrp, bytes: usize) -> usize
     ensures { result ≡ text_length_of Ck.CHECKSUM_LENGTH (hrp_bytes hrp.now) (fes_count 0 bytes) }
 {
     text_length_of_part::<Ck>(hrp.as_bytes(), bytes)
 }
 
-/// The same of the bytes of a human-readable part.
+/// The length of the text of a human-readable part, given as bytes, and this many bytes of data, or
+/// `usize::MAX` where it does not fit.
 #[inline]
 pub fn text_length_of_part<Ck: Checksum>(part: &[u8], bytes: usize) -> usize
     ensures { result ≡ text_length_of Ck.CHECKSUM_LENGTH part.now (fes_count 0 bytes) }
@@ -36,7 +37,8 @@ pub fn text_length_of_part<Ck: Checksum>(part: &[u8], bytes: usize) -> usize
         .saturating_add(Ck::CHECKSUM_LENGTH)
 }
 
-/// The same with a witness version before the bytes, where there is one.
+/// The length of the text of a human-readable part, a witness version where there is one, and this
+/// many bytes, or `usize::MAX` where it does not fit.
 pub fn length_with_version<Ck: Checksum>(hrp: &Hrp, version: Option<Fe32>, bytes: usize) -> usize
     ensures { result ≡ text_length_of Ck.CHECKSUM_LENGTH (hrp_bytes hrp.now)
         (length (option_to_list version) + fes_count 0 bytes) }
@@ -68,7 +70,8 @@ pub fn put_text_of_bytes<Ck: Checksum>(
     put_text_of_part::<Ck>(hrp.as_bytes(), version, bytes, buffer)
 }
 
-/// The same of the bytes of a human-readable part.
+/// Puts a text at the front of a buffer as [`put_text_of_bytes`] does, with the human-readable part
+/// given as bytes.
 pub fn put_text_of_part<Ck: Checksum>(
     part: &[u8],
     version: Option<Fe32>,
@@ -127,7 +130,7 @@ pub fn text_in<Ck: Checksum, A: Allocator>(
     text_of_size_in::<Ck, A>(alloc, hrp, version, data, size)
 }
 
-/// The same of a text whose length is known.
+/// The text that [`text_in`] gives, where its length is known.
 ///
 /// # Errors
 ///

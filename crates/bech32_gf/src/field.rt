@@ -78,7 +78,7 @@ pub trait Field: Arithmetic
     fn order_factors() -> &'static [usize]
         ensures { result.now ≡ divisors };
 
-    /// The sum of so many times this element, of its negative for a negative number.
+    /// This element added up this many times, or its negative for a negative number.
     fn muli(&self, n: i64) -> Self
         ensures { result ≡ signed_multiple Self.ops self.now n }
     {
@@ -95,8 +95,8 @@ pub trait Field: Arithmetic
         sum
     }
 
-    /// The product of so many times this element, of its inverse for a negative number, for which
-    /// the element may not be zero. Power 0 is one, of zero too.
+    /// This element multiplied by itself this many times, or its inverse for a negative number, for
+    /// which the element may not be zero. Power 0 is one, of zero too.
     fn powi(&self, n: i64) -> Self
         requires { n <ℤ pos 0 → self.now ≢ Self.ops.zero }
         ensures { result ≡ signed_power Self.ops self.now n }
@@ -286,7 +286,7 @@ pub struct Powers<F: Field> {
 }
 
 impl<F: Field> Powers<F> {
-    // Passes over so many powers.
+    // Passes over this many powers.
     fn advance(&mut self, n: usize)
         ensures base { base_of self.new ≡ base_of self.old }
         ensures next { next_of self.new ≡ power_after F.ops self.old n }
@@ -294,7 +294,7 @@ impl<F: Field> Powers<F> {
         self.next *= self.base.power(n);
     }
 
-    /// The power that stands so many places on; the next one is the one behind it.
+    /// The power that stands this many places on; the next one is the one behind it.
     pub fn nth(&mut self, n: usize) -> Option<F>
         ensures item { result ≡ Some (power_after F.ops self.old n) }
         ensures base { base_of self.new ≡ base_of self.old }

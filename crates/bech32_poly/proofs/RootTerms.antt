@@ -15,7 +15,7 @@ abbrev pub terms_from : {K : Type 0} → Ops K → K → ℕ → List K → List
 terms_from o x i [] = []
 terms_from o x i (a ∷ p) = o.mul a (power o x i) ∷ terms_from o x (suc i) p
 
--- so many powers of b, from the i-th one on
+-- this many powers of b, from the i-th one on
 abbrev pub factors_from : {K : Type 0} → Ops K → K → ℕ → ℕ → List K
 factors_from o b i zero = []
 factors_from o b i (suc n) = power o b i ∷ factors_from o b (suc i) n
@@ -67,9 +67,6 @@ module _ {K : Type 0} {o : Ops K} (l : IsField o) where
       each_term a (power o x i) (power o (power o b i) k) (power o y i) y (value_at o y p) _
       (ap (o.mul (power o x i)) (power-swap l b i k) ∙ sym (power-of_product l x (power o b k) i))
       (value_after-terms x b (suc i) k p)
-
-  one_term : (t f fk : K) → o.mul (o.mul t f) fk ≡ o.mul t (o.mul f fk)
-  one_term t f fk = l.mul_assoc t f fk
 
   -- one step
   pub value_after-step : (ts fs : List K) (k : ℕ) → value_after o (multiplied_each o ts fs) fs k ≡ value_after o ts fs (suc k)

@@ -1,5 +1,5 @@
 -- The shortest register, item by item.
-use Rattle.std.proofs.Common.{◌≡◌, ℕ, suc, ◌+◌, ◌<◌, ◌≤◌, List, [], ◌∷◌, length, ◌⊎◌, inl, inr, subst, sym, ap, ◌∙◌, refl}
+use Rattle.std.proofs.Common.{◌≡◌, ℕ, suc, ◌+◌, ◌<◌, ◌≤◌, List, [], ◌∷◌, length, ◌⊎◌, inl, inr, subst, sym, ap, ◌∙◌}
 use Rattle.std.proofs.Common.{arith}
 use Rattle.std.specs.Prelude.{◌≢◌}
 use Rattle.std.proofs.Math.Decide.{dec_le, dec_lt}
@@ -164,18 +164,6 @@ module _ {K : Type 0} {o : Ops K} (l : IsField o) where
       longer m q within good (inl p) = absurd (massey l s len k m r q
           (subst (λ n'. Annihilates o s n' len r) (sym h.count) h.register) missed
           (subst (λ n'. Annihilates o s (suc n') m q) (sym h.count) good) p)
-
-  -- before the first item
-  pub start : (s : ℕ → K) → State o s 0 0 0 (o.one ∷ []) (o.one ∷ []) o.one
-  start s = record {
-    count = omega arith;
-    register = record { degree = refl; monic = refl; windows = λ t within. absurd (omega arith) };
-    old_length = omega arith;
-    old_nonzero = l.one_not_zero;
-    old_windows = λ t within. absurd (omega arith);
-    old_miss = λ t e. absurd (omega arith);
-    best = λ m q within good. omega arith;
-  }
 
   -- the same state, written otherwise
   pub moved : (s : ℕ → K) (n len k n' len' k' : ℕ) (r b r' b' : List K) (old old' : K) → State o s n len k r b old → n ≡ n' → len ≡ len' → k ≡ k' → r ≡ r' → b ≡ b' → old ≡ old' → State o s n' len' k' r' b' old'

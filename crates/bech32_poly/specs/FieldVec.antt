@@ -1,6 +1,6 @@
 -- What vectors of field elements hold without memory.
 use Rattle.std.specs.Prelude.{ℕ, ◌≤◌}
 
--- so many elements fit in the places of the vector itself
+-- this many elements fit in the places of the vector itself
 abbrev pub FitsInPlace : ℕ → Type 0
 FitsInPlace n = n ≤ 7

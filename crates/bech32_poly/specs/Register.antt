@@ -21,7 +21,7 @@ pub record IsShortest {F : Type 0} (o : Ops F) (cs items : List F) : Type 0 wher
   pub generates : Generates o cs items
   pub least : (other : List F) → Generates o other items → length cs ≤ length other
 
--- the items and so many more, each minus that sum
+-- the items and this many more, each minus that sum
 abbrev pub continued : {F : Type 0} → Ops F → List F → List F → ℕ → List F
 continued o cs items zero = items
 continued o cs items (suc n) =

@@ -14,7 +14,7 @@ use smallvec::SmallVec;
 use std::alloc::{AllocError, Allocator, Global};
 use std::marker::Model;
 
-/// So many elements stand in a vector itself, and need no memory.
+/// The most elements that stand in a vector itself, and need no memory.
 pub const NO_ALLOC_MAX_LENGTH: usize = 7;
 
 /// Elements of a field, the first [`NO_ALLOC_MAX_LENGTH`] in place.

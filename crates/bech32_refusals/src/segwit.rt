@@ -44,7 +44,7 @@ pub fn is_valid_witness_version(witness_version: Fe32) -> bool
     validate_witness_version(witness_version).is_ok()
 }
 
-/// Whether a witness program of this version may have so many bytes: 2 to 40, and 20 or 32 of
+/// Whether a witness program of this version may have this many bytes: 2 to 40, and 20 or 32 of
 /// version 0.
 pub fn is_valid_witness_program_length(length: usize, witness_version: Fe32) -> bool
     ensures { IsTrue result ↔ IsProgramLength witness_version length }

@@ -51,7 +51,8 @@ pub fn pieces_into_fmt<P: Pieces, S: FmtSink>(pieces: &mut P, sink: &mut S) -> f
     }
 }
 
-/// The same as bytes.
+/// Writes all that is to come of a text into a sink of bytes, as [`pieces_into_fmt`] does into a
+/// sink of text.
 ///
 /// # Errors
 ///

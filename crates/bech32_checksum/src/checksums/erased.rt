@@ -3,19 +3,19 @@
 
 ghost use Rattle.std.specs.Prelude.{◌≡◌, ◌<◌, ◌/◌, ◌^◌, get_or, length, MatchOption, ⊤};
 ghost use Rattle.bech32_gf.specs.Fe32 as fe32;
+ghost use Rattle.bech32_gf.specs.declared.gf32.Fe32.{Fe32 as Element};
 ghost use Rattle.bech32_poly.specs.Polynomial.{add, scale};
 ghost use Rattle.bech32_checksum.specs.Code.{bech32};
-ghost use Rattle.bech32_checksum.specs.OneError.{IsLeftBy, packed, valued};
+ghost use Rattle.bech32_checksum.specs.OneError.{AreOnlyValues, IsPivotOf, packed};
 ghost use Rattle.bech32_checksum.specs.Packed.{digits};
 
-use super::locations::INVERSES;
-use super::ones::product_value;
+use super::ones::{inverse_of, product_value};
 use super::powers::POWERS_OF_X;
 use bech32_gf::gf32::Fe32;
 
 // The coefficient of a packed row that begins at a bit.
 #[inline]
-fn coefficient_at(row: u32, bit: u32) -> Fe32
+pub(super) fn coefficient_at(row: u32, bit: u32) -> Fe32
     requires { bit < 32 }
     ensures { result ≡ fe32.element (row / 2 ^ bit) }
 {
@@ -24,7 +24,7 @@ fn coefficient_at(row: u32, bit: u32) -> Fe32
 
 // The product of two elements, by a table.
 #[inline]
-fn product(a: Fe32, b: Fe32) -> Fe32
+pub(super) fn product(a: Fe32, b: Fe32) -> Fe32
     ensures { result ≡ fe32.mul a b }
 {
     Fe32::from_low_bits(product_value(a, b) as u8)
@@ -32,7 +32,7 @@ fn product(a: Fe32, b: Fe32) -> Fe32
 
 // A packed row, each coefficient times a factor.
 #[inline]
-fn multiple_of(row: u32, factor: Fe32) -> u32
+pub(super) fn multiple_of(row: u32, factor: Fe32) -> u32
     ensures { result ≡ packed (scale fe32.ops factor (digits 6 row)) }
 {
     let fifth = product_value(factor, coefficient_at(row, 20))
@@ -44,84 +44,116 @@ fn multiple_of(row: u32, factor: Fe32) -> u32
 }
 
 // Where the lowest coefficient of a packed row that is not zero begins, and the inverse of that
-// coefficient.
+// coefficient; none of a row of zeros.
 #[inline]
-fn pivot_of(row: u32) -> (u32, Fe32)
-    ensures { result.0 < 32 }
+fn pivot_of(row: u32) -> Option<(u32, Fe32)>
+    ensures { MatchOption result ⊤ (λ pivot. IsPivotOf row pivot.0 pivot.1) }
 {
-    let bit = row.trailing_zeros() / 5 * 5;
-    let lowest = coefficient_at(row, bit);
-    (bit, Fe32::from_low_bits(INVERSES[lowest.to_u8() as usize]))
+    let place = row.trailing_zeros() / 5;
+    if place >= 6 {
+        return None;
+    }
+    let lowest = coefficient_at(row, 5 * place);
+    if lowest == Fe32::Q {
+        return None;
+    }
+    Some((5 * place, inverse_of(lowest)))
 }
 
 // By what the row of a pivot has to be multiplied to have another row's coefficient there.
 #[inline]
 fn factor_of(row: u32, pivot: (u32, Fe32)) -> Fe32
     requires { pivot.0 < 32 }
+    ensures { result ≡ fe32.mul (fe32.element (row / 2 ^ pivot.0)) pivot.1 }
 {
     product(coefficient_at(row, pivot.0), pivot.1)
 }
 
-// The value by which a row has to be multiplied to be the residue, if it comes out.
+// The value by which a row has to be multiplied to be the residue, if any; the outer `None` says
+// nothing.
 #[inline]
-fn value_at_one(residue: u32, row: u32) -> Option<Fe32>
-    ensures { MatchOption result ⊤
-        (λ value. digits 6 residue ≡ scale fe32.ops value (digits 6 row)) }
+fn value_at_one(residue: u32, row: u32) -> Option<Option<Fe32>>
+    requires { residue < 2 ^ 30 }
+    ensures { MatchOption result ⊤ (λ found. MatchOption found
+        ((v : Element) → digits 6 residue ≡ scale fe32.ops v (digits 6 row) → ⊥)
+        (λ value. digits 6 residue ≡ scale fe32.ops value (digits 6 row))) }
 {
-    let value = factor_of(residue, pivot_of(row));
+    let value = factor_of(residue, pivot_of(row)?);
     if multiple_of(row, value) != residue {
-        return None;
+        return Some(None);
     }
-    Some(value)
+    Some(Some(value))
 }
 
-// The values by which two rows have to be multiplied for their sum to be the residue. A multiple of
-// the second one is taken from the residue and from the first one, so that they have no coefficient
-// at its pivot.
+// The values by which two rows have to be multiplied for their sum to be the residue, if any. A
+// multiple of the second one is taken from the residue and from the first one, so that they have no
+// coefficient at its pivot.
 #[inline]
-fn values_at_two(residue: u32, first: u32, second: u32) -> Option<(Fe32, Fe32)>
-    ensures { MatchOption result ⊤ (λ values. digits 6 residue
+pub(super) fn values_at_two(residue: u32, first: u32, second: u32) -> Option<Option<(Fe32, Fe32)>>
+    requires { residue < 2 ^ 30 }
+    ensures { MatchOption result ⊤ (λ found. MatchOption found
+        ((v w : Element) → digits 6 residue
+        ≡ add fe32.ops (scale fe32.ops v (digits 6 first))
+        (scale fe32.ops w (digits 6 second)) → ⊥)
+        (λ values. digits 6 residue
         ≡ add fe32.ops (scale fe32.ops values.0 (digits 6 first))
-        (scale fe32.ops values.1 (digits 6 second))) }
+        (scale fe32.ops values.1 (digits 6 second)))) }
 {
-    let pivot = pivot_of(second);
+    let pivot = pivot_of(second)?;
     let of_residue = factor_of(residue, pivot);
     let of_first = factor_of(first, pivot);
-    let value = value_at_one(
+    let Some(value) = value_at_one(
         residue ^ multiple_of(second, of_residue),
         first ^ multiple_of(second, of_first),
-    )?;
-    Some((value, product(value, of_first) + of_residue))
+    )?
+    else {
+        return Some(None);
+    };
+    Some(Some((value, product(value, of_first) + of_residue)))
 }
 
 // The same for three rows, by the third one's pivot.
 #[inline]
-fn values_at_three(residue: u32, first: u32, second: u32, third: u32) -> Option<(Fe32, Fe32, Fe32)>
-    ensures { MatchOption result ⊤ (λ values. digits 6 residue
+fn values_at_three(
+    residue: u32,
+    first: u32,
+    second: u32,
+    third: u32,
+) -> Option<Option<(Fe32, Fe32, Fe32)>>
+    requires { residue < 2 ^ 30 }
+    ensures { MatchOption result ⊤ (λ found. MatchOption found
+        ((v w u : Element) → digits 6 residue
+        ≡ add fe32.ops (scale fe32.ops v (digits 6 first))
+        (add fe32.ops (scale fe32.ops w (digits 6 second))
+        (scale fe32.ops u (digits 6 third))) → ⊥)
+        (λ values. digits 6 residue
         ≡ add fe32.ops (scale fe32.ops values.0 (digits 6 first))
         (add fe32.ops (scale fe32.ops values.1 (digits 6 second))
-        (scale fe32.ops values.2 (digits 6 third)))) }
+        (scale fe32.ops values.2 (digits 6 third))))) }
 {
-    let pivot = pivot_of(third);
+    let pivot = pivot_of(third)?;
     let of_residue = factor_of(residue, pivot);
     let of_first = factor_of(first, pivot);
     let of_second = factor_of(second, pivot);
-    let values = values_at_two(
+    let Some(values) = values_at_two(
         residue ^ multiple_of(third, of_residue),
         first ^ multiple_of(third, of_first),
         second ^ multiple_of(third, of_second),
-    )?;
+    )?
+    else {
+        return Some(None);
+    };
     let from_second = product(values.1, of_second) + of_residue;
-    Some((
+    Some(Some((
         values.0,
         values.1,
         product(values.0, of_first) + from_second,
-    ))
+    )))
 }
 
 // The packed remainder of x to the power of a location.
 #[inline]
-fn row_at(location: usize) -> Option<u32>
+pub(super) fn row_at(location: usize) -> Option<u32>
     ensures { MatchOption result ⊤
         (λ row. (location < 1023) × (row ≡ get_or POWERS_OF_X location 0)) }
 {
@@ -133,7 +165,7 @@ fn row_at(location: usize) -> Option<u32>
 
 // Six elements packed, the first one lowest.
 #[inline]
-fn packed_list(list: &[Fe32]) -> u32
+pub(super) fn packed_list(list: &[Fe32]) -> u32
     requires { length list.now ≡ 6 }
     ensures { result ≡ packed list.now }
 {
@@ -142,12 +174,12 @@ fn packed_list(list: &[Fe32]) -> u32
     list[0].to_u8() as u32 + 32 * (list[1].to_u8() as u32 + 32 * third)
 }
 
-// The elements at up to three locations that together leave a residue, if they come out; says
-// nothing of other residues than those of six elements.
+// The elements at up to three locations that together leave a residue, if any; says nothing of
+// other residues than those of six elements.
 #[inline]
-pub(super) fn values_by_rows(residue: &[Fe32], locations: &[usize]) -> Option<[Fe32; 3]>
+pub(super) fn values_by_rows(residue: &[Fe32], locations: &[usize]) -> Option<Option<[Fe32; 3]>>
     ensures { MatchOption result ⊤
-        (λ values. IsLeftBy bech32.generator residue.now (valued locations.now values)) }
+        (λ found. AreOnlyValues bech32.generator residue.now locations.now found) }
 {
     if residue.len() != 6 {
         return None;
@@ -155,16 +187,23 @@ pub(super) fn values_by_rows(residue: &[Fe32], locations: &[usize]) -> Option<[F
     let row = packed_list(residue);
     match locations {
         [one] => {
-            let value = value_at_one(row, row_at(*one)?)?;
-            Some([value, Fe32::Q, Fe32::Q])
+            let Some(value) = value_at_one(row, row_at(*one)?)? else {
+                return Some(None);
+            };
+            Some(Some([value, Fe32::Q, Fe32::Q]))
         }
         [one, two] => {
-            let values = values_at_two(row, row_at(*one)?, row_at(*two)?)?;
-            Some([values.0, values.1, Fe32::Q])
+            let Some(values) = values_at_two(row, row_at(*one)?, row_at(*two)?)? else {
+                return Some(None);
+            };
+            Some(Some([values.0, values.1, Fe32::Q]))
         }
         [one, two, three] => {
-            let values = values_at_three(row, row_at(*one)?, row_at(*two)?, row_at(*three)?)?;
-            Some([values.0, values.1, values.2])
+            let (first, second) = (row_at(*one)?, row_at(*two)?);
+            let Some(values) = values_at_three(row, first, second, row_at(*three)?)? else {
+                return Some(None);
+            };
+            Some(Some([values.0, values.1, values.2]))
         }
         _ => None,
     }

@@ -1,18 +1,20 @@
 //! One error by the generator of BIP-173, looked up by its remainder.
 
-ghost use Rattle.std.specs.Prelude.{◌≡◌, ◌≢◌, ◌<◌, ◌^◌, length, MatchOption, ⊤};
+ghost use Rattle.std.specs.Prelude.{◌≡◌, ◌≢◌, ◌<◌, ◌+◌, ◌*◌, ◌/◌, ◌%◌, ◌^◌, ℕ, Some, get_or, length, MatchOption, ⊤};
 ghost use Rattle.bech32_gf.specs.Fe32 as fe32;
 ghost use Rattle.bech32_gf.specs.Fe32.{value};
 ghost use Rattle.bech32_poly.specs.Polynomial.{scale};
 ghost use Rattle.bech32_checksum.specs.Code.{bech32};
-ghost use Rattle.bech32_checksum.specs.OneError.{IsSingle, leading, packed};
+ghost use Rattle.bech32_checksum.specs.OneError.{IsSingle, key, leading, packed};
+ghost use Rattle.bech32_checksum.specs.Packed.{digits};
 
 use super::locations::{ANSWERS, INVERSES, KEYS, MOVES, PRODUCTS_OF_TWO};
+use super::powers::POWERS_OF_X;
 use bech32_gf::gf32::Fe32;
 
 // The first element that is not zero; zero where there is none.
 #[inline]
-fn leading_of(list: &[Fe32]) -> Fe32
+pub(super) fn leading_of(list: &[Fe32]) -> Fe32
     ensures { result ≡ leading list.now }
 {
     for element in list {
@@ -34,7 +36,7 @@ pub(super) fn product_value(a: Fe32, b: Fe32) -> u32
 
 // The inverse of an element that is not zero, by a table.
 #[inline]
-fn inverse_of(a: Fe32) -> Fe32
+pub(super) fn inverse_of(a: Fe32) -> Fe32
     requires { a ≢ fe32.zero }
     ensures { result ≡ fe32.inv a }
 {
@@ -53,6 +55,30 @@ fn packed_multiple(list: &[Fe32], factor: Fe32) -> u32
     product_value(factor, list[0]) + 32 * (product_value(factor, list[1]) + 32 * third)
 }
 
+// The slot in which a number stands, if it is the key of a location.
+#[inline]
+fn slot_of(number: u32) -> usize
+    ensures { result ≡ (number * 4078033059 / 2 ^ 34
+        + get_or MOVES (number * 4078033059 / 2 ^ 44 % 512) 0) % 1024 }
+{
+    let hash = number as u64 * 4078033059;
+    let moved = hash / 0x4_0000_0000 + MOVES[(hash / 0x1000_0000_0000 % 512) as usize] as u64;
+    (moved % 1024) as usize
+}
+
+// The location whose remainder has a key, if any.
+#[inline]
+pub(super) fn location_of(number: u32) -> Option<usize>
+    ensures { (i : ℕ) → i < 1023 → key (digits 6 (get_or POWERS_OF_X i 0)) ≡ number
+        → result ≡ Some i }
+{
+    let slot = slot_of(number);
+    if KEYS[slot] != number {
+        return None;
+    }
+    Some((ANSWERS[slot] / 32) as usize)
+}
+
 // The single error that leaves a residue; says nothing of a residue that is zero or has not six
 // elements.
 #[inline]
@@ -67,9 +93,7 @@ pub(super) fn one_error_by_tables(residue: &[Fe32]) -> Option<Option<(usize, Fe3
         return None;
     }
     let key = packed_multiple(residue, inverse_of(first));
-    let hash = key as u64 * 4078033059;
-    let moved = hash / 0x4_0000_0000 + MOVES[(hash / 0x1000_0000_0000 % 512) as usize] as u64;
-    let slot = (moved % 1024) as usize;
+    let slot = slot_of(key);
     if KEYS[slot] != key {
         return Some(None);
     }

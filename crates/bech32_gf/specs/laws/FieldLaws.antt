@@ -28,10 +28,6 @@ module _ {F : Type 0} {o : Ops F} (l : IsField o) where
   mul_left_comm x y z =
       sym (l.mul_assoc x y z) ∙ ap (λ w. o.mul w z) (l.mul_comm x y) ∙ l.mul_assoc y x z
 
-  pub add_left_comm : (x y z : F) → o.add x (o.add y z) ≡ o.add y (o.add x z)
-  add_left_comm x y z =
-      sym (l.add_assoc x y z) ∙ ap (λ w. o.add w z) (l.add_comm x y) ∙ l.add_assoc y x z
-
   pub one_mul : (x : F) → o.mul o.one x ≡ x
   one_mul x = l.mul_comm o.one x ∙ l.mul_one x
 

@@ -209,7 +209,7 @@ fn product_coefficient<F: Arithmetic>(p: &[F], q: &[F], n: usize) -> F
     sum
 }
 
-// Goes on with a product, of which the first coefficients stand in the list, by so many more.
+// Goes on with a product, of which the first coefficients stand in the list, by this many more.
 fn push_products<F: Arithmetic, A: Allocator + Copy>(
     list: &mut FieldVec<F, A>,
     p: &[F],

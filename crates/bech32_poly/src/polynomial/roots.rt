@@ -159,7 +159,7 @@ impl<E: Arithmetic, A: Allocator + Copy> Search<E, A> {
     }
 }
 
-/// So many powers of the base, from that by 0 on. Seven of them need no memory.
+/// The first powers of the base, this many, from that by 0 on. Seven of them need no memory.
 ///
 /// # Errors
 ///
