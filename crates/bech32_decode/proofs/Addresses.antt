@@ -352,12 +352,6 @@ module _ (code : Fe32 → Code) (text : List ℕ) (u : UncheckedHrpstring) (vers
   outcome-from_checksum ck same (Ok a) h = read-as a (subst (λ (c : Code). IsReadBy c u a) same h)
   outcome-from_checksum ck same (Err e) h = refused-as e (subst (λ (c : Code). IsRefusedBy c u e ⊎ IsWrongDataOf c u e) same h)
 
-pub in_length : (text : List ℕ) (r : Result SegwitHrpstring SegwitHrpstringError) → length text ≤ 90
-    → MatchResult r (λ a. IsReadAddress segwit_code text a) (λ e. IsAddressRefusal segwit_code text e)
-    → MatchResult r (λ a. IsReadAddress segwit_code text a) (λ e. IsSegwitRefusal text e)
-in_length text (Ok a) few h = h
-in_length text (Err e) few h = inr (few, h)
-
 -- ---- from the tests of what stands before the checksum
 
 -- whether there are characters

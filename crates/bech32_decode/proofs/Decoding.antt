@@ -1,22 +1,20 @@
 -- What a text's parts and its checksum say of the text.
-use Rattle.std.proofs.Common.{◌≡◌, ◌<◌, ◌≤◌, ◌⊎◌, ◌∙◌, ◌+◌, ◌-◌, ◌++◌, ◌↔◌, ℕ, List, None, Result, Ok, Err, length, length-append, take, refl, sym, ap, subst, arith, inl, inr, ⊎_elim, IsOk, MatchResult}
+use Rattle.std.proofs.Common.{◌≡◌, ◌<◌, ◌≤◌, ◌∙◌, ◌+◌, ◌-◌, ◌++◌, ◌↔◌, ℕ, List, None, Result, Ok, Err, length, length-append, take, refl, sym, ap, subst, arith, IsOk, MatchResult}
 use Rattle.std.proofs.lemmas.List.{take_at}
 use Rattle.std.specs.Str.{IsUtf8}
-use Rattle.bech32_gf.specs.Fe32.{ops, elements_of}
+use Rattle.bech32_gf.specs.Fe32.{ops}
 use Rattle.bech32_gf.specs.laws.Fe32Laws.{is_field}
 use Rattle.bech32_gf.specs.declared.gf32.Fe32.{Fe32}
 use Rattle.bech32_poly.specs.Remainder.{IsRemainder}
 use Rattle.bech32_poly.proofs.Remainder.{remainder_unique}
-use Rattle.bech32_bits.specs.Bits.{to_bytes}
 use Rattle.bech32_checksum.specs.Code.{Code, bech32, bech32m}
 use Rattle.bech32_hrp.specs.HrpBytes.{hrp_bytes}
 use Rattle.bech32_decode.specs.Text.{IsText, text_refusal}
-use Rattle.bech32_decode.specs.Acceptance.{IsAccepted, Accepts, IsDecoded}
+use Rattle.bech32_decode.specs.Acceptance.{IsAccepted, Accepts}
 use Rattle.bech32_decode.specs.BeforeChecksum.{IsBeforeChecksum}
-use Rattle.bech32_decode.specs.Checked.{IsWithoutChecksum, IsAcceptedAs, IsCheckedRefusal}
+use Rattle.bech32_decode.specs.Checked.{IsAcceptedAs, IsCheckedRefusal}
 use Rattle.bech32_decode.specs.Refusals.{HasValidChecksum, IsChecksumRefusal, IsRefusedByBoth}
 use Rattle.bech32_decode.specs.declared.checked.CheckedHrpstring.{CheckedHrpstring}
-use Rattle.bech32_decode.specs.declared.unchecked.UncheckedHrpstring.{UncheckedHrpstring}
 use Rattle.bech32_refusals.specs.declared.error.CheckedHrpstringError.{CheckedHrpstringError}
 use Rattle.bech32_refusals.specs.declared.error.CheckedHrpstringError.TheVariants.{Parse as ParseFailed, Checksum as ChecksumFailed}
 use Rattle.bech32_refusals.specs.declared.error.ChecksumError.{ChecksumError}
@@ -78,21 +76,3 @@ before_checksum code data_part characters h =
     let size : length h.checksum ≡ length code.generator = h.size in
     let at : length data_part - length code.generator ≡ length characters = omega arith in
     sym (ap (λ (n : ℕ). take n data_part) at ∙ ap (take (length characters)) h.data_part_is ∙ take_at characters h.checksum (length characters) refl)
-
--- what is decoded
-pub decoded : (text : List ℕ) (u : UncheckedHrpstring) (c : CheckedHrpstring) (hrp bytes : List ℕ) → IsText text (hrp_bytes u.hrp) u.data_part_ascii.now → u.hrpstring_length ≡ length text
-    → (HasValidChecksum bech32m u.hrpstring_length (hrp_bytes u.hrp) u.data_part_ascii.now ⊎ HasValidChecksum bech32 u.hrpstring_length (hrp_bytes u.hrp) u.data_part_ascii.now)
-    → IsWithoutChecksum bech32m u c → hrp ≡ hrp_bytes c.hrp → bytes ≡ to_bytes (elements_of c.ascii.now) → IsDecoded text hrp bytes
-decoded text u c hrp bytes is n valid w e f =
-    let h = hrp_bytes u.hrp in
-    let d = u.data_part_ascii.now in
-    let same : hrp ≡ h = e ∙ ap hrp_bytes w.hrp in
-    record {
-      data_part = d;
-      accepted = subst (λ (x : List ℕ). IsAccepted bech32m text x d ⊎ IsAccepted bech32 text x d) (sym same)
-          (⊎_elim
-          (λ (v : HasValidChecksum bech32m u.hrpstring_length h d). inl (accepted bech32m text h d is (subst (λ (k : ℕ). HasValidChecksum bech32m k h d) n v)))
-          (λ (v : HasValidChecksum bech32 u.hrpstring_length h d). inr (accepted bech32 text h d is (subst (λ (k : ℕ). HasValidChecksum bech32 k h d) n v)))
-          valid);
-      bytes_are = f ∙ ap (λ (x : List ℕ). to_bytes (elements_of x)) (before_checksum bech32m d c.ascii.now w.characters);
-    }

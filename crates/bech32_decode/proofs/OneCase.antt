@@ -7,7 +7,7 @@ use Rattle.bech32_gf.specs.Alphabet.{is_of_alphabet, is_data}
 use Rattle.bech32_hrp.specs.Hrp.{is_lower, is_upper, is_mixed_case}
 use Rattle.bech32_decode.specs.Letters.{letter_count}
 use Rattle.bech32_decode.proofs.PartCases.{letter_count-none}
-use Rattle.bech32_places.specs.Cases.{counts_as_lower, counts_as_upper, lower_count, upper_count}
+use Rattle.bech32_decode.specs.Cases.{counts_as_lower, counts_as_upper, lower_count, upper_count}
 
 or_parts : (a b : Bool) → (a || b) ≡ false → (a ≡ false) × (b ≡ false)
 or_parts true b h = absurd (cc)

@@ -1,5 +1,6 @@
 pub mod Acceptance
 pub mod BeforeChecksum
+pub mod Cases
 pub mod Checked
 pub mod Letters
 pub mod Parts
@@ -10,4 +11,5 @@ pub mod Segwit
 pub mod SegwitPadding
 pub mod SegwitParts
 pub mod Text
+pub mod Values
 pub mod Version

@@ -15,7 +15,7 @@ use bech32_checksum::{Bech32, Bech32m, Checksum};
 use bech32_gf::gf32::Fe32;
 use bech32_hrp::Hrp;
 use bech32_refusals::SegwitHrpstringError;
-use bech32_refusals::segwit::{MAX_STRING_LENGTH, VERSION_0};
+use bech32_refusals::segwit::MAX_STRING_LENGTH;
 
 /// A segwit address in its parts: the human-readable part, the witness version, and the data part
 /// without version and checksum. It borrows the text.
@@ -68,18 +68,10 @@ impl<'s> SegwitHrpstring<'s> {
         if s.len() > MAX_STRING_LENGTH {
             return Err(SegwitHrpstringError::TooLong(s.len()));
         }
-        if let Some(reading) = Reading::<Bech32m>::of(s.as_bytes()) {
-            let found = reading.short_address()?;
-            let hrp = Hrp::of_bytes(reading.hrp);
-            return Ok(Self::of_parts(hrp, found.version, found.program));
-        }
-        let unchecked = UncheckedHrpstring::new(s)?;
-        let version = first_version(unchecked.data_part_ascii())?;
-        if version == VERSION_0 {
-            Self::of_unchecked::<Bech32>(unchecked)
-        } else {
-            Self::of_unchecked::<Bech32m>(unchecked)
-        }
+        let reading = Reading::<Bech32m>::new(s)?;
+        let found = reading.short_address()?;
+        let hrp = Hrp::of_bytes(reading.hrp);
+        Ok(Self::of_parts(hrp, found.version, found.program))
     }
 
     /// Reads a segwit address: of version 0 by Bech32, of another version by Bech32m (BIP-350).

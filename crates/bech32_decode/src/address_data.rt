@@ -97,7 +97,7 @@ pub(crate) fn data_of_version<'s>(
     Ok(AddressData { version, program })
 }
 
-// The version and the program of the characters before a checksum, in a text of so many bytes.
+// The version and the program of the characters before a checksum, in a text of this many bytes.
 #[inline]
 pub(crate) fn address_data<'s>(
     text_length: usize,

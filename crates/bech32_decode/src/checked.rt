@@ -14,7 +14,6 @@ use crate::byte_reader::ByteIter;
 use crate::data_bytes::put_data_bytes;
 use crate::reader::AsciiToFe32Iter;
 use crate::reading::Reading;
-use crate::unchecked::UncheckedHrpstring;
 use crate::version::version_in;
 use bech32_checksum::Checksum;
 use bech32_gf::gf32::Fe32;
@@ -57,21 +56,17 @@ impl<'s> CheckedHrpstring<'s> {
             (λ c. IsAcceptedAs Ck.code s.now c)
             (λ e. IsCheckedRefusal Ck.code s.now e) }
     {
-        if let Some(reading) = Reading::<Ck>::of(s.as_bytes()) {
-            reading.validate()?;
-            return Ok(reading.checked());
-        }
-        let unchecked = UncheckedHrpstring::new(s)?;
-        let checked = unchecked.validate_and_remove_checksum::<Ck>()?;
-        Ok(checked)
+        let reading = Reading::<Ck>::new(s)?;
+        reading.validate()?;
+        Ok(reading.checked())
     }
 
     /// Reads a text that the checksum accepts.
     ///
     /// # Errors
     ///
-    /// The first of: the text is not in the grammar (as [`UncheckedHrpstring::new`]); the checksum
-    /// refuses it (as [`UncheckedHrpstring::validate_checksum`]).
+    /// The first of: the text is not in the grammar (as [`Reading::new`]); the checksum refuses it
+    /// (as [`Reading::validate`]).
     pub fn new<Ck: Checksum>(s: &'s str) -> Result<Self, CheckedHrpstringError>
         ensures parts { IfOk result (λ c. IsAcceptedAs Ck.code s.now c) }
         ensures accepts { IsOk result ↔ Accepts Ck.code s.now }

@@ -6,7 +6,7 @@ ghost use Rattle.bech32_gf.specs.Alphabet.{is_data};
 ghost use Rattle.bech32_gf.specs.Fe32.{elements_of};
 
 use crate::byte_reader::ByteIter;
-use bech32_places::word_of_eight;
+use crate::eights::word_of_eight;
 
 // Puts five bytes into a buffer, from a place on, one after another: a copy of the slice would ask
 // whether the two overlap.

@@ -20,7 +20,7 @@ pub fn validate_either(unchecked: &UncheckedHrpstring<'_>) -> Result<(), Checksu
         (λ e. IsInvalidBy bech32m unchecked.now e × ¬ IsValidBy bech32 unchecked.now) }
 {
     unchecked.validate_lengths::<Bech32m>()?;
-    let residue = residue_of::<Bech32m>(unchecked.hrp(), unchecked.data_part_ascii());
+    let residue = residue_of::<Bech32m>(unchecked.part(), unchecked.data_part_ascii());
     if residue == Bech32m::TARGET_RESIDUE || residue == Bech32::TARGET_RESIDUE {
         return Ok(());
     }

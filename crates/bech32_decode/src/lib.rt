@@ -2,7 +2,7 @@
 //!
 //! A reader borrows the text and allocates nothing.
 //!
-//! Below it: `bech32_places`, `bech32_refusals`.
+//! Below it: `bech32_refusals`.
 //! Standard: BIP-173, Bech32 and Segwit address format; BIP-350.
 #![tactic(auto)]
 
@@ -12,13 +12,16 @@ mod byte_reader;
 mod characters;
 mod checked;
 mod data_bytes;
+mod eights;
 mod either;
 mod part_cases;
+mod places;
 mod reader;
 mod reading;
 mod residue;
 mod unchecked;
 mod validation;
+pub mod values;
 mod version;
 
 pub use address::SegwitHrpstring;

@@ -1,6 +1,6 @@
 //! Reads a text in one walk: its parts, and the remainder that it leaves.
 
-ghost use Rattle.std.specs.Prelude.{◌≡◌, ◌≤◌, ◌%◌, ◌/◌, ◌^◌, ◌+◌, ◌*◌, ◌<◌, ◌↔◌, if◌then◌else◌, ◌⊎◌, ℕ, true, length, take, drop, IfSome, IsTrue, MatchResult};
+ghost use Rattle.std.specs.Prelude.{◌≡◌, ◌≤◌, ◌%◌, ◌/◌, ◌^◌, ◌+◌, ◌*◌, ◌<◌, ◌↔◌, if◌then◌else◌, ◌⊎◌, ℕ, true, length, take, drop, None, Some, IfOk, IfSome, IsOk, IsTrue, MatchResult};
 ghost use Rattle.std.specs.List.{list_all};
 ghost use Rattle.bech32_checksum.specs.Code.{bech32, bech32m};
 ghost use Rattle.bech32_hrp.specs.Hrp.{is_graphic, is_lower, is_upper};
@@ -18,19 +18,22 @@ ghost use Rattle.bech32_decode.specs.Parts.{checked_data, checked_length, checke
 ghost use Rattle.bech32_decode.specs.Refusals.{IsChecksumRefusal, IsRefusedByBoth};
 ghost use Rattle.bech32_decode.specs.Segwit.{IsAddressRefusal, IsVersioned, segwit_code};
 ghost use Rattle.bech32_decode.specs.SegwitParts.{IsReadIn};
+ghost use Rattle.bech32_decode.specs.Text.{IsInGrammar, text_refusal};
 ghost use Rattle.bech32_gf.specs.Alphabet.{is_data};
 
 use crate::address_data::{AddressData, data_of_version, validate_sizes};
 use crate::checked::CheckedHrpstring;
+use crate::eights::{is_stranger, walk};
 use crate::part_cases::PART_CASES;
+use crate::residue::residue_of;
+use crate::unchecked::parts_in;
 use crate::validation::{validate_lengths, validate_residue};
 use crate::version::first_version;
 use bech32_checksum::{Bech32, Bech32m, Checksum, Engine, PackedFe32};
 use bech32_gf::gf32::Fe32;
 use bech32_hrp::Hrp;
-use bech32_places::{is_stranger, walk};
 use bech32_refusals::segwit::VERSION_0;
-use bech32_refusals::{ChecksumError, MAX_DEGREE, SegwitHrpstringError};
+use bech32_refusals::{ChecksumError, MAX_DEGREE, SegwitHrpstringError, UncheckedHrpstringError};
 
 /// A text of the grammar in its parts, and the remainder that it leaves by a checksum's generator.
 /// It borrows the text.
@@ -111,6 +114,49 @@ fn is_walkable(text: &[u8]) -> bool
 }
 
 impl<'s, Ck: Checksum> Reading<'s, Ck> {
+    /// Reads a text, of any length: in one walk, as [`Self::of`], where the walk can read it.
+    ///
+    /// # Errors
+    ///
+    /// The first fault of the text, as [`crate::UncheckedHrpstring::new`] names it.
+    #[inline(always)]
+    pub fn new(text: &'s str) -> Result<Self, UncheckedHrpstringError>
+        ensures value { IfOk result (λ r. r.text.now ≡ text.now) }
+        ensures refused { MatchResult result
+            (λ _. text_refusal text.now ≡ None)
+            (λ e. text_refusal text.now ≡ Some e) }
+        ensures accepts { IsOk result ↔ IsInGrammar text.now }
+    {
+        match Self::of(text.as_bytes()) {
+            Some(reading) => Ok(reading),
+            None => Self::in_steps(text),
+        }
+    }
+
+    /// Reads as [`Self::new`] does, and does not try the walk: first the parts, and of these the
+    /// remainder.
+    ///
+    /// # Errors
+    ///
+    /// Those of [`Self::new`].
+    // In line, and each step out of line: what a text is refused with is moved once.
+    #[inline(always)]
+    pub fn in_steps(text: &'s str) -> Result<Self, UncheckedHrpstringError>
+        ensures value { IfOk result (λ r. r.text.now ≡ text.now) }
+        ensures refused { MatchResult result
+            (λ _. text_refusal text.now ≡ None)
+            (λ e. text_refusal text.now ≡ Some e) }
+        ensures accepts { IsOk result ↔ IsInGrammar text.now }
+    {
+        let (hrp, data_part) = parts_in(text)?;
+        Ok(Reading {
+            text: text.as_bytes(),
+            hrp,
+            data_part,
+            residue: residue_of::<Ck>(hrp, data_part),
+        })
+    }
+
     /// Reads a text of at most 1,023 characters in one walk. Of a text with a fault of the grammar,
     /// or with more than one `1`, it says nothing.
     #[inline(always)]

@@ -5,12 +5,10 @@ ghost use Rattle.bech32_gf.specs.Alphabet.{is_data};
 ghost use Rattle.bech32_gf.specs.Fe32.{elements_of};
 ghost use Rattle.bech32_checksum.specs.Code.{IsResidueAfter, IsResidueOf};
 ghost use Rattle.bech32_checksum.specs.TextPolynomial.{text_polynomial};
-ghost use Rattle.bech32_hrp.specs.HrpBytes.{hrp_bytes};
 
+use crate::eights::word_of_eight;
 use crate::reader::AsciiToFe32Iter;
 use bech32_checksum::{Checksum, Engine};
-use bech32_hrp::Hrp;
-use bech32_places::word_of_eight;
 
 // Hands the elements of characters to an engine, eight at a time, and returns the characters that
 // are left, fewer than eight.
@@ -29,15 +27,16 @@ fn input_eights<'s, Ck: Checksum>(characters: &'s [u8], engine: &mut Engine<Ck>)
     rest
 }
 
-// The remainder of a text's polynomial, packed.
-pub(crate) fn residue_of<Ck: Checksum>(hrp: Hrp, data_part: &[u8]) -> Ck::MidstateRepr
+// The remainder of a text's polynomial, packed. Out of line: most texts are walked over.
+#[inline(never)]
+pub(crate) fn residue_of<Ck: Checksum>(part: &[u8], data_part: &[u8]) -> Ck::MidstateRepr
     requires { is_data data_part.now ≡ true }
     ensures residue { IsResidueOf Ck.MidstateRepr.number Ck.code result
-        (text_polynomial (hrp_bytes hrp) (elements_of data_part.now)) }
+        (text_polynomial part.now (elements_of data_part.now)) }
     ensures clear { Ck.MidstateRepr.number result < 2 ^ (5 * Ck.CHECKSUM_LENGTH) }
 {
     let mut engine = Engine::<Ck>::new();
-    engine.input_hrp(hrp);
+    engine.input_part(part);
     let left = input_eights(data_part, &mut engine);
     for fe in AsciiToFe32Iter::new(left) {
         engine.input_fe(fe);

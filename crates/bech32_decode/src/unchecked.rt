@@ -71,9 +71,10 @@ fn part_fault(front: &str) -> Option<hrp::Error>
 }
 
 // The parts of a text, or its first fault. Out of line: its result is small, and what is read of
-// the parts is not.
+// the parts is not. Most texts are walked over.
+#[cold]
 #[inline(never)]
-fn parts_in(s: &str) -> Result<(&[u8], &[u8]), UncheckedHrpstringError>
+pub(crate) fn parts_in(s: &str) -> Result<(&[u8], &[u8]), UncheckedHrpstringError>
     ensures { MatchResult result
         (λ p. IsText s.now p.0.now p.1.now)
         (λ e. text_refusal s.now ≡ Some e) }
@@ -198,7 +199,7 @@ impl<'s> UncheckedHrpstring<'s> {
         if Ck::CHECKSUM_LENGTH == 0 {
             return Ok(());
         }
-        let residue = residue_of::<Ck>(self.hrp, self.data_part_ascii);
+        let residue = residue_of::<Ck>(self.part(), self.data_part_ascii);
         match validate_residue::<Ck>(&residue) {
             Ok(()) => Ok(()),
             Err(e) => Err(ChecksumError::InvalidResidue(e)),

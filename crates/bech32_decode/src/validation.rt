@@ -11,8 +11,8 @@ ghost use Rattle.bech32_refusals.specs.ResidueRows.{IsResidueError};
 use bech32_checksum::Checksum;
 use bech32_refusals::{ChecksumError, CodeLengthError, InvalidResidueError};
 
-// Tests that a text of so many bytes is not longer than the code, and that a data part of so many
-// characters has room for the checksum.
+// Tests that a text of this many bytes is not longer than the code, and that a data part of this
+// many characters has room for the checksum.
 #[inline]
 pub(crate) fn validate_lengths<Ck: Checksum>(
     text_length: usize,

@@ -4,7 +4,7 @@ use Rattle.std.proofs.Common.{◌≡◌, ℕ, ◌+◌, ◌<◌, List, [], ◌∷
 use Rattle.std.specs.Prelude.{IsSome, Option, Some, None, option_to_list}
 use Rattle.std.proofs.Math.Decide.{dec_lt}
 use Rattle.bech32_bch.proofs.Places.{mem_left, mem_right}
-use Rattle.bech32_near_edits.specs.Edits.{AreAll, AreInOrder, IsBefore, kind}
+use Rattle.bech32_near_edits.specs.Edits.{AreAllOf, AreInOrder, IsBefore, kind}
 use Rattle.bech32_near_edits.specs.declared.edits.Change.{Change}
 use Rattle.bech32_near_edits.specs.declared.edits.Change.TheVariants.{LeftOut, PutIn, Swapped}
 use Rattle.bech32_near_edits.specs.declared.edits.Edit.{Edit}
@@ -26,18 +26,18 @@ order-append P Q (x ∷ xs) ys before p q a b = (
 )
 
 -- all of two properties, where what has the one is before what has the other
-pub both : (P Q S : Edit → Type 0) (xs ys : List Edit) → AreAll P xs → AreAll Q ys → ((x y : Edit) → P x → Q y → IsBefore x y)
-    → ((e : Edit) → P e → S e) → ((e : Edit) → Q e → S e) → ((e : Edit) → S e → P e ⊎ Q e) → AreAll S (xs ++ ys)
+pub both : (P Q S : Edit → Type 0) (xs ys : List Edit) → AreAllOf P xs → AreAllOf Q ys → ((x y : Edit) → P x → Q y → IsBefore x y)
+    → ((e : Edit) → P e → S e) → ((e : Edit) → Q e → S e) → ((e : Edit) → S e → P e ⊎ Q e) → AreAllOf S (xs ++ ys)
 both P Q S xs ys a b before first second split = record {
   each = all-append S xs ys (all_weaker P S xs first a.each) (all_weaker Q S ys second b.each);
   all = λ e s. elim (split e s) [ inl p ↦ mem_left e xs ys (a.all e p) | inr q ↦ mem_right e xs ys (b.all e q) ];
   in_order = order-append P Q xs ys before a.each b.each a.in_order b.in_order;
 }
 
-pub nothing : (P : Edit → Type 0) → ((e : Edit) → P e → ⊥) → AreAll P []
+pub nothing : (P : Edit → Type 0) → ((e : Edit) → P e → ⊥) → AreAllOf P []
 nothing P none = record { each = tt; all = none; in_order = tt }
 
-pub same_all : (P Q : Edit → Type 0) (xs : List Edit) → ((e : Edit) → P e → Q e) → ((e : Edit) → Q e → P e) → AreAll P xs → AreAll Q xs
+pub same_all : (P Q : Edit → Type 0) (xs : List Edit) → ((e : Edit) → P e → Q e) → ((e : Edit) → Q e → P e) → AreAllOf P xs → AreAllOf Q xs
 same_all P Q xs to from a = record { each = all_weaker P Q xs to a.each; all = λ e q. a.all e (from e q); in_order = a.in_order }
 
 -- ---- one after another by a rank
@@ -47,14 +47,14 @@ abbrev pub IsLower : (Edit → Type 0) → (Edit → ℕ) → ℕ → Edit → T
 IsLower P rank n e = P e × (rank e < n)
 
 module _ (P : Edit → Type 0) (rank : Edit → ℕ) where
-  pub none_lower : AreAll (IsLower P rank 0) []
+  pub none_lower : AreAllOf (IsLower P rank 0) []
   none_lower = nothing (IsLower P rank 0) (λ e h. omega (arith, h.1))
 
   lower_or_at : (n : ℕ) (e : Edit) → IsLower P rank (n + 1) e → IsLower P rank n e ⊎ (P e × (rank e ≡ n))
   lower_or_at n e h = elim (dec_lt (rank e) n) [ yes less ↦ inl (h.0, less) | no more ↦ inr (h.0, omega (arith, more, h.1)) ]
 
   pub more_lower : (n : ℕ) (xs ys : List Edit) → ((x y : Edit) → P x → P y → rank x < rank y → IsBefore x y)
-      → AreAll (IsLower P rank n) xs → AreAll (λ e. P e × (rank e ≡ n)) ys → AreAll (IsLower P rank (n + 1)) (xs ++ ys)
+      → AreAllOf (IsLower P rank n) xs → AreAllOf (λ e. P e × (rank e ≡ n)) ys → AreAllOf (IsLower P rank (n + 1)) (xs ++ ys)
   more_lower n xs ys earlier a b =
       both (IsLower P rank n) (λ e. P e × (rank e ≡ n)) (IsLower P rank (n + 1)) xs ys a b
       (λ x y p q. earlier x y p.0 q.0 (omega (arith, p.1, q.1)))
@@ -62,26 +62,26 @@ module _ (P : Edit → Type 0) (rank : Edit → ℕ) where
       (λ e q. (q.0, omega (arith, q.1)))
       (lower_or_at n)
 
-  pub all_lower : (n : ℕ) (xs : List Edit) → ((e : Edit) → P e → rank e < n) → AreAll (IsLower P rank n) xs → AreAll P xs
+  pub all_lower : (n : ℕ) (xs : List Edit) → ((e : Edit) → P e → rank e < n) → AreAllOf (IsLower P rank n) xs → AreAllOf P xs
   all_lower n xs low a = same_all (IsLower P rank n) P xs (λ e p. p.0) (λ e p. (p, low e p)) a
 
 -- found edits, with those of one rank more behind them
 pub found_more : (P : Edit → Type 0) (rank : Edit → ℕ) (n : ℕ) (first before after ys : List Edit) → ((x y : Edit) → P x → P y → rank x < rank y → IsBefore x y)
-    → after ≡ before ++ ys → AreAll (λ e. P e × (rank e ≡ n)) ys
-    → (xs : List Edit) × (before ≡ first ++ xs) × AreAll (IsLower P rank n) xs
-    → (xs : List Edit) × (after ≡ first ++ xs) × AreAll (IsLower P rank (n + 1)) xs
+    → after ≡ before ++ ys → AreAllOf (λ e. P e × (rank e ≡ n)) ys
+    → (xs : List Edit) × (before ≡ first ++ xs) × AreAllOf (IsLower P rank n) xs
+    → (xs : List Edit) × (after ≡ first ++ xs) × AreAllOf (IsLower P rank (n + 1)) xs
 found_more P rank n first before after ys earlier is at (xs, e, a) =
     (xs ++ ys, is ∙ ap (λ (u : List Edit). u ++ ys) e ∙ append_assoc first xs ys, more_lower P rank n xs ys earlier a at)
 
 pub found_all : (P : Edit → Type 0) (rank : Edit → ℕ) (n : ℕ) (first after : List Edit) → ((e : Edit) → P e → rank e < n)
-    → (xs : List Edit) × (after ≡ first ++ xs) × AreAll (IsLower P rank n) xs → (xs : List Edit) × (after ≡ first ++ xs) × AreAll P xs
+    → (xs : List Edit) × (after ≡ first ++ xs) × AreAllOf (IsLower P rank n) xs → (xs : List Edit) × (after ≡ first ++ xs) × AreAllOf P xs
 found_all P rank n first after low (xs, e, a) = (xs, e, all_lower P rank n xs low a)
 
-pub found_none : (P : Edit → Type 0) (first : List Edit) → ((e : Edit) → P e → ⊥) → (xs : List Edit) × (first ≡ first ++ xs) × AreAll P xs
+pub found_none : (P : Edit → Type 0) (first : List Edit) → ((e : Edit) → P e → ⊥) → (xs : List Edit) × (first ≡ first ++ xs) × AreAllOf P xs
 found_none P first none = ([], sym (append-nil first), nothing P none)
 
 -- one of them, where there is one
-pub some_kept : (P : Edit → Type 0) (o : Option Edit) → IsSome o → AreAll P (option_to_list o) → (e : Edit) × P e
+pub some_kept : (P : Edit → Type 0) (o : Option Edit) → IsSome o → AreAllOf P (option_to_list o) → (e : Edit) × P e
 some_kept P None s a = absurd (cc)
 some_kept P (Some e) s a = (e, a.each.0)
 
@@ -105,7 +105,7 @@ module _ (A : Edit → Type 0) where
   kinds : (e : Edit) → A e → OfLowKind e ⊎ OfKind 2 e
   kinds e a = elim (dec_lt (kind e.change) 2) [ yes less ↦ inl (less, a) | no more ↦ inr (omega (arith, more, kind_few e.change), a) ]
 
-  pub all_kinds : (xs ys zs : List Edit) → AreAll (OfKind 0) xs → AreAll (OfKind 1) ys → AreAll (OfKind 2) zs → AreAll A (xs ++ ys ++ zs)
+  pub all_kinds : (xs ys zs : List Edit) → AreAllOf (OfKind 0) xs → AreAllOf (OfKind 1) ys → AreAllOf (OfKind 2) zs → AreAllOf A (xs ++ ys ++ zs)
   all_kinds xs ys zs a b c =
       both OfLowKind (OfKind 2) A (xs ++ ys) zs
       (both (OfKind 0) (OfKind 1) OfLowKind xs ys a b (λ x y p q. inl (omega (arith, p.0, q.0))) (λ e p. (omega (arith, p.0), p.1)) (λ e q. (omega (arith, q.0), q.1)) low_kinds)
@@ -113,7 +113,7 @@ module _ (A : Edit → Type 0) where
 
 -- found edits, with others behind them that are given as such a list
 pub found_chain : (P : Edit → Type 0) (rank : Edit → ℕ) (n : ℕ) (first before after : List Edit) → ((x y : Edit) → P x → P y → rank x < rank y → IsBefore x y)
-    → (ys : List Edit) × (after ≡ before ++ ys) × AreAll (λ e. P e × (rank e ≡ n)) ys
-    → (xs : List Edit) × (before ≡ first ++ xs) × AreAll (IsLower P rank n) xs
-    → (xs : List Edit) × (after ≡ first ++ xs) × AreAll (IsLower P rank (n + 1)) xs
+    → (ys : List Edit) × (after ≡ before ++ ys) × AreAllOf (λ e. P e × (rank e ≡ n)) ys
+    → (xs : List Edit) × (before ≡ first ++ xs) × AreAllOf (IsLower P rank n) xs
+    → (xs : List Edit) × (after ≡ first ++ xs) × AreAllOf (IsLower P rank (n + 1)) xs
 found_chain P rank n first before after earlier (ys, is, a) kept = found_more P rank n first before after ys earlier is a kept

@@ -8,7 +8,7 @@ use Rattle.bech32_gf.specs.declared.gf32.Fe32.{Fe32}
 use Rattle.bech32_poly.specs.Polynomial.{add, appended}
 use Rattle.bech32_checksum.specs.Code.{Code}
 use Rattle.bech32_checksum.specs.TextPolynomial.{text_polynomial}
-use Rattle.bech32_near_edits.specs.Edits.{AreAll, StartsWith}
+use Rattle.bech32_near_edits.specs.Edits.{AreAllOf, StartsWith}
 use Rattle.bech32_near_edits.specs.Walks.{ArePowers, HasLengthsFor, LeavesTarget, IsAcceptedAt, IsAcceptedValue, IsWordOf, above, below, element_in, times_power, with_zero, without_one}
 use Rattle.bech32_near_edits.specs.declared.edits.Change.TheVariants.{LeftOut, PutIn, Swapped}
 use Rattle.bech32_near_edits.proofs.Parts.{above-next, below-lowest, below-next, length-below, whole, whole-at, whole-two}
@@ -49,11 +49,11 @@ module _ (code : Code) (hrp characters : List ℕ) (location : ℕ) where
         (subst (IsWordOf number code word) (ap (text_polynomial hrp) swap_parts ∙ polynomial-parts hrp (above (location + 1 + 1) old) (h ∷ l ∷ below location old)) w)
         (subst (λ n. ArePowers number code n 2 one two four eight sixteen) (sym bottom) powers)
 
-    pub swap_some : HasLengthsFor code hrp (length characters) → IsRight → AreAll (IsAcceptedAt 0 code hrp old location) (record { location = location; change = Swapped h l } ∷ [])
+    pub swap_some : HasLengthsFor code hrp (length characters) → IsRight → AreAllOf (IsAcceptedAt 0 code hrp old location) (record { location = location; change = Swapped h l } ∷ [])
     swap_some room right =
         swap_told code hrp old (above (location + 1 + 1) old) (below location old) location bottom h l swap_parts (lengths (length characters) (length old) (sym size) room) right
 
-    pub swap_none : (IsRight → ⊥) → AreAll (IsAcceptedAt 0 code hrp old location) []
+    pub swap_none : (IsRight → ⊥) → AreAllOf (IsAcceptedAt 0 code hrp old location) []
     swap_none wrong = swap_not_told code hrp old (above (location + 1 + 1) old) (below location old) location bottom h l swap_parts wrong
 
   -- ---- elements left out
@@ -68,12 +68,12 @@ module _ (code : Code) (hrp characters : List ℕ) (location : ℕ) where
     abbrev IsRightRest : Type 0
     IsRightRest = (StartsWith x (below location old) → ⊥) × LeavesTarget code (without_one hrp old location)
 
-    pub left_out_some : HasLengthsFor code hrp (length characters - 1) → IsRightRest → AreAll (IsAcceptedAt 1 code hrp old location) (record { location = location; change = LeftOut x } ∷ [])
+    pub left_out_some : HasLengthsFor code hrp (length characters - 1) → IsRightRest → AreAllOf (IsAcceptedAt 1 code hrp old location) (record { location = location; change = LeftOut x } ∷ [])
     left_out_some room right =
         left_out_told code hrp old (above (location + 1) old) (below location old) location left_bottom x left_parts
         (lengths (length characters - 1) (length old - 1) (omega (arith, size)) room) right
 
-    pub left_out_none : (IsRightRest → ⊥) → AreAll (IsAcceptedAt 1 code hrp old location) []
+    pub left_out_none : (IsRightRest → ⊥) → AreAllOf (IsAcceptedAt 1 code hrp old location) []
     left_out_none wrong = left_out_not_told code hrp old (above (location + 1) old) (below location old) location left_bottom x left_parts wrong
 
   -- ---- elements put in
@@ -94,12 +94,12 @@ module _ (code : Code) (hrp characters : List ℕ) (location : ℕ) where
         ((λ i. add ops (polynomial-parts hrp (above location old) (fe32.zero ∷ below location old) i) (times_power (sym put_bottom i) (replicate 1 x)))
         ∙ in_place_of_zero (text_polynomial hrp (above location old)) (below location old) x) w
 
-    pub put_in_some : HasLengthsFor code hrp (length characters + 1) → IsRightElement → AreAll (IsAcceptedValue code hrp old location x.value) (record { location = location; change = PutIn x } ∷ [])
+    pub put_in_some : HasLengthsFor code hrp (length characters + 1) → IsRightElement → AreAllOf (IsAcceptedValue code hrp old location x.value) (record { location = location; change = PutIn x } ∷ [])
     put_in_some room right =
         put_in_told code hrp old (above location old) (below location old) location put_bottom x (whole old location)
         (lengths (length characters + 1) (length old + 1) (omega (arith, size)) room) right
 
-    pub put_in_none : (IsRightElement → ⊥) → AreAll (IsAcceptedValue code hrp old location x.value) []
+    pub put_in_none : (IsRightElement → ⊥) → AreAllOf (IsAcceptedValue code hrp old location x.value) []
     put_in_none wrong = put_in_not_told code hrp old (above location old) (below location old) location put_bottom x (whole old location) wrong
 
   -- ---- on to the next location

@@ -18,7 +18,7 @@ use Rattle.bech32_decode.specs.Acceptance.{Accepts, IsAccepted}
 use Rattle.bech32_decode.specs.Text.{IsText}
 use Rattle.bech32_decode.proofs.Grammar.{only-from_IsText}
 use Rattle.bech32_decode.proofs.Spelling.{characters-elements, lower_text, spelled-text}
-use Rattle.bech32_near_edits.specs.Edits.{AreAll, AreInOrder, IsBefore, IsEdit, IsToldEdit}
+use Rattle.bech32_near_edits.specs.Edits.{AreAllOf, AreInOrder, IsBefore, IsEdit, IsToldEdit}
 use Rattle.bech32_near_edits.specs.NearEdits.{AreNearEdits, IsEditedText, IsToldText}
 use Rattle.bech32_near_edits.specs.Walks.{HasAcceptedEdit, LeavesTarget, IsAcceptedData, IsAcceptedEdit, IsEditOf, IsMadeText}
 use Rattle.bech32_near_edits.specs.declared.edits.Edit.{Edit}
@@ -161,9 +161,9 @@ module _ (code : Code) (text hrp data_part : List ℕ) (is : IsText text hrp dat
           others items made.1 right.1,
         )
 
-    pub near_edits : (edits : List Edit) (items : List M) → AreAll (IsAcceptedEdit code hrp old) edits → map edit_in items ≡ edits → AllByRecursion Made items → AreNearEdits code text (pairs items)
+    pub near_edits : (edits : List Edit) (items : List M) → AreAllOf (IsAcceptedEdit code hrp old) edits → map edit_in items ≡ edits → AllByRecursion Made items → AreNearEdits code text (pairs items)
     near_edits edits items a same made =
-        let all : AreAll (IsAcceptedEdit code hrp old) (map edit_in items) = subst (λ u. AreAll (IsAcceptedEdit code hrp old) u) (sym same) a in
+        let all : AreAllOf (IsAcceptedEdit code hrp old) (map edit_in items) = subst (λ u. AreAllOf (IsAcceptedEdit code hrp old) u) (sym same) a in
         let right : AllByRecursion Right items = right_all items all.each in record {
           grammar = (hrp, data_part, is);
           each = each_told items made right;

@@ -6,7 +6,7 @@ use Rattle.bech32_gf.specs.declared.gf32.Fe32.{Fe32}
 use Rattle.bech32_poly.specs.Polynomial.{appended}
 use Rattle.bech32_checksum.specs.Code.{Code}
 use Rattle.bech32_checksum.specs.TextPolynomial.{text_polynomial}
-use Rattle.bech32_near_edits.specs.Edits.{AreAll, Becomes, StartsWith, IsBefore, IsLast, kind, value_put}
+use Rattle.bech32_near_edits.specs.Edits.{AreAllOf, Becomes, StartsWith, IsBefore, IsLast, kind, value_put}
 use Rattle.bech32_near_edits.specs.Walks.{HasLengthsFor, LeavesTarget, IsAcceptedAt, IsAcceptedOfKind, IsAcceptedValue}
 use Rattle.bech32_near_edits.specs.declared.edits.Change.{Change}
 use Rattle.bech32_near_edits.specs.declared.edits.Change.TheVariants.{LeftOut, PutIn, Swapped}
@@ -16,7 +16,7 @@ use Rattle.bech32_near_edits.proofs.Parts.{same_parts}
 use Rattle.bech32_near_edits.proofs.Sums.{polynomial-parts}
 
 -- the only edit of which P may hold, where it does
-pub the_one : (P : Edit → Type 0) (Q : Type 0) (only : Edit) → ((e : Edit) → P e → (e ≡ only) × Q) → P only → AreAll P (only ∷ [])
+pub the_one : (P : Edit → Type 0) (Q : Type 0) (only : Edit) → ((e : Edit) → P e → (e ≡ only) × Q) → P only → AreAllOf P (only ∷ [])
 the_one P Q only found p = record {
   each = (p, tt);
   all = λ e h. inl (found e h).0;
@@ -24,7 +24,7 @@ the_one P Q only found p = record {
 }
 
 -- where it does not
-pub not_the_one : (P : Edit → Type 0) (Q : Type 0) (only : Edit) → ((e : Edit) → P e → (e ≡ only) × Q) → (Q → ⊥) → AreAll P []
+pub not_the_one : (P : Edit → Type 0) (Q : Type 0) (only : Edit) → ((e : Edit) → P e → (e ≡ only) × Q) → (Q → ⊥) → AreAllOf P []
 not_the_one P Q only found none = nothing P (λ e h. none (found e h).1)
 
 -- ---- the kinds
@@ -155,10 +155,10 @@ module _ (code : Code) (hrp : List ℕ) (old front behind : List Fe32) (location
           refl,
         )
 
-    pub swap_told : HasLengthsFor code hrp (length old) → IsRightSwap → AreAll (IsAcceptedAt 0 code hrp old location) (swap ∷ [])
+    pub swap_told : HasLengthsFor code hrp (length old) → IsRightSwap → AreAllOf (IsAcceptedAt 0 code hrp old location) (swap ∷ [])
     swap_told lengths right = the_one (IsAcceptedAt 0 code hrp old location) IsRightSwap swap only_swap (swap_accepted lengths right)
 
-    pub swap_not_told : (IsRightSwap → ⊥) → AreAll (IsAcceptedAt 0 code hrp old location) []
+    pub swap_not_told : (IsRightSwap → ⊥) → AreAllOf (IsAcceptedAt 0 code hrp old location) []
     swap_not_told wrong = not_the_one (IsAcceptedAt 0 code hrp old location) IsRightSwap swap only_swap wrong
 
   -- ---- elements left out
@@ -201,10 +201,10 @@ module _ (code : Code) (hrp : List ℕ) (old front behind : List Fe32) (location
           refl,
         )
 
-    pub left_out_told : HasLengthsFor code hrp (length old - 1) → IsRightRest → AreAll (IsAcceptedAt 1 code hrp old location) (left_out ∷ [])
+    pub left_out_told : HasLengthsFor code hrp (length old - 1) → IsRightRest → AreAllOf (IsAcceptedAt 1 code hrp old location) (left_out ∷ [])
     left_out_told lengths right = the_one (IsAcceptedAt 1 code hrp old location) IsRightRest left_out only_left_out (left_out_accepted lengths right)
 
-    pub left_out_not_told : (IsRightRest → ⊥) → AreAll (IsAcceptedAt 1 code hrp old location) []
+    pub left_out_not_told : (IsRightRest → ⊥) → AreAllOf (IsAcceptedAt 1 code hrp old location) []
     left_out_not_told wrong = not_the_one (IsAcceptedAt 1 code hrp old location) IsRightRest left_out only_left_out wrong
 
   -- ---- elements put in
@@ -249,8 +249,8 @@ module _ (code : Code) (hrp : List ℕ) (old front behind : List Fe32) (location
           refl,
         )
 
-    pub put_in_told : HasLengthsFor code hrp (length old + 1) → IsRightElement → AreAll (IsAcceptedValue code hrp old location x.value) (put_in ∷ [])
+    pub put_in_told : HasLengthsFor code hrp (length old + 1) → IsRightElement → AreAllOf (IsAcceptedValue code hrp old location x.value) (put_in ∷ [])
     put_in_told lengths right = the_one (IsAcceptedValue code hrp old location x.value) IsRightElement put_in only_put_in (put_in_accepted lengths right)
 
-    pub put_in_not_told : (IsRightElement → ⊥) → AreAll (IsAcceptedValue code hrp old location x.value) []
+    pub put_in_not_told : (IsRightElement → ⊥) → AreAllOf (IsAcceptedValue code hrp old location x.value) []
     put_in_not_told wrong = not_the_one (IsAcceptedValue code hrp old location x.value) IsRightElement put_in only_put_in wrong

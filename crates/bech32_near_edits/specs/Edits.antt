@@ -62,7 +62,7 @@ AreInOrder [] = Unit {0}
 AreInOrder (x ∷ xs) = AllByRecursion (IsBefore x) xs × AreInOrder xs
 
 -- these are all the edits of which P holds, each once and in order
-pub record AreAll (P : Edit → Type 0) (edits : List Edit) : Type 0 where
+pub record AreAllOf (P : Edit → Type 0) (edits : List Edit) : Type 0 where
   pub each : AllByRecursion P edits
   pub all : (edit : Edit) → P edit → IsAmong edit edits
   pub in_order : AreInOrder edits

@@ -24,7 +24,7 @@ pub record IsWordOf {R : Type 0} (number : R → ℕ) (code : Code) (word : R) (
 abbrev pub times_power : ℕ → List Fe32 → List Fe32
 times_power n p = zeros ops n ++ p
 
--- the words are the remainders of so many powers of x, from this one on, times 1, 2, 4, 8 and 16
+-- the words are the remainders of this many powers of x, from this one on, times 1, 2, 4, 8 and 16
 pub record ArePowers {R : Type 0} (number : R → ℕ) (code : Code) (n count : ℕ)
     (one two four eight sixteen : R) : Type 0 where
   pub of_one : IsResidueOf number code one (times_power n (replicate count (fe32.element 1)))
@@ -38,8 +38,8 @@ pub record ArePowers {R : Type 0} (number : R → ℕ) (code : Code) (n count : 
 abbrev pub LeavesTarget : Code → List Fe32 → Type 0
 LeavesTarget code p = IsRemainder ops code.generator p code.target
 
--- a text with this human-readable part and so many characters of data is not longer than the code,
--- and has room for the checksum
+-- a text with this human-readable part and this many characters of data is not longer than the
+-- code, and has room for the checksum
 abbrev pub HasLengthsFor : Code → List ℕ → ℕ → Type 0
 HasLengthsFor code hrp n = (length hrp + 1 + n ≤ code.code_length) × (length code.generator ≤ n)
 

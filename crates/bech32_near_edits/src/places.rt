@@ -7,7 +7,7 @@ ghost use Rattle.bech32_gf.specs.Fe32.{elements_of};
 ghost use Rattle.bech32_gf.specs.declared.gf32.Fe32.{Fe32 as Element};
 ghost use Rattle.bech32_poly.specs.Polynomial.{appended};
 ghost use Rattle.bech32_checksum.specs.TextPolynomial.{text_polynomial};
-ghost use Rattle.bech32_near_edits.specs.Edits.{AreAll, StartsWith};
+ghost use Rattle.bech32_near_edits.specs.Edits.{AreAllOf, StartsWith};
 ghost use Rattle.bech32_near_edits.specs.Walks.{ArePowers, HasLengthsFor, LeavesTarget, IsAcceptedAt, IsAcceptedValue, IsWordOf, below, element_in, with_zero, without_one};
 
 use crate::edits::{Change, Edit};
@@ -77,7 +77,7 @@ pub(crate) fn swap_at<Ck: Checksum>(
         (text_polynomial hrp (elements_of characters.now))
         → ArePowers Ck.MidstateRepr.number Ck.code location 2 pairs.now.one
         pairs.now.two pairs.now.four pairs.now.eight pairs.now.sixteen
-        → AreAll (IsAcceptedAt 0 Ck.code hrp (elements_of characters.now) location)
+        → AreAllOf (IsAcceptedAt 0 Ck.code hrp (elements_of characters.now) location)
         (option_to_list result) }
 {
     if characters.len() - location < 2 {
@@ -105,7 +105,7 @@ pub(crate) fn left_out_at<Ck: Checksum>(
     ensures { (hrp : List ℕ) → HasLengthsFor Ck.code hrp (length characters.now - 1)
         → IsWordOf Ck.MidstateRepr.number Ck.code rest
         (without_one hrp (elements_of characters.now) location)
-        → AreAll (IsAcceptedAt 1 Ck.code hrp (elements_of characters.now) location)
+        → AreAllOf (IsAcceptedAt 1 Ck.code hrp (elements_of characters.now) location)
         (option_to_list result) }
 {
     let element = element_at(characters, location);
@@ -162,7 +162,7 @@ pub(crate) fn put_in_at<Ck: Checksum>(
         (with_zero hrp (elements_of characters.now) location)
         → ArePowers Ck.MidstateRepr.number Ck.code location 1 powers.now.one
         powers.now.two powers.now.four powers.now.eight powers.now.sixteen
-        → AreAll (IsAcceptedValue Ck.code hrp (elements_of characters.now) location element.value)
+        → AreAllOf (IsAcceptedValue Ck.code hrp (elements_of characters.now) location element.value)
         (option_to_list result) }
 {
     if !is_target::<Ck>(sum_of::<Ck>(with_none, powers.times(element))) {

@@ -10,7 +10,7 @@ use crate::residue::{sum_of, word_of};
 use bech32_checksum::{Checksum, Engine};
 use bech32_gf::gf32::Fe32;
 
-// The remainders of so many neighbouring powers of x, added up, times 1, 2, 4, 8 and 16.
+// The remainders of this many neighbouring powers of x, added up, times 1, 2, 4, 8 and 16.
 #[derive(Drop)]
 pub(crate) struct Powers<Ck: Checksum> {
     one: Engine<Ck>,
@@ -20,7 +20,7 @@ pub(crate) struct Powers<Ck: Checksum> {
     sixteen: Engine<Ck>,
 }
 
-// An engine that was given one element so many times, and nothing above it.
+// An engine that was given one element this many times, and nothing above it.
 #[inline]
 fn engine_with<Ck: Checksum>(element: Fe32, count: usize) -> Engine<Ck>
     ensures { IsResidueOf Ck.MidstateRepr.number Ck.code result (replicate count element) }

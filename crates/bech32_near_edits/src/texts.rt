@@ -11,7 +11,7 @@ ghost use Rattle.bech32_decode.specs.Text.{IsText};
 ghost use Rattle.bech32_hrp.specs.Hrp.{lowered};
 ghost use Rattle.bech32_hrp.specs.HrpBytes.{hrp_bytes};
 ghost use Rattle.bech32_poly.specs.Distinct.{IsAmong};
-ghost use Rattle.bech32_near_edits.specs.Edits.{AreAll, IsEdit};
+ghost use Rattle.bech32_near_edits.specs.Edits.{AreAllOf, IsEdit};
 ghost use Rattle.bech32_near_edits.specs.declared.edits.Edit.{Edit as AnEdit};
 ghost use Rattle.bech32_near_edits.specs.NearEdits.{AreNearEdits, IsEditsRefusal};
 ghost use Rattle.bech32_near_edits.specs.Walks.{HasAcceptedEdit, IsAcceptedEdit, IsEditOf, IsMadeText};
@@ -20,7 +20,7 @@ use crate::edits::{Change, Edit, NearEdit};
 use crate::error::EditsError;
 use crate::walks::{push_left_out, push_put_in, push_swapped};
 use bech32_checksum::Checksum;
-use bech32_decode::UncheckedHrpstring;
+use bech32_decode::Reading;
 use bech32_hrp::Hrp;
 use std::alloc::{AllocError, Allocator, Global};
 
@@ -32,7 +32,7 @@ fn edits_of<Ck: Checksum, A: Allocator>(
 ) -> Result<Vec<Edit, A>, AllocError>
     requires { is_data characters.now ≡ true }
     ensures { MatchResult result
-        (λ edits. AreAll
+        (λ edits. AreAllOf
         (IsAcceptedEdit Ck.code (hrp_bytes hrp) (elements_of characters.now)) edits.items)
         (λ _. HasAcceptedEdit Ck.code (hrp_bytes hrp) (elements_of characters.now)) }
 {
@@ -119,8 +119,8 @@ pub fn near_edits_in<Ck: Checksum, A: Allocator + Copy>(
         (map (λ m. (m.edit, string_bytes m.text)) found.items))
         (λ e. IsEditsRefusal Ck.code text.now e) }
 {
-    let unchecked = UncheckedHrpstring::new(text)?;
-    let edits = edits_of::<Ck, A>(alloc, unchecked.hrp(), unchecked.data_part_ascii())?;
+    let reading = Reading::<Ck>::new(text)?;
+    let edits = edits_of::<Ck, A>(alloc, Hrp::of_bytes(reading.hrp), reading.data_part)?;
     Ok(edited_all(alloc, text, edits)?)
 }
 
@@ -143,7 +143,7 @@ pub fn near_edits_in<Ck: Checksum, A: Allocator + Copy>(
 ///
 /// # Errors
 ///
-/// That of [`UncheckedHrpstring::new`], where the text is not in the grammar. Out of memory is
+/// That of [`Reading::new`], where the text is not in the grammar. Out of memory is
 /// returned only where there is such a text.
 pub fn near_edits<Ck: Checksum>(
     alloc: Global,

@@ -4,7 +4,7 @@ ghost use Rattle.std.specs.Prelude.{◌≡◌, ◌<◌, ◌≤◌, ◌+◌, ◌^
 ghost use Rattle.bech32_gf.specs.Alphabet.{is_data};
 ghost use Rattle.bech32_gf.specs.Fe32.{elements_of};
 ghost use Rattle.bech32_hrp.specs.HrpBytes.{hrp_bytes};
-ghost use Rattle.bech32_near_edits.specs.Edits.{AreAll};
+ghost use Rattle.bech32_near_edits.specs.Edits.{AreAllOf};
 ghost use Rattle.bech32_near_edits.specs.Walks.{ArePowers, HasAcceptedEdit, HasLengthsFor, IsAcceptedAt, IsAcceptedOfKind, IsWordOf, with_zero};
 ghost use Rattle.bech32_near_edits.specs.declared.edits.Edit.{Edit as AnEdit};
 
@@ -17,7 +17,7 @@ use bech32_gf::gf32::Fe32;
 use bech32_hrp::Hrp;
 use std::alloc::{AllocError, Allocator};
 
-// Whether a text with a human-readable part and a data part of so many characters is not longer
+// Whether a text with a human-readable part and a data part of this many characters is not longer
 // than the code, and has room for the checksum.
 #[inline]
 fn has_lengths<Ck: Checksum>(hrp: Hrp, data_length: usize) -> bool
@@ -49,7 +49,7 @@ pub(crate) fn push_swapped<Ck: Checksum, A: Allocator>(
     requires { is_data characters.now ≡ true }
     ensures { MatchResult result
         (λ _. (edits : List AnEdit) × (found.new.items ≡ found.old.items ++ edits)
-        × AreAll (IsAcceptedOfKind 0 Ck.code (hrp_bytes hrp) (elements_of characters.now)) edits)
+        × AreAllOf (IsAcceptedOfKind 0 Ck.code (hrp_bytes hrp) (elements_of characters.now)) edits)
         (λ _. HasAcceptedEdit Ck.code (hrp_bytes hrp) (elements_of characters.now)) }
 {
     if !has_lengths::<Ck>(hrp, characters.len()) {
@@ -73,7 +73,7 @@ pub(crate) fn push_left_out<Ck: Checksum, A: Allocator>(
     requires { is_data characters.now ≡ true }
     ensures { MatchResult result
         (λ _. (edits : List AnEdit) × (found.new.items ≡ found.old.items ++ edits)
-        × AreAll (IsAcceptedOfKind 1 Ck.code (hrp_bytes hrp) (elements_of characters.now)) edits)
+        × AreAllOf (IsAcceptedOfKind 1 Ck.code (hrp_bytes hrp) (elements_of characters.now)) edits)
         (λ _. HasAcceptedEdit Ck.code (hrp_bytes hrp) (elements_of characters.now)) }
 {
     if characters.is_empty() {
@@ -110,7 +110,7 @@ fn push_put_in_at<Ck: Checksum, A: Allocator>(
         powers.now.two powers.now.four powers.now.eight powers.now.sixteen
         → MatchResult result
         (λ _. (edits : List AnEdit) × (found.new.items ≡ found.old.items ++ edits)
-        × AreAll (IsAcceptedAt 2 Ck.code hrp (elements_of characters.now) location) edits)
+        × AreAllOf (IsAcceptedAt 2 Ck.code hrp (elements_of characters.now) location) edits)
         (λ _. HasAcceptedEdit Ck.code hrp (elements_of characters.now)) }
 {
     for value in 0..32 {
@@ -132,7 +132,7 @@ pub(crate) fn push_put_in<Ck: Checksum, A: Allocator>(
     requires { is_data characters.now ≡ true }
     ensures { MatchResult result
         (λ _. (edits : List AnEdit) × (found.new.items ≡ found.old.items ++ edits)
-        × AreAll (IsAcceptedOfKind 2 Ck.code (hrp_bytes hrp) (elements_of characters.now)) edits)
+        × AreAllOf (IsAcceptedOfKind 2 Ck.code (hrp_bytes hrp) (elements_of characters.now)) edits)
         (λ _. HasAcceptedEdit Ck.code (hrp_bytes hrp) (elements_of characters.now)) }
 {
     if !has_lengths::<Ck>(hrp, characters.len() + 1) {

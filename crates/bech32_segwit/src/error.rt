@@ -1,6 +1,6 @@
 //! Why a segwit address is not read or not written.
 
-use bech32_corrector::CorrectableError;
+use bech32_correction::CorrectableError;
 use bech32_decode::segwit::{InvalidWitnessVersionError, WitnessLengthError};
 use bech32_decode::{InvalidResidueError, SegwitCodeLengthError, SegwitHrpstringError};
 use std::alloc::AllocError;
@@ -54,7 +54,7 @@ impl From<AllocError> for DecodeError {
 }
 
 impl CorrectableError for DecodeError {
-    ghost use Rattle.bech32_corrector.specs.Carried.{of_segwit};
+    ghost use Rattle.bech32_correction.specs.Carried.{of_segwit};
 
     ghost carried = { λ e. of_segwit e.0 };
 

@@ -113,7 +113,8 @@ pub fn encoded_length(
     encoded_length_of_part(hrp.as_bytes(), witness_program)
 }
 
-/// The same of the bytes of a human-readable part.
+/// The number of characters of a segwit address, with the human-readable part given as bytes: see
+/// [`encoded_length`].
 ///
 /// # Errors
 ///

@@ -59,7 +59,8 @@ pub fn encode_into_fmt_unchecked<S: FmtSink>(
     sink.write_str(front)
 }
 
-/// The same into a sink of bytes.
+/// Writes the first 90 characters of the text of a witness version and a program into a sink of
+/// bytes, as [`encode_into_fmt_unchecked`] does into a sink of text. Nothing is tested.
 ///
 /// # Errors
 ///

@@ -16,7 +16,7 @@ pub returns-then-residue-eq-TARGET_RESIDUE : goal.returns-then-residue-eq-TARGET
 returns-then-residue-eq-TARGET_RESIDUE c =
     let lengths = c.in_ok-validate_lengths.ensures in
     let residue = c.residue_of-residue.result in
-    let left = rw (c.hrp.ensures, c.data_part_ascii.ensures.value) at c.residue_of-residue.ensures.residue in
+    let left = rw (c.part.ensures, c.data_part_ascii.ensures.value) at c.residue_of-residue.ensures.residue in
     elim c.then-residue-eq-TARGET_RESIDUE.branch [
       | then-residue-eq-TARGET_RESIDUE-via-then-residue-eq-TARGET_RESIDUE w ↦
           inl (lengths.0, lengths.1, has_target bech32m 6 0x2bc830a3 refl (ap (λ (k : Code). k.target) bech32m_is_packed) residue _ w.if-residue-eq-TARGET_RESIDUE.true left)
@@ -29,7 +29,7 @@ returns c =
     let lengths = c.in_ok-validate_lengths.ensures in
     let residue = c.residue_of-residue.result in
     let clear = c.residue_of-residue.ensures.clear in
-    let left = rw (c.hrp.ensures, c.data_part_ascii.ensures.value) at c.residue_of-residue.ensures.residue in (
+    let left = rw (c.part.ensures, c.data_part_ascii.ensures.value) at c.residue_of-residue.ensures.residue in (
       (
         lengths.0,
         lengths.1,

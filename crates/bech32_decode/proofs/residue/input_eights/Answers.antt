@@ -2,7 +2,7 @@ use Rattle.std.proofs.Common.{[], refl}
 use Rattle.std.proofs.lemmas.List.{take_rest}
 use Rattle.bech32_gf.specs.Fe32.{element_of}
 use Rattle.bech32_checksum.proofs.ResidueRuns.{taken_more}
-use Rattle.bech32_places.proofs.EightAtOnce.{same_word}
+use Rattle.bech32_decode.proofs.EightAtOnce.{same_word}
 use Rattle.bech32_gf.specs.declared.gf32.Fe32.{Fe32 as Element}
 use Rattle.bech32_checksum.specs.Code.{IsResidueAfter}
 use Rattle.std.proofs.Common.{◌∙◌, List, subst}

@@ -5,7 +5,6 @@ use Rattle.bech32_gf.specs.Fe32 as fe32
 use Rattle.bech32_gf.specs.Fe32.{element_of, elements_of}
 use Rattle.bech32_poly.specs.Polynomial.{appended}
 use Rattle.bech32_poly.proofs.Appended.{appended-append}
-use Rattle.bech32_hrp.specs.HrpBytes.{hrp_bytes}
 use Rattle.bech32_checksum.specs.TextPolynomial.{hrp_elements}
 use Rattle.bech32_decode.specs.Readers.{elements_left}
 use Rattle.bech32_decode.specs.declared.reader.AsciiToFe32Iter.{AsciiToFe32Iter}
@@ -14,7 +13,7 @@ use Rattle.bech32_decode.proofs.residue.residue_of.Goals as goal
 pub loop-fe-init : goal.loop-fe-init
 loop-fe-init g c =
     let front : List Fe32 = fe32.one ∷ [] in
-    let part : List Fe32 = hrp_elements (hrp_bytes c.args.hrp) in
+    let part : List Fe32 = hrp_elements c.args.part.now in
     let base : List Fe32 = appended front part in
     let (taken, parts, held) = c.input_eights-left.ensures.residue in
     let left = c.input_eights-left.result.now in
@@ -26,5 +25,5 @@ loop-fe-init g c =
           ∙ ap (appended base) (sym (map-append element_of taken left))
           ∙ ap (λ (l : List ℕ). appended base (elements_of l)) (sym parts)
           ∙ sym (appended-append front part (elements_of c.args.data_part.now)),
-      held base (c.input_hrp.ensures front c.new-engine.ensures),
+      held base (c.input_part.ensures front c.new-engine.ensures),
     )

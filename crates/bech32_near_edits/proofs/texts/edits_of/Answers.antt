@@ -1,7 +1,7 @@
 use Rattle.std.proofs.Common.{◌++◌, List, subst, sym, ap, ◌∙◌}
 use Rattle.bech32_gf.specs.Fe32.{elements_of}
 use Rattle.bech32_hrp.specs.HrpBytes.{hrp_bytes}
-use Rattle.bech32_near_edits.specs.Edits.{AreAll}
+use Rattle.bech32_near_edits.specs.Edits.{AreAllOf}
 use Rattle.bech32_near_edits.specs.Walks.{IsAcceptedEdit}
 use Rattle.bech32_near_edits.specs.declared.edits.Edit.{Edit}
 use Rattle.bech32_near_edits.proofs.Kept.{all_kinds}
@@ -13,6 +13,6 @@ returns g c =
     let (xs, e, a) = c.in_ok-push_swapped.ensures in
     let (ys, f, b) = c.in_ok-push_left_out.ensures in
     let (zs, h, d) = c.in_ok-push_put_in.ensures in
-    subst (λ (u : List Edit). AreAll A u)
+    subst (λ (u : List Edit). AreAllOf A u)
     (sym (h ∙ ap (λ (u : List Edit). u ++ zs) (f ∙ ap (λ (u : List Edit). u ++ ys) (e ∙ ap (λ (u : List Edit). u ++ xs) c.new-found.ensures.items))))
     (all_kinds A xs ys zs a b d)

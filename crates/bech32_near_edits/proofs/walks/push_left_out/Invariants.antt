@@ -1,7 +1,7 @@
 use Rattle.std.proofs.Common.{◌≡◌, ◌<◌, ◌++◌, List, length}
 use Rattle.bech32_gf.specs.Fe32.{elements_of}
 use Rattle.bech32_hrp.specs.HrpBytes.{hrp_bytes}
-use Rattle.bech32_near_edits.specs.Edits.{AreAll}
+use Rattle.bech32_near_edits.specs.Edits.{AreAllOf}
 use Rattle.bech32_near_edits.specs.Walks.{ArePowers, IsAcceptedOfKind, IsWordOf, without_one}
 use Rattle.bech32_near_edits.specs.declared.edits.Edit.{Edit}
 use Rattle.bech32_near_edits.proofs.Kept.{IsLower}
@@ -15,5 +15,5 @@ invariant-loop-location g l =
       powers : ArePowers number code l.location 1 l.powers.one l.powers.two l.powers.four l.powers.eight l.powers.sixteen;
       rest : l.location < length l.characters → IsWordOf number code l.rest (without_one (hrp_bytes l.fn.hrp) (elements_of l.characters) l.location);
       kept : (edits : List Edit) × (l.found.items ≡ l.initial.found.items ++ edits)
-          × AreAll (IsLower (IsAcceptedOfKind 1 code (hrp_bytes l.fn.hrp) (elements_of l.characters)) (λ e. e.location) l.location) edits;
+          × AreAllOf (IsLower (IsAcceptedOfKind 1 code (hrp_bytes l.fn.hrp) (elements_of l.characters)) (λ e. e.location) l.location) edits;
     }

@@ -1,7 +1,7 @@
 use Rattle.std.proofs.Common.{◌≡◌, ◌≤◌, ◌++◌, List, length}
 use Rattle.bech32_gf.specs.Fe32.{elements_of}
 use Rattle.bech32_hrp.specs.HrpBytes.{hrp_bytes}
-use Rattle.bech32_near_edits.specs.Edits.{AreAll}
+use Rattle.bech32_near_edits.specs.Edits.{AreAllOf}
 use Rattle.bech32_near_edits.specs.Walks.{ArePowers, IsAcceptedOfKind, IsWordOf, with_zero}
 use Rattle.bech32_near_edits.specs.declared.edits.Edit.{Edit}
 use Rattle.bech32_near_edits.proofs.Kept.{IsLower}
@@ -16,5 +16,5 @@ invariant-loop-location g l =
       pairs : ArePowers number code l.location 2 l.pairs.one l.pairs.two l.pairs.four l.pairs.eight l.pairs.sixteen;
       with_none : l.location ≤ length l.characters → IsWordOf number code l.with_none (with_zero (hrp_bytes l.fn.hrp) (elements_of l.characters) l.location);
       kept : (edits : List Edit) × (l.found.items ≡ l.initial.found.items ++ edits)
-          × AreAll (IsLower (IsAcceptedOfKind 2 code (hrp_bytes l.fn.hrp) (elements_of l.characters)) (λ e. e.location) l.location) edits;
+          × AreAllOf (IsLower (IsAcceptedOfKind 2 code (hrp_bytes l.fn.hrp) (elements_of l.characters)) (λ e. e.location) l.location) edits;
     }

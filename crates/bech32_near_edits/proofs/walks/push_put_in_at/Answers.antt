@@ -4,7 +4,7 @@ use Rattle.std.proofs.Math.Nat.{mod-eq_of_lt}
 use Rattle.std.proofs.lemmas.Result.{err_from_is_err_and}
 use Rattle.bech32_gf.specs.Fe32.{elements_of}
 use Rattle.bech32_gf.specs.declared.gf32.Fe32.{Fe32 as Element}
-use Rattle.bech32_near_edits.specs.Edits.{AreAll, value_put}
+use Rattle.bech32_near_edits.specs.Edits.{AreAllOf, value_put}
 use Rattle.bech32_near_edits.specs.Walks.{IsAcceptedAt, IsAcceptedValue}
 use Rattle.bech32_near_edits.proofs.Kept.{found_all, found_more, some_kept}
 use Rattle.bech32_near_edits.proofs.Verdicts.{value_first, value_small}
@@ -28,7 +28,7 @@ loop-value-preserved g c hrp room word powers =
     let value : c.from_low_bits-element.result.value ≡ at.value = ap (λ (x : Element). x.value) c.from_low_bits-element.ensures ∙ mod-eq_of_lt small in
     found_more (IsAcceptedAt 2 code hrp old here) (λ e. value_put e.change) at.value c.args.found.now.items at.found.items c.push_some.new.found.items (option_to_list c.put_in_at.result)
     (value_first 2 code hrp old here) c.in_ok-push_some.ensures
-    (subst (λ (n : ℕ). AreAll (IsAcceptedValue code hrp old here n) (option_to_list c.put_in_at.result)) value (c.put_in_at.ensures hrp room word powers))
+    (subst (λ (n : ℕ). AreAllOf (IsAcceptedValue code hrp old here n) (option_to_list c.put_in_at.result)) value (c.put_in_at.ensures hrp room word powers))
     (at.invariant hrp room word powers)
 
 pub returns : goal.returns

@@ -1,6 +1,6 @@
 use Rattle.std.proofs.Common.{◌≡◌, ◌++◌, ℕ, List, length, ◌+◌}
 use Rattle.bech32_gf.specs.Fe32.{elements_of}
-use Rattle.bech32_near_edits.specs.Edits.{AreAll, value_put}
+use Rattle.bech32_near_edits.specs.Edits.{AreAllOf, value_put}
 use Rattle.bech32_near_edits.specs.Walks.{ArePowers, HasLengthsFor, IsAcceptedAt, IsWordOf, with_zero}
 use Rattle.bech32_near_edits.specs.declared.edits.Edit.{Edit}
 use Rattle.bech32_near_edits.proofs.Kept.{IsLower}
@@ -14,4 +14,4 @@ invariant-loop-value g l =
     → IsWordOf number code l.with_none (with_zero hrp (elements_of l.characters) l.location)
     → ArePowers number code l.location 1 l.powers.one l.powers.two l.powers.four l.powers.eight l.powers.sixteen
     → (edits : List Edit) × (l.found.items ≡ l.initial.found.items ++ edits)
-    × AreAll (IsLower (IsAcceptedAt 2 code hrp (elements_of l.characters) l.location) (λ e. value_put e.change) l.value) edits
+    × AreAllOf (IsLower (IsAcceptedAt 2 code hrp (elements_of l.characters) l.location) (λ e. value_put e.change) l.value) edits

@@ -1,7 +1,7 @@
 use Rattle.std.proofs.Common.{◌≡◌, ◌++◌, List}
 use Rattle.bech32_gf.specs.Fe32.{elements_of}
 use Rattle.bech32_hrp.specs.HrpBytes.{hrp_bytes}
-use Rattle.bech32_near_edits.specs.Edits.{AreAll}
+use Rattle.bech32_near_edits.specs.Edits.{AreAllOf}
 use Rattle.bech32_near_edits.specs.Walks.{ArePowers, IsAcceptedOfKind}
 use Rattle.bech32_near_edits.specs.declared.edits.Edit.{Edit}
 use Rattle.bech32_near_edits.proofs.Kept.{IsLower}
@@ -13,5 +13,5 @@ invariant-loop-location g l =
     record {
       powers : ArePowers g.Ck.MidstateRepr.PackedFe32.number code l.location 2 l.pairs.one l.pairs.two l.pairs.four l.pairs.eight l.pairs.sixteen;
       kept : (edits : List Edit) × (l.found.items ≡ l.initial.found.items ++ edits)
-          × AreAll (IsLower (IsAcceptedOfKind 0 code (hrp_bytes l.fn.hrp) (elements_of l.characters)) (λ e. e.location) l.location) edits;
+          × AreAllOf (IsLower (IsAcceptedOfKind 0 code (hrp_bytes l.fn.hrp) (elements_of l.characters)) (λ e. e.location) l.location) edits;
     }

@@ -7,8 +7,8 @@ use Rattle.bech32_poly.proofs.Appended.{appended-append}
 use Rattle.bech32_checksum.specs.Code.{IsResidueOf}
 use Rattle.bech32_checksum.specs.TextPolynomial.{hrp_elements, text_polynomial}
 use Rattle.bech32_hrp.specs.Hrp.{is_lower, is_upper, is_mixed_case}
-use Rattle.bech32_places.specs.Cases.{lower_count, upper_count}
-use Rattle.bech32_places.proofs.Cases.{lower_count-le, upper_count-le}
+use Rattle.bech32_decode.specs.Cases.{lower_count, upper_count}
+use Rattle.bech32_decode.proofs.Cases.{lower_count-le, upper_count-le}
 use Rattle.bech32_gf.specs.laws.Fe32Laws.{is_field}
 use Rattle.bech32_poly.proofs.Remainder.{remainder_unique}
 use Rattle.bech32_decode.specs.Text.{IsText}

@@ -10,3 +10,13 @@ returns-then-CHECKSUM_LENGTH-eq0 g c =
     let lengths = c.in_ok-validate_lengths.ensures in
     let none = sym c.CHECKSUM_LENGTH.ensures ∙ c.if-CHECKSUM_LENGTH-eq0.true in
     (lengths.0, lengths.1, has_target-degree_0 g.Ck.Checksum.code _ _ degree (ap (λ (k : Code). k.target) laws.code_law) none _)
+
+pub returns-in-Ok : goal.returns-in-Ok
+returns-in-Ok g c =
+    let lengths = c.in_ok-validate_lengths.ensures in
+    (lengths.0, lengths.1, c.in-Ok.ensures _ (rw c.part.ensures at c.residue_of-residue.ensures.residue))
+
+pub returns-in-Err : goal.returns-in-Err
+returns-in-Err g c =
+    let lengths = c.in_ok-validate_lengths.ensures in
+    (lengths.0, lengths.1, c.in-Err.ensures _ (rw c.part.ensures at c.residue_of-residue.ensures.residue))

@@ -1,5 +1,0 @@
-use Rattle.bech32_places.proofs.EightAtOnce.{cases_are}
-use Rattle.bech32_places.proofs.case_of.Goals as goal
-
-pub returns : goal.returns
-returns c = cases_are c.args.character _ c.at_0.ensures.value
