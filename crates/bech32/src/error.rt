@@ -1,6 +1,6 @@
 //! Why a text is not decoded or not written.
 
-use bech32_corrector::CorrectableError;
+use bech32_correction::CorrectableError;
 use bech32_decode::{ChecksumError, CodeLengthError, InvalidResidueError, UncheckedHrpstringError};
 use std::alloc::AllocError;
 use std::{fmt, io};

@@ -24,20 +24,18 @@ mod writers;
 pub use bech32_bits::ByteIterExt;
 pub use bech32_block::PrintImpl;
 pub use bech32_checksum::{Bech32, Bech32m, Checksum, CorrectingChecksum, NoChecksum};
-pub use bech32_correction::{CorrectError, Correction, Mended, correct, correct_in};
-pub use bech32_corrector::CorrectableError;
-use bech32_decode::{
-    CheckedHrpstring, CodeLengthError, Reading, UncheckedHrpstring, validate_either,
+pub use bech32_correction::{
+    CorrectError, CorrectableError, Correction, Mended, correct, correct_in,
 };
+use bech32_decode::{CheckedHrpstring, CodeLengthError, Reading};
 pub use bech32_encode::Fe32IterExt;
 use bech32_encode::{text_length_of_part, text_of_size_in};
 pub use bech32_gf::gf32::Fe32;
 pub use bech32_gf_ext::{Fe1024, Fe32768};
 pub use bech32_hrp::Hrp;
-pub use bech32_near::{NearTexts, nearest, nearest_in};
+pub use bech32_near::{NearTexts, nearest, nearest_in, nearest_listings};
 pub use bech32_near_edits::{Change, Edit, EditsError, NearEdit, near_edits, near_edits_in};
-pub use bech32_near_listings::nearest_listings;
-pub use bech32_near_patterns::Listings;
+pub use bech32_near_search::Listings;
 pub use bech32_segwit as segwit;
 pub use error::{DecodeError, EncodeError, EncodeIoError};
 use std::alloc::{AllocError, Allocator, Global};
@@ -64,13 +62,9 @@ fn checked(s: &str) -> Result<CheckedHrpstring<'_>, DecodeError>
         (λ c. IsDecoded s.now (checked_part c) (checked_bytes c))
         (λ e. IsDecodeRefusal s.now e) }
 {
-    if let Some(reading) = Reading::<Bech32m>::of(s.as_bytes()) {
-        reading.validate_either()?;
-        return Ok(reading.checked());
-    }
-    let unchecked = UncheckedHrpstring::new(s)?;
-    validate_either(&unchecked)?;
-    Ok(unchecked.remove_checksum::<Bech32m>())
+    let reading = Reading::<Bech32m>::new(s)?;
+    reading.validate_either()?;
+    Ok(reading.checked())
 }
 
 // What a text is decoded to, or why it is not.
@@ -135,7 +129,8 @@ pub fn encoded_length<Ck: Checksum>(hrp: Hrp, data: &[u8]) -> Result<usize, Code
     encoded_length_of_part::<Ck>(hrp.as_bytes(), data)
 }
 
-/// The same of the bytes of a human-readable part.
+/// The number of characters of the text that [`encode`] writes, with the human-readable part given
+/// as bytes: see [`encoded_length`].
 ///
 /// # Errors
 ///

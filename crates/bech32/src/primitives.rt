@@ -22,17 +22,17 @@ pub mod checksum {
     };
     pub use bech32_detect::{
         accepted_texts_are_far, bursts_are_detected, detects_four, detects_four_in,
+        four_errors_are_detected,
     };
-    pub use bech32_four::four_errors_are_detected;
 }
 
 /// Correction of mistyped texts.
 pub mod correction {
     pub use bech32_correction::{
-        CorrectError, Correction, Listing, Mended, NoMemory, bech32_listing, bech32m_listing,
-        correct, correct_in, listing_in, listing_of_unchecked, mend, mended_in,
+        CorrectError, CorrectableError, Correction, Corrector, ErrorIterator, Listing, Mended,
+        NoMemory, bech32_listing, bech32m_listing, correct, correct_in, listing_in,
+        listing_of_unchecked, mend, mended_in,
     };
-    pub use bech32_corrector::{CorrectableError, Corrector, ErrorIterator};
     pub use bech32_poly::fieldvec::NO_ALLOC_MAX_LENGTH;
     pub use bech32_refusals::MAX_DEGREE;
 }

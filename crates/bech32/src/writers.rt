@@ -45,7 +45,8 @@ pub fn encode_into_fmt<Ck: Checksum, S: FmtSink>(
     Ok(())
 }
 
-/// The same into a sink of bytes.
+/// Encodes bytes under a human-readable part into a sink of bytes, in upper case or in lower case,
+/// as [`encode_into_fmt`] does into a sink of text.
 ///
 /// # Errors
 ///

@@ -59,12 +59,6 @@ length-characters listing data_part =
 
 module _ (code : Code) (text hrp data_part : List ℕ) (residue : List Fe32) (listing : List (ℕ × Fe32)) (is : HasResidue code text hrp data_part residue)
     (inside : AllByRecursion (λ (p : ℕ × Fe32). p.0 < length data_part) listing) (mends : Mends ops code.generator code.target residue listing) where
-  elements : List Fe32
-  elements = elements_of data_part
-
-  new : List Fe32
-  new = mended ops listing (elements_of data_part)
-
   inside_elements : AllByRecursion (λ (p : ℕ × Fe32). p.0 < length (elements_of data_part)) listing
   inside_elements = subst (λ (n : ℕ). AllByRecursion (λ (p : ℕ × Fe32). p.0 < n) listing) (sym (length-map data_part element_of)) inside
 

@@ -1,6 +1,8 @@
 pub mod Accepted
 pub mod Ascii
 pub mod Characters
+pub mod Counted
+pub mod Different
 pub mod Inside
 pub mod MendedText
 pub mod Outcomes
@@ -9,3 +11,4 @@ pub mod Sound
 pub mod Sums
 pub mod Texts
 pub mod Values
+pub mod Within

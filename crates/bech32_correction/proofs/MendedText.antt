@@ -48,7 +48,7 @@ module _ (text lower new : List ℕ) (listing : List (ℕ × Fe32)) (same : lowe
       (ascii_text (spelled h (mended ops listing (elements_of d))) (lowered h) (map char_of_element (mended ops listing (elements_of d)))
       (spelled-text h (mended ops listing (elements_of d)) known.is_hrp)))
 
--- so many of the first items are the first list
+-- this many of the first items are the first list
 pub first_items : (n : ℕ) (xs ys : List ℕ) → length xs ≡ n → take n (xs ++ ys) ≡ xs
 first_items n xs ys e = take-append-le n xs ys (omega (arith, e)) ∙ take_all n xs (omega (arith, e))
 

@@ -15,10 +15,10 @@ use Rattle.bech32_checksum.specs.Code.{Code}
 use Rattle.bech32_checksum.specs.Encoded.{char_of_element}
 use Rattle.bech32_checksum.specs.TextPolynomial.{text_polynomial}
 use Rattle.bech32_bch.specs.Erasures.{AreErasures, with_erasures}
-use Rattle.bech32_solver.specs.Carried.{of_checksum}
-use Rattle.bech32_direct.specs.Question.{Explains, IsAnswerTo, IsOnlyListing, Question, listing_of_one}
-use Rattle.bech32_corrector.specs.Given.{IsAnswerWith}
-use Rattle.bech32_corrector.proofs.Different.{erasures_are}
+use Rattle.bech32_finders.specs.Carried.{of_checksum}
+use Rattle.bech32_finders.specs.Question.{Explains, IsAnswerTo, IsOnlyListing, Question, listing_of_one}
+use Rattle.bech32_correction.specs.Given.{IsAnswerWith}
+use Rattle.bech32_correction.proofs.Different.{erasures_are}
 use Rattle.bech32_decode.specs.Acceptance.{Accepts}
 use Rattle.bech32_decode.specs.Parts.{unchecked_data, unchecked_part}
 use Rattle.bech32_decode.specs.Refusals.{HasLengths, IsChecksumRefusal, IsInvalidBy, IsValidBy}
@@ -109,16 +109,32 @@ error_answered code bound text hrp data_part residue None is h = h
 error_answered code bound text hrp data_part residue (Some None) is none = record { hrp = hrp; data_part = data_part; residue = residue; refused = is; none = λ inside. none }
 error_answered code bound text hrp data_part residue (Some (Some error)) is only = listing-from_only code bound text [] hrp data_part residue (error ∷ []) is tt only
 
--- and the elements at erasures
-pub erased_answered : (code : Code) (bound : ℕ) (text given hrp data_part : List ℕ) (residue : List Fe32) (found : Option (List (ℕ × Fe32)))
+-- and one that is looked up where there are some
+pub erased_answered : (code : Code) (bound : ℕ) (text given hrp data_part : List ℕ) (residue : List Fe32) (found : Option (Option (List (ℕ × Fe32))))
     → IsRefusedFor code text hrp data_part residue
-    → MatchOption found ⊤ (λ listing. AreErasures (length data_part) given
-    × IsAnswerTo code bound (record { residue = residue; window = length data_part; erasures = given }) (Some listing))
-    → MatchOption found ⊤ (λ listing. IsListingOf code bound text given listing)
+    → MatchOption found ⊤ (λ one. AreErasures (length data_part) given
+    × IsAnswerTo code bound (record { residue = residue; window = length data_part; erasures = given }) one)
+    → MatchOption found ⊤ (λ one. MatchOption one (HasNoListing code bound text given) (λ listing. IsListingOf code bound text given listing))
 erased_answered code bound text given hrp data_part residue None is h = h
-erased_answered code bound text given hrp data_part residue (Some listing) is (erased, only) =
+erased_answered code bound text given hrp data_part residue (Some None) is (erased, none) = record {
+  hrp = hrp;
+  data_part = data_part;
+  residue = residue;
+  refused = is;
+  none = λ inside. subst (λ (s : List ℕ). IsAnswerTo code bound (record { residue = residue; window = length data_part; erasures = s }) None) (sym (erasures_are given erased.once)) none;
+}
+erased_answered code bound text given hrp data_part residue (Some (Some listing)) is (erased, only) =
     listing-from_only code bound text given hrp data_part residue listing is erased.below
     (subst (λ (s : List ℕ). IsOnlyListing code bound (record { residue = residue; window = length data_part; erasures = s }) listing) (sym (erasures_are given erased.once)) only)
+
+-- where there are no given locations, what is said of none is said of these
+pub found_listing : (code : Code) (bound : ℕ) (text given : List ℕ) (error : ℕ × Fe32) (listing : List (ℕ × Fe32)) → given ≡ [] → listing ≡ error ∷ []
+    → IsListingOf code bound text [] (error ∷ []) → IsListingOf code bound text given listing
+found_listing code bound text given error listing none is h =
+    subst (λ (l : List (ℕ × Fe32)). IsListingOf code bound text given l) (sym is) (subst (λ (s : List ℕ). IsListingOf code bound text s (error ∷ [])) (sym none) h)
+
+pub found_none : (code : Code) (bound : ℕ) (text given : List ℕ) → given ≡ [] → HasNoListing code bound text [] → HasNoListing code bound text given
+found_none code bound text given none h = subst (λ (s : List ℕ). HasNoListing code bound text s) (sym none) h
 
 -- what a listing of the text's corrector says of the text
 pub listed : (code : Code) (bound : ℕ) (text given : List ℕ) (corrector : Question) (listing : List (ℕ × Fe32)) → IsCorrectorOf code text corrector
@@ -161,7 +177,7 @@ part_fits text hrp data_part is = omega (arith, ap length is.split, length-appen
 pub inside_code : (code : Code) (k size n w : ℕ) → k ≤ size → size ≤ code.code_length → code.code_length ≡ n → w ≡ k → w ≤ n
 inside_code code k size n w fits short limit at = omega arith
 
-no_elements : (xs : List Fe32) → length xs ≡ 0 → xs ≡ []
+pub no_elements : (xs : List Fe32) → length xs ≡ 0 → xs ≡ []
 no_elements [] h = refl
 no_elements (x ∷ xs) h = absurd (omega (arith, h))
 
@@ -185,15 +201,6 @@ none_carried (CodeLength x) other = refl
 none_carried InvalidLength other = refl
 none_carried (InvalidResidue x) other = absurd (other x refl)
 
--- what is known of a test, as what is known of the residue error in it
-pub carried_by : (tested : Result (Unit {0}) ChecksumError) (r : Result (Option InvalidResidueError) ChecksumError) (P : Type 0) (Q : ChecksumError → Type 0)
-    → MatchResult tested (λ _. P) Q
-    → MatchResult r (λ found. MatchOption found (tested ≡ Ok tt) (λ e. tested ≡ Err (InvalidResidue e))) (λ e. (tested ≡ Err e) × (of_checksum e ≡ None))
-    → MatchResult r (λ found. MatchOption found P (λ e. Q (InvalidResidue e))) (λ e. Q e × (of_checksum e ≡ None))
-carried_by tested (Ok None) P Q h is = rw is at h
-carried_by tested (Ok (Some e)) P Q h is = rw is at h
-carried_by tested (Err e) P Q h is = (rw is.0 at h, is.1)
-
 -- nor does one by which a text has no room for the checksum, or no room in the code
 pub none-from_lengths : (code : Code) (n : ℕ) (hrp data_part : List ℕ) (e : ChecksumError) → IsChecksumRefusal code n hrp data_part e
     → (HasLengths code n (length data_part) → ⊥) → of_checksum e ≡ None
@@ -205,22 +212,6 @@ none-from_lengths code n hrp data_part (InvalidResidue x) h not = absurd (not (h
 pub refusal_of_parts : (code : Code) (text hrp data_part : List ℕ) (e : ChecksumError) → IsText text hrp data_part
     → IsChecksumRefusal code (length text) hrp data_part e → of_checksum e ≡ None → IsRefusal code text (Checksum e)
 refusal_of_parts code text hrp data_part e is v none = (record { hrp = hrp; data_part = data_part; grammar = is; refusal = v }, none)
-
-pub refusal-from_invalid : (code : Code) (text : List ℕ) (u : UncheckedHrpstring) (e : ChecksumError) → IsReadAs text u → IsInvalidBy code u e
-    → of_checksum e ≡ None → IsRefusal code text (Checksum e)
-refusal-from_invalid code text u e is v none = refusal_of_parts code text (unchecked_part u) (unchecked_data u) e is.grammar (of_read code text u e is v) none
-
-refusal_of_text : (code : Code) (text : List ℕ) (u : UncheckedHrpstring) (e : CorrectError) → IsReadAs text u → IsReadRefusal code u e → IsCorrectRefusal code text e
-refusal_of_text code text u (Refused (Checksum e)) is h = refusal-from_invalid code text u e is h.0 h.1
-refusal_of_text code text u (Refused (Parse e)) is h = absurd h
-refusal_of_text code text u Memory is (error, v) = (unchecked_part u, unchecked_data u, error_residue_of error, refused_for code text u error is v)
-
--- what is said of a text that was read is said of the text
-pub of_text : (code : Code) (bound : ℕ) (text given : List ℕ) (u : UncheckedHrpstring) (r : Result (Correction (List (ℕ × Fe32)) Question) CorrectError) → IsReadAs text u
-    → MatchResult r (λ answer. (t : List ℕ) → IsReadAs t u → IsListedCorrection code bound t given answer) (λ e. IsReadRefusal code u e)
-    → MatchResult r (λ answer. IsListedCorrection code bound text given answer) (λ e. IsCorrectRefusal code text e)
-of_text code bound text given u (Ok answer) is h = h text is
-of_text code bound text given u (Err e) is h = refusal_of_text code text u e is h
 
 -- what an answer to the text's corrector says of the text
 pub answered : (code : Code) (bound : ℕ) (text given : List ℕ) (corrector : Question) (answer : Option (List (ℕ × Fe32))) → IsCorrectorOf code text corrector

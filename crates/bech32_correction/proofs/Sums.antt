@@ -23,7 +23,7 @@ not_among (p ∷ e) n i below (inl same) = let less : p.0 < n = below.0 in omega
 not_among (p ∷ e) n i below (inr m) = not_among e n i below.1 m
 
 module _ {F : Type 0} {f : Ops F} (fl : IsField f) (e : List (ℕ × F)) where
-  -- where q' is q with the values from so many places on, it is with all values once these places are put in below
+  -- where q' is q with the values from this many places on, it is with all values once these places are put in below
   placed : (xs q q' : List F) → ((i : ℕ) → coefficient f q' i ≡ f.add (coefficient f q i) (value_of_pattern_at f e (length xs + i)))
       → (i : ℕ) → coefficient f (appended q' (mended f e xs)) i ≡ f.add (coefficient f (appended q xs) i) (value_of_pattern_at f e i)
   placed [] q q' h i = let k : 0 + i ≡ i = omega arith in h i ∙ ap (λ j. f.add (coefficient f q i) (value_of_pattern_at f e j)) k

@@ -58,9 +58,6 @@ module _ {F : Type 0} {f : Ops F} (fl : IsField f) where
 -- ---- in a text that ends in the elements' characters
 
 module _ (text front : List ℕ) (elements : List Fe32) (ends : EndsIn text front elements) (i place : ℕ) (v : Fe32) (inside : i < length elements) (place_is : place ≡ length text - 1 - i) where
-  behind : ℕ
-  behind = length elements - 1 - i
-
   size : length text ≡ length front + length elements
   size = ap length ends ∙ length-append front (map char_of_element elements) ∙ ap (λ (n : ℕ). length front + n) (length-map elements char_of_element)
 

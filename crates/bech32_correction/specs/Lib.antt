@@ -1,2 +1,4 @@
+pub mod Carried
+pub mod Given
 pub mod MendedElements
 pub mod Mistyped

@@ -4,13 +4,13 @@ ghost use Rattle.std.specs.Prelude.{◌≡◌, ◌≤◌, ℕ, List, length, Err
 ghost use Rattle.bech32_correction.specs.Mistyped.{IsCorrectRefusal, IsCorrectorOf, IsListedCorrection, IsReadAs, IsReadRefusal};
 ghost use Rattle.bech32_correction.specs.declared.error.CorrectError.TheVariants.{Memory};
 
+use crate::Corrector;
 use crate::error::CorrectError;
-use crate::residue_errors::residue_error_in;
 use bech32_bch::ShortVec;
 use bech32_checksum::{Checksum, CorrectingChecksum};
-use bech32_corrector::Corrector;
 use bech32_decode::{Reading, UncheckedHrpstring};
 use bech32_gf::gf32::Fe32;
+use bech32_refusals::ChecksumError;
 use std::alloc::{AllocError, Allocator, Global};
 
 /// Locations, of which 0 is the last character, and the element to add at each.
@@ -44,39 +44,8 @@ fn listing_by<Ck: Checksum, A: Allocator + Copy>(
     }
 }
 
-/// What a checksum says of a text that was read, where the given locations are erasures: whether it
-/// accepts the text, and else how the text is corrected.
-///
-/// # Errors
-///
-/// The checksum's refusal of the text, but for a wrong checksum. Out of memory is returned only for
-/// a text that is refused for a wrong checksum; for a checksum of at most six characters no memory
-/// is taken.
-pub fn listing_of_unchecked<Ck: CorrectingChecksum, A: Allocator + Copy>(
-    alloc: A,
-    unchecked: &UncheckedHrpstring<'_>,
-    erasures: &[usize],
-) -> Result<Correction<Listing<A>, Corrector<Ck, A>>, CorrectError>
-    ensures value { MatchResult result
-        (λ answer. (text : List ℕ) → IsReadAs text unchecked.now
-        → IsListedCorrection Ck.code Ck.bound text erasures.now answer)
-        (λ e. IsReadRefusal Ck.code unchecked.now e) }
-    ensures in_place { length Ck.code.generator ≤ 6 → result ≡ Err Memory → ⊥ }
-{
-    let Some(error) = residue_error_in::<Ck>(unchecked)? else {
-        return Ok(Correction::Accepted);
-    };
-    let window = unchecked.data_part_ascii().len();
-    let corrector = Corrector::<Ck, A>::new(alloc, error.residue(), window);
-    Ok(listing_by(corrector, erasures)?)
-}
-
-/// The same of a text that one walk read.
-///
-/// # Errors
-///
-/// As [`listing_of_unchecked`].
-pub fn listing_of_reading<Ck: CorrectingChecksum, A: Allocator + Copy>(
+// What a checksum says of a text that was read.
+fn listing_of_reading<Ck: CorrectingChecksum, A: Allocator + Copy>(
     alloc: A,
     reading: &Reading<'_, Ck>,
     erasures: &[usize],
@@ -113,9 +82,36 @@ pub fn listing_in<Ck: CorrectingChecksum, A: Allocator + Copy>(
         (λ e. IsCorrectRefusal Ck.code text.now e) }
     ensures in_place { length Ck.code.generator ≤ 6 → result ≡ Err Memory → ⊥ }
 {
-    if let Some(reading) = Reading::<Ck>::of(text.as_bytes()) {
-        return listing_of_reading::<Ck, A>(alloc, &reading, erasures);
-    }
-    let unchecked = UncheckedHrpstring::new(text)?;
-    listing_of_unchecked::<Ck, A>(alloc, &unchecked, erasures)
+    let reading = Reading::<Ck>::new(text)?;
+    listing_of_reading::<Ck, A>(alloc, &reading, erasures)
+}
+
+/// What a checksum says of a text in its parts, where the given locations are erasures, as
+/// [`listing_in`] says it of a text.
+///
+/// # Errors
+///
+/// The checksum's refusal of the text, but for a wrong checksum. Out of memory is returned only for
+/// a text that is refused for a wrong checksum; for a checksum of at most six characters no memory
+/// is taken.
+pub fn listing_of_unchecked<Ck: CorrectingChecksum, A: Allocator + Copy>(
+    alloc: A,
+    unchecked: &UncheckedHrpstring<'_>,
+    erasures: &[usize],
+) -> Result<Correction<Listing<A>, Corrector<Ck, A>>, CorrectError>
+    ensures value { MatchResult result
+        (λ answer. (text : List ℕ) → IsReadAs text unchecked.now
+        → IsListedCorrection Ck.code Ck.bound text erasures.now answer)
+        (λ e. IsReadRefusal Ck.code unchecked.now e) }
+    ensures in_place { length Ck.code.generator ≤ 6 → result ≡ Err Memory → ⊥ }
+{
+    let Err(refusal) = unchecked.validate_checksum::<Ck>() else {
+        return Ok(Correction::Accepted);
+    };
+    let ChecksumError::InvalidResidue(error) = refusal else {
+        return Err(CorrectError::from(refusal));
+    };
+    let window = unchecked.data_part_ascii().len();
+    let corrector = Corrector::<Ck, A>::new(alloc, error.residue(), window);
+    Ok(listing_by(corrector, erasures)?)
 }

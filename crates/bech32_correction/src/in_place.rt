@@ -8,17 +8,16 @@ ghost use Rattle.bech32_poly.specs.Remainder.{IsRemainder};
 ghost use Rattle.bech32_checksum.specs.Code.{bech32, bech32m};
 ghost use Rattle.bech32_checksum.specs.TextPolynomial.{text_polynomial};
 ghost use Rattle.bech32_decode.specs.Refusals.{HasLengths};
-ghost use Rattle.bech32_corrector.specs.Given.{IsAnswerWith};
+ghost use Rattle.bech32_correction.specs.Given.{IsAnswerWith};
 ghost use Rattle.bech32_correction.specs.Mistyped.{HasNoListing, IsListedInPlace, IsListingOf, IsRefusal};
 ghost use Rattle.bech32_correction.specs.declared.correcting.Correction.TheVariants.{Mended, Unexplained};
 
 use crate::correcting::{Correction, Listing};
+use crate::listing_given;
 use crate::no_memory::NoMemory;
-use crate::residue_errors::residue_error_in;
 use bech32_checksum::{Bech32, Bech32m, CorrectingChecksum};
-use bech32_corrector::listing_given;
-use bech32_decode::{Reading, UncheckedHrpstring};
-use bech32_direct::{ShortListing, erased_below, single_below};
+use bech32_decode::Reading;
+use bech32_finders::{ShortListing, erased_below, single_below};
 use bech32_gf::gf32::Fe32;
 use bech32_refusals::CheckedHrpstringError;
 use std::alloc::AllocError;
@@ -86,34 +85,10 @@ impl CorrectsInPlace for Bech32m {
     ghost some_law = { Prim.omega arith };
 }
 
-/// The listing that mends a text that one walk read, and that the checksum refuses for its residue,
-/// where the given locations are erasures. It takes no memory.
+// The error that mends a text that was read, and that the checksum refuses for its residue, where
+// there are no erasures, if the checksum looks it up; the outer `None` says nothing.
 #[inline(always)]
-pub fn listing_of_read<Ck: CorrectsInPlace>(
-    reading: &Reading<'_, Ck>,
-    erasures: &[usize],
-) -> Option<Listing<NoMemory>>
-    requires lengths { HasLengths Ck.code
-        (length reading.now.text.now) (length reading.now.data_part.now) }
-    requires refused { IsRemainder ops Ck.code.generator
-        (text_polynomial reading.now.hrp.now (elements_of reading.now.data_part.now))
-        Ck.code.target → ⊥ }
-    ensures { MatchOption result
-        (HasNoListing Ck.code Ck.bound reading.now.text.now erasures.now)
-        (λ listing. IsListingOf Ck.code Ck.bound
-        reading.now.text.now erasures.now listing) }
-{
-    let residue = reading.error_residue();
-    let window = reading.data_part.len();
-    Ck::listing_of_residue(&residue[..Ck::CHECKSUM_LENGTH], window, erasures)
-}
-
-/// The error that mends a text that one walk read, and that the checksum refuses for its residue,
-/// where there are no erasures, if the checksum looks it up; the outer `None` says nothing.
-#[inline(always)]
-pub fn error_of_read<Ck: CorrectsInPlace>(
-    reading: &Reading<'_, Ck>,
-) -> Option<Option<(usize, Fe32)>>
+fn error_of_read<Ck: CorrectsInPlace>(reading: &Reading<'_, Ck>) -> Option<Option<(usize, Fe32)>>
     requires lengths { HasLengths Ck.code
         (length reading.now.text.now) (length reading.now.data_part.now) }
     requires refused { IsRemainder ops Ck.code.generator
@@ -127,20 +102,22 @@ pub fn error_of_read<Ck: CorrectsInPlace>(
     single_below::<Ck>(reading.data_part.len(), &residue[..Ck::CHECKSUM_LENGTH])
 }
 
-/// The elements at two or three erasures that mend a text that one walk read, and that the checksum
-/// refuses for its residue, if the checksum looks them up; `None` says nothing.
+// The listing at one to three erasures, and an error beside a single one, that mends a text that was
+// read, and that the checksum refuses for its residue, if the checksum looks it up; the outer `None`
+// says nothing.
 #[inline(always)]
-pub fn erased_of_read<Ck: CorrectsInPlace>(
+fn erased_of_read<Ck: CorrectsInPlace>(
     reading: &Reading<'_, Ck>,
     erasures: &[usize],
-) -> Option<ShortListing>
+) -> Option<Option<ShortListing>>
     requires lengths { HasLengths Ck.code
         (length reading.now.text.now) (length reading.now.data_part.now) }
     requires refused { IsRemainder ops Ck.code.generator
         (text_polynomial reading.now.hrp.now (elements_of reading.now.data_part.now))
         Ck.code.target → ⊥ }
-    ensures { MatchOption result ⊤ (λ listing.
-        IsListingOf Ck.code Ck.bound reading.now.text.now erasures.now listing) }
+    ensures { MatchOption result ⊤ (λ found. MatchOption found
+        (HasNoListing Ck.code Ck.bound reading.now.text.now erasures.now)
+        (λ listing. IsListingOf Ck.code Ck.bound reading.now.text.now erasures.now listing)) }
 {
     let residue = reading.error_residue();
     erased_below::<Ck>(
@@ -148,6 +125,84 @@ pub fn erased_of_read<Ck: CorrectsInPlace>(
         &residue[..Ck::CHECKSUM_LENGTH],
         erasures,
     )
+}
+
+/// The listing that mends a text that was read, and that the checksum refuses for its residue, where
+/// the given locations are erasures, if the checksum looks it up; the outer `None` says nothing.
+#[inline(always)]
+pub fn found_of_read<Ck: CorrectsInPlace>(
+    reading: &Reading<'_, Ck>,
+    erasures: &[usize],
+) -> Option<Option<ShortListing>>
+    requires lengths { HasLengths Ck.code
+        (length reading.now.text.now) (length reading.now.data_part.now) }
+    requires refused { IsRemainder ops Ck.code.generator
+        (text_polynomial reading.now.hrp.now (elements_of reading.now.data_part.now))
+        Ck.code.target → ⊥ }
+    ensures { MatchOption result ⊤ (λ found. MatchOption found
+        (HasNoListing Ck.code Ck.bound reading.now.text.now erasures.now)
+        (λ listing. IsListingOf Ck.code Ck.bound reading.now.text.now erasures.now listing)) }
+{
+    if erasures.is_empty() {
+        return match error_of_read(reading)? {
+            Some(error) => Some(Some(ShortListing::of_one(error))),
+            None => Some(None),
+        };
+    }
+    erased_of_read(reading, erasures)
+}
+
+// A listing that was looked up.
+fn listed(found: &ShortListing) -> Listing<NoMemory>
+    ensures { result ≡ found.now }
+{
+    match Listing::from_slice(NoMemory, found.as_slice()) {
+        Ok(listing) => listing,
+        Err(_) => unreachable!(),
+    }
+}
+
+/// The listing that mends a text that was read, and that the checksum refuses for its residue, where
+/// the given locations are erasures, by a search. It takes no memory.
+#[inline(always)]
+pub fn searched_of_read<Ck: CorrectsInPlace>(
+    reading: &Reading<'_, Ck>,
+    erasures: &[usize],
+) -> Option<Listing<NoMemory>>
+    requires lengths { HasLengths Ck.code
+        (length reading.now.text.now) (length reading.now.data_part.now) }
+    requires refused { IsRemainder ops Ck.code.generator
+        (text_polynomial reading.now.hrp.now (elements_of reading.now.data_part.now))
+        Ck.code.target → ⊥ }
+    ensures { MatchOption result
+        (HasNoListing Ck.code Ck.bound reading.now.text.now erasures.now)
+        (λ listing. IsListingOf Ck.code Ck.bound reading.now.text.now erasures.now listing) }
+{
+    let residue = reading.error_residue();
+    let window = reading.data_part.len();
+    Ck::listing_of_residue(&residue[..Ck::CHECKSUM_LENGTH], window, erasures)
+}
+
+// The same listing: looked up, where the checksum has it, else by a search.
+#[inline(always)]
+fn listing_of_read<Ck: CorrectsInPlace>(
+    reading: &Reading<'_, Ck>,
+    erasures: &[usize],
+) -> Option<Listing<NoMemory>>
+    requires lengths { HasLengths Ck.code
+        (length reading.now.text.now) (length reading.now.data_part.now) }
+    requires refused { IsRemainder ops Ck.code.generator
+        (text_polynomial reading.now.hrp.now (elements_of reading.now.data_part.now))
+        Ck.code.target → ⊥ }
+    ensures { MatchOption result
+        (HasNoListing Ck.code Ck.bound reading.now.text.now erasures.now)
+        (λ listing. IsListingOf Ck.code Ck.bound reading.now.text.now erasures.now listing) }
+{
+    match found_of_read(reading, erasures) {
+        Some(Some(found)) => Some(listed(&found)),
+        Some(None) => None,
+        None => searched_of_read(reading, erasures),
+    }
 }
 
 // What a listing that is looked for says of a text.
@@ -163,13 +218,9 @@ fn said_by(listing: Option<Listing<NoMemory>>) -> Correction<Listing<NoMemory>>
     }
 }
 
-/// What a checksum says of a text that one walk read, where the given locations are erasures. It
-/// takes no memory.
-///
-/// # Errors
-///
-/// The checksum's refusal of the text, but for a wrong checksum.
-pub fn said_of_read<Ck: CorrectsInPlace>(
+// What a checksum says of a text that was read, where the given locations are erasures; its refusal
+// of the text, but for a wrong checksum.
+fn said_of_read<Ck: CorrectsInPlace>(
     reading: &Reading<'_, Ck>,
     erasures: &[usize],
 ) -> Result<Correction<Listing<NoMemory>>, CheckedHrpstringError>
@@ -182,29 +233,6 @@ pub fn said_of_read<Ck: CorrectsInPlace>(
         return Ok(Correction::Accepted);
     }
     Ok(said_by(listing_of_read(reading, erasures)))
-}
-
-/// What a checksum says of a text of which one walk says nothing, where the given locations are
-/// erasures. It takes no memory.
-///
-/// # Errors
-///
-/// As [`CheckedHrpstring::new`](bech32_decode::CheckedHrpstring::new), but for a wrong checksum.
-#[inline(never)]
-pub fn listing_of_unread<Ck: CorrectsInPlace>(
-    text: &str,
-    erasures: &[usize],
-) -> Result<Correction<Listing<NoMemory>>, CheckedHrpstringError>
-    ensures { MatchResult result
-        (λ answer. IsListedInPlace Ck.code Ck.bound text.now erasures.now answer)
-        (λ e. IsRefusal Ck.code text.now e) }
-{
-    let unchecked = UncheckedHrpstring::new(text)?;
-    let Some(error) = residue_error_in::<Ck>(&unchecked)? else {
-        return Ok(Correction::Accepted);
-    };
-    let window = unchecked.data_part_ascii().len();
-    Ok(said_by(Ck::listing_of_residue(&error.residue(), window, erasures)))
 }
 
 /// What Bech32 says of a text, where the given locations are erasures. It takes no memory.
@@ -220,13 +248,11 @@ pub fn bech32_listing(
         (λ answer. IsListedInPlace bech32 3 text.now erasures.now answer)
         (λ e. IsRefusal bech32 text.now e) }
 {
-    match Reading::<Bech32>::of(text.as_bytes()) {
-        Some(reading) => said_of_read(&reading, erasures),
-        None => listing_of_unread::<Bech32>(text, erasures),
-    }
+    let reading = Reading::<Bech32>::new(text)?;
+    said_of_read(&reading, erasures)
 }
 
-/// The same for Bech32m.
+/// What Bech32m says of a text, where the given locations are erasures. It takes no memory.
 ///
 /// # Errors
 ///
@@ -239,8 +265,6 @@ pub fn bech32m_listing(
         (λ answer. IsListedInPlace bech32m 3 text.now erasures.now answer)
         (λ e. IsRefusal bech32m text.now e) }
 {
-    match Reading::<Bech32m>::of(text.as_bytes()) {
-        Some(reading) => said_of_read(&reading, erasures),
-        None => listing_of_unread::<Bech32m>(text, erasures),
-    }
+    let reading = Reading::<Bech32m>::new(text)?;
+    said_of_read(&reading, erasures)
 }

@@ -9,11 +9,11 @@ ghost use Rattle.bech32_correction.specs.Mistyped.{IsCorrectRefusal, IsCorrectio
 ghost use Rattle.bech32_correction.specs.declared.error.CorrectError.TheVariants.{Memory};
 ghost use Rattle.bech32_decode.specs.Text.{IsText};
 
+use crate::Corrector;
 use crate::correcting::{Correction, Listing, listing_in};
 use crate::error::CorrectError;
 use crate::mending::mended_in;
 use bech32_checksum::CorrectingChecksum;
-use bech32_corrector::Corrector;
 use std::alloc::{AllocError, Allocator, Global};
 
 /// How a text is corrected: a [`Listing`], and the corrected text.

@@ -11,7 +11,7 @@ use Rattle.bech32_poly.specs.Polynomial.{coefficient}
 use Rattle.bech32_checksum.specs.Packed.{digits, HasDigits, IsRowOf}
 use Rattle.bech32_bch.specs.Detection.{DetectsFour}
 use Rattle.bech32_detect.specs.Rows.{AreTermRows, HasRow, HasThree, term}
-use Rattle.bech32_detect.proofs.Four.{IsTable, detects, third, undetected}
+use Rattle.bech32_detect.proofs.FourTerms.{IsTable, detects, third, undetected}
 use Rattle.bech32_detect.proofs.RowDigits.{row_sum, same_row}
 
 -- a sort keeps the list's rows

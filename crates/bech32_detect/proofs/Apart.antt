@@ -19,7 +19,7 @@ use Rattle.bech32_bch.specs.Pattern.{IsPattern, locations}
 use Rattle.bech32_bch.proofs.Distance.{Tells}
 use Rattle.bech32_bch.proofs.Patterns.{at_absent, at_first, at_rest}
 use Rattle.bech32_bch.specs.Detection.{DetectsFour}
-use Rattle.bech32_detect.proofs.Four.{leaves_nothing}
+use Rattle.bech32_detect.proofs.FourTerms.{leaves_nothing}
 
 module _ {F : Type 0} {f : Ops F} (fl : IsField f) (same : F → F → Bool) (tells : Tells same) where
   -- what the first list has, less what the second has, at each place where they differ, from location k on

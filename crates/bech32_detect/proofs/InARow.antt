@@ -17,7 +17,7 @@ use Rattle.bech32_poly.proofs.Zero.{difference_zero}
 use Rattle.bech32_checksum.specs.Code.{Code}
 use Rattle.bech32_checksum.specs.TextPolynomial.{text_polynomial}
 use Rattle.bech32_detect.specs.Bursts.{AreBurstsDetected}
-use Rattle.bech32_detect.proofs.Four.{lowered}
+use Rattle.bech32_detect.proofs.FourTerms.{lowered}
 use Rattle.bech32_detect.proofs.Texts.{above_data, above_data-lowered, text_polynomial-reverse}
 
 module _ {F : Type 0} {f : Ops F} (fl : IsField f) where

@@ -2,8 +2,15 @@ pub mod Answer
 pub mod Apart
 pub mod InARow
 pub mod Distances
-pub mod Four
+pub mod FourTerms
 pub mod RowDigits
 pub mod Searched
 pub mod TermRows
 pub mod Texts
+pub mod Triples
+pub mod Computed
+pub mod Isolated
+pub mod Gaps
+pub mod LocatorsApart
+pub mod Values
+pub mod Law

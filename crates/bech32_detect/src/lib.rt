@@ -12,11 +12,13 @@ ghost use Rattle.bech32_detect.specs.Texts.{AreTextsFar};
 
 mod bursts;
 mod distance;
+mod four;
 mod rows;
 mod search;
 
 pub use self::bursts::bursts_are_detected;
 pub use self::distance::accepted_texts_are_far;
+pub use self::four::four_errors_are_detected;
 use bech32_checksum::{Checksum, Engine};
 use rows::{row_of, term_rows};
 use search::has_three;

@@ -7,8 +7,11 @@ use Rattle.std.proofs.lemmas.List.{length-map}
 use Rattle.bech32_gf.specs.Fe32 as fe32
 use Rattle.bech32_gf.specs.Fe32.{element_of, elements_of, ops}
 use Rattle.bech32_gf.specs.declared.gf32.Fe32.{Fe32}
+use Rattle.bech32_gf.specs.laws.Fe32Laws.{is_field}
 use Rattle.bech32_poly.specs.Distinct.{IsAmong, IsNotAmong, IsOnce}
 use Rattle.bech32_poly.specs.Pattern.{value_of_pattern_at}
+use Rattle.bech32_poly.specs.Polynomial.{coefficient}
+use Rattle.bech32_poly.proofs.Lists.{coefficient-add}
 use Rattle.bech32_hrp.specs.Hrp.{IsHrp, lowered}
 use Rattle.bech32_hrp.proofs.Lowered.{lowered-lowered}
 use Rattle.bech32_checksum.specs.Code.{Code, bech32, bech32m}
@@ -17,15 +20,15 @@ use Rattle.bech32_bch.specs.Erasures.{with_erasures}
 use Rattle.bech32_decode.specs.Acceptance.{Accepts, IsAccepted}
 use Rattle.bech32_decode.proofs.Grammar.{only-from_IsText}
 use Rattle.bech32_decode.proofs.Spelling.{characters-elements, spelled-text}
-use Rattle.bech32_four.proofs.Law.{detects_four_below}
+use Rattle.bech32_detect.proofs.Law.{detects_four_below}
 use Rattle.bech32_correction.specs.MendedElements.{mended}
 use Rattle.bech32_correction.specs.Mistyped.{HasResidue, IsMendedText}
 use Rattle.bech32_correction.proofs.Sums.{length-mended}
 use Rattle.bech32_bch.specs.Detection.{DetectsFour}
-use Rattle.bech32_near_patterns.specs.Nearest.{AreRising, IsEarlier, IsNearListing}
+use Rattle.bech32_near_search.specs.Nearest.{AreRising, IsEarlier, IsNearListing}
 use Rattle.bech32_near.specs.NearTexts.{AreNearTexts, AreNearestListings, AsksForTwo, IsNearText, IsSearched, differences_outside}
 use Rattle.bech32_near.proofs.Differing.{added_value, differences, few_mended}
-use Rattle.bech32_near.proofs.Nearby.{accepted_parts, all_accepted, below, given_erasures, itself_found, listed_value, mended_spelling, near_found, nothing_found, read-from_accepted, searched_or_not}
+use Rattle.bech32_near.proofs.Nearby.{accepted_parts, all_accepted, below, given_erasures, itself_found, listed_value, mended_spelling, near_found, nothing_found, searched_or_not}
 
 -- a mended text has the length of the text
 mended_length : (listing : List (ℕ × Fe32)) (text new : List ℕ) → IsMendedText listing text new → length new ≡ length text
@@ -50,7 +53,7 @@ only_one (y ∷ []) x few (inl e) = ap (λ u. u ∷ []) (sym e)
 only_one (y ∷ []) x few (inr m) = absurd m
 only_one (y ∷ z ∷ xs) x few m = absurd (omega (arith, few))
 
--- Bech32 and Bech32m detect four errors in so many characters
+-- Bech32 and Bech32m detect four errors in this many characters
 detected : (code : Code) (n : ℕ) → (code ≡ bech32) ⊎ (code ≡ bech32m) → n ≤ 89 → DetectsFour ops code.generator n
 detected code n (inl e) short = subst (λ (c : Code). DetectsFour ops c.generator n) (sym e) (detects_four_below n short)
 detected code n (inr e) short = subst (λ (c : Code). DetectsFour ops c.generator n) (sym e) (detects_four_below n short)
@@ -197,7 +200,14 @@ none_searched code bound errors text given none (hrp, data_part, is) = record {
     hrp = hrp;
     data_part = data_part;
     residue = [];
-    read = read-from_accepted code text hrp data_part [] (λ n. refl) is;
+    read = record {
+      grammar = is.grammar;
+      text_length = is.text_length;
+      data_length = is.data_length;
+      remainder = code.target;
+      is_remainder = is.has_target;
+      residue_is = λ n. sym (coefficient-add is_field code.target code.target n ∙ is_field.add_neg (coefficient ops code.target n));
+    };
     nearest = λ s. absurd (omega (arith, s.0, none));
     none = λ k. refl;
     one = λ detects no few. omega arith;

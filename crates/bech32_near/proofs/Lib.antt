@@ -2,3 +2,4 @@ pub mod Differing
 pub mod Nearby
 pub mod Found
 pub mod OutOfMemory
+pub mod Within

@@ -1,10 +1,9 @@
 -- What the listings of a text that was read say of the texts near it.
-use Rattle.std.specs.List.{AllByRecursion, list_all}
-use Rattle.std.specs.Prelude.{IfOk, Bool, true}
+use Rattle.std.specs.List.{AllByRecursion}
+use Rattle.std.specs.Prelude.{IfOk}
 use Rattle.std.specs.Char.{to_ascii_lowercase}
-use Rattle.std.proofs.Common.{◌≡◌, ℕ, eqb, zero, suc, ◌+◌, ◌<◌, ◌≤◌, List, [], ◌∷◌, ◌++◌, map, length, length-append, Some, Result, Ok, Err, ◌⊎◌, inl, inr, subst, sym, ap, ◌∙◌, refl, arith}
+use Rattle.std.proofs.Common.{◌≡◌, ℕ, ◌+◌, ◌<◌, ◌≤◌, List, [], ◌∷◌, ◌++◌, map, length, length-append, Some, Result, Ok, Err, ◌⊎◌, inl, inr, subst, sym, ap, ◌∙◌, refl, arith}
 use Rattle.std.proofs.Math.Decide.{dec_lt}
-use Rattle.std.proofs.lemmas.Bool.{and_parts, eqb-true}
 use Rattle.std.proofs.lemmas.List.{length-map}
 use Rattle.bech32_gf.specs.Fe32 as fe32
 use Rattle.bech32_gf.specs.Fe32.{element_of, elements_of, ops}
@@ -12,12 +11,14 @@ use Rattle.bech32_gf.specs.declared.gf32.Fe32.{Fe32}
 use Rattle.bech32_gf.specs.laws.Fe32Laws.{is_field}
 use Rattle.bech32_poly.specs.Distinct.{IsAmong, IsOnce}
 use Rattle.bech32_poly.specs.Pattern.{value_of_pattern_at}
-use Rattle.bech32_poly.specs.Polynomial.{appended, coefficient}
+use Rattle.bech32_poly.specs.Division.{remainder_of}
+use Rattle.bech32_poly.specs.Polynomial.{IsSamePolynomial, add, appended}
 use Rattle.bech32_poly.specs.Remainder.{IsRemainder}
-use Rattle.bech32_poly.proofs.Lists.{coefficient-add}
+use Rattle.bech32_poly.proofs.Remainder.{length-remainder_of, remainder_exists}
 use Rattle.bech32_hrp.specs.Hrp.{lowered}
 use Rattle.bech32_checksum.specs.Code.{Code}
 use Rattle.bech32_checksum.specs.Encoded.{char_of_element, spelled}
+use Rattle.bech32_checksum.specs.TextPolynomial.{text_polynomial}
 use Rattle.bech32_bch.specs.Erasures.{AreErasures, with_erasures}
 use Rattle.bech32_bch.specs.Listing.{IsListing}
 use Rattle.bech32_bch.specs.Pattern.{HasRemainder}
@@ -26,98 +27,66 @@ use Rattle.bech32_bch.proofs.Patterns.{all_located, at_absent, at_listed, locati
 use Rattle.bech32_bch.proofs.Places.{all_push, look, mem_left, mem_right, once-append}
 use Rattle.bech32_bch.proofs.Rising.{once_in_order}
 use Rattle.bech32_decode.specs.Acceptance.{Accepts, IsAccepted}
-use Rattle.bech32_decode.specs.Parts.{unchecked_data, unchecked_length, unchecked_part}
-use Rattle.bech32_decode.specs.Refusals.{IsInvalidBy}
+use Rattle.bech32_decode.specs.Refusals.{HasLengths}
 use Rattle.bech32_decode.specs.Text.{IsText}
-use Rattle.bech32_decode.specs.declared.unchecked.UncheckedHrpstring.{UncheckedHrpstring}
-use Rattle.bech32_refusals.specs.ResidueRows.{error_residue_of}
-use Rattle.bech32_refusals.specs.declared.error.ChecksumError.TheVariants.{InvalidResidue}
-use Rattle.bech32_refusals.specs.declared.error.InvalidResidueError.{InvalidResidueError}
 use Rattle.bech32_decode.proofs.Grammar.{only-from_IsText}
 use Rattle.bech32_decode.proofs.Spelling.{lower_text}
-use Rattle.bech32_corrector.specs.Given.{AreWithin}
+use Rattle.bech32_correction.specs.Given.{AreWithin}
 use Rattle.bech32_correction.specs.MendedElements.{mended}
-use Rattle.bech32_correction.specs.Mistyped.{AreInside, HasResidue, IsMendedText, IsPlacedIn, IsReadAs, question_of}
+use Rattle.bech32_correction.specs.Mistyped.{AreInside, HasResidue, IsMendedText, IsPlacedIn, question_of}
 use Rattle.bech32_bch.specs.Detection.{DetectsFour}
-use Rattle.bech32_near_patterns.specs.Nearest.{AreNearest, AreRising, IsEarlier, IsListed, IsNear, IsNearListing}
-use Rattle.bech32_near.specs.NearTexts.{AreNearestListings, BeginsWith, IsNearText, IsSearch, IsSearched, IsSearcherOf, LeavesResidue, differences_outside}
-use Rattle.bech32_direct.specs.Question.{Question}
+use Rattle.bech32_near_search.specs.Nearest.{AreNearest, AreRising, IsEarlier, IsListed, IsNear, IsNearListing}
+use Rattle.bech32_near.specs.NearTexts.{AreNearestListings, BeginsWith, IsNearText, IsSearch, IsSearched, IsSearcherOf, differences_outside}
+use Rattle.bech32_finders.specs.Question.{Question}
 use Rattle.bech32_correction.proofs.Accepted.{front, in_parts, mended_accepted}
-use Rattle.bech32_correction.proofs.Outcomes.{refused_for, some_degree}
-use Rattle.bech32_solver.proofs.Added.{erasures_more}
+use Rattle.bech32_correction.proofs.Outcomes.{no_elements}
+use Rattle.bech32_finders.proofs.Added.{erasures_more}
 use Rattle.bech32_near.proofs.Differing.{differences, few_outside, is_pattern, mended_to, none_differ, residue_left}
-use Rattle.bech32_direct.proofs.Mends.{mends}
-use Rattle.bech32_near_patterns.proofs.NearestListing.{each_below}
-use Rattle.bech32_near_patterns.proofs.NearestPatterns.{gathered_of, no_nearest}
+use Rattle.bech32_finders.proofs.Mends.{mends}
+use Rattle.bech32_near_search.proofs.NearestListing.{each_below}
+use Rattle.bech32_near_search.proofs.NearestPatterns.{gathered_of, no_nearest}
 
 -- ---- correctors
 
--- an accepted text leaves no residue
-pub read-from_accepted : (code : Code) (text hrp data_part : List ℕ) (residue : List Fe32) → ((n : ℕ) → coefficient ops residue n ≡ fe32.zero) → IsAccepted code text hrp data_part
+-- a text that was read leaves what is left of its remainder
+pub residue_left_by : (code : Code) (text hrp data_part : List ℕ) (residue : List Fe32) → IsText text hrp data_part → HasLengths code (length text) (length data_part)
+    → IsSamePolynomial ops residue (add ops (remainder_of ops code.generator (text_polynomial hrp (elements_of data_part))) code.target)
     → HasResidue code text hrp data_part residue
-read-from_accepted code text hrp data_part residue nothing is = record {
-  grammar = is.grammar;
-  text_length = is.text_length;
-  data_length = is.data_length;
-  remainder = code.target;
-  is_remainder = is.has_target;
-  residue_is = λ n. nothing n ∙ sym (coefficient-add is_field code.target code.target n ∙ is_field.add_neg (coefficient ops code.target n));
+residue_left_by code text hrp data_part residue is lengths same = record {
+  grammar = is;
+  text_length = lengths.0;
+  data_length = lengths.1;
+  remainder = remainder_of ops code.generator (text_polynomial hrp (elements_of data_part));
+  is_remainder = remainder_exists is_field code.generator (text_polynomial hrp (elements_of data_part));
+  residue_is = same;
 }
 
-abbrev pub are_zero : List Fe32 → Bool
-are_zero xs = list_all (λ (x : Fe32). eqb x.value 0) xs
-
-all_zero : (xs : List Fe32) → are_zero xs ≡ true → (n : ℕ) → coefficient ops xs n ≡ fe32.zero
-all_zero [] h n = refl
-all_zero (x ∷ xs) h zero = fe32.path x fe32.zero (eqb-true x.value 0 (and_parts (eqb x.value 0) (are_zero xs) h).0)
-all_zero (x ∷ xs) h (suc n) = all_zero xs (and_parts (eqb x.value 0) (are_zero xs) h).1 n
-
-pub leaves-from_accepted : (code : Code) (text : List ℕ) (u : UncheckedHrpstring) (residue : List Fe32) → IsReadAs text u → are_zero residue ≡ true → Accepts code text
-    → LeavesResidue code text (length (unchecked_data u)) residue
-leaves-from_accepted code text u residue read zeros (hrp, data_part, is) = record {
-  hrp = hrp;
-  data_part = data_part;
-  read = read-from_accepted code text hrp data_part residue (all_zero residue zeros) is;
-  window_is = ap length (only-from_IsText text hrp data_part is.grammar (unchecked_part u) (unchecked_data u) read.grammar.split read.grammar.data_bytes).1;
-  accepted = λ none. (hrp, data_part, is);
-}
-
--- a refused text leaves the residue that its refusal holds
-pub leaves-from_error : (code : Code) (text : List ℕ) (u : UncheckedHrpstring) (e : InvalidResidueError) (residue : List Fe32) → length code.target ≡ length code.generator
-    → IsReadAs text u → IsInvalidBy code u (InvalidResidue e) → residue ≡ error_residue_of e → LeavesResidue code text (length (unchecked_data u)) residue
-leaves-from_error code text u e residue size is v same = record {
-  hrp = unchecked_part u;
-  data_part = unchecked_data u;
-  read = subst (HasResidue code text (unchecked_part u) (unchecked_data u)) (sym same) (refused_for code text u e is v).read;
-  window_is = refl;
-  accepted = λ none. absurd (omega (arith, some_degree code u e size v, none));
-}
-
--- a text that was read
-pub reading : (text : List ℕ) (u : UncheckedHrpstring) → IsText text (unchecked_part u) (unchecked_data u) × (unchecked_length u ≡ length text) → IsReadAs text u
-reading text u parts = record { grammar = parts.0; text_length = parts.1 }
+-- a checksum of no characters accepts it
+pub accepted_by_none : (code : Code) (text hrp data_part : List ℕ) → IsText text hrp data_part → HasLengths code (length text) (length data_part)
+    → length code.target ≡ length code.generator → length code.generator ≡ 0 → Accepts code text
+accepted_by_none code text hrp data_part is lengths size none =
+    let p = text_polynomial hrp (elements_of data_part) in
+    let r = remainder_of ops code.generator p in
+    let short : length r ≡ 0 = length-remainder_of is_field code.generator p ∙ none in
+    let same : r ≡ code.target = no_elements r short ∙ sym (no_elements code.target (size ∙ none)) in (
+      hrp,
+      data_part,
+      record {
+        grammar = is;
+        text_length = lengths.0;
+        data_length = lengths.1;
+        has_target = subst (IsRemainder ops code.generator p) same (remainder_exists is_field code.generator p);
+      },
+    )
 
 -- the corrector of what a text leaves searches it
-pub search-from_residue : (code : Code) (text : List ℕ) (window : ℕ) (residue : List Fe32) (c : Question) → c ≡ record { residue = residue; window = window; erasures = [] }
-    → 0 < length code.generator → LeavesResidue code text window residue → IsSearch code text (Some c)
-search-from_residue code text window residue c whole some h = subst (λ (q : Question). IsSearch code text (Some q)) (sym whole) (
+pub search-from_residue : (code : Code) (text hrp data_part : List ℕ) (residue : List Fe32) (c : Question)
+    → c ≡ record { residue = residue; window = length data_part; erasures = [] }
+    → 0 < length code.generator → HasResidue code text hrp data_part residue → IsSearch code text (Some c)
+search-from_residue code text hrp data_part residue c whole some read = subst (λ (q : Question). IsSearch code text (Some q)) (sym whole) (
   some,
-  record {
-    hrp = h.hrp;
-    data_part = h.data_part;
-    read = h.read;
-    window = h.window_is;
-    fresh = refl;
-  },
+  record { hrp = hrp; data_part = data_part; read = read; window = refl; fresh = refl },
 )
-
--- the data part of a text that leaves a residue is no longer than the code
-pub fits_code : (code : Code) (text : List ℕ) (window : ℕ) (residue : List Fe32) (n : ℕ) → code.code_length ≡ n → LeavesResidue code text window residue → window ≤ n
-fits_code code text window residue n limit h =
-    let whole : length text ≡ length h.hrp + length (49 ∷ h.data_part) = ap (λ (t : List ℕ). length t) h.read.grammar.split ∙ length-append h.hrp (49 ∷ h.data_part) in
-    let fits : length text ≤ code.code_length = h.read.text_length in
-    let at : window ≡ length h.data_part = h.window_is in
-    omega arith
 
 -- ---- listings
 

@@ -7,10 +7,10 @@ use Rattle.bech32_gf.specs.declared.gf32.Fe32.{Fe32}
 use Rattle.bech32_checksum.specs.Code.{Code}
 use Rattle.bech32_checksum.specs.Encoded.{spelled}
 use Rattle.bech32_bch.specs.Erasures.{with_erasures}
-use Rattle.bech32_corrector.specs.Given.{AreWithin, with_given}
+use Rattle.bech32_correction.specs.Given.{AreWithin, with_given}
 use Rattle.bech32_correction.specs.MendedElements.{mended}
-use Rattle.bech32_direct.specs.Question.{Question}
-use Rattle.bech32_near_patterns.specs.Nearest.{AreNearest}
+use Rattle.bech32_finders.specs.Question.{Question}
+use Rattle.bech32_near_search.specs.Nearest.{AreNearest}
 use Rattle.bech32_near.specs.NearTexts.{AreNearestListings, IsNearText, IsOutOfMemory, IsSearched, IsSearcherOf}
 use Rattle.bech32_near.proofs.Found.{near_text}
 use Rattle.bech32_near.proofs.Nearby.{listings-from_all, searched_or_not}

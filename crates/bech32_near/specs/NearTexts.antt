@@ -16,14 +16,14 @@ use Rattle.bech32_correction.specs.Mistyped.{question_of}
 use Rattle.bech32_correction.specs.declared.error.CorrectError.{CorrectError}
 use Rattle.bech32_correction.specs.declared.error.CorrectError.TheVariants.{Memory, Refused}
 use Rattle.bech32_bch.specs.Detection.{DetectsFour}
-use Rattle.bech32_near_patterns.specs.Nearest.{AreNearest}
-use Rattle.bech32_direct.specs.Question.{Question}
+use Rattle.bech32_near_search.specs.Nearest.{AreNearest}
+use Rattle.bech32_finders.specs.Question.{Question}
 
 -- the checksum has characters, and each given location is that of one of the data part
 abbrev pub IsSearched : Code → List ℕ → List ℕ → Type 0
 IsSearched code data_part given = (0 < length code.generator) × AreInside data_part given
 
--- the listings of all patterns in the data part that explain the residue with at most so many
+-- the listings of all patterns in the data part that explain the residue with at most this many
 -- errors outside the given locations, in rising order; where there is nothing to search, none
 pub record AreNearestListings (code : Code) (bound : ℕ)
     (text given : List ℕ) (errors : ℕ) (listings : List (List (ℕ × Fe32))) : Type 0 where
@@ -49,7 +49,7 @@ differences_outside given (x ∷ xs) (y ∷ ys) =
     (suc (differences_outside given xs ys)))
 
 -- another text that the checksum accepts, with the same human-readable part in lower case, and of
--- the same length: its data part differs from that of the text in at most so many characters
+-- the same length: its data part differs from that of the text in at most this many characters
 -- outside the given locations, which are no more than the bound
 pub record IsNearText (code : Code) (bound : ℕ)
     (text given : List ℕ) (errors : ℕ) (other : List ℕ) : Type 0 where
@@ -94,16 +94,6 @@ pub record AreNearTexts (code : Code) (bound : ℕ)
   pub only : AsksForTwo code listings.data_part given errors → (other : List ℕ)
       → IsNearText code bound text given errors other
       → map (λ m. m.1) found ≡ lowered other ∷ []
-
--- the text is read: its data part has so many characters, and it leaves this residue; a checksum of
--- no characters accepts it
-pub record LeavesResidue (code : Code) (text : List ℕ) (window : ℕ) (residue : List Fe32)
-    : Type 0 where
-  pub hrp : List ℕ
-  pub data_part : List ℕ
-  pub read : HasResidue code text hrp data_part residue
-  pub window_is : window ≡ length data_part
-  pub accepted : length code.generator ≡ 0 → Accepts code text
 
 -- a corrector of the text: it has the residue, which may be zero, searches the data part, and has
 -- no erasures yet

@@ -1,11 +1,11 @@
 //! All texts near a mistyped one that a checksum accepts.
 //!
-//! Below it: `bech32_near_listings`, `bech32_correction`, `bech32_four`.
+//! Below it: `bech32_correction`, `bech32_detect`.
 //! Standard: BIP-173, Checksum design.
 #![tactic(auto)]
 
-mod read;
+mod listings;
 mod texts;
 
-pub use self::read::ReadText;
+pub use self::listings::nearest_listings;
 pub use self::texts::{NearTexts, nearest, nearest_in, nearest_of_read};

@@ -3,14 +3,14 @@
 ghost use Rattle.std.specs.Prelude.{◌≡◌, ◌<◌, ℕ, List, length, map, IfOk, MatchResult, OnErr, string_bytes};
 ghost use Rattle.std.specs.List.{AllByRecursion};
 ghost use Rattle.bech32_correction.specs.Mistyped.{IsMendedText, IsPlacedIn};
-ghost use Rattle.bech32_near.specs.NearTexts.{AreNearestListings, AreNearTexts, IsNearestRefusal, IsOutOfMemory, IsSearch, IsSearcherOf, LeavesResidue};
+ghost use Rattle.bech32_decode.specs.Refusals.{HasLengths};
+ghost use Rattle.bech32_near.specs.NearTexts.{AreNearestListings, AreNearTexts, IsNearestRefusal, IsOutOfMemory, IsSearch, IsSearcherOf};
 
-use crate::read::ReadText;
+use crate::listings::nearest_listings;
 use bech32_checksum::{Checksum, CorrectingChecksum};
-use bech32_correction::{CorrectError, Mended, mended_by};
-use bech32_corrector::Corrector;
-use bech32_near_listings::nearest_listings;
-use bech32_near_patterns::Listings;
+use bech32_correction::{CorrectError, Corrector, Mended, mended_by};
+use bech32_decode::Reading;
+use bech32_near_search::Listings;
 use std::alloc::{AllocError, Allocator, Global};
 
 /// The texts near a text, and what may look further.
@@ -64,23 +64,32 @@ fn mended_all<A: Allocator + Copy>(
     Ok(texts)
 }
 
-/// The texts near a text that the checksum read, as [`nearest`] has them, with memory from `alloc`.
+// The text that was read.
+fn text_of<'s, Ck: Checksum>(reading: &Reading<'s, Ck>) -> &'s str
+    ensures { result.now ≡ reading.now.text.now }
+{
+    // A text of the grammar is ASCII: what the call requires is proved.
+    unsafe { str::from_utf8_unchecked(reading.text) }
+}
+
+/// The texts near a text that was read, as [`nearest`] has them, with memory from `alloc`.
 ///
 /// # Errors
 ///
 /// Out of memory, as of [`nearest`].
 pub fn nearest_of_read<Ck: CorrectingChecksum, A: Allocator + Copy>(
     alloc: A,
-    read: &ReadText<'_>,
+    reading: &Reading<'_, Ck>,
     erasures: &[usize],
     errors: usize,
 ) -> Result<NearTexts<Vec<Mended<A>, A>, Corrector<Ck, A>>, AllocError>
-    requires { LeavesResidue Ck.code read.now.text.now read.now.window read.now.residue }
+    requires { HasLengths Ck.code
+        (length reading.now.text.now) (length reading.now.data_part.now) }
     ensures { MatchResult result
-        (λ near. AreNearTexts Ck.code Ck.bound read.now.text.now erasures.now errors
+        (λ near. AreNearTexts Ck.code Ck.bound reading.now.text.now erasures.now errors
         (map (λ m. (m.listing, string_bytes m.text)) near.texts.items)
-        × IsSearch Ck.code read.now.text.now near.corrector)
-        (λ _. IsOutOfMemory Ck.code Ck.bound read.now.text.now erasures.now errors) }
+        × IsSearch Ck.code reading.now.text.now near.corrector)
+        (λ _. IsOutOfMemory Ck.code Ck.bound reading.now.text.now erasures.now errors) }
 {
     if Ck::CHECKSUM_LENGTH == 0 {
         return Ok(NearTexts {
@@ -88,9 +97,10 @@ pub fn nearest_of_read<Ck: CorrectingChecksum, A: Allocator + Copy>(
             corrector: None,
         });
     }
-    let corrector = Corrector::<Ck, A>::new(alloc, read.residue, read.window);
+    let residue = reading.error_residue();
+    let corrector = Corrector::<Ck, A>::new(alloc, residue, reading.data_part.len());
     let listings = listings_within(alloc, &corrector, erasures, errors)?;
-    let texts = mended_all(alloc, read.text, listings)?;
+    let texts = mended_all(alloc, text_of(reading), listings)?;
     Ok(NearTexts {
         texts,
         corrector: Some(corrector),
@@ -114,10 +124,9 @@ pub fn nearest_in<Ck: CorrectingChecksum, A: Allocator + Copy>(
         × IsSearch Ck.code text.now near.corrector)
         (λ e. IsNearestRefusal Ck.code Ck.bound text.now erasures.now errors e) }
 {
-    match ReadText::new::<Ck>(text) {
-        Ok(read) => Ok(nearest_of_read::<Ck, A>(alloc, &read, erasures, errors)?),
-        Err(refusal) => Err(CorrectError::Refused(refusal)),
-    }
+    let reading = Reading::<Ck>::new(text)?;
+    reading.validate_lengths()?;
+    Ok(nearest_of_read::<Ck, A>(alloc, &reading, erasures, errors)?)
 }
 
 /// All texts that the checksum accepts, and that differ from this one in at most `errors`

@@ -1,5 +1,0 @@
-pub mod Equations
-pub mod Found
-pub mod Multiple
-pub mod Question
-pub mod TakenOff

@@ -1,0 +1,17 @@
+pub mod Added
+pub mod Based
+pub mod Beside
+pub mod Elimination
+pub mod ErasedPatterns
+pub mod FewErasures
+pub mod Lawful
+pub mod Mends
+pub mod OneError
+pub mod Only
+pub mod Powers
+pub mod Remainders
+pub mod Screen
+pub mod TakenOff
+pub mod Trimmed
+pub mod Usable
+pub mod Valued

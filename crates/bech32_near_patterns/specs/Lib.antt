@@ -1,3 +1,0 @@
-pub mod Nearest
-pub mod Sketch
-pub mod Steps

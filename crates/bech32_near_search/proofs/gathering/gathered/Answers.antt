@@ -1,0 +1,29 @@
+use Rattle.std.proofs.Common.{rules, ◌≤◌, ℕ, List, length, subst, arith}
+use Rattle.bech32_gf.specs.Fe32 as fe32
+use Rattle.bech32_gf.specs.declared.gf32.Fe32.{Fe32}
+use Rattle.bech32_near_search.specs.Nearest.{IsEarlier}
+use Rattle.bech32_near_search.specs.Steps.{AreAdded, IsGathered}
+use Rattle.bech32_near_search.proofs.NearestAnswers.{not_few}
+use Rattle.bech32_near_search.proofs.gathering.gathered.Goals as goal
+
+pub returns-then-not-are_few-clause-all : goal.returns-then-not-are_few-clause-all
+returns-then-not-are_few-clause-all g c = λ within few.
+    let many = not_few 0 (length c.args.corrector.now.erasures) 0 g.Ck.Checksum.bound c.are_few.result c.are_few.ensures.few c.if-not-are_few.true in
+    absurd (omega (arith, many, few))
+
+pub returns-then-not-are_few-clause-none : goal.returns-then-not-are_few-clause-none
+returns-then-not-are_few-clause-none g c = λ many. c.new-found.ensures.items
+
+pub returns-clause-all : goal.returns-clause-all
+returns-clause-all g c = λ within few.
+    let q = c.args.corrector.now in
+    subst (λ (start : List (List (ℕ × Fe32))). AreAdded (IsEarlier fe32.ops fe32.value q.erasures) (IsGathered fe32.ops g.Ck.Checksum.code.generator q.residue q.erasures c.args.limit c.args.errors) start c.gather_all.new.found.items)
+    c.new-found.ensures.items (c.in_ok-gather_all.ensures few within)
+
+pub returns-clause-none : goal.returns-clause-none
+returns-clause-none g c = λ many.
+    let few : length c.args.corrector.now.erasures ≤ g.Ck.Checksum.bound = omega (arith, c.are_few.ensures.few.0 c.if-not-are_few.false) in
+    absurd (omega (arith, many, few))
+
+pub drop-found-requires-room-T-Destruct : goal.drop-found-requires-room-T-Destruct
+drop-found-requires-room-T-Destruct g c = search rules

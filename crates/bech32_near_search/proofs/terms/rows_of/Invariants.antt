@@ -1,0 +1,6 @@
+use Rattle.std.proofs.Common.{min, take}
+use Rattle.bech32_near_search.specs.Sketch.{AreForgotten}
+use Rattle.bech32_near_search.proofs.terms.rows_of.Given as goal
+
+abbrev pub invariant-loop-place : goal.invariant-loop-place
+invariant-loop-place g l = AreForgotten l.rows.items (min g.Ck.Checksum.CHECKSUM_LENGTH 12) g.Ck.Checksum.code.generator (take l.place-index l.erasures)

@@ -1,0 +1,4 @@
+pub mod Added
+pub mod Nearest
+pub mod Sketch
+pub mod Steps
