@@ -33,25 +33,25 @@ use Rattle.bech32_bch.proofs.Counting.{located_outside, outside, outside_located
 use Rattle.bech32_bch.proofs.Patterns.{at_absent, locations_listed, outside_count}
 use Rattle.bech32_bch.proofs.Places.{mem_split, once_fits}
 use Rattle.bech32_bch.proofs.Solved.{once_outside}
-use Rattle.bech32_direct.proofs.Remainders.{left_over}
+use Rattle.bech32_finders.proofs.Remainders.{left_over}
 use Rattle.bech32_decode.specs.Acceptance.{Accepts, IsAccepted}
 use Rattle.bech32_detect.specs.Distance.{AreSameOrFar, same_element}
 use Rattle.bech32_decode.specs.Text.{IsText}
 use Rattle.bech32_detect.proofs.Distances.{data_fits, far_from_others}
 use Rattle.bech32_decode.proofs.Grammar.{only-from_IsText}
 use Rattle.bech32_decode.proofs.Spelling.{characters-elements, spelled-text}
-use Rattle.bech32_corrector.proofs.Different.{erasures_are}
+use Rattle.bech32_correction.proofs.Different.{erasures_are}
 use Rattle.bech32_correction.specs.MendedElements.{mended}
 use Rattle.bech32_correction.specs.Mistyped.{HasResidue, IsRefusedFor, question_of}
 use Rattle.bech32_correction.proofs.Sound.{sound_of}
 use Rattle.bech32_correction.proofs.Accepted.{front, in_parts, lowered_parts}
 use Rattle.bech32_correction.proofs.Sums.{appended-mended, length-mended}
 use Rattle.bech32_correction.proofs.Texts.{mendable-from_accepts}
-use Rattle.codex32_strings.specs.Damaged.{AreParts, changed, read_data, read_text, unreadable}
+use Rattle.codex32.specs.Damaged.{AreParts, changed, read_data, read_text, unreadable}
 use Rattle.codex32.specs.Nearest.{AreAdditions, IsNearestBy, IsUnlisted}
-use Rattle.codex32_strings.specs.Strings.{frame_refusal_by}
-use Rattle.codex32_strings.proofs.Locations.{again, changed-once, changed_outside, count_data, count_read, differences, differences-below, differences-once, differences-values, few_apart, located, mended-differences, unreadable-below, unreadable-once}
-use Rattle.codex32_strings.proofs.Separated.{one_split, parts-from}
+use Rattle.codex32.specs.Strings.{frame_refusal_by}
+use Rattle.codex32.proofs.Locations.{again, changed-once, changed_outside, count_data, count_read, differences, differences-below, differences-once, differences-values, few_apart, located, mended-differences, unreadable-below, unreadable-once}
+use Rattle.codex32.proofs.Separated.{one_split, parts-from}
 
 -- ---- accepted texts of elements
 

@@ -7,12 +7,12 @@ use Rattle.std.proofs.lemmas.Bool.{and_from, le-leb}
 use Rattle.std.proofs.lemmas.List.{length-drop, take-append-drop}
 use Rattle.bech32_decode.specs.Acceptance.{IsAccepted}
 use Rattle.bech32_decode.proofs.Grammar.{none_first, only-from_IsText, text_refusal-none}
-use Rattle.codex32_strings.specs.Code.{codex32}
+use Rattle.codex32.specs.Code.{codex32}
 use Rattle.codex32.specs.Parts.{IsStringOf, identifier_of, payload_of, share_index_of, threshold_of}
-use Rattle.codex32_strings.specs.Strings.{IsBodyRefusal, IsCodex32, IsString, IsStringRefusal, frame_refusal, header_fault, is_threshold, is_within, share_index_fault, threshold_fault}
-use Rattle.codex32_strings.specs.declared.error.Codex32Error.{Codex32Error}
+use Rattle.codex32.specs.Strings.{IsBodyRefusal, IsCodex32, IsString, IsStringRefusal, frame_refusal, header_fault, is_threshold, is_within, share_index_fault, threshold_fault}
+use Rattle.codex32.specs.declared.error.Codex32Error.{Codex32Error}
 use Rattle.codex32.specs.declared.string.Codex32Str.{Codex32Str}
-use Rattle.codex32_strings.proofs.Strings.{IsFramed, body_refuted, header_none, none_share_index, none_threshold, not_refused}
+use Rattle.codex32.proofs.Refused.{IsFramed, body_refuted, header_none, none_share_index, none_threshold, not_refused}
 
 -- ---- the parts
 

@@ -1,2 +1,17 @@
+pub mod Code
+pub mod Damaged
+pub mod Derive
+pub mod Detection
+pub mod Encode
+pub mod Header
+pub mod HeaderParts
+pub mod Lengths
 pub mod Nearest
 pub mod Parts
+pub mod Sets
+pub mod Share
+pub mod ShareParts
+pub mod Split
+pub mod Strings
+pub mod Thresholds
+pub mod laws

@@ -10,11 +10,11 @@ use Rattle.bech32_decode.specs.Text.{IsText}
 use Rattle.bech32_correction.specs.MendedElements.{mended}
 use Rattle.bech32_correction.specs.Mistyped.{HasNoListing, IsListingOf}
 use Rattle.bech32_checksum.specs.Code.{Code}
-use Rattle.codex32_strings.specs.Code.{codex32, long_codex32}
-use Rattle.codex32_strings.specs.Damaged.{changed, read_data, read_text, unreadable}
-use Rattle.codex32_strings.specs.Strings.{frame_refusal_by, is_within, is_within_long}
-use Rattle.codex32_strings.specs.declared.error.Codex32Error.{Codex32Error}
-use Rattle.codex32_strings.specs.declared.error.Codex32Error.TheVariants.{Memory}
+use Rattle.codex32.specs.Code.{codex32, long_codex32}
+use Rattle.codex32.specs.Damaged.{changed, read_data, read_text, unreadable}
+use Rattle.codex32.specs.Strings.{frame_refusal_by, is_within, is_within_long}
+use Rattle.codex32.specs.declared.error.Codex32Error.{Codex32Error}
+use Rattle.codex32.specs.declared.error.Codex32Error.TheVariants.{Memory}
 
 -- The nearest text by a checksum: in lower case, with the same human-readable part and as many
 -- elements, accepted by it; and twice the number of the characters that are changed, with the
@@ -87,8 +87,13 @@ abbrev pub IsUnlisted : Code → List ℕ → List ℕ → Type 0
 IsUnlisted code text given = (8 < length given) ⊎ HasNoListing code 8 text given
 
 -- the text in lower case with the values of such a listing added
-pub record IsMendedAt (code : Code) (text given answer : List ℕ) : Type 0 where
+pub record IsMendedAt (code : Code) (hrp data_part given answer : List ℕ) : Type 0 where
   pub listing : List (ℕ × Fe32)
-  pub listed : AreAdditions code text given listing
-  pub spelling : (hrp data_part : List ℕ) → IsText text hrp data_part
-      → answer ≡ spelled hrp (mended ops listing (elements_of data_part))
+  pub listed : AreAdditions code (hrp ++ (49 ∷ data_part)) given listing
+  pub spelling : answer ≡ spelled hrp (mended ops listing (elements_of data_part))
+
+-- nothing is wrong with the text of these parts but perhaps its checksum
+abbrev pub AreFramedParts : (ℕ → Bool) → List ℕ → List ℕ → Type 0
+AreFramedParts may_be hrp data_part =
+    (frame_refusal_by may_be (hrp ++ (49 ∷ data_part)) ≡ None)
+    × IsText (hrp ++ (49 ∷ data_part)) hrp data_part

@@ -1,6 +1,6 @@
 -- The parts that a codex32 string keeps.
 use Rattle.std.specs.Prelude.{ℕ, List}
-use Rattle.codex32_strings.specs.Strings.{IsString}
+use Rattle.codex32.specs.Strings.{IsString}
 use Rattle.codex32.specs.declared.string.Codex32Str.{Codex32Str}
 
 abbrev pub threshold_of : Codex32Str → ℕ

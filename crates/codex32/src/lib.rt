@@ -1,19 +1,46 @@
 //! The checksums of codex32, its strings and shares, and the nearest string to a damaged one.
 //!
-//! Below it: `bech32`, `codex32_shares`, `codex32_strings`.
+//! Below it: `bech32`, `codex32_shares`.
 //! Standard: BIP-93.
 #![tactic(auto)]
 
+mod checksum;
+mod damaged;
+mod dealing;
+mod derivation;
+mod detection;
+mod encoding;
+mod error;
+mod frame;
+mod header;
+mod identifier;
 pub mod laws;
+mod lengths;
+mod long;
+mod mending;
 mod nearest;
+mod products;
+mod sets;
+mod share;
+mod splitting;
 mod string;
+mod threshold;
+mod unreadable;
 
-pub use self::nearest::{propose, propose_in, propose_long, propose_long_in};
-pub use self::string::Codex32Str;
-pub use codex32_strings::damaged::{validate_damaged, validate_damaged_long};
-pub use codex32_strings::{
-    Codex32, Codex32Error, DeriveError, EncodeError, Header, HeaderError, Identifier, LongCodex32,
-    PayloadError, Share, SplitError, Threshold, derive, derive_in, derive_into, encode, encode_in,
-    encode_into, encode_payload, encode_payload_in, encode_payload_into, parse_share_index,
-    random_count, recover, recover_in, split_into,
+pub use self::checksum::Codex32;
+pub use self::damaged::{validate_damaged, validate_damaged_long};
+pub use self::derivation::{derive, derive_in, derive_into, recover, recover_in};
+pub use self::encoding::{
+    encode, encode_in, encode_into, encode_payload, encode_payload_in, encode_payload_into,
 };
+pub use self::error::{
+    Codex32Error, DeriveError, EncodeError, HeaderError, PayloadError, SplitError,
+};
+pub use self::header::{Header, parse_share_index, validate_header};
+pub use self::identifier::Identifier;
+pub use self::long::LongCodex32;
+pub use self::nearest::{propose, propose_in, propose_long, propose_long_in};
+pub use self::share::Share;
+pub use self::splitting::{random_count, split_into};
+pub use self::string::Codex32Str;
+pub use self::threshold::Threshold;

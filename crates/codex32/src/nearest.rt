@@ -1,23 +1,22 @@
 //! The nearest text to a damaged one.
 
-ghost use Rattle.std.specs.Prelude.{◌≡◌, ◌≤◌, ◌+◌, None, ℕ, length, true, IfOk, MatchOption, MatchResult, string_bytes, refl};
-ghost use Rattle.bech32_correction.specs.declared.error.CorrectError.TheVariants.{Refused};
-ghost use Rattle.bech32_refusals.specs.declared.error.CheckedHrpstringError.{CheckedHrpstringError as Refusal};
-ghost use Rattle.codex32_strings.specs.Lengths.{may_have};
-ghost use Rattle.codex32_strings.specs.declared.lengths.Lengths.{Lengths as Which};
-ghost use Rattle.codex32_strings.specs.laws.LengthLaws.{long_fits, short_fits};
-ghost use Rattle.codex32_strings.specs.Damaged.{read_text};
-ghost use Rattle.codex32.specs.Nearest.{HasOneNearest, HasOneNearestLong, AreAdditions, IsMendedAt, IsNearestAnswer, IsNearestAnswerBy, IsNearestLongAnswer, IsProposeLongRefusal, IsProposeRefusal, IsProposeRefusalBy, IsUnlisted};
-ghost use Rattle.codex32_strings.specs.Strings.{frame_refusal, frame_refusal_by, long_frame_refusal};
+ghost use Rattle.std.specs.Prelude.{◌≡◌, ◌≤◌, ◌+◌, ◌++◌, ◌∷◌, None, ℕ, length, true, IfOk, MatchOption, MatchResult, string_bytes, refl};
+ghost use Rattle.codex32.specs.Lengths.{may_have};
+ghost use Rattle.codex32.specs.declared.lengths.Lengths.{Lengths as Which};
+ghost use Rattle.codex32.specs.laws.LengthLaws.{long_fits, short_fits};
+ghost use Rattle.codex32.specs.Damaged.{read_text};
+ghost use Rattle.codex32.specs.Nearest.{HasOneNearest, HasOneNearestLong, AreAdditions, AreFramedParts, IsMendedAt, IsNearestAnswer, IsNearestAnswerBy, IsNearestLongAnswer, IsProposeLongRefusal, IsProposeRefusal, IsProposeRefusalBy, IsUnlisted};
+ghost use Rattle.codex32.specs.Strings.{frame_refusal, frame_refusal_by, long_frame_refusal};
 
-use bech32::CorrectingChecksum;
-use bech32::primitives::correction::{
-    CorrectError, Correction, Corrector, Listing, listing_in, mended_in,
-};
-use codex32_strings::damaged::damaged_parts;
-use codex32_strings::lengths::Lengths;
-use codex32_strings::unreadable::{read_in, unreadable_in};
-use codex32_strings::{Codex32, Codex32Error, LongCodex32};
+use crate::damaged::damaged_parts;
+use crate::lengths::Lengths;
+use crate::mending::mended_in;
+use crate::unreadable::{read_in, unreadable_in};
+use crate::{Codex32, Codex32Error, LongCodex32};
+use bech32::primitives::correction::{Corrector, Listing, MAX_DEGREE};
+use bech32::{CorrectingChecksum, Fe32};
+use bech32_correction::listing_given;
+use codex32_steady_texts::residue::{put_error_residue, residue_error_of};
 use std::alloc::{AllocError, Allocator, Global};
 use std::marker::PhantomData;
 
@@ -36,7 +35,7 @@ trait StringChecksum: CorrectingChecksum {
 }
 
 impl StringChecksum for Codex32 {
-    ghost use Rattle.codex32_strings.specs.declared.lengths.Lengths.TheVariants.{Short};
+    ghost use Rattle.codex32.specs.declared.lengths.Lengths.TheVariants.{Short};
 
     ghost lengths = { Short };
 
@@ -50,7 +49,7 @@ impl StringChecksum for Codex32 {
 }
 
 impl StringChecksum for LongCodex32 {
-    ghost use Rattle.codex32_strings.specs.declared.lengths.Lengths.TheVariants.{Long};
+    ghost use Rattle.codex32.specs.declared.lengths.Lengths.TheVariants.{Long};
 
     ghost lengths = { Long };
 
@@ -63,55 +62,52 @@ impl StringChecksum for LongCodex32 {
     ghost fits = { long_fits };
 }
 
-// The error of a text that is not refused.
-fn memory_of(e: CorrectError) -> AllocError
-    requires { (refusal : Refusal) → e ≡ Refused refusal → ⊥ }
-{
-    match e {
-        CorrectError::Memory => AllocError,
-        CorrectError::Refused(_) => unreachable!(),
-    }
-}
-
-// What is to be added to the elements of a text, where the characters at the given locations are
-// unreadable. It holds the allocator by reference, and its last argument names a corrector, as that
-// of its callers does, so that the prover knows the size of one.
+// What is to be added to the elements of a text in its parts, where the characters at the given
+// locations are unreadable. It holds the allocator by reference, and its last argument names a
+// corrector, as that of its callers does, so that the prover knows the size of one.
+//
+// Of the characters nothing can be told but whether the checksum accepts them, and else the error
+// residue, to the finder.
 fn unreadable_listing_in<'a, Ck: StringChecksum, A: Allocator>(
     alloc: &'a A,
-    read: &str,
+    part: &[u8],
+    data_part: &[u8],
     given: &[usize],
-    _sizes: PhantomData<Corrector<Ck, &'a A>>,
+    sizes: PhantomData<Corrector<Ck, &'a A>>,
 ) -> Result<Option<Listing<&'a A>>, AllocError>
-    requires { frame_refusal_by (may_have Ck.lengths) read.now ≡ None }
-    ensures { IfOk result (λ found. MatchOption found (IsUnlisted Ck.code read.now given.now)
-        (λ listing. AreAdditions Ck.code read.now given.now listing)) }
+    requires { AreFramedParts (may_have Ck.lengths) part.now data_part.now }
+    ensures { IfOk result (λ found. MatchOption found
+        (IsUnlisted Ck.code (part.now ++ (49 ∷ data_part.now)) given.now)
+        (λ listing. AreAdditions Ck.code (part.now ++ (49 ∷ data_part.now)) given.now listing)) }
 {
     if given.len() > 8 {
         return Ok(None);
     }
-    match listing_in::<Ck, &'a A>(alloc, read, given) {
-        Ok(Correction::Accepted) => Ok(Some(Listing::new(alloc))),
-        Ok(Correction::Mended(listing)) => Ok(Some(listing)),
-        Ok(Correction::Unexplained(_)) => Ok(None),
-        Err(e) => Err(memory_of(e)),
-    }
+    let Some(error) = residue_error_of::<Ck>(part, data_part) else {
+        return Ok(Some(Listing::new(alloc)));
+    };
+    let mut residue = [Fe32::Q; MAX_DEGREE];
+    put_error_residue(&mut residue, &error);
+    listing_given::<Ck, &'a A>(alloc, data_part.len(), &residue, given, sizes)
 }
 
 // The text in lower case that is mended by that listing, where there is one.
 fn nearest_read_in<'a, Ck: StringChecksum, A: Allocator + Copy>(
     alloc: &'a A,
-    read: &str,
+    part: &[u8],
+    data_part: &[u8],
     given: &[usize],
     sizes: PhantomData<Corrector<Ck, &'a A>>,
 ) -> Result<Option<String<A>>, AllocError>
-    requires { frame_refusal_by (may_have Ck.lengths) read.now ≡ None }
-    ensures { IfOk result (λ answer. MatchOption answer (IsUnlisted Ck.code read.now given.now)
-        (λ s. IsMendedAt Ck.code read.now given.now (string_bytes s))) }
+    requires { AreFramedParts (may_have Ck.lengths) part.now data_part.now }
+    ensures { IfOk result (λ answer. MatchOption answer
+        (IsUnlisted Ck.code (part.now ++ (49 ∷ data_part.now)) given.now)
+        (λ s. IsMendedAt Ck.code part.now data_part.now given.now (string_bytes s))) }
 {
-    let Some(listing) = unreadable_listing_in::<Ck, A>(alloc, read, given, sizes)? else {
+    let Some(listing) = unreadable_listing_in::<Ck, A>(alloc, part, data_part, given, sizes)? else {
         return Ok(None);
     };
-    let mended = mended_in(*alloc, read, listing.as_slice())?;
+    let mended = mended_in(*alloc, data_part, listing.as_slice())?;
     Ok(Some(mended))
 }
 
@@ -126,10 +122,10 @@ fn proposed_in<'a, Ck: StringChecksum, A: Allocator + Copy>(
         × IsNearestAnswerBy Ck.code string_bytes text.now answer)
         (λ e. IsProposeRefusalBy (may_have Ck.lengths) text.now e) }
 {
-    let (front, damaged) = damaged_parts(Ck::lengths(), text)?;
-    let read = read_in(*alloc, front, damaged)?;
+    let (part, damaged) = damaged_parts(Ck::lengths(), text)?;
+    let read = read_in(*alloc, damaged.as_bytes())?;
     let places = unreadable_in(*alloc, damaged.as_bytes())?;
-    let nearest = nearest_read_in::<Ck, A>(alloc, &read, &places, sizes)?;
+    let nearest = nearest_read_in::<Ck, A>(alloc, part.as_bytes(), &read, &places, sizes)?;
     Ok(nearest)
 }
 

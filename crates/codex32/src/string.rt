@@ -2,12 +2,12 @@
 
 ghost use Rattle.std.specs.Prelude.{◌≡◌, ◌↔◌, ◌≤◌, ◌-◌, length, take, drop, slice_index, MatchResult, IfOk, IfErr, IsOk};
 ghost use Rattle.std.specs.Str.{IsAscii};
-ghost use Rattle.codex32_strings.specs.Strings.{IsCodex32, IsStringRefusal};
+ghost use Rattle.codex32.specs.Strings.{IsCodex32, IsStringRefusal};
 
+use crate::frame::data_part_of;
+use crate::lengths::Lengths;
+use crate::{Codex32, Codex32Error, validate_header};
 use codex32_steady_texts::residue::validate_data_part;
-use codex32_strings::frame::data_part_of;
-use codex32_strings::lengths::Lengths;
-use codex32_strings::{Codex32, Codex32Error, validate_header};
 
 /// A codex32 string in its parts, in the case of the text, which it borrows (BIP-93, codex32): the
 /// human-readable part `ms`, 48 to 93 characters, and the checksum of 13 characters.

@@ -13,7 +13,7 @@ use Rattle.codex32_shares.proofs.Through.{value_unique}
 use Rattle.codex32_shares.proofs.Texts.{derived_exists, derived_unique, common_kept, index_moved, swapped_texts}
 use Rattle.codex32_shares.proofs.Checksums.{same_remainder}
 
--- behind elements stands a row of so many that gives the target
+-- behind elements stands a row of this many that gives the target
 pub record Ends {F : Type 0} (o : Ops F) (before low target : List F) (elements given : List F) : Type 0 where
   pub checksum : List F
   pub size : length checksum ≡ length low

@@ -1,5 +1,5 @@
 -- Shares, as sums of multiples.
-use Rattle.std.proofs.Common.{◌≡◌, ℕ, zero, suc, ◌<◌, ◌≤◌, List, [], ◌∷◌, length, get_or, sym, ap, subst, ◌∙◌, refl, arith}
+use Rattle.std.proofs.Common.{◌≡◌, ℕ, zero, suc, ◌<◌, ◌≤◌, List, [], ◌∷◌, length, sym, ap, subst, ◌∙◌, refl, arith}
 use Rattle.std.specs.List.{AllByRecursion}
 use Rattle.bech32_gf.specs.Field.{Ops, IsField}
 use Rattle.bech32_gf.specs.laws.Ring.{ring}
@@ -72,12 +72,6 @@ module _ {F : Type 0} {o : Ops F} (l : IsField o) where
   derived_unique xs texts n x a b shares da db =
       let ws : (ws : List F) × AreWeights o xs x ws = weights_exist l x xs shares.once in
       derived_is xs texts n x ws.0 a shares ws.1 da ∙ sym (derived_is xs texts n x ws.0 b shares ws.1 db)
-
-  -- an element that a loop reads
-  pub coefficient_at : (xs : List F) (i : ℕ) (x : F) → i < length xs → x ≡ get_or xs i x → coefficient o xs i ≡ x
-  coefficient_at [] i x within e = absurd (omega arith)
-  coefficient_at (y ∷ xs) zero x within e = sym e
-  coefficient_at (y ∷ xs) (suc i) x within e = coefficient_at xs i x (omega arith) e
 
   -- ---- what the texts have in common
 

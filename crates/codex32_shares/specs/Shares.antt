@@ -11,7 +11,7 @@ use Rattle.codex32_shares.specs.Points.{values_at, IsValueThrough}
 abbrev pub column : {F : Type 0} → Ops F → List (List F) → ℕ → List F
 column o texts n = map (λ text. coefficient o text n) texts
 
--- so many texts as there are indices, which all differ, each of n elements
+-- as many texts as there are indices, which all differ, each of n elements
 pub record AreShares {F : Type 0} (indices : List F) (texts : List (List F)) (n : ℕ) : Type 0 where
   pub once : IsOnce indices
   pub one_each : length texts ≡ length indices

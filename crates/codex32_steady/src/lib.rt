@@ -139,9 +139,9 @@ pub fn chosen_sum(words: [u128; 5], bits: u8) -> u128
     low ^ d & mask_at(masks, 32) ^ e & mask_at(masks, 40)
 }
 
-// Whether a byte is of the alphabet: a letter or a digit, and none of `1`, `b`, `i` and `o`.
+/// Whether a byte is of the alphabet: a letter or a digit, and none of `1`, `b`, `i` and `o`.
 #[inline]
-fn is_data_byte(b: u8) -> bool
+pub fn is_data_byte(b: u8) -> bool
     ensures { result ≡ is_of_alphabet b }
 {
     let lower = b | 32;

@@ -1,2 +1,1 @@
-pub mod ByteWalks
 pub mod FirstFault

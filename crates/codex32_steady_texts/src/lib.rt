@@ -8,10 +8,8 @@
 //! Standard: BIP-93.
 #![tactic(auto)]
 
-mod byte_reader;
 pub mod data_part;
 pub mod parts;
 pub mod payload;
-mod reader;
 pub mod residue;
 pub mod text;

@@ -68,8 +68,9 @@ fn character_fault(front: &str) -> Option<hrp::Error>
     Some(fault_by(c))
 }
 
-// Why a text without letters of both cases is no human-readable part, if it is none.
-fn part_fault(front: &str) -> Option<hrp::Error>
+/// Why a text without letters of both cases is no human-readable part, if it is none. Of its
+/// characters nothing can be told but the first that may not stand there.
+pub fn part_fault(front: &str) -> Option<hrp::Error>
     requires { is_mixed_case front.now ≡ false }
     ensures { MatchOption result (IsHrp front.now) (λ e. hrp_refusal front.now ≡ Some e) }
 {

@@ -1,13 +1,17 @@
-//! Tests the checksum of a data part, and tells of its characters only whether it is right.
+//! Tests the checksum of a data part, and tells of its characters only whether it is right; and of
+//! a wrong one, to who looks for errors, by how much it is wrong.
 
-ghost use Rattle.std.specs.Prelude.{◌≡◌, ◌≤◌, ◌<◌, ◌*◌, ◌^◌, ◌↔◌, true, length, IsTrue, MatchResult};
+ghost use Rattle.std.specs.Prelude.{◌≡◌, ◌<◌, ◌*◌, ◌^◌, ◌↔◌, true, length, IsTrue, MatchOption, MatchResult};
 ghost use Rattle.bech32_gf.specs.Alphabet.{is_data};
-ghost use Rattle.bech32_gf.specs.Fe32.{elements_of};
+ghost use Rattle.bech32_gf.specs.Fe32.{elements_of, ops};
+ghost use Rattle.bech32_poly.specs.Remainder.{IsRemainder};
 ghost use Rattle.bech32_checksum.specs.Code.{IsResidueOf};
 ghost use Rattle.bech32_checksum.specs.TextPolynomial.{text_polynomial};
 ghost use Rattle.bech32_decode.specs.Refusals.{HasValidChecksum, IsChecksumRefusal};
+ghost use Rattle.bech32_refusals.specs.ResidueRows.{IsResidueError, error_residue_of};
 
 use bech32_checksum::{Checksum, Engine};
+use bech32_gf::gf32::Fe32;
 use bech32_refusals::{ChecksumError, CodeLengthError, InvalidResidueError};
 use codex32_steady::element_of_character;
 
@@ -34,7 +38,34 @@ fn is_target<Ck: Checksum>(residue: &Ck::MidstateRepr) -> bool
     *residue == Ck::TARGET_RESIDUE
 }
 
-/// Tests the checksum of a data part behind a human-readable part, of a text of so many characters.
+/// The residue error of a data part behind a human-readable part; none where the checksum is right.
+pub fn residue_error_of<Ck: Checksum>(part: &[u8], data_part: &[u8]) -> Option<InvalidResidueError>
+    requires { is_data data_part.now ≡ true }
+    ensures { MatchOption result
+        (IsRemainder ops Ck.code.generator
+        (text_polynomial part.now (elements_of data_part.now)) Ck.code.target)
+        (λ e. IsResidueError Ck.code (text_polynomial part.now (elements_of data_part.now)) e) }
+{
+    let residue = residue_of::<Ck>(part, data_part);
+    if is_target::<Ck>(&residue) {
+        return None;
+    }
+    Some(InvalidResidueError::new(&residue, &Ck::TARGET_RESIDUE))
+}
+
+/// Puts what is left of the remainder where the target is taken off, by which errors are found. Out
+/// of line: all of it can be told. Where each character is one that was meant, or is changed, it
+/// depends on the changes alone.
+#[inline(never)]
+pub fn put_error_residue(residue: &mut [Fe32], error: &InvalidResidueError)
+    requires { length residue.old ≡ 25 }
+    ensures { residue.new ≡ error_residue_of error.now }
+{
+    residue.copy_from_slice(&error.residue());
+}
+
+/// Tests the checksum of a data part behind a human-readable part, of a text of this many
+/// characters.
 ///
 /// # Errors
 ///
@@ -59,12 +90,8 @@ pub fn validate_data_part<Ck: Checksum>(
     if data_part.len() < Ck::CHECKSUM_LENGTH {
         return Err(ChecksumError::InvalidLength);
     }
-    let residue = residue_of::<Ck>(part, data_part);
-    if !is_target::<Ck>(&residue) {
-        return Err(ChecksumError::InvalidResidue(InvalidResidueError::new(
-            &residue,
-            &Ck::TARGET_RESIDUE,
-        )));
+    match residue_error_of::<Ck>(part, data_part) {
+        None => Ok(()),
+        Some(e) => Err(ChecksumError::InvalidResidue(e)),
     }
-    Ok(())
 }

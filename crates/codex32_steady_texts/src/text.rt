@@ -1,6 +1,6 @@
 //! Puts texts of secret elements.
 
-ghost use Rattle.std.specs.Prelude.{◌≡◌, ◌≤◌, ◌+◌, ◌++◌, length, map, reverse, take};
+ghost use Rattle.std.specs.Prelude.{◌≡◌, ◌≤◌, ◌+◌, ◌++◌, length, map, reverse, take, IfOk, string_bytes};
 ghost use Rattle.bech32_checksum.specs.Code.{IsResidueOf};
 ghost use Rattle.bech32_checksum.specs.Encoded.{char_of_element, spelled, IsEncodedText};
 ghost use Rattle.bech32_checksum.specs.Packed.{digits};
@@ -11,6 +11,7 @@ ghost use Rattle.codex32_steady_texts.specs.Parts.{ms};
 use bech32_checksum::{Checksum, Engine, PackedFe32};
 use bech32_gf::gf32::Fe32;
 use codex32_steady::character_of;
+use std::alloc::{AllocError, Allocator};
 
 // Puts the characters of elements, in lower case, behind the first three.
 fn put_characters(text: &mut [u8], elements: &[Fe32])
@@ -31,6 +32,17 @@ pub fn put_spelled(text: &mut [u8], elements: &[Fe32])
     text[1] = b's';
     text[2] = b'1';
     put_characters(text, elements);
+}
+
+/// The text of `ms1` and the characters of elements, in lower case.
+pub fn spelled_in<A: Allocator>(alloc: A, elements: &[Fe32]) -> Result<String<A>, AllocError>
+    requires { length elements.now ≤ 124 }
+    ensures { IfOk result (λ s. string_bytes s ≡ spelled ms elements.now) }
+{
+    let mut text = vec![in alloc; 0u8; 3 + elements.len()]?;
+    put_spelled(text.as_mut_slice(), elements);
+    // All of it is ASCII: what the call requires is proved.
+    Ok(unsafe { String::from_utf8_unchecked(text) })
 }
 
 // The remainder of the polynomial of elements with the target behind them, packed.

@@ -1,8 +1,8 @@
 use Rattle.std.specs.Prelude.{string_bytes}
 use Rattle.std.proofs.Common.{refl}
-use Rattle.codex32_strings.specs.Code.{codex32}
-use Rattle.codex32_strings.specs.Strings.{is_within}
-use Rattle.codex32_strings.specs.laws.RootLaws.{base, codex32_roots}
+use Rattle.codex32.specs.Code.{codex32}
+use Rattle.codex32.specs.Strings.{is_within}
+use Rattle.codex32.specs.laws.RootLaws.{base, codex32_roots}
 use Rattle.codex32.proofs.Near.{one_nearest, refused-from_outcome, value-from_outcome}
 use Rattle.codex32.proofs.nearest.propose_in.Goals as goal
 

@@ -1,8 +1,8 @@
 use Rattle.std.specs.Prelude.{string_bytes}
 use Rattle.std.proofs.Common.{refl}
-use Rattle.codex32_strings.specs.Code.{long_codex32}
-use Rattle.codex32_strings.specs.Strings.{is_within_long}
-use Rattle.codex32_strings.specs.laws.LongRootLaws.{long_base, long_codex32_roots}
+use Rattle.codex32.specs.Code.{long_codex32}
+use Rattle.codex32.specs.Strings.{is_within_long}
+use Rattle.codex32.specs.laws.LongRootLaws.{long_base, long_codex32_roots}
 use Rattle.codex32.proofs.Near.{one_nearest, refused-from_outcome, value-from_outcome}
 use Rattle.codex32.proofs.nearest.propose_long_in.Goals as goal
 

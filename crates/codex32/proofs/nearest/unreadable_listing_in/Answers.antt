@@ -1,23 +1,44 @@
-use Rattle.std.proofs.Common.{ℕ, inl, inr, arith, subst}
-use Rattle.bech32_correction.specs.Mistyped.{HasNoListing, IsListingOf}
-use Rattle.codex32_strings.specs.Lengths.{may_have}
-use Rattle.codex32.proofs.Answered.{not_refused_with}
+use Rattle.std.proofs.Common.{rules, ◌≡◌, [], length, inl, sym, arith, ◌∙◌}
+use Rattle.bech32_checksum.proofs.Target.{length-target}
+use Rattle.bech32_correction.proofs.Outcomes.{some_places}
+use Rattle.codex32.specs.Lengths.{may_have}
+use Rattle.codex32.proofs.Answered.{accepted-from_target, said_of_residue, window_fits}
 use Rattle.codex32.proofs.nearest.unreadable_listing_in.Goals as goal
 
-pub returns-in-Ok-Accepted : goal.returns-in-Ok-Accepted
-returns-in-Ok-Accepted g c = inl
-    (c.new.ensures, rw c.in-Ok-Accepted.field-0-is at (rw c.in-Ok-Accepted.is at c.listing_in.ensures.value), omega arith)
+pub residue_error_of-requires : goal.residue_error_of-requires
+residue_error_of-requires g c = c.requires.1.data_bytes
 
-pub returns-in-Ok-Mended : goal.returns-in-Ok-Mended
-returns-in-Ok-Mended g c =
-    inr (subst (λ (b : ℕ). IsListingOf g.Ck.Checksum.code b c.args.read.now c.args.given.now c.in-Ok-Mended.listing) g.met.Ck.StringChecksum.eight
-    (rw c.in-Ok-Mended.field-0-is at (rw c.in-Ok-Mended.is at c.listing_in.ensures.value)))
+pub returns-in_default : goal.returns-in_default
+returns-in_default g c =
+    let may = may_have g.Ck.StringChecksum.lengths in
+    inl (
+      c.new.ensures,
+      accepted-from_target may c.args.part.now c.args.data_part.now c.requires g.Ck.Checksum.code g.met.Ck.StringChecksum.fits (rw c.in_default.is at c.residue_error_of.ensures),
+      omega arith,
+    )
 
-pub returns-in-Ok-Unexplained : goal.returns-in-Ok-Unexplained
-returns-in-Ok-Unexplained g c =
-    inr (subst (λ (b : ℕ). HasNoListing g.Ck.Checksum.code b c.args.read.now c.args.given.now) g.met.Ck.StringChecksum.eight
-    (rw c.in-Ok-Unexplained.field-0-is at (rw c.in-Ok-Unexplained.is at c.listing_in.ensures.value)).0)
+pub listing_given-requires : goal.listing_given-requires
+listing_given-requires g c =
+    let may = may_have g.Ck.StringChecksum.lengths in
+    let code = g.Ck.Checksum.code in
+    let is = rw c.in-Some.is at c.residue_error_of.ensures in
+    let size : length code.target ≡ length code.generator =
+    length-target g.Ck.MidstateRepr.PackedFe32.number code _ _ g.Ck.Checksum.GENERATOR_SH g.Ck.Checksum.TARGET_RESIDUE g.met.Ck.Checksum.code_law
+    ∙ sym g.met.Ck.Checksum.degree_law in
+    let fits = window_fits may c.args.part.now c.args.data_part.now c.requires code g.met.Ck.StringChecksum.fits in (
+      search rules,
+      (
+        search rules,
+        (
+          (g.met.Ck.CorrectingChecksum.lawful_roots, some_places code is.remainder size is.is_remainder.short is.not_target),
+          omega (arith, fits, g.met.Ck.Checksum.code_length_law),
+        ),
+      ),
+    )
 
-pub memory_of-requires : goal.memory_of-requires
-memory_of-requires g c = λ x same.
-    not_refused_with (may_have g.Ck.StringChecksum.lengths) g.Ck.Checksum.code g.met.Ck.StringChecksum.fits c.args.read.now c.in-Err.e c.requires (rw c.in-Err.is at c.listing_in.ensures.value) x same
+pub returns : goal.returns
+returns g c =
+    let may = may_have g.Ck.StringChecksum.lengths in
+    said_of_residue may c.args.part.now c.args.data_part.now c.requires g.Ck.Checksum.code g.met.Ck.StringChecksum.fits g.Ck.Checksum.bound c.args.given.now c.in-Some.error
+    c.put_error_residue.new.residue c.listing_given.result g.met.Ck.StringChecksum.eight (rw c.in-Some.is at c.residue_error_of.ensures) c.put_error_residue.ensures
+    (c.listing_given.ensures.answer [])

@@ -1,9 +1,9 @@
 use Rattle.std.proofs.Common.{ℕ, List, length, take, subst}
 use Rattle.bech32_decode.specs.Refusals.{HasValidChecksum}
 use Rattle.bech32_decode.proofs.Decoding.{accepted}
-use Rattle.codex32_strings.specs.Code.{codex32}
+use Rattle.codex32.specs.Code.{codex32}
 use Rattle.bech32_correction.proofs.Ascii.{ascii_text}
-use Rattle.codex32_strings.proofs.Strings.{framed-from}
+use Rattle.codex32.proofs.Refused.{framed-from}
 use Rattle.codex32.proofs.Strings.{string_of}
 use Rattle.codex32.proofs.string.Codex32Str.read.Goals as goal
 

@@ -1,0 +1,19 @@
+use Rattle.std.specs.Prelude.{IfOk, MatchResult}
+use Rattle.std.proofs.Common.{refl, string_bytes, subst}
+use Rattle.bech32_gf.specs.Fe32.{path}
+use Rattle.codex32.specs.Derive.{DoContradict, IsDeriveRefusal, IsDerivedString, IsStringOfSet, IsWholeSet}
+use Rattle.codex32.specs.HeaderParts.{secret_index}
+use Rattle.codex32.proofs.derivation.recover_in.Goals as goal
+
+pub returns-clause-value : goal.returns-clause-value
+returns-clause-value g c =
+    subst (λ x. IfOk c.derive_in.result (λ s. IsDerivedString c.args.shares.now x (string_bytes s))) (path _ secret_index refl) c.derive_in.ensures.value
+
+pub returns-clause-string : goal.returns-clause-string
+returns-clause-string g c =
+    subst (λ x. IfOk c.derive_in.result (λ s. IsStringOfSet c.args.shares.now x (string_bytes s))) (path _ secret_index refl) c.derive_in.ensures.string
+
+pub returns-clause-refused : goal.returns-clause-refused
+returns-clause-refused g c =
+    subst (λ x. MatchResult c.derive_in.result (λ _. IsWholeSet c.args.shares.now x × (DoContradict c.args.shares.now → ⊥)) (λ e. IsDeriveRefusal c.args.shares.now x e)) (path _ secret_index refl)
+    c.derive_in.ensures.refused

@@ -1,5 +1,0 @@
-use Rattle.codex32_strings.proofs.SplitIndices.{of_alphabet}
-use Rattle.codex32_strings.proofs.dealing.index_of.Goals as goal
-
-pub from_char_unchecked-requires : goal.from_char_unchecked-requires
-from_char_unchecked-requires c = of_alphabet c.args.j c.requires

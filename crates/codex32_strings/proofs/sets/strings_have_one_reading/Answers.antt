@@ -1,5 +1,0 @@
-use Rattle.codex32_strings.proofs.OneString.{same_parts}
-use Rattle.codex32_strings.proofs.sets.strings_have_one_reading.Goals as goal
-
-pub returns : goal.returns
-returns c = same_parts
