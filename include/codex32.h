@@ -22,14 +22,14 @@
  * CODEX32_NO_MEMORY, before all else.
  *
  * Secrets are the characters behind the share index of a text, the bytes of a payload, and random bytes.
- * The time of a call, and which memory it reads, do not depend on them, but in codex32_propose and
- * codex32_propose_long. They may depend on all else: lengths and numbers, threshold, identifier, share
- * index and case; on which refusal is returned; on whether a checksum is right; on where the first fault
- * of a text stands, and on the character there; on what is not ASCII; and on whether a share beyond the
- * threshold is the one that the others give. This is tested, and not proved: tools/steady looks in the
- * machine code for branches and addresses that depend on secrets, in the static library for Linux on
- * x86-64, and in the C file as gcc and clang compile it there. Not tested: other builds, and
- * instructions that take longer for some numbers.
+ * The time of a call, and which memory it reads, do not depend on them; those of codex32_propose and
+ * codex32_propose_long depend on errors, as is said there. They may depend on all else: lengths and
+ * numbers, threshold, identifier, share index and case; on which refusal is returned; on whether a
+ * checksum is right; on where the first fault of a text stands, and on the character there; on what is
+ * not ASCII; and on whether a share beyond the threshold is the one that the others give. This is tested,
+ * and not proved: tools/steady looks in the machine code for branches and addresses that depend on
+ * secrets, in the static library for Linux on x86-64, and in the C file as gcc and clang compile it there.
+ * Not tested: other builds, and instructions that take longer for some numbers.
  *
  * The library keeps nothing of a secret, but its calls leave copies on the stack. To leave none, call
  * codex32_wipe_stack after them, and codex32_wipe for what you hold yourself (both at the end).
@@ -279,7 +279,9 @@ typedef struct {
  * and twice the number of changed characters, plus the number of unreadable ones, is at most 8; there is at
  * most one such text. It is put into `proposed`, in lower case, and *proposed_length is its length, that of
  * the damaged text. It may not be what was meant: show it, and ask. Neither threshold nor share index is
- * tested. The time of the call, and which memory it reads, depend on the text and on its errors.
+ * tested. The time of the call, and which memory it reads, may depend on where the last `1` and each `?`
+ * stand; and where the checksum is wrong, on the errors alone: which characters are wrong or unreadable,
+ * and what is added to them. Of an unreadable one, that tells which character it is.
  *
  * Refusals, the first that applies: 2; 21, 22, 23, 11 to 15; 82; 81; 34; 92; and 91 in place of 0, 34 or
  * 92 where `memory` does not suffice. With every refusal, 91 too, `proposed` is as it was.
@@ -290,7 +292,7 @@ uint32_t codex32_propose(const uint8_t *text, size_t text_length, codex32_memory
 /*
  * Proposes the nearest text to a damaged long string, of 125 to 127 characters, within the bounds of
  * codex32_propose, by the checksum of long strings (BIP-93, Long codex32 Strings). The time of the call,
- * and which memory it reads, depend on the text and on its errors.
+ * and which memory it reads, depend on what is said there.
  *
  * Refusals, the first that applies: 2; 21, 22, 23, 11 to 15; 82; 81; 34; 92; and 91 in place of 0, 34 or
  * 92 where `memory` does not suffice.

@@ -1,7 +1,7 @@
 //! Reads a line as a command with its arguments.
 
-ghost use Rattle.std.specs.Prelude.{◌≡◌, MatchOption, Some, None};
-ghost use Rattle.line_program.specs.Words.{words};
+ghost use Rattle.std.specs.Prelude.{◌≡◌};
+ghost use Rattle.line_program.specs.Words.{Reads, words};
 ghost use Rattle.b32_replies.specs.Request.{checksum_of_word, correct_arguments, request_of, request_of_command};
 
 use line_program::{first_word, only_word};
@@ -65,9 +65,7 @@ pub fn checksum_named(word: &str) -> Option<ChecksumName>
 impl<'a> Command<'a> {
     /// Reads a line. Its words stand between single spaces, and none is empty.
     pub fn parse(line: &'a str) -> Option<Command<'a>>
-        ensures { MatchOption result
-            (request_of line.now ≡ None)
-            (λ command. request_of line.now ≡ Some (request_of_command command)) }
+        ensures { Reads request_of_command (request_of line.now) result }
     {
         let (name, arguments) = first_word(line)?;
         match name {
@@ -102,10 +100,7 @@ impl<'a> Command<'a> {
 
     // Reads what stands behind `correct`.
     fn parse_correct(arguments: &'a str) -> Option<Command<'a>>
-        ensures { MatchOption result
-            (correct_arguments (words arguments.now) ≡ None)
-            (λ command.
-            correct_arguments (words arguments.now) ≡ Some (request_of_command command)) }
+        ensures { Reads request_of_command (correct_arguments (words arguments.now)) result }
     {
         let (name, arguments) = first_word(arguments)?;
         let checksum = checksum_named(name)?;

@@ -20,7 +20,7 @@ use line_program::append;
 /// No text of 1,023 characters has more bytes.
 const ROOM: usize = 640;
 
-/// The length of the text of so many bytes, where the checksum allows as much.
+/// The length of the text of this many bytes, where the checksum allows as much.
 fn length_of<Ck: Checksum>(hrp: &Hrp, size: usize) -> Result<usize, EncodeError>
     requires { Ck.code.code_length ≤ 1023 }
     ensures value { (bytes : List ℕ) → size ≡ length bytes → MatchResult result

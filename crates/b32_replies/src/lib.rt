@@ -23,3 +23,4 @@ mod version_word;
 pub use command::{ChecksumName, checksum_named};
 pub use location_word::locations_of_word;
 pub use refusal::Refusal;
+pub use version_word::number_of_word;

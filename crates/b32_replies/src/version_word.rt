@@ -18,7 +18,7 @@ pub(crate) fn digit_value(byte: u8) -> Option<u8>
 }
 
 /// The number below 100 that a word is in decimal, without leading zeros.
-fn number_of_word(word: &[u8]) -> Option<u8>
+pub fn number_of_word(word: &[u8]) -> Option<u8>
     ensures { MatchOption result
         ((n : ℕ) → n < 100 → word.now ≢ decimal n)
         (λ n. (n < 100) × (word.now ≡ decimal n)) }

@@ -499,7 +499,7 @@ struct Outcome {
     length: usize,
 }
 
-// Calls it with buffers of so many items.
+// Calls it with buffers of this many items.
 fn corrected(
     checksum: u32,
     text: &[u8],

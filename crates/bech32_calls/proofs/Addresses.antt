@@ -23,7 +23,10 @@ use Rattle.bech32_checksum.proofs.Uniqueness.{in_other_case, length-encoded}
 use Rattle.bech32_encode.specs.Buffers.{IsPut}
 use Rattle.bech32_calls.specs.Segwit.{PutsAddress, HasRoomFor, IsAddressFault, IsSegwitEncodeFault, CanDecodeAddress, LacksRoomFor, IsSegwitDecodeFault, PutsProgram}
 use Rattle.bech32_calls.specs.declared.refusal.Refusal.{Refusal}
-use Rattle.bech32_calls.specs.declared.refusal.Refusal.TheVariants.{NotUtf8, NoRoom, NoAddress, Address}
+use Rattle.bech32_calls.specs.Faults.{IsTextFault}
+use Rattle.bech32_calls.specs.declared.refusal.Refusal.TheVariants.{NotUtf8, NoRoom, NoAddress, Text, Address}
+use Rattle.bech32_refusals.specs.declared.error.SegwitHrpstringError.TheVariants.{Unchecked}
+use Rattle.bech32_refusals.specs.declared.error.UncheckedHrpstringError.{UncheckedHrpstringError}
 use Rattle.bech32_calls.proofs.Letters.{IsUtf8-from_text, no_part_fault}
 use Rattle.bech32_calls.proofs.Puts.{put-same}
 
@@ -174,3 +177,13 @@ module _ (text part : List ℕ) (v : Fe32) (characters : List ℕ) (h : IsReadIn
 pub refused_address : (text hrp data_part : List ℕ) (m n : ℕ) (e : SegwitHrpstringError) → IsText text hrp data_part → length text ≤ 90 → IsAddressRefusal segwit_code text e
     → IsSegwitDecodeFault text m n (Address e)
 refused_address text hrp data_part m n e is few refusal = (IsUtf8-from_text text hrp data_part is, inr (few, refusal))
+
+-- why a text is not read is why it is no address
+pub unread_address : (text : List ℕ) (m n : ℕ) (e : UncheckedHrpstringError) → length text ≤ 90 → IsTextFault text (Text e) → IsSegwitDecodeFault text m n (Address (Unchecked e))
+unread_address text m n e few h = (h.0, inr (few, inl (record { error = e; is = refl; refusal = h.1 })))
+
+-- the same of bytes that are not UTF-8
+pub other_fault : (text : List ℕ) (m n : ℕ) (e : Refusal) → ((x : UncheckedHrpstringError) → e ≡ Text x → ⊥) → IsTextFault text e → IsSegwitDecodeFault text m n e
+other_fault text m n NotUtf8 other h = h
+other_fault text m n (Text e) other h = absurd (other e refl)
+other_fault text m n _ other h = absurd h

@@ -12,6 +12,7 @@ use Rattle.bech32_refusals.specs.declared.error.CheckedHrpstringError.TheVariant
 use Rattle.bech32_refusals.specs.declared.error.ChecksumError.{ChecksumError}
 use Rattle.bech32_decode.proofs.Decoding.{accepted-from_checked}
 use Rattle.bech32_calls.specs.Check.{IsCheckFault}
+use Rattle.bech32_calls.specs.Faults.{IsTextFault}
 use Rattle.bech32_calls.specs.declared.refusal.Refusal.{Refusal}
 use Rattle.bech32_calls.specs.declared.refusal.Refusal.TheVariants.{NotUtf8, Text, Checksum}
 use Rattle.bech32_calls.proofs.Letters.{IsUtf8-from_text}
@@ -31,3 +32,9 @@ pub refused_there : (text hrp data_part : List ℕ) (code : Code) (e : ChecksumE
     → IsCheckFault text code (Checksum e)
 refused_there text hrp data_part code e is refusal =
     (IsUtf8-from_text text hrp data_part is, record { hrp = hrp; data_part = data_part; grammar = is; refusal = refusal })
+
+-- why a text is not read is why a checksum does not accept it
+pub unread_check : (text : List ℕ) (code : Code) (e : Refusal) → IsTextFault text e → IsCheckFault text code e
+unread_check text code NotUtf8 h = h
+unread_check text code (Text e) h = h
+unread_check text code _ h = absurd h

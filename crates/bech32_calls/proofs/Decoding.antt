@@ -1,22 +1,22 @@
 -- A text is decoded in one way, what is put of it, and nothing is wrong where its parts have room.
-use Rattle.std.proofs.Common.{◌≡◌, ◌≤◌, ◌<◌, ◌⊎◌, ◌-◌, ℕ, List, Result, Ok, Err, IfErr, IfOk, length, take, drop, inl, inr, ⊎_elim, sym, ap, ◌∙◌, subst, arith, length-drop}
-use Rattle.std.proofs.lemmas.List.{take-append-drop}
+use Rattle.std.proofs.Common.{◌≡◌, ◌≤◌, ◌<◌, ◌⊎◌, ◌-◌, ℕ, List, Result, Ok, Err, IfErr, IfOk, length, take, inl, inr, ⊎_elim, sym, ap, ◌∙◌, subst, arith}
 use Rattle.std.specs.Str.{IsUtf8}
 use Rattle.bech32_gf.specs.Fe32.{elements_of}
 use Rattle.bech32_bits.specs.Bits.{to_bytes}
-use Rattle.bech32_checksum.specs.Code.{Code, bech32, bech32m}
+use Rattle.bech32_checksum.specs.Code.{bech32, bech32m}
 use Rattle.bech32_decode.specs.Acceptance.{Accepts, IsAccepted, IsDecoded}
 use Rattle.bech32_decode.specs.BeforeChecksum.{IsBeforeChecksum}
-use Rattle.bech32_decode.specs.Refusals.{HasValidChecksum, IsRefusedByBoth}
+use Rattle.bech32_decode.specs.Refusals.{IsRefusedByBoth}
 use Rattle.bech32.specs.Refusals.{IsDecodeRefusal}
 use Rattle.bech32_decode.specs.Text.{IsText}
 use Rattle.bech32.specs.declared.error.DecodeError.{DecodeError}
 use Rattle.bech32.specs.declared.error.DecodeError.TheVariants.{Parse, Checksum as NoChecksumAccepts, Memory}
 use Rattle.bech32.proofs.Decoding.{decoded-from_refusal}
-use Rattle.bech32_decode.proofs.Decoding.{accepted, before_checksum}
+use Rattle.bech32_decode.proofs.Decoding.{before_checksum}
 use Rattle.bech32_decode.proofs.Grammar.{only-from_IsText}
 use Rattle.bech32_encode.specs.Buffers.{IsPut}
 use Rattle.bech32_refusals.specs.declared.error.ChecksumError.{ChecksumError}
+use Rattle.bech32_calls.specs.Faults.{IsTextFault}
 use Rattle.bech32_calls.specs.Decode.{CanDecode, LacksRoom, IsDecodeFault, IsReadFault, PutsDecoded}
 use Rattle.bech32_calls.specs.declared.refusal.Refusal.{Refusal}
 use Rattle.bech32_calls.specs.declared.refusal.Refusal.TheVariants.{NotUtf8, NoRoom, Text, Checksum}
@@ -62,27 +62,6 @@ no_decode_fault text m n _ a h = h
 
 -- ---- what is put
 
--- the text that was tested is accepted
-pub accepted_either : (text part data_part : List ℕ) (n : ℕ) → IsText text part data_part → n ≡ length text → HasValidChecksum bech32m n part data_part ⊎ HasValidChecksum bech32 n part data_part
-    → IsAccepted bech32m text part data_part ⊎ IsAccepted bech32 text part data_part
-accepted_either text part data_part n is size valid =
-    ⊎_elim
-    (λ (v : HasValidChecksum bech32m n part data_part). inl (accepted bech32m text part data_part is (subst (λ (k : ℕ). HasValidChecksum bech32m k part data_part) size v)))
-    (λ (v : HasValidChecksum bech32 n part data_part). inr (accepted bech32 text part data_part is (subst (λ (k : ℕ). HasValidChecksum bech32 k part data_part) size v)))
-    valid
-
--- its data part has room for the checksum
-pub room_in : (text part data_part : List ℕ) → IsAccepted bech32m text part data_part ⊎ IsAccepted bech32 text part data_part → 6 ≤ length data_part
-room_in text part data_part a =
-    ⊎_elim (λ (h : IsAccepted bech32m text part data_part). h.data_length) (λ (h : IsAccepted bech32 text part data_part). h.data_length) a
-
--- what stands before as many characters as the checksum has
-pub before_last : (code : Code) (data_part : List ℕ) → length code.generator ≤ length data_part → IsBeforeChecksum code data_part (take (length data_part - length code.generator) data_part)
-before_last code data_part room =
-    let n = length data_part - length code.generator in
-    let rest : length (drop n data_part) ≡ length data_part - n = length-drop n data_part in
-    record { checksum = drop n data_part; data_part_is = sym (take-append-drop n data_part); size = omega arith }
-
 module _ (text part data_part characters : List ℕ) (a : IsAccepted bech32m text part data_part ⊎ IsAccepted bech32 text part data_part)
     (before : IsBeforeChecksum bech32m data_part characters) where
   is_decoded : IsDecoded text part (to_bytes (elements_of characters))
@@ -106,3 +85,9 @@ module _ (text part data_part characters : List ℕ) (a : IsAccepted bech32m tex
 -- why a text that was read is not decoded
 pub refused_either : (text : List ℕ) (e : ChecksumError) → IsRefusedByBoth text e → IsReadFault text (Checksum e)
 refused_either text e r = (IsUtf8-from_text text r.hrp r.data_part r.grammar, r)
+
+-- why a text is not read is why it is not decoded
+pub unread_decode : (text : List ℕ) (m n : ℕ) (e : Refusal) → IsTextFault text e → IsDecodeFault text m n e
+unread_decode text m n NotUtf8 h = h
+unread_decode text m n (Text e) h = h
+unread_decode text m n _ h = absurd h

@@ -6,7 +6,7 @@ use Rattle.std.proofs.lemmas.List.{length-map, take-map}
 use Rattle.std.proofs.lemmas.List.Folds.{flat_map-map}
 use Rattle.bech32_calls.specs.Fitting.{FirstFit, IsMost}
 
--- whether so many are all
+-- whether this many are all
 pub are_all : (n all : ℕ) → nat_eq n all ≡ true → n ≡ all
 are_all n all h = eqb-true n all h
 

@@ -72,7 +72,7 @@ module _ {A : Type 0} (f : A → List ℕ) (items : List A) where
         full = λ less next. omega (arith, all, less);
       })
 
-  -- so many are put
+  -- this many are put
   pub put_first_joined : (old b : List ℕ) (n end : ℕ) → end ≡ length (flat_map f (take n items)) → end ≤ length old → b ≡ flat_map f (take n items) ++ drop end old
       → IsPut (flat_map f (take n items)) old b (length (flat_map f (take n items)))
   put_first_joined old b n end size within is = record {

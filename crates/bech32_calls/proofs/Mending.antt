@@ -10,14 +10,14 @@ use Rattle.bech32_poly.specs.Pattern.{value_of_pattern_at}
 use Rattle.bech32_poly.specs.Polynomial.{IsSamePolynomial, add, coefficient}
 use Rattle.bech32_poly.specs.Remainder.{IsRemainder}
 use Rattle.bech32_hrp.specs.Hrp.{lowered}
-use Rattle.bech32_checksum.specs.Code.{Code}
+use Rattle.bech32_checksum.specs.Code.{Code, bech32, bech32m}
 use Rattle.bech32_checksum.specs.TextPolynomial.{text_polynomial}
 use Rattle.bech32_bch.specs.Erasures.{with_erasures}
 use Rattle.bech32_bch.specs.Listing.{IsSound}
 use Rattle.bech32_bch.specs.Pattern.{HasRemainder, IsSamePattern, Solves, errors_outside, locations}
 use Rattle.bech32_bch.proofs.Places.{once_fits}
 use Rattle.bech32_bch.proofs.Rising.{once_in_order}
-use Rattle.bech32_solver.specs.Carried.{of_checksum}
+use Rattle.bech32_finders.specs.Carried.{of_checksum}
 use Rattle.bech32_decode.specs.Acceptance.{Accepts}
 use Rattle.bech32_decode.specs.Checked.{IsRefusedByChecksum}
 use Rattle.bech32_decode.specs.Refusals.{HasLengths, IsChecksumRefusal}
@@ -28,12 +28,11 @@ use Rattle.bech32_encode.specs.Buffers.{IsPut}
 use Rattle.bech32_refusals.specs.declared.error.ChecksumError.{ChecksumError}
 use Rattle.bech32_refusals.specs.declared.error.ChecksumError.TheVariants.{CodeLength, InvalidLength, InvalidResidue}
 use Rattle.bech32_correction.specs.MendedElements.{EndsIn, mended as mended_of}
-use Rattle.bech32_correction.specs.Mistyped.{AreInside, HasNoListing, HasResidue, IsListedInPlace, IsListingOf, IsRefusedFor, question_of}
-use Rattle.bech32_correction.specs.declared.correcting.Correction.{Correction}
-use Rattle.bech32_correction.specs.declared.correcting.Correction.TheVariants.{Accepted}
+use Rattle.bech32_correction.specs.Mistyped.{AreInside, HasNoListing, HasResidue, IsListingOf, IsRefusedFor, question_of}
 use Rattle.bech32_correction.proofs.Sound.{sound_of}
 use Rattle.bech32_correction.proofs.Texts.{IsMendable, ends-lowered, mendable-from_accepts, mendable-from_listing, mended_text-from_ends}
 use Rattle.bech32_calls.specs.Correct.{CanMend, IsCorrectFault, IsListingFault, IsMending, IsResidueFault, LacksRoomForMended, PutsMended, bound}
+use Rattle.bech32_calls.specs.Faults.{IsTextFault}
 use Rattle.bech32_calls.specs.declared.refusal.Refusal.{Refusal}
 use Rattle.bech32_calls.specs.declared.refusal.Refusal.TheVariants.{NotUtf8, Text, Checksum, NoCorrection, NoRoom}
 use Rattle.bech32_calls.proofs.Letters.{IsUtf8-from_text}
@@ -191,6 +190,15 @@ fault_there text given m n r _ code h = h
 pub unread_put : (text given : List ℕ) (m n r : ℕ) (e : Refusal) (code : Code) → IsResidueFault text code e → IsCorrectFault text given m n r code e
 unread_put text given m n r e code h = fault_there text given m n r e code (unread_there text given e code h)
 
+-- nor is anything put of bytes that are not read
+pub text_fault_there : (text : List ℕ) (e : Refusal) (code : Code) → IsTextFault text e → IsResidueFault text code e
+text_fault_there text NotUtf8 code h = h
+text_fault_there text (Text e) code h = h
+text_fault_there text _ code h = absurd h
+
+pub text_fault_put : (text given : List ℕ) (m n r : ℕ) (e : Refusal) (code : Code) → IsTextFault text e → IsCorrectFault text given m n r code e
+text_fault_put text given m n r e code h = unread_put text given m n r e code (text_fault_there text e code h)
+
 -- no residue is read of a text that is refused for its lengths
 pub unread-from_lengths : (text hrp data_part : List ℕ) (code : Code) (e : ChecksumError) → IsText text hrp data_part
     → IsChecksumRefusal code (length text) hrp data_part e → (HasLengths code (length text) (length data_part) → ⊥) → IsResidueFault text code (Checksum e)
@@ -202,37 +210,37 @@ unread-from_lengths text hrp data_part code e is refusal short =
     none InvalidLength h = refl
     none (InvalidResidue e) h = absurd (short (h.0, h.1))
 
+-- nor is one read by Bech32m or by Bech32, whose lengths are the same
+pub unread_either : (text hrp data_part : List ℕ) (e : ChecksumError) → IsText text hrp data_part
+    → IsChecksumRefusal bech32m (length text) hrp data_part e → (HasLengths bech32m (length text) (length data_part) → ⊥)
+    → IsResidueFault text bech32m (Checksum e) × IsResidueFault text bech32 (Checksum e)
+unread_either text hrp data_part e is refusal short =
+    (unread-from_lengths text hrp data_part bech32m e is refusal short, unread-from_lengths text hrp data_part bech32 e is (other e refusal) short)
+  where
+    other : (e : ChecksumError) → IsChecksumRefusal bech32m (length text) hrp data_part e → IsChecksumRefusal bech32 (length text) hrp data_part e
+    other (CodeLength e) h = h
+    other InvalidLength h = h
+    other (InvalidResidue e) h = absurd (short (h.0, h.1))
+
 -- a text that the checksum accepts is mended by nothing
 pub mended_by_nothing : (text given hrp data_part : List ℕ) (code : Code) → IsText text hrp data_part → HasLengths code (length text) (length data_part)
     → IsRemainder ops code.generator (text_polynomial hrp (elements_of data_part)) code.target → IsMending text given [] code
 mended_by_nothing text given hrp data_part code is lengths target =
     inl ((hrp, data_part, record { grammar = is; text_length = lengths.0; data_length = lengths.1; has_target = target }), refl)
 
--- or of which this is said
-pub mended-from_answer : (text given : List ℕ) (answer : Correction (List (ℕ × Fe32)) (Unit {0})) (code : Code) (n : ℕ) → answer ≡ Accepted → IsListedInPlace code n text given answer
-    → IsMending text given [] code
-mended-from_answer text given answer code n is h = inl (subst (λ (a : Correction (List (ℕ × Fe32)) (Unit {0})). IsListedInPlace code n text given a) is h, refl)
-
 -- what mends a text by its listing mends the same text
-pub mended_by_listing : (text text' given given' : List ℕ) (listing listing' : List (ℕ × Fe32)) (code : Code) (n : ℕ) → n ≡ bound → text' ≡ text → given' ≡ given → listing ≡ listing'
-    → IsListingOf code n text' given' listing → IsMending text given listing' code
-mended_by_listing text text' given given' listing listing' code n count same gives lists h =
+pub mended_by_listing : (text text' given : List ℕ) (listing listing' : List (ℕ × Fe32)) (code : Code) (n : ℕ) → n ≡ bound → text' ≡ text → listing ≡ listing'
+    → IsListingOf code n text' given listing → IsMending text given listing' code
+mended_by_listing text text' given listing listing' code n count same lists h =
     inr (subst (λ (l : List (ℕ × Fe32)). IsListingOf code bound text given l) lists
-    (subst (λ (s : List ℕ). IsListingOf code bound text s listing) gives
-    (subst (λ (t : List ℕ). IsListingOf code bound t given' listing) same
-    (subst (λ (k : ℕ). IsListingOf code k text' given' listing) count h))))
+    (subst (λ (t : List ℕ). IsListingOf code bound t given listing) same
+    (subst (λ (k : ℕ). IsListingOf code k text' given listing) count h)))
 
 -- what has no listing has none
-pub no_listing_there : (text text' given given' : List ℕ) (code : Code) (n : ℕ) → n ≡ bound → text' ≡ text → given' ≡ given → HasNoListing code n text' given' → HasNoListing code bound text given
-no_listing_there text text' given given' code n count same gives h =
-    subst (λ (s : List ℕ). HasNoListing code bound text s) gives
-    (subst (λ (t : List ℕ). HasNoListing code bound t given') same
-    (subst (λ (k : ℕ). HasNoListing code k text' given') count h))
-
--- a list of no locations
-pub none_given : (given : List ℕ) → length given ≡ 0 → [] ≡ given
-none_given [] h = refl
-none_given (i ∷ given) h = absurd (omega arith)
+pub no_listing_there : (text text' given : List ℕ) (code : Code) (n : ℕ) → n ≡ bound → text' ≡ text → HasNoListing code n text' given → HasNoListing code bound text given
+no_listing_there text text' given code n count same h =
+    subst (λ (t : List ℕ). HasNoListing code bound t given) same
+    (subst (λ (k : ℕ). HasNoListing code k text' given) count h)
 
 -- ---- what is put
 

@@ -1,15 +1,22 @@
 -- Near texts put into a buffer, and why none are.
 use Rattle.std.specs.Prelude.{map, flat_map, false, None, Some, Result, Ok, Err, IfErr, IfOk}
 use Rattle.std.specs.List.{AllByRecursion}
-use Rattle.std.proofs.Common.{◌≡◌, ◌<◌, ◌≤◌, ◌+◌, ◌*◌, ℕ, zero, suc, List, [], ◌∷◌, ◌++◌, length, length-append, suc-mul, zero-mul, take, inl, refl, sym, mul-le-mul_right, ap, subst, ◌∙◌, arith}
+use Rattle.std.proofs.Common.{◌≡◌, ◌<◌, ◌≤◌, ◌+◌, ◌*◌, ℕ, zero, suc, List, [], ◌∷◌, ◌++◌, length, length-append, suc-mul, zero-mul, take, inl, inr, refl, sym, mul-le-mul_right, ap, subst, ◌∙◌, arith}
 use Rattle.std.proofs.lemmas.List.{length-map, take_all}
 use Rattle.std.proofs.lemmas.List.Folds.{flat_map-map}
+use Rattle.bech32_gf.specs.Fe32.{elements_of, ops}
 use Rattle.bech32_gf.specs.declared.gf32.Fe32.{Fe32}
+use Rattle.bech32_poly.specs.Division.{remainder_of}
+use Rattle.bech32_poly.specs.Polynomial.{add}
 use Rattle.bech32_checksum.specs.Code.{Code}
-use Rattle.bech32_decode.specs.Text.{text_refusal}
+use Rattle.bech32_checksum.specs.TextPolynomial.{text_polynomial}
+use Rattle.bech32_decode.specs.Refusals.{HasLengths}
+use Rattle.bech32_decode.specs.Text.{IsText, text_refusal}
 use Rattle.bech32_decode.proofs.Grammar.{text_refusal-none}
 use Rattle.bech32_encode.specs.Buffers.{IsPut}
-use Rattle.bech32_near.specs.NearTexts.{AreNearTexts, IsNearText, IsOutOfMemory, LeavesResidue}
+use Rattle.bech32_near.specs.NearTexts.{AreNearTexts, IsNearText, IsOutOfMemory}
+use Rattle.bech32_near.proofs.Nearby.{residue_left_by}
+use Rattle.caller_memory.specs.Memory.{IsKept}
 use Rattle.caller_memory.specs.declared.memory.Memory.{Memory as Lent}
 use Rattle.bech32_calls.specs.Checksums.{ForChecksum, IsFaultBy}
 use Rattle.bech32_calls.specs.Correct.{IsResidueFault, bound}
@@ -41,15 +48,22 @@ pub near_memory_by : (n : ℕ) (text given : List ℕ) (errors : ℕ) → errors
 near_memory_by n text given errors few =
     wrong_by (λ code. IsOutOfMemory code bound text given errors) (IsNearFault text given errors) Memory (λ code h. (few, h)) n
 
--- the residue of a text is read
-pub read_by : (n : ℕ) (text : List ℕ) (window : ℕ) (residue : List Fe32) → ForChecksum n (λ code. LeavesResidue code text window residue) → ForChecksum n (IsRead text)
-read_by n text window residue =
-    more_for (λ code. LeavesResidue code text window residue) (IsRead text) (λ code h. record { hrp = h.hrp; data_part = h.data_part; residue = residue; read = h.read }) n
-
 -- the memory came back
 pub fault_or_kept : {R : Type 0} (n : ℕ) (text given : List ℕ) (errors : ℕ) (old new : Lent) (r : Result R Refusal) → IfErr r (λ e. IsFaultBy n (IsNearFault text given errors) e) → IfErr r (λ e. IsNearFaultOrKept n text given errors old new e)
 fault_or_kept n text given errors old new (Ok listed) h = tt
 fault_or_kept n text given errors old new (Err e) h = inl h
+
+-- the residue of a text that was read, and whose lengths a checksum takes, is read
+read_there : (text hrp data_part : List ℕ) → IsText text hrp data_part → (code : Code) → HasLengths code (length text) (length data_part) → IsRead text code
+read_there text hrp data_part is code lengths =
+    let residue : List Fe32 = add ops (remainder_of ops code.generator (text_polynomial hrp (elements_of data_part))) code.target in
+    record { hrp = hrp; data_part = data_part; residue = residue; read = residue_left_by code text hrp data_part residue is lengths (λ i. refl) }
+
+-- the memory did not come back
+pub kept_of_read : (n : ℕ) (text given : List ℕ) (errors : ℕ) (old new : Lent) (hrp data_part : List ℕ) → errors ≤ 2 → IsText text hrp data_part
+    → ForChecksum n (λ code. HasLengths code (length text) (length data_part)) → IsKept old new → IsNearFaultOrKept n text given errors old new Memory
+kept_of_read n text given errors old new hrp data_part few is lengths kept =
+    inr (refl, kept, few, more_for (λ code. HasLengths code (length text) (length data_part)) (IsRead text) (read_there text hrp data_part is) n lengths)
 
 -- where the residue of a text is read, only memory may not suffice
 read_memory : (text given : List ℕ) (errors : ℕ) (e : Refusal) → errors ≤ 2 → (code : Code) → IsRead text code → IsNearFault text given errors code e → e ≡ Memory

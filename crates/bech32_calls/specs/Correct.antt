@@ -5,7 +5,7 @@ use Rattle.bech32_gf.specs.Fe32.{value}
 use Rattle.bech32_gf.specs.declared.gf32.Fe32.{Fe32}
 use Rattle.bech32_checksum.specs.Code.{Code}
 use Rattle.bech32_bch.specs.Pattern.{locations}
-use Rattle.bech32_corrector.specs.Carried.{of_checked}
+use Rattle.bech32_correction.specs.Carried.{of_checked}
 use Rattle.bech32_checksum.specs.Roots.{singleton_bound}
 use Rattle.bech32_decode.specs.Acceptance.{Accepts}
 use Rattle.bech32_decode.specs.Checked.{IsCheckedRefusal}

@@ -18,7 +18,7 @@ pub record PutsDecoded (text hrp hrp' bytes bytes' : List ℕ)
   pub part_put : IsPut part hrp hrp' hrp_count
   pub found_put : IsPut found bytes bytes' bytes_count
 
--- a text is decoded, and buffers of so many bytes have room for its parts
+-- a text is decoded, and buffers of this many bytes have room for its parts
 pub record CanDecode (text : List ℕ) (hrp_room bytes_room : ℕ) : Type 0 where
   pub part : List ℕ
   pub found : List ℕ
@@ -40,7 +40,7 @@ IsReadFault text (Text e) = IsUtf8 text × IsDecodeRefusal text (Parse e)
 IsReadFault text (Checksum e) = IsUtf8 text × IsDecodeRefusal text (NoChecksumAccepts e)
 IsReadFault text _ = ⊥
 
--- why nothing is put into buffers of so many bytes
+-- why nothing is put into buffers of this many bytes
 abbrev pub IsDecodeFault : List ℕ → ℕ → ℕ → Refusal → Type 0
 IsDecodeFault text hrp_room bytes_room NoRoom = LacksRoom text hrp_room bytes_room
 IsDecodeFault text hrp_room bytes_room e = IsReadFault text e

@@ -20,23 +20,23 @@ pub record PutsText (code : Code) (hrp bytes old new : List ℕ) (count : ℕ) :
   pub fits : encoded_length_of code hrp (to_fes bytes) ≤ code.code_length
   pub put : IsPut text old new count
 
--- there is such a text, and a buffer of so many bytes has room for it
+-- there is such a text, and a buffer of this many bytes has room for it
 pub record HasText (code : Code) (hrp bytes : List ℕ) (room : ℕ) : Type 0 where
   pub is_hrp : IsHrp hrp
   pub fits : encoded_length_of code hrp (to_fes bytes) ≤ code.code_length
   pub has_room : encoded_length_of code hrp (to_fes bytes) ≤ room
 
--- why the text of a human-readable part and bytes is not put into a buffer of so many bytes: it is
--- longer than the code, or than the buffer
-abbrev pub IsTextFault : Code → List ℕ → List ℕ → ℕ → Refusal → Type 0
-IsTextFault code hrp bytes room (TooLong e) =
+-- why the text of a human-readable part and bytes is not put into a buffer of this many bytes: it
+-- is longer than the code, or than the buffer
+abbrev pub IsLengthFault : Code → List ℕ → List ℕ → ℕ → Refusal → Type 0
+IsLengthFault code hrp bytes room (TooLong e) =
     IsEncodeRefusal code hrp (to_fes bytes) (TextTooLong e)
-IsTextFault code hrp bytes room NoRoom =
+IsLengthFault code hrp bytes room NoRoom =
     (encoded_length_of code hrp (to_fes bytes) ≤ code.code_length)
     × (room < encoded_length_of code hrp (to_fes bytes))
-IsTextFault code hrp bytes room _ = ⊥
+IsLengthFault code hrp bytes room _ = ⊥
 
 -- the same of bytes that may be no human-readable part, which is refused first
 abbrev pub IsEncodeFault : List ℕ → List ℕ → ℕ → Code → Refusal → Type 0
 IsEncodeFault hrp bytes room code e =
-    IsPartFault hrp e ⊎ (IsHrp hrp × IsTextFault code hrp bytes room e)
+    IsPartFault hrp e ⊎ (IsHrp hrp × IsLengthFault code hrp bytes room e)

@@ -31,7 +31,7 @@ pub record PutsEach (edits : List (Edit × List ℕ))
   pub texts_put : IsPut (flat_map (λ m. m.1) edits) texts texts'
       (length (flat_map (λ m. m.1) edits))
 
--- so many edits, which are all that make a text that the checksum accepts, are put into buffers
+-- this many edits, which are all that make a text that the checksum accepts, are put into buffers
 pub record PutsEdits (text kinds kinds' locations locations' texts texts' : List ℕ)
     (count : ℕ) (code : Code) : Type 0 where
   pub grammar : IsInGrammar text
@@ -40,12 +40,12 @@ pub record PutsEdits (text kinds kinds' locations locations' texts texts' : List
   pub count_is : count ≡ length found
   pub put : PutsEach found kinds kinds' locations locations' texts texts'
 
--- the first so many edits fit in buffers of these sizes
+-- the first this many edits fit in buffers of these sizes
 abbrev pub EditsFit : List (Edit × List ℕ) → ℕ → ℕ → ℕ → ℕ → Type 0
 EditsFit found kinds_room locations_room texts_room n =
     (n ≤ kinds_room) × (n ≤ locations_room) × FirstFit (λ m. m.1) found texts_room n
 
--- so many edits, which are all that make a text that the checksum accepts, do not fit in buffers:
+-- this many edits, which are all that make a text that the checksum accepts, do not fit in buffers:
 -- the most of them that fit, the first ones, are put there
 pub record PutsFirstEdits (text kinds kinds' locations locations' texts texts' : List ℕ)
     (count : ℕ) (code : Code) : Type 0 where
@@ -59,7 +59,7 @@ pub record PutsFirstEdits (text kinds kinds' locations locations' texts texts' :
       (length found) put_count
   pub put : PutsEach (take put_count found) kinds kinds' locations locations' texts texts'
 
--- so many edits, which are all that make a text that the checksum accepts, are more than a buffer
+-- this many edits, which are all that make a text that the checksum accepts, are more than a buffer
 -- of one of these sizes has room for, or their texts, one behind another, are longer
 pub record LacksRoomForEdits (text : List ℕ)
     (kinds_room locations_room texts_room count : ℕ) (code : Code) : Type 0 where

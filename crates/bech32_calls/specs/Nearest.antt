@@ -17,7 +17,7 @@ use Rattle.bech32_calls.specs.declared.refusal.Refusal.TheVariants.{BadNumber, M
 abbrev pub joined : List (List (ℕ × Fe32) × List ℕ) → List ℕ
 joined found = flat_map (λ m. m.1) found
 
--- so many texts near this one, which are all, are put into a buffer, one behind another; they are
+-- this many texts near this one, which are all, are put into a buffer, one behind another; they are
 -- asked for with two errors at most, and each has the length of this one
 pub record PutsNear (text given : List ℕ) (errors : ℕ)
     (old new : List ℕ) (count : ℕ) (code : Code) : Type 0 where
@@ -27,7 +27,7 @@ pub record PutsNear (text given : List ℕ) (errors : ℕ)
   pub count_is : count ≡ length found
   pub put : IsPut (joined found) old new (count * length text)
 
--- so many texts near this one, which are all, do not fit in a buffer: the most of them that fit,
+-- this many texts near this one, which are all, do not fit in a buffer: the most of them that fit,
 -- the first ones, are put there
 pub record PutsFirstNear (text given : List ℕ) (errors : ℕ)
     (old new : List ℕ) (count : ℕ) (code : Code) : Type 0 where

@@ -25,7 +25,7 @@ pub record PutsAddress (hrp : List ℕ) (version : ℕ)
   pub is_address : IsLowerAddress hrp (element version) program text
   pub put : IsPut text old new count
 
--- there is an address, and a buffer of so many bytes has room for it
+-- there is an address, and a buffer of this many bytes has room for it
 pub record HasRoomFor (hrp : List ℕ) (version : ℕ) (program : List ℕ) (room : ℕ) : Type 0 where
   pub is_hrp : IsHrp hrp
   pub small : version ≤ 31
@@ -67,7 +67,7 @@ pub record PutsProgram (text hrp hrp' program program' : List ℕ)
   pub version_is : version ≡ witness_version.value
   pub found_put : IsPut found program program' program_count
 
--- a text is an address, and buffers of so many bytes have room for its parts
+-- a text is an address, and buffers of this many bytes have room for its parts
 pub record CanDecodeAddress (text : List ℕ) (hrp_room program_room : ℕ) : Type 0 where
   pub part : List ℕ
   pub version : Fe32
@@ -86,7 +86,7 @@ pub record LacksRoomFor (text : List ℕ) (hrp_room program_room : ℕ) : Type 0
   pub is_address : IsAddress part version found text
   pub lacks : (hrp_room < length part) ⊎ (program_room < length found)
 
--- why nothing is put into buffers of so many bytes: the bytes are not a text, or the text's first
+-- why nothing is put into buffers of this many bytes: the bytes are not a text, or the text's first
 -- fault, or a buffer is too small
 abbrev pub IsSegwitDecodeFault : List ℕ → ℕ → ℕ → Refusal → Type 0
 IsSegwitDecodeFault text hrp_room program_room NotUtf8 = ¬ (IsUtf8 text)

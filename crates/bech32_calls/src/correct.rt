@@ -16,13 +16,10 @@ ghost use Rattle.bech32_calls.specs.Checksums.{ForChecksum, IsFaultBy};
 ghost use Rattle.bech32_calls.specs.Correct.{IsCorrectFault, IsMending, PutsMended, bound};
 
 use crate::checksum::{BECH32, BECH32M};
-use crate::input::text_of;
+use crate::input::read;
 use crate::refusal::Refusal;
 use bech32::{Bech32, Bech32m, Fe32};
-use bech32_correction::{
-    Correction, CorrectsInPlace, erased_of_read, error_of_read, listing_of_read, listing_of_unread,
-    mend,
-};
+use bech32_correction::{CorrectsInPlace, found_of_read, mend, searched_of_read};
 use bech32_decode::Reading;
 
 // Puts the locations and the values of a listing at the fronts of buffers that have room for them.
@@ -97,35 +94,8 @@ fn put_correction(
     Ok(count)
 }
 
-// Mends a text of which one walk says nothing by one checksum.
-#[inline(never)]
-fn corrected_unread<Ck: CorrectsInPlace>(
-    text: &[u8],
-    erasures: &[usize],
-    locations: &mut [usize],
-    values: &mut [u8],
-    mended: &mut [u8],
-) -> Result<usize, Refusal>
-    requires { Ck.bound ≡ bound }
-    ensures value { IfOk result (λ n. PutsMended text.now erasures.now
-        locations.old locations.new values.old values.new n
-        mended.old mended.new (length text.now) Ck.code) }
-    ensures refused { IfErr result (λ e. IsCorrectFault text.now erasures.now
-        (length locations.old) (length values.old) (length mended.old) Ck.code e) }
-    ensures same { OnErr result ((locations.new ≡ locations.old) × (values.new ≡ values.old)
-        × (mended.new ≡ mended.old)) }
-{
-    match listing_of_unread::<Ck>(text_of(text)?, erasures)? {
-        Correction::Accepted => put_correction(&[], text, locations, values, mended),
-        Correction::Mended(listing) => {
-            put_correction(listing.as_slice(), text, locations, values, mended)
-        }
-        Correction::Unexplained(()) => Err(Refusal::NoCorrection),
-    }
-}
-
-// Mends a text that one walk read, and that the checksum refuses for its residue, where the
-// checksum does not look the correction up. Out of line: where it does, no listing is to be
+// Mends a text that was read, and that the checksum refuses for its residue, where the checksum does
+// not look the correction up. Out of line: where it does, no listing is to be
 // cleared.
 #[inline(never)]
 fn corrected_by_search<Ck: CorrectsInPlace>(
@@ -151,7 +121,7 @@ fn corrected_by_search<Ck: CorrectsInPlace>(
     ensures same { OnErr result ((locations.new ≡ locations.old) × (values.new ≡ values.old)
         × (mended.new ≡ mended.old)) }
 {
-    match listing_of_read(reading, erasures) {
+    match searched_of_read(reading, erasures) {
         Some(listing) => { put_correction(listing.as_slice(), text, locations, values, mended) }
         None => Err(Refusal::NoCorrection),
     }
@@ -175,22 +145,14 @@ fn corrected_by<Ck: CorrectsInPlace>(
     ensures same { OnErr result ((locations.new ≡ locations.old) × (values.new ≡ values.old)
         × (mended.new ≡ mended.old)) }
 {
-    let Some(reading) = Reading::<Ck>::of(text) else {
-        return corrected_unread::<Ck>(text, erasures, locations, values, mended);
-    };
+    let reading = read::<Ck>(text)?;
     reading.validate_lengths()?;
     if reading.has_target() {
         return put_correction(&[], text, locations, values, mended);
     }
-    if erasures.is_empty() {
-        return match error_of_read(&reading) {
-            Some(Some(error)) => put_correction(&[error], text, locations, values, mended),
-            Some(None) => Err(Refusal::NoCorrection),
-            None => corrected_by_search(&reading, text, erasures, locations, values, mended),
-        };
-    }
-    match erased_of_read(&reading, erasures) {
-        Some(listing) => put_correction(listing.as_slice(), text, locations, values, mended),
+    match found_of_read(&reading, erasures) {
+        Some(Some(found)) => put_correction(found.as_slice(), text, locations, values, mended),
+        Some(None) => Err(Refusal::NoCorrection),
         None => corrected_by_search(&reading, text, erasures, locations, values, mended),
     }
 }

@@ -11,11 +11,10 @@ ghost use Rattle.bech32_calls.specs.Decode.{PutsDecoded, IsDecodeFault};
 ghost use Rattle.bech32_calls.specs.declared.refusal.Refusal.TheVariants.{NoRoom};
 
 use crate::checksum::{BECH32, BECH32M};
-use crate::input::text_of;
+use crate::input::read;
 use crate::refusal::Refusal;
-use bech32::primitives::decode::{UncheckedHrpstring, validate_either};
 use bech32::{Bech32, Bech32m, Checksum};
-use bech32_decode::{Reading, data_bytes_count, put_data_bytes};
+use bech32_decode::{data_bytes_count, put_data_bytes};
 use bech32_encode::put_at_front;
 
 // Puts a human-readable part and the bytes of characters at the fronts of two buffers, and returns
@@ -44,22 +43,6 @@ pub(crate) fn put_parts(
     Ok((part.len(), put_data_bytes(characters, bytes)))
 }
 
-// Puts the parts of a text of which one walk says nothing.
-#[inline]
-fn decoded_unread(text: &[u8], hrp: &mut [u8], bytes: &mut [u8]) -> Result<(usize, usize), Refusal>
-    ensures value { IfOk result
-        (λ n. PutsDecoded text.now hrp.old hrp.new bytes.old bytes.new n.0 n.1) }
-    ensures refused { IfErr result
-        (λ e. IsDecodeFault text.now (length hrp.old) (length bytes.old) e) }
-    ensures same { OnErr result ((hrp.new ≡ hrp.old) × (bytes.new ≡ bytes.old)) }
-{
-    let unchecked = UncheckedHrpstring::new(text_of(text)?)?;
-    validate_either(&unchecked)?;
-    let data_part = unchecked.data_part_ascii();
-    let characters = &data_part[..data_part.len() - Bech32m::CHECKSUM_LENGTH];
-    put_parts(unchecked.part(), characters, hrp, bytes)
-}
-
 /// Puts the human-readable part, in the case of the text, and the bytes of a text that Bech32m or
 /// Bech32 accepts at the fronts of two buffers, and returns their lengths, at most 83 and 634.
 ///
@@ -73,24 +56,9 @@ pub fn decoded(text: &[u8], hrp: &mut [u8], bytes: &mut [u8]) -> Result<(usize, 
         (λ e. IsDecodeFault text.now (length hrp.old) (length bytes.old) e) }
     ensures same { OnErr result ((hrp.new ≡ hrp.old) × (bytes.new ≡ bytes.old)) }
 {
-    let Some(reading) = Reading::<Bech32m>::of(text) else {
-        return decoded_unread(text, hrp, bytes);
-    };
+    let reading = read::<Bech32m>(text)?;
     reading.validate_either()?;
     put_parts(reading.hrp, reading.characters(), hrp, bytes)
-}
-
-// The lengths of the parts of a text of which one walk says nothing.
-#[inline]
-fn checked_unread<Ck: Checksum>(bytes: &[u8]) -> Result<(usize, usize), Refusal>
-    ensures { MatchResult result
-        (λ n. IsCheckedAs bytes.now n.0 n.1 Ck.code)
-        (λ e. IsCheckFault bytes.now Ck.code e) }
-{
-    let unchecked = UncheckedHrpstring::new(text_of(bytes)?)?;
-    unchecked.validate_checksum::<Ck>()?;
-    let data_length = unchecked.data_part_ascii().len() - Ck::CHECKSUM_LENGTH;
-    Ok((unchecked.part().len(), data_length))
 }
 
 // The lengths of the parts of a text that the checksum accepts.
@@ -99,9 +67,7 @@ fn checked<Ck: Checksum>(bytes: &[u8]) -> Result<(usize, usize), Refusal>
         (λ n. IsCheckedAs bytes.now n.0 n.1 Ck.code)
         (λ e. IsCheckFault bytes.now Ck.code e) }
 {
-    let Some(reading) = Reading::<Ck>::of(bytes) else {
-        return checked_unread::<Ck>(bytes);
-    };
+    let reading = read::<Ck>(bytes)?;
     reading.validate()?;
     Ok((reading.hrp.len(), reading.characters().len()))
 }

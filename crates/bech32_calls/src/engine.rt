@@ -12,7 +12,7 @@ use crate::input::element_of;
 use crate::refusal::Refusal;
 use bech32::primitives::checksum::Engine;
 use bech32::{Bech32, Bech32m, Checksum};
-use bech32_places::values::word_of_values;
+use bech32_decode::values::word_of_values;
 
 // Hands the elements of values to an engine, eight at a time, and returns the values that are left,
 // fewer than eight.
@@ -29,10 +29,9 @@ fn input_eights<'v, Ck: Checksum>(
 {
     let mut rest = values;
     while rest.len() >= 8 {
-        let word = word_of_values(rest);
-        if word >= 0x100_0000_0000 {
+        let Some(word) = word_of_values(rest) else {
             return Err(Refusal::BadNumber);
-        }
+        };
         engine.input_word(word);
         rest = &rest[8..];
     }

@@ -5,10 +5,11 @@ ghost use Rattle.std.specs.Str.{IsUtf8};
 ghost use Rattle.bech32_gf.specs.Fe32.{element};
 ghost use Rattle.bech32_hrp.specs.Hrp.{IsHrp};
 ghost use Rattle.bech32_hrp.specs.HrpBytes.{hrp_bytes};
-ghost use Rattle.bech32_calls.specs.Faults.{IsPartFault};
+ghost use Rattle.bech32_calls.specs.Faults.{IsPartFault, IsTextFault};
 
 use crate::refusal::Refusal;
-use bech32::{Fe32, Hrp};
+use bech32::{Checksum, Fe32, Hrp};
+use bech32_decode::Reading;
 use bech32_hrp::is_part;
 
 /// Bytes are not UTF-8. It is small, unlike a refusal, so that a text is returned quickly.
@@ -34,6 +35,34 @@ pub fn text_of(bytes: &[u8]) -> Result<&str, NotText>
         Ok(text) => Ok(text),
         Err(_) => Err(NotText),
     }
+}
+
+/// Reads the text of bytes.
+///
+/// # Errors
+///
+/// Bytes that are not UTF-8; else the first fault of their text.
+#[inline(always)]
+pub(crate) fn read<Ck: Checksum>(bytes: &[u8]) -> Result<Reading<'_, Ck>, Refusal>
+    ensures { MatchResult result
+        (λ r. r.text.now ≡ bytes.now)
+        (λ e. IsTextFault bytes.now e) }
+{
+    match Reading::of(bytes) {
+        Some(reading) => Ok(reading),
+        None => read_in_steps(bytes),
+    }
+}
+
+// The same without the walk, which said nothing. Apart, so that its locals are cleared only there.
+#[inline(always)]
+fn read_in_steps<Ck: Checksum>(bytes: &[u8]) -> Result<Reading<'_, Ck>, Refusal>
+    ensures { MatchResult result
+        (λ r. r.text.now ≡ bytes.now)
+        (λ e. IsTextFault bytes.now e) }
+{
+    let reading = Reading::in_steps(text_of(bytes)?)?;
+    Ok(reading)
 }
 
 /// The human-readable part of bytes.

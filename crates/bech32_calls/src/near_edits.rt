@@ -14,7 +14,7 @@ use crate::input::text_of;
 use crate::listed::Listed;
 use crate::refusal::Refusal;
 use bech32::{Bech32, Bech32m, Change, EditsError, NearEdit, near_edits_in};
-use bech32_decode::UncheckedHrpstring;
+use bech32_decode::Reading;
 use bech32_encode::put_at_front;
 use caller_memory::{Lent, Memory};
 use std::alloc::Allocator;
@@ -26,7 +26,7 @@ fn text_in_grammar(bytes: &[u8]) -> Result<&str, Refusal>
         (λ e. (code : Code) → IsEditsFault bytes.now code e) }
 {
     let text = text_of(bytes)?;
-    UncheckedHrpstring::new(text)?;
+    Reading::<Bech32m>::new(text)?;
     Ok(text)
 }
 

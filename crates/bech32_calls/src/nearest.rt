@@ -1,7 +1,9 @@
 //! Lists the texts near to a mistyped one.
 
 ghost use Rattle.std.specs.Prelude.{◌≡◌, ◌<◌, ◌≤◌, ◌*◌, ◌⊎◌, [], length, map, flat_map, string_bytes, take, true, false, IfErr, IfOk, MatchResult, OnErr};
-ghost use Rattle.bech32_near.specs.NearTexts.{AreNearTexts, IsOutOfMemory, LeavesResidue};
+ghost use Rattle.bech32_checksum.specs.Code.{bech32, bech32m};
+ghost use Rattle.bech32_decode.specs.Refusals.{HasLengths};
+ghost use Rattle.bech32_near.specs.NearTexts.{AreNearTexts, IsOutOfMemory};
 ghost use Rattle.bech32_encode.specs.Buffers.{IsPut};
 ghost use Rattle.caller_memory.specs.Memory.{IsKept, LeavesMemory, memory_size};
 ghost use Rattle.bech32_calls.specs.Checksums.{ForChecksum, IsFaultBy};
@@ -10,56 +12,83 @@ ghost use Rattle.bech32_calls.specs.Fitting.{FirstFit, IsMost};
 ghost use Rattle.bech32_calls.specs.Nearest.{IsNearFault, IsNearFaultOrKept, IsRead, PutsFirstNear, PutsNear};
 
 use crate::checksum::{BECH32, BECH32M};
-use crate::input::text_of;
+use crate::input::read;
 use crate::listed::Listed;
 use crate::refusal::Refusal;
 use bech32::{Bech32, Bech32m, Mended};
+use bech32_decode::Reading;
 use bech32_encode::put_at_front;
-use bech32_near::{ReadText, nearest_of_read};
+use bech32_near::nearest_of_read;
 use caller_memory::{Lent, Memory};
 use std::alloc::{AllocError, Allocator};
 
-// So many errors are looked for at most.
+// The most errors that are looked for.
 const MOST_ERRORS: usize = 2;
 
-// Reads a text by the checksum of a number.
-fn read_by(checksum: u32, bytes: &[u8]) -> Result<ReadText<'_>, Refusal>
+// Reads a text by the generator of both checksums, and tests its lengths.
+fn read_either(bytes: &[u8]) -> Result<Reading<'_, Bech32m>, Refusal>
     ensures { MatchResult result
-        (λ read. (read.text.now ≡ bytes.now)
-        × ForChecksum checksum (λ code. LeavesResidue code read.text.now read.window read.residue))
+        (λ r. (r.text.now ≡ bytes.now)
+        × HasLengths bech32m (length r.text.now) (length r.data_part.now))
+        (λ e. IsResidueFault bytes.now bech32m e × IsResidueFault bytes.now bech32 e) }
+{
+    let reading = read::<Bech32m>(bytes)?;
+    reading.validate_lengths()?;
+    Ok(reading)
+}
+
+// The same, where a number is that of a checksum.
+fn read_by(checksum: u32, bytes: &[u8]) -> Result<Reading<'_, Bech32m>, Refusal>
+    ensures { MatchResult result
+        (λ r. (r.text.now ≡ bytes.now) × ForChecksum checksum
+        (λ code. HasLengths code (length r.text.now) (length r.data_part.now)))
         (λ e. IsFaultBy checksum (IsResidueFault bytes.now) e) }
 {
     match checksum {
-        BECH32 => Ok(ReadText::new::<Bech32>(text_of(bytes)?)?),
-        BECH32M => Ok(ReadText::new::<Bech32m>(text_of(bytes)?)?),
+        BECH32 => Ok(read_either(bytes)?),
+        BECH32M => Ok(read_either(bytes)?),
         _ => Err(Refusal::BadNumber),
     }
 }
 
-// The texts that are near to one that the checksum of a number read.
+// The same reading by Bech32, whose generator is the same.
+fn by_bech32<'s>(reading: &Reading<'s, Bech32m>) -> Reading<'s, Bech32>
+    ensures text { result.text.now ≡ reading.now.text.now }
+    ensures data_part { result.data_part.now ≡ reading.now.data_part.now }
+{
+    Reading {
+        text: reading.text,
+        hrp: reading.hrp,
+        data_part: reading.data_part,
+        residue: reading.residue,
+    }
+}
+
+// The texts that are near to one that was read, by the checksum of a number.
 fn near_by<'a, A: Allocator>(
     alloc: &'a A,
     checksum: u32,
-    read: &ReadText<'_>,
+    reading: &Reading<'_, Bech32m>,
     given: &[usize],
     errors: usize,
 ) -> Result<Vec<Mended<&'a A>, &'a A>, AllocError>
     requires { ForChecksum checksum
-        (λ code. LeavesResidue code read.now.text.now read.now.window read.now.residue) }
+        (λ code. HasLengths code (length reading.now.text.now) (length reading.now.data_part.now)) }
     ensures { MatchResult result
         (λ near. ForChecksum checksum
-        (λ code. AreNearTexts code bound read.now.text.now given.now errors
+        (λ code. AreNearTexts code bound reading.now.text.now given.now errors
         (map (λ m. (m.listing, string_bytes m.text)) near.items)))
         (λ _. ForChecksum checksum
-        (λ code. IsOutOfMemory code bound read.now.text.now given.now errors)) }
+        (λ code. IsOutOfMemory code bound reading.now.text.now given.now errors)) }
 {
     match checksum {
         BECH32 => {
-            let near = nearest_of_read::<Bech32, &A>(alloc, read, given, errors)?;
+            let by_bech32 = by_bech32(reading);
+            let near = nearest_of_read::<Bech32, &A>(alloc, &by_bech32, given, errors)?;
             Ok(near.texts)
         }
         BECH32M => {
-            let near = nearest_of_read::<Bech32m, &A>(alloc, read, given, errors)?;
+            let near = nearest_of_read::<Bech32m, &A>(alloc, reading, given, errors)?;
             Ok(near.texts)
         }
         _ => unreachable!(),
@@ -91,23 +120,24 @@ fn put_each<A: Allocator + Copy>(near: &[Mended<A>], texts: &mut [u8]) -> usize
 fn put_near<A: Allocator>(
     alloc: &A,
     checksum: u32,
-    read: &ReadText<'_>,
+    reading: &Reading<'_, Bech32m>,
     given: &[usize],
     errors: usize,
     texts: &mut [u8],
 ) -> Result<Listed, Refusal>
     requires few { errors ≤ 2 }
-    requires read { ForChecksum checksum
-        (λ code. LeavesResidue code read.now.text.now read.now.window read.now.residue) }
+    requires lengths { ForChecksum checksum
+        (λ code. HasLengths code (length reading.now.text.now) (length reading.now.data_part.now)) }
     ensures all { IfOk result (λ listed. listed.fit ≡ true → ForChecksum checksum
-        (PutsNear read.now.text.now given.now errors texts.old texts.new listed.count)) }
+        (PutsNear reading.now.text.now given.now errors texts.old texts.new listed.count)) }
     ensures first { IfOk result (λ listed. listed.fit ≡ false → ForChecksum checksum
-        (PutsFirstNear read.now.text.now given.now errors texts.old texts.new listed.count)) }
+        (PutsFirstNear reading.now.text.now given.now errors
+        texts.old texts.new listed.count)) }
     ensures refused { IfErr result (λ e. IsFaultBy checksum
-        (IsNearFault read.now.text.now given.now errors) e) }
+        (IsNearFault reading.now.text.now given.now errors) e) }
     ensures same { OnErr result (texts.new ≡ texts.old) }
 {
-    let Ok(found) = near_by(alloc, checksum, read, given, errors) else {
+    let Ok(found) = near_by(alloc, checksum, reading, given, errors) else {
         return Err(Refusal::Memory);
     };
     let near = found.as_slice();
@@ -170,9 +200,9 @@ pub fn put_nearest(
     if errors > MOST_ERRORS {
         return Err(Refusal::BadNumber);
     }
-    let read = read_by(checksum, bytes)?;
+    let reading = read_by(checksum, bytes)?;
     let lent = Lent::new(memory.take());
-    let listed = put_near(&lent.arena(), checksum, &read, given, errors, texts);
+    let listed = put_near(&lent.arena(), checksum, &reading, given, errors, texts);
     // Memory that does not come back did not suffice.
     if !lent.put_back(memory) {
         return Err(Refusal::Memory);

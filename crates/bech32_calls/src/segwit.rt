@@ -1,20 +1,21 @@
 //! Encodes and decodes segwit addresses.
 
-ghost use Rattle.std.specs.Prelude.{◌≡◌, ◌≤◌, ◌∷◌, ℕ, List, length, IfOk, IfErr, OnErr};
+ghost use Rattle.std.specs.Prelude.{◌≡◌, ◌≤◌, ◌<◌, ◌∷◌, ℕ, List, length, IfOk, IfErr, MatchResult, OnErr};
 ghost use Rattle.bech32_gf.specs.Fe32.{value};
 ghost use Rattle.bech32_bits.specs.Bits.{to_fes};
 ghost use Rattle.bech32_checksum.specs.Encoded.{IsEncodedText};
 ghost use Rattle.bech32_decode.specs.Segwit.{segwit_code};
 ghost use Rattle.bech32_segwit.specs.SegwitEncoding.{address_length};
 ghost use Rattle.bech32_encode.specs.Buffers.{IsPut};
+ghost use Rattle.bech32_calls.specs.Faults.{IsTextFault};
 ghost use Rattle.bech32_calls.specs.Segwit.{PutsAddress, IsSegwitEncodeFault};
 ghost use Rattle.bech32_calls.specs.Segwit.{PutsProgram, IsSegwitDecodeFault};
 
 use crate::decode::put_parts;
 use crate::encode::put_in_room;
-use crate::input::{element_of, test_part, text_of};
+use crate::input::{element_of, read, test_part, text_of};
 use crate::refusal::Refusal;
-use bech32::primitives::decode::SegwitHrpstring;
+use bech32::primitives::decode::SegwitHrpstringError;
 use bech32::primitives::segwit::{MAX_STRING_LENGTH, VERSION_0};
 use bech32::segwit::address_length_of_part;
 use bech32::{Bech32, Bech32m, Fe32};
@@ -58,23 +59,45 @@ pub fn encoded(hrp: &[u8], version: u32, program: &[u8], text: &mut [u8]) -> Res
     Ok(put_address(hrp, element, program, text))
 }
 
-// Puts the parts of an address of which one walk says nothing.
-#[inline]
-fn decoded_unread(
-    text: &[u8],
-    hrp: &mut [u8],
-    program: &mut [u8],
-) -> Result<(usize, Fe32, usize), Refusal>
-    ensures value { IfOk result
-        (λ n. PutsProgram text.now hrp.old hrp.new program.old program.new n.0 (value n.1) n.2) }
-    ensures refused { IfErr result
-        (λ e. IsSegwitDecodeFault text.now (length hrp.old) (length program.old) e) }
-    ensures same { OnErr result ((hrp.new ≡ hrp.old) × (program.new ≡ program.old)) }
+// Why a text of more than 90 characters is no address. Out of line: few texts come here.
+#[cold]
+#[inline(never)]
+fn refusal_of_long(text: &[u8]) -> Refusal
+    requires { 90 < length text.now }
+    ensures { (m n : ℕ) → IsSegwitDecodeFault text.now m n result }
 {
-    let address = SegwitHrpstring::new(text_of(text)?)?;
-    let characters = address.data_part_ascii_no_witver_no_checksum();
-    let (part, count) = put_parts(address.hrp().as_bytes(), characters, hrp, program)?;
-    Ok((part, address.witness_version(), count))
+    match text_of(text) {
+        Ok(_) => Refusal::Address(SegwitHrpstringError::TooLong(text.len())),
+        Err(_) => Refusal::NotUtf8,
+    }
+}
+
+// Why a text of at most 90 characters that is not read is no address.
+#[inline(always)]
+fn refusal_of_unread(refusal: Refusal) -> Refusal
+    ensures { (text : List ℕ) → length text ≤ 90 → IsTextFault text refusal
+        → (m n : ℕ) → IsSegwitDecodeFault text m n result }
+{
+    match refusal {
+        Refusal::Text(e) => Refusal::Address(SegwitHrpstringError::Unchecked(e)),
+        refusal => refusal,
+    }
+}
+
+// Reads the text of bytes that may be an address: they are at most 90.
+#[inline(always)]
+fn read_short(text: &[u8]) -> Result<Reading<'_, Bech32m>, Refusal>
+    ensures { MatchResult result
+        (λ r. (r.text.now ≡ text.now) × (length text.now ≤ 90))
+        (λ e. (m n : ℕ) → IsSegwitDecodeFault text.now m n e) }
+{
+    if text.len() > MAX_STRING_LENGTH {
+        return Err(refusal_of_long(text));
+    }
+    match read(text) {
+        Ok(reading) => Ok(reading),
+        Err(refusal) => Err(refusal_of_unread(refusal)),
+    }
 }
 
 /// Puts the human-readable part, in the case of the text, and the program of a segwit address at
@@ -95,12 +118,7 @@ pub fn decoded(
         (λ e. IsSegwitDecodeFault text.now (length hrp.old) (length program.old) e) }
     ensures same { OnErr result ((hrp.new ≡ hrp.old) × (program.new ≡ program.old)) }
 {
-    if text.len() > MAX_STRING_LENGTH {
-        return decoded_unread(text, hrp, program);
-    }
-    let Some(reading) = Reading::<Bech32m>::of(text) else {
-        return decoded_unread(text, hrp, program);
-    };
+    let reading = read_short(text)?;
     let address = reading.short_address()?;
     let (part, count) = put_parts(reading.hrp, address.program, hrp, program)?;
     Ok((part, address.version, count))

@@ -16,6 +16,9 @@ ghost use Rattle.bech32_numbers.specs.Numbers.{number_of_decode_error, number_of
 ghost use Rattle.bech32_numbers.specs.Numbers.{number_of_segwit_decode_error};
 ghost use Rattle.bech32_numbers.specs.Numbers.{number_of_segwit_encode_error};
 
+mod sentences;
+
+pub use self::sentences::{bech32_sentence_of, codex32_sentence_of};
 use bech32::primitives::decode::{
     CharError, CheckedHrpstringError, ChecksumError, PaddingError, SegwitHrpstringError,
     UncheckedHrpstringError,

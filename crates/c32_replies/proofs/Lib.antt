@@ -1,5 +1,4 @@
 pub mod OneAnswer
-pub mod Outcomes
 pub mod Replies
 pub mod Shares
 pub mod Sizes

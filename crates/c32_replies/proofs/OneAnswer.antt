@@ -13,21 +13,21 @@ use Rattle.codex32.specs.declared.string.Codex32Str.{Codex32Str}
 use Rattle.codex32.proofs.Strings.{accepts-from_outcome}
 use Rattle.codex32_numbers.specs.Numbers.{number_of_codex32_encode_error, number_of_codex32_error, number_of_derive_error}
 use Rattle.codex32_shares.specs.Shares.{DoAgree}
-use Rattle.codex32_strings.specs.Damaged.{read_text}
-use Rattle.codex32_strings.specs.Derive.{AreOfSet, DoContradict, IsDeriveRefusal, IsOfSet, IsSetRefusal, IsUnshared, IsWholeSet, count_of, indices_of, rows_of, size_of}
-use Rattle.codex32_strings.specs.Encode.{is_byte_count, is_long_byte_count}
-use Rattle.codex32_strings.specs.HeaderParts.{header_word_fault, points_of, share_index_of_word, share_index_word_fault, threshold_number}
-use Rattle.codex32_strings.specs.Share.{AreSharesOf, IsEither, IsShareOf, IsShareRefusal, IsShareString, characters_of_share, identifier_of_share, index_of_share, payload_of_share, threshold_of_share}
-use Rattle.codex32_strings.specs.ShareParts.{bits_left_over}
-use Rattle.codex32_strings.specs.Strings.{IsCodex32}
-use Rattle.codex32_strings.specs.declared.error.Codex32Error.{Codex32Error}
-use Rattle.codex32_strings.specs.declared.error.Codex32Error.TheVariants as text_errors
-use Rattle.codex32_strings.specs.declared.error.DeriveError.{DeriveError}
-use Rattle.codex32_strings.specs.declared.identifier.Identifier.{Identifier}
-use Rattle.codex32_strings.specs.declared.share.Share.{Share}
-use Rattle.codex32_strings.specs.declared.threshold.Threshold.{Threshold}
-use Rattle.codex32_strings.proofs.OneString.{same_parts}
-use Rattle.codex32_strings.proofs.ShareStrings as strings
+use Rattle.codex32.specs.Damaged.{read_text}
+use Rattle.codex32.specs.Derive.{AreOfSet, DoContradict, IsDeriveRefusal, IsOfSet, IsSetRefusal, IsUnshared, IsWholeSet, count_of, indices_of, rows_of, size_of}
+use Rattle.codex32.specs.Encode.{is_byte_count, is_long_byte_count}
+use Rattle.codex32.specs.HeaderParts.{header_word_fault, points_of, share_index_of_word, share_index_word_fault, threshold_number}
+use Rattle.codex32.specs.Share.{AreSharesOf, IsEither, IsShareOf, IsShareRefusal, IsShareString, characters_of_share, identifier_of_share, index_of_share, payload_of_share, threshold_of_share}
+use Rattle.codex32.specs.ShareParts.{bits_left_over}
+use Rattle.codex32.specs.Strings.{IsCodex32}
+use Rattle.codex32.specs.declared.error.Codex32Error.{Codex32Error}
+use Rattle.codex32.specs.declared.error.Codex32Error.TheVariants as text_errors
+use Rattle.codex32.specs.declared.error.DeriveError.{DeriveError}
+use Rattle.codex32.specs.declared.identifier.Identifier.{Identifier}
+use Rattle.codex32.specs.declared.share.Share.{Share}
+use Rattle.codex32.specs.declared.threshold.Threshold.{Threshold}
+use Rattle.codex32.proofs.OneString.{same_parts}
+use Rattle.codex32.proofs.ShareStrings as strings
 use Rattle.line_program.specs.Refused.{SaysRefusal, err}
 use Rattle.c32_replies.specs.Numbers.{number_of_codex32_reply}
 use Rattle.c32_replies.specs.Reply.{IsDeriveAnswer, IsEncodeLineRefusal, IsEncodeStringAnswer, IsParseAnswer, IsShareAnswer, IsShareLineRefusal, IsSharesAnswer, IsSharesRefusal, IsTextRefusal, SaysDerived, SaysEncoded, SaysNearest, SaysNoNearest, SaysParts, SaysShare}

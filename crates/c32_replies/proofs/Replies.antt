@@ -5,26 +5,25 @@ use Rattle.bech32_gf.specs.Fe32.{path}
 use Rattle.bech32_gf.specs.declared.gf32.Fe32.{Fe32}
 use Rattle.b32_replies.specs.Hex.{bytes_of, hex_of}
 use Rattle.b32_replies.proofs.Sizes.{length-hex_of}
-use Rattle.codex32_strings.specs.Derive.{IsDerivedString, IsStringOfSet, IsWholeSet}
-use Rattle.codex32_strings.specs.Encode.{IsEncodeStringRefusal, IsEncodedString, is_byte_count, is_long_byte_count}
-use Rattle.codex32_strings.specs.Header.{identifier_of_header, share_index_of_header, threshold_of_header}
-use Rattle.codex32_strings.specs.HeaderParts.{header_word_fault, secret_index, share_index_of_word, share_index_word_fault}
+use Rattle.codex32.specs.Derive.{IsDerivedString, IsStringOfSet, IsWholeSet}
+use Rattle.codex32.specs.Encode.{IsEncodeStringRefusal, IsEncodedString, is_byte_count, is_long_byte_count}
+use Rattle.codex32.specs.Header.{identifier_of_header, share_index_of_header, threshold_of_header}
+use Rattle.codex32.specs.HeaderParts.{header_word_fault, secret_index, share_index_of_word, share_index_word_fault}
 use Rattle.codex32.specs.Nearest.{IsProposeRefusal}
-use Rattle.codex32_strings.specs.Share.{AreSharesOf, IsShareOf, IsShareString, bytes_of_share, identifier_of_share, index_of_share, payload_of_share, threshold_of_share}
-use Rattle.codex32_strings.specs.ShareParts.{bits_left_over}
-use Rattle.codex32_strings.specs.Strings.{IsStringRefusal}
-use Rattle.codex32_strings.specs.declared.error.Codex32Error.{Codex32Error}
-use Rattle.codex32_strings.specs.declared.error.Codex32Error.TheVariants as text_errors
-use Rattle.codex32_strings.specs.declared.error.EncodeError.{EncodeError}
-use Rattle.codex32_strings.specs.declared.error.PayloadError.{PayloadError}
-use Rattle.codex32_strings.specs.declared.header.Header.{Header}
-use Rattle.codex32_strings.specs.declared.share.Share.{Share}
+use Rattle.codex32.specs.Share.{AreSharesOf, IsShareOf, IsShareString, bytes_of_share, identifier_of_share, index_of_share, payload_of_share, threshold_of_share}
+use Rattle.codex32.specs.ShareParts.{bits_left_over}
+use Rattle.codex32.specs.Strings.{IsStringRefusal}
+use Rattle.codex32.specs.declared.error.Codex32Error.{Codex32Error}
+use Rattle.codex32.specs.declared.error.EncodeError.{EncodeError}
+use Rattle.codex32.specs.declared.error.PayloadError.{PayloadError}
+use Rattle.codex32.specs.declared.header.Header.{Header}
+use Rattle.codex32.specs.declared.share.Share.{Share}
 use Rattle.line_program.specs.Added.{Adds, AddsOrRefuses}
 use Rattle.line_program.proofs.Replied.{adds_or_refuses-weaker}
 use Rattle.line_program.specs.Refused.{err}
 use Rattle.codex32_numbers.specs.Numbers.{number_of_codex32_encode_error, number_of_codex32_error, number_of_payload_error}
 use Rattle.c32_replies.specs.Numbers.{number_of_codex32_reply}
-use Rattle.c32_replies.specs.Reply.{AreTexts, AreWordsOf, IsDeriveAnswer, IsEncodeStringAnswer, IsParseAnswer, IsProposeAnswer, IsShareAnswer, IsSharesAnswer, header_words}
+use Rattle.c32_replies.specs.Reply.{AreWordsOf, IsDeriveAnswer, IsEncodeStringAnswer, IsParseAnswer, IsProposeAnswer, IsShareAnswer, IsSharesAnswer, header_words}
 use Rattle.c32_replies.specs.declared.refusal.Refusal.{Refusal}
 use Rattle.c32_replies.specs.declared.refusal.Refusal.TheVariants as refusals
 use Rattle.c32_replies.proofs.Sizes.{bytes-few, header_words-size, string-size}
@@ -105,9 +104,6 @@ module _ (x : Fe32) (texts : List (List ℕ)) where
     size = omega (arith, set-size shares x text string);
     added = added;
   }
-
-  pub says-no_room : AreTexts texts → IsSharesAnswer x texts (err (number_of_codex32_reply (refusals.Text text_errors.Memory)))
-  says-no_room h = inr (record { error = refusals.Text text_errors.Memory; is_refusal = inr (refl, h); spelling = refl })
 
 -- ---- the same at the index of a word
 

@@ -9,16 +9,16 @@ use Rattle.bech32_checksum.specs.Encoded.{char_of_element}
 use Rattle.bech32_decode.proofs.Letters.{IsAscii-from_data}
 use Rattle.bech32_gf.specs.Fe32.{element_of, elements_of}
 use Rattle.bech32_gf.specs.declared.gf32.Fe32.{Fe32}
-use Rattle.codex32_strings.specs.Code.{code_of_length}
-use Rattle.codex32_strings.specs.Encode.{is_byte_count, is_long_byte_count}
-use Rattle.codex32_strings.specs.Share.{IsShareString, bytes_of_share}
-use Rattle.codex32_strings.specs.ShareParts.{code_of_data, payload_in}
-use Rattle.codex32_strings.specs.Strings.{IsString, is_within, is_within_either, is_within_long}
-use Rattle.codex32_strings.specs.declared.identifier.Identifier.{Identifier}
-use Rattle.codex32_strings.specs.declared.share.Share.{Share}
-use Rattle.codex32_strings.specs.declared.threshold.Threshold.{Threshold}
-use Rattle.codex32_strings.proofs.Digits.{or_true}
-use Rattle.codex32_strings.proofs.ShareParts.{code-long, code-short, fits}
+use Rattle.codex32.specs.Code.{code_of_length}
+use Rattle.codex32.specs.Encode.{is_byte_count, is_long_byte_count}
+use Rattle.codex32.specs.Share.{IsShareString, bytes_of_share}
+use Rattle.codex32.specs.ShareParts.{code_of_data, payload_in}
+use Rattle.codex32.specs.Strings.{IsString, is_within, is_within_either, is_within_long}
+use Rattle.codex32.specs.declared.identifier.Identifier.{Identifier}
+use Rattle.codex32.specs.declared.share.Share.{Share}
+use Rattle.codex32.specs.declared.threshold.Threshold.{Threshold}
+use Rattle.codex32.proofs.Digits.{or_true}
+use Rattle.codex32.proofs.ShareParts.{code-long, code-short, fits}
 use Rattle.c32_replies.specs.Reply.{header_words}
 
 module _ (text hrp : List ℕ) (threshold : ℕ) (identifier : List ℕ) (share_index : ℕ) (payload checksum : List ℕ)
@@ -50,7 +50,7 @@ module _ (text hrp : List ℕ) (threshold : ℕ) (identifier : List ℕ) (share_
 pub string-size : (text : List ℕ) (t : Threshold) (i : Identifier) (x : Fe32) (payload : List ℕ) → IsShareString text t i x payload → length text ≤ 127
 string-size text t i x payload h = (fits (length text) h.within).most
 
--- so many characters of a data part, with so many of the header and the checksum
+-- this many characters of a data part, with this many of the header and the checksum
 payload-few : (n size code : ℕ) → size ≡ 3 + n → (((size ≤ 93) × (code ≡ 13)) ⊎ ((size ≤ 127) × (code ≡ 15))) → n - (6 + code) ≤ 103
 payload-few n size code e (inl h) = omega (arith, h.0, h.1)
 payload-few n size code e (inr h) = omega (arith, h.0, h.1)

@@ -2,11 +2,11 @@
 use Rattle.std.proofs.Common.{◌≡◌, ◌⊎◌, ◌+◌, ℕ, inl, inr, List, [], ◌∷◌, Option, Some, None, refl, sym, ap, ◌∙◌, arith}
 use Rattle.std.proofs.lemmas.Fmt.{decimal_injective}
 use Rattle.codex32_numbers.specs.Numbers.{number_of_codex32_error}
-use Rattle.codex32_strings.specs.HeaderParts.{threshold_word}
-use Rattle.codex32_strings.specs.declared.error.Codex32Error.TheVariants as text_errors
-use Rattle.codex32_strings.specs.declared.identifier.Identifier.{Identifier}
-use Rattle.codex32_strings.specs.declared.threshold.Threshold.{Threshold}
-use Rattle.codex32_strings.proofs.Same.{threshold-path}
+use Rattle.codex32.specs.HeaderParts.{threshold_word}
+use Rattle.codex32.specs.declared.error.Codex32Error.TheVariants as text_errors
+use Rattle.codex32.specs.declared.identifier.Identifier.{Identifier}
+use Rattle.codex32.specs.declared.threshold.Threshold.{Threshold}
+use Rattle.codex32.proofs.Same.{threshold-path}
 use Rattle.line_program.specs.Refused.{err}
 use Rattle.c32_replies.specs.Numbers.{number_of_codex32_reply}
 use Rattle.c32_replies.specs.Request.{AskedSplit}

@@ -7,28 +7,28 @@ use Rattle.bech32_checksum.specs.Encoded.{char_of_element}
 use Rattle.bech32_gf.specs.Fe32.{elements_of}
 use Rattle.bech32_gf.specs.declared.gf32.Fe32.{Fe32}
 use Rattle.b32_replies.specs.Hex.{bytes_of, hex_of}
-use Rattle.codex32_strings.specs.Derive.{IsDeriveRefusal, IsDerivedString, IsStringOfSet}
-use Rattle.codex32_strings.specs.Derive.{IsWholeSet}
-use Rattle.codex32_strings.specs.Encode.{IsEncodeStringRefusal, IsEncodedString}
-use Rattle.codex32_strings.specs.Encode.{is_byte_count, is_long_byte_count}
-use Rattle.codex32_strings.specs.Header.{identifier_of_header, share_index_of_header}
-use Rattle.codex32_strings.specs.Header.{threshold_of_header}
-use Rattle.codex32_strings.specs.HeaderParts.{header_word_fault, identifier_elements, secret_index}
-use Rattle.codex32_strings.specs.HeaderParts.{share_index_of_word, share_index_word_fault}
-use Rattle.codex32_strings.specs.HeaderParts.{threshold_word}
+use Rattle.codex32.specs.Derive.{IsDeriveRefusal, IsDerivedString, IsStringOfSet}
+use Rattle.codex32.specs.Derive.{IsWholeSet}
+use Rattle.codex32.specs.Encode.{IsEncodeStringRefusal, IsEncodedString}
+use Rattle.codex32.specs.Encode.{is_byte_count, is_long_byte_count}
+use Rattle.codex32.specs.Header.{identifier_of_header, share_index_of_header}
+use Rattle.codex32.specs.Header.{threshold_of_header}
+use Rattle.codex32.specs.HeaderParts.{header_word_fault, identifier_elements, secret_index}
+use Rattle.codex32.specs.HeaderParts.{share_index_of_word, share_index_word_fault}
+use Rattle.codex32.specs.HeaderParts.{threshold_word}
 use Rattle.codex32.specs.Nearest.{IsNearestLongText, IsNearestText, IsProposeLongRefusal}
-use Rattle.codex32_strings.specs.Damaged.{read_text}
+use Rattle.codex32.specs.Damaged.{read_text}
 use Rattle.codex32.specs.Nearest.{IsProposeRefusal}
-use Rattle.codex32_strings.specs.Share.{AreSharesOf, IsEither, IsShareRefusal, IsShareString}
-use Rattle.codex32_strings.specs.ShareParts.{bits_left_over}
-use Rattle.codex32_strings.specs.Strings.{IsString, IsStringRefusal, frame_refusal}
-use Rattle.codex32_strings.specs.Strings.{long_frame_refusal}
-use Rattle.codex32_strings.specs.declared.error.Codex32Error.{Codex32Error}
-use Rattle.codex32_strings.specs.declared.error.Codex32Error.TheVariants as text_errors
-use Rattle.codex32_strings.specs.declared.header.Header.{Header}
-use Rattle.codex32_strings.specs.declared.identifier.Identifier.{Identifier}
-use Rattle.codex32_strings.specs.declared.share.Share.{Share as CodexShare}
-use Rattle.codex32_strings.specs.declared.threshold.Threshold.{Threshold}
+use Rattle.codex32.specs.Share.{AreSharesOf, IsEither, IsShareRefusal, IsShareString}
+use Rattle.codex32.specs.ShareParts.{bits_left_over}
+use Rattle.codex32.specs.Strings.{IsString, IsStringRefusal, frame_refusal}
+use Rattle.codex32.specs.Strings.{long_frame_refusal}
+use Rattle.codex32.specs.declared.error.Codex32Error.{Codex32Error}
+use Rattle.codex32.specs.declared.error.Codex32Error.TheVariants as text_errors
+use Rattle.codex32.specs.declared.header.Header.{Header}
+use Rattle.codex32.specs.declared.identifier.Identifier.{Identifier}
+use Rattle.codex32.specs.declared.share.Share.{Share as CodexShare}
+use Rattle.codex32.specs.declared.threshold.Threshold.{Threshold}
 use Rattle.codex32_numbers.specs.Numbers.{number_of_codex32_error, number_of_header_error}
 use Rattle.line_program.specs.Refused.{SaysRefusal}
 use Rattle.c32_replies.specs.Numbers.{number_of_codex32_reply}
@@ -127,7 +127,7 @@ pub record AreWordsOf (threshold identifier share_index : List ℕ) (header : He
       identifier_elements (identifier_of_header header) ≡ elements_of identifier
   pub share_index_is : share_index_of_header header ≡ share_index_of_word share_index
 
--- the string of a header and bytes, of which a string has so many, is said
+-- the string of a header and bytes, of which a string has that many, is said
 pub record SaysEncoded (threshold identifier share_index hex said : List ℕ) : Type 0 where
   pub header : Header
   pub words : AreWordsOf threshold identifier share_index header

@@ -5,14 +5,14 @@ use Rattle.std.specs.Fmt.{decimal}
 use Rattle.bech32_gf.specs.Fe32.{elements_of}
 use Rattle.bech32_hrp.specs.Hrp.{first_of}
 use Rattle.b32_replies.specs.Hex.{bytes_of}
-use Rattle.codex32_strings.specs.HeaderParts.{identifier_elements, identifier_word_fault}
-use Rattle.codex32_strings.specs.HeaderParts.{threshold_word, threshold_word_fault}
-use Rattle.codex32_strings.specs.Split.{IsSplit, Recovers, first_texts, split_refusal, text_size}
-use Rattle.codex32_strings.specs.declared.error.Codex32Error.TheVariants as text_errors
-use Rattle.codex32_strings.specs.declared.error.HeaderError.{HeaderError}
-use Rattle.codex32_strings.specs.declared.error.SplitError.{SplitError}
-use Rattle.codex32_strings.specs.declared.identifier.Identifier.{Identifier}
-use Rattle.codex32_strings.specs.declared.threshold.Threshold.{Threshold}
+use Rattle.codex32.specs.HeaderParts.{identifier_elements, identifier_word_fault}
+use Rattle.codex32.specs.HeaderParts.{threshold_word, threshold_word_fault}
+use Rattle.codex32.specs.Split.{IsSplit, Recovers, first_texts, split_refusal, text_size}
+use Rattle.codex32.specs.declared.error.Codex32Error.TheVariants as text_errors
+use Rattle.codex32.specs.declared.error.HeaderError.{HeaderError}
+use Rattle.codex32.specs.declared.error.SplitError.{SplitError}
+use Rattle.codex32.specs.declared.identifier.Identifier.{Identifier}
+use Rattle.codex32.specs.declared.threshold.Threshold.{Threshold}
 use Rattle.line_program.specs.Refused.{SaysRefusal}
 use Rattle.c32_replies.specs.Numbers.{number_of_codex32_reply}
 use Rattle.c32_replies.specs.Request.{AskedSplit}

@@ -1,7 +1,6 @@
 //! Reads a line as a command with its arguments.
 
-ghost use Rattle.std.specs.Prelude.{◌≡◌, MatchOption, Some, None};
-ghost use Rattle.line_program.specs.Words.{words};
+ghost use Rattle.line_program.specs.Words.{Reads, words};
 ghost use Rattle.c32_replies.specs.Request.{codex32_request_of, encode_arguments, codex32_request_of_command, nonempty_words, split_arguments};
 
 use line_program::{first_word, only_word};
@@ -57,9 +56,7 @@ pub enum Command<'a> {
 
 // The text, where none of its words is empty.
 fn all_words(text: &str) -> Option<&str>
-    ensures { MatchOption result
-        (nonempty_words (words text.now) ≡ None)
-        (λ r. nonempty_words (words text.now) ≡ Some (words r.now)) }
+    ensures { Reads (λ r. words r.now) (nonempty_words (words text.now)) result }
 {
     let mut rest = text;
     'words: while let Some((_, behind)) = first_word(rest) {
@@ -70,11 +67,41 @@ fn all_words(text: &str) -> Option<&str>
 }
 
 impl<'a> Command<'a> {
+    // Reads what stands behind `encode`.
+    fn parse_encode(arguments: &'a str) -> Option<Command<'a>>
+        ensures { Reads codex32_request_of_command (encode_arguments (words arguments.now)) result }
+    {
+        let (threshold, arguments) = first_word(arguments)?;
+        let (identifier, arguments) = first_word(arguments)?;
+        let (share_index, hex) = first_word(arguments)?;
+        Some(Command::Encode {
+            threshold,
+            identifier,
+            share_index,
+            hex: only_word(hex)?,
+        })
+    }
+
+    // Reads what stands behind `split`.
+    fn parse_split(arguments: &'a str) -> Option<Command<'a>>
+        ensures { Reads codex32_request_of_command (split_arguments (words arguments.now)) result }
+    {
+        let (threshold, arguments) = first_word(arguments)?;
+        let (count, arguments) = first_word(arguments)?;
+        let (identifier, arguments) = first_word(arguments)?;
+        let (hex, random) = first_word(arguments)?;
+        Some(Command::Split(SplitWords {
+            threshold,
+            count,
+            identifier,
+            hex,
+            random: only_word(random)?,
+        }))
+    }
+
     /// Reads a line. Its words stand between single spaces, and none is empty.
     pub fn parse(line: &'a str) -> Option<Command<'a>>
-        ensures { MatchOption result
-            (codex32_request_of line.now ≡ None)
-            (λ command. codex32_request_of line.now ≡ Some (codex32_request_of_command command)) }
+        ensures { Reads codex32_request_of_command (codex32_request_of line.now) result }
     {
         let (name, arguments) = first_word(line)?;
         match name {
@@ -102,43 +129,5 @@ impl<'a> Command<'a> {
             "split" => Command::parse_split(arguments),
             _ => None,
         }
-    }
-
-    // Reads what stands behind `encode`.
-    fn parse_encode(arguments: &'a str) -> Option<Command<'a>>
-        ensures { MatchOption result
-            (encode_arguments (words arguments.now) ≡ None)
-            (λ command.
-            encode_arguments (words arguments.now) ≡ Some (codex32_request_of_command command)) }
-    {
-        let (threshold, arguments) = first_word(arguments)?;
-        let (identifier, arguments) = first_word(arguments)?;
-        let (share_index, hex) = first_word(arguments)?;
-        Some(Command::Encode {
-            threshold,
-            identifier,
-            share_index,
-            hex: only_word(hex)?,
-        })
-    }
-
-    // Reads what stands behind `split`.
-    fn parse_split(arguments: &'a str) -> Option<Command<'a>>
-        ensures { MatchOption result
-            (split_arguments (words arguments.now) ≡ None)
-            (λ command.
-            split_arguments (words arguments.now) ≡ Some (codex32_request_of_command command)) }
-    {
-        let (threshold, arguments) = first_word(arguments)?;
-        let (count, arguments) = first_word(arguments)?;
-        let (identifier, arguments) = first_word(arguments)?;
-        let (hex, random) = first_word(arguments)?;
-        Some(Command::Split(SplitWords {
-            threshold,
-            count,
-            identifier,
-            hex,
-            random: only_word(random)?,
-        }))
     }
 }

@@ -1,36 +1,9 @@
 //! A number of shares as a word, in decimal.
 
-ghost use Rattle.std.specs.Prelude.{◌≡◌, ◌≢◌, ◌⊎◌, ◌<◌, ◌+◌, ℕ, MatchOption};
-ghost use Rattle.std.specs.Fmt.{decimal};
+ghost use Rattle.std.specs.Prelude.{MatchOption};
 ghost use Rattle.c32_replies.specs.Split.{IsCountWord, IsNoCount};
 
-// The value of a decimal digit.
-fn digit_value(byte: u8) -> Option<u8>
-    ensures { MatchOption result ((byte < 48) ⊎ (57 < byte)) (λ d. (d < 10) × (byte ≡ 48 + d)) }
-{
-    if byte < b'0' || b'9' < byte {
-        return None;
-    }
-    Some(byte - b'0')
-}
-
-// The number below 100 that a word is in decimal, without leading zeros.
-fn number_of_word(word: &[u8]) -> Option<u8>
-    ensures { MatchOption result
-        ((n : ℕ) → n < 100 → word.now ≢ decimal n)
-        (λ n. (n < 100) × (word.now ≡ decimal n)) }
-{
-    let (first, others) = word.split_first()?;
-    let tens = digit_value(*first)?;
-    let Some((second, more)) = others.split_first() else {
-        return Some(tens);
-    };
-    if tens == 0 || !more.is_empty() {
-        return None;
-    }
-    let units = digit_value(*second)?;
-    Some(10 * tens + units)
-}
+use b32_replies::number_of_word;
 
 /// The number of shares that a word is.
 pub fn count_of_word(word: &str) -> Option<usize>

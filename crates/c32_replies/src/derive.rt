@@ -1,10 +1,10 @@
 //! Answers `derive` and `recover`.
 
-ghost use Rattle.std.specs.Prelude.{◌≡◌, ◌+◌, ◌≤◌, ◌++◌, [], ◌∷◌, vec_len, vec_capacity, MatchOption, MatchResult, IfOk};
+ghost use Rattle.std.specs.Prelude.{◌≡◌, ◌⊎◌, ◌+◌, ◌≤◌, ◌++◌, [], ◌∷◌, vec_len, vec_capacity, MatchOption, MatchResult};
 ghost use Rattle.line_program.specs.Added.{AddsOrRefuses};
 ghost use Rattle.line_program.specs.Words.{words};
-ghost use Rattle.codex32_strings.specs.Share.{AreSharesOf, IsEither, IsShareOf};
-ghost use Rattle.codex32_strings.specs.declared.share.Share.{Share as CodexShare};
+ghost use Rattle.codex32.specs.Share.{AreSharesOf, IsShareOf, IsShareRefusal};
+ghost use Rattle.codex32.specs.declared.share.Share.{Share as CodexShare};
 ghost use Rattle.c32_replies.specs.Numbers.{number_of_codex32_reply};
 ghost use Rattle.c32_replies.specs.Reply.{AreTexts, IsDeriveAnswer, IsSharesAnswer, IsTextRefusal};
 
@@ -13,7 +13,7 @@ use crate::reply::Commands;
 use bech32::Fe32;
 use codex32::{Codex32Error, Share, derive_in, parse_share_index};
 use line_program::append;
-use std::alloc::{AllocError, Allocator};
+use std::alloc::Allocator;
 
 // What stands before the first space, and what behind it.
 fn cut(texts: &str) -> Option<(&str, &str)>
@@ -39,26 +39,28 @@ fn validate_texts(texts: &str) -> Result<(), Codex32Error>
     Ok(())
 }
 
-// Adds the share of a text, which was tested.
+// Adds the share of a text.
 fn push_share<'t, A: Allocator>(
     shares: &mut Vec<Share<'t>, A>,
     text: &'t str,
-) -> Result<(), AllocError>
-    requires { IsEither text.now }
-    ensures { IfOk result (λ _. (s : CodexShare) × IsShareOf text.now s
-        × (shares.new.items ≡ shares.old.items ++ (s ∷ []))) }
+) -> Result<(), Codex32Error>
+    ensures { MatchResult result
+        (λ _. (s : CodexShare) × IsShareOf text.now s
+        × (shares.new.items ≡ shares.old.items ++ (s ∷ [])))
+        (λ e. (e ≡ Codex32Error.Memory) ⊎ IsShareRefusal text.now e) }
 {
-    let Ok(share) = Share::parse(text) else {
-        unreachable!()
-    };
-    shares.push(share)?;
-    Ok(())
+    let share = Share::parse(text)?;
+    match shares.push(share) {
+        Ok(()) => Ok(()),
+        Err(_) => Err(Codex32Error::Memory),
+    }
 }
 
-// The shares of texts, which were tested.
-fn shares_in<'t, A: Allocator>(alloc: A, texts: &'t str) -> Result<Vec<Share<'t>, A>, AllocError>
-    requires { AreTexts (words texts.now) }
-    ensures { IfOk result (λ v. AreSharesOf (words texts.now) v.items) }
+// The shares of texts. Where this is out of memory, texts may not have been tested.
+fn shares_in<'t, A: Allocator>(alloc: A, texts: &'t str) -> Result<Vec<Share<'t>, A>, Codex32Error>
+    ensures { MatchResult result
+        (λ v. AreSharesOf (words texts.now) v.items)
+        (λ e. (e ≡ Codex32Error.Memory) ⊎ IsTextRefusal (words texts.now) e) }
 {
     let mut shares = Vec::new(alloc);
     let mut rest = texts;
@@ -68,6 +70,22 @@ fn shares_in<'t, A: Allocator>(alloc: A, texts: &'t str) -> Result<Vec<Share<'t>
     }
     push_share(&mut shares, rest)?;
     Ok(shares)
+}
+
+// The shares of texts. A text that is refused comes before memory that runs out.
+fn shares_of<'t, A: Allocator>(alloc: A, texts: &'t str) -> Result<Vec<Share<'t>, A>, Codex32Error>
+    ensures { MatchResult result
+        (λ v. AreSharesOf (words texts.now) v.items)
+        (λ e. IsTextRefusal (words texts.now) e
+        ⊎ ((e ≡ Codex32Error.Memory) × AreTexts (words texts.now))) }
+{
+    match shares_in(alloc, texts) {
+        Err(Codex32Error::Memory) => {
+            validate_texts(texts)?;
+            Err(Codex32Error::Memory)
+        }
+        read => read,
+    }
 }
 
 impl<A: Allocator + Copy> Commands<A> {
@@ -83,17 +101,14 @@ impl<A: Allocator + Copy> Commands<A> {
             number_of_codex32_reply result out.old.items out.new.items }
         ensures capacity { vec_capacity out.old ≤ vec_capacity out.new }
     {
-        validate_texts(texts)?;
-        let Ok(shares) = shares_in(self.alloc, texts) else {
-            return Err(Refusal::Text(Codex32Error::Memory));
-        };
+        let shares = shares_of(self.alloc, texts)?;
         let text = derive_in(self.alloc, &shares, index)?;
         append(out, b"ok ");
         append(out, text.as_bytes());
         Ok(())
     }
 
-    /// The same at the index of a word.
+    /// Adds the string at the index that a word names, or leaves all as it was.
     pub(crate) fn derive(
         &self,
         share_index: &str,

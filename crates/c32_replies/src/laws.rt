@@ -5,16 +5,16 @@ ghost use Rattle.std.specs.Prelude.{◌≡◌, ◌⊎◌, ◌≤◌, ◌||◌, t
 ghost use Rattle.bech32_gf.specs.declared.gf32.Fe32.{Fe32 as Element};
 ghost use Rattle.b32_replies.specs.Hex.{bytes_of};
 ghost use Rattle.codex32.specs.Nearest.{IsNearestLongText, IsNearestText};
-ghost use Rattle.codex32_strings.specs.Damaged.{read_text};
-ghost use Rattle.codex32_strings.specs.Derive.{DoContradict, IsWholeSet};
-ghost use Rattle.codex32_strings.specs.Encode.{is_byte_count, is_long_byte_count};
-ghost use Rattle.codex32_strings.specs.HeaderParts.{header_word_fault, share_index_of_word, share_index_word_fault};
-ghost use Rattle.codex32_strings.specs.Share.{AreSharesOf, IsShareString};
-ghost use Rattle.codex32_strings.specs.ShareParts.{bits_left_over};
-ghost use Rattle.codex32_strings.specs.Strings.{IsCodex32, frame_refusal, long_frame_refusal};
-ghost use Rattle.codex32_strings.specs.declared.identifier.Identifier.{Identifier};
-ghost use Rattle.codex32_strings.specs.declared.share.Share.{Share as AShare};
-ghost use Rattle.codex32_strings.specs.declared.threshold.Threshold.{Threshold};
+ghost use Rattle.codex32.specs.Damaged.{read_text};
+ghost use Rattle.codex32.specs.Derive.{DoContradict, IsWholeSet};
+ghost use Rattle.codex32.specs.Encode.{is_byte_count, is_long_byte_count};
+ghost use Rattle.codex32.specs.HeaderParts.{header_word_fault, share_index_of_word, share_index_word_fault};
+ghost use Rattle.codex32.specs.Share.{AreSharesOf, IsShareString};
+ghost use Rattle.codex32.specs.ShareParts.{bits_left_over};
+ghost use Rattle.codex32.specs.Strings.{IsCodex32, frame_refusal, long_frame_refusal};
+ghost use Rattle.codex32.specs.declared.identifier.Identifier.{Identifier};
+ghost use Rattle.codex32.specs.declared.share.Share.{Share as AShare};
+ghost use Rattle.codex32.specs.declared.threshold.Threshold.{Threshold};
 ghost use Rattle.line_program.specs.Refused.{err};
 ghost use Rattle.c32_replies.specs.Reply.{IsDeriveAnswer, IsEncodeStringAnswer, IsParseAnswer, IsProposeAnswer, IsProposeLongAnswer, IsShareAnswer, IsSharesAnswer, SaysDerived, SaysEncoded, SaysNearest, SaysNoNearest, SaysParts, SaysShare};
 ghost use Rattle.c32_replies.specs.Request.{AskedSplit};
@@ -52,7 +52,7 @@ pub fn shares_are_read()
         → IsShareAnswer text said → SaysShare text said }
 {}
 
-/// `encode`: of the words for a header and for bytes, of which a string has so many, the string is
+/// `encode`: of the words for a header and for bytes, of which a string has as many, the string is
 /// said.
 pub fn strings_are_encoded()
     ensures { (threshold identifier share_index hex bytes said : List ℕ)

@@ -4,7 +4,6 @@
 //! Standard: BIP-93.
 #![tactic(auto)]
 
-mod added;
 mod command;
 mod count_word;
 mod derive;

@@ -44,7 +44,7 @@ impl<A: Allocator + Copy> Commands<A> {
         Ok(())
     }
 
-    /// The same of long strings.
+    /// Adds the nearest long text to a damaged one, or that there is none, or leaves all as it was.
     pub(crate) fn propose_long(&self, text: &str, out: &mut Vec<u8>) -> Result<(), Codex32Error>
         requires { vec_len out.old + 2047 ≤ vec_capacity out.old }
         ensures answer { AddsOrRefuses (IsProposeLongAnswer text.now) number_of_codex32_error

@@ -1,8 +1,8 @@
 //! The replies to commands, by which `line_program` replies to a line.
 
 ghost use Rattle.std.specs.Prelude.{◌+◌, ◌<◌, ◌≤◌, vec_len, vec_capacity, IfErr, OnOk};
+ghost use Rattle.line_program.specs.Added.{AddsAnyOrRefuses, AddsOrSaysNumber};
 ghost use Rattle.line_program.specs.Reply.{IsReplyBy};
-ghost use Rattle.c32_replies.specs.Added.{AddsAnyOrRefuses};
 ghost use Rattle.c32_replies.specs.Numbers.{number_of_codex32_reply};
 ghost use Rattle.c32_replies.specs.Reply.{IsCodex32Answer};
 ghost use Rattle.c32_replies.specs.Request.{codex32_request_of, codex32_request_of_command};
@@ -12,7 +12,7 @@ use crate::parse::parse;
 use crate::refusal::Refusal;
 use crate::share::share;
 use bech32::Fe32;
-use line_program::{LINE_LIMIT, Replies, append, append_refusal, text_of};
+use line_program::{Replies, end_reply, text_of_line};
 use std::alloc::Allocator;
 
 /// The commands of this program, answered with memory from `alloc`.
@@ -51,18 +51,13 @@ impl<A: Allocator + Copy> Commands<A> {
     // Adds what is said of a line, or leaves all as it was and returns the number of the refusal.
     fn answer_line(&self, line: &[u8], out: &mut Vec<u8>) -> Result<(), u8>
         requires { vec_len out.old + 2048 ≤ vec_capacity out.old }
-        ensures answer { AddsAnyOrRefuses (IsReplyBy codex32_request_of IsCodex32Answer line.now)
-            (λ number. number) result out.old.items out.new.items }
+        ensures answer { AddsOrSaysNumber (IsReplyBy codex32_request_of IsCodex32Answer line.now)
+            result out.old.items out.new.items }
         ensures small { IfErr result (λ number. number < 100) }
         ensures room { OnOk result (vec_len out.new + 1 ≤ vec_capacity out.new) }
         ensures capacity { vec_capacity out.old ≤ vec_capacity out.new }
     {
-        if line.len() > LINE_LIMIT {
-            return Err(1);
-        }
-        let Some(text) = text_of(line) else {
-            return Err(2);
-        };
+        let text = text_of_line(line)?;
         let Some(command) = Command::parse(text) else {
             return Err(3);
         };
@@ -82,9 +77,7 @@ impl<A: Allocator + Copy> Replies for Commands<A> {
     ghost too_long = { long_lines codex32_request_of IsCodex32Answer };
 
     fn reply(&self, line: &[u8], out: &mut Vec<u8>) {
-        if let Err(number) = self.answer_line(line, out) {
-            append_refusal(out, number);
-        }
-        append(out, b"\n");
+        let answered = self.answer_line(line, out);
+        end_reply(answered, out);
     }
 }

@@ -1,7 +1,7 @@
 //! Answers `share`.
 
 ghost use Rattle.std.specs.Prelude.{◌≡◌, ◌+◌, ◌≤◌, ◌++◌, vec_len, vec_capacity};
-ghost use Rattle.codex32_strings.specs.Header.{identifier_of_header, share_index_of_header, threshold_of_header};
+ghost use Rattle.codex32.specs.Header.{identifier_of_header, share_index_of_header, threshold_of_header};
 ghost use Rattle.line_program.specs.Added.{AddsOrRefuses};
 ghost use Rattle.c32_replies.specs.Numbers.{number_of_codex32_reply};
 ghost use Rattle.c32_replies.specs.Reply.{IsShareAnswer, header_words};

@@ -1,19 +1,19 @@
 //! Answers `split`.
 
 ghost use Rattle.std.specs.Prelude.{◌≡◌, ◌+◌, ◌*◌, ◌≤◌, ◌++◌, codes, length, take, vec_len, vec_capacity, IfOk, MatchResult, OnOk};
-ghost use Rattle.codex32_strings.specs.Split.{first_texts};
-ghost use Rattle.c32_replies.specs.Added.{AddsAnyOrRefuses};
+ghost use Rattle.codex32.specs.Split.{first_texts};
+ghost use Rattle.line_program.specs.Added.{AddsAnyOrRefuses};
 ghost use Rattle.c32_replies.specs.Numbers.{number_of_codex32_reply};
 ghost use Rattle.c32_replies.specs.Request.{asked_by};
 ghost use Rattle.c32_replies.specs.Split.{AreSharesFor, IsSplitAnswer, IsSplitLineRefusal, spaced_shares};
 
-use crate::added::append_any;
 use crate::command::SplitWords;
 use crate::count_word::count_of_word;
 use crate::refusal::Refusal;
 use crate::reply::Commands;
 use b32_replies::hex_word::put_bytes_of_word;
 use codex32::{Codex32Error, Identifier, Threshold, split_into};
+use line_program::append_any;
 use std::alloc::{AllocError, Allocator};
 
 // One byte more than a secret has.

@@ -8,6 +8,7 @@ use Rattle.caller_memory.specs.declared.memory.Memory.{Memory}
 abbrev pub lent_memory : Lent → Memory
 lent_memory l = l.slot
 
--- a block of so many bytes, aligned so, is at most the whole units of 16 bytes of a memory
+-- a block of this many bytes, with this alignment, is at most the whole units of 16 bytes of a
+-- memory
 abbrev pub FitsIn : Memory → ℕ → ℕ → Type 0
 FitsIn m size align = (size ≤ memory_size m / 16 * 16) × (size < 2 ^ 63) × (align ≤ 16)

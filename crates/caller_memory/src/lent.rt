@@ -69,7 +69,7 @@ impl Lent {
         }
     }
 
-    // Whether so many bytes, aligned so, are at most the memory.
+    // Whether this many bytes, with this alignment, are at most the memory.
     fn fits(&self, size: usize, align: usize) -> bool
         ensures yes { result ≡ true → FitsIn (lent_memory self.now) size align }
         ensures no { FitsIn (lent_memory self.now) size align → result ≡ true }

@@ -9,7 +9,7 @@ use core::mem::replace_with;
 use std::alloc::{AllocError, Allocator, Global};
 use std::marker::Model;
 
-// To so many bytes memory is aligned.
+// The number of bytes to which memory is aligned.
 pub(crate) const ALIGN: usize = 16;
 
 /// `size` bytes from `start` on, in which nothing lies, aligned to 16 bytes. What is more than a
@@ -26,7 +26,7 @@ impl Model for Memory {
 }
 
 impl Memory {
-    /// So many bytes that an allocator gives, and never gets back.
+    /// `size` bytes that an allocator gives, and never gets back.
     pub fn leaked(alloc: Global, size: usize) -> Result<Memory, AllocError>
         ensures { IfOk result (λ m. memory_size m ≡ size) }
     {
@@ -39,7 +39,7 @@ impl Memory {
         }
     }
 
-    // So many bytes at the front of a block of `whole` bytes.
+    // `size` bytes at the front of a block of `whole` bytes.
     fn within<A: Allocator>(alloc: &A, size: usize, whole: usize) -> Option<Memory>
         requires { (size ≤ whole) × (whole % 16 ≡ 0) × (whole < 2 ^ 63) }
         ensures { IfSome result (λ m. memory_size m ≡ size) }
@@ -97,7 +97,7 @@ impl Model for Returned {
 }
 
 impl Returned {
-    /// The memory, which has so many bytes.
+    /// The memory, which has this many bytes.
     pub(crate) fn into_memory(self, size: usize) -> Memory
         requires { size ≡ memory_size self.memory }
         ensures { result ≡ self.memory }

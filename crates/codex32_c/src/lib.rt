@@ -8,7 +8,7 @@
 //! may be null, but one beside a length of 0, which nothing follows; and what one points to may not
 //! overlap with what a `&mut` does.
 //!
-//! Below it: `codex32_calls`, `caller_memory`, `refusal_sentences`.
+//! Below it: `codex32_calls`, `caller_memory`, `bech32_numbers`.
 //! Standard: BIP-93.
 #![tactic(auto)]
 

@@ -2,10 +2,10 @@
 
 ghost use Rattle.std.specs.Prelude.{◌≡◌, ◌≢◌, ◌≤◌, ◌<◌, length};
 ghost use Rattle.bech32_encode.specs.Buffers.{IsPut};
-ghost use Rattle.refusal_sentences.specs.Sentences.{codex32_sentence};
+ghost use Rattle.bech32_numbers.specs.Sentences.{codex32_sentence};
 
 use bech32_encode::put_at_front;
-use refusal_sentences::codex32_sentence_of;
+use bech32_numbers::codex32_sentence_of;
 
 /// Puts the sentence of a refusal's number at the front of `message`, in ASCII: it stands beside
 /// the number in `include/codex32.h`. `message_length` is then its length, at most 100, and 0 for a

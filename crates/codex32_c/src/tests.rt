@@ -91,8 +91,8 @@ const BYTE_BEFORE: u8 = 0xee;
 
 const ROOM: usize = 96;
 
-// The answer to a damaged text with this memory and a buffer of so many bytes, and what the length
-// and the buffer hold then.
+// The answer to a damaged text with this memory and a buffer of this many bytes, and what the
+// length and the buffer hold then.
 fn proposal(memory: &mut Memory, text: &[u8], room: usize) -> (u32, (usize, [u8; ROOM])) {
     let mut buffer = [BYTE_BEFORE; ROOM];
     let mut length = LENGTH_BEFORE;
@@ -117,14 +117,14 @@ fn written(number: u32, text: &[u8]) -> (usize, [u8; ROOM]) {
     written_in::<ROOM>(number, text)
 }
 
-// The number of the answer to a damaged text with this memory and a buffer of so many bytes.
+// The number of the answer to a damaged text with this memory and a buffer of this many bytes.
 fn proposes(rt: &impl Abort, memory: &mut Memory, text: &[u8], room: usize, want: &[u8]) -> u32 {
     let (number, found) = proposal(memory, text, room);
     same(rt, &found, &written(number, want));
     number
 }
 
-// The number of bytes that `include/codex32.h` states for a text of so many.
+// The number of bytes that `include/codex32.h` states for a text of this many.
 fn memory_for(text: &[u8]) -> usize {
     16384 + 8 * text.len().min(4096)
 }
@@ -134,8 +134,8 @@ const NEAREST: &[u8] = b"ms10testsxxxxxxxxxxxxxxxxxxxxxxxxxx4nzvca9cmczlw";
 // The same with four other characters.
 const DAMAGED: &[u8] = b"ms1qtestsqxxxxxxxxxxxxxxxxxxxxxxxxq4nzvca9cmczlq";
 
-// The number of the answer where the nearest text is that of BIP-93, with so many bytes of memory,
-// all of which come back.
+// The number of the answer where the nearest text is that of BIP-93, with this many bytes of
+// memory, all of which come back.
 fn answer_within(rt: &impl Abort, alloc: Global, size: usize, text: &[u8], room: usize) -> u32 {
     let mut memory = Memory::leaked(alloc, size).expect(rt, "memory");
     let number = proposes(rt, &mut memory, text, room, NEAREST);

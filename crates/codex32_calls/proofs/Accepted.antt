@@ -1,6 +1,6 @@
 -- Nothing is wrong where a string is to be read, made or proposed, and there is room for it.
 use Rattle.std.specs.Prelude.{IsOk}
-use Rattle.std.proofs.Common.{◌≡◌, ◌≤◌, ℕ, List, ◌++◌, length, Result, Err, sym, ap, ◌∙◌, arith}
+use Rattle.std.proofs.Common.{◌≡◌, ℕ, List, ◌++◌, length, Result, Err, sym, ap, ◌∙◌, arith}
 use Rattle.std.proofs.lemmas.List.{length-append, length-map}
 use Rattle.std.specs.Str.{IsUtf8}
 use Rattle.bech32_bits.specs.Bits.{to_bytes, to_fes}
@@ -9,16 +9,16 @@ use Rattle.bech32_checksum.specs.Encoded.{IsEncodedText}
 use Rattle.bech32_checksum.proofs.Uniqueness.{length-encoded}
 use Rattle.bech32_gf.specs.Fe32.{element_of, elements_of}
 use Rattle.bech32_gf.specs.declared.gf32.Fe32.{Fe32}
-use Rattle.codex32_strings.specs.Encode.{code_of_byte_count, code_of_payload_count}
-use Rattle.codex32_strings.specs.Header.{header_elements, identifier_of_header, share_index_of_header, threshold_of_header}
-use Rattle.codex32_strings.specs.Share.{IsEither}
-use Rattle.codex32_strings.specs.ShareParts.{bits_left_over, ms}
-use Rattle.codex32_strings.specs.declared.error.Codex32Error.{Codex32Error}
-use Rattle.codex32_strings.specs.declared.header.Header.{Header}
-use Rattle.codex32_strings.specs.declared.share.Share.{Share}
-use Rattle.codex32_strings.proofs.OneString.{same_parts}
-use Rattle.codex32_strings.proofs.ShareParts.{length-header}
-use Rattle.codex32_strings.proofs.ShareStrings.{accepts-from_outcome}
+use Rattle.codex32.specs.Encode.{code_of_byte_count, code_of_payload_count}
+use Rattle.codex32.specs.Header.{header_elements, identifier_of_header, share_index_of_header, threshold_of_header}
+use Rattle.codex32.specs.Share.{IsEither}
+use Rattle.codex32.specs.ShareParts.{bits_left_over, ms}
+use Rattle.codex32.specs.declared.error.Codex32Error.{Codex32Error}
+use Rattle.codex32.specs.declared.header.Header.{Header}
+use Rattle.codex32.specs.declared.share.Share.{Share}
+use Rattle.codex32.proofs.OneString.{same_parts}
+use Rattle.codex32.proofs.ShareParts.{length-header}
+use Rattle.codex32.proofs.ShareStrings.{accepts-from_outcome}
 use Rattle.codex32_calls.specs.Encode.{CanEncode, IsEncodeStringFault, LacksRoomForEncoded, string_length}
 use Rattle.codex32_calls.specs.Payload.{CanEncodePayload, IsEncodePayloadFault, LacksRoomForPayload}
 use Rattle.codex32_calls.specs.Share.{CanReadShare, HasPayload, IsEitherFault, IsShareFault}
@@ -58,9 +58,6 @@ pub either-from_payload : (P : List ℕ → Type 0) (t : List ℕ) → HasPayloa
 either-from_payload P t a = (threshold_of_header a.header, identifier_of_header a.header, share_index_of_header a.header, a.payload, a.is_string)
 
 module _ (t : List ℕ) (room : ℕ) where
-  few : List ℕ → Type 0
-  few payload = (bits_left_over (length payload) ≤ 4) × (length (to_bytes (elements_of payload)) ≤ room)
-
   pub no_share_fault : (e : Refusal) → CanReadShare t room → IsShareFault t room e → ⊥
   no_share_fault (refusals.Payload e) can h =
       let same : bits_left_over (length can.payload) ≡ bits_left_over (length h.payload) = ap (λ (p : List ℕ). bits_left_over (length p)) (one_payload _ _ t can h) in

@@ -10,13 +10,13 @@ use Rattle.bech32_gf.specs.Fe32.{element_of, elements_of}
 use Rattle.bech32_gf.specs.declared.gf32.Fe32.{Fe32}
 use Rattle.bech32_hrp.specs.Hrp.{first_of, is_mixed_case}
 use Rattle.bech32_decode.proofs.Letters.{IsAscii-from_data}
-use Rattle.codex32_strings.specs.Header.{identifier_of_header, share_index_of_header, threshold_of_header}
-use Rattle.codex32_strings.specs.HeaderParts.{identifier_elements, identifier_word_fault, is_identifier_word, threshold_number, unshared_fault}
-use Rattle.codex32_strings.specs.declared.error.HeaderError.{HeaderError}
-use Rattle.codex32_strings.specs.declared.error.HeaderError.TheVariants as refusals
-use Rattle.codex32_strings.specs.declared.header.Header.{Header}
-use Rattle.codex32_strings.specs.declared.identifier.Identifier.{Identifier}
-use Rattle.codex32_strings.specs.declared.threshold.Threshold.{Threshold}
+use Rattle.codex32.specs.Header.{identifier_of_header, share_index_of_header, threshold_of_header}
+use Rattle.codex32.specs.HeaderParts.{identifier_elements, identifier_word_fault, is_identifier_word, threshold_number, unshared_fault}
+use Rattle.codex32.specs.declared.error.HeaderError.{HeaderError}
+use Rattle.codex32.specs.declared.error.HeaderError.TheVariants as refusals
+use Rattle.codex32.specs.declared.header.Header.{Header}
+use Rattle.codex32.specs.declared.identifier.Identifier.{Identifier}
+use Rattle.codex32.specs.declared.threshold.Threshold.{Threshold}
 use Rattle.codex32_calls.specs.Encode.{IsHeaderOf, header_number_fault, share_index_number_fault, threshold_number_fault, unshared_number_fault}
 
 -- what is no text is no identifier

@@ -7,7 +7,7 @@ use Rattle.std.specs.List.{list_all}
 use Rattle.std.specs.Str.{IsAscii, IsUtf8}
 use Rattle.bech32_hrp.specs.Hrp.{IsHrp, is_graphic}
 use Rattle.bech32_decode.specs.Text.{IsText}
-use Rattle.codex32_strings.specs.Strings.{IsCodex32}
+use Rattle.codex32.specs.Strings.{IsCodex32}
 use Rattle.bech32_decode.proofs.Letters.{IsAscii-from_data}
 
 ascii-from_graphic : (b : ℕ) → is_graphic b ≡ true → b < 128

@@ -8,10 +8,10 @@ use Rattle.bech32_checksum.specs.Code.{Code}
 use Rattle.bech32_gf.proofs.Characters.{below-from_alphabet}
 use Rattle.bech32_gf.specs.Alphabet.{is_data, is_of_alphabet}
 use Rattle.codex32.specs.Nearest.{IsNearestBy}
-use Rattle.codex32_strings.specs.Code.{codex32, long_codex32}
-use Rattle.codex32_strings.specs.Damaged.{read_character, read_data, read_text}
-use Rattle.codex32_strings.specs.declared.error.Codex32Error.{Codex32Error}
-use Rattle.codex32_strings.specs.declared.error.Codex32Error.TheVariants as errors
+use Rattle.codex32.specs.Code.{codex32, long_codex32}
+use Rattle.codex32.specs.Damaged.{read_character, read_data, read_text}
+use Rattle.codex32.specs.declared.error.Codex32Error.{Codex32Error}
+use Rattle.codex32.specs.declared.error.Codex32Error.TheVariants as errors
 use Rattle.codex32_calls.specs.Nearest.{IsNearest, IsNearestStringRefusal, damaged_refusal}
 use Rattle.codex32_calls.specs.Propose.{CanPropose, IsProposeFault, LacksRoomForNearest}
 use Rattle.codex32_calls.specs.declared.propose.Kind.{Kind}

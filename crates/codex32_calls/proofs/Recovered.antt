@@ -10,16 +10,16 @@ use Rattle.bech32_gf.specs.Alphabet.{is_of_alphabet}
 use Rattle.bech32_gf.specs.Fe32.{element_of, elements_of}
 use Rattle.bech32_gf.specs.declared.gf32.Fe32.{Fe32}
 use Rattle.bech32_hrp.specs.Hrp.{lowered}
-use Rattle.codex32_strings.specs.Code.{code_of_length}
-use Rattle.codex32_strings.specs.Derive.{IsStringOfSet, size_of}
-use Rattle.codex32_strings.specs.Share.{AreSharesOf, IsEither, IsShareOf, IsShareString, characters_of_share, identifier_of_share, index_of_share, payload_of_share, threshold_of_share}
-use Rattle.codex32_strings.specs.ShareParts.{bits_left_over}
-use Rattle.codex32_strings.specs.declared.header.Header.{Header}
-use Rattle.codex32_strings.specs.declared.identifier.Identifier.{Identifier}
-use Rattle.codex32_strings.specs.declared.share.Share.{Share}
-use Rattle.codex32_strings.specs.declared.threshold.Threshold.{Threshold}
-use Rattle.codex32_strings.proofs.ShareParts.{fits}
-use Rattle.codex32_strings.proofs.Strings.{lowered_ms}
+use Rattle.codex32.specs.Code.{code_of_length}
+use Rattle.codex32.specs.Derive.{IsStringOfSet, size_of}
+use Rattle.codex32.specs.Share.{AreSharesOf, IsEither, IsShareOf, IsShareString, characters_of_share, identifier_of_share, index_of_share, payload_of_share, threshold_of_share}
+use Rattle.codex32.specs.ShareParts.{bits_left_over}
+use Rattle.codex32.specs.declared.header.Header.{Header}
+use Rattle.codex32.specs.declared.identifier.Identifier.{Identifier}
+use Rattle.codex32.specs.declared.share.Share.{Share}
+use Rattle.codex32.specs.declared.threshold.Threshold.{Threshold}
+use Rattle.codex32.proofs.ShareParts.{fits}
+use Rattle.codex32.proofs.Refused.{lowered_ms}
 use Rattle.codex32_calls.specs.Derive.{CanDerive, IsDeriveFault, LacksRoomForDerived, texts_of}
 use Rattle.codex32_calls.specs.Encode.{share_index_number_fault}
 use Rattle.codex32_calls.specs.Recover.{CanRecover, IsRecoverFault, IsSecretOf, PutsRecovered, payload_size_of, secret_character}

@@ -10,13 +10,13 @@ use Rattle.bech32_gf.specs.Fe32.{element_of, elements_of}
 use Rattle.bech32_gf.specs.declared.gf32.Fe32.{Fe32}
 use Rattle.bech32_poly.specs.Distinct.{IsOnce}
 use Rattle.codex32_shares.specs.Shares.{DoAgree}
-use Rattle.codex32_strings.specs.Derive.{AreOfSet, DoContradict, IsDeriveIntoRefusal, IsOfSet, IsSetRefusal, IsUnshared, IsWholeSet, count_of, indices_of, rows_of, size_of}
-use Rattle.codex32_strings.specs.HeaderParts.{points_of, threshold_number}
-use Rattle.codex32_strings.specs.Share.{AreSharesOf, IsShareOf, characters_of_share, identifier_of_share, index_of_share, payload_of_share, threshold_of_share}
-use Rattle.codex32_strings.specs.declared.error.DeriveError.{DeriveError}
-use Rattle.codex32_strings.specs.declared.share.Share.{Share}
-use Rattle.codex32_strings.specs.declared.threshold.Threshold.{Threshold}
-use Rattle.codex32_strings.proofs.OneString.{same_parts}
+use Rattle.codex32.specs.Derive.{AreOfSet, DoContradict, IsDeriveIntoRefusal, IsOfSet, IsSetRefusal, IsUnshared, IsWholeSet, count_of, indices_of, rows_of, size_of}
+use Rattle.codex32.specs.HeaderParts.{points_of, threshold_number}
+use Rattle.codex32.specs.Share.{AreSharesOf, IsShareOf, characters_of_share, identifier_of_share, index_of_share, payload_of_share, threshold_of_share}
+use Rattle.codex32.specs.declared.error.DeriveError.{DeriveError}
+use Rattle.codex32.specs.declared.share.Share.{Share}
+use Rattle.codex32.specs.declared.threshold.Threshold.{Threshold}
+use Rattle.codex32.proofs.OneString.{same_parts}
 use Rattle.codex32_calls.specs.Derive.{CanDerive, IsDeriveFault, IsTextsFault, LacksRoomForDerived, texts_of}
 use Rattle.codex32_calls.specs.declared.refusal.Refusal.{Refusal}
 use Rattle.codex32_calls.specs.declared.refusal.Refusal.TheVariants as refusals

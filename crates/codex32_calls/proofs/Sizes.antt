@@ -8,12 +8,12 @@ use Rattle.bech32_checksum.specs.Encoded.{char_of_element}
 use Rattle.bech32_decode.proofs.Grammar.{none_first}
 use Rattle.bech32_decode.specs.Text.{split_at_last, text_refusal}
 use Rattle.bech32_hrp.specs.Hrp.{first_of, lowered}
-use Rattle.codex32_strings.specs.Damaged.{read_character, read_data, read_text}
+use Rattle.codex32.specs.Damaged.{read_character, read_data, read_text}
 use Rattle.codex32.specs.Nearest.{IsNearestAnswer, IsNearestBy, IsNearestLongAnswer, IsNearestLongText, IsNearestText, IsProposeLongRefusal, IsProposeRefusal}
-use Rattle.codex32_strings.specs.Strings.{as_text, codex32_length_fault, frame_refusal, frame_refusal_by, long_frame_refusal, hrp_fault, is_within, is_within_long}
-use Rattle.codex32_strings.specs.Code.{codex32, long_codex32}
-use Rattle.codex32_strings.specs.declared.error.Codex32Error.{Codex32Error}
-use Rattle.codex32_strings.specs.declared.error.Codex32Error.TheVariants.{Length}
+use Rattle.codex32.specs.Strings.{as_text, codex32_length_fault, frame_refusal, frame_refusal_by, long_frame_refusal, hrp_fault, is_within, is_within_long}
+use Rattle.codex32.specs.Code.{codex32, long_codex32}
+use Rattle.codex32.specs.declared.error.Codex32Error.{Codex32Error}
+use Rattle.codex32.specs.declared.error.Codex32Error.TheVariants.{Length}
 
 within : (may_be : ℕ → Bool) (n : ℕ) → codex32_length_fault may_be n ≡ None → may_be n ≡ true
 within may_be n h = go (may_be n) h

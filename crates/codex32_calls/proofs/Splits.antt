@@ -3,11 +3,11 @@ use Rattle.std.specs.Prelude.{◌||◌, nat_le}
 use Rattle.std.proofs.Common.{◌≡◌, ◌∙◌, ◌≤◌, ◌-◌, ◌*◌, ◌==◌, ℕ, Option, None, Some, List, length, sym, ap, refl, arith}
 use Rattle.std.proofs.lemmas.Bool.{cond-false, cond-true, eq-eqb, eqb-true, false_from_ne_true, le-leb}
 use Rattle.bech32_hrp.specs.Hrp.{first_of}
-use Rattle.codex32_strings.specs.Encode.{is_byte_count, is_long_byte_count}
-use Rattle.codex32_strings.specs.HeaderParts.{threshold_number}
-use Rattle.codex32_strings.specs.Split.{count_fault, payload_count, random_fault, random_size, room_fault, secret_fault, split_refusal, text_size, unshared_split_fault}
-use Rattle.codex32_strings.specs.declared.error.SplitError.TheVariants as refusals
-use Rattle.codex32_strings.specs.declared.threshold.Threshold.{Threshold}
+use Rattle.codex32.specs.Encode.{is_byte_count, is_long_byte_count}
+use Rattle.codex32.specs.HeaderParts.{threshold_number}
+use Rattle.codex32.specs.Split.{count_fault, payload_count, random_fault, random_size, room_fault, secret_fault, split_refusal, text_size, unshared_split_fault}
+use Rattle.codex32.specs.declared.error.SplitError.TheVariants as refusals
+use Rattle.codex32.specs.declared.threshold.Threshold.{Threshold}
 use Rattle.codex32_calls.specs.Split.{CanSplit}
 
 -- ---- the first of two

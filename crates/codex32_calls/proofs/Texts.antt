@@ -1,10 +1,11 @@
 -- Texts one behind another, and their shares.
 use Rattle.std.specs.List.{sum}
-use Rattle.std.proofs.Common.{◌≡◌, ◌+◌, ◌≤◌, ◌<◌, ℕ, zero, suc, List, [], ◌∷◌, ◌++◌, length, take, drop, get_or, inl, inr, refl, ap, subst, ◌∙◌, arith}
+use Rattle.std.proofs.Common.{◌≡◌, ◌+◌, ◌≤◌, ◌<◌, ℕ, zero, suc, List, [], ◌∷◌, ◌++◌, length, take, drop, get_or, inl, inr, refl, sym, ap, subst, ◌∙◌, arith}
 use Rattle.std.proofs.Math.Seq.{drop-cons}
+use Rattle.std.proofs.lemmas.List.{append-nil}
 use Rattle.std.proofs.lemmas.List.Sums.{sum_by-cons}
-use Rattle.codex32_strings.specs.Share.{AreSharesOf, IsEither, IsShareOf, identifier_of_share, index_of_share, payload_of_share, threshold_of_share}
-use Rattle.codex32_strings.specs.declared.share.Share.{Share}
+use Rattle.codex32.specs.Share.{AreSharesOf, IsEither, IsShareOf, identifier_of_share, index_of_share, payload_of_share, threshold_of_share}
+use Rattle.codex32.specs.declared.share.Share.{Share}
 use Rattle.codex32_calls.specs.Derive.{IsAsked, IsDeriveFault, IsTextsFault, texts_of}
 use Rattle.codex32_calls.specs.Share.{IsEitherFault}
 use Rattle.codex32_calls.specs.declared.refusal.Refusal.{Refusal}
@@ -60,6 +61,35 @@ fault-at (suc i) (u ∷ us) (s ∷ ss) t ts e h eq f = inr (either-from_share u 
 pub fault-first : (texts ns : List ℕ) (n : ℕ) (e : Refusal) → 1 ≤ length ns → n ≡ get_or ns 0 n → IsEitherFault (take n texts) e → IsTextsFault (texts_of texts ns) e
 fault-first texts [] n e some is f = absurd (omega (arith, some))
 fault-first texts (m ∷ ns) n e some is f = inl (subst (λ (k : ℕ). IsEitherFault (take k texts) e) is f)
+
+-- the first is a string, and a fault is in what stands behind it, which has the other lengths
+pub fault-behind : (texts behind ns rest : List ℕ) (n : ℕ) (s : Share) (e : Refusal) → 1 ≤ length ns → n ≡ get_or ns 0 n → behind ≡ drop n texts → rest ≡ drop 1 ns
+    → IsShareOf (take n texts) s → IsTextsFault (texts_of behind rest) e → IsTextsFault (texts_of texts ns) e
+fault-behind texts behind [] rest n s e some is at tail of f = absurd (omega (arith, some))
+fault-behind texts behind (m ∷ ns) rest n s e some is at tail of f = inr (
+  either-from_share (take m texts) s (subst (λ (k : ℕ). IsShareOf (take k texts) s) is of),
+  subst (λ (k : ℕ). IsTextsFault (texts_of (drop k texts) ns) e) is
+      (subst (λ (u : List ℕ). IsTextsFault (texts_of u ns) e) at (subst (λ (u : List ℕ). IsTextsFault (texts_of behind u) e) tail f)),
+)
+
+-- the share of the first, and those of the others
+pub shares-first : (texts behind ns rest : List ℕ) (n : ℕ) (s : Share) (room : List Share) → 1 ≤ length ns → n ≡ get_or ns 0 n → behind ≡ drop n texts → rest ≡ drop 1 ns
+    → IsShareOf (take n texts) s → AreSharesOf (texts_of behind rest) (take (length rest) room) → AreSharesOf (texts_of texts ns) (take (length ns) (s ∷ (room ++ [])))
+shares-first texts behind [] rest n s room some is at tail of are = absurd (omega (arith, some))
+shares-first texts behind (m ∷ ns) rest n s room some is at tail of are = (
+  subst (λ (k : ℕ). IsShareOf (take k texts) s) is of,
+  subst (λ (ss : List Share). AreSharesOf (texts_of (drop m texts) ns) (take (length ns) ss)) (sym (append-nil room))
+      (subst (λ (k : ℕ). AreSharesOf (texts_of (drop k texts) ns) (take (length ns) room)) is
+      (subst (λ (u : List ℕ). AreSharesOf (texts_of u ns) (take (length ns) room)) at (subst (λ (u : List ℕ). AreSharesOf (texts_of behind u) (take (length u) room)) tail are))),
+)
+
+-- what stands behind the first has the other lengths
+pub whole-behind : (texts ns rest : List ℕ) (n : ℕ) → 1 ≤ length ns → n ≡ get_or ns 0 n → rest ≡ drop 1 ns → sum ns ≡ length texts → n + sum rest ≡ length texts
+whole-behind texts [] rest n some is tail whole = absurd (omega (arith, some))
+whole-behind texts (m ∷ ns) rest n some is tail whole =
+    let same : n ≡ m = is in
+    let others : sum rest ≡ sum ns = ap sum tail in
+    omega (arith, same, others, sum-cons m ns, whole)
 
 -- of texts there are no other refusals
 pub never : (e : Refusal) → ((t : List ℕ) → IsEitherFault t e → ⊥) → (ts : List (List ℕ)) → IsTextsFault ts e → ⊥

@@ -4,10 +4,10 @@ use Rattle.std.specs.Prelude.{false, List, [], ◌∷◌, length, take, drop, No
 use Rattle.std.specs.List.{sum}
 use Rattle.bech32_encode.specs.Buffers.{IsPut}
 use Rattle.bech32_gf.specs.Fe32.{element_of}
-use Rattle.codex32_strings.specs.Derive.{DoContradict, IsDeriveIntoRefusal, IsDerivedString}
-use Rattle.codex32_strings.specs.Derive.{IsStringOfSet, IsWholeSet, size_of}
-use Rattle.codex32_strings.specs.Share.{AreSharesOf, IsEither}
-use Rattle.codex32_strings.specs.declared.share.Share.{Share}
+use Rattle.codex32.specs.Derive.{DoContradict, IsDeriveIntoRefusal, IsDerivedString}
+use Rattle.codex32.specs.Derive.{IsStringOfSet, IsWholeSet, size_of}
+use Rattle.codex32.specs.Share.{AreSharesOf, IsEither}
+use Rattle.codex32.specs.declared.share.Share.{Share}
 use Rattle.codex32_calls.specs.Encode.{share_index_number_fault}
 use Rattle.codex32_calls.specs.Share.{IsEitherFault}
 use Rattle.codex32_calls.specs.declared.refusal.Refusal.{Refusal}
@@ -48,9 +48,9 @@ pub record PutsDerived (share_index : ℕ) (texts lengths old new : List ℕ) (c
   pub is_text : IsDerivedOf share_index (texts_of texts lengths) text
   pub put : IsPut text old new count
 
--- Texts give a string at an index, and a buffer of so many bytes has room for it: each is a string
--- of either length; their shares are a whole set, which does not contradict itself. The string is
--- as long as each of them: three characters, and those of its elements.
+-- Texts give a string at an index, and a buffer of this many bytes has room for it: each is a
+-- string of either length; their shares are a whole set, which does not contradict itself. The
+-- string is as long as each of them: three characters, and those of its elements.
 pub record CanDerive (share_index : ℕ) (texts lengths : List ℕ) (room : ℕ) : Type 0 where
   pub asked : IsAsked share_index texts lengths
   pub shares : List Share
@@ -59,7 +59,7 @@ pub record CanDerive (share_index : ℕ) (texts lengths : List ℕ) (room : ℕ)
   pub agree : DoContradict shares → ⊥
   pub fits : 3 + size_of shares ≤ room
 
--- the string does not fit in a buffer of so many bytes
+-- the string does not fit in a buffer of this many bytes
 pub record LacksRoomForDerived (share_index : ℕ) (texts lengths : List ℕ) (room : ℕ)
     : Type 0 where
   pub asked : IsAsked share_index texts lengths
@@ -75,8 +75,8 @@ IsTextsRefusal share_index texts (refusals.Derive e) =
     × IsDeriveIntoRefusal shares (element_of share_index) e
 IsTextsRefusal share_index texts e = IsTextsFault texts e
 
--- why none is put into a buffer of so many bytes, the first of: the lengths, the share index, that,
--- too little room
+-- why none is put into a buffer of this many bytes, the first of: the lengths, the share index,
+-- that, too little room
 abbrev pub IsDeriveFault : ℕ → List ℕ → List ℕ → ℕ → Refusal → Type 0
 IsDeriveFault share_index texts lengths room refusals.BadLengths =
     are_lengths texts lengths ≡ false

@@ -7,17 +7,17 @@ use Rattle.bech32_encode.specs.Buffers.{IsPut}
 use Rattle.bech32_gf.specs.Alphabet.{is_of_alphabet}
 use Rattle.bech32_gf.specs.Fe32.{element_of, elements_of}
 use Rattle.bech32_hrp.specs.Hrp.{first_of}
-use Rattle.codex32_strings.specs.Encode.{IsEncodedString, code_of_byte_count, is_byte_count}
-use Rattle.codex32_strings.specs.Encode.{is_long_byte_count}
-use Rattle.codex32_strings.specs.Header.{identifier_of_header, share_index_of_header}
-use Rattle.codex32_strings.specs.Header.{threshold_of_header}
-use Rattle.codex32_strings.specs.HeaderParts.{identifier_elements, identifier_word_fault}
-use Rattle.codex32_strings.specs.HeaderParts.{threshold_number}
-use Rattle.codex32_strings.specs.Thresholds.{is_threshold_number}
-use Rattle.codex32_strings.specs.declared.error.EncodeError.TheVariants as encode_errors
-use Rattle.codex32_strings.specs.declared.error.HeaderError.{HeaderError}
-use Rattle.codex32_strings.specs.declared.error.HeaderError.TheVariants as header_errors
-use Rattle.codex32_strings.specs.declared.header.Header.{Header as Head}
+use Rattle.codex32.specs.Encode.{IsEncodedString, code_of_byte_count, is_byte_count}
+use Rattle.codex32.specs.Encode.{is_long_byte_count}
+use Rattle.codex32.specs.Header.{identifier_of_header, share_index_of_header}
+use Rattle.codex32.specs.Header.{threshold_of_header}
+use Rattle.codex32.specs.HeaderParts.{identifier_elements, identifier_word_fault}
+use Rattle.codex32.specs.HeaderParts.{threshold_number}
+use Rattle.codex32.specs.Thresholds.{is_threshold_number}
+use Rattle.codex32.specs.declared.error.EncodeError.TheVariants as encode_errors
+use Rattle.codex32.specs.declared.error.HeaderError.{HeaderError}
+use Rattle.codex32.specs.declared.error.HeaderError.TheVariants as header_errors
+use Rattle.codex32.specs.declared.header.Header.{Header as Head}
 use Rattle.codex32_calls.specs.declared.refusal.Refusal.{Refusal}
 use Rattle.codex32_calls.specs.declared.refusal.Refusal.TheVariants as refusals
 
@@ -51,7 +51,7 @@ pub record IsHeaderOf (threshold : ℕ) (identifier : List ℕ) (share_index : �
   pub identifier_is : identifier_elements (identifier_of_header h) ≡ elements_of identifier
   pub share_index_is : share_index_of_header h ≡ element_of share_index
 
--- the text is the string of that header and bytes, of which a string has so many
+-- the text is the string of that header and bytes, of which a string has that many
 pub record IsEncodedOf (threshold : ℕ) (identifier : List ℕ) (share_index : ℕ)
     (bytes text : List ℕ) : Type 0 where
   pub header : Head
@@ -66,12 +66,12 @@ pub record PutsEncoded (threshold : ℕ) (identifier : List ℕ) (share_index : 
   pub is_text : IsEncodedOf threshold identifier share_index bytes text
   pub put : IsPut text old new count
 
--- the length of a string with so many characters of a payload: nine up to the share index, these,
+-- the length of a string with this many characters of a payload: nine up to the share index, these,
 -- and those of its checksum
 abbrev pub string_length : Code → ℕ → ℕ
 string_length code n = 9 + n + length code.generator
 
--- nothing is wrong with what a header is made of; a string has so many bytes; and a buffer of
+-- nothing is wrong with what a header is made of; a string has this many bytes; and a buffer of
 -- `room` bytes has room for it
 pub record CanEncode (threshold : ℕ) (identifier : List ℕ) (share_index : ℕ) (bytes : List ℕ)
     (room : ℕ) : Type 0 where
@@ -79,14 +79,14 @@ pub record CanEncode (threshold : ℕ) (identifier : List ℕ) (share_index : �
   pub counted : is_byte_count (length bytes) || is_long_byte_count (length bytes) ≡ true
   pub fits : string_length (code_of_byte_count (length bytes)) (length (to_fes bytes)) ≤ room
 
--- the string does not fit in a buffer of so many bytes
+-- the string does not fit in a buffer of this many bytes
 pub record LacksRoomForEncoded (threshold : ℕ) (identifier : List ℕ) (share_index : ℕ)
     (bytes : List ℕ) (room : ℕ) : Type 0 where
   pub text : List ℕ
   pub is_text : IsEncodedOf threshold identifier share_index bytes text
   pub lacks : room < length text
 
--- why none is put into a buffer of so many bytes, the first of: what is wrong with the header, a
+-- why none is put into a buffer of this many bytes, the first of: what is wrong with the header, a
 -- number of bytes that no string has, too little room
 abbrev pub IsEncodeStringFault : ℕ → List ℕ → ℕ → List ℕ → ℕ → Refusal → Type 0
 IsEncodeStringFault threshold identifier share_index bytes room (refusals.Header e) =

@@ -1,10 +1,10 @@
 -- The nearest texts by each checksum.
 use Rattle.std.specs.Prelude.{ℕ, List, Option}
 use Rattle.codex32.specs.Nearest.{IsNearestLongText}
-use Rattle.codex32_strings.specs.Damaged.{read_text}
+use Rattle.codex32.specs.Damaged.{read_text}
 use Rattle.codex32.specs.Nearest.{IsNearestText, IsProposeLongRefusal, IsProposeRefusal}
-use Rattle.codex32_strings.specs.Strings.{frame_refusal, long_frame_refusal}
-use Rattle.codex32_strings.specs.declared.error.Codex32Error.{Codex32Error}
+use Rattle.codex32.specs.Strings.{frame_refusal, long_frame_refusal}
+use Rattle.codex32.specs.declared.error.Codex32Error.{Codex32Error}
 use Rattle.codex32_calls.specs.declared.propose.Kind.{Kind}
 use Rattle.codex32_calls.specs.declared.propose.Kind.TheVariants.{Short, Long}
 

@@ -1,7 +1,7 @@
 -- What is told of a codex32 string, and why a text is none.
 use Rattle.std.specs.Prelude.{◌≡◌, ◌+◌, ℕ, List, length}
 use Rattle.std.specs.Str.{IsUtf8}
-use Rattle.codex32_strings.specs.Strings.{IsString, IsStringRefusal}
+use Rattle.codex32.specs.Strings.{IsString, IsStringRefusal}
 use Rattle.codex32_calls.specs.declared.refusal.Refusal.{Refusal}
 use Rattle.codex32_calls.specs.declared.refusal.Refusal.TheVariants.{NotUtf8, Text}
 

@@ -16,23 +16,23 @@ pub record PutsNearest (kind : Kind) (text old new : List ℕ) (count : ℕ) : T
   pub is_nearest : IsNearest kind text nearest
   pub put : IsPut nearest old new count
 
--- to such a one there is a nearest text, and a buffer of so many bytes has room for it
+-- to such a one there is a nearest text, and a buffer of this many bytes has room for it
 pub record CanPropose (kind : Kind) (text : List ℕ) (room : ℕ) : Type 0 where
   pub framed : damaged_refusal kind text ≡ None
   pub nearest : List ℕ
   pub is_nearest : IsNearest kind text nearest
   pub fits : length nearest ≤ room
 
--- the nearest text to such a one does not fit in a buffer of so many bytes
+-- the nearest text to such a one does not fit in a buffer of this many bytes
 pub record LacksRoomForNearest (kind : Kind) (text : List ℕ) (room : ℕ) : Type 0 where
   pub framed : damaged_refusal kind text ≡ None
   pub nearest : List ℕ
   pub is_nearest : IsNearest kind text nearest
   pub lacks : room < length nearest
 
--- why none is put into a buffer of so many bytes: the bytes are not a text; the first fault of the
--- text as it is read, or, where it has none, out of memory; there is no nearest text; it does not
--- fit
+-- why none is put into a buffer of this many bytes: the bytes are not a text; the first fault of
+-- the text as it is read, or, where it has none, out of memory; there is no nearest text; it does
+-- not fit
 abbrev pub IsProposeFault : Kind → List ℕ → ℕ → Refusal → Type 0
 IsProposeFault kind text room NotUtf8 = ¬ (IsUtf8 text)
 IsProposeFault kind text room (Text e) = IsUtf8 text × IsNearestStringRefusal kind text e

@@ -2,11 +2,11 @@
 use Rattle.std.specs.Prelude.{◌≡◌, ◌<◌, ◌≤◌, ℕ, true, false, List, [], ◌∷◌, length}
 use Rattle.bech32_bits.specs.Bits.{bytes_count, to_bytes}
 use Rattle.bech32_gf.specs.Fe32.{element_of, elements_of}
-use Rattle.codex32_strings.specs.Derive.{DoContradict, IsWholeSet}
-use Rattle.codex32_strings.specs.Share.{AreSharesOf, payload_of_share}
-use Rattle.codex32_strings.specs.ShareParts.{bits_left_over}
-use Rattle.codex32_strings.specs.declared.header.Header.{Header as Head}
-use Rattle.codex32_strings.specs.declared.share.Share.{Share}
+use Rattle.codex32.specs.Derive.{DoContradict, IsWholeSet}
+use Rattle.codex32.specs.Share.{AreSharesOf, payload_of_share}
+use Rattle.codex32.specs.ShareParts.{bits_left_over}
+use Rattle.codex32.specs.declared.header.Header.{Header as Head}
+use Rattle.codex32.specs.declared.share.Share.{Share}
 use Rattle.codex32_calls.specs.Derive.{IsDerivedOf, IsTextsRefusal, are_lengths, texts_of}
 use Rattle.codex32_calls.specs.Share.{HasPayload, PutsPayload}
 use Rattle.codex32_calls.specs.declared.refusal.Refusal.{Refusal}

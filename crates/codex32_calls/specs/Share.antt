@@ -5,12 +5,12 @@ use Rattle.bech32_bits.specs.Bits.{to_bytes}
 use Rattle.bech32_checksum.specs.Encoded.{char_of_element}
 use Rattle.bech32_encode.specs.Buffers.{IsPut}
 use Rattle.bech32_gf.specs.Fe32.{elements_of}
-use Rattle.codex32_strings.specs.Header.{identifier_of_header, share_index_of_header}
-use Rattle.codex32_strings.specs.Header.{threshold_of_header}
-use Rattle.codex32_strings.specs.HeaderParts.{identifier_elements, threshold_number}
-use Rattle.codex32_strings.specs.Share.{IsShareRefusal, IsShareString}
-use Rattle.codex32_strings.specs.ShareParts.{bits_left_over}
-use Rattle.codex32_strings.specs.declared.header.Header.{Header as Head}
+use Rattle.codex32.specs.Header.{identifier_of_header, share_index_of_header}
+use Rattle.codex32.specs.Header.{threshold_of_header}
+use Rattle.codex32.specs.HeaderParts.{identifier_elements, threshold_number}
+use Rattle.codex32.specs.Share.{IsShareRefusal, IsShareString}
+use Rattle.codex32.specs.ShareParts.{bits_left_over}
+use Rattle.codex32.specs.declared.header.Header.{Header as Head}
 use Rattle.codex32_calls.specs.declared.refusal.Refusal.{Refusal}
 use Rattle.codex32_calls.specs.declared.refusal.Refusal.TheVariants as refusals
 
@@ -51,7 +51,7 @@ pub record HasPayload (P : List ℕ → Type 0) (text : List ℕ) : Type 0 where
   pub holds : P payload
 
 -- the text is a string of either length; at most four bits are left over behind the bytes of its
--- payload, and these fit in a buffer of so many bytes
+-- payload, and these fit in a buffer of this many bytes
 abbrev pub CanReadShare : List ℕ → ℕ → Type 0
 CanReadShare text room =
     HasPayload
@@ -64,7 +64,7 @@ IsEitherFault text refusals.NotUtf8 = ¬ (IsUtf8 text)
 IsEitherFault text (refusals.Text e) = IsUtf8 text × IsShareRefusal text e
 IsEitherFault text _ = ⊥
 
--- why nothing is told, with a buffer of so many bytes: that; or, of a string, more than four bits
+-- why nothing is told, with a buffer of this many bytes: that; or, of a string, more than four bits
 -- are left over behind the bytes of its payload; or these do not fit
 abbrev pub IsShareFault : List ℕ → ℕ → Refusal → Type 0
 IsShareFault text room (refusals.Payload e) =

@@ -3,14 +3,14 @@ use Rattle.std.specs.Prelude.{◌≡◌, ◌≤◌, ◌-◌, ◌*◌, ◌||◌, 
 use Rattle.bech32_encode.specs.Buffers.{IsPut}
 use Rattle.bech32_gf.specs.Fe32.{elements_of}
 use Rattle.bech32_hrp.specs.Hrp.{first_of}
-use Rattle.codex32_strings.specs.Encode.{is_byte_count, is_long_byte_count}
-use Rattle.codex32_strings.specs.HeaderParts.{identifier_elements, identifier_word_fault}
-use Rattle.codex32_strings.specs.HeaderParts.{threshold_number}
-use Rattle.codex32_strings.specs.Split.{IsSplit, Recovers, payload_count, split_refusal, text_size}
-use Rattle.codex32_strings.specs.declared.error.HeaderError.{HeaderError}
-use Rattle.codex32_strings.specs.declared.error.SplitError.{SplitError}
-use Rattle.codex32_strings.specs.declared.identifier.Identifier.{Identifier}
-use Rattle.codex32_strings.specs.declared.threshold.Threshold.{Threshold}
+use Rattle.codex32.specs.Encode.{is_byte_count, is_long_byte_count}
+use Rattle.codex32.specs.HeaderParts.{identifier_elements, identifier_word_fault}
+use Rattle.codex32.specs.HeaderParts.{threshold_number}
+use Rattle.codex32.specs.Split.{IsSplit, Recovers, payload_count, split_refusal, text_size}
+use Rattle.codex32.specs.declared.error.HeaderError.{HeaderError}
+use Rattle.codex32.specs.declared.error.SplitError.{SplitError}
+use Rattle.codex32.specs.declared.identifier.Identifier.{Identifier}
+use Rattle.codex32.specs.declared.threshold.Threshold.{Threshold}
 use Rattle.codex32_calls.specs.Encode.{threshold_number_fault}
 use Rattle.codex32_calls.specs.declared.refusal.Refusal.{Refusal}
 use Rattle.codex32_calls.specs.declared.refusal.Refusal.TheVariants as refusals

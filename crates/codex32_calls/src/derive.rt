@@ -2,7 +2,7 @@
 
 ghost use Rattle.std.specs.Prelude.{◌≡◌, ◌≤◌, ◌==◌, ℕ, length, take, true, IfErr, IfOk, IsOk, MatchResult, OnErr};
 ghost use Rattle.std.specs.List.{sum};
-ghost use Rattle.codex32_strings.specs.Share.{AreSharesOf};
+ghost use Rattle.codex32.specs.Share.{AreSharesOf};
 ghost use Rattle.codex32_calls.specs.Derive.{CanDerive, IsAsked, IsDeriveFault, IsDerivedOf, IsTextsFault, PutsDerived, are_lengths, texts_of};
 
 use crate::input::{share_index_of, share_of};
@@ -68,8 +68,9 @@ pub(crate) fn put_string(
     let Some(first) = lengths.first() else {
         return Err(Refusal::Derive(DeriveError::TooFew));
     };
-    let mut shares = [share_of(&texts[..*first])?; MOST];
-    put_shares(&mut shares, texts, lengths)?;
+    let (text, behind) = texts.split_at(*first);
+    let mut shares = [share_of(text)?; MOST];
+    put_shares(&mut shares[1..], behind, &lengths[1..])?;
     Ok(derive_into(room, &shares[..lengths.len()], index)?)
 }
 

@@ -4,7 +4,7 @@ ghost use Rattle.std.specs.Prelude.{◌≡◌, ◌≤◌, ◌||◌, true, false,
 ghost use Rattle.bech32_encode.specs.Buffers.{IsPut};
 ghost use Rattle.bech32_gf.specs.Alphabet.{is_data};
 ghost use Rattle.bech32_gf.specs.Fe32.{elements_of};
-ghost use Rattle.codex32_strings.specs.Encode.{IsEncodedPayload, is_long_payload_count, is_payload_count};
+ghost use Rattle.codex32.specs.Encode.{IsEncodedPayload, is_long_payload_count, is_payload_count};
 ghost use Rattle.codex32_calls.specs.Encode.{CanEncode, IsEncodeStringFault, PutsEncoded};
 ghost use Rattle.codex32_calls.specs.Payload.{CanEncodePayload, IsEncodePayloadFault, PutsEncodedPayload};
 

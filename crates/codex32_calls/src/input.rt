@@ -3,8 +3,8 @@
 ghost use Rattle.std.specs.Prelude.{◌≡◌, None, Some, MatchResult};
 ghost use Rattle.std.specs.Str.{IsUtf8};
 ghost use Rattle.bech32_gf.specs.Fe32.{element_of, elements_of};
-ghost use Rattle.codex32_strings.specs.HeaderParts.{identifier_elements, identifier_word_fault, threshold_number};
-ghost use Rattle.codex32_strings.specs.Share.{IsShareOf};
+ghost use Rattle.codex32.specs.HeaderParts.{identifier_elements, identifier_word_fault, threshold_number};
+ghost use Rattle.codex32.specs.Share.{IsShareOf};
 ghost use Rattle.codex32_calls.specs.Encode.{IsHeaderOf, header_number_fault, share_index_number_fault, threshold_number_fault};
 ghost use Rattle.codex32_calls.specs.Payload.{IsPayload, IsPayloadFault};
 ghost use Rattle.codex32_calls.specs.Share.{IsEitherFault};

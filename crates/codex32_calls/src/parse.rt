@@ -1,7 +1,7 @@
 //! Reads codex32 strings.
 
 ghost use Rattle.std.specs.Prelude.{◌≡◌, ◌≤◌, ◌+◌, IfErr, IfOk, IsOk};
-ghost use Rattle.codex32_strings.specs.Strings.{IsCodex32};
+ghost use Rattle.codex32.specs.Strings.{IsCodex32};
 ghost use Rattle.codex32_calls.specs.Parse.{IsParseFault, IsParsedString};
 
 use crate::input::text_of;

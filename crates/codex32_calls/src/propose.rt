@@ -117,7 +117,7 @@ fn nearest_with(
 /// Puts the nearest text to any text, which is tested before anything is allocated, at the front of
 /// a buffer, and returns its length.
 ///
-/// The memory holds the text as it is read and the one that is proposed; the locations of
+/// The memory holds the data part as it is read and the text that is proposed; the locations of
 /// unreadable characters, if there are any; and what a corrector of 13 or 15 characters needs,
 /// where the checksum does not accept the text as it is read. So out of memory may be returned for
 /// a text without errors too.

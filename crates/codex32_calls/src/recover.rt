@@ -1,8 +1,8 @@
 //! Recovers secrets from shares.
 
 ghost use Rattle.std.specs.Prelude.{◌≡◌, length, IfErr, IfOk, IsOk, OnErr};
-ghost use Rattle.codex32_strings.specs.Share.{IsEither};
-ghost use Rattle.codex32_strings.specs.declared.header.Header.{Header as Head};
+ghost use Rattle.codex32.specs.Share.{IsEither};
+ghost use Rattle.codex32.specs.declared.header.Header.{Header as Head};
 ghost use Rattle.codex32_calls.specs.Recover.{CanRecover, IsRecoverFault, PutsRecovered};
 ghost use Rattle.codex32_calls.specs.Share.{CanReadShare, IsShareFault, PutsPayload};
 

@@ -2,7 +2,7 @@
 
 ghost use Rattle.std.specs.Prelude.{◌≡◌, length, map, IfErr, IfOk, IsOk, OnErr};
 ghost use Rattle.bech32_checksum.specs.Encoded.{char_of_element};
-ghost use Rattle.codex32_strings.specs.HeaderParts.{identifier_elements};
+ghost use Rattle.codex32.specs.HeaderParts.{identifier_elements};
 ghost use Rattle.codex32_calls.specs.Share.{CanReadShare, IsShareFault, PutsPayload};
 
 use crate::input::share_of;

@@ -3,13 +3,13 @@
 -- besides, 91 for out of memory, and 92 for a buffer that is too small.
 use Rattle.std.specs.Prelude.{ℕ}
 use Rattle.bech32_numbers.specs.Numbers.{number_of_text_error, number_of_checksum_error}
-use Rattle.codex32_strings.specs.declared.error.Codex32Error.{Codex32Error}
-use Rattle.codex32_strings.specs.declared.error.Codex32Error.TheVariants.{Text, Length, Hrp}
-use Rattle.codex32_strings.specs.declared.error.Codex32Error.TheVariants.{Checksum}
-use Rattle.codex32_strings.specs.declared.error.Codex32Error.TheVariants.{Threshold, ShareIndex}
-use Rattle.codex32_strings.specs.declared.error.Codex32Error.TheVariants.{Memory}
-use Rattle.codex32_strings.specs.declared.error.DeriveError.{DeriveError}
-use Rattle.codex32_strings.specs.declared.error.DeriveError.TheVariants.{
+use Rattle.codex32.specs.declared.error.Codex32Error.{Codex32Error}
+use Rattle.codex32.specs.declared.error.Codex32Error.TheVariants.{Text, Length, Hrp}
+use Rattle.codex32.specs.declared.error.Codex32Error.TheVariants.{Checksum}
+use Rattle.codex32.specs.declared.error.Codex32Error.TheVariants.{Threshold, ShareIndex}
+use Rattle.codex32.specs.declared.error.Codex32Error.TheVariants.{Memory}
+use Rattle.codex32.specs.declared.error.DeriveError.{DeriveError}
+use Rattle.codex32.specs.declared.error.DeriveError.TheVariants.{
   TooFew,
   OtherSet,
   IndexTwice,
@@ -17,20 +17,20 @@ use Rattle.codex32_strings.specs.declared.error.DeriveError.TheVariants.{
   Unshared as UnsharedSet,
   Memory as DeriveMemory,
 }
-use Rattle.codex32_strings.specs.declared.error.EncodeError.{EncodeError}
-use Rattle.codex32_strings.specs.declared.error.EncodeError.TheVariants.{Size}
-use Rattle.codex32_strings.specs.declared.error.EncodeError.TheVariants.{Memory as EncodeMemory}
-use Rattle.codex32_strings.specs.declared.error.HeaderError.{HeaderError}
-use Rattle.codex32_strings.specs.declared.error.HeaderError.TheVariants.{
+use Rattle.codex32.specs.declared.error.EncodeError.{EncodeError}
+use Rattle.codex32.specs.declared.error.EncodeError.TheVariants.{Size}
+use Rattle.codex32.specs.declared.error.EncodeError.TheVariants.{Memory as EncodeMemory}
+use Rattle.codex32.specs.declared.error.HeaderError.{HeaderError}
+use Rattle.codex32.specs.declared.error.HeaderError.TheVariants.{
   Threshold as BadThreshold,
   Identifier,
   ShareIndex as NoShareIndex,
   Unshared,
 }
-use Rattle.codex32_strings.specs.declared.error.PayloadError.{PayloadError}
-use Rattle.codex32_strings.specs.declared.error.PayloadError.TheVariants.{LeftOver}
-use Rattle.codex32_strings.specs.declared.error.SplitError.{SplitError}
-use Rattle.codex32_strings.specs.declared.error.SplitError.TheVariants.{
+use Rattle.codex32.specs.declared.error.PayloadError.{PayloadError}
+use Rattle.codex32.specs.declared.error.PayloadError.TheVariants.{LeftOver}
+use Rattle.codex32.specs.declared.error.SplitError.{SplitError}
+use Rattle.codex32.specs.declared.error.SplitError.TheVariants.{
   Unshared as UnsharedSplit,
   Size as SplitSize,
   Count,

@@ -16,3 +16,16 @@ AddsOrRefuses Says number_of result old new =
     MatchResult result
     (λ _. Adds Says old new)
     (λ e. Says (err (number_of e)) × (new ≡ old))
+
+-- what may be said is added, however long it is, or nothing is, and the refusal with the error's
+-- number may be said
+abbrev pub AddsAnyOrRefuses : {E : Type 0} → (List ℕ → Type 0) → (E → ℕ) → Result (Unit {0}) E
+    → List ℕ → List ℕ → Type 0
+AddsAnyOrRefuses Says number_of result old new =
+    MatchResult result
+    (λ _. (said : List ℕ) × Says said × (new ≡ old ++ said))
+    (λ e. Says (err (number_of e)) × (new ≡ old))
+
+-- the same of an error that is its number
+abbrev pub AddsOrSaysNumber : (List ℕ → Type 0) → Result (Unit {0}) ℕ → List ℕ → List ℕ → Type 0
+AddsOrSaysNumber Says result old new = AddsAnyOrRefuses Says (λ number. number) result old new

@@ -1,5 +1,5 @@
 -- How refusals are said.
-use Rattle.std.specs.Prelude.{◌≡◌, ℕ, List, ◌++◌, codes}
+use Rattle.std.specs.Prelude.{◌≡◌, ℕ, List, [], ◌++◌, codes, Result, Ok, Err}
 use Rattle.std.specs.Fmt.{decimal}
 use Rattle.line_program.specs.declared.execute.NotExecuted.{NotExecuted}
 use Rattle.line_program.specs.declared.execute.NotExecuted.TheVariants.{NoCommand, Refused}
@@ -19,3 +19,8 @@ pub record SaysRefusal {E : Type 0} (IsRefusal : E → Type 0) (number_of : E �
 abbrev pub number_of_not_executed : NotExecuted → ℕ
 number_of_not_executed NoCommand = 3
 number_of_not_executed (Refused number) = number
+
+-- what an answered line is refused with, if it is
+abbrev pub refusal_in : Result (Unit {0}) ℕ → List ℕ
+refusal_in (Ok _) = []
+refusal_in (Err number) = err number

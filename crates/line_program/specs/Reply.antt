@@ -1,6 +1,7 @@
 -- What may be said of a line, by what a text asks for and what may be said of that.
-use Rattle.std.specs.Prelude.{◌≡◌, ℕ, List, length, nat_lt, Option, MatchOption, MatchBool}
-use Rattle.std.specs.Str.{is_utf8}
+use Rattle.std.specs.Prelude.{◌≡◌, ◌⊎◌, ◌<◌, ◌≤◌, ℕ, List, length, nat_lt, Option, MatchOption}
+use Rattle.std.specs.Prelude.{MatchBool}
+use Rattle.std.specs.Str.{IsUtf8, is_utf8}
 use Rattle.line_program.specs.Refused.{err}
 
 -- what may be said of a text: it is no command, or it is answered
@@ -18,3 +19,15 @@ IsReplyBy request_of IsAnswer line said =
     (MatchBool (is_utf8 line)
     (IsOutcomeBy request_of IsAnswer line said)
     (said ≡ err 2))
+
+-- the text of a line that is not too long
+pub record IsTextOfLine (line text : List ℕ) : Type 0 where
+  pub same : text ≡ line
+  pub short : length line ≤ 4096
+  pub utf8 : IsUtf8 line
+
+-- the number that a line is refused with: it is too long, or no text, in this order
+abbrev pub IsLineRefusal : List ℕ → ℕ → Type 0
+IsLineRefusal line number =
+    ((4096 < length line) × (number ≡ 1))
+    ⊎ ((length line ≤ 4096) × (IsUtf8 line → ⊥) × (number ≡ 2))

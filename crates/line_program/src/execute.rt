@@ -1,13 +1,13 @@
 //! What a program replies to commands, and so to each line.
 
 ghost use Rattle.std.specs.Prelude.{◌≡◌, ◌↔◌, ℕ, ◌+◌, ◌≤◌, ◌<◌, List, vec_len, vec_capacity};
-ghost use Rattle.std.specs.Prelude.{Option, None, IfErr, IsErrOf, MatchOption};
+ghost use Rattle.std.specs.Prelude.{Option, None, IfErr, IsErrOf, MatchOption, MatchResult};
 ghost use Rattle.std.specs.Str.{IsUtf8};
 ghost use Rattle.line_program.specs.Added.{AddsOrRefuses};
 ghost use Rattle.line_program.specs.Refused.{number_of_not_executed};
-ghost use Rattle.line_program.specs.Reply.{IsOutcomeBy, IsReplyBy};
+ghost use Rattle.line_program.specs.Reply.{IsLineRefusal, IsOutcomeBy, IsReplyBy, IsTextOfLine};
 
-use crate::output::{append, append_refusal};
+use crate::output::end_reply;
 use crate::replies::{LINE_LIMIT, Replies};
 
 /// Why a text is not executed.
@@ -52,9 +52,9 @@ pub trait Execute {
         ensures capacity { vec_capacity out.old ≤ vec_capacity out.new };
 }
 
-/// The text of a line, if it is UTF-8. ASCII is seen at once.
+// The text of a line, if it is UTF-8. ASCII is seen at once.
 #[inline]
-pub fn text_of(line: &[u8]) -> Option<&str>
+fn text_of(line: &[u8]) -> Option<&str>
     ensures { MatchOption result (¬ IsUtf8 line.now)
         (λ text. (text.now ≡ line.now) × IsUtf8 line.now) }
 {
@@ -68,6 +68,23 @@ pub fn text_of(line: &[u8]) -> Option<&str>
     }
 }
 
+/// The text of a line that is not too long, or the number that the line is refused with: 1 where it
+/// is too long, and 2 where it is not UTF-8.
+#[inline]
+pub fn text_of_line(line: &[u8]) -> Result<&str, u8>
+    ensures text { MatchResult result
+        (λ text. IsTextOfLine line.now text.now) (IsLineRefusal line.now) }
+    ensures small { IfErr result (λ number. number < 100) }
+{
+    if line.len() > LINE_LIMIT {
+        return Err(1);
+    }
+    let Some(text) = text_of(line) else {
+        return Err(2);
+    };
+    Ok(text)
+}
+
 /// Adds the outcome of a line, or leaves all as it was, with the number of the refusal.
 fn execute_line<P: Execute>(program: &P, line: &[u8], out: &mut Vec<u8>) -> Result<(), u8>
     requires { vec_len out.old + 2047 ≤ vec_capacity out.old }
@@ -76,12 +93,7 @@ fn execute_line<P: Execute>(program: &P, line: &[u8], out: &mut Vec<u8>) -> Resu
     ensures small { IfErr result (λ number. number < 100) }
     ensures capacity { vec_capacity out.old ≤ vec_capacity out.new }
 {
-    if line.len() > LINE_LIMIT {
-        return Err(1);
-    }
-    let Some(text) = text_of(line) else {
-        return Err(2);
-    };
+    let text = text_of_line(line)?;
     match program.execute(text, out) {
         Ok(()) => Ok(()),
         Err(e) => Err(e.number()),
@@ -98,9 +110,7 @@ impl<P: Execute> Replies for P {
     ghost too_long = { long_lines P.request_of P.is_answer };
 
     fn reply(&self, line: &[u8], out: &mut Vec<u8>) {
-        if let Err(number) = execute_line(self, line, out) {
-            append_refusal(out, number);
-        }
-        append(out, b"\n");
+        let answered = execute_line(self, line, out);
+        end_reply(answered, out);
     }
 }

@@ -7,14 +7,16 @@
 
 mod error;
 mod execute;
+mod exit;
 mod lines;
 mod output;
 mod replies;
 mod words;
 
 pub use error::RunError;
-pub use execute::{Execute, NotExecuted, text_of};
+pub use execute::{Execute, NotExecuted, text_of_line};
+pub use exit::exit_code;
 pub use lines::{run, run_on};
-pub use output::{append, append_number, append_refusal};
+pub use output::{append, append_any, append_number, append_refusal, end_reply};
 pub use replies::{LINE_LIMIT, REPLY_ROOM, Replies};
 pub use words::{first_word, only_word};

@@ -17,7 +17,7 @@ use std::io;
 // What is kept of a line: one byte more than it may have shows that it is too long.
 const KEPT: usize = 4097;
 
-// So many bytes are read at once.
+// The number of bytes that are read at once.
 const READ: usize = 65536;
 
 // Replies are gathered in so much room.

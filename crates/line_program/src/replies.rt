@@ -3,7 +3,7 @@
 ghost use Rattle.std.specs.Prelude.{◌≡◌, ℕ, ◌+◌, ◌≤◌, ◌<◌, List, [], ◌∷◌, ◌++◌, length};
 ghost use Rattle.std.specs.Prelude.{vec_len, vec_capacity};
 
-/// A line may have so many bytes. A longer one is refused, whatever it holds.
+/// A line may have this many bytes. A longer one is refused, whatever it holds.
 pub const LINE_LIMIT: usize = 4096;
 
 /// What a reply adds to its output is no longer than this.

@@ -1,7 +1,6 @@
 -- What may be said of a line.
 use Rattle.std.specs.Prelude.{flat_map}
 use Rattle.std.proofs.Common.{◌≡◌, ◌≢◌, ◌++◌, ◌∷◌, [], ◌∙◌, map, ℕ, ◌≤◌, inl, inr, List, Option, Some, None, Result, Ok, Err, MatchOption, length, refl, sym, ap, subst, codes}
-use Rattle.std.specs.Str.{IsUtf8}
 use Rattle.bech32_gf.specs.declared.gf32.Fe32.{Fe32}
 use Rattle.bech32_checksum.specs.Code.{Code}
 use Rattle.bech32_checksum.specs.Roots.{singleton_bound}
@@ -12,13 +11,11 @@ use Rattle.bech32_near_edits.specs.declared.edits.Edit.{Edit}
 use Rattle.bech32_near_edits.specs.declared.error.EditsError.{EditsError}
 use Rattle.bech32_near_edits.specs.declared.error.EditsError.TheVariants as edits
 use Rattle.bech32_near_edits.specs.NearEdits.{AreNearEdits, IsEditsRefusal}
+use Rattle.line_program.specs.Added.{AddsOrSaysNumber}
 use Rattle.line_program.specs.Refused.{err}
-use Rattle.line_program.specs.Reply.{IsReplyBy}
-use Rattle.line_program.proofs.Replied.{text-reply}
-use Rattle.mend.specs.Added.{AddsOrSaysNumber}
 use Rattle.mend.specs.Numbers.{number_of_correct_error, number_of_edits_error}
-use Rattle.mend.specs.Reply.{IsEditsAnswer, IsMendAnswer, IsNearTextsAnswer, IsNearTextsRefusal, SaysNear, said_of_edit, spaced}
-use Rattle.mend.specs.Request.{MendRequest, errors_of_word, mend_request_of}
+use Rattle.mend.specs.Reply.{IsEditsAnswer, IsNearTextsAnswer, IsNearTextsRefusal, SaysNear, said_of_edit, spaced}
+use Rattle.mend.specs.Request.{errors_of_word}
 use Rattle.mend.proofs.Few.{SaysBy}
 
 -- what is added may be said more widely
@@ -46,18 +43,6 @@ module _ (code : Code) (text given word : List ℕ) where
 
     pub says-no_memory : (said : List ℕ) → SaysNear code text given errors said → IsNearTextsAnswer code text given word (err 91)
     says-no_memory said h = let l = h.near.listings in says-refused Memory (l.hrp, l.data_part, l.residue, l.read)
-
--- ---- a line that is a text
-
-module _ (line : List ℕ) (short : length line ≤ 4096) (utf8 : IsUtf8 line) where
-  abbrev Outcome : List ℕ → Option MendRequest → Type 0
-  Outcome said o = MatchOption o (said ≡ err 3) (λ request. IsMendAnswer request said)
-
-  pub says-no_command : mend_request_of line ≡ None → IsReplyBy mend_request_of IsMendAnswer line (err 3)
-  says-no_command is = text-reply mend_request_of IsMendAnswer line short (err 3) utf8 (subst (Outcome (err 3)) (sym is) refl)
-
-  pub says-answer : (request : MendRequest) (said : List ℕ) → mend_request_of line ≡ Some request → IsMendAnswer request said → IsReplyBy mend_request_of IsMendAnswer line said
-  says-answer request said is h = text-reply mend_request_of IsMendAnswer line short said utf8 (subst (Outcome said) (sym is) h)
 
 -- ---- what is said of texts
 

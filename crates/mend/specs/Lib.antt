@@ -1,4 +1,3 @@
-pub mod Added
 pub mod Numbers
 pub mod Reply
 pub mod Request

@@ -3,12 +3,13 @@
 ghost use Rattle.std.specs.Prelude.{◌+◌, ◌<◌, ◌≤◌, vec_len, vec_capacity, IfErr, MatchResult, OnOk};
 ghost use Rattle.bech32_decode.specs.Acceptance.{Accepts};
 ghost use Rattle.b32_replies.specs.Request.{code_of_name};
-ghost use Rattle.mend.specs.Added.{AddsOrSaysNumber};
+ghost use Rattle.line_program.specs.Added.{AddsOrSaysNumber};
 ghost use Rattle.mend.specs.Reply.{IsChecksumAnswer, IsRefusedByEither};
 
 use b32_replies::ChecksumName;
-use bech32::primitives::decode::{CheckedHrpstring, CheckedHrpstringError};
-use bech32::{Bech32, Bech32m};
+use bech32::Bech32m;
+use bech32::primitives::decode::CheckedHrpstringError;
+use bech32_decode::Reading;
 use bech32_numbers::checked_error_number;
 use line_program::append;
 
@@ -18,13 +19,12 @@ fn accepting(text: &str) -> Result<ChecksumName, CheckedHrpstringError>
         (λ name. Accepts (code_of_name name) text.now)
         (λ e. IsRefusedByEither text.now e) }
 {
-    let Err(refusal) = CheckedHrpstring::new::<Bech32m>(text) else {
+    let reading = Reading::<Bech32m>::new(text)?;
+    if reading.is_accepted() {
         return Ok(ChecksumName::Bech32m);
-    };
-    match CheckedHrpstring::new::<Bech32>(text) {
-        Ok(_) => Ok(ChecksumName::Bech32),
-        Err(_) => Err(refusal),
     }
+    reading.validate_either()?;
+    Ok(ChecksumName::Bech32)
 }
 
 /// Adds which checksum accepts a text, or leaves all as it was and returns the number of the

@@ -1,7 +1,7 @@
 //! Reads a line as a command with its arguments.
 
-ghost use Rattle.std.specs.Prelude.{◌≡◌, ℕ, List, MatchOption, Some, None};
-ghost use Rattle.line_program.specs.Words.{words};
+ghost use Rattle.std.specs.Prelude.{◌≡◌, ℕ, List};
+ghost use Rattle.line_program.specs.Words.{Reads, words};
 ghost use Rattle.b32_replies.specs.declared.command.ChecksumName.{ChecksumName as Name};
 ghost use Rattle.mend.specs.Request.{MendRequest, errors_of_word, mend_request_of, mend_request_of_command, nearest_arguments, text_arguments};
 
@@ -54,9 +54,8 @@ pub fn errors_in(word: &str) -> Option<usize>
 
 // The checksum and the text that words name.
 fn named_text(arguments: &str) -> Option<(ChecksumName, &str)>
-    ensures { (request : Name → List ℕ → MendRequest) → MatchOption result
-        (text_arguments request (words arguments.now) ≡ None)
-        (λ r. text_arguments request (words arguments.now) ≡ Some (request r.0 r.1.now)) }
+    ensures { (request : Name → List ℕ → MendRequest) → Reads (λ r. request r.0 r.1.now)
+        (text_arguments request (words arguments.now)) result }
 {
     let (name, text) = first_word(arguments)?;
     let checksum = checksum_named(name)?;
@@ -67,9 +66,7 @@ fn named_text(arguments: &str) -> Option<(ChecksumName, &str)>
 impl<'a> Command<'a> {
     /// Reads a line. Its words stand between single spaces, and none is empty.
     pub fn parse(line: &'a str) -> Option<Command<'a>>
-        ensures { MatchOption result
-            (mend_request_of line.now ≡ None)
-            (λ command. mend_request_of line.now ≡ Some (mend_request_of_command command)) }
+        ensures { Reads mend_request_of_command (mend_request_of line.now) result }
     {
         let (name, arguments) = first_word(line)?;
         match name {
@@ -91,10 +88,7 @@ impl<'a> Command<'a> {
 
     // Reads what stands behind `nearest`.
     fn parse_nearest(arguments: &'a str) -> Option<Command<'a>>
-        ensures { MatchOption result
-            (nearest_arguments (words arguments.now) ≡ None)
-            (λ command.
-            nearest_arguments (words arguments.now) ≡ Some (mend_request_of_command command)) }
+        ensures { Reads mend_request_of_command (nearest_arguments (words arguments.now)) result }
     {
         let (name, arguments) = first_word(arguments)?;
         let checksum = checksum_named(name)?;

@@ -3,16 +3,16 @@
 ghost use Rattle.std.specs.Prelude.{◌≡◌, ◌≢◌, ◌+◌, ◌<◌, ◌≤◌, ◌++◌, codes, flat_map, if◌then◌else◌, is_ok, map, string_bytes, vec_len, vec_capacity, [], IfErr, IfOk, MatchResult, OnOk};
 ghost use Rattle.bech32_near_edits.specs.NearEdits.{AreNearEdits, IsEditsRefusal};
 ghost use Rattle.b32_replies.specs.Request.{code_of_name};
-ghost use Rattle.mend.specs.Added.{AddsOrSaysNumber};
+ghost use Rattle.line_program.specs.Added.{AddsOrSaysNumber};
 ghost use Rattle.mend.specs.Numbers.{number_of_edits_error};
 ghost use Rattle.mend.specs.Reply.{IsEditsAnswer, said_of_edit, word_of_change};
 
-use crate::added::{NO_MEMORY, append_any};
+use crate::numbers::NO_MEMORY;
 use b32_replies::ChecksumName;
 use bech32::{Bech32, Bech32m, Change, Edit, EditsError, NearEdit, near_edits};
 use bech32_numbers::text_error_number;
 use itoa::Buffer;
-use line_program::append;
+use line_program::{append, append_any};
 use std::alloc::{AllocError, Global};
 
 // The number of a refusal.

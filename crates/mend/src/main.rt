@@ -5,26 +5,20 @@
 #![tactic(auto)]
 
 mod accepting;
-mod added;
 mod command;
 mod edits;
 mod fault;
 mod laws;
 mod near;
+mod numbers;
 mod reply;
 
 use crate::reply::Commands;
-use devices::Watched;
-use line_program::run_on;
+use line_program::{exit_code, run};
 use std::process::ExitCode;
 
 fn main(rt: HostRuntime) -> ExitCode {
     let commands = Commands { alloc: rt.alloc() };
-    let (mut input, mut output) = (rt.stdin(), rt.stdout());
-    let (mut source, mut sink) = (Watched::new(&mut input), Watched::new(&mut output));
-    if let Err(e) = run_on(rt.alloc(), &commands, &mut source, &mut sink) {
-        let _ = eprintln!(rt; "mend: {e}");
-        return ExitCode::FAILURE;
-    }
-    ExitCode::SUCCESS
+    let ended = run(rt.alloc(), &commands, &mut rt.stdin(), &mut rt.stdout());
+    exit_code("mend", ended, &mut rt.stderr())
 }

@@ -4,19 +4,17 @@ ghost use Rattle.std.specs.Prelude.{◌≡◌, ◌+◌, ◌<◌, ◌≤◌, ◌+
 ghost use Rattle.bech32_checksum.specs.Roots.{singleton_bound};
 ghost use Rattle.bech32_near.specs.NearTexts.{AreNearTexts, IsNearestRefusal};
 ghost use Rattle.b32_replies.specs.Request.{code_of_name};
-ghost use Rattle.mend.specs.Added.{AddsOrSaysNumber};
+ghost use Rattle.line_program.specs.Added.{AddsOrSaysNumber};
 ghost use Rattle.mend.specs.Numbers.{number_of_correct_error};
 ghost use Rattle.mend.specs.Reply.{IsNearTextsAnswer, IsNearTextsAtAnswer, IsNearTextsRefusal, SaysNear};
 
-use crate::added::{NO_MEMORY, append_any};
 use crate::command::errors_in;
+use crate::numbers::{BAD_WORD, NO_MEMORY};
 use b32_replies::{ChecksumName, locations_of_word};
 use bech32::{Bech32, Bech32m, CorrectError, Mended, nearest};
 use bech32_numbers::checked_error_number;
+use line_program::append_any;
 use std::alloc::{AllocError, Global};
-
-// The number of a word that is not read.
-const BAD_WORD: u8 = 4;
 
 // The number of a refusal.
 fn correct_error_number(e: CorrectError) -> u8
@@ -107,7 +105,8 @@ pub fn near_texts(
     }
 }
 
-/// The same, where a word lists the locations of characters that are known to be wrong.
+/// Adds the texts near one as [`near_texts`] does, where a word lists the locations of characters
+/// that are known to be wrong.
 pub fn near_texts_at(
     alloc: Global,
     checksum: ChecksumName,

@@ -1,8 +1,8 @@
 //! The replies to commands, by which `line_program` replies to a line.
 
 ghost use Rattle.std.specs.Prelude.{◌+◌, ◌<◌, ◌≤◌, vec_len, vec_capacity, IfErr, OnOk};
+ghost use Rattle.line_program.specs.Added.{AddsOrSaysNumber};
 ghost use Rattle.line_program.specs.Reply.{IsReplyBy};
-ghost use Rattle.mend.specs.Added.{AddsOrSaysNumber};
 ghost use Rattle.mend.specs.Reply.{IsMendAnswer};
 ghost use Rattle.mend.specs.Request.{mend_request_of, mend_request_of_command};
 
@@ -11,7 +11,7 @@ use crate::command::Command;
 use crate::edits::edits;
 use crate::fault::fault;
 use crate::near::{near_texts, near_texts_at};
-use line_program::{LINE_LIMIT, Replies, append, append_refusal, text_of};
+use line_program::{Replies, end_reply, text_of_line};
 use std::alloc::Global;
 
 /// The commands of this program, answered with memory from `alloc`.
@@ -60,12 +60,7 @@ impl Commands {
         ensures room { OnOk result (vec_len out.new + 1 ≤ vec_capacity out.new) }
         ensures capacity { vec_capacity out.old ≤ vec_capacity out.new }
     {
-        if line.len() > LINE_LIMIT {
-            return Err(1);
-        }
-        let Some(text) = text_of(line) else {
-            return Err(2);
-        };
+        let text = text_of_line(line)?;
         let Some(command) = Command::parse(text) else {
             return Err(3);
         };
@@ -82,9 +77,7 @@ impl Replies for Commands {
     ghost too_long = { long_lines mend_request_of IsMendAnswer };
 
     fn reply(&self, line: &[u8], out: &mut Vec<u8>) {
-        if let Err(number) = self.answer_line(line, out) {
-            append_refusal(out, number);
-        }
-        append(out, b"\n");
+        let answered = self.answer_line(line, out);
+        end_reply(answered, out);
     }
 }

@@ -2,6 +2,7 @@
 
 ghost use Rattle.std.specs.Prelude.{◌≡◌, ◌<◌, length, IfOk, IfErr, string_bytes};
 ghost use Rattle.bech32_block.specs.Print.{IsBlock, block_of};
+ghost use Rattle.bech32_block.specs.Roots.{root_field};
 ghost use Rattle.print_block.specs.Words.{AreElementsOf, IsBlockOfWords};
 ghost use Rattle.print_block.specs.Refusals.{IsElementsRefusal, IsWordRefusal, IsWordsRefusal};
 
@@ -41,21 +42,12 @@ fn block_of_elements<E: NamedField + ExtensionField<BaseField = Fe32>>(
     target: &[Fe32],
 ) -> Result<String, BlockError>
     requires { 0 < length name.now }
-    ensures block { IfOk result (λ text. IsBlock (record {
-      ops = E.ops;
-      same = E.eq;
-      embed = E.embed;
-      generator = E.GENERATOR;
-      order = E.MULTIPLICATIVE_ORDER;
-    }) E.rust_code E.field_name
+    ensures block { IfOk result (λ text. IsBlock
+        (root_field E.ops E.eq E.embed E.GENERATOR E.MULTIPLICATIVE_ORDER) E.rust_code E.field_name
         name.now generator.now target.now (string_bytes text)) }
-    ensures refused { IfErr result (IsElementsRefusal (record {
-      ops = E.ops;
-      same = E.eq;
-      embed = E.embed;
-      generator = E.GENERATOR;
-      order = E.MULTIPLICATIVE_ORDER;
-    }) generator.now target.now) }
+    ensures refused { IfErr result (IsElementsRefusal
+        (root_field E.ops E.eq E.embed E.GENERATOR E.MULTIPLICATIVE_ORDER)
+        generator.now target.now) }
 {
     if generator.is_empty() || generator.len() > 25 {
         return Err(BlockError::Generator);
@@ -82,21 +74,12 @@ pub fn block_of_words<E: NamedField + ExtensionField<BaseField = Fe32>>(
     generator: &str,
     target: &str,
 ) -> Result<String, BlockError>
-    ensures block { IfOk result (λ text. IsBlockOfWords (record {
-      ops = E.ops;
-      same = E.eq;
-      embed = E.embed;
-      generator = E.GENERATOR;
-      order = E.MULTIPLICATIVE_ORDER;
-    }) E.rust_code E.field_name
+    ensures block { IfOk result (λ text. IsBlockOfWords
+        (root_field E.ops E.eq E.embed E.GENERATOR E.MULTIPLICATIVE_ORDER) E.rust_code E.field_name
         name.now generator.now target.now (string_bytes text)) }
-    ensures refused { IfErr result (IsWordsRefusal (record {
-      ops = E.ops;
-      same = E.eq;
-      embed = E.embed;
-      generator = E.GENERATOR;
-      order = E.MULTIPLICATIVE_ORDER;
-    }) name.now generator.now target.now) }
+    ensures refused { IfErr result (IsWordsRefusal
+        (root_field E.ops E.eq E.embed E.GENERATOR E.MULTIPLICATIVE_ORDER)
+        name.now generator.now target.now) }
 {
     if name.is_empty() {
         return Err(BlockError::Name);

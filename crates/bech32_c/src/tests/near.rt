@@ -13,8 +13,8 @@ struct Asked<'a> {
     errors: usize,
 }
 
-// What it returns with this memory and a buffer of so many bytes, and what the count and the buffer
-// hold then.
+// What it returns with this memory and a buffer of this many bytes, and what the count and the
+// buffer hold then.
 fn near(memory: &mut Memory, asked: Asked<'_>, room: usize) -> (u32, (usize, [u8; 128])) {
     let (mut count, mut buffer) = (LENGTH_BEFORE, [BEFORE; 128]);
     let (front, _) = buffer.split_at_mut(room.min(128));
@@ -30,7 +30,7 @@ fn near(memory: &mut Memory, asked: Asked<'_>, room: usize) -> (u32, (usize, [u8
     (number, (count, buffer))
 }
 
-// The number that it returns, where nothing is written, and all of so many bytes of memory come
+// The number that it returns, where nothing is written, and all of this many bytes of memory come
 // back.
 fn near_number(rt: &impl Abort, alloc: Global, size: usize, asked: Asked<'_>, room: usize) -> u32 {
     let mut memory = Memory::leaked(alloc, size).expect(rt, "memory");
@@ -40,7 +40,7 @@ fn near_number(rt: &impl Abort, alloc: Global, size: usize, asked: Asked<'_>, ro
     number
 }
 
-// It puts so many texts, these one behind another, and writes nothing behind them.
+// It puts this many texts, these one behind another, and writes nothing behind them.
 fn puts_near(
     rt: &impl Abort,
     memory: &mut Memory,
@@ -54,7 +54,7 @@ fn puts_near(
     holds(rt, &buffer, want.1.len(), want.1);
 }
 
-// The number of bytes that `include/bech32.h` states for a text of so many.
+// The number of bytes that `include/bech32.h` states for a text of this many.
 fn near_memory(text: &[u8]) -> usize {
     16384 + 8 * text.len().min(1023)
 }
@@ -153,7 +153,8 @@ const NEAR: Asked<'static> = Asked {
     errors: 2,
 };
 
-// Where the texts do not fit, it counts all, puts so many bytes of them, and writes nothing behind.
+// Where the texts do not fit, it counts all, puts this many bytes of them, and writes nothing
+// behind.
 fn lists_what_fits(
     rt: &impl Abort,
     alloc: Global,
@@ -246,7 +247,7 @@ fn lists_one_with_memory(rt: HostRuntime) {
     }
 }
 
-// The number with so many bytes of memory, which come back: 0 with the near text, or else nothing
+// The number with this many bytes of memory, which come back: 0 with the near text, or else nothing
 // is written.
 fn number_within(rt: &impl Abort, alloc: Global, size: usize) -> u32 {
     let mut memory = Memory::leaked(alloc, size).expect(rt, "memory");

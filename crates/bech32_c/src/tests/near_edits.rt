@@ -68,13 +68,13 @@ fn hold(rt: &impl Abort, held: &Buffers, want: Edits<'_>) {
     assert!(rt; held.texts.iter().skip(want.1.len()).all(|b| *b == BEFORE));
 }
 
-// The number of bytes that `include/bech32.h` states for a text of so many.
+// The number of bytes that `include/bech32.h` states for a text of this many.
 fn stated(text: &[u8]) -> usize {
     4096 + 16 * text.len().min(1024)
 }
 
-// With so many bytes of memory, all of which come back, it answers this number, counts so many, and
-// puts these edits.
+// With this many bytes of memory, all of which come back, it answers this number, counts this many,
+// and puts these edits.
 fn answers(
     rt: &impl Abort,
     alloc: Global,
@@ -202,7 +202,7 @@ fn lists_edits_into_small_buffers(rt: HostRuntime) {
     }
 }
 
-// The number with so many bytes of memory, which come back: 0 with both edits, or else nothing is
+// The number with this many bytes of memory, which come back: 0 with both edits, or else nothing is
 // written.
 fn number_within(rt: &impl Abort, alloc: Global, size: usize) -> u32 {
     let mut memory = Memory::leaked(alloc, size).expect(rt, "memory");

@@ -5,7 +5,7 @@ use crate::propose::{codex32_propose, codex32_propose_long};
 use caller_memory::Memory;
 use std::alloc::Global;
 
-// A text of so many characters, which is far from any string, in the room for it.
+// A text of this many characters, which is far from any string, in the room for it.
 fn far_text(room: &mut [u8; 127], length: usize) -> Option<&[u8]> {
     for (place, byte) in room.iter_mut().zip(b"ms1") {
         *place = *byte;

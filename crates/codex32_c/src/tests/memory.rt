@@ -7,7 +7,7 @@ use std::process::Abort;
 
 const ROOM: usize = 127;
 
-// The string at `a` of so many bytes, and its length.
+// The string at `a` of this many bytes, and its length.
 fn string_of(rt: &impl Abort, count: usize) -> ([u8; ROOM], usize) {
     let (mut text, mut length) = ([0; ROOM], 0);
     let bytes = [0x5a; 64];
@@ -39,7 +39,7 @@ fn torn(text: &[u8; ROOM], places: &[usize]) -> [u8; ROOM] {
     other
 }
 
-// The number of the answer to a text with so many bytes of memory.
+// The number of the answer to a text with this many bytes of memory.
 fn answer_with(rt: &impl Abort, alloc: Global, size: usize, text: &[u8]) -> u32 {
     let mut memory = Memory::leaked(alloc, size).expect(rt, "memory");
     let (mut proposed, mut length) = ([0; ROOM], 0);
@@ -60,8 +60,8 @@ fn least_for(rt: &impl Abort, alloc: Global, text: &[u8]) -> usize {
     memory_for(text)
 }
 
-// Fails where another number of bytes is the least for a text of so many characters, or where some
-// more do not suffice.
+// Fails where another number of bytes is the least for a text of this many characters, or where
+// some more do not suffice.
 fn wants(rt: &impl Abort, alloc: Global, text: &[u8; ROOM], long: usize, least: usize) {
     let (front, _) = text.split_at(long.min(ROOM));
     same(rt, &least_for(rt, alloc, front), &least);
@@ -70,7 +70,7 @@ fn wants(rt: &impl Abort, alloc: Global, text: &[u8; ROOM], long: usize, least: 
     }
 }
 
-// The same of a string of so many bytes: as it stands, with four wrong characters, and with eight
+// The same of a string of this many bytes: as it stands, with four wrong characters, and with eight
 // that cannot be read.
 fn wants_of_string(rt: &impl Abort, alloc: Global, count: usize, long: usize, least: [usize; 3]) {
     let (text, length) = string_of(rt, count);
@@ -88,8 +88,8 @@ fn wants_of_string(rt: &impl Abort, alloc: Global, count: usize, long: usize, le
 fn names_the_least_memory(rt: HostRuntime) {
     let rows = [
         (16, 48, [496, 496, 496]),
-        (32, 74, [496, 496, 4080]),
-        (44, 93, [496, 496, 4080]),
+        (32, 74, [496, 496, 496]),
+        (44, 93, [496, 496, 496]),
         (63, 125, [496, 496, 4080]),
         (64, 127, [496, 496, 4080]),
     ];

@@ -4,7 +4,8 @@ use std::process::Abort;
 
 const ROOM: usize = 100;
 
-// What a call returns for a buffer of so many bytes, and what the length and the buffer hold then.
+// What a call returns for a buffer of this many bytes, and what the length and the buffer hold
+// then.
 fn said(number: u32, room: usize) -> (u32, usize, [u8; ROOM]) {
     let (mut length, mut buffer) = (LENGTH_BEFORE, [BYTE_BEFORE; ROOM]);
     let (front, _) = buffer.split_at_mut(room.min(ROOM));

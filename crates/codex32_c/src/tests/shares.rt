@@ -9,7 +9,7 @@ use std::process::Abort;
 
 const ROOM: usize = 160;
 
-// The answer to a text with a buffer of so many bytes, and what all hold then.
+// The answer to a text with a buffer of this many bytes, and what all hold then.
 fn told(text: &[u8], room: usize) -> (u32, (u32, [u8; 4], u32), (usize, [u8; ROOM])) {
     let mut buffer = [BYTE_BEFORE; ROOM];
     let mut length = LENGTH_BEFORE;
@@ -100,7 +100,7 @@ fn tells_nothing_of_others(rt: HostRuntime) {
     }
 }
 
-// The answer to a header and bytes with a buffer of so many bytes, and what it holds then.
+// The answer to a header and bytes with a buffer of this many bytes, and what it holds then.
 fn encoded(header: (u32, &[u8], char), bytes: &[u8], room: usize) -> (u32, (usize, [u8; ROOM])) {
     let mut buffer = [BYTE_BEFORE; ROOM];
     let mut length = LENGTH_BEFORE;
@@ -143,7 +143,7 @@ fn encodes_known_strings(rt: HostRuntime) {
     }
 }
 
-// The answer to a header and a payload with a buffer of so many bytes, and what it holds then.
+// The answer to a header and a payload with a buffer of this many bytes, and what it holds then.
 fn encoded_payload(
     header: (u32, &[u8], char),
     payload: &[u8],
@@ -215,7 +215,7 @@ fn encodes_no_other_payloads(rt: HostRuntime) {
     }
 }
 
-// The answer to texts at an index with a buffer of so many bytes, and what it holds then.
+// The answer to texts at an index with a buffer of this many bytes, and what it holds then.
 fn derived(
     index: char,
     texts: &[u8],
@@ -324,7 +324,7 @@ const WRONG: &[u8] =
 const WORSE: &[u8] =
     b"ms19tpq7q22sclaxxuxwk0q22xjc8mt2fklqgkffmsc4elduv887tcpkn68gvf82sxt28l0d0lqdxpmmpnq4cwcpc692rrhwr7uetnhdllmjv6xeengd0tk7sgcsq";
 
-// The answer to a damaged long text with this memory and a buffer of so many bytes, and what the
+// The answer to a damaged long text with this memory and a buffer of this many bytes, and what the
 // length and the buffer hold then.
 fn proposal_long(memory: &mut Memory, text: &[u8], room: usize) -> (u32, (usize, [u8; ROOM])) {
     let mut buffer = [BYTE_BEFORE; ROOM];
@@ -334,7 +334,7 @@ fn proposal_long(memory: &mut Memory, text: &[u8], room: usize) -> (u32, (usize,
     (number, (length, buffer))
 }
 
-// Fails where the answer with so many bytes of memory is another, or they do not come back.
+// Fails where the answer with this many bytes of memory is another, or they do not come back.
 fn proposes_long(
     rt: &impl Abort,
     alloc: Global,

@@ -14,7 +14,7 @@ behind : (old text now bytes slice front : List ℕ) (elements : List Fe32) → 
 behind old text now bytes slice front elements whole added same ends =
     whole ∙ added ∙ ap (λ (t : List ℕ). old ++ lowered t) same ∙ ap (λ (t : List ℕ). old ++ t) ends ∙ sym (append_assoc old front (map char_of_element elements))
 
--- so many of the first items are the first list
+-- this many of the first items are the first list
 first_items : (n : ℕ) (xs ys : List ℕ) → length xs ≡ n → take n (xs ++ ys) ≡ xs
 first_items n xs ys e = take-append-le n xs ys (omega arith) ∙ take_all n xs (omega arith)
 

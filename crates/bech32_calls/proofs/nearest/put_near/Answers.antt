@@ -5,15 +5,15 @@ use Rattle.bech32_calls.proofs.nearest.put_near.Goals as goal
 
 pub returns-in_default-clause-refused : goal.returns-in_default-clause-refused
 returns-in_default-clause-refused g c =
-    near_memory_by c.args.checksum c.args.read.now.text.now c.args.given.now c.args.errors c.requires.few c.in_default.ensures
+    near_memory_by c.args.checksum c.args.reading.now.text.now c.args.given.now c.args.errors c.requires.few c.in_default.ensures
 
 pub returns-clause-all : goal.returns-clause-all
 returns-clause-all g c all =
-    puts_near_by _ c.args.checksum c.args.read.now.text.now c.args.given.now c.args.errors c.as_slice-near.result.now c.in-Ok.found.items c.as_slice-near.ensures.value (rw c.in-Ok.is at c.near_by.ensures)
+    puts_near_by _ c.args.checksum c.args.reading.now.text.now c.args.given.now c.args.errors c.as_slice-near.result.now c.in-Ok.found.items c.as_slice-near.ensures.value (rw c.in-Ok.is at c.near_by.ensures)
     c.args.texts.now c.put_each-put.new.texts (length c.as_slice-near.result.now) c.put_each-put.result c.requires.few refl (are_all c.put_each-put.result (length c.as_slice-near.result.now) all) c.put_each-put.ensures.put
 
 pub returns-clause-first : goal.returns-clause-first
 returns-clause-first g c part =
     let less : c.put_each-put.result < length c.as_slice-near.result.now = are_few c.put_each-put.result (length c.as_slice-near.result.now) c.put_each-put.ensures.most.within part in
-    puts_first_near_by _ c.args.checksum c.args.read.now.text.now c.args.given.now c.args.errors c.as_slice-near.result.now c.in-Ok.found.items c.as_slice-near.ensures.value (rw c.in-Ok.is at c.near_by.ensures)
+    puts_first_near_by _ c.args.checksum c.args.reading.now.text.now c.args.given.now c.args.errors c.as_slice-near.result.now c.in-Ok.found.items c.as_slice-near.ensures.value (rw c.in-Ok.is at c.near_by.ensures)
     c.args.texts.now c.put_each-put.new.texts (length c.as_slice-near.result.now) c.put_each-put.result c.requires.few refl less c.put_each-put.ensures.most c.put_each-put.ensures.put

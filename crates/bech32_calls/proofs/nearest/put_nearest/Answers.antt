@@ -1,47 +1,56 @@
-use Rattle.std.proofs.Common.{◌≤◌, inl, arith}
+use Rattle.std.proofs.Common.{rules, ◌≤◌, inl, arith}
 use Rattle.std.proofs.lemmas.Result.{err_from_is_err_and}
+use Rattle.caller_memory.specs.Memory.{IsKept}
 use Rattle.bech32_calls.proofs.Few.{few_listed}
-use Rattle.bech32_calls.proofs.Near.{fault_or_kept, long_listed, near_unread_by, only_memory, read_memory_by}
+use Rattle.bech32_calls.proofs.Near.{fault_or_kept, kept_of_read, long_listed, near_unread_by, only_memory, read_memory_by}
 use Rattle.bech32_calls.proofs.nearest.put_nearest.Goals as goal
 
-pub returns-in_err-read-clause-refused : goal.returns-in_err-read-clause-refused
-returns-in_err-read-clause-refused c =
+pub returns-in_err-reading-clause-refused : goal.returns-in_err-reading-clause-refused
+returns-in_err-reading-clause-refused c =
     let few : c.args.errors ≤ 2 = omega arith in
     let p = err_from_is_err_and c.from_residual.result c.from_residual.ensures.1 in
-    rw p.1 (rw p.2 (inl (near_unread_by c.args.checksum c.args.bytes.now c.args.given.now c.args.errors c.in_err-read.field-0.0 few c.in_err-read.ensures)))
+    rw p.1 (rw p.2 (inl (near_unread_by c.args.checksum c.args.bytes.now c.args.given.now c.args.errors c.in_err-reading.field-0.0 few c.in_err-reading.ensures)))
 
-pub returns-in_err-read-clause-accepts : goal.returns-in_err-read-clause-accepts
-returns-in_err-read-clause-accepts c few is =
+pub returns-in_err-reading-clause-accepts : goal.returns-in_err-reading-clause-accepts
+returns-in_err-reading-clause-accepts c few is =
     let p = err_from_is_err_and c.from_residual.result c.from_residual.ensures.1 in
     rw p.1
-    (rw p.2 (read_memory_by c.args.checksum c.args.bytes.now c.args.given.now c.args.errors few is c.in_err-read.field-0.0
-    (near_unread_by c.args.checksum c.args.bytes.now c.args.given.now c.args.errors c.in_err-read.field-0.0 few c.in_err-read.ensures)))
+    (rw p.2 (read_memory_by c.args.checksum c.args.bytes.now c.args.given.now c.args.errors few is c.in_err-reading.field-0.0
+    (near_unread_by c.args.checksum c.args.bytes.now c.args.given.now c.args.errors c.in_err-reading.field-0.0 few c.in_err-reading.ensures)))
 
 pub put_near-listed-requires : goal.put_near-listed-requires
 put_near-listed-requires c =
     let few : c.args.errors ≤ 2 = omega arith in
-    record { few = few; read = c.in_ok-read.ensures.1 }
+    record { few = few; lengths = c.in_ok-reading.ensures.1 }
+
+pub returns-then-not-put_back-clause-refused : goal.returns-then-not-put_back-clause-refused
+returns-then-not-put_back-clause-refused c =
+    let r = c.in_ok-reading.reading in
+    let few : c.args.errors ≤ 2 = omega arith in
+    let kept : IsKept c.args.memory.now c.put_back.new.memory = search rules in
+    kept_of_read c.args.checksum c.args.bytes.now c.args.given.now c.args.errors c.args.memory.now c.put_back.new.memory r.hrp.now r.data_part.now few
+    (rw c.in_ok-reading.ensures.0 at r.is_reading.grammar) (rw c.in_ok-reading.ensures.0 at c.in_ok-reading.ensures.1) kept
 
 pub returns-clause-all : goal.returns-clause-all
-returns-clause-all c = rw c.in_ok-read.ensures.0 at c.put_near-listed.ensures.all
+returns-clause-all c = rw c.in_ok-reading.ensures.0 at c.put_near-listed.ensures.all
 
 pub returns-clause-first : goal.returns-clause-first
-returns-clause-first c = rw c.in_ok-read.ensures.0 at c.put_near-listed.ensures.first
+returns-clause-first c = rw c.in_ok-reading.ensures.0 at c.put_near-listed.ensures.first
 
 pub returns-clause-refused : goal.returns-clause-refused
 returns-clause-refused c =
-    fault_or_kept c.args.checksum c.args.bytes.now c.args.given.now c.args.errors c.args.memory.now c.put_back.new.memory c.put_near-listed.result (rw c.in_ok-read.ensures.0 at c.put_near-listed.ensures.refused)
+    fault_or_kept c.args.checksum c.args.bytes.now c.args.given.now c.args.errors c.args.memory.now c.put_back.new.memory c.put_near-listed.result (rw c.in_ok-reading.ensures.0 at c.put_near-listed.ensures.refused)
 
 pub returns-clause-accepts : goal.returns-clause-accepts
 returns-clause-accepts c few is =
-    only_memory c.args.checksum c.args.bytes.now c.args.given.now c.args.errors few is c.put_near-listed.result (rw c.in_ok-read.ensures.0 at c.put_near-listed.ensures.refused)
+    only_memory c.args.checksum c.args.bytes.now c.args.given.now c.args.errors few is c.put_near-listed.result (rw c.in_ok-reading.ensures.0 at c.put_near-listed.ensures.refused)
 
 pub returns-clause-few : goal.returns-clause-few
 returns-clause-few c none =
     few_listed c.args.checksum c.args.bytes.now c.args.given.now c.args.errors c.args.texts.now c.put_near-listed.new.texts none c.put_near-listed.result
-    (rw c.in_ok-read.ensures.0 at c.put_near-listed.ensures.all) (rw c.in_ok-read.ensures.0 at c.put_near-listed.ensures.first)
+    (rw c.in_ok-reading.ensures.0 at c.put_near-listed.ensures.all) (rw c.in_ok-reading.ensures.0 at c.put_near-listed.ensures.first)
 
 pub returns-clause-room : goal.returns-clause-room
 returns-clause-room c =
     long_listed c.args.checksum c.args.bytes.now c.args.given.now c.args.errors c.args.texts.now c.put_near-listed.new.texts c.put_near-listed.result
-    (rw c.in_ok-read.ensures.0 at c.put_near-listed.ensures.first)
+    (rw c.in_ok-reading.ensures.0 at c.put_near-listed.ensures.first)

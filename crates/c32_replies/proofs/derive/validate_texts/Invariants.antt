@@ -1,7 +1,7 @@
 use Rattle.std.proofs.Common.{length}
 use denote.Text.{Utf8}
 use denote.Shadow.{shadow}
-use Rattle.codex32_strings.specs.declared.error.Codex32Error.{Codex32Error}
+use Rattle.codex32.specs.declared.error.Codex32Error.{Codex32Error}
 use Rattle.line_program.specs.Words.{words}
 use Rattle.c32_replies.specs.Reply.{AreTexts, IsTextRefusal}
 use Rattle.c32_replies.proofs.derive.validate_texts.Given as goal

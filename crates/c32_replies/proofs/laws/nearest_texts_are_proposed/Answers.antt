@@ -1,5 +1,5 @@
 use Rattle.codex32.specs.Nearest.{IsNearestLongText, IsNearestText}
-use Rattle.codex32_strings.specs.Strings.{frame_refusal, long_frame_refusal}
+use Rattle.codex32.specs.Strings.{frame_refusal, long_frame_refusal}
 use Rattle.c32_replies.proofs.OneAnswer.{not_proposed, proposed}
 use Rattle.c32_replies.proofs.laws.nearest_texts_are_proposed.Goals as goal
 

@@ -2,7 +2,7 @@ use Rattle.std.proofs.Common.{◌≡◌, ◌++◌, rules, ◌∙◌, List, ℕ, 
 use Rattle.std.proofs.lemmas.List.{take_at}
 use Rattle.std.proofs.lemmas.Result.{err_from_is_err_and}
 use Rattle.b32_replies.specs.Hex.{hex_of}
-use Rattle.codex32_strings.specs.Share.{bytes_of_share, header_of_share, identifier_of_share, index_of_share, threshold_of_share}
+use Rattle.codex32.specs.Share.{bytes_of_share, header_of_share, identifier_of_share, index_of_share, threshold_of_share}
 use Rattle.line_program.proofs.Pieces.{three-pieces}
 use Rattle.c32_replies.specs.Reply.{header_words}
 use Rattle.c32_replies.proofs.Replies.{says-left_over, says-share}

@@ -2,10 +2,10 @@ use Rattle.std.proofs.Common.{◌≡◌, ◌∙◌, ◌*◌, ℕ, List, None, le
 use Rattle.std.proofs.lemmas.List.{length-take}
 use Rattle.std.proofs.lemmas.Result.{err_from_is_err_and}
 use Rattle.bech32_hrp.specs.Hrp.{first_of}
-use Rattle.codex32_strings.specs.HeaderParts.{identifier_word_fault}
-use Rattle.codex32_strings.specs.Split.{IsSplit, Recovers, split_refusal}
-use Rattle.codex32_strings.specs.declared.identifier.Identifier.{Identifier}
-use Rattle.codex32_strings.specs.declared.threshold.Threshold.{Threshold}
+use Rattle.codex32.specs.HeaderParts.{identifier_word_fault}
+use Rattle.codex32.specs.Split.{IsSplit, Recovers, split_refusal}
+use Rattle.codex32.specs.declared.identifier.Identifier.{Identifier}
+use Rattle.codex32.specs.declared.threshold.Threshold.{Threshold}
 use Rattle.c32_replies.specs.Request.{asked_by}
 use Rattle.c32_replies.specs.Split.{IsAskedBy, set_word_fault, split_fault}
 use Rattle.c32_replies.proofs.Shares.{same-refusal, whole-random, whole-secret}

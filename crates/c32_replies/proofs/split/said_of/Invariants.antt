@@ -1,5 +1,5 @@
 use Rattle.std.proofs.Common.{◌≡◌, ◌-◌, ◌*◌, ◌++◌, codes, length}
-use Rattle.codex32_strings.specs.Split.{first_texts}
+use Rattle.codex32.specs.Split.{first_texts}
 use Rattle.c32_replies.specs.Split.{spaced_shares}
 use Rattle.c32_replies.proofs.split.said_of.Given as goal
 

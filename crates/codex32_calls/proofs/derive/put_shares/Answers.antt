@@ -3,8 +3,8 @@ use Rattle.std.proofs.Common.{◌≡◌, ◌+◌, ◌<◌, ◌++◌, ◌∷◌, 
 use Rattle.std.proofs.Math.Seq.{drop-cons, take-suc-set}
 use Rattle.std.proofs.lemmas.List.{length-set, take_all}
 use Rattle.std.proofs.lemmas.Result.{err_from_is_err_and}
-use Rattle.codex32_strings.specs.Share.{AreSharesOf, IsShareOf}
-use Rattle.codex32_strings.specs.declared.share.Share.{Share}
+use Rattle.codex32.specs.Share.{AreSharesOf, IsShareOf}
+use Rattle.codex32.specs.declared.share.Share.{Share}
 use Rattle.codex32_calls.specs.Derive.{texts_of}
 use Rattle.codex32_calls.specs.Share.{IsEitherFault}
 use Rattle.codex32_calls.proofs.Texts.{fault-at, front_at, length-texts, shares-more, sum-cons, tail_at, texts-next}

@@ -1,6 +1,6 @@
 use Rattle.std.proofs.Common.{◌≡◌, length, take, drop}
 use Rattle.std.specs.List.{sum}
-use Rattle.codex32_strings.specs.Share.{AreSharesOf}
+use Rattle.codex32.specs.Share.{AreSharesOf}
 use Rattle.codex32_calls.specs.Derive.{texts_of}
 use Rattle.codex32_calls.proofs.derive.put_shares.Given as goal
 

@@ -1,6 +1,6 @@
 use Rattle.std.proofs.Common.{◌≡◌, length, true, false, arith, rules}
 use Rattle.std.proofs.lemmas.Result.{err_from_is_err_and}
-use Rattle.codex32_strings.specs.Share.{IsShareOf}
+use Rattle.codex32.specs.Share.{IsShareOf}
 use Rattle.codex32_calls.specs.declared.refusal.Refusal.TheVariants as refusals
 use Rattle.codex32_calls.proofs.Accepted.{no_share_fault, utf8-from_either}
 use Rattle.codex32_calls.proofs.recover.put_bytes_of.Goals as goal

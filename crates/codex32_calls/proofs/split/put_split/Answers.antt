@@ -1,6 +1,6 @@
 use Rattle.std.proofs.Common.{◌*◌, ◌∙◌, length, sym, take}
 use Rattle.std.proofs.lemmas.Result.{err_from_is_err_and}
-use Rattle.codex32_strings.specs.HeaderParts.{identifier_word_fault}
+use Rattle.codex32.specs.HeaderParts.{identifier_word_fault}
 use Rattle.codex32_calls.specs.Encode.{threshold_number_fault}
 use Rattle.codex32_calls.proofs.Splits.{first-refused, none-refused, second-refused, unrefused}
 use Rattle.codex32_calls.proofs.split.put_split.Goals as goal

@@ -1,7 +1,7 @@
 use Rattle.std.specs.Prelude.{vec_capacity, vec_len}
 use Rattle.std.proofs.Common.{arith, refl}
 use Rattle.line_program.specs.Words.{words}
-use Rattle.c32_replies.proofs.Outcomes.{any-from_adds, room-from_adds}
+use Rattle.line_program.proofs.Replied.{any-from_adds, room-from_adds}
 use Rattle.c32_replies.proofs.Replies.{says-at_secret}
 use Rattle.c32_replies.proofs.reply.Commands.answer.Goals as goal
 

@@ -1,28 +1,30 @@
 use Rattle.std.proofs.Common.{refl}
-use Rattle.line_program.proofs.Replied.{bytes-reply}
+use Rattle.std.proofs.lemmas.Result.{err_from_is_err_and}
+use Rattle.line_program.proofs.Replied.{answer-reply, no_command-reply, refused-reply}
 use Rattle.c32_replies.specs.Reply.{IsCodex32Answer}
 use Rattle.c32_replies.specs.Request.{codex32_request_of, codex32_request_of_command}
-use Rattle.c32_replies.proofs.Outcomes.{says-answer, says-no_command}
 use Rattle.c32_replies.proofs.reply.Commands.answer_line.Goals as goal
 
-pub returns-in_default-clause-answer : goal.returns-in_default-clause-answer
-returns-in_default-clause-answer g c = (bytes-reply codex32_request_of IsCodex32Answer c.args.line.now c.if-line-gt-LINE_LIMIT.false c.in_default.ensures, refl)
+pub returns-in_err-text-clause-answer : goal.returns-in_err-text-clause-answer
+returns-in_err-text-clause-answer g c =
+    let p = err_from_is_err_and c.from_residual.result c.from_residual.ensures.1 in
+    rw p.1 (rw p.2 (refused-reply codex32_request_of IsCodex32Answer c.args.line.now c.in_err-text.field-0.0 c.in_err-text.ensures.text, refl))
 
-pub returns-in_default-parse-clause-answer : goal.returns-in_default-parse-clause-answer
-returns-in_default-parse-clause-answer g c =
-    let text = c.in-Some.ensures in
-    (says-no_command c.args.line.now c.if-line-gt-LINE_LIMIT.false text.1 (rw text.0 at c.in_default-parse.ensures), refl)
+pub returns-in_default-clause-answer : goal.returns-in_default-clause-answer
+returns-in_default-clause-answer g c =
+    let text = c.in_ok-text.ensures.text in
+    (no_command-reply codex32_request_of IsCodex32Answer c.args.line.now text.short text.utf8 (rw text.same at c.in_default.ensures), refl)
 
 pub returns-in-Ok-clause-answer : goal.returns-in-Ok-clause-answer
 returns-in-Ok-clause-answer g c =
-    let text = c.in-Some.ensures in
-    let request = codex32_request_of_command c.in-Some-parse.command in
+    let text = c.in_ok-text.ensures.text in
+    let request = codex32_request_of_command c.in-Some.command in
     let (said, says, added) = c.in-Ok.ensures.answer in
-    (said, says-answer c.args.line.now c.if-line-gt-LINE_LIMIT.false text.1 request said (rw text.0 at c.in-Some-parse.ensures) says, added)
+    (said, answer-reply codex32_request_of IsCodex32Answer c.args.line.now text.short text.utf8 request said (rw text.same at c.in-Some.ensures) says, added)
 
 pub returns-in-Err-clause-answer : goal.returns-in-Err-clause-answer
 returns-in-Err-clause-answer g c =
-    let text = c.in-Some.ensures in
-    let request = codex32_request_of_command c.in-Some-parse.command in
+    let text = c.in_ok-text.ensures.text in
+    let request = codex32_request_of_command c.in-Some.command in
     let refused = c.in-Err.ensures.answer in
-    rw c.number.ensures.value (says-answer c.args.line.now c.if-line-gt-LINE_LIMIT.false text.1 request _ (rw text.0 at c.in-Some-parse.ensures) refused.0, refused.1)
+    rw c.number.ensures.value (answer-reply codex32_request_of IsCodex32Answer c.args.line.now text.short text.utf8 request _ (rw text.same at c.in-Some.ensures) refused.0, refused.1)

@@ -1,7 +1,7 @@
 use Rattle.std.specs.Prelude.{◌||◌, true}
 use Rattle.std.proofs.Common.{rules, inr, ◌≡◌, ◌≤◌, ◌<◌, ◌++◌, arith, codes, refl, inl, length, string_bytes}
-use Rattle.codex32_strings.specs.Encode.{IsEncodedString, is_byte_count, is_long_byte_count}
-use Rattle.codex32_strings.specs.declared.error.EncodeError.TheVariants as encode_errors
+use Rattle.codex32.specs.Encode.{IsEncodedString, is_byte_count, is_long_byte_count}
+use Rattle.codex32.specs.declared.error.EncodeError.TheVariants as encode_errors
 use Rattle.line_program.proofs.Pieces.{two-pieces}
 use Rattle.c32_replies.proofs.Replies.{says-encoded, says-not_encoded}
 use Rattle.c32_replies.proofs.Sizes.{too-many}
