@@ -3,6 +3,7 @@
     shares.py check LINES REPLIES    prints where the model's reply to `derive`, `recover` or `split` is another
     shares.py make SEED              of each length and each threshold a line, a tab, and the reply
     shares.py split SEED             the same of `split`, of each threshold, of `recover` from its shares, and of refusals
+    shares.py five                   the same of each two of five shares, or each three, and of five of which one is wrong
 
 The string at an index is, at each place of the data part, the value of the one polynomial of degree
 below the threshold that has the elements of the shares. Its coefficients are found by elimination:
@@ -10,6 +11,7 @@ there are no weights and no formula of Lagrange's. A checksum is a remainder by 
 (model.py). Nothing is shared with the library.
 """
 
+import itertools
 import random
 import re
 import sys
@@ -217,6 +219,29 @@ def refused_splits(maker):
         yield " ".join(["split", *words])
 
 
+def own_string(threshold, index):
+    """The string at an index of 16 bytes that are of it."""
+    payload = elements_of_bytes((VALUE[index] * (it * it + 7) + threshold) % 256 for it in range(16))
+    return with_checksum(CODEX32, [VALUE[it] for it in f"{threshold}test{index}"] + payload)
+
+
+def five_of(threshold):
+    """Five strings: the first ones are made of bytes, the others given by these."""
+    own = [own_string(threshold, index) for index in "sacde"]
+    return own[:threshold] + [given(own[:threshold], threshold, VALUE[index]) for index in "sacde"[threshold:]]
+
+
+def fives():
+    """Lines of each two or three of five strings, which give all of them, and of five of which one is another string."""
+    for threshold in (2, 3):
+        texts = five_of(threshold)
+        for *others, last in itertools.combinations(texts, threshold):
+            some = [*others, last] if threshold == 2 else [last, *others]
+            yield from (" ".join(["derive", index, *some]) for index in "sacde")
+        for at, index in enumerate("sacde"):
+            yield " ".join(["derive s", *texts[:at], own_string(threshold, index), *texts[at + 1:]])
+
+
 def check(lines, replies):
     """Of the lines of `derive`, `recover` and `split`; of the former two, that are not refused for what is said before the values."""
     pairs = list(zip(Path(lines).read_text().splitlines(), Path(replies).read_text().splitlines()))
@@ -245,6 +270,12 @@ def make_splits(seed):
     return 0
 
 
+def make_fives():
+    for line in fives():
+        print(f"{line}\t{reply(line)}")
+    return 0
+
+
 def main(words):
     if len(words) == 3 and words[0] == "check":
         return check(*words[1:])
@@ -252,6 +283,8 @@ def main(words):
         return make(int(words[1]))
     if len(words) == 2 and words[0] == "split":
         return make_splits(int(words[1]))
+    if words == ["five"]:
+        return make_fives()
     return __doc__.strip()
 
 

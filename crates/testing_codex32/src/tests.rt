@@ -1,4 +1,3 @@
-mod by_definition;
 mod checksum;
 mod compare;
 mod damaged;

@@ -13,7 +13,7 @@ pub trait InHeap {
 /// What is wrong with a call on heaps of more and more memory.
 #[derive(Clone, Copy, Debug, PartialEq, Eq)]
 pub enum HeapFault {
-    /// It returns something else on a heap of so many bytes.
+    /// It returns something else on a heap of this many bytes.
     WrongWith(usize),
     /// It is out of memory on no heap.
     NeverOut,
@@ -23,7 +23,7 @@ pub enum HeapFault {
     NoHeap,
 }
 
-// What a call returns on a heap of so many bytes.
+// What a call returns on a heap of this many bytes.
 fn with_bytes<C: InHeap>(alloc: Global, call: &C, bytes: usize) -> Result<Option<bool>, HeapFault> {
     match LocalHeap::new(alloc, bytes) {
         Ok(heap) => Ok(call.is_right(alloc, &heap)),
@@ -31,7 +31,7 @@ fn with_bytes<C: InHeap>(alloc: Global, call: &C, bytes: usize) -> Result<Option
     }
 }
 
-/// On how many of so many heaps, each of `step` bytes more than the one before, a call is out of
+/// On how many of `heaps` heaps, each of `step` bytes more than the one before, a call is out of
 /// memory, where it is right on the others. A call that is out of memory on none or on each is
 /// refused.
 pub fn right_or_wants_memory<C: InHeap>(

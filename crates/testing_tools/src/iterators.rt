@@ -114,7 +114,7 @@ pub struct Many<T> {
 impl<T: Copy> Many<T> {
     ghost use Rattle.testing_tools.specs.Iterators.{count_left};
 
-    /// So many items.
+    /// This many of one item.
     pub fn new(item: T, left: usize) -> Self
         ensures { count_left result ≡ left }
     {

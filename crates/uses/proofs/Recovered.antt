@@ -9,19 +9,19 @@ use Rattle.bech32_gf.specs.Fe32.{elements_of}
 use Rattle.bech32_gf.specs.declared.gf32.Fe32.{Fe32}
 use Rattle.bech32_checksum.specs.Encoded.{char_of_element, spelled}
 use Rattle.bech32_decode.proofs.Spelling.{characters-elements, lower_text, spelled-text}
-use Rattle.codex32_strings.specs.Derive.{DoContradict, IsDerivedString, IsUnshared, IsWholeSet}
-use Rattle.codex32_strings.specs.Encode.{IsEncodedString}
-use Rattle.codex32_strings.specs.Header.{header_elements, identifier_of_header, share_index_of_header, threshold_of_header}
-use Rattle.codex32_strings.specs.HeaderParts.{secret_index, threshold_number}
-use Rattle.codex32_strings.specs.Share.{IsShareOf, IsShareString, bytes_of_share, identifier_of_share, index_of_share, payload_of_share, threshold_of_share}
-use Rattle.codex32_strings.specs.ShareParts.{ms}
-use Rattle.codex32_strings.specs.Split.{Recovers, text_at}
-use Rattle.codex32_strings.specs.declared.header.Header.{Header}
-use Rattle.codex32_strings.specs.declared.share.Share.{Share}
-use Rattle.codex32_strings.specs.declared.identifier.Identifier.{Identifier}
-use Rattle.codex32_strings.specs.declared.threshold.Threshold.{Threshold}
-use Rattle.codex32_strings.proofs.OneString as sets
-use Rattle.codex32_strings.proofs.ShareStrings.{hrp_of_strings}
+use Rattle.codex32.specs.Derive.{DoContradict, IsDerivedString, IsUnshared, IsWholeSet}
+use Rattle.codex32.specs.Encode.{IsEncodedString}
+use Rattle.codex32.specs.Header.{header_elements, identifier_of_header, share_index_of_header, threshold_of_header}
+use Rattle.codex32.specs.HeaderParts.{secret_index, threshold_number}
+use Rattle.codex32.specs.Share.{IsShareOf, IsShareString, bytes_of_share, identifier_of_share, index_of_share, payload_of_share, threshold_of_share}
+use Rattle.codex32.specs.ShareParts.{ms}
+use Rattle.codex32.specs.Split.{Recovers, text_at}
+use Rattle.codex32.specs.declared.header.Header.{Header}
+use Rattle.codex32.specs.declared.share.Share.{Share}
+use Rattle.codex32.specs.declared.identifier.Identifier.{Identifier}
+use Rattle.codex32.specs.declared.threshold.Threshold.{Threshold}
+use Rattle.codex32.proofs.OneString as sets
+use Rattle.codex32.proofs.ShareStrings.{hrp_of_strings}
 
 -- of a whole set the secret may be asked for
 pub at_secret : (ss : List Share) (x : Fe32) → IsWholeSet ss x → IsWholeSet ss secret_index

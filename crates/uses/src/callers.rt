@@ -6,12 +6,12 @@ ghost use Rattle.bech32_gf.specs.Fe32.{elements_of};
 ghost use Rattle.bech32_hrp.specs.Hrp.{lowered};
 ghost use Rattle.bech32_segwit.specs.SegwitDecoding.{IsSegwitDecodeRefusal};
 ghost use Rattle.codex32.specs.Nearest.{IsNearestText, IsProposeRefusal};
-ghost use Rattle.codex32_strings.specs.Encode.{IsEncodedString};
-ghost use Rattle.codex32_strings.specs.Header.{identifier_of_header, share_index_of_header, threshold_of_header};
-ghost use Rattle.codex32_strings.specs.HeaderParts.{secret_index};
-ghost use Rattle.codex32_strings.specs.Share.{IsShareOf, IsShareString, bytes_of_share};
-ghost use Rattle.codex32_strings.specs.Strings.{IsCodex32};
-ghost use Rattle.codex32_strings.specs.declared.share.Share.{Share as AShare};
+ghost use Rattle.codex32.specs.Encode.{IsEncodedString};
+ghost use Rattle.codex32.specs.Header.{identifier_of_header, share_index_of_header, threshold_of_header};
+ghost use Rattle.codex32.specs.HeaderParts.{secret_index};
+ghost use Rattle.codex32.specs.Share.{IsShareOf, IsShareString, bytes_of_share};
+ghost use Rattle.codex32.specs.Strings.{IsCodex32};
+ghost use Rattle.codex32.specs.declared.share.Share.{Share as AShare};
 
 use bech32::Fe32;
 use bech32::primitives::decode::SegwitHrpstringError;

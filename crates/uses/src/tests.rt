@@ -5,7 +5,6 @@ mod corrections;
 mod first;
 mod front;
 mod lazy;
-mod long_codex32;
 mod own_checksum;
 mod parts;
 mod readers;

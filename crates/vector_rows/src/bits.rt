@@ -30,6 +30,12 @@ fn bytes_of(alloc: Global, text: &str) -> Result<Vec<u8>, AllocError> {
     Ok(bytes)
 }
 
+// Puts the hex digits of a byte behind a text.
+fn push_byte(alloc: Global, text: &mut String, byte: u8) -> Result<(), AllocError> {
+    let pair = format!(in alloc; "{byte:02x}")?;
+    text.push_str(&pair)
+}
+
 // The hex digits of bytes, and `-` for none.
 fn shown_bytes(alloc: Global, bytes: &[u8]) -> Result<String, AllocError> {
     if bytes.is_empty() {
@@ -37,8 +43,7 @@ fn shown_bytes(alloc: Global, bytes: &[u8]) -> Result<String, AllocError> {
     }
     let mut text = String::new(alloc);
     for byte in bytes {
-        let pair = format!(in alloc; "{byte:02x}")?;
-        text.push_str(&pair)?;
+        push_byte(alloc, &mut text, *byte)?;
     }
     Ok(text)
 }
@@ -78,11 +83,22 @@ fn hex_of_elements(alloc: Global, fes: &[Fe32], filled: bool) -> Result<String, 
     shown_bytes(alloc, &bytes)
 }
 
+// The hex digits of elements in both ways.
+fn both(alloc: Global, fes: &[Fe32]) -> Result<String, AllocError> {
+    let dropped = hex_of_elements(alloc, fes, false)?;
+    let filled = hex_of_elements(alloc, fes, true)?;
+    format!(in alloc; "{dropped}|{filled}")
+}
+
+// The same of the elements of characters.
+fn both_of(alloc: Global, text: &str) -> Result<String, AllocError> {
+    let fes = digits(alloc, text)?;
+    both(alloc, &fes)
+}
+
 /// What a row of bytes and elements gives.
 pub fn reply(alloc: Global, words: &[&str]) -> Result<String, AllocError> {
-    let fes = digits(alloc, word(words, 2))?;
     let elements = elements_of_hex(alloc, word(words, 1))?;
-    let dropped = hex_of_elements(alloc, &fes, false)?;
-    let filled = hex_of_elements(alloc, &fes, true)?;
-    format!(in alloc; "{elements}|{dropped}|{filled}")
+    let both = both_of(alloc, word(words, 2))?;
+    format!(in alloc; "{elements}|{both}")
 }

@@ -38,14 +38,24 @@ fn reply_to<E: NamedField + ExtensionField<BaseField = Fe32>>(
     }
 }
 
+// The same over the field of a name.
+fn reply_over(
+    alloc: Global,
+    field: &str,
+    generator: &[Fe32],
+    target: &[Fe32],
+) -> Result<String, AllocError> {
+    match field {
+        "Fe32" => reply_to::<Fe32>(alloc, "T", generator, target),
+        "Fe1024" => reply_to::<Fe1024>(alloc, "T", generator, target),
+        "Fe32768" => reply_to::<Fe32768>(alloc, "T", generator, target),
+        _ => no_row(alloc),
+    }
+}
+
 /// What a row of a field, a generator and a target gives, under the name `T`.
 pub fn reply(alloc: Global, words: &[&str]) -> Result<String, AllocError> {
     let generator = digits(alloc, word(words, 2))?;
     let target = digits(alloc, word(words, 3))?;
-    match word(words, 1) {
-        "Fe32" => reply_to::<Fe32>(alloc, "T", &generator, &target),
-        "Fe1024" => reply_to::<Fe1024>(alloc, "T", &generator, &target),
-        "Fe32768" => reply_to::<Fe32768>(alloc, "T", &generator, &target),
-        _ => no_row(alloc),
-    }
+    reply_over(alloc, word(words, 1), &generator, &target)
 }

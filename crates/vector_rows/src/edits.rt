@@ -22,15 +22,23 @@ fn shown(alloc: Global, near: &NearEdit<String>) -> Result<String, AllocError> {
     }
 }
 
-// All of them.
+// Puts one of them behind others.
+fn push(alloc: Global, line: &mut String, near: &NearEdit<String>) -> Result<(), AllocError> {
+    if !line.is_empty() {
+        line.push(' ')?;
+    }
+    let piece = shown(alloc, near)?;
+    line.push_str(&piece)
+}
+
+// All of them, and `none` for none.
 fn all_shown(alloc: Global, found: &[NearEdit<String>]) -> Result<String, AllocError> {
+    if found.is_empty() {
+        return String::from_str(alloc, "none");
+    }
     let mut line = String::new(alloc);
     for near in found {
-        if !line.is_empty() {
-            line.push(' ')?;
-        }
-        let piece = shown(alloc, near)?;
-        line.push_str(&piece)?;
+        push(alloc, &mut line, near)?;
     }
     Ok(line)
 }
@@ -38,7 +46,6 @@ fn all_shown(alloc: Global, found: &[NearEdit<String>]) -> Result<String, AllocE
 // What a checksum accepts one edit away from a text.
 fn reply_of<Ck: Checksum>(alloc: Global, text: &str) -> Result<String, AllocError> {
     match near_edits::<Ck>(alloc, text) {
-        Ok(found) if found.is_empty() => String::from_str(alloc, "none"),
         Ok(found) => all_shown(alloc, &found),
         Err(_) => no_row(alloc),
     }

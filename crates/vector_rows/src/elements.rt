@@ -5,7 +5,7 @@ use bech32_gf_ext::Fe32Ext;
 use std::alloc::{AllocError, Global};
 use std::fmt::Display;
 
-/// The elements whose characters these are, each of so many.
+/// The elements whose characters these are, each of this many.
 pub fn extended<const DEG: usize>(
     alloc: Global,
     text: &str,
@@ -39,19 +39,23 @@ pub fn digits(alloc: Global, text: &str) -> Result<Vec<Fe32>, AllocError> {
     Ok(items)
 }
 
+// Puts an element behind a text, and a space between the two.
+fn push<F: Display>(alloc: Global, text: &mut String, item: &F) -> Result<(), AllocError> {
+    if !text.is_empty() {
+        text.push(' ')?;
+    }
+    let piece = format!(in alloc; "{item}")?;
+    text.push_str(&piece)
+}
+
 /// The text of elements with a space between two, and `-` for none.
 pub fn shown<F: Display>(alloc: Global, items: &[F]) -> Result<String, AllocError> {
     if items.is_empty() {
         return String::from_str(alloc, "-");
     }
     let mut text = String::new(alloc);
-    for (i, item) in items.iter().enumerate() {
-        let piece = if i == 0 {
-            format!(in alloc; "{item}")?
-        } else {
-            format!(in alloc; " {item}")?
-        };
-        text.push_str(&piece)?;
+    for item in items {
+        push(alloc, &mut text, item)?;
     }
     Ok(text)
 }

@@ -30,15 +30,32 @@ fn reply_to<F: Field>(alloc: Global, items: &[F], exponent: i64) -> Result<Strin
     }
 }
 
+// The same of two pairs.
+fn reply_to_pairs(alloc: Global, text: &str, exponent: i64) -> Result<String, AllocError> {
+    let items = extended::<2>(alloc, text)?;
+    reply_to(alloc, &items, exponent)
+}
+
+// The same of two triples.
+fn reply_to_triples(alloc: Global, text: &str, exponent: i64) -> Result<String, AllocError> {
+    let items = extended::<3>(alloc, text)?;
+    reply_to(alloc, &items, exponent)
+}
+
+// The same of the elements of characters, over the field of a name.
+fn reply_over(alloc: Global, field: &str, text: &str, exponent: i64) -> Result<String, AllocError> {
+    match field {
+        "Fe1024" => reply_to_pairs(alloc, text, exponent),
+        "Fe32768" => reply_to_triples(alloc, text, exponent),
+        _ => no_row(alloc),
+    }
+}
+
 /// What a row of a field, two elements and an exponent gives.
 pub fn reply(alloc: Global, words: &[&str]) -> Result<String, AllocError> {
-    let items = format!(in alloc; "{}{}", word(words, 2), word(words, 3))?;
     let Ok(exponent) = word(words, 4).parse::<i64>() else {
         return no_row(alloc);
     };
-    match word(words, 1) {
-        "Fe1024" => reply_to(alloc, &extended::<2>(alloc, &items)?, exponent),
-        "Fe32768" => reply_to(alloc, &extended::<3>(alloc, &items)?, exponent),
-        _ => no_row(alloc),
-    }
+    let items = format!(in alloc; "{}{}", word(words, 2), word(words, 3))?;
+    reply_over(alloc, word(words, 1), &items, exponent)
 }

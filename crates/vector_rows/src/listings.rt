@@ -2,8 +2,9 @@
 
 use crate::rows::{no_row, word};
 use bech32_checksum::{Bech32, Bech32m, Checksum};
-use bech32_corrector::{CorrectableError, Corrector, ErrorIterator};
+use bech32_correction::{CorrectableError, Corrector, ErrorIterator};
 use bech32_decode::CheckedHrpstring;
+use bech32_gf::gf32::Fe32;
 use std::alloc::{AllocError, Global};
 use testing_tools::codes::Degree13;
 
@@ -28,14 +29,22 @@ fn corrector_of<Ck: Checksum>(alloc: Global, text: &str, window: &str) -> Option
     error.correction_context_within::<Ck, Global>(alloc, window)
 }
 
+// Puts a location with its value behind others.
+fn push(alloc: Global, text: &mut String, error: (usize, Fe32)) -> Result<(), AllocError> {
+    if !text.is_empty() {
+        text.push(' ')?;
+    }
+    let piece = format!(in alloc; "{}:{}", error.0, error.1)?;
+    text.push_str(&piece)
+}
+
 // Each location with its value.
 fn shown(alloc: Global, errors: ErrorIterator) -> Result<String, AllocError> {
     let mut text = String::new(alloc);
-    for (place, value) in errors {
-        let piece = format!(in alloc; "{place}:{value} ")?;
-        text.push_str(&piece)?;
+    for error in errors {
+        push(alloc, &mut text, error)?;
     }
-    String::from_str(alloc, text.trim_end())
+    Ok(text)
 }
 
 // What a corrector lists.

@@ -16,16 +16,21 @@ pub fn word<'a>(words: &[&'a str], i: usize) -> &'a str {
     }
 }
 
+// What words give.
+fn reply_to(alloc: Global, words: &[&str]) -> Result<String, AllocError> {
+    match word(words, 0) {
+        "register" => registers::reply(alloc, words),
+        "field" => fields::reply(alloc, words),
+        "listing" => listings::reply(alloc, words),
+        "edits" => edits::reply(alloc, words),
+        "block" => blocks::reply(alloc, words),
+        "bits" => bits::reply(alloc, words),
+        _ => no_row(alloc),
+    }
+}
+
 /// What a row gives.
 pub fn reply(alloc: Global, row: &str) -> Result<String, AllocError> {
     let words: Vec<&str> = row.split('|').collect(alloc)?;
-    match word(&words, 0) {
-        "register" => registers::reply(alloc, &words),
-        "field" => fields::reply(alloc, &words),
-        "listing" => listings::reply(alloc, &words),
-        "edits" => edits::reply(alloc, &words),
-        "block" => blocks::reply(alloc, &words),
-        "bits" => bits::reply(alloc, &words),
-        _ => no_row(alloc),
-    }
+    reply_to(alloc, &words)
 }

@@ -5,7 +5,7 @@ use bech32::{Bech32, Correction, Hrp, correct_in, decode, encode, near_edits_in,
 use linked_list_allocator::LocalHeap;
 use std::alloc::{AllocError, Global};
 
-// Bytes of which the first so many are in a text.
+// Bytes of which the first ones are in a text.
 fn bytes() -> [u8; 80] {
     [0xa5; 80]
 }
@@ -43,7 +43,7 @@ pub fn is_corrected(heap: &LocalHeap, mistyped: &str, text: &str) -> bool {
     }
 }
 
-/// Whether this text is among those within so many errors of a mistyped one, outside erasures.
+/// Whether this text is among those within this many errors of a mistyped one, outside erasures.
 pub fn is_near(
     heap: &LocalHeap,
     mistyped: &str,

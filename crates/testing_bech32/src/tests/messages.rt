@@ -4,10 +4,10 @@ use bech32::primitives::decode::{
     UncheckedHrpstringError,
 };
 use bech32::primitives::hrp;
-use bech32::{Bech32m, CorrectError, DecodeError, EditsError, EncodeError};
+use bech32::{Bech32m, CorrectError, DecodeError, EditsError, EncodeError, EncodeIoError};
 use std::alloc::Global;
-use std::fmt;
 use std::process::Abort;
+use std::{fmt, io};
 
 // Why Bech32m refuses a text.
 fn refusal(rt: &impl Abort, text: &str) -> ChecksumError {
@@ -79,6 +79,11 @@ fn tells_why_a_text_is_not_written(rt: HostRuntime) {
     let message =
         "string exceeds maximum allowed length: encoded length 1024 exceeds maximum (code length) 1023";
     prints(&rt, alloc, &ChecksumError::CodeLength(too_long), message);
+    let message = "encode error: encoded length 1024 exceeds maximum (code length) 1023";
+    prints(&rt, alloc, &EncodeIoError::TooLong(too_long), message);
+    let failed = io::Error::from(io::ErrorKind::WriteZero);
+    let message = "encode to writer failed: write zero";
+    prints(&rt, alloc, &EncodeIoError::Write(failed), message);
 }
 
 #[test]
@@ -95,13 +100,7 @@ fn tells_why_a_text_is_not_corrected(rt: HostRuntime) {
     let refused = CheckedHrpstringError::Checksum(length);
     prints(&rt, alloc, &CorrectError::Refused(refused), message);
     prints(&rt, alloc, &CorrectError::Memory, "out of memory");
-}
-
-#[test]
-fn tells_why_edits_are_not_told(rt: HostRuntime) {
-    let alloc = rt.alloc();
-    let mixed = UncheckedHrpstringError::Char(CharError::MixedCase);
     let message = "character error: mixed-case strings not allowed";
-    prints(&rt, alloc, &EditsError::Refused(mixed), message);
+    prints(&rt, alloc, &EditsError::Refused(parse), message);
     prints(&rt, alloc, &EditsError::Memory, "out of memory");
 }

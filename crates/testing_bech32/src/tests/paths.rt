@@ -135,7 +135,7 @@ fn listings_by_each_path(rt: HostRuntime) {
 }
 
 #[test]
-fn sizes_by_each_path(rt: HostRuntime) {
+fn sizes_and_parts_by_each_path(rt: HostRuntime) {
     let found = [
         primitives::NO_ALLOC_MAX_LENGTH,
         primitives::correction::NO_ALLOC_MAX_LENGTH,
@@ -144,19 +144,15 @@ fn sizes_by_each_path(rt: HostRuntime) {
         primitives::segwit::MAX_STRING_LENGTH,
     ];
     same(&rt, &found, &[7, 7, 25, 25, 90]);
-}
-
-// Fails where a part is another one.
-fn is_part(rt: &impl Abort, part: root::Hrp, want: &str) {
-    same(rt, &part.as_str(), &want);
-}
-
-#[test]
-fn parts_by_each_path(rt: HostRuntime) {
     is_part(&rt, hrp::BC, "bc");
     is_part(&rt, hrp::TB, "tb");
     is_part(&rt, hrp::BCRT, "bcrt");
     is_part(&rt, primitives::hrp::BC, "bc");
     is_part(&rt, primitives::hrp::TB, "tb");
     is_part(&rt, primitives::hrp::BCRT, "bcrt");
+}
+
+// Fails where a part is another one.
+fn is_part(rt: &impl Abort, part: root::Hrp, want: &str) {
+    same(rt, &part.as_str(), &want);
 }

@@ -88,7 +88,7 @@ fn refuses(rt: &impl Abort, alloc: Global, text: &str) {
     agree(rt, alloc, text);
 }
 
-// So many letters, with a text behind them.
+// `count` letters, with a text behind them.
 fn letters(rt: &impl Abort, alloc: Global, count: usize, behind: &str) -> String {
     let mut text = "a".repeat(alloc, count).expect(rt, "memory");
     text.push_str(behind).expect(rt, "memory");

@@ -48,12 +48,13 @@ fn all_suffice(alloc: Global, text: &str, rows: &[(Call, usize)]) -> bool {
     }
 }
 
-// Bytes of which the first so many are in a text.
+// Bytes of which the first ones are in a text.
 fn bytes() -> [u8; 640] {
     [0xa5; 640]
 }
 
-// The length of the text of so many bytes under a part, if the memory of each row suffices for it.
+// The length of the text of this many bytes under a part, if the memory of each row suffices for
+// it.
 fn length_of(alloc: Global, part: &str, count: usize, rows: &[(Call, usize)]) -> Option<usize> {
     match text_of(alloc, part, bytes().get(..count)?) {
         Some(text) => length_if(all_suffice(alloc, &text, rows), &text),

@@ -124,7 +124,7 @@ fn refuses(rt: &impl Abort, alloc: Global, text: &str, refusal: DecodeError) {
     same(rt, &(text, found), &(text, Some(refusal)));
 }
 
-// A text, so many times another, and a text behind them.
+// A text, another one this many times, and a text behind them.
 fn repeated(
     rt: &impl Abort,
     alloc: Global,

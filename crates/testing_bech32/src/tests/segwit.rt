@@ -95,7 +95,7 @@ fn decodes_known_addresses(rt: HostRuntime) {
     decodes(&rt, alloc, sixteen, ("bc", Fe32::Z), &PROGRAM[..16]);
 }
 
-// Fails where so many zeros have an address, or are refused otherwise.
+// Fails where this many zeros have an address, or are refused otherwise.
 fn refuses(
     rt: &impl Abort,
     alloc: Global,
@@ -213,7 +213,7 @@ fn refuses_to_decode_in_order(rt: HostRuntime) {
 }
 
 #[test]
-fn tells_why_there_is_no_address(rt: HostRuntime) {
+fn tells_what_is_wrong(rt: HostRuntime) {
     let alloc = rt.alloc();
     let message = "witness version: invalid segwit witness version: 17 (bech32 character: '3')";
     let version = InvalidWitnessVersionError(Fe32::_3);
@@ -228,11 +228,6 @@ fn tells_why_there_is_no_address(rt: HostRuntime) {
     let message = "writing to formatter failed: an error occurred when formatting an argument";
     prints(&rt, alloc, &EncodeError::from(fmt::Error), message);
     prints(&rt, alloc, &EncodeError::Memory, "out of memory");
-}
-
-#[test]
-fn tells_what_is_wrong(rt: HostRuntime) {
-    let alloc = rt.alloc();
     let message = "decoding segwit address failed: no data found after removing the checksum";
     let error = DecodeError(SegwitHrpstringError::NoData);
     prints(&rt, alloc, &error, message);

@@ -1,27 +1,27 @@
 //! Texts that one walk reads, and texts of which it says nothing.
 
 use crate::tests::compare::same;
-use bech32::primitives::decode::{CheckedHrpstring, SegwitHrpstringError};
-use bech32::{Bech32, Bech32m, Fe32};
+use bech32::primitives::decode::{
+    CharError, CheckedHrpstring, SegwitHrpstringError, UncheckedHrpstringError,
+};
+use bech32::primitives::hrp;
+use bech32::{Bech32, Bech32m, Checksum, Fe32};
 use bech32_decode::Reading;
 
-// Whether one walk reads a text that Bech32 accepts.
+// Whether one walk reads a text that a checksum accepts.
+fn is_read_by<Ck: Checksum>(text: &str) -> bool {
+    match Reading::<Ck>::of(text.as_bytes()) {
+        Some(reading) => reading.validate().is_ok(),
+        None => false,
+    }
+}
+
+// The same by Bech32.
 fn is_read(text: &str) -> bool {
-    match Reading::<Bech32>::of(text.as_bytes()) {
-        Some(reading) => reading.validate().is_ok(),
-        None => false,
-    }
+    is_read_by::<Bech32>(text)
 }
 
-// The same by Bech32m.
-fn is_read_by_bech32m(text: &str) -> bool {
-    match Reading::<Bech32m>::of(text.as_bytes()) {
-        Some(reading) => reading.validate().is_ok(),
-        None => false,
-    }
-}
-
-// Valid texts of BIP-173.
+// Valid texts of BIP-173, and of BIP-350.
 #[test]
 fn texts_are_read(rt: HostRuntime) {
     let are_read = [
@@ -30,20 +30,12 @@ fn texts_are_read(rt: HostRuntime) {
         is_read("abcdef1qpzry9x8gf2tvdw0s3jn54khce6mua7lmqqqxw"),
         is_read("split1checkupstagehandshakeupstreamerranterredcaperred2y9e3w"),
         is_read("?1ezyfcl"),
+        is_read_by::<Bech32m>("A1LQFN3A"),
+        is_read_by::<Bech32m>("a1lqfn3a"),
+        is_read_by::<Bech32m>("abcdef1l7aum6echk45nj3s0wdvt2fg8x9yrzpqzd3ryx"),
+        is_read_by::<Bech32m>("?1v759aa"),
     ];
-    same(&rt, &are_read, &[true; 5]);
-}
-
-// Valid texts of BIP-350.
-#[test]
-fn texts_are_read_by_bech32m(rt: HostRuntime) {
-    let are_read = [
-        is_read_by_bech32m("A1LQFN3A"),
-        is_read_by_bech32m("a1lqfn3a"),
-        is_read_by_bech32m("abcdef1l7aum6echk45nj3s0wdvt2fg8x9yrzpqzd3ryx"),
-        is_read_by_bech32m("?1v759aa"),
-    ];
-    same(&rt, &are_read, &[true; 4]);
+    same(&rt, &are_read, &[true; 9]);
 }
 
 // A part with a `1` in it is read by the rules alone.
@@ -66,6 +58,40 @@ fn faults_are_not_read(rt: HostRuntime) {
         is_read(""),
     ];
     same(&rt, &are_read, &[false; 6]);
+}
+
+// Whether Bech32 accepts a text, or why it is none.
+fn accepts(text: &str) -> Result<bool, UncheckedHrpstringError> {
+    match Reading::<Bech32>::new(text) {
+        Ok(reading) => Ok(reading.validate().is_ok()),
+        Err(error) => Err(error),
+    }
+}
+
+// By one walk, and where it says nothing without it.
+#[test]
+fn each_text_is_read_or_refused(rt: HostRuntime) {
+    let found = [
+        accepts("a12uel5l"),
+        accepts("a12uel5q"),
+        accepts(
+            "11qqqqqqqqqqqqqqqqqqqqqqqqqqqqqqqqqqqqqqqqqqqqqqqqqqqqqqqqqqqqqqqqqqqqqqqqqqqqqqqqqqc8247j",
+        ),
+        accepts("a12UEL5L"),
+        accepts("a12uel5b"),
+        accepts("pzry9x0s0muk"),
+        accepts("1pzry9x0s0muk"),
+    ];
+    let want = [
+        Ok(true),
+        Ok(false),
+        Ok(true),
+        Err(UncheckedHrpstringError::Char(CharError::MixedCase)),
+        Err(UncheckedHrpstringError::Char(CharError::InvalidChar('b'))),
+        Err(UncheckedHrpstringError::Char(CharError::MissingSeparator)),
+        Err(UncheckedHrpstringError::Hrp(hrp::Error::Empty)),
+    ];
+    same(&rt, &found, &want);
 }
 
 // The version of an address that one walk reads, and how many characters its program has.

@@ -4,5 +4,4 @@ mod bytes;
 mod forms;
 mod given;
 mod known;
-mod messages;
 mod texts;

@@ -4,8 +4,7 @@ ghost use Rattle.std.specs.Prelude.{IsTrue};
 
 use crate::tests::compare::{same, same_items};
 use bech32_checksum::Checksum;
-use bech32_correction::{Correction, correct};
-use bech32_corrector::{CorrectableError, Corrector, ErrorIterator};
+use bech32_correction::{CorrectableError, Correction, Corrector, ErrorIterator, correct};
 use bech32_decode::CheckedHrpstring;
 use bech32_gf::gf32::Fe32;
 use codex32::Codex32;

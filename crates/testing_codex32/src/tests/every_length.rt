@@ -6,7 +6,7 @@ use bech32_gf::gf32::Fe32;
 use codex32::{Codex32, LongCodex32, propose, propose_long};
 use std::alloc::{AllocError, Global};
 
-// So many of these are the elements of a string, in front of its checksum.
+// The first of these are the elements of a string, in front of its checksum.
 fn elements() -> [Fe32; 109] {
     [Fe32::X; 109]
 }

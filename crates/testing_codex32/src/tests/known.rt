@@ -1,4 +1,4 @@
-//! Each call once. The program `c32` is tested with 3,482 lines of known replies.
+//! Each call once. The program `c32` is tested with 3,595 lines of known replies.
 
 use crate::tests::compare::same;
 use bech32_refusals::{CharError, UncheckedHrpstringError};

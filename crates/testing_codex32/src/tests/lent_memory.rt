@@ -28,10 +28,7 @@ fn takes_the_memory_and_leaves_none(rt: HostRuntime) {
     let mut memory = Memory::leaked(rt.alloc(), 100).expect(&rt, "memory");
     let taken = memory.take().with_size().0;
     same(&rt, &[taken, memory.with_size().0], &[100, 0]);
-}
-
-#[test]
-fn memory_that_was_not_asked_for_comes_back(rt: HostRuntime) {
+    // Memory that was not asked for comes back.
     let lent = Lent::new(Memory::leaked(rt.alloc(), 100).expect(&rt, "memory"));
     same(&rt, &size_of_memory(lent.into_memory()), &Some(100));
 }
@@ -68,12 +65,12 @@ fn gives_one_block_at_a_time_and_takes_it_back(rt: HostRuntime) {
     same(&rt, &size_of_memory(lent.into_memory()), &Some(100));
 }
 
-// Whether there is memory for so many bytes.
+// Whether there is memory for this many bytes.
 fn has_bytes(lent: &Lent, count: usize) -> bool {
     Vec::<u8, &Lent>::with_capacity(lent, count).is_ok()
 }
 
-// Whether there is memory for so many numbers of 16 bytes.
+// Whether there is memory for this many numbers of 16 bytes.
 fn has_numbers(lent: &Lent, count: usize) -> bool {
     Vec::<u128, &Lent>::with_capacity(lent, count).is_ok()
 }

@@ -122,7 +122,7 @@ fn the_encoded_string_or_out_of_memory(rt: HostRuntime) {
     right_or_wants_memory(rt.alloc(), &Encoded(front), (32, 16)).expect(&rt, front);
 }
 
-// The string of so many elements.
+// The string of this many elements.
 #[derive(Drop)]
 struct OfPayload(usize, &'static str);
 

@@ -158,7 +158,7 @@ const BYTES: [u8; 64] = [
     0x53, 0xb8, 0x6e, 0x52, 0x8b, 0xca, 0xdf, 0xdc, 0xc2, 0x01, 0xc1, 0x7c, 0x63, 0x8c, 0x47, 0xe9,
 ];
 
-// The string of so many bytes, and that of the elements of its payload.
+// The string of this many bytes, and that of the elements of its payload.
 fn both(alloc: Global, bytes: &[u8]) -> Option<(String, String)> {
     let of_bytes = encode(alloc, &header()?, bytes).ok()?;
     let of_elements = made_again(alloc, &of_bytes)?;
@@ -179,7 +179,7 @@ fn strings_of_bytes(rt: HostRuntime) {
     }
 }
 
-// Why no string is made of so many elements, and none is put.
+// Why no string is made of this many elements, and none is put.
 fn refusals(alloc: Global, payload: &[Fe32]) -> Option<[Option<EncodeError>; 2]> {
     let header = header()?;
     let mut buffer = [b'?'; 130];

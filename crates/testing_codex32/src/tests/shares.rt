@@ -183,7 +183,7 @@ fn a_string_is_encoded(rt: HostRuntime) {
     );
 }
 
-// Why no string is made of so many bytes.
+// Why no string is made of this many bytes.
 fn size_refusal(alloc: Global, bytes: &[u8]) -> Option<EncodeError> {
     encode(alloc, &header(Fe32::S)?, bytes).err()
 }

@@ -1,7 +1,7 @@
-//! Splits of secrets: known ones, whose shares were made by another program, and that shares of
-//! them recover the secret.
+//! Splits of secrets: a known one, whose shares were made by another program, into a buffer; shares
+//! recover the secret; and refusals. Others stand in the stored run of `c32`.
 
-use crate::tests::compare::same;
+use crate::tests::compare::{same, same_items};
 use bech32_gf::gf32::Fe32;
 use codex32::{Identifier, Share, SplitError, Threshold, derive_into, random_count, split_into};
 
@@ -24,24 +24,20 @@ const OF_THREE: [&str; 5] = [
     "ms13cashf9d0hhyqutl6qsj0j0uf7ngstpwwfrsv0878edv958",
 ];
 
-// The last of nine of ten, of a long string.
-const LAST_OF_TEN: &str =
-    "ms19l0nglp549snv8tp6hfn45uf0w4u5wkuhu0p4pzlttaj5uq2rkcwjagzlgy2n4ah8nzfj5f5wdv2nfr7pc4k4xyf6xf95uu5zzn3206l7upzvr40puj0va92wqjz";
-
 // The random bytes of all of them.
-fn random_bytes() -> [u8; 824] {
-    let mut bytes = [0u8; 824];
-    for i in 0..824 {
+fn random_bytes() -> [u8; 72] {
+    let mut bytes = [0u8; 72];
+    for i in 0..72 {
         bytes[i] = ((i * 37 + 11) % 256) as u8;
     }
     bytes
 }
 
 // The bytes of a secret.
-fn counted_bytes(factor: usize, first: usize) -> [u8; 64] {
+fn counted_bytes() -> [u8; 64] {
     let mut bytes = [0u8; 64];
     for i in 0..64 {
-        bytes[i] = ((i * (factor % 256) + first % 256) % 256) as u8;
+        bytes[i] = i as u8;
     }
     bytes
 }
@@ -59,45 +55,22 @@ fn split_by(
     Some(split_into(buffer, threshold, identifier, secret?, count, random?))
 }
 
+// Whether the shares stand at the front of a buffer, and what stands behind them is as it was.
+fn has_shares(buffer: &[u8]) -> Option<bool> {
+    let (front, behind) = buffer.split_at_checked(144)?;
+    Some(front == OF_TWO.as_bytes() && behind == [7, 7].as_slice())
+}
+
 #[test]
 fn two_of_three(rt: HostRuntime) {
     let random = random_bytes();
     let mut buffer = [7u8; 146];
     let split = split_by(&mut buffer, (2, "name"), Some(&BYTES), 3, random.get(..26));
-    same(&rt, &split, &Some(Ok(48)));
-    let texts = buffer.get(..144).map(str::from_utf8);
-    same(&rt, &texts, &Some(Ok(OF_TWO)));
-    same(&rt, &(buffer[144], buffer[145]), &(7, 7));
-}
-
-#[test]
-fn three_of_five(rt: HostRuntime) {
-    let random = random_bytes();
-    let secret = counted_bytes(1, 0);
-    let mut buffer = [0u8; 250];
-    let split = split_by(
-        &mut buffer,
-        (3, "cash"),
-        secret.get(..17),
-        5,
-        random.get(..56),
+    same(
+        &rt,
+        &(split, has_shares(&buffer)),
+        &(Some(Ok(48)), Some(true)),
     );
-    same(&rt, &split, &Some(Ok(50)));
-    for i in 0..5 {
-        let text = buffer.get(50 * i..50 * i + 50).map(str::from_utf8);
-        same(&rt, &text, &Some(Ok(OF_THREE[i])));
-    }
-}
-
-#[test]
-fn nine_of_ten(rt: HostRuntime) {
-    let random = random_bytes();
-    let secret = counted_bytes(7, 3);
-    let mut buffer = [0u8; 1270];
-    let split = split_by(&mut buffer, (9, "l0ng"), Some(&secret), 10, Some(&random));
-    same(&rt, &split, &Some(Ok(127)));
-    let last = buffer.get(1143..).map(str::from_utf8);
-    same(&rt, &last, &Some(Ok(LAST_OF_TEN)));
 }
 
 // Whether three of the shares give the secret's own string at `s`.
@@ -113,9 +86,9 @@ fn do_recover(places: [usize; 3]) -> Option<bool> {
     Some(buffer.get(..count)? == OWN_OF_THREE.as_bytes())
 }
 
-#[test]
-fn any_three_of_five_recover(rt: HostRuntime) {
-    for places in [
+// Each three of the shares.
+fn threes() -> [[usize; 3]; 10] {
+    [
         [0, 1, 2],
         [0, 1, 3],
         [0, 1, 4],
@@ -126,18 +99,22 @@ fn any_three_of_five_recover(rt: HostRuntime) {
         [1, 2, 4],
         [1, 3, 4],
         [2, 3, 4],
-    ] {
+    ]
+}
+
+#[test]
+fn any_three_of_five_recover(rt: HostRuntime) {
+    for places in threes() {
         same(&rt, &(places, do_recover(places)), &(places, Some(true)));
     }
 }
 
-// Why a secret is not split, by the numbers of its bytes, of shares, of random bytes, and of bytes
-// in the buffer.
-fn refusal_of(
-    threshold: u8,
-    (size, count, random, room): (usize, usize, usize, usize),
-) -> Option<SplitError> {
-    let bytes = counted_bytes(1, 0);
+// The numbers of a secret's bytes, of shares, of random bytes, and of bytes in the buffer.
+type Numbers = (usize, usize, usize, usize);
+
+// Why a secret is not split.
+fn refusal_of(threshold: u8, (size, count, random, room): Numbers) -> Option<SplitError> {
+    let bytes = counted_bytes();
     let random_bytes = random_bytes();
     let mut buffer = [0u8; 200];
     let room = buffer.get_mut(..room)?;
@@ -151,9 +128,9 @@ fn refusal_of(
     .err()
 }
 
-#[test]
-fn refusals_of_splits(rt: HostRuntime) {
-    for (threshold, numbers, want) in [
+// Splits, each with why it is refused.
+fn refusals() -> [(u8, Numbers, Option<SplitError>); 10] {
+    [
         (0, (15, 1, 0, 0), Some(SplitError::Unshared)),
         (0, (16, 3, 0, 200), Some(SplitError::Unshared)),
         (2, (15, 1, 0, 0), Some(SplitError::Size)),
@@ -164,10 +141,16 @@ fn refusals_of_splits(rt: HostRuntime) {
         (2, (16, 3, 27, 200), Some(SplitError::Random)),
         (2, (16, 3, 26, 143), Some(SplitError::NoRoom)),
         (2, (16, 3, 26, 144), None),
-    ] {
+    ]
+}
+
+#[test]
+fn refusals_of_splits(rt: HostRuntime) {
+    for (threshold, numbers, want) in refusals() {
+        let found = refusal_of(threshold, numbers);
         same(
             &rt,
-            &(threshold, numbers, refusal_of(threshold, numbers)),
+            &(threshold, numbers, found),
             &(threshold, numbers, want),
         );
     }
@@ -180,20 +163,25 @@ fn random_for(threshold: u8, size: usize) -> Option<usize> {
 
 #[test]
 fn numbers_of_random_bytes(rt: HostRuntime) {
-    for (threshold, size, want) in [
-        (2, 16, Some(26)),
-        (3, 17, Some(56)),
-        (9, 64, Some(824)),
-        (0, 16, Some(0)),
-        (2, 15, None),
-        (2, 45, None),
-        (2, 62, None),
-        (2, usize::MAX, None),
-    ] {
-        same(
-            &rt,
-            &(threshold, size, random_for(threshold, size)),
-            &(threshold, size, want),
-        );
-    }
+    let found = [
+        random_for(2, 16),
+        random_for(3, 17),
+        random_for(9, 64),
+        random_for(0, 16),
+        random_for(2, 15),
+        random_for(2, 45),
+        random_for(2, 62),
+        random_for(2, usize::MAX),
+    ];
+    let want = [
+        Some(26),
+        Some(56),
+        Some(824),
+        Some(0),
+        None,
+        None,
+        None,
+        None,
+    ];
+    same_items(&rt, &found, &want);
 }

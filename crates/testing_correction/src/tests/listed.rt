@@ -2,7 +2,7 @@
 
 use bech32_bch::ShortVec;
 use bech32_checksum::Checksum;
-use bech32_corrector::{CorrectableError, Corrector, ErrorIterator};
+use bech32_correction::{CorrectableError, Corrector, ErrorIterator};
 use bech32_decode::CheckedHrpstring;
 use bech32_gf::gf32::Fe32;
 use std::alloc::{Allocator, Global};

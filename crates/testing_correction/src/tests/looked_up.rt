@@ -2,7 +2,7 @@
 
 use crate::tests::compare::same;
 use bech32_checksum::{Bech32, Bech32m, Checksum, Engine, PackedFe32};
-use bech32_correction::{erased_of_read, error_of_read};
+use bech32_correction::found_of_read;
 use bech32_decode::Reading;
 use bech32_gf::gf32::Fe32;
 
@@ -34,6 +34,42 @@ fn each_location_is_looked_up(rt: HostRuntime) {
     }
 }
 
+// Whether an error beside an element is looked up as these are, where something is said of them.
+fn is_found_beside(location: usize, other: usize) -> Option<bool> {
+    let residue = coefficients(&(left_by(location, Fe32::Z) ^ left_by(other, Fe32::L)));
+    let found = Bech32::one_beside(&residue, location, 1023)?;
+    Some(found == Some((Fe32::Z, (other, Fe32::L))))
+}
+
+#[test]
+fn one_error_beside_an_element_is_looked_up(rt: HostRuntime) {
+    for location in 0..1022 {
+        same(&rt, &is_found_beside(location, location + 1), &Some(true));
+    }
+    for location in 0..511 {
+        same(
+            &rt,
+            &is_found_beside(location, 1022 - location),
+            &Some(true),
+        );
+    }
+}
+
+#[test]
+fn two_errors_beside_an_element_are_none(rt: HostRuntime) {
+    let three = left_by(3, Fe32::P) ^ left_by(20, Fe32::Z) ^ left_by(7, Fe32::L);
+    let found = [
+        Bech32::one_beside(&coefficients(&three), 7, 1023),
+        Bech32m::one_beside(&coefficients(&three), 20, 1023),
+        Bech32::one_beside(
+            &coefficients(&(left_by(7, Fe32::P) ^ left_by(20, Fe32::Z))),
+            7,
+            20,
+        ),
+    ];
+    same(&rt, &(found == [Some(None); 3]), &true);
+}
+
 #[test]
 fn two_errors_are_none(rt: HostRuntime) {
     let residue = coefficients(&(left_by(3, Fe32::P) ^ left_by(20, Fe32::Z)));
@@ -58,13 +94,9 @@ fn values_at_erasures_are_looked_up(rt: HostRuntime) {
     same(&rt, &(values == want), &true);
 }
 
-// What is looked up for a text that Bech32 refuses for its residue: the error where there are no
-// erasures, and whether just this is with these.
-fn looked_up(
-    text: &str,
-    erasures: &[usize],
-    want: &[(usize, Fe32)],
-) -> Option<(Option<Option<(usize, Fe32)>>, bool)> {
+// Whether just this is looked up for a text that Bech32 refuses for its residue; that there is no
+// listing, where nothing is wanted.
+fn is_found(text: &str, erasures: &[usize], want: &[(usize, Fe32)]) -> Option<bool> {
     let reading = Reading::<Bech32>::of(text.as_bytes())?;
     let Ok(()) = reading.validate_lengths() else {
         return None;
@@ -72,22 +104,21 @@ fn looked_up(
     if reading.has_target() {
         return None;
     }
-    let error = error_of_read(&reading);
-    let is_erased = match erased_of_read(&reading, erasures) {
-        Some(listing) => listing.as_slice() == want,
-        None => false,
-    };
-    Some((error, is_erased))
+    match found_of_read(&reading, erasures)? {
+        Some(listing) => Some(listing.as_slice() == want),
+        None => Some(want.is_empty()),
+    }
 }
 
 #[test]
 fn texts_are_looked_up(rt: HostRuntime) {
     let (q, l) = (Fe32::Q, Fe32::L);
-    let last = Some(Some((0, l)));
-    let are_looked_up = [
-        looked_up("a12uel5q", &[1, 0], &[(1, q), (0, l)]) == Some((last, true)),
-        looked_up("a12uel5q", &[5, 0, 3], &[(5, q), (0, l), (3, q)]) == Some((last, true)),
-        looked_up("a12uelqq", &[], &[]) == Some((Some(None), false)),
+    let are_found = [
+        is_found("a12uel5q", &[], &[(0, l)]),
+        is_found("a12uel5q", &[1, 0], &[(1, q), (0, l)]),
+        is_found("a12uel5q", &[5, 0, 3], &[(5, q), (0, l), (3, q)]),
+        is_found("a12uelqq", &[], &[]),
     ];
-    same(&rt, &are_looked_up, &[true; 3]);
+    same(&rt, &are_found, &[Some(true); 4]);
+    same(&rt, &is_found("a12uel5q", &[0, 0], &[]), &None);
 }

@@ -3,7 +3,7 @@
 use super::listed::{Listing, is_found};
 use crate::tests::compare::same;
 use bech32_checksum::{Bech32, Checksum};
-use bech32_corrector::{CorrectableError, Corrector};
+use bech32_correction::{CorrectableError, Corrector};
 use bech32_decode::CheckedHrpstring;
 use bech32_gf::gf32::Fe32;
 use linked_list_allocator::LocalHeap;

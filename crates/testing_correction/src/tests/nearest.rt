@@ -3,11 +3,11 @@
 use super::listed::Listing;
 use crate::tests::compare::same;
 use bech32_checksum::{Bech32, Checksum};
-use bech32_corrector::{CorrectableError, Corrector};
+use bech32_correction::{CorrectableError, Corrector};
 use bech32_decode::CheckedHrpstring;
 use bech32_gf::gf32::Fe32;
-use bech32_near_listings::nearest_listings;
-use bech32_near_patterns::Listings;
+use bech32_near::nearest_listings;
+use bech32_near_search::Listings;
 use linked_list_allocator::LocalHeap;
 use std::alloc::Global;
 use std::process::Abort;
@@ -42,7 +42,7 @@ fn are(listings: &Listings<&LocalHeap>, want: &[Listing]) -> bool {
             .all(|(listing, want)| listing.as_slice() == *want)
 }
 
-// Whether these are all listings of so many errors outside the erasures of a corrector; `None`
+// Whether these are all listings of this many errors outside the erasures of a corrector; `None`
 // where there is too little memory.
 fn are_nearest_of(
     corrector: &Corrector<Bech32, &LocalHeap>,

@@ -3,7 +3,7 @@
 use super::listed::corrector_for;
 use crate::tests::compare::same;
 use bech32_checksum::Bech32;
-use bech32_corrector::Corrector;
+use bech32_correction::Corrector;
 use std::alloc::Global;
 
 // What is printed of a corrector.

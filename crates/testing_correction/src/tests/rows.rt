@@ -5,7 +5,7 @@ use super::listed::{
 };
 use crate::tests::compare::{same, same_items};
 use bech32_checksum::{Bech32, Checksum, NoChecksum};
-use bech32_corrector::{CorrectableError, Corrector};
+use bech32_correction::{CorrectableError, Corrector};
 use bech32_decode::{CheckedHrpstring, SegwitHrpstring};
 use bech32_gf::gf32::Fe32;
 use bech32_refusals::CheckedHrpstringError;

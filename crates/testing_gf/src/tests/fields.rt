@@ -80,14 +80,10 @@ fn general_code_at<E: ExtensionField<BaseField = Fe32>>(x: E, y: E, order: usize
 }
 
 #[test]
-fn general_code_at_pairs(rt: HostRuntime) {
+fn general_code_at_pairs_and_triples(rt: HostRuntime) {
     let x = Fe1024::new([Fe32::M, Fe32::E]);
     let y = Fe1024::new([Fe32::J, Fe32::C]);
     same(&rt, &general_code_at(x, y, 1023), &[true; 4]);
-}
-
-#[test]
-fn general_code_at_triples(rt: HostRuntime) {
     let (x, y) = (Fe32768::EXT_ELEM, Fe32768::GENERATOR);
     same(&rt, &general_code_at(x, y, 32767), &[true; 4]);
 }

@@ -21,12 +21,8 @@ fn clone_has(rt: &impl Abort, vector: &FieldVec<Fe32>, want: &[Fe32]) {
 }
 
 #[test]
-fn no_elements(rt: HostRuntime) {
-    same(&rt, &FieldVec::<Fe32>::new(rt.alloc()).is_empty(), &true);
-}
-
-#[test]
 fn elements(rt: HostRuntime) {
+    same(&rt, &FieldVec::<Fe32>::new(rt.alloc()).is_empty(), &true);
     let vector = two(&rt, rt.alloc());
     same(&rt, &(vector.len(), vector.is_empty()), &(2, false));
     let want = [Fe32::J, Fe32::Z];
@@ -42,7 +38,7 @@ fn length_of(made: Result<FieldVec<Fe32, &LocalHeap>, AllocError>) -> Option<usi
     }
 }
 
-// Appends so many elements to a vector, as far as there is memory.
+// Appends this many elements to a vector, as far as there is memory.
 fn fill(vector: &mut FieldVec<Fe32, &LocalHeap>, count: usize) {
     for _ in 0..count {
         if vector.push(Fe32::P).is_err() {
@@ -51,8 +47,8 @@ fn fill(vector: &mut FieldVec<Fe32, &LocalHeap>, count: usize) {
     }
 }
 
-// Appends so many elements to a vector, as far as there is memory: how many fit, how many its clone
-// has where that fits too, and how much memory the two use.
+// Appends this many elements to a vector, as far as there is memory: how many fit, how many its
+// clone has where that fits too, and how much memory the two use.
 fn filled(heap: &LocalHeap, count: usize) -> (usize, Option<usize>, usize) {
     let mut vector = FieldVec::new(heap);
     fill(&mut vector, count);
@@ -61,7 +57,7 @@ fn filled(heap: &LocalHeap, count: usize) -> (usize, Option<usize>, usize) {
     (vector.len(), length_of(copy), used)
 }
 
-// The same on a heap of so many bytes.
+// The same on a heap of this many bytes.
 fn fitting(
     alloc: Global,
     bytes: usize,

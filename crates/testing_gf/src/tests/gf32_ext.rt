@@ -16,21 +16,17 @@ use std::process::Abort;
 use testing_tools::code::Code;
 
 #[test]
-fn orders_of_pairs(rt: HostRuntime) {
+fn orders_of_powers(rt: HostRuntime) {
     let x = Fe1024::new([Fe32::K, Fe32::L]);
-    let orders = [order_of(x), order_of(x.powi(3)), order_of(x.powi(341))];
-    same(&rt, &orders, &[Some(1023), Some(341), Some(3)]);
-}
-
-#[test]
-fn orders_of_triples(rt: HostRuntime) {
+    let of_pairs = [order_of(x), order_of(x.powi(3)), order_of(x.powi(341))];
+    same(&rt, &of_pairs, &[Some(1023), Some(341), Some(3)]);
     let x = Fe32768::new([Fe32::A, Fe32::C, Fe32::Q]);
-    let orders = [order_of(x), order_of(x.powi(7)), order_of(x.powi(341))];
-    same(&rt, &orders, &[Some(32767), Some(4681), Some(1057)]);
+    let of_triples = [order_of(x), order_of(x.powi(7)), order_of(x.powi(341))];
+    same(&rt, &of_triples, &[Some(32767), Some(4681), Some(1057)]);
 }
 
 #[test]
-fn constants_of_pairs(rt: HostRuntime) {
+fn constants(rt: HostRuntime) {
     let pairs = [Fe1024::GENERATOR, Fe1024::default(), Fe1024::POLYNOMIAL];
     let z_squared = Fe1024::EXT_ELEM.powi(2);
     let wanted_pairs = [
@@ -39,10 +35,6 @@ fn constants_of_pairs(rt: HostRuntime) {
         z_squared,
     ];
     same(&rt, &pairs, &wanted_pairs);
-}
-
-#[test]
-fn constants_of_triples(rt: HostRuntime) {
     let triples = [Fe32768::GENERATOR, Fe32768::default(), Fe32768::POLYNOMIAL];
     let z_cubed = Fe32768::EXT_ELEM.powi(3);
     let wanted_triples = [
@@ -54,15 +46,11 @@ fn constants_of_triples(rt: HostRuntime) {
 }
 
 #[test]
-fn inverse_of_a_pair(rt: HostRuntime) {
+fn inverse_and_embedded(rt: HostRuntime) {
     let x = Fe1024::new([Fe32::P, Fe32::X]);
     assert!(rt; x != Fe1024::ZERO);
     let inverse = Fe1024::new([Fe32::_7, Fe32::F]);
     same(&rt, &x.multiplicative_inverse(), &inverse);
-}
-
-#[test]
-fn embedded(rt: HostRuntime) {
     let pair = Fe1024::new([Fe32::Z, Fe32::Q]);
     same(&rt, &Fe1024::from(Fe32::Z), &pair);
     let triple = Fe32768::new([Fe32::Z, Fe32::Q, Fe32::Q]);
@@ -118,26 +106,16 @@ fn assigned_pairs(mut z: Fe1024, y: Fe1024) -> [Fe1024; 5]
     each_assigned!(z, y)
 }
 
-// Each form of the sum and the difference of two pairs.
-fn sums_of_pairs(x: Fe1024, y: Fe1024) -> [[Fe1024; 4]; 2] {
-    [each_form!(x + y), each_form!(x - y)]
+// Each form of the sum, the difference and the product of two pairs.
+fn forms_of_pairs(x: Fe1024, y: Fe1024) -> [[Fe1024; 4]; 3] {
+    [each_form!(x + y), each_form!(x - y), each_form!(x * y)]
 }
 
-// Each form of the product of two pairs.
-fn products_of_pairs(x: Fe1024, y: Fe1024) -> [Fe1024; 4] {
-    each_form!(x * y)
-}
-
-// Each form of the quotient of two pairs.
-fn quotients_of_pairs(x: Fe1024, y: Fe1024) -> [Fe1024; 4]
+// Each form of the quotient of two pairs, and of the product of a pair and an element.
+fn scaled_pairs(product: Fe1024, y: Fe1024, x: Fe1024, factor: Fe32) -> [[Fe1024; 4]; 2]
     requires { y ≢ pairs.zero }
 {
-    each_form!(x / y)
-}
-
-// Each form of the product of a pair and an element.
-fn scaled_pairs(x: Fe1024, factor: Fe32) -> [Fe1024; 4] {
-    each_form!(x * factor)
+    [each_form!(product / y), each_form!(x * factor)]
 }
 
 // Each form of each operator, at a line of the table.
@@ -148,14 +126,10 @@ fn operator_forms_of_pairs(rt: HostRuntime) {
     assert!(rt; y != Fe1024::ZERO);
     let sum = Fe1024::new([Fe32::F, Fe32::P]);
     let product = Fe1024::new([Fe32::P, Fe32::_9]);
-    same(&rt, &sums_of_pairs(x, y), &[[sum; 4]; 2]);
-    let scaled = x * Fe1024::from(Fe32::A);
-    let found = [
-        products_of_pairs(x, y),
-        quotients_of_pairs(product, y),
-        scaled_pairs(x, Fe32::A),
-    ];
-    same(&rt, &found, &[[product; 4], [x; 4], [scaled; 4]]);
+    let want = [[sum; 4], [sum; 4], [product; 4]];
+    same(&rt, &forms_of_pairs(x, y), &want);
+    let want = [[x; 4], [x * Fe1024::from(Fe32::A); 4]];
+    same(&rt, &scaled_pairs(product, y, x, Fe32::A), &want);
     same_items(&rt, &assigned_pairs(x, y), &[sum, x, product, x, x]);
 }
 
@@ -166,26 +140,16 @@ fn assigned_triples(mut z: Fe32768, y: Fe32768) -> [Fe32768; 5]
     each_assigned!(z, y)
 }
 
-// Each form of the sum and the difference of two triples.
-fn sums_of_triples(x: Fe32768, y: Fe32768) -> [[Fe32768; 4]; 2] {
-    [each_form!(x + y), each_form!(x - y)]
+// Each form of the sum, the difference and the product of two triples.
+fn forms_of_triples(x: Fe32768, y: Fe32768) -> [[Fe32768; 4]; 3] {
+    [each_form!(x + y), each_form!(x - y), each_form!(x * y)]
 }
 
-// Each form of the product of two triples.
-fn products_of_triples(x: Fe32768, y: Fe32768) -> [Fe32768; 4] {
-    each_form!(x * y)
-}
-
-// Each form of the quotient of two triples.
-fn quotients_of_triples(x: Fe32768, y: Fe32768) -> [Fe32768; 4]
+// Each form of the quotient of two triples, and of the product of a triple and an element.
+fn scaled_triples(product: Fe32768, y: Fe32768, x: Fe32768, factor: Fe32) -> [[Fe32768; 4]; 2]
     requires { y ≢ triples.zero }
 {
-    each_form!(x / y)
-}
-
-// Each form of the product of a triple and an element.
-fn scaled_triples(x: Fe32768, factor: Fe32) -> [Fe32768; 4] {
-    each_form!(x * factor)
+    [each_form!(product / y), each_form!(x * factor)]
 }
 
 // Each form of each operator, at a line of the table.
@@ -196,14 +160,10 @@ fn operator_forms_of_triples(rt: HostRuntime) {
     assert!(rt; y != Fe32768::ZERO);
     let sum = Fe32768::new([Fe32::_8, Fe32::M, Fe32::Y]);
     let product = Fe32768::new([Fe32::_5, Fe32::_4, Fe32::N]);
-    same(&rt, &sums_of_triples(x, y), &[[sum; 4]; 2]);
-    let scaled = x * Fe32768::from(Fe32::A);
-    let found = [
-        products_of_triples(x, y),
-        quotients_of_triples(product, y),
-        scaled_triples(x, Fe32::A),
-    ];
-    same(&rt, &found, &[[product; 4], [x; 4], [scaled; 4]]);
+    let want = [[sum; 4], [sum; 4], [product; 4]];
+    same(&rt, &forms_of_triples(x, y), &want);
+    let want = [[x; 4], [x * Fe32768::from(Fe32::A); 4]];
+    same(&rt, &scaled_triples(product, y, x, Fe32::A), &want);
     same_items(&rt, &assigned_triples(x, y), &[sum, x, product, x, x]);
 }
 
@@ -222,22 +182,22 @@ fn both_ways<T: Display + Debug>(rt: &impl Abort, alloc: Global, x: &T) -> Strin
     format!(in alloc; "{x} {x:?}").expect(rt, "memory")
 }
 
-#[test]
-fn printed_pairs(rt: HostRuntime) {
-    let pair = Fe1024::new([Fe32::P, Fe32::X]);
-    same(&rt, &both_ways(&rt, rt.alloc(), &pair).as_str(), &"px px");
-    same(&rt, &<Fe1024 as Bech32Field>::NAME, &"Fe1024");
+// Fails where both print another text.
+fn prints_both_ways<T: Display + Debug>(rt: &impl Abort, alloc: Global, x: &T, want: &str) {
+    same(rt, &both_ways(rt, alloc, x).as_str(), &want);
 }
 
 #[test]
-fn printed_triples(rt: HostRuntime) {
+fn printed(rt: HostRuntime) {
+    let (alloc, pair) = (rt.alloc(), Fe1024::new([Fe32::P, Fe32::X]));
+    prints_both_ways(&rt, alloc, &pair, "px px");
     let triple = Fe32768::new([Fe32::_9, Fe32::Q, Fe32::L]);
-    same(
-        &rt,
-        &both_ways(&rt, rt.alloc(), &triple).as_str(),
-        &"9ql 9ql",
-    );
-    same(&rt, &<Fe32768 as Bech32Field>::NAME, &"Fe32768");
+    prints_both_ways(&rt, alloc, &triple, "9ql 9ql");
+    let names = [
+        <Fe1024 as Bech32Field>::NAME,
+        <Fe32768 as Bech32Field>::NAME,
+    ];
+    same_items(&rt, &names, &["Fe1024", "Fe32768"]);
 }
 
 #[test]

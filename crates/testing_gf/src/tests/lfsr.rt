@@ -32,14 +32,10 @@ fn length_of(rt: &impl Abort, alloc: Global, list: &[Fe32]) -> usize
 }
 
 #[test]
-fn one_recurrence(rt: HostRuntime) {
+fn one_recurrence_and_powers(rt: HostRuntime) {
     let (p, q) = (Fe32::P, Fe32::Q);
     let want = [p, p, q, p, p, q, p, p, q, p];
     begins(&rt, rt.alloc(), &[p, p, q], &want);
-}
-
-#[test]
-fn powers(rt: HostRuntime) {
     let want = [Fe32::J, Fe32::J.powi(2), Fe32::J.powi(3)];
     begins(&rt, rt.alloc(), &[Fe32::J], &want);
 }
@@ -93,14 +89,9 @@ fn register_of_powers<F: Field>(rt: &impl Abort, alloc: Global) -> LfsrIter<F> {
 }
 
 #[test]
-fn coefficients_modulo_seven(rt: HostRuntime) {
-    let register = register_of_powers::<Seven>(&rt, rt.alloc());
-    same_items(&rt, register.coefficients(), &[Seven::new(4)]);
-}
-
-#[test]
 fn integers_modulo_seven(rt: HostRuntime) {
     let register = register_of_powers::<Seven>(&rt, rt.alloc());
+    same_items(&rt, register.coefficients(), &[Seven::new(4)]);
     let powers = [1, 3, 2, 6, 4, 5, 1].map(Seven::new);
     same(&rt, &first_difference(register.take(7), &powers), &None);
 }
@@ -159,7 +150,7 @@ fn six_items_take_no_memory(rt: HostRuntime) {
     }
 }
 
-// The same of twenty items on a heap of so many bytes.
+// The same of twenty items on a heap of this many bytes.
 fn made_with(alloc: Global, bytes: usize) -> Result<(bool, Option<bool>), AllocError> {
     let heap = LocalHeap::new(alloc, bytes)?;
     Ok(made(&heap, &ELEMENTS[1..21]))

@@ -19,24 +19,24 @@ fn element(rt: &impl Abort, c: char) -> Fe32 {
     Fe32::from_char(c).expect(rt, "an element")
 }
 
-// Each form of the sum and the difference.
-fn sums(x: Fe32, y: Fe32) -> [[Fe32; 4]; 2] {
-    [each_form!(x + y), each_form!(x - y)]
-}
-
-// Each form of the product and the quotient.
-fn products(x: Fe32, y: Fe32) -> [[Fe32; 4]; 2]
+// Each form of the sum, the difference, the product and the quotient.
+fn forms(x: Fe32, y: Fe32) -> [[Fe32; 4]; 4]
     requires { y ≢ zero }
 {
-    [each_form!(x * y), each_form!(x / y)]
+    [
+        each_form!(x + y),
+        each_form!(x - y),
+        each_form!(x * y),
+        each_form!(x / y),
+    ]
 }
 
 #[test]
 fn every_form_of_each_operator(rt: HostRuntime) {
     let (x, y) = (element(&rt, '9'), element(&rt, 'x'));
     assert!(rt; y != Fe32::Q);
-    same(&rt, &sums(x, y), &[[Fe32::R; 4]; 2]);
-    same(&rt, &products(x, y), &[[Fe32::_7; 4], [Fe32::_4; 4]]);
+    let want = [Fe32::R, Fe32::R, Fe32::_7, Fe32::_4];
+    same(&rt, &forms(x, y), &want.map(|element| [element; 4]));
     same_items(&rt, &[-x, Fe32::default()], &[x, Fe32::Q]);
 }
 

@@ -40,10 +40,6 @@ fn is_trimmed(
 fn zeros_at_the_high_end(rt: HostRuntime) {
     let list = [Fe32::Z, Fe32::Q, Fe32::P, Fe32::Q, Fe32::Q];
     is_trimmed(&rt, rt.alloc(), &list, &list[..3], (2, Fe32::P));
-}
-
-#[test]
-fn zeros_alone(rt: HostRuntime) {
     is_trimmed(&rt, rt.alloc(), &[Fe32::Q, Fe32::Q], &[], (0, Fe32::Q));
 }
 
@@ -186,7 +182,7 @@ fn outcomes_of_ones(heap: &LocalHeap, ones: &[Fe32]) -> Option<[(bool, bool); 6]
     }
 }
 
-// The same on a heap of so many bytes, and behind it whether `remainder` is refused memory there.
+// The same on a heap of this many bytes, and behind it whether `remainder` is refused memory there.
 fn on_a_heap(
     rt: &impl Abort,
     alloc: Global,

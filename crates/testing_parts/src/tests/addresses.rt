@@ -114,18 +114,19 @@ fn refuses(rt: &impl Abort, text: &str, error: SegwitHrpstringError) {
     same(rt, &(text, refusal), &(text, Some(error)));
 }
 
+// Fails where a text is not refused for its remainder by Bech32m.
+fn refuses_residue(rt: &impl Abort, text: &str) {
+    refuses(rt, text, wrong_residue::<Bech32m>(rt, text));
+}
+
 // Fails where a text with a wrong remainder is refused otherwise.
 fn refuses_wrong_remainders(rt: &impl Abort) {
-    for text in [
-        "a12uel5l",
-        "bc1p0xlxvlhemja6c4dqv22uapctqupfhlxm9h8z3k2e72q4k9hcz7vqh2y7hd",
-        "BC1S0XLXVLHEMJA6C4DQV22UAPCTQUPFHLXM9H8Z3K2E72Q4K9HCZ7VQ54WELL",
-        "bc1gmk9yu",
-    ]
-    .iter()
-    {
-        refuses(rt, text, wrong_residue::<Bech32m>(rt, text));
-    }
+    refuses_residue(rt, "a12uel5l");
+    let text = "bc1p0xlxvlhemja6c4dqv22uapctqupfhlxm9h8z3k2e72q4k9hcz7vqh2y7hd";
+    refuses_residue(rt, text);
+    let text = "BC1S0XLXVLHEMJA6C4DQV22UAPCTQUPFHLXM9H8Z3K2E72Q4K9HCZ7VQ54WELL";
+    refuses_residue(rt, text);
+    refuses_residue(rt, "bc1gmk9yu");
     let of_version_0 = "bc1qw508d6qejxtdg4y5r3zarvary0c5xw7kemeawh";
     let error = wrong_residue::<Bech32>(rt, of_version_0);
     refuses(rt, of_version_0, error);
@@ -133,64 +134,40 @@ fn refuses_wrong_remainders(rt: &impl Abort) {
 
 // Fails where a program of a wrong length, or with wrong bits behind it, is refused otherwise.
 fn refuses_programs(rt: &impl Abort) {
-    let rows: [(&str, SegwitHrpstringError); 5] = [
-        ("bc1pw5dgrnzv", WitnessLengthError::TooShort.into()),
-        (
-            "bc1p0xlxvlhemja6c4dqv22uapctqupfhlxm9h8z3k2e72q4k9hcz7v8n0nx0muaewav253zgeav",
-            WitnessLengthError::TooLong.into(),
-        ),
-        (
-            "BC1QR508D6QEJXTDG4Y5R3ZARVARYV98GJ9P",
-            WitnessLengthError::InvalidSegwitV0.into(),
-        ),
-        (
-            "bc1p0xlxvlhemja6c4dqv22uapctqupfhlxm9h8z3k2e72q4k9hcz7v07qwwzcrf",
-            PaddingError::TooMuch.into(),
-        ),
-        (
-            "tb1p0xlxvlhemja6c4dqv22uapctqupfhlxm9h8z3k2e72q4k9hcz7vpggkg4j",
-            PaddingError::NonZero.into(),
-        ),
-    ];
-    for row in rows.iter() {
-        refuses(rt, row.0, row.1);
-    }
+    refuses(rt, "bc1pw5dgrnzv", WitnessLengthError::TooShort.into());
+    let text = "bc1p0xlxvlhemja6c4dqv22uapctqupfhlxm9h8z3k2e72q4k9hcz7v8n0nx0muaewav253zgeav";
+    refuses(rt, text, WitnessLengthError::TooLong.into());
+    let text = "BC1QR508D6QEJXTDG4Y5R3ZARVARYV98GJ9P";
+    refuses(rt, text, WitnessLengthError::InvalidSegwitV0.into());
+    let text = "bc1p0xlxvlhemja6c4dqv22uapctqupfhlxm9h8z3k2e72q4k9hcz7v07qwwzcrf";
+    refuses(rt, text, PaddingError::TooMuch.into());
+    let text = "tb1p0xlxvlhemja6c4dqv22uapctqupfhlxm9h8z3k2e72q4k9hcz7vpggkg4j";
+    refuses(rt, text, PaddingError::NonZero.into());
+}
+
+// Fails where a text is not refused for a character so.
+fn refuses_character(rt: &impl Abort, text: &str, error: CharError) {
+    refuses(rt, text, UncheckedHrpstringError::Char(error).into());
 }
 
 #[test]
 fn refuses_texts_in_order(rt: HostRuntime) {
     refuses_wrong_remainders(&rt);
     refuses_programs(&rt);
-    let rows: [(&str, SegwitHrpstringError); 7] = [
-        (
-            "a1lqfn3a",
-            SegwitHrpstringError::InvalidWitnessVersion(Fe32::L),
-        ),
-        (
-            "a13qqqq9qz88s",
-            SegwitHrpstringError::InvalidWitnessVersion(Fe32::_3),
-        ),
-        ("a1", SegwitHrpstringError::NoData),
-        (
-            "anhrpthatistwentycha1pqyqszqgpqyqszqgpqyqszqgpqyqszqgpqyqszqgpqyqszqgpqyqszqgpqyqszqgqfrwjz",
-            SegwitHrpstringError::TooLong(91),
-        ),
-        (
-            "bc1p38j9r5y49hruaue7wxjce0updqjuyyx0kh56v8s25huc6995vvpql3jow4",
-            UncheckedHrpstringError::Char(CharError::InvalidChar('o')).into(),
-        ),
-        (
-            "tb1p0xlxvlhemja6c4dqv22uapctqupfhlxm9h8z3k2e72q4k9hcz7vq47Zagq",
-            UncheckedHrpstringError::Char(CharError::MixedCase).into(),
-        ),
-        (
-            "BC130XLXVLHEMJA6C4DQV22UAPCTQUPFHLXM9H8Z3K2E72Q4K9HCZ7VQ7ZWS8R",
-            SegwitHrpstringError::InvalidWitnessVersion(Fe32::_3),
-        ),
-    ];
-    for row in rows.iter() {
-        refuses(&rt, row.0, row.1);
-    }
+    let version_31 = SegwitHrpstringError::InvalidWitnessVersion(Fe32::L);
+    refuses(&rt, "a1lqfn3a", version_31);
+    let version_17 = SegwitHrpstringError::InvalidWitnessVersion(Fe32::_3);
+    refuses(&rt, "a13qqqq9qz88s", version_17);
+    let text = "BC130XLXVLHEMJA6C4DQV22UAPCTQUPFHLXM9H8Z3K2E72Q4K9HCZ7VQ7ZWS8R";
+    refuses(&rt, text, version_17);
+    refuses(&rt, "a1", SegwitHrpstringError::NoData);
+    let text =
+        "anhrpthatistwentycha1pqyqszqgpqyqszqgpqyqszqgpqyqszqgpqyqszqgpqyqszqgpqyqszqgpqyqszqgqfrwjz";
+    refuses(&rt, text, SegwitHrpstringError::TooLong(91));
+    let text = "bc1p38j9r5y49hruaue7wxjce0updqjuyyx0kh56v8s25huc6995vvpql3jow4";
+    refuses_character(&rt, text, CharError::InvalidChar('o'));
+    let text = "tb1p0xlxvlhemja6c4dqv22uapctqupfhlxm9h8z3k2e72q4k9hcz7vq47Zagq";
+    refuses_character(&rt, text, CharError::MixedCase);
 }
 
 // Fails where a text is read as an address by Bech32, or refused otherwise.
@@ -213,25 +190,15 @@ fn refuses_texts_by_bech32_in_order(rt: HostRuntime) {
     let of_bech32m = "BC1SW50QGDZ25J";
     let error = wrong_residue::<Bech32>(&rt, of_bech32m);
     refuses_by_bech32(&rt, of_bech32m, error);
-    let rows: [(&str, SegwitHrpstringError); 5] = [
-        ("a12uel5l", SegwitHrpstringError::NoData),
-        ("a1", SegwitHrpstringError::NoData),
-        (
-            "a1lqfn3a",
-            SegwitHrpstringError::InvalidWitnessVersion(Fe32::L),
-        ),
-        (
-            "a1pqqqqqqqqqqqqqqqqqqqqqqqqqqqqqqqqqqqqqqqqqqqqqqqqqqqqqqqqqqqqqqqqqqqqqqqqqqqqqqqqqqqqqqqqqqqqqqqqqqqlqe4dnl",
-            SegwitHrpstringError::TooLong(109),
-        ),
-        (
-            "BC1QR508D6QEJXTDG4Y5R3ZARVARYV98GJ9P",
-            WitnessLengthError::InvalidSegwitV0.into(),
-        ),
-    ];
-    for row in rows.iter() {
-        refuses_by_bech32(&rt, row.0, row.1);
-    }
+    refuses_by_bech32(&rt, "a12uel5l", SegwitHrpstringError::NoData);
+    refuses_by_bech32(&rt, "a1", SegwitHrpstringError::NoData);
+    let version_31 = SegwitHrpstringError::InvalidWitnessVersion(Fe32::L);
+    refuses_by_bech32(&rt, "a1lqfn3a", version_31);
+    let text =
+        "a1pqqqqqqqqqqqqqqqqqqqqqqqqqqqqqqqqqqqqqqqqqqqqqqqqqqqqqqqqqqqqqqqqqqqqqqqqqqqqqqqqqqqqqqqqqqqqqqqqqqqlqe4dnl";
+    refuses_by_bech32(&rt, text, SegwitHrpstringError::TooLong(109));
+    let invalid = WitnessLengthError::InvalidSegwitV0.into();
+    refuses_by_bech32(&rt, "BC1QR508D6QEJXTDG4Y5R3ZARVARYV98GJ9P", invalid);
 }
 
 // Fails where the rules of addresses accept a text that a checksum accepts, or refuse it otherwise.
@@ -272,27 +239,20 @@ fn tests_length(rt: &impl Abort, text: &str, version: Fe32, error: Option<Witnes
 fn tests_padding_and_length(rt: HostRuntime) {
     let too_much = Some(PaddingError::TooMuch);
     let non_zero = Some(PaddingError::NonZero);
-    for row in [
-        ("a1lqfn3a", None),
-        ("a1qy52hkn", too_much),
-        ("a1qq43hjaz", None),
-        ("a1qpg8r8qs", non_zero),
-        ("a1qqqcmw5yr", too_much),
-        ("a1qqqq726jfk", None),
-        ("a1qqqsttj2u9", None),
-        ("a1qqqgq777ht", non_zero),
-        ("a1llllltkgalp", non_zero),
-        ("a1qqqqqqyu9vm5", too_much),
-        ("a1lllllll9dmlf7", non_zero),
-        ("a1yyyyyyyfsyl5s", non_zero),
-        ("a1ggggggguzulx0", None),
-        ("a1llllllllm6su8m", None),
-    ]
-    .iter()
-    {
-        let (text, padding) = *row;
-        tests_padding(&rt, text, padding);
-    }
+    tests_padding(&rt, "a1lqfn3a", None);
+    tests_padding(&rt, "a1qy52hkn", too_much);
+    tests_padding(&rt, "a1qq43hjaz", None);
+    tests_padding(&rt, "a1qpg8r8qs", non_zero);
+    tests_padding(&rt, "a1qqqcmw5yr", too_much);
+    tests_padding(&rt, "a1qqqq726jfk", None);
+    tests_padding(&rt, "a1qqqsttj2u9", None);
+    tests_padding(&rt, "a1qqqgq777ht", non_zero);
+    tests_padding(&rt, "a1llllltkgalp", non_zero);
+    tests_padding(&rt, "a1qqqqqqyu9vm5", too_much);
+    tests_padding(&rt, "a1lllllll9dmlf7", non_zero);
+    tests_padding(&rt, "a1yyyyyyyfsyl5s", non_zero);
+    tests_padding(&rt, "a1ggggggguzulx0", None);
+    tests_padding(&rt, "a1llllllllm6su8m", None);
     let invalid = Some(WitnessLengthError::InvalidSegwitV0);
     let too_short = Some(WitnessLengthError::TooShort);
     tests_length(&rt, "a1qqqq726jfk", Fe32::Q, invalid);

@@ -136,13 +136,10 @@ fn one_byte(rt: HostRuntime) {
 }
 
 #[test]
-fn one_byte_back(rt: HostRuntime) {
+fn elements_as_bytes(rt: HostRuntime) {
+    bytes_are(&rt, &[Fe32::L], false, &[(0, None), (0, None)]);
     let rows = [(1, Some(0xab)), (0, None), (0, None)];
     bytes_are(&rt, &[Fe32::_4, Fe32::V], false, &rows);
-}
-
-#[test]
-fn eight_elements(rt: HostRuntime) {
     let fes = fes_of(rt.alloc(), &[0x75, 0x1e, 0x76, 0xe8, 0x19]).expect(&rt, "memory");
     same(&rt, &fes.len(), &8);
     let rows = [
@@ -165,7 +162,6 @@ fn incomplete_bytes(rt: HostRuntime) {
         &bytes_of(rt.alloc(), &nine).expect(&rt, "memory"),
         &[0xff; 5],
     );
-    bytes_are(&rt, &[Fe32::L], false, &[(0, None), (0, None)]);
 }
 
 #[test]

@@ -222,12 +222,6 @@ fn elements_of_a_part_and_two_elements(rt: HostRuntime) {
     elements_are::<_, Bech32>(&rt, (&hrp, None), two, &want);
     let two = TwoOfFive::new(Fe32::_4);
     elements_are::<_, Bech32>(&rt, (&hrp, None), two, &want);
-}
-
-#[test]
-fn elements_with_a_version(rt: HostRuntime) {
-    let alloc = rt.alloc();
-    let hrp = part(&rt, "a");
     let want = elements_of(&rt, alloc, b"rqpp44pr9lq9");
     let two = TwoItems::new(Fe32::_4, None);
     elements_are::<_, Bech32m>(&rt, (&hrp, Some(Fe32::P)), two, &want);

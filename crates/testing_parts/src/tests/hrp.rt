@@ -1,4 +1,4 @@
-use crate::tests::compare::{same, same_items};
+use crate::tests::compare::{prints, same, same_items};
 use bech32_hrp::{BC, BCRT, Error, Hrp, TB};
 use std::alloc::Global;
 use std::cmp::Ordering;
@@ -22,7 +22,7 @@ fn read(text: &str) -> Result<usize, Error> {
     Hrp::parse(text).map(|h| h.len())
 }
 
-// The same of a text and so many times another one behind it.
+// The same of a text and another one behind it, this many times.
 fn read_behind(
     rt: &impl Abort,
     alloc: Global,
@@ -64,22 +64,20 @@ fn refuses_by_length(rt: HostRuntime) {
     );
 }
 
+// Fails where a text is read as a part, or refused otherwise.
+fn refuses(rt: &impl Abort, text: &str, error: Error) {
+    same(rt, &(text, read(text)), &(text, Err(error)));
+}
+
 #[test]
 fn refuses_at_the_first_bad_character(rt: HostRuntime) {
-    for row in [
-        ("a b", Error::InvalidAsciiByte(0x20)),
-        ("a\u{7f}B", Error::InvalidAsciiByte(0x7f)),
-        ("aB", Error::MixedCase),
-        ("Ab", Error::MixedCase),
-        ("aBé", Error::MixedCase),
-        ("é", Error::NonAsciiChar('é')),
-        ("aéB", Error::NonAsciiChar('é')),
-    ]
-    .iter()
-    {
-        let (text, error) = *row;
-        same(&rt, &(text, read(text)), &(text, Err(error)));
-    }
+    refuses(&rt, "a b", Error::InvalidAsciiByte(0x20));
+    refuses(&rt, "a\u{7f}B", Error::InvalidAsciiByte(0x7f));
+    refuses(&rt, "aB", Error::MixedCase);
+    refuses(&rt, "Ab", Error::MixedCase);
+    refuses(&rt, "aBé", Error::MixedCase);
+    refuses(&rt, "é", Error::NonAsciiChar('é'));
+    refuses(&rt, "aéB", Error::NonAsciiChar('é'));
 }
 
 #[test]
@@ -149,41 +147,40 @@ fn spells_the_networks(rt: HostRuntime) {
     );
 }
 
+// Fails where a part is one of other networks.
+fn is_of(rt: &impl Abort, hrp: Hrp, want: [bool; 5]) {
+    same(rt, &(hrp, networks(&hrp)), &(hrp, want));
+}
+
 #[test]
 fn knows_the_networks(rt: HostRuntime) {
-    for row in [
-        (BC, [true, true, false, false, false]),
-        (TB, [true, false, true, true, false]),
-        (BCRT, [false, false, false, false, true]),
-        (part(&rt, "b"), [false; 5]),
-        (part(&rt, "BC"), [true, true, false, false, false]),
-    ]
-    .iter()
-    {
-        let (hrp, want) = *row;
-        same(&rt, &(hrp, networks(&hrp)), &(hrp, want));
-    }
+    is_of(&rt, BC, [true, true, false, false, false]);
+    is_of(&rt, TB, [true, false, true, true, false]);
+    is_of(&rt, BCRT, [false, false, false, false, true]);
+    is_of(&rt, part(&rt, "b"), [false; 5]);
+    is_of(&rt, part(&rt, "BC"), [true, true, false, false, false]);
 }
 
 #[test]
 fn tells_the_fault(rt: HostRuntime) {
-    for row in [
-        (
-            Error::TooLong(84),
-            "hrp is too long, found 84 characters, must be <= 83",
-        ),
-        (Error::Empty, "hrp is empty, must have at least 1 character"),
-        (Error::NonAsciiChar('é'), "found non-ASCII character: é"),
-        (
-            Error::InvalidAsciiByte(0x7f),
-            "byte value is not valid US-ASCII: '7f'",
-        ),
-        (Error::MixedCase, "hrp cannot mix upper and lower case"),
-        (Error::Fmt, "formatting failed"),
-    ]
-    .iter()
-    {
-        let (error, want) = *row;
-        same(&rt, &shown(rt.alloc(), &error).as_str(), &want);
-    }
+    let alloc = rt.alloc();
+    let message = "hrp is too long, found 84 characters, must be <= 83";
+    prints(&rt, alloc, &Error::TooLong(84), message);
+    let message = "hrp is empty, must have at least 1 character";
+    prints(&rt, alloc, &Error::Empty, message);
+    prints(
+        &rt,
+        alloc,
+        &Error::NonAsciiChar('é'),
+        "found non-ASCII character: é",
+    );
+    let message = "byte value is not valid US-ASCII: '7f'";
+    prints(&rt, alloc, &Error::InvalidAsciiByte(0x7f), message);
+    prints(
+        &rt,
+        alloc,
+        &Error::MixedCase,
+        "hrp cannot mix upper and lower case",
+    );
+    prints(&rt, alloc, &Error::Fmt, "formatting failed");
 }

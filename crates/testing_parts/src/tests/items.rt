@@ -50,7 +50,7 @@ fn back(four: &mut Four<'_>) -> Items {
     )
 }
 
-// That the four have so many items left, by `len` and by their size hints.
+// That the four have this many items left, by `len` and by their size hints.
 fn same_lengths(rt: &impl Abort, four: &Four<'_>, want: usize) {
     let lengths = [
         four.bytes.len(),

@@ -1,4 +1,4 @@
-use crate::tests::compare::same;
+use crate::tests::compare::{prints, same};
 use bech32_checksum::Bech32;
 use bech32_decode::segwit::{InvalidWitnessVersionError, WitnessLengthError};
 use bech32_decode::{
@@ -8,7 +8,6 @@ use bech32_decode::{
 use bech32_gf::gf32::Fe32;
 use std::alloc::Global;
 use std::process::Abort;
-use testing_tools::compare::shown;
 
 // Fails where a length beyond that of addresses is told otherwise.
 fn tells_too_long(rt: &impl Abort, alloc: Global) {
@@ -19,106 +18,59 @@ fn tells_too_long(rt: &impl Abort, alloc: Global) {
     let error = SegwitCodeLengthError::from(too_long);
     same(rt, &error, &SegwitCodeLengthError(91));
     let message = "encoded length 91 exceeds maximum (code length) 90";
-    same(rt, &shown(alloc, &error).as_str(), &message);
+    prints(rt, alloc, &error, message);
 }
 
 #[test]
 fn tells_why_a_text_is_no_address(rt: HostRuntime) {
-    for row in [
-        (
-            UncheckedHrpstringError::Char(CharError::MixedCase).into(),
-            "parsing unchecked hrpstring failed: character error: mixed-case strings not allowed",
-        ),
-        (
-            SegwitHrpstringError::NoData,
-            "no data found after removing the checksum",
-        ),
-        (
-            SegwitHrpstringError::TooLong(91),
-            "encoded length 91 exceeds spec limit 90 chars",
-        ),
-        (
-            SegwitHrpstringError::InvalidWitnessVersion(Fe32::_3),
-            "invalid segwit witness version: 17 (bech32 character: '3')",
-        ),
-        (
-            PaddingError::TooMuch.into(),
-            "invalid padding on the witness data: the data payload has too many bits of padding",
-        ),
-        (
-            PaddingError::NonZero.into(),
-            "invalid padding on the witness data: the data payload is padded with non-zero bits",
-        ),
-        (
-            WitnessLengthError::TooShort.into(),
-            "invalid witness length: witness program is less than 2 bytes long",
-        ),
-        (
-            ChecksumError::InvalidLength.into(),
-            "invalid checksum: the checksummed string is not a valid length",
-        ),
-        (
-            SegwitHrpstringError::Checksum(ChecksumError::InvalidLength),
-            "invalid checksum: the checksummed string is not a valid length",
-        ),
-        (SegwitHrpstringError::Memory, "out of memory"),
-    ]
-    .iter()
-    {
-        let (error, message) = *row;
-        same(
-            &rt,
-            &shown::<SegwitHrpstringError>(rt.alloc(), &error).as_str(),
-            &message,
-        );
-    }
-    tells_too_long(&rt, rt.alloc());
+    let alloc = rt.alloc();
+    let message =
+        "parsing unchecked hrpstring failed: character error: mixed-case strings not allowed";
+    let mixed = UncheckedHrpstringError::Char(CharError::MixedCase);
+    prints::<SegwitHrpstringError>(&rt, alloc, &mixed.into(), message);
+    let message = "no data found after removing the checksum";
+    prints(&rt, alloc, &SegwitHrpstringError::NoData, message);
+    let message = "encoded length 91 exceeds spec limit 90 chars";
+    prints(&rt, alloc, &SegwitHrpstringError::TooLong(91), message);
+    let message = "invalid segwit witness version: 17 (bech32 character: '3')";
+    let version = SegwitHrpstringError::InvalidWitnessVersion(Fe32::_3);
+    prints(&rt, alloc, &version, message);
+    prints(&rt, alloc, &SegwitHrpstringError::Memory, "out of memory");
+    let message =
+        "invalid padding on the witness data: the data payload has too many bits of padding";
+    prints::<SegwitHrpstringError>(&rt, alloc, &PaddingError::TooMuch.into(), message);
+    let message =
+        "invalid padding on the witness data: the data payload is padded with non-zero bits";
+    prints::<SegwitHrpstringError>(&rt, alloc, &PaddingError::NonZero.into(), message);
+    let message = "invalid witness length: witness program is less than 2 bytes long";
+    prints::<SegwitHrpstringError>(&rt, alloc, &WitnessLengthError::TooShort.into(), message);
+    let message = "invalid checksum: the checksummed string is not a valid length";
+    prints::<SegwitHrpstringError>(&rt, alloc, &ChecksumError::InvalidLength.into(), message);
+    let length = SegwitHrpstringError::Checksum(ChecksumError::InvalidLength);
+    prints(&rt, alloc, &length, message);
+    tells_too_long(&rt, alloc);
+}
+
+// Fails where the refusal of a text is told otherwise.
+fn tells_refusal(rt: &impl Abort, alloc: Global, text: &str, message: &str) {
+    let error = CheckedHrpstring::new::<Bech32>(text).err();
+    prints(rt, alloc, &error.expect(rt, "it is refused"), message);
 }
 
 #[test]
 fn tells_why_a_text_is_not_accepted(rt: HostRuntime) {
-    for row in [
-        (
-            "a1b",
-            "parse failed: character error: invalid character (code=b)",
-        ),
-        (
-            "a1",
-            "invalid checksum: the checksummed string is not a valid length",
-        ),
-    ]
-    .iter()
-    {
-        let (text, message) = *row;
-        let error = CheckedHrpstring::new::<Bech32>(text).err();
-        let error = error.expect(&rt, "it is refused");
-        same(&rt, &shown(rt.alloc(), &error).as_str(), &message);
-    }
-}
-
-#[test]
-fn tells_which_rule_is_broken(rt: HostRuntime) {
     let alloc = rt.alloc();
+    let message = "parse failed: character error: invalid character (code=b)";
+    tells_refusal(&rt, alloc, "a1b", message);
+    let message = "invalid checksum: the checksummed string is not a valid length";
+    tells_refusal(&rt, alloc, "a1", message);
     let error = InvalidWitnessVersionError(Fe32::_3);
     let message = "invalid segwit witness version: 17 (bech32 character: '3')";
-    same(&rt, &shown(alloc, &error).as_str(), &message);
-    for row in [
-        (
-            WitnessLengthError::TooShort,
-            "witness program is less than 2 bytes long",
-        ),
-        (
-            WitnessLengthError::TooLong,
-            "witness program is more than 40 bytes long",
-        ),
-        (
-            WitnessLengthError::InvalidSegwitV0,
-            "the segwit v0 witness is not 20 or 32 bytes long",
-        ),
-    ]
-    .iter()
-    {
-        let (error, message) = *row;
-        same(&rt, &shown(alloc, &error).as_str(), &message);
-    }
+    prints(&rt, alloc, &error, message);
+    let message = "witness program is less than 2 bytes long";
+    prints(&rt, alloc, &WitnessLengthError::TooShort, message);
+    let message = "witness program is more than 40 bytes long";
+    prints(&rt, alloc, &WitnessLengthError::TooLong, message);
+    let message = "the segwit v0 witness is not 20 or 32 bytes long";
+    prints(&rt, alloc, &WitnessLengthError::InvalidSegwitV0, message);
 }

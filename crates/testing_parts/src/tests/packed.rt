@@ -31,13 +31,6 @@ const RISING: [u8; 25] = [
 ];
 
 #[test]
-fn first_value_is_highest(rt: HostRuntime) {
-    let row = u128::pack([1, 2, 3, 4].into_iter());
-    same(&rt, &row, &0b00001_00010_00011_00100);
-    shows(&rt, row, &[0, 1, 2, 3, 4]);
-}
-
-#[test]
 fn full_rows(rt: HostRuntime) {
     let widths = [u32::WIDTH, u64::WIDTH, u128::WIDTH, PackedNull::WIDTH];
     same_items(&rt, &widths, &[6, 12, 25, 0]);
@@ -49,8 +42,14 @@ fn full_rows(rt: HostRuntime) {
     same(&rt, &row, &PackedNull);
 }
 
+// The first value is the highest, and the sum of elements is the xor of their values.
 #[test]
 fn words_of_checksums(rt: HostRuntime) {
+    let row = u128::pack([1, 2, 3, 4].into_iter());
+    same(&rt, &row, &0b00001_00010_00011_00100);
+    shows(&rt, row, &[0, 1, 2, 3, 4]);
+    let row = u64::pack([1, 2, 31].into_iter()) ^ u64::pack([3, 2, 1].into_iter());
+    shows(&rt, row, &[0, 2, 0, 30]);
     shows(&rt, 0x3b6a57b2_u32, &[29, 22, 20, 21, 29, 18]);
     shows(&rt, 0xf5dee51989_u64, &[30, 23, 15, 14, 10, 6, 12, 9]);
     shows(
@@ -106,13 +105,6 @@ fn moves_up_in_u128(rt: HostRuntime) {
         row,
         &[0, 0, 27, 17, 8, 0, 25, 25, 25, 31, 27, 24, 16, 16, 1],
     );
-}
-
-// The sum of elements is the xor of their values.
-#[test]
-fn xor_adds(rt: HostRuntime) {
-    let row = u64::pack([1, 2, 31].into_iter()) ^ u64::pack([3, 2, 1].into_iter());
-    shows(&rt, row, &[0, 2, 0, 30]);
 }
 
 #[test]

@@ -33,45 +33,41 @@ fn refuses(rt: &impl Abort, text: &str, error: UncheckedHrpstringError) {
     same(rt, &(text, refusal), &(text, Some(error)));
 }
 
-// So many letters, with a text behind them.
+// `count` letters, with a text behind them.
 fn letters(rt: &impl Abort, alloc: Global, count: usize, behind: &str) -> String {
     let mut text = "a".repeat(alloc, count).expect(rt, "memory");
     text.push_str(behind).expect(rt, "memory");
     text
 }
 
+// Fails where a text is not refused for a character so.
+fn refuses_character(rt: &impl Abort, text: &str, error: CharError) {
+    refuses(rt, text, UncheckedHrpstringError::Char(error));
+}
+
+// Fails where a text is not refused for its human-readable part so.
+fn refuses_part(rt: &impl Abort, text: &str, error: hrp::Error) {
+    refuses(rt, text, UncheckedHrpstringError::Hrp(error));
+}
+
 #[test]
 fn refuses_characters_in_order(rt: HostRuntime) {
-    for row in [
-        ("abcdef", CharError::InvalidChar('b')),
-        ("qpzry", CharError::MissingSeparator),
-        ("Q1q", CharError::MixedCase),
-        ("a1B", CharError::InvalidChar('B')),
-        ("", CharError::MissingSeparator),
-        ("a1é", CharError::InvalidChar('é')),
-        ("aB1qqqqqq", CharError::MixedCase),
-        ("A1q", CharError::MixedCase),
-        ("a1qqqqqb", CharError::InvalidChar('b')),
-    ]
-    .iter()
-    {
-        let (text, error) = *row;
-        refuses(&rt, text, UncheckedHrpstringError::Char(error));
-    }
+    refuses_character(&rt, "abcdef", CharError::InvalidChar('b'));
+    refuses_character(&rt, "qpzry", CharError::MissingSeparator);
+    refuses_character(&rt, "Q1q", CharError::MixedCase);
+    refuses_character(&rt, "a1B", CharError::InvalidChar('B'));
+    refuses_character(&rt, "", CharError::MissingSeparator);
+    refuses_character(&rt, "a1é", CharError::InvalidChar('é'));
+    refuses_character(&rt, "aB1qqqqqq", CharError::MixedCase);
+    refuses_character(&rt, "A1q", CharError::MixedCase);
+    refuses_character(&rt, "a1qqqqqb", CharError::InvalidChar('b'));
+    refuses_part(&rt, "1qqqqqq", hrp::Error::Empty);
+    refuses_part(&rt, "1", hrp::Error::Empty);
+    refuses_part(&rt, "é1qqqqqq", hrp::Error::NonAsciiChar('é'));
+    refuses_part(&rt, "a 1q", hrp::Error::InvalidAsciiByte(0x20));
+    refuses_part(&rt, "a\x7f1q", hrp::Error::InvalidAsciiByte(0x7f));
     let long = letters(&rt, rt.alloc(), 84, "1");
-    for row in [
-        ("1qqqqqq", hrp::Error::Empty),
-        ("1", hrp::Error::Empty),
-        ("é1qqqqqq", hrp::Error::NonAsciiChar('é')),
-        ("a 1q", hrp::Error::InvalidAsciiByte(0x20)),
-        ("a\x7f1q", hrp::Error::InvalidAsciiByte(0x7f)),
-        (long.as_str(), hrp::Error::TooLong(84)),
-    ]
-    .iter()
-    {
-        let (text, error) = *row;
-        refuses(&rt, text, UncheckedHrpstringError::Hrp(error));
-    }
+    refuses_part(&rt, &long, hrp::Error::TooLong(84));
 }
 
 // Fails where the parts of a text are others.

@@ -79,7 +79,7 @@ impl Checksum for Degree8 {
     ghost lawful_law = { (λ h. h, λ h. h) };
 }
 
-/// The checksum of codex32 (BIP-93), of degree 13, in a `u128`, for texts of at most so many
+/// The checksum of codex32 (BIP-93), of degree 13, in a `u128`, for texts of at most this many
 /// characters.
 #[derive(Copy, Clone)]
 pub enum Degree13<const LONGEST: usize> {}

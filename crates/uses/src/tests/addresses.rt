@@ -2,8 +2,9 @@
 
 use crate::callers::in_lower_case;
 use crate::tests::compare::same;
-use bech32::{hrp, segwit};
-use std::test::Fail;
+use bech32::{Fe32, hrp, segwit};
+use std::alloc::Global;
+use std::process::Abort;
 
 // A program of BIP-173 with its addresses in the main network and in the test network.
 const WITNESS_PROG: [u8; 20] = [
@@ -17,53 +18,41 @@ const TEST: &str = "tb1qw508d6qejxtdg4y5r3zarvary0c5xw7kxpjzsx";
 
 const TAPROOT: &str = "bc1p4w46h2at4w46h2at4w46h2at4w46h2at5kreae";
 
-#[test]
-fn an_address_of_version_1(rt: HostRuntime) -> Result<(), Fail> {
-    let alloc = rt.alloc();
-    let taproot = segwit::encode_v1(alloc, hrp::BC, &[0xab; 20])?;
-    same(&rt, &taproot.as_str(), &TAPROOT);
-    Ok(())
+// Fails where there is no address, or another one.
+fn is_address(rt: &impl Abort, made: Result<String, segwit::EncodeError>, want: &str) {
+    same(rt, &made.expect(rt, "an address").as_str(), &want);
 }
 
 #[test]
-fn an_address_of_version_0(rt: HostRuntime) -> Result<(), Fail> {
-    let alloc = rt.alloc();
-    let test = segwit::encode_v0(alloc, hrp::TB, &WITNESS_PROG)?;
-    same(&rt, &test.as_str(), &TEST);
-    Ok(())
+fn addresses_of_each_version(rt: HostRuntime) {
+    let taproot = segwit::encode_v1(rt.alloc(), hrp::BC, &[0xab; 20]);
+    is_address(&rt, taproot, TAPROOT);
+    let test = segwit::encode_v0(rt.alloc(), hrp::TB, &WITNESS_PROG);
+    is_address(&rt, test, TEST);
+    let main = segwit::encode(rt.alloc(), hrp::BC, segwit::VERSION_0, &WITNESS_PROG);
+    is_address(&rt, main, MAIN);
 }
 
 #[test]
-fn an_address_of_any_version(rt: HostRuntime) -> Result<(), Fail> {
-    let alloc = rt.alloc();
-    let main = segwit::encode(alloc, hrp::BC, segwit::VERSION_0, &WITNESS_PROG)?;
-    same(&rt, &main.as_str(), &MAIN);
-    Ok(())
+fn an_address_in_lower_case(rt: HostRuntime) {
+    let again = in_lower_case(rt.alloc(), "BC1QW508D6QEJXTDG4Y5R3ZARVARY0C5XW7KV8F3T4");
+    same(&rt, &again.expect(&rt, "an address").as_str(), &MAIN);
+}
+
+// Fails where an address is not of the main network, of this version and 32 bytes.
+fn has_parts(rt: &impl Abort, alloc: Global, address: &str, version: Fe32) {
+    let (hrp, witness_version, witness_program) = segwit::decode(alloc, address).expect(
+        rt,
+        "an address",
+    );
+    let found = (hrp, witness_version, witness_program.len());
+    same(rt, &found, &(hrp::BC, version, 32));
 }
 
 #[test]
-fn an_address_in_lower_case(rt: HostRuntime) -> Result<(), Fail> {
-    let again = in_lower_case(rt.alloc(), "BC1QW508D6QEJXTDG4Y5R3ZARVARY0C5XW7KV8F3T4")?;
-    same(&rt, &again.as_str(), &MAIN);
-    Ok(())
-}
-
-#[test]
-fn parts_of_addresses(rt: HostRuntime) -> Result<(), Fail> {
-    let alloc = rt.alloc();
-    for (address, version) in [
-        (
-            "bc1q2s3rjwvam9dt2ftt4sqxqjf3twav0gdx0k0q2etxflx38c3x8tnssdmnjq",
-            segwit::VERSION_0,
-        ),
-        (
-            "bc1py3m7vwnghyne9gnvcjw82j7gqt2rafgdmlmwmqnn3hvcmdm09rjqcgrtxs",
-            segwit::VERSION_1,
-        ),
-    ] {
-        let (hrp, witness_version, witness_program) = segwit::decode(alloc, address)?;
-        let found = (hrp, witness_version, witness_program.len());
-        same(&rt, &found, &(hrp::BC, version, 32));
-    }
-    Ok(())
+fn parts_of_addresses(rt: HostRuntime) {
+    let version_0 = "bc1q2s3rjwvam9dt2ftt4sqxqjf3twav0gdx0k0q2etxflx38c3x8tnssdmnjq";
+    has_parts(&rt, rt.alloc(), version_0, segwit::VERSION_0);
+    let version_1 = "bc1py3m7vwnghyne9gnvcjw82j7gqt2rafgdmlmwmqnn3hvcmdm09rjqcgrtxs";
+    has_parts(&rt, rt.alloc(), version_1, segwit::VERSION_1);
 }

@@ -1,11 +1,15 @@
 //! A checksum of one's own, with the calls for any checksum.
 
 use crate::tests::compare::{same, same_text};
-use crate::tests::long_codex32::LongCodex32;
 use bech32::primitives::decode::CheckedHrpstring;
 use bech32::{Checksum, Fe32IterExt};
+use blech32::Blech32;
+use codex32::LongCodex32;
 use std::alloc::{AllocError, Global};
-use std::test::Fail;
+
+// A confidential address of Liquid, of witness version 0.
+const ADDRESS: &str =
+    "lq1qqf8er278e6nyvuwtgf39e6ewvdcnjupn9a86rzpx655y5lhkt0walu3djf9cklkxd3ryld97hu8h3xepw7sh2rlu7q45dcew5";
 
 // A long codex32 string of BIP-93, in lower case.
 const LONG: &str =
@@ -14,18 +18,21 @@ const LONG: &str =
 // The characters that a text of this checksum is written with once more.
 fn written_again(alloc: Global, checked: &CheckedHrpstring) -> Result<Vec<char>, AllocError> {
     let hrp = checked.hrp();
-    let chars = checked
-        .fe32_iter()
-        .with_checksum::<LongCodex32>(&hrp)
-        .chars();
+    let chars = checked.fe32_iter().with_checksum::<Blech32>(&hrp).chars();
     chars.collect(alloc)
 }
 
 #[test]
-fn long_codex32_strings(rt: HostRuntime) -> Result<(), Fail> {
+fn addresses_of_liquid(rt: HostRuntime) {
+    same(&rt, &Blech32::sanity_check(), &true);
+    let checked = CheckedHrpstring::new::<Blech32>(ADDRESS).expect(&rt, "an address");
+    let text = written_again(rt.alloc(), &checked).expect(&rt, "memory");
+    same_text(&rt, rt.alloc(), &text, ADDRESS);
+}
+
+#[test]
+fn long_codex32_strings(rt: HostRuntime) {
     same(&rt, &LongCodex32::sanity_check(), &true);
-    let checked = CheckedHrpstring::new::<LongCodex32>(LONG)?;
-    let text = written_again(rt.alloc(), &checked)?;
-    same_text(&rt, rt.alloc(), &text, LONG);
-    Ok(())
+    let checked = CheckedHrpstring::new::<LongCodex32>(LONG).expect(&rt, "a long string");
+    same(&rt, &checked.hrp().as_str(), &"ms");
 }

@@ -1,13 +1,12 @@
 ghost use Rattle.std.specs.Prelude.{◌<◌};
 
-use crate::tests::compare::same;
+use crate::tests::compare::{prints, same};
 use b32_replies::error::RunError;
 use b32_replies::run::run;
 use std::alloc::Global;
 use std::cell::Cell;
 use std::io;
 use std::process::Abort;
-use testing_tools::compare::shown;
 use testing_tools::writers::Narrow;
 
 // Gives `left`, `step` bytes a call, and fails in place of the byte at `room`.
@@ -76,24 +75,13 @@ fn empty_input(rt: HostRuntime) {
 
 #[test]
 fn ends_are_printed(rt: HostRuntime) {
-    for (error, want) in [
-        (RunError::Read, "b32: reading failed"),
-        (RunError::Write, "b32: writing failed"),
-        (RunError::Memory, "b32: no memory"),
-    ] {
-        same(&rt, &shown(rt.alloc(), &error).as_str(), &want);
-    }
-}
-
-#[test]
-fn ends_of_any_program_are_printed(rt: HostRuntime) {
-    for (error, want) in [
-        (line_program::RunError::Read, "reading failed"),
-        (line_program::RunError::Write, "writing failed"),
-        (line_program::RunError::Memory, "out of memory"),
-    ] {
-        same(&rt, &shown(rt.alloc(), &error).as_str(), &want);
-    }
+    let alloc = rt.alloc();
+    prints(&rt, alloc, &RunError::Read, "b32: reading failed");
+    prints(&rt, alloc, &RunError::Write, "b32: writing failed");
+    prints(&rt, alloc, &RunError::Memory, "b32: no memory");
+    prints(&rt, alloc, &line_program::RunError::Read, "reading failed");
+    prints(&rt, alloc, &line_program::RunError::Write, "writing failed");
+    prints(&rt, alloc, &line_program::RunError::Memory, "out of memory");
 }
 
 // What a run over the input is to answer and to write where the read of the byte at `room` fails.
@@ -134,7 +122,7 @@ fn after_writing(room: usize) -> Result<(), RunError> {
     }
 }
 
-// Fails where it does not, or writes other than the first so many bytes.
+// Fails where it does not, or writes other bytes than the first, this many.
 fn writes(rt: &impl Abort, alloc: Global, room: usize) {
     let mut reader = INPUT;
     let mut writer = Narrow {

@@ -1,5 +1,5 @@
 use Rattle.std.proofs.Common.{◌≡◌, ◌∙◌, length}
-use Rattle.codex32_strings.specs.Share.{bytes_of_share}
+use Rattle.codex32.specs.Share.{bytes_of_share}
 use Rattle.uses.proofs.Recovered.{taken_front}
 use Rattle.uses.proofs.callers.bytes_of.Goals as goal
 

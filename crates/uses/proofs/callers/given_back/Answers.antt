@@ -1,7 +1,7 @@
 use Rattle.std.proofs.Common.{◌≡◌, ◌∙◌, ◌*◌, arith, List, Vec, Global, ℕ, drop, string_bytes, subst, sym, take, ap, zero-mul}
 use Rattle.std.proofs.lemmas.List.{take-take}
-use Rattle.codex32_strings.specs.Share.{IsShareOf}
-use Rattle.codex32_strings.specs.Split.{text_at}
+use Rattle.codex32.specs.Share.{IsShareOf}
+use Rattle.codex32.specs.Split.{text_at}
 use Rattle.uses.proofs.Recovered.{bytes-given, given_bytes}
 use Rattle.uses.proofs.callers.given_back.Goals as goal
 

@@ -1,7 +1,7 @@
 use Rattle.std.proofs.Common.{◌≡◌, List, ℕ, string_bytes, subst, sym}
-use Rattle.codex32_strings.specs.Encode.{IsEncodedString}
-use Rattle.codex32_strings.specs.Header.{identifier_of_header, threshold_of_header}
-use Rattle.codex32_strings.specs.Share.{IsShareString}
+use Rattle.codex32.specs.Encode.{IsEncodedString}
+use Rattle.codex32.specs.Header.{identifier_of_header, threshold_of_header}
+use Rattle.codex32.specs.Share.{IsShareString}
 use Rattle.uses.proofs.Recovered.{same_text}
 use Rattle.uses.proofs.callers.recovered.Goals as goal
 

@@ -1,4 +1,4 @@
-use Rattle.codex32_strings.specs.laws.RootLaws.{codex32_roots}
+use Rattle.codex32.specs.laws.RootLaws.{codex32_roots}
 use Rattle.testing_codex32.proofs.tests.checksum.codex32_is_sane.Goals as goal
 
 pub returns : goal.returns
