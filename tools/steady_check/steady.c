@@ -2,16 +2,15 @@
  * Calls codex32 with secrets of which memcheck is told that no bit is known: under valgrind, each branch and each address
  * that depends on one is reported.
  *
- *     steady           the calls on secrets, of strings and of texts with a fault in them
- *     steady others    what is not steady: proposals
+ *     steady    the calls on secrets, of strings and of texts with a fault in them
  *
  * It prints a line for each part. The status is 1 where a call has another answer than is expected, 2 where there was a
  * report.
  *
- * What may be told is told by six functions of the library, which valgrind calls through those that TELLS and TELLS_PLACE
- * make here: what they return is known from there on, and of a place the character that stands there. The library has no
- * word of that in it, and any other way from a secret to a branch is reported. A call without reports takes the same way for
- * all secrets of its form, so that one secret of each will do.
+ * What may be told is told by ten functions of the library, which valgrind calls through those that TELLS, TELLS_PLACE and
+ * TELLS_RESIDUE make here: what they return is known from there on, of a place the character that stands there, and of the
+ * error residue all that they put. The library has no word of that in it, and any other way from a secret to a branch is
+ * reported. A call without reports takes the same way for all secrets of its form, so that one secret of each will do.
  */
 #include "codex32.h"
 #include "texts.h"
@@ -27,7 +26,7 @@ static int is_wrong;
 
 /* ---- what is told */
 
-static unsigned long told[6];
+static unsigned long told[10];
 
 /* The texts of the call under way. */
 static const char *given;
@@ -66,6 +65,19 @@ static const char *tell_place(int at, unsigned long answer, unsigned long a, uns
     printf("%s: a place is told that is in no text\n", part);
     is_wrong = 1;
     return NULL;
+}
+
+/* The error residue. It stands where the first argument says, or the second one: in the C file another argument may stand
+ * before it, and else the second says where the error is, whose first row says the same. */
+static void tell_residue(int at, unsigned long answer, unsigned long a, unsigned long b)
+{
+    enum { RESIDUE = 25, LEAST_ADDRESS = 1 << 16 };
+    (void)answer;
+    told[at]++;
+    if (a >= LEAST_ADDRESS)
+        show((const void *)a, RESIDUE);
+    if (b >= LEAST_ADDRESS)
+        show((const void *)b, RESIDUE);
 }
 
 /* The character that ends at a place. */
@@ -107,6 +119,7 @@ static void tell_start(int at, unsigned long answer, unsigned long a, unsigned l
     }
 #define TELLS(at, name, c_name) TELLS_BY(name, at, tell) TELLS_BY(c_name, at, tell)
 #define TELLS_PLACE(at, name, c_name, tells) TELLS_BY(name, at, tells) TELLS_BY(c_name, at, tells)
+#define TELLS_RESIDUE(at, name, c_name) TELLS_BY(name, at, tell_residue) TELLS_BY(c_name, at, tell_residue)
 
 /* whether all characters are of the alphabet; whether letters of both cases stand among them */
 TELLS(0, codex32ZusteadyZcZcareZuofZualphabet, are_of_alphabetZa)
@@ -118,6 +131,12 @@ TELLS(3, codex32ZusharesZcZcagreementZcZcareZuelementsZuof, are_elements_ofZa)
 /* where the last character ends that is not of the alphabet; where the first begins that is not from 33 to 126 */
 TELLS_PLACE(4, codex32ZusteadyZcZcdataZustart, dataZustartZa, tell_end)
 TELLS_PLACE(5, codex32ZusteadyZcZcgraphicZucount, graphicZucountZa, tell_start)
+/* of a damaged text, of each character: whether it is `1`, `?`, or may stand in a data part as it is read */
+TELLS(6, codex32ZcZcdamagedZcZcisZuseparator, isZuseparatorZa)
+TELLS(7, codex32ZcZcunreadableZcZcisZuunreadable, isZuunreadableZa)
+TELLS(8, codex32ZcZcdamagedZcZcisZudataZucharacter, isZudataZucharacterZa)
+/* and to what finds its errors, by how much the checksum is wrong */
+TELLS_RESIDUE(9, codex32ZusteadyZutextsZcZcresidueZcZcputZuerrorZuresidue, putZuerrorZuresidueZa)
 
 /* ---- secrets */
 
@@ -185,6 +204,21 @@ static void parse(const char *text, size_t size, uint32_t expected)
     give(copy, size, 1);
     uint32_t number = codex32_parse((const uint8_t *)copy, size, &threshold, &share_index, &count);
     expect(number, expected, "codex32_parse", size);
+}
+
+/* The nearest text to a damaged one. */
+static void propose(const char *text, size_t size, uint32_t expected)
+{
+    static uint8_t room[MEMORY];
+    char copy[2 * LONGEST];
+    uint8_t proposed[LONGEST];
+    size_t count;
+    codex32_memory memory = {room, sizeof room};
+    memcpy(copy, text, size);
+    give(copy, size, 1);
+    uint32_t number = (size <= CODEX32_MAX_TEXT ? codex32_propose : codex32_propose_long)((const uint8_t *)copy, size, &memory,
+                                                                                       proposed, sizeof proposed, &count);
+    expect(number, expected, "a proposal", size);
 }
 
 static void encode(size_t count, unsigned threshold, char share_index, size_t room, uint32_t expected)
@@ -510,6 +544,8 @@ static void read_faulty(const char *text, size_t size, uint32_t refused)
     Set set;
     read_share(text, size, MOST_BYTES, refused);
     parse(text, size, refused == CODEX32_NOT_MS && size > CODEX32_MAX_TEXT ? CODEX32_BAD_LENGTH : refused);
+    if (memchr(text, '?', size) == NULL)
+        propose(text, size, refused);
     if (!is_size(size))
         return;
     put_set(&set, size, 2);
@@ -612,26 +648,33 @@ static void wrong_lengths(void)
     }
 }
 
-/* ---- what is not steady */
+/* ---- damaged texts */
 
-/* The nearest text to one with some wrong characters, and one that cannot be read. */
+/* A string with some wrong characters and some that cannot be read, in both cases. */
+static void propose_damaged(size_t size, size_t wrong, size_t unreadable)
+{
+    char text[LONGEST];
+    put_string(text, size, 2, 'a');
+    for (size_t i = 0; i < wrong; i++)
+        text[HEADER + 5 * i] = text[HEADER + 5 * i] == 'q' ? 'p' : 'q';
+    for (size_t i = 0; i < unreadable; i++)
+        text[size - 1 - 3 * i] = '?';
+    uint32_t expected = 2 * wrong + unreadable > 8 ? CODEX32_NO_NEAREST : CODEX32_OK;
+    propose(text, size, expected);
+    raise_case(text, size);
+    propose(text, size, expected);
+}
+
+/* Of each length, with as many as are mended, fewer, and more. */
 static void proposals(void)
 {
-    static uint8_t room[MEMORY];
-    for (size_t size = SHORTEST; size <= LONGEST; size += LONGEST - SHORTEST) {
-        for (size_t wrong = 0; wrong <= 3; wrong++) {
-            char text[LONGEST];
-            uint8_t proposed[LONGEST];
-            size_t count;
-            codex32_memory memory = {room, sizeof room};
-            put_string(text, size, 2, 'a');
-            for (size_t i = 0; i < wrong; i++)
-                text[HEADER + 5 * i] = text[HEADER + 5 * i] == 'q' ? 'p' : 'q';
-            hide_string(text, size);
-            uint32_t number = (size <= CODEX32_MAX_TEXT ? codex32_propose : codex32_propose_long)(
-                (const uint8_t *)text, size, &memory, proposed, sizeof proposed, &count);
-            expect(number, CODEX32_OK, "a proposal", size);
+    for EACH_SIZE(size) {
+        for (size_t wrong = 0; wrong <= 4; wrong++) {
+            propose_damaged(size, wrong, 0);
+            propose_damaged(size, wrong, 8 - 2 * wrong);
+            propose_damaged(size, 0, 7 + wrong);
         }
+        propose_damaged(size, 5, 0);
     }
 }
 
@@ -642,7 +685,7 @@ typedef struct {
     void (*run)(void);
 } Part;
 
-static const Part steady[] = {
+static const Part parts[] = {
     {"strings", strings},
     {"encodings", encodings},
     {"derivations", derivations},
@@ -653,27 +696,23 @@ static const Part steady[] = {
     {"refusals", refusals},
     {"faulty texts", faulty_texts},
     {"wrong lengths", wrong_lengths},
-    {NULL, NULL},
-};
-
-static const Part others[] = {
     {"proposals", proposals},
     {NULL, NULL},
 };
 
-/* Where one of the six is in line, or has another name, what it tells is reported. */
+/* Where one of the ten is in line, or has another name, what it tells is reported. */
 static void show_told(void)
 {
-    static const char *names[] = {"are_of_alphabet", "has_both_cases",  "is_target",
-                                  "are_elements_of", "data_start",      "graphic_count"};
-    for (int i = 0; i < 6; i++)
+    static const char *names[] = {"are_of_alphabet", "has_both_cases", "is_target",         "are_elements_of",  "data_start",
+                                  "graphic_count",   "is_separator",   "is_unreadable",     "is_data_character",
+                                  "put_error_residue"};
+    for (int i = 0; i < 10; i++)
         printf("told %lu times by %s\n", told[i], names[i]);
 }
 
-int main(int words, char **word)
+int main(void)
 {
-    const Part *it = words > 1 && strcmp(word[1], "others") == 0 ? others : steady;
-    for (; it->name; it++, calls = 0) {
+    for (const Part *it = parts; it->name; it++, calls = 0) {
         unsigned long before = VALGRIND_COUNT_ERRORS;
         part = it->name;
         it->run();
