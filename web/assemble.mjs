@@ -1,13 +1,17 @@
-// Makes the pages and the JavaScript package of modules that are built: node assemble.mjs MODULES OUT
+// Makes the pages and the JavaScript package of modules that are built: node assemble.mjs [OUT [MODULES]]
 //
-// MODULES has bech32_c.wasm, codex32_c.wasm, and both as NAME.lowered.wasm. OUT gets index.html, share.html and package/.
+// MODULES has bech32_c.wasm, codex32_c.wasm, and both as NAME.lowered.wasm: where it is not named, it is web/out if web/build
+// has built them there, else dist/. OUT, or web/out, gets index.html, share.html and package/. `npm install ./web` runs this.
 // Wants Node 20 or later, and nothing else.
 import fs from 'node:fs';
 import path from 'node:path';
 import { createHash } from 'node:crypto';
 
 const HERE = import.meta.dirname ?? path.dirname(new URL(import.meta.url).pathname);
-const [modules, out] = process.argv.slice(2);
+const MODULES = ['bech32_c', 'codex32_c'].flatMap((name) => [`${name}.wasm`, `${name}.lowered.wasm`]);
+const BUILT = path.join(HERE, 'out');
+const isBuilt = MODULES.every((name) => fs.existsSync(path.join(BUILT, name)));
+const [out = BUILT, modules = isBuilt ? BUILT : path.join(HERE, '..', 'dist')] = process.argv.slice(2);
 
 const read = (...names) => fs.readFileSync(path.join(HERE, ...names), 'utf8');
 const sha256 = (data, form) => createHash('sha256').update(data).digest(form);
@@ -85,8 +89,16 @@ const page = ({ template, styles, scripts }, version) => {
 
 // ---- the package
 
+// The file of this folder, which names what stands in out/package, as it is in there.
+const manifest = () => {
+  const text = read('package.json');
+  const own = text.replaceAll('"./out/package/', '"./').replace('["out/package"]', '["*.js", "index.d.ts"]').replace(/^ *"scripts": .*\n/m, '');
+  if (/out\/package|"scripts"/.test(own)) throw new Error('package.json has another form');
+  return own;
+};
+
 const packageFiles = () => {
-  const files = { 'modules.js': modulesSource(), 'package.json': read('package.json'), 'README.md': read('README.md') };
+  const files = { 'modules.js': modulesSource(), 'package.json': manifest(), 'README.md': read('README.md') };
   for (const name of ['index.js', 'index.d.ts', 'library.js', 'calls.js', 'lists.js', 'instance.js', 'reasons.js']) {
     files[name] = read('src', name);
   }

@@ -1,10 +1,11 @@
 //! Gives cargo the libraries `bech32_c`, and by the feature `codex32` also `codex32_c`.
 //!
 //! For Linux on x86-64 the first is `libbech32_c.a`, in the folder that BECH32_C_FOLDER names, else in the folder `lib` of
-//! this package, else where the toolchain builds it in the repository. For every other target, and where BECH32_C_SOURCE
-//! names one, it is compiled of `bech32.c` by a C compiler: the file that the variable names, or that of the folder `c` of
-//! this package. The compiler is the one that CC_TARGET, TARGET_CC or CC names, else `cc`, or `cl` for MSVC. The tests read
-//! the header, `bech32.h`, in the folder `include`. The second has the same names with CODEX32 and codex32 in them.
+//! this package, else where the toolchain builds it in the repository. For every other target, where none of these is
+//! there, and where BECH32_C_SOURCE names one, it is compiled of `bech32.c` by a C compiler: the file that the variable
+//! names, or that of the folder `c` of this package, or that of `dist` in the repository. The compiler is the one that
+//! CC_TARGET, TARGET_CC or CC names, else `cc`, or `cl` for MSVC. The tests read the header, `bech32.h`, in the folder
+//! `include`. The second has the same names with CODEX32 and codex32 in them.
 
 use std::env;
 use std::fs;
@@ -111,51 +112,55 @@ fn compiled(name: &str, source: &Path, header: &Path) -> PathBuf {
     out
 }
 
-// Where the C file of a library is looked for, if not the archive.
+// The C file of a library.
 fn source_of(name: &str, top: &Path) -> PathBuf {
     let variable = format!("{}_C_SOURCE", name.to_uppercase());
-    let source = named(&variable).map_or_else(|| top.join(format!("c/{name}.c")), PathBuf::from);
+    let source = named(&variable).map_or_else(
+        || either(top, &format!("c/{name}.c"), &format!("../../dist/{name}.c")),
+        PathBuf::from,
+    );
     println!("cargo:rerun-if-changed={}", source.display());
     if !source.is_file() {
         stop(&[
             &format!("{} is not there.", source.display()),
-            &format!(
-                "For this target the library is compiled of {name}.c, which portable/build writes:"
-            ),
+            &format!("The library is compiled of {name}.c, which is in dist/ of the repository:"),
             &format!("name that file by the environment variable {variable}."),
         ]);
     }
     source
 }
 
-// The folder that has the archive of a library.
-fn folder_of(name: &str, top: &Path) -> PathBuf {
+// The folder that has the archive of a library, if there is one. One that is named has to have it.
+fn folder_of(name: &str, top: &Path) -> Option<PathBuf> {
     let file = format!("lib{name}_c.a");
     let variable = format!("{}_C_FOLDER", name.to_uppercase());
-    let library = named(&variable).map_or_else(
+    let folder = named(&variable);
+    let library = folder.as_ref().map_or_else(
         || {
             let built = format!("../../crates/{name}_c/out/{file}");
             either(top, &format!("lib/{file}"), &built)
         },
-        |folder| Path::new(&folder).join(&file),
+        |folder| Path::new(folder).join(&file),
     );
-    println!("cargo:rerun-if-changed={}", library.display());
-    if !library.is_file() {
+    if library.is_file() {
+        println!("cargo:rerun-if-changed={}", library.display());
+        return library.parent().map(Path::to_path_buf);
+    }
+    // Where the toolchain may put it later. A missing file would make cargo build each time.
+    let below = top.join(format!("../../crates/{name}_c"));
+    if below.is_dir() {
+        println!("cargo:rerun-if-changed={}", below.display());
+    }
+    if folder.is_some() {
         stop(&[
-            &format!("{} is not there.", library.display()),
+            &format!("{} is not there, where {variable} says.", library.display()),
             &format!(
-                "Run `rt lib` in crates/{name}_c, which proves and builds it, with the toolchain. Without it"
+                "`rt lib` in crates/{name}_c proves and builds it, with the toolchain. Without the variable the"
             ),
-            &format!(
-                "set the environment variable {variable} to a folder that has a built {file},"
-            ),
-            &format!(
-                "or {} to the path of a {name}.c, as portable/build writes it.",
-                variable.replace("FOLDER", "SOURCE")
-            ),
+            &format!("library is compiled of {name}.c by a C compiler."),
         ]);
     }
-    library.parent().unwrap_or(Path::new(".")).to_path_buf()
+    None
 }
 
 // Gives cargo a library, and its header to the tests.
@@ -165,11 +170,12 @@ fn link(name: &str, top: &Path, has_archive: bool) {
     println!("cargo:rustc-env={upper}_HEADER={}", header.display());
     println!("cargo:rerun-if-changed={}", header.display());
     let is_named = named(&format!("{upper}_C_SOURCE")).is_some();
-    let folder = if is_named || !has_archive {
-        compiled(name, &source_of(name, top), &header)
+    let built = if is_named || !has_archive {
+        None
     } else {
         folder_of(name, top)
     };
+    let folder = built.unwrap_or_else(|| compiled(name, &source_of(name, top), &header));
     println!("cargo:rustc-link-search=native={}", folder.display());
     println!("cargo:rustc-link-lib=static={name}_c");
 }

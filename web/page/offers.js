@@ -14,6 +14,8 @@ import { tried } from './tried.js';
 /** The most unreadable characters that are found. */
 export const MOST_UNREAD = 3;
 
+const CHECKSUM_LENGTH = 6;
+
 // The most wrong characters that are looked for; a correction finds as many beside unreadable ones.
 const MOST_ERRORS = 2;
 const correctedErrors = ({ unread }) => Math.floor((MOST_UNREAD - unread.length) / 2);
@@ -36,9 +38,15 @@ export const errorsFor = (library, it) => {
 
 // ---- the offers
 
+// The parts of a text that a checksum accepts, as the library has them. It has listed the text, so it is not asked again.
+const acceptedParts = (text) => {
+  const separator = text.lastIndexOf('1');
+  return { hrp: text.slice(0, separator), data: text.slice(separator + 1, -CHECKSUM_LENGTH) };
+};
+
 // What is said of a text that the checksum of this name accepts, with this many changes.
-const acceptedOf = (library, text, [checksum, name], count) => {
-  const kind = kindOf(library, text, library.check(checksum, text), name), { isAddress, isBroken, known, said, facts } = kind;
+const acceptedOf = (library, text, [, name], count) => {
+  const kind = kindOf(library, text, acceptedParts(text), name), { isAddress, isBroken, known, said, facts } = kind;
   const right = isAddress ? [MENDED.address(count, name)] : [MENDED.text(count, name), VALID.is(known.what)];
   const isSecret = known.isSecret ?? false, size = text.length - text.lastIndexOf('1') - 1;
   const isSound = !isBroken && (known.sizes?.includes(size) ?? true);
@@ -62,11 +70,10 @@ const offersBy = (library, mend, it, before, begun) =>
 const isSound = (offer) => offer.isSound;
 const corrected = (library) => (...given) => [library.correct(...given)].filter(Boolean);
 
-// The correction; where there is none, or it is none of its kind, all texts with few wrong characters.
+// All texts with few wrong characters, the correction among them.
 const ownOffers = (library, it) => {
   if (!it.known || it.unread.length > MOST_UNREAD) return [];
-  const found = offersBy(library, corrected(library), it, it.characters, null), errors = errorsFor(library, it);
-  if (found.some(isSound) || errors <= correctedErrors(it)) return found;
+  const errors = Math.max(errorsFor(library, it), correctedErrors(it));
   return offersBy(library, (...given) => library.nearest(...given, errors), it, it.characters, null);
 };
 

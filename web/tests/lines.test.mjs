@@ -181,10 +181,12 @@ const rowOf = ({ text, edit: { kind, place, characters } }, given) =>
   `${inLowerCase(given, text)},${MARKS[kind]}${given.length - place - (kind === 'putIn' ? 0 : characters.length)}:${characters.toLowerCase()}`;
 
 test('the texts that one edit makes are those of the stored rows', (t) => {
-  // These rows are the last ones, with a line of reply each.
   const text = (line) => line.toString('latin1');
   const rows = linesOf('crates/vector_rows/stdin').map(text).filter((line) => line.startsWith('edits|')).map((line) => line.split('|'));
-  const replies = linesOf('crates/vector_rows/stdout').map(text).slice(-rows.length);
+  // These rows have a line of reply each. Behind them stand those of a block, and what it prints.
+  const printed = linesOf('crates/vector_rows/stdout').map(text);
+  const end = printed.findLastIndex((line) => line.startsWith('// Code block'));
+  const replies = printed.slice(end - rows.length, end);
   rows.forEach(([, name, given], i) => {
     const checksum = name.toLowerCase(), found = nearEdits(checksum, given);
     found.forEach((it) => check(checksum, it.text));

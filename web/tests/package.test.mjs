@@ -118,7 +118,7 @@ test('the codes are those of the headers', () => {
 });
 
 test('putting it together twice gives the same bytes', () => inFolder((folder) => {
-  execFileSync(process.execPath, [path.join(WEB, 'assemble.mjs'), path.join(WEB, 'out'), folder]);
+  execFileSync(process.execPath, [path.join(WEB, 'assemble.mjs'), folder]);
   for (const file of ['index.html', ...fs.readdirSync(PACKAGE).map((it) => path.join('package', it))]) {
     assert.ok(fs.readFileSync(path.join(folder, file)).equals(fs.readFileSync(path.join(WEB, 'out', file))), file);
   }

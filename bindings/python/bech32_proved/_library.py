@@ -50,8 +50,8 @@ def _library(name: str) -> ctypes.CDLL:
     file = _FOLDER / name
     if not file.is_file():
         raise ImportError(
-            f"{name} is not in {_FOLDER}. A folder of sources has no library: build the wheel with "
-            "bindings/python/build, install it with pip, and import bech32_proved from another folder."
+            f"{name} is not in {_FOLDER}. A folder of sources has no library: install the package by "
+            "`pip install ./bindings/python`, and import bech32_proved from another folder."
         )
     try:
         return ctypes.CDLL(str(file))

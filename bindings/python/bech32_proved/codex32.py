@@ -28,9 +28,9 @@ returned is one: nothing is then left of them but these, which are yours to wipe
     ...     it[:] = bytes(len(it))
 
 The buffers that a call makes for itself, and the stack that the library used, are wiped after it. The branches that
-the library takes, and the memory that it reads, do not depend on a secret, but in `propose` and `propose_long`, and
-where the place of a character at fault is looked for. That is tested in the machine code for Linux on x86-64, and not
-proved; nothing is said of what Python does.
+the library takes, and the memory that it reads, do not depend on a secret, but on errors and unreadable characters in
+`propose` and `propose_long`, and where the place of a character at fault is looked for. That is tested in the machine
+code for Linux on x86-64, and not proved; nothing is said of what Python does.
 """
 
 import ctypes

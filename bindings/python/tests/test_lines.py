@@ -149,10 +149,11 @@ class Lines(unittest.TestCase):
         self.assertGreater(self.compare("c32", c32), 2700)
 
     def test_edits(self):
-        # These rows are the last ones, with a line of reply each.
+        # These rows have a line of reply each. Behind them stand those of a block, and what it prints.
         lines = stored("vector_rows", "lines").read_text("ascii").split()
         wanted = [line.split("|")[1:] for line in lines if line.startswith("edits|")]
-        replies = stored("vector_rows", "replies").read_text("ascii").splitlines()[-len(wanted) :]
+        printed = stored("vector_rows", "replies").read_text("ascii").rpartition("// Code block")[0]
+        replies = printed.splitlines()[-len(wanted) :]
         for (name, text), reply in zip(wanted, replies):
             checksum = Checksum[name.upper()]
             found = near_edits(text, checksum)

@@ -792,7 +792,7 @@ class Package(unittest.TestCase):
             shutil.copytree(package, Path(folder) / "bech32_proved", ignore=shutil.ignore_patterns("*.so"))
             words = self.failure(folder)
             self.assertTrue(words.startswith("ImportError: libbech32_c.so is not in "), words)
-            self.assertIn("build the wheel with bindings/python/build", words)
+            self.assertIn("install the package by `pip install ./bindings/python`", words)
             # What is no library here.
             (Path(folder) / "bech32_proved/libbech32_c.so").write_bytes(b"none")
             words = self.failure(folder)

@@ -1,0 +1,197 @@
+/* The commands of mend: mistyped texts of Bech32 and Bech32m. */
+#include <stdlib.h>
+
+#include "bech32.h"
+#include "lines.h"
+
+/* No call is lent more. bech32.h says what a text can need: 860 megabytes at its longest. */
+#define MOST_MEMORY ((size_t)1 << 30)
+
+/* Memory that is lent, of which the first 15 bytes at most are left out, since it begins at a multiple of 16. */
+typedef struct {
+    uint8_t *block;
+    bech32_memory memory;
+} Lent;
+
+static int lend(Lent *lent, size_t size) {
+    uint8_t *block = malloc(size + 15u);
+    lent->block = block;
+    lent->memory.start = block == NULL ? NULL : block + (0u - (uintptr_t)block) % 16u;
+    lent->memory.size = size;
+    return block != NULL;
+}
+
+/* Memory that a function kept, whose size is then 0, stays its own. */
+static void take_back(Lent *lent) {
+    if (lent->memory.size != 0) {
+        free(lent->block);
+    }
+}
+
+/* A search: the text, and the rooms that it is tried in. */
+typedef struct {
+    uint32_t checksum;
+    Word text;
+    const size_t *erasures;
+    size_t erasures_length, errors;
+    /* Bytes to lend, and results that there is room for. */
+    size_t memory, room;
+    size_t count;
+    uint8_t *texts, *kinds;
+    size_t *locations;
+} Search;
+
+static uint32_t nearest_once(Search *it, bech32_memory *memory) {
+    it->texts = malloc(it->room * it->text.length);
+    if (it->texts == NULL) {
+        return OUT_OF_MEMORY;
+    }
+    return bech32_nearest(it->checksum, it->text.bytes, it->text.length, it->erasures,
+                          it->erasures_length, it->errors, memory, it->texts,
+                          it->room * it->text.length, &it->count);
+}
+
+static uint32_t edits_once(Search *it, bech32_memory *memory) {
+    size_t texts_room = it->room * (it->text.length + 1);
+    it->texts = malloc(texts_room);
+    it->kinds = malloc(it->room);
+    it->locations = malloc(it->room * sizeof *it->locations);
+    if (it->texts == NULL || it->kinds == NULL || it->locations == NULL) {
+        return OUT_OF_MEMORY;
+    }
+    return bech32_near_edits(it->checksum, it->text.bytes, it->text.length, memory, it->kinds,
+                             it->room, it->locations, it->room, it->texts, texts_room, &it->count);
+}
+
+static void drop_results(Search *it) {
+    free(it->texts);
+    free(it->kinds);
+    free(it->locations);
+    it->texts = it->kinds = NULL;
+    it->locations = NULL;
+}
+
+/* Searches, with more room where there are more results, and with more memory where it did not suffice. */
+static uint32_t search(Search *it, uint32_t (*once)(Search *, bech32_memory *)) {
+    for (;;) {
+        Lent lent;
+        uint32_t number = lend(&lent, it->memory) ? once(it, &lent.memory) : OUT_OF_MEMORY;
+        int is_spent = lent.block != NULL && number == BECH32_NO_MEMORY && it->memory < MOST_MEMORY;
+        take_back(&lent);
+        if (number == BECH32_NO_ROOM) {
+            it->room = it->count;
+        } else if (is_spent) {
+            it->memory *= 2;
+        } else {
+            return number;
+        }
+        drop_results(it);
+    }
+}
+
+/* The length of a text, by which memory is lent. A longer one is refused. */
+static size_t measure(Word text) {
+    return text.length < BECH32_MAX_TEXT ? text.length : BECH32_MAX_TEXT;
+}
+
+static uint32_t nearest(const Words *words, Out *out) {
+    size_t erasures[MOST_LOCATIONS];
+    Search it = {checksum_of(words->word[0]), words->word[1], erasures, 0, 0, 0, 0, 0, NULL, NULL, NULL};
+    if (it.checksum == 0) {
+        return NO_COMMAND;
+    }
+    if (words->count == 4 && !read_locations(words->word[2], erasures, &it.erasures_length)) {
+        return BAD_WORD;
+    }
+    if (!read_number(words->word[words->count - 1], BECH32_MAX_ERRORS, &it.errors)) {
+        return BAD_WORD;
+    }
+    it.memory = BECH32_NEAREST_FEW_MEMORY(measure(it.text));
+    it.room = BECH32_NEAREST_FEW_TEXTS(measure(it.text));
+    uint32_t number = search(&it, nearest_once);
+    if (number == BECH32_OK) {
+        put_text(out, "ok");
+        for (size_t i = 0; i < it.count; i++) {
+            put_text(out, " ");
+            put(out, it.texts + i * it.text.length, it.text.length);
+        }
+    }
+    drop_results(&it);
+    return number;
+}
+
+/* Each edit with its word, its location and the text that it makes. */
+static void put_edits(Out *out, const Search *it) {
+    static const char *const done[] = {"", " swapped ", " left-out ", " put-in "};
+    const uint8_t *text = it->texts;
+    for (size_t i = 0; i < it->count; i++) {
+        size_t length = it->text.length;
+        length += it->kinds[i] == BECH32_PUT_IN;
+        length -= it->kinds[i] == BECH32_LEFT_OUT;
+        put_text(out, done[it->kinds[i]]);
+        put_number(out, it->locations[i]);
+        put_text(out, " ");
+        put(out, text, length);
+        text += length;
+    }
+}
+
+static uint32_t edits(const Words *words, Out *out) {
+    Search it = {checksum_of(words->word[0]), words->word[1], NULL, 0, 0, 0, 0, 0, NULL, NULL, NULL};
+    if (it.checksum == 0) {
+        return NO_COMMAND;
+    }
+    it.memory = BECH32_NEAR_EDITS_MEMORY(measure(it.text));
+    it.room = BECH32_NEAR_EDITS;
+    uint32_t number = search(&it, edits_once);
+    if (number == BECH32_OK) {
+        put_text(out, "ok");
+        put_edits(out, &it);
+    }
+    drop_results(&it);
+    return number;
+}
+
+static uint32_t fault(const Words *words, Out *out) {
+    uint32_t checksum = checksum_of(words->word[0]);
+    Word text = words->word[1];
+    size_t place = 0;
+    if (checksum == 0) {
+        return NO_COMMAND;
+    }
+    uint32_t number = bech32_fault(checksum, text.bytes, text.length, &place);
+    if (number == BECH32_OK) {
+        put_text(out, "ok");
+        return FINE;
+    }
+    put_text(out, "err ");
+    put_number(out, number);
+    put_text(out, " ");
+    put_number(out, place);
+    return FINE;
+}
+
+/* Where neither checksum accepts the text, the refusal is that of Bech32m. */
+static uint32_t checksum(const Words *words, Out *out) {
+    Word text = words->word[0];
+    size_t hrp_length, data_length;
+    uint32_t number =
+        bech32_check(BECH32_BECH32M, text.bytes, text.length, &hrp_length, &data_length);
+    if (number == BECH32_OK) {
+        put_text(out, "ok bech32m");
+        return FINE;
+    }
+    if (bech32_check(BECH32_BECH32, text.bytes, text.length, &hrp_length, &data_length) == BECH32_OK) {
+        put_text(out, "ok bech32");
+        return FINE;
+    }
+    return number;
+}
+
+const Command mend_commands[] = {
+    {"nearest", 3, 4, nearest},
+    {"edits", 2, 2, edits},
+    {"fault", 2, 2, fault},
+    {"checksum", 1, 1, checksum},
+    {NULL, 0, 0, NULL},
+};
