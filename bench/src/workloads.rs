@@ -268,12 +268,25 @@ fn on_good_input() -> Vec<Operation> {
             mistyped(&short, &[0, 9, 30]),
             &[0, 9, 30],
         ),
+        correct(
+            "correct, one error beside an erasure in 41 characters",
+            mistyped(&short, &[9, 30]),
+            &[9],
+        ),
         on_bad_input(
             None,
             correct(
                 "correct, no pattern for 41 characters",
                 mistyped(&short, &[3, 9, 15, 30]),
                 &[],
+            ),
+        ),
+        on_bad_input(
+            None,
+            correct(
+                "correct, no pattern with an erasure for 41 characters",
+                mistyped(&short, &[3, 18, 23]),
+                &[23],
             ),
         ),
     ]
