@@ -1,0 +1,357 @@
+/*
+ * Bech32 (BIP-173) and Bech32m (BIP-350): texts and segwit addresses, written, read and mended.
+ *
+ * The library is proved: for every input each function does what is said here, ends, and reads and
+ * writes no memory but the caller's, within the lengths that are given. Where something is tested and
+ * not proved, this says so. The library takes no memory but what a caller lends to bech32_nearest and
+ * bech32_near_edits, keeps nothing between calls, and needs no start-up; it calls memcpy, memmove and
+ * memset alone. Any number of threads may call it.
+ *
+ * Each function returns BECH32_OK, or the number of a refusal (below). On a refusal it writes nothing:
+ * the buffers and the lengths stay as they were. The exceptions are the place of bech32_fault, lent
+ * memory, and what is said at bech32_nearest and bech32_near_edits. Otherwise the output stands at the
+ * front of the buffer, and the bytes behind it stay as they were. No output ends in a zero byte.
+ *
+ * All texts are written in lower case, those mended from text in upper case too. To give them back in
+ * upper case, change `a` to `z` into `A` to `Z`: the checksum accepts both.
+ *
+ * A buffer is a pointer and the number of bytes it has room for. A pointer beside a length or a room of
+ * 0 is not followed, and may be null; no other pointer may be. Nothing that a function writes to may
+ * overlap with anything else that it is given. These two rules, true lengths, and what is said of lent
+ * memory are all that a caller owes.
+ *
+ * Lengths are in bytes; in a text that is accepted or written these are characters. The C file of the
+ * library, if it tests each access (MACHINE_IS_TESTED), refuses a text, a human-readable part or
+ * elements of 2^32 bytes or more with BECH32_NO_MEMORY, before all else.
+ *
+ * This describes the version of the library that BECH32_VERSION names, which is that of the file
+ * VERSION and of the packages over it. The refusals are those of the Rust crate bech32 0.12.0, in its
+ * order.
+ */
+#ifndef BECH32_H
+#define BECH32_H
+
+#include <stddef.h>
+#include <stdint.h>
+
+#ifdef __cplusplus
+extern "C" {
+#endif
+
+/* The version of the library. */
+#define BECH32_VERSION "0.1.0"
+
+/* The same as a number: 10,000 times the first, 100 times the second, and the third. */
+#define BECH32_VERSION_NUMBER 100u
+
+/* Checksums. */
+#define BECH32_BECH32 1u  /* BIP-173 */
+#define BECH32_BECH32M 2u /* BIP-350 */
+
+/* The remainders of valid texts, as bech32_residue gives them. */
+#define BECH32_TARGET 1u
+#define BECH32M_TARGET 0x2bc830a3u
+
+/* Sizes of buffers that are always large enough. */
+#define BECH32_MAX_TEXT 1023u           /* a text */
+#define BECH32_MAX_HRP 83u              /* a human-readable part */
+#define BECH32_MAX_BYTES 634u           /* the bytes of a text */
+#define BECH32_MAX_SEGWIT_TEXT 90u      /* a segwit address */
+#define BECH32_MAX_SEGWIT_PROGRAM 40u   /* a witness program */
+#define BECH32_MAX_LISTED 3u            /* the locations of a correction */
+#define BECH32_MAX_MESSAGE 100u         /* the sentence of a refusal */
+
+/* The most errors that bech32_nearest looks for. */
+#define BECH32_MAX_ERRORS 2u
+
+/* What is done to a text (bech32_near_edits). */
+#define BECH32_SWAPPED 1u  /* the characters at location + 1 and location are swapped */
+#define BECH32_LEFT_OUT 2u /* the character at location is left out */
+#define BECH32_PUT_IN 3u   /* a character is put in, and then stands at location */
+
+/* Room for this many edits is usually enough in bech32_near_edits: it seldom finds more than two. */
+#define BECH32_NEAR_EDITS 8u
+
+/* Answers. */
+#define BECH32_OK 0u
+#define BECH32_NOT_UTF8 2u              /* a text or a human-readable part is not UTF-8 */
+#define BECH32_BAD_NUMBER 4u            /* the number of no checksum, an element above 31, or more than two
+                                           errors */
+#define BECH32_HRP_EMPTY 11u            /* the human-readable part is empty */
+#define BECH32_HRP_TOO_LONG 12u         /* the human-readable part has more than 83 bytes */
+#define BECH32_HRP_NOT_ASCII 13u        /* the human-readable part has a character that is not ASCII */
+#define BECH32_HRP_INVALID 14u          /* the human-readable part has a byte that is not from 33 to 126 */
+#define BECH32_HRP_MIXED_CASE 15u       /* the human-readable part has letters of both cases */
+#define BECH32_INVALID_CHARACTER 21u    /* a character behind the separator may not stand there */
+#define BECH32_MIXED_CASE 22u           /* the text has letters of both cases */
+#define BECH32_NO_SEPARATOR 23u         /* the text has no separator, `1` */
+#define BECH32_TEXT_TOO_LONG 31u        /* the text has more than 1023 characters */
+#define BECH32_NO_CHECKSUM 32u          /* fewer than six characters stand behind the separator */
+#define BECH32_WRONG_CHECKSUM 33u       /* the checksum is wrong */
+#define BECH32_NO_CORRECTION 34u        /* no correction of the data part mends the text */
+#define BECH32_ADDRESS_TOO_LONG 41u     /* the text has more than 90 characters */
+#define BECH32_NO_DATA 42u              /* the address has no witness version */
+#define BECH32_BAD_VERSION 43u          /* its witness version is above 16 */
+#define BECH32_PADDING_TOO_LONG 44u     /* more than four bits stand behind the program's bytes */
+#define BECH32_PADDING_NOT_ZERO 45u     /* the bits behind the program's bytes are not all zero */
+#define BECH32_PROGRAM_TOO_SHORT 46u    /* the program has less than 2 bytes */
+#define BECH32_PROGRAM_TOO_LONG 47u     /* the program has more than 40 bytes */
+#define BECH32_PROGRAM_NOT_V0 48u       /* in version 0 the program has neither 20 nor 32 bytes */
+#define BECH32_ENCODED_TOO_LONG 51u     /* the text would have more than 1023 characters */
+#define BECH32_ENCODED_BAD_VERSION 52u  /* the witness version is above 16 */
+#define BECH32_ENCODED_ADDRESS_TOO_LONG 53u /* the address would have more than 90 characters */
+#define BECH32_NO_MEMORY 91u            /* the lent memory did not suffice */
+#define BECH32_NO_ROOM 92u              /* a buffer is too small */
+
+/*
+ * Puts the sentence of a refusal into `message`: the one beside its number above, in English and ASCII,
+ * without a full stop. *message_length is its length, at most BECH32_MAX_MESSAGE, and 0 for BECH32_OK
+ * and for numbers that are not above.
+ *
+ * Refusals: 92.
+ */
+uint32_t bech32_message(uint32_t number, uint8_t *message, size_t message_room, size_t *message_length);
+
+/* The version of the library that is linked: BECH32_VERSION_NUMBER if it is that of this header. */
+uint32_t bech32_version(void);
+
+/*
+ * Encodes bytes under a human-readable part by a checksum (BECH32_BECH32 or BECH32_BECH32M). The
+ * text, in lower case, is put into `text`, and *text_length is its length: that of the human-readable
+ * part, 7, and 8 for each 5 bytes, rounded up.
+ *
+ * Refusals, the first that applies: 4, 2, 11 to 15, 51, 92.
+ */
+uint32_t bech32_encode(uint32_t checksum, const uint8_t *hrp, size_t hrp_length,
+                       const uint8_t *bytes, size_t bytes_length, uint8_t *text,
+                       size_t text_room, size_t *text_length);
+
+/*
+ * Decodes a text that Bech32m or Bech32 accepts. Its human-readable part, in the case of the text,
+ * is put into `hrp`, and its bytes into `bytes`; *hrp_length and *bytes_length are their lengths. Bits
+ * behind the last whole byte are dropped.
+ *
+ * Decode an address by bech32_segwit_decode, not by this. The first element of an address is its
+ * witness version, so this puts the program shifted by five bits. That looks like a hash, but it is not
+ * the program.
+ *
+ * Refusals, the first that applies: 2; 21, 22, 23, 11 to 15; 31, 32, 33; 92.
+ */
+uint32_t bech32_decode(const uint8_t *text, size_t text_length, uint8_t *hrp, size_t hrp_room,
+                       size_t *hrp_length, uint8_t *bytes, size_t bytes_room,
+                       size_t *bytes_length);
+
+/*
+ * Tests whether a checksum (BECH32_BECH32 or BECH32_BECH32M) accepts a text. *hrp_length is then the
+ * length of the human-readable part, which the text begins with, and *data_length that of the data
+ * part behind the separator, without the six characters of the checksum.
+ *
+ * Refusals, the first that applies: 4; 2; 21, 22, 23, 11 to 15; 31, 32, 33.
+ */
+uint32_t bech32_check(uint32_t checksum, const uint8_t *text, size_t text_length,
+                      size_t *hrp_length, size_t *data_length);
+
+/*
+ * Returns what bech32_check returns for a text, and says where the fault is.
+ *
+ * With four numbers one character is at fault, and *place, which is less than text_length, is where it
+ * begins, in bytes from 0:
+ *   13, 14    the first character that may not stand in a human-readable part;
+ *   21        the last character behind the separator that may not stand there (of the whole text, if it
+ *             has no separator);
+ *   22        the first letter with one of the other case before it.
+ * With the others no single character is at fault, and *place is a length. Show no place to people: with
+ * 23 and 31 to 33 it would be one behind the end of the text.
+ *   11, 12    the length of the human-readable part;
+ *   23, 31 to 33    the length of the text.
+ * With 0, 2 and 4 *place stays as it was. If bech32_decode or bech32_segwit_decode refuses a text with 11
+ * to 14 or 21 to 23, this returns the same number, by either checksum.
+ */
+uint32_t bech32_fault(uint32_t checksum, const uint8_t *text, size_t text_length, size_t *place);
+
+/*
+ * Encodes a segwit address of a witness version (0 to 16) and a program: version 0 by Bech32, the others
+ * by Bech32m. It is put into `text`, in lower case, and *text_length is its length.
+ *
+ * Refusals, the first that applies: 4 (a version above 31), 2, 11 to 15, 52, 46, 47, 48, 53, 92.
+ */
+uint32_t bech32_segwit_encode(const uint8_t *hrp, size_t hrp_length, uint32_t version,
+                              const uint8_t *program, size_t program_length, uint8_t *text,
+                              size_t text_room, size_t *text_length);
+
+/*
+ * Decodes a segwit address. Its human-readable part, in the case of the text, is put into `hrp`, and
+ * its program into `program`; *hrp_length and *program_length are their lengths, and *version is the
+ * witness version. Any human-readable part is accepted: compare it with that of your network.
+ *
+ * Refusals, the first that applies: 2; 41; 21, 22, 23, 11 to 15; 42, 43; 32, 33; 42, 44 to 48; 92.
+ */
+uint32_t bech32_segwit_decode(const uint8_t *text, size_t text_length, uint8_t *hrp,
+                              size_t hrp_room, size_t *hrp_length, uint32_t *version,
+                              uint8_t *program, size_t program_room, size_t *program_length);
+
+/*
+ * Feeds elements, a byte from 0 to 31 each, to the engine of a checksum (BECH32_BECH32 or
+ * BECH32_BECH32M). *residue is then the remainder of the polynomial 1 with the elements behind it,
+ * the first the highest: six coefficients, five bits each, the constant term lowest. For the elements of
+ * a valid text, with those of its human-readable part before them (the high three bits of each byte in
+ * lower case, a zero, the low five bits of each), it is BECH32_TARGET or BECH32M_TARGET.
+ *
+ * Refusals: 4.
+ */
+uint32_t bech32_residue(uint32_t checksum, const uint8_t *elements, size_t elements_length,
+                        uint32_t *residue);
+
+/*
+ * Mends a mistyped text by a checksum (BECH32_BECH32 or BECH32_BECH32M). `erasures` are the locations
+ * of characters that are known to be wrong; location 0 is the last character. If the checksum accepts
+ * the text, *count is 0. Else *count locations are put into `locations`, each erasure once and in the
+ * order given, then those of the other errors, and the elements to add there, from 0 to 31 each, into
+ * `values`: to add elements is to take the exclusive or of their five bits. The text with them added, in
+ * lower case, is put into `mended`; *mended_length is its length, which is text_length. locations_room
+ * and values_room are numbers of items: BECH32_MAX_LISTED are enough.
+ *
+ * It finds the correction of the data part in which twice the number of errors outside the erasures, plus
+ * the number of erasures, is at most three: there is at most one. It may not be what was meant: show it,
+ * and ask.
+ *
+ * Refusals, the first that applies: 4; 2; 21, 22, 23, 11 to 15; 31, 32; 34 (there is no such correction,
+ * or an erasure is not in the data part); 92.
+ */
+uint32_t bech32_correct(uint32_t checksum, const uint8_t *text, size_t text_length,
+                        const size_t *erasures, size_t erasures_length, size_t *locations,
+                        size_t locations_room, uint8_t *values, size_t values_room, size_t *count,
+                        uint8_t *mended, size_t mended_room, size_t *mended_length);
+
+/*
+ * Memory that a function may use: `size` bytes from `start` on, aligned to 16 bytes, in which the caller
+ * keeps nothing. With every number but 91 the memory is the caller's again afterwards, and this is
+ * unchanged. With 91 that is so too, or `size` was not 0 and the function keeps the memory and sets it
+ * to 0.
+ *
+ * Tested, and not proved: that no function ever keeps the memory, and that none returns 91 if as many
+ * bytes are lent as is stated below. tools/every-length lent and tools/nearest make calls at every length,
+ * each with exactly that many bytes; the tests lists_or_wants_memory and lists_edits_or_wants_memory of
+ * bech32_c, and proposes_or_wants_memory of codex32_c, lend fewer.
+ */
+typedef struct {
+    uint8_t *start;
+    size_t size;
+} bech32_memory;
+
+/*
+ * The most near texts that any text of a length has, and the bytes that suffice for it, whatever the
+ * checksum, the erasures and the errors: 460 texts and 423 kilobytes at 90 characters. These figures, and
+ * those of the next two comments, are computed and tested, not proved: tools/nearest_check/most.c computes
+ * the most texts at each length, and tools/nearest lists them in exactly this memory and room. Proved is
+ * that without erasures there is one text at most, or at most text_length / 2.
+ *
+ * From 135 characters on the figures are large, 860 megabytes at 1,023: beside three erasures that are 33
+ * locations apart, a text that is accepted with other characters there has that many near texts. Beside
+ * most other erasures it has text_length * text_length / 68. You may lend less, and call again with more
+ * if that does not suffice.
+ */
+#define BECH32_NEAREST_TEXTS(text_length)                             \
+    (64u + 3u * (text_length) + (text_length) * (text_length) / 64u + \
+     BECH32_NEAREST_APART(text_length))
+#define BECH32_NEAREST_MEMORY(text_length)                                      \
+    (24576u + 288u * (text_length) + 512u * BECH32_NEAREST_APART(text_length) + \
+     BECH32_NEAREST_TEXTS(text_length) * ((text_length) + 720u))
+#define BECH32_NEAREST_APART(text_length)                              \
+    ((text_length) < 135u ? 0u                                         \
+                          : 481u * (((text_length) - 3u) / 33u - 2u) * \
+                                (((text_length) - 3u) / 33u - 3u))
+
+/*
+ * The same for searches with few results, which are the ones to show to people: two errors with up to two
+ * erasures in up to 90 characters, two errors with one erasure in longer texts, one error with three.
+ */
+#define BECH32_NEAREST_FEW_TEXTS(text_length) (20u + ((text_length) > 90u ? (text_length) : 0u))
+#define BECH32_NEAREST_FEW_MEMORY(text_length) \
+    (24576u + 288u * (text_length) + BECH32_NEAREST_FEW_TEXTS(text_length) * ((text_length) + 720u))
+
+/* The same without erasures: one text in up to 91 characters. */
+#define BECH32_NEAREST_PLAIN_TEXTS(text_length) ((text_length) > 91u ? 16u : 1u)
+#define BECH32_NEAREST_PLAIN_MEMORY(text_length) (16384u + 32u * (text_length))
+
+/*
+ * Lists the texts near to a mistyped one: all that a checksum (BECH32_BECH32 or BECH32_BECH32M) accepts
+ * and that differ from it in at most `errors` characters of the data part, 0 to BECH32_MAX_ERRORS, outside
+ * `erasures`. These are the locations of at most three characters that are known to be wrong; location 0
+ * is the last character. If there are more, or one is not in the data part, no text is near.
+ *
+ * The texts, in lower case, are put into `texts` one behind another: *count texts of text_length bytes
+ * each. *count may be 0. If they do not all fit (92), *count is the number of all, so *count times
+ * text_length is the room that all take, and the first texts_room / text_length of them are put.
+ *
+ * Their order goes by the changes outside the erasures, from the highest location down: the text whose
+ * highest location is lower comes first; of two with the same, the one with the lower value added there;
+ * then likewise by the next location. A text without such changes is the first of all: if the checksum
+ * accepts the mistyped text, that is this text itself.
+ *
+ * Without erasures and with up to 89 characters in the data part, as in each segwit address, there is at
+ * most one text: the right one, if no more than `errors` of its characters are wrong. With erasures, or in
+ * longer texts, there may be many. It may be that none is what was meant: show them, and ask.
+ *
+ * Milliseconds of a call with wrong characters anywhere (at 2.5 GHz, the least of several), and how many
+ * texts there are beside two and three erasures:
+ *
+ *                 one error, erasures   | two errors, erasures         | texts, erasures
+ *     characters     0, 1     2      3  |     0      1      2      3   |     2        3
+ *         42        0.002  0.02   0.04  |  0.05    0.1    0.1   0.12   |     1       17
+ *         62        0.002  0.03   0.06  |   0.1    0.2    0.2    0.2   |     2       50
+ *         90        0.003  0.04   0.09  |  0.15   0.25   0.25   0.35   |     4      110
+ *        200        0.004   0.1   0.25  |   0.6    0.6    0.7    1.3   |    20      550
+ *        400        0.004   0.3    0.7  |   1.7    1.4    1.6    5.5   |    75    2,300
+ *      1,000        0.007   1.1    1.2  |   7.6    3.9    5.7     54   |   450   14,500
+ *
+ * The most texts that there are (above) take 0.7 ms at 92 characters, 55 at 400, and 750 at 1,000.
+ *
+ * Refusals, the first that applies: 4; 2; 21, 22, 23, 11 to 15; 31, 32; 92; and 91 in place of 0 or 92
+ * where `memory` does not suffice. If the function keeps the memory (above), `texts` may have changed;
+ * with every other refusal but 92, and with every other 91, it is as it was.
+ *
+ * Such a 91 never comes with more than three different erasures, nor with one that is not in the data
+ * part. If twice `errors` plus the number of different erasures is at most three, it comes only where
+ * there is such a text. With more, memory may be needed before any text is found.
+ */
+uint32_t bech32_nearest(uint32_t checksum, const uint8_t *text, size_t text_length,
+                        const size_t *erasures, size_t erasures_length, size_t errors,
+                        bech32_memory *memory, uint8_t *texts, size_t texts_room, size_t *count);
+
+/* These bytes suffice for BECH32_NEAR_EDITS edits of a text; for more edits, lend more. */
+#define BECH32_NEAR_EDITS_MEMORY(text_length) (4096u + 16u * (text_length))
+
+/*
+ * Lists the other texts that one edit makes of a text and that a checksum (BECH32_BECH32 or BECH32_BECH32M)
+ * accepts: two neighbours of the data part are swapped, one of its characters is left out, or one is put
+ * in. The text need only be in the grammar: one that is too short for a checksum by one character, or too
+ * long by one, can be mended too.
+ *
+ * *count, which may be 0, is their number. For each, what is done (BECH32_SWAPPED, BECH32_LEFT_OUT or
+ * BECH32_PUT_IN) is put into `kinds`, and where into `locations`: location 0 is the last character, of this
+ * text for a swap or a character left out, of the new text for a character put in. The new texts, in lower
+ * case, are put into `texts` one behind another: each has text_length bytes after a swap, one less if a
+ * character is left out, one more if one is put in. Swaps come first, then what leaves a character out, then
+ * what puts one in; in each kind the locations rise. Each text is listed once: of a run of equal characters
+ * the last is left out, and an equal one is put in behind the run.
+ *
+ * If they do not all fit (92), *count is the number of all, and the first of them are put, as many as all
+ * three buffers have room for. kinds_room and locations_room are numbers of items; *count times
+ * (text_length + 1) bytes are always enough for `texts`. It may be that none is what was meant: show them,
+ * and ask. BECH32_BECH32 accepts a text that ends in `p` with any number of `q` before the `p` as well.
+ *
+ * Refusals, the first that applies: 4; 2; 21, 22, 23, 11 to 15; 92; and 91 in place of 0 or 92 where
+ * `memory` does not suffice. No memory is needed where *count is 0. If the function keeps the memory
+ * (above), the buffers may have changed; with every other refusal but 92, and with every other 91, they
+ * are as they were.
+ */
+uint32_t bech32_near_edits(uint32_t checksum, const uint8_t *text, size_t text_length,
+                           bech32_memory *memory, uint8_t *kinds, size_t kinds_room, size_t *locations,
+                           size_t locations_room, uint8_t *texts, size_t texts_room, size_t *count);
+
+#ifdef __cplusplus
+}
+#endif
+
+#endif
