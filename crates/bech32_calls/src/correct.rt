@@ -94,9 +94,8 @@ fn put_correction(
     Ok(count)
 }
 
-// Mends a text that was read, and that the checksum refuses for its residue, where the checksum does
-// not look the correction up. Out of line: where it does, no listing is to be
-// cleared.
+// Mends a text that was read, and that the checksum refuses for its residue, where the checksum
+// does not look the correction up. Out of line: where it does, no listing is to be cleared.
 #[inline(never)]
 fn corrected_by_search<Ck: CorrectsInPlace>(
     reading: &Reading<'_, Ck>,

@@ -102,9 +102,9 @@ fn error_of_read<Ck: CorrectsInPlace>(reading: &Reading<'_, Ck>) -> Option<Optio
     single_below::<Ck>(reading.data_part.len(), &residue[..Ck::CHECKSUM_LENGTH])
 }
 
-// The listing at one to three erasures, and an error beside a single one, that mends a text that was
-// read, and that the checksum refuses for its residue, if the checksum looks it up; the outer `None`
-// says nothing.
+// The listing at one to three erasures, and an error beside a single one, that mends a text that
+// was read, and that the checksum refuses for its residue, if the checksum looks it up; the outer
+// `None` says nothing.
 #[inline(always)]
 fn erased_of_read<Ck: CorrectsInPlace>(
     reading: &Reading<'_, Ck>,
@@ -127,8 +127,9 @@ fn erased_of_read<Ck: CorrectsInPlace>(
     )
 }
 
-/// The listing that mends a text that was read, and that the checksum refuses for its residue, where
-/// the given locations are erasures, if the checksum looks it up; the outer `None` says nothing.
+/// The listing that mends a text that was read, and that the checksum refuses for its residue,
+/// where the given locations are erasures, if the checksum looks it up; the outer `None` says
+/// nothing.
 #[inline(always)]
 pub fn found_of_read<Ck: CorrectsInPlace>(
     reading: &Reading<'_, Ck>,
@@ -162,8 +163,8 @@ fn listed(found: &ShortListing) -> Listing<NoMemory>
     }
 }
 
-/// The listing that mends a text that was read, and that the checksum refuses for its residue, where
-/// the given locations are erasures, by a search. It takes no memory.
+/// The listing that mends a text that was read, and that the checksum refuses for its residue,
+/// where the given locations are erasures, by a search. It takes no memory.
 #[inline(always)]
 pub fn searched_of_read<Ck: CorrectsInPlace>(
     reading: &Reading<'_, Ck>,

@@ -10,9 +10,9 @@ use codex32_calls::propose::{Kind, nearest_of};
 
 /// Puts the nearest text to a damaged codex32 string at the front of `proposed`, as
 /// `codex32::propose_in` has it; `proposed_length` is then its length. It is worked out in
-/// `memory`, which holds the data part as it is read and the text that is proposed; the locations of
-/// unreadable characters, if there are any; and a corrector, where the checksum does not accept the
-/// text as it is read.
+/// `memory`, which holds the data part as it is read and the text that is proposed; the locations
+/// of unreadable characters, if there are any; and a corrector, where the checksum does not accept
+/// the text as it is read.
 ///
 /// # Errors
 ///

@@ -1,6 +1,6 @@
-//! One error beside an element at a known location, by the generator of BIP-173. What the error alone
-//! leaves is the residue less a multiple of the remainder at that location: the keys of all these are
-//! those of a line.
+//! One error beside an element at a known location, by the generator of BIP-173. What the error
+//! alone leaves is the residue less a multiple of the remainder at that location: the keys of all
+//! these are those of a line.
 
 ghost use Rattle.std.specs.Prelude.{◌≡◌, ◌≢◌, ◌<◌, ◌≤◌, ◌⊎◌, ℕ, bit_xor, get_or, length, MatchOption, ⊤};
 ghost use Rattle.bech32_gf.specs.Fe32 as fe32;
