@@ -13,7 +13,7 @@ FOLDER = pathlib.Path(__file__).parent / "src" / "checksums"
 # The generator's lower coefficients, packed, and their products with 2, 4, 8 and 16.
 WORDS = [0x3B6A57B2, 0x26508E6D, 0x1EA119FA, 0x3D4233DD, 0x2A1462B3]
 # Hashes the keys of the locations; found by trial. ones.rt has it too.
-MULTIPLIER = 4078033059
+MULTIPLIER = 208833772613
 
 
 def product(a, b):
@@ -63,16 +63,18 @@ INVERSES = [0] + [next(b for b in range(32) if product(a, b) == 1) for a in rang
 
 
 def placed(keys):
-    """For each slot the location whose key stands there, and by how much each bucket is moved."""
+    """For each slot the location whose key stands there, and by how much each bucket is moved. A slot
+    goes by the five lowest elements of the key: these, too, are those of one location alone."""
     buckets = {}
     for location, key in enumerate(keys):
-        hashed = key * MULTIPLIER
+        hashed = (key & 0x1FFFFFF) * MULTIPLIER
         buckets.setdefault((hashed >> 44) % 512, []).append(((hashed >> 34) % 1024, location))
     slots, moves = [None] * 1024, [0] * 512
     for bucket in sorted(buckets, key=lambda b: -len(buckets[b])):
         items = buckets[bucket]
         for move in range(1024):
-            if all(slots[(first + move) % 1024] is None for first, _ in items):
+            wanted = {(first + move) % 1024 for first, _ in items}
+            if len(wanted) == len(items) and all(slots[slot] is None for slot in wanted):
                 moves[bucket] = move
                 for first, location in items:
                     slots[(first + move) % 1024] = location
@@ -106,8 +108,11 @@ def twos():
     text = "//! The remainders of two elements at x^6, x^8, x^10 and x^12, packed, by the generator of BIP-173.\n"
     for power in (6, 8, 10, 12):
         text += f"\n// The remainders of x^{power} times each two elements, packed.\n"
-        text += words(f"TWO_AT_X{power}", [times_x(two, power) for two in range(1024)])
-    return text
+        text += words(f"TWO_AT_X{power}", [times_x(two, power) for two in range(1024)], "")
+    return text + (
+        "\n// These at x^6, x^8, x^10 and x^12, as one table: a loop that reads all has one address.\n"
+        "pub(super) const TWOS: [[u32; 1024]; 4] = [TWO_AT_X6, TWO_AT_X8, TWO_AT_X10, TWO_AT_X12];\n"
+    )
 
 
 def locations():

@@ -91,9 +91,9 @@ get-map h [] i d d' w = absurd (omega arith)
 get-map h (x ∷ xs) zero d d' w = refl
 get-map h (x ∷ xs) (suc i) d d' w = get-map h xs i d d' (omega arith)
 
-pub get-locators : {K : Type 0} (o : Ops K) (b : K) (places : List ℕ) (all : List K) (i : ℕ) (y : K) → i < length places → all ≡ locators o b places → y ≡ get_or all i y
-    → y ≡ power o b (get_or places i 0)
-get-locators o b places all i y within are at = at ∙ ap (λ u. get_or u i y) are ∙ get-map (λ m. power o b m) places i y 0 within
+pub get-locators : {K : Type 0} (o : Ops K) (b : K) (locations : List ℕ) (all : List K) (i : ℕ) (y : K) → i < length locations → all ≡ locators o b locations → y ≡ get_or all i y
+    → y ≡ power o b (get_or locations i 0)
+get-locators o b locations all i y within are at = at ∙ ap (λ u. get_or u i y) are ∙ get-map (λ m. power o b m) locations i y 0 within
 
 pub gap_more : {K : Type 0} (o : Ops K) (here y product product' : K) (xs : List K) (i : ℕ) → 0 < i → i ≤ length xs → y ≡ get_or xs (i - 1) y → product ≡ gap o here (drop i xs)
     → product' ≡ o.mul (o.add here (o.neg y)) product → product' ≡ gap o here (drop (i - 1) xs)

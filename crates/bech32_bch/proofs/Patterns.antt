@@ -226,12 +226,12 @@ module _ {F : Type 0} {f : Ops F} (fl : IsField f) where
   none_above (p ∷ e) n j h a (inr m) = none_above e n j h a.1 m
 
   -- the values from location 0 to the highest are the pattern's polynomial
-  pub whole_pattern : (g : List F) (e : List (ℕ × F)) (place n : ℕ) → place ≡ 0 → AllByRecursion (λ (p : ℕ × F). p.0 ≤ place + n) e
-      → remainder_of f g (values_from f e place (n + 1)) ≡ remainder_of f g (pattern_polynomial f e)
-  whole_pattern g e place n z a = remainder_of-same fl g (values_from f e place (n + 1)) (pattern_polynomial f e) same
+  pub whole_pattern : (g : List F) (e : List (ℕ × F)) (location n : ℕ) → location ≡ 0 → AllByRecursion (λ (p : ℕ × F). p.0 ≤ location + n) e
+      → remainder_of f g (values_from f e location (n + 1)) ≡ remainder_of f g (pattern_polynomial f e)
+  whole_pattern g e location n z a = remainder_of-same fl g (values_from f e location (n + 1)) (pattern_polynomial f e) same
     where
-      same : (j : ℕ) → coefficient f (values_from f e place (n + 1)) j ≡ coefficient f (pattern_polynomial f e) j
+      same : (j : ℕ) → coefficient f (values_from f e location (n + 1)) j ≡ coefficient f (pattern_polynomial f e) j
       same j = elim (dec_lt j (n + 1)) [
-        | yes k ↦ (let s : place + j ≡ j = omega arith in coefficient-values_from e place (n + 1) j k ∙ ap (value_of_pattern_at f e) s ∙ sym (coefficient-pattern_polynomial fl e j))
-        | no k ↦ values_from-behind e place (n + 1) j (omega arith) ∙ sym (at_absent fl e j (none_above e (place + n) j (omega arith) a)) ∙ sym (coefficient-pattern_polynomial fl e j)
+        | yes k ↦ (let s : location + j ≡ j = omega arith in coefficient-values_from e location (n + 1) j k ∙ ap (value_of_pattern_at f e) s ∙ sym (coefficient-pattern_polynomial fl e j))
+        | no k ↦ values_from-behind e location (n + 1) j (omega arith) ∙ sym (at_absent fl e j (none_above e (location + n) j (omega arith) a)) ∙ sym (coefficient-pattern_polynomial fl e j)
       ]

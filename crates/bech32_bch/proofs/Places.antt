@@ -1,4 +1,4 @@
--- Lists of places.
+-- Lists of locations.
 use Rattle.std.specs.List.{AllByRecursion}
 use Rattle.std.proofs.Common.{◌≡◌, ℕ, zero, suc, ◌<◌, ◌≤◌, List, [], ◌∷◌, ◌++◌, map, length, get_or, take, drop, ◌⊎◌, inl, inr, subst, sym, ap, refl, arith}
 use Rattle.std.specs.Prelude.{◌≢◌}
@@ -87,7 +87,7 @@ pub drop_first : {A : Type 0} (xs ys : List A) → drop (length xs) (xs ++ ys) �
 drop_first [] ys = refl
 drop_first (x ∷ xs) ys = drop_first xs ys
 
--- what has no place twice and stands in another list is no longer
+-- what has no location twice and stands in another list is no longer
 pub once_fits : (xs ys : List ℕ) → IsOnce xs → ((x : ℕ) → IsAmong x xs → IsAmong x ys) → length xs ≤ length ys
 once_fits [] ys once within = omega arith
 once_fits (x ∷ xs) ys once within =

@@ -20,7 +20,7 @@ first_found found left roots n whole size = taken found left n size ∙ ap (take
 
 module _ {K : Type 0} {o : Ops K} (l : IsField o) (same : K → K → Bool) where
   abbrev pub searching : List K → List K → ℕ → ℕ → RootSearch K
-  searching terms factors place window = record { terms = terms; factors = factors; next = place; end = window }
+  searching terms factors location window = record { terms = terms; factors = factors; next = location; end = window }
 
   root_told : (terms factors : List K) (sum z : K) (is_root : Bool) → length factors ≡ length terms → sum ≡ total_of o terms → z ≡ o.zero → is_root ≡ same sum z
       → is_root ≡ same (value_after o terms factors 0) o.zero
@@ -28,30 +28,30 @@ module _ {K : Type 0} {o : Ops K} (l : IsField o) (same : K → K → Bool) wher
       told ∙ ap (λ x. same x z) (summed ∙ sym (value_after-now l terms factors size)) ∙ ap (same (value_after o terms factors 0)) zero_is
 
   -- a location at which the terms add up to zero
-  pub root_met : (terms terms' factors : List K) (place place' window : ℕ) (found found' roots : List ℕ) (sum z : K) (is_root : Bool) → is_root ≡ true → place < window
-      → length factors ≡ length terms → sum ≡ total_of o terms → z ≡ o.zero → is_root ≡ same sum z → terms' ≡ multiplied_each o terms factors → place' ≡ place + 1
-      → found' ≡ found ++ (place ∷ []) → found ++ left_of o same (searching terms factors place window) ≡ roots → found' ++ left_of o same (searching terms' factors place' window) ≡ roots
-  root_met terms terms' factors place place' window found found' roots sum z is_root yes_root more size summed zero_is told stepped next pushed whole =
-      ap (λ u. u ++ left_of o same (searching terms' factors place' window)) pushed
-      ∙ append_assoc found (place ∷ []) (left_of o same (searching terms' factors place' window))
-      ∙ ap (λ u. found ++ u) (sym (stepped_found l same (searching terms factors place window) (searching terms' factors place' window) is_root yes_root more (root_told terms factors sum z is_root size summed zero_is told) stepped refl next refl))
+  pub root_met : (terms terms' factors : List K) (location location' window : ℕ) (found found' roots : List ℕ) (sum z : K) (is_root : Bool) → is_root ≡ true → location < window
+      → length factors ≡ length terms → sum ≡ total_of o terms → z ≡ o.zero → is_root ≡ same sum z → terms' ≡ multiplied_each o terms factors → location' ≡ location + 1
+      → found' ≡ found ++ (location ∷ []) → found ++ left_of o same (searching terms factors location window) ≡ roots → found' ++ left_of o same (searching terms' factors location' window) ≡ roots
+  root_met terms terms' factors location location' window found found' roots sum z is_root yes_root more size summed zero_is told stepped next pushed whole =
+      ap (λ u. u ++ left_of o same (searching terms' factors location' window)) pushed
+      ∙ append_assoc found (location ∷ []) (left_of o same (searching terms' factors location' window))
+      ∙ ap (λ u. found ++ u) (sym (stepped_found l same (searching terms factors location window) (searching terms' factors location' window) is_root yes_root more (root_told terms factors sum z is_root size summed zero_is told) stepped refl next refl))
       ∙ whole
 
   -- a location at which they do not
-  pub root_passed : (terms terms' factors : List K) (place place' window : ℕ) (found found' roots : List ℕ) (sum z : K) (is_root : Bool) → is_root ≡ false → place < window
-      → length factors ≡ length terms → sum ≡ total_of o terms → z ≡ o.zero → is_root ≡ same sum z → terms' ≡ multiplied_each o terms factors → place' ≡ place + 1
-      → found' ≡ found → found ++ left_of o same (searching terms factors place window) ≡ roots → found' ++ left_of o same (searching terms' factors place' window) ≡ roots
-  root_passed terms terms' factors place place' window found found' roots sum z is_root none more size summed zero_is told stepped next kept whole =
-      ap (λ u. u ++ left_of o same (searching terms' factors place' window)) kept
-      ∙ ap (λ u. found ++ u) (sym (stepped_missed l same (searching terms factors place window) (searching terms' factors place' window) is_root none more (root_told terms factors sum z is_root size summed zero_is told) stepped refl next refl))
+  pub root_passed : (terms terms' factors : List K) (location location' window : ℕ) (found found' roots : List ℕ) (sum z : K) (is_root : Bool) → is_root ≡ false → location < window
+      → length factors ≡ length terms → sum ≡ total_of o terms → z ≡ o.zero → is_root ≡ same sum z → terms' ≡ multiplied_each o terms factors → location' ≡ location + 1
+      → found' ≡ found → found ++ left_of o same (searching terms factors location window) ≡ roots → found' ++ left_of o same (searching terms' factors location' window) ≡ roots
+  root_passed terms terms' factors location location' window found found' roots sum z is_root none more size summed zero_is told stepped next kept whole =
+      ap (λ u. u ++ left_of o same (searching terms' factors location' window)) kept
+      ∙ ap (λ u. found ++ u) (sym (stepped_missed l same (searching terms factors location window) (searching terms' factors location' window) is_root none more (root_told terms factors sum z is_root size summed zero_is told) stepped refl next refl))
       ∙ whole
 
   -- where the window ends or enough are found, the first of all are found
-  pub stopped : (terms factors : List K) (place window n : ℕ) (found roots : List ℕ) → (length found < n → window ≤ place) → length found ≤ n
-      → found ++ left_of o same (searching terms factors place window) ≡ roots → found ≡ take n roots
-  stopped terms factors place window n found roots over few whole = elim (dec_lt (length found) n) [
+  pub stopped : (terms factors : List K) (location window n : ℕ) (found roots : List ℕ) → (length found < n → window ≤ location) → length found ≤ n
+      → found ++ left_of o same (searching terms factors location window) ≡ roots → found ≡ take n roots
+  stopped terms factors location window n found roots over few whole = elim (dec_lt (length found) n) [
     | yes k ↦
-        let all : found ≡ roots = sym (append-nil found) ∙ ap (λ u. found ++ u) (sym (search_over l same (searching terms factors place window) (over k))) ∙ whole in
+        let all : found ≡ roots = sym (append-nil found) ∙ ap (λ u. found ++ u) (sym (search_over l same (searching terms factors location window) (over k))) ∙ whole in
         all ∙ sym (take_all n roots (omega (arith, ap (λ u. length u) all, few)))
-    | no k ↦ first_found found (left_of o same (searching terms factors place window)) roots n whole (omega (arith, few, k))
+    | no k ↦ first_found found (left_of o same (searching terms factors location window)) roots n whole (omega (arith, few, k))
   ]

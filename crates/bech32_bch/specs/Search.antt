@@ -31,7 +31,7 @@ pub record AreUsableRoots {F K : Type 0} (f : Ops F)
 
 -- the locators of locations
 abbrev pub locators : {K : Type 0} → Ops K → K → List ℕ → List K
-locators o b places = map (λ m. power o b m) places
+locators o b wrong = map (λ m. power o b m) wrong
 
 -- the items are the values of the residue at the powers of the base from the exponent `start` on
 pub record AreSyndromes {F K : Type 0} (o : Ops K)
@@ -79,26 +79,26 @@ abbrev pub ordered : List ℕ → List ℕ
 ordered [] = []
 ordered (i ∷ rest) = cond (i == 0) (i ∷ reverse rest) (reverse (i ∷ rest))
 
--- what is left of the syndromes where all other places are knocked out
+-- what is left of the syndromes where the terms at the other wrong locations are knocked out
 abbrev pub left_at : {K : Type 0} → Ops K → K → (ℕ → K) → List ℕ → ℕ → K
-left_at o b s places i = knocks o (locators o b (without i places)) s 0
+left_at o b s wrong i = knocks o (locators o b (without i wrong)) s 0
 
 -- by what the value at i is multiplied in it
 abbrev pub known_at : {K : Type 0} → Ops K → K → ℕ → List ℕ → ℕ → K
-known_at o b start places i =
-    o.mul (power o (power o b i) start) (gap o (power o b i) (locators o b (without i places)))
+known_at o b start wrong i =
+    o.mul (power o (power o b i) start) (gap o (power o b i) (locators o b (without i wrong)))
 
 -- what is left of the syndromes is the value times what is known
 pub record IsExplained {K : Type 0} (o : Ops K) (left known v : K) : Type 0 where
   pub weighs : known ≢ o.zero
   pub is : left ≡ o.mul v known
 
--- each value explains what is left of the syndromes at its place
+-- each value explains what is left of the syndromes at its location
 abbrev pub AreExplained : {F K : Type 0} → Ops K → (F → K) → K → ℕ → List K → List ℕ → (ℕ → F)
     → Type 0
-AreExplained o embed b start syndromes places v = (i : ℕ) → IsAmong i places
-    → IsExplained o (left_at o b (coefficient o syndromes) places i)
-    (known_at o b start places i) (embed (v i))
+AreExplained o embed b start syndromes wrong v = (i : ℕ) → IsAmong i wrong
+    → IsExplained o (left_at o b (coefficient o syndromes) wrong i)
+    (known_at o b start wrong i) (embed (v i))
 
 -- a listing that the second division may yet refuse: the erasures and error locations,
 -- the values of these not zero

@@ -4,11 +4,10 @@ ghost use Rattle.std.specs.Prelude.{◌≡◌, ◌≢◌, ◌≤◌, ◌+◌, �
 ghost use Rattle.std.specs.List.{AllByRecursion};
 ghost use Rattle.bech32_bch.specs.Erasures.{AreErasures};
 ghost use Rattle.bech32_bch.specs.Listing.{IsListing};
-ghost use Rattle.bech32_bch.specs.Pattern.{IsPattern, Solves, locations};
-ghost use Rattle.bech32_bch.specs.Search.{AreExplained, AreSumsOf, AreUsableRoots, HasLongOrder, IsCandidate, locators};
+ghost use Rattle.bech32_bch.specs.Pattern.{Solves, locations};
+ghost use Rattle.bech32_bch.specs.Search.{AreExplained, AreUsableRoots, HasLongOrder, IsCandidate, locators};
 ghost use Rattle.bech32_poly.specs.Distinct.{IsAmong};
 ghost use Rattle.bech32_poly.specs.FieldVec.{FitsInPlace};
-ghost use Rattle.bech32_poly.specs.Pattern.{inside};
 
 use crate::locations::error_locations;
 use crate::short_vec::ShortVec;
@@ -65,42 +64,8 @@ fn listed<E: Extension, A: Allocator + Copy>(
         listing ≡ map (λ i. (i, v i)) (erasures.now ++ found.now))) }
     ensures in_place { FitsInPlace (length list.now) → IsOk result }
 {
-    let places = joined(alloc, erasures.as_slice(), found.as_slice())?;
-    values(
-        alloc,
-        list,
-        roots.base,
-        roots.start,
-        places.as_slice(),
-        erasures.len(),
-    )
-}
-
-// The listing that alone can be that of a pattern with these syndromes.
-fn candidate_of<E: Extension, A: Allocator + Copy>(
-    alloc: A,
-    list: &FieldVec<E, A>,
-    roots: Roots<E>,
-    window: usize,
-    erasures: &ShortVec<usize, A>,
-    known: &FieldVec<E, A>,
-) -> Result<Option<ShortVec<(usize, E::Base), A>>, AllocError>
-    requires order { HasLongOrder E.ops roots.base window }
-    requires erased { AreErasures window erasures.now }
-    requires known { known.now ≡ locators E.ops roots.base erasures.now }
-    requires room { length erasures.now ≤ length list.now }
-    ensures listed { IfOk result (λ answer. IfSome answer (λ listing.
-        IsCandidate E.base_ops window erasures.now (length list.now) listing)) }
-    ensures found { IfOk result (λ answer. (e : List (ℕ × E.Base))
-        → IsPattern E.base_ops window e
-        → AreSumsOf E.ops roots.base roots.start window erasures.now list.now (inside E.embed e)
-        → MatchOption answer ⊥ (λ listing. IsListing E.base_ops erasures.now e listing)) }
-    ensures in_place { length list.now ≤ 6 → IsOk result }
-{
-    let Some(found) = error_locations(alloc, list, roots.base, window, erasures, known)? else {
-        return Ok(None);
-    };
-    listed(alloc, list, roots, erasures, &found)
+    let wrong = joined(alloc, erasures.as_slice(), found.as_slice())?;
+    values(alloc, list, roots, wrong.as_slice(), erasures.len())
 }
 
 /// The listing that alone can be that of a pattern that solves: the erasures and the errors outside
@@ -134,5 +99,8 @@ pub fn candidate<E: Extension, A: Allocator + Copy>(
         return Ok(None);
     }
     let list = syndromes(alloc, residue, roots.base, roots.start, roots.count)?;
-    candidate_of(alloc, &list, roots, window, erasures, known)
+    let Some(found) = error_locations(alloc, &list, roots.base, window, erasures, known)? else {
+        return Ok(None);
+    };
+    listed(alloc, &list, roots, erasures, &found)
 }

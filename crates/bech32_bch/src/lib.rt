@@ -14,7 +14,7 @@ mod terms;
 mod values;
 
 pub use self::decoder::{Roots, candidate};
-pub use self::listing::{highest_place, value_at_place};
+pub use self::listing::{highest_location, value_at_location};
 pub use self::locations::contains;
 pub use self::short_vec::ShortVec;
 pub use self::terms::locators_of;

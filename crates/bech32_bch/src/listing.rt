@@ -8,15 +8,15 @@ ghost use Rattle.bech32_poly.specs.Pattern.{value_of_pattern_at};
 
 use bech32_poly::arithmetic::Arithmetic;
 
-/// The sum of the values that a listing has at a place.
-pub fn value_at_place<F: Arithmetic>(listing: &[(usize, F)], place: usize) -> F
-    ensures { result ≡ value_of_pattern_at F.ops listing.now place }
+/// The sum of the values that a listing has at a location.
+pub fn value_at_location<F: Arithmetic>(listing: &[(usize, F)], location: usize) -> F
+    ensures { result ≡ value_of_pattern_at F.ops listing.now location }
 {
     let mut sum = F::zero();
     let mut k = listing.len();
     while k > 0 {
         k -= 1;
-        let value = if listing[k].0 == place {
+        let value = if listing[k].0 == location {
             listing[k].1
         } else {
             F::zero()
@@ -35,8 +35,8 @@ fn larger(a: usize, b: usize) -> usize
     if a < b { b } else { a }
 }
 
-/// The highest place of a listing, or 0 where there is none.
-pub fn highest_place<F: Arithmetic>(listing: &[(usize, F)]) -> usize
+/// The highest location of a listing, or 0 where there is none.
+pub fn highest_location<F: Arithmetic>(listing: &[(usize, F)]) -> usize
     ensures bound { AllByRecursion (λ p. p.0 ≤ result) listing.now }
     ensures attained { (result ≡ 0) ⊎ IsAmong result (locations listing.now) }
 {

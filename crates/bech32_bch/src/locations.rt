@@ -16,14 +16,14 @@ use bech32_poly::lfsr::shortest_register;
 use std::alloc::{AllocError, Allocator};
 
 /// Whether a location is one of the list.
-pub fn contains(places: &[usize], place: usize) -> bool
-    ensures { result ≡ has places.now place }
+pub fn contains(locations: &[usize], location: usize) -> bool
+    ensures { result ≡ has locations.now location }
 {
     let mut found = false;
-    let mut i = places.len();
+    let mut i = locations.len();
     while i > 0 {
         i -= 1;
-        if place == places[i] {
+        if location == locations[i] {
             found = true;
         }
     }
@@ -31,12 +31,12 @@ pub fn contains(places: &[usize], place: usize) -> bool
 }
 
 // Whether a location of one list is one of the other.
-fn has_common(places: &[usize], others: &[usize]) -> bool
-    ensures yes { IsTrue result → (i : ℕ) × (IsAmong i places.now × IsAmong i others.now) }
-    ensures no { (i : ℕ) → IsAmong i places.now → IsAmong i others.now → IsTrue result }
+fn has_common(locations: &[usize], others: &[usize]) -> bool
+    ensures yes { IsTrue result → (i : ℕ) × (IsAmong i locations.now × IsAmong i others.now) }
+    ensures no { (i : ℕ) → IsAmong i locations.now → IsAmong i others.now → IsTrue result }
 {
-    for place in places {
-        if contains(others, *place) {
+    for location in locations {
+        if contains(others, *location) {
             return true;
         }
     }
@@ -58,13 +58,13 @@ fn push_roots<K: Arithmetic, A: Allocator + Copy>(
         (record { terms = terms.old; factors = factors.now; next = 0; end = window }))) }
     ensures in_place { FitsInPlace degree → IsOk result }
 {
-    let mut place = 0;
-    while place < window && found.len() < degree {
+    let mut location = 0;
+    while location < window && found.len() < degree {
         if total(terms.as_slice()).equals(K::zero()) {
-            found.push(place)?;
+            found.push(location)?;
         }
         terms.multiply_each(factors);
-        place += 1;
+        location += 1;
     }
     Ok(())
 }
@@ -145,19 +145,6 @@ fn push_ordered<A: Allocator + Copy>(
     }
 }
 
-// Rising locations in the order of a listing.
-fn in_order<A: Allocator + Copy>(
-    alloc: A,
-    rising: &[usize],
-) -> Result<ShortVec<usize, A>, AllocError>
-    ensures ordered { IfOk result (λ v. v ≡ ordered rising.now) }
-    ensures in_place { FitsInPlace (length rising.now) → IsOk result }
-{
-    let mut list = ShortVec::new(alloc);
-    push_ordered(&mut list, rising)?;
-    Ok(list)
-}
-
 // Rising locations in the order of a listing; none where one of them is one of the others.
 fn in_order_outside<A: Allocator + Copy>(
     alloc: A,
@@ -173,7 +160,8 @@ fn in_order_outside<A: Allocator + Copy>(
     if has_common(rising, others) {
         return Ok(None);
     }
-    let list = in_order(alloc, rising)?;
+    let mut list = ShortVec::new(alloc);
+    push_ordered(&mut list, rising)?;
     Ok(Some(list))
 }
 

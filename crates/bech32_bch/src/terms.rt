@@ -19,33 +19,33 @@ use std::alloc::{AllocError, Allocator};
 pub fn locators_of<K: Arithmetic, A: Allocator + Copy>(
     alloc: A,
     base: K,
-    places: &[usize],
+    locations: &[usize],
 ) -> Result<FieldVec<K, A>, AllocError>
-    ensures locators { IfOk result (λ v. v ≡ locators K.ops base places.now) }
-    ensures in_place { FitsInPlace (length places.now) → IsOk result }
+    ensures locators { IfOk result (λ v. v ≡ locators K.ops base locations.now) }
+    ensures in_place { FitsInPlace (length locations.now) → IsOk result }
 {
     let mut list = FieldVec::new(alloc);
-    for place in places {
-        list.push(base.power(*place))?;
+    for location in locations {
+        list.push(base.power(*location))?;
     }
     Ok(list)
 }
 
-/// The locators of the places other than one.
+/// The locators of the locations other than one.
 pub(crate) fn other_locators<K: Arithmetic, A: Allocator + Copy>(
     alloc: A,
     base: K,
-    places: &[usize],
+    locations: &[usize],
     all: &[K],
-    place: usize,
+    location: usize,
 ) -> Result<FieldVec<K, A>, AllocError>
-    requires { all.now ≡ locators K.ops base places.now }
-    ensures locators { IfOk result (λ v. v ≡ locators K.ops base (without place places.now)) }
-    ensures in_place { FitsInPlace (length places.now) → IsOk result }
+    requires { all.now ≡ locators K.ops base locations.now }
+    ensures locators { IfOk result (λ v. v ≡ locators K.ops base (without location locations.now)) }
+    ensures in_place { FitsInPlace (length locations.now) → IsOk result }
 {
     let mut others = FieldVec::new(alloc);
-    for k in 0..places.len() {
-        if places[k] != place {
+    for k in 0..locations.len() {
+        if locations[k] != location {
             others.push(all[k])?;
         }
     }

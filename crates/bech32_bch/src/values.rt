@@ -10,6 +10,7 @@ ghost use Rattle.bech32_poly.specs.Distinct.{IsAmong};
 ghost use Rattle.bech32_poly.specs.FieldVec.{FitsInPlace};
 ghost use Rattle.bech32_poly.specs.Polynomial.{coefficient};
 
+use crate::decoder::Roots;
 use crate::short_vec::ShortVec;
 use crate::terms::{distances, locators_of, other_locators, without_terms};
 use bech32_poly::arithmetic::{Arithmetic, Extension};
@@ -51,106 +52,96 @@ fn value_beside<E: Extension, A: Allocator + Copy>(
     Ok(value_of_left(left.as_slice(), here, start, others))
 }
 
-// The value at the k-th place, where all places at which something is wrong are given.
-fn value_of_place<E: Extension, A: Allocator + Copy>(
+// The value at the k-th location, where all wrong locations are given.
+fn value_of_location<E: Extension, A: Allocator + Copy>(
     alloc: A,
     syndromes: &FieldVec<E, A>,
-    base: E,
-    start: usize,
-    places: &[usize],
+    roots: Roots<E>,
+    wrong: &[usize],
     all: &FieldVec<E, A>,
     k: usize,
 ) -> Result<Option<E::Base>, AllocError>
-    requires few { length places.now ≤ length syndromes.now }
-    requires at { k < length places.now }
-    requires locators { all.now ≡ locators E.ops base places.now }
+    requires few { length wrong.now ≤ length syndromes.now }
+    requires at { k < length wrong.now }
+    requires locators { all.now ≡ locators E.ops roots.base wrong.now }
     ensures value { IfOk result (λ answer. (v : E.Base)
         → IsExplained E.ops
-        (left_at E.ops base (coefficient E.ops syndromes.now) places.now (slice_index places.now k))
-        (known_at E.ops base start places.now (slice_index places.now k)) (E.embed v)
+        (left_at E.ops roots.base (coefficient E.ops syndromes.now) wrong.now
+        (slice_index wrong.now k))
+        (known_at E.ops roots.base roots.start wrong.now (slice_index wrong.now k)) (E.embed v)
         → answer ≡ Some v) }
-    ensures in_place { FitsInPlace (length places.now) → FitsInPlace (length syndromes.now)
+    ensures in_place { FitsInPlace (length wrong.now) → FitsInPlace (length syndromes.now)
         → IsOk result }
 {
-    let place = places[k];
-    let others = other_locators(alloc, base, places, all.as_slice(), place)?;
+    let location = wrong[k];
+    let others = other_locators(alloc, roots.base, wrong, all.as_slice(), location)?;
     value_beside(
         alloc,
         syndromes,
-        base.power(place),
-        start,
+        roots.base.power(location),
+        roots.start,
         others.as_slice(),
     )
 }
 
-// Lists the places with their values; whether each has one, and none behind the first `given` is
-// zero.
+// Lists the wrong locations with their values; whether each has one, and none behind the first
+// `given` is zero.
 fn push_values<E: Extension, A: Allocator + Copy>(
     syndromes: &FieldVec<E, A>,
-    base: E,
-    start: usize,
-    places: &[usize],
+    roots: Roots<E>,
+    wrong: &[usize],
     all: &FieldVec<E, A>,
     given: usize,
     listing: &mut ShortVec<(usize, E::Base), A>,
 ) -> Result<bool, AllocError>
-    requires few { length places.now ≤ length syndromes.now }
-    requires locators { all.now ≡ locators E.ops base places.now }
+    requires few { length wrong.now ≤ length syndromes.now }
+    requires locators { all.now ≡ locators E.ops roots.base wrong.now }
     requires empty { listing.old ≡ [] }
-    ensures placed { IfOk result (λ done. IsTrue done → locations listing.new ≡ places.now) }
+    ensures placed { IfOk result (λ done. IsTrue done → locations listing.new ≡ wrong.now) }
     ensures not_zero { IfOk result (λ done. IsTrue done
         → AllByRecursion (λ p. p.1 ≢ E.base_ops.zero) (drop given listing.new)) }
     ensures found { IfOk result (λ done. (v : ℕ → E.Base)
-        → AreExplained E.ops E.embed base start syndromes.now places.now v
-        → ((i : ℕ) → IsAmong i (drop given places.now) → v i ≢ E.base_ops.zero)
-        → IsTrue done × (listing.new ≡ map (λ i. (i, v i)) places.now)) }
+        → AreExplained E.ops E.embed roots.base roots.start syndromes.now wrong.now v
+        → ((i : ℕ) → IsAmong i (drop given wrong.now) → v i ≢ E.base_ops.zero)
+        → IsTrue done × (listing.new ≡ map (λ i. (i, v i)) wrong.now)) }
     ensures in_place { FitsInPlace (length syndromes.now) → IsOk result }
 {
-    for k in 0..places.len() {
+    for k in 0..wrong.len() {
         let alloc = listing.allocator();
-        let Some(v) = value_of_place(alloc, syndromes, base, start, places, all, k)? else {
+        let Some(v) = value_of_location(alloc, syndromes, roots, wrong, all, k)? else {
             return Ok(false);
         };
         if k >= given && E::is_base_zero(v) {
             return Ok(false);
         }
-        listing.push((places[k], v))?;
+        listing.push((wrong[k], v))?;
     }
     Ok(true)
 }
 
-/// The places with their values; none if one has no value, or the value zero where it is not among
-/// the first `given`.
+/// The wrong locations with their values; none if one has no value, or the value zero where it is
+/// not among the first `given`.
 pub(crate) fn values<E: Extension, A: Allocator + Copy>(
     alloc: A,
     syndromes: &FieldVec<E, A>,
-    base: E,
-    start: usize,
-    places: &[usize],
+    roots: Roots<E>,
+    wrong: &[usize],
     given: usize,
 ) -> Result<Option<ShortVec<(usize, E::Base), A>>, AllocError>
-    requires { length places.now ≤ length syndromes.now }
+    requires { length wrong.now ≤ length syndromes.now }
     ensures placed { IfOk result
-        (λ answer. IfSome answer (λ listing. locations listing ≡ places.now)) }
+        (λ answer. IfSome answer (λ listing. locations listing ≡ wrong.now)) }
     ensures not_zero { IfOk result (λ answer. IfSome answer (λ listing.
         AllByRecursion (λ p. p.1 ≢ E.base_ops.zero) (drop given listing))) }
     ensures found { IfOk result (λ answer. (v : ℕ → E.Base)
-        → AreExplained E.ops E.embed base start syndromes.now places.now v
-        → ((i : ℕ) → IsAmong i (drop given places.now) → v i ≢ E.base_ops.zero)
-        → MatchOption answer ⊥ (λ listing. listing ≡ map (λ i. (i, v i)) places.now)) }
+        → AreExplained E.ops E.embed roots.base roots.start syndromes.now wrong.now v
+        → ((i : ℕ) → IsAmong i (drop given wrong.now) → v i ≢ E.base_ops.zero)
+        → MatchOption answer ⊥ (λ listing. listing ≡ map (λ i. (i, v i)) wrong.now)) }
     ensures in_place { FitsInPlace (length syndromes.now) → IsOk result }
 {
-    let locators = locators_of(alloc, base, places)?;
+    let locators = locators_of(alloc, roots.base, wrong)?;
     let mut listing = ShortVec::new(alloc);
-    if push_values(
-        syndromes,
-        base,
-        start,
-        places,
-        &locators,
-        given,
-        &mut listing,
-    )? {
+    if push_values(syndromes, roots, wrong, &locators, given, &mut listing)? {
         return Ok(Some(listing));
     }
     Ok(None)

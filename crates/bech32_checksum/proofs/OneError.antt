@@ -1,8 +1,10 @@
 -- One error by the generator of BIP-173: its residue has one key at each value, and the tables give
 -- the location of each key.
 use Rattle.std.specs.Prelude.{◌≢◌, nat_lt, cond, Bool, true, false}
-use Rattle.std.proofs.Common.{◌≡◌, ◌<◌, ◌+◌, ◌*◌, ◌/◌, ◌%◌, ◌^◌, ◌==◌, ◌⊎◌, inl, inr, ℕ, zero, suc, List, [], ◌∷◌, length, get_or, refl, sym, ap, subst, ◌∙◌, arith, bit_xor}
-use Rattle.std.proofs.lemmas.Bool.{eqb-true, ltb-true}
+use Rattle.std.proofs.Common.{◌≡◌, ◌<◌, ◌+◌, ◌*◌, ◌/◌, ◌%◌, ◌^◌, ◌==◌, ◌⊎◌, inl, inr, ℕ, zero, suc, List, [], ◌∷◌, ◌++◌, length, take, get_or, refl, sym, ap, subst, ◌∙◌, arith, bit_xor}
+use Rattle.std.proofs.Math.Decide.{dec_lt}
+use Rattle.std.proofs.lemmas.Bool.{cond-false, eqb-true, ltb-true}
+use Rattle.std.proofs.lemmas.Bool.Decides.{eqb_tells}
 use Rattle.bech32_gf.specs.Gf32.{product, product_of, inverse}
 use Rattle.bech32_gf.specs.Fe32 as fe32
 use Rattle.bech32_gf.specs.declared.gf32.Fe32.{Fe32}
@@ -35,14 +37,34 @@ row-suc i h = eqb-true _ _ (each_below-at 1022 (λ i. get_or POWERS_OF_X (suc i)
 row-lt : (i : ℕ) → i < 1023 → get_or POWERS_OF_X i 0 < 2 ^ 30
 row-lt i h = ltb-true _ _ (each_below-at 1023 (λ i. nat_lt (get_or POWERS_OF_X i 0) (2 ^ 30)) refl i h)
 
-pub row_is : (i : ℕ) → i < 1023 → IsRemainder fe32.ops bech32.generator (monomial fe32.ops i fe32.one) (digits 6 (row i))
-row_is zero h = one_is_residue bech32.generator 6 1 (omega arith) (λ _. refl)
-row_is (suc i) h =
-    let c : ℕ = row i in
+-- the order of x is 1,023
+row-mod : (n : ℕ) → get_or POWERS_OF_X (suc n % 1023) 0 ≡ times_x (get_or POWERS_OF_X (n % 1023) 0)
+row-mod n = elim (dec_lt (n % 1023) 1022) [
+  | yes less ↦ (
+      let next : suc n % 1023 ≡ suc (n % 1023) = omega (arith, less) in
+      ap row next ∙ row-suc (n % 1023) less
+      )
+  | no past ↦ (
+      let here : n % 1023 ≡ 1022 = omega (arith, past) in
+      let next : suc n % 1023 ≡ 0 = omega (arith, past) in
+      let around : get_or POWERS_OF_X 0 0 ≡ times_x (get_or POWERS_OF_X 1022 0) = refl in
+      ap row next ∙ around ∙ sym (ap (λ i. times_x (get_or POWERS_OF_X i 0)) here)
+      )
+]
+
+pub rows_are : (n : ℕ) → IsRemainder fe32.ops bech32.generator (monomial fe32.ops n fe32.one) (digits 6 (row (n % 1023)))
+rows_are zero = one_is_residue bech32.generator 6 1 (omega arith) (λ _. refl)
+rows_are (suc n) =
+    let c : ℕ = row (n % 1023) in
     let none : c % 2 ^ 25 * 32 + 0 ≡ c % 2 ^ 25 * 32 = omega arith in
-    subst (λ n. IsRemainder fe32.ops bech32.generator (monomial fe32.ops (suc i) fe32.one) (digits 6 n))
-    (ap (λ m. bit_xor m (multiple (c / 2 ^ 25))) none ∙ sym (row-suc i (omega arith)))
-    (residue_step (monomial fe32.ops i fe32.one) c fe32.zero (row-lt i (omega arith)) (row_is i (omega arith)))
+    subst (λ m. IsRemainder fe32.ops bech32.generator (monomial fe32.ops (suc n) fe32.one) (digits 6 m))
+    (ap (λ m. bit_xor m (multiple (c / 2 ^ 25))) none ∙ sym (row-mod n))
+    (residue_step (monomial fe32.ops n fe32.one) c fe32.zero (row-lt (n % 1023) (omega arith)) (rows_are n))
+
+pub row_is : (i : ℕ) → i < 1023 → IsRemainder fe32.ops bech32.generator (monomial fe32.ops i fe32.one) (digits 6 (row i))
+row_is i h =
+    let small : i % 1023 ≡ i = omega (arith, h) in
+    subst (λ j. IsRemainder fe32.ops bech32.generator (monomial fe32.ops i fe32.one) (digits 6 (row j))) small (rows_are i)
 
 -- ---- patterns of one error
 
@@ -157,9 +179,9 @@ scale-one (x ∷ p) = same_cons _ _ _ _ (is_field.mul_comm fe32.one x ∙ is_fie
 -- ---- the tables
 
 abbrev pub slot : ℕ → ℕ
-slot k = (k * 4078033059 / 2 ^ 34 + get_or MOVES (k * 4078033059 / 2 ^ 44 % 512) 0) % 1024
+slot k = (k % 2 ^ 25 * 208833772613 / 2 ^ 34 + get_or MOVES (k % 2 ^ 25 * 208833772613 / 2 ^ 44 % 512) 0) % 1024
 
-entry-lt : (h : ℕ) → h < 1024 → get_or ANSWERS h 0 / 32 < 1023
+pub entry-lt : (h : ℕ) → h < 1024 → get_or ANSWERS h 0 / 32 < 1023
 entry-lt h l = ltb-true _ _ (each_below-at 1024 (λ h. nat_lt (get_or ANSWERS h 0 / 32) 1023) refl h l)
 
 entry_is : (h : ℕ) → h < 1024 → get_or KEYS h 0 ≡ packed (scale fe32.ops (fe32.element (get_or ANSWERS h 0)) (digits 6 (get_or POWERS_OF_X (get_or ANSWERS h 0 / 32) 0)))
@@ -176,6 +198,44 @@ pub answer_there : (i : ℕ) → i < 1023 → get_or ANSWERS (slot (key (digits 
 unfolding product product_of inverse
 answer_there i l =
     eqb-true _ _ (each_below-at 1023 (λ i. get_or ANSWERS (slot (key (digits 6 (get_or POWERS_OF_X i 0)))) 0 / 32 == i) refl i l)
+
+-- ---- the five lowest coefficients
+
+not_five : (i : ℕ) → i ≢ 5 → (i == 5) ≡ false
+not_five i n = elim (eqb_tells i 5) [
+  | inl e ↦ absurd (n e.1)
+  | inr e ↦ e.0
+]
+
+-- their key is that of all six, but for x^5
+pub low_key : (i : ℕ) → i < 1023 → i ≢ 5 → key (digits 5 (get_or POWERS_OF_X i 0)) ≡ key (digits 6 (get_or POWERS_OF_X i 0)) % 2 ^ 25
+unfolding product product_of inverse
+low_key i l n =
+    eqb-true _ _ (sym (cond-false (i == 5) true (key (digits 5 (get_or POWERS_OF_X i 0)) == key (digits 6 (get_or POWERS_OF_X i 0)) % 2 ^ 25) (not_five i n))
+    ∙ each_below-at 1023 (λ i. cond (i == 5) true (key (digits 5 (get_or POWERS_OF_X i 0)) == key (digits 6 (get_or POWERS_OF_X i 0)) % 2 ^ 25)) refl i l)
+
+pub low_slot : (i number : ℕ) → i < 1023 → i ≢ 5 → key (digits 5 (get_or POWERS_OF_X i 0)) ≡ number → slot number ≡ slot (key (digits 6 (get_or POWERS_OF_X i 0)))
+low_slot i number h n e =
+    let k : ℕ = key (digits 6 (get_or POWERS_OF_X i 0)) in
+    let is : number ≡ k % 2 ^ 25 = sym e ∙ low_key i h n in
+    let same : number % 2 ^ 25 ≡ k % 2 ^ 25 = omega (arith, is) in
+    ap (λ m. (m * 208833772613 / 2 ^ 34 + get_or MOVES (m * 208833772613 / 2 ^ 44 % 512) 0) % 1024) same
+
+five_row : digits 6 (get_or POWERS_OF_X 5 0) ≡ zeros fe32.ops 5 ++ (fe32.one ∷ [])
+five_row =
+    same_cons _ _ _ _ (fe32.path _ _ refl) (same_cons _ _ _ _ (fe32.path _ _ refl) (same_cons _ _ _ _ (fe32.path _ _ refl)
+    (same_cons _ _ _ _ (fe32.path _ _ refl) (same_cons _ _ _ _ (fe32.path _ _ refl) (same_cons _ _ _ _ (fe32.path _ _ refl) refl)))))
+
+pub five_low : digits 5 (get_or POWERS_OF_X 5 0) ≡ zeros fe32.ops 5
+five_low = ap (take 5) five_row
+
+-- no multiple of x^5 has an element that is not zero below its highest
+pub past_five : (i : ℕ) (v : Fe32) → leading (scale fe32.ops v (digits 5 (get_or POWERS_OF_X i 0))) ≢ fe32.zero → i ≢ 5
+past_five i v some five =
+    let nv = scaled_some v (digits 5 (get_or POWERS_OF_X i 0)) some in
+    let none : leading (digits 5 (get_or POWERS_OF_X 5 0)) ≡ fe32.zero = refl in
+    some (ap (λ j. leading (scale fe32.ops v (digits 5 (get_or POWERS_OF_X j 0)))) five ∙ leading-scale v (digits 5 (get_or POWERS_OF_X 5 0)) nv
+    ∙ ap (fe32.mul v) none ∙ mul_zero is_field v)
 
 -- ---- what is looked up
 

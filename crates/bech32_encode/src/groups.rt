@@ -146,7 +146,7 @@ fn put_word(word: u64, at: usize, buffer: &mut [u8])
 
 // Puts the characters of as many groups of five bytes as there are at a place, where there is room
 // for all, and hands their elements to the engine.
-#[inline(never)]
+#[inline]
 fn put_groups_in_room<Ck: Checksum>(
     bytes: &[u8],
     engine: &mut Engine<Ck>,
@@ -210,7 +210,7 @@ fn put_two_bytes<Ck: Checksum>(bytes: &[u8], engine: &mut Engine<Ck>, at: usize,
 }
 
 // Puts the characters of fewer than five bytes, and hands their elements to the engine. Programs of
-// 32 bytes leave two.
+// 20 bytes leave none, and those of 32 two.
 #[inline]
 fn put_last<Ck: Checksum>(
     bytes: &[u8],
@@ -223,6 +223,9 @@ fn put_last<Ck: Checksum>(
     ensures residue { IsResidueAfter Ck.MidstateRepr.number Ck.code engine.old
         (to_fes bytes.now) engine.new }
 {
+    if bytes.is_empty() {
+        return count;
+    }
     if bytes.len() != 2 || count > buffer.len() || buffer.len() - count < 4 {
         return put_rest(bytes, engine, count, buffer);
     }

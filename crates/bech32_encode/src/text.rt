@@ -1,6 +1,6 @@
 //! Whole texts of bytes: their lengths, and themselves in a buffer and in memory.
 
-ghost use Rattle.std.specs.Prelude.{◌≡◌, ◌++◌, ◌+◌, ℕ, List, length, option_to_list, IfOk, string_bytes};
+ghost use Rattle.std.specs.Prelude.{◌≡◌, ◌++◌, ◌+◌, ◌-◌, ◌^◌, ℕ, List, length, min, option_to_list, IfOk, string_bytes};
 ghost use Rattle.bech32_bits.specs.Bits.{fes_count, to_fes};
 ghost use Rattle.bech32_checksum.specs.Encoded.{IsEncodedText};
 ghost use Rattle.bech32_encode.specs.Buffers.{IsPutAsFits};
@@ -23,17 +23,27 @@ pub fn text_length<Ck: Checksum>(hrp: &Hrp, bytes: usize) -> usize
     text_length_of_part::<Ck>(hrp.as_bytes(), bytes)
 }
 
+// How many elements this many bytes are, or `usize::MAX` where that does not fit.
+#[inline]
+fn element_count(bytes: usize) -> usize
+    ensures { result ≡ min (fes_count 0 bytes) (2 ^ 64 - 1) }
+{
+    if bytes < 0x100_0000_0000 {
+        return (8 * bytes + 4) / 5;
+    }
+    (bytes / 5)
+        .saturating_mul(8)
+        .saturating_add((bytes % 5 * 8 + 4) / 5)
+}
+
 /// The length of the text of a human-readable part, given as bytes, and this many bytes of data, or
 /// `usize::MAX` where it does not fit.
 #[inline]
 pub fn text_length_of_part<Ck: Checksum>(part: &[u8], bytes: usize) -> usize
     ensures { result ≡ text_length_of Ck.CHECKSUM_LENGTH part.now (fes_count 0 bytes) }
 {
-    let groups = (bytes / 5)
-        .saturating_mul(8)
-        .saturating_add((bytes % 5 * 8 + 4) / 5);
     (part.len() + 1)
-        .saturating_add(groups)
+        .saturating_add(element_count(bytes))
         .saturating_add(Ck::CHECKSUM_LENGTH)
 }
 

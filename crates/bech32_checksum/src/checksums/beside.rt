@@ -1,40 +1,76 @@
-//! One error beside an element at a known location, by the generator of BIP-173. What the error
-//! alone leaves is the residue less a multiple of the remainder at that location: the keys of all
-//! these are those of a line.
+//! One error beside an element at a known location, by the generator of BIP-173. Times a power of
+//! x the element stands at place 5 of the residue, and the five coefficients below it are those of
+//! the error alone, by which it is looked up.
 
-ghost use Rattle.std.specs.Prelude.{◌≡◌, ◌≢◌, ◌<◌, ◌≤◌, ◌⊎◌, ℕ, bit_xor, get_or, length, MatchOption, ⊤};
+ghost use Rattle.std.specs.Prelude.{◌≡◌, ◌≢◌, ◌<◌, ◌≤◌, ◌%◌, ◌^◌, ◌++◌, ℕ, get_or, length, MatchOption, ⊤};
 ghost use Rattle.bech32_gf.specs.Fe32 as fe32;
 ghost use Rattle.bech32_gf.specs.declared.gf32.Fe32.{Fe32 as Element};
+ghost use Rattle.bech32_poly.specs.Division.{remainder_of, zeros};
 ghost use Rattle.bech32_poly.specs.Polynomial.{add, scale};
 ghost use Rattle.bech32_checksum.specs.Code.{bech32};
 ghost use Rattle.bech32_checksum.specs.OneError.{IsBeside, key, leading, packed};
-ghost use Rattle.bech32_checksum.specs.Packed.{digit_of, digits};
+ghost use Rattle.bech32_checksum.specs.Packed.{digits};
 
-use super::erased::{coefficient_at, multiple_of, packed_list, product, row_at, values_at_two};
-use super::ones::{inverse_of, leading_of, location_of};
+use super::erased::{coefficient_at, multiple_of, packed_list, row_at, values_at_two};
+use super::ones::{inverse_of, leading_of, location_of, product_value};
 use super::powers::POWERS_OF_X;
 use bech32_gf::gf32::Fe32;
 
-// The location below the window whose remainder has a key, if any.
+// A power below 2,046 by the order of x, which is 1,023.
 #[inline]
-fn location_below(number: u32, window: usize) -> Option<usize>
-    ensures { MatchOption result
-        ((i : ℕ) → i < 1023 → i < window → key (digits 6 (get_or POWERS_OF_X i 0)) ≡ number → ⊥)
-        (λ i. i < window) }
+fn wrapped(power: usize) -> usize
+    requires { power < 2046 }
+    ensures { result ≡ power % 1023 }
 {
-    let location = location_of(number)?;
-    if location < window {
-        Some(location)
-    } else {
-        None
-    }
+    if power < 1023 { power } else { power - 1023 }
 }
 
-// The key of a packed row; none of the row of zeros.
+// The remainder of x to a power times a factor, packed.
+#[inline]
+fn multiple_of_power(power: usize, factor: Fe32) -> u32
+    requires { power < 2046 }
+    ensures { digits 6 result
+        ≡ scale fe32.ops factor (digits 6 (get_or POWERS_OF_X (power % 1023) 0)) }
+{
+    multiple_of(POWERS_OF_X[wrapped(power)], factor)
+}
+
+// A residue of six elements times x to a power, packed: the remainders of six powers, each times an
+// element.
+#[inline]
+fn moved_up(residue: &[Fe32], power: usize) -> u32
+    requires six { length residue.now ≡ 6 }
+    requires small { power < 1023 }
+    ensures { digits 6 result ≡ remainder_of fe32.ops bech32.generator
+        (zeros fe32.ops power ++ residue.now) }
+{
+    let first = multiple_of_power(power, residue[0]);
+    let second = multiple_of_power(power + 1, residue[1]);
+    let third = multiple_of_power(power + 2, residue[2]);
+    let fourth = multiple_of_power(power + 3, residue[3]);
+    let fifth = multiple_of_power(power + 4, residue[4]);
+    let sixth = multiple_of_power(power + 5, residue[5]);
+    first ^ (second ^ (third ^ (fourth ^ (fifth ^ sixth))))
+}
+
+// Five elements, each times a factor, packed, the first one lowest.
+#[inline]
+fn packed_five(list: &[Fe32], factor: Fe32) -> u32
+    requires { length list.now ≡ 5 }
+    ensures value { result ≡ packed (scale fe32.ops factor list.now) }
+    ensures below { result < 2 ^ 25 }
+{
+    let third = product_value(factor, list[3]) + 32 * product_value(factor, list[4]);
+    let second = product_value(factor, list[1])
+        + 32 * (product_value(factor, list[2]) + 32 * third);
+    product_value(factor, list[0]) + 32 * second
+}
+
+// The key of the five lowest coefficients of a packed row; none where they are zero.
 #[inline]
 fn key_of(row: u32) -> Option<u32>
     ensures { MatchOption result ⊤
-        (λ k. (leading (digits 6 row) ≢ fe32.zero) × (k ≡ key (digits 6 row))) }
+        (λ k. (k < 2 ^ 25) × ((leading (digits 5 row) ≢ fe32.zero) × (k ≡ key (digits 5 row)))) }
 {
     let elements = [
         coefficient_at(row, 0),
@@ -42,103 +78,37 @@ fn key_of(row: u32) -> Option<u32>
         coefficient_at(row, 10),
         coefficient_at(row, 15),
         coefficient_at(row, 20),
-        coefficient_at(row, 25),
     ];
     let first = leading_of(&elements);
     if first == Fe32::Q {
         return None;
     }
-    Some(multiple_of(row, inverse_of(first)))
+    Some(packed_five(&elements, inverse_of(first)))
 }
 
-// The first place at which one of two packed rows is not zero, if there is one.
+// The location below the window at which alone an error may stand beside an element at another
+// location; says nothing where the element alone leaves the residue.
 #[inline]
-fn first_place(one: u32, other: u32) -> Option<u32>
-    ensures { MatchOption result ⊤ (λ k. (k < 6) × ((n : ℕ) → n < k
-        → (digit_of one n ≡ fe32.zero) × (digit_of other n ≡ fe32.zero))) }
-{
-    for place in 0..6 {
-        let bit = 5 * place;
-        if coefficient_at(one, bit) != Fe32::Q || coefficient_at(other, bit) != Fe32::Q {
-            return Some(place);
-        }
-    }
-    None
-}
-
-// What keys a row has to which a residue is left by a multiple of another one: the first number, or
-// the second plus a multiple of the third. Says nothing where the residue is such a multiple.
-#[inline]
-fn line_of(residue: u32, row: u32) -> Option<(u32, u32, u32)>
-    ensures { MatchOption result ⊤ (λ keys. (t : ℕ) (v w : Element)
-        → digits 6 residue
-        ≡ add fe32.ops (scale fe32.ops v (digits 6 row)) (scale fe32.ops w (digits 6 t))
-        → (key (digits 6 t) ≡ keys.0) ⊎ ((u : Element) × (u ≢ fe32.zero)
-        × (key (digits 6 t) ≡ bit_xor keys.1 (packed (scale fe32.ops u (digits 6 keys.2)))))) }
-{
-    let place = first_place(residue, row)?;
-    let low = coefficient_at(residue, 5 * place);
-    let here = coefficient_at(row, 5 * place);
-    if here == Fe32::Q {
-        if low == Fe32::Q {
-            return None;
-        }
-        let first = multiple_of(residue, inverse_of(low));
-        return Some((first, first, row));
-    }
-    let inverse = inverse_of(here);
-    let rest = residue ^ multiple_of(row, product(low, inverse));
-    Some((key_of(rest)?, multiple_of(row, inverse), rest))
-}
-
-// The bit by which each value of the Gray code differs from the one before it, 0 being the first.
-const FLIPS: [u8; 31] = [
-    0, 1, 0, 2, 0, 1, 0, 3, 0, 1, 0, 2, 0, 1, 0, 4, 0, 1, 0, 2, 0, 1, 0, 3, 0, 1, 0, 2, 0, 1, 0,
-];
-
-// A location below the window whose key is a number plus a multiple of a row, but not the number
-// itself. The factors come in the order of the Gray code, so that each number is the one before it
-// plus one of five multiples.
-#[inline]
-fn location_on_line(first: u32, row: u32, window: usize) -> Option<usize>
-    ensures { MatchOption result
-        ((i : ℕ) (u : Element) → i < 1023 → i < window → u ≢ fe32.zero
-        → key (digits 6 (get_or POWERS_OF_X i 0))
-        ≡ bit_xor first (packed (scale fe32.ops u (digits 6 row))) → ⊥)
-        (λ i. i < window) }
-{
-    let multiples = [
-        multiple_of(row, Fe32::P),
-        multiple_of(row, Fe32::Z),
-        multiple_of(row, Fe32::Y),
-        multiple_of(row, Fe32::G),
-        multiple_of(row, Fe32::S),
-    ];
-    let mut number = first;
-    for turn in 0..31 {
-        number = number ^ multiples[FLIPS[turn] as usize];
-        if let Some(location) = location_below(number, window) {
-            return Some(location);
-        }
-    }
-    None
-}
-
-// A location below the window at which an error may stand beside an element that has another row.
-#[inline]
-fn location_beside(residue: u32, row: u32, window: usize) -> Option<Option<usize>>
-    requires { window ≤ 1023 }
+fn location_beside(residue: &[Fe32], location: usize, window: usize) -> Option<Option<usize>>
+    requires six { length residue.now ≡ 6 }
+    requires small { location < 1023 }
+    requires within { window ≤ 1023 }
     ensures { MatchOption result ⊤ (λ found. MatchOption found
-        ((v : Element) (i : ℕ) (w : Element) → i < window → digits 6 residue
-        ≡ add fe32.ops (scale fe32.ops v (digits 6 row))
+        ((v : Element) (i : ℕ) (w : Element) → i < window → residue.now
+        ≡ add fe32.ops (scale fe32.ops v (digits 6 (get_or POWERS_OF_X location 0)))
         (scale fe32.ops w (digits 6 (get_or POWERS_OF_X i 0))) → ⊥)
         (λ i. i < window)) }
 {
-    let (point, first, other) = line_of(residue, row)?;
-    match location_below(point, window) {
-        Some(location) => Some(Some(location)),
-        None => Some(location_on_line(first, other, window)),
+    let power = (1028 - location) % 1023;
+    let key = key_of(moved_up(residue, power))?;
+    let Some(moved) = location_of(key) else {
+        return Some(None);
+    };
+    let found = (moved + location + 1018) % 1023;
+    if found >= window {
+        return Some(None);
     }
+    Some(Some(found))
 }
 
 // The element at a location and the error below a window that together leave a residue; says
@@ -157,7 +127,7 @@ pub(super) fn one_beside_by_rows(
         return None;
     }
     let (whole, row) = (packed_list(residue), row_at(location)?);
-    let Some(place) = location_beside(whole, row, window)? else {
+    let Some(place) = location_beside(residue, location, window)? else {
         return Some(None);
     };
     let values = values_at_two(whole, row, row_at(place)?)??;

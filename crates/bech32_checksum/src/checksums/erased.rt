@@ -24,7 +24,7 @@ pub(super) fn coefficient_at(row: u32, bit: u32) -> Fe32
 
 // The product of two elements, by a table.
 #[inline]
-pub(super) fn product(a: Fe32, b: Fe32) -> Fe32
+fn product(a: Fe32, b: Fe32) -> Fe32
     ensures { result ≡ fe32.mul a b }
 {
     Fe32::from_low_bits(product_value(a, b) as u8)

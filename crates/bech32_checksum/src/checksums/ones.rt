@@ -1,6 +1,6 @@
 //! One error by the generator of BIP-173, looked up by its remainder.
 
-ghost use Rattle.std.specs.Prelude.{◌≡◌, ◌≢◌, ◌<◌, ◌+◌, ◌*◌, ◌/◌, ◌%◌, ◌^◌, ℕ, Some, get_or, length, MatchOption, ⊤};
+ghost use Rattle.std.specs.Prelude.{◌≡◌, ◌≢◌, ◌<◌, ◌+◌, ◌*◌, ◌/◌, ◌%◌, ◌^◌, ℕ, Some, get_or, length, IfSome, MatchOption, ⊤};
 ghost use Rattle.bech32_gf.specs.Fe32 as fe32;
 ghost use Rattle.bech32_gf.specs.Fe32.{value};
 ghost use Rattle.bech32_poly.specs.Polynomial.{scale};
@@ -55,25 +55,30 @@ fn packed_multiple(list: &[Fe32], factor: Fe32) -> u32
     product_value(factor, list[0]) + 32 * (product_value(factor, list[1]) + 32 * third)
 }
 
-// The slot in which a number stands, if it is the key of a location.
+// The slot in which a number stands, if it is the key of a location: it goes by the five lowest
+// elements.
 #[inline]
 fn slot_of(number: u32) -> usize
-    ensures { result ≡ (number * 4078033059 / 2 ^ 34
-        + get_or MOVES (number * 4078033059 / 2 ^ 44 % 512) 0) % 1024 }
+    ensures { result ≡ (number % 2 ^ 25 * 208833772613 / 2 ^ 34
+        + get_or MOVES (number % 2 ^ 25 * 208833772613 / 2 ^ 44 % 512) 0) % 1024 }
 {
-    let hash = number as u64 * 4078033059;
+    let hash = (number % 0x200_0000) as u64 * 208833772613;
     let moved = hash / 0x4_0000_0000 + MOVES[(hash / 0x1000_0000_0000 % 512) as usize] as u64;
     (moved % 1024) as usize
 }
 
-// The location whose remainder has a key, if any.
+// The location whose remainder has a key of its five lowest coefficients, if any. They are zero at
+// location 5.
 #[inline]
 pub(super) fn location_of(number: u32) -> Option<usize>
-    ensures { (i : ℕ) → i < 1023 → key (digits 6 (get_or POWERS_OF_X i 0)) ≡ number
+    requires { number < 2 ^ 25 }
+    ensures found { (i : ℕ) → i < 1023 → i ≢ 5 → key (digits 5 (get_or POWERS_OF_X i 0)) ≡ number
         → result ≡ Some i }
+    ensures below { IfSome result (λ i. i < 1023) }
 {
     let slot = slot_of(number);
-    if KEYS[slot] != number {
+    let stored = KEYS[slot] % 0x200_0000;
+    if stored != number {
         return None;
     }
     Some((ANSWERS[slot] / 32) as usize)

@@ -1,7 +1,7 @@
 //! The remainders of two elements at x^6, x^8, x^10 and x^12, packed, by the generator of BIP-173.
 
 // The remainders of x^6 times each two elements, packed.
-pub(super) const TWO_AT_X6: [u32; 1024] = [
+const TWO_AT_X6: [u32; 1024] = [
     0x00000000, 0x3b6a57b2, 0x26508e6d, 0x1d3ad9df, 0x1ea119fa, 0x25cb4e48, 0x38f19797, 0x039bc025,
     0x3d4233dd, 0x0628646f, 0x1b12bdb0, 0x2078ea02, 0x23e32a27, 0x18897d95, 0x05b3a44a, 0x3ed9f3f8,
     0x2a1462b3, 0x117e3501, 0x0c44ecde, 0x372ebb6c, 0x34b57b49, 0x0fdf2cfb, 0x12e5f524, 0x298fa296,
@@ -133,7 +133,7 @@ pub(super) const TWO_AT_X6: [u32; 1024] = [
 ];
 
 // The remainders of x^8 times each two elements, packed.
-pub(super) const TWO_AT_X8: [u32; 1024] = [
+const TWO_AT_X8: [u32; 1024] = [
     0x00000000, 0x0424df38, 0x08491f79, 0x0c6dc041, 0x1086bbfb, 0x14a264c3, 0x18cfa482, 0x1ceb7bba,
     0x210d72ff, 0x2529adc7, 0x29446d86, 0x2d60b2be, 0x318bc904, 0x35af163c, 0x39c2d67d, 0x3de60945,
     0x129ec4f7, 0x16ba1bcf, 0x1ad7db8e, 0x1ef304b6, 0x02187f0c, 0x063ca034, 0x0a516075, 0x0e75bf4d,
@@ -265,7 +265,7 @@ pub(super) const TWO_AT_X8: [u32; 1024] = [
 ];
 
 // The remainders of x^10 times each two elements, packed.
-pub(super) const TWO_AT_X10: [u32; 1024] = [
+const TWO_AT_X10: [u32; 1024] = [
     0x00000000, 0x081318a1, 0x10263142, 0x183529e3, 0x204c6284, 0x285f7a25, 0x306a53c6, 0x38794b67,
     0x128ce428, 0x1a9ffc89, 0x02aad56a, 0x0ab9cdcb, 0x32c086ac, 0x3ad39e0d, 0x22e6b7ee, 0x2af5af4f,
     0x250dec50, 0x2d1ef4f1, 0x352bdd12, 0x3d38c5b3, 0x05418ed4, 0x0d529675, 0x1567bf96, 0x1d74a737,
@@ -397,7 +397,7 @@ pub(super) const TWO_AT_X10: [u32; 1024] = [
 ];
 
 // The remainders of x^12 times each two elements, packed.
-pub(super) const TWO_AT_X12: [u32; 1024] = [
+const TWO_AT_X12: [u32; 1024] = [
     0x00000000, 0x1df21f0a, 0x39743b34, 0x2486243e, 0x22787361, 0x3f8a6c6b, 0x1b0c4855, 0x06fe575f,
     0x16e4c7e2, 0x0b16d8e8, 0x2f90fcd6, 0x3262e3dc, 0x349cb483, 0x296eab89, 0x0de88fb7, 0x101a90bd,
     0x2dc92ee4, 0x303b31ee, 0x14bd15d0, 0x094f0ada, 0x0fb15d85, 0x1243428f, 0x36c566b1, 0x2b3779bb,
@@ -527,3 +527,6 @@ pub(super) const TWO_AT_X12: [u32; 1024] = [
     0x3819233d, 0x25eb3c37, 0x016d1809, 0x1c9f0703, 0x1a61505c, 0x07934f56, 0x23156b68, 0x3ee77462,
     0x2efde4df, 0x330ffbd5, 0x1789dfeb, 0x0a7bc0e1, 0x0c8597be, 0x117788b4, 0x35f1ac8a, 0x2803b380,
 ];
+
+// These at x^6, x^8, x^10 and x^12, as one table: a loop that reads all has one address.
+pub(super) const TWOS: [[u32; 1024]; 4] = [TWO_AT_X6, TWO_AT_X8, TWO_AT_X10, TWO_AT_X12];

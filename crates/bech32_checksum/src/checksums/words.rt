@@ -4,7 +4,7 @@ ghost use Rattle.std.specs.Prelude.{◌<◌, ◌^◌, ℕ};
 ghost use Rattle.bech32_checksum.specs.Code.{bech32, IsResidueAfter};
 ghost use Rattle.bech32_checksum.specs.Word.{row_elements, two_elements, word_elements};
 
-use super::twos::{TWO_AT_X6, TWO_AT_X8, TWO_AT_X10, TWO_AT_X12};
+use super::twos::TWOS;
 
 // The remainder after eight more elements. It is a sum: each two coefficients of the remainder
 // before are eight places higher, so that they have a table, as have the first two elements; the
@@ -16,10 +16,10 @@ pub(super) fn after_word_by_tables(residue: u32, word: u64) -> u32
     ensures clear { result < 2 ^ 30 }
     ensures after { IsResidueAfter (λ (n : ℕ). n) bech32 residue (word_elements word) result }
 {
-    TWO_AT_X12[(residue / 0x10_0000) as usize]
-        ^ TWO_AT_X10[(residue / 0x400 % 0x400) as usize]
-        ^ TWO_AT_X8[(residue % 0x400) as usize]
-        ^ TWO_AT_X6[(word / 0x4000_0000) as usize]
+    TWOS[3][(residue / 0x10_0000) as usize]
+        ^ TWOS[2][(residue / 0x400 % 0x400) as usize]
+        ^ TWOS[1][(residue % 0x400) as usize]
+        ^ TWOS[0][(word / 0x4000_0000) as usize]
         ^ (word % 0x4000_0000) as u32
 }
 
@@ -32,9 +32,9 @@ pub(super) fn after_row_by_tables(residue: u32, row: u32) -> u32
     ensures clear { result < 2 ^ 30 }
     ensures after { IsResidueAfter (λ (n : ℕ). n) bech32 residue (row_elements row) result }
 {
-    TWO_AT_X10[(residue / 0x10_0000) as usize]
-        ^ TWO_AT_X8[(residue / 0x400 % 0x400) as usize]
-        ^ TWO_AT_X6[(residue % 0x400) as usize]
+    TWOS[2][(residue / 0x10_0000) as usize]
+        ^ TWOS[1][(residue / 0x400 % 0x400) as usize]
+        ^ TWOS[0][(residue % 0x400) as usize]
         ^ row
 }
 
@@ -48,5 +48,5 @@ pub(super) fn after_two_by_table(residue: u32, two: u32) -> u32
     ensures clear { result < 2 ^ 30 }
     ensures after { IsResidueAfter (λ (n : ℕ). n) bech32 residue (two_elements two) result }
 {
-    TWO_AT_X6[(residue / 0x10_0000) as usize] ^ (residue % 0x10_0000 * 0x400) ^ two
+    TWOS[0][(residue / 0x10_0000) as usize] ^ (residue % 0x10_0000 * 0x400) ^ two
 }

@@ -42,10 +42,24 @@ impl<E: Extension, A: Allocator + Copy> RootIter<E, A> {
             left ≡ root_exponents E.ops E.same (map E.embed polynomial.now) base start end) }
         ensures in_place { FitsInPlace (length polynomial.now) → IsOk result }
     {
-        match Search::new(polynomial, base, start, end) {
-            Ok(search) => Ok(RootIter { search }),
-            Err(refusal) => Err(refusal),
+        let first = base.power(start);
+        let mut terms = FieldVec::new(polynomial.allocator());
+        let mut factors = FieldVec::new(polynomial.allocator());
+        let mut power = E::one();
+        let mut factor = E::one();
+        for coefficient in polynomial.as_slice() {
+            terms.push(E::lift(*coefficient).times(power))?;
+            factors.push(factor)?;
+            power = power.times(first);
+            factor = factor.times(base);
         }
+        let search = Search {
+            terms,
+            factors,
+            next: start,
+            end,
+        };
+        Ok(RootIter { search })
     }
 }
 
@@ -82,39 +96,6 @@ impl<E: Copy, A: Allocator + Copy> Model for Search<E, A> {
     } };
 
     ghost invariant = { λ a. length a.factors ≡ length a.terms };
-}
-
-impl<E: Extension, A: Allocator + Copy> Search<E, A> {
-    // A search that stands at `start`.
-    fn new(
-        polynomial: &Polynomial<E::Base, A>,
-        base: E,
-        start: usize,
-        end: usize,
-    ) -> Result<Self, AllocError>
-        ensures roots { IfOk result (λ s.
-            left_of E.ops E.same s
-            ≡ root_exponents E.ops E.same (map E.embed polynomial.now) base start end) }
-        ensures in_place { FitsInPlace (length polynomial.now) → IsOk result }
-    {
-        let first = base.power(start);
-        let mut terms = FieldVec::new(polynomial.allocator());
-        let mut factors = FieldVec::new(polynomial.allocator());
-        let mut power = E::one();
-        let mut factor = E::one();
-        for coefficient in polynomial.as_slice() {
-            terms.push(E::lift(*coefficient).times(power))?;
-            factors.push(factor)?;
-            power = power.times(first);
-            factor = factor.times(base);
-        }
-        Ok(Search {
-            terms,
-            factors,
-            next: start,
-            end,
-        })
-    }
 }
 
 impl<E: Arithmetic, A: Allocator + Copy> Search<E, A> {

@@ -6,8 +6,8 @@ use Rattle.bech32_bch.proofs.Searched.{root_met, root_passed, searching, stopped
 use Rattle.bech32_bch.proofs.locations.push_roots.Goals.{then-equals+in_ok-push, else-equals}
 use Rattle.bech32_bch.proofs.locations.push_roots.Goals as goal
 
-pub loop-place-init : goal.loop-place-init
-loop-place-init g c =
+pub loop-location-init : goal.loop-location-init
+loop-location-init g c =
     let o = g.K.Arithmetic.ops in
     let l = g.met.K.Arithmetic.laws in
     let same = g.K.Arithmetic.same in
@@ -17,40 +17,40 @@ loop-place-init g c =
       whole = ap (λ u. u ++ left_of o same (searching l same c.args.terms.now c.args.factors.now 0 c.args.window)) c.requires.empty;
     }
 
-pub loop-place-preserved : goal.loop-place-preserved
-loop-place-preserved g c =
+pub loop-location-preserved : goal.loop-location-preserved
+loop-location-preserved g c =
     let o = g.K.Arithmetic.ops in
     let l = g.met.K.Arithmetic.laws in
     let same = g.K.Arithmetic.same in
-    let terms = c.loop-place.terms in
+    let terms = c.loop-location.terms in
     let factors = c.args.factors.now in
     let roots = left_of o same (searching l same c.args.terms.now factors 0 c.args.window) in
-    let place : ℕ = c.loop-place.place in
-    let found = c.loop-place.found in
+    let location : ℕ = c.loop-location.location in
+    let found = c.loop-location.found in
     let summed : c.total.result ≡ total_of o terms = c.total.ensures ∙ ap (total_of o) c.as_slice.ensures in
     elim c.if-equals.branch [
       | then-equals+in_ok-push w ↦
-          let pushed : c.if-equals.found ≡ found ++ (place ∷ []) = w.found-is ∙ w.in_ok-push.ensures.ok in
+          let pushed : c.if-equals.found ≡ found ++ (location ∷ []) = w.found-is ∙ w.in_ok-push.ensures.ok in
           record {
-            few = omega (arith, ap (λ u. length u) pushed, length-append found (place ∷ []), c.len.ensures);
-            size = c.loop-place.invariant.size ∙ sym (ap (λ u. length u) c.multiply_each.ensures ∙ length-multiplied_each l terms factors);
-            whole = root_met l same terms c.multiply_each.new.self factors place (place + 1) c.args.window found c.if-equals.found roots c.total.result c.zero.result c.equals.result
-                w.if-equals.true (omega arith) c.loop-place.invariant.size summed c.zero.ensures c.equals.ensures c.multiply_each.ensures refl pushed c.loop-place.invariant.whole;
+            few = omega (arith, ap (λ u. length u) pushed, length-append found (location ∷ []), c.len.ensures);
+            size = c.loop-location.invariant.size ∙ sym (ap (λ u. length u) c.multiply_each.ensures ∙ length-multiplied_each l terms factors);
+            whole = root_met l same terms c.multiply_each.new.self factors location (location + 1) c.args.window found c.if-equals.found roots c.total.result c.zero.result c.equals.result
+                w.if-equals.true (omega arith) c.loop-location.invariant.size summed c.zero.ensures c.equals.ensures c.multiply_each.ensures refl pushed c.loop-location.invariant.whole;
           }
       | else-equals w ↦ record {
-        few = omega (arith, ap (λ u. length u) w.found-is, c.loop-place.invariant.few);
-        size = c.loop-place.invariant.size ∙ sym (ap (λ u. length u) c.multiply_each.ensures ∙ length-multiplied_each l terms factors);
-        whole = root_passed l same terms c.multiply_each.new.self factors place (place + 1) c.args.window found c.if-equals.found roots c.total.result c.zero.result c.equals.result
-            w.if-equals.false (omega arith) c.loop-place.invariant.size summed c.zero.ensures c.equals.ensures c.multiply_each.ensures refl w.found-is c.loop-place.invariant.whole;
+        few = omega (arith, ap (λ u. length u) w.found-is, c.loop-location.invariant.few);
+        size = c.loop-location.invariant.size ∙ sym (ap (λ u. length u) c.multiply_each.ensures ∙ length-multiplied_each l terms factors);
+        whole = root_passed l same terms c.multiply_each.new.self factors location (location + 1) c.args.window found c.if-equals.found roots c.total.result c.zero.result c.equals.result
+            w.if-equals.false (omega arith) c.loop-location.invariant.size summed c.zero.ensures c.equals.ensures c.multiply_each.ensures refl w.found-is c.loop-location.invariant.whole;
       }
     ]
 
 pub returns-else-len-degree-clause-roots : goal.returns-else-len-degree-clause-roots
 returns-else-len-degree-clause-roots g c =
-    stopped g.met.K.Arithmetic.laws g.K.Arithmetic.same c.loop-place.terms c.args.factors.now c.loop-place.place c.args.window c.args.degree c.loop-place.found _
-    (λ k. absurd (omega (arith, k, c.if-len-degree.false, c.len.ensures))) c.loop-place.invariant.few c.loop-place.invariant.whole
+    stopped g.met.K.Arithmetic.laws g.K.Arithmetic.same c.loop-location.terms c.args.factors.now c.loop-location.location c.args.window c.args.degree c.loop-location.found _
+    (λ k. absurd (omega (arith, k, c.if-len-degree.false, c.len.ensures))) c.loop-location.invariant.few c.loop-location.invariant.whole
 
-pub returns-after-loop-place-clause-roots : goal.returns-after-loop-place-clause-roots
-returns-after-loop-place-clause-roots g c =
-    stopped g.met.K.Arithmetic.laws g.K.Arithmetic.same c.loop-place.terms c.args.factors.now c.loop-place.place c.args.window c.args.degree c.loop-place.found _
-    (λ k. c.loop-place-test.false) c.loop-place.invariant.few c.loop-place.invariant.whole
+pub returns-after-loop-location-clause-roots : goal.returns-after-loop-location-clause-roots
+returns-after-loop-location-clause-roots g c =
+    stopped g.met.K.Arithmetic.laws g.K.Arithmetic.same c.loop-location.terms c.args.factors.now c.loop-location.location c.args.window c.args.degree c.loop-location.found _
+    (λ k. c.loop-location-test.false) c.loop-location.invariant.few c.loop-location.invariant.whole

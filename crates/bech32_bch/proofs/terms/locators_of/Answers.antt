@@ -10,24 +10,24 @@ use Rattle.bech32_bch.proofs.terms.locators_of.Goals as goal
 refused : {P : Type 0} → false ≡ true → P
 refused h = absurd (cc h)
 
-pub loop-place-preserved : goal.loop-place-preserved
-loop-place-preserved g c =
+pub loop-location-preserved : goal.loop-location-preserved
+loop-location-preserved g c =
     let o = g.K.Arithmetic.ops in
     let b = c.args.base in
-    let k : ℕ = c.loop-place.place-index in
-    let places = c.args.places.now in
-    c.in_ok-push.ensures.ok ∙ ap (λ u. u ++ (c.power.result ∷ [])) c.loop-place.invariant
-    ∙ ap (λ y. locators o b (take k places) ++ (y ∷ [])) c.power.ensures
-    ∙ sym (locators-more o b (take k places) (get_or places k 0))
-    ∙ ap (locators o b) (sym (take_more places k 0 c.loop-place-test.true))
+    let k : ℕ = c.loop-location.location-index in
+    let locations = c.args.locations.now in
+    c.in_ok-push.ensures.ok ∙ ap (λ u. u ++ (c.power.result ∷ [])) c.loop-location.invariant
+    ∙ ap (λ y. locators o b (take k locations) ++ (y ∷ [])) c.power.ensures
+    ∙ sym (locators-more o b (take k locations) (get_or locations k 0))
+    ∙ ap (locators o b) (sym (take_more locations k 0 c.loop-location-test.true))
 
 pub returns-clause-locators : goal.returns-clause-locators
 returns-clause-locators g c =
-    c.loop-place.invariant ∙ ap (locators g.K.Arithmetic.ops c.args.base) (take_all c.loop-place.place-index c.args.places.now c.loop-place-test.false)
+    c.loop-location.invariant ∙ ap (locators g.K.Arithmetic.ops c.args.base) (take_all c.loop-location.location-index c.args.locations.now c.loop-location-test.false)
 
 pub returns-in_err-push-clause-in_place : goal.returns-in_err-push-clause-in_place
 returns-in_err-push-clause-in_place g c = λ fits.
-    let k : ℕ = c.loop-place.place-index in
-    let places = c.args.places.now in
-    let within : k ≤ length places = omega arith in
-    refused (c.in_err-push.ensures.in_place (omega (arith, fits, ap (λ u. length u) c.loop-place.invariant, length-locators g.K.Arithmetic.ops c.args.base (take k places), length_take places k within, c.loop-place-test.true)))
+    let k : ℕ = c.loop-location.location-index in
+    let locations = c.args.locations.now in
+    let within : k ≤ length locations = omega arith in
+    refused (c.in_err-push.ensures.in_place (omega (arith, fits, ap (λ u. length u) c.loop-location.invariant, length-locators g.K.Arithmetic.ops c.args.base (take k locations), length_take locations k within, c.loop-location-test.true)))

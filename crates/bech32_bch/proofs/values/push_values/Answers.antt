@@ -18,33 +18,33 @@ refused h = absurd (cc h)
 
 pub returns-in_default-clause-found : goal.returns-in_default-clause-found
 returns-in_default-clause-found g c = λ v explained not_zero.
-    let x : ℕ = get_or c.args.places.now c.loop-k.k 0 in
-    let some : c.in_ok-v.field-0 ≡ Some (v x) = c.in_ok-v.ensures.value (v x) (explained x (mem_at c.args.places.now c.loop-k.k 0 (omega arith))) in
+    let x : ℕ = get_or c.args.wrong.now c.loop-k.k 0 in
+    let some : c.in_ok-v.field-0 ≡ Some (v x) = c.in_ok-v.ensures.value (v x) (explained x (mem_at c.args.wrong.now c.loop-k.k 0 (omega arith))) in
     absurd (none_some c.in_ok-v.field-0 (v x) some c.in_default.is)
 
 pub returns-then-is_base_zero-clause-found : goal.returns-then-is_base_zero-clause-found
 returns-then-is_base_zero-clause-found g c = λ v explained not_zero.
-    let x : ℕ = get_or c.args.places.now c.loop-k.k 0 in
-    let some : c.in_ok-v.field-0 ≡ Some (v x) = c.in_ok-v.ensures.value (v x) (explained x (mem_at c.args.places.now c.loop-k.k 0 (omega arith))) in
+    let x : ℕ = get_or c.args.wrong.now c.loop-k.k 0 in
+    let some : c.in_ok-v.field-0 ≡ Some (v x) = c.in_ok-v.ensures.value (v x) (explained x (mem_at c.args.wrong.now c.loop-k.k 0 (omega arith))) in
     let none : c.in-Some.v ≡ g.E.Extension.base_ops.zero = c.is_base_zero.ensures.0 c.if-is_base_zero.true in
     let same : v x ≡ g.E.Extension.base_ops.zero = sym (some_same c.in_ok-v.field-0 (v x) c.in-Some.v some c.in-Some.is) ∙ none in
-    absurd (not_zero x (mem_drop c.args.places.now c.args.given c.loop-k.k 0 (omega arith) (omega arith)) same)
+    absurd (not_zero x (mem_drop c.args.wrong.now c.args.given c.loop-k.k 0 (omega arith) (omega arith)) same)
 
 pub returns-in_err-push-clause-in_place : goal.returns-in_err-push-clause-in_place
 returns-in_err-push-clause-in_place g c = λ fits.
-    let size : length c.loop-k.listing ≡ c.loop-k.k = length-locations c.loop-k.listing ∙ ap (λ u. length u) c.loop-k.invariant.placed ∙ length_take c.args.places.now c.loop-k.k (omega arith) in
+    let size : length c.loop-k.listing ≡ c.loop-k.k = length-locations c.loop-k.listing ∙ ap (λ u. length u) c.loop-k.invariant.placed ∙ length_take c.args.wrong.now c.loop-k.k (omega arith) in
     refused (c.in_err-push.ensures.in_place (omega (arith, size, fits, c.requires.few)))
 
 pub loop-k-preserved : goal.loop-k-preserved
 loop-k-preserved g c =
     let k : ℕ = c.loop-k.k in
-    let places = c.args.places.now in
-    let x : ℕ = get_or places k 0 in
+    let wrong = c.args.wrong.now in
+    let x : ℕ = get_or wrong k 0 in
     let w = c.in-Some.v in
     let before = c.loop-k.listing in
     let items : c.push.new.self ≡ before ++ ((x, w) ∷ []) = c.in_ok-push.ensures.ok in
-    let more : take (k + 1) places ≡ take k places ++ (x ∷ []) = take_more places k 0 (omega arith) in
-    let size : length before ≡ k = length-locations before ∙ ap (λ u. length u) c.loop-k.invariant.placed ∙ length_take places k (omega arith) in
+    let more : take (k + 1) wrong ≡ take k wrong ++ (x ∷ []) = take_more wrong k 0 (omega arith) in
+    let size : length before ≡ k = length-locations before ∙ ap (λ u. length u) c.loop-k.invariant.placed ∙ length_take wrong k (omega arith) in
     let here : c.args.given ≤ length before → w ≢ g.E.Extension.base_ops.zero = λ le. elim c.else-k-given.branch [
       | else-k-given-via-then-k-given+else-is_base_zero b ↦ (λ z. refused (sym b.if-is_base_zero.false ∙ b.is_base_zero.ensures.1 z))
       | else-k-given-via-else-k-given b ↦ absurd (omega (arith, size, le, b.if-k-given.false))
@@ -53,14 +53,14 @@ loop-k-preserved g c =
       placed = ap locations items ∙ locations-append before ((x, w) ∷ []) ∙ ap (λ u. u ++ (x ∷ [])) c.loop-k.invariant.placed ∙ sym more;
       not_zero = subst (λ u. AllByRecursion (λ p. p.1 ≢ g.E.Extension.base_ops.zero) (drop c.args.given u)) (sym items) (all_drop_more (λ p. p.1 ≢ g.E.Extension.base_ops.zero) c.args.given before (x, w) c.loop-k.invariant.not_zero here);
       explained = λ v explained not_zero.
-          let some : c.in_ok-v.field-0 ≡ Some (v x) = c.in_ok-v.ensures.value (v x) (explained x (mem_at places k 0 (omega arith))) in
+          let some : c.in_ok-v.field-0 ≡ Some (v x) = c.in_ok-v.ensures.value (v x) (explained x (mem_at wrong k 0 (omega arith))) in
           let same : w ≡ v x = some_same c.in_ok-v.field-0 (v x) w some c.in-Some.is in
-          items ∙ ap (λ u. u ++ ((x, w) ∷ [])) (c.loop-k.invariant.explained v explained not_zero) ∙ ap (λ u. map (λ i. (i, v i)) (take k places) ++ ((x, u) ∷ [])) same ∙ sym (map_push (λ i. (i, v i)) (take k places) x) ∙ ap (map (λ i. (i, v i))) (sym more);
+          items ∙ ap (λ u. u ++ ((x, w) ∷ [])) (c.loop-k.invariant.explained v explained not_zero) ∙ ap (λ u. map (λ i. (i, v i)) (take k wrong) ++ ((x, u) ∷ [])) same ∙ sym (map_push (λ i. (i, v i)) (take k wrong) x) ∙ ap (map (λ i. (i, v i))) (sym more);
     }
 
 pub returns-clause-found : goal.returns-clause-found
 returns-clause-found g c = λ v explained not_zero.
-    (refl, c.loop-k.invariant.explained v explained not_zero ∙ ap (map (λ i. (i, v i))) (take_all c.loop-k.k c.args.places.now (omega arith)))
+    (refl, c.loop-k.invariant.explained v explained not_zero ∙ ap (map (λ i. (i, v i))) (take_all c.loop-k.k c.args.wrong.now (omega arith)))
 
 none_left : {A : Type 0} (P : A → Type 0) (n : ℕ) → AllByRecursion P (drop n [])
 none_left P zero = tt
@@ -89,7 +89,7 @@ pub returns-then-is_base_zero-clause-not_zero : goal.returns-then-is_base_zero-c
 returns-then-is_base_zero-clause-not_zero g c = λ h. refused h
 
 pub returns-clause-placed : goal.returns-clause-placed
-returns-clause-placed g c = λ h. c.loop-k.invariant.placed ∙ take_all c.loop-k.k c.args.places.now (omega arith)
+returns-clause-placed g c = λ h. c.loop-k.invariant.placed ∙ take_all c.loop-k.k c.args.wrong.now (omega arith)
 
 pub returns-clause-not_zero : goal.returns-clause-not_zero
 returns-clause-not_zero g c = λ h. c.loop-k.invariant.not_zero

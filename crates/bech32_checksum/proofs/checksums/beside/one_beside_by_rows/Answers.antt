@@ -10,14 +10,10 @@ use Rattle.bech32_checksum.proofs.checksums.beside.one_beside_by_rows.Goals as g
 
 pub returns-in_default : goal.returns-in_default
 returns-in_default c v i w below left =
-    let l = c.args.residue.now in
     let six : length c.args.residue.now ≡ 6 = omega arith in
     let inside : i < 1023 = omega (arith, below, c.if-window-gt1023.false) in
-    let at = c.in_ok-row.ensures in
     (rw c.in_default.is at c.in_ok-place.ensures) v i w below
-    (digits-packed_six c.packed_list-whole.result c.args.residue.now six c.packed_list-whole.ensures
-    ∙ both_leave c.args.residue.now c.args.location i v w six at.0 inside left
-    ∙ ap (λ (x : ℕ). add fe32.ops (scale fe32.ops v (digits 6 x)) (scale fe32.ops w (digits 6 (row i)))) (sym at.1))
+    (both_leave c.args.residue.now c.args.location i v w six c.in_ok-row.ensures.0 inside left)
 
 pub values_at_two-requires : goal.values_at_two-requires
 values_at_two-requires c =

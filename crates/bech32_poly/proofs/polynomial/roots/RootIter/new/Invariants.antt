@@ -1,7 +1,7 @@
 use Rattle.std.proofs.Common.{◌≡◌, take, map}
 use Rattle.bech32_gf.specs.Field.{power}
 use Rattle.bech32_poly.proofs.RootTerms.{terms_from, factors_from}
-use Rattle.bech32_poly.proofs.polynomial.roots.Search.new.Given as goal
+use Rattle.bech32_poly.proofs.polynomial.roots.RootIter.new.Given as goal
 
 abbrev pub invariant-loop-coefficient : goal.invariant-loop-coefficient
 invariant-loop-coefficient g l = record {

@@ -1,6 +1,6 @@
 use Rattle.std.proofs.Common.{◌≡◌, ◌≤◌, ◌⊎◌, subst, sym, arith, inl, refl}
 use Rattle.bech32_bch.proofs.Loops.{attained_more, highest_more}
-use Rattle.bech32_bch.proofs.listing.highest_place.Goals as goal
+use Rattle.bech32_bch.proofs.listing.highest_location.Goals as goal
 
 pub loop-k-init : goal.loop-k-init
 loop-k-init g c = record { bound = tt; attained = inl refl }

@@ -3,7 +3,7 @@ use Rattle.std.proofs.lemmas.List.{take_all, length-map, length-take-le}
 use Rattle.bech32_gf.specs.Field.{Ops, IsField}
 use Rattle.bech32_gf.specs.laws.FieldLaws.{power-zero}
 use Rattle.bech32_poly.proofs.RootTerms.{terms_from, terms_next, factors_next, power_next, search_of, length-terms_from, length-factors_from}
-use Rattle.bech32_poly.proofs.polynomial.roots.Search.new.Goals as goal
+use Rattle.bech32_poly.proofs.polynomial.roots.RootIter.new.Goals as goal
 
 refused : {P : Type 0} → false ≡ true → P
 refused h = absurd (cc h)
@@ -49,8 +49,8 @@ returns-in_err-push-2-clause-in_place g c = λ fits.
     ap (λ u. length u) c.loop-coefficient.invariant.factors_are ∙ length-factors_from g.met.E.Arithmetic.laws c.args.base 0 c.loop-coefficient.coefficient-index in
     refused (c.in_err-push-2.ensures.in_place (omega (arith, size, items, fits)))
 
-pub invariant_of-result : goal.invariant_of-result
-invariant_of-result g c =
+pub invariant_of-search : goal.invariant_of-search
+invariant_of-search g c =
     ap (λ u. length u) c.loop-coefficient.invariant.factors_are ∙ length-factors_from g.met.E.Arithmetic.laws c.args.base 0 c.loop-coefficient.coefficient-index
     ∙ sym (size_of g.met.E.Arithmetic.laws g.E.Extension.embed c.power-first.result c.as_slice-coefficient-items.result.now c.loop-coefficient.terms c.loop-coefficient.coefficient-index (omega arith) c.loop-coefficient.invariant.terms_are)
 

@@ -2,7 +2,7 @@ use Rattle.std.proofs.Common.{◌≡◌, ◌≤◌, ◌⊎◌, take}
 use Rattle.std.specs.List.{AllByRecursion}
 use Rattle.bech32_poly.specs.Distinct.{IsAmong}
 use Rattle.bech32_bch.specs.Pattern.{locations}
-use Rattle.bech32_bch.proofs.listing.highest_place.Given as goal
+use Rattle.bech32_bch.proofs.listing.highest_location.Given as goal
 
 abbrev pub invariant-loop-k : goal.invariant-loop-k
 invariant-loop-k g l = record {
