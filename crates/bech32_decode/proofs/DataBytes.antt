@@ -1,6 +1,6 @@
 -- The bytes of characters, put into a buffer group by group.
 use Rattle.std.proofs.Common.{◌≡◌, ℕ, suc, ◌+◌, ◌-◌, ◌*◌, ◌/◌, ◌%◌, ◌<◌, ◌≤◌, List, [], ◌∷◌, ◌++◌, length, take, drop, get_or, set, refl, sym, ap, ◌∙◌, arith, append_assoc, length-append}
-use Rattle.std.proofs.lemmas.List.{drop-drop, drop_at, drop-take, drop_more, length-map, length-take-le, map-append, set_at, take-append-drop, take-take, take_at}
+use Rattle.std.proofs.lemmas.List.{drop-drop, drop_at, drop-take, drop_more, length-map, length-take-le, map-append, set_at, set_comm, take-append-drop, take-take, take_at}
 use Rattle.bech32_gf.specs.Fe32.{element_of, elements_of}
 use Rattle.bech32_bits.specs.Bits.{to_bytes}
 use Rattle.bech32_bits.proofs.WholeGroups.{five_of, to_bytes-append}
@@ -100,9 +100,9 @@ next_byte more old before at count next byte l is room e so_far =
     byte_more (take at old) more old before at count byte l is room refl so_far
     ∙ ap (λ (k : ℕ). take at old ++ ((more ++ byte ∷ []) ++ drop k old)) (sym e)
 
--- five bytes, one after another
+-- five bytes, one after another, the first of them last
 pub five_set : (bytes old : List ℕ) (at : ℕ) → length bytes ≡ 5 → at + 5 ≤ length old
-    → set (set (set (set (set old at (get_or bytes 0 0)) (at + 1) (get_or bytes 1 0)) (at + 2) (get_or bytes 2 0)) (at + 3) (get_or bytes 3 0)) (at + 4) (get_or bytes 4 0)
+    → set (set (set (set (set old (at + 1) (get_or bytes 1 0)) (at + 2) (get_or bytes 2 0)) (at + 3) (get_or bytes 3 0)) (at + 4) (get_or bytes 4 0)) at (get_or bytes 0 0)
     ≡ take at old ++ (bytes ++ drop (at + 5) old)
 five_set bytes old at n room =
     let a : ℕ = get_or bytes 0 0 in
@@ -114,7 +114,16 @@ five_set bytes old at n room =
     let two = next_byte (a ∷ []) old _ at (at + 1) (at + 2) b (omega arith) (omega arith) (omega arith) (omega arith) one in
     let three = next_byte (a ∷ b ∷ []) old _ at (at + 2) (at + 3) c (omega arith) (omega arith) (omega arith) (omega arith) two in
     let four = next_byte (a ∷ b ∷ c ∷ []) old _ at (at + 3) (at + 4) d (omega arith) (omega arith) (omega arith) (omega arith) three in
-    next_byte (a ∷ b ∷ c ∷ d ∷ []) old _ at (at + 4) (at + 5) e (omega arith) (omega arith) (omega arith) (omega arith) four
+    let s1 : List ℕ = set old (at + 1) b in
+    let s2 : List ℕ = set s1 (at + 2) c in
+    let s3 : List ℕ = set s2 (at + 3) d in
+    set_comm s3 (at + 4) at e a (λ z. omega (arith, z))
+    ∙ ap (λ (l : List ℕ). set l (at + 4) e)
+    (set_comm s2 (at + 3) at d a (λ z. omega (arith, z))
+    ∙ ap (λ (l : List ℕ). set l (at + 3) d)
+    (set_comm s1 (at + 2) at c a (λ z. omega (arith, z))
+    ∙ ap (λ (l : List ℕ). set l (at + 2) c) (set_comm old (at + 1) at b a (λ z. omega (arith, z)))))
+    ∙ next_byte (a ∷ b ∷ c ∷ d ∷ []) old _ at (at + 4) (at + 5) e (omega arith) (omega arith) (omega arith) (omega arith) four
     ∙ ap (λ (l : List ℕ). take at old ++ (l ++ drop (at + 5) old)) (sym (five_of bytes n))
 
 -- whole groups and then the others are all bytes

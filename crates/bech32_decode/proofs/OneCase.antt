@@ -3,6 +3,7 @@ use Rattle.std.specs.Prelude.{◌&&◌, ◌||◌, if◌then◌else◌}
 use Rattle.std.specs.List.{list_any}
 use Rattle.std.proofs.Common.{◌≡◌, ◌⊎◌, ◌∙◌, ◌+◌, ◌<◌, ℕ, Bool, true, false, List, [], ◌∷◌, ◌++◌, length, take, drop, get_or, refl, sym, ap, arith, ⊎_elim}
 use Rattle.std.proofs.lemmas.List.{drop_more, take-append-drop}
+use Rattle.std.proofs.lemmas.List.Folds.{list_any-append}
 use Rattle.bech32_gf.specs.Alphabet.{is_of_alphabet, is_data}
 use Rattle.bech32_hrp.specs.Hrp.{is_lower, is_upper, is_mixed_case}
 use Rattle.bech32_decode.specs.Letters.{letter_count}
@@ -78,3 +79,17 @@ pub split_is : (text : List ℕ) (n : ℕ) → n < length text → get_or text n
 split_is text n inside is =
     sym (take-append-drop n text)
     ∙ ap (λ (l : List ℕ). take n text ++ l) (drop_more text n 0 inside ∙ ap (λ (b : ℕ). b ∷ drop (n + 1) text) is)
+
+-- ---- the front of a text in one case
+
+one_of : (a b c d : Bool) → ((a || b) && (c || d)) ≡ false → (a && c) ≡ false
+one_of false b c d h = refl
+one_of true b false d h = refl
+one_of true b true d h = absurd (cc)
+
+mixed-append : (front rest : List ℕ) → is_mixed_case (front ++ rest) ≡ ((list_any is_lower front || list_any is_lower rest) && (list_any is_upper front || list_any is_upper rest))
+mixed-append front rest = rw (list_any-append is_lower front rest, list_any-append is_upper front rest)
+
+pub one_case-front : (text front rest : List ℕ) → text ≡ front ++ rest → is_mixed_case text ≡ false → is_mixed_case front ≡ false
+one_case-front text front rest e one =
+    one_of (list_any is_lower front) (list_any is_lower rest) (list_any is_upper front) (list_any is_upper rest) (sym (mixed-append front rest) ∙ ap is_mixed_case (sym e) ∙ one)

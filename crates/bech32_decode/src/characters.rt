@@ -1,8 +1,10 @@
-//! Which bytes of a text are of the alphabet, and in which case its letters are.
+//! The quick tests of the characters of a text.
 
-ghost use Rattle.std.specs.Prelude.{◌≡◌, ◌<◌, ◌≤◌, ◌-◌, true, false, length, drop, slice_index};
+ghost use Rattle.std.specs.Prelude.{◌≡◌, ◌≤◌, true, length, drop};
 ghost use Rattle.bech32_gf.specs.Alphabet.{is_of_alphabet, is_data};
-ghost use Rattle.bech32_hrp.specs.Hrp.{is_mixed_case};
+
+use crate::parts::CharacterTests;
+use bech32_hrp::{self as hrp, Hrp, is_part};
 
 // How many bytes are tested at a time.
 const BLOCK: usize = 16;
@@ -18,20 +20,6 @@ const ALPHABET: [u8; 256] = [
     0, 0, 0, 0, 0, 0, 0, 0, 0, 0, 0, 0, 0, 0, 0, 0, 0, 0, 0, 0, 0, 0, 0, 0, 0, 0, 0, 0, 0, 0, 0, 0,
     0, 0, 0, 0, 0, 0, 0, 0, 0, 0, 0, 0, 0, 0, 0, 0, 0, 0, 0, 0, 0, 0, 0, 0, 0, 0, 0, 0, 0, 0, 0, 0,
 ];
-
-// Whether letters of both cases stand in a text. Each byte is looked at, so that many can be at a
-// time.
-pub(crate) fn has_both_cases(bytes: &[u8]) -> bool
-    ensures { result ≡ is_mixed_case bytes.now }
-{
-    let mut lower = false;
-    let mut upper = false;
-    for b in bytes {
-        lower |= b.is_ascii_lowercase();
-        upper |= b.is_ascii_uppercase();
-    }
-    lower && upper
-}
 
 // Whether a byte is of the alphabet, by the table: the quicker way for one byte.
 #[inline]
@@ -81,15 +69,37 @@ fn blocks_start(bytes: &[u8]) -> usize
     start
 }
 
-// Where the bytes at the end of a text begin that are of the alphabet.
-pub(crate) fn data_start(bytes: &[u8]) -> usize
-    ensures bound { result ≤ length bytes.now }
-    ensures data { is_data (drop result bytes.now) ≡ true }
-    ensures before { 0 < result → is_of_alphabet (slice_index bytes.now (result - 1)) ≡ false }
-{
-    let mut start = blocks_start(bytes);
-    while start > 0 && is_in_alphabet(bytes[start - 1]) {
-        start -= 1;
+/// The quick tests: a branch or an address may depend on any character.
+pub(crate) enum Quick {}
+
+impl CharacterTests for Quick {
+    fn data_start(bytes: &[u8]) -> usize {
+        let mut start = blocks_start(bytes);
+        while start > 0 && is_in_alphabet(bytes[start - 1]) {
+            start -= 1;
+        }
+        start
     }
-    start
+
+    // Each byte is looked at, so that many can be at a time.
+    fn has_both_cases(bytes: &[u8]) -> bool {
+        let mut lower = false;
+        let mut upper = false;
+        for b in bytes {
+            lower |= b.is_ascii_lowercase();
+            upper |= b.is_ascii_uppercase();
+        }
+        lower && upper
+    }
+
+    fn part_fault(front: &str) -> Option<hrp::Error> {
+        // The quick test comes first: most texts that come here have a part.
+        if is_part(front.as_bytes()) {
+            return None;
+        }
+        match Hrp::parse(front) {
+            Ok(_) => None,
+            Err(e) => Some(e),
+        }
+    }
 }

@@ -9,18 +9,18 @@ use crate::byte_reader::ByteIter;
 use crate::eights::word_of_eight;
 
 // Puts five bytes into a buffer, from a place on, one after another: a copy of the slice would ask
-// whether the two overlap.
+// whether the two overlap. The first comes last, so that the four others are put at once.
 #[inline]
 fn put_five(bytes: [u8; 5], at: usize, buffer: &mut [u8])
     requires { at + 5 ≤ length buffer.old }
     ensures { buffer.new ≡ take at buffer.old ++ (bytes ++ drop (at + 5) buffer.old) }
 {
     let [a, b, c, d, e] = bytes;
-    buffer[at] = a;
     buffer[at + 1] = b;
     buffer[at + 2] = c;
     buffer[at + 3] = d;
     buffer[at + 4] = e;
+    buffer[at] = a;
 }
 
 // Puts the five bytes of the first eight characters into a buffer, from a place on.

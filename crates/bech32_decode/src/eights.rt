@@ -115,7 +115,7 @@ fn walk_rest<Ck: Checksum>(characters: &[u8], engine: &mut Engine<Ck>) -> u64
 /// Hands the elements of characters, of which there are at most 1,023, to an engine, and returns
 /// how many letters of each case they have: small ones below 2^12, and capital ones above. A
 /// character that is not of the alphabet counts for both.
-#[inline]
+#[inline(always)]
 pub fn walk<Ck: Checksum>(characters: &[u8], engine: &mut Engine<Ck>) -> u64
     requires { length characters.now ≤ 1023 }
     ensures after { IsResidueAfter Ck.MidstateRepr.number Ck.code engine.old

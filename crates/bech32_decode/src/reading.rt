@@ -169,7 +169,9 @@ impl<'s, Ck: Checksum> Reading<'s, Ck> {
         Self::walked(text)
     }
 
-    // The same of a text that is walked over, whatever its ends are.
+    // The same of a text that is walked over, whatever its ends are. In line: the parts of a
+    // reading are then in registers where it is tested.
+    #[inline(always)]
     fn walked(text: &'s [u8]) -> Option<Self>
         requires { length text.now ≤ 1023 }
         ensures { IfSome result (λ r. r.text.now ≡ text.now) }
@@ -296,9 +298,9 @@ impl<'s, Ck: Checksum> Reading<'s, Ck> {
 }
 
 impl<'s> Reading<'s, Bech32m> {
-    // The same reading by Bech32, whose generator is the same.
+    /// The same reading by Bech32, whose generator is the same.
     #[inline]
-    fn by_bech32(&self) -> Reading<'s, Bech32>
+    pub fn by_bech32(&self) -> Reading<'s, Bech32>
         ensures text { result.text.now ≡ self.now.text.now }
         ensures hrp { result.hrp.now ≡ self.now.hrp.now }
         ensures data_part { result.data_part.now ≡ self.now.data_part.now }

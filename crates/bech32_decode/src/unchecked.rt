@@ -1,22 +1,21 @@
 //! A text whose characters were tested, and its checksum not.
 
-ghost use Rattle.std.specs.Prelude.{◌≡◌, ◌↔◌, ◌≤◌, ℕ, true, List, length, drop, ◌++◌, ◌∷◌, None, Some, MatchResult, MatchOption, IfOk, IsOk, IsTrue};
-ghost use Rattle.std.specs.Char.{IsScalar};
+ghost use Rattle.std.specs.Prelude.{◌≡◌, ◌↔◌, ◌≤◌, ℕ, true, List, length, drop, None, Some, MatchResult, MatchOption, IfOk, IsOk, IsTrue};
 ghost use Rattle.bech32_gf.specs.Alphabet.{is_data};
 ghost use Rattle.bech32_gf.specs.Fe32.{elements_of};
-ghost use Rattle.bech32_hrp.specs.Hrp.{IsHrp, hrp_refusal};
 ghost use Rattle.bech32_decode.specs.Version.{version_of};
-ghost use Rattle.bech32_decode.specs.Text.{IsText, IsInGrammar, invalid_character, split_at_last, text_refusal};
+ghost use Rattle.bech32_decode.specs.Text.{IsText, IsInGrammar, text_refusal};
 
-use crate::characters::{data_start, has_both_cases};
+use crate::characters::Quick;
 use crate::checked::CheckedHrpstring;
+use crate::parts::parts_by;
 use crate::residue::residue_of;
 use crate::validation::{validate_lengths, validate_residue};
 use crate::version::version_in;
 use bech32_checksum::Checksum;
 use bech32_gf::gf32::Fe32;
-use bech32_hrp::{self as hrp, Hrp, is_part};
-use bech32_refusals::{CharError, ChecksumError, UncheckedHrpstringError};
+use bech32_hrp::Hrp;
+use bech32_refusals::{ChecksumError, UncheckedHrpstringError};
 
 /// A text in its parts: the human-readable part, and the data part with the checksum in it, which
 /// was not tested. It borrows the text.
@@ -29,47 +28,6 @@ pub struct UncheckedHrpstring<'s> {
     pub ghost fits: { length data_part_ascii.now ≤ hrpstring_length },
 }
 
-// The refusal of a text by a character, which is not a surrogate.
-fn refusal_by(c: char) -> CharError
-    ensures value { result ≡ CharError.InvalidChar c }
-    ensures scalar { IsScalar c }
-{
-    CharError::InvalidChar(c)
-}
-
-// What stands before the last `1`, where all behind it is of the alphabet.
-fn before_separator(s: &str) -> Result<Option<&str>, CharError>
-    ensures { MatchResult result
-        (λ o. (invalid_character s.now ≡ None)
-        × MatchOption o (split_at_last s.now ≡ None)
-        (λ front. (behind : List ℕ) × (s.now ≡ front.now ++ 49 ∷ behind) × (is_data behind ≡ true)
-        × (split_at_last s.now ≡ Some (front.now, behind))))
-        (λ e. invalid_character s.now ≡ Some e) }
-{
-    let mut front = s[..data_start(s.as_bytes())].chars();
-    let Some(c) = front.next_back() else {
-        return Ok(None);
-    };
-    if c != '1' {
-        return Err(refusal_by(c));
-    }
-    Ok(Some(front.as_str()))
-}
-
-// Why a text is no human-readable part, if it is none.
-fn part_fault(front: &str) -> Option<hrp::Error>
-    ensures { MatchOption result (IsHrp front.now) (λ e. hrp_refusal front.now ≡ Some e) }
-{
-    // The quick test comes first: most texts that come here have a part.
-    if is_part(front.as_bytes()) {
-        return None;
-    }
-    match Hrp::parse(front) {
-        Ok(_) => None,
-        Err(e) => Some(e),
-    }
-}
-
 // The parts of a text, or its first fault. Out of line: its result is small, and what is read of
 // the parts is not. Most texts are walked over.
 #[cold]
@@ -79,18 +37,7 @@ pub(crate) fn parts_in(s: &str) -> Result<(&[u8], &[u8]), UncheckedHrpstringErro
         (λ p. IsText s.now p.0.now p.1.now)
         (λ e. text_refusal s.now ≡ Some e) }
 {
-    let before = before_separator(s)?;
-    let bytes = s.as_bytes();
-    if has_both_cases(bytes) {
-        return Err(UncheckedHrpstringError::Char(CharError::MixedCase));
-    }
-    let Some(front) = before else {
-        return Err(UncheckedHrpstringError::Char(CharError::MissingSeparator));
-    };
-    if let Some(e) = part_fault(front) {
-        return Err(UncheckedHrpstringError::Hrp(e));
-    }
-    Ok((front.as_bytes(), &bytes[front.len() + 1..]))
+    parts_by::<Quick>(s)
 }
 
 impl<'s> UncheckedHrpstring<'s> {

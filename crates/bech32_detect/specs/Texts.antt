@@ -1,6 +1,7 @@
 -- In how many places the texts differ that a checksum accepts.
-use Rattle.std.specs.Prelude.{◌≡◌, ◌≤◌, ℕ, List, length}
-use Rattle.bech32_gf.specs.Fe32.{elements_of}
+use Rattle.std.specs.Prelude.{◌≡◌, ◌≤◌, ◌↔◌, ℕ, Bool, IsTrue, List, length}
+use Rattle.bech32_gf.specs.Fe32.{elements_of, ops}
+use Rattle.bech32_bch.specs.Detection.{DetectsFour}
 use Rattle.bech32_hrp.specs.Hrp.{lowered}
 use Rattle.bech32_checksum.specs.Code.{Code}
 use Rattle.bech32_decode.specs.Acceptance.{IsAccepted}
@@ -14,3 +15,7 @@ AreTextsFar code n bound = (text hrp data_part other other_hrp other_data : List
     → IsAccepted code text hrp data_part → IsAccepted code other other_hrp other_data
     → lowered other_hrp ≡ lowered hrp → length other ≡ length text → length data_part ≤ n
     → AreSameOrFar bound (elements_of data_part) (elements_of other_data)
+
+-- the answer says whether no pattern of one to four errors below n has the remainder zero
+abbrev pub SaysWhetherFour : Code → ℕ → Bool → Type 0
+SaysWhetherFour code n answer = IsTrue answer ↔ DetectsFour ops code.generator n

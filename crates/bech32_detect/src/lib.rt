@@ -4,11 +4,10 @@
 //! Standard: BIP-173, Checksum design.
 #![tactic(auto)]
 
-ghost use Rattle.std.specs.Prelude.{◌<◌, ◌↔◌, IsTrue, IfErr, IfOk};
+ghost use Rattle.std.specs.Prelude.{◌<◌, IsTrue, IfErr, IfOk};
 ghost use Rattle.bech32_gf.specs.Fe32 as fe32;
 ghost use Rattle.bech32_poly.specs.Polynomial.{coefficient};
-ghost use Rattle.bech32_bch.specs.Detection.{DetectsFour};
-ghost use Rattle.bech32_detect.specs.Texts.{AreTextsFar};
+ghost use Rattle.bech32_detect.specs.Texts.{AreTextsFar, SaysWhetherFour};
 
 mod bursts;
 mod distance;
@@ -27,8 +26,7 @@ use std::alloc::{AllocError, Allocator, Global};
 // Whether four errors are detected.
 fn decided_in<Ck: Checksum, A: Allocator>(alloc: A, n: usize) -> Result<bool, AllocError>
     requires { 0 < (coefficient fe32.ops Ck.code.generator 0).value }
-    ensures value { IfOk result
-        (λ answer. IsTrue answer ↔ DetectsFour fe32.ops Ck.code.generator n) }
+    ensures value { IfOk result (SaysWhetherFour Ck.code n) }
     ensures memory { IfErr result (λ _. 0 < n) }
 {
     if n == 0 {
@@ -56,8 +54,7 @@ fn decided_in<Ck: Checksum, A: Allocator>(alloc: A, n: usize) -> Result<bool, Al
 /// If memory runs out, and never at `n` = 0.
 pub fn detects_four_in<Ck: Checksum, A: Allocator>(alloc: A, n: usize) -> Result<bool, AllocError>
     requires { 0 < (coefficient fe32.ops Ck.code.generator 0).value }
-    ensures value { IfOk result
-        (λ answer. IsTrue answer ↔ DetectsFour fe32.ops Ck.code.generator n) }
+    ensures value { IfOk result (SaysWhetherFour Ck.code n) }
     ensures texts { IfOk result (λ answer. IsTrue answer → AreTextsFar Ck.code n 4) }
     ensures memory { IfErr result (λ _. 0 < n) }
 {
@@ -71,8 +68,7 @@ pub fn detects_four_in<Ck: Checksum, A: Allocator>(alloc: A, n: usize) -> Result
 /// That of [`detects_four_in`].
 pub fn detects_four<Ck: Checksum>(alloc: Global, n: usize) -> Result<bool, AllocError>
     requires { 0 < (coefficient fe32.ops Ck.code.generator 0).value }
-    ensures value { IfOk result
-        (λ answer. IsTrue answer ↔ DetectsFour fe32.ops Ck.code.generator n) }
+    ensures value { IfOk result (SaysWhetherFour Ck.code n) }
     ensures texts { IfOk result (λ answer. IsTrue answer → AreTextsFar Ck.code n 4) }
     ensures memory { IfErr result (λ _. 0 < n) }
 {

@@ -19,12 +19,7 @@ fn has_pair(rows: &[u128], sum: u128) -> bool
     requires { IsSorted nat_cmp rows.now }
     ensures { IsTrue result ↔ HasPair rows.now sum }
 {
-    for row in rows {
-        if is_among(rows, sum ^ *row) {
-            return true;
-        }
-    }
-    false
+    rows.iter().any(|row| is_among(rows, sum ^ *row))
 }
 
 /// Whether three numbers of the list add up to the sum.
@@ -32,10 +27,5 @@ pub(super) fn has_three(rows: &[u128], sum: u128) -> bool
     requires { IsSorted nat_cmp rows.now }
     ensures { IsTrue result ↔ HasThree rows.now sum }
 {
-    for row in rows {
-        if has_pair(rows, sum ^ *row) {
-            return true;
-        }
-    }
-    false
+    rows.iter().any(|row| has_pair(rows, sum ^ *row))
 }

@@ -8,22 +8,22 @@ ghost use Rattle.bech32_gf.specs.Fe32 as fe32;
 ghost use Rattle.bech32_poly.specs.Pattern.{pattern_polynomial};
 ghost use Rattle.bech32_poly.specs.Polynomial.{IsSamePolynomial, coefficient};
 
-use bech32_bch::{highest_place, value_at_place};
+use bech32_bch::{highest_location, value_at_location};
 use bech32_checksum::{Checksum, Engine, PackedFe32};
 use bech32_gf::gf32::Fe32;
 use bech32_refusals::MAX_DEGREE;
 
-/// An engine that was given the polynomial of a listed pattern, from its highest place down.
+/// An engine that was given the polynomial of a listed pattern, from its highest location down.
 pub fn listed_engine<Ck: Checksum>(listing: &[(usize, Fe32)]) -> Engine<Ck>
     ensures { IsResidueOf Ck.MidstateRepr.number Ck.code result
         (pattern_polynomial fe32.ops listing.now) }
 {
     let mut engine = Engine::<Ck>::zero();
-    let mut place = highest_place(listing);
-    engine.input_fe(value_at_place(listing, place));
-    while place > 0 {
-        place -= 1;
-        engine.input_fe(value_at_place(listing, place));
+    let mut location = highest_location(listing);
+    engine.input_fe(value_at_location(listing, location));
+    while location > 0 {
+        location -= 1;
+        engine.input_fe(value_at_location(listing, location));
     }
     engine
 }

@@ -181,10 +181,11 @@ pub fn beside_below<Ck: Checksum>(
         return None;
     }
     let list = trimmed(residue, Ck::CHECKSUM_LENGTH)?;
-    if let Some(value) = alone_at::<Ck>(list, erasure) {
+    let Some(beside) = error_beside::<Ck>(window, list, erasure) else {
+        let value = alone_at::<Ck>(list, erasure)?;
         return Some(Some(ShortListing::of_one((erasure, value))));
-    }
-    let Some((value, error)) = error_beside::<Ck>(window, list, erasure)? else {
+    };
+    let Some((value, error)) = beside else {
         return Some(None);
     };
     Some(Some(ShortListing {

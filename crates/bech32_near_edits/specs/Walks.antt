@@ -92,6 +92,15 @@ abbrev pub with_zero : List ℕ → List Fe32 → ℕ → List Fe32
 with_zero hrp elements location =
     text_polynomial hrp (above location elements ++ fe32.zero ∷ below location elements)
 
+-- P, where a text with one character more is not longer than the code, the word is the remainder
+-- with a zero put in at the location, and these are the remainders of the power of x there
+abbrev pub WherePutIn : {R : Type 0} → (R → ℕ) → Code → List ℕ → List ℕ → ℕ → R
+    → (one two four eight sixteen : R) → Type 0 → Type 0
+WherePutIn number code hrp characters location word one two four eight sixteen P =
+    HasLengthsFor code hrp (length characters + 1)
+    → IsWordOf number code word (with_zero hrp (elements_of characters) location)
+    → ArePowers number code location 1 one two four eight sixteen → P
+
 -- the edit makes some elements of those of the text
 abbrev pub IsEditOf : List ℕ → Edit → Type 0
 IsEditOf text edit = (hrp : List ℕ) × (data_part : List ℕ) × (new : List Fe32)

@@ -8,7 +8,7 @@ ghost use Rattle.bech32_gf.specs.declared.gf32.Fe32.{Fe32 as Element};
 ghost use Rattle.bech32_poly.specs.Polynomial.{appended};
 ghost use Rattle.bech32_checksum.specs.TextPolynomial.{text_polynomial};
 ghost use Rattle.bech32_near_edits.specs.Edits.{AreAllOf, StartsWith};
-ghost use Rattle.bech32_near_edits.specs.Walks.{ArePowers, HasLengthsFor, LeavesTarget, IsAcceptedAt, IsAcceptedValue, IsWordOf, below, element_in, with_zero, without_one};
+ghost use Rattle.bech32_near_edits.specs.Walks.{ArePowers, HasLengthsFor, LeavesTarget, IsAcceptedAt, IsAcceptedValue, IsWordOf, WherePutIn, below, element_in, without_one};
 
 use crate::edits::{Change, Edit};
 use crate::powers::Powers;
@@ -24,6 +24,36 @@ fn element_at(characters: &[u8], location: usize) -> Fe32
     ensures { result ≡ element_in location (elements_of characters.now) }
 {
     Fe32::from_char_unchecked(characters[characters.len() - 1 - location])
+}
+
+// The element at a location, or zero above the last one.
+#[inline]
+pub(crate) fn element_or_zero(characters: &[u8], location: usize) -> Fe32
+    requires of_alphabet { is_data characters.now ≡ true }
+    requires within { location ≤ length characters.now }
+    ensures { location < length characters.now
+        → result ≡ element_in location (elements_of characters.now) }
+{
+    if location == characters.len() {
+        return Fe32::Q;
+    }
+    element_at(characters, location)
+}
+
+// What changes at a location where the element above it is left out, in place of the one there.
+#[inline]
+pub(crate) fn change_above(characters: &[u8], location: usize) -> Fe32
+    requires of_alphabet { is_data characters.now ≡ true }
+    requires within { location < length characters.now }
+    ensures { location + 1 < length characters.now
+        → result ≡ fe32.add (element_in location (elements_of characters.now))
+        (element_in (location + 1) (elements_of characters.now)) }
+{
+    let here = element_at(characters, location);
+    if characters.len() - location < 2 {
+        return here;
+    }
+    here + element_at(characters, location + 1)
 }
 
 // Whether what stands below a location does not begin with an element.
@@ -121,31 +151,6 @@ pub(crate) fn left_out_at<Ck: Checksum>(
     })
 }
 
-// The remainder without the element above a location, from that without the one at the location.
-#[inline]
-pub(crate) fn without_next<Ck: Checksum>(
-    rest: Ck::MidstateRepr,
-    powers: &Powers<Ck>,
-    characters: &[u8],
-    location: usize,
-) -> Ck::MidstateRepr
-    requires of_alphabet { is_data characters.now ≡ true }
-    requires within { location < length characters.now }
-    ensures { (hrp : List ℕ) → location + 1 < length characters.now
-        → IsWordOf Ck.MidstateRepr.number Ck.code rest
-        (without_one hrp (elements_of characters.now) location)
-        → ArePowers Ck.MidstateRepr.number Ck.code location 1 powers.now.one
-        powers.now.two powers.now.four powers.now.eight powers.now.sixteen
-        → IsWordOf Ck.MidstateRepr.number Ck.code result
-        (without_one hrp (elements_of characters.now) (location + 1)) }
-{
-    if characters.len() - location < 2 {
-        return rest;
-    }
-    let change = element_at(characters, location) + element_at(characters, location + 1);
-    sum_of::<Ck>(rest, powers.times(change))
-}
-
 // What puts in an element at a location, if the checksum accepts what it makes.
 #[inline]
 pub(crate) fn put_in_at<Ck: Checksum>(
@@ -157,13 +162,10 @@ pub(crate) fn put_in_at<Ck: Checksum>(
 ) -> Option<Edit>
     requires of_alphabet { is_data characters.now ≡ true }
     requires within { location ≤ length characters.now }
-    ensures { (hrp : List ℕ) → HasLengthsFor Ck.code hrp (length characters.now + 1)
-        → IsWordOf Ck.MidstateRepr.number Ck.code with_none
-        (with_zero hrp (elements_of characters.now) location)
-        → ArePowers Ck.MidstateRepr.number Ck.code location 1 powers.now.one
-        powers.now.two powers.now.four powers.now.eight powers.now.sixteen
-        → AreAllOf (IsAcceptedValue Ck.code hrp (elements_of characters.now) location element.value)
-        (option_to_list result) }
+    ensures { (hrp : List ℕ) → WherePutIn Ck.MidstateRepr.number Ck.code hrp characters.now location
+        with_none powers.now.one powers.now.two powers.now.four powers.now.eight powers.now.sixteen
+        (AreAllOf (IsAcceptedValue Ck.code hrp (elements_of characters.now) location element.value)
+        (option_to_list result)) }
 {
     if !is_target::<Ck>(sum_of::<Ck>(with_none, powers.times(element))) {
         return None;
@@ -175,28 +177,4 @@ pub(crate) fn put_in_at<Ck: Checksum>(
         location,
         change: Change::PutIn(element),
     })
-}
-
-// The remainder with a zero put in above a location, from that with one at the location.
-#[inline]
-pub(crate) fn with_zero_next<Ck: Checksum>(
-    with_none: Ck::MidstateRepr,
-    pairs: &Powers<Ck>,
-    characters: &[u8],
-    location: usize,
-) -> Ck::MidstateRepr
-    requires of_alphabet { is_data characters.now ≡ true }
-    requires within { location ≤ length characters.now }
-    ensures { (hrp : List ℕ) → location < length characters.now
-        → IsWordOf Ck.MidstateRepr.number Ck.code with_none
-        (with_zero hrp (elements_of characters.now) location)
-        → ArePowers Ck.MidstateRepr.number Ck.code location 2 pairs.now.one
-        pairs.now.two pairs.now.four pairs.now.eight pairs.now.sixteen
-        → IsWordOf Ck.MidstateRepr.number Ck.code result
-        (with_zero hrp (elements_of characters.now) (location + 1)) }
-{
-    if location == characters.len() {
-        return with_none;
-    }
-    sum_of::<Ck>(with_none, pairs.times(element_at(characters, location)))
 }

@@ -5,13 +5,13 @@ ghost use Rattle.bech32_gf.specs.Alphabet.{is_data};
 ghost use Rattle.bech32_gf.specs.Fe32.{elements_of};
 ghost use Rattle.bech32_hrp.specs.HrpBytes.{hrp_bytes};
 ghost use Rattle.bech32_near_edits.specs.Edits.{AreAllOf};
-ghost use Rattle.bech32_near_edits.specs.Walks.{ArePowers, HasAcceptedEdit, HasLengthsFor, IsAcceptedAt, IsAcceptedOfKind, IsWordOf, with_zero};
+ghost use Rattle.bech32_near_edits.specs.Walks.{HasAcceptedEdit, HasLengthsFor, IsAcceptedAt, IsAcceptedOfKind, WherePutIn};
 ghost use Rattle.bech32_near_edits.specs.declared.edits.Edit.{Edit as AnEdit};
 
 use crate::edits::Edit;
-use crate::places::{left_out_at, put_in_at, swap_at, with_zero_next, without_next};
+use crate::places::{change_above, element_or_zero, left_out_at, put_in_at, swap_at};
 use crate::powers::Powers;
-use crate::residue::{engine_of, word_of};
+use crate::residue::{engine_of, sum_of, word_of};
 use bech32_checksum::Checksum;
 use bech32_gf::gf32::Fe32;
 use bech32_hrp::Hrp;
@@ -86,7 +86,8 @@ pub(crate) fn push_left_out<Ck: Checksum, A: Allocator>(
     let mut powers = Powers::<Ck>::new(1);
     for location in 0..characters.len() {
         push_some(found, left_out_at::<Ck>(rest, characters, location))?;
-        rest = without_next(rest, &powers, characters, location);
+        let change = change_above(characters, location);
+        rest = sum_of::<Ck>(rest, powers.times(change));
         powers.raise();
     }
     Ok(())
@@ -103,15 +104,12 @@ fn push_put_in_at<Ck: Checksum, A: Allocator>(
 ) -> Result<(), AllocError>
     requires of_alphabet { is_data characters.now ≡ true }
     requires within { location ≤ length characters.now }
-    ensures { (hrp : List ℕ) → HasLengthsFor Ck.code hrp (length characters.now + 1)
-        → IsWordOf Ck.MidstateRepr.number Ck.code with_none
-        (with_zero hrp (elements_of characters.now) location)
-        → ArePowers Ck.MidstateRepr.number Ck.code location 1 powers.now.one
-        powers.now.two powers.now.four powers.now.eight powers.now.sixteen
-        → MatchResult result
+    ensures { (hrp : List ℕ) → WherePutIn Ck.MidstateRepr.number Ck.code hrp characters.now location
+        with_none powers.now.one powers.now.two powers.now.four powers.now.eight powers.now.sixteen
+        (MatchResult result
         (λ _. (edits : List AnEdit) × (found.new.items ≡ found.old.items ++ edits)
         × AreAllOf (IsAcceptedAt 2 Ck.code hrp (elements_of characters.now) location) edits)
-        (λ _. HasAcceptedEdit Ck.code hrp (elements_of characters.now)) }
+        (λ _. HasAcceptedEdit Ck.code hrp (elements_of characters.now))) }
 {
     for value in 0..32 {
         let element = Fe32::from_low_bits(value);
@@ -145,7 +143,8 @@ pub(crate) fn push_put_in<Ck: Checksum, A: Allocator>(
     let mut pairs = Powers::<Ck>::new(2);
     for location in 0..characters.len() + 1 {
         push_put_in_at(with_none, &powers, characters, location, found)?;
-        with_none = with_zero_next(with_none, &pairs, characters, location);
+        let element = element_or_zero(characters, location);
+        with_none = sum_of::<Ck>(with_none, pairs.times(element));
         powers.raise();
         pairs.raise();
     }

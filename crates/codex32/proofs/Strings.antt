@@ -1,5 +1,5 @@
 -- Strings in their parts, and that these are not refused.
-use Rattle.std.specs.Prelude.{◌↔◌, nat_le, IfErr, IfOk, IsOk, MatchResult}
+use Rattle.std.specs.Prelude.{◌↔◌, nat_le, IsOk, MatchResult}
 use Rattle.std.specs.Char.{to_ascii_lowercase}
 use Rattle.std.specs.Str.{IsUtf8}
 use Rattle.std.proofs.Common.{◌≡◌, ℕ, ◌+◌, ◌-◌, ◌<◌, ◌≤◌, true, List, [], ◌∷◌, ◌++◌, None, Result, Ok, Err, length, take, drop, get_or, inl, inr, refl, sym, ap, subst, ◌∙◌, arith}
@@ -91,12 +91,3 @@ pub accepts-from_outcome : (text : List ℕ) → IsUtf8 text → (r : Result Cod
 accepts-from_outcome text u (Ok s) h =
     (λ _. (h.hrp, threshold_of s, identifier_of s, share_index_of s, payload_of s, h.checksum, h.is_string), λ _. refl)
 accepts-from_outcome text u (Err e) h = (λ ok. absurd (cc), λ is. absurd (refuted text e u is h))
-
--- the parts of what was read, and why it was not
-pub parts-from_outcome : (text : List ℕ) (r : Result Codex32Str Codex32Error) → MatchResult r (λ s. IsStringOf text s) (λ e. IsStringRefusal text e) → IfOk r (λ s. IsStringOf text s)
-parts-from_outcome text (Ok s) h = h
-parts-from_outcome text (Err e) h = tt
-
-pub refused-from_outcome : (text : List ℕ) (r : Result Codex32Str Codex32Error) → MatchResult r (λ s. IsStringOf text s) (λ e. IsStringRefusal text e) → IfErr r (λ e. IsStringRefusal text e)
-refused-from_outcome text (Ok s) h = tt
-refused-from_outcome text (Err e) h = h

@@ -1,10 +1,12 @@
 -- A damaged text, as it is read.
 use Rattle.std.specs.Prelude.{◌≡◌, ◌==◌, ◌||◌, if◌then◌else◌}
 use Rattle.std.specs.Prelude.{ℕ, List, [], ◌∷◌, ◌++◌, map, length, Option, None, Some}
+use Rattle.std.specs.Prelude.{MatchResult, Result}
 use Rattle.bech32_gf.specs.Fe32.{element_of}
 use Rattle.bech32_gf.specs.declared.gf32.Fe32.{Fe32}
 use Rattle.bech32_detect.specs.Distance.{same_element}
 use Rattle.bech32_decode.specs.Text.{IsText, split_at_last}
+use Rattle.codex32.specs.declared.error.Codex32Error.{Codex32Error}
 
 -- a character as it is read: `?`, which is unreadable, as `0`
 abbrev pub read_character : ℕ → ℕ
@@ -33,6 +35,10 @@ changed [] xs = []
 changed (c ∷ cs) [] = []
 changed (c ∷ cs) (x ∷ xs) =
     if c == 63 || same_element (element_of c) x then changed cs xs else length cs ∷ changed cs xs
+
+-- a test of a text ends well where nothing is wrong with it, and else with what is
+abbrev pub IsTestedBy : {A : Type 0} → Option Codex32Error → Result A Codex32Error → Type 0
+IsTestedBy fault result = MatchResult result (λ _. fault ≡ None) (λ e. fault ≡ Some e)
 
 -- ---- on the way
 

@@ -1,6 +1,6 @@
 -- The strings that shares of one set give (BIP-93, Recovering Secret), and why they give none.
 use Rattle.std.specs.Prelude.{◌≡◌, ◌⊎◌, nat_lt, ℕ}
-use Rattle.std.specs.Prelude.{true, false, List, [], ◌∷◌, length, map}
+use Rattle.std.specs.Prelude.{true, false, List, [], ◌∷◌, length, map, MatchResult, Result}
 use Rattle.std.specs.List.{AllByRecursion}
 use Rattle.bech32_gf.specs.Fe32 as fe32
 use Rattle.bech32_gf.specs.Fe32.{elements_of}
@@ -109,3 +109,11 @@ abbrev pub IsDeriveIntoRefusal : List Share → Fe32 → DeriveError → Type 0
 IsDeriveIntoRefusal shares x e =
     IsSetRefusal shares x e
     ⊎ ((e ≡ refusals.Contradiction) × IsWholeSet shares x × DoContradict shares)
+
+-- shares give a string where nothing is wrong with them, and else are refused so
+abbrev pub IsDerivedOrRefused : {A : Type 0} → (List Share → Fe32 → DeriveError → Type 0)
+    → List Share → Fe32 → Result A DeriveError → Type 0
+IsDerivedOrRefused IsRefusal shares x result =
+    MatchResult result
+    (λ _. IsWholeSet shares x × (DoContradict shares → ⊥))
+    (λ e. IsRefusal shares x e)

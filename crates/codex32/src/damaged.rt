@@ -4,7 +4,7 @@ ghost use Rattle.std.specs.Prelude.{◌≡◌, ◌==◌, None, Some, true, Match
 ghost use Rattle.std.specs.Char.{IsScalar};
 ghost use Rattle.bech32_gf.specs.Alphabet.{is_data, is_of_alphabet};
 ghost use Rattle.bech32_decode.specs.Text.{invalid_character, split_at_last, text_refusal};
-ghost use Rattle.codex32.specs.Damaged.{AreParts, read_character, read_data, read_text};
+ghost use Rattle.codex32.specs.Damaged.{AreParts, IsTestedBy, read_character, read_data, read_text};
 ghost use Rattle.codex32.specs.Lengths.{may_have};
 ghost use Rattle.codex32.specs.Strings.{frame_refusal, frame_refusal_by, long_frame_refusal};
 
@@ -130,9 +130,7 @@ pub fn damaged_parts(lengths: Lengths, text: &str) -> Result<(&str, &str), Codex
 /// The first of: the text, with each `?` behind the last `1` read as `0`, is not in the grammar; it
 /// has less than 48 characters or more than 93; its human-readable part is not `ms` in either case.
 pub fn validate_damaged(text: &str) -> Result<(), Codex32Error>
-    ensures { MatchResult result
-        (λ _. frame_refusal (read_text text.now) ≡ None)
-        (λ e. frame_refusal (read_text text.now) ≡ Some e) }
+    ensures { IsTestedBy (frame_refusal (read_text text.now)) result }
 {
     damaged_parts(Lengths::Short, text)?;
     Ok(())
@@ -145,9 +143,7 @@ pub fn validate_damaged(text: &str) -> Result<(), Codex32Error>
 ///
 /// Those of [`validate_damaged`], with this length.
 pub fn validate_damaged_long(text: &str) -> Result<(), Codex32Error>
-    ensures { MatchResult result
-        (λ _. long_frame_refusal (read_text text.now) ≡ None)
-        (λ e. long_frame_refusal (read_text text.now) ≡ Some e) }
+    ensures { IsTestedBy (long_frame_refusal (read_text text.now)) result }
 {
     damaged_parts(Lengths::Long, text)?;
     Ok(())

@@ -6,7 +6,7 @@ ghost use Rattle.bech32_checksum.specs.Encoded.{char_of_element, spelled};
 ghost use Rattle.bech32_encode.specs.Buffers.{IsPut};
 ghost use Rattle.bech32_gf.specs.Fe32 as fe32;
 ghost use Rattle.codex32_shares.specs.Shares.{IsGiven};
-ghost use Rattle.codex32.specs.Derive.{DoContradict, IsDeriveIntoRefusal, IsDeriveRefusal, IsDerivedString, IsOfSet, IsSetRefusal, IsStringOfSet, IsWholeSet, count_of, indices_of, rows_of, size_of};
+ghost use Rattle.codex32.specs.Derive.{DoContradict, IsDeriveIntoRefusal, IsDeriveRefusal, IsDerivedOrRefused, IsDerivedString, IsOfSet, IsSetRefusal, IsStringOfSet, IsWholeSet, count_of, indices_of, rows_of, size_of};
 ghost use Rattle.codex32.specs.HeaderParts.{points_of, secret_index};
 ghost use Rattle.codex32.specs.ShareParts.{ms};
 
@@ -150,9 +150,7 @@ pub fn derive_into(
     ensures value { IfOk result (λ n. IsDerivedString shares.now index (take n buffer.new)) }
     ensures string { IfOk result (λ n. IsStringOfSet shares.now index (take n buffer.new)) }
     ensures put { IfOk result (λ n. IsPut (take n buffer.new) buffer.old buffer.new n) }
-    ensures refused { MatchResult result
-        (λ _. IsWholeSet shares.now index × (DoContradict shares.now → ⊥))
-        (λ e. IsDeriveIntoRefusal shares.now index e) }
+    ensures refused { IsDerivedOrRefused IsDeriveIntoRefusal shares.now index result }
     ensures same { OnErr result (buffer.new ≡ buffer.old) }
 {
     put_derived_text(buffer, shares, index)
@@ -180,9 +178,7 @@ pub fn derive_in<A: Allocator>(
 ) -> Result<String<A>, DeriveError>
     ensures value { IfOk result (λ s. IsDerivedString shares.now index (string_bytes s)) }
     ensures string { IfOk result (λ s. IsStringOfSet shares.now index (string_bytes s)) }
-    ensures refused { MatchResult result
-        (λ _. IsWholeSet shares.now index × (DoContradict shares.now → ⊥))
-        (λ e. IsDeriveRefusal shares.now index e) }
+    ensures refused { IsDerivedOrRefused IsDeriveRefusal shares.now index result }
 {
     derived_in(alloc, shares, index)
 }
@@ -195,9 +191,7 @@ pub fn derive_in<A: Allocator>(
 pub fn derive(alloc: Global, shares: &[Share<'_>], index: Fe32) -> Result<String, DeriveError>
     ensures value { IfOk result (λ s. IsDerivedString shares.now index (string_bytes s)) }
     ensures string { IfOk result (λ s. IsStringOfSet shares.now index (string_bytes s)) }
-    ensures refused { MatchResult result
-        (λ _. IsWholeSet shares.now index × (DoContradict shares.now → ⊥))
-        (λ e. IsDeriveRefusal shares.now index e) }
+    ensures refused { IsDerivedOrRefused IsDeriveRefusal shares.now index result }
 {
     derive_in(alloc, shares, index)
 }
@@ -210,9 +204,7 @@ pub fn derive(alloc: Global, shares: &[Share<'_>], index: Fe32) -> Result<String
 pub fn recover_in<A: Allocator>(alloc: A, shares: &[Share<'_>]) -> Result<String<A>, DeriveError>
     ensures value { IfOk result (λ s. IsDerivedString shares.now secret_index (string_bytes s)) }
     ensures string { IfOk result (λ s. IsStringOfSet shares.now secret_index (string_bytes s)) }
-    ensures refused { MatchResult result
-        (λ _. IsWholeSet shares.now secret_index × (DoContradict shares.now → ⊥))
-        (λ e. IsDeriveRefusal shares.now secret_index e) }
+    ensures refused { IsDerivedOrRefused IsDeriveRefusal shares.now secret_index result }
 {
     derive_in(alloc, shares, Fe32::S)
 }
@@ -225,9 +217,7 @@ pub fn recover_in<A: Allocator>(alloc: A, shares: &[Share<'_>]) -> Result<String
 pub fn recover(alloc: Global, shares: &[Share<'_>]) -> Result<String, DeriveError>
     ensures value { IfOk result (λ s. IsDerivedString shares.now secret_index (string_bytes s)) }
     ensures string { IfOk result (λ s. IsStringOfSet shares.now secret_index (string_bytes s)) }
-    ensures refused { MatchResult result
-        (λ _. IsWholeSet shares.now secret_index × (DoContradict shares.now → ⊥))
-        (λ e. IsDeriveRefusal shares.now secret_index e) }
+    ensures refused { IsDerivedOrRefused IsDeriveRefusal shares.now secret_index result }
 {
     recover_in(alloc, shares)
 }

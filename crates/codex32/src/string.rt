@@ -1,6 +1,6 @@
 //! Codex32 strings in their parts.
 
-ghost use Rattle.std.specs.Prelude.{◌≡◌, ◌↔◌, ◌≤◌, ◌-◌, length, take, drop, slice_index, MatchResult, IfOk, IfErr, IsOk};
+ghost use Rattle.std.specs.Prelude.{◌≡◌, ◌↔◌, ◌≤◌, ◌-◌, length, take, drop, slice_index, IfOk, IfErr, IsOk};
 ghost use Rattle.std.specs.Str.{IsAscii};
 ghost use Rattle.codex32.specs.Strings.{IsCodex32, IsStringRefusal};
 
@@ -40,18 +40,6 @@ impl<'s> Codex32Str<'s> {
         }
     }
 
-    // A text in its parts, or its first fault.
-    fn read(text: &'s str) -> Result<Self, Codex32Error>
-        ensures { MatchResult result
-            (λ s. IsStringOf text.now s)
-            (λ e. IsStringRefusal text.now e) }
-    {
-        let data_part = data_part_of(Lengths::Short, text)?;
-        validate_data_part::<Codex32>(text.len(), &text.as_bytes()[..2], data_part)?;
-        validate_header(data_part)?;
-        Ok(Self::cut(text))
-    }
-
     /// Reads a codex32 string. It allocates nothing.
     ///
     /// # Errors
@@ -64,7 +52,10 @@ impl<'s> Codex32Str<'s> {
         ensures accepts { IsOk result ↔ IsCodex32 text.now }
         ensures refused { IfErr result (λ e. IsStringRefusal text.now e) }
     {
-        Self::read(text)
+        let data_part = data_part_of(Lengths::Short, text)?;
+        validate_data_part::<Codex32>(text.len(), &text.as_bytes()[..2], data_part)?;
+        validate_header(data_part)?;
+        Ok(Self::cut(text))
     }
 
     /// How many shares give the secret: 2 to 9, or 0 for the secret itself.

@@ -13,7 +13,7 @@ use bech32_numbers::codex32_sentence_of;
 ///
 /// # Errors
 ///
-/// Answers 92 where `message` has no room for it.
+/// Returns 92 where `message` has no room for it.
 #[unsafe(no_mangle)]
 pub extern "C" fn codex32_message(
     number: u32,

@@ -15,7 +15,7 @@ use codex32_calls::parse::parts_of;
 ///
 /// # Errors
 ///
-/// Answers the number of the first of: a text that is not UTF-8 (2); its first fault (21 to 23, 11
+/// Returns the number of the first of: a text that is not UTF-8 (2); its first fault (21 to 23, 11
 /// to 15, 82, 81, 33, 83, 84).
 #[unsafe(no_mangle)]
 pub extern "C" fn codex32_parse(

@@ -16,7 +16,7 @@ use codex32_calls::propose::{Kind, nearest_of};
 ///
 /// # Errors
 ///
-/// Answers the number of the first of: a text that is not UTF-8 (2); the first fault of its grammar
+/// Returns the number of the first of: a text that is not UTF-8 (2); the first fault of its grammar
 /// (21 to 23, 11 to 15), its length (82) and its human-readable part (81), all before any memory is
 /// taken; no such text (34); a buffer that is too small (92). Where `memory` does not suffice, 91
 /// in place of 0, 34 or 92, for a text without errors too. With every other number `memory` is as
@@ -54,7 +54,7 @@ pub extern "C" fn codex32_propose(
 ///
 /// # Errors
 ///
-/// Answers the number of the first of: a text that is not UTF-8 (2); the first fault of its grammar
+/// Returns the number of the first of: a text that is not UTF-8 (2); the first fault of its grammar
 /// (21 to 23, 11 to 15), its length (82) and its human-readable part (81), all before any memory is
 /// taken; no such text (34); a buffer that is too small (92). Where `memory` does not suffice, 91
 /// in place of 0, 34 or 92, for a text without errors too. With every other number `memory` is as

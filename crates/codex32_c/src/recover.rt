@@ -12,7 +12,7 @@ use codex32_calls::recover::put_recovered;
 ///
 /// # Errors
 ///
-/// Answers the number of the first of: more than 32 texts, or lengths that do not add up to that of
+/// Returns the number of the first of: more than 32 texts, or lengths that do not add up to that of
 /// `texts` (4); the first text that is no string of either length (2, 21 to 23, 11 to 15, 82, 81,
 /// 33, 83, 84); texts that are not of one set (62); an index that stands twice (63); fewer texts
 /// than the threshold (61); texts that contradict each other (64); more than four bits left over

@@ -14,7 +14,7 @@ use codex32_calls::share::{characters_of, put_payload};
 ///
 /// # Errors
 ///
-/// Answers the number of the first of: a text that is not UTF-8 (2); its first fault (21 to 23, 11
+/// Returns the number of the first of: a text that is not UTF-8 (2); its first fault (21 to 23, 11
 /// to 15, 82, 81, 33, 83, 84); more than four bits left over behind the bytes of the payload (87);
 /// a buffer that is too small (92).
 #[unsafe(no_mangle)]

@@ -1,7 +1,9 @@
 -- Shares: texts of one length, one for each index, which are lists of elements (BIP-93).
 use Rattle.std.specs.Prelude.{◌≡◌, ◌<◌, ◌≤◌, ℕ, List, [], ◌∷◌, ◌++◌, length, map}
 use Rattle.std.specs.List.{AllByRecursion}
+use Rattle.bech32_gf.specs.Fe32.{elements_of, ops}
 use Rattle.bech32_gf.specs.Field.{Ops, value_at}
+use Rattle.bech32_gf.specs.declared.gf32.Fe32.{Fe32}
 use Rattle.bech32_poly.specs.Distinct.{IsOnce}
 use Rattle.bech32_poly.specs.Division.{zeros}
 use Rattle.bech32_poly.specs.Polynomial.{coefficient, add, scale}
@@ -72,3 +74,15 @@ AreShareTexts EndsIn header n (x ∷ xs) [] texts = ⊥
 AreShareTexts EndsIn header n (x ∷ xs) (p ∷ payloads) [] = ⊥
 AreShareTexts EndsIn header n (x ∷ xs) (p ∷ payloads) (t ∷ texts) =
     IsShareText EndsIn header n x p t × AreShareTexts EndsIn header n xs payloads texts
+
+-- ---- of what has an index, and characters
+
+-- these are shares, each of n elements
+abbrev pub AreSharesAt : {T : Type 0} → (T → Fe32) → (T → List ℕ) → List T → ℕ → Type 0
+AreSharesAt index_of characters_of shares n =
+    AreShares (map index_of shares) (map (λ t. elements_of (characters_of t)) shares) n
+
+-- they do not contradict each other, where k of them give the others
+abbrev pub DoSharesAgree : {T : Type 0} → (T → Fe32) → (T → List ℕ) → ℕ → List T → ℕ → Type 0
+DoSharesAgree index_of characters_of k shares n =
+    DoAgree ops k (map index_of shares) (map (λ t. elements_of (characters_of t)) shares) n

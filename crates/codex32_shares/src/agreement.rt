@@ -4,7 +4,7 @@ ghost use Rattle.std.specs.Prelude.{◌≡◌, ◌≤◌, ◌<◌, ◌↔◌, tr
 ghost use Rattle.bech32_gf.specs.Alphabet.{is_data};
 ghost use Rattle.bech32_gf.specs.Fe32 as fe32;
 ghost use Rattle.bech32_gf.specs.Fe32.{elements_of};
-ghost use Rattle.codex32_shares.specs.Shares.{AreShares, DoAgree, IsDerived, IsGiven};
+ghost use Rattle.codex32_shares.specs.Shares.{AreSharesAt, DoSharesAgree, IsDerived, IsGiven};
 
 use crate::share::share_at;
 use crate::text::IndexedText;
@@ -29,8 +29,7 @@ fn are_elements_of(elements: &[Fe32], characters: &[u8]) -> bool
 // Whether a text is the one that shares give at its index.
 fn is_given_by<T: IndexedText>(room: &mut [Fe32], shares: &[T], text: &T) -> bool
     requires few { length shares.now ≤ 9 }
-    requires shares { AreShares (map T.index_of shares.now)
-        (map (λ t. elements_of (T.characters_of t)) shares.now) (length room.old) }
+    requires shares { AreSharesAt T.index_of T.characters_of shares.now (length room.old) }
     requires size { length (T.characters_of text.now) ≡ length room.old }
     ensures answer { IsTrue result ↔ IsDerived fe32.ops (map T.index_of shares.now)
         (map (λ t. elements_of (T.characters_of t)) shares.now) (length room.old)
@@ -47,10 +46,9 @@ fn is_given_by<T: IndexedText>(room: &mut [Fe32], shares: &[T], text: &T) -> boo
 fn agree<T: IndexedText>(room: &mut [Fe32], shares: &[T], count: usize) -> bool
     requires within { count ≤ length shares.now }
     requires few { count ≤ 9 }
-    requires shares { AreShares (map T.index_of shares.now)
-        (map (λ t. elements_of (T.characters_of t)) shares.now) (length room.old) }
-    ensures answer { IsTrue result ↔ DoAgree fe32.ops count (map T.index_of shares.now)
-        (map (λ t. elements_of (T.characters_of t)) shares.now) (length room.old) }
+    requires shares { AreSharesAt T.index_of T.characters_of shares.now (length room.old) }
+    ensures answer { IsTrue result
+        ↔ DoSharesAgree T.index_of T.characters_of count shares.now (length room.old) }
     ensures size { length room.new ≡ length room.old }
 {
     let mut agrees = true;
@@ -66,10 +64,9 @@ fn agree<T: IndexedText>(room: &mut [Fe32], shares: &[T], count: usize) -> bool
 pub fn given_at<T: IndexedText>(target: &mut [Fe32], shares: &[T], count: usize, x: Fe32) -> bool
     requires within { count ≤ length shares.now }
     requires few { count ≤ 9 }
-    requires shares { AreShares (map T.index_of shares.now)
-        (map (λ t. elements_of (T.characters_of t)) shares.now) (length target.old) }
-    ensures answer { IsTrue result ↔ DoAgree fe32.ops count (map T.index_of shares.now)
-        (map (λ t. elements_of (T.characters_of t)) shares.now) (length target.old) }
+    requires shares { AreSharesAt T.index_of T.characters_of shares.now (length target.old) }
+    ensures answer { IsTrue result
+        ↔ DoSharesAgree T.index_of T.characters_of count shares.now (length target.old) }
     ensures text { IsTrue result → IsGiven fe32.ops count (map T.index_of shares.now)
         (map (λ t. elements_of (T.characters_of t)) shares.now) (length target.old) x target.new }
     ensures size { length target.new ≡ length target.old }

@@ -1,32 +1,18 @@
 -- The first character of a text in one case that may not stand in a human-readable part.
-use Rattle.std.specs.List.{list_all, list_any}
+use Rattle.std.specs.List.{list_all}
 use Rattle.std.specs.Str.{IsAscii, IsCharBoundary, IsUtf8, chars}
 use Rattle.std.proofs.Math.Utf8.{encode}
-use Rattle.std.proofs.Common.{◌≡◌, ℕ, ◌+◌, ◌<◌, ◌≤◌, ◌&&◌, ◌||◌, Bool, true, false, List, [], ◌∷◌, ◌++◌, Option, Some, None, MatchOption, length, take, drop, get_or, eqb, leb, ltb, inl, inr, refl, sym, ap, ◌∙◌, arith, append-nil, append_assoc}
+use Rattle.std.proofs.Common.{◌≡◌, ℕ, ◌+◌, ◌<◌, ◌≤◌, true, false, List, [], ◌∷◌, ◌++◌, Option, Some, None, MatchOption, length, take, drop, get_or, eqb, leb, ltb, inl, inr, refl, sym, ap, ◌∙◌, arith, append-nil, append_assoc}
 use Rattle.std.proofs.lemmas.Bool.{and_parts, cases_Bool, cond-false, cond-true, le-ltb, leb-true, lt-ltb, ne_eqb}
 use Rattle.std.proofs.lemmas.List.{get_or-drop, length-drop, length-take-le, take-append-drop, take_all}
-use Rattle.std.proofs.lemmas.List.Folds.{list_any-append}
 use Rattle.std.proofs.lemmas.Str.{IsCharBoundary-from_take, IsUtf8-drop, IsUtf8-from_ascii, byte_from_char, chars-append, chars-IsAscii, chars_past_char, encode_ascii}
 use Rattle.std.proofs.lemmas.Str.Ascii.{IsAscii-cons, IsAscii-nil}
 use Rattle.bech32_decode.proofs.Grammar.{none_first}
-use Rattle.bech32_hrp.specs.Hrp.{IsHrp, bad_after, empty_fault, first_bad, first_of, hrp_refusal, is_graphic, is_lower, is_mixed_case, is_upper, length_fault}
+use Rattle.bech32_decode.proofs.OneCase.{one_case-front}
+use Rattle.bech32_hrp.specs.Hrp.{IsHrp, bad_after, empty_fault, first_bad, first_of, hrp_refusal, is_graphic, is_mixed_case, length_fault}
 use Rattle.bech32_hrp.specs.declared.Error.{Error}
 use Rattle.bech32_hrp.specs.declared.Error.TheVariants.{Empty, TooLong}
 use Rattle.bech32_hrp.proofs.HrpTexts.{hrp_refusal-none}
-
--- ---- the cases of its letters
-
-one_of : (a b c d : Bool) → ((a || b) && (c || d)) ≡ false → (a && c) ≡ false
-one_of false b c d h = refl
-one_of true b false d h = refl
-one_of true b true d h = absurd (cc)
-
-mixed-append : (front rest : List ℕ) → is_mixed_case (front ++ rest) ≡ ((list_any is_lower front || list_any is_lower rest) && (list_any is_upper front || list_any is_upper rest))
-mixed-append front rest = rw (list_any-append is_lower front rest, list_any-append is_upper front rest)
-
-pub one_case-front : (text front rest : List ℕ) → text ≡ front ++ rest → is_mixed_case text ≡ false → is_mixed_case front ≡ false
-one_case-front text front rest e one =
-    one_of (list_any is_lower front) (list_any is_lower rest) (list_any is_upper front) (list_any is_upper rest) (sym (mixed-append front rest) ∙ ap is_mixed_case (sym e) ∙ one)
 
 -- ---- graphic characters
 

@@ -1,46 +1,18 @@
 //! The parts of a text, or its first fault, by which nothing else can be told of its characters.
 
-ghost use Rattle.std.specs.Prelude.{◌≡◌, ◌≤◌, ℕ, false, true, List, [], ◌++◌, ◌∷◌, length, None, Some, MatchOption, MatchResult};
-ghost use Rattle.std.specs.Char.{IsScalar};
+ghost use Rattle.std.specs.Prelude.{◌≡◌, ◌≤◌, ℕ, false, true, List, [], length, None, Some, MatchOption, MatchResult};
 ghost use Rattle.std.specs.List.{list_all};
 ghost use Rattle.std.specs.Str.{chars};
-ghost use Rattle.bech32_decode.specs.Text.{IsText, invalid_character, split_at_last, text_refusal};
-ghost use Rattle.bech32_gf.specs.Alphabet.{is_data};
+ghost use Rattle.bech32_decode.specs.Text.{IsText, text_refusal};
 ghost use Rattle.bech32_hrp.specs.Hrp.{IsHrp, bad_after, first_bad, hrp_refusal, is_graphic, is_mixed_case};
 
+use bech32_decode::{CharacterTests, parts_by};
 use bech32_hrp as hrp;
-use bech32_refusals::{CharError, UncheckedHrpstringError};
+use bech32_refusals::UncheckedHrpstringError;
 use codex32_steady::{data_start, graphic_count, has_both_cases};
 
 // The most bytes that a human-readable part has (BIP-173, Bech32).
 const MOST: usize = 83;
-
-// The refusal of a text by a character, which is not a surrogate.
-fn refusal_by(c: char) -> CharError
-    ensures value { result ≡ CharError.InvalidChar c }
-    ensures scalar { IsScalar c }
-{
-    CharError::InvalidChar(c)
-}
-
-// What stands before the last `1`, where all behind it is of the alphabet.
-fn before_separator(s: &str) -> Result<Option<&str>, CharError>
-    ensures { MatchResult result
-        (λ o. (invalid_character s.now ≡ None)
-        × MatchOption o (split_at_last s.now ≡ None)
-        (λ front. (behind : List ℕ) × (s.now ≡ front.now ++ 49 ∷ behind) × (is_data behind ≡ true)
-        × (split_at_last s.now ≡ Some (front.now, behind))))
-        (λ e. invalid_character s.now ≡ Some e) }
-{
-    let mut front = s[..data_start(s.as_bytes())].chars();
-    let Some(c) = front.next_back() else {
-        return Ok(None);
-    };
-    if c != '1' {
-        return Err(refusal_by(c));
-    }
-    Ok(Some(front.as_str()))
-}
 
 // Why a character that is not from 33 to 126 may not stand in a human-readable part.
 fn fault_by(c: char) -> hrp::Error
@@ -83,6 +55,23 @@ pub fn part_fault(front: &str) -> Option<hrp::Error>
     character_fault(front)
 }
 
+// The steady tests: nothing can be told but what they return.
+enum Steady {}
+
+impl CharacterTests for Steady {
+    fn data_start(bytes: &[u8]) -> usize {
+        data_start(bytes)
+    }
+
+    fn has_both_cases(bytes: &[u8]) -> bool {
+        has_both_cases(bytes)
+    }
+
+    fn part_fault(front: &str) -> Option<hrp::Error> {
+        part_fault(front)
+    }
+}
+
 /// The parts of a text, or its first fault. Of its characters nothing can be told but where that
 /// is, and what stands there.
 #[inline(never)]
@@ -91,16 +80,5 @@ pub fn parts_of(text: &str) -> Result<(&[u8], &[u8]), UncheckedHrpstringError>
         (λ p. IsText text.now p.0.now p.1.now)
         (λ e. text_refusal text.now ≡ Some e) }
 {
-    let before = before_separator(text)?;
-    let bytes = text.as_bytes();
-    if has_both_cases(bytes) {
-        return Err(UncheckedHrpstringError::Char(CharError::MixedCase));
-    }
-    let Some(front) = before else {
-        return Err(UncheckedHrpstringError::Char(CharError::MissingSeparator));
-    };
-    if let Some(e) = part_fault(front) {
-        return Err(UncheckedHrpstringError::Hrp(e));
-    }
-    Ok((front.as_bytes(), &bytes[front.len() + 1..]))
+    parts_by::<Steady>(text)
 }

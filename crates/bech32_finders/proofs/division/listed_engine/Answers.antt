@@ -8,30 +8,30 @@ use Rattle.bech32_bch.proofs.Patterns.{values_from, whole_pattern}
 use Rattle.bech32_finders.proofs.Remainders.{same_remainder, values_from-more}
 use Rattle.bech32_finders.proofs.division.listed_engine.Goals as goal
 
-pub loop-place-init : goal.loop-place-init
-loop-place-init g c =
-    let highest : ℕ = c.highest_place-place.result in
+pub loop-location-init : goal.loop-location-init
+loop-location-init g c =
+    let highest : ℕ = c.highest_location-location.result in
     record {
       count = 0;
-      above = all_below c.args.listing.now highest (highest + 0) (omega arith) c.highest_place-place.ensures.bound;
-      so_far = subst (λ v. IsResidueOf g.Ck.MidstateRepr.PackedFe32.number g.Ck.Checksum.code c.input_fe.new.self (v ∷ [])) c.value_at_place.ensures (c.input_fe.ensures [] c.zero-engine.ensures);
+      above = all_below c.args.listing.now highest (highest + 0) (omega arith) c.highest_location-location.ensures.bound;
+      so_far = subst (λ v. IsResidueOf g.Ck.MidstateRepr.PackedFe32.number g.Ck.Checksum.code c.input_fe.new.self (v ∷ [])) c.value_at_location.ensures (c.input_fe.ensures [] c.zero-engine.ensures);
     }
 
-pub loop-place-preserved : goal.loop-place-preserved
-loop-place-preserved g c =
-    let n : ℕ = c.loop-place.invariant.count in
-    let place : ℕ = c.loop-place.place in
-    let holds = IsResidueOf g.Ck.MidstateRepr.PackedFe32.number g.Ck.Checksum.code c.input_fe-in-loop-place.new.self in
+pub loop-location-preserved : goal.loop-location-preserved
+loop-location-preserved g c =
+    let n : ℕ = c.loop-location.invariant.count in
+    let location : ℕ = c.loop-location.location in
+    let holds = IsResidueOf g.Ck.MidstateRepr.PackedFe32.number g.Ck.Checksum.code c.input_fe-in-loop-location.new.self in
     record {
       count = n + 1;
-      above = all_below c.args.listing.now (place + n) (place - 1 + (n + 1)) (omega arith) c.loop-place.invariant.above;
-      so_far = subst holds (values_from-more fe32.ops c.args.listing.now place n (omega arith))
-          (subst (λ v. holds (v ∷ values_from fe32.ops c.args.listing.now place (n + 1))) c.value_at_place-in-loop-place.ensures
-          (c.input_fe-in-loop-place.ensures (values_from fe32.ops c.args.listing.now place (n + 1)) c.loop-place.invariant.so_far));
+      above = all_below c.args.listing.now (location + n) (location - 1 + (n + 1)) (omega arith) c.loop-location.invariant.above;
+      so_far = subst holds (values_from-more fe32.ops c.args.listing.now location n (omega arith))
+          (subst (λ v. holds (v ∷ values_from fe32.ops c.args.listing.now location (n + 1))) c.value_at_location-in-loop-location.ensures
+          (c.input_fe-in-loop-location.ensures (values_from fe32.ops c.args.listing.now location (n + 1)) c.loop-location.invariant.so_far));
     }
 
 pub returns : goal.returns
 returns g c =
-    same_remainder is_field g.Ck.Checksum.code.generator (values_from fe32.ops c.args.listing.now c.loop-place.place (c.loop-place.invariant.count + 1)) (pattern_polynomial fe32.ops c.args.listing.now) _
-    (whole_pattern is_field g.Ck.Checksum.code.generator c.args.listing.now c.loop-place.place c.loop-place.invariant.count (omega arith) c.loop-place.invariant.above)
-    c.loop-place.invariant.so_far
+    same_remainder is_field g.Ck.Checksum.code.generator (values_from fe32.ops c.args.listing.now c.loop-location.location (c.loop-location.invariant.count + 1)) (pattern_polynomial fe32.ops c.args.listing.now) _
+    (whole_pattern is_field g.Ck.Checksum.code.generator c.args.listing.now c.loop-location.location c.loop-location.invariant.count (omega arith) c.loop-location.invariant.above)
+    c.loop-location.invariant.so_far

@@ -5,12 +5,12 @@ use Rattle.bech32_checksum.specs.Code.{IsResidueOf}
 use Rattle.bech32_bch.proofs.Patterns.{values_from}
 use Rattle.bech32_finders.proofs.division.listed_engine.Given as goal
 
-abbrev pub invariant-loop-place : goal.invariant-loop-place
-invariant-loop-place g l = record {
+abbrev pub invariant-loop-location : goal.invariant-loop-location
+invariant-loop-location g l = record {
   count : ℕ;
-  above : AllByRecursion (λ p. p.0 ≤ l.place + count) l.listing;
-  so_far : IsResidueOf g.Ck.MidstateRepr.PackedFe32.number g.Ck.Checksum.code l.engine (values_from fe32.ops l.listing l.place (count + 1));
+  above : AllByRecursion (λ p. p.0 ≤ l.location + count) l.listing;
+  so_far : IsResidueOf g.Ck.MidstateRepr.PackedFe32.number g.Ck.Checksum.code l.engine (values_from fe32.ops l.listing l.location (count + 1));
 }
 
-abbrev pub decreases-loop-place : goal.decreases-loop-place
-decreases-loop-place g l = l.place
+abbrev pub decreases-loop-location : goal.decreases-loop-location
+decreases-loop-location g l = l.location

@@ -1,14 +1,15 @@
 use Rattle.std.specs.Prelude.{option_to_list}
-use Rattle.std.proofs.Common.{◌-◌, ◌≤◌, ℕ, [], length, append-nil, subst, sym, ◌∙◌, refl, arith}
+use Rattle.std.proofs.Common.{◌-◌, ◌+◌, ◌≤◌, ℕ, [], length, append-nil, replicate, subst, sym, ◌∙◌, refl, arith}
 use Rattle.std.proofs.lemmas.Bool.{eqb-true}
 use Rattle.std.proofs.lemmas.List.{length-map}
 use Rattle.std.proofs.lemmas.Result.{err_from_is_err_and}
 use Rattle.bech32_gf.specs.Fe32.{element_of, elements_of}
+use Rattle.bech32_gf.specs.declared.gf32.Fe32.{Fe32 as Element}
 use Rattle.bech32_decode.proofs.Letters.{is_data-take}
 use Rattle.bech32_hrp.specs.HrpBytes.{hrp_bytes}
-use Rattle.bech32_near_edits.specs.Walks.{HasLengthsFor, IsAcceptedAt, IsAcceptedOfKind, IsWordOf}
+use Rattle.bech32_near_edits.specs.Walks.{HasLengthsFor, IsAcceptedAt, IsAcceptedOfKind, IsWordOf, element_in, times_power}
 use Rattle.bech32_near_edits.proofs.Kept.{found_all, found_more, found_none, none_lower, some_kept}
-use Rattle.bech32_near_edits.proofs.Located.{never, first_without}
+use Rattle.bech32_near_edits.proofs.Located.{never, first_without, word_without}
 use Rattle.bech32_near_edits.proofs.Verdicts.{lower_first, of_left_out}
 use Rattle.bech32_near_edits.proofs.walks.push_left_out.Goals as goal
 
@@ -46,6 +47,7 @@ loop-location-init g c =
 pub loop-location-preserved : goal.loop-location-preserved
 loop-location-preserved g c =
     let at = c.loop-location in
+    let number = g.Ck.MidstateRepr.PackedFe32.number in
     let code = g.Ck.Checksum.code in
     let hrp = hrp_bytes c.args.hrp in
     let old = elements_of c.args.characters.now in
@@ -53,7 +55,10 @@ loop-location-preserved g c =
     let word = at.invariant.rest c.loop-location-test.true in
     record {
       powers = c.raise.ensures at.location 1 at.invariant.powers;
-      rest = λ more. c.without_next-rest.ensures hrp more word at.invariant.powers;
+      rest = λ more.
+          let term = subst (λ (x : Element). IsWordOf number code c.times.result (times_power at.location (replicate 1 x))) (c.change_above-change.ensures more) (c.times.ensures at.location 1 at.invariant.powers) in
+          word_without code hrp c.args.characters.now at.location number c.sum_of-rest.result (element_in (at.location + 1) old) (element_in at.location old) refl refl more
+          (c.sum_of-rest.ensures _ _ word term);
       kept = found_more (IsAcceptedOfKind 1 code hrp old) (λ e. e.location) at.location c.args.found.now.items at.found.items c.push_some.new.found.items (option_to_list c.left_out_at.result)
           (lower_first 1 code hrp old) c.in_ok-push_some.ensures (c.left_out_at.ensures hrp room word) at.invariant.kept;
     }

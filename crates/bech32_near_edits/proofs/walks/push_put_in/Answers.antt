@@ -1,4 +1,4 @@
-use Rattle.std.proofs.Common.{◌+◌, ◌≤◌, ◌∷◌, ℕ, [], length, append-nil, subst, sym, ap, ◌∙◌, refl, arith}
+use Rattle.std.proofs.Common.{◌+◌, ◌<◌, ◌≤◌, ◌∷◌, ℕ, [], length, append-nil, subst, sym, ap, ◌∙◌, refl, arith}
 use Rattle.std.proofs.lemmas.List.{length-map}
 use Rattle.std.proofs.lemmas.Result.{err_from_is_err_and}
 use Rattle.bech32_gf.specs.Fe32 as fe32
@@ -8,7 +8,7 @@ use Rattle.bech32_checksum.specs.TextPolynomial.{text_polynomial}
 use Rattle.bech32_hrp.specs.HrpBytes.{hrp_bytes}
 use Rattle.bech32_near_edits.specs.Walks.{HasLengthsFor, IsAcceptedOfKind, IsWordOf}
 use Rattle.bech32_near_edits.proofs.Kept.{found_all, found_chain, found_none, none_lower}
-use Rattle.bech32_near_edits.proofs.Located.{never, first_with}
+use Rattle.bech32_near_edits.proofs.Located.{never, first_with, word_with_zero}
 use Rattle.bech32_near_edits.proofs.Verdicts.{lower_first, of_put_in}
 use Rattle.bech32_near_edits.proofs.walks.push_put_in.Goals as goal
 
@@ -41,6 +41,7 @@ push_put_in_at-requires-clause-within g c = omega arith
 pub loop-location-preserved : goal.loop-location-preserved
 loop-location-preserved g c =
     let at = c.loop-location in
+    let number = g.Ck.MidstateRepr.PackedFe32.number in
     let code = g.Ck.Checksum.code in
     let hrp = hrp_bytes c.args.hrp in
     let old = elements_of c.args.characters.now in
@@ -50,7 +51,10 @@ loop-location-preserved g c =
     record {
       powers = c.raise.ensures at.location 1 at.invariant.powers;
       pairs = c.raise-in-loop-location.ensures at.location 2 at.invariant.pairs;
-      with_none = λ more. c.with_zero_next-with_none.ensures hrp (omega (arith, more)) word at.invariant.pairs;
+      with_none = λ more.
+          let less : at.location < length c.args.characters.now = omega (arith, more) in
+          word_with_zero code hrp c.args.characters.now at.location number c.sum_of-with_none.result c.element_or_zero-element.result (c.element_or_zero-element.ensures less) less
+          (c.sum_of-with_none.ensures _ _ word (c.times.ensures at.location 2 at.invariant.pairs));
       kept = found_chain (IsAcceptedOfKind 2 code hrp old) (λ e. e.location) at.location c.args.found.now.items at.found.items c.push_put_in_at.new.found.items
           (lower_first 2 code hrp old) (c.in_ok-push_put_in_at.ensures hrp room word at.invariant.powers) at.invariant.kept;
     }

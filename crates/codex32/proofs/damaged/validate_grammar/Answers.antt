@@ -3,7 +3,7 @@ use Rattle.std.proofs.lemmas.Result.{err_from_is_err_and}
 use Rattle.bech32_decode.specs.Text.{as_hrp}
 use Rattle.bech32_hrp.proofs.HrpTexts.{hrp_refusal-none}
 use Rattle.bech32_hrp.specs.Hrp.{IsHrp, is_mixed_case}
-use Rattle.codex32_steady_texts.proofs.FirstFault.{one_case-front}
+use Rattle.bech32_decode.proofs.OneCase.{one_case-front}
 use Rattle.codex32.proofs.Separated.{is_split}
 use Rattle.codex32.proofs.ReadTexts.{none_behind, parts-read, past_cases, refused_cases, refused_character}
 use Rattle.codex32.proofs.damaged.validate_grammar.Goals as goal

@@ -1,7 +1,7 @@
-use Rattle.std.specs.Prelude.{IfOk, MatchResult}
+use Rattle.std.specs.Prelude.{IfOk}
 use Rattle.std.proofs.Common.{refl, string_bytes, subst}
 use Rattle.bech32_gf.specs.Fe32.{path}
-use Rattle.codex32.specs.Derive.{DoContradict, IsDeriveRefusal, IsDerivedString, IsStringOfSet, IsWholeSet}
+use Rattle.codex32.specs.Derive.{IsDeriveRefusal, IsDerivedOrRefused, IsDerivedString, IsStringOfSet}
 use Rattle.codex32.specs.HeaderParts.{secret_index}
 use Rattle.codex32.proofs.derivation.recover_in.Goals as goal
 
@@ -15,5 +15,4 @@ returns-clause-string g c =
 
 pub returns-clause-refused : goal.returns-clause-refused
 returns-clause-refused g c =
-    subst (λ x. MatchResult c.derive_in.result (λ _. IsWholeSet c.args.shares.now x × (DoContradict c.args.shares.now → ⊥)) (λ e. IsDeriveRefusal c.args.shares.now x e)) (path _ secret_index refl)
-    c.derive_in.ensures.refused
+    subst (λ x. IsDerivedOrRefused IsDeriveRefusal c.args.shares.now x c.derive_in.result) (path _ secret_index refl) c.derive_in.ensures.refused

@@ -5,20 +5,20 @@ use Rattle.bech32_gf.specs.Alphabet.{is_of_alphabet, is_data}
 use Rattle.bech32_decode.specs.Text.{split_at_last}
 use Rattle.bech32_decode.proofs.DataEnds.{boundary-data, stranger-before, front-slice, whole-at, whole-ascii, all-data}
 use Rattle.bech32_decode.proofs.Texts.{invalid_character-at, separator-at, separator-none, split_at_last-at, split_at_last-data}
-use Rattle.bech32_decode.proofs.unchecked.before_separator.Goals as goal
+use Rattle.bech32_decode.proofs.parts.before_separator.Goals as goal
 
 -- where the end begins that is of the alphabet
 abbrev IsDataStart : List ℕ → ℕ → Type 0
 IsDataStart text n = (n ≤ length text) × (is_data (drop n text) ≡ true) × (0 < n → is_of_alphabet (get_or text (n - 1) 0) ≡ false)
 
 pub range-requires-clause-end_boundary : goal.range-requires-clause-end_boundary
-range-requires-clause-end_boundary c =
+range-requires-clause-end_boundary g c =
     let (inside, data_part, before) = subst (λ (t : List ℕ). IsDataStart t c.data_start.result) c.as_bytes.ensures.value
     (c.data_start.ensures.bound, c.data_start.ensures.data, c.data_start.ensures.before) in
     boundary-data c.args.s.now c.data_start.result inside data_part
 
 pub returns-in_default : goal.returns-in_default
-returns-in_default c =
+returns-in_default g c =
     let (inside, data_part, before) = subst (λ (t : List ℕ). IsDataStart t c.data_start.result) c.as_bytes.ensures.value
     (c.data_start.ensures.bound, c.data_start.ensures.data, c.data_start.ensures.before) in
     let nothing : length (take c.data_start.result c.args.s.now) ≡ 0 = ap length (front-slice c.args.s.now c.data_start.result ∙ sym c.range.ensures.value ∙ sym c.chars-front.ensures.rest) ∙ c.in_default.ensures.steps.0 in
@@ -26,7 +26,7 @@ returns-in_default c =
     (separator-none c.args.s.now data_text, split_at_last-data c.args.s.now data_text)
 
 pub returns-then-c-ne49 : goal.returns-then-c-ne49
-returns-then-c-ne49 c =
+returns-then-c-ne49 g c =
     let (inside, data_part, before) = subst (λ (t : List ℕ). IsDataStart t c.data_start.result) c.as_bytes.ensures.value
     (c.data_start.ensures.bound, c.data_start.ensures.data, c.data_start.ensures.before) in
     let text = c.args.s.now in
@@ -37,7 +37,7 @@ returns-then-c-ne49 c =
     (stranger-before text front n c.in-Some.c inside part before) c.if-c-ne49.true ∙ ap Some (sym c.refusal_by.ensures.value)
 
 pub returns : goal.returns
-returns c =
+returns g c =
     let (inside, data_part, before) = subst (λ (t : List ℕ). IsDataStart t c.data_start.result) c.as_bytes.ensures.value
     (c.data_start.ensures.bound, c.data_start.ensures.data, c.data_start.ensures.before) in
     let text = c.args.s.now in

@@ -1,6 +1,6 @@
 use Rattle.std.proofs.Common.{◌≡◌, ◌≤◌, true, length, drop}
 use Rattle.bech32_gf.specs.Alphabet.{is_data}
-use Rattle.bech32_decode.proofs.characters.data_start.Given as goal
+use Rattle.bech32_decode.proofs.characters.QuickCharacterTests.data_start.Given as goal
 
 abbrev pub invariant-loop-start : goal.invariant-loop-start
 invariant-loop-start l = (l.start ≤ length l.bytes) × (is_data (drop l.start l.bytes) ≡ true)

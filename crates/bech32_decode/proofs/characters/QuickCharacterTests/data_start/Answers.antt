@@ -1,6 +1,6 @@
 use Rattle.std.proofs.Common.{sym, ◌∙◌, arith}
 use Rattle.bech32_decode.proofs.DataEnds.{is_data-byte}
-use Rattle.bech32_decode.proofs.characters.data_start.Goals as goal
+use Rattle.bech32_decode.proofs.characters.QuickCharacterTests.data_start.Goals as goal
 
 pub loop-start-preserved : goal.loop-start-preserved
 loop-start-preserved c =

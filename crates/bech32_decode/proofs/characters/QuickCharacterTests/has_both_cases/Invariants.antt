@@ -1,7 +1,7 @@
 use Rattle.std.proofs.Common.{◌≡◌, take}
 use Rattle.std.specs.List.{list_any}
 use Rattle.bech32_hrp.specs.Hrp.{is_lower, is_upper}
-use Rattle.bech32_decode.proofs.characters.has_both_cases.Given as goal
+use Rattle.bech32_decode.proofs.characters.QuickCharacterTests.has_both_cases.Given as goal
 
 abbrev pub invariant-loop-b : goal.invariant-loop-b
 invariant-loop-b l =
