@@ -1,3 +1,5 @@
 pub mod Decoding
 pub mod RoundTrip
+pub mod Spellings
+pub mod Values
 pub mod Writing

@@ -1,4 +1,7 @@
 pub mod Carried
+pub mod Elements
+pub mod Long
 pub mod Refusals
+pub mod Spelling
 pub mod WayBack
 pub mod Writing

@@ -1,7 +1,10 @@
 //! Why a text is not decoded or not written.
 
 use bech32_correction::CorrectableError;
-use bech32_decode::{ChecksumError, CodeLengthError, InvalidResidueError, UncheckedHrpstringError};
+use bech32_decode::{
+    CheckedHrpstringError, ChecksumError, CodeLengthError, InvalidResidueError, PaddingError,
+    UncheckedHrpstringError,
+};
 use std::alloc::AllocError;
 use std::{fmt, io};
 use thiserror::Error;
@@ -16,6 +19,37 @@ pub enum DecodeError {
     #[error("no valid bech32 or bech32m checksum: {0}")]
     Checksum(ChecksumError),
     /// Out of memory for the data.
+    #[error("out of memory")]
+    Memory,
+}
+
+/// Why a text is not decoded by a checksum that is asked for.
+#[derive(Clone, Copy, Debug, PartialEq, Eq, Drop, Error)]
+pub enum TextError {
+    /// It is not in the grammar.
+    #[error("parsing failed: {0}")]
+    Parse(UncheckedHrpstringError),
+    /// The checksum does not accept it.
+    #[error("no valid checksum: {0}")]
+    Checksum(ChecksumError),
+    /// The bits behind its last whole byte are more than four, or not all zero.
+    #[error("not the only text of its bytes: {0}")]
+    Padding(PaddingError),
+    /// Out of memory for the data.
+    #[error("out of memory")]
+    Memory,
+}
+
+/// Why elements are not written.
+#[derive(Clone, Copy, Debug, PartialEq, Eq, Drop, Error)]
+pub enum ElementsError {
+    /// The text would be longer than the checksum's code.
+    #[error("encode error: {0}")]
+    TooLong(CodeLengthError),
+    /// A byte is above 31: the place of the first, counted from 0.
+    #[error("no element stands at {0}")]
+    Element(usize),
+    /// Out of memory for the text.
     #[error("out of memory")]
     Memory,
 }
@@ -88,6 +122,64 @@ impl CorrectableError for DecodeError {
             DecodeError::Checksum(e) => e.residue_error(),
             _ => None,
         }
+    }
+}
+
+impl From<CheckedHrpstringError> for TextError {
+    ghost use Rattle.std.specs.Prelude.{◌≡◌};
+    ghost use Rattle.bech32.specs.Carried.{of_checked_text};
+
+    ghost from_gives = { λ e r. r ≡ of_checked_text e };
+
+    fn from(e: CheckedHrpstringError) -> Self {
+        match e {
+            CheckedHrpstringError::Parse(e) => Self::Parse(e),
+            CheckedHrpstringError::Checksum(e) => Self::Checksum(e),
+        }
+    }
+}
+
+impl From<PaddingError> for TextError {
+    ghost use Rattle.std.specs.Prelude.{◌≡◌};
+    ghost use Rattle.bech32.specs.declared.error.TextError.TheVariants.{Padding};
+
+    ghost from_gives = { λ e r. r ≡ Padding e };
+
+    fn from(e: PaddingError) -> Self {
+        Self::Padding(e)
+    }
+}
+
+impl From<AllocError> for TextError {
+    ghost use Rattle.std.specs.Prelude.{◌≡◌};
+    ghost use Rattle.bech32.specs.declared.error.TextError.TheVariants.{Memory};
+
+    ghost from_gives = { λ e r. r ≡ Memory };
+
+    fn from(_e: AllocError) -> Self {
+        Self::Memory
+    }
+}
+
+impl From<CodeLengthError> for ElementsError {
+    ghost use Rattle.std.specs.Prelude.{◌≡◌};
+    ghost use Rattle.bech32.specs.declared.error.ElementsError.TheVariants.{TooLong};
+
+    ghost from_gives = { λ e r. r ≡ TooLong e };
+
+    fn from(e: CodeLengthError) -> Self {
+        Self::TooLong(e)
+    }
+}
+
+impl From<AllocError> for ElementsError {
+    ghost use Rattle.std.specs.Prelude.{◌≡◌};
+    ghost use Rattle.bech32.specs.declared.error.ElementsError.TheVariants.{Memory};
+
+    ghost from_gives = { λ e r. r ≡ Memory };
+
+    fn from(_e: AllocError) -> Self {
+        Self::Memory
     }
 }
 

@@ -16,9 +16,12 @@ ghost use Rattle.bech32_encode.specs.TextLength.{encoded_length_of};
 ghost use Rattle.bech32.specs.Refusals.{IsDecodeRefusal, IsEncodeRefusal};
 ghost use Rattle.bech32.specs.WayBack.{GivesBack};
 
+pub mod elements;
 mod error;
 pub mod hrp;
+mod long;
 pub mod primitives;
+mod strict;
 mod writers;
 
 pub use bech32_bits::ByteIterExt;
@@ -37,8 +40,13 @@ pub use bech32_near::{NearTexts, nearest, nearest_in, nearest_listings};
 pub use bech32_near_edits::{Change, Edit, EditsError, NearEdit, near_edits, near_edits_in};
 pub use bech32_near_search::Listings;
 pub use bech32_segwit as segwit;
-pub use error::{DecodeError, EncodeError, EncodeIoError};
+pub use elements::{
+    decode_elements, decode_elements_in, elements_length, encode_elements, encode_elements_in,
+};
+pub use error::{DecodeError, ElementsError, EncodeError, EncodeIoError, TextError};
+pub use long::{LongBech32, LongBech32m};
 use std::alloc::{AllocError, Allocator, Global};
+pub use strict::{decode_strict, decode_strict_in};
 pub use writers::{
     encode_into_bytes, encode_into_fmt, encode_lower_to_fmt, encode_lower_to_writer, encode_to_fmt,
     encode_to_writer, encode_upper_to_fmt, encode_upper_to_writer,
@@ -80,8 +88,9 @@ fn decoded_in<A: Allocator>(alloc: A, s: &str) -> Result<(Hrp, Vec<u8, A>), Deco
 /// Decodes a text that Bech32m or Bech32 accepts: its human-readable part, in the case of the text,
 /// and the bytes of its data, with memory from `alloc`.
 ///
-/// Bits behind the last whole byte are dropped and not tested. Of a text that [`encode_in`] writes
-/// by Bech32m or Bech32 it gives the human-readable part, in lower case, and the bytes.
+/// Bits behind the last whole byte are dropped and not tested: see [`decode_strict_in`] for texts
+/// that identify something. Of a text that [`encode_in`] writes by Bech32m or Bech32 it gives the
+/// human-readable part, in lower case, and the bytes.
 ///
 /// # Errors
 ///
