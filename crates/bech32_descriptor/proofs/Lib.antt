@@ -1,0 +1,12 @@
+mod Changes
+mod Checksums
+mod Kept
+mod Listed
+mod Rewritten
+mod RowsOfWords
+mod Sums
+mod Symbols
+mod Tables
+mod Told
+mod Verdicts
+mod Words
