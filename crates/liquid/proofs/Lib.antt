@@ -1,0 +1,5 @@
+pub mod ReadParts
+pub mod Refused
+pub mod Spelling
+pub mod Versions
+pub mod Written

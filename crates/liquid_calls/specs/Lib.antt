@@ -1,0 +1,3 @@
+pub mod Address
+pub mod Nearest
+pub mod Numbers
