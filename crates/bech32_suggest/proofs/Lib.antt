@@ -1,0 +1,4 @@
+pub mod Adding
+pub mod Errors
+pub mod Fronts
+pub mod Reading

@@ -1,0 +1,9 @@
+use Rattle.std.specs.Prelude.{string_bytes}
+use Rattle.bech32_hrp.specs.HrpBytes.{hrp_bytes}
+use Rattle.bech32_suggest.proofs.Adding.{adds_edits}
+use Rattle.bech32_suggest.proofs.tried.push_edits.Goals as goal
+
+pub returns-in-Ok : goal.returns-in-Ok
+returns-in-Ok g c =
+    adds_edits (hrp_bytes c.args.hrp.now) c.args.typed.now c.args.text.now g.Ck.Checksum.code _ _ c.in-Ok.edited.items c.as_slice.result.now c.push_edited.result c.as_slice.ensures.value
+    (λ m. (m.edit, string_bytes m.text)) c.in-Ok.ensures c.push_edited.ensures

@@ -1,0 +1,4 @@
+pub mod Chance
+pub mod Mendings
+pub mod Suggestions
+pub mod Typed
