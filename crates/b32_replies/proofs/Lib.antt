@@ -1,5 +1,7 @@
 pub mod CorrectReplies
 pub mod CorrectSplit
+pub mod ElementsReplies
+pub mod ElementsSplit
 pub mod FewLocations
 pub mod HexWords
 pub mod LocationLists

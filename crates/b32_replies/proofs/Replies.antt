@@ -2,8 +2,6 @@
 use Rattle.std.proofs.Common.{◌≡◌, ℕ, ◌<◌, ◌≤◌, inl, inr, List, ◌++◌, ap, refl, sym, subst, codes, Some, None}
 use Rattle.bech32_bits.specs.Bits.{to_fes}
 use Rattle.bech32_checksum.specs.Code.{Code}
-use Rattle.bech32_numbers.specs.Numbers.{number_of_encode_error}
-use Rattle.bech32.specs.declared.error.EncodeError.{EncodeError}
 use Rattle.bech32_hrp.specs.Hrp.{hrp_refusal}
 use Rattle.bech32_hrp.specs.declared.Error.{Error as HrpError}
 use Rattle.bech32_checksum.specs.Encoded.{IsEncodedText}
@@ -11,7 +9,7 @@ use Rattle.bech32_encode.specs.TextLength.{encoded_length_of}
 use Rattle.b32_replies.specs.Hex.{bytes_of}
 use Rattle.b32_replies.specs.Numbers.{number_of_reply}
 use Rattle.b32_replies.specs.declared.refusal.Refusal.{Refusal}
-use Rattle.b32_replies.specs.declared.refusal.Refusal.TheVariants.{BadHex, Encode, Hrp}
+use Rattle.b32_replies.specs.declared.refusal.Refusal.TheVariants.{BadHex, Hrp}
 use Rattle.line_program.specs.Refused.{err}
 use Rattle.b32_replies.specs.Reply.{IsEncodeAnswer}
 
@@ -36,7 +34,7 @@ pub encode-refused_part : (code : Code) (hrp hex bytes : List ℕ) (e : HrpError
 encode-refused_part code hrp hex bytes e b h = rw (b, h) refl
 
 -- a text that is too long
-pub encode-refused_text : (code : Code) (hrp hex bytes : List ℕ) (e : EncodeError) → bytes_of hex ≡ Some bytes → hrp_refusal hrp ≡ None
-    → (code.code_length < encoded_length_of code hrp (to_fes bytes)) × (number_of_encode_error e ≡ 51)
-    → IsEncodeAnswer code hrp hex (err (number_of_reply (Encode e)))
+pub encode-refused_text : (code : Code) (hrp hex bytes : List ℕ) (e : Refusal) → bytes_of hex ≡ Some bytes → hrp_refusal hrp ≡ None
+    → (code.code_length < encoded_length_of code hrp (to_fes bytes)) × (number_of_reply e ≡ 51)
+    → IsEncodeAnswer code hrp hex (err (number_of_reply e))
 encode-refused_text code hrp hex bytes e b h long = rw (b, h) (inr (long.0, ap err long.1))

@@ -1,5 +1,5 @@
 -- What may be said of a segwit address.
-use Rattle.std.proofs.Common.{◌≡◌, ◌⊎◌, ℕ, ◌≤◌, ◌++◌, ◌∷◌, ◌∙◌, ◌==◌, Bool, true, false, cond, List, length, length-append, refl, sym, ap, subst, append_assoc, codes, arith, inl, inr, ⊎_elim, Some, None}
+use Rattle.std.proofs.Common.{◌≡◌, ◌⊎◌, ℕ, ◌≤◌, ◌++◌, ◌∷◌, ◌==◌, Bool, true, false, cond, List, length, length-append, refl, sym, ap, subst, codes, arith, inl, inr, ⊎_elim, Some, None}
 use Rattle.std.proofs.lemmas.List.{length-map}
 use Rattle.std.specs.Char.{to_ascii_lowercase}
 use Rattle.std.specs.Fmt.{decimal}
@@ -19,7 +19,6 @@ use Rattle.b32_replies.specs.declared.refusal.Refusal.{Refusal}
 use Rattle.b32_replies.specs.declared.refusal.Refusal.TheVariants.{BadHex, Memory}
 use Rattle.line_program.specs.Refused.{err}
 use Rattle.b32_replies.specs.Reply.{IsVersionWord, IsNoVersion, IsSegwitEncodeAnswer}
-use Rattle.line_program.proofs.Pieces.{three-pieces, four-pieces}
 use Rattle.b32_replies.proofs.Sizes.{length-hex_of}
 use Rattle.b32_replies.proofs.VersionWords.{length-version}
 
@@ -81,12 +80,3 @@ segwit-decode-size text hrp version program a =
       length-append (decimal version.value) (32 ∷ hex_of program),
       length-map hrp to_ascii_lowercase,
     )
-
--- what was added in six pieces
-pub six-pieces : (out a b c d e f first second third fourth fifth sixth : List ℕ) → first ≡ out ++ a → second ≡ first ++ b → third ≡ second ++ c → fourth ≡ third ++ d
-    → fifth ≡ fourth ++ e → sixth ≡ fifth ++ f → sixth ≡ out ++ (a ++ (b ++ (c ++ (d ++ (e ++ f)))))
-six-pieces out a b c d e f first second third fourth fifth sixth p q r s t u =
-    three-pieces out (a ++ (b ++ (c ++ d))) e f fourth fifth sixth (four-pieces out a b c d first second third fourth p q r s) t u
-    ∙ ap (λ (l : List ℕ). out ++ l)
-    (append_assoc a (b ++ (c ++ d)) (e ++ f)
-    ∙ ap (λ (l : List ℕ). a ++ l) (append_assoc b (c ++ d) (e ++ f) ∙ ap (λ (l : List ℕ). b ++ l) (append_assoc c d (e ++ f))))

@@ -3,14 +3,20 @@ use Rattle.std.proofs.Common.{◌≡◌, ℕ, ◌+◌, ◌-◌, ◌*◌, ◌≤�
 use Rattle.std.proofs.lemmas.List.{length-map, length-take, take_at}
 use Rattle.hex.proofs.HexLemmas.{length-encode_with}
 use Rattle.hex.specs.Hex.{lower_digits}
-use Rattle.bech32_bits.specs.Bits.{bits, cut_in_eights, fe_bits, to_bytes, to_fes}
+use Rattle.bech32_gf.specs.Fe32.{element}
+use Rattle.bech32_gf.specs.declared.gf32.Fe32.{Fe32}
+use Rattle.bech32_bits.specs.Bits.{bits, cut_in_eights, fe_bits, fes_count, to_bytes, to_fes}
+use Rattle.bech32_bits.proofs.RoundTrip.{length-to_fes}
 use Rattle.bech32_checksum.specs.Code.{Code, bech32, bech32m}
+use Rattle.bech32_checksum.proofs.Uniqueness.{length-encoded}
 use Rattle.bech32_hrp.specs.Hrp.{lowered}
 use Rattle.bech32_decode.specs.Acceptance.{IsAccepted, IsDecoded}
-use Rattle.std.specs.Char.{to_ascii_lowercase}
+use Rattle.std.specs.Char.{to_ascii_lowercase, to_ascii_uppercase}
 use Rattle.bech32_checksum.specs.Encoded.{IsEncodedText, char_of_element}
 use Rattle.bech32_encode.specs.Buffers.{IsPutAsFits}
 use Rattle.bech32_encode.specs.TextLength.{encoded_length_of}
+use Rattle.bech32.specs.Elements.{Fits, elements_in}
+use Rattle.bech32.specs.Spelling.{IsSpelledBy, IsSpelling}
 use Rattle.b32_replies.specs.Hex.{hex_of}
 
 -- ---- bits
@@ -64,6 +70,62 @@ pub decode-reply-size : (text hrp bytes : List ℕ) → IsDecoded text hrp bytes
 decode-reply-size text hrp bytes h =
     let (part, rest) = decoded-sizes text hrp bytes h in
     omega (arith, part, rest, length-hex_of bytes, length-append (codes "ok ") (lowered hrp ++ (32 ∷ hex_of bytes)), length-append (lowered hrp) (32 ∷ hex_of bytes), length-map hrp to_ascii_lowercase)
+
+-- ---- texts that are the only ones of their elements
+
+-- in either case a text has one length
+spelling-length : (code : Code) (hrp : List ℕ) (fes : List Fe32) (text : List ℕ) (s : IsSpelling code hrp fes text) → length text ≡ length s.lower
+spelling-length code hrp fes text s =
+    elim s.in_one_case [ inl same ↦ ap length same | inr same ↦ ap length same ∙ length-map s.lower to_ascii_uppercase ]
+
+-- its parts
+spelled-sizes : (code : Code) (text hrp : List ℕ) (fes : List Fe32) → code.code_length ≤ 1023 → IsSpelledBy code text hrp fes
+    → (1 ≤ length hrp) × (length hrp ≤ 83) × (length hrp + 1 + length fes + length code.generator ≤ 1023)
+spelled-sizes code text hrp fes n h =
+    let is = h.has_part.1.is_hrp in (
+      is.not_empty,
+      is.not_long,
+      omega (
+        arith,
+        n,
+        h.spelling.fits,
+        spelling-length code hrp fes text h.spelling,
+        length-encoded code hrp fes h.spelling.lower h.spelling.encoded,
+      ),
+    )
+
+pub strict-sizes : (code : Code) (text hrp bytes : List ℕ) → code.code_length ≤ 1023 → IsSpelledBy code text hrp (to_fes bytes) → (length hrp ≤ 83) × (length bytes ≤ 639)
+strict-sizes code text hrp bytes n h =
+    let (some, part, rest) = spelled-sizes code text hrp (to_fes bytes) n h in
+    let count : length (to_fes bytes) ≡ fes_count 0 (length bytes) = length-to_fes bytes in
+    (part, omega (arith, rest, count))
+
+pub elements-sizes : (code : Code) (text hrp values : List ℕ) → code.code_length ≤ 1023 → 6 ≤ length code.generator → IsSpelledBy code text hrp (elements_in values)
+    → (1 ≤ length hrp) × (length hrp + length values ≤ 1016)
+elements-sizes code text hrp values n degree h =
+    let (some, part, rest) = spelled-sizes code text hrp (elements_in values) n h in
+    let count : length (elements_in values) ≡ length values = length-map values element in
+    (some, omega (arith, degree, rest, count))
+
+-- the reply to one of so many bytes
+parts-reply : (hrp bytes : List ℕ) → length (codes "ok " ++ (lowered hrp ++ (32 ∷ hex_of bytes))) ≤ 5 + length hrp + 2 * length bytes
+parts-reply hrp bytes =
+    omega (arith, length-hex_of bytes, length-append (codes "ok ") (lowered hrp ++ (32 ∷ hex_of bytes)), length-append (lowered hrp) (32 ∷ hex_of bytes), length-map hrp to_ascii_lowercase)
+
+pub strict-reply-size : (code : Code) (text hrp bytes : List ℕ) → code.code_length ≤ 1023 → IsSpelledBy code text hrp (to_fes bytes)
+    → length (codes "ok " ++ (lowered hrp ++ (32 ∷ hex_of bytes))) ≤ 2047
+strict-reply-size code text hrp bytes n h = let (part, rest) = strict-sizes code text hrp bytes n h in omega (arith, part, rest, parts-reply hrp bytes)
+
+pub elements-reply-size : (code : Code) (text hrp values : List ℕ) → code.code_length ≤ 1023 → 6 ≤ length code.generator → IsSpelledBy code text hrp (elements_in values)
+    → length (codes "ok " ++ (lowered hrp ++ (32 ∷ hex_of values))) ≤ 2047
+elements-reply-size code text hrp values n degree h =
+    let (some, rest) = elements-sizes code text hrp values n degree h in omega (arith, some, rest, parts-reply hrp values)
+
+-- a text of elements that is no longer than a code
+pub elements-text-size : (code : Code) (hrp values text : List ℕ) → code.code_length ≤ 1023 → Fits code hrp values → IsEncodedText code hrp (elements_in values) text → length text ≤ 1023
+elements-text-size code hrp values text n fits is =
+    let within : encoded_length_of code hrp (elements_in values) ≤ code.code_length = fits in
+    omega (arith, n, within, length-encoded code hrp (elements_in values) text is)
 
 -- a text that is no longer than a code
 pub encoded-size : (code : Code) (hrp bytes text : List ℕ) → code.code_length ≤ 1023 → encoded_length_of code hrp (to_fes bytes) ≤ code.code_length

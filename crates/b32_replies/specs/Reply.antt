@@ -11,7 +11,10 @@ use Rattle.bech32_checksum.specs.Encoded.{IsEncodedText, char_of_element}
 use Rattle.bech32_checksum.specs.Roots.{singleton_bound}
 use Rattle.bech32_correction.specs.Mistyped.{HasNoListing, IsListingOf, IsMendedText, IsRefusal}
 use Rattle.bech32_encode.specs.TextLength.{encoded_length_of}
+use Rattle.bech32.specs.Elements.{AreValues, Fits, IsElementsEncodeRefusal, IsElementsDecodeRefusal}
+use Rattle.bech32.specs.Elements.{elements_in}
 use Rattle.bech32.specs.Refusals.{IsDecodeRefusal}
+use Rattle.bech32.specs.Spelling.{IsSpelledBy, IsStrictRefusal}
 use Rattle.bech32_decode.specs.Segwit.{IsLowerAddress, IsAddress}
 use Rattle.bech32_segwit.specs.SegwitDecoding.{IsSegwitDecodeRefusal}
 use Rattle.bech32_segwit.specs.SegwitEncoding.{IsSegwitEncodeRefusal}
@@ -19,11 +22,13 @@ use Rattle.line_program.specs.Refused.{SaysRefusal, err}
 use Rattle.line_program.specs.Reply.{IsReplyBy}
 use Rattle.b32_replies.specs.Hex.{AreBytes, IsHex, bytes_of, hex_of}
 use Rattle.bech32_numbers.specs.Numbers.{number_of_checked_error, number_of_hrp_error}
-use Rattle.bech32_numbers.specs.Numbers.{number_of_decode_error}
+use Rattle.bech32_numbers.specs.Numbers.{number_of_decode_error, number_of_elements_error}
+use Rattle.bech32_numbers.specs.Numbers.{number_of_text_decode_error}
 use Rattle.bech32_numbers.specs.Numbers.{number_of_segwit_decode_error}
 use Rattle.bech32_numbers.specs.Numbers.{number_of_segwit_encode_error}
 use Rattle.b32_replies.specs.Locations.{AreLocations, IsNoListOfLocations}
 use Rattle.b32_replies.specs.Request.{Request, Encode, Decode, SegwitEncode, SegwitDecode}
+use Rattle.b32_replies.specs.Request.{DecodeStrict, EncodeElements, DecodeElements}
 use Rattle.b32_replies.specs.Request.{Correct, CorrectAt, code_of_name, request_of}
 
 -- an answer, or out of memory for the bytes of a word of hex digits
@@ -59,6 +64,53 @@ pub record SaysBytes (text said : List ℕ) : Type 0 where
 abbrev pub IsDecodeAnswer : List ℕ → List ℕ → Type 0
 IsDecodeAnswer text said =
     SaysBytes text said ⊎ SaysRefusal (IsDecodeRefusal text) number_of_decode_error said
+
+-- the human-readable part, in lower case, and the bytes are said that the text is the only
+-- spelling of
+pub record SaysOnlyBytes (code : Code) (text said : List ℕ) : Type 0 where
+  pub hrp : List ℕ
+  pub bytes : List ℕ
+  pub is_spelled : IsSpelledBy code text hrp (to_fes bytes)
+  pub spelling : said ≡ codes "ok " ++ (lowered hrp ++ (32 ∷ hex_of bytes))
+
+-- the answer to `decode-strict`
+abbrev pub IsStrictAnswer : Code → List ℕ → List ℕ → Type 0
+IsStrictAnswer code text said =
+    SaysOnlyBytes code text said
+    ⊎ SaysRefusal (IsStrictRefusal code text) number_of_text_decode_error said
+
+-- the human-readable part of a text is said, in lower case, and its elements
+pub record SaysElements (code : Code) (text said : List ℕ) : Type 0 where
+  pub hrp : List ℕ
+  pub values : List ℕ
+  pub is_spelled : IsSpelledBy code text hrp (elements_in values)
+  pub are_values : AreValues values
+  pub spelling : said ≡ codes "ok " ++ (lowered hrp ++ (32 ∷ hex_of values))
+
+-- the answer to `decode-elements`
+abbrev pub IsElementsAnswer : Code → List ℕ → List ℕ → Type 0
+IsElementsAnswer code text said =
+    SaysElements code text said
+    ⊎ SaysRefusal (IsElementsDecodeRefusal code text) number_of_text_decode_error said
+
+-- the text of a human-readable part and elements is said
+pub record SaysTextOfElements (code : Code) (hrp values said : List ℕ) : Type 0 where
+  pub text : List ℕ
+  pub is_text : IsEncodedText code hrp (elements_in values) text
+  pub fits : Fits code hrp values
+  pub are_values : AreValues values
+  pub spelling : said ≡ codes "ok " ++ text
+
+-- the answer to `encode-elements`: bad hex is refused, then a bad human-readable part; memory for
+-- the bytes may run out first
+abbrev pub IsEncodeElementsAnswer : Code → List ℕ → List ℕ → List ℕ → Type 0
+IsEncodeElementsAnswer code hrp hex said =
+    OrNoMemory hex (λ said. MatchOption (bytes_of hex)
+    (said ≡ err 5)
+    (λ values. MatchOption (hrp_refusal hrp)
+    (SaysTextOfElements code hrp values said
+    ⊎ SaysRefusal (IsElementsEncodeRefusal code hrp values) number_of_elements_error said)
+    (λ error. said ≡ err (number_of_hrp_error error)))) said
 
 -- the word is the number of a version, in decimal
 abbrev pub IsVersionWord : List ℕ → Fe32 → Type 0
@@ -151,6 +203,10 @@ IsCorrectAtAnswer code text word said =
 abbrev pub IsAnswer : Request → List ℕ → Type 0
 IsAnswer (Encode checksum hrp hex) said = IsEncodeAnswer (code_of_name checksum) hrp hex said
 IsAnswer (Decode text) said = IsDecodeAnswer text said
+IsAnswer (DecodeStrict checksum text) said = IsStrictAnswer (code_of_name checksum) text said
+IsAnswer (EncodeElements checksum hrp hex) said =
+    IsEncodeElementsAnswer (code_of_name checksum) hrp hex said
+IsAnswer (DecodeElements checksum text) said = IsElementsAnswer (code_of_name checksum) text said
 IsAnswer (SegwitEncode hrp version hex) said = IsSegwitEncodeAnswer hrp version hex said
 IsAnswer (SegwitDecode text) said = IsSegwitDecodeAnswer text said
 IsAnswer (Correct checksum text) said = IsCorrectAnswer (code_of_name checksum) text [] said

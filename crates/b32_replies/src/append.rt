@@ -1,9 +1,12 @@
 //! Adds text to bytes that have room for it.
 
-ghost use Rattle.std.specs.Prelude.{◌≡◌, ◌+◌, ◌<◌, ◌≤◌, ◌++◌, length, vec_len, vec_capacity};
+ghost use Rattle.std.specs.Prelude.{◌≡◌, ◌+◌, ◌<◌, ◌≤◌, ◌++◌, ◌∷◌, [], length, codes};
+ghost use Rattle.std.specs.Prelude.{vec_len, vec_capacity};
 ghost use Rattle.std.specs.Fmt.{decimal};
 ghost use Rattle.bech32_hrp.specs.Hrp.{lowered};
+ghost use Rattle.bech32_hrp.specs.HrpBytes.{hrp_bytes};
 
+use bech32::Hrp;
 use line_program::{append, append_number};
 
 /// Adds bytes, each ASCII letter in lower case.
@@ -12,9 +15,21 @@ pub fn append_lowered(out: &mut Vec<u8>, bytes: &[u8])
     ensures items { out.new.items ≡ out.old.items ++ lowered bytes.now }
     ensures capacity { vec_capacity out.old ≤ vec_capacity out.new }
 {
-    for b in bytes {
-        out.push(b.to_ascii_lowercase()).unwrap();
-    }
+    let front = out.len();
+    append(out, bytes);
+    out.as_mut_slice()[front..].make_ascii_lowercase();
+}
+
+/// Adds `ok`, a human-readable part in lower case, and a space.
+pub fn append_part(out: &mut Vec<u8>, hrp: &Hrp)
+    requires { vec_len out.old + (length (hrp_bytes hrp.now) + 4) ≤ vec_capacity out.old }
+    ensures items { out.new.items
+        ≡ out.old.items ++ (codes "ok " ++ (lowered (hrp_bytes hrp.now) ++ 32 ∷ [])) }
+    ensures capacity { vec_capacity out.old ≤ vec_capacity out.new }
+{
+    append(out, b"ok ");
+    append_lowered(out, hrp.as_bytes());
+    append(out, b" ");
 }
 
 /// Adds a location, which is 1022 at most, in decimal.

@@ -2,7 +2,10 @@
 
 ghost use Rattle.std.specs.Prelude.{◌≡◌};
 ghost use Rattle.line_program.specs.Words.{Reads, words};
-ghost use Rattle.b32_replies.specs.Request.{checksum_of_word, correct_arguments, request_of, request_of_command};
+ghost use Rattle.b32_replies.specs.Request.{checksum_of_word, correct_arguments};
+ghost use Rattle.b32_replies.specs.Request.{decode_elements_arguments, decode_strict_arguments};
+ghost use Rattle.b32_replies.specs.Request.{encode_elements_arguments, request_of};
+ghost use Rattle.b32_replies.specs.Request.{request_of_command};
 
 use line_program::{first_word, only_word};
 
@@ -26,6 +29,22 @@ pub enum Command<'a> {
     },
     /// `decode TEXT`: the bytes of a text.
     Decode {
+        text: &'a str,
+    },
+    /// `decode-strict CHECKSUM TEXT`: the same of a text that is the only one of its bytes.
+    DecodeStrict {
+        checksum: ChecksumName,
+        text: &'a str,
+    },
+    /// `encode-elements CHECKSUM HRP HEX`: the text of elements, a byte from 0 to 31 each.
+    EncodeElements {
+        checksum: ChecksumName,
+        hrp: &'a str,
+        hex: &'a str,
+    },
+    /// `decode-elements CHECKSUM TEXT`: the elements of a text.
+    DecodeElements {
+        checksum: ChecksumName,
         text: &'a str,
     },
     /// `segwit-encode HRP VERSION HEX`: the segwit address of a program.
@@ -94,8 +113,45 @@ impl<'a> Command<'a> {
                 text: only_word(arguments)?,
             }),
             "correct" => Command::parse_correct(arguments),
+            "decode-strict" => Command::parse_strict(arguments),
+            "encode-elements" => Command::parse_encode_elements(arguments),
+            "decode-elements" => Command::parse_decode_elements(arguments),
             _ => None,
         }
+    }
+
+    // Reads what stands behind `decode-strict`.
+    fn parse_strict(arguments: &'a str) -> Option<Command<'a>>
+        ensures { Reads request_of_command
+            (decode_strict_arguments (words arguments.now)) result }
+    {
+        let (name, text) = first_word(arguments)?;
+        let checksum = checksum_named(name)?;
+        let text = only_word(text)?;
+        Some(Command::DecodeStrict { checksum, text })
+    }
+
+    // Reads what stands behind `encode-elements`.
+    fn parse_encode_elements(arguments: &'a str) -> Option<Command<'a>>
+        ensures { Reads request_of_command
+            (encode_elements_arguments (words arguments.now)) result }
+    {
+        let (name, arguments) = first_word(arguments)?;
+        let checksum = checksum_named(name)?;
+        let (hrp, hex) = first_word(arguments)?;
+        let hex = only_word(hex)?;
+        Some(Command::EncodeElements { checksum, hrp, hex })
+    }
+
+    // Reads what stands behind `decode-elements`.
+    fn parse_decode_elements(arguments: &'a str) -> Option<Command<'a>>
+        ensures { Reads request_of_command
+            (decode_elements_arguments (words arguments.now)) result }
+    {
+        let (name, text) = first_word(arguments)?;
+        let checksum = checksum_named(name)?;
+        let text = only_word(text)?;
+        Some(Command::DecodeElements { checksum, text })
     }
 
     // Reads what stands behind `correct`.

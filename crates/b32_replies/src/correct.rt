@@ -85,7 +85,11 @@ pub fn correct(
         number_of_reply result out.old.items out.new.items }
     ensures capacity { vec_capacity out.old ≤ vec_capacity out.new }
 {
-    match correction(checksum, text, given)? {
+    let found = match correction(checksum, text, given) {
+        Ok(found) => found,
+        Err(e) => return Err(Refusal::Correct(e)),
+    };
+    match found {
         Correction::Accepted => {
             append(out, b"fine");
             Ok(())

@@ -5,11 +5,10 @@ ghost use Rattle.b32_replies.specs.Numbers.{number_of_reply};
 ghost use Rattle.line_program.specs.Added.{AddsOrRefuses};
 ghost use Rattle.b32_replies.specs.Reply.{IsDecodeAnswer};
 
-use crate::append::append_lowered;
+use crate::append::append_part;
 use crate::hex_word::append_hex;
 use crate::refusal::Refusal;
 use bech32::decode_in;
-use line_program::append;
 use std::alloc::Allocator;
 
 /// Adds the human-readable part and the bytes of a text, or leaves all as it was.
@@ -19,10 +18,11 @@ pub fn decode<A: Allocator + Copy>(alloc: A, text: &str, out: &mut Vec<u8>) -> R
         out.old.items out.new.items }
     ensures capacity { vec_capacity out.old ≤ vec_capacity out.new }
 {
-    let (hrp, bytes) = decode_in(alloc, text)?;
-    append(out, b"ok ");
-    append_lowered(out, hrp.as_bytes());
-    append(out, b" ");
+    let (hrp, bytes) = match decode_in(alloc, text) {
+        Ok(decoded) => decoded,
+        Err(e) => return Err(Refusal::Decode(e)),
+    };
+    append_part(out, &hrp);
     append_hex(out, bytes.as_slice());
     Ok(())
 }

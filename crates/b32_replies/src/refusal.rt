@@ -5,12 +5,12 @@ ghost use Rattle.b32_replies.specs.Numbers.{number_of_reply};
 
 use bech32::primitives::decode::CheckedHrpstringError;
 use bech32::primitives::hrp;
-use bech32::{DecodeError, EncodeError, segwit};
+use bech32::{DecodeError, ElementsError, EncodeError, TextError, segwit};
 use bech32_numbers::{
-    checked_error_number, decode_error_number, encode_error_number, hrp_error_number,
-    segwit_decode_error_number, segwit_encode_error_number,
+    checked_error_number, decode_error_number, elements_error_number, encode_error_number,
+    hrp_error_number, segwit_decode_error_number, segwit_encode_error_number,
+    text_decode_error_number,
 };
-use std::alloc::AllocError;
 
 /// Why a command is refused.
 #[derive(Clone, Copy, Debug, PartialEq, Eq, Drop)]
@@ -25,6 +25,10 @@ pub enum Refusal {
     Encode(EncodeError),
     /// The text is not decoded.
     Decode(DecodeError),
+    /// The text is not decoded by the checksum that is named.
+    Text(TextError),
+    /// The elements are not written.
+    Elements(ElementsError),
     /// The segwit address is not written.
     SegwitEncode(segwit::EncodeError),
     /// The text is not decoded as a segwit address.
@@ -47,6 +51,8 @@ impl Refusal {
             Refusal::Hrp(e) => hrp_error_number(e),
             Refusal::Encode(e) => encode_error_number(e),
             Refusal::Decode(e) => decode_error_number(e),
+            Refusal::Text(e) => text_decode_error_number(e),
+            Refusal::Elements(e) => elements_error_number(e),
             Refusal::SegwitEncode(e) => segwit_encode_error_number(e),
             Refusal::SegwitDecode(e) => segwit_decode_error_number(e),
             Refusal::Correct(e) => checked_error_number(e),
@@ -65,62 +71,22 @@ impl From<hrp::Error> for Refusal {
     }
 }
 
-impl From<EncodeError> for Refusal {
-    ghost use Rattle.b32_replies.specs.declared.refusal.Refusal.TheVariants.{Encode};
+impl From<TextError> for Refusal {
+    ghost use Rattle.b32_replies.specs.declared.refusal.Refusal.TheVariants.{Text};
 
-    ghost from_gives = { λ e r. r ≡ Encode e };
+    ghost from_gives = { λ e r. r ≡ Text e };
 
-    fn from(e: EncodeError) -> Refusal {
-        Refusal::Encode(e)
+    fn from(e: TextError) -> Refusal {
+        Refusal::Text(e)
     }
 }
 
-impl From<DecodeError> for Refusal {
-    ghost use Rattle.b32_replies.specs.declared.refusal.Refusal.TheVariants.{Decode};
+impl From<ElementsError> for Refusal {
+    ghost use Rattle.b32_replies.specs.declared.refusal.Refusal.TheVariants.{Elements};
 
-    ghost from_gives = { λ e r. r ≡ Decode e };
+    ghost from_gives = { λ e r. r ≡ Elements e };
 
-    fn from(e: DecodeError) -> Refusal {
-        Refusal::Decode(e)
-    }
-}
-
-impl From<segwit::EncodeError> for Refusal {
-    ghost use Rattle.b32_replies.specs.declared.refusal.Refusal.TheVariants.{SegwitEncode};
-
-    ghost from_gives = { λ e r. r ≡ SegwitEncode e };
-
-    fn from(e: segwit::EncodeError) -> Refusal {
-        Refusal::SegwitEncode(e)
-    }
-}
-
-impl From<segwit::DecodeError> for Refusal {
-    ghost use Rattle.b32_replies.specs.declared.refusal.Refusal.TheVariants.{SegwitDecode};
-
-    ghost from_gives = { λ e r. r ≡ SegwitDecode e };
-
-    fn from(e: segwit::DecodeError) -> Refusal {
-        Refusal::SegwitDecode(e)
-    }
-}
-
-impl From<CheckedHrpstringError> for Refusal {
-    ghost use Rattle.b32_replies.specs.declared.refusal.Refusal.TheVariants.{Correct};
-
-    ghost from_gives = { λ e r. r ≡ Correct e };
-
-    fn from(e: CheckedHrpstringError) -> Refusal {
-        Refusal::Correct(e)
-    }
-}
-
-impl From<AllocError> for Refusal {
-    ghost use Rattle.b32_replies.specs.declared.refusal.Refusal.TheVariants.{Memory};
-
-    ghost from_gives = { λ e r. r ≡ Memory };
-
-    fn from(_e: AllocError) -> Refusal {
-        Refusal::Memory
+    fn from(e: ElementsError) -> Refusal {
+        Refusal::Elements(e)
     }
 }

@@ -10,11 +10,13 @@ ghost use Rattle.b32_replies.specs.Reply.{IsAnswer, IsReply};
 use crate::command::{ChecksumName, Command};
 use crate::correct::correct;
 use crate::decode::decode;
+use crate::elements::{decode_elements_by, encode_elements_by};
 use crate::encode::encode;
 use crate::location_word::locations_of_word;
 use crate::refusal::Refusal;
 use crate::segwit_decode::segwit_decode;
 use crate::segwit_encode::segwit_encode;
+use crate::strict::decode_strict_by;
 use bech32::{Bech32, Bech32m};
 use line_program::{Execute, NotExecuted, Replies};
 use std::alloc::Allocator;
@@ -36,6 +38,13 @@ fn execute_command<A: Allocator + Copy>(
             ChecksumName::Bech32m => encode::<Bech32m>(hrp, hex, out),
         },
         Command::Decode { text } => decode(alloc, text, out),
+        Command::DecodeStrict { checksum, text } => decode_strict_by(alloc, checksum, text, out),
+        Command::EncodeElements { checksum, hrp, hex } => {
+            encode_elements_by(alloc, checksum, hrp, hex, out)
+        }
+        Command::DecodeElements { checksum, text } => {
+            decode_elements_by(alloc, checksum, text, out)
+        }
         Command::SegwitEncode { hrp, version, hex } => segwit_encode(alloc, hrp, version, hex, out),
         Command::SegwitDecode { text } => segwit_decode(alloc, text, out),
         Command::Correct { checksum, text } => correct(checksum, text, &[], out),

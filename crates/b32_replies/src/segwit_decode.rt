@@ -5,7 +5,7 @@ ghost use Rattle.b32_replies.specs.Numbers.{number_of_reply};
 ghost use Rattle.line_program.specs.Added.{AddsOrRefuses};
 ghost use Rattle.b32_replies.specs.Reply.{IsSegwitDecodeAnswer};
 
-use crate::append::append_lowered;
+use crate::append::append_part;
 use crate::hex_word::append_hex;
 use crate::refusal::Refusal;
 use bech32::segwit;
@@ -24,10 +24,11 @@ pub fn segwit_decode<A: Allocator + Copy>(
         out.old.items out.new.items }
     ensures capacity { vec_capacity out.old ≤ vec_capacity out.new }
 {
-    let (hrp, version, program) = segwit::decode_in(alloc, text)?;
-    append(out, b"ok ");
-    append_lowered(out, hrp.as_bytes());
-    append(out, b" ");
+    let (hrp, version, program) = match segwit::decode_in(alloc, text) {
+        Ok(decoded) => decoded,
+        Err(e) => return Err(Refusal::SegwitDecode(e)),
+    };
+    append_part(out, &hrp);
     append_number(out, version.to_u8());
     append(out, b" ");
     append_hex(out, program.as_slice());

@@ -1,18 +1,84 @@
 //! Answers `segwit-encode`.
 
-ghost use Rattle.std.specs.Prelude.{◌+◌, ◌≤◌, vec_len, vec_capacity};
+ghost use Rattle.std.specs.Prelude.{◌≡◌, ◌+◌, ◌≤◌, ◌∷◌, ◌++◌, ℕ, List, Some, vec_len, vec_capacity, MatchResult};
+ghost use Rattle.bech32_bits.specs.Bits.{to_fes};
+ghost use Rattle.bech32_checksum.specs.Encoded.{IsEncodedText};
+ghost use Rattle.bech32_decode.specs.Segwit.{segwit_code};
+ghost use Rattle.bech32_hrp.specs.HrpBytes.{hrp_bytes};
+ghost use Rattle.bech32_segwit.specs.SegwitEncoding.{HasAddress, IsSegwitEncodeRefusal, address_length};
+ghost use Rattle.bech32_segwit.specs.declared.error.EncodeError.{EncodeError};
+ghost use Rattle.b32_replies.specs.Hex.{bytes_of};
 ghost use Rattle.b32_replies.specs.Numbers.{number_of_reply};
 ghost use Rattle.line_program.specs.Added.{AddsOrRefuses};
-ghost use Rattle.b32_replies.specs.Reply.{IsSegwitEncodeAnswer};
+ghost use Rattle.b32_replies.specs.Reply.{IsSegwitEncodeAnswer, IsVersionWord};
 
-use crate::hex_word::bytes_of_word;
+use crate::encode::append_text;
+use crate::hex_word::{bytes_of_word, put_bytes_of_word};
+use crate::part_word::part_of_word;
 use crate::refusal::Refusal;
 use crate::version_word::version_of_word;
-use bech32::{Hrp, segwit};
+use bech32::{Bech32, Bech32m, Fe32, Hrp, segwit};
 use line_program::append;
 use std::alloc::Allocator;
 
+/// No program has more bytes.
+const ROOM: usize = 40;
+
+/// The length of the address of a program, where there is one.
+fn length_of(hrp: &Hrp, version: Fe32, program: &[u8]) -> Result<usize, Refusal>
+    ensures { MatchResult result
+        (λ n. HasAddress (hrp_bytes hrp.now) version program.now
+        × (n ≡ address_length (hrp_bytes hrp.now) program.now) × (n ≤ 90))
+        (λ refusal. (e : EncodeError) × (refusal ≡ Refusal.SegwitEncode e)
+        × IsSegwitEncodeRefusal (hrp_bytes hrp.now) version program.now e) }
+{
+    match segwit::address_length_of_part(hrp.as_bytes(), version, program) {
+        Ok(count) => Ok(count),
+        Err(e) => Err(Refusal::SegwitEncode(e)),
+    }
+}
+
+/// Adds the text of a program by the checksum of its version, which has this length.
+fn append_by_version(out: &mut Vec<u8>, hrp: &Hrp, version: Fe32, program: &[u8], count: usize)
+    requires size { count ≡ address_length (hrp_bytes hrp.now) program.now }
+    requires short { count ≤ 90 }
+    requires room { vec_len out.old + count ≤ vec_capacity out.old }
+    ensures text { (text : List ℕ)
+        × IsEncodedText (segwit_code version) (hrp_bytes hrp.now)
+        (version ∷ to_fes program.now) text
+        × (out.new.items ≡ out.old.items ++ text) }
+    ensures capacity { vec_capacity out.old ≤ vec_capacity out.new }
+{
+    if version == segwit::VERSION_0 {
+        append_text::<Bech32>(out, hrp, Some(version), program, count);
+    } else {
+        append_text::<Bech32m>(out, hrp, Some(version), program, count);
+    }
+}
+
 /// Adds the segwit address of a program, or leaves all as it was.
+fn append_address(
+    hrp: &str,
+    version: Fe32,
+    program: &[u8],
+    out: &mut Vec<u8>,
+) -> Result<(), Refusal>
+    requires { vec_len out.old + 2047 ≤ vec_capacity out.old }
+    ensures answer { (word hex : List ℕ) → IsVersionWord word version
+        → bytes_of hex ≡ Some program.now
+        → AddsOrRefuses (IsSegwitEncodeAnswer hrp.now word hex) number_of_reply
+        result out.old.items out.new.items }
+    ensures capacity { vec_capacity out.old ≤ vec_capacity out.new }
+{
+    let hrp = part_of_word(hrp)?;
+    let count = length_of(&hrp, version, program)?;
+    append(out, b"ok ");
+    append_by_version(out, &hrp, version, program, count);
+    Ok(())
+}
+
+/// Adds the segwit address of a program, or leaves all as it was. Memory is needed only for a
+/// program that is too long.
 pub fn segwit_encode<A: Allocator + Copy>(
     alloc: A,
     hrp: &str,
@@ -28,10 +94,11 @@ pub fn segwit_encode<A: Allocator + Copy>(
     let Some(version) = version_of_word(version) else {
         return Err(Refusal::BadNumber);
     };
+    let mut room = [0u8; ROOM];
+    let size = put_bytes_of_word(hex, &mut room)?;
+    if size <= ROOM {
+        return append_address(hrp, version, &room[..size], out);
+    }
     let program = bytes_of_word(alloc, hex)?;
-    let hrp = Hrp::parse(hrp)?;
-    let text = segwit::encode_in(alloc, hrp, version, program.as_slice())?;
-    append(out, b"ok ");
-    append(out, text.as_bytes());
-    Ok(())
+    append_address(hrp, version, program.as_slice(), out)
 }

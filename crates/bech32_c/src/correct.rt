@@ -17,7 +17,7 @@ use bech32_calls::correct::corrected;
 ///
 /// # Errors
 ///
-/// Answers the number of the first of: another number for `checksum` (4); a text that is not UTF-8
+/// Returns the number of the first of: another number for `checksum` (4); a text that is not UTF-8
 /// (2); its first fault (11 to 15, 21 to 23, 31, 32); no such few errors in the data part that mend
 /// it, or an erasure that is not in it (34); a buffer that is too small (92).
 #[unsafe(no_mangle)]

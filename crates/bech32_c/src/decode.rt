@@ -9,7 +9,7 @@ ghost use Rattle.bech32_hrp.specs.Hrp.{IsHrp, lowered};
 ghost use Rattle.bech32_decode.specs.Acceptance.{Accepts};
 ghost use Rattle.bech32_encode.specs.Buffers.{IsPut};
 ghost use Rattle.bech32_calls.specs.Check.{IsCheckedAs, IsCheckFault};
-ghost use Rattle.bech32_calls.specs.Checksums.{ForChecksum, IsFaultBy};
+ghost use Rattle.bech32_calls.specs.Checksums.{ForTexts, IsFaultOfTexts};
 ghost use Rattle.bech32_calls.specs.Decode.{PutsDecoded, CanDecode, IsDecodeFault};
 ghost use Rattle.bech32_calls.specs.Faults.{IsNumberOf};
 
@@ -23,7 +23,7 @@ use bech32_calls::decode::{checked_by, decoded};
 ///
 /// # Errors
 ///
-/// Answers the number of the first of: a text that is not UTF-8 (2); its first fault (11 to 15, 21
+/// Returns the number of the first of: a text that is not UTF-8 (2); its first fault (11 to 15, 21
 /// to 23, 31 to 33); a buffer that is too small (92).
 #[unsafe(no_mangle)]
 pub extern "C" fn bech32_decode(
@@ -58,14 +58,14 @@ pub extern "C" fn bech32_decode(
     }
 }
 
-/// Tests whether the checksum that a number stands for (1 is Bech32, 2 is Bech32m) accepts a text,
-/// as `CheckedHrpstring::new` does. `hrp_length` is then the length of the human-readable part and
-/// `data_length` that of the data part, without the six characters of the checksum: the one stands
-/// first in the text, the other behind the separator.
+/// Tests whether the checksum that a number stands for (1 is Bech32, 2 is Bech32m, 3 and 4 are the
+/// same for long texts) accepts a text, as `CheckedHrpstring::new` does. `hrp_length` is then the
+/// length of the human-readable part and `data_length` that of the data part, without the six
+/// characters of the checksum: the one stands first in the text, the other behind the separator.
 ///
 /// # Errors
 ///
-/// Answers the number of the first of: another number for `checksum` (4); a text that is not UTF-8
+/// Returns the number of the first of: another number for `checksum` (4); a text that is not UTF-8
 /// (2); its first fault (11 to 15, 21 to 23, 31 to 33).
 #[unsafe(no_mangle)]
 pub extern "C" fn bech32_check(
@@ -75,9 +75,10 @@ pub extern "C" fn bech32_check(
     data_length: &mut usize,
 ) -> u32
     ensures value { result ≡ 0
-        → ForChecksum checksum (IsCheckedAs text.now hrp_length.new data_length.new) }
-    ensures accepts { ForChecksum checksum (λ code. Accepts code text.now) → result ≡ 0 }
-    ensures refused { result ≢ 0 → IsNumberOf (IsFaultBy checksum (IsCheckFault text.now)) result }
+        → ForTexts checksum (IsCheckedAs text.now hrp_length.new data_length.new) }
+    ensures accepts { ForTexts checksum (λ code. Accepts code text.now) → result ≡ 0 }
+    ensures refused { result ≢ 0
+        → IsNumberOf (IsFaultOfTexts checksum (IsCheckFault text.now)) result }
     ensures same { result ≢ 0
         → (hrp_length.new ≡ hrp_length.old) × (data_length.new ≡ data_length.old) }
 {

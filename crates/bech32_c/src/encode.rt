@@ -1,21 +1,22 @@
 //! Encodes bytes.
 
 ghost use Rattle.std.specs.Prelude.{◌≡◌, ◌≢◌, length};
-ghost use Rattle.bech32_calls.specs.Checksums.{ForChecksum, IsFaultBy};
+ghost use Rattle.bech32_calls.specs.Checksums.{ForTexts, IsFaultOfTexts};
 ghost use Rattle.bech32_calls.specs.Encode.{PutsText, HasText, IsEncodeFault};
 ghost use Rattle.bech32_calls.specs.Faults.{IsNumberOf};
 
 use bech32_calls::encode::encoded_by;
 
 /// Encodes bytes under a human-readable part, as `bech32::encode` does, by the checksum that a
-/// number stands for: 1 is Bech32, 2 is Bech32m. The text is put at the front of `text`, in lower
-/// case, and `text_length` is then the number of its characters, at most 1023.
+/// number stands for: 1 is Bech32, 2 is Bech32m, 3 and 4 are the same for long texts. The text is
+/// put at the front of `text`, in lower case, and `text_length` is then the number of its
+/// characters, at most 1023, or 7089 by a long one.
 ///
 /// # Errors
 ///
-/// Answers the number of the first of: another number for `checksum` (4); a human-readable part
-/// that is not UTF-8 (2), or is none (11 to 15); a text of more than 1023 characters (51), or of
-/// more than `text` has room for (92).
+/// Returns the number of the first of: another number for `checksum` (4); a human-readable part
+/// that is not UTF-8 (2), or is none (11 to 15); a text of more characters than the checksum
+/// allows (51), or than `text` has room for (92).
 #[unsafe(no_mangle)]
 pub extern "C" fn bech32_encode(
     checksum: u32,
@@ -25,14 +26,14 @@ pub extern "C" fn bech32_encode(
     text_length: &mut usize,
 ) -> u32
     ensures value { result ≡ 0
-        → ForChecksum checksum
+        → ForTexts checksum
         (λ code. PutsText code hrp.now bytes.now text.old text.new text_length.new) }
-    ensures accepts { ForChecksum checksum
+    ensures accepts { ForTexts checksum
         (λ code. HasText code hrp.now bytes.now (length text.old))
         → result ≡ 0 }
     ensures refused { result ≢ 0
         → IsNumberOf
-        (IsFaultBy checksum (IsEncodeFault hrp.now bytes.now (length text.old))) result }
+        (IsFaultOfTexts checksum (IsEncodeFault hrp.now bytes.now (length text.old))) result }
     ensures same { result ≢ 0 → (text.new ≡ text.old) × (text_length.new ≡ text_length.old) }
 {
     match encoded_by(checksum, hrp, bytes, text) {

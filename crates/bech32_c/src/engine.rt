@@ -15,7 +15,7 @@ use bech32_calls::engine::residue_by;
 ///
 /// # Errors
 ///
-/// Answers 4 for another number for `checksum`, and for a byte above 31.
+/// Returns 4 for another number for `checksum`, and for a byte above 31.
 #[unsafe(no_mangle)]
 pub extern "C" fn bech32_residue(checksum: u32, values: &[u8], residue: &mut u32) -> u32
     ensures value { result ≡ 0

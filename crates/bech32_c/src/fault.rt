@@ -3,7 +3,7 @@
 ghost use Rattle.std.specs.Prelude.{◌≡◌, ◌≢◌};
 ghost use Rattle.bech32_decode.specs.Acceptance.{Accepts};
 ghost use Rattle.bech32_calls.specs.Check.{IsCheckFault};
-ghost use Rattle.bech32_calls.specs.Checksums.{ForChecksum, IsFaultBy};
+ghost use Rattle.bech32_calls.specs.Checksums.{ForTexts, IsFaultOfTexts};
 ghost use Rattle.bech32_calls.specs.Faults.{IsNumberOf};
 ghost use Rattle.bech32_calls.specs.Place.{IsPlace, HasPlace};
 
@@ -18,13 +18,14 @@ use bech32_calls::fault::{number_of, place_of};
 ///
 /// # Errors
 ///
-/// Answers the number of the first of: another number for `checksum` (4); a text that is not UTF-8
+/// Returns the number of the first of: another number for `checksum` (4); a text that is not UTF-8
 /// (2); its first fault (11 to 15, 21 to 23, 31 to 33).
 #[unsafe(no_mangle)]
 pub extern "C" fn bech32_fault(checksum: u32, text: &[u8], place: &mut usize) -> u32
-    ensures value { result ≡ 0 → ForChecksum checksum (λ code. Accepts code text.now) }
-    ensures accepts { ForChecksum checksum (λ code. Accepts code text.now) → result ≡ 0 }
-    ensures refused { result ≢ 0 → IsNumberOf (IsFaultBy checksum (IsCheckFault text.now)) result }
+    ensures value { result ≡ 0 → ForTexts checksum (λ code. Accepts code text.now) }
+    ensures accepts { ForTexts checksum (λ code. Accepts code text.now) → result ≡ 0 }
+    ensures refused { result ≢ 0
+        → IsNumberOf (IsFaultOfTexts checksum (IsCheckFault text.now)) result }
     ensures place { HasPlace result → IsPlace text.now result place.new }
     ensures same { ¬ (HasPlace result) → place.new ≡ place.old }
 {

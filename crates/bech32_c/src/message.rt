@@ -13,7 +13,7 @@ use bech32_numbers::bech32_sentence_of;
 ///
 /// # Errors
 ///
-/// Answers 92 where `message` has no room for it.
+/// Returns 92 where `message` has no room for it.
 #[unsafe(no_mangle)]
 pub extern "C" fn bech32_message(number: u32, message: &mut [u8], message_length: &mut usize) -> u32
     ensures value { result ≡ 0

@@ -7,8 +7,8 @@ ghost use Rattle.bech32_calls.specs.Checksums.{ForChecksum};
 ghost use Rattle.bech32_calls.specs.Faults.{IsNumberOf};
 ghost use Rattle.bech32_calls.specs.NearEdits.{IsEditsFaultOrKept, LacksRoomForEdits, PutsEdits, PutsFirstEdits};
 
+use crate::listed::counted;
 use bech32_calls::near_edits::put_near_edits;
-use bech32_calls::refusal::Refusal;
 use caller_memory::Memory;
 
 /// Lists the texts other than this one that one edit makes of it, and that the checksum that a
@@ -23,7 +23,7 @@ use caller_memory::Memory;
 ///
 /// # Errors
 ///
-/// Answers the number of the first of: another number for `checksum` (4); a text that is not UTF-8
+/// Returns the number of the first of: another number for `checksum` (4); a text that is not UTF-8
 /// (2); why it is not in the grammar (21 to 23, 11 to 15), all before any memory is taken; buffers
 /// that are too small (92), only where `count` is more than `kinds` or `locations` has room for, or
 /// all texts together are longer than `texts`: then `count` is the number of all, and as many as
@@ -62,13 +62,7 @@ pub extern "C" fn bech32_near_edits(
         ⊎ ((result ≡ 91) × IsKept memory.old memory.new) }
 {
     match put_near_edits(memory, checksum, text, kinds, locations, texts) {
-        Ok(listed) => {
-            *count = listed.count;
-            if listed.fit {
-                return 0;
-            }
-            Refusal::NoRoom.number()
-        }
+        Ok(listed) => counted(listed, count),
         Err(refusal) => refusal.number(),
     }
 }

@@ -6,8 +6,8 @@ ghost use Rattle.bech32_calls.specs.Checksums.{ForChecksum};
 ghost use Rattle.bech32_calls.specs.Faults.{IsNumberOf};
 ghost use Rattle.bech32_calls.specs.Nearest.{IsNearFaultOrKept, IsRead, PutsFirstNear, PutsNear};
 
+use crate::listed::counted;
 use bech32_calls::nearest::put_nearest;
-use bech32_calls::refusal::Refusal;
 use caller_memory::Memory;
 
 /// Lists the texts near to a mistyped one, by the checksum that a number stands for (1 is Bech32, 2
@@ -21,7 +21,7 @@ use caller_memory::Memory;
 ///
 /// # Errors
 ///
-/// Answers the number of the first of: another number for `checksum`, or more than two errors (4);
+/// Returns the number of the first of: another number for `checksum`, or more than two errors (4);
 /// a text that is not UTF-8 (2); its first fault (11 to 15, 21 to 23, 31, 32), all before any
 /// memory is taken; a buffer that is too small (92), one that is shorter than all texts together:
 /// then `count` is the number of all, and as many whole texts as fit are put into `texts`, the
@@ -61,13 +61,7 @@ pub extern "C" fn bech32_nearest(
         ⊎ ((result ≡ 91) × IsKept memory.old memory.new) }
 {
     match put_nearest(memory, checksum, text, erasures, errors, texts) {
-        Ok(listed) => {
-            *count = listed.count;
-            if listed.fit {
-                return 0;
-            }
-            Refusal::NoRoom.number()
-        }
+        Ok(listed) => counted(listed, count),
         Err(refusal) => refusal.number(),
     }
 }

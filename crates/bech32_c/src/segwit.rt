@@ -18,7 +18,7 @@ use bech32_calls::segwit::{decoded, encoded};
 ///
 /// # Errors
 ///
-/// Answers the number of the first of: a version above 31 (4); a human-readable part that is not
+/// Returns the number of the first of: a version above 31 (4); a human-readable part that is not
 /// UTF-8 (2), or is none (11 to 15); a version above 16 (52); a program of less than 2 bytes (46),
 /// of more than 40 (47), or of neither 20 nor 32 in version 0 (48); an address of more than 90
 /// characters (53), or of more than `text` has room for (92).
@@ -57,7 +57,7 @@ pub extern "C" fn bech32_segwit_encode(
 ///
 /// # Errors
 ///
-/// Answers the number of the first of: a text that is not UTF-8 (2); its first fault (11 to 15, 21
+/// Returns the number of the first of: a text that is not UTF-8 (2); its first fault (11 to 15, 21
 /// to 23, 31 to 33, 41 to 48); a buffer that is too small (92).
 #[unsafe(no_mangle)]
 pub extern "C" fn bech32_segwit_decode(

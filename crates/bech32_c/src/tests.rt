@@ -1,6 +1,10 @@
+mod confidential;
+mod descriptor;
+mod elements;
 mod messages;
 mod near;
 mod near_edits;
+mod suggest;
 
 use crate::correct::bech32_correct;
 use crate::decode::{bech32_check, bech32_decode};
@@ -120,7 +124,7 @@ fn encodes_up_to_the_code_length(rt: HostRuntime) {
 fn refuses_to_encode(rt: HostRuntime) {
     let rows: [(u32, &[u8], u32); 9] = [
         (0, b"", 4),
-        (3, b"\xff", 4),
+        (5, b"\xff", 4),
         (u32::MAX, b"a", 4),
         (1, b"a\xff", 2),
         (1, b"", 11),

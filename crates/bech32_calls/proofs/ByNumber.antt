@@ -2,7 +2,7 @@
 use Rattle.std.specs.Prelude.{if◌then◌else◌}
 use Rattle.std.proofs.Common.{◌≡◌, ◌==◌, ℕ, Bool, true, false, Option, Some, None, MatchOption}
 use Rattle.bech32_checksum.specs.Code.{Code, bech32, bech32m}
-use Rattle.bech32_calls.specs.Checksums.{code_of_number, ForChecksum, IsFaultBy}
+use Rattle.bech32_calls.specs.Checksums.{code_of_number, code_of_text_number, ForChecksum, ForTexts, IsFaultBy, IsFaultOfTexts}
 use Rattle.bech32_calls.specs.declared.refusal.Refusal.{Refusal}
 use Rattle.bech32_calls.specs.declared.refusal.Refusal.TheVariants.{BadNumber}
 
@@ -70,6 +70,12 @@ module _ (IsFault : Code → Refusal → Type 0) (e : Refusal) (Q : Type 0) (non
   out_of_fault None h = none h
   out_of_fault (Some code) h = gives code h
 
-  -- what follows from what is wrong by any checksum, or from a number that is none's
-  pub from_fault : (n : ℕ) → IsFaultBy n IsFault e → Q
-  from_fault n = out_of_fault (code_of_number n)
+-- ---- the same of texts that are read and written
+
+pub no_fault_of_texts : (P : Code → Type 0) (IsFault : Code → Refusal → Type 0) (e : Refusal) → ((code : Code) → P code → IsFault code e → ⊥) → (n : ℕ) → ForTexts n P
+    → IsFaultOfTexts n IsFault e → ⊥
+no_fault_of_texts P IsFault e none n = out_of_both P IsFault e ⊥ none (code_of_text_number n)
+
+pub from_fault_of_texts : (IsFault : Code → Refusal → Type 0) (e : Refusal) (Q : Type 0) → (e ≡ BadNumber → Q) → ((code : Code) → IsFault code e → Q) → (n : ℕ)
+    → IsFaultOfTexts n IsFault e → Q
+from_fault_of_texts IsFault e Q none gives n = out_of_fault IsFault e Q none gives (code_of_text_number n)

@@ -1,5 +1,5 @@
 -- Edits and the texts that they make put into buffers.
-use Rattle.std.specs.Prelude.{map, flat_map, false, None, Some, Result, Ok, Err, IfErr, IfOk}
+use Rattle.std.specs.Prelude.{map, flat_map, false, true, None, Some, Result, Ok, Err, IfErr, IfOk}
 use Rattle.std.proofs.Common.{◌≡◌, ◌<◌, ◌≤◌, ◌+◌, ◌⊎◌, ℕ, zero, suc, List, [], ◌∷◌, length, length-append, take, min, inl, inr, ap, subst, sym, refl, ◌∙◌, arith}
 use Rattle.std.proofs.Math.Decide.{dec_lt}
 use Rattle.std.proofs.lemmas.List.{length-map, length-take-le, take-map, take_all}
@@ -14,7 +14,7 @@ use Rattle.bech32_near_edits.specs.declared.error.EditsError.{EditsError}
 use Rattle.bech32_near_edits.specs.declared.error.EditsError.TheVariants.{Memory as OutOfMemory, Refused}
 use Rattle.bech32_calls.specs.Checksums.{ForChecksum, IsFaultBy}
 use Rattle.bech32_calls.specs.Fitting.{FirstFit, IsMost}
-use Rattle.bech32_calls.specs.NearEdits.{EditsFit, IsEditsFault, LacksRoomForEdits, PutsEach, PutsEdits, PutsFirstEdits, number_of_change}
+use Rattle.bech32_calls.specs.NearEdits.{EditsFit, IsEditsFault, LacksRoomForEdits, PutsEach, PutsEdits, PutsFirstEdits, PutsListed, number_of_change}
 use Rattle.bech32_calls.specs.declared.listed.Listed.{Listed}
 use Rattle.bech32_calls.specs.declared.refusal.Refusal.{Refusal}
 use Rattle.bech32_calls.specs.declared.refusal.Refusal.TheVariants.{Memory, NotUtf8, Text}
@@ -111,7 +111,7 @@ module _ {A : Type 0} (edit : A → Edit) (text : A → List ℕ) (items : List 
 -- ---- where some do not fit
 
 -- the first of them are no longer than all
-length_first : {A : Type 0} (f : A → List ℕ) (n : ℕ) (items : List A) → length (flat_map f (take n items)) ≤ length (flat_map f items)
+pub length_first : {A : Type 0} (f : A → List ℕ) (n : ℕ) (items : List A) → length (flat_map f (take n items)) ≤ length (flat_map f items)
 length_first f zero items = omega arith
 length_first f (suc n) [] = omega arith
 length_first f (suc n) (x ∷ xs) = omega (arith, length-append (f x) (flat_map f (take n xs)), length-append (f x) (flat_map f xs), length_first f n xs)
@@ -145,12 +145,22 @@ module _ (text kinds kinds' locations locations' texts texts' : List ℕ) (count
     lacks = lacking (length kinds) (length locations) (length texts) (h.most.full h.lacks);
   }
 
-pub lacks_listed : (n : ℕ) (text kinds kinds' locations locations' texts texts' : List ℕ) (r : Result Listed Refusal)
+pub listed_all : (n : ℕ) (text kinds kinds' locations locations' texts texts' : List ℕ) (r : Result Listed Refusal) → IfOk r (PutsListed n text kinds kinds' locations locations' texts texts')
+    → IfOk r (λ listed. listed.fit ≡ true → ForChecksum n (PutsEdits text kinds kinds' locations locations' texts texts' listed.count))
+listed_all n text kinds kinds' locations locations' texts texts' (Ok listed) h = h.all
+listed_all n text kinds kinds' locations locations' texts texts' (Err e) h = tt
+
+pub listed_first : (n : ℕ) (text kinds kinds' locations locations' texts texts' : List ℕ) (r : Result Listed Refusal) → IfOk r (PutsListed n text kinds kinds' locations locations' texts texts')
     → IfOk r (λ listed. listed.fit ≡ false → ForChecksum n (PutsFirstEdits text kinds kinds' locations locations' texts texts' listed.count))
+listed_first n text kinds kinds' locations locations' texts texts' (Ok listed) h = h.first
+listed_first n text kinds kinds' locations locations' texts texts' (Err e) h = tt
+
+pub lacks_listed : (n : ℕ) (text kinds kinds' locations locations' texts texts' : List ℕ) (r : Result Listed Refusal)
+    → IfOk r (PutsListed n text kinds kinds' locations locations' texts texts')
     → IfOk r (λ listed. listed.fit ≡ false → ForChecksum n (LacksRoomForEdits text (length kinds) (length locations) (length texts) listed.count))
 lacks_listed n text kinds kinds' locations locations' texts texts' (Ok listed) h = λ part.
     more_for (PutsFirstEdits text kinds kinds' locations locations' texts texts' listed.count) (LacksRoomForEdits text (length kinds) (length locations) (length texts) listed.count)
-    (lacks_room text kinds kinds' locations locations' texts texts' listed.count) n (h part)
+    (lacks_room text kinds kinds' locations locations' texts texts' listed.count) n (h.first part)
 lacks_listed n text kinds kinds' locations locations' texts texts' (Err e) h = tt
 
 -- ---- by the checksum of a number, for a copy of the list

@@ -9,11 +9,13 @@ pub mod Edited
 pub mod Ends
 pub mod Few
 pub mod Fitting
+pub mod InElements
 pub mod Joined
 pub mod Letters
 pub mod Listings
 pub mod Mending
 pub mod Near
+pub mod OneSpelling
 pub mod Options
 pub mod Parts
 pub mod Places
@@ -23,4 +25,5 @@ pub mod Separators
 pub mod Spelled
 pub mod Stands
 pub mod Strangers
+pub mod Suggested
 pub mod Wrong

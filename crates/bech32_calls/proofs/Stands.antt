@@ -15,12 +15,12 @@ use Rattle.bech32_refusals.specs.declared.error.UncheckedHrpstringError.TheVaria
 use Rattle.bech32_decode.specs.Text.{as_char, as_hrp, bad_hrp, invalid_character, last_stranger, missing_separator, mixed_case, split_at_last, text_refusal, unless_separator}
 use Rattle.bech32_numbers.specs.Numbers.{number_of_hrp_error, number_of_text_error}
 use Rattle.bech32_calls.specs.Check.{IsCheckFault}
-use Rattle.bech32_calls.specs.Checksums.{IsFaultBy}
+use Rattle.bech32_calls.specs.Checksums.{IsFaultOfTexts}
 use Rattle.bech32_calls.specs.Numbers.{number_of}
 use Rattle.bech32_calls.specs.Place.{IsPlace, IsOfPart, IsFirstWrong, IsNotAscii, IsNotGraphic, IsOfOtherCase, IsLastStranger, IsFirstOfOtherCase}
 use Rattle.bech32_calls.specs.declared.refusal.Refusal.{Refusal}
 use Rattle.bech32_calls.specs.declared.refusal.Refusal.TheVariants.{NotUtf8, BadNumber, Text, Checksum}
-use Rattle.bech32_calls.proofs.ByNumber.{from_fault}
+use Rattle.bech32_calls.proofs.ByNumber.{from_fault_of_texts}
 use Rattle.bech32_calls.proofs.Cases.{other_case-stands}
 use Rattle.bech32_calls.proofs.Options.{first_of-some, cond-some, unless-some, same_inside}
 use Rattle.bech32_calls.proofs.Separators.{IsUtf8-part}
@@ -166,12 +166,12 @@ check-stands text code (Checksum InvalidLength) h = (length text, refl)
 check-stands text code (Checksum (InvalidResidue e)) h = (length text, refl)
 check-stands text code _ h = absurd h
 
-pub fault-stands : (text : List ℕ) (checksum : ℕ) (e : Refusal) (n : ℕ) → n ≡ number_of e → IsFaultBy checksum (IsCheckFault text) e
+pub fault-stands : (text : List ℕ) (checksum : ℕ) (e : Refusal) (n : ℕ) → n ≡ number_of e → IsFaultOfTexts checksum (IsCheckFault text) e
     → (p : ℕ) × IsPlace text n p
 fault-stands text checksum e n is h =
     let OfNumber : ℕ → Type 0 = λ m. (p : ℕ) × ByNumber text m p in
     let none : e ≡ BadNumber → OfNumber (number_of e) = λ k. subst (λ (x : Refusal). OfNumber (number_of x)) (sym k) (0, tt) in
-    let found = from_fault (IsCheckFault text) e (OfNumber (number_of e)) none (λ code. check-stands text code e) checksum h in
+    let found = from_fault_of_texts (IsCheckFault text) e (OfNumber (number_of e)) none (λ code. check-stands text code e) checksum h in
     (found.0, IsPlace-from text n found.0 (subst (λ (m : ℕ). ByNumber text m found.0) (sym is) found.1))
 
 pub accepted-stands : (text : List ℕ) → (p : ℕ) × IsPlace text 0 p

@@ -2,6 +2,7 @@ pub mod Check
 pub mod Checksums
 pub mod Correct
 pub mod Decode
+pub mod Elements
 pub mod Encode
 pub mod Engine
 pub mod Faults
@@ -12,3 +13,5 @@ pub mod Nearest
 pub mod Numbers
 pub mod Place
 pub mod Segwit
+pub mod Strict
+pub mod Suggest

@@ -1,5 +1,6 @@
 -- The texts that one edit makes of a text put into buffers, and why none are.
 use Rattle.std.specs.Prelude.{◌≡◌, ◌<◌, ◌≤◌, ◌⊎◌, ℕ, List, length, map, flat_map, take, Some}
+use Rattle.std.specs.Prelude.{false, true}
 use Rattle.std.specs.Str.{IsUtf8}
 use Rattle.bech32_checksum.specs.Code.{Code}
 use Rattle.bech32_decode.specs.Text.{IsInGrammar, text_refusal}
@@ -13,6 +14,7 @@ use Rattle.caller_memory.specs.Memory.{IsKept}
 use Rattle.caller_memory.specs.declared.memory.Memory.{Memory as Lent}
 use Rattle.bech32_calls.specs.Checksums.{ForChecksum, IsFaultBy}
 use Rattle.bech32_calls.specs.Fitting.{FirstFit, IsMost}
+use Rattle.bech32_calls.specs.declared.listed.Listed.{Listed}
 use Rattle.bech32_calls.specs.declared.refusal.Refusal.{Refusal}
 use Rattle.bech32_calls.specs.declared.refusal.Refusal.TheVariants.{NotUtf8, Memory, Text}
 
@@ -58,6 +60,15 @@ pub record PutsFirstEdits (text kinds kinds' locations locations' texts texts' :
   pub most : IsMost (EditsFit found (length kinds) (length locations) (length texts))
       (length found) put_count
   pub put : PutsEach (take put_count found) kinds kinds' locations locations' texts texts'
+
+-- by the checksum of a number, all such edits are put into buffers where they fit, and else the
+-- first of them, and it is told how many they are
+pub record PutsListed (checksum : ℕ) (text kinds kinds' locations locations' texts texts' : List ℕ)
+    (listed : Listed) : Type 0 where
+  pub all : listed.fit ≡ true → ForChecksum checksum
+      (PutsEdits text kinds kinds' locations locations' texts texts' listed.count)
+  pub first : listed.fit ≡ false → ForChecksum checksum
+      (PutsFirstEdits text kinds kinds' locations locations' texts texts' listed.count)
 
 -- this many edits, which are all that make a text that the checksum accepts, are more than a buffer
 -- of one of these sizes has room for, or their texts, one behind another, are longer

@@ -6,14 +6,14 @@ ghost use Rattle.bech32_bits.specs.Bits.{to_bytes};
 ghost use Rattle.bech32_gf.specs.Alphabet.{is_data};
 ghost use Rattle.bech32_encode.specs.Buffers.{IsPut};
 ghost use Rattle.bech32_calls.specs.Check.{IsCheckedAs, IsCheckFault};
-ghost use Rattle.bech32_calls.specs.Checksums.{ForChecksum, IsFaultBy};
+ghost use Rattle.bech32_calls.specs.Checksums.{ForTexts, IsFaultOfTexts};
 ghost use Rattle.bech32_calls.specs.Decode.{PutsDecoded, IsDecodeFault};
 ghost use Rattle.bech32_calls.specs.declared.refusal.Refusal.TheVariants.{NoRoom};
 
-use crate::checksum::{BECH32, BECH32M};
+use crate::checksum::{BECH32, BECH32M, LONG_BECH32, LONG_BECH32M};
 use crate::input::read;
 use crate::refusal::Refusal;
-use bech32::{Bech32, Bech32m, Checksum};
+use bech32::{Bech32, Bech32m, Checksum, LongBech32, LongBech32m};
 use bech32_decode::{data_bytes_count, put_data_bytes};
 use bech32_encode::put_at_front;
 
@@ -77,15 +77,17 @@ fn checked<Ck: Checksum>(bytes: &[u8]) -> Result<(usize, usize), Refusal>
 ///
 /// # Errors
 ///
-/// The first of: a number that is neither 1 nor 2; a text that is not UTF-8; its first fault.
+/// The first of: a number that is not from 1 to 4; a text that is not UTF-8; its first fault.
 pub fn checked_by(checksum: u32, bytes: &[u8]) -> Result<(usize, usize), Refusal>
     ensures { MatchResult result
-        (λ n. ForChecksum checksum (IsCheckedAs bytes.now n.0 n.1))
-        (λ e. IsFaultBy checksum (IsCheckFault bytes.now) e) }
+        (λ n. ForTexts checksum (IsCheckedAs bytes.now n.0 n.1))
+        (λ e. IsFaultOfTexts checksum (IsCheckFault bytes.now) e) }
 {
     match checksum {
         BECH32 => checked::<Bech32>(bytes),
         BECH32M => checked::<Bech32m>(bytes),
+        LONG_BECH32 => checked::<LongBech32>(bytes),
+        LONG_BECH32M => checked::<LongBech32m>(bytes),
         _ => Err(Refusal::BadNumber),
     }
 }

@@ -4,14 +4,14 @@ ghost use Rattle.std.specs.Prelude.{◌≡◌, ◌≤◌, ◌+◌, ◌++◌, ℕ
 ghost use Rattle.bech32_bits.specs.Bits.{to_fes};
 ghost use Rattle.bech32_checksum.specs.Encoded.{IsEncodedText};
 ghost use Rattle.bech32_encode.specs.Buffers.{IsPut};
-ghost use Rattle.bech32_calls.specs.Checksums.{ForChecksum, IsFaultBy};
+ghost use Rattle.bech32_calls.specs.Checksums.{ForTexts, IsFaultOfTexts};
 ghost use Rattle.bech32_calls.specs.Encode.{PutsText, IsEncodeFault};
 
-use crate::checksum::{BECH32, BECH32M};
+use crate::checksum::{BECH32, BECH32M, LONG_BECH32, LONG_BECH32M};
 use crate::input::test_part;
 use crate::refusal::Refusal;
 use bech32::primitives::encode;
-use bech32::{Bech32, Bech32m, Checksum, Fe32, encoded_length_of_part};
+use bech32::{Bech32, Bech32m, Checksum, Fe32, LongBech32, LongBech32m, encoded_length_of_part};
 
 /// Puts the text of a human-readable part, a witness version where there is one, and bytes into a
 /// buffer that has room for it, and returns its length.
@@ -33,7 +33,7 @@ pub(crate) fn put_in_room<Ck: Checksum>(
 
 // Puts the text by one checksum, and returns its length.
 fn encoded<Ck: Checksum>(hrp: &[u8], bytes: &[u8], text: &mut [u8]) -> Result<usize, Refusal>
-    requires { Ck.code.code_length ≤ 1023 }
+    requires { Ck.code.code_length ≤ 7089 }
     ensures value { IfOk result
         (λ count. PutsText Ck.code hrp.now bytes.now text.old text.new count) }
     ensures refused { IfErr result
@@ -49,12 +49,13 @@ fn encoded<Ck: Checksum>(hrp: &[u8], bytes: &[u8], text: &mut [u8]) -> Result<us
 }
 
 /// Puts the text of a human-readable part and bytes by the checksum of a number, in lower case, at
-/// the front of a buffer, and returns its length, at most 1023.
+/// the front of a buffer, and returns its length, at most 1023, or 7089 by a long one.
 ///
 /// # Errors
 ///
-/// The first of: a number that is neither 1 nor 2; a human-readable part that is not UTF-8, or is
-/// none; a text of more than 1023 characters, or of more than the buffer has room for.
+/// The first of: a number that is not from 1 to 4; a human-readable part that is not UTF-8, or is
+/// none; a text of more characters than the checksum allows, or of more than the buffer has room
+/// for.
 pub fn encoded_by(
     checksum: u32,
     hrp: &[u8],
@@ -62,14 +63,16 @@ pub fn encoded_by(
     text: &mut [u8],
 ) -> Result<usize, Refusal>
     ensures value { IfOk result (λ count.
-        ForChecksum checksum (λ code. PutsText code hrp.now bytes.now text.old text.new count)) }
+        ForTexts checksum (λ code. PutsText code hrp.now bytes.now text.old text.new count)) }
     ensures refused { IfErr result
-        (λ e. IsFaultBy checksum (IsEncodeFault hrp.now bytes.now (length text.old)) e) }
+        (λ e. IsFaultOfTexts checksum (IsEncodeFault hrp.now bytes.now (length text.old)) e) }
     ensures same { OnErr result (text.new ≡ text.old) }
 {
     match checksum {
         BECH32 => encoded::<Bech32>(hrp, bytes, text),
         BECH32M => encoded::<Bech32m>(hrp, bytes, text),
+        LONG_BECH32 => encoded::<LongBech32>(hrp, bytes, text),
+        LONG_BECH32M => encoded::<LongBech32m>(hrp, bytes, text),
         _ => Err(Refusal::BadNumber),
     }
 }

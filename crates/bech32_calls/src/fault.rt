@@ -6,7 +6,7 @@ ghost use Rattle.bech32_hrp.specs.Hrp.{is_graphic, is_lower, is_upper, is_mixed_
 ghost use Rattle.bech32_decode.specs.Acceptance.{Accepts};
 ghost use Rattle.bech32_decode.specs.Text.{split_at_last};
 ghost use Rattle.bech32_calls.specs.Check.{IsCheckFault};
-ghost use Rattle.bech32_calls.specs.Checksums.{ForChecksum, IsFaultBy};
+ghost use Rattle.bech32_calls.specs.Checksums.{ForTexts, IsFaultOfTexts};
 ghost use Rattle.bech32_calls.specs.Faults.{IsNumberOf};
 ghost use Rattle.bech32_calls.specs.Kinds.{is_of};
 ghost use Rattle.bech32_calls.specs.Place.{IsPlace, HasPlace, IsLastStranger, IsFirstOfOtherCase};
@@ -126,12 +126,13 @@ pub fn place_of(text: &[u8], number: u32) -> Option<usize>
 }
 
 /// The number of the refusal of a text by the checksum of a number, and 0 where it is accepted: of
-/// the first of a number that is neither 1 nor 2 (4), a text that is not UTF-8 (2), and its first
+/// the first of a number that is not from 1 to 4 (4), a text that is not UTF-8 (2), and its first
 /// fault (11 to 15, 21 to 23, 31 to 33).
 pub fn number_of(checksum: u32, text: &[u8]) -> u32
-    ensures value { result ≡ 0 → ForChecksum checksum (λ code. Accepts code text.now) }
-    ensures accepts { ForChecksum checksum (λ code. Accepts code text.now) → result ≡ 0 }
-    ensures refused { result ≢ 0 → IsNumberOf (IsFaultBy checksum (IsCheckFault text.now)) result }
+    ensures value { result ≡ 0 → ForTexts checksum (λ code. Accepts code text.now) }
+    ensures accepts { ForTexts checksum (λ code. Accepts code text.now) → result ≡ 0 }
+    ensures refused { result ≢ 0
+        → IsNumberOf (IsFaultOfTexts checksum (IsCheckFault text.now)) result }
     ensures stands { (p : ℕ) × IsPlace text.now result p }
 {
     match checked_by(checksum, text) {

@@ -7,7 +7,7 @@ ghost use Rattle.bech32_near_edits.specs.NearEdits.{AreNearEdits, IsEditsRefusal
 ghost use Rattle.caller_memory.specs.Memory.{IsKept, LeavesMemory, memory_size};
 ghost use Rattle.bech32_calls.specs.Checksums.{ForChecksum, IsFaultBy};
 ghost use Rattle.bech32_calls.specs.Fitting.{IsMost};
-ghost use Rattle.bech32_calls.specs.NearEdits.{EditsFit, IsEditsFault, IsEditsFaultOrKept, LacksRoomForEdits, PutsEach, PutsEdits, PutsFirstEdits, number_of_change};
+ghost use Rattle.bech32_calls.specs.NearEdits.{EditsFit, IsEditsFault, IsEditsFaultOrKept, LacksRoomForEdits, PutsEach, PutsEdits, PutsFirstEdits, PutsListed, number_of_change};
 
 use crate::checksum::{BECH32, BECH32M};
 use crate::input::text_of;
@@ -113,12 +113,8 @@ fn put_edits(
 ) -> Result<Listed, Refusal>
     requires checksum { ForChecksum checksum (λ _. Unit {0}) }
     requires grammar { IsInGrammar text.now }
-    ensures all { IfOk result (λ listed. listed.fit ≡ true → ForChecksum checksum
-        (PutsEdits text.now kinds.old kinds.new locations.old locations.new
-        texts.old texts.new listed.count)) }
-    ensures first { IfOk result (λ listed. listed.fit ≡ false → ForChecksum checksum
-        (PutsFirstEdits text.now kinds.old kinds.new locations.old locations.new
-        texts.old texts.new listed.count)) }
+    ensures listed { IfOk result (PutsListed checksum text.now kinds.old kinds.new
+        locations.old locations.new texts.old texts.new) }
     ensures refused { IfErr result (λ e. (e ≡ Refusal.Memory)
         × IsFaultBy checksum (IsEditsFault text.now) e) }
     ensures same { OnErr result ((kinds.new ≡ kinds.old) × (locations.new ≡ locations.old)

@@ -51,19 +51,6 @@ fn read_by(checksum: u32, bytes: &[u8]) -> Result<Reading<'_, Bech32m>, Refusal>
     }
 }
 
-// The same reading by Bech32, whose generator is the same.
-fn by_bech32<'s>(reading: &Reading<'s, Bech32m>) -> Reading<'s, Bech32>
-    ensures text { result.text.now ≡ reading.now.text.now }
-    ensures data_part { result.data_part.now ≡ reading.now.data_part.now }
-{
-    Reading {
-        text: reading.text,
-        hrp: reading.hrp,
-        data_part: reading.data_part,
-        residue: reading.residue,
-    }
-}
-
 // The texts that are near to one that was read, by the checksum of a number.
 fn near_by<'a, A: Allocator>(
     alloc: &'a A,
@@ -83,7 +70,7 @@ fn near_by<'a, A: Allocator>(
 {
     match checksum {
         BECH32 => {
-            let by_bech32 = by_bech32(reading);
+            let by_bech32 = reading.by_bech32();
             let near = nearest_of_read::<Bech32, &A>(alloc, &by_bech32, given, errors)?;
             Ok(near.texts)
         }

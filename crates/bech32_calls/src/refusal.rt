@@ -5,14 +5,14 @@ ghost use Rattle.bech32_calls.specs.Numbers.{number_of};
 
 use crate::input::NotText;
 use bech32::primitives::decode::{
-    CheckedHrpstringError, ChecksumError, CodeLengthError, SegwitHrpstringError,
+    CheckedHrpstringError, ChecksumError, CodeLengthError, PaddingError, SegwitHrpstringError,
     UncheckedHrpstringError,
 };
 use bech32::primitives::hrp;
 use bech32::{EncodeError, segwit};
 use bech32_numbers::{
     NO_CORRECTION, address_error_number, checksum_error_number, encode_error_number,
-    hrp_error_number, segwit_encode_error_number, text_error_number,
+    hrp_error_number, padding_error_number, segwit_encode_error_number, text_error_number,
 };
 
 /// Why a call writes nothing.
@@ -22,6 +22,8 @@ pub enum Refusal {
     NotUtf8,
     /// A number is that of no checksum, or of no element.
     BadNumber,
+    /// A byte that should be an element is above 31: the place of the first, counted from 0.
+    BadElement(usize),
     /// A buffer is too small.
     NoRoom,
     /// No correction mends the text.
@@ -36,6 +38,8 @@ pub enum Refusal {
     Text(UncheckedHrpstringError),
     /// No checksum that is asked for accepts the text.
     Checksum(ChecksumError),
+    /// The bits behind the last whole byte are more than four, or not all zero.
+    Padding(PaddingError),
     /// The parts have no segwit address.
     NoAddress(segwit::EncodeError),
     /// The text is not a segwit address.
@@ -51,6 +55,7 @@ impl Refusal {
         let small: u8 = match self {
             Refusal::NotUtf8 => 2,
             Refusal::BadNumber => 4,
+            Refusal::BadElement(_) => 67,
             Refusal::NoRoom => 92,
             Refusal::NoCorrection => NO_CORRECTION,
             Refusal::Memory => 91,
@@ -58,6 +63,7 @@ impl Refusal {
             Refusal::TooLong(e) => encode_error_number(EncodeError::TooLong(e)),
             Refusal::Text(e) => text_error_number(e),
             Refusal::Checksum(e) => checksum_error_number(e),
+            Refusal::Padding(e) => padding_error_number(e),
             Refusal::NoAddress(e) => segwit_encode_error_number(e),
             Refusal::Address(e) => address_error_number(e),
         };
@@ -128,13 +134,13 @@ impl From<CheckedHrpstringError> for Refusal {
     }
 }
 
-impl From<segwit::EncodeError> for Refusal {
-    ghost use Rattle.bech32_calls.specs.declared.refusal.Refusal.TheVariants.{NoAddress};
+impl From<PaddingError> for Refusal {
+    ghost use Rattle.bech32_calls.specs.declared.refusal.Refusal.TheVariants.{Padding};
 
-    ghost from_gives = { λ e r. r ≡ NoAddress e };
+    ghost from_gives = { λ e r. r ≡ Padding e };
 
-    fn from(e: segwit::EncodeError) -> Refusal {
-        Refusal::NoAddress(e)
+    fn from(e: PaddingError) -> Refusal {
+        Refusal::Padding(e)
     }
 }
 

@@ -53,7 +53,11 @@ pub fn encoded(hrp: &[u8], version: u32, program: &[u8], text: &mut [u8]) -> Res
 {
     let element = element_of(version)?;
     test_part(hrp)?;
-    if address_length_of_part(hrp, element, program)? > text.len() {
+    let size = match address_length_of_part(hrp, element, program) {
+        Ok(size) => size,
+        Err(e) => return Err(Refusal::NoAddress(e)),
+    };
+    if size > text.len() {
         return Err(Refusal::NoRoom);
     }
     Ok(put_address(hrp, element, program, text))

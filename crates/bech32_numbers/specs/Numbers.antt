@@ -1,6 +1,6 @@
 -- The numbers of refusals: from 11 for a human-readable part, 21 for characters, 31 for a checksum,
--- 41 for a segwit address, 51 for a text that is not written, and 91 for out of memory. An error
--- that carries another has its number.
+-- 41 for a segwit address, 51 for a text that is not written, 67 for a byte that is no element, and
+-- 91 for out of memory. An error that carries another has its number.
 use Rattle.std.specs.Prelude.{◌<◌, ℕ}
 use Rattle.bech32_hrp.specs.declared.Error.{Error as HrpError}
 use Rattle.bech32_hrp.specs.declared.Error.TheVariants.{Empty, TooLong as HrpTooLong}
@@ -43,6 +43,19 @@ use Rattle.bech32_refusals.specs.declared.segwit.WitnessLengthError.TheVariants.
 use Rattle.bech32.specs.declared.error.DecodeError.{DecodeError}
 use Rattle.bech32.specs.declared.error.DecodeError.TheVariants.{Parse, Checksum}
 use Rattle.bech32.specs.declared.error.DecodeError.TheVariants.{Memory as DecodeMemory}
+use Rattle.bech32.specs.declared.error.TextError.{TextError}
+use Rattle.bech32.specs.declared.error.TextError.TheVariants.{
+  Parse as NoTextOfIt,
+  Checksum as NotByIt,
+  Padding as LongPadding,
+  Memory as TextMemory,
+}
+use Rattle.bech32.specs.declared.error.ElementsError.{ElementsError}
+use Rattle.bech32.specs.declared.error.ElementsError.TheVariants.{
+  TooLong as LongElements,
+  Element,
+  Memory as ElementsMemory,
+}
 use Rattle.bech32.specs.declared.error.EncodeError.{EncodeError}
 use Rattle.bech32.specs.declared.error.EncodeError.TheVariants.{TooLong, Fmt}
 use Rattle.bech32.specs.declared.error.EncodeError.TheVariants.{Memory as EncodeMemory}
@@ -98,7 +111,7 @@ abbrev pub number_of_checked_error : CheckedHrpstringError → ℕ
 number_of_checked_error (NoText e) = number_of_text_error e
 number_of_checked_error (Refused e) = number_of_checksum_error e
 
--- of bits behind a program that are refused
+-- of bits behind the last whole byte that are refused
 abbrev pub number_of_padding_error : PaddingError → ℕ
 number_of_padding_error TooMuch = 44
 number_of_padding_error NonZero = 45
@@ -125,6 +138,19 @@ abbrev pub number_of_decode_error : DecodeError → ℕ
 number_of_decode_error (Parse e) = number_of_text_error e
 number_of_decode_error (Checksum e) = number_of_checksum_error e
 number_of_decode_error DecodeMemory = 91
+
+-- of a text that is not decoded by a checksum that is asked for
+abbrev pub number_of_text_decode_error : TextError → ℕ
+number_of_text_decode_error (NoTextOfIt e) = number_of_text_error e
+number_of_text_decode_error (NotByIt e) = number_of_checksum_error e
+number_of_text_decode_error (LongPadding e) = number_of_padding_error e
+number_of_text_decode_error TextMemory = 91
+
+-- of elements that are not written
+abbrev pub number_of_elements_error : ElementsError → ℕ
+number_of_elements_error (LongElements e) = 51
+number_of_elements_error (Element place) = 67
+number_of_elements_error ElementsMemory = 91
 
 -- of a text that is not written
 abbrev pub number_of_encode_error : EncodeError → ℕ

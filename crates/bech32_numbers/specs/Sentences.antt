@@ -1,12 +1,10 @@
 -- The sentences of refusals, by their numbers: written by tools/refusals from docs/refusals.tsv.
 use Rattle.std.specs.Prelude.{ℕ, List, [], codes, ◌==◌, if◌then◌else◌}
 
--- the sentence of a number of bech32.h, empty for a number that is none of it
-abbrev pub bech32_sentence : ℕ → List ℕ
-bech32_sentence n =
+-- the sentence of a number that both headers have in the same words, empty for any other
+abbrev pub common_sentence : ℕ → List ℕ
+common_sentence n =
     if n == 2 then codes "a text or a human-readable part is not UTF-8"
-    else (if n == 4 then codes
-    "the number of no checksum, an element above 31, or more than two errors"
     else (if n == 11 then codes "the human-readable part is empty"
     else (if n == 12 then codes "the human-readable part has more than 83 bytes"
     else (if n == 13 then codes "the human-readable part has a character that is not ASCII"
@@ -15,42 +13,48 @@ bech32_sentence n =
     else (if n == 21 then codes "a character behind the separator may not stand there"
     else (if n == 22 then codes "the text has letters of both cases"
     else (if n == 23 then codes "the text has no separator, `1`"
-    else (if n == 31 then codes "the text has more than 1023 characters"
-    else (if n == 32 then codes "fewer than six characters stand behind the separator"
     else (if n == 33 then codes "the checksum is wrong"
+    else (if n == 91 then codes "the lent memory did not suffice"
+    else (if n == 92 then codes "a buffer is too small"
+    else [])))))))))))
+
+-- End of the sentences.
+
+-- the sentence of a number of bech32.h, empty for a number that is none of it
+abbrev pub bech32_sentence : ℕ → List ℕ
+bech32_sentence n =
+    if n == 4 then codes "the number of no checksum, an element above 31, or too many errors"
+    else (if n == 31 then codes "the text has more than 1023 characters (7089 by a long checksum)"
+    else (if n == 32 then codes "too few characters for a checksum stand behind the separator"
     else (if n == 34 then codes "no correction of the data part mends the text"
     else (if n == 41 then codes "the text has more than 90 characters"
     else (if n == 42 then codes "the address has no witness version"
     else (if n == 43 then codes "its witness version is above 16"
-    else (if n == 44 then codes "more than four bits stand behind the program's bytes"
-    else (if n == 45 then codes "the bits behind the program's bytes are not all zero"
+    else (if n == 44 then codes "more than four bits stand behind the last whole byte"
+    else (if n == 45 then codes "the bits behind the last whole byte are not all zero"
     else (if n == 46 then codes "the program has less than 2 bytes"
     else (if n == 47 then codes "the program has more than 40 bytes"
     else (if n == 48 then codes "in version 0 the program has neither 20 nor 32 bytes"
-    else (if n == 51 then codes "the text would have more than 1023 characters"
+    else (if n == 51 then codes
+    "the text would have more than 1023 characters (7089 by a long checksum)"
     else (if n == 52 then codes "the witness version is above 16"
     else (if n == 53 then codes "the address would have more than 90 characters"
-    else (if n == 91 then codes "the lent memory did not suffice"
-    else (if n == 92 then codes "a buffer is too small"
-    else []))))))))))))))))))))))))))
+    else (if n == 67 then codes "an element is above 31"
+    else (if n == 70 then codes
+    "a confidential address of another witness version than 0 is not supported"
+    else (if n == 71 then codes "a confidential address has less than 33 bytes behind its version"
+    else (if n == 80 then codes "a character may not stand in a descriptor, or not in its checksum"
+    else (if n == 88 then codes "the text does not end in `#` and eight characters"
+    else (if n == 89 then codes "the text has more than 7500 characters, too many to be mended"
+    else common_sentence n))))))))))))))))))))
 
 -- End of the sentences.
 
 -- the sentence of a number of codex32.h, empty for a number that is none of it
 abbrev pub codex32_sentence : ℕ → List ℕ
 codex32_sentence n =
-    if n == 2 then codes "a text or a human-readable part is not UTF-8"
-    else (if n == 4 then codes
+    if n == 4 then codes
     "there are more than 32 texts, or their lengths do not add up to that of all"
-    else (if n == 11 then codes "the human-readable part is empty"
-    else (if n == 12 then codes "the human-readable part has more than 83 bytes"
-    else (if n == 13 then codes "the human-readable part has a character that is not ASCII"
-    else (if n == 14 then codes "the human-readable part has a byte that is not from 33 to 126"
-    else (if n == 15 then codes "the human-readable part has letters of both cases"
-    else (if n == 21 then codes "a character behind the separator may not stand there"
-    else (if n == 22 then codes "the text has letters of both cases"
-    else (if n == 23 then codes "the text has no separator, `1`"
-    else (if n == 33 then codes "the checksum is wrong"
     else (if n == 34 then codes "there is no nearest text"
     else (if n == 55 then codes "there are neither 16 to 44 bytes nor 63 or 64"
     else (if n == 61 then codes "there are fewer shares than the threshold"
@@ -66,8 +70,6 @@ codex32_sentence n =
     else (if n == 85 then codes "the identifier is not four characters of the alphabet in one case"
     else (if n == 86 then codes "the share index is not one character of the alphabet"
     else (if n == 87 then codes "more than four bits stand behind the bytes of the payload"
-    else (if n == 91 then codes "the lent memory did not suffice"
-    else (if n == 92 then codes "a buffer is too small"
-    else [])))))))))))))))))))))))))))
+    else common_sentence n)))))))))))))))
 
 -- End of the sentences.

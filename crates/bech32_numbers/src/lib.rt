@@ -15,6 +15,8 @@ ghost use Rattle.bech32_numbers.specs.Numbers.{number_of_length_error, number_of
 ghost use Rattle.bech32_numbers.specs.Numbers.{number_of_decode_error, number_of_encode_error};
 ghost use Rattle.bech32_numbers.specs.Numbers.{number_of_segwit_decode_error};
 ghost use Rattle.bech32_numbers.specs.Numbers.{number_of_segwit_encode_error};
+ghost use Rattle.bech32_numbers.specs.Numbers.{number_of_text_decode_error};
+ghost use Rattle.bech32_numbers.specs.Numbers.{number_of_elements_error};
 
 mod sentences;
 
@@ -25,7 +27,7 @@ use bech32::primitives::decode::{
 };
 use bech32::primitives::hrp;
 use bech32::primitives::segwit::WitnessLengthError;
-use bech32::{DecodeError, EncodeError, segwit};
+use bech32::{DecodeError, ElementsError, EncodeError, TextError, segwit};
 
 /// The number of a text that a checksum refuses for its residue, and that no correction mends.
 pub const NO_CORRECTION: u8 = 34;
@@ -93,8 +95,8 @@ pub fn checked_error_number(e: CheckedHrpstringError) -> u8
     }
 }
 
-/// The number, 44 or 45, of bits behind a witness program that are refused (BIP-173, Segwit address
-/// format).
+/// The number, 44 or 45, of bits behind the last whole byte that are refused (BIP-173, Segwit
+/// address format).
 pub fn padding_error_number(e: PaddingError) -> u8
     ensures value { result ≡ number_of_padding_error e }
     ensures small { IsSmall result }
@@ -143,6 +145,31 @@ pub fn decode_error_number(e: DecodeError) -> u8
         DecodeError::Parse(e) => text_error_number(e),
         DecodeError::Checksum(e) => checksum_error_number(e),
         DecodeError::Memory => 91,
+    }
+}
+
+/// The number, 11 to 45 or 91, of a text that is not decoded by a checksum that is asked for.
+pub fn text_decode_error_number(e: TextError) -> u8
+    ensures value { result ≡ number_of_text_decode_error e }
+    ensures small { IsSmall result }
+{
+    match e {
+        TextError::Parse(e) => text_error_number(e),
+        TextError::Checksum(e) => checksum_error_number(e),
+        TextError::Padding(e) => padding_error_number(e),
+        TextError::Memory => 91,
+    }
+}
+
+/// The number, 51, 67 or 91, of elements that are not written.
+pub fn elements_error_number(e: ElementsError) -> u8
+    ensures value { result ≡ number_of_elements_error e }
+    ensures small { IsSmall result }
+{
+    match e {
+        ElementsError::TooLong(_) => 51,
+        ElementsError::Element(_) => 67,
+        ElementsError::Memory => 91,
     }
 }
 

@@ -3,3 +3,4 @@ pub mod Few
 pub mod OneAnswer
 pub mod Replies
 pub mod Split
+pub mod Suggested

@@ -6,7 +6,7 @@ use Rattle.line_program.proofs.NoRequest.{asks-none, asks-none-empty}
 use Rattle.line_program.proofs.Split.{words-some}
 use Rattle.b32_replies.specs.Request.{checksum_of_word}
 use Rattle.b32_replies.specs.declared.command.ChecksumName.{ChecksumName}
-use Rattle.mend.specs.Request.{MendRequest, mend_request_of, mend_request_of_words, nearest_arguments, nearest_request, text_arguments, text_request}
+use Rattle.mend.specs.Request.{MendRequest, mend_request_of, mend_request_of_words, nearest_arguments, nearest_request, Suggest, suggest_arguments, suggest_request, text_arguments, text_request}
 
 -- words that ask for nothing do so whether or not one of them is empty
 none_either_way : (b : Bool) (o : Option MendRequest) → o ≡ None → cond b None o ≡ None
@@ -65,6 +65,40 @@ module _ (request : ChecksumName → List ℕ → MendRequest) where
   text-both all [] text checksum e some last is = absurd (some refl)
   text-both all (b ∷ bs) [] checksum e some last is = absurd (last refl)
   text-both all (b ∷ bs) (d ∷ ds) checksum e some last is = rw e (rw is refl)
+
+-- ---- a human-readable part and a text
+
+pub of-suggest : (line name : List ℕ) (arguments : List (List ℕ)) → words line ≡ name ∷ arguments → asked (name ∷ arguments) ≡ suggest_arguments arguments → mend_request_of line ≡ suggest_arguments arguments
+of-suggest line name arguments e is = ap asked e ∙ is
+
+-- with no second word, or an empty one before it
+pub suggest-no-word : (all : List (List ℕ)) → ((first second : List ℕ) (rest : List (List ℕ)) → all ≡ first ∷ second ∷ rest → first ≡ []) → suggest_arguments all ≡ None
+suggest-no-word [] h = refl
+suggest-no-word (x ∷ []) h = none_either_way (list_any is_empty (x ∷ [])) (suggest_request (x ∷ [])) refl
+suggest-no-word (x ∷ y ∷ more) h =
+    let none : x ≡ [] = h x y more refl in
+    subst (λ (w : List ℕ). suggest_arguments (w ∷ y ∷ more) ≡ None) (sym none) refl
+
+-- with no last word, or an empty one
+pub suggest-no-text : (all last : List (List ℕ)) (part : List ℕ) → all ≡ part ∷ last → ((word : List ℕ) → last ≡ word ∷ [] → word ≡ []) → suggest_arguments all ≡ None
+suggest-no-text all last part e empty = ap suggest_arguments e ∙ cases last empty
+  where
+    second : (a : Bool) → a || (true || false) ≡ true
+    second true = refl
+    second false = refl
+
+    cases : (last : List (List ℕ)) → ((word : List ℕ) → last ≡ word ∷ [] → word ≡ []) → suggest_arguments (part ∷ last) ≡ None
+    cases [] h = none_either_way (list_any is_empty (part ∷ [])) (suggest_request (part ∷ [])) refl
+    cases (x ∷ y ∷ more) h = none_either_way (list_any is_empty (part ∷ x ∷ y ∷ more)) (suggest_request (part ∷ x ∷ y ∷ more)) refl
+    cases (x ∷ []) h =
+        let none : x ≡ [] = h x refl in
+        subst (λ (w : List ℕ). suggest_arguments (part ∷ w ∷ []) ≡ None) (sym none) (ap (λ (b : Bool). cond b None (suggest_request (part ∷ [] ∷ []))) (second (is_empty part)))
+
+-- with both
+pub suggest-both : (all : List (List ℕ)) (part text : List ℕ) → all ≡ part ∷ text ∷ [] → part ≢ [] → text ≢ [] → suggest_arguments all ≡ Some (Suggest part text)
+suggest-both all [] text e some last = absurd (some refl)
+suggest-both all (b ∷ bs) [] e some last = absurd (last refl)
+suggest-both all (b ∷ bs) (d ∷ ds) e some last = rw e refl
 
 -- ---- `checksum`, with no last word, or an empty one
 

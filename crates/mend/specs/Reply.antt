@@ -1,5 +1,6 @@
 -- What may be said of a request. Of lines that ask for nothing `line_program` says it.
 use Rattle.std.specs.Prelude.{◌≡◌, ◌⊎◌, ℕ, List, [], ◌∷◌, ◌++◌, codes, flat_map, map, MatchOption}
+use Rattle.std.specs.Prelude.{None, Some}
 use Rattle.std.specs.Fmt.{decimal}
 use Rattle.bech32_gf.specs.declared.gf32.Fe32.{Fe32}
 use Rattle.bech32_checksum.specs.Code.{Code, bech32, bech32m}
@@ -14,14 +15,21 @@ use Rattle.bech32_near_edits.specs.declared.edits.Change.{Change}
 use Rattle.bech32_near_edits.specs.declared.edits.Change.TheVariants.{Swapped, LeftOut, PutIn}
 use Rattle.bech32_near_edits.specs.declared.edits.Edit.{Edit}
 use Rattle.bech32_near_edits.specs.NearEdits.{AreNearEdits, IsEditsRefusal}
-use Rattle.bech32_numbers.specs.Numbers.{number_of_checked_error}
+use Rattle.bech32_hrp.specs.Hrp.{hrp_refusal}
+use Rattle.bech32_suggest.specs.Suggestions.{AreSuggestions, IsSuggestRefusal, Suggested}
+use Rattle.bech32_suggest.specs.declared.mendings.Mending.{Mending}
+use Rattle.bech32_suggest.specs.declared.mendings.Mending.TheVariants.{Replaced, Unchanged}
+use Rattle.bech32_suggest.specs.declared.mendings.Mending.TheVariants.{LeftOut as LeftOutOne}
+use Rattle.bech32_suggest.specs.declared.mendings.Mending.TheVariants.{PutIn as PutInOne}
+use Rattle.bech32_suggest.specs.declared.mendings.Mending.TheVariants.{Swapped as SwappedTwo}
+use Rattle.bech32_numbers.specs.Numbers.{number_of_checked_error, number_of_hrp_error}
 use Rattle.bech32_refusals.specs.declared.error.CheckedHrpstringError.{CheckedHrpstringError}
 use Rattle.bech32_calls.specs.Place.{IsPlace}
 use Rattle.b32_replies.specs.Locations.{AreLocations, IsNoListOfLocations}
 use Rattle.b32_replies.specs.Request.{code_of_name}
 use Rattle.line_program.specs.Refused.{SaysRefusal, err}
 use Rattle.mend.specs.Numbers.{number_of_correct_error, number_of_edits_error}
-use Rattle.mend.specs.Request.{MendRequest, Nearest, NearestAt, Edits, Fault, Checksum}
+use Rattle.mend.specs.Request.{MendRequest, Nearest, NearestAt, Edits, Fault, Suggest, Checksum}
 use Rattle.mend.specs.Request.{errors_of_word}
 
 -- texts, each with a space before it
@@ -115,6 +123,36 @@ IsChecksumAnswer text said =
     ⊎ (SaysChecksum bech32 (codes "bech32") text said
     ⊎ SaysRefusal (IsRefusedByEither text) number_of_checked_error said)
 
+-- the word for what is done to a typed text
+abbrev pub word_of_mending : Mending → List ℕ
+word_of_mending Unchanged = codes "unchanged"
+word_of_mending SwappedTwo = codes "swapped"
+word_of_mending LeftOutOne = codes "left-out"
+word_of_mending PutInOne = codes "put-in"
+word_of_mending Replaced = codes "replaced"
+
+-- what is done to a typed text, where, and the address, each with a space before it
+abbrev pub said_of_suggestion : Suggested → List ℕ
+said_of_suggestion s = (32 ∷ word_of_mending s.1.0) ++ ((32 ∷ decimal s.1.1) ++ (32 ∷ s.0))
+
+-- all suggestions for a text are said, in their order
+pub record SaysSuggestions (hrp text said : List ℕ) : Type 0 where
+  pub found : List Suggested
+  pub are : AreSuggestions text hrp found
+  pub spelling : said ≡ codes "ok" ++ flat_map said_of_suggestion found
+
+-- the answer to `suggest` with a human-readable part
+abbrev pub IsSuggestionsAnswer : List ℕ → List ℕ → List ℕ → Type 0
+IsSuggestionsAnswer hrp text said =
+    SaysSuggestions hrp text said
+    ⊎ SaysRefusal (IsSuggestRefusal text) number_of_edits_error said
+
+-- the answer to `suggest`: a word that is no human-readable part is refused first
+abbrev pub IsSuggestAnswer : List ℕ → List ℕ → List ℕ → Type 0
+IsSuggestAnswer part text said =
+    SaysRefusal (λ e. hrp_refusal part ≡ Some e) number_of_hrp_error said
+    ⊎ ((hrp_refusal part ≡ None) × IsSuggestionsAnswer part text said)
+
 -- the answer to a request
 abbrev pub IsMendAnswer : MendRequest → List ℕ → Type 0
 IsMendAnswer (Nearest checksum text errors) said =
@@ -123,4 +161,5 @@ IsMendAnswer (NearestAt checksum text locations errors) said =
     IsNearTextsAtAnswer (code_of_name checksum) text locations errors said
 IsMendAnswer (Edits checksum text) said = IsEditsAnswer (code_of_name checksum) text said
 IsMendAnswer (Fault checksum text) said = IsFaultAnswer (code_of_name checksum) text said
+IsMendAnswer (Suggest part text) said = IsSuggestAnswer part text said
 IsMendAnswer (Checksum text) said = IsChecksumAnswer text said

@@ -9,13 +9,14 @@ use Rattle.mend.specs.declared.command.Command.{Command}
 use Rattle.mend.specs.declared.command.Command.TheVariants as commands
 
 -- the texts near one, with or without locations that are known to be wrong; the texts that one edit
--- makes of one; why a checksum refuses a text; which checksum accepts a text; each argument as its
--- word
+-- makes of one; why a checksum refuses a text; the addresses with a human-readable part that
+-- someone may have meant who typed a text; which checksum accepts a text; each argument as its word
 pub data MendRequest : Type 0 where
   Nearest : (checksum : ChecksumName) (text errors : List ℕ) → MendRequest
   NearestAt : (checksum : ChecksumName) (text locations errors : List ℕ) → MendRequest
   Edits : (checksum : ChecksumName) (text : List ℕ) → MendRequest
   Fault : (checksum : ChecksumName) (text : List ℕ) → MendRequest
+  Suggest : (part text : List ℕ) → MendRequest
   Checksum : (text : List ℕ) → MendRequest
 
 -- how many errors a word allows
@@ -45,6 +46,11 @@ text_request request (checksum ∷ text ∷ []) =
     by_checksum (checksum_of_word checksum) (λ name. request name text)
 text_request request _ = None
 
+-- `suggest PART TEXT`
+abbrev pub suggest_request : List (List ℕ) → Option MendRequest
+suggest_request (part ∷ text ∷ []) = Some (Suggest part text)
+suggest_request _ = None
+
 -- `checksum TEXT`
 abbrev pub checksum_request : List (List ℕ) → Option MendRequest
 checksum_request (text ∷ []) = Some (Checksum text)
@@ -57,8 +63,9 @@ mend_request_of_words (name ∷ arguments) =
     if bytes_eq name (codes "nearest") then nearest_request arguments
     else (if bytes_eq name (codes "edits") then text_request Edits arguments
     else (if bytes_eq name (codes "fault") then text_request Fault arguments
+    else (if bytes_eq name (codes "suggest") then suggest_request arguments
     else (if bytes_eq name (codes "checksum") then checksum_request arguments
-    else None)))
+    else None))))
 
 -- what a line asks for, which has no empty word
 abbrev pub mend_request_of : List ℕ → Option MendRequest
@@ -77,6 +84,11 @@ abbrev pub text_arguments : (ChecksumName → List ℕ → MendRequest) → List
 text_arguments request arguments =
     if list_any is_empty arguments then None else text_request request arguments
 
+-- what the words of a human-readable part and a text ask for, of which none is empty
+abbrev pub suggest_arguments : List (List ℕ) → Option MendRequest
+suggest_arguments arguments =
+    if list_any is_empty arguments then None else suggest_request arguments
+
 -- what a command asks for
 abbrev pub mend_request_of_command : Command → MendRequest
 mend_request_of_command (commands.Nearest checksum text errors) =
@@ -85,4 +97,5 @@ mend_request_of_command (commands.NearestAt checksum text locations errors) =
     NearestAt checksum text.now locations.now errors.now
 mend_request_of_command (commands.Edits checksum text) = Edits checksum text.now
 mend_request_of_command (commands.Fault checksum text) = Fault checksum text.now
+mend_request_of_command (commands.Suggest part text) = Suggest part.now text.now
 mend_request_of_command (commands.Checksum text) = Checksum text.now

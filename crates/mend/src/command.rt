@@ -3,7 +3,7 @@
 ghost use Rattle.std.specs.Prelude.{◌≡◌, ℕ, List};
 ghost use Rattle.line_program.specs.Words.{Reads, words};
 ghost use Rattle.b32_replies.specs.declared.command.ChecksumName.{ChecksumName as Name};
-ghost use Rattle.mend.specs.Request.{MendRequest, errors_of_word, mend_request_of, mend_request_of_command, nearest_arguments, text_arguments};
+ghost use Rattle.mend.specs.Request.{MendRequest, Suggest, errors_of_word, mend_request_of, mend_request_of_command, nearest_arguments, suggest_arguments, text_arguments};
 
 use b32_replies::{ChecksumName, checksum_named};
 use line_program::{first_word, only_word};
@@ -32,6 +32,12 @@ pub enum Command<'a> {
     /// `fault CHECKSUM TEXT`: why the checksum refuses a text, and where that stands.
     Fault {
         checksum: ChecksumName,
+        text: &'a str,
+    },
+    /// `suggest PART TEXT`: the addresses with a human-readable part that someone may have meant
+    /// who typed a text.
+    Suggest {
+        part: &'a str,
         text: &'a str,
     },
     /// `checksum TEXT`: which checksum accepts a text.
@@ -63,6 +69,16 @@ fn named_text(arguments: &str) -> Option<(ChecksumName, &str)>
     Some((checksum, text))
 }
 
+// The human-readable part and the text that words name.
+fn part_and_text(arguments: &str) -> Option<(&str, &str)>
+    ensures { Reads (λ r. Suggest r.0.now r.1.now)
+        (suggest_arguments (words arguments.now)) result }
+{
+    let (part, text) = first_word(arguments)?;
+    let text = only_word(text)?;
+    Some((part, text))
+}
+
 impl<'a> Command<'a> {
     /// Reads a line. Its words stand between single spaces, and none is empty.
     pub fn parse(line: &'a str) -> Option<Command<'a>>
@@ -78,6 +94,10 @@ impl<'a> Command<'a> {
             "fault" => {
                 let (checksum, text) = named_text(arguments)?;
                 Some(Command::Fault { checksum, text })
+            }
+            "suggest" => {
+                let (part, text) = part_and_text(arguments)?;
+                Some(Command::Suggest { part, text })
             }
             "checksum" => Some(Command::Checksum {
                 text: only_word(arguments)?,

@@ -16,7 +16,7 @@ use line_program::{append, append_any};
 use std::alloc::{AllocError, Global};
 
 // The number of a refusal.
-fn edits_error_number(e: EditsError) -> u8
+pub(crate) fn edits_error_number(e: EditsError) -> u8
     ensures value { result ≡ number_of_edits_error e }
     ensures small { result < 100 }
 {

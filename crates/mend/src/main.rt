@@ -1,6 +1,7 @@
 //! Answers each line of standard input about mistyped texts.
 //!
-//! Below it: `bech32`, `bech32_calls`, `bech32_numbers`, `line_program`, `b32_replies`.
+//! Below it: `bech32`, `bech32_calls`, `bech32_suggest`, `bech32_numbers`, `line_program`,
+//! `b32_replies`.
 //! Standard: BIP-173; BIP-350.
 #![tactic(auto)]
 
@@ -12,6 +13,7 @@ mod laws;
 mod near;
 mod numbers;
 mod reply;
+mod suggest;
 
 use crate::reply::Commands;
 use line_program::{exit_code, run};

@@ -6,11 +6,11 @@ ghost use Rattle.bech32_near.specs.NearTexts.{AreNearTexts, IsNearestRefusal};
 ghost use Rattle.b32_replies.specs.Request.{code_of_name};
 ghost use Rattle.line_program.specs.Added.{AddsOrSaysNumber};
 ghost use Rattle.mend.specs.Numbers.{number_of_correct_error};
-ghost use Rattle.mend.specs.Reply.{IsNearTextsAnswer, IsNearTextsAtAnswer, IsNearTextsRefusal, SaysNear};
+ghost use Rattle.mend.specs.Reply.{IsNearTextsAnswer, IsNearTextsRefusal, SaysNear};
 
 use crate::command::errors_in;
 use crate::numbers::{BAD_WORD, NO_MEMORY};
-use b32_replies::{ChecksumName, locations_of_word};
+use b32_replies::ChecksumName;
 use bech32::{Bech32, Bech32m, CorrectError, Mended, nearest};
 use bech32_numbers::checked_error_number;
 use line_program::append_any;
@@ -103,27 +103,4 @@ pub fn near_texts(
         },
         Err(e) => Err(correct_error_number(e)),
     }
-}
-
-/// Adds the texts near one as [`near_texts`] does, where a word lists the locations of characters
-/// that are known to be wrong.
-pub fn near_texts_at(
-    alloc: Global,
-    checksum: ChecksumName,
-    text: &str,
-    locations: &str,
-    errors: &str,
-    out: &mut Vec<u8>,
-) -> Result<(), u8>
-    ensures answer { AddsOrSaysNumber
-        (IsNearTextsAtAnswer (code_of_name checksum) text.now locations.now errors.now)
-        result out.old.items out.new.items }
-    ensures small { IfErr result (λ number. number < 100) }
-    ensures room { OnOk result (vec_len out.new + 1 ≤ vec_capacity out.new) }
-    ensures capacity { vec_capacity out.old ≤ vec_capacity out.new }
-{
-    let Ok(given) = locations_of_word(locations) else {
-        return Err(BAD_WORD);
-    };
-    near_texts(alloc, checksum, text, given.as_slice(), errors, out)
 }

@@ -10,7 +10,10 @@ use crate::accepting::checksum;
 use crate::command::Command;
 use crate::edits::edits;
 use crate::fault::fault;
-use crate::near::{near_texts, near_texts_at};
+use crate::near::near_texts;
+use crate::numbers::BAD_WORD;
+use crate::suggest::suggest;
+use b32_replies::locations_of_word;
 use line_program::{Replies, end_reply, text_of_line};
 use std::alloc::Global;
 
@@ -41,12 +44,18 @@ impl Commands {
                 text,
                 locations,
                 errors,
-            } => near_texts_at(self.alloc, checksum, text, locations, errors, out),
+            } => {
+                let Ok(given) = locations_of_word(locations) else {
+                    return Err(BAD_WORD);
+                };
+                near_texts(self.alloc, checksum, text, given.as_slice(), errors, out)
+            }
             Command::Edits { checksum, text } => edits(self.alloc, checksum, text, out),
             Command::Fault { checksum, text } => {
                 fault(checksum, text, out);
                 Ok(())
             }
+            Command::Suggest { part, text } => suggest(self.alloc, part, text, out),
             Command::Checksum { text } => checksum(text, out),
         }
     }

@@ -2,7 +2,6 @@
 
 use bech32_block::PrintError;
 use bech32_gf::gf32::FromCharError;
-use std::alloc::AllocError;
 use thiserror::Error;
 
 /// Why there is no block for a name, a generator and a target.
@@ -26,37 +25,4 @@ pub enum BlockError {
     /// Memory ran out.
     #[error("out of memory")]
     Memory,
-}
-
-impl From<FromCharError> for BlockError {
-    ghost use Rattle.std.specs.Prelude.{◌≡◌};
-    ghost use Rattle.print_block.specs.declared.error.BlockError.TheVariants.{Character};
-
-    ghost from_gives = { λ e r. r ≡ Character e };
-
-    fn from(e: FromCharError) -> Self {
-        Self::Character(e)
-    }
-}
-
-impl From<PrintError> for BlockError {
-    ghost use Rattle.std.specs.Prelude.{◌≡◌};
-    ghost use Rattle.print_block.specs.declared.error.BlockError.TheVariants.{Print};
-
-    ghost from_gives = { λ e r. r ≡ Print e };
-
-    fn from(e: PrintError) -> Self {
-        Self::Print(e)
-    }
-}
-
-impl From<AllocError> for BlockError {
-    ghost use Rattle.std.specs.Prelude.{◌≡◌};
-    ghost use Rattle.print_block.specs.declared.error.BlockError.TheVariants.{Memory};
-
-    ghost from_gives = { λ _ r. r ≡ Memory };
-
-    fn from(_: AllocError) -> Self {
-        Self::Memory
-    }
 }

@@ -19,7 +19,10 @@ fn elements_of(alloc: Global, word: &[u8]) -> Result<Vec<Fe32>, BlockError>
 {
     let mut elements = Vec::new(alloc);
     for character in word {
-        let element = Fe32::from_char(*character as char)?;
+        let element = match Fe32::from_char(*character as char) {
+            Ok(element) => element,
+            Err(e) => return Err(BlockError::Character(e)),
+        };
         if elements.push(element).is_err() {
             return Err(BlockError::Memory);
         }
@@ -55,9 +58,14 @@ fn block_of_elements<E: NamedField + ExtensionField<BaseField = Fe32>>(
     if target.len() != generator.len() {
         return Err(BlockError::Target);
     }
-    let block = PrintImpl::<E>::new(alloc, name, generator, target)?;
-    let text = text_of(alloc, &block)?;
-    Ok(text)
+    let block = match PrintImpl::<E>::new(alloc, name, generator, target) {
+        Ok(block) => block,
+        Err(e) => return Err(BlockError::Print(e)),
+    };
+    match text_of(alloc, &block) {
+        Ok(text) => Ok(text),
+        Err(_) => Err(BlockError::Memory),
+    }
 }
 
 /// The block of the checksum of this name, with the generator and the target whose coefficients

@@ -33,12 +33,12 @@ fn says_sentences(rt: HostRuntime) {
         (2, b"a text or a human-readable part is not UTF-8"),
         (
             4,
-            b"the number of no checksum, an element above 31, or more than two errors",
+            b"the number of no checksum, an element above 31, or too many errors",
         ),
         (23, b"the text has no separator, `1`"),
         (33, b"the checksum is wrong"),
         (34, b"no correction of the data part mends the text"),
-        (45, b"the bits behind the program's bytes are not all zero"),
+        (45, b"the bits behind the last whole byte are not all zero"),
         (91, b"the lent memory did not suffice"),
         (92, b"a buffer is too small"),
     ];

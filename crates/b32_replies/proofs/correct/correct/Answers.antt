@@ -1,5 +1,4 @@
 use Rattle.std.proofs.Common.{◌≡◌, ℕ, List, [], ◌∷◌, ◌++◌, length, length-append, ap, ◌∙◌, arith, codes, refl, subst}
-use Rattle.std.proofs.lemmas.Result.{err_from_is_err_and}
 use Rattle.bech32_gf.specs.Fe32.{elements_of}
 use Rattle.bech32_gf.specs.declared.gf32.Fe32.{Fe32}
 use Rattle.bech32_hrp.specs.Hrp.{lowered}
@@ -20,16 +19,14 @@ of_variant : (code : Code) (text given : List ℕ) (answer variant : Correction 
     → IsListedInPlace code (singleton_bound 24 26) text given variant
 of_variant code text given answer variant e h = subst (λ (x : Correction (List (ℕ × Fe32)) (Unit {0})). IsListedInPlace code (singleton_bound 24 26) text given x) e h
 
-pub returns-in_err-correction-clause-answer : goal.returns-in_err-correction-clause-answer
-returns-in_err-correction-clause-answer c =
-    let p = err_from_is_err_and c.from_residual.result c.from_residual.ensures.1 in
-    rw p.1 (rw p.2 (says-refused (code_of_name c.args.checksum) c.args.text.now c.args.given.now c.in_err-correction.field-0.0 c.in_err-correction.ensures, refl))
+pub returns-in-Err-clause-answer : goal.returns-in-Err-clause-answer
+returns-in-Err-clause-answer c = (says-refused (code_of_name c.args.checksum) c.args.text.now c.args.given.now c.in-Err.e c.in-Err.ensures, refl)
 
 pub returns-in-Accepted-clause-answer : goal.returns-in-Accepted-clause-answer
 returns-in-Accepted-clause-answer c =
     let code = code_of_name c.args.checksum in
     let text = c.args.text.now in
-    let is : Accepts code text = of_variant code text c.args.given.now _ _ c.in-Accepted.is c.in_ok-correction.ensures in
+    let is : Accepts code text = of_variant code text c.args.given.now _ _ c.in-Accepted.is c.in-Ok.ensures in
     record {
       said = codes "fine";
       says = says-fine code text c.args.given.now is;
@@ -41,7 +38,7 @@ pub returns-in-Unexplained-clause-answer : goal.returns-in-Unexplained-clause-an
 returns-in-Unexplained-clause-answer c =
     let code = code_of_name c.args.checksum in
     let text = c.args.text.now in
-    let none : HasNoListing code (singleton_bound 24 26) text c.args.given.now = (of_variant code text c.args.given.now _ _ c.in-Unexplained.is c.in_ok-correction.ensures).0 in
+    let none : HasNoListing code (singleton_bound 24 26) text c.args.given.now = (of_variant code text c.args.given.now _ _ c.in-Unexplained.is c.in-Ok.ensures).0 in
     record {
       said = codes "none";
       says = says-none code text c.args.given.now none;
@@ -54,7 +51,7 @@ append_listing-requires-clause-small c =
     let code = code_of_name c.args.checksum in
     let text = c.args.text.now in
     let listing = c.in-Mended.listing in
-    let is : IsListingOf code (singleton_bound 24 26) text c.args.given.now listing = of_variant code text c.args.given.now _ _ c.in-Mended.is c.in_ok-correction.ensures in
+    let is : IsListingOf code (singleton_bound 24 26) text c.args.given.now listing = of_variant code text c.args.given.now _ _ c.in-Mended.is c.in-Ok.ensures in
     let m = mendable-from_listing code (singleton_bound 24 26) text c.args.given.now listing is in
     rw c.as_slice.ensures (locations-small code text listing m (text-size code text c.args.given.now listing (short-code c.args.checksum) is))
 
@@ -63,7 +60,7 @@ append_listing-requires-clause-room c =
     let code = code_of_name c.args.checksum in
     let text = c.args.text.now in
     let listing = c.in-Mended.listing in
-    let is : IsListingOf code (singleton_bound 24 26) text c.args.given.now listing = of_variant code text c.args.given.now _ _ c.in-Mended.is c.in_ok-correction.ensures in
+    let is : IsListingOf code (singleton_bound 24 26) text c.args.given.now listing = of_variant code text c.args.given.now _ _ c.in-Mended.is c.in-Ok.ensures in
     let few = listing-size code text c.args.given.now listing is in
     omega (
       arith,
@@ -82,7 +79,7 @@ append_mended-requires-clause-room c =
     let code = code_of_name c.args.checksum in
     let text = c.args.text.now in
     let listing = c.in-Mended.listing in
-    let is : IsListingOf code (singleton_bound 24 26) text c.args.given.now listing = of_variant code text c.args.given.now _ _ c.in-Mended.is c.in_ok-correction.ensures in
+    let is : IsListingOf code (singleton_bound 24 26) text c.args.given.now listing = of_variant code text c.args.given.now _ _ c.in-Mended.is c.in-Ok.ensures in
     let few = listing-size code text c.args.given.now listing is in
     let short = text-size code text c.args.given.now listing (short-code c.args.checksum) is in
     omega (
@@ -106,7 +103,7 @@ append_mended-requires-clause-inside c =
     let code = code_of_name c.args.checksum in
     let text = c.args.text.now in
     let listing = c.in-Mended.listing in
-    let is : IsListingOf code (singleton_bound 24 26) text c.args.given.now listing = of_variant code text c.args.given.now _ _ c.in-Mended.is c.in_ok-correction.ensures in
+    let is : IsListingOf code (singleton_bound 24 26) text c.args.given.now listing = of_variant code text c.args.given.now _ _ c.in-Mended.is c.in-Ok.ensures in
     let m = mendable-from_listing code (singleton_bound 24 26) text c.args.given.now listing is in
     rw c.as_slice-in-Mended.ensures (lowered m.hrp ++ (49 ∷ []), (elements_of m.data_part, ends-lowered text m.hrp m.data_part m.grammar, m.inside))
 
@@ -115,7 +112,7 @@ returns-in-Mended-clause-answer c =
     let code = code_of_name c.args.checksum in
     let text = c.args.text.now in
     let listing = c.in-Mended.listing in
-    let is : IsListingOf code (singleton_bound 24 26) text c.args.given.now listing = of_variant code text c.args.given.now _ _ c.in-Mended.is c.in_ok-correction.ensures in
+    let is : IsListingOf code (singleton_bound 24 26) text c.args.given.now listing = of_variant code text c.args.given.now _ _ c.in-Mended.is c.in-Ok.ensures in
     let m = mendable-from_listing code (singleton_bound 24 26) text c.args.given.now listing is in
     let few = listing-size code text c.args.given.now listing is in
     let short = mended-size code text listing m (short-code c.args.checksum) in

@@ -1,4 +1,4 @@
-use Rattle.std.proofs.Common.{List, ℕ, sym, subst, arith}
+use Rattle.std.proofs.Common.{List, ℕ, ◌++◌, option_to_list, sym, subst, arith}
 use Rattle.bech32_bits.specs.Bits.{to_fes}
 use Rattle.bech32_hrp.specs.HrpBytes.{hrp_bytes}
 use Rattle.bech32_checksum.specs.Encoded.{IsEncodedText}
@@ -10,7 +10,7 @@ pub returns : goal.returns
 returns g c =
     let code = g.Ck.Checksum.code in
     let hrp = hrp_bytes c.args.hrp.now in
-    let elements = to_fes c.args.bytes.now in
+    let elements = option_to_list c.args.version ++ to_fes c.args.bytes.now in
     let (text, is, put) = c.put_text_of_bytes.ensures in
     let size = length-encoded code hrp elements text is in
     subst (λ (t : List ℕ). IsEncodedText code hrp elements t)

@@ -15,6 +15,15 @@ returns-in-Bech32m-clause-answer g c = rw c.in-Encode.is (rw c.in-Bech32m.is c.e
 pub returns-in-Decode-clause-answer : goal.returns-in-Decode-clause-answer
 returns-in-Decode-clause-answer g c = rw c.in-Decode.is c.decode.ensures.answer
 
+pub returns-in-DecodeStrict-clause-answer : goal.returns-in-DecodeStrict-clause-answer
+returns-in-DecodeStrict-clause-answer g c = rw c.in-DecodeStrict.is c.decode_strict_by.ensures.answer
+
+pub returns-in-EncodeElements-clause-answer : goal.returns-in-EncodeElements-clause-answer
+returns-in-EncodeElements-clause-answer g c = rw c.in-EncodeElements.is c.encode_elements_by.ensures.answer
+
+pub returns-in-DecodeElements-clause-answer : goal.returns-in-DecodeElements-clause-answer
+returns-in-DecodeElements-clause-answer g c = rw c.in-DecodeElements.is c.decode_elements_by.ensures.answer
+
 pub returns-in-SegwitEncode-clause-answer : goal.returns-in-SegwitEncode-clause-answer
 returns-in-SegwitEncode-clause-answer g c = rw c.in-SegwitEncode.is c.segwit_encode.ensures.answer
 

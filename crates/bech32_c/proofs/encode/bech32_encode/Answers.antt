@@ -1,6 +1,6 @@
 use Rattle.std.proofs.Common.{length}
 use Rattle.bech32_calls.specs.Encode.{HasText, IsEncodeFault}
-use Rattle.bech32_calls.proofs.ByNumber.{no_fault_by}
+use Rattle.bech32_calls.proofs.ByNumber.{no_fault_of_texts}
 use Rattle.bech32_calls.proofs.Encoding.{no_encode_fault}
 use Rattle.bech32_c.proofs.encode.bech32_encode.Goals as goal
 
@@ -9,5 +9,5 @@ returns-in-Err-clause-accepts c has_text =
     let hrp = c.args.hrp.now in
     let bytes = c.args.bytes.now in
     let room = length c.args.text.now in
-    absurd (no_fault_by (λ code. HasText code hrp bytes room) (IsEncodeFault hrp bytes room) c.in-Err.refusal
+    absurd (no_fault_of_texts (λ code. HasText code hrp bytes room) (IsEncodeFault hrp bytes room) c.in-Err.refusal
     (λ code. no_encode_fault hrp bytes room code c.in-Err.refusal) c.args.checksum has_text c.in-Err.ensures.refused)

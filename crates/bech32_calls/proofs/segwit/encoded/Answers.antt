@@ -16,6 +16,6 @@ returns-clause-value c =
       is_hrp = c.in_ok-test_part.ensures;
       small = small;
       is_address = subst (λ (v : Fe32). IsLowerAddress hrp v program written) version_is
-          (address-from_text hrp version program written c.in_ok-address_length_of_part.ensures.0 is_text);
+          (address-from_text hrp version program written c.in-Ok.ensures.0 is_text);
       put = put;
     }

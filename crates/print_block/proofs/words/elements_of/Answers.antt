@@ -1,6 +1,5 @@
 use Rattle.std.proofs.Common.{◌≡◌, ◌+◌, ℕ, true, false, [], ◌∷◌, ◌++◌, get_or, take, subst, refl, rules}
 use Rattle.std.proofs.lemmas.List.{take_all, take_more}
-use Rattle.std.proofs.lemmas.Result.{err_from_is_err_and}
 use Rattle.print_block.specs.Words.{AreElementsOf}
 use Rattle.print_block.proofs.Elements.{elements_start, elements_next}
 use Rattle.print_block.proofs.words.elements_of.Goals as goal
@@ -17,16 +16,15 @@ loop-character-preserved c =
     let i : ℕ = c.loop-character.character-index in
     let item : ℕ = get_or word i 0 in
     let elements = c.loop-character.elements.items in
-    let x = c.in_ok-element.element in
+    let x = c.in-Ok.element in
     let more : take (i + 1) word ≡ take i word ++ (item ∷ []) = take_more word i 0 c.loop-character-test.true in
     let pushed : c.push.new.self.items ≡ elements ++ (x ∷ []) = search rules in
-    elements_next (take i word) (take (i + 1) word) elements c.push.new.self.items item x c.loop-character.invariant (c.in_ok-element.ensures.accepts.0 refl) c.in_ok-element.ensures.value more pushed
+    elements_next (take i word) (take (i + 1) word) elements c.push.new.self.items item x c.loop-character.invariant (c.in-Ok.ensures.accepts.0 refl) c.in-Ok.ensures.value more pushed
 
-pub returns-in_err-element-clause-refused : goal.returns-in_err-element-clause-refused
-returns-in_err-element-clause-refused c =
+pub returns-in-Err-clause-refused : goal.returns-in-Err-clause-refused
+returns-in-Err-clause-refused c =
     let i : ℕ = c.loop-character.character-index in
-    let p = err_from_is_err_and c.from_residual.result c.from_residual.ensures.1 in
-    rw p.1 (rw p.2 (λ all. refused (c.in_err-element.ensures.accepts.1 (all i 0 c.loop-character-test.true))))
+    λ all. refused (c.in-Err.ensures.accepts.1 (all i 0 c.loop-character-test.true))
 
 pub returns-clause-value : goal.returns-clause-value
 returns-clause-value c =

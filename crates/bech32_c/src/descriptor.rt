@@ -1,0 +1,135 @@
+//! Output descriptors: their checksums, and those that one edit makes of a text.
+
+ghost use Rattle.std.specs.Prelude.{◌≡◌, ◌≢◌, ◌<◌, ◌≤◌, ◌⊎◌, length, position, None, Some};
+ghost use Rattle.caller_memory.specs.Memory.{IsKept};
+ghost use Rattle.bech32_descriptor.specs.Descriptor.{IsCheckRefusal, IsDescriptor, is_stranger, stranger_in};
+ghost use Rattle.bech32_descriptor.specs.declared.error.CheckError.{CheckError as ACheckError};
+ghost use Rattle.descriptor_calls.specs.Checks.{IsPutFault, PutsChecksum, number_of_check, number_of_put};
+ghost use Rattle.descriptor_calls.specs.Mends.{IsMendFault, PutsFirstMends, PutsMends, number_of_mend};
+ghost use Rattle.descriptor_calls.specs.declared.checks.PutError.{PutError as APutError};
+ghost use Rattle.descriptor_calls.specs.declared.mends.MendRefusal.{MendRefusal as AMendRefusal};
+
+use bech32_descriptor::{CheckError, check};
+use caller_memory::Memory;
+use descriptor_calls::checks::{PutError, check_number, put_checksum};
+use descriptor_calls::mends::put_mends;
+
+/// Computes the checksum of a descriptor (BIP-380), which is given without `#` and checksum. Its
+/// eight characters are put at the front of `checksum`, and `checksum_length` is then 8.
+///
+/// # Errors
+///
+/// Answers the number of the first of: a byte that is no character of BIP-380 (80), with `place`
+/// the number of bytes before it; a buffer of less than eight bytes (92).
+#[unsafe(no_mangle)]
+pub extern "C" fn bech32_descriptor_checksum(
+    text: &[u8],
+    checksum: &mut [u8],
+    checksum_length: &mut usize,
+    place: &mut usize,
+) -> u32
+    ensures value { result ≡ 0 → PutsChecksum text.now checksum.old checksum.new
+        × (checksum_length.new ≡ 8) }
+    ensures accepts { position is_stranger text.now ≡ None → 8 ≤ length checksum.old
+        → result ≡ 0 }
+    ensures refused { result ≢ 0 → (e : APutError)
+        × IsPutFault text.now (length checksum.old) e × (result ≡ number_of_put e) }
+    ensures place { (result ≡ 80 → position is_stranger text.now ≡ Some place.new)
+        × (result ≢ 80 → place.new ≡ place.old) }
+    ensures same { result ≢ 0
+        → (checksum.new ≡ checksum.old) × (checksum_length.new ≡ checksum_length.old) }
+{
+    match put_checksum(text, checksum) {
+        Ok(()) => {
+            *checksum_length = 8;
+            0
+        }
+        Err(PutError::Character(i)) => {
+            *place = i;
+            80
+        }
+        Err(PutError::NoRoom) => 92,
+    }
+}
+
+/// Tests a descriptor with its checksum: characters of BIP-380, `#`, and the eight characters of
+/// the checksum, in lower case.
+///
+/// # Errors
+///
+/// Answers the number of the first of: a text that does not end in `#` and eight bytes (88); a byte
+/// that may not stand where it does (80), with `place` the number of bytes before the first such;
+/// a wrong checksum (33).
+#[unsafe(no_mangle)]
+pub extern "C" fn bech32_descriptor_check(text: &[u8], place: &mut usize) -> u32
+    ensures value { result ≡ 0 → IsDescriptor text.now }
+    ensures accepts { IsDescriptor text.now → result ≡ 0 }
+    ensures refused { result ≢ 0
+        → (e : ACheckError) × IsCheckRefusal text.now e × (result ≡ number_of_check e) }
+    ensures place { (result ≡ 80 → stranger_in text.now ≡ Some place.new)
+        × (result ≢ 80 → place.new ≡ place.old) }
+{
+    match check(text) {
+        Ok(()) => 0,
+        Err(e) => {
+            if let CheckError::InvalidCharacter(i) = e {
+                *place = i;
+            }
+            check_number(e)
+        }
+    }
+}
+
+/// Lists the descriptors other than this text that one edit makes of it, with at most `changed` of
+/// its characters changed, 0 or 1: a character is changed, two neighbours are swapped, a character
+/// is left out, or one is put in. Of each its kind is put at the front of `kinds` (1: swapped, 2:
+/// left out, 3: put in, 4: changed), two places at the front of `places`, those of two that are
+/// swapped, else the place twice, and the text that it makes, one behind another, at the front of
+/// `texts`; `count` is their number, which may be 0. A place is the number of bytes before it: in
+/// this text, but of one that is put in in the new one. Texts with one changed come first, then
+/// two swapped, one left out, one put in; within a kind the places rise, and at one place the bytes
+/// put there. They are worked out in `memory`.
+///
+/// # Errors
+///
+/// Answers the number of the first of: more than one to be changed (4); a text of more than 7,500
+/// bytes (89), both before any memory is taken; buffers that are too small (92), only where not all
+/// fit: then `count` is the number of all, and as many as fit in each of the three buffers are put
+/// there, the first. Where `memory` does not suffice, 91 in place of 0 or 92: then `memory` and the
+/// buffers are as they were; or `memory` had bytes and has none, and the buffers may have changed.
+/// With every other number `memory` is as it was.
+#[unsafe(no_mangle)]
+pub extern "C" fn bech32_descriptor_mend(
+    text: &[u8],
+    changed: usize,
+    memory: &mut Memory,
+    kinds: &mut [u8],
+    places: &mut [usize],
+    texts: &mut [u8],
+    count: &mut usize,
+) -> u32
+    ensures value { result ≡ 0 → PutsMends changed text.now kinds.old kinds.new
+        places.old places.new texts.old texts.new count.new }
+    ensures first { result ≡ 92 → PutsFirstMends changed text.now kinds.old kinds.new
+        places.old places.new texts.old texts.new count.new }
+    ensures accepts { changed ≤ 1 → length text.now ≤ 7500
+        → (result ≡ 0) ⊎ ((result ≡ 92) ⊎ (result ≡ 91)) }
+    ensures refused { result ≢ 0 → result ≢ 92 → (e : AMendRefusal)
+        × IsMendFault changed text.now e × (result ≡ number_of_mend e) }
+    ensures same { result ≢ 0 → result ≢ 92 → (count.new ≡ count.old)
+        × (((kinds.new ≡ kinds.old) × (places.new ≡ places.old) × (texts.new ≡ texts.old))
+        ⊎ ((result ≡ 91) × IsKept memory.old memory.new)) }
+    ensures memory { (memory.new ≡ memory.old)
+        ⊎ ((result ≡ 91) × IsKept memory.old memory.new) }
+{
+    match put_mends(memory, text, changed, kinds, places, texts) {
+        Ok(listed) => {
+            *count = listed.count;
+            if listed.fit {
+                return 0;
+            }
+            92
+        }
+        Err(refusal) => refusal.number(),
+    }
+}

@@ -1,0 +1,187 @@
+use crate::confidential::{bech32_liquid_decode, bech32_liquid_encode, bech32_liquid_nearest};
+use crate::tests::{BEFORE, LENGTH_BEFORE, holds, is_untouched, same};
+use caller_memory::Memory;
+use std::alloc::Global;
+use std::process::Abort;
+
+// A confidential address, and its parts.
+const ADDRESS: &[u8; 101] =
+    b"lq1qqf8er278e6nyvuwtgf39e6ewvdcnjupn9a86rzpx655y5lhkt0walu3djf9cklkxd3ryld97hu8h3xepw7sh2rlu7q45dcew5";
+
+const KEY: [u8; 33] = [
+    0x02, 0x4f, 0x91, 0xab, 0xc7, 0xce, 0xa6, 0x46, 0x71, 0xcb, 0x42, 0x62, 0x5c, 0xeb, 0x2e, 0x63,
+    0x71, 0x39, 0x70, 0x33, 0x2f, 0x4f, 0xa1, 0x88, 0x26, 0xd5, 0x28, 0x4a, 0x7e, 0xf6, 0x5b, 0xdd,
+    0xdf,
+];
+
+const PROGRAM: [u8; 20] = [
+    0xf2, 0x2d, 0x92, 0x4b, 0x8b, 0x7e, 0xc6, 0x6c, 0x46, 0x4f, 0xb4, 0xbe, 0xbf, 0x0f, 0x78, 0x9b,
+    0x21, 0x77, 0xa1, 0x75,
+];
+
+// Encodes into a buffer of this many bytes: the number that is returned, the length and the buffer.
+fn encoded(hrp: &[u8], version: u32, program: &[u8], room: usize) -> (u32, usize, [u8; 128]) {
+    let (mut count, mut buffer) = (LENGTH_BEFORE, [BEFORE; 128]);
+    let (front, _) = buffer.split_at_mut(room.min(128));
+    let number = bech32_liquid_encode(hrp, version, &KEY, program, front, &mut count);
+    (number, count, buffer)
+}
+
+// Decodes into buffers of so many bytes, which stay as they were; the number that is returned.
+fn refused(rt: &impl Abort, text: &[u8], hrp_room: usize, room: usize) -> u32 {
+    let (mut hrp, mut key, mut program) = ([BEFORE; 83], [BEFORE; 33], [BEFORE; 32]);
+    let (mut hrp_count, mut version, mut count) = (LENGTH_BEFORE, 77, LENGTH_BEFORE);
+    let (part, _) = hrp.split_at_mut(hrp_room.min(83));
+    let (found, _) = program.split_at_mut(room.min(32));
+    let number = bech32_liquid_decode(
+        text,
+        part,
+        &mut hrp_count,
+        &mut version,
+        &mut key,
+        found,
+        &mut count,
+    );
+    is_untouched(rt, &hrp, hrp_count);
+    is_untouched(rt, &program, count);
+    same(rt, &(version, key), &(77, [BEFORE; 33]));
+    number
+}
+
+#[test]
+fn confidential_addresses_both_ways(rt: HostRuntime) {
+    let (number, count, buffer) = encoded(b"lq", 0, &PROGRAM, 101);
+    same(&rt, &number, &0);
+    holds(&rt, &buffer, count, ADDRESS);
+    let (mut hrp, mut key, mut program) = ([BEFORE; 83], [BEFORE; 33], [BEFORE; 32]);
+    let (mut hrp_count, mut version, mut count) = (LENGTH_BEFORE, 77, LENGTH_BEFORE);
+    let number = bech32_liquid_decode(
+        ADDRESS,
+        &mut hrp,
+        &mut hrp_count,
+        &mut version,
+        &mut key,
+        &mut program,
+        &mut count,
+    );
+    same(&rt, &(number, version, key), &(0, 0, KEY));
+    holds(&rt, &hrp, hrp_count, b"lq");
+    holds(&rt, &program, count, &PROGRAM);
+}
+
+#[test]
+fn refuses_confidential_addresses(rt: HostRuntime) {
+    let rows: [(&[u8], u32, &[u8], usize, u32); 9] = [
+        (b"\xff", 32, &PROGRAM, 101, 4),
+        (b"\xff", 17, &PROGRAM, 101, 2),
+        (b"", 17, &PROGRAM, 101, 11),
+        (b"lq", 17, &[], 101, 52),
+        (b"lq", 16, &[], 101, 70),
+        (b"lq", 0, &[7], 0, 46),
+        (b"lq", 0, &[7; 41], 0, 47),
+        (b"lq", 0, &[7; 33], 0, 48),
+        (b"lq", 0, &PROGRAM, 100, 92),
+    ];
+    for (hrp, version, program, room, want) in rows {
+        let (number, count, buffer) = encoded(hrp, version, program, room);
+        same(&rt, &number, &want);
+        is_untouched(&rt, &buffer, count);
+    }
+    // The third text begins with version 1.
+    let rows: [(&[u8], usize, usize, u32); 12] = [
+        (b"\xff", 83, 32, 2),
+        (b"lq1b", 83, 32, 21),
+        (b"lq1p8wnk3sw45mype5gtnj3ff88n9g", 83, 32, 70),
+        (b"lq1", 83, 32, 42),
+        (b"lq13", 83, 32, 43),
+        (b"lq1q", 83, 32, 32),
+        (b"lq1qqqqqqqqqqqq", 83, 32, 33),
+        (
+            b"lq1qqf8er278e6nyvuwtgf39e6ewvdcnjupn9a86rzpx655y5lhkt0walu3djf9cklkxd3ryld97hu8h3xepw7sh2rlu7q45dcewq",
+            83,
+            32,
+            33,
+        ),
+        (ADDRESS, 1, 32, 92),
+        (ADDRESS, 83, 19, 92),
+        (ADDRESS, 0, 0, 92),
+        (b"", 83, 32, 23),
+    ];
+    for (text, hrp_room, room, want) in rows {
+        same(&rt, &refused(&rt, text, hrp_room, room), &want);
+    }
+}
+
+// The number of bytes that `include/bech32.h` states.
+const MEMORY: usize = 24576 + 1024 * 101;
+
+// What is returned of the texts near one, with so much memory, which comes back, and room for one
+// text; the count and the buffer.
+fn near(
+    rt: &impl Abort,
+    alloc: Global,
+    size: usize,
+    text: &[u8],
+    erasures: &[usize],
+    errors: usize,
+) -> (u32, usize, [u8; 101]) {
+    let mut memory = Memory::leaked(alloc, size).expect(rt, "memory");
+    let (mut count, mut buffer) = (LENGTH_BEFORE, [BEFORE; 101]);
+    let number = bech32_liquid_nearest(
+        text,
+        erasures,
+        errors,
+        &mut memory,
+        &mut buffer,
+        &mut count,
+    );
+    same(rt, &memory.with_size().0, &size);
+    (number, count, buffer)
+}
+
+// The address with other characters at these locations, counted from the end.
+fn mistyped(wrong: &[usize]) -> [u8; 101] {
+    let mut text = *ADDRESS;
+    for location in wrong {
+        let location = *location;
+        if location <= 100 {
+            let place = 100 - location;
+            text[place] = if text[place] == b'q' { b'p' } else { b'q' };
+        }
+    }
+    text
+}
+
+#[test]
+fn mends_confidential_addresses(rt: HostRuntime) {
+    // Where the address has other characters, the erasures, and the errors that are looked for.
+    let rows: [(&[usize], &[usize], usize); 5] = [
+        (&[], &[], 0),
+        (&[97, 50, 3], &[], 3),
+        (&[97, 50, 3, 4, 5, 6], &[3, 4, 5, 6, 50, 97], 0),
+        (&[97, 50, 3, 4, 5], &[3, 4, 5], 2),
+        (&[97, 50, 3, 4, 5, 6, 7], &[3, 4, 5, 6, 7], 2),
+    ];
+    for (wrong, erasures, errors) in rows {
+        let text = mistyped(wrong);
+        let (number, count, buffer) = near(&rt, rt.alloc(), MEMORY, &text, erasures, errors);
+        same(&rt, &(number, count), &(0, 1));
+        same(&rt, &buffer, ADDRESS);
+    }
+}
+
+#[test]
+fn refuses_to_mend_confidential_addresses(rt: HostRuntime) {
+    let rows: [(&[u8], usize, usize, u32); 5] = [
+        (b"\xff", 4, 0, 4),
+        (b"\xff", 3, 0, 2),
+        (b"Lq1q", 0, 0, 22),
+        (b"lq1qqqqqqqqqqq", 0, 0, 32),
+        (ADDRESS, 3, 0, 91),
+    ];
+    for (text, errors, size, want) in rows {
+        let (number, count, buffer) = near(&rt, rt.alloc(), size, text, &[], errors);
+        same(&rt, &number, &want);
+        is_untouched(&rt, &buffer, count);
+    }
+}
