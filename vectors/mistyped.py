@@ -3,6 +3,7 @@
     mistyped.py check LINES REPLIES    prints where the model's reply is another
     mistyped.py make COUNT SEED        COUNT lines of most kinds, each with a tab and the reply
     mistyped.py every SEED             lines of every length, number of texts, erasures and errors
+    mistyped.py suggest COUNT SEED     COUNT lines of suggest of each kind
     mistyped.py plain COUNT SEED       compares COUNT lists of near texts with those of plain trying
 
 Near texts are found by trying every pattern of few errors, with the values at the erasures that go with
@@ -14,6 +15,7 @@ fault is read off the text by cases. Nothing is shared with the library.
 import random
 import sys
 from itertools import combinations, product as choices
+from math import comb
 from pathlib import Path
 
 import model
@@ -141,6 +143,61 @@ def near_edits(code, text):
     return list(said.values())
 
 
+# --- what may have been meant ---
+
+UNREADABLE = "?"
+# A text with more characters is no address, whichever edit mends it, nor is one with fewer behind the separator.
+MOST_TYPED, LEAST_DATA = 91, 10
+
+
+def false_answers(size, unread, errors):
+    """How many of the texts that are tried for one two checksums of six characters accept by chance."""
+    others = sum(comb(size - unread, count) * 31 ** count for count in range(errors + 1))
+    by_edits = 0 if unread else (size - 1) + size + 32 * (size + 1)
+    return 2 * (32 ** unread * others + by_edits) / 32 ** 6
+
+
+def errors_looked_for(size, unread):
+    """The most errors for which a false answer is expected for one text in 100 at most; None for none."""
+    if size < LEAST_DATA or unread > MOST_ERASED:
+        return None
+    return next((errors for errors in (2, 1, 0) if false_answers(size, unread, errors) <= 1 / 100), None)
+
+
+def is_address_of(hrp, text):
+    try:
+        return model.segwit_decode(text)[0].lower() == hrp.lower()
+    except Refusal:
+        return False
+
+
+def mending(typed, text):
+    """What is done to the typed text, by its length or by doing it, and the first place at which the two differ."""
+    place = next((place for place, (a, b) in enumerate(zip(typed, text)) if a != b), min(len(typed), len(text)))
+    swapped = typed[:place] + typed[place:place + 2][::-1] + typed[place + 2:]
+    if len(text) != len(typed):
+        return "left-out" if len(text) < len(typed) else "put-in", place
+    return "unchanged" if text == typed else "swapped" if text == swapped else "replaced", place
+
+
+def suggested(hrp, typed):
+    """The addresses of a network that may have been meant, each with what is done to the typed text."""
+    model.test_hrp(hrp)
+    if len(typed.encode()) > MOST_TYPED:
+        return []
+    text = typed.replace(UNREADABLE, "0")
+    _, elements = model.parts(text)
+    unread = [len(typed) - 1 - place for place, it in enumerate(typed) if it == UNREADABLE]
+    errors = errors_looked_for(len(elements), len(unread))
+    if errors is None:
+        return []
+    tried = [other for code in CODES.values() for other in near(code, text, unread, errors)]
+    if not unread:
+        tried += [said.split(" ")[2] for code in CODES.values() for said in near_edits(code, text)]
+    found = dict.fromkeys(other for other in tried if is_address_of(hrp, other))
+    return ["{} {} {}".format(*mending(typed.lower(), other), other) for other in found]
+
+
 # --- the place of a fault ---
 
 def size(text):
@@ -214,6 +271,8 @@ def answer(line):
         return fault(CODES[arguments[0]], arguments[1])
     if name == "checksum" and len(arguments) == 1:
         return "ok " + named(arguments[0])
+    if name == "suggest" and len(arguments) == 2:
+        return " ".join(["ok"] + suggested(*arguments))
     raise Refusal(3)
 
 
@@ -449,6 +508,92 @@ def every(seed):
     return 0
 
 
+class Typed(Lines):
+    """Lines of suggest: what people may do to an address, and what is no address."""
+
+    NETWORKS = ["bc", "tb", "bcrt", "ltc", "a"]
+
+    def address(self, hrp):
+        version = self.random.choice([0, 0, 1, 1, self.random.randint(2, 16)])
+        length = self.random.choice([20, 32]) if version < 2 else self.random.choice([2, 40, self.random.randint(2, 40)])
+        return model.segwit_encode(hrp, version, self.random.randbytes(length))
+
+    def with_marks(self, text, count):
+        letters = list(text)
+        for place in self.random.sample(range(text.rfind("1") + 1, len(text)), count):
+            letters[place] = UNREADABLE
+        return "".join(letters)
+
+    def line(self, hrp, text):
+        word = hrp.upper() if self.one_in(8) else hrp
+        return f"suggest {word} {text.upper() if self.one_in(4) else text}"
+
+    def wrong(self, count):
+        hrp = self.random.choice(self.NETWORKS)
+        return self.line(hrp, self.changed(self.address(hrp), count)[0])
+
+    def right(self):
+        return self.wrong(0)
+
+    def one_wrong(self):
+        return self.wrong(1)
+
+    def two_wrong(self):
+        return self.wrong(2)
+
+    def three_wrong(self):
+        return self.wrong(3)
+
+    def marked(self):
+        hrp = self.random.choice(self.NETWORKS)
+        return self.line(hrp, self.with_marks(self.address(hrp), self.random.randint(1, 5)))
+
+    def marked_and_wrong(self):
+        hrp = self.random.choice(self.NETWORKS)
+        text, _ = self.changed(self.address(hrp), self.random.randint(1, 2))
+        return self.line(hrp, self.with_marks(text, self.random.randint(1, 3)))
+
+    def slip(self):
+        hrp = self.random.choice(self.NETWORKS)
+        text = self.address(hrp)
+        return self.line(hrp, next(it for it in iter(lambda: self.edited(text), None) if it != text))
+
+    def other_network(self):
+        one, other = self.random.sample(self.NETWORKS, 2)
+        return self.line(one, self.changed(self.address(other), self.random.randint(0, 2))[0])
+
+    def no_address(self):
+        """Texts of a right checksum that are no addresses, and of none."""
+        hrp = self.random.choice(self.NETWORKS)
+        elements = [self.random.randrange(32) for _ in range(self.random.randint(0, 84))]
+        text = model.encoded(self.random.choice([model.BECH32, model.BECH32M]), hrp, elements)
+        return self.line(hrp, self.changed(text, self.random.randint(0, 7))[0])
+
+    def odd(self):
+        hrp = self.random.choice(self.NETWORKS)
+        text = self.mistyped(self.with_marks(self.address(hrp), self.random.randint(0, 2)), self.random.randint(1, 3))
+        return self.random.choice([
+            f"suggest {hrp} {self.refused()}", f"suggest {self.random.choice(ODD_PARTS)} {text}", f"suggest {hrp} {text}",
+            f"suggest {hrp} {text.ljust(self.random.randint(90, 93), 'q')}", f"suggest {hrp} {text} 1", f"suggest {text}",
+            f"suggest {hrp} ?{text}", f"suggest {hrp} {UNREADABLE * 3}",
+        ])
+
+
+TYPED = ["right", "one_wrong", "two_wrong", "three_wrong", "marked", "marked_and_wrong", "slip", "other_network",
+         "no_address", "odd"]
+
+
+def typed(count, seed):
+    for kind in TYPED:
+        maker, made = Typed(f"typed {kind} {seed}"), 0
+        while made < count:
+            line = getattr(maker, kind)()
+            if not set("\n\t") & set(line):
+                print_with_reply(line)
+                made += 1
+    return 0
+
+
 def check(lines, replies):
     pairs = list(zip(Path(lines).read_bytes().split(b"\n"), Path(replies).read_text().split("\n")))
     wrong = [(line, want) for line, want in pairs[:-1] if reply(line) != want]
@@ -479,6 +624,8 @@ def main(words):
         return make(int(words[1]), words[2])
     if len(words) == 2 and words[0] == "every":
         return every(words[1])
+    if len(words) == 3 and words[0] == "suggest":
+        return typed(int(words[1]), words[2])
     if len(words) == 3 and words[0] == "plain":
         return plain(int(words[1]), words[2])
     return __doc__.strip()

@@ -190,6 +190,38 @@ def decode(text):
     return hrp, to_bytes(elements[:-6])[0]
 
 
+def test_padding(padding):
+    """Refuses the bits that elements leave over behind their bytes, if they are more than four or not all zero."""
+    if len(padding) > 4:
+        raise Refusal(44)
+    if any(padding):
+        raise Refusal(45)
+
+
+def decode_elements(code, text):
+    """The human-readable part and the elements of a text that a checksum accepts."""
+    hrp, elements = parts(text)
+    test_checksum(code, text)
+    return hrp, elements[:len(elements) - len(code.generator)]
+
+
+def decode_strict(code, text):
+    """The human-readable part and the bytes of a text that a checksum accepts and that is the only one of them."""
+    hrp, elements = decode_elements(code, text)
+    data, padding = to_bytes(elements)
+    test_padding(padding)
+    return hrp, data
+
+
+def encode_elements(code, hrp, values):
+    text_length = len(hrp) + 1 + len(values) + len(code.generator)
+    if text_length > code.length:
+        raise Refusal(51)
+    if any(value > 31 for value in values):
+        raise Refusal(67)
+    return encoded(code, hrp, list(values))
+
+
 # --- segwit addresses (BIP-173, BIP-350) ---
 
 def segwit_code(version):
@@ -228,10 +260,7 @@ def segwit_decode(text):
     if not elements[:-6]:
         raise Refusal(42)
     program, padding = to_bytes(elements[1:-6])
-    if len(padding) > 4:
-        raise Refusal(44)
-    if any(padding):
-        raise Refusal(45)
+    test_padding(padding)
     test_program(version, len(program))
     return hrp, version, program
 
@@ -396,6 +425,16 @@ def answer(line):
     if name == "decode" and len(arguments) == 1:
         hrp, data = decode(arguments[0])
         return f"ok {hrp.lower()} {word_of(data)}"
+    if name == "decode-strict" and len(arguments) == 2 and arguments[0] in CODES:
+        hrp, data = decode_strict(CODES[arguments[0]], arguments[1])
+        return f"ok {hrp.lower()} {word_of(data)}"
+    if name == "encode-elements" and len(arguments) == 3 and arguments[0] in CODES:
+        values = bytes_of(arguments[2])
+        test_hrp(arguments[1])
+        return "ok " + encode_elements(CODES[arguments[0]], arguments[1], values)
+    if name == "decode-elements" and len(arguments) == 2 and arguments[0] in CODES:
+        hrp, values = decode_elements(CODES[arguments[0]], arguments[1])
+        return f"ok {hrp.lower()} {word_of(bytes(values))}"
     if name == "segwit-encode" and len(arguments) == 3:
         version, program = number(arguments[1], 31), bytes_of(arguments[2])
         test_hrp(arguments[0])

@@ -159,6 +159,22 @@ class Maker:
             words[-1] = self.random.choice(["", ",", "1,", "1023", "01", "1,2,x", words[-1] + ",0"])
         return " ".join(words)
 
+    def elements(self):
+        """Elements in and out, and texts that may be the only ones of their bytes."""
+        name = self.random.choice(list(model.CODES))
+        kind = self.random.randrange(3)
+        if kind == 0:
+            most = 1016 if self.one_in(12) else 60
+            values = [self.random.randrange(32) for _ in range(self.random.randint(0, most))]
+            if values and self.one_in(6):
+                values[self.random.randrange(len(values))] = self.random.randint(32, 255)
+            return f"encode-elements {name} {self.part()} {model.word_of(bytes(values))}"
+        text = self.text((0, 0, 1, 2))
+        if self.one_in(2):
+            text = self.text((0,)) if self.one_in(2) else model.encoded(
+                model.CODES[name], "bc", [self.random.randrange(32) for _ in range(self.random.randint(0, 24))])
+        return f"{'decode-strict' if kind == 1 else 'decode-elements'} {name} {text}"
+
     def odd(self):
         kind = self.random.randrange(4)
         if kind == 0:
@@ -172,7 +188,7 @@ class Maker:
         return self.mistyped(line, self.random.randint(1, 3))
 
 
-KINDS = ["encode", "decode", "segwit_encode", "segwit_decode", "correct", "odd"]
+KINDS = ["encode", "decode", "elements", "segwit_encode", "segwit_decode", "correct", "odd"]
 
 
 def make(count, seed, folder):

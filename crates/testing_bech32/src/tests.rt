@@ -1,6 +1,8 @@
 mod compare;
 mod correction;
+mod elements;
 mod every_length;
+mod long;
 mod messages;
 pub mod paths;
 mod plain;

@@ -1,5 +1,4 @@
-//! Tests of `codex32`, of `caller_memory`, by which it serves C programs, of the replies and runs
-//! of `b32`, and of the whole library under hostile use.
+//! Tests of `codex32`.
 #![tactic(auto)]
 
 #[cfg(test)]

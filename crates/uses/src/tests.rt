@@ -1,7 +1,9 @@
 mod addresses;
 mod codex;
 mod compare;
+mod confidential;
 mod corrections;
+mod descriptors;
 mod first;
 mod front;
 mod lazy;

@@ -19,8 +19,8 @@ fn hex_value(digit: u8) -> u8
     }
 }
 
-// The bytes of pairs of hex digits.
-fn bytes_of(alloc: Global, text: &str) -> Result<Vec<u8>, AllocError> {
+/// The bytes of pairs of hex digits.
+pub fn bytes_of(alloc: Global, text: &str) -> Result<Vec<u8>, AllocError> {
     let mut bytes = Vec::new(alloc);
     for pair in text.as_bytes().chunks_exact(2) {
         if let [high, low] = pair {
@@ -36,8 +36,8 @@ fn push_byte(alloc: Global, text: &mut String, byte: u8) -> Result<(), AllocErro
     text.push_str(&pair)
 }
 
-// The hex digits of bytes, and `-` for none.
-fn shown_bytes(alloc: Global, bytes: &[u8]) -> Result<String, AllocError> {
+/// The hex digits of bytes, and `-` for none.
+pub fn shown_bytes(alloc: Global, bytes: &[u8]) -> Result<String, AllocError> {
     if bytes.is_empty() {
         return String::from_str(alloc, "-");
     }

@@ -8,8 +8,8 @@ use bech32_gf::gf32::Fe32;
 use std::alloc::{AllocError, Global};
 use testing_tools::codes::Degree13;
 
-// The numbers of a word, and none for `-`.
-fn numbers(alloc: Global, word: &str) -> Result<Vec<usize>, AllocError> {
+/// The numbers of a word, and none for `-`.
+pub fn numbers(alloc: Global, word: &str) -> Result<Vec<usize>, AllocError> {
     let mut list = Vec::new(alloc);
     for part in word.split(',') {
         if let Ok(number) = part.parse::<usize>() {

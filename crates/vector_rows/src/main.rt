@@ -11,17 +11,27 @@
 //! - `block`, a field, a generator and a target: the block that declares a checksum, or the number
 //!   of the refusal;
 //! - `bits`, bytes in hex and elements: the elements of the bytes, and the bytes of the elements
-//!   with a last part dropped and with it filled.
+//!   with a last part dropped and with it filled;
+//! - `liquid`, `decode` and a text; or `encode`, a human-readable part, a witness version, a
+//!   blinding key and a program in hex; or `near`, a text, erasures and a number of errors: the
+//!   parts of a confidential address, the address, the texts near one by Blech32, or the number of
+//!   a refusal;
+//! - `descriptor` and a text: whether it is a descriptor with its checksum, `none` where it ends in
+//!   none, or `at` the place of a character that may not stand there; and each descriptor that one
+//!   edit makes of it, with the edit, `=` a character changed or as above, and its place from 0;
+//! - `checksum` and a descriptor without one: its checksum.
 //!
 //! Elements are their characters, the constant coefficient first; a generator goes from its highest
 //! coefficient down, without the leading one; `-` stands for nothing. What the rows in `stdin` give
 //! was made twice over and equal, and is in `stdout`: by a reference model written from the
 //! definitions alone, and by the Rust crate bech32 0.12.0; the edits, which that crate does not
-//! have, by two models.
+//! have, by two models; Liquid's addresses and descriptors by one model each.
 #![tactic(auto)]
 
 mod bits;
 mod blocks;
+mod confidential;
+mod descriptors;
 mod edits;
 mod elements;
 mod fields;

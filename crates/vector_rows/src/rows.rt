@@ -1,6 +1,6 @@
 //! The reply to a row.
 
-use crate::{bits, blocks, edits, fields, listings, registers};
+use crate::{bits, blocks, confidential, descriptors, edits, fields, listings, registers};
 use std::alloc::{AllocError, Global};
 
 /// What is printed for a row that cannot be read.
@@ -25,6 +25,9 @@ fn reply_to(alloc: Global, words: &[&str]) -> Result<String, AllocError> {
         "edits" => edits::reply(alloc, words),
         "block" => blocks::reply(alloc, words),
         "bits" => bits::reply(alloc, words),
+        "liquid" => confidential::reply(alloc, words),
+        "descriptor" => descriptors::reply(alloc, words),
+        "checksum" => descriptors::checksum_reply(alloc, words),
         _ => no_row(alloc),
     }
 }

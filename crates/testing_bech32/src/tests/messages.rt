@@ -1,10 +1,13 @@
 use crate::tests::compare::prints;
 use bech32::primitives::decode::{
-    CharError, CheckedHrpstringError, ChecksumError, CodeLengthError, UncheckedHrpstring,
-    UncheckedHrpstringError,
+    CharError, CheckedHrpstringError, ChecksumError, CodeLengthError, PaddingError,
+    UncheckedHrpstring, UncheckedHrpstringError,
 };
 use bech32::primitives::hrp;
-use bech32::{Bech32m, CorrectError, DecodeError, EditsError, EncodeError, EncodeIoError};
+use bech32::{
+    Bech32m, CorrectError, DecodeError, EditsError, ElementsError, EncodeError, EncodeIoError,
+    TextError,
+};
 use std::alloc::Global;
 use std::process::Abort;
 use std::{fmt, io};
@@ -103,4 +106,45 @@ fn tells_why_a_text_is_not_corrected(rt: HostRuntime) {
     let message = "character error: mixed-case strings not allowed";
     prints(&rt, alloc, &EditsError::Refused(parse), message);
     prints(&rt, alloc, &EditsError::Memory, "out of memory");
+}
+
+#[test]
+fn tells_why_a_text_is_not_the_only_one(rt: HostRuntime) {
+    let alloc = rt.alloc();
+    let mixed = TextError::Parse(UncheckedHrpstringError::Char(CharError::MixedCase));
+    let message = "parsing failed: character error: mixed-case strings not allowed";
+    prints(&rt, alloc, &mixed, message);
+    let message = "no valid checksum: the checksummed string is not a valid length";
+    prints(
+        &rt,
+        alloc,
+        &TextError::Checksum(ChecksumError::InvalidLength),
+        message,
+    );
+    let message = "not the only text of its bytes: the data payload is padded with non-zero bits";
+    prints(
+        &rt,
+        alloc,
+        &TextError::Padding(PaddingError::NonZero),
+        message,
+    );
+    prints(&rt, alloc, &TextError::Memory, "out of memory");
+}
+
+#[test]
+fn tells_why_elements_are_not_written(rt: HostRuntime) {
+    let alloc = rt.alloc();
+    let length = CodeLengthError {
+        encoded_length: 1024,
+        code_length: 1023,
+    };
+    let message = "encode error: encoded length 1024 exceeds maximum (code length) 1023";
+    prints(&rt, alloc, &ElementsError::TooLong(length), message);
+    prints(
+        &rt,
+        alloc,
+        &ElementsError::Element(2),
+        "no element stands at 2",
+    );
+    prints(&rt, alloc, &ElementsError::Memory, "out of memory");
 }

@@ -1,6 +1,6 @@
 //! The calls that answer a text, a human-readable part, a block or a decision.
 
-use crate::tests::hostile::turns::{Answer, Call, each_refused, wants_of};
+use crate::tests::turns::{Answer, Call, each_refused, wants_of};
 use bech32::hrp::{BC, TB};
 use bech32::primitives::checksum::{PrintError, detects_four_in};
 use bech32::primitives::decode::SegwitHrpstringError;

@@ -1,11 +1,10 @@
-//! The whole library under hostile use: memory that is refused, iterators that misbehave, crafted
-//! residues.
-
 mod adaptors;
 mod calls;
+mod compare;
 mod correction;
 mod global;
 mod heaps;
+mod lent_memory;
 mod mistyped;
 mod residues;
 mod shares;

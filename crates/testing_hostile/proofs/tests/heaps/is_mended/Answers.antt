@@ -2,7 +2,7 @@ use Rattle.std.proofs.Common.{[], rules}
 use Rattle.bech32_checksum.specs.Code.{bech32}
 use Rattle.bech32_correction.specs.Mistyped.{IsListingOf}
 use Rattle.bech32_correction.proofs.MendedText.{placed-from_listing}
-use Rattle.testing_codex32.proofs.tests.hostile.heaps.is_mended.Goals as goal
+use Rattle.testing_hostile.proofs.tests.heaps.is_mended.Goals as goal
 
 pub mended_by-requires : goal.mended_by-requires
 mended_by-requires c =

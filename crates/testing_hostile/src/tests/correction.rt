@@ -2,7 +2,7 @@
 
 ghost use Rattle.std.specs.Prelude.{◌<◌, length};
 
-use crate::tests::hostile::turns::{Answer, Call, each_refused};
+use crate::tests::turns::{Answer, Call, each_refused};
 use bech32::primitives::LfsrIter;
 use bech32::primitives::correction::{self, Corrector, ErrorIterator};
 use bech32::primitives::decode::{CheckedHrpstring, CheckedHrpstringError};

@@ -1,6 +1,6 @@
 //! Mistyped texts, and the texts near to them.
 
-use crate::tests::hostile::turns::{Answer, Call, each_refused};
+use crate::tests::turns::{Answer, Call, each_refused};
 use bech32::{
     Bech32, CorrectError, Correction, EditsError, Mended, NearEdit, NearTexts, correct_in,
     near_edits_in, nearest_in,

@@ -1,6 +1,6 @@
 //! Strings that share a secret: those that are made, and those that others give.
 
-use crate::tests::hostile::turns::{Answer, Call, each_refused};
+use crate::tests::turns::{Answer, Call, each_refused};
 use bech32::Fe32;
 use codex32::{
     Codex32Error, DeriveError, EncodeError, Header, Share, derive_in, encode_in, encode_payload_in,

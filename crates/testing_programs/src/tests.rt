@@ -1,0 +1,4 @@
+mod compare;
+mod replies;
+mod runs;
+mod strings;
