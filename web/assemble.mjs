@@ -35,9 +35,9 @@ const modulesSource = () => filled(read('src', 'modules.js'), {
 // ---- the pages
 
 // The files that a page's script is made of, each behind those that it imports.
-const LIBRARY = ['reasons', 'instance', 'lists', 'calls', 'library', 'modules'].map((name) => `src/${name}.js`);
+const LIBRARY = ['reasons', 'instance', 'lists', 'calls', 'descriptors', 'library', 'modules'].map((name) => `src/${name}.js`);
 const SAYING = ['words', 'sentences', 'tried', 'links', 'typed', 'parts', 'others', 'beginnings', 'pair', 'chance', 'reading', 'kinds',
-  'saying', 'codex32', 'offers', 'texts', 'strings', 'shares', 'answer', 'shown', 'asking', 'fields'];
+  'saying', 'codex32', 'offers', 'texts', 'liquid', 'descriptors', 'strings', 'shares', 'answer', 'shown', 'asking', 'fields'];
 const PAGES = {
   'index.html': { template: 'page.html', styles: ['page.css'], scripts: [...SAYING, 'copy', 'page'] },
   'share.html': {
@@ -99,7 +99,7 @@ const manifest = () => {
 
 const packageFiles = () => {
   const files = { 'modules.js': modulesSource(), 'package.json': manifest(), 'README.md': read('README.md') };
-  for (const name of ['index.js', 'index.d.ts', 'library.js', 'calls.js', 'lists.js', 'instance.js', 'reasons.js']) {
+  for (const name of ['index.js', 'index.d.ts', 'library.js', 'calls.js', 'lists.js', 'descriptors.js', 'instance.js', 'reasons.js']) {
     files[name] = read('src', name);
   }
   const licence = path.join(HERE, '..', 'LICENSE');

@@ -3,7 +3,9 @@
 import { asciiLower } from '../src/reasons.js';
 import { CODEX32, isBegun } from './beginnings.js';
 import { ofCodex32, partsOf } from './codex32.js';
-import { CHECKSUMS } from './kinds.js';
+import { checksumsFor } from './kinds.js';
+import { isConfidential, ofLiquid } from './liquid.js';
+import { ofDescriptor } from './descriptors.js';
 import { isScript, otherKind, secretWithin, seedWords, severalTexts, untested } from './others.js';
 import { LINK, OTHER } from './sentences.js';
 import { ofStrings } from './shares.js';
@@ -12,22 +14,25 @@ import { ofRightText, ofWrongText } from './texts.js';
 import { tried } from './tried.js';
 import { cleaned } from './typed.js';
 
-// Longer texts are not read at all. Strings of a set are more than one text.
-const MOST = 4096, MOST_OF_SET = 8192;
+// Longer texts are not read at all.
+const MOST = 8192;
 
 const tooLong = ({ length }) => ({ tone: 'wrong', verdict: OTHER.tooLong(length), notes: [], said: [] });
 
 /** Whether a checksum of Bech32 or Bech32m accepts a text. */
 export const isRight = (library) => (text) =>
-  text !== '' && CHECKSUMS.some(([checksum]) => tried(() => library.check(checksum, text)).value);
+  text !== '' && checksumsFor(text).some(([checksum]) => tried(() => library.check(checksum, text)).value);
 
 const BEGUN = { tone: 'open', verdict: OTHER.begun, said: [] };
+
+const ofOther = (library, text) => (isScript(text) ? ofDescriptor(library, text) : otherKind(text));
 
 /** What is said of one text. What it is is found before anything is mended. */
 export const ofText = (library, text) => {
   if (isBegun(text)) return BEGUN;
   if (asciiLower(text).startsWith(CODEX32)) return ofCodex32(library, text);
-  return untested(text) ?? ofRightText(library, text) ?? otherKind(text) ?? ofWrongText(library, text);
+  if (isConfidential(text)) return ofLiquid(library, text);
+  return untested(text) ?? ofRightText(library, text) ?? ofOther(library, text) ?? ofWrongText(library, text);
 };
 
 const ofSeveral = (library, typed) => {
@@ -50,9 +55,8 @@ const ofTexts = (library, texts, isLink) => {
  * was put in.
  */
 export const answer = (library, typed) => {
-  if (typed.length > MOST_OF_SET) return tooLong(typed);
+  if (typed.length > MOST) return tooLong(typed);
   const whole = isScript(typed) ? null : secretWithin(typed) ?? seedWords(typed) ?? ofSeveral(library, typed) ?? severalTexts(typed);
-  if (!whole && typed.length > MOST) return tooLong(typed);
   if (whole) return { notes: [], ...whole };
   const { texts, notes, isLink } = cleaned(typed, isRight(library)), found = ofTexts(library, texts, isLink);
   return found && { notes, ...found };

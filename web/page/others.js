@@ -7,23 +7,21 @@ import { OTHER, WARNINGS } from './sentences.js';
 const other = ({ verdict, said }, more = []) => ({ tone: 'other', verdict, said: [...said, ...more] });
 const warning = (verdict, warnings, said = []) => ({ tone: 'warning', verdict, said, warnings });
 
-// ---- what has no checksum of the library
+// ---- what has no checksum
 
-const OFFER = /^ln([ori])1/i, CONFIDENTIAL = /^(?:lq|el|tlq)1/i;
+const OFFER = /^ln([ori])1/i;
 
 // The first character of an offer that cannot be part of it: parts of an offer are joined by `+`.
 const strangeOf = (text, from) =>
   Array.from(text).map((character, at) => ({ character, at }))
     .find(({ character, at }) => at >= from && character !== '+' && !ALPHABET.includes(asciiLower(character)));
 
-/** What is said of a text that has no checksum, or one that the library does not have, by its beginning; or null. */
+/** What is said of a text that has no checksum, by its beginning; or null. */
 export const untested = (text) => {
   const [start, kind] = OFFER.exec(text) ?? [];
-  if (start) {
-    const strange = strangeOf(text, start.length), said = strange ? [OTHER.strange(strange.at, strange.character)] : [];
-    return { ...other(OTHER.offer(asciiLower(kind)), said), text, marked: strange ? [strange.at] : [] };
-  }
-  return CONFIDENTIAL.test(text) ? { ...other(OTHER.confidential), text, marked: [] } : null;
+  if (!start) return null;
+  const strange = strangeOf(text, start.length), said = strange ? [OTHER.strange(strange.at, strange.character)] : [];
+  return { ...other(OTHER.offer(asciiLower(kind)), said), text, marked: strange ? [strange.at] : [] };
 };
 
 // ---- texts of other kinds
@@ -40,7 +38,8 @@ const WITHIN = [
   [new RegExp(`(?<![0-9A-Za-z])(?=[0-9A-Za-z]*[a-z])(?=[0-9A-Za-z]*[A-Z])${WIF}(?![0-9A-Za-z])`), 'a private key'],
 ];
 
-const withinOf = (text) => WITHIN.map(([form, what]) => ({ at: text.search(form), what })).find(({ at }) => at >= 0) ?? null;
+/** The secret that stands in a text, and where, or null. */
+export const withinOf = (text) => WITHIN.map(([form, what]) => ({ at: text.search(form), what })).find(({ at }) => at >= 0) ?? null;
 
 // A script expression, as descriptors have it, and a code before a colon.
 const SCRIPT = /^[a-z][a-z0-9_]*\(/i, CODE = /^([a-z][a-z0-9+.-]{0,40}:)/i;
@@ -51,12 +50,9 @@ const CODES = {
   'ectest:': 'an eCash address', 'etoken:': 'an eCash address', 'nexa:': 'a Nexa address', 'nexatest:': 'a Nexa address',
 };
 
-const ofScript = (text) =>
-  (withinOf(text) ? warning(OTHER.descriptorSecret, [WARNINGS.wallet]) : other(OTHER.descriptor));
 const ofCode = (code) => other(CODES[asciiLower(code)] ? OTHER.code(code, CODES[asciiLower(code)]) : OTHER.unknownCode(code));
 
 const FORMS = [
-  [SCRIPT, (_, text) => ofScript(text)],
   [OLDER, ([, digit]) => other(OTHER.older(digit))],
   [/^0x/i, () => other(OTHER.hex)],
   [/^S[PMTN][0-9A-HJKMNP-TV-Z]{37,39}$/, () => other(OTHER.stacks)],
@@ -66,13 +62,13 @@ const FORMS = [
   [CODE, ([, code]) => ofCode(code)],
 ];
 
-/** Whether a text is a script expression: its commas and brackets stand between no texts. */
+/** Whether a text is a script expression, as descriptors are: its commas and brackets stand between no texts. */
 export const isScript = (text) => SCRIPT.test(text.trim());
 
 /** What is said of a text that is of another kind, or null. */
 export const otherKind = (text) => {
   const [form, said] = FORMS.find(([it]) => it.test(text)) ?? [];
-  return form ? said(form.exec(text), text) : null;
+  return form ? said(form.exec(text)) : null;
 };
 
 // ---- secrets

@@ -64,14 +64,7 @@ export const OTHER = {
     said: [`So a mistake in it cannot be found, and this page can neither test nor correct it. ${COMPARE}`],
   }),
   strange: (at, character) => `Character ${place(at)}, ${shown(character)}, cannot be part of it.`,
-  confidential: {
-    verdict: 'This begins like a confidential Liquid address.',
-    said: ['Its checksum is Blech32. This page does not read it, so it can neither test nor correct this address.', COMPARE],
-  },
-  descriptor: {
-    verdict: 'This looks like a descriptor: it tells a wallet how its addresses are made.',
-    said: [OWN_CHECKSUM, 'Whoever has it can see all addresses of the wallet.'],
-  },
+  descriptor: { verdict: 'This looks like a descriptor: it tells a wallet how its addresses are made.' },
   descriptorSecret: 'This looks like a descriptor with a private key in it.',
   code: (code, name) => ({ verdict: `This begins like ${name} (“${code}”).`, said: [OWN_CHECKSUM, COMPARE] }),
   unknownCode: (code) => ({
@@ -99,7 +92,7 @@ export const OTHER = {
   several: (count, kind) => ({
     verdict: `${counted(count, '', kind)} stand here, and this page reads one at a time.`, said: ['Choose one of them:'],
   }),
-  tooLong: (length) => `This has ${grouped(length)} characters, which is too long: a text has at most 1,023, an address 90 and `
+  tooLong: (length) => `This has ${grouped(length)} characters, which is too long: a text has at most 7,089, an address 90 and `
     + 'a codex32 string 127.',
   long: (what, length, most) => ({
     verdict: `This begins like ${what}, and has ${grouped(length)} characters.`,
@@ -129,6 +122,7 @@ export const VALID = {
   begins: (what) => `It begins like ${what}.`,
   invoice: 'This page tests its checksum, but not its amount or its signature.',
   alone: 'This page tests its checksum and nothing else.',
+  long: (most) => `It has more than ${grouped(most)} characters: its checksum may be right by chance although a few of them are wrong.`,
   upper: 'age accepts this key only in upper case.',
   unknown: (part, size) => `It is a text with the part “${part}” and ${these(size, 'one character', `${grouped(size)} characters`)} of data.`,
   // A checksum that is right, and a text that is none of its kind all the same.
@@ -152,6 +146,37 @@ export const LENGTH = {
     `This begins like ${what}: ${counted(count, 'character', 'characters').toLowerCase()} so far, of ${listed(lengths.map(grouped), 'or')}.`,
   missing: (count) => `If this is all of it, ${numeral(count)} ${these(count, 'character is', 'characters are')} missing.`,
   more: (count) => `${counted(count, 'character may be', 'characters may be')} too many.`,
+};
+
+// ---- descriptors
+
+export const DESCRIPTOR = {
+  valid: 'This is a descriptor, and its checksum is right.',
+  right: 'Its checksum is right.',
+  tested: 'This page tests its checksum, and reads nothing else of it.',
+  seen: 'Whoever has it can see all addresses of the wallet.',
+  none: 'It does not end in “#” and a checksum, so a mistake in it cannot be found.',
+  wouldBe: (sum) => `If it is right as it stands, its checksum is “#${sum}”.`,
+  wrong: 'As typed, its checksum is wrong.',
+  mended: (count) => `${withChanges(count)} its checksum is right. Compare the addresses of the wallet.`,
+  nothing: 'No change of one character makes it right. Nor does leaving one out, adding one, or swapping two.',
+  tooLong: 'It is too long for this page to correct.',
+};
+
+// ---- confidential addresses of Liquid
+
+export const LIQUID = {
+  valid: 'This is a valid confidential address of Liquid.',
+  tested: 'This page tests its Blech32 checksum and its lengths, but not whether its blinding key is one.',
+  key: 'Blinding key:',
+  program: (size) => `Witness version 0, program of ${size} bytes:`,
+  otherVersion: {
+    verdict: 'This begins like a confidential Liquid address of another version than 0.',
+    said: ['This page does not read its checksum, so it can neither test nor correct this address.', COMPARE],
+  },
+  wrong: 'As typed, the Blech32 checksum is wrong.',
+  mended: (count) => `${withChanges(count)} it is a valid confidential address of Liquid.`,
+  nothing: 'More than three characters are wrong, counting two unreadable ones as one.',
 };
 
 // ---- corrections
@@ -218,6 +243,7 @@ export const NONE = {
   verdict: 'No correction was found.',
   wrong: 'As typed, the checksum is wrong for both Bech32m and Bech32.',
   wrongFor: (name) => `As typed, the ${name} checksum is wrong.`,
+  long: (most) => `This page corrects texts of at most ${grouped(most)} characters, so it does not correct this.`,
   unsure: 'Write ? for each character that you are not sure of. Then more can be restored.',
   tooMany: (most) => `At most ${numeral(most)} unreadable characters can be restored.`,
   tried: (errors, unread, isAddress) => {

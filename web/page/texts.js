@@ -1,6 +1,6 @@
 // What the page says of a Bech32 or Bech32m text.
 import { ADDRESS_PARTS, isAddressLike, nearBeginnings } from './beginnings.js';
-import { CHECKSUMS, checksumsOf, kindOf, lengthOf, slipSaid } from './kinds.js';
+import { CHECKSUMS, LONG, LONG_CHECKSUMS, SHORT, checksumsFor, checksumsOf, kindOf, lengthOf, slipSaid } from './kinds.js';
 import { MOST_UNREAD, errorsFor, offersByEdit, offersFor } from './offers.js';
 import { faultsOf, readingOf, sizeOf, unreadSaid } from './reading.js';
 import { mended, refusal, unfinished, unmended } from './saying.js';
@@ -15,6 +15,9 @@ const verdictOf = (name, { isAddress, known }) => {
 
 const secretOf = ({ known }) => (known?.isSecret ? { warnings: [WARNINGS.key], isSecret: true } : {});
 
+// Of a long text nothing is known of how many wrong characters a checksum tells.
+const longSaid = ({ length }) => (length > SHORT ? [VALID.long(SHORT)] : []);
+
 // A text of a known kind with a right checksum that is none of that kind. One of Bech32 may lack a `q` before its last `p`.
 const brokenText = (library, text, name, { known, why }) => {
   const offers = offersByEdit(library, readingOf(text, '0'));
@@ -25,12 +28,12 @@ const brokenText = (library, text, name, { known, why }) => {
 
 /** What is said of a text that a checksum accepts, or null. */
 export const ofRightText = (library, text) => {
-  for (const [checksum, name] of CHECKSUMS) {
+  for (const [checksum, name] of checksumsFor(text)) {
     const { value } = tried(() => library.check(checksum, text));
     if (!value) continue;
     const kind = kindOf(library, text, value, name), { isBroken, known, said, facts } = kind;
     if (isBroken) return brokenText(library, text, name, kind);
-    if (!known?.isSecret) return { tone: 'right', verdict: verdictOf(name, kind), said, facts, text };
+    if (!known?.isSecret) return { tone: 'right', verdict: verdictOf(name, kind), said: [...said, ...longSaid(text)], facts, text };
     return { tone: 'warning', verdict: VALID.secret(known.what, name), said, warnings: [WARNINGS.key], isSecret: true };
   }
   return null;
@@ -82,11 +85,15 @@ const mendedText = (library, it, offers) => {
   return mended(offers, isTold ? faults : wrong);
 };
 
-// Texts of known kinds may be longer than the library reads.
-const MOST = 1023;
-const longText = (it) => {
-  const { verdict, said } = OTHER.long(it.known.what, it.characters.length, MOST);
-  return { tone: 'other', verdict, said, ...secretOf(it) };
+// Texts of known kinds may be longer than the library corrects, or than it reads.
+const longText = (library, text, it) => {
+  if (it.characters.length > LONG) {
+    const { verdict, said } = OTHER.long(it.known.what, it.characters.length, LONG);
+    return { tone: 'other', verdict, said, ...secretOf(it) };
+  }
+  const { refused } = tried(() => library.check(LONG_CHECKSUMS[0][0], text)), said = [NONE.long(SHORT), VALID.begins(it.known.what)];
+  if (refused.code !== 'WRONG_CHECKSUM') return { ...refusal(text, refused, [], it.unread), ...secretOf(it) };
+  return { tone: 'wrong', verdict: wrongSaid(it), said, text, marked: it.unread, ...secretOf(it) };
 };
 
 // The front of a text of a known kind that has a fixed length, with no fault so far, or null.
@@ -101,7 +108,7 @@ const begunText = (text, it) => {
 /** What is said of a text that no checksum accepts. */
 export const ofWrongText = (library, text) => {
   const it = readingOf(text, '0');
-  if (it.known && !it.known.network && it.characters.length > MOST) return longText(it);
+  if (it.known && !it.known.network && it.characters.length > SHORT) return longText(library, text, it);
   const offers = offersFor(library, it);
   if (offers.length) return mendedText(library, it, offers);
   const first = tried(() => library.check('bech32m', text)).refused;

@@ -1,19 +1,22 @@
 // The functions of include/bech32.h and include/codex32.h: each returns `{ number }`, where the number is that of a
 // refusal, or 0 and with it what the function wrote.
 import { Instance } from './instance.js';
-import { LIST_REGIONS, listed, nearEditsOf, nearestOf } from './lists.js';
+import { LIST_REGIONS, SUGGEST_REGIONS, liquidNearestOf, listed, listedBeside, nearEditsOf, nearestOf, suggestionsOf } from './lists.js';
 import { ALPHABET } from './reasons.js';
 
-/** The numbers of the checksums. */
+/** The numbers of the checksums by which texts are mended, and of all. */
 export const CHECKSUMS = { bech32: 1, bech32m: 2 };
+export const ALL_CHECKSUMS = { ...CHECKSUMS, longBech32: 3, longBech32m: 4 };
 
 /** A text of more bytes is refused without a call: it is too long for each of them. */
-export const TEXT_ROOM = 4096;
+export const TEXT_ROOM = 8192;
 
 const TEXT_TOO_LONG = 31, ADDRESS_TOO_LONG = 41, CODEX32_BAD_LENGTH = 82;
 
 // Sizes that are always large enough, as the headers have them.
 const MAX_TEXT = 1023, MAX_HRP = 83, MAX_BYTES = 634, MAX_SEGWIT_TEXT = 90, MAX_SEGWIT_PROGRAM = 40;
+const MAX_LIQUID_TEXT = 201, MAX_LIQUID_PROGRAM = 32, LIQUID_KEY = 33;
+const MAX_LONG_TEXT = 7089, MAX_LONG_BYTES = 4425, MAX_LONG_ELEMENTS = 7081;
 const MAX_CODEX32 = 127, MAX_CODEX32_BYTES = 64, IDENTIFIER = 4;
 const CODEX32_MEMORY = 16384 + 8 * MAX_CODEX32;
 
@@ -30,13 +33,13 @@ const MAX_LISTED = 8;
 
 // A human-readable part of more bytes is too long, and so is each text of more bytes of data. What does not fit here is
 // left out, and the refusal is the same.
-const HRP_ROOM = 96, BYTES_ROOM = 1024;
+const HRP_ROOM = 96, BYTES_ROOM = MAX_LONG_TEXT;
 
 const SIZE = 8;
 
 const BECH32_REGIONS = {
   text: TEXT_ROOM, hrp: HRP_ROOM, bytes: BYTES_ROOM, erasures: SIZE * MAX_TEXT,
-  hrpOut: MAX_HRP, hrpLength: SIZE, out: MAX_TEXT, outLength: SIZE, version: SIZE,
+  hrpOut: MAX_HRP, hrpLength: SIZE, out: MAX_LONG_TEXT, outLength: SIZE, version: SIZE, place: SIZE, key: LIQUID_KEY,
   locations: SIZE * MAX_LISTED, values: MAX_LISTED, ...LIST_REGIONS,
 };
 // An identifier of more bytes is none, of more bytes there is no string, and more random bytes are too many. What does not
@@ -70,7 +73,7 @@ export const bech32Calls = (module) => {
     encode(checksum, hrp, bytes) {
       const hrpLength = it.putText('hrp', hrp).length, length = it.putBytes('bytes', bytes);
       const number = it.call('bech32_encode', checksum, p('hrp'), hrpLength, p('bytes'), length, p('out'),
-        BigInt(MAX_TEXT), p('outLength'));
+        BigInt(MAX_LONG_TEXT), p('outLength'));
       return number ? { number } : { number, text: textOut() };
     },
     decode(text) {
@@ -126,6 +129,54 @@ export const bech32Calls = (module) => {
     nearEdits(checksum, text) {
       if (!it.putText('text', text).isWhole) return { number: TEXT_TOO_LONG };
       return listed(module, it, BECH32_REGIONS, nearEditsOf(checksum, text));
+    },
+    /** A text that is the only one of what it is decoded to: its human-readable part and its bytes. */
+    decodeStrict(checksum, text) {
+      const { length, isWhole } = it.putText('text', text);
+      if (!isWhole) return { number: TEXT_TOO_LONG };
+      const number = it.call('bech32_decode_strict', checksum, p('text'), length, p('hrpOut'), BigInt(MAX_HRP), p('hrpLength'),
+        p('out'), BigInt(MAX_LONG_BYTES), p('outLength'));
+      if (number) return { number };
+      return { number, hrp: it.text('hrpOut', it.size('hrpLength')), bytes: it.copy('out', it.size('outLength')) };
+    },
+    decodeElements(checksum, text) {
+      const { length, isWhole } = it.putText('text', text);
+      if (!isWhole) return { number: TEXT_TOO_LONG };
+      const number = it.call('bech32_decode_elements', checksum, p('text'), length, p('hrpOut'), BigInt(MAX_HRP),
+        p('hrpLength'), p('out'), BigInt(MAX_LONG_ELEMENTS), p('outLength'));
+      if (number) return { number };
+      return { number, hrp: it.text('hrpOut', it.size('hrpLength')), elements: it.copy('out', it.size('outLength')) };
+    },
+    encodeElements(checksum, hrp, elements) {
+      const hrpLength = it.putText('hrp', hrp).length, length = it.putBytes('bytes', elements);
+      const number = it.call('bech32_encode_elements', checksum, p('hrp'), hrpLength, p('bytes'), length, p('place'), p('out'),
+        BigInt(MAX_LONG_TEXT), p('outLength'));
+      return number ? { number, place: it.size('place') } : { number, text: textOut() };
+    },
+    /** A key of 33 bytes. */
+    liquidEncode(hrp, version, key, program) {
+      const hrpLength = it.putText('hrp', hrp).length, length = it.putBytes('bytes', program);
+      it.putBytes('key', key);
+      const number = it.call('bech32_liquid_encode', p('hrp'), hrpLength, version, p('key'), p('bytes'), length, p('out'),
+        BigInt(MAX_LIQUID_TEXT), p('outLength'));
+      return number ? { number } : { number, text: textOut() };
+    },
+    liquidDecode(text) {
+      const { length, isWhole } = it.putText('text', text);
+      if (!isWhole) return { number: TEXT_TOO_LONG };
+      const number = it.call('bech32_liquid_decode', p('text'), length, p('hrpOut'), BigInt(MAX_HRP), p('hrpLength'),
+        p('version'), p('key'), p('out'), BigInt(MAX_LIQUID_PROGRAM), p('outLength'));
+      if (number) return { number };
+      const hrp = it.text('hrpOut', it.size('hrpLength')), key = it.copy('key', LIQUID_KEY);
+      return { number, hrp, version: it.number('version'), key, program: it.copy('out', it.size('outLength')) };
+    },
+    liquidNearest(text, erasures, errors) {
+      if (!it.putText('text', text).isWhole) return { number: TEXT_TOO_LONG };
+      return listed(module, it, BECH32_REGIONS, liquidNearestOf(text, erasuresOf(erasures), errors));
+    },
+    suggest(text, hrp) {
+      if (!it.putText('text', text).isWhole) return { number: 0, found: [] };
+      return listedBeside(module, SUGGEST_REGIONS, suggestionsOf(text, hrp));
     },
     wipe: () => it.wipe(),
   };

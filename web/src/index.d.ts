@@ -1,14 +1,23 @@
 /** Bech32 is that of BIP-173, Bech32m that of BIP-350. */
 export type Checksum = 'bech32' | 'bech32m';
 
+/**
+ * The same for texts of up to 7,089 characters, as invoices, nostr and age have them; a text of up to 1,023 has the same checksum
+ * by both. Above that nothing is promised of wrong characters, and no text is mended: what a wrong character leaves 1,200
+ * characters before the end, one 177 before it leaves too.
+ */
+export type AnyChecksum = Checksum | 'longBech32' | 'longBech32m';
+
 /** Why a text, or what is to become one, is refused. */
 export type Code =
   | 'HRP_EMPTY' | 'HRP_TOO_LONG' | 'HRP_NOT_ASCII' | 'HRP_INVALID' | 'HRP_MIXED_CASE' | 'INVALID_CHARACTER'
   | 'MIXED_CASE' | 'NO_SEPARATOR' | 'TEXT_TOO_LONG' | 'NO_CHECKSUM' | 'WRONG_CHECKSUM' | 'ADDRESS_TOO_LONG'
   | 'NO_DATA' | 'BAD_VERSION' | 'PADDING_TOO_LONG' | 'PADDING_NOT_ZERO' | 'PROGRAM_TOO_SHORT' | 'PROGRAM_TOO_LONG'
   | 'PROGRAM_NOT_V0' | 'ENCODED_TOO_LONG' | 'ENCODED_BAD_VERSION' | 'ENCODED_ADDRESS_TOO_LONG' | 'BAD_SIZE'
-  | 'TOO_FEW_SHARES' | 'OTHER_SET' | 'INDEX_TWICE' | 'CONTRADICTION' | 'BAD_COUNT' | 'BAD_RANDOM' | 'NOT_MS'
-  | 'BAD_LENGTH' | 'BAD_THRESHOLD' | 'BAD_SHARE_INDEX' | 'BAD_IDENTIFIER' | 'NO_SHARE_INDEX' | 'BITS_LEFT_OVER';
+  | 'TOO_FEW_SHARES' | 'OTHER_SET' | 'INDEX_TWICE' | 'CONTRADICTION' | 'BAD_COUNT' | 'BAD_RANDOM' | 'BAD_ELEMENT'
+  | 'UNSUPPORTED_VERSION' | 'NO_BLINDING_KEY' | 'NOT_IN_DESCRIPTOR' | 'NOT_MS' | 'BAD_LENGTH' | 'BAD_THRESHOLD'
+  | 'BAD_SHARE_INDEX' | 'BAD_IDENTIFIER' | 'NO_SHARE_INDEX' | 'BITS_LEFT_OVER' | 'NO_DESCRIPTOR_CHECKSUM'
+  | 'DESCRIPTOR_TOO_LONG';
 
 /** A refusal. Its `message` is a sentence with the figures and the character at fault. */
 export class Refused extends Error {
@@ -24,10 +33,16 @@ export class Refused extends Error {
 /** A module stopped without an answer and was started anew. No call does that unless the engine has a fault. */
 export class Stopped extends Error {}
 
+/** The characters of the elements 0 to 31, in lower case. */
+export const ALPHABET: string;
+
 /** Whether the modules were lowered to 32-bit memory, a step that is not proved. */
 export const isLowered: boolean;
 
-/** A character that is to be changed: `from` stands at `place` of the text, from 0 on, and `to` is right. */
+/**
+ * A character that is to be changed: `from` stands at `place` of the text, from 0 on, and `to` is right. `from` is `?` of one
+ * that cannot be read.
+ */
 export interface Change { readonly place: number; readonly from: string; readonly to: string }
 
 /**
@@ -37,28 +52,51 @@ export interface Change { readonly place: number; readonly from: string; readonl
 export interface Correction { readonly text: string; readonly changes: readonly Change[] }
 
 /** The text of bytes under a human-readable part, in lower case. Throws `Refused`. */
-export function encode(checksum: Checksum, hrp: string, bytes: Uint8Array): string;
-
-/** A text that Bech32m or Bech32 accepts. Bits behind the last whole byte are dropped. Throws `Refused`. */
-export function decode(text: string): { checksum: Checksum; hrp: string; bytes: Uint8Array };
-
-/** The parts of a text that a checksum accepts, without the checksum itself. Throws `Refused`. */
-export function check(checksum: Checksum, text: string): { hrp: string; data: string };
+export function encode(checksum: AnyChecksum, hrp: string, bytes: Uint8Array): string;
 
 /**
- * The one correction of a text, where twice the wrong characters, with those at `places`, are three at most; null where
- * there is none. `places` are those of characters that are known to be wrong or that cannot be read, from 0 on: put any
- * character of the alphabet there, such as `q`. Only the data part is corrected. Throws `Refused` where more than the
- * checksum is wrong.
+ * A text that Bech32m or Bech32 accepts. Bits behind the last whole byte are dropped: what identifies something is decoded by
+ * `decodeStrict`, which accepts one spelling of it. Throws `Refused`.
+ */
+export function decode(text: string): { checksum: Checksum; hrp: string; bytes: Uint8Array };
+
+/**
+ * A text that a checksum accepts, and that is, in its case, the only one by it of its human-readable part and its bytes:
+ * `encode` writes it of them, in lower case. Bits behind the last whole byte that are more than four, or not all zero, are
+ * refused. Decode so what identifies something, as an account or a key: else it has several spellings. Throws `Refused`.
+ */
+export function decodeStrict(checksum: AnyChecksum, text: string): { hrp: string; bytes: Uint8Array };
+
+/**
+ * The elements of a text that a checksum accepts, 0 to 31 each, without those of the checksum. This reads what is not bytes
+ * alone, as an address of silent payments (BIP-352), whose first element is a version, or an invoice (BOLT 11). Throws
+ * `Refused`.
+ */
+export function decodeElements(checksum: AnyChecksum, text: string): { hrp: string; elements: Uint8Array };
+
+/**
+ * The text of elements, 0 to 31 each, in lower case. The elements of bytes are their bits, five at a time, the highest first,
+ * with zeros behind the last. Throws `Refused`, with the `place` of the first element above 31.
+ */
+export function encodeElements(checksum: AnyChecksum, hrp: string, elements: Uint8Array): string;
+
+/** The parts of a text that a checksum accepts, without the checksum itself. Throws `Refused`. */
+export function check(checksum: AnyChecksum, text: string): { hrp: string; data: string };
+
+/**
+ * The one correction of a text, where twice the wrong characters, with those that are known to be wrong, are three at most;
+ * null where there is none. Known to be wrong are the characters at `places`, from 0 on, and each `?` behind the last `1`, which
+ * cannot be read. Only the data part is corrected. Throws `Refused` where more than the checksum is wrong.
  */
 export function correct(checksum: Checksum, text: string, places?: Iterable<number>): Correction | null;
 
 /**
  * All texts that the checksum accepts and that differ from this one in at most `errors` characters of the data part (0 to
- * 2; 2 where it is left out) outside `places`; a right text is the first of its own. Texts of at most 89 characters with
- * two wrong ones and no `places` have one at most, the right one. No list where `places` has more than three. In
- * the library, two errors and three places take 0.4 ms at 90 characters and 55 ms at 1,000, where 14,500 texts are near;
- * texts that fill more than 16 KB are searched for twice. Throws `Refused`, and `RangeError` where 256 MB do not suffice.
+ * 2; 2 where it is left out) beside those that are known to be wrong, as of `correct`; a right text is the first of its own.
+ * Texts of at most 89 characters with two wrong ones and none known have one at most, the right one. No list where more than
+ * three are known to be wrong. In the library, two errors and three places take 0.4 ms at 90 characters and 55 ms at 1,000,
+ * where 14,500 texts are near; texts that fill more than 16 KB are searched for twice. Throws `Refused`, and `RangeError` where
+ * 256 MB do not suffice.
  */
 export function nearest(
   checksum: Checksum, text: string, places?: Iterable<number>, errors?: 0 | 1 | 2,
@@ -88,7 +126,21 @@ export interface NearEdit { readonly text: string; readonly edit: Edit }
  */
 export function nearEdits(checksum: Checksum, text: string): readonly NearEdit[];
 
+/**
+ * An address that may have been meant, in the case of the text that was typed, and what makes it of that: `changes` of
+ * characters, in rising order, each `?` with them, or one `edit`; neither where the text is an address as it was typed.
+ */
+export interface Suggestion { readonly text: string; readonly changes: readonly Change[]; readonly edit: Edit | null }
+
 export const segwit: {
+  /**
+   * Did you mean? The addresses of the network of a human-readable part that someone may have meant who typed a text, in which
+   * each `?` is a character that cannot be read. Tried are the texts with up to two other characters, as many as are unlikely to
+   * be right by chance beside what cannot be read, and if there is no `?`, those that one edit makes. Of texts that are no
+   * mistyped addresses, at most one in 100 gets an answer. It is a guess: show it, and let people compare it with the source
+   * before it is paid to. Throws `Refused`.
+   */
+  suggest(text: string, hrp: string): readonly Suggestion[];
   /** The address of a witness version, from 0 to 16, and a program. Throws `Refused`. */
   encode(hrp: string, version: number, program: Uint8Array): string;
   /**
@@ -96,6 +148,62 @@ export const segwit: {
    * `Refused`.
    */
   decode(text: string): { hrp: string; version: number; program: Uint8Array };
+};
+
+/**
+ * A text with a right checksum, and what is done to a mistyped one to make it: two neighbours are `swapped`, a character is left
+ * out (`leftOut`) or put in (`putIn`), or one is `changed`. `places` are one, or two that are swapped, from 0 on, in the
+ * mistyped text, but of `putIn` in the new one; `from` is what stands there before, nothing of `putIn`, and `to` what stands
+ * there then, nothing of `leftOut`.
+ */
+export interface MendedDescriptor {
+  readonly text: string;
+  readonly kind: 'swapped' | 'leftOut' | 'putIn' | 'changed';
+  readonly places: readonly number[];
+  readonly from: string;
+  readonly to: string;
+}
+
+/**
+ * Output descriptors (BIP-380). What one says is not read. It may hold private keys: the memory of the module is wiped after each
+ * call, and the strings are yours.
+ */
+export const descriptor: {
+  /** The checksum of a descriptor without one, eight characters: `#` and these stand behind it. Throws `Refused`. */
+  checksum(text: string): string;
+  /** Tests the checksum of a descriptor, and returns the descriptor without it. Throws `Refused`. */
+  check(text: string): string;
+  /**
+   * The other texts with a right checksum that one mistake makes of this one: up to `changed` characters (0 or 1; 1 where it is
+   * left out) are changed, two neighbours swapped, one left out, or one put in; in that order, and of each kind those with the
+   * lower places first. Throws `Refused`, and `RangeError` where 256 MB do not suffice.
+   */
+  mend(text: string, changed?: 0 | 1): readonly MendedDescriptor[];
+};
+
+/** Confidential addresses of Liquid, by the checksum Blech32. Only version 0 is read and written. */
+export const liquid: {
+  /**
+   * The address of a witness version, a blinding key of 33 bytes and a program. That the key is a point of the curve is not
+   * tested. Throws `Refused`, and `RangeError` of a key of another length.
+   */
+  encode(hrp: string, version: number, key: Uint8Array, program: Uint8Array): string;
+  /**
+   * The parts of an address. Any human-readable part is accepted: compare it with that of your network (`lq`). Throws
+   * `Refused`.
+   */
+  decode(text: string): { hrp: string; version: number; key: Uint8Array; program: Uint8Array };
+  /**
+   * The one correction of a text, where twice the wrong characters, with those that are known to be wrong, as of `correct` for
+   * other texts, are six at most; null where there is none. It need not be an address: decode it. Throws `Refused`.
+   */
+  correct(text: string, places?: Iterable<number>): Correction | null;
+  /**
+   * All texts that Blech32 accepts and that differ from this one in at most `errors` characters of the data part (0 to 3; 3
+   * where it is left out) beside those that are known to be wrong, of which there may be six. Three errors beside three of
+   * these or more take seconds. Throws `Refused`, and `RangeError` where 256 MB do not suffice.
+   */
+  nearest(text: string, places?: Iterable<number>, errors?: 0 | 1 | 2 | 3): readonly Correction[];
 };
 
 /**

@@ -1,6 +1,7 @@
 // What users call: the functions of the library with the values of JavaScript, and refusals as errors.
-import { bech32Calls, codex32Calls, CHECKSUMS, MOST_SHARES } from './calls.js';
-import { asciiLower, reasonsOf } from './reasons.js';
+import { ALL_CHECKSUMS, bech32Calls, codex32Calls, CHECKSUMS, MOST_SHARES } from './calls.js';
+import { descriptorCalls } from './descriptors.js';
+import { asRead, asciiLower, reasonsOf } from './reasons.js';
 
 export { Stopped } from './instance.js';
 
@@ -43,6 +44,11 @@ const asBytes = ({ into = String } = {}) => {
 const numberOf = (checksum) => {
   if (!Object.hasOwn(CHECKSUMS, checksum)) throw new TypeError("the checksum is neither 'bech32' nor 'bech32m'");
   return CHECKSUMS[checksum];
+};
+// The number of one that may be for long texts.
+const anyNumberOf = (checksum) => {
+  if (!Object.hasOwn(ALL_CHECKSUMS, checksum)) throw new TypeError('the checksum is none of those that are known');
+  return ALL_CHECKSUMS[checksum];
 };
 const accepted = (answer, why) => {
   // A string is always UTF-8.
@@ -88,10 +94,26 @@ const placesOf = (given, length) => {
 
 const textCalls = (calls, reasons) => ({
   encode(checksum, hrp, data) {
-    const number = numberOf(checksum);
+    const number = anyNumberOf(checksum);
     text(hrp, 'the human-readable part');
     bytes(data, 'the data');
-    return accepted(calls.encode(number, hrp, data), (n) => reasons.encoding(n, hrp, data)).text;
+    return accepted(calls.encode(number, hrp, data), (n) => reasons.encoding(n, hrp, data, number)).text;
+  },
+  encodeElements(checksum, hrp, elements) {
+    const number = anyNumberOf(checksum);
+    text(hrp, 'the human-readable part');
+    const answer = calls.encodeElements(number, hrp, bytes(elements, 'the elements'));
+    return accepted(answer, (n) => reasons.elementsEncoding(n, hrp, elements, answer.place, number)).text;
+  },
+  decodeStrict(checksum, given) {
+    const number = anyNumberOf(checksum), answer = calls.decodeStrict(number, text(given));
+    const { hrp, bytes: data } = accepted(answer, (n) => reasons.strict(n, given, number));
+    return { hrp, bytes: data };
+  },
+  decodeElements(checksum, given) {
+    const number = anyNumberOf(checksum), answer = calls.decodeElements(number, text(given));
+    const { hrp, elements } = accepted(answer, (n) => reasons.text(n, given, number));
+    return { hrp, elements };
   },
   decode(given) {
     const { hrp, bytes: data } = accepted(calls.decode(text(given)), (n) => reasons.text(n, given));
@@ -99,13 +121,28 @@ const textCalls = (calls, reasons) => ({
     return { checksum, hrp, bytes: data };
   },
   check(checksum, given) {
-    const number = numberOf(checksum);
+    const number = anyNumberOf(checksum);
     const { hrpLength, dataLength } = accepted(calls.check(number, text(given)), (n) => reasons.text(n, given, number));
     return { hrp: given.slice(0, hrpLength), data: given.slice(hrpLength + 1, hrpLength + 1 + dataLength) };
   },
 });
 
+// An address that may have been meant, with the one edit or the characters that make it of what was typed.
+const suggestionOf = (given, { text: found, kind, place }) => {
+  const after = inCaseOf(given, found);
+  if (kind === null) return { text: after, changes: changesOf(given, after, new Set()), edit: null };
+  const it = kind === 'putIn' ? after : given, characters = it.slice(place, place + (kind === 'swapped' ? 2 : 1));
+  return { text: after, changes: [], edit: { kind, place, characters } };
+};
+
 const segwitCalls = (calls, reasons) => ({
+  suggest(given, hrp) {
+    text(given);
+    // The human-readable part is told first.
+    accepted(calls.encode(CHECKSUMS.bech32, text(hrp, 'the human-readable part'), new Uint8Array()), (n) => reasons.encoding(n, hrp, new Uint8Array()));
+    const { found } = accepted(calls.suggest(given, hrp), (n) => reasons.text(n, asRead(given)));
+    return found.map((it) => suggestionOf(given, it));
+  },
   encode(hrp, version, program) {
     text(hrp, 'the human-readable part');
     bytes(program, 'the bytes of the program');
@@ -121,22 +158,74 @@ const segwitCalls = (calls, reasons) => ({
   },
 });
 
-// The calls that mend a text; `places` are those of characters known to be wrong.
+// A mistyped text as the library reads it, with what is known to be wrong: the places given, and those of each `?` that is
+// `unread` behind its `front`.
+const typedOf = (given, places) => {
+  const known = placesOf(places, text(given).length), read = asRead(given), front = given.lastIndexOf('1') + 1;
+  const unread = read === given ? [] : Array.from(given.matchAll(/\?/g), ({ index }) => index).filter((place) => place >= front);
+  const each = [...new Set([...known, ...unread])];
+  return { read, front, unread, known: each, erasures: each.map((place) => given.length - 1 - place) };
+};
+
+// The most characters that may be known to be wrong.
+const MOST_KNOWN = 3;
+
+// What `correct` makes of a text that is accepted as it is read: a `?` that is read right is one of three at most.
+const correctedAsRead = (given, found, { front, unread, known }) => {
+  if (unread.length === 0) return correctionOf(given, found, []);
+  return known.length <= MOST_KNOWN && known.every((place) => place >= front) ? correctionOf(given, found, known) : null;
+};
+
+// Twice the wrong characters, with those that are known to be wrong, are so many at most in a confidential address.
+const LIQUID_BOUND = 6, LIQUID_KEY = 33;
+
+const versionOf = (version) => {
+  if (!Number.isInteger(version) || version < 0 || version > 31) throw new RangeError('the version is no integer from 0 to 31');
+  return version;
+};
+
+const liquidCalls = (calls, reasons) => ({
+  encode(hrp, version, key, program) {
+    text(hrp, 'the human-readable part');
+    if (bytes(key, 'the bytes of the key').length !== LIQUID_KEY) throw new RangeError(`the key has not ${LIQUID_KEY} bytes`);
+    const answer = calls.liquidEncode(hrp, versionOf(version), key, bytes(program, 'the bytes of the program'));
+    return accepted(answer, (n) => reasons.liquidEncoding(n, hrp, version, program)).text;
+  },
+  decode(given) {
+    const { hrp, version, key, program } = accepted(calls.liquidDecode(text(given)), (n) => reasons.liquid(n, given));
+    return { hrp, version, key, program };
+  },
+  correct(given, places = []) {
+    const { read, erasures, known } = typedOf(given, places), errors = Math.floor(Math.max(LIQUID_BOUND - known.length, 0) / 2);
+    const answer = calls.liquidNearest(read, erasures, errors);
+    listable(answer, (n) => reasons.liquid(n, read));
+    // Beyond the bound none is the correction, but the faults of the text are told first.
+    const [found] = known.length > LIQUID_BOUND ? [] : answer.texts;
+    return found === undefined ? null : correctionOf(given, found, known);
+  },
+  nearest(given, places = [], errors = 3) {
+    const { read, erasures, known } = typedOf(given, places);
+    if (![0, 1, 2, 3].includes(errors)) throw new RangeError('the number of errors is none of 0, 1, 2 and 3');
+    const answer = calls.liquidNearest(read, erasures, errors);
+    listable(answer, (n) => reasons.liquid(n, read));
+    return answer.texts.map((it) => correctionOf(given, it, known));
+  },
+});
+
+// The calls that mend a text; `places` are those of characters known to be wrong, beside each `?`.
 const mendingCalls = (calls, reasons) => ({
   correct(checksum, given, places = []) {
-    const number = numberOf(checksum);
-    const known = placesOf(places, text(given).length);
-    const answer = calls.correct(number, given, known.map((place) => given.length - 1 - place));
+    const number = numberOf(checksum), typed = typedOf(given, places);
+    const answer = calls.correct(number, typed.read, typed.erasures);
     if (answer.number === NO_CORRECTION) return null;
-    accepted(answer, (n) => reasons.text(n, given, number));
-    return correctionOf(given, answer.text, answer.errors.length ? known : []);
+    accepted(answer, (n) => reasons.text(n, typed.read, number));
+    return answer.errors.length ? correctionOf(given, answer.text, typed.known) : correctedAsRead(given, answer.text, typed);
   },
   nearest(checksum, given, places = [], errors = 2) {
-    const number = numberOf(checksum);
-    const known = placesOf(places, text(given).length);
+    const number = numberOf(checksum), { read, erasures, known } = typedOf(given, places);
     if (![0, 1, 2].includes(errors)) throw new RangeError('the number of errors is none of 0, 1 and 2');
-    const answer = calls.nearest(number, given, known.map((place) => given.length - 1 - place), errors);
-    listable(answer, (n) => reasons.text(n, given, number));
+    const answer = calls.nearest(number, read, erasures, errors);
+    listable(answer, (n) => reasons.text(n, read, number));
     return answer.texts.map((it) => correctionOf(given, it, known));
   },
   nearEdits(checksum, given) {
@@ -146,6 +235,30 @@ const mendingCalls = (calls, reasons) => ({
       const after = inCaseOf(given, found);
       return { text: after, edit: editOf(given, after, edit) };
     });
+  },
+});
+
+// A text with a right checksum that is made of a mistyped one: what is done, at which places, with the characters there.
+const mendedOf = (given, { kind, places, text: after }) => {
+  const before = Array.from(given), at = (it) => places.map((place) => it[place]).join('');
+  return { text: after, kind, places, from: kind === 'putIn' ? '' : at(before), to: kind === 'leftOut' ? '' : at(after) };
+};
+
+const descriptorFunctions = (calls, reasons) => ({
+  checksum(given) {
+    const answer = calls.checksum(text(given));
+    return accepted(answer, (n) => reasons.descriptor(n, given, answer.place)).checksum;
+  },
+  check(given) {
+    const answer = calls.check(text(given));
+    accepted(answer, (n) => reasons.descriptor(n, given, answer.place));
+    return given.slice(0, given.lastIndexOf('#'));
+  },
+  mend(given, changed = 1) {
+    text(given);
+    if (![0, 1].includes(changed)) throw new RangeError('the number of changed characters is neither 0 nor 1');
+    const answer = listable(calls.mend(given, changed), (n) => reasons.descriptor(n, given, null));
+    return answer.found.map((it) => mendedOf(given, it));
   },
 });
 
@@ -240,7 +353,7 @@ const codex32Functions = (calls, reasons) => ({
 // What reasons ask. A text that is accepted is so by one checksum.
 const asked = (calls) => ({
   fault: calls.fault,
-  lengths: (text) => Object.values(CHECKSUMS).map((it) => calls.check(it, text)).find(({ number }) => number === 0),
+  lengths: (text) => Object.values(ALL_CHECKSUMS).map((it) => calls.check(it, text)).find(({ number }) => number === 0),
 });
 
 // The same of codex32 strings, which are secrets: nothing of them stays in the memory of the modules.
@@ -263,6 +376,8 @@ export const library = (bech32Module, codex32Module) => {
     ...textCalls(calls, reasons),
     segwit: segwitCalls(calls, reasons),
     ...mendingCalls(calls, reasons),
+    descriptor: descriptorFunctions(descriptorCalls(bech32Module), reasons),
+    liquid: liquidCalls(calls, reasons),
     codex32: codex32Functions(codex32, reasonsOf(askedSecretly(calls, codex32))),
     wipe: calls.wipe,
   };

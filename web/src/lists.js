@@ -20,13 +20,26 @@ const countedIn = (it, { lent }, name, before, after) => {
   return { number, count: it.size('count') };
 };
 
-/** Lists the texts near to one; of the erasures 0 is the last character. */
-export const nearestOf = (checksum, text, erasures, errors) => (it, regions) => {
-  const { length } = it.putText('text', text), given = it.putSizes('erasures', erasures), size = Number(length);
-  const before = [checksum, it.pointer('text'), length, it.pointer('erasures'), given, BigInt(errors)];
-  const { number, count } = countedIn(it, regions, 'bech32_nearest', before, [it.pointer('near'), BigInt(regions.near)]);
+// The texts of one length that were counted.
+const nearOf = (it, { number, count }, size) => {
   if (number) return { number, wanted: { near: count * size } };
   return { number, texts: Array.from({ length: count }, (_, i) => it.text('near', size, i * size)) };
+};
+
+/** Lists the texts near to one; of the erasures 0 is the last character. */
+export const nearestOf = (checksum, text, erasures, errors) => (it, regions) => {
+  const { length } = it.putText('text', text), given = it.putSizes('erasures', erasures);
+  const before = [checksum, it.pointer('text'), length, it.pointer('erasures'), given, BigInt(errors)];
+  const counted = countedIn(it, regions, 'bech32_nearest', before, [it.pointer('near'), BigInt(regions.near)]);
+  return nearOf(it, counted, Number(length));
+};
+
+/** The same by Blech32. */
+export const liquidNearestOf = (text, erasures, errors) => (it, regions) => {
+  const { length } = it.putText('text', text), given = it.putSizes('erasures', erasures);
+  const before = [it.pointer('text'), length, it.pointer('erasures'), given, BigInt(errors)];
+  const counted = countedIn(it, regions, 'bech32_liquid_nearest', before, [it.pointer('near'), BigInt(regions.near)]);
+  return nearOf(it, counted, Number(length));
 };
 
 // The kinds of edits by their numbers, with how much longer a text is that each makes.
@@ -48,8 +61,36 @@ export const nearEditsOf = (checksum, text) => (it, regions) => {
   return { number, edits };
 };
 
+// What suffices for each suggestion: memory, and room for this many addresses.
+const SUGGESTIONS = 48;
+
+/** The regions that suggestions want, in an instance of their own. */
+export const SUGGEST_REGIONS = {
+  text: 8192, hrp: 96, memory: 2 * SIZE, lent: 196608, kinds: SUGGESTIONS, editLocations: SIZE * SUGGESTIONS, near: 90 * SUGGESTIONS,
+  count: SIZE,
+};
+
+// Kinds beside those of edits: nothing is done, and characters are replaced.
+const UNCHANGED = 0, REPLACED = 4;
+
+/** Lists the addresses with a human-readable part that may have been meant by a text. */
+export const suggestionsOf = (text, hrp) => (it, regions) => {
+  const p = (region) => it.pointer(region), { length } = it.putText('text', text), part = it.putText('hrp', hrp).length;
+  it.putSizes('memory', [it.at.lent, regions.lent]);
+  const number = it.call('bech32_suggest', p('text'), length, p('hrp'), part, p('memory'), p('kinds'), BigInt(SUGGESTIONS),
+    p('editLocations'), BigInt(SUGGESTIONS), p('near'), BigInt(regions.near), p('count'));
+  if (number) return { number };
+  let end = 0;
+  const found = Array.from(it.copy('kinds', it.size('count')), (kind, i) => {
+    const [name, more] = [UNCHANGED, REPLACED].includes(kind) ? [null, 0] : KINDS[kind], start = end;
+    end += Number(length) + more;
+    return { kind: name, place: it.size('editLocations', i), text: it.text('near', end - start, start) };
+  });
+  return { number, found };
+};
+
 // What is listed in an instance of its own, of which nothing is left.
-const listedBeside = (module, regions, list) => {
+export const listedBeside = (module, regions, list) => {
   const it = new Instance(module, regions);
   try {
     return list(it, regions);

@@ -13,8 +13,9 @@ export const CODES = {
   45: 'PADDING_NOT_ZERO', 46: 'PROGRAM_TOO_SHORT', 47: 'PROGRAM_TOO_LONG', 48: 'PROGRAM_NOT_V0',
   51: 'ENCODED_TOO_LONG', 52: 'ENCODED_BAD_VERSION', 53: 'ENCODED_ADDRESS_TOO_LONG', 55: 'BAD_SIZE',
   61: 'TOO_FEW_SHARES', 62: 'OTHER_SET', 63: 'INDEX_TWICE', 64: 'CONTRADICTION', 65: 'BAD_COUNT', 66: 'BAD_RANDOM',
-  81: 'NOT_MS', 82: 'BAD_LENGTH', 83: 'BAD_THRESHOLD', 84: 'BAD_SHARE_INDEX', 85: 'BAD_IDENTIFIER',
-  86: 'NO_SHARE_INDEX', 87: 'BITS_LEFT_OVER',
+  67: 'BAD_ELEMENT', 70: 'UNSUPPORTED_VERSION', 71: 'NO_BLINDING_KEY', 80: 'NOT_IN_DESCRIPTOR', 81: 'NOT_MS',
+  82: 'BAD_LENGTH', 83: 'BAD_THRESHOLD', 84: 'BAD_SHARE_INDEX', 85: 'BAD_IDENTIFIER', 86: 'NO_SHARE_INDEX',
+  87: 'BITS_LEFT_OVER', 88: 'NO_DESCRIPTOR_CHECKSUM', 89: 'DESCRIPTOR_TOO_LONG',
 };
 
 // What is said of a refusal that no sentence with figures fits.
@@ -27,18 +28,18 @@ const SENTENCES = {
   21: 'A character behind the separator may not stand there.',
   22: 'The text has letters of both cases.',
   23: 'The text has no separator, “1”.',
-  31: 'The text has more than 1023 characters.',
-  32: 'Fewer than six characters stand behind the separator.',
+  31: 'The text has more than 1023 characters (7089 by a long checksum).',
+  32: 'Too few characters for a checksum stand behind the separator.',
   33: 'The checksum is wrong.',
   41: 'The text has more than 90 characters.',
   42: 'The address has no witness version.',
   43: 'Its witness version is above 16.',
-  44: 'More than four bits stand behind the program\'s bytes.',
-  45: 'The bits behind the program\'s bytes are not all zero.',
+  44: 'More than four bits stand behind the last whole byte.',
+  45: 'The bits behind the last whole byte are not all zero.',
   46: 'The program has less than 2 bytes.',
   47: 'The program has more than 40 bytes.',
   48: 'In version 0 the program has neither 20 nor 32 bytes.',
-  51: 'The text would have more than 1023 characters.',
+  51: 'The text would have more than 1023 characters (7089 by a long checksum).',
   52: 'The witness version is above 16.',
   53: 'The address would have more than 90 characters.',
   55: 'There are neither 16 to 44 bytes nor 63 or 64.',
@@ -48,6 +49,10 @@ const SENTENCES = {
   64: 'The shares contradict each other.',
   65: 'There are fewer shares than the threshold, or more than 31.',
   66: 'There are not as many random bytes as characters are drawn.',
+  67: 'An element is above 31.',
+  70: 'A confidential address of another witness version than 0 is not supported.',
+  71: 'A confidential address has less than 33 bytes behind its version.',
+  80: 'A character may not stand in a descriptor, or not in its checksum.',
   81: 'The human-readable part is not “ms”.',
   82: 'A codex32 string has 48 to 93 characters, a long one 125 to 127.',
   83: 'The threshold is neither 0 nor a digit from 2 to 9.',
@@ -55,6 +60,8 @@ const SENTENCES = {
   85: 'The identifier is not four characters of the alphabet in one case.',
   86: 'The share index is not one character of the alphabet.',
   87: 'More than four bits stand behind the bytes of the payload.',
+  88: 'The text does not end in “#” and eight characters.',
+  89: 'The text has more than 7500 characters, too many to be mended.',
 };
 
 /** The characters of the elements 0 to 31. */
@@ -163,7 +170,10 @@ const tooLong = (text, most, what) => ({
   sentence: `The text has ${measured(text)}; ${what} has at most ${grouped(most)}.`,
 });
 
-const CHECKSUM_NAMES = { 1: 'Bech32', 2: 'Bech32m' };
+const CHECKSUM_NAMES = { 1: 'Bech32', 2: 'Bech32m', 3: 'Bech32', 4: 'Bech32m' };
+
+// The most characters of a text by the number of a checksum.
+const mostOf = (checksum) => (checksum > 2 ? 7089 : 1023);
 
 const noChecksum = (text, separator) => {
   const behind = text.length - separator - 1;
@@ -181,12 +191,24 @@ const ofText = (calls, number, text, checksum) => {
     case 21: return invalidCharacter(text, calls.fault(text));
     case 22: return cases(text, calls.fault(text));
     case 23: return nowhere('There is no separator “1” in the text.');
-    case 31: return tooLong(text, 1023, 'a text');
+    case 31: return tooLong(text, mostOf(checksum), 'a text');
     case 32: return noChecksum(text, text.lastIndexOf('1'));
     case 33: return nowhere(checksum ? `The ${CHECKSUM_NAMES[checksum]} checksum is wrong.` : 'The checksum is wrong.');
     default: return null;
   }
 };
+
+// The bits behind the last whole byte of a text that has other spellings.
+const ofSpelling = (calls, number, text) => {
+  const { hrpLength, dataLength } = calls.lengths(text), place = hrpLength + dataLength, left = (5 * dataLength) % 8;
+  const who = `${at(text, place)} the last one before the checksum,`;
+  const why = number === 44 ? `is one too many: ${left} bits stand behind the last whole byte, and at most four may.`
+    : 'has bits behind the last whole byte that are not zero.';
+  return { place, sentence: `${who} ${why}` };
+};
+
+const ofStrict = (calls, number, text, checksum) =>
+  ([44, 45].includes(number) ? ofSpelling(calls, number, text) : ofText(calls, number, text, checksum));
 
 // ---- segwit addresses
 
@@ -232,6 +254,37 @@ const ofAddress = (calls, number, text) => {
     }
     case 44: case 45: return ofPadding(number, text, programOf(calls, text));
     case 46: case 47: case 48: return lengthOfProgram(number, programOf(calls, text).bytes);
+    default: return ofText(calls, number, text);
+  }
+};
+
+// ---- descriptors
+
+// The place is that of a character at fault.
+const ofDescriptor = (number, text, at) => {
+  if (number === 80) {
+    const { place, character } = placed(text)[at];
+    const said = `Character ${grouped(at + 1)}, ${shown(character)}, may not stand in a descriptor, or not in its checksum.`;
+    return { place, sentence: said };
+  }
+  return number === 33 ? nowhere('The checksum of the descriptor is wrong.') : null;
+};
+
+// ---- confidential addresses of Liquid
+
+const LIQUID_CHECKSUM = 12;
+
+const ofLiquid = (calls, number, text) => {
+  const place = text.lastIndexOf('1') + 1, version = ALPHABET.indexOf(lower(text.charAt(place)));
+  switch (number) {
+    case 32: return nowhere(`Behind the last “1” stand ${counted(text.length - place, 'character', 'characters')}; the checksum alone has twelve.`);
+    case 33: return nowhere('The Blech32 checksum is wrong.');
+    case 42: case 43: return ofAddress(calls, number, text);
+    case 44: case 45: return { place: text.length - LIQUID_CHECKSUM - 1, sentence: SENTENCES[number] };
+    case 70: {
+      const sentence = `${at(text, place)} is the witness version ${version}; of confidential addresses only version 0 is read.`;
+      return { place, sentence };
+    }
     default: return ofText(calls, number, text);
   }
 };
@@ -358,8 +411,8 @@ const ofSet = (calls, number, texts, shareIndex) => {
 const noneBeside = (shareIndex) =>
   nowhere(`With the threshold 0 the one string is the secret: there is none at the share index ${shown(shareIndex)}.`);
 
-// A damaged text as the library reads it: each `?` behind the last `1` as `0`.
-const asRead = (text) => {
+/** A damaged text as the library reads it: each `?` behind the last `1` as `0`. */
+export const asRead = (text) => {
   const separator = text.lastIndexOf('1') + 1;
   return separator === 0 ? text : text.slice(0, separator) + text.slice(separator).replaceAll('?', '0');
 };
@@ -377,10 +430,17 @@ const ofPart = (calls, number, hrp) => {
   return ofHrp(number, hrp, place);
 };
 
-const ofEncoding = (calls, number, hrp, bytes) => {
+const ofElements = (calls, number, hrp, count, checksum) => {
   if (number !== 51) return ofPart(calls, number, hrp);
-  const length = encodedLength(hrp, elementsOf(bytes.length));
-  return nowhere(`The text would have ${grouped(length)} characters; a text has at most 1,023.`);
+  const length = encodedLength(hrp, count);
+  return nowhere(`The text would have ${grouped(length)} characters; a text has at most ${grouped(mostOf(checksum))}.`);
+};
+
+const ofEncoding = (calls, number, hrp, bytes, checksum) => ofElements(calls, number, hrp, elementsOf(bytes.length), checksum);
+
+const ofElementsEncoding = (calls, number, hrp, elements, place, checksum) => {
+  if (number !== 67) return ofElements(calls, number, hrp, elements.length, checksum);
+  return { place, sentence: `The element at the place ${place} is ${elements[place]}; elements are from 0 to 31.` };
 };
 
 const ofAddressEncoding = (calls, number, hrp, version, program) => {
@@ -393,6 +453,11 @@ const ofAddressEncoding = (calls, number, hrp, version, program) => {
     }
     default: return ofPart(calls, number, hrp);
   }
+};
+
+const ofLiquidEncoding = (calls, number, hrp, version, program) => {
+  if (number !== 70) return ofAddressEncoding(calls, number, hrp, version, program);
+  return nowhere(`The witness version is ${version}; of confidential addresses only version 0 is written.`);
 };
 
 const ofIdentifier = (identifier) => {
@@ -480,6 +545,9 @@ const reason = (number, found) => {
 export const reasonsOf = (calls) => ({
   text: (number, text, checksum) => reason(number, ofText(calls, number, text, checksum)),
   address: (number, text) => reason(number, ofAddress(calls, number, text)),
+  liquid: (number, text) => reason(number, ofLiquid(calls, number, text)),
+  liquidEncoding: (number, ...given) => reason(number, ofLiquidEncoding(calls, number, ...given)),
+  descriptor: (number, text, at) => reason(number, ofDescriptor(number, text, at)),
   codex32: (number, text) => reason(number, ofCodex32(calls, number, text)),
   damaged: (number, text) => reason(number, ofCodex32(calls, number, asRead(text))),
   damagedLong: (number, text) => reason(number, ofCodex32(calls, number, asRead(text), badLongLength)),
@@ -488,7 +556,9 @@ export const reasonsOf = (calls) => ({
   stringEncoding: (number, ...given) => reason(number, ofStringEncoding(number, ...given)),
   payloadEncoding: (number, ...given) => reason(number, ofPayloadEncoding(calls, number, ...given)),
   splitting: (number, ...given) => reason(number, ofSplitting(number, ...given)),
-  encoding: (number, hrp, bytes) => reason(number, ofEncoding(calls, number, hrp, bytes)),
+  encoding: (number, hrp, bytes, checksum) => reason(number, ofEncoding(calls, number, hrp, bytes, checksum)),
+  elementsEncoding: (number, ...given) => reason(number, ofElementsEncoding(calls, number, ...given)),
+  strict: (number, text, checksum) => reason(number, ofStrict(calls, number, text, checksum)),
   addressEncoding: (number, hrp, version, program) =>
     reason(number, ofAddressEncoding(calls, number, hrp, version, program)),
 });

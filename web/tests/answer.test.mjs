@@ -127,15 +127,15 @@ test('a mended text that is an address with the checksum of the other kind is no
 });
 
 test('how many wrong characters are looked for beside those that cannot be read', () => {
-  // One that a correction finds is not looked for again. In texts of 300 characters two would be found too often by chance.
+  // As many as a correction finds at least. In texts of 300 characters two would be found too often by chance.
   const asked = [], counting = { ...it, nearest: (...given) => { asked.push(given[3]); return it.nearest(...given); } };
   const texts = { 42: V0, 62: TAPROOT, 116: SILENT, 300: it.encode('bech32', 'lnbc', new Uint8Array(180).fill(9)) };
   const wrong = (text, unread) => Array.from(text, (c, i) => (i > 15 && i <= 15 + unread ? '?' : [7, 12, 30, 31, 32].includes(i) ? (c === 'q' ? 'p' : 'q') : c)).join('');
-  for (const [length, unread, errors] of [[42, 0, 2], [42, 1, null], [42, 2, 1], [42, 3, null], [62, 0, 2], [62, 1, null], [62, 2, 1], [62, 3, null],
-    [116, 0, 2], [116, 2, 1], [300, 0, null], [300, 1, null], [300, 2, 1]]) {
+  for (const [length, unread, errors] of [[42, 0, 2], [42, 1, 1], [42, 2, 1], [42, 3, 0], [62, 0, 2], [62, 1, 1], [62, 2, 1], [62, 3, 0],
+    [116, 0, 2], [116, 2, 1], [300, 0, 1], [300, 1, 1], [300, 2, 1]]) {
     asked.length = 0;
     const found = answer(counting, wrong(texts[length], unread));
-    assert.deepEqual(new Set(asked), new Set(errors === null ? [] : [errors]), `${unread} in ${length}: ${asked}`);
+    assert.deepEqual(new Set(asked), new Set([errors]), `${unread} in ${length}: ${asked}`);
     if (found.tone === 'wrong') assert.match(found.said.join(' '), errors === 2 ? /one or two characters/ : unread < 3 ? /of one character/ : /./);
   }
 });
@@ -224,7 +224,7 @@ test('secrets are warned of, and are not to be copied', () => {
 test('schemes are taken off, and the parts of a link are read', () => {
   const npub = it.encode('bech32', 'npub', new Uint8Array(32).fill(7)), invoice = it.encode('bech32', 'lnbc2500u', new Uint8Array(150).fill(7));
   for (const [typed, verdict] of [[`nostr:${npub}`, /nostr public key/], [`NOSTR:${npub.toUpperCase()}`, /nostr public key/], [`lightning:${invoice}`, /Lightning invoice/],
-    [`Lightning://${invoice}`, /Lightning invoice/], [`zcash:${it.encode('bech32m', 'u', new Uint8Array(70))}?amount=1`, /unified Zcash address/], ['liquidnetwork:lq1qqf8er278e6n', /confidential Liquid/],
+    [`Lightning://${invoice}`, /Lightning invoice/], [`zcash:${it.encode('bech32m', 'u', new Uint8Array(70))}?amount=1`, /unified Zcash address/], ['liquidnetwork:lq1qqf8er278e6nyvuwtgf39e6ewvdcnjupn9a86rzpx655y5lhkt0walu3djf9cklkxd3ryld97hu8h3xepw7sh2rlu7q45dcew5', /confidential address of Liquid/],
     [`bitcoin:?sp=${SILENT}`, /silent payment address/], [`BITCOIN:?SP=${SILENT.toUpperCase()}`, /silent payment address/], [`bitcoin:?lno=lno1pqps7sjq`, /Lightning offer/], [`bitcoin:?lightning=${invoice}&amount=1`, /Lightning invoice/], [`bitcoin:?bc=${V0}`, /valid Bech32 address/]]) {
     const found = said(typed);
     assert.match(found.verdict, verdict, typed);

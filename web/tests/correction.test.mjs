@@ -1,7 +1,7 @@
 // Corrections against brute force: every single change of a text is tried by the checksum as the standard defines it.
 import test from 'node:test';
 import assert from 'node:assert/strict';
-import { codex32, correct, encode, nearEdits, nearest } from '../out/package/index.js';
+import { ALPHABET as exported, codex32, correct, encode, nearEdits, nearest, segwit } from '../out/package/index.js';
 import { ALPHABET, accepts, editsOf, acceptsCodex32, acceptsLongCodex32, added, changedAt, changedOnce, effectOf, numbersFrom, residueOf } from './reference.mjs';
 
 const TEXTS = [
@@ -170,6 +170,73 @@ test('what one edit makes of a text that ends in p', () => {
   ]);
   assert.deepEqual(nearEdits('bech32', 'a12uel5'), [{ text: 'a12uel5l', edit: { kind: 'putIn', place: 7, characters: 'l' } }]);
   assert.deepEqual([nearEdits('bech32', 'bc1'), nearEdits('bech32m', `a1${'q'.repeat(2000)}`)], [[], []]);
+});
+
+test('each `?` behind the last `1` is a character that cannot be read', () => {
+  const damagedAt = (text, places, by) => Array.from(text, (c, place) => (places.includes(place) ? by : c)).join('');
+  for (const [checksum, text] of TEXTS) {
+    const first = text.lastIndexOf('1') + 1, last = text.length - 1;
+    for (const places of [[last], [first, last - 1], [first + 1, first + 2, last]]) {
+      const damaged = damagedAt(text, places, '?'), wanted = { text, changes: places.map((place) => ({ place, from: '?', to: text[place] })) };
+      assert.deepEqual(correct(checksum, damaged), wanted);
+      assert.deepEqual(nearest(checksum, damaged, [], 0), [wanted]);
+      assert.equal(correct(checksum, damaged.toUpperCase()).text, text.toUpperCase());
+      // It is the same as a place that is given, where some other character stands.
+      const textsOf = (found) => found.map((it) => it.text);
+      assert.deepEqual(textsOf(nearest(checksum, damaged)), textsOf(nearest(checksum, damagedAt(text, places, 'q'), places)));
+      assert.deepEqual(correct(checksum, damaged, places), wanted);
+    }
+    const damaged = damagedAt(damagedAt(text, [first + 2], '?'), [last], text[last] === 'q' ? 'p' : 'q');
+    assert.equal(correct(checksum, damaged).text, text);
+    assert.equal(correct(checksum, damaged, [last]).text, text);
+  }
+  assert.equal(correct('bech32', '?1ezyf?l').text, '?1ezyfcl');
+  assert.deepEqual(correct('bech32', '?1ezyfcl'), { text: '?1ezyfcl', changes: [] });
+});
+
+test('a `?` that is read right is one of three at most', () => {
+  const zeros = encode('bech32', 'bc', Uint8Array.from({ length: 25 }, (_, i) => [0x7b, 0xde, 0xf7, 0xbd, 0xef][i % 5]));
+  assert.equal(zeros.slice(3, 8), '00000');
+  for (let count = 1; count < 6; count++) {
+    const damaged = zeros.slice(0, 3) + '?'.repeat(count) + zeros.slice(3 + count);
+    const changes = Array.from({ length: count }, (_, i) => ({ place: 3 + i, from: '?', to: '0' }));
+    assert.deepEqual(correct('bech32', damaged), count > 3 ? null : { text: zeros, changes });
+    assert.deepEqual(nearest('bech32', damaged, [], 0), count > 3 ? [] : [{ text: zeros, changes }]);
+    assert.equal(correct('bech32', damaged, [1]), null);
+  }
+});
+
+test('a text with `?` that is refused is told as it was given', () => {
+  const refusals = [['a12?e?bl', 'INVALID_CHARACTER', 6], ['a12u?L5l', 'MIXED_CASE', 5], ['?a', 'INVALID_CHARACTER', 0], ['a1q??', 'NO_CHECKSUM', 1]];
+  for (const [text, code, place] of refusals) {
+    for (const call of [correct, nearest]) assert.throws(() => call('bech32', text), { name: 'Refused', code, place }, text);
+  }
+  assert.throws(() => nearEdits('bech32', 'a12u?l5l'), { code: 'INVALID_CHARACTER', place: 4 });
+});
+
+test('addresses are suggested', () => {
+  for (const [, right] of TEXTS.filter(([, it]) => it.startsWith('bc1'))) {
+    const made = (text, changes, edit = null) => [{ text, changes, edit }];
+    assert.deepEqual(segwit.suggest(right, 'bc'), made(right, []));
+    assert.deepEqual(segwit.suggest(right.toUpperCase(), 'BC'), made(right.toUpperCase(), []));
+    assert.deepEqual(segwit.suggest(right, 'tb'), []);
+    for (const [places, other] of [[[10, 20], 'y'], [[10, 20, 30], '?'], [[11], 'y'], [[12], '?']]) {
+      const text = Array.from(right, (c, place) => (places.includes(place) ? other : c)).join('');
+      const changes = places.filter((place) => text[place] !== right[place]).map((place) => ({ place, from: text[place], to: right[place] }));
+      assert.deepEqual(segwit.suggest(text, 'bc'), made(right, changes));
+    }
+    const [missing] = segwit.suggest(right.slice(0, 20) + right.slice(21), 'bc');
+    assert.deepEqual([missing.text, missing.changes, missing.edit.kind, missing.edit.characters], [right, [], 'putIn', right[20]]);
+  }
+  for (const text of ['a12uel5l', 'q1'.repeat(46), 'q'.repeat(1 << 20)]) assert.deepEqual(segwit.suggest(text, 'bc'), []);
+  for (const [text, hrp, code, place] of [['x1b?', '', 'HRP_EMPTY', 0], ['x1?b?', 'bc', 'INVALID_CHARACTER', 3], ['qq', 'bc', 'NO_SEPARATOR', null]]) {
+    assert.throws(() => segwit.suggest(text, hrp), { name: 'Refused', code, place });
+  }
+  assert.throws(() => segwit.suggest('bc1'), TypeError);
+});
+
+test('the alphabet is that of the texts', () => {
+  assert.equal(exported, ALPHABET);
 });
 
 test('places are told in rising order, with those that were right after all', () => {

@@ -3,7 +3,7 @@
 import test from 'node:test';
 import assert from 'node:assert/strict';
 import fs from 'node:fs';
-import { Refused, check, codex32, correct, decode, encode, nearEdits, segwit } from '../out/package/index.js';
+import { Refused, check, codex32, correct, decode, decodeElements, decodeStrict, encode, encodeElements, nearEdits, segwit } from '../out/package/index.js';
 import { bech32Calls, CHECKSUMS } from '../out/package/calls.js';
 import { compiled } from '../out/package/modules.js';
 import { ALPHABET } from './reference.mjs';
@@ -83,6 +83,18 @@ const OF_TEXTS = {
     const { checksum, hrp, bytes } = decode(wanted(words, 2)[1]);
     check(checksum, words[1]);
     return `ok ${hrp.toLowerCase()} ${hexWord(bytes)}`;
+  },
+  'decode-strict'(words) {
+    const [, checksum, text] = wanted(words, 3), { hrp, bytes } = decodeStrict(checksumOf(checksum), text);
+    return `ok ${hrp.toLowerCase()} ${hexWord(bytes)}`;
+  },
+  'decode-elements'(words) {
+    const [, checksum, text] = wanted(words, 3), { hrp, elements } = decodeElements(checksumOf(checksum), text);
+    return `ok ${hrp.toLowerCase()} ${hexWord(elements)}`;
+  },
+  'encode-elements'(words) {
+    const [, checksum, hrp, hex] = wanted(words, 4);
+    return `ok ${encodeElements(checksumOf(checksum), hrp, hexOf(hex))}`;
   },
   'segwit-encode'(words) {
     const [, hrp, version, hex] = wanted(words, 4);

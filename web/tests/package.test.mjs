@@ -56,10 +56,11 @@ test('it installs without network, and its README is so', withNpm, () => inFolde
   assert.ok(readme.includes(`${name}-${version}.tgz`));
 }));
 
-const USE = `import { encode, decode, check, correct, nearEdits, segwit, codex32, isLowered, Refused, Stopped, type Checksum, type Code, type Correction, type Edit, type NearEdit, type SecretText } from '${name}';
+const USE = `import { ALPHABET, encode, decode, decodeElements, decodeStrict, encodeElements, type AnyChecksum, check, correct, nearEdits, segwit, codex32, isLowered, Refused, Stopped, type Checksum, type Code, type Correction, type Edit, type NearEdit, type SecretText } from '${name}';
 const checksum: Checksum = decode('a').checksum;
 const text: string = encode(checksum, 'a', new Uint8Array());
 const { hrp, data }: { hrp: string; data: string } = check('bech32', text);
+const long: AnyChecksum = 'longBech32m', held: Uint8Array = decodeStrict(long, text).bytes, whole: string = encodeElements(long, 'a', decodeElements(checksum, text).elements) + held.length;
 const found: Correction | null = correct('bech32m', text, new Set([1]));
 const place: number | undefined = found?.changes[0]?.place;
 const [near]: readonly NearEdit[] = nearEdits(checksum, text), edit: Edit | undefined = near?.edit;
@@ -71,7 +72,7 @@ const derived: string = codex32.derive(new Set([codex32.encode(threshold, identi
 const shares: string[] = codex32.split(bytes, 2, 3), wiped: Uint8Array[] = codex32.split(bytes, 2, 3, null, { into: Uint8Array }), named: string[] = codex32.split(bytes, 2, 3, 'test', { into: String, random: bytes });
 const secret: Uint8Array = codex32.recover([...shares, ...wiped, ...named]), own: Uint8Array = codex32.derive(wiped, 's', { into: Uint8Array });
 const made: Uint8Array = codex32.encode(0, 'test', 's', secret, { into: Uint8Array }), again: string = codex32.encodePayload(0, 'test', 's', made, { into: String }) + codex32.share(own).identifier;
-const kept: SecretText = again;
+const kept: SecretText = again, characters: string = ALPHABET;
 const lowered: boolean = isLowered;
 try { decode(text); } catch (error) { if (error instanceof Refused) { const code: Code = error.code, at: number | null = error.place, which: number | null = error.which; console.log(code, at, which); } if (error instanceof Stopped) throw error; }
 // @ts-expect-error
@@ -86,7 +87,7 @@ codex32.encodePayload(2, 'test', 'a', 5);
 codex32.split('secret', 2, 3);
 // @ts-expect-error
 const wrong: string[] = codex32.split(bytes, 2, 3, null, { into: Uint8Array });
-console.log(place, version, parts, lowered, derived, kept, wrong);
+console.log(place, version, parts, lowered, derived, kept, characters, whole, wrong);
 `;
 
 const withTypes = withNpm.skip ? withNpm : has('tsc') ? {} : { skip: 'TypeScript (tsc) is not installed here, so the types were not tried' };

@@ -2,8 +2,9 @@
 import test from 'node:test';
 import assert from 'node:assert/strict';
 import fs from 'node:fs';
-import { Refused, check, codex32, correct, decode, encode, segwit } from '../out/package/index.js';
+import { Refused, check, codex32, correct, decode, decodeElements, decodeStrict, descriptor, encode, encodeElements, liquid, segwit } from '../out/package/index.js';
 import { ALPHABET } from './reference.mjs';
+import { blechText } from './right-texts.mjs';
 
 const refusal = (call) => {
   try {
@@ -53,6 +54,15 @@ const CASES = [
   [() => encode('bech32', 'aB', new Uint8Array()), 'HRP_MIXED_CASE', 1, 'Character 2, “B”, is an upper-case letter, and a lower-case one stands before it: all letters have one case.'],
   [() => encode('bech32', 'a', new Uint8Array(635)), 'ENCODED_TOO_LONG', null, 'The text would have 1,024 characters; a text has at most 1,023.'],
   [() => encode('bech32', 'a', new Uint8Array(1 << 20)), 'ENCODED_TOO_LONG', null, 'The text would have 1,677,730 characters; a text has at most 1,023.'],
+  [() => encode('longBech32', 'a', new Uint8Array(4426)), 'ENCODED_TOO_LONG', null, 'The text would have 7,090 characters; a text has at most 7,089.'],
+  [() => encodeElements('bech32', 'a', new Uint8Array(1016)), 'ENCODED_TOO_LONG', null, 'The text would have 1,024 characters; a text has at most 1,023.'],
+  [() => encodeElements('bech32m', 'a', Uint8Array.of(0, 31, 40, 33)), 'BAD_ELEMENT', 2, 'The element at the place 2 is 40; elements are from 0 to 31.'],
+  [() => encodeElements('bech32', '', Uint8Array.of(32)), 'HRP_EMPTY', 0, 'Nothing stands before the separator “1”: the human-readable part is missing.'],
+  [() => decodeStrict('bech32', 'a1qpamnt9j'), 'PADDING_NOT_ZERO', 3, 'Character 4, “p”, the last one before the checksum, has bits behind the last whole byte that are not zero.'],
+  [() => decodeStrict('bech32', encodeElements('bech32', 'a', new Uint8Array(3))), 'PADDING_TOO_LONG', 4, 'Character 5, “q”, the last one before the checksum, is one too many: 7 bits stand behind the last whole byte, and at most four may.'],
+  [() => decodeStrict('bech32m', 'a1qqqd87cq'), 'WRONG_CHECKSUM', null, 'The Bech32m checksum is wrong.'],
+  [() => check('longBech32', `a1${'q'.repeat(7088)}`), 'TEXT_TOO_LONG', 7089, 'The text has 7,090 characters; a text has at most 7,089.'],
+  [() => decodeElements('longBech32m', `a1${'q'.repeat(7087)}`), 'WRONG_CHECKSUM', null, 'The Bech32m checksum is wrong.'],
   [() => segwit.decode(`bc1${'q'.repeat(88)}`), 'ADDRESS_TOO_LONG', 90, 'The text has 91 characters; an address has at most 90.'],
   [() => segwit.decode(`${'é'.repeat(50)}1qqqqqq`), 'ADDRESS_TOO_LONG', 45, 'The text has 107 bytes; an address has at most 90.'],
   [() => segwit.decode('bc1'), 'NO_DATA', 2, 'No witness version stands between the last “1” and the checksum.'],
@@ -137,6 +147,13 @@ const CASES = [
   [() => codex32.share(octets('ms10testsxxxbxxxx')), 'INVALID_CHARACTER', 12, 'A character behind the separator may not stand there.'],
   [() => codex32.share(octets(A.replace('X', 'x'))), 'MIXED_CASE', 14, 'The text has letters of both cases.'],
   [() => codex32.share(octets(`${LONG_STRING.slice(0, -1)}q`)), 'WRONG_CHECKSUM', null, 'The checksum is wrong.'],
+  [() => liquid.decode('lq1p8wnk3sw45mype5gtnj3ff88n9g0lvkq49dlvm2chzwppddzkpd0tat26gzaufd46ugp3th2yaplp0xh0pdwuzek5n82fxektmhunk9jy38h86j2y9z2q'), 'UNSUPPORTED_VERSION', 3, 'Character 4, “p”, is the witness version 1; of confidential addresses only version 0 is read.'],
+  [() => liquid.decode(blechText('blech32', 'lq', 'q'.repeat(41))), 'NO_BLINDING_KEY', null, 'A confidential address has less than 33 bytes behind its version.'],
+  [() => descriptor.checksum('raw(d\u{1f600}adbeef)'), 'NOT_IN_DESCRIPTOR', 5, 'Character 6, U+1F600, may not stand in a descriptor, or not in its checksum.'],
+  [() => descriptor.check('raw(deadbeef)#89f8spxb'), 'NOT_IN_DESCRIPTOR', 21, 'Character 22, “b”, may not stand in a descriptor, or not in its checksum.'],
+  [() => descriptor.check('raw(deadbeef)'), 'NO_DESCRIPTOR_CHECKSUM', null, 'The text does not end in “#” and eight characters.'],
+  [() => descriptor.check('raw(deedbeef)#89f8spxm'), 'WRONG_CHECKSUM', null, 'The checksum of the descriptor is wrong.'],
+  [() => descriptor.mend('x'.repeat(7501)), 'DESCRIPTOR_TOO_LONG', null, 'The text has more than 7500 characters, too many to be mended.'],
   [() => codex32.share(octets('ms1qtestsxxxxxxxxxxxxxxxxxxxxxxxxxxq68ksv56lmaq5')), 'BAD_THRESHOLD', 3, 'The threshold is neither 0 nor a digit from 2 to 9.'],
   [() => codex32.share(octets('ms10testaxxxxxxxxxxxxxxxxxxxxxxxxxxzd568kp774rau')), 'BAD_SHARE_INDEX', 8, 'The threshold is 0, and the share index is not “s”.'],
   [() => codex32.share(octets('ms12xh04fm5amh7k7ay0jj7mgh3ndf4zdx0dmxgdrhz38hawaewk')), 'BITS_LEFT_OVER', null, 'Behind the last whole byte of the payload stand six bits, and at most four may.'],
@@ -176,7 +193,8 @@ test('texts of a megabyte', () => {
 });
 
 test('values of another type', () => {
-  for (const call of [() => decode(5), () => decode(), () => check('bech32', null), () => check('bech33', 'a'), () => check('toString', 'a'),
+  for (const call of [() => decode(5), () => decode(), () => check('bech32', null), () => check('bech33', 'a'), () => check('toString', 'a'), () => correct('longBech32', 'a12uel5l'),
+    () => decodeStrict('a12uel5l'), () => decodeElements('bech32'), () => encodeElements('bech32', 'a', [1]),
     () => correct(1, 'a'), () => encode('bech32', 'a', [1]), () => encode('bech32', 1, new Uint8Array()), () => segwit.encode('bc', 0, 'x'),
     () => codex32.parse(undefined), () => codex32.propose({}), () => codex32.proposeLong(1), () => codex32.share([]), () => codex32.recover(octets(A)), () => codex32.share(Uint8Array.of(109, 115, 49, 255)), () => codex32.recover([A, Uint8Array.of(255)]), () => codex32.recover(A), () => codex32.recover(7), () => codex32.recover([A, 7]),
     () => codex32.derive([A, C]), () => codex32.encode(2, 'test', 'a', [1]), () => codex32.encode(2, 7, 'a', new Uint8Array(16)), () => codex32.encode(2, 'test', 0, new Uint8Array(16)),

@@ -86,7 +86,8 @@ const invoice = (network, least, most) => (below) => anyText('bech32', `ln${netw
 const WORDS = 'abandon ability able about above absent absorb abstract absurd abuse access accident zebra zero zone zoo'.split(' ');
 
 const RIGHT = 'right', OTHER = 'other', WARNING = 'warning';
-const ADDRESS = /^This is a valid Bech32m? address\./, OFFER = /which has no checksum/, CONFIDENTIAL = /confidential Liquid address/;
+const ADDRESS = /^This is a valid Bech32m? address\./, OFFER = /which has no checksum/, CONFIDENTIAL = /^This is a valid confidential address of Liquid\./;
+const DESCRIBES = /^This is a descriptor, and its checksum is right\./;
 const known = (what) => new RegExp(`^This is ${what}, and its Bech32m? checksum is right\\.`);
 const secret = (what) => new RegExp(`^This is a secret: ${what}\\.`);
 
@@ -116,17 +117,19 @@ export const KINDS_OF_TEXTS = [
   ['Sapling addresses', bytesText('bech32', 'zs', 43), RIGHT, known('a shielded Zcash address \\(Sapling\\)')], ['unified addresses', anyText('bech32m', 'u', 100, 250), RIGHT, known('a unified Zcash address')],
   ['Chia addresses', bytesText('bech32m', 'xch', 32), RIGHT, known('a Chia address')], ['Avalanche addresses', (below) => `${from(below, ['X', 'P', 'C'])}-${bytesText('bech32', 'avax', 20)(below)}`, RIGHT, known('an Avalanche address')],
   ['Taproot Assets addresses', anyText('bech32m', 'tapbc', 200, 400), RIGHT, known('a Taproot Assets address')], ['invitations to Fedimint', anyText('bech32m', 'fed1', 200, 400), RIGHT, known('an invitation to a Fedimint federation')],
-  ['invoices that are longer than the library reads', invoice('bc', 1030, 1400), OTHER, /^This begins like a Lightning invoice, and has 1,[0-9]{3} characters/],
+  ['long invoices', invoice('bc', 1030, 1400), RIGHT, known('a Lightning invoice')], ['long nostr pages', anyText('bech32', 'naddr', 1400, 4900), RIGHT, known('a link to a nostr page')],
+  ['post-quantum age recipients', anyText('bech32', 'age1pq', 1946, 1946), RIGHT, known('an age recipient')],
+  ['invoices that are longer than the library reads', invoice('bc', 7100, 7400), OTHER, /^This begins like a Lightning invoice, and has 7,[0-9]{3} characters/],
   ['texts of an unknown part', (below) => textOf('bech32', 'abcd', `l${characters(below, 20 + below(40))}`), RIGHT, /^This is a valid Bech32 text\./],
   ['offers', offer('lno', 90, 140), OTHER, OFFER], ['long offers', offer('lno', 300, 300), OTHER, OFFER], ['very long offers', offer('lno', 900, 1400), OTHER, OFFER],
   ['offers joined by +', joined(offer('lno', 90, 200), '+'), OTHER, OFFER], ['offers joined by + on several lines', joined(offer('lno', 90, 200), '+\r\n  '), OTHER, OFFER],
   ['offers in upper case', upper(offer('lno', 90, 300)), OTHER, OFFER], ['requests of invoices', offer('lnr', 150, 400), OTHER, OFFER], ['invoices of offers', offer('lni', 300, 700), OTHER, OFFER],
   ['offers of a short length', (below) => `lno1${characters(below, from(below, [38, 39, 58, 59]))}`, OTHER, OFFER],
-  ['confidential Liquid addresses', confidential('lq', 0, 20), OTHER, CONFIDENTIAL], ['confidential Taproot addresses of Liquid', confidential('lq', 1, 32), OTHER, CONFIDENTIAL],
-  ['confidential addresses of a local Liquid', confidential('el', 0, 20), OTHER, CONFIDENTIAL], ['confidential addresses of Liquid\'s test network', confidential('tlq', 0, 32), OTHER, CONFIDENTIAL],
-  ['descriptors', (below) => withDescriptorSum(`wpkh(${key(below)})`), OTHER, /^This looks like a descriptor:/], ['descriptors of one key', (below) => withDescriptorSum(`wpkh(02${hex(below, 32)})`), OTHER, /^This looks like a descriptor:/],
-  ['descriptors of several keys', (below) => withDescriptorSum(`wsh(sortedmulti(2,${key(below)},${key(below)}))`), OTHER, /^This looks like a descriptor:/],
-  ['Taproot descriptors', (below) => withDescriptorSum(`tr(${hex(below, 32)})`), OTHER, /^This looks like a descriptor:/], ['descriptors of an address', (below) => withDescriptorSum(`addr(${program('bc', 0, 20)(below)})`), OTHER, /^This looks like a descriptor:/],
+  ['confidential Liquid addresses', confidential('lq', 0, 20), RIGHT, CONFIDENTIAL], ['confidential Taproot addresses of Liquid', confidential('lq', 1, 32), OTHER, /confidential Liquid address of another version/],
+  ['confidential addresses of a local Liquid', confidential('el', 0, 20), RIGHT, CONFIDENTIAL], ['confidential addresses of Liquid\'s test network', confidential('tlq', 0, 32), RIGHT, CONFIDENTIAL],
+  ['descriptors', (below) => withDescriptorSum(`wpkh(${key(below)})`), RIGHT, DESCRIBES], ['descriptors of one key', (below) => withDescriptorSum(`wpkh(02${hex(below, 32)})`), RIGHT, DESCRIBES],
+  ['descriptors of several keys', (below) => withDescriptorSum(`wsh(sortedmulti(2,${key(below)},${key(below)}))`), RIGHT, DESCRIBES],
+  ['Taproot descriptors', (below) => withDescriptorSum(`tr(${hex(below, 32)})`), RIGHT, DESCRIBES], ['descriptors of an address', (below) => withDescriptorSum(`addr(${program('bc', 0, 20)(below)})`), RIGHT, DESCRIBES],
   ['descriptors with a private key', (below) => withDescriptorSum(`pkh(${extended('0488ade4')(below)}/0/*)`), WARNING, /^This looks like a descriptor with a private key/],
   ['Kaspa addresses', (below) => cashText('kaspa', [0, ...random(below, 32)]), OTHER, /^This begins like a Kaspa address/], ['CashAddr', (below) => cashText('bitcoincash', [8 * below(2), ...random(below, 20)]), OTHER, /^This begins like a Bitcoin Cash address/],
   ['CashAddr in upper case', upper((below) => cashText('bitcoincash', [0, ...random(below, 20)])), OTHER, /^This begins like a Bitcoin Cash address/], ['eCash', (below) => cashText('ecash', [0, ...random(below, 20)]), OTHER, /^This begins like an eCash address/],
@@ -139,7 +142,7 @@ export const KINDS_OF_TEXTS = [
   ['links for payments', (below) => `bitcoin:${program('bc', 1, 32)(below)}?amount=0.1`, RIGHT, ADDRESS], ['links of Lightning', (below) => `LIGHTNING:${upper(invoice('bc', 170, 400))(below)}`, RIGHT, known('a Lightning invoice')],
   ['links with an offer', (below) => `bitcoin:?lno=${offer('lno', 90, 300)(below)}`, OTHER, OFFER], ['links with a silent payment address', (below) => `BITCOIN:?SP=${textOf('bech32m', 'sp', `q${dataOf(random(below, 66))}`).toUpperCase()}`, RIGHT, known('a silent payment address')],
   ['links with several parts', (below) => `bitcoin:${program('bc', 0, 20)(below)}?lightning=${invoice('bc', 170, 300)(below)}&lno=${offer('lno', 90, 300)(below)}`, OTHER, /^This link names three ways to pay/],
-  ['links of Liquid', (below) => `liquidnetwork:${confidential('lq', 0, 20)(below)}?amount=1`, OTHER, CONFIDENTIAL], ['links of nostr', (below) => `nostr:${bytesText('bech32', 'npub', 32)(below)}`, RIGHT, known('a nostr public key')],
+  ['links of Liquid', (below) => `liquidnetwork:${confidential('lq', 0, 20)(below)}?amount=1`, RIGHT, CONFIDENTIAL], ['links of nostr', (below) => `nostr:${bytesText('bech32', 'npub', 32)(below)}`, RIGHT, known('a nostr public key')],
   ['links of Zcash', (below) => `zcash:${anyText('bech32m', 'u', 100, 200)(below)}`, RIGHT, known('a unified Zcash address')], ['Stacks addresses', (below) => `SP1${Array.from({ length: 38 }, () => from(below, Array.from('0123456789ABCDEFGHJKMNPQRSTVWXYZ'))).join('')}`, OTHER, /Stacks/], ['Tezos addresses', (below) => base58([6, 161, 159, ...random(below, 20)]), 'wrong', /./],
   ['addresses of payment servers', (below) => `OH1${characters(below, 55).toUpperCase()}`, 'wrong', /checksum is wrong/],
 ];

@@ -1,7 +1,7 @@
 // Texts and addresses of every size, written and read.
 import test from 'node:test';
 import assert from 'node:assert/strict';
-import { check, decode, encode, segwit } from '../out/package/index.js';
+import { check, decode, decodeElements, decodeStrict, encode, encodeElements, segwit } from '../out/package/index.js';
 import { accepts, numbersFrom } from './reference.mjs';
 
 const below = numbersFrom(5);
@@ -34,6 +34,33 @@ test('addresses of every version and length are written and read', () => {
       const program = random(length), text = segwit.encode('bc', version, program);
       assert.ok(accepts(version === 0 ? 'bech32' : 'bech32m', text));
       assert.deepEqual(segwit.decode(text), { hrp: 'bc', version, program });
+    }
+  }
+});
+
+const shortOf = { bech32: 'bech32', bech32m: 'bech32m', longBech32: 'bech32', longBech32m: 'bech32m' };
+
+test('elements are written and read, and bytes of one spelling', () => {
+  for (const [checksum, short] of Object.entries(shortOf)) {
+    for (let length = 0; length <= 1015; length++) {
+      const elements = random(length).map((it) => it & 31), text = encodeElements(checksum, 'a', elements);
+      assert.ok(accepts(short, text));
+      assert.deepEqual(decodeElements(checksum, text.toUpperCase()), { hrp: 'A', elements });
+      const { bytes } = decode(text), isOnly = encode(checksum, 'a', bytes) === text;
+      if (isOnly) assert.deepEqual(decodeStrict(checksum, text), { hrp: 'a', bytes });
+      else assert.throws(() => decodeStrict(checksum, text), { code: (5 * length) % 8 > 4 ? 'PADDING_TOO_LONG' : 'PADDING_NOT_ZERO' });
+    }
+  }
+});
+
+test('long texts are written and read', () => {
+  for (const checksum of ['longBech32', 'longBech32m']) {
+    for (const length of [0, 634, 635, 1000, 2560, 4425]) {
+      const bytes = random(length), text = encode(checksum, 'a', bytes);
+      assert.ok(accepts(shortOf[checksum], text));
+      assert.deepEqual(decodeStrict(checksum, text), { hrp: 'a', bytes });
+      assert.equal(check(checksum, text).data, text.slice(2, -6));
+      if (text.length > 1023) assert.throws(() => decode(text), { code: 'TEXT_TOO_LONG', place: 1023 });
     }
   }
 });

@@ -13,6 +13,7 @@ const AGE = 'AGE-SECRET-KEY-1GFPYYSJZGFPYYSJZGFPYYSJZGFPYYSJZGFPYYSJZGFPYYSJZGFP
 const COSMOS = 'cosmos1vx8knpllrj7n963p9ttd80w47kpacrhuts497x', AVAX = 'avax1tqj4pf3t93p8r02dt26xmczery3uaxqaq0tpzq';
 const LIQUID = 'lq1qqf8er278e6nyvuwtgf39e6ewvdcnjupn9a86rzpx655y5lhkt0walu3djf9cklkxd3ryld97hu8h3xepw7sh2rlu7q45dcew5';
 
+const DESCRIPTOR = 'wpkh(02f9308a019258c31049344f85f89d5229b531c845836f99b08601f113bce036f9)#8zl0zxma';
 const TESTNET_TAPROOT = 'tb1pqqqqp399et2xygdj5xreqhjjvcmzhxw4aywxecjdzew6hylgvsesf3hn0c';
 
 const DATA = V0.slice(3);
@@ -131,9 +132,18 @@ export const WRONG = [
   ['an offer with a character that cannot be there', 'lno1pqps7sjqpgtyzm3qb4uxzmtsd3jjqer9wd3hy6tsw35k7msj', /begins like a Lightning offer \(BOLT12\), which has no checksum\.[^]*Character 21, “b”, cannot be part of it\./, null],
   ['an offer with a wrong beginning', 'ln01pqps7sjqpgtyzm3qv4uxzmtsd3jjqer9wd3hy6tsw35k7msj', /checksum is wrong for both Bech32m and Bech32\.[^]*does not know texts that begin with “ln01”/, null],
   ['an offer with an l for its 1', 'lnolpqps7sjqpgtyzm3qv4uxzmtsd3jjqer9wd3hy6tsw35k7msj', /Character 3, “o”, may not stand here, and no separator “1” stands before it/, null],
-  ['a Liquid address with a wrong character', put(LIQUID, [20, 'q']), /begins like a confidential Liquid address\.[^]*Its checksum is Blech32/, null],
+  ['a Liquid address with a wrong character', put(LIQUID, [20, 'q']), /Character 21 should be g, not q[^]*As typed, the Blech32 checksum is wrong\./, LIQUID],
+  ['a Liquid address with three', put(LIQUID, [10, 'q'], [50, '3'], [90, 'y']), /Character 11 should be 7, not q; character 51 should be h, not 3; character 91 should be l, not y\./, LIQUID],
+  ['a Liquid address with four', put(LIQUID, [10, 'q'], [50, '3'], [70, 'q'], [90, 'y']), /No correction was found\.[^]*More than three characters are wrong/, null],
+  ['a Liquid address with unreadable characters', put(LIQUID, [5, '?'], [17, '?'], [29, '?'], [41, '?'], [53, '?'], [65, '?']), /Six unreadable characters are restored\./, LIQUID],
+  ['a Liquid address of another version', put(LIQUID, [3, 'p']), /begins like a confidential Liquid address of another version than 0/, null],
   ['a Liquid address with a wrong beginning', `lg1${LIQUID.slice(3)}`, /does not know texts that begin with “lg1”/, null],
-  ['a descriptor with a wrong character', 'wpkh(02f9308a019258c31049344f85f89d5229b531c845836f99b08601f113bce036f8)#8zl0zxma', /This looks like a descriptor/, null],
+  ['a descriptor with a wrong character', 'wpkh(02f9308a019258c31049344f85f89d5229b531c845836f99b08601f113bce036f8)#8zl0zxma', /Character 71 should be 9, not 8[^]*As typed, its checksum is wrong\./, DESCRIPTOR],
+  ['a descriptor with two', put(DESCRIPTOR, [10, 'x'], [75, 'q']), /No correction was found\.[^]*As typed, its checksum is wrong\.[^]*No change of one character makes it right\./, null],
+  ['a descriptor with a character missing', DESCRIPTOR.slice(0, 20) + DESCRIPTOR.slice(21), /One character is missing: [0-9a-f], as character 2[0-9]\./, DESCRIPTOR],
+  ['a descriptor with a letter in the other case', put(DESCRIPTOR, [0, 'W']), /Character 1 should be w, not W\./, DESCRIPTOR],
+  ['a descriptor without a checksum', DESCRIPTOR.slice(0, -9), /This looks like a descriptor[^]*It does not end in “#” and a checksum[^]*its checksum is “#8zl0zxma”/, null],
+  ['a descriptor with many wrong characters', put(DESCRIPTOR, [10, 'x'], [20, 'x'], [30, 'x'], [40, 'x']), /No correction was found\.[^]*As typed, its checksum is wrong\./, null],
   ['CashAddr with a wrong character', 'bitcoincash:qpm2qsznhks23z7629mms6s4cwef74vcwvy22gdx6q', /begins like a Bitcoin Cash address \(“bitcoincash:”\)\.[^]*can neither test nor correct this/, null],
   ['a code that is not known', 'bitcoincsh:qpm2qsznhks23z7629mms6s4cwef74vcwvy22gdx6a', /begins with “bitcoincsh:”, which this page does not know/, null],
   ['a text of an unknown part', 'abcd1qqqqqqqqqqqqqqqqqqqqqq', /As typed, the checksum is wrong for both Bech32m and Bech32\.[^]*This page does not know texts that begin with “abcd1”, so it offers no correction\. Such a text may also have another checksum, or none\./, null],

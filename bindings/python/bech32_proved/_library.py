@@ -21,6 +21,10 @@ _FOLDER = Path(__file__).resolve().parent
 MAX_TEXT = 1023
 MAX_HRP = 83
 MAX_BYTES = 634
+MAX_ELEMENTS = 1015
+MAX_LONG_TEXT = 7089
+MAX_LONG_BYTES = 4425
+MAX_LONG_ELEMENTS = 7081
 MAX_ADDRESS = 90
 MAX_PROGRAM = 40
 MAX_LISTED = 3
@@ -118,6 +122,42 @@ codex32_propose = _function(
 )
 codex32_propose_long = _function(
     _CODEX32, "codex32_propose_long", *_IN, ctypes.POINTER(Memory), *_OUT
+)
+decode_strict = _function(_BECH32, "bech32_decode_strict", _NUMBER, *_IN, *_OUT, *_OUT)
+decode_elements = _function(_BECH32, "bech32_decode_elements", _NUMBER, *_IN, *_OUT, *_OUT)
+encode_elements = _function(
+    _BECH32, "bech32_encode_elements", _NUMBER, *_IN, *_IN, _SIZE_OUT, *_OUT
+)
+
+# Those of Liquid's confidential addresses, and the sizes of buffers for them.
+MAX_LIQUID_TEXT, MAX_LIQUID_PROGRAM, LIQUID_KEY_LENGTH = 201, 32, 33
+
+liquid_encode = _function(_BECH32, "bech32_liquid_encode", *_IN, _NUMBER, _BYTES, *_IN, *_OUT)
+liquid_decode = _function(_BECH32, "bech32_liquid_decode", *_IN, *_OUT, _NUMBER_OUT, _BYTES, *_OUT)
+liquid_nearest = _function(
+    _BECH32,
+    "bech32_liquid_nearest",
+    *(*_IN, ctypes.POINTER(_SIZE), _SIZE, _SIZE, ctypes.POINTER(Memory), *_OUT),
+)
+
+# Those of descriptors: the characters of a checksum, and the most of a text that is mended.
+DESCRIPTOR_CHECKSUM, MAX_DESCRIPTOR = 8, 7500
+
+descriptor_checksum = _function(_BECH32, "bech32_descriptor_checksum", *_IN, *_OUT, _SIZE_OUT)
+descriptor_check = _function(_BECH32, "bech32_descriptor_check", *_OUT)
+descriptor_mend = _function(
+    _BECH32,
+    "bech32_descriptor_mend",
+    *(*_IN, _SIZE, ctypes.POINTER(Memory), *_OUT, _SIZE, *_OUT),
+)
+
+# These suffice for a call: bytes that are lent, and room for this many addresses.
+SUGGEST_MEMORY, SUGGESTIONS = 196_608, 48
+
+suggest = _function(
+    _BECH32,
+    "bech32_suggest",
+    *(*_IN, *_IN, ctypes.POINTER(Memory), *_OUT, _SIZE, *_OUT),
 )
 
 

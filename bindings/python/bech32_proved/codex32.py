@@ -40,6 +40,7 @@ from typing import Any, Iterable, List, NamedTuple, NoReturn, Optional, Tuple, T
 from . import _library
 from ._library import MAX_SIZE, Buffer, Copied, Lent, Octets, Text, copied_octets, copied_text, given, in_case_of
 from ._library import listed, refuse, secretly, string, utf8, whole
+from .texts import ALPHABET
 
 # Where the parts stand in a string, and what the strings of one set have in common.
 _IDENTIFIER = slice(4, 8)
@@ -55,7 +56,7 @@ _MAX_BYTES = 64
 _MAX_SHARES = 32
 _MAX_SPLIT = 31
 
-_ALPHABET = b"qpzry9x8gf2tvdw0s3jn54khce6mua7l"
+_CHARACTERS = ALPHABET.encode("ascii")
 
 # An identifier that stands for one that is not drawn yet.
 _ANY = b"qqqq"
@@ -523,7 +524,7 @@ def _drawn_identifier() -> bytes:
     # Four characters at random.
     drawn = bytearray(4)
     _draw(drawn)
-    return bytes(_ALPHABET[byte & 31] for byte in drawn)
+    return bytes(_CHARACTERS[byte & 31] for byte in drawn)
 
 
 def _header(threshold: int, identifier: str, share_index: str) -> Tuple[int, bytes, int, int]:

@@ -33,7 +33,7 @@ _LONGER = {EditKind.SWAPPED: 0, EditKind.LEFT_OUT: -1, EditKind.PUT_IN: 1}
 class Edit(NamedTuple):
     """What is done to a mistyped text to make another of it.
 
-        >>> print(near_edits("a12uel5", Checksum.BECH32)[0].edit)
+        >>> print(near_edits(Checksum.BECH32, "a12uel5")[0].edit)
         character 8: l is put in
     """
 
@@ -66,12 +66,12 @@ class NearEdit(NamedTuple):
     """What is done to the mistyped text."""
 
 
-def near_edits(text: str, checksum: Checksum) -> List[NearEdit]:
+def near_edits(checksum: Checksum, text: str) -> List[NearEdit]:
     """Lists the texts that one edit makes of a mistyped one, in its case: all others that the checksum accepts and
     that come from it by leaving out one character behind the separator, by putting one in, or by swapping two
     neighbours. Each is listed once. What stands before the separator stays as it is.
 
-        >>> near_edits("bc1qw508d6qejxtdg4y53zarvary0c5xw7kv8f3t4", Checksum.BECH32)[0].text
+        >>> near_edits(Checksum.BECH32, "bc1qw508d6qejxtdg4y53zarvary0c5xw7kv8f3t4")[0].text
         'bc1qw508d6qejxtdg4y5r3zarvary0c5xw7kv8f3t4'
 
     If one character is missing or too many, or two neighbours are swapped, the right text is nearly always the
@@ -90,8 +90,8 @@ def near_edits(text: str, checksum: Checksum) -> List[NearEdit]:
     The text may have any length, and any number of characters behind the separator. Raises what `check` raises,
     but for `TextTooLong`, `NoChecksum` and `WrongChecksum`; and `MemoryError` if the texts are too many for 256 MB.
     """
-    data = utf8(text)
-    search, asked = _searches.Search(text, data), (_number(checksum), *given(data))
+    known, data = _number(checksum), utf8(text)
+    search, asked = _searches.Search(text, data), (known, *given(data))
     room = _Room(_LEAST_TEXTS, len(data))
     count = search.count(_library.near_edits, asked, *room.out)
     if count > _LEAST_TEXTS:

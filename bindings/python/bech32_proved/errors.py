@@ -136,16 +136,16 @@ class NoSeparator(Refused):
 
 
 class TextTooLong(Refused):
-    """The text has more than 1023 characters."""
+    """The text has more than 1023 characters (7089 by a long checksum)."""
 
-    sentence = "the text has more than 1023 characters"
+    sentence = "the text has more than 1023 characters (7089 by a long checksum)"
     number = 31
 
 
 class NoChecksum(Refused):
-    """Fewer than six characters stand behind the separator."""
+    """Too few characters for a checksum stand behind the separator."""
 
-    sentence = "fewer than six characters stand behind the separator"
+    sentence = "too few characters for a checksum stand behind the separator"
     number = 32
 
 
@@ -185,16 +185,16 @@ class BadVersion(Refused):
 
 
 class PaddingTooLong(Refused):
-    """More than four bits stand behind the program's bytes."""
+    """More than four bits stand behind the last whole byte."""
 
-    sentence = "more than four bits stand behind the program's bytes"
+    sentence = "more than four bits stand behind the last whole byte"
     number = 44
 
 
 class PaddingNotZero(Refused):
-    """The bits behind the program's bytes are not all zero."""
+    """The bits behind the last whole byte are not all zero."""
 
-    sentence = "the bits behind the program's bytes are not all zero"
+    sentence = "the bits behind the last whole byte are not all zero"
     number = 45
 
 
@@ -220,9 +220,9 @@ class ProgramNotV0(Refused):
 
 
 class EncodedTooLong(Refused):
-    """The text would have more than 1023 characters."""
+    """The text would have more than 1023 characters (7089 by a long checksum)."""
 
-    sentence = "the text would have more than 1023 characters"
+    sentence = "the text would have more than 1023 characters (7089 by a long checksum)"
     number = 51
 
 
@@ -282,6 +282,34 @@ class BadRandom(Refused):
     number = 66
 
 
+class BadElement(Refused):
+    """An element is above 31."""
+
+    sentence = "an element is above 31"
+    number = 67
+
+
+class UnsupportedVersion(Refused):
+    """A confidential address of another witness version than 0 is not supported."""
+
+    sentence = "a confidential address of another witness version than 0 is not supported"
+    number = 70
+
+
+class NoBlindingKey(Refused):
+    """A confidential address has less than 33 bytes behind its version."""
+
+    sentence = "a confidential address has less than 33 bytes behind its version"
+    number = 71
+
+
+class NotInDescriptor(Refused):
+    """A character may not stand in a descriptor, or not in its checksum."""
+
+    sentence = "a character may not stand in a descriptor, or not in its checksum"
+    number = 80
+
+
 class NotMs(Refused):
     """The human-readable part is not `ms`."""
 
@@ -331,6 +359,20 @@ class BitsLeftOver(Refused):
     number = 87
 
 
+class NoDescriptorChecksum(Refused):
+    """The text does not end in `#` and eight characters."""
+
+    sentence = "the text does not end in '#' and eight characters"
+    number = 88
+
+
+class DescriptorTooLong(Refused):
+    """The text has more than 7500 characters, too many to be mended."""
+
+    sentence = "the text has more than 7500 characters, too many to be mended"
+    number = 89
+
+
 # Those for which bech32_fault gives the place of a character.
 OF_A_CHARACTER = frozenset({13, 14, 21, 22})
 
@@ -368,6 +410,10 @@ BY_NUMBER: Dict[int, Type[Refused]] = {
     64: Contradiction,
     65: BadCount,
     66: BadRandom,
+    67: BadElement,
+    70: UnsupportedVersion,
+    71: NoBlindingKey,
+    80: NotInDescriptor,
     81: NotMs,
     82: BadLength,
     83: BadThreshold,
@@ -375,6 +421,8 @@ BY_NUMBER: Dict[int, Type[Refused]] = {
     85: BadIdentifier,
     86: NoShareIndex,
     87: BitsLeftOver,
+    88: NoDescriptorChecksum,
+    89: DescriptorTooLong,
 }
 
 # End of what it writes.

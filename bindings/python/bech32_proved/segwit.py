@@ -1,10 +1,12 @@
 """Segwit addresses (BIP-173, BIP-350)."""
 
 import ctypes
-from typing import NamedTuple
+from typing import List, NamedTuple, Optional, Tuple
 
 from . import _library
-from ._library import Buffer, Octets, given, octets, refuse, utf8, whole
+from ._library import Buffer, Lent, Octets, given, in_case_of, octets, refuse, utf8, whole
+from .edits import Edit, EditKind
+from .texts import Change
 
 # A version is above 31.
 _NO_ELEMENT = 4
@@ -59,3 +61,77 @@ def decode(text: str) -> Address:
     if number != 0:
         refuse(number, text, data)
     return Address(hrp.text(), version.value, program.bytes())
+
+
+class Suggestion(NamedTuple):
+    """An address that may have been meant, and what is changed to make it. Printed, it is what is changed, to be shown to
+    people, who count from 1 as these words do."""
+
+    text: str
+    """The address, in the case of the text that was typed: in upper case if its letters are, else in lower case."""
+
+    changes: Tuple[Change, ...]
+    """The characters that are replaced, in rising order, each `?` with them. There are none where the text is an address as
+    it was typed, or where `edit` makes it."""
+
+    edit: Optional[Edit]
+    """The one edit that makes the address, where no characters are replaced."""
+
+    def __str__(self) -> str:
+        return "; ".join(str(it) for it in self.changes) if self.edit is None else str(self.edit)
+
+
+def suggest(text: str, hrp: str) -> List[Suggestion]:
+    """Did you mean? Lists the addresses of a network, that of a human-readable part, that someone may have meant who typed
+    a text. Each `?` in it is a character that cannot be read.
+
+        >>> [found] = suggest("bc1q?508d6qejxtdg4y5r3zarvaty0c5xw7kv8f3t4", "bc")
+        >>> found.text
+        'bc1qw508d6qejxtdg4y5r3zarvary0c5xw7kv8f3t4'
+        >>> print(found)
+        character 5: ? becomes w; character 28: t becomes r
+
+    Tried are the texts with up to two other characters, as many as are unlikely to be right by chance beside what cannot be
+    read, and if there is no `?`, those that one edit makes: a character left out, one put in, or two neighbours swapped. Of
+    texts that are no mistyped addresses, at most one in 100 gets an answer. It is a guess: show it, and let people compare
+    it with the source before it is paid to.
+
+    Raises the first of, of `hrp`: `HrpEmpty`, `HrpTooLong`, `HrpNotAscii`, `HrpInvalid`, `HrpMixedCase`; and of `text`:
+    `InvalidCharacter`, `MixedCase`, `NoSeparator`, and the same.
+    """
+    data, part = utf8(text), utf8(hrp, "hrp")
+    # The human-readable part is told first.
+    number = _library.encode(1, *given(part), *given(b""), *Buffer(_library.MAX_TEXT).out)
+    if number != 0:
+        refuse(number, hrp)
+    most, lent = _library.SUGGESTIONS, Lent(_library.SUGGEST_MEMORY)
+    kinds, places = ctypes.create_string_buffer(most), (ctypes.c_size_t * most)()
+    texts, count = ctypes.create_string_buffer(most * _library.MAX_ADDRESS), ctypes.c_size_t()
+    outs = (kinds, most, places, most, texts, len(texts), ctypes.byref(count))
+    number = _library.suggest(*given(data), *given(part), ctypes.byref(lent.memory), *outs)
+    if number != 0:
+        refuse(number, text, _as_read(text, data))
+    found, end = [], 0
+    for kind, place in zip(kinds.raw[: count.value], places):
+        start, end = end, end + len(text) + _LONGER.get(kind, 0)
+        found.append(_suggestion(text, kind, place, texts.raw[start:end].decode("ascii")))
+    return found
+
+
+# By how many characters they make a text longer.
+_LONGER = {EditKind.LEFT_OUT.value: -1, EditKind.PUT_IN.value: 1}
+
+
+def _suggestion(text: str, kind: int, place: int, made: str) -> Suggestion:
+    old, new = in_case_of(text, text.lower()), in_case_of(text, made)
+    if kind in [it.value for it in EditKind]:
+        it, size = (new if kind == EditKind.PUT_IN.value else old), 2 if kind == EditKind.SWAPPED.value else 1
+        return Suggestion(new, (), Edit(EditKind(kind), place, it[place : place + size]))
+    pairs = enumerate(zip(old, new))
+    return Suggestion(new, tuple(Change(at, *pair) for at, pair in pairs if pair[0] != pair[1]), None)
+
+
+def _as_read(text: str, data: bytes) -> bytes:
+    # Behind the last `1`, each character that cannot be read is looked at as `0`, which has no case.
+    front, one, behind = text.rpartition("1")
+    return (front + one + behind.replace("?", "0")).encode("utf-8") if one else data

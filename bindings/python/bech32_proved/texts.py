@@ -3,14 +3,20 @@
 import ctypes
 from enum import Enum
 from functools import partial
-from typing import Any, Iterable, List, NamedTuple, Tuple
+from typing import Any, FrozenSet, Iterable, List, NamedTuple, Optional, Tuple
 
 from . import _library, _searches
 from ._library import Buffer, Octets, given, in_case_of, listed, octets, refuse, utf8, whole
-from .errors import WrongChecksum
+from .errors import BadElement, WrongChecksum
 
-# The characters of the elements from 0 to 31.
-_CHARACTERS = "qpzry9x8gf2tvdw0s3jn54khce6mua7l"
+ALPHABET = "qpzry9x8gf2tvdw0s3jn54khce6mua7l"
+"""The characters of the elements from 0 to 31, in lower case."""
+
+# A character that cannot be read, and what stands in its place for the library: a digit, which has no case.
+_UNREADABLE, _FILLER = "?", "0"
+
+# There is no correction.
+_NO_CORRECTION = 34
 
 # The bytes that near texts are put into at first. If all of them take more, the first search says how much, and a
 # second one puts them.
@@ -25,6 +31,18 @@ class Checksum(Enum):
 
     BECH32M = 2
     """That of BIP-350."""
+
+    LONG_BECH32 = 3
+    """That of BIP-173 for texts of up to 7,089 characters, as invoices, nostr and age have them. A text of up to 1,023
+    has the same checksum by BECH32. Above that nothing is promised of wrong characters, and no text is mended: what a
+    wrong character leaves 1,200 characters before the end, one 177 before it leaves too."""
+
+    LONG_BECH32M = 4
+    """That of BIP-350 for such texts."""
+
+    @property
+    def _is_long(self) -> bool:
+        return self in (Checksum.LONG_BECH32, Checksum.LONG_BECH32M)
 
 
 class Decoded(NamedTuple):
@@ -50,6 +68,16 @@ class DecodedWithChecksum(NamedTuple):
     """The checksum that accepts it."""
 
 
+class Elements(NamedTuple):
+    """What a text holds, as elements."""
+
+    hrp: str
+    """Its human-readable part, in the case of the text."""
+
+    elements: bytes
+    """The elements of its data part, 0 to 31 each, without those of the checksum."""
+
+
 class Parts(NamedTuple):
     """The parts of a text, in its case."""
 
@@ -61,10 +89,10 @@ class Parts(NamedTuple):
 
 
 class Change(NamedTuple):
-    """A character of a mistyped text, and the one that is in its place in a mended one. At an erasure they
-    may be the same.
+    """A character of a mistyped text, and the one that is in its place in a mended one. Where it was known to be
+    wrong they may be the same.
 
-        >>> print(correct("a12uel5q", Checksum.BECH32).changes[0])
+        >>> print(correct(Checksum.BECH32, "a12uel5q").changes[0])
         character 8: q becomes l
     """
 
@@ -72,7 +100,7 @@ class Change(NamedTuple):
     """Where it stands, counted from 0 on. People count from 1, as what is printed does."""
 
     from_: str
-    """What stands there in the mistyped text."""
+    """What stands there in the mistyped text: `?` of a character that cannot be read."""
 
     to: str
     """What stands there in the mended one. Both have the case of the mistyped text."""
@@ -89,32 +117,57 @@ class Correction(NamedTuple):
     text: str
     """The mended text, in the case of the mistyped one: in upper case if its letters are, else in lower case."""
 
-    errors: Tuple[Tuple[int, int], ...]
+    errors: Tuple[Tuple[int, Optional[int]], ...]
     """The locations that were wrong, 0 that of the last character, with the element, from 0 to 31, that
-    was added there by exclusive or: the erasures first. `correct` lists none where the text was right."""
+    was added there by exclusive or, or None where the text has `?`: those that were known to be wrong first.
+    `correct` lists none where the text was right."""
 
     @property
     def changes(self) -> Tuple[Change, ...]:
         """The same as places, counted from the front of the text and in rising order, with the characters
         before and after: what to show to people."""
-        return tuple(self._change(*error) for error in sorted(self.errors, reverse=True))
+        located = sorted(self.errors, key=lambda error: -error[0])
+        return tuple(self._change(*error) for error in located)
 
-    def _change(self, location: int, value: int) -> Change:
+    def _change(self, location: int, value: Optional[int]) -> Change:
         place = len(self.text) - 1 - location
         to = self.text[place]
-        from_ = _CHARACTERS[_CHARACTERS.index(to.lower()) ^ value]
+        if value is None:
+            return Change(place, _UNREADABLE, to)
+        from_ = ALPHABET[ALPHABET.index(to.lower()) ^ value]
         return Change(place, in_case_of(self.text, from_), to)
 
 
-def encode(hrp: str, data: Octets, checksum: Checksum = Checksum.BECH32M) -> str:
-    """Encodes bytes under a human-readable part, in lower case.
+class Typed(NamedTuple):
+    """A mistyped text as it is given to the library."""
+
+    text: str
+    """The text."""
+
+    data: bytes
+    """Its bytes as the library reads them, without a `?` behind the separator."""
+
+    known: List[int]
+    """The locations of characters that are known to be wrong: 0 is the last character."""
+
+    unreadable: FrozenSet[int]
+    """Those of them that cannot be read."""
+
+    def listed(self, errors: Iterable[Tuple[int, Optional[int]]]) -> Tuple[Tuple[int, Optional[int]], ...]:
+        """What was added at locations, of which those that cannot be read had no element."""
+        return tuple((location, None if location in self.unreadable else value) for location, value in errors)
+
+
+def encode(checksum: Checksum, hrp: str, data: Octets) -> str:
+    """Encodes bytes under a human-readable part by a checksum, in lower case.
 
     Raises the first of: `HrpEmpty`, `HrpTooLong`, `HrpNotAscii`, `HrpInvalid`, `HrpMixedCase`,
     `EncodedTooLong`.
     """
-    text = Buffer(_library.MAX_TEXT)
+    known = _any_number(checksum)
+    text = Buffer(_library.MAX_LONG_TEXT if Checksum(known)._is_long else _library.MAX_TEXT)
     number = _library.encode(
-        _number(checksum), *given(utf8(hrp, "hrp")), *given(bytes(octets(data))), *text.out
+        known, *given(utf8(hrp, "hrp")), *given(bytes(octets(data))), *text.out
     )
     if number != 0:
         refuse(number, hrp)
@@ -122,7 +175,8 @@ def encode(hrp: str, data: Octets, checksum: Checksum = Checksum.BECH32M) -> str
 
 
 def decode(text: str) -> Decoded:
-    """Decodes a text that Bech32m or Bech32 accepts. `decode_with_checksum` also says which of them does.
+    """Decodes a text that Bech32m or Bech32 accepts. `decode_with_checksum` also says which of them does. What
+    identifies something is decoded by `decode_strict`, which accepts one spelling of it.
 
     Decode an address by `segwit.decode`, not by this. The first element of an address is its witness version, so
     this returns the program shifted by five bits. That looks like a hash, but it is not the program.
@@ -138,6 +192,77 @@ def decode(text: str) -> Decoded:
     return Decoded(hrp.text(), found.bytes())
 
 
+def decode_strict(checksum: Checksum, text: str) -> Decoded:
+    """Decodes a text that a checksum accepts, and refuses bits behind the last whole byte that are more than four, or not
+    all zero. So the text is, in its case, the only one by this checksum of its human-readable part and its bytes:
+    `encode` writes it of them, in lower case. Decode so what identifies something, as an account or a key: else it has
+    several spellings.
+
+        >>> decode("a1qpamnt9j") == decode("a1qqqd87cq")
+        True
+        >>> decode_strict(Checksum.BECH32, "a1qpamnt9j")
+        Traceback (most recent call last):
+        ...
+        bech32_proved.errors.PaddingNotZero: the bits behind the last whole byte are not all zero
+
+    Raises the first of: `InvalidCharacter`, `MixedCase`, `NoSeparator`, `HrpEmpty`, `HrpTooLong`,
+    `HrpNotAscii`, `HrpInvalid`, `HrpMixedCase`; `TextTooLong`, `NoChecksum`, `WrongChecksum`;
+    `PaddingTooLong`, `PaddingNotZero`.
+    """
+    known, data = _any_number(checksum), utf8(text)
+    hrp = Buffer(_library.MAX_HRP)
+    found = Buffer(_library.MAX_LONG_BYTES if Checksum(known)._is_long else _library.MAX_BYTES)
+    number = _library.decode_strict(known, *given(data), *hrp.out, *found.out)
+    if number != 0:
+        refuse(number, text, data)
+    return Decoded(hrp.text(), found.bytes())
+
+
+def decode_elements(checksum: Checksum, text: str) -> Elements:
+    """Decodes a text that a checksum accepts to elements, 0 to 31 each. This reads what is not bytes alone, as an
+    address of silent payments (BIP-352), whose first element is a version, or an invoice (BOLT 11). The text is, in its
+    case, the only one by this checksum that has them: `encode_elements` writes it, in lower case.
+
+        >>> decode_elements(Checksum.BECH32, "A1QPAMNT9J")
+        Elements(hrp='A', elements=b'\\x00\\x01')
+
+    Raises the first of: `InvalidCharacter`, `MixedCase`, `NoSeparator`, `HrpEmpty`, `HrpTooLong`,
+    `HrpNotAscii`, `HrpInvalid`, `HrpMixedCase`; `TextTooLong`, `NoChecksum`, `WrongChecksum`.
+    """
+    known, data = _any_number(checksum), utf8(text)
+    hrp = Buffer(_library.MAX_HRP)
+    found = Buffer(_library.MAX_LONG_ELEMENTS if Checksum(known)._is_long else _library.MAX_ELEMENTS)
+    number = _library.decode_elements(known, *given(data), *hrp.out, *found.out)
+    if number != 0:
+        refuse(number, text, data)
+    return Elements(hrp.text(), found.bytes())
+
+
+def encode_elements(checksum: Checksum, hrp: str, elements: Octets) -> str:
+    """Encodes elements, 0 to 31 each, under a human-readable part by a checksum, in lower case. The elements of bytes are
+    their bits, five at a time, the highest first, with zeros behind the last.
+
+        >>> encode_elements(Checksum.BECH32, "a", bytes([0, 1]))
+        'a1qpamnt9j'
+
+    The place of what is raised for an element is that of the first above 31.
+
+    Raises the first of: `HrpEmpty`, `HrpTooLong`, `HrpNotAscii`, `HrpInvalid`, `HrpMixedCase`,
+    `EncodedTooLong`, `BadElement`.
+    """
+    known, held = _any_number(checksum), bytes(octets(elements, "elements"))
+    text, place = Buffer(_library.MAX_LONG_TEXT if Checksum(known)._is_long else _library.MAX_TEXT), ctypes.c_size_t()
+    number = _library.encode_elements(
+        known, *given(utf8(hrp, "hrp")), *given(held), ctypes.byref(place), *text.out
+    )
+    if number == BadElement.number:
+        at = place.value
+        raise BadElement(None, at, f"an element is above 31: {held[at]}, at place {at}")
+    if number != 0:
+        refuse(number, hrp)
+    return text.text()
+
+
 def decode_with_checksum(text: str) -> DecodedWithChecksum:
     """Decodes a text like `decode`, and says which checksum accepts it. Decode an address by `segwit.decode`.
 
@@ -148,21 +273,21 @@ def decode_with_checksum(text: str) -> DecodedWithChecksum:
     """
     hrp, found = decode(text)
     try:
-        check(text, Checksum.BECH32M)
+        check(Checksum.BECH32M, text)
     except WrongChecksum:
         return DecodedWithChecksum(hrp, found, Checksum.BECH32)
     return DecodedWithChecksum(hrp, found, Checksum.BECH32M)
 
 
-def check(text: str, checksum: Checksum) -> Parts:
+def check(checksum: Checksum, text: str) -> Parts:
     """Tests that a checksum accepts a text, and returns its parts.
 
     Raises what `decode` raises.
     """
-    data = utf8(text)
+    known, data = _any_number(checksum), utf8(text)
     hrp_length, data_length = ctypes.c_size_t(), ctypes.c_size_t()
     number = _library.check(
-        _number(checksum),
+        known,
         *given(data),
         ctypes.byref(hrp_length),
         ctypes.byref(data_length),
@@ -173,57 +298,75 @@ def check(text: str, checksum: Checksum) -> Parts:
     return Parts(text[: hrp_length.value], text[behind : behind + data_length.value])
 
 
-def correct(text: str, checksum: Checksum, erasures: Iterable[int] = ()) -> Correction:
-    """Mends a mistyped text, in its case. `erasures` are the locations of characters that are known to be wrong;
-    0 is the last character, and the character at a place has the location `len(text) - 1 - place`.
+def correct(
+    checksum: Checksum, text: str, places: Iterable[int] = (), *, erasures: Iterable[int] = ()
+) -> Correction:
+    """Mends a mistyped text, in its case. Each `?` behind the last `1` is a character that cannot be read. `places`
+    are those of other characters that are known to be wrong, counted from 0 on. `erasures` are the same, counted
+    from the end: the character at a place has the location `len(text) - 1 - place`, and the last one 0.
 
-        >>> correct("A12UEL5Q", Checksum.BECH32).text
+        >>> correct(Checksum.BECH32, "A12UEL5Q").text
         'A12UEL5L'
+        >>> print(*correct(Checksum.BECH32, "a1?ue?5q", [7]).changes, sep="; ")
+        character 3: ? becomes 2; character 6: ? becomes l; character 8: q becomes l
 
-    It finds one wrong character; or one, beside one erasure; or up to three erasures. Within these bounds there
-    is at most one correction of the characters behind the separator. It may not be what was meant: show it, and
-    ask. `nearest` finds two wrong characters.
+    It finds one wrong character; or one, beside one that is known to be wrong; or up to three that are known to be.
+    Within these bounds there is at most one correction of the characters behind the separator. It may not be what
+    was meant: show it, and ask. `nearest` finds two wrong characters.
 
     Raises what `check` raises, but `NoCorrection` in place of `WrongChecksum`: if there is no such correction, or
-    an erasure is not behind the separator. Of a negative location, `ValueError`.
+    a place is not behind the separator. Of a place that the text does not have and a negative location, `ValueError`.
     """
-    data = utf8(text)
-    room = _library.MAX_LISTED
+    _number(checksum)
+    return corrected(checksum, _known(text, places, erasures))
+
+
+def corrected(checksum: Checksum, typed: Typed) -> Correction:
+    """The correction of a mistyped text."""
+    number, room = _number(checksum), _library.MAX_LISTED
     locations, count = (ctypes.c_size_t * room)(), ctypes.c_size_t()
     values, mended = ctypes.create_string_buffer(room), Buffer(_library.MAX_TEXT)
-    number = _library.correct(
-        _number(checksum),
-        *given(data),
-        *_as_sizes(_locations(erasures)),
+    refusal = _library.correct(
+        number,
+        *given(typed.data),
+        *_as_sizes(typed.known),
         *(locations, room, values, room, ctypes.byref(count)),
         *mended.out,
     )
-    if number != 0:
-        refuse(number, text, data)
-    added = zip(locations[: count.value], values.raw[: count.value])
-    return Correction(in_case_of(text, mended.text()), tuple(added))
+    errors: List[Tuple[int, Optional[int]]] = list(zip(locations[: count.value], values.raw[: count.value]))
+    if refusal == 0 and typed.unreadable and count.value == 0:
+        # What was read in the place of each `?` is right.
+        errors = [(location, 0) for location in dict.fromkeys(typed.known)]
+        size = len(typed.text) - 1 - typed.text.rfind("1")
+        refusal = 0 if len(errors) <= room and max(typed.known) < size else _NO_CORRECTION
+    if refusal != 0:
+        refuse(refusal, typed.text, typed.data)
+    return Correction(in_case_of(typed.text, mended.text()), typed.listed(errors))
 
 
 def nearest(
-    text: str, checksum: Checksum, erasures: Iterable[int] = (), errors: int = 2
+    checksum: Checksum, text: str, places: Iterable[int] = (), errors: int = 2, *, erasures: Iterable[int] = ()
 ) -> List[Correction]:
     """Lists the texts near to a mistyped one, in its case: all that the checksum accepts and that differ from it
-    in at most `errors` characters, 0 to 2, behind the separator and outside `erasures`. These are the locations
-    of characters that are known to be wrong; 0 is the last character. The list may be empty.
+    in at most `errors` characters, 0 to 2, behind the separator and beside the characters that are known to be
+    wrong. These are each `?` behind the last `1`, which cannot be read, and the characters at `places`, counted
+    from 0 on, or at `erasures`, counted from the end as in `correct`. The list may be empty.
 
-    With at most 89 characters behind the separator and no erasures, it has at most one text. If no more than
-    `errors` characters are wrong, that text is the right one. It may not be what was meant: of random texts of 62
-    characters, some 15 in 10,000 have a near one. Show it, and ask.
+        >>> [it.text for it in nearest(Checksum.BECH32, "bc1q?508d6qejxtdg4y5r3zarvaty0c5xw7kv8f3t4")]
+        ['bc1qw508d6qejxtdg4y5r3zarvary0c5xw7kv8f3t4']
 
-    The order is that of the highest location of a change outside the erasures, then that of the element
-    added there, then that of the next such location. A text without such changes is first: one that the
-    checksum accepts is the first of its own list. The list is empty if an erasure is not behind the separator,
-    or if there are more than three.
+    With at most 89 characters behind the separator and none known to be wrong, it has at most one text. If no more
+    than `errors` characters are wrong, that text is the right one. It may not be what was meant: of random texts of
+    62 characters, some 15 in 10,000 have a near one. Show it, and ask.
+
+    The order is that of the highest location of a change outside those, then that of the element added there, then
+    that of the next such location. A text without such changes is first: one that the checksum accepts is the first
+    of its own list. The list is empty if one of those is not behind the separator, or if there are more than three.
 
     The time of a search for two errors, in milliseconds of a processor at 2.5 GHz, rounded, and the number of
     texts. If these fill more than 16 KB, there is a second search, which takes as long.
 
-        characters   no erasure   one          two          three
+        characters   none known   one          two          three
         42           0.05, 1      0.1, 1       0.1, 1       0.1, 17
         62           0.1, 1       0.2, 1       0.2, 2       0.2, 50
         90           0.15, 1      0.25, 1      0.25, 4      0.35, 110
@@ -241,26 +384,64 @@ def nearest(
     Called in the main thread, it searches in another one, so that Ctrl-C ends the call at once. The library
     cannot be stopped: until the search, or the program, ends, it keeps a processor and its memory.
 
-    Raises what `check` raises, but for `WrongChecksum`; `ValueError` of more than two errors or a negative
-    location, and `MemoryError` if the texts are too many for 256 MB.
+    Raises what `check` raises, but for `WrongChecksum`; `ValueError` of more than two errors, a place that the text
+    does not have, or a negative location, and `MemoryError` if the texts are too many for 256 MB.
     """
+    _number(checksum)
     wrong = whole(errors, "errors")
     if wrong not in range(3):
         raise ValueError(f"errors must be 0, 1 or 2, not {wrong}")
-    data, known = utf8(text), _locations(erasures)
-    asked = (_number(checksum), *given(data), *_as_sizes(known), ctypes.c_size_t(wrong))
+    return near(checksum, _known(text, places, erasures), wrong)
+
+
+def near(checksum: Checksum, typed: Typed, wrong: int) -> List[Correction]:
+    """The texts near to a mistyped one, with at most so many other characters."""
+    return listed_near(_library.nearest, (_number(checksum),), typed, wrong)
+
+
+def listed_near(function: Any, before: Tuple[Any, ...], typed: Typed, wrong: int) -> List[Correction]:
+    """What a function of the library lists as near to a text; `before` it stands what the function is given besides."""
+    text, data, known = typed.text, typed.data, typed.known
+    asked = (*before, *given(data), *_as_sizes(known), ctypes.c_size_t(wrong))
     search, texts = _searches.Search(text, data), _searches.texts(_LEAST_ROOM)
-    call = partial(_library.interruptible, _library.nearest)
+    call = partial(_library.interruptible, function)
     count = search.count(call, asked, *texts)
     if count * len(data) > _LEAST_ROOM:
         texts = _searches.texts(count * len(data))
         search.count(call, asked, *texts)
     found = texts[0][: count * len(data)].decode("ascii")
     each = [found[n : n + len(data)] for n in range(0, len(found), len(data))]
-    return [Correction(in_case_of(text, near), _changes(text, near, known)) for near in each]
+    read = data.decode("utf-8")
+    return [Correction(in_case_of(text, near), typed.listed(_changes(read, near, known))) for near in each]
+
+
+def as_typed(text: str, known: List[int]) -> Typed:
+    """A text in which `?` is a character like others."""
+    return Typed(text, utf8(text), known, frozenset())
+
+
+def _known(text: str, places: Iterable[int], erasures: Iterable[int]) -> Typed:
+    # A text with what is known to be wrong, each `?` behind its separator too.
+    data, last, begin = utf8(text), len(text) - 1, text.rfind("1") + 1
+    known = [*_places(places, last), *_locations(erasures)]
+    if begin == 0 or _UNREADABLE not in text[begin:]:
+        return Typed(text, data, known, frozenset())
+    unreadable = [last - place for place in range(begin, last + 1) if text[place] == _UNREADABLE]
+    read = text[:begin] + text[begin:].replace(_UNREADABLE, _FILLER)
+    each = list(dict.fromkeys([*known, *unreadable]))
+    return Typed(text, read.encode("utf-8"), each, frozenset(unreadable))
 
 
 def _number(checksum: Checksum) -> int:
+    # The number of a checksum in the library, of those that mend texts.
+    known = _any_number(checksum)
+    if Checksum(known)._is_long:
+        said = f"not {Checksum(known)}: long texts are not mended"
+        raise ValueError(f"checksum must be Checksum.BECH32 or Checksum.BECH32M, {said}")
+    return known
+
+
+def _any_number(checksum: Checksum) -> int:
     # The number of a checksum in the library.
     try:
         return Checksum(checksum).value
@@ -268,6 +449,16 @@ def _number(checksum: Checksum) -> int:
         # Of what is no number the type alone: it may be data that stands in the wrong place.
         shown = checksum if isinstance(checksum, int) else type(checksum).__name__
         raise ValueError(f"checksum must be Checksum.BECH32 or Checksum.BECH32M, not {shown}") from None
+
+
+def _places(places: Iterable[int], last: int) -> List[int]:
+    # The locations of places in a text, of which this is the last.
+    known = listed(places, "places must be a list of places, not")
+    located = [whole(place, "each place of places") for place in known]
+    for place in located:
+        if not 0 <= place <= last:
+            raise ValueError(f"the text has no place {place} (0 is the first character)")
+    return [last - place for place in located]
 
 
 def _locations(erasures: Iterable[int]) -> List[int]:
@@ -292,5 +483,5 @@ def _changes(text: str, near: str, erasures: List[int]) -> Tuple[Tuple[int, int]
     pairs = list(zip(reversed(text.lower()), reversed(near)))
     others = [0, *range(len(pairs) - 1, 0, -1)]
     changed = [n for n in others if pairs[n][0] != pairs[n][1]]
-    values = [[_CHARACTERS.find(character) for character in pair] for pair in pairs]
+    values = [[ALPHABET.find(character) for character in pair] for pair in pairs]
     return tuple((n, values[n][0] ^ values[n][1]) for n in dict.fromkeys([*erasures, *changed]))

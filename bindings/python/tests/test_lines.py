@@ -1,13 +1,16 @@
-"""Compares the package with the stored runs of the programs b32, c32 and vector_rows, whose replies reference
+"""Compares the package with the stored runs of the programs b32, c32, mend and vector_rows, whose replies reference
 models gave as well: in the folder that B32_LINES names, files b32-lines, b32-replies and so on; without it,
 those of this repository. Of vector_rows, the rows of texts that one edit makes are read."""
 
 import os
+import re
+import subprocess
+import sys
 import unittest
 from pathlib import Path
 
 from bech32_proved import Checksum, EditKind, Refused, check, codex32, correct, decode, encode, errors, near_edits
-from bech32_proved import segwit
+from bech32_proved import __main__, _lines, segwit
 
 TOP = Path(__file__).resolve().parent.parent.parent.parent
 STORED = {"lines": "stdin", "replies": "stdout"}
@@ -63,12 +66,14 @@ def b32(words):
         hrp, version, program = segwit.decode(rest[0])
         return f"ok {hrp.lower()} {version} {program.hex()}"
     if command == "encode" and len(rest) == 3 and rest[0] in CHECKSUMS:
-        return f"ok {encode(rest[1], data_of(rest[2]), CHECKSUMS[rest[0]])}"
+        return f"ok {encode(CHECKSUMS[rest[0]], rest[1], data_of(rest[2]))}"
     if command == "segwit-encode" and len(rest) == 3 and rest[1].isdigit():
         return f"ok {segwit.encode(rest[0], int(rest[1]), data_of(rest[2]))}"
     if command == "correct" and len(rest) in (2, 3) and rest[0] in CHECKSUMS:
+        if "?" in rest[1]:
+            return None
         erasures = [int(word) for word in rest[2].split(",")] if len(rest) == 3 else []
-        return mended(*correct(rest[1], CHECKSUMS[rest[0]], erasures))
+        return mended(*correct(CHECKSUMS[rest[0]], rest[1], erasures=erasures))
     return None
 
 
@@ -148,6 +153,65 @@ class Lines(unittest.TestCase):
     def test_c32(self):
         self.assertGreater(self.compare("c32", c32), 2700)
 
+    def test_replies(self):
+        """`python -m bech32_proved` replies to each stored line what the program replies."""
+        for program in _lines.PROGRAMS:
+            given = stored(program, "lines").read_bytes()
+            wanted = stored(program, "replies").read_bytes()
+            command = [sys.executable, "-m", "bech32_proved", *([] if program == "b32" else [program])]
+            printed = subprocess.run(command, input=given, stdout=subprocess.PIPE, check=True).stdout
+            for line, reply, found in zip(given.split(b"\n"), wanted.split(b"\n"), printed.split(b"\n")):
+                self.assertEqual(found, reply, line)
+            self.assertEqual(printed, wanted)
+
+    def test_replies_of_the_help(self):
+        command = [sys.executable, "-m", "bech32_proved", "--help"]
+        printed = subprocess.run(command, stdout=subprocess.PIPE, check=True).stdout.decode("ascii")
+        self.assertEqual(printed.strip(), __main__.__doc__.strip())
+        parts = re.split(r"^Lines to (\w+)", printed, flags=re.M)
+        shown = {}
+        for program, part in zip(parts[1::2], parts[2::2]):
+            pairs = re.findall(r"^    (\S.*)\n        (.*)$", part, re.M)
+            for line, reply in pairs:
+                self.assertEqual(_lines.reply(program, line.encode()), reply, line)
+            shown[program] = {line.split(" ")[0] for line, _ in pairs}
+        self.assertEqual(shown, {program: set(commands) for program, commands in _lines.PROGRAMS.items()})
+
+    def test_lines_at_their_ends(self):
+        def printed(given, *words):
+            command = [sys.executable, "-m", "bech32_proved", *words]
+            ran = subprocess.run(command, input=given, stdout=subprocess.PIPE, stderr=subprocess.PIPE)
+            return ran.returncode, ran.stdout, ran.stderr
+
+        self.assertEqual(printed(b""), (0, b"", b""))
+        self.assertEqual(printed(b"\n"), (0, b"err 3\n", b""))
+        self.assertEqual(printed(b"decode a12uel5l", "b32"), (0, b"ok a -\n", b""))
+        self.assertEqual(printed(b"decode a12uel5l\r\n"), (0, b"err 21\n", b""))
+        long = b"decode " + b"q" * 200_000
+        self.assertEqual(printed(long[:4096] + b"\n" + long[:4097] + b"\n" + long), (0, b"err 23\nerr 1\nerr 1\n", b""))
+        self.assertEqual(printed(b"checksum \xff\n", "mend"), (0, b"err 2\n", b""))
+        for words in (("b33",), ("b32", "mend")):
+            status, out, said = printed(b"", *words)
+            self.assertEqual((status, out, said[:6]), (2, b"", b"usage:"))
+
+    @unittest.skipUnless(os.path.exists("/dev/full"), "it wants a device that is full")
+    def test_a_full_disk_is_told(self):
+        with open("/dev/full", "wb") as full:
+            ran = subprocess.run(
+                [sys.executable, "-m", "bech32_proved"], input=b"decode a12uel5l\n", stdout=full, stderr=subprocess.PIPE
+            )
+        self.assertEqual((ran.returncode, ran.stderr), (1, b"b32: writing failed\n"))
+
+    def test_a_line_is_answered_before_the_next(self):
+        program = subprocess.Popen([sys.executable, "-m", "bech32_proved"], stdin=subprocess.PIPE, stdout=subprocess.PIPE)
+        self.addCleanup(program.stdout.close)
+        for line, reply in ((b"decode a12uel5l\n", b"ok a -\n"), (b"decode a\n", b"err 23\n")):
+            program.stdin.write(line)
+            program.stdin.flush()
+            self.assertEqual(program.stdout.readline(), reply)
+        program.stdin.close()
+        self.assertEqual(program.wait(), 0)
+
     def test_edits(self):
         # These rows have a line of reply each. Behind them stand those of a block, and what it prints.
         lines = stored("vector_rows", "lines").read_text("ascii").split()
@@ -156,9 +220,9 @@ class Lines(unittest.TestCase):
         replies = printed.splitlines()[-len(wanted) :]
         for (name, text), reply in zip(wanted, replies):
             checksum = Checksum[name.upper()]
-            found = near_edits(text, checksum)
+            found = near_edits(checksum, text)
             for near in found:
-                check(near.text, checksum)
+                check(checksum, near.text)
             self.assertEqual(" ".join(edit_row(near, len(text)) for near in found) or "none", reply, text)
         self.assertEqual(len(wanted), 300)
 

@@ -20,6 +20,7 @@ from unittest import mock
 
 import bech32_proved
 from bech32_proved import Checksum, Edit, EditKind, check, codex32, correct, decode, decode_with_checksum
+from bech32_proved import decode_elements, decode_strict, encode_elements
 from bech32_proved import _searches, edits, encode, errors, near_edits, nearest, segwit, texts
 from bech32_proved._library import Lent, interruptible
 
@@ -143,16 +144,17 @@ class Texts(unittest.TestCase):
         for text, right, wrong in rows:
             hrp, _, behind = text.rpartition("1")
             with self.subTest(text):
-                self.assertEqual(check(text, right), (hrp, behind[:-6]))
+                self.assertEqual(check(right, text), (hrp, behind[:-6]))
                 self.assertEqual(decode(text).hrp, hrp)
                 self.assertEqual(decode_with_checksum(text), (*decode(text), right))
-                self.assertRaises(errors.WrongChecksum, check, text, wrong)
-                self.assertEqual(correct(text, right, [0]), (text, ()))
+                self.assertRaises(errors.WrongChecksum, check, wrong, text)
+                self.assertEqual(correct(right, text, [len(text) - 1]), (text, ()))
+                self.assertEqual(correct(right, text, erasures=[0]), (text, ()))
 
     def test_refuses(self):
         for text, error, place in REFUSED:
             calls = [lambda: decode(text), lambda: decode_with_checksum(text)]
-            calls += [lambda c=c: check(text, c) for c in Checksum]
+            calls += [lambda c=c: check(c, text) for c in (Checksum.BECH32, Checksum.BECH32M)]
             for call in calls:
                 with self.subTest(text[:90]), self.assertRaises(error) as raised:
                     call()
@@ -170,13 +172,13 @@ class Texts(unittest.TestCase):
     def test_encodes(self):
         data = b"\xff" + PROGRAM[1:]
         self.assertEqual(
-            encode("test", data, Checksum.BECH32), "test1lu08d6qejxtdg4y5r3zarvary0c5xw7kw79nnx"
+            encode(Checksum.BECH32, "test", data), "test1lu08d6qejxtdg4y5r3zarvary0c5xw7kw79nnx"
         )
-        text = encode("TEST", bytearray(data))
+        text = encode(Checksum.BECH32M, "TEST", bytearray(data))
         self.assertEqual(text, "test1lu08d6qejxtdg4y5r3zarvary0c5xw7kmz4lky")
         self.assertEqual(decode(text.upper()), ("TEST", data))
-        self.assertEqual(len(encode("a", bytes(634))), 1023)
-        self.assertRaises(errors.EncodedTooLong, encode, "a", bytes(635))
+        self.assertEqual(len(encode(Checksum.BECH32M, "a", bytes(634))), 1023)
+        self.assertRaises(errors.EncodedTooLong, encode, Checksum.BECH32M, "a", bytes(635))
         for hrp, error in [
             ("", errors.HrpEmpty),
             ("a" * 84, errors.HrpTooLong),
@@ -185,99 +187,233 @@ class Texts(unittest.TestCase):
             ("aB", errors.HrpMixedCase),
             ("\udfff", errors.NotUnicode),
         ]:
-            self.assertRaises(error, encode, hrp, b"")
+            self.assertRaises(error, encode, Checksum.BECH32M, hrp, b"")
+
+    def test_decodes_one_spelling(self):
+        for checksum in Checksum:
+            for size in range(12):
+                # Eight spellings at most of the same bytes: those of the bits behind them, and of a further element.
+                data, free = bytes(range(200, 200 + size)), -8 * size % 5
+                right = encode(checksum, "a", data)
+                elements = decode_elements(checksum, right).elements
+                self.assertEqual(decode_strict(checksum, right), ("a", data))
+                self.assertEqual(decode_strict(checksum, right.upper()), ("A", data))
+                for more in range(1, 1 << free):
+                    other = encode_elements(checksum, "a", elements[:-1] + bytes([elements[-1] | more]))
+                    self.assertRaises(errors.PaddingNotZero, decode_strict, checksum, other)
+                if free <= 2:
+                    other = encode_elements(checksum, "a", elements + bytes([0]))
+                    self.assertRaises(errors.PaddingTooLong, decode_strict, checksum, other)
+                    self.assertEqual(decode_elements(checksum, other), ("a", elements + bytes([0])))
+        for text, error, place in REFUSED:
+            for call in (decode_strict, decode_elements):
+                with self.subTest(text[:90]), self.assertRaises(error) as raised:
+                    call(Checksum.BECH32, text)
+                self.assertEqual((raised.exception.text, raised.exception.place), (text, place))
+
+    def test_reads_and_writes_elements(self):
+        for checksum in Checksum:
+            for length in (0, 1, 31, 1015):
+                elements = bytes(n % 32 for n in range(length))
+                text = encode_elements(checksum, "a", elements)
+                self.assertEqual(text[2 : 2 + length], "".join(bech32_proved.ALPHABET[it] for it in elements))
+                self.assertEqual(decode_elements(checksum, text), ("a", elements))
+                self.assertEqual(check(checksum, text).data_part, text[2 : 2 + length])
+        self.assertRaises(errors.EncodedTooLong, encode_elements, Checksum.BECH32, "a", bytes(1016))
+        self.assertEqual(len(encode_elements(Checksum.LONG_BECH32, "a", bytes(7081))), 7089)
+        self.assertRaises(errors.EncodedTooLong, encode_elements, Checksum.LONG_BECH32, "a", bytes(7082))
+        self.assertRaises(errors.HrpEmpty, encode_elements, Checksum.BECH32, "", bytes([32]))
+        for elements, place in ((b"\x20", 0), (b"\x00\x1f\xff\x40", 2)):
+            with self.assertRaises(errors.BadElement) as raised:
+                encode_elements(Checksum.BECH32, "a", elements)
+            self.assertEqual((raised.exception.place, raised.exception.text, raised.exception.number), (place, None, 67))
+            self.assertEqual(str(raised.exception), f"an element is above 31: {elements[place]}, at place {place}")
+        # An address of silent payments, whose first element is its version.
+        payments = "sp1qqgste7k9hx0qftg6qmwlkqtwuy6cycyavzmzj85c6qdfhjdpdjtdgqjuexzk6murw56suy3e0rd2cgqvycxttddwsvgxe2usfpxumr70xc9pkqwv"
+        hrp, (version, *rest) = decode_elements(Checksum.BECH32M, payments)
+        self.assertEqual((hrp, version, len(rest)), ("sp", 0, 106))
+        self.assertEqual(encode_elements(Checksum.BECH32M, hrp, bytes([version, *rest])), payments)
+
+    def test_reads_and_writes_long_texts(self):
+        for checksum, short in ((Checksum.LONG_BECH32, Checksum.BECH32), (Checksum.LONG_BECH32M, Checksum.BECH32M)):
+            for size in (0, 634, 635, 1000, 4425):
+                data = bytes(n % 251 for n in range(size))
+                text = encode(checksum, "a", data)
+                self.assertEqual(decode_strict(checksum, text), ("a", data))
+                self.assertEqual(check(checksum, text).hrp, "a")
+                self.assertRaises(errors.WrongChecksum, check, checksum, text[:-1] + ("q" if text[-1] != "q" else "p"))
+                if len(text) <= 1023:
+                    self.assertEqual(encode(short, "a", data), text)
+                else:
+                    self.assertRaises(errors.TextTooLong, check, short, text)
+                    self.assertRaises(errors.TextTooLong, decode, text)
+            self.assertRaises(errors.EncodedTooLong, encode, checksum, "a", bytes(4426))
+            for call in (correct, nearest, near_edits):
+                with self.assertRaises(ValueError) as raised:
+                    call(checksum, "a12uel5l")
+                said = f"checksum must be Checksum.BECH32 or Checksum.BECH32M, not {checksum}: long texts are not mended"
+                self.assertEqual(str(raised.exception), said)
 
     def test_mends(self):
-        self.assertEqual(correct("a12uel5q", Checksum.BECH32), ("a12uel5l", ((0, 31),)))
-        mended = correct("bc1qar0srrr7xfkvy5l64qlydnw9re59gtzzwf5mdx", Checksum.BECH32, [0])
+        self.assertEqual(correct(Checksum.BECH32, "a12uel5q"), ("a12uel5l", ((0, 31),)))
+        mended = correct(Checksum.BECH32, "bc1qar0srrr7xfkvy5l64qlydnw9re59gtzzwf5mdx", [41])
         self.assertEqual(mended.text, "bc1qar0srrr7xfkvy5l643lydnw9re59gtzzwf5mdq")
         self.assertEqual([location for location, _ in mended.errors], [0, 20])
         for erasures in [(1, 2), (0, 1, 2, 3), (6,), (2**64,), (2**64 - 1,)]:
             with self.subTest(erasures), self.assertRaises(errors.NoCorrection):
-                correct("a12uel5q", Checksum.BECH32, erasures)
+                correct(Checksum.BECH32, "a12uel5q", erasures=erasures)
         with self.assertRaises(errors.InvalidCharacter) as raised:
-            correct("x1b4n0q5v", Checksum.BECH32)
+            correct(Checksum.BECH32, "x1b4n0q5v")
         self.assertEqual(raised.exception.place, 2)
 
     def test_says_the_changes(self):
-        self.assertEqual(correct("a12uel5q", Checksum.BECH32).changes, ((7, "q", "l"),))
-        self.assertEqual(correct("A12UEL5Q", Checksum.BECH32).changes, ((7, "Q", "L"),))
-        self.assertEqual(correct("a12uel5l", Checksum.BECH32).changes, ())
+        self.assertEqual(correct(Checksum.BECH32, "a12uel5q").changes, ((7, "q", "l"),))
+        self.assertEqual(correct(Checksum.BECH32, "A12UEL5Q").changes, ((7, "Q", "L"),))
+        self.assertEqual(correct(Checksum.BECH32, "a12uel5l").changes, ())
         for text, listed, near in NEAR:
             places = sorted(len(text) - 1 - location for location, _ in listed)
             wanted = tuple((place, text[place], near[place]) for place in places)
-            self.assertEqual(nearest(text, Checksum.BECH32)[0].changes, wanted)
+            self.assertEqual(nearest(Checksum.BECH32, text)[0].changes, wanted)
             known = [location for location, _ in listed]
-            self.assertEqual(nearest(text, Checksum.BECH32, reversed(known), 0)[0].changes, wanted)
-        changes = nearest(NEAR[0][0], Checksum.BECH32)[0].changes
+            self.assertEqual(nearest(Checksum.BECH32, text, errors=0, erasures=reversed(known))[0].changes, wanted)
+            self.assertEqual(nearest(Checksum.BECH32, text, iter(places), 0)[0].changes, wanted)
+        changes = nearest(Checksum.BECH32, NEAR[0][0])[0].changes
         self.assertEqual(
             [str(it) for it in changes], ["character 5: q becomes w", "character 6: q becomes 5"]
         )
-        known = nearest("a12uel5l", Checksum.BECH32, [2], 0)
+        known = nearest(Checksum.BECH32, "a12uel5l", [5], 0)
         self.assertEqual([str(it) for it in known[0].changes], ["character 6: l stays"])
 
     def test_lists_near_texts(self):
         for text, listed, near in NEAR:
             with self.subTest(text):
-                self.assertEqual(nearest(text, Checksum.BECH32), [(near, listed)])
-                self.assertEqual(nearest(text.upper(), Checksum.BECH32), [(near.upper(), listed)])
-                self.assertEqual(nearest(text, Checksum.BECH32, errors=1), [])
+                self.assertEqual(nearest(Checksum.BECH32, text), [(near, listed)])
+                self.assertEqual(nearest(Checksum.BECH32, text.upper()), [(near.upper(), listed)])
+                self.assertEqual(nearest(Checksum.BECH32, text, errors=1), [])
                 # The first of the two is known to be wrong.
                 known = [listed[0][0]]
-                self.assertEqual(nearest(text, Checksum.BECH32, known, 1), [(near, listed)])
-                self.assertEqual(correct(text, Checksum.BECH32, known), (near, listed))
+                self.assertEqual(nearest(Checksum.BECH32, text, errors=1, erasures=known), [(near, listed)])
+                self.assertEqual(correct(Checksum.BECH32, text, erasures=known), (near, listed))
+                places = [len(text) - 1 - known[0]]
+                self.assertEqual(nearest(Checksum.BECH32, text, places, 1), [(near, listed)])
+                self.assertEqual(correct(Checksum.BECH32, text, places), (near, listed))
         for text in BECH32:
             with self.subTest(text):
-                self.assertEqual(nearest(text, Checksum.BECH32)[0], (text, ()))
-                known = nearest(text, Checksum.BECH32, iter([1, 0, 1]), 0)
+                self.assertEqual(nearest(Checksum.BECH32, text)[0], (text, ()))
+                known = nearest(Checksum.BECH32, text, errors=0, erasures=iter([1, 0, 1]))
                 self.assertEqual(known, [(text, ((1, 0), (0, 0)))])
-        damaged = ("a12qqq5l", Checksum.BECH32, (4, 3, 2), 0)
+        damaged = (Checksum.BECH32, "a12qqq5l", (3, 4, 5), 0)
         self.assertEqual(nearest(*damaged), [("a12uel5l", ((4, 28), (3, 25), (2, 31)))])
-        found = nearest("a1" + "z" * 1021, Checksum.BECH32)
+        found = nearest(Checksum.BECH32, "a1" + "z" * 1021)
         self.assertEqual([it.errors for it in found], [((597, 28), (91, 7)), ((737, 28), (184, 1))])
         for it in found:
-            self.assertEqual(check(it.text, Checksum.BECH32).hrp, "a")
-        found = nearest("split1checkupstagehan", Checksum.BECH32, [3, 8, 1])
+            self.assertEqual(check(Checksum.BECH32, it.text).hrp, "a")
+        found = nearest(Checksum.BECH32, "split1checkupstagehan", erasures=[3, 8, 1])
         near = ["split1checkuysyvg6h8n", "split1czecku5stag5hnn", "split15hecku0atag7hzn"]
         self.assertEqual([it.text for it in found], near)
+
+    def test_reads_unreadable_characters(self):
+        """Each `?` behind the last `1` is one: it is the same as any character there whose place is given."""
+        for text, checksum in [(it, Checksum.BECH32) for it in BECH32] + [(it, Checksum.BECH32M) for it in BECH32M]:
+            first, length = text.rindex("1") + 1, len(text)
+            for places in ([length - 1], [first, length - 2], [first + 1, first + 2, length - 1]):
+                damaged = "".join("?" if place in places else it for place, it in enumerate(text))
+                filled = "".join("q" if place in places else it for place, it in enumerate(text))
+                wanted = tuple((place, "?", text[place]) for place in places)
+                with self.subTest(damaged):
+                    mended = correct(checksum, damaged)
+                    self.assertEqual((mended.text, mended.changes), (text, wanted))
+                    self.assertEqual(dict(mended.errors), {length - 1 - place: None for place in places})
+                    [near] = nearest(checksum, damaged, errors=0)
+                    self.assertEqual((near.text, near.changes), (text, wanted))
+                    self.assertEqual(str(near.changes[0]), f"character {places[0] + 1}: ? becomes {text[places[0]]}")
+                    if filled.isupper() or filled.islower():
+                        same = nearest(checksum, filled, places)
+                        self.assertEqual([it.text for it in nearest(checksum, damaged)], [it.text for it in same])
+        # One wrong character beside one that cannot be read, and beside a place; the case is that of the letters.
+        damaged = ADDRESS[:4] + "?" + ADDRESS[5:20] + "q" + ADDRESS[21:]
+        self.assertEqual(correct(Checksum.BECH32, damaged).text, ADDRESS)
+        self.assertEqual(correct(Checksum.BECH32, damaged.upper(), [20]).text, ADDRESS.upper())
+        changes = correct(Checksum.BECH32, damaged.upper(), [20]).changes
+        self.assertEqual(changes, ((4, "?", ADDRESS[4].upper()), (20, "Q", ADDRESS[20].upper())))
+        self.assertEqual(correct(Checksum.BECH32, damaged, erasures=[len(ADDRESS) - 21]).text, ADDRESS)
+        # A place that is given and cannot be read is one.
+        self.assertEqual(correct(Checksum.BECH32, damaged, [4, 4], erasures=[len(ADDRESS) - 5]).text, ADDRESS)
+        # In the human-readable part it is a character like others.
+        self.assertEqual(correct(Checksum.BECH32, "?1ezyfcl"), ("?1ezyfcl", ()))
+        self.assertEqual(correct(Checksum.BECH32, "?1ezyf?l").text, "?1ezyfcl")
+        # More than three, or one before the separator: there is no correction, whatever stands there.
+        zeros = encode(Checksum.BECH32, "bc", bytes(5 * [0x7B, 0xDE, 0xF7, 0xBD, 0xEF]))
+        self.assertEqual(zeros[3:8], "00000")
+        for count in range(1, 6):
+            damaged = zeros[:3] + "?" * count + zeros[3 + count :]
+            if count > 3:
+                self.assertRaises(errors.NoCorrection, correct, Checksum.BECH32, damaged)
+                self.assertEqual(nearest(Checksum.BECH32, damaged), [])
+                continue
+            wanted = tuple((3 + n, "?", "0") for n in range(count))
+            self.assertEqual(correct(Checksum.BECH32, damaged).changes, wanted)
+            self.assertEqual(nearest(Checksum.BECH32, damaged, errors=0)[0].changes, wanted)
+            self.assertRaises(errors.NoCorrection, correct, Checksum.BECH32, damaged, [1])
+            self.assertEqual(nearest(Checksum.BECH32, damaged, [1]), [])
+        # What is refused is the text as it was given.
+        for text, error, place in (
+            ("a12?e?bl", errors.InvalidCharacter, 6),
+            ("a12u?L5l", errors.MixedCase, 5),
+            ("?a", errors.InvalidCharacter, 0),
+            ("a\xe91q?pzry9x", errors.HrpNotAscii, 1),
+            ("a1q?p\udc00qqqq", errors.NotUnicode, 5),
+            ("a1q??", errors.NoChecksum, None),
+        ):
+            for call in (correct, nearest):
+                with self.subTest(text), self.assertRaises(error) as raised:
+                    call(Checksum.BECH32, text)
+                self.assertEqual((raised.exception.text, raised.exception.place), (text, place))
+        for call in (check, near_edits):
+            self.assertRaises(errors.InvalidCharacter, call, Checksum.BECH32, "a12u?l5l")
+
+    def test_exports_the_alphabet(self):
+        self.assertEqual(len(set(bech32_proved.ALPHABET)), 32)
+        for value, character in enumerate(bech32_proved.ALPHABET):
+            self.assertEqual(check(Checksum.BECH32, encode(Checksum.BECH32, "a", bytes([8 * value]))).data_part[0], character)
 
     def test_takes_more_memory_for_near_texts(self):
         text, listed, near = NEAR[0]
         with mock.patch.object(_searches, "LEAST_MEMORY", 16), mock.patch.object(_searches, "OF_A_CHARACTER", 0):
-            self.assertEqual(nearest(text, Checksum.BECH32), [(near, listed)])
-            self.assertEqual(near_edits("a12uel5", Checksum.BECH32)[0].text, "a12uel5l")
-            self.assertRaises(errors.MixedCase, nearest, "a12ueL5q", Checksum.BECH32)
+            self.assertEqual(nearest(Checksum.BECH32, text), [(near, listed)])
+            self.assertEqual(near_edits(Checksum.BECH32, "a12uel5")[0].text, "a12uel5l")
+            self.assertRaises(errors.MixedCase, nearest, Checksum.BECH32, "a12ueL5q")
             with mock.patch.object(_searches, "MOST_MEMORY", 32):
-                self.assertRaises(MemoryError, nearest, text, Checksum.BECH32)
-                self.assertRaises(MemoryError, near_edits, "a12uel5", Checksum.BECH32)
+                self.assertRaises(MemoryError, nearest, Checksum.BECH32, text)
+                self.assertRaises(MemoryError, near_edits, Checksum.BECH32, "a12uel5")
 
     def test_makes_room_for_near_texts(self):
         """Where all texts fit there is one call, and else a second one, with the room that the first one told."""
-        text, known = "split1checkupstagehan", [3, 8, 1]
-        found, made = nearest(text, Checksum.BECH32, known), near_edits(TWO_EDITS, Checksum.BECH32)
+        text, known = "split1checkupstagehan", [17, 12, 19]
+        found, made = nearest(Checksum.BECH32, text, known), near_edits(Checksum.BECH32, TWO_EDITS)
         for room, calls in ((0, 2), (len(text), 2), (3 * len(text) - 1, 2), (3 * len(text), 1)):
             with mock.patch.object(texts, "_LEAST_ROOM", room), counted("nearest") as asked:
-                self.assertEqual(nearest(text, Checksum.BECH32, known), found)
+                self.assertEqual(nearest(Checksum.BECH32, text, known), found)
             self.assertEqual(len(asked), calls)
             self.assertEqual([it[-2] for it in asked[1:]], [3 * len(text)] * (calls - 1))
         for room, calls in ((0, 2), (1, 2), (2, 1)):
             with mock.patch.object(edits, "_LEAST_TEXTS", room), counted("near_edits") as asked:
-                self.assertEqual(near_edits(TWO_EDITS, Checksum.BECH32), made)
+                self.assertEqual(near_edits(Checksum.BECH32, TWO_EDITS), made)
             self.assertEqual(len(asked), calls)
 
     def test_lists_no_near_texts(self):
         for erasures in [(0, 1, 2, 3), (6,), (2**64,), (2**64 - 1,)]:
             with self.subTest(erasures):
-                self.assertEqual(nearest("a12uel5l", Checksum.BECH32, erasures), [])
+                self.assertEqual(nearest(Checksum.BECH32, "a12uel5l", erasures=erasures), [])
         for count in [-1, 3, 2**64]:
-            self.assertRaises(ValueError, nearest, "a12uel5l", Checksum.BECH32, (), count)
-        self.assertRaises(TypeError, nearest, b"a12uel5l", Checksum.BECH32)
-        self.assertRaises(TypeError, nearest, "a12uel5l", Checksum.BECH32, (), 1.0)
+            self.assertRaises(ValueError, nearest, Checksum.BECH32, "a12uel5l", (), count)
+        self.assertRaises(TypeError, nearest, Checksum.BECH32, b"a12uel5l")
+        self.assertRaises(TypeError, nearest, Checksum.BECH32, "a12uel5l", (), 1.0)
         for text, error, place in REFUSED:
             if error is errors.WrongChecksum:
                 continue
             with self.subTest(text[:90]), self.assertRaises(error) as raised:
-                nearest(text, Checksum.BECH32)
+                nearest(Checksum.BECH32, text)
             self.assertEqual((raised.exception.text, raised.exception.place), (text, place))
 
     def test_lists_what_one_edit_makes(self):
@@ -291,7 +427,7 @@ class Texts(unittest.TestCase):
                 with self.subTest(text):
                     if text == ADDRESS:
                         continue
-                    [near] = near_edits(text, Checksum.BECH32)
+                    [near] = near_edits(Checksum.BECH32, text)
                     wanted = (ADDRESS.upper(), edited.upper()) if text.isupper() else (ADDRESS, edited)
                     self.assertEqual((near.text, near.edit.characters), wanted)
                     self.assertEqual(near.edit.kind, kind)
@@ -300,7 +436,7 @@ class Texts(unittest.TestCase):
                     places = {EditKind.SWAPPED: place, EditKind.PUT_IN: place + run, EditKind.LEFT_OUT: place + 1 + run}
                     self.assertEqual(near.edit.place, places[kind])
         self.assertEqual(
-            near_edits(TWO_EDITS, Checksum.BECH32),
+            near_edits(Checksum.BECH32, TWO_EDITS),
             [
                 ("ii2134hk2xmat79tp", (EditKind.LEFT_OUT, 16, "q")),
                 ("ii2134hk2xmat79tqqp", (EditKind.PUT_IN, 17, "q")),
@@ -313,70 +449,70 @@ class Texts(unittest.TestCase):
         )
 
     def test_lists_edits_of_any_text_in_the_grammar(self):
-        self.assertEqual([it.text for it in near_edits("a1lqfn3", Checksum.BECH32M)], ["a1lqfn3a"])
+        self.assertEqual([it.text for it in near_edits(Checksum.BECH32M, "a1lqfn3")], ["a1lqfn3a"])
         for text in (ADDRESS, "bc1", "a1" + "q" * 100_000):
-            self.assertEqual(near_edits(text, Checksum.BECH32), [])
-        self.assertRaises(TypeError, near_edits, b"a12uel5l", Checksum.BECH32)
+            self.assertEqual(near_edits(Checksum.BECH32, text), [])
+        self.assertRaises(TypeError, near_edits, Checksum.BECH32, b"a12uel5l")
         for text, error, place in REFUSED:
             if error in (errors.WrongChecksum, errors.NoChecksum, errors.TextTooLong):
                 continue
             with self.subTest(text[:90]), self.assertRaises(error) as raised:
-                near_edits(text, Checksum.BECH32)
+                near_edits(Checksum.BECH32, text)
             self.assertEqual((raised.exception.text, raised.exception.place), (text, place))
 
     def test_keeps_the_case(self):
         """Whoever types upper case gets upper case: age refuses a secret key in lower case."""
-        lower = encode("age-secret-key-", bytes(range(32)), Checksum.BECH32)
+        lower = encode(Checksum.BECH32, "age-secret-key-", bytes(range(32)))
         for key in (lower, lower.upper()):
             self.assertTrue(key == lower or key.startswith("AGE-SECRET-KEY-1"))
             one, two = (key[:-9] + key[-2] * count + key[count - 9 :] for count in (1, 2))
             missing, swapped = key[:30] + key[31:], key[:40] + key[41] + key[40] + key[42:]
             self.assertEqual(len({key, one, two, missing, swapped}), 5)
-            mended = correct(one, Checksum.BECH32)
+            mended = correct(Checksum.BECH32, one)
             self.assertEqual(mended.text, key)
             self.assertEqual(mended.changes, ((len(key) - 9, one[-9], key[-9]),))
             for text in (one, two):
-                [near] = nearest(text, Checksum.BECH32)
+                [near] = nearest(Checksum.BECH32, text)
                 self.assertEqual(near.text, key)
                 for place, from_, to in near.changes:
                     self.assertEqual((from_, to), (text[place], key[place]))
             for text in (missing, swapped):
-                [near] = near_edits(text, Checksum.BECH32)
+                [near] = near_edits(Checksum.BECH32, text)
                 self.assertEqual(near.text, key)
                 self.assertIn(near.edit.characters, (key[30], swapped[40:42]))
-            self.assertEqual(correct(key, Checksum.BECH32), (key, ()))
-            self.assertEqual(nearest(key, Checksum.BECH32), [(key, ())])
+            self.assertEqual(correct(Checksum.BECH32, key), (key, ()))
+            self.assertEqual(nearest(Checksum.BECH32, key), [(key, ())])
         # A text without letters is mended in lower case.
-        without = encode("0", bytes(5 * [0x42]), Checksum.BECH32)
-        found = nearest("01" + "2" * 12, Checksum.BECH32, (0, 1, 2), 2)
+        without = encode(Checksum.BECH32, "0", bytes(5 * [0x42]))
+        found = nearest(Checksum.BECH32, "01" + "2" * 12, (13, 12, 11), 2)
         self.assertTrue(found and all(it.text == it.text.lower() for it in found))
-        self.assertEqual(correct(without, Checksum.BECH32).text, without)
+        self.assertEqual(correct(Checksum.BECH32, without).text, without)
 
     def test_says_which_argument_is_wrong(self):
         """Of each argument of each call: what it must be, and what was given; nothing of what stands inside."""
         text, a, bech32 = "a12uel5l", "ms12namea320zyxwvutsrqpnmlkjhgfedcaxrpp870hkkqrm", Checksum.BECH32
         header, data = (2, "name", "s"), bytes(16)
         for call, arguments, words in (
-            (encode, (5, b""), "hrp must be a str, not int"),
-            (encode, ("abc", "x"), "data must be bytes, a bytearray or a memoryview, not str"),
-            (encode, ("abc", None), "data must be bytes, a bytearray or a memoryview, not NoneType"),
-            (encode, ("abc", 5), "data must be bytes, a bytearray or a memoryview, not int"),
-            (encode, ("abc", [1, 2]), "data must be bytes, a bytearray or a memoryview, not list"),
+            (encode, (bech32, 5, b""), "hrp must be a str, not int"),
+            (encode, (bech32, "abc", "x"), "data must be bytes, a bytearray or a memoryview, not str"),
+            (encode, (bech32, "abc", None), "data must be bytes, a bytearray or a memoryview, not NoneType"),
+            (encode, (bech32, "abc", 5), "data must be bytes, a bytearray or a memoryview, not int"),
+            (encode, (bech32, "abc", [1, 2]), "data must be bytes, a bytearray or a memoryview, not list"),
             (decode, (b"a12uel5l",), "text must be a str, not bytes"),
             (decode_with_checksum, (None,), "text must be a str, not NoneType"),
-            (check, (5, bech32), "text must be a str, not int"),
-            (correct, (None, bech32), "text must be a str, not NoneType"),
-            (correct, (text, bech32, None), "erasures must be a list of locations, not NoneType"),
-            (correct, (text, bech32, 3), "erasures must be a list of locations, not int"),
-            (correct, (text, bech32, "12"), "erasures must be a list of locations, not str"),
-            (correct, (text, bech32, b"12"), "erasures must be a list of locations, not bytes"),
-            (correct, (text, bech32, [1.0]), "each location of erasures must be an int, not float"),
-            (nearest, (None, bech32), "text must be a str, not NoneType"),
-            (nearest, (text, bech32, 1), "erasures must be a list of locations, not int"),
-            (nearest, (text, bech32, ["1"]), "each location of erasures must be an int, not str"),
-            (nearest, (text, bech32, (), 1.0), "errors must be an int, not float"),
-            (nearest, (text, bech32, (), None), "errors must be an int, not NoneType"),
-            (near_edits, (None, bech32), "text must be a str, not NoneType"),
+            (check, (bech32, 5), "text must be a str, not int"),
+            (correct, (bech32, None), "text must be a str, not NoneType"),
+            (correct, (bech32, text, None), "places must be a list of places, not NoneType"),
+            (correct, (bech32, text, 3), "places must be a list of places, not int"),
+            (correct, (bech32, text, "12"), "places must be a list of places, not str"),
+            (correct, (bech32, text, b"12"), "places must be a list of places, not bytes"),
+            (correct, (bech32, text, [1.0]), "each place of places must be an int, not float"),
+            (nearest, (bech32, None), "text must be a str, not NoneType"),
+            (nearest, (bech32, text, 1), "places must be a list of places, not int"),
+            (nearest, (bech32, text, ["1"]), "each place of places must be an int, not str"),
+            (nearest, (bech32, text, (), 1.0), "errors must be an int, not float"),
+            (nearest, (bech32, text, (), None), "errors must be an int, not NoneType"),
+            (near_edits, (bech32, None), "text must be a str, not NoneType"),
             (segwit.encode, (None, 0, PROGRAM), "hrp must be a str, not NoneType"),
             (segwit.encode, ("bc", "0", PROGRAM), "version must be an int, not str"),
             (segwit.encode, ("bc", 0.0, PROGRAM), "version must be an int, not float"),
@@ -409,28 +545,45 @@ class Texts(unittest.TestCase):
             with self.subTest(words), self.assertRaises(TypeError) as raised:
                 call(*arguments)
             self.assertEqual(str(raised.exception), words)
-        for checksum, shown in ((3, "3"), (0, "0"), (None, "NoneType"), ("bech32", "str"), ([], "list"), (b"x", "bytes")):
+        for checksum, shown in ((5, "5"), (0, "0"), (None, "NoneType"), ("bech32", "str"), ([], "list"), (b"x", "bytes")):
             words = f"checksum must be Checksum.BECH32 or Checksum.BECH32M, not {shown}"
             for call, arguments in (
-                (encode, ("a", b"", checksum)),
-                (check, (text, checksum)),
-                (correct, (text, checksum)),
-                (nearest, (text, checksum)),
-                (near_edits, (text, checksum)),
+                (encode, (checksum, "a", b"")),
+                (check, (checksum, text)),
+                (correct, (checksum, text)),
+                (nearest, (checksum, text)),
+                (near_edits, (checksum, text)),
             ):
                 with self.subTest(words), self.assertRaises(ValueError) as raised:
                     call(*arguments)
                 self.assertEqual(str(raised.exception), words)
+        # The order of earlier versions: the text is taken for a checksum.
+        for call in (check, correct, nearest, near_edits):
+            with self.assertRaises(ValueError) as raised:
+                call(text, bech32)
+            self.assertEqual(str(raised.exception), "checksum must be Checksum.BECH32 or Checksum.BECH32M, not str")
         for location in (-1, -(2**64), -(2**70)):
             words = f"a location of erasures is negative: {location} (0 is the last character)"
             for call in (correct, nearest):
-                for mistyped in (text, "a12uel5q"):
+                for mistyped in (text, "a12uel5q", "a12ue?5l"):
                     with self.subTest(words), self.assertRaises(ValueError) as raised:
-                        call(mistyped, bech32, [0, location])
+                        call(bech32, mistyped, erasures=[0, location])
                     self.assertEqual((type(raised.exception), str(raised.exception)), (ValueError, words))
+        for call, mistyped in ((correct, text), (nearest, "a12ue?5l"), (correct, "a12uel5q"), (nearest, "")):
+            for place in (-1, len(mistyped), -(2**70), 2**70):
+                with self.subTest((mistyped, place)), self.assertRaises(ValueError) as raised:
+                    call(bech32, mistyped, [place])
+                words = f"the text has no place {place} (0 is the first character)"
+                self.assertEqual((type(raised.exception), str(raised.exception)), (ValueError, words))
+        for call in (correct, nearest):
+            for known in (None, 3, "12", b"12"):
+                with self.assertRaises(TypeError) as raised:
+                    call(bech32, text, erasures=known)
+                words = f"erasures must be a list of locations, not {type(known).__name__}"
+                self.assertEqual(str(raised.exception), words)
         for count in (-1, 3, 2**64):
             with self.assertRaises(ValueError) as raised:
-                nearest(text, bech32, (), count)
+                nearest(bech32, text, (), count)
             self.assertEqual(str(raised.exception), f"errors must be 0, 1 or 2, not {count}")
 
     def test_takes_whole_numbers_of_other_types(self):
@@ -439,11 +592,12 @@ class Texts(unittest.TestCase):
                 return 2
 
         two = Two()
-        self.assertEqual(correct("a12uelzl", Checksum.BECH32, [two]), correct("a12uelzl", Checksum.BECH32, [2]))
-        self.assertEqual(nearest("a12uelqq", Checksum.BECH32, [two], two), nearest("a12uelqq", Checksum.BECH32, [2], 2))
+        self.assertEqual(correct(Checksum.BECH32, "a1zuel5l", [two]), correct(Checksum.BECH32, "a1zuel5l", [2]))
+        self.assertEqual(correct(Checksum.BECH32, "a12uez5l", erasures=[two]).text, "a12uel5l")
+        self.assertEqual(nearest(Checksum.BECH32, "a12uelqq", [two], two), nearest(Checksum.BECH32, "a12uelqq", [2], 2))
         self.assertEqual(segwit.encode("bc", two, PROGRAM), segwit.encode("bc", 2, PROGRAM))
         self.assertEqual(codex32.encode(two, "test", "s", bytes(16)), codex32.encode(2, "test", "s", bytes(16)))
-        self.assertEqual(encode("a", array.array("B", b"xyz")), encode("a", b"xyz"))
+        self.assertEqual(encode(Checksum.BECH32, "a", array.array("B", b"xyz")), encode(Checksum.BECH32, "a", b"xyz"))
 
 
 class Addresses(unittest.TestCase):
@@ -477,6 +631,41 @@ class Addresses(unittest.TestCase):
             with self.assertRaises(errors.BadVersion) as raised:
                 segwit.encode("bc", version, PROGRAM)
             self.assertEqual(raised.exception.number, number)
+
+
+class Suggestions(unittest.TestCase):
+    TAPROOT = "bc1p0xlxvlhemja6c4dqv22uapctqupfhlxm9h8z3k2e72q4k9hcz7vqzk5jj0"
+
+    def test_suggests(self):
+        for right in (ADDRESS, self.TAPROOT):
+            self.assertEqual(segwit.suggest(right, "bc"), [(right, (), None)])
+            self.assertEqual(segwit.suggest(right.upper(), "BC"), [(right.upper(), (), None)])
+            self.assertEqual(segwit.suggest(right, "tb"), [])
+            for places, other in (([10, 20], "y"), ([10, 20, 30], "?"), ([11], "y"), ([12], "?")):
+                text = "".join(other if place in places else it for place, it in enumerate(right))
+                changes = tuple((place, text[place], right[place]) for place in places if text[place] != right[place])
+                self.assertEqual(segwit.suggest(text, "bc"), [(right, changes, None)])
+                [found] = segwit.suggest(text.upper(), "bc")
+                self.assertEqual((found.text, len(found.changes)), (right.upper(), len(changes)))
+            [found] = segwit.suggest(right[:20] + right[21:], "bc")
+            self.assertEqual((found.text, found.changes, found.edit.kind), (right, (), EditKind.PUT_IN))
+            [found] = segwit.suggest(right[:20] + right[21] + right[20] + right[22:], "bc")
+            self.assertEqual((found.text, found.edit), (right, (EditKind.SWAPPED, 20, right[21] + right[20])))
+            self.assertEqual(str(found), f"characters 21 and 22: {right[21]} and {right[20]} are swapped")
+        for text in ("a12uel5l", "q1" * 46, ADDRESS.replace("w5", "??").replace("za", "??")):
+            self.assertEqual(segwit.suggest(text, "bc"), [])
+
+    def test_refuses(self):
+        for hrp, error in (("", errors.HrpEmpty), ("aB", errors.HrpMixedCase), ("a b", errors.HrpInvalid), ("\xe9", errors.HrpNotAscii)):
+            with self.assertRaises(error) as raised:
+                segwit.suggest("x1b?", hrp)
+            self.assertEqual(raised.exception.text, hrp)
+        for text, error, place in (("x1?b?", errors.InvalidCharacter, 3), ("bc1?qQ", errors.MixedCase, 5), ("qq", errors.NoSeparator, None)):
+            with self.assertRaises(error) as raised:
+                segwit.suggest(text, "bc")
+            self.assertEqual((raised.exception.text, raised.exception.place), (text, place))
+        self.assertRaises(TypeError, segwit.suggest, b"bc1", "bc")
+        self.assertRaises(TypeError, segwit.suggest, "bc1", None)
 
 
 class Codex32(unittest.TestCase):
@@ -574,7 +763,7 @@ class Codex32(unittest.TestCase):
         self.assertEqual(codex32.derive([LONG.upper()], "s"), LONG)
         self.assertEqual(codex32.recover([LONG.upper()]), codex32.share(LONG).data)
         # All of a set, any two of which give each.
-        whole = [codex32.derive([SHARE, OTHER_SHARE], index) for index in texts._CHARACTERS]
+        whole = [codex32.derive([SHARE, OTHER_SHARE], index) for index in bech32_proved.ALPHABET]
         for n, text in enumerate(whole):
             two = [whole[(n + 3) % 32], whole[(n + 20) % 32]]
             self.assertEqual(codex32.derive(two, text[8]), text)
@@ -636,7 +825,7 @@ class Codex32(unittest.TestCase):
             count = (8 * size + 4) // 5
             whole = [codex32.encode(2, "cash", "s", bytes(size - 1) + bytes([end])) for end in range(most)]
             of_bytes = [codex32.encode(2, "cash", "a", bytes(size - 1) + bytes([end])) for end in range(most)]
-            ends = [last.rjust(count, "q") for last in texts._CHARACTERS]
+            ends = [last.rjust(count, "q") for last in bech32_proved.ALPHABET]
             of_characters = [codex32.encode_payload(2, "cash", "a", payload) for payload in ends]
             for index in "c9":
                 for others, wanted in [(of_characters, {most}), (of_bytes, left)]:
@@ -649,7 +838,7 @@ class Codex32(unittest.TestCase):
     def test_what_four_shares_of_five_say(self):
         # Of 18 bytes the last character of the secret's payload holds four bits. Four shares tell all of them if the
         # other strings were made of random bytes, and none if they were made of random characters.
-        strings, shares, count, alphabet = "scku6", "fg5x", 29, texts._CHARACTERS
+        strings, shares, count, alphabet = "scku6", "fg5x", 29, bech32_proved.ALPHABET
 
         def seen(at, bit):
             # The last characters of the shares, as one number, where one string ends in a bit and the others in zeros.
@@ -741,7 +930,7 @@ lock, mutex = ctypes.CDLL(None).pthread_mutex_lock, ctypes.create_string_buffer(
 lock(mutex)
 _library.nearest = lambda *given: print("searching", flush=True) or lock(mutex)
 try:
-    nearest("a12uel5l", Checksum.BECH32)
+    nearest(Checksum.BECH32, "a12uel5l")
 except KeyboardInterrupt:
     print("interrupted", decode("a12uel5l").hrp)
 """
@@ -749,7 +938,7 @@ except KeyboardInterrupt:
 
 class Package(unittest.TestCase):
     def test_examples(self):
-        for module in (bech32_proved, codex32, edits, texts):
+        for module in (bech32_proved, codex32, edits, segwit, texts):
             tried = doctest.testmod(module)
             self.assertEqual(tried.failed, 0)
             self.assertGreater(tried.attempted, 0)
@@ -776,11 +965,11 @@ class Package(unittest.TestCase):
 
     def test_results_are_copied(self):
         address = segwit.decode("BC1QW508D6QEJXTDG4Y5R3ZARVARY0C5XW7KV8F3T4")
-        mended = correct("a12uel5q", Checksum.BECH32)
+        mended = correct(Checksum.BECH32, "a12uel5q")
         results = [decode("A12UEL5L"), decode_with_checksum("A12UEL5L"), address, mended, *mended.changes]
-        results += [check("A12UEL5L", Checksum.BECH32), Checksum.BECH32M]
+        results += [check(Checksum.BECH32, "A12UEL5L"), Checksum.BECH32M]
         results += [codex32.parse(SECRET), codex32.share(SECRET)]
-        results += near_edits(TWO_EDITS, Checksum.BECH32)
+        results += near_edits(Checksum.BECH32, TWO_EDITS)
         for result in results:
             for again in copies(result):
                 self.assertEqual(again, result)
@@ -829,7 +1018,7 @@ class Package(unittest.TestCase):
         found = []
 
         def search():
-            found.append(nearest(NEAR[0][0], Checksum.BECH32))
+            found.append(nearest(Checksum.BECH32, NEAR[0][0]))
 
         threads = [threading.Thread(target=search) for _ in range(4)]
         for thread in threads:
@@ -840,7 +1029,7 @@ class Package(unittest.TestCase):
         with self.assertRaises(TypeError):
             interruptible(texts._library.nearest, "no number")
         with mock.patch.object(threading.Thread, "start", side_effect=RuntimeError):
-            self.assertEqual(nearest(NEAR[0][0], Checksum.BECH32)[0].text, NEAR[0][2])
+            self.assertEqual(nearest(Checksum.BECH32, NEAR[0][0])[0].text, NEAR[0][2])
 
 
 @contextlib.contextmanager

@@ -4,7 +4,7 @@ use crate::{raw, Fe32, Hrp};
 use std::fmt::Debug;
 use std::ops::BitXor;
 
-/// A checksum, [`Bech32`] or [`Bech32m`], or [`NoChecksum`]. No other type can be one.
+/// A checksum: [`Bech32`] or [`Bech32m`], the same for long texts, or [`NoChecksum`]. No other type can be one.
 pub trait Checksum: sealed::Known {
     /// What holds a remainder: six elements, or none.
     type MidstateRepr: PackedFe32;
@@ -30,6 +30,26 @@ pub enum Bech32 {}
 /// The checksum of BIP-350.
 #[derive(Clone, Copy, Debug, PartialEq, Eq, PartialOrd, Ord, Hash)]
 pub enum Bech32m {}
+
+/// The checksum of BIP-173 for long texts, of up to 7,089 characters, as invoices, nostr and age have them. Texts
+/// of up to 1,023 characters have the same checksum by [`Bech32`]. Above that nothing is promised of wrong
+/// characters, and no text is mended: what a wrong character leaves at location 1,200, one at 177 leaves too.
+///
+/// ```
+/// use bech32_proved::{decode_strict, encode, Bech32, Hrp, LongBech32};
+///
+/// let part = Hrp::parse("naddr")?;
+/// let text = encode::<LongBech32>(part, &[0xab; 1000])?;
+/// assert_eq!((text.len(), decode_strict::<LongBech32>(&text)?.1), (1612, vec![0xab; 1000]));
+/// assert!(encode::<Bech32>(part, &[0xab; 1000]).is_err());
+/// # Ok::<(), Box<dyn std::error::Error>>(())
+/// ```
+#[derive(Clone, Copy, Debug, PartialEq, Eq, PartialOrd, Ord, Hash)]
+pub enum LongBech32 {}
+
+/// The checksum of BIP-350 for long texts, as [`LongBech32`] is that of BIP-173.
+#[derive(Clone, Copy, Debug, PartialEq, Eq, PartialOrd, Ord, Hash)]
+pub enum LongBech32m {}
 
 /// No checksum: that of texts without one, which may be of any length.
 ///
@@ -60,6 +80,20 @@ impl Checksum for Bech32m {
     const TARGET_RESIDUE: u32 = BECH32M.target;
 }
 
+impl Checksum for LongBech32 {
+    type MidstateRepr = u32;
+    const CODE_LENGTH: usize = LONG_BECH32.code_length;
+    const CHECKSUM_LENGTH: usize = LENGTH;
+    const TARGET_RESIDUE: u32 = LONG_BECH32.target;
+}
+
+impl Checksum for LongBech32m {
+    type MidstateRepr = u32;
+    const CODE_LENGTH: usize = LONG_BECH32M.code_length;
+    const CHECKSUM_LENGTH: usize = LENGTH;
+    const TARGET_RESIDUE: u32 = LONG_BECH32M.target;
+}
+
 impl Checksum for NoChecksum {
     type MidstateRepr = PackedNull;
     const CODE_LENGTH: usize = usize::MAX;
@@ -81,6 +115,10 @@ const LENGTH: usize = 6;
 pub struct Code {
     /// Its number in the library's calls.
     pub number: u32,
+    /// That of the engine that makes its remainders.
+    pub engine: u32,
+    /// The characters that a text has at most.
+    pub code_length: usize,
     /// The remainder that a valid text leaves, six elements of five bits, the constant term lowest.
     pub target: u32,
 }
@@ -88,13 +126,34 @@ pub struct Code {
 /// The checksum of BIP-173.
 pub const BECH32: Code = Code {
     number: 1,
+    engine: 1,
+    code_length: 1023,
     target: 1,
 };
 
 /// The checksum of BIP-350.
 pub const BECH32M: Code = Code {
     number: 2,
+    engine: 2,
+    code_length: 1023,
     target: 0x2bc8_30a3,
+};
+
+// The characters that a long text has at most.
+const LONG_CODE_LENGTH: usize = 7089;
+
+/// The checksum of BIP-173 for long texts.
+pub const LONG_BECH32: Code = Code {
+    number: 3,
+    code_length: LONG_CODE_LENGTH,
+    ..BECH32
+};
+
+/// The checksum of BIP-350 for long texts.
+pub const LONG_BECH32M: Code = Code {
+    number: 4,
+    code_length: LONG_CODE_LENGTH,
+    ..BECH32M
 };
 
 pub(crate) mod sealed {
@@ -119,6 +178,14 @@ pub(crate) mod sealed {
 
     impl Known for super::Bech32m {
         const CODE: Option<Code> = Some(super::BECH32M);
+    }
+
+    impl Known for super::LongBech32 {
+        const CODE: Option<Code> = Some(super::LONG_BECH32);
+    }
+
+    impl Known for super::LongBech32m {
+        const CODE: Option<Code> = Some(super::LONG_BECH32M);
     }
 
     impl Known for super::NoChecksum {
@@ -272,7 +339,7 @@ impl<Ck: Checksum> Default for Engine<Ck> {
 
 /// The remainder that elements leave, a byte from 0 to 31 each.
 pub fn residue_of(code: Code, elements: &[u8]) -> u32 {
-    raw::residue(code.number, elements).expect("these are elements")
+    raw::residue(code.engine, elements).expect("these are elements")
 }
 
 /// The elements of a human-readable part, which a checksum is over: the high bits of each byte in lower

@@ -2,7 +2,7 @@
 
 use crate::checksum::CorrectingChecksum;
 use crate::lent::{Lent, MOST_MEMORY};
-use crate::raw;
+use crate::raw::{self, Block};
 use crate::text::{ascii, in_case_of, is_in_upper_case, MAX_TEXT_LENGTH};
 use crate::{Fe32, Refusal};
 use std::fmt;
@@ -202,22 +202,31 @@ pub fn nearest<Ck: CorrectingChecksum>(
     erasures: &[usize],
     errors: usize,
 ) -> Result<Vec<Correction>, Refusal> {
-    nearest_from::<Ck>(LEAST_ROOM, s, erasures, errors)
+    nearest_by(s, erasures, |memory, texts| {
+        raw::nearest(Ck::NUMBER, s.as_bytes(), erasures, errors, memory, texts)
+    })
 }
 
-// Like `nearest`, first with `least` bytes of room for the texts.
-fn nearest_from<Ck: CorrectingChecksum>(
+/// The texts near to a text that a call puts into a buffer, as many as it has room for; it returns how many
+/// there are in all.
+pub(crate) fn nearest_by(
+    s: &str,
+    erasures: &[usize],
+    call: impl FnMut(&mut [Block], &mut [u8]) -> Result<usize, Refusal>,
+) -> Result<Vec<Correction>, Refusal> {
+    nearest_from(LEAST_ROOM, s, erasures, call)
+}
+
+// Like `nearest_by`, first with `least` bytes of room for the texts.
+fn nearest_from(
     least: usize,
     s: &str,
     erasures: &[usize],
-    errors: usize,
+    mut call: impl FnMut(&mut [Block], &mut [u8]) -> Result<usize, Refusal>,
 ) -> Result<Vec<Correction>, Refusal> {
-    let (number, text) = (Ck::NUMBER, s.as_bytes());
     let mut lent = Lent::for_text(s.len());
     // Puts as many as there is room for, and returns the number of all.
-    let mut put = |texts: &mut [u8]| {
-        lent.to(|lent| raw::nearest(number, text, erasures, errors, lent, texts))
-    };
+    let mut put = |texts: &mut [u8]| lent.to(|memory| call(memory, texts));
     let mut texts = vec![0; least];
     let count = put(&mut texts)?;
     let wanted = count.saturating_mul(s.len());
@@ -258,7 +267,6 @@ fn added((old, new): (u8, u8)) -> Fe32 {
 #[cfg(test)]
 mod tests {
     use super::*;
-    use crate::raw::Block;
     use crate::Bech32;
 
     const MISTYPED: &str = "bc1qqq08d6qejxtdg4y5r3zarvary0c5xw7kv8f3t4";
@@ -281,7 +289,9 @@ mod tests {
         let found = nearest::<Bech32>(text, &[3, 8, 1], 2).unwrap();
         assert_eq!(found.len(), 3);
         for least in [0, text.len() - 1, text.len(), 3 * text.len()] {
-            let again = nearest_from::<Bech32>(least, text, &[3, 8, 1], 2);
+            let again = nearest_from(least, text, &[3, 8, 1], |memory, texts| {
+                raw::nearest(1, text.as_bytes(), &[3, 8, 1], 2, memory, texts)
+            });
             assert_eq!(again.as_ref(), Ok(&found));
         }
     }

@@ -12,7 +12,7 @@ use crate::rules::{
     MAX_STRING_LENGTH, VERSION_0,
 };
 use crate::segwit::MAX_PROGRAM_LENGTH;
-use crate::text::{ascii, MAX_TEXT_LENGTH};
+use crate::text::ascii;
 use crate::{raw, Bech32, Checksum, Fe32, Hrp, Refusal};
 
 /// A text whose characters were tested, and its checksum not.
@@ -393,7 +393,7 @@ fn unchecksummed(
     match refusal {
         Refusal::TextTooLong => Some(ChecksumError::CodeLength(CodeLengthError {
             encoded_length: length,
-            code_length: MAX_TEXT_LENGTH,
+            code_length: code.code_length,
         })),
         Refusal::NoChecksum => Some(ChecksumError::InvalidLength),
         Refusal::WrongChecksum => Some(ChecksumError::InvalidResidue(InvalidResidueError::new(
@@ -417,8 +417,8 @@ fn split(s: &str) -> Option<(Hrp, &[u8])> {
     (hrp.len() <= MAX_HRP_LENGTH).then(|| (Hrp::read(hrp.as_bytes()), data_part.as_bytes()))
 }
 
-// Why a text that a checksum refuses so is not accepted.
-fn unchecked(code: Code, s: &str, refusal: Refusal) -> CheckedHrpstringError {
+/// Why a text that a checksum refuses so is not accepted.
+pub(crate) fn unchecked(code: Code, s: &str, refusal: Refusal) -> CheckedHrpstringError {
     let place = raw::fault(code.number, s.as_bytes()).map_or_else(|(_, place)| place, |()| 0);
     if let Some(error) = unread(s, refusal, place) {
         return CheckedHrpstringError::Parse(error);

@@ -6,8 +6,17 @@ use std::fmt;
 use std::num::TryFromIntError;
 use std::ops::{Add, AddAssign, Sub, SubAssign};
 
-// The characters of the elements from 0 to 31 (BIP-173).
-const CHARACTERS: &[u8; 32] = b"qpzry9x8gf2tvdw0s3jn54khce6mua7l";
+/// The characters of the elements from 0 to 31, in lower case (BIP-173).
+///
+/// ```
+/// use bech32_proved::{Fe32, ALPHABET};
+///
+/// assert_eq!(ALPHABET.find('l'), Some(31));
+/// assert!(ALPHABET.chars().eq((0..32).map(|it| Fe32::try_from(it as u8).unwrap().to_char())));
+/// ```
+pub const ALPHABET: &str = "qpzry9x8gf2tvdw0s3jn54khce6mua7l";
+
+const CHARACTERS: &[u8] = ALPHABET.as_bytes();
 
 // The value of each character, in either case, and 32 of others.
 const VALUES: [u8; 128] = {

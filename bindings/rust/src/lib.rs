@@ -69,7 +69,10 @@ mod correction;
 mod declared;
 mod decode;
 #[cfg(feature = "correct")]
+pub mod descriptor;
+#[cfg(feature = "correct")]
 mod edits;
+mod elements;
 mod encode;
 mod error;
 mod fault;
@@ -77,23 +80,27 @@ mod fe32;
 mod iter;
 #[cfg(feature = "correct")]
 mod lent;
+pub mod liquid;
 mod part;
 #[allow(unsafe_code)]
 mod raw;
 mod refusal;
 mod rules;
 pub mod segwit;
+#[cfg(feature = "correct")]
+mod suggest;
 mod text;
 
 #[cfg(feature = "correct")]
 pub use checksum::CorrectingChecksum;
-pub use checksum::{Bech32, Bech32m, Checksum, NoChecksum};
+pub use checksum::{Bech32, Bech32m, Checksum, LongBech32, LongBech32m, NoChecksum};
 #[cfg(feature = "correct")]
 pub use correction::{correct, nearest, Change, Correction};
 #[cfg(feature = "correct")]
 pub use edits::{near_edits, Edit, NearEdit};
+pub use elements::{decode_elements, decode_strict, encode_elements, TextError};
 pub use fault::{fault, Fault};
-pub use fe32::Fe32;
+pub use fe32::{Fe32, ALPHABET};
 pub use iter::{ByteIterExt, Fe32IterExt};
 pub use part::Hrp;
 pub use refusal::Refusal;
@@ -110,7 +117,7 @@ pub mod hrp {
 
 /// The parts of which the calls at the root are made, under the paths of the Rust crate.
 pub mod primitives {
-    pub use crate::checksum::{Bech32, Bech32m, NoChecksum};
+    pub use crate::checksum::{Bech32, Bech32m, LongBech32, LongBech32m, NoChecksum};
 
     /// Checksums.
     pub mod checksum {

@@ -11,9 +11,9 @@ use crate::codex32;
 #[cfg(any(feature = "codex32", feature = "correct"))]
 use crate::declared::Memory;
 use crate::Refusal;
-#[cfg(feature = "codex32")]
+#[cfg(any(feature = "codex32", feature = "correct"))]
 use std::mem::MaybeUninit;
-#[cfg(feature = "codex32")]
+#[cfg(any(feature = "codex32", feature = "correct"))]
 use std::sync::atomic::{compiler_fence, Ordering};
 
 mod c {
@@ -29,6 +29,126 @@ mod c {
         bech32_nearest,
         bech32_near_edits
     );
+
+    #[allow(dead_code)]
+    extern "C" {
+        pub fn bech32_decode_strict(
+            checksum: u32,
+            text: *const u8,
+            text_length: usize,
+            hrp: *mut u8,
+            hrp_room: usize,
+            hrp_length: *mut usize,
+            bytes: *mut u8,
+            bytes_room: usize,
+            bytes_length: *mut usize,
+        ) -> u32;
+
+        pub fn bech32_decode_elements(
+            checksum: u32,
+            text: *const u8,
+            text_length: usize,
+            hrp: *mut u8,
+            hrp_room: usize,
+            hrp_length: *mut usize,
+            elements: *mut u8,
+            elements_room: usize,
+            elements_length: *mut usize,
+        ) -> u32;
+
+        pub fn bech32_encode_elements(
+            checksum: u32,
+            hrp: *const u8,
+            hrp_length: usize,
+            elements: *const u8,
+            elements_length: usize,
+            place: *mut usize,
+            text: *mut u8,
+            text_room: usize,
+            text_length: *mut usize,
+        ) -> u32;
+
+        pub fn bech32_liquid_encode(
+            hrp: *const u8,
+            hrp_length: usize,
+            version: u32,
+            key: *const u8,
+            program: *const u8,
+            program_length: usize,
+            text: *mut u8,
+            text_room: usize,
+            text_length: *mut usize,
+        ) -> u32;
+
+        pub fn bech32_liquid_decode(
+            text: *const u8,
+            text_length: usize,
+            hrp: *mut u8,
+            hrp_room: usize,
+            hrp_length: *mut usize,
+            version: *mut u32,
+            key: *mut u8,
+            program: *mut u8,
+            program_room: usize,
+            program_length: *mut usize,
+        ) -> u32;
+
+        pub fn bech32_liquid_nearest(
+            text: *const u8,
+            text_length: usize,
+            erasures: *const usize,
+            erasures_length: usize,
+            errors: usize,
+            memory: *mut super::Memory,
+            texts: *mut u8,
+            texts_room: usize,
+            count: *mut usize,
+        ) -> u32;
+
+        pub fn bech32_descriptor_checksum(
+            text: *const u8,
+            text_length: usize,
+            checksum: *mut u8,
+            checksum_room: usize,
+            checksum_length: *mut usize,
+            place: *mut usize,
+        ) -> u32;
+
+        pub fn bech32_descriptor_check(
+            text: *const u8,
+            text_length: usize,
+            place: *mut usize,
+        ) -> u32;
+
+        pub fn bech32_descriptor_mend(
+            text: *const u8,
+            text_length: usize,
+            changed: usize,
+            memory: *mut super::Memory,
+            kinds: *mut u8,
+            kinds_room: usize,
+            places: *mut usize,
+            places_room: usize,
+            texts: *mut u8,
+            texts_room: usize,
+            count: *mut usize,
+        ) -> u32;
+
+        pub fn bech32_suggest(
+            text: *const u8,
+            text_length: usize,
+            hrp: *const u8,
+            hrp_length: usize,
+            memory: *mut super::Memory,
+            kinds: *mut u8,
+            kinds_room: usize,
+            places: *mut usize,
+            places_room: usize,
+            texts: *mut u8,
+            texts_room: usize,
+            count: *mut usize,
+        ) -> u32;
+    }
 }
 
 // Those of `include/codex32.h`.
@@ -143,7 +263,7 @@ impl Block {
 }
 
 /// Puts zeros over items, which no compiler leaves out.
-#[cfg(feature = "codex32")]
+#[cfg(any(feature = "codex32", feature = "correct"))]
 pub fn wipe<T: Copy>(items: &mut [T], zero: T) {
     for item in items {
         // SAFETY: what is borrowed may be written to.
@@ -153,12 +273,12 @@ pub fn wipe<T: Copy>(items: &mut [T], zero: T) {
 }
 
 // More of the stack than any function of the library takes: CODEX32_STACK_SIZE, in items of eight bytes.
-#[cfg(feature = "codex32")]
+#[cfg(any(feature = "codex32", feature = "correct"))]
 const STACK: usize = 16384 / 8;
 
 // Puts zeros over the stack below the function that calls it, where a call of the library left copies of a
 // secret. The functions here call it behind the library, so that both begin at the same place.
-#[cfg(feature = "codex32")]
+#[cfg(any(feature = "codex32", feature = "correct"))]
 #[inline(never)]
 fn wipe_stack() {
     wipe(
@@ -426,6 +546,118 @@ pub fn near_edits(
     counted(number, count)
 }
 
+/// Puts a confidential address of Liquid into a buffer, and returns its length.
+pub fn liquid_encode(
+    hrp: &[u8],
+    version: u32,
+    key: &[u8; 33],
+    program: &[u8],
+    text: &mut [u8],
+) -> Result<usize, Refusal> {
+    let mut length = 0;
+    // SAFETY: as in `encode`. The key has its 33 bytes.
+    let number = unsafe {
+        c::bech32_liquid_encode(
+            hrp.as_ptr(),
+            hrp.len(),
+            version,
+            key.as_ptr(),
+            program.as_ptr(),
+            program.len(),
+            text.as_mut_ptr(),
+            text.len(),
+            &mut length,
+        )
+    };
+    returned(number, length)
+}
+
+/// Puts the human-readable part, the blinding key and the program of a confidential address into buffers, and
+/// returns the length of the first, the witness version, and the length of the last.
+pub fn liquid_decode(
+    text: &[u8],
+    hrp: &mut [u8],
+    key: &mut [u8; 33],
+    program: &mut [u8],
+) -> Result<(usize, u32, usize), Refusal> {
+    let (mut hrp_length, mut version, mut program_length) = (0, 0, 0);
+    // SAFETY: as in `liquid_encode`.
+    let number = unsafe {
+        c::bech32_liquid_decode(
+            text.as_ptr(),
+            text.len(),
+            hrp.as_mut_ptr(),
+            hrp.len(),
+            &mut hrp_length,
+            &mut version,
+            key.as_mut_ptr(),
+            program.as_mut_ptr(),
+            program.len(),
+            &mut program_length,
+        )
+    };
+    returned(number, (hrp_length, version, program_length))
+}
+
+/// The same as `nearest` by Blech32, the checksum of Liquid's confidential addresses.
+#[cfg(feature = "correct")]
+pub fn liquid_nearest(
+    text: &[u8],
+    erasures: &[usize],
+    errors: usize,
+    memory: &mut [Block],
+    texts: &mut [u8],
+) -> Result<usize, Refusal> {
+    let (mut lent, mut count) = (lent(memory), 0);
+    // SAFETY: as in `nearest`.
+    let number = unsafe {
+        c::bech32_liquid_nearest(
+            text.as_ptr(),
+            text.len(),
+            erasures.as_ptr(),
+            erasures.len(),
+            errors,
+            &mut lent,
+            texts.as_mut_ptr(),
+            texts.len(),
+            &mut count,
+        )
+    };
+    counted(number, count)
+}
+
+/// Puts the addresses of a network that may have been meant by a text into buffers, with what is done and where, as
+/// much as they have room for, and returns how many there are in all. The memory is for the call's own use.
+#[cfg(feature = "correct")]
+pub fn suggest(
+    text: &[u8],
+    hrp: &[u8],
+    memory: &mut [Block],
+    kinds: &mut [u8],
+    places: &mut [usize],
+    texts: &mut [u8],
+) -> Result<usize, Refusal> {
+    let (mut lent, mut count) = (lent(memory), 0);
+    // SAFETY: as in `nearest`.
+    let number = unsafe {
+        c::bech32_suggest(
+            text.as_ptr(),
+            text.len(),
+            hrp.as_ptr(),
+            hrp.len(),
+            &mut lent,
+            kinds.as_mut_ptr(),
+            kinds.len(),
+            places.as_mut_ptr(),
+            places.len(),
+            texts.as_mut_ptr(),
+            texts.len(),
+            &mut count,
+        )
+    };
+    returned(number, count)
+}
+
 /// Reads a string of either length, puts the bytes of its payload into a buffer, and returns how many they
 /// are.
 #[cfg(feature = "codex32")]
@@ -624,4 +856,149 @@ pub fn codex32_propose_long(
         )
     };
     wiped(number, length)
+}
+
+/// Puts the human-readable part and the bytes of a text that is the only one of them into buffers, and
+/// returns their lengths.
+pub fn decode_strict(
+    checksum: u32,
+    text: &[u8],
+    hrp: &mut [u8],
+    bytes: &mut [u8],
+) -> Result<(usize, usize), Refusal> {
+    let (mut hrp_length, mut bytes_length) = (0, 0);
+    // SAFETY: as in `encode`.
+    let number = unsafe {
+        c::bech32_decode_strict(
+            checksum,
+            text.as_ptr(),
+            text.len(),
+            hrp.as_mut_ptr(),
+            hrp.len(),
+            &mut hrp_length,
+            bytes.as_mut_ptr(),
+            bytes.len(),
+            &mut bytes_length,
+        )
+    };
+    returned(number, (hrp_length, bytes_length))
+}
+
+/// Puts the human-readable part and the elements of a text into buffers, and returns their lengths.
+pub fn decode_elements(
+    checksum: u32,
+    text: &[u8],
+    hrp: &mut [u8],
+    elements: &mut [u8],
+) -> Result<(usize, usize), Refusal> {
+    let (mut hrp_length, mut elements_length) = (0, 0);
+    // SAFETY: as in `encode`.
+    let number = unsafe {
+        c::bech32_decode_elements(
+            checksum,
+            text.as_ptr(),
+            text.len(),
+            hrp.as_mut_ptr(),
+            hrp.len(),
+            &mut hrp_length,
+            elements.as_mut_ptr(),
+            elements.len(),
+            &mut elements_length,
+        )
+    };
+    returned(number, (hrp_length, elements_length))
+}
+
+/// Puts the text of a human-readable part and elements into a buffer, and returns 0 and its length.
+pub fn encode_elements(
+    checksum: u32,
+    hrp: &[u8],
+    elements: &[u8],
+    text: &mut [u8],
+) -> Result<(usize, usize), Refusal> {
+    let (mut place, mut text_length) = (0, 0);
+    // SAFETY: as in `encode`.
+    let number = unsafe {
+        c::bech32_encode_elements(
+            checksum,
+            hrp.as_ptr(),
+            hrp.len(),
+            elements.as_ptr(),
+            elements.len(),
+            &mut place,
+            text.as_mut_ptr(),
+            text.len(),
+            &mut text_length,
+        )
+    };
+    returned(number, (place, text_length))
+}
+
+// What a call on a descriptor returned. What it left on the stack is wiped.
+#[cfg(feature = "correct")]
+#[inline(always)]
+fn kept_secret<T>(number: u32, value: T) -> Result<T, Refusal> {
+    wipe_stack();
+    returned(number, value)
+}
+
+/// Puts the checksum of a descriptor into a buffer, and returns its length. A refusal has the place of a
+/// character at fault.
+#[cfg(feature = "correct")]
+pub fn descriptor_checksum(text: &[u8], checksum: &mut [u8]) -> Result<usize, (Refusal, usize)> {
+    let (mut checksum_length, mut place) = (0, 0);
+    // SAFETY: as in `encode`.
+    let number = unsafe {
+        c::bech32_descriptor_checksum(
+            text.as_ptr(),
+            text.len(),
+            checksum.as_mut_ptr(),
+            checksum.len(),
+            &mut checksum_length,
+            &mut place,
+        )
+    };
+    kept_secret(number, checksum_length).map_err(|refusal| (refusal, place))
+}
+
+/// Tests the checksum of a descriptor. A refusal has the place of a character at fault.
+#[cfg(feature = "correct")]
+pub fn descriptor_check(text: &[u8]) -> Result<(), (Refusal, usize)> {
+    let mut place = 0;
+    // SAFETY: as in `encode`.
+    let number = unsafe { c::bech32_descriptor_check(text.as_ptr(), text.len(), &mut place) };
+    kept_secret(number, ()).map_err(|refusal| (refusal, place))
+}
+
+/// Puts what one mistake makes of a descriptor into buffers, as much as they have room for, and returns how many
+/// such texts there are in all: the kinds, two places for each, and the texts, one behind another. The memory is
+/// for the call's own use.
+#[cfg(feature = "correct")]
+pub fn descriptor_mend(
+    text: &[u8],
+    changed: usize,
+    memory: &mut [Block],
+    kinds: &mut [u8],
+    places: &mut [usize],
+    texts: &mut [u8],
+) -> Result<usize, Refusal> {
+    let (mut lent, mut count) = (lent(memory), 0);
+    // SAFETY: as in `nearest`.
+    let number = unsafe {
+        c::bech32_descriptor_mend(
+            text.as_ptr(),
+            text.len(),
+            changed,
+            &mut lent,
+            kinds.as_mut_ptr(),
+            kinds.len(),
+            places.as_mut_ptr(),
+            places.len(),
+            texts.as_mut_ptr(),
+            texts.len(),
+            &mut count,
+        )
+    };
+    wipe_stack();
+    counted(number, count)
 }

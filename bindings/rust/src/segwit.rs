@@ -29,6 +29,8 @@ use std::error::Error;
 use std::{fmt, io};
 
 pub use crate::rules::{VERSION_0, VERSION_1};
+#[cfg(feature = "correct")]
+pub use crate::suggest::{suggest, Suggestion};
 
 /// The bytes that a witness program has at most.
 pub(crate) const MAX_PROGRAM_LENGTH: usize = 40;

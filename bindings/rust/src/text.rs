@@ -11,7 +11,8 @@ use crate::{raw, Checksum, Hrp};
 use std::error::Error;
 use std::{fmt, io};
 
-/// The characters that a text has at most.
+/// The characters that a text has at most which is mended.
+#[cfg(feature = "correct")]
 pub(crate) const MAX_TEXT_LENGTH: usize = 1023;
 
 // The bytes that a text has at most.
@@ -52,7 +53,12 @@ pub(crate) fn length_of<Ck: Checksum>(hrp: &Hrp, data: &[u8]) -> usize {
 ///
 /// That number, where it is more than the checksum allows.
 pub fn encoded_length<Ck: Checksum>(hrp: Hrp, data: &[u8]) -> Result<usize, CodeLengthError> {
-    let (encoded_length, code_length) = (length_of::<Ck>(&hrp, data), Ck::CODE_LENGTH);
+    too_long::<Ck>(length_of::<Ck>(&hrp, data))
+}
+
+/// The length of a text, where it is no more than the checksum allows.
+pub(crate) fn too_long<Ck: Checksum>(encoded_length: usize) -> Result<usize, CodeLengthError> {
+    let code_length = Ck::CODE_LENGTH;
     if encoded_length > code_length {
         return Err(CodeLengthError {
             encoded_length,
@@ -73,7 +79,8 @@ pub fn encoded_length<Ck: Checksum>(hrp: Hrp, data: &[u8]) -> Result<usize, Code
 ///
 /// # Errors
 ///
-/// [`EncodeError::TooLong`] where the text would have more than 1023 characters, if it has a checksum.
+/// [`EncodeError::TooLong`] where the text would have more than 1023 characters, or 7089 by a long checksum, if
+/// it has a checksum.
 /// Of a part that [`Hrp::parse`] would refuse, [`EncodeError::Fmt`].
 pub fn encode<Ck: Checksum>(hrp: Hrp, data: &[u8]) -> Result<String, EncodeError> {
     encode_lower::<Ck>(hrp, data)
@@ -85,15 +92,18 @@ pub fn encode<Ck: Checksum>(hrp: Hrp, data: &[u8]) -> Result<String, EncodeError
 ///
 /// Those of [`encode`].
 pub fn encode_lower<Ck: Checksum>(hrp: Hrp, data: &[u8]) -> Result<String, EncodeError> {
-    encoded_length::<Ck>(hrp, data)?;
+    let length = encoded_length::<Ck>(hrp, data)?;
     let Some(code) = Ck::CODE else {
         return without_checksum::<Ck>(hrp, data);
     };
-    let mut text = [0; MAX_TEXT_LENGTH];
-    match raw::encode(code.number, hrp.as_bytes(), data, &mut text) {
-        Ok(length) => Ok(ascii(&text[..length]).to_owned()),
-        Err(_) => Err(EncodeError::Fmt(fmt::Error)),
-    }
+    let mut text = vec![0; length];
+    let put = raw::encode(code.number, hrp.as_bytes(), data, &mut text);
+    written(put.ok().map(|length| ascii(&text[..length]).to_owned()))
+}
+
+/// The text that the library wrote. It refuses none of these but for the human-readable part.
+pub(crate) fn written(text: Option<String>) -> Result<String, EncodeError> {
+    text.ok_or(EncodeError::Fmt(fmt::Error))
 }
 
 // The library has no call for these texts: it tests the human-readable part alone.
@@ -204,7 +214,8 @@ fn unwritten(e: EncodeError) -> EncodeIoError {
 }
 
 /// Decodes a text that Bech32m or Bech32 accepts: its human-readable part, in the case of the text,
-/// and its bytes. Bits behind the last whole byte are dropped.
+/// and its bytes. Bits behind the last whole byte are dropped: what identifies something is decoded by
+/// [`decode_strict`](crate::decode_strict), which accepts one spelling of it.
 ///
 /// **Decode an address by [`segwit::decode`](crate::segwit::decode), not by this.** The first element of an
 /// address is its witness version, so this returns the program shifted by five bits. That looks like a hash,

@@ -1,6 +1,12 @@
 //! The public vectors, and what of this crate no other crate has: its numbers.
 
+#[cfg(feature = "correct")]
+mod descriptor;
+mod elements;
+mod liquid;
 mod rows;
+#[cfg(feature = "correct")]
+mod suggest;
 
 use bech32_proved::primitives::checksum::Engine;
 use bech32_proved::primitives::decode::{
@@ -430,7 +436,8 @@ fn name(refusal: &Refusal) -> String {
 
 #[test]
 fn has_the_numbers_of_the_header() {
-    let (_, answers) = HEADER.split_once("/* Answers. */").unwrap();
+    let (_, behind) = HEADER.split_once("/* Answers. */").unwrap();
+    let (answers, _) = behind.split_once("\n\n").unwrap();
     let defined = answers.lines().filter_map(|line| {
         let mut words = line.strip_prefix("#define ")?.split_whitespace();
         let name = words.next()?.to_owned();

@@ -1,0 +1,115 @@
+//! Output descriptors (BIP-380).
+
+use bech32_proved::descriptor::{check, checksum, mend, Error, Mistake};
+use bech32_proved::Refusal;
+
+const RIGHT: &str = "raw(deadbeef)#89f8spxm";
+const LONG: &str =
+    "wpkh(02f9308a019258c31049344f85f89d5229b531c845836f99b08601f113bce036f9)#8zl0zxma";
+
+#[test]
+fn computes_and_tests_checksums() {
+    for text in [RIGHT, LONG] {
+        let (before, sum) = text.rsplit_once('#').unwrap();
+        assert_eq!(checksum(before).as_deref(), Ok(sum));
+        assert_eq!(check(text), Ok(before));
+    }
+    let every: String = (32..127).map(char::from).collect();
+    let text = format!("{every}#{}", checksum(&every).unwrap());
+    assert_eq!(check(&text), Ok(every.as_str()));
+}
+
+#[test]
+fn refuses_other_texts() {
+    for (text, place) in [
+        ("raw(dead\u{1f}beef)", 8),
+        ("raw(d\u{e9}adbeef)", 5),
+        ("\u{1f600}", 0),
+    ] {
+        assert_eq!(checksum(text), Err(Error::Character(place)));
+        assert_eq!(
+            check(&format!("{text}#89f8spxm")),
+            Err(Error::Character(place))
+        );
+    }
+    for (text, error, number) in [
+        ("", Error::NoChecksum, 88),
+        ("raw(deadbeef)", Error::NoChecksum, 88),
+        ("raw(deadbeef)#89f8spx", Error::NoChecksum, 88),
+        ("raw(deadbeef)#89f8spxmm", Error::NoChecksum, 88),
+        ("raw(deadbeef)#89f8spxb", Error::Character(21), 80),
+        ("raw(deadbeef)#89f8spxM", Error::Character(21), 80),
+        ("raw(deedbeef)#89f8spxm", Error::WrongChecksum, 33),
+    ] {
+        assert_eq!(check(text), Err(error), "{text}");
+        assert_eq!(Refusal::from(error).number(), number);
+    }
+    assert_eq!(mend(&"x".repeat(7501), 1).unwrap_err(), Error::TooLong);
+    assert_eq!(mend(RIGHT, 2).unwrap_err(), Error::Changed);
+    // What is wrong with the number comes first.
+    assert_eq!(mend(&"x".repeat(7501), 2).unwrap_err(), Error::Changed);
+    let said = check("raw(deadbeef)#89f8spxb").unwrap_err().to_string();
+    let words = "a character may not stand in a descriptor, or not in its checksum: character 22";
+    assert_eq!(said, words);
+}
+
+// That one text is listed, and how it is made.
+fn alone(text: &str, right: &str, mistake: Mistake, words: &str) {
+    let found = mend(text, 1).unwrap();
+    let found: Vec<_> = found.iter().filter(|it| it.as_str() == right).collect();
+    assert_eq!(found.len(), 1, "{text}");
+    assert_eq!(
+        (found[0].mistake(), found[0].to_string().as_str()),
+        (mistake, words)
+    );
+}
+
+#[test]
+fn mends_one_mistake() {
+    for right in [RIGHT, LONG] {
+        for place in 0..right.len() - 1 {
+            let (front, behind) = (&right[..place], &right[place + 1..]);
+            let it = right.as_bytes()[place] as char;
+            let next = behind.chars().next().unwrap();
+            let other = if it == 'x' { 'y' } else { 'x' };
+            let (number, after) = (place + 1, place + 2);
+            let words = format!("character {number}: {other} becomes {it}");
+            alone(
+                &format!("{front}{other}{behind}"),
+                right,
+                Mistake::Changed(place),
+                &words,
+            );
+            if it == next {
+                continue;
+            }
+            let words = format!("character {number}: {it} is put in");
+            alone(
+                &format!("{front}{behind}"),
+                right,
+                Mistake::PutIn(place),
+                &words,
+            );
+            let words = format!("characters {number} and {after}: {next} and {it} are swapped");
+            let swapped = format!("{front}{next}{it}{}", &behind[1..]);
+            alone(&swapped, right, Mistake::Swapped(place), &words);
+            if other != next {
+                let words = format!("character {after}: {other} is left out");
+                let longer = format!("{front}{it}{other}{behind}");
+                alone(&longer, right, Mistake::LeftOut(place + 1), &words);
+            }
+        }
+    }
+    // Two changed characters are more than one mistake.
+    let two = mend("sawqdeadbeef)#89f8spxm", 1).unwrap();
+    assert!(two.iter().all(|it| it.as_str() != RIGHT));
+    let none = mend("raw(deedbeef)#89f8spxm", 0).unwrap();
+    assert!(none.iter().all(|it| it.as_str() != RIGHT));
+    let words = "character 6: \u{e9} becomes e";
+    alone(
+        "raw(d\u{e9}adbeef)#89f8spxm",
+        RIGHT,
+        Mistake::Changed(5),
+        words,
+    );
+}

@@ -1,0 +1,75 @@
+// The calls of bech32_c on descriptors. One may hold private keys, and may be long: each call has an instance of its own, of
+// which nothing is left.
+import { Instance } from './instance.js';
+
+const SIZE = 8, CHECKSUM = 8, NO_MEMORY = 91, NO_ROOM = 92;
+
+/** A longer one is not mended. */
+export const MAX_DESCRIPTOR = 7500;
+
+// Room for this many texts, and memory, which suffices for most. Where they do not, the room that the call tells is made, or this
+// many times as much memory, up to the most.
+const TEXTS = 8, MEMORY = 16384, OF_A_CHARACTER = 400, MORE = 8, MOST = 1 << 28;
+
+// The kinds of mistakes by their numbers, with how much longer a text is that each makes.
+const KINDS = [null, ['swapped', 0], ['leftOut', -1], ['putIn', 1], ['changed', 0]];
+
+// A character that is not ASCII is one that no descriptor has.
+const octetsOf = (text) => Uint8Array.from(Array.from(text), (it) => (it < '\u0080' ? it.charCodeAt(0) : 0x7f));
+
+const withInstance = (module, regions, call) => {
+  const it = new Instance(module, regions);
+  try {
+    return call(it);
+  } finally {
+    it.wipe();
+  }
+};
+
+const mendedIn = (it, octets, changed, { lent, kinds, places, near }) => {
+  const p = (region) => it.pointer(region), length = it.putBytes('text', octets);
+  it.putSizes('memory', [it.at.lent, lent]);
+  const number = it.call('bech32_descriptor_mend', p('text'), length, BigInt(changed), p('memory'), p('kinds'), BigInt(kinds),
+    p('places'), BigInt(places / SIZE), p('near'), BigInt(near), p('count'));
+  if (number) return { number, count: it.size('count') };
+  let end = 0;
+  const found = Array.from(it.copy('kinds', it.size('count')), (kind, i) => {
+    const [name, more] = KINDS[kind], start = end, places = [0, 1].map((n) => it.size('places', 2 * i + n));
+    end += octets.length + more;
+    return { kind: name, places: [...new Set(places)], text: it.text('near', end - start, start) };
+  });
+  return { number, found };
+};
+
+/** The calls on descriptors of the module of `bech32_c`. Places are those of characters. */
+export const descriptorCalls = (module) => ({
+  checksum(text) {
+    const octets = octetsOf(text), regions = { text: octets.length, out: CHECKSUM, outLength: SIZE, place: SIZE };
+    return withInstance(module, regions, (it) => {
+      const p = (region) => it.pointer(region), length = it.putBytes('text', octets);
+      const number = it.call('bech32_descriptor_checksum', p('text'), length, p('out'), BigInt(CHECKSUM), p('outLength'), p('place'));
+      return number ? { number, place: it.size('place') } : { number, checksum: it.text('out', it.size('outLength')) };
+    });
+  },
+  check(text) {
+    const octets = octetsOf(text);
+    return withInstance(module, { text: octets.length, place: SIZE }, (it) => {
+      const p = (region) => it.pointer(region), length = it.putBytes('text', octets);
+      return { number: it.call('bech32_descriptor_check', p('text'), length, p('place')), place: it.size('place') };
+    });
+  },
+  mend(text, changed) {
+    const octets = octetsOf(text), size = octets.length + 1;
+    let regions = {
+      text: octets.length, memory: 2 * SIZE, lent: MEMORY + OF_A_CHARACTER * Math.min(size, MAX_DESCRIPTOR), kinds: TEXTS,
+      places: 2 * SIZE * TEXTS, near: TEXTS * size, count: SIZE,
+    };
+    for (;;) {
+      const sizes = regions, answer = withInstance(module, sizes, (it) => mendedIn(it, octets, changed, sizes));
+      if (![NO_MEMORY, NO_ROOM].includes(answer.number)) return answer;
+      const { count } = answer, room = { kinds: count, places: 2 * SIZE * count, near: count * size };
+      regions = { ...sizes, ...(answer.number === NO_MEMORY ? { lent: MORE * sizes.lent } : room) };
+      if (Object.values(regions).some((it) => it > MOST)) return answer;
+    }
+  },
+});
