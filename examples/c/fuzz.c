@@ -163,6 +163,10 @@ typedef struct {
 
 static const uint32_t of_encode[] = {2, 4, 11, 12, 13, 14, 15, 51, 92, 0};
 static const uint32_t of_decode[] = {2, 11, 12, 13, 14, 15, 21, 22, 23, 31, 32, 33, 92, 0};
+static const uint32_t of_decode_strict[] = {2, 4, 11, 12, 13, 14, 15, 21, 22, 23, 31, 32, 33, 44, 45,
+                                            92, 0};
+static const uint32_t of_decode_elements[] = {2, 4, 11, 12, 13, 14, 15, 21, 22, 23, 31, 32, 33, 92, 0};
+static const uint32_t of_encode_elements[] = {2, 4, 11, 12, 13, 14, 15, 51, 67, 92, 0};
 static const uint32_t of_check[] = {2, 4, 11, 12, 13, 14, 15, 21, 22, 23, 31, 32, 33, 0};
 static const uint32_t of_segwit_encode[] = {2, 4, 11, 12, 13, 14, 15, 46, 47, 48, 52, 53, 92, 0};
 static const uint32_t of_segwit_decode[] = {2, 11, 12, 13, 14, 15, 21, 22, 23, 32, 33, 41, 42, 43, 44,
@@ -171,11 +175,17 @@ static const uint32_t of_residue[] = {4, 0};
 
 static Function encode = {"bech32_encode", 0, {0}, of_encode};
 static Function decode = {"bech32_decode", 0, {0}, of_decode};
+static Function decode_strict = {"bech32_decode_strict", 0, {0}, of_decode_strict};
+static Function decode_elements = {"bech32_decode_elements", 0, {0}, of_decode_elements};
+static Function encode_elements = {"bech32_encode_elements", 0, {0}, of_encode_elements};
 static Function check = {"bech32_check", 0, {0}, of_check};
 static Function fault = {"bech32_fault", 0, {0}, of_check};
 static Function segwit_encode = {"bech32_segwit_encode", 0, {0}, of_segwit_encode};
 static Function segwit_decode = {"bech32_segwit_decode", 0, {0}, of_segwit_decode};
 static Function residue = {"bech32_residue", 0, {0}, of_residue};
+
+static const uint32_t of_suggest[] = {2, 11, 12, 13, 14, 15, 21, 22, 23, 91, 92, 0};
+static Function suggest_calls = {"bech32_suggest", 0, {0}, of_suggest};
 
 /* The sentences of the numbers. */
 static const uint32_t of_message[] = {92, 0};
@@ -420,6 +430,112 @@ static void try_decode(void) {
                (bech32_check(BECH32_BECH32, text, text_length, &unused, &unused) == BECH32_OK ||
                 bech32_check(BECH32_BECH32M, text, text_length, &unused, &unused) == BECH32_OK),
            "bech32_check says otherwise");
+}
+
+/* Decodes by one of the two functions that take a checksum, and counts the answer. What a text is decoded to is
+   encoded again by `encode_again` to that text, in lower case. */
+static void try_decode_by(Function *function,
+                          uint32_t (*decode_by)(uint32_t, const uint8_t *, size_t, uint8_t *, size_t, size_t *,
+                                                uint8_t *, size_t, size_t *),
+                          int (*encode_again)(uint32_t, const uint8_t *, size_t, const uint8_t *, size_t)) {
+    static uint8_t ample_part[AREA], ample[AREA];
+    size_t h = 0, n = 0, unused;
+    uint32_t checksum = random_checksum();
+    begin(function);
+    random_text();
+    uint32_t expected = decode_by(checksum, text, text_length, ample_part, sizeof ample_part, &h, ample,
+                                  sizeof ample, &n);
+    place(&read_1, text, text_length, 1);
+    place(&written_1, NULL, room(expected == BECH32_OK ? h : BECH32_MAX_HRP), 1);
+    place(&written_2, NULL, room(expected == BECH32_OK ? n : BECH32_MAX_ELEMENTS), 1);
+    size_t *told_1 = new_length(&length_1), *told_2 = new_length(&length_2);
+    uint32_t number = decode_by(checksum, read_1.buffer, text_length, written_1.buffer, written_1.length, told_1,
+                                written_2.buffer, written_2.length, told_2);
+    int is_ok = number == BECH32_OK;
+    count(function, number);
+    expect_number(number, expected, h <= written_1.length && n <= written_2.length);
+    expect_kept(&read_1, 0, "the text changed");
+    expect_kept(&written_1, is_ok ? h : 0, "the first buffer changed elsewhere");
+    expect_kept(&written_2, is_ok ? n : 0, "the second buffer changed elsewhere");
+    expect_kept(&length_1, is_ok ? sizeof h : 0, "the first length changed");
+    expect_kept(&length_2, is_ok ? sizeof n : 0, "the second length changed");
+    if (is_ok) {
+        expect(length_in(&length_1) == h && length_in(&length_2) == n, "the lengths");
+        expect(memcmp(written_1.buffer, text, h) == 0, "another human-readable part");
+        expect(n == 0 || memcmp(written_2.buffer, ample, n) == 0, "other bytes");
+        expect(encode_again(checksum, ample_part, h, ample, n), "another text has these parts");
+    }
+    expect(expected != BECH32_OK || bech32_check(checksum, text, text_length, &unused, &unused) == BECH32_OK,
+           "bech32_check says otherwise");
+}
+
+static int is_text(const uint8_t *again, size_t length) {
+    return length == text_length && same_lowered(again, text, length);
+}
+
+static int strictly_again(uint32_t checksum, const uint8_t *hrp, size_t h, const uint8_t *bytes, size_t n) {
+    static uint8_t again[AREA];
+    size_t length = 0;
+    return bech32_encode(checksum, hrp, h, bytes, n, again, sizeof again, &length) == BECH32_OK &&
+           is_text(again, length);
+}
+
+static void try_decode_strict(void) { try_decode_by(&decode_strict, bech32_decode_strict, strictly_again); }
+
+static int in_elements_again(uint32_t checksum, const uint8_t *hrp, size_t h, const uint8_t *elements, size_t n) {
+    static uint8_t again[AREA];
+    size_t length = 0, where = 0;
+    return bech32_encode_elements(checksum, hrp, h, elements, n, &where, again, sizeof again, &length) ==
+               BECH32_OK &&
+           is_text(again, length);
+}
+
+static void try_decode_elements(void) {
+    try_decode_by(&decode_elements, bech32_decode_elements, in_elements_again);
+}
+
+static void try_encode_elements(void) {
+    static uint8_t ample[AREA];
+    size_t length = 0, where = AREA, h = 0, n = 0;
+    uint32_t checksum = random_checksum();
+    begin(&encode_elements);
+    random_part();
+    random_data(1016);
+    for (size_t i = 0; i < data_length; i++) {
+        data[i] = (uint8_t)(data[i] % 32);
+    }
+    if (data_length > 0 && percent(20)) {
+        data[below(data_length)] = (uint8_t)(32 + below(224));
+    }
+    uint32_t expected = bech32_encode_elements(checksum, part, part_length, data, data_length, &where, ample,
+                                               sizeof ample, &length);
+    place(&read_1, part, part_length, 1);
+    place(&read_2, data, data_length, 1);
+    place(&written_1, NULL, room(expected == BECH32_OK ? length : BECH32_MAX_TEXT), 1);
+    size_t *told_1 = new_length(&length_1), *told_2 = new_length(&length_2);
+    uint32_t number = bech32_encode_elements(checksum, read_1.buffer, part_length, read_2.buffer, data_length,
+                                             told_2, written_1.buffer, written_1.length, told_1);
+    int is_ok = number == BECH32_OK, is_placed = number == BECH32_BAD_ELEMENT;
+    count(&encode_elements, number);
+    expect_number(number, expected, length <= written_1.length);
+    expect_kept(&read_1, 0, "the human-readable part changed");
+    expect_kept(&read_2, 0, "the elements changed");
+    expect_kept(&written_1, is_ok ? length : 0, "the buffer changed elsewhere");
+    expect_kept(&length_1, is_ok ? sizeof length : 0, "the length changed");
+    expect_kept(&length_2, is_placed ? sizeof where : 0, "the place changed");
+    if (is_placed) {
+        expect(length_in(&length_2) == where && where < data_length && data[where] > 31, "the place");
+        for (size_t i = 0; i < where; i++) {
+            expect(data[i] <= 31, "an earlier byte is above 31");
+        }
+    }
+    if (is_ok) {
+        expect(length_in(&length_1) == length && length == part_length + 7 + data_length,
+               "the length of the text");
+        expect(memcmp(written_1.buffer, ample, length) == 0, "another text");
+        expect(bech32_check(checksum, ample, length, &h, &n) == BECH32_OK && h == part_length && n == data_length,
+               "the text is not accepted");
+    }
 }
 
 static void try_check(void) {
@@ -1399,6 +1515,171 @@ static void try_nearest(void) {
     }
 }
 
+/* Confidential addresses of Liquid. */
+static const uint32_t of_liquid_encode[] = {2, 4, 11, 12, 13, 14, 15, 46, 47, 48, 52, 70, 92, 0};
+static Function liquid_encode = {"bech32_liquid_encode", 0, {0}, of_liquid_encode};
+
+static const uint32_t of_liquid_decode[] = {2, 11, 12, 13, 14, 15, 21, 22, 23, 31, 32, 33, 42, 43, 44,
+                                            45, 46, 47, 48, 70, 71, 92, 0};
+static Function liquid_decode = {"bech32_liquid_decode", 0, {0}, of_liquid_decode};
+
+static const uint32_t of_liquid_nearest[] = {2, 4, 11, 12, 13, 14, 15, 21, 22, 23, 31, 32, 91, 92, 0};
+static Function liquid_nearest = {"bech32_liquid_nearest", 0, {0}, of_liquid_nearest};
+
+static void random_key(uint8_t *key) {
+    for (size_t i = 0; i < BECH32_LIQUID_KEY_LENGTH; i++) {
+        key[i] = (uint8_t)next_number();
+    }
+}
+
+static void try_liquid_encode(void) {
+    static uint8_t ample[AREA], back_part[AREA], back[AREA];
+    uint8_t key[BECH32_LIQUID_KEY_LENGTH], back_key[BECH32_LIQUID_KEY_LENGTH];
+    size_t length = 0, h = 0, n = 0;
+    uint32_t version = percent(80) ? 0 : random_version(), back_version = 99;
+    begin(&liquid_encode);
+    random_key(key);
+    random_part();
+    random_data(45);
+    if (percent(60) && data_length >= 20) {
+        data_length = data_length >= 32 ? 32 : 20;
+    }
+    uint32_t expected =
+        bech32_liquid_encode(part, part_length, version, key, data, data_length, ample, sizeof ample, &length);
+    place(&read_1, part, part_length, 1);
+    place(&read_2, data, data_length, 1);
+    place(&identifier_area, key, sizeof key, 1);
+    place(&written_1, NULL, room(expected == BECH32_OK ? length : BECH32_MAX_LIQUID_TEXT), 1);
+    size_t *told = new_length(&length_1);
+    uint32_t number =
+        bech32_liquid_encode(read_1.buffer, part_length, version, identifier_area.buffer, read_2.buffer,
+                             data_length, written_1.buffer, written_1.length, told);
+    count(&liquid_encode, number);
+    expect_number(number, expected, length <= written_1.length);
+    expect_kept(&read_1, 0, "the human-readable part changed");
+    expect_kept(&read_2, 0, "the program changed");
+    expect_kept(&identifier_area, 0, "the key changed");
+    expect_kept(&written_1, number == BECH32_OK ? length : 0, "the buffer changed elsewhere");
+    expect_kept(&length_1, number == BECH32_OK ? sizeof length : 0, "the length changed");
+    if (number != BECH32_OK) {
+        return;
+    }
+    expect(length_in(&length_1) == length && length <= BECH32_MAX_LIQUID_TEXT, "the length");
+    expect(memcmp(written_1.buffer, ample, length) == 0, "another address");
+    expect(bech32_liquid_decode(ample, length, back_part, sizeof back_part, &h, &back_version, back_key, back,
+                                sizeof back, &n) == BECH32_OK &&
+               h == part_length && back_version == version && n == data_length &&
+               memcmp(back, data, n) == 0 && memcmp(back_key, key, sizeof key) == 0 &&
+               same_lowered(back_part, part, h),
+           "the address is not decoded to what was encoded");
+}
+
+/* Makes the text one of Liquid, most of the time, mistyped or not. */
+static void random_liquid_text(void) {
+    uint8_t key[BECH32_LIQUID_KEY_LENGTH];
+    random_key(key);
+    random_text();
+    random_data(45);
+    data_length = percent(50) ? 32 : 20;
+    if (percent(90)) {
+        expect(bech32_liquid_encode((const uint8_t *)"lq", 2, 0, key, data, data_length, text, sizeof text,
+                                    &text_length) == BECH32_OK,
+               "no address");
+        for (size_t i = percent(50) ? below(4) : 0; i > 0; i--) {
+            text[below(text_length)] = (uint8_t)"qpzry9x8gf2tvdw0s3jn54khce6mua7l"[below(32)];
+        }
+    }
+}
+
+static void try_liquid_decode(void) {
+    static uint8_t ample_part[AREA], ample[AREA], back[AREA];
+    uint8_t ample_key[BECH32_LIQUID_KEY_LENGTH];
+    size_t h = 0, n = 0, length = 0;
+    uint32_t ample_version = 0;
+    begin(&liquid_decode);
+    random_liquid_text();
+    uint32_t expected = bech32_liquid_decode(text, text_length, ample_part, sizeof ample_part, &h,
+                                             &ample_version, ample_key, ample, sizeof ample, &n);
+    place(&read_1, text, text_length, 1);
+    place(&written_1, NULL, room(expected == BECH32_OK ? h : BECH32_MAX_HRP), 1);
+    place(&written_2, NULL, room(expected == BECH32_OK ? n : BECH32_MAX_LIQUID_PROGRAM), 1);
+    place(&identifier_area, NULL, BECH32_LIQUID_KEY_LENGTH, 1);
+    uint32_t any = (uint32_t)next_number();
+    place(&read_2, &any, sizeof any, sizeof any);
+    size_t *told_1 = new_length(&length_1), *told_2 = new_length(&length_2);
+    uint32_t number = bech32_liquid_decode(
+        read_1.buffer, text_length, written_1.buffer, written_1.length, told_1,
+        (uint32_t *)(void *)read_2.buffer, identifier_area.buffer, written_2.buffer, written_2.length, told_2);
+    int is_ok = number == BECH32_OK;
+    count(&liquid_decode, number);
+    expect_number(number, expected, h <= written_1.length && n <= written_2.length);
+    expect_kept(&read_1, 0, "the text changed");
+    expect_kept(&read_2, is_ok ? sizeof any : 0, "the version changed");
+    expect_kept(&identifier_area, is_ok ? BECH32_LIQUID_KEY_LENGTH : 0, "the key changed");
+    expect_kept(&written_1, is_ok ? h : 0, "the first buffer changed elsewhere");
+    expect_kept(&written_2, is_ok ? n : 0, "the second buffer changed elsewhere");
+    expect_kept(&length_1, is_ok ? sizeof h : 0, "the first length changed");
+    expect_kept(&length_2, is_ok ? sizeof n : 0, "the second length changed");
+    if (!is_ok) {
+        return;
+    }
+    expect(length_in(&length_1) == h && length_in(&length_2) == n && n <= BECH32_MAX_LIQUID_PROGRAM,
+           "the lengths");
+    expect(memcmp(read_2.buffer, &ample_version, sizeof any) == 0 && ample_version == 0, "the version");
+    expect(memcmp(identifier_area.buffer, ample_key, sizeof ample_key) == 0, "another key");
+    expect(memcmp(written_2.buffer, ample, n) == 0, "another program");
+    expect(bech32_liquid_encode(ample_part, h, ample_version, ample_key, ample, n, back, sizeof back,
+                                &length) == BECH32_OK &&
+               length == text_length && same_lowered(back, text, length),
+           "the address is not the one of its parts");
+}
+
+static _Alignas(16) uint8_t liquid_memory[BECH32_LIQUID_NEAREST_MEMORY(BECH32_MAX_LIQUID_TEXT)];
+
+static void try_liquid_nearest(void) {
+    static uint8_t ample[64u * BECH32_MAX_LIQUID_TEXT];
+    size_t erasures[7], all = 0, errors = percent(95) ? below(3) : below(6);
+    size_t erasures_length = errors < 3 ? below(7) : (size_t)percent(10);
+    begin(&liquid_nearest);
+    random_liquid_text();
+    text_length = text_length > BECH32_MAX_LIQUID_TEXT ? BECH32_MAX_LIQUID_TEXT : text_length;
+    bech32_memory whole = {liquid_memory, BECH32_LIQUID_NEAREST_MEMORY(text_length)};
+    for (size_t i = 0; i < erasures_length; i++) {
+        erasures[i] = percent(95) ? below(text_length + 1) : (size_t)next_number();
+    }
+    uint32_t expected = bech32_liquid_nearest(text, text_length, erasures, erasures_length, errors, &whole,
+                                              ample, sizeof ample, &all);
+    expect(whole.start == liquid_memory && whole.size == BECH32_LIQUID_NEAREST_MEMORY(text_length),
+           "the memory was kept");
+    expect(expected != BECH32_NO_MEMORY && expected != BECH32_NO_ROOM, "memory or room does not suffice");
+    size_t size = percent(30) ? below(sizeof some_memory) : sizeof some_memory;
+    bech32_memory memory = {some_memory + (sizeof some_memory - size) / 16 * 16, size};
+    FORBID(some_memory, sizeof some_memory);
+    ALLOW(memory.start, size);
+    place(&read_1, text, text_length, 1);
+    place(&erasures_area, erasures, erasures_length * sizeof *erasures, sizeof *erasures);
+    place(&memory_area, &memory, sizeof memory, sizeof(size_t));
+    place(&written_1, NULL, room(text_length), 1);
+    size_t *told = new_length(&length_1);
+    uint32_t number = bech32_liquid_nearest(
+        read_1.buffer, text_length, (const size_t *)(void *)erasures_area.buffer, erasures_length, errors,
+        (bech32_memory *)(void *)memory_area.buffer, written_1.buffer, written_1.length, told);
+    int is_counted = number == BECH32_OK || number == BECH32_NO_ROOM;
+    count(&liquid_nearest, number);
+    if (number != BECH32_NO_MEMORY) {
+        expect_number(number, expected, all * text_length <= written_1.length);
+    }
+    expect_kept(&read_1, 0, "the text changed");
+    expect_kept(&erasures_area, 0, "the erasures changed");
+    expect_kept(&memory_area, 0, "the memory was kept");
+    expect_kept(&length_1, is_counted ? sizeof all : 0, "the number of texts changed");
+    expect(!is_counted || length_in(&length_1) == all, "the number of texts");
+    size_t most = text_length == 0 ? 0 : written_1.length / text_length;
+    size_t items = !is_counted ? 0 : all < most ? all : most;
+    expect_kept(&written_1, items * text_length, "the buffer changed elsewhere");
+    expect(items == 0 || memcmp(written_1.buffer, ample, items * text_length) == 0, "other texts");
+}
+
 /* Texts that one edit makes of a mistyped one. */
 static const uint32_t of_near_edits[] = {2, 4, 11, 12, 13, 14, 15, 21, 22, 23, 91, 92, 0};
 static Function near_edits = {"bech32_near_edits", 0, {0}, of_near_edits};
@@ -1546,7 +1827,8 @@ static void try_sentence(Function *function, Message *call, const uint32_t *know
 }
 
 static void try_message(void) {
-    const uint32_t *known[] = {of_encode, of_segwit_decode, of_segwit_encode, of_correct};
+    const uint32_t *known[] = {of_encode, of_encode_elements, of_segwit_decode, of_segwit_encode, of_correct};
+    const uint32_t *known[] = {of_encode, of_segwit_decode, of_segwit_encode, of_correct, of_liquid_decode};
     expect(bech32_version() == BECH32_VERSION_NUMBER, "another version");
     try_sentence(&message, bech32_message, known[below(sizeof known / sizeof *known)]);
 }
@@ -1556,6 +1838,153 @@ static void try_codex32_message(void) {
                                of_codex32_recover, of_codex32_propose};
     expect(codex32_version() == CODEX32_VERSION_NUMBER, "another version");
     try_sentence(&codex32_message_calls, codex32_message, known[below(sizeof known / sizeof *known)]);
+}
+
+/* Descriptors: their checksums, and those that one edit makes of a text. */
+static const uint32_t of_descriptor_checksum[] = {80, 92, 0};
+static Function descriptor_checksum = {"bech32_descriptor_checksum", 0, {0}, of_descriptor_checksum};
+static const uint32_t of_descriptor_check[] = {33, 80, 88, 0};
+static Function descriptor_check = {"bech32_descriptor_check", 0, {0}, of_descriptor_check};
+static const uint32_t of_descriptor_mend[] = {4, 89, 91, 92, 0};
+static Function descriptor_mend = {"bech32_descriptor_mend", 0, {0}, of_descriptor_mend};
+
+/* Characters of a descriptor, at times with a byte that is none. */
+static void random_characters(size_t most) {
+    text_length = below(most + 1);
+    for (size_t i = 0; i < text_length; i++) {
+        text[i] = (uint8_t)(32 + below(95));
+    }
+    if (text_length > 0 && percent(20)) {
+        text[below(text_length)] = (uint8_t)below(256);
+    }
+}
+
+/* A text with its checksum, of which often a character or two are other ones. */
+static void random_descriptor(void) {
+    size_t length = 0, at = 0;
+    random_characters(100);
+    text[text_length] = '#';
+    bech32_descriptor_checksum(text, text_length, text + text_length + 1, 8, &length, &at);
+    text_length += length == 8 ? 9 : below(9);
+    if (text_length > 0 && percent(60)) {
+        text[below(text_length)] = (uint8_t)below(percent(20) ? 256 : 128);
+    }
+    if (text_length > 1 && percent(20)) {
+        at = 1 + below(text_length - 1);
+        memmove(text + at - 1, text + at, text_length - at);
+        text_length--;
+    }
+}
+
+static void try_descriptor_checksum(void) {
+    begin(&descriptor_checksum);
+    random_characters(200);
+    place(&read_1, text, text_length, 1);
+    place(&written_1, NULL, room(8), 1);
+    size_t *told = new_length(&length_1), *at = new_length(&length_2);
+    uint32_t number = bech32_descriptor_checksum(read_1.buffer, text_length, written_1.buffer, written_1.length, told, at);
+    count(&descriptor_checksum, number);
+    expect_kept(&read_1, 0, "the text changed");
+    expect_kept(&written_1, number == BECH32_OK ? 8 : 0, "the buffer changed elsewhere");
+    expect_kept(&length_1, number == BECH32_OK ? sizeof(size_t) : 0, "the length changed");
+    expect_kept(&length_2, number == BECH32_NOT_IN_DESCRIPTOR ? sizeof(size_t) : 0, "the place changed");
+    if (number == BECH32_NOT_IN_DESCRIPTOR) {
+        uint8_t byte = text[length_in(&length_2)];
+        expect(byte < 32 || byte > 126, "a place of a character");
+    }
+    if (number == BECH32_OK) {
+        expect(length_in(&length_1) == 8, "another length");
+        text[text_length] = '#';
+        memcpy(text + text_length + 1, written_1.buffer, 8);
+        expect(bech32_descriptor_check(text, text_length + 9, &text_length) == BECH32_OK, "a wrong checksum");
+    }
+}
+
+static void try_descriptor_check(void) {
+    begin(&descriptor_check);
+    random_descriptor();
+    place(&read_1, text, text_length, 1);
+    size_t *at = new_length(&length_1);
+    uint32_t number = bech32_descriptor_check(read_1.buffer, text_length, at);
+    count(&descriptor_check, number);
+    expect_kept(&read_1, 0, "the text changed");
+    expect_kept(&length_1, number == BECH32_NOT_IN_DESCRIPTOR ? sizeof(size_t) : 0, "the place changed");
+    expect(number != BECH32_NOT_IN_DESCRIPTOR || length_in(&length_1) < text_length, "a place behind the text");
+    expect((number == BECH32_NO_DESCRIPTOR_CHECKSUM) == (text_length < 9 || text[text_length - 9] != '#'),
+           "whether there is a checksum");
+}
+
+/* The found text is the given one with the edit, and is a descriptor. */
+static void expect_mended(const uint8_t *found, uint8_t done, const size_t *places) {
+    static uint8_t made[AREA];
+    size_t length = edited_length(done), at = places[0], told;
+    expect(done >= BECH32_SWAPPED && done <= BECH32_CHANGED && at < length + (done == BECH32_LEFT_OUT), "no such edit");
+    expect(places[1] == at + (done == BECH32_SWAPPED), "another second place");
+    if (done == BECH32_LEFT_OUT) {
+        memcpy(made, text, at);
+        memcpy(made + at, text + at + 1, length - at);
+    } else if (done == BECH32_PUT_IN) {
+        memcpy(made, text, at);
+        made[at] = found[at];
+        memcpy(made + at + 1, text + at, text_length - at);
+    } else {
+        memcpy(made, text, length);
+        made[at] = done == BECH32_SWAPPED ? text[at + 1] : found[at];
+        made[places[1]] = done == BECH32_SWAPPED ? text[at] : found[at];
+    }
+    expect(memcmp(made, found, length) == 0, "another text than that of the edit");
+    expect(bech32_descriptor_check(found, length, &told) == BECH32_OK, "a text that is made is refused");
+    expect(length != text_length || memcmp(found, text, length) != 0, "the text itself");
+}
+
+static void try_descriptor_mend(void) {
+    static uint8_t ample[EDITS * (MOST + 1)], ample_kinds[EDITS];
+    static size_t ample_places[2 * EDITS];
+    size_t all = 0, size_of_all = 0, fit = 0, fit_size = 0, changed = below(3);
+    bech32_memory whole = {ample_memory, sizeof ample_memory};
+    begin(&descriptor_mend);
+    random_descriptor();
+    uint32_t expected = bech32_descriptor_mend(text, text_length, changed, &whole, ample_kinds, EDITS, ample_places,
+                                               2 * EDITS, ample, sizeof ample, &all);
+    expect(whole.start == ample_memory && whole.size == sizeof ample_memory, "the memory was kept");
+    expect(expected == (changed > 1 ? BECH32_BAD_NUMBER : BECH32_OK), "another number");
+    for (size_t i = 0; i < all; i++) {
+        expect_mended(ample + size_of_all, ample_kinds[i], ample_places + 2 * i);
+        size_of_all += edited_length(ample_kinds[i]);
+    }
+    int is_small = percent(30);
+    size_t enough = BECH32_DESCRIPTOR_MEND_MEMORY(text_length), size = is_small ? below(enough) : enough;
+    bech32_memory memory = {some_memory + (sizeof some_memory - size) / 16 * 16, size};
+    FORBID(some_memory, sizeof some_memory);
+    ALLOW(memory.start, size);
+    place(&read_1, text, text_length, 1);
+    place(&memory_area, &memory, sizeof memory, sizeof(size_t));
+    place(&locations_area, NULL, below(5) * sizeof(size_t), sizeof(size_t));
+    place(&values_area, NULL, below(4), 1);
+    place(&written_1, NULL, room(size_of_all), 1);
+    size_t *told = new_length(&length_1), places_room = locations_area.length / sizeof(size_t);
+    uint32_t number = bech32_descriptor_mend(
+        read_1.buffer, text_length, changed, (bech32_memory *)(void *)memory_area.buffer, values_area.buffer,
+        values_area.length, (size_t *)(void *)locations_area.buffer, places_room, written_1.buffer, written_1.length, told);
+    int is_counted = number == BECH32_OK || number == BECH32_NO_ROOM;
+    count(&descriptor_mend, number);
+    while (is_counted && fit < all && fit < values_area.length && 2 * fit + 2 <= places_room &&
+           fit_size + edited_length(ample_kinds[fit]) <= written_1.length) {
+        fit_size += edited_length(ample_kinds[fit++]);
+    }
+    if (number == BECH32_NO_MEMORY) {
+        expect(is_small && expected == BECH32_OK, "want of memory in place of a refusal, or where the stated size is lent");
+    } else {
+        expect_number(number, expected, fit == all);
+    }
+    expect_kept(&read_1, 0, "the text changed");
+    expect_kept(&memory_area, 0, "the memory was kept");
+    expect_kept(&length_1, is_counted ? sizeof all : 0, "the number of texts changed");
+    expect(!is_counted || length_in(&length_1) == all, "the number of texts");
+    expect_kept(&values_area, fit, "the kinds changed elsewhere");
+    expect_kept(&locations_area, 2 * fit * sizeof(size_t), "the places changed elsewhere");
+    expect_kept(&written_1, fit_size, "the buffer changed elsewhere");
+    expect(fit_size == 0 || memcmp(written_1.buffer, ample, fit_size) == 0, "other texts");
 }
 
 static void print(const Function *function) {
@@ -1572,12 +2001,14 @@ static void print(const Function *function) {
 int main(int argc, char **argv) {
     static void (*const tries[])(void) = {
         try_encode,        try_decode,        try_check,   try_fault,
+        try_decode_strict, try_decode_elements,   try_encode_elements,
         try_segwit_encode, try_segwit_decode, try_residue, try_correct,
 #ifndef FIRST_CALLS_ALONE
         try_codex32_parse, try_codex32_propose, try_codex32_share,
         try_codex32_encode, try_codex32_encode_payload, try_codex32_derive, try_codex32_split,
         try_codex32_recover, try_codex32_propose_long,
-        try_nearest, try_near_edits, try_message, try_codex32_message,
+        try_nearest, try_near_edits, try_liquid_encode, try_liquid_decode, try_liquid_nearest, try_message, try_descriptor_checksum, try_descriptor_check, try_descriptor_mend,
+        try_codex32_message,
 #endif
     };
     unsigned long long count = argc > 1 ? strtoull(argv[1], NULL, 10) : 100000;
@@ -1596,6 +2027,9 @@ int main(int argc, char **argv) {
     printf("%llu calls\n", calls);
     print(&encode);
     print(&decode);
+    print(&decode_strict);
+    print(&decode_elements);
+    print(&encode_elements);
     print(&check);
     print(&fault);
     print(&segwit_encode);
@@ -1613,6 +2047,13 @@ int main(int argc, char **argv) {
     print(&propose_long_codex32);
     print(&nearest);
     print(&near_edits);
+    print(&liquid_encode);
+    print(&liquid_decode);
+    print(&liquid_nearest);
+    print(&suggest_calls);
+    print(&descriptor_checksum);
+    print(&descriptor_check);
+    print(&descriptor_mend);
     print(&message);
     print(&codex32_message_calls);
     return 0;

@@ -37,6 +37,54 @@ static uint32_t decode(const Words *words, Out *out) {
     return number;
 }
 
+typedef uint32_t DecodeBy(uint32_t checksum, const uint8_t *text, size_t text_length, uint8_t *hrp, size_t hrp_room,
+                          size_t *hrp_length, uint8_t *bytes, size_t bytes_room, size_t *bytes_length);
+
+static uint32_t decode_by(const Words *words, Out *out, DecodeBy *call) {
+    uint32_t checksum = checksum_of(words->word[0]);
+    Word text = words->word[1];
+    uint8_t hrp[BECH32_MAX_HRP], bytes[BECH32_MAX_ELEMENTS];
+    size_t hrp_length, count;
+    if (checksum == 0) {
+        return NO_COMMAND;
+    }
+    uint32_t number =
+        call(checksum, text.bytes, text.length, hrp, sizeof hrp, &hrp_length, bytes, sizeof bytes, &count);
+    if (number == BECH32_OK) {
+        put_text(out, "ok ");
+        put_lowered(out, hrp, hrp_length);
+        put_text(out, " ");
+        put_hex(out, bytes, count);
+    }
+    return number;
+}
+
+static uint32_t decode_strict(const Words *words, Out *out) { return decode_by(words, out, bech32_decode_strict); }
+
+static uint32_t decode_elements(const Words *words, Out *out) {
+    return decode_by(words, out, bech32_decode_elements);
+}
+
+static uint32_t encode_elements(const Words *words, Out *out) {
+    uint32_t checksum = checksum_of(words->word[0]);
+    Word hrp = words->word[1];
+    uint8_t elements[MOST_BYTES], text[BECH32_MAX_TEXT];
+    size_t count, place, length;
+    if (checksum == 0) {
+        return NO_COMMAND;
+    }
+    if (!read_hex(words->word[2], elements, &count)) {
+        return BAD_HEX;
+    }
+    uint32_t number = bech32_encode_elements(checksum, hrp.bytes, hrp.length, elements, count, &place, text,
+                                             sizeof text, &length);
+    if (number == BECH32_OK) {
+        put_text(out, "ok ");
+        put(out, text, length);
+    }
+    return number;
+}
+
 static uint32_t segwit_encode(const Words *words, Out *out) {
     Word hrp = words->word[0];
     uint8_t program[MOST_BYTES], text[BECH32_MAX_SEGWIT_TEXT];
@@ -119,6 +167,9 @@ static uint32_t correct(const Words *words, Out *out) {
 const Command b32_commands[] = {
     {"encode", 3, 3, encode},
     {"decode", 1, 1, decode},
+    {"decode-strict", 2, 2, decode_strict},
+    {"decode-elements", 2, 2, decode_elements},
+    {"encode-elements", 3, 3, encode_elements},
     {"segwit-encode", 3, 3, segwit_encode},
     {"segwit-decode", 1, 1, segwit_decode},
     {"correct", 2, 3, correct},

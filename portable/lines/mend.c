@@ -152,6 +152,36 @@ static uint32_t edits(const Words *words, Out *out) {
     return number;
 }
 
+/* Each address with the word for what is done, and the first place. */
+static uint32_t suggest(const Words *words, Out *out) {
+    static const char *const done[] = {" unchanged ", " swapped ", " left-out ", " put-in ", " replaced "};
+    Word part = words->word[0], typed = words->word[1];
+    uint8_t kinds[BECH32_SUGGESTIONS], texts[BECH32_SUGGESTIONS * BECH32_MAX_SEGWIT_TEXT];
+    size_t places[BECH32_SUGGESTIONS], count;
+    Lent lent;
+    if (!lend(&lent, BECH32_SUGGEST_MEMORY)) {
+        return OUT_OF_MEMORY;
+    }
+    uint32_t number = bech32_suggest(typed.bytes, typed.length, part.bytes, part.length, &lent.memory, kinds,
+                                     BECH32_SUGGESTIONS, places, BECH32_SUGGESTIONS, texts, sizeof texts, &count);
+    take_back(&lent);
+    if (number == BECH32_OK) {
+        const uint8_t *text = texts;
+        put_text(out, "ok");
+        for (size_t i = 0; i < count; i++) {
+            size_t length = typed.length;
+            length += kinds[i] == BECH32_PUT_IN;
+            length -= kinds[i] == BECH32_LEFT_OUT;
+            put_text(out, done[kinds[i]]);
+            put_number(out, places[i]);
+            put_text(out, " ");
+            put(out, text, length);
+            text += length;
+        }
+    }
+    return number;
+}
+
 static uint32_t fault(const Words *words, Out *out) {
     uint32_t checksum = checksum_of(words->word[0]);
     Word text = words->word[1];
@@ -191,6 +221,7 @@ static uint32_t checksum(const Words *words, Out *out) {
 const Command mend_commands[] = {
     {"nearest", 3, 4, nearest},
     {"edits", 2, 2, edits},
+    {"suggest", 2, 2, suggest},
     {"fault", 2, 2, fault},
     {"checksum", 1, 1, checksum},
     {NULL, 0, 0, NULL},

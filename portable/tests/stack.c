@@ -34,6 +34,16 @@ static unsigned stack_size;
 #define stack_bech32_correct stack_size
 #define stack_bech32_nearest stack_size
 #define stack_bech32_near_edits stack_size
+#define stack_bech32_decode_strict stack_size
+#define stack_bech32_decode_elements stack_size
+#define stack_bech32_encode_elements stack_size
+#define stack_bech32_liquid_encode stack_size
+#define stack_bech32_liquid_decode stack_size
+#define stack_bech32_liquid_nearest stack_size
+#define stack_bech32_descriptor_checksum stack_size
+#define stack_bech32_descriptor_check stack_size
+#define stack_bech32_descriptor_mend stack_size
+#define stack_bech32_suggest stack_size
 #define stack_bech32_message stack_size
 #define stack_bech32_version stack_size
 #endif
@@ -247,6 +257,72 @@ static uint32_t try_near_edits(unsigned n) {
     return bech32_near_edits(1 + n % 2, text, text_length, &memory, other, n % 4, locations, 4, out, sizeof out, &length);
 }
 
+static uint32_t try_decode_strict(unsigned n) {
+    damage(ADDRESS, n);
+    return bech32_decode_strict(1 + n % 3, text, text_length, out, n % 9 ? sizeof out : 20, &length, other,
+                                n % 9 ? sizeof other : 20, &length_2);
+}
+
+static uint32_t try_decode_elements(unsigned n) {
+    damage(ADDRESS, n);
+    return bech32_decode_elements(1 + n % 3, text, text_length, out, n % 9 ? sizeof out : 20, &length, other,
+                                  n % 9 ? sizeof other : 20, &length_2);
+}
+
+static uint32_t try_encode_elements(unsigned n) {
+    u8 elements[64] = {0};
+    elements[n % 64] = (u8)(n % 33);
+    return bech32_encode_elements(1 + n % 3, (const u8 *)"bc", n % 5, elements, n % 65, &length, out,
+                                  n % 9 ? sizeof out : 20, &length_2);
+#define LIQUID "lq1qqf8er278e6nyvuwtgf39e6ewvdcnjupn9a86rzpx655y5lhkt0walu3djf9cklkxd3ryld97hu8h3xepw7sh2rlu7q45dcew5"
+
+static uint32_t try_liquid_encode(unsigned n) {
+    return bech32_liquid_encode((const u8 *)"lq", 2, n % 18 % 3, bytes, bytes, n % 3 ? 20 : n % 42, out, n % 9 ? 201 : 20, &length);
+}
+
+static uint32_t try_liquid_decode(unsigned n) {
+    u8 key[BECH32_LIQUID_KEY_LENGTH];
+    damage(LIQUID, n % 8 ? n : 0);
+    return bech32_liquid_decode(text, text_length, out, 83, &length, &word, key, other, 32, &length_2);
+}
+
+static const size_t liquid_erasures[7] = {1, 5, 30, 4, 2, 70, 11};
+
+static uint32_t try_liquid_nearest(unsigned n) {
+    bech32_memory memory = {lent, n % 11 ? sizeof lent : 900};
+    unsigned given = n % 8, errors = n / 8 % 3;
+    damage(LIQUID, n);
+    return bech32_liquid_nearest(text, text_length, liquid_erasures, given, errors, &memory, out, sizeof out, &length);
+}
+
+static uint32_t try_descriptor_checksum(unsigned n) {
+    damage(ADDRESS, n);
+    return bech32_descriptor_checksum(text, text_length, out, n % 9 ? sizeof out : 20, &length, &length_2);
+}
+
+static uint32_t try_descriptor_check(unsigned n) {
+    damage(ADDRESS, n);
+    return bech32_descriptor_check(text, text_length, &length);
+}
+
+static uint32_t try_descriptor_mend(unsigned n) {
+    static const char of[] = "raw(deadbeef)#89f8spxm";
+    bech32_memory memory = {lent, n % 11 ? sizeof lent : 900};
+    size_t places[8];
+    damage(of, n % 7 == 6 ? n : n % 2);
+    return bech32_descriptor_mend(text, text_length, n % 3, &memory, other, n % 4, places, 8, out, sizeof out, &length);
+}
+
+static uint32_t try_suggest(unsigned n) {
+    bech32_memory memory = {lent, n % 11 ? sizeof lent : 900};
+    size_t places[4];
+    damage(ADDRESS, n);
+    if (n % 5 == 4) {
+        text[20] = '?';
+    }
+    return bech32_suggest(text, text_length, (const u8 *)"bc", 2, &memory, other, n % 4, places, 4, out, sizeof out, &length);
+}
+
 static uint32_t try_message(unsigned n) {
     return bech32_message(n, out, n % 5 ? BECH32_MAX_MESSAGE : 20, &length);
 }
@@ -270,6 +346,16 @@ static const struct {
     {"bech32_correct", try_correct, STATED_correct},
     {"bech32_nearest", try_nearest, STATED_nearest},
     {"bech32_near_edits", try_near_edits, STATED_near_edits},
+    {"bech32_decode_strict", try_decode_strict, STATED_decode_strict},
+    {"bech32_decode_elements", try_decode_elements, STATED_decode_elements},
+    {"bech32_encode_elements", try_encode_elements, STATED_encode_elements},
+    {"bech32_liquid_encode", try_liquid_encode, STATED_liquid_encode},
+    {"bech32_liquid_decode", try_liquid_decode, STATED_liquid_decode},
+    {"bech32_liquid_nearest", try_liquid_nearest, STATED_liquid_nearest},
+    {"bech32_descriptor_checksum", try_descriptor_checksum, STATED_descriptor_checksum},
+    {"bech32_descriptor_check", try_descriptor_check, STATED_descriptor_check},
+    {"bech32_descriptor_mend", try_descriptor_mend, STATED_descriptor_mend},
+    {"bech32_suggest", try_suggest, STATED_suggest},
     {"bech32_message", try_message, STATED_message},
     {"bech32_version", try_version, STATED_version},
 };
