@@ -1,16 +1,18 @@
 /*
- * Bech32 (BIP-173) and Bech32m (BIP-350): texts and segwit addresses, written, read and mended.
+ * Bech32 (BIP-173) and Bech32m (BIP-350): texts and segwit addresses, written, read and mended; Blech32, the
+ * confidential addresses of Liquid; and the checksums of output descriptors (BIP-380).
  *
  * The library is proved: for every input each function does what is said here, ends, and reads and
  * writes no memory but the caller's, within the lengths that are given. Where something is tested and
- * not proved, this says so. The library takes no memory but what a caller lends to bech32_nearest and
- * bech32_near_edits, keeps nothing between calls, and needs no start-up; it calls memcpy, memmove and
- * memset alone. Any number of threads may call it.
+ * not proved, this says so. The library takes no memory but what a caller lends (bech32_memory), keeps
+ * nothing between calls, and needs no start-up; it calls memcpy, memmove and memset alone. Any number of
+ * threads may call it.
  *
  * Each function returns BECH32_OK, or the number of a refusal (below). On a refusal it writes nothing:
- * the buffers and the lengths stay as they were. The exceptions are the place of bech32_fault, lent
- * memory, and what is said at bech32_nearest and bech32_near_edits. Otherwise the output stands at the
- * front of the buffer, and the bytes behind it stay as they were. No output ends in a zero byte.
+ * the buffers and the lengths stay as they were. The exceptions are the place of bech32_fault, of
+ * bech32_encode_elements and of bech32_descriptor_checksum and _check, lent memory, and what is said where
+ * memory is lent. Otherwise the output stands at the front of the buffer, and the bytes behind it stay as
+ * they were. No output ends in a zero byte.
  *
  * All texts are written in lower case, those mended from text in upper case too. To give them back in
  * upper case, change `a` to `z` into `A` to `Z`: the checksum accepts both.
@@ -44,38 +46,67 @@ extern "C" {
 /* The same as a number: 10,000 times the first, 100 times the second, and the third. */
 #define BECH32_VERSION_NUMBER 100u
 
-/* Checksums. */
-#define BECH32_BECH32 1u  /* BIP-173 */
-#define BECH32_BECH32M 2u /* BIP-350 */
+/*
+ * Checksums. The long ones are the same for texts of up to BECH32_MAX_LONG_TEXT characters, as invoices,
+ * nostr and age have them: up to 1,023 characters they accept the same texts. Above that nothing is promised
+ * of wrong characters, and texts are not mended, since a wrong one leaves what one 1,023 characters further
+ * on leaves (at location 1,200 what one at 177 does): bech32_correct, bech32_nearest, bech32_near_edits and
+ * bech32_residue take the first two, by which a text of more than 1,023 characters is refused (31).
+ */
+#define BECH32_BECH32 1u       /* BIP-173 */
+#define BECH32_BECH32M 2u      /* BIP-350 */
+#define BECH32_LONG_BECH32 3u  /* the same as BECH32_BECH32, for long texts */
+#define BECH32_LONG_BECH32M 4u /* the same as BECH32_BECH32M, for long texts */
 
 /* The remainders of valid texts, as bech32_residue gives them. */
 #define BECH32_TARGET 1u
 #define BECH32M_TARGET 0x2bc830a3u
 
+/* The characters of the elements from 0 to 31, in lower case. */
+#define BECH32_ALPHABET "qpzry9x8gf2tvdw0s3jn54khce6mua7l"
+
 /* Sizes of buffers that are always large enough. */
 #define BECH32_MAX_TEXT 1023u           /* a text */
 #define BECH32_MAX_HRP 83u              /* a human-readable part */
 #define BECH32_MAX_BYTES 634u           /* the bytes of a text */
+#define BECH32_MAX_ELEMENTS 1015u       /* the elements of a text, without those of the checksum */
+#define BECH32_MAX_LONG_TEXT 7089u      /* a text by a long checksum */
+#define BECH32_MAX_LONG_BYTES 4425u     /* the bytes of such a text */
+#define BECH32_MAX_LONG_ELEMENTS 7081u  /* the elements of such a text */
 #define BECH32_MAX_SEGWIT_TEXT 90u      /* a segwit address */
 #define BECH32_MAX_SEGWIT_PROGRAM 40u   /* a witness program */
 #define BECH32_MAX_LISTED 3u            /* the locations of a correction */
 #define BECH32_MAX_MESSAGE 100u         /* the sentence of a refusal */
+#define BECH32_MAX_LIQUID_TEXT 201u     /* a confidential address */
+#define BECH32_MAX_LIQUID_PROGRAM 32u   /* its witness program */
+
+/* The bytes of a blinding key. */
+#define BECH32_LIQUID_KEY_LENGTH 33u
 
 /* The most errors that bech32_nearest looks for. */
 #define BECH32_MAX_ERRORS 2u
 
-/* What is done to a text (bech32_near_edits). */
-#define BECH32_SWAPPED 1u  /* the characters at location + 1 and location are swapped */
-#define BECH32_LEFT_OUT 2u /* the character at location is left out */
-#define BECH32_PUT_IN 3u   /* a character is put in, and then stands at location */
+/* What is done to a text (bech32_near_edits and bech32_suggest, which alone gives the first and the last). */
+#define BECH32_UNCHANGED 0u /* nothing */
+#define BECH32_SWAPPED 1u   /* the characters at location + 1 and location are swapped */
+#define BECH32_LEFT_OUT 2u  /* the character at location is left out */
+#define BECH32_PUT_IN 3u    /* a character is put in, and then stands at location */
+#define BECH32_REPLACED 4u  /* characters are replaced by others */
 
 /* Room for this many edits is usually enough in bech32_near_edits: it seldom finds more than two. */
 #define BECH32_NEAR_EDITS 8u
 
+/* What else is done to a descriptor (bech32_descriptor_mend). */
+#define BECH32_CHANGED 4u /* the character at place is changed */
+
+/* The characters of a descriptor's checksum, and the most of a text that bech32_descriptor_mend mends. */
+#define BECH32_DESCRIPTOR_CHECKSUM 8u
+#define BECH32_MAX_DESCRIPTOR 7500u
+
 /* Answers. */
 #define BECH32_OK 0u
 #define BECH32_NOT_UTF8 2u              /* a text or a human-readable part is not UTF-8 */
-#define BECH32_BAD_NUMBER 4u            /* the number of no checksum, an element above 31, or more than two
+#define BECH32_BAD_NUMBER 4u            /* the number of no checksum, an element above 31, or too many
                                            errors */
 #define BECH32_HRP_EMPTY 11u            /* the human-readable part is empty */
 #define BECH32_HRP_TOO_LONG 12u         /* the human-readable part has more than 83 bytes */
@@ -85,21 +116,32 @@ extern "C" {
 #define BECH32_INVALID_CHARACTER 21u    /* a character behind the separator may not stand there */
 #define BECH32_MIXED_CASE 22u           /* the text has letters of both cases */
 #define BECH32_NO_SEPARATOR 23u         /* the text has no separator, `1` */
-#define BECH32_TEXT_TOO_LONG 31u        /* the text has more than 1023 characters */
-#define BECH32_NO_CHECKSUM 32u          /* fewer than six characters stand behind the separator */
+#define BECH32_TEXT_TOO_LONG 31u        /* the text has more than 1023 characters (7089 by a long
+                                           checksum) */
+#define BECH32_NO_CHECKSUM 32u          /* too few characters for a checksum stand behind the separator */
 #define BECH32_WRONG_CHECKSUM 33u       /* the checksum is wrong */
 #define BECH32_NO_CORRECTION 34u        /* no correction of the data part mends the text */
 #define BECH32_ADDRESS_TOO_LONG 41u     /* the text has more than 90 characters */
 #define BECH32_NO_DATA 42u              /* the address has no witness version */
 #define BECH32_BAD_VERSION 43u          /* its witness version is above 16 */
-#define BECH32_PADDING_TOO_LONG 44u     /* more than four bits stand behind the program's bytes */
-#define BECH32_PADDING_NOT_ZERO 45u     /* the bits behind the program's bytes are not all zero */
+#define BECH32_PADDING_TOO_LONG 44u     /* more than four bits stand behind the last whole byte */
+#define BECH32_PADDING_NOT_ZERO 45u     /* the bits behind the last whole byte are not all zero */
 #define BECH32_PROGRAM_TOO_SHORT 46u    /* the program has less than 2 bytes */
 #define BECH32_PROGRAM_TOO_LONG 47u     /* the program has more than 40 bytes */
 #define BECH32_PROGRAM_NOT_V0 48u       /* in version 0 the program has neither 20 nor 32 bytes */
-#define BECH32_ENCODED_TOO_LONG 51u     /* the text would have more than 1023 characters */
+#define BECH32_ENCODED_TOO_LONG 51u     /* the text would have more than 1023 characters (7089 by a long
+                                           checksum) */
 #define BECH32_ENCODED_BAD_VERSION 52u  /* the witness version is above 16 */
 #define BECH32_ENCODED_ADDRESS_TOO_LONG 53u /* the address would have more than 90 characters */
+#define BECH32_BAD_ELEMENT 67u          /* an element is above 31 */
+#define BECH32_UNSUPPORTED_VERSION 70u  /* a confidential address of another witness version than 0 is not
+                                           supported */
+#define BECH32_NO_BLINDING_KEY 71u      /* a confidential address has less than 33 bytes behind its
+                                           version */
+#define BECH32_NOT_IN_DESCRIPTOR 80u    /* a character may not stand in a descriptor, or not in its
+                                           checksum */
+#define BECH32_NO_DESCRIPTOR_CHECKSUM 88u /* the text does not end in `#` and eight characters */
+#define BECH32_DESCRIPTOR_TOO_LONG 89u  /* the text has more than 7500 characters, too many to be mended */
 #define BECH32_NO_MEMORY 91u            /* the lent memory did not suffice */
 #define BECH32_NO_ROOM 92u              /* a buffer is too small */
 
@@ -116,9 +158,9 @@ uint32_t bech32_message(uint32_t number, uint8_t *message, size_t message_room, 
 uint32_t bech32_version(void);
 
 /*
- * Encodes bytes under a human-readable part by a checksum (BECH32_BECH32 or BECH32_BECH32M). The
- * text, in lower case, is put into `text`, and *text_length is its length: that of the human-readable
- * part, 7, and 8 for each 5 bytes, rounded up.
+ * Encodes bytes under a human-readable part by a checksum, any of the four. The text, in lower case, is put
+ * into `text`, and *text_length is its length: that of the human-readable part, 7, and 8 for each 5 bytes,
+ * rounded up.
  *
  * Refusals, the first that applies: 4, 2, 11 to 15, 51, 92.
  */
@@ -133,7 +175,8 @@ uint32_t bech32_encode(uint32_t checksum, const uint8_t *hrp, size_t hrp_length,
  *
  * Decode an address by bech32_segwit_decode, not by this. The first element of an address is its
  * witness version, so this puts the program shifted by five bits. That looks like a hash, but it is not
- * the program.
+ * the program. Where a text identifies something, decode it by bech32_decode_strict: this accepts several
+ * spellings of the same bytes.
  *
  * Refusals, the first that applies: 2; 21, 22, 23, 11 to 15; 31, 32, 33; 92.
  */
@@ -142,9 +185,48 @@ uint32_t bech32_decode(const uint8_t *text, size_t text_length, uint8_t *hrp, si
                        size_t *bytes_length);
 
 /*
- * Tests whether a checksum (BECH32_BECH32 or BECH32_BECH32M) accepts a text. *hrp_length is then the
- * length of the human-readable part, which the text begins with, and *data_length that of the data
- * part behind the separator, without the six characters of the checksum.
+ * Decodes a text that a checksum, any of the four, accepts as bech32_decode does, and refuses bits behind
+ * the last whole byte that are more than four, or not all zero. So the text is, in its case, the only one by
+ * this checksum that has its human-readable part and its bytes: bech32_encode writes it of these, in lower
+ * case.
+ *
+ * Refusals, the first that applies: 4; 2; 21, 22, 23, 11 to 15; 31, 32, 33; 44, 45; 92.
+ */
+uint32_t bech32_decode_strict(uint32_t checksum, const uint8_t *text, size_t text_length, uint8_t *hrp,
+                              size_t hrp_room, size_t *hrp_length, uint8_t *bytes, size_t bytes_room,
+                              size_t *bytes_length);
+
+/*
+ * Decodes a text that a checksum, any of the four, accepts to elements, a byte from 0 to 31 each: those of
+ * its data part, without the six of the checksum. The human-readable part, in the case of the text, is put
+ * into `hrp`, and the elements into `elements`; *hrp_length and *elements_length are their lengths. This
+ * reads what is not bytes alone: the addresses of silent payments (BIP-352), whose first element is a
+ * version, and invoices (BOLT 11). The text is, in its case, the only one by this checksum that has them:
+ * bech32_encode_elements writes it, in lower case.
+ *
+ * Refusals, the first that applies: 4; 2; 21, 22, 23, 11 to 15; 31, 32, 33; 92.
+ */
+uint32_t bech32_decode_elements(uint32_t checksum, const uint8_t *text, size_t text_length, uint8_t *hrp,
+                                size_t hrp_room, size_t *hrp_length, uint8_t *elements,
+                                size_t elements_room, size_t *elements_length);
+
+/*
+ * Encodes elements, a byte from 0 to 31 each, under a human-readable part by a checksum, any of the four.
+ * The text, in lower case, is put into `text`, and *text_length is its length: that of the human-readable
+ * part, 7, and elements_length. The elements of bytes are their bits, five at a time, the highest first, with
+ * zeros behind the last. With 67, *place is where the first element above 31 stands, counted from 0; with
+ * every other number it stays as it was.
+ *
+ * Refusals, the first that applies: 4, 2, 11 to 15, 51, 67, 92.
+ */
+uint32_t bech32_encode_elements(uint32_t checksum, const uint8_t *hrp, size_t hrp_length,
+                                const uint8_t *elements, size_t elements_length, size_t *place,
+                                uint8_t *text, size_t text_room, size_t *text_length);
+
+/*
+ * Tests whether a checksum, any of the four, accepts a text. *hrp_length is then the length of the
+ * human-readable part, which the text begins with, and *data_length that of the data part behind the
+ * separator, without the six characters of the checksum.
  *
  * Refusals, the first that applies: 4; 2; 21, 22, 23, 11 to 15; 31, 32, 33.
  */
@@ -349,6 +431,166 @@ uint32_t bech32_nearest(uint32_t checksum, const uint8_t *text, size_t text_leng
 uint32_t bech32_near_edits(uint32_t checksum, const uint8_t *text, size_t text_length,
                            bech32_memory *memory, uint8_t *kinds, size_t kinds_room, size_t *locations,
                            size_t locations_room, uint8_t *texts, size_t texts_room, size_t *count);
+
+/*
+ * Encodes a confidential address of Liquid, by Blech32: of a witness version, a blinding key, the
+ * BECH32_LIQUID_KEY_LENGTH bytes at `key`, and a program. It is put into `text`, in lower case, and
+ * *text_length is its length. Only version 0 is supported (70): the addresses of the others, 1 to 16, have
+ * another checksum, Blech32m. That the key is a point of the curve is not tested.
+ *
+ * Refusals, the first that applies: 4 (a version above 31), 2, 11 to 15, 52, 70, 46, 47, 48, 92.
+ */
+uint32_t bech32_liquid_encode(const uint8_t *hrp, size_t hrp_length, uint32_t version,
+                              const uint8_t key[BECH32_LIQUID_KEY_LENGTH], const uint8_t *program,
+                              size_t program_length, uint8_t *text, size_t text_room,
+                              size_t *text_length);
+
+/*
+ * Decodes a confidential address of Liquid. Its human-readable part, in the case of the text, is put into
+ * `hrp`, its blinding key into the BECH32_LIQUID_KEY_LENGTH bytes at `key`, and its program, of 20 or 32
+ * bytes, into `program`; *hrp_length and *program_length are their lengths, and *version is the witness
+ * version, which is 0: addresses of versions 1 to 16 are refused with 70, whatever their checksum. Any
+ * human-readable part is accepted: compare it with that of your network (`lq`). That the key is a point of
+ * the curve is not tested.
+ *
+ * Refusals, the first that applies: 2; 21, 22, 23, 11 to 15; 42, 43, 70; 31, 32, 33; 42, 44, 45; 71; 46
+ * to 48; 92.
+ */
+uint32_t bech32_liquid_decode(const uint8_t *text, size_t text_length, uint8_t *hrp, size_t hrp_room,
+                              size_t *hrp_length, uint32_t *version,
+                              uint8_t key[BECH32_LIQUID_KEY_LENGTH], uint8_t *program,
+                              size_t program_room, size_t *program_length);
+
+/* The most errors that bech32_liquid_nearest looks for. */
+#define BECH32_MAX_LIQUID_ERRORS 3u
+
+/*
+ * These bytes suffice for bech32_liquid_nearest in up to BECH32_MAX_LIQUID_TEXT characters where twice the
+ * errors, plus the number of erasures, is at most seven, or the errors are at most two (tested, not proved).
+ */
+#define BECH32_LIQUID_NEAREST_MEMORY(text_length) (24576u + 1024u * (text_length))
+
+/*
+ * Lists the texts near to a mistyped one, as bech32_nearest does, but by Blech32, beside at most six
+ * erasures, and with `errors` from 0 to BECH32_MAX_LIQUID_ERRORS: all that Blech32 accepts and that differ
+ * from it in at most `errors` characters of the data part outside `erasures`.
+ *
+ * To mend a text, ask for so many errors that twice their number, plus the number of erasures, is at most
+ * six: three without erasures, none beside six. There is then one text at most: the right one, if no more of
+ * its characters are wrong. It may not be what was meant: show it, and ask. It need not be an address:
+ * decode it. With more errors there may be several texts, though in an address there seldom are. Three errors
+ * beside two erasures or more take long: each value of an error is tried by itself.
+ *
+ * Refusals, the first that applies: 4 (more than three errors); 2; 21, 22, 23, 11 to 15; 31, 32; 92; and
+ * 91 in place of 0 or 92 where `memory` does not suffice. If the function keeps the memory, `texts` may
+ * have changed.
+ */
+uint32_t bech32_liquid_nearest(const uint8_t *text, size_t text_length, const size_t *erasures,
+                               size_t erasures_length, size_t errors, bech32_memory *memory,
+                               uint8_t *texts, size_t texts_room, size_t *count);
+/*
+ * Computes the checksum of an output descriptor (BIP-380). `text` is the descriptor without `#` and
+ * checksum: each of its bytes has to be one of the 95 characters of BIP-380, which are the bytes from 32
+ * to 126. The eight characters are put into `checksum`, and *checksum_length is 8.
+ *
+ * With 80 *place is where the first byte is that is no such character, from 0 for the first.
+ *
+ * A descriptor may hold private keys. Nothing of it is kept; but its bytes, and the checksum, may stand
+ * on the stack behind the call, and the caller wipes buffers and lent memory itself. So for all three
+ * functions.
+ *
+ * Refusals, the first that applies: 80, 92.
+ */
+uint32_t bech32_descriptor_checksum(const uint8_t *text, size_t text_length, uint8_t *checksum,
+                                    size_t checksum_room, size_t *checksum_length, size_t *place);
+
+/*
+ * Tests an output descriptor with its checksum: characters of BIP-380, `#`, and the eight characters of
+ * the checksum, which are those of Bech32 in lower case. What the characters before `#` say is not read.
+ *
+ * With 80 *place is where the first byte is that may not stand there, from 0 for the first.
+ *
+ * Refusals, the first that applies: 88, 80, 33.
+ */
+uint32_t bech32_descriptor_check(const uint8_t *text, size_t text_length, size_t *place);
+
+/* These bytes suffice for a few texts (bech32_descriptor_mend); for many, lend more. */
+#define BECH32_DESCRIPTOR_MEND_MEMORY(text_length) (16384u + 400u * (text_length))
+
+/*
+ * Lists the other texts that one edit makes of this one and that bech32_descriptor_check accepts: a
+ * character is changed (unless `changed`, the most characters that may be, is 0), two neighbours are
+ * swapped, a character is left out, or one is put in. The edit may be in the checksum, or be the `#`. A
+ * character is a byte: any byte of the text may be wrong.
+ *
+ * *count, which may be 0, is their number. For each, what is done (BECH32_CHANGED, BECH32_SWAPPED,
+ * BECH32_LEFT_OUT or BECH32_PUT_IN) is put into `kinds`. Where it is done is put into `places`, two for
+ * each text, from 0 for the first character: those of the two that are swapped, else the place twice, in
+ * this text of a character that is changed or left out, in the new one of one that is put in. The new
+ * texts are put into `texts` one behind another: each has text_length bytes, but one less if a character
+ * is left out, and one more if one is put in.
+ *
+ * First come texts with one character changed, then two swapped, one left out, one put in. In each kind
+ * the places rise, and at one place the codes of the characters put there. Each text is listed once: of
+ * a run of equal characters the last is left out, and an equal one is put in behind the run.
+ *
+ * If they do not all fit (92), *count is the number of all, and the first of them are put, as many as
+ * all three buffers have room for. kinds_room and places_room are numbers of items; *count times
+ * (text_length + 1) bytes are always enough for `texts`. It may be that none is what was meant: compare
+ * it with the wallet's addresses.
+ *
+ * Refusals, the first that applies: 4 (`changed` is above 1); 89; 92; and 91 in place of 0 or 92 where
+ * `memory` does not suffice. If the function keeps the memory (above), the buffers may have changed;
+ * with every other refusal but 92, and with every other 91, they are as they were.
+ */
+uint32_t bech32_descriptor_mend(const uint8_t *text, size_t text_length, size_t changed,
+                                bech32_memory *memory, uint8_t *kinds, size_t kinds_room,
+                                size_t *places, size_t places_room, uint8_t *texts,
+                                size_t texts_room, size_t *count);
+/* These suffice for bech32_suggest: bytes of memory, and room for this many addresses, of 90 bytes each. */
+#define BECH32_SUGGEST_MEMORY 196608u
+#define BECH32_SUGGESTIONS 48u
+
+/*
+ * Did you mean? Lists the segwit addresses of a network that someone may have meant who typed `text`: those
+ * that bech32_segwit_decode accepts and whose human-readable part is `hrp`, in either case. Each `?` in the
+ * text is a character that cannot be read; its letters may be of either case, but not of both.
+ *
+ * The texts tried are, in this order, those that bech32_nearest lists by BECH32_BECH32, and by
+ * BECH32_BECH32M, with the `?` as erasures and as many errors as are said below; then, of a text without
+ * `?`, those that bech32_near_edits lists by BECH32_BECH32, and by BECH32_BECH32M. The addresses among them
+ * are listed in that order, each once.
+ *
+ * *count, which may be 0, is their number. For each, what is done (BECH32_UNCHANGED, BECH32_SWAPPED,
+ * BECH32_LEFT_OUT, BECH32_PUT_IN or BECH32_REPLACED) is put into `kinds`, and where into `places`: the first
+ * place, counted from 0 at the front, at which the address and the text, in lower case, differ (or one of
+ * them ends). That is the first of two that are swapped, the one that is left out, and the one that is put
+ * in. Where characters are replaced, both have one length: all places at which they differ are replaced, and
+ * each `?` is one of these. The addresses, in lower case, are put into `texts` one behind another: each has
+ * text_length bytes, one less with BECH32_LEFT_OUT, one more with BECH32_PUT_IN.
+ *
+ * So few texts are tried that of 100 which are no mistyped addresses at most one gets an answer by chance.
+ * Of n characters behind the separator, u of them `?`, with at most e errors among the other m = n - u, both
+ * checksums together try 2 * 32^u texts with e = 0, (1 + 31 * m) times as many with e = 1,
+ * (1 + 31 * m + 961 * m * (m - 1) / 2) times as many with e = 2, and without `?` another 62 + 68 * n by
+ * edits; a checksum accepts one in 2^30. The errors looked for are the most, up to 2, for which 100 times
+ * the texts are at most 2^30: 2 without `?`; 1 beside one (2 if n is at most 20) or beside two; 0 beside
+ * three. With more `?`, with n less than 10, or with more than 91 bytes nothing is tried, and *count is 0.
+ *
+ * If they do not all fit (92), *count is the number of all, and the first of them are put, as many as all
+ * three buffers have room for. kinds_room and places_room are numbers of items; *count times 90 bytes are
+ * always enough for `texts`. The right address is among them if no more than these errors are wrong. Each is
+ * a guess: show it, and let people compare it with the source before it is paid to.
+ *
+ * Refusals, the first that applies: of `hrp` 2, 11 to 15; of `text` 2; 21, 22, 23, 11 to 15 (each `?`
+ * read as `0`; of a text of more than 91 bytes nothing of these); 92; and 91 in place of 0 or 92 where
+ * `memory` does not suffice. No memory is needed where nothing is tried. If the function keeps the
+ * memory (above), the buffers may have changed; with every other refusal but 92, and with every other
+ * 91, they are as they were.
+ */
+uint32_t bech32_suggest(const uint8_t *text, size_t text_length, const uint8_t *hrp, size_t hrp_length,
+                        bech32_memory *memory, uint8_t *kinds, size_t kinds_room, size_t *places,
+                        size_t places_room, uint8_t *texts, size_t texts_room, size_t *count);
 
 #ifdef __cplusplus
 }
