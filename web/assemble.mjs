@@ -37,7 +37,7 @@ const modulesSource = () => filled(read('src', 'modules.js'), {
 // The files that a page's script is made of, each behind those that it imports.
 const LIBRARY = ['reasons', 'instance', 'lists', 'calls', 'descriptors', 'library', 'modules'].map((name) => `src/${name}.js`);
 const SAYING = ['words', 'sentences', 'tried', 'links', 'typed', 'parts', 'others', 'beginnings', 'pair', 'chance', 'reading', 'kinds',
-  'saying', 'codex32', 'offers', 'texts', 'liquid', 'descriptors', 'strings', 'shares', 'answer', 'shown', 'asking', 'fields'];
+  'saying', 'codex32', 'offers', 'texts', 'liquid', 'described', 'strings', 'shares', 'answer', 'shown', 'asking', 'fields'];
 const PAGES = {
   'index.html': { template: 'page.html', styles: ['page.css'], scripts: [...SAYING, 'copy', 'page'] },
   'share.html': {

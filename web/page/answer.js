@@ -5,7 +5,7 @@ import { CODEX32, isBegun } from './beginnings.js';
 import { ofCodex32, partsOf } from './codex32.js';
 import { checksumsFor } from './kinds.js';
 import { isConfidential, ofLiquid } from './liquid.js';
-import { ofDescriptor } from './descriptors.js';
+import { ofDescriptor } from './described.js';
 import { isScript, otherKind, secretWithin, seedWords, severalTexts, untested } from './others.js';
 import { LINK, OTHER } from './sentences.js';
 import { ofStrings } from './shares.js';

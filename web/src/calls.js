@@ -11,6 +11,9 @@ export const ALL_CHECKSUMS = { ...CHECKSUMS, longBech32: 3, longBech32m: 4 };
 /** A text of more bytes is refused without a call: it is too long for each of them. */
 export const TEXT_ROOM = 8192;
 
+// The same of codex32 strings.
+const STRING_ROOM = 4096;
+
 const TEXT_TOO_LONG = 31, ADDRESS_TOO_LONG = 41, CODEX32_BAD_LENGTH = 82;
 
 // Sizes that are always large enough, as the headers have them.
@@ -47,8 +50,8 @@ const BECH32_REGIONS = {
 const IDENTIFIER_ROOM = 16, SECRET_ROOM = 96, RANDOM_ROOM = MOST_RANDOM + SIZE;
 
 const CODEX32_REGIONS = {
-  text: TEXT_ROOM, threshold: SIZE, shareIndex: SIZE, payloadLength: SIZE,
-  texts: MOST_SHARES * TEXT_ROOM, lengths: MOST_SHARES * SIZE, identifier: IDENTIFIER_ROOM, bytes: SECRET_ROOM,
+  text: STRING_ROOM, threshold: SIZE, shareIndex: SIZE, payloadLength: SIZE,
+  texts: MOST_SHARES * STRING_ROOM, lengths: MOST_SHARES * SIZE, identifier: IDENTIFIER_ROOM, bytes: SECRET_ROOM,
   memory: 2 * SIZE, lent: CODEX32_MEMORY, identifierOut: IDENTIFIER, out: MAX_CODEX32, outLength: SIZE,
   random: RANDOM_ROOM, shares: SHARES_ROOM,
 };
@@ -189,7 +192,7 @@ const putTexts = (it, texts) => {
   const lengths = [];
   for (const text of texts) {
     const { length, isWhole } = it.putText('texts', text, end);
-    if (!isWhole || length > TEXT_ROOM) return null;
+    if (!isWhole || length > STRING_ROOM) return null;
     lengths.push(length);
     end += Number(length);
   }

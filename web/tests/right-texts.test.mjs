@@ -37,7 +37,7 @@ test('nothing is offered for a mistake in a text that the page cannot test', () 
   const below = numbersFrom(41), characters = 'qpzry9x8gf2tvdw0s3jn54khce6mua7lbio1';
   const other = { other: true, warning: true, wrong: true };
   KINDS_OF_TEXTS.forEach(([name, , tone], at) => {
-    if (!other[tone] || /^(?:nostr|age) private keys|^links with several parts/.test(name)) return;
+    if (!other[tone] || /^(?:nostr|age) private keys|^descriptors with a private key|^links with several parts/.test(name)) return;
     for (const text of textsOf(at, 10)) {
       const place = below(text.length), front = text.slice(0, place), behind = text.slice(place + 1);
       for (const typed of [front + behind, front + characters[below(36)] + behind, front + text[place] + text[place] + behind]) {

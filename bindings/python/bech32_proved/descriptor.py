@@ -5,7 +5,7 @@
     >>> check("raw(deadbeef)#89f8spxm")
     'raw(deadbeef)'
     >>> [str(it) for it in mend("raw(deedbeef)#89f8spxm")]
-    ['character 6: e becomes a']
+    ['character 7: e becomes a']
 
 What a descriptor says is not read: neither its script nor its keys are tested.
 

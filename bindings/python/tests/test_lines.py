@@ -214,9 +214,9 @@ class Lines(unittest.TestCase):
 
     def test_edits(self):
         # These rows have a line of reply each. Behind them stand those of a block, and what it prints.
-        lines = stored("vector_rows", "lines").read_text("ascii").split()
+        lines = stored("vector_rows", "lines").read_text("utf-8").split("\n")
         wanted = [line.split("|")[1:] for line in lines if line.startswith("edits|")]
-        printed = stored("vector_rows", "replies").read_text("ascii").rpartition("// Code block")[0]
+        printed = stored("vector_rows", "replies").read_text("utf-8").rpartition("// Code block")[0]
         replies = printed.splitlines()[-len(wanted) :]
         for (name, text), reply in zip(wanted, replies):
             checksum = Checksum[name.upper()]

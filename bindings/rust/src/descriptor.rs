@@ -8,7 +8,7 @@
 //! let found = mend("raw(deedbeef)#89f8spxm", 1)?;
 //! assert_eq!(found.len(), 1);
 //! assert_eq!(found[0].as_str(), "raw(deadbeef)#89f8spxm");
-//! assert_eq!(found[0].to_string(), "character 6: e becomes a");
+//! assert_eq!(found[0].to_string(), "character 7: e becomes a");
 //! # Ok::<(), bech32_proved::descriptor::Error>(())
 //! ```
 //!

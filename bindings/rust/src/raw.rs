@@ -8,7 +8,6 @@
 
 #[cfg(feature = "codex32")]
 use crate::codex32;
-#[cfg(any(feature = "codex32", feature = "correct"))]
 use crate::declared::Memory;
 use crate::Refusal;
 #[cfg(any(feature = "codex32", feature = "correct"))]

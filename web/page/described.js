@@ -33,8 +33,8 @@ const secretOf = (text) =>
 /** What is said of a text that begins as descriptors do. */
 export const ofDescriptor = (library, text) => {
   const { value, refused } = tried(() => library.descriptor.check(text)), secret = secretOf(text), isSecret = secret.isSecret ?? false;
-  if (value !== undefined && isSecret) return { said: [DESCRIPTOR.right], ...secret };
-  if (value !== undefined) return { tone: 'right', verdict: DESCRIPTOR.valid, said: [DESCRIPTOR.tested, DESCRIPTOR.seen], facts: [], text };
+  if (value !== null && isSecret) return { said: [DESCRIPTOR.right], ...secret };
+  if (value !== null) return { tone: 'right', verdict: DESCRIPTOR.valid, said: [DESCRIPTOR.tested, DESCRIPTOR.seen], facts: [], text };
   if (refused.code === 'NO_DESCRIPTOR_CHECKSUM' && !text.slice(-END).includes('#')) return withoutOne(library, text, secret);
   const { value: found } = tried(() => library.descriptor.mend(text));
   if (!found) return { tone: 'other', verdict: OTHER.descriptor.verdict, said: [DESCRIPTOR.tooLong], ...secret };
