@@ -1797,6 +1797,82 @@ static void try_near_edits(void) {
     }
 }
 
+/* What was typed for an address, with characters that nobody can read, and what is suggested for it. */
+static _Alignas(16) uint8_t suggest_memory[BECH32_SUGGEST_MEMORY];
+
+static size_t suggested_length(uint8_t done) {
+    return text_length + (done == BECH32_PUT_IN) - (done == BECH32_LEFT_OUT);
+}
+
+/* The suggestion is an address of the network. */
+static void expect_suggestion(const uint8_t *found, uint8_t done) {
+    static uint8_t found_part[AREA], found_program[AREA];
+    uint32_t version = 0;
+    size_t h = 0, n = 0;
+    expect(done <= BECH32_REPLACED, "another kind");
+    expect(bech32_segwit_decode(found, suggested_length(done), found_part, sizeof found_part, &h, &version,
+                                found_program, sizeof found_program, &n) == BECH32_OK &&
+               h == 2 && memcmp(found_part, "bc", 2) == 0,
+           "what is suggested is no address of the network");
+}
+
+static void try_suggest(void) {
+    static uint8_t ample[90u * BECH32_SUGGESTIONS], ample_kinds[BECH32_SUGGESTIONS];
+    static size_t ample_places[BECH32_SUGGESTIONS];
+    size_t all = 0, size_of_all = 0, fit = 0, fit_size = 0;
+    bech32_memory whole = {suggest_memory, sizeof suggest_memory};
+    begin(&suggest_calls);
+    random_edited_text();
+    for (size_t i = text_length > 4 && percent(30) ? below(4) : 0; i > 0; i--) {
+        text[below(text_length)] = '?';
+    }
+    uint32_t expected = bech32_suggest(text, text_length, (const uint8_t *)"bc", 2, &whole, ample_kinds,
+                                       BECH32_SUGGESTIONS, ample_places, BECH32_SUGGESTIONS, ample,
+                                       sizeof ample, &all);
+    expect(whole.start == suggest_memory && whole.size == sizeof suggest_memory, "the memory was kept");
+    expect(expected != BECH32_NO_MEMORY && expected != BECH32_NO_ROOM, "memory or room does not suffice");
+    for (size_t i = 0; i < all; i++) {
+        expect_suggestion(ample + size_of_all, ample_kinds[i]);
+        size_of_all += suggested_length(ample_kinds[i]);
+    }
+    int is_small = percent(30);
+    size_t size = is_small ? below(sizeof suggest_memory) : sizeof suggest_memory;
+    bech32_memory memory = {suggest_memory + (sizeof suggest_memory - size) / 16 * 16, size};
+    place(&read_1, text, text_length, 1);
+    place(&memory_area, &memory, sizeof memory, sizeof(size_t));
+    place(&locations_area, NULL, below(4) * sizeof(size_t), sizeof(size_t));
+    place(&values_area, NULL, below(4), 1);
+    place(&written_1, NULL, room(size_of_all), 1);
+    size_t *told = new_length(&length_1), places_room = locations_area.length / sizeof(size_t);
+    uint32_t number = bech32_suggest(
+        read_1.buffer, text_length, (const uint8_t *)"bc", 2, (bech32_memory *)(void *)memory_area.buffer,
+        values_area.buffer, values_area.length, (size_t *)(void *)locations_area.buffer, places_room,
+        written_1.buffer, written_1.length, told);
+    int is_counted = number == BECH32_OK || number == BECH32_NO_ROOM;
+    count(&suggest_calls, number);
+    while (is_counted && fit < all && fit < values_area.length && fit < places_room &&
+           fit_size + suggested_length(ample_kinds[fit]) <= written_1.length) {
+        fit_size += suggested_length(ample_kinds[fit++]);
+    }
+    if (number == BECH32_NO_MEMORY) {
+        expect(is_small && expected == BECH32_OK, "out of memory in place of a refusal, or with what the header states");
+    } else {
+        expect_number(number, expected, fit == all);
+    }
+    expect_kept(&read_1, 0, "the text changed");
+    expect_kept(&memory_area, 0, "the memory was kept");
+    expect_kept(&length_1, is_counted ? sizeof all : 0, "the number of suggestions changed");
+    expect(!is_counted || length_in(&length_1) == all, "the number of suggestions");
+    expect_kept(&values_area, fit, "the kinds changed elsewhere");
+    expect_kept(&locations_area, fit * sizeof(size_t), "the places changed elsewhere");
+    expect_kept(&written_1, fit_size, "the texts changed elsewhere");
+    if (fit > 0) {
+        expect(memcmp(values_area.buffer, ample_kinds, fit) == 0, "other kinds");
+        expect(memcmp(locations_area.buffer, ample_places, fit * sizeof(size_t)) == 0, "other places");
+        expect(memcmp(written_1.buffer, ample, fit_size) == 0, "other texts");
+    }
+}
+
 typedef uint32_t Message(uint32_t, uint8_t *, size_t, size_t *);
 
 /* The sentence of any number, which is there for those that a call returns, and in ASCII. */
@@ -1827,8 +1903,8 @@ static void try_sentence(Function *function, Message *call, const uint32_t *know
 }
 
 static void try_message(void) {
-    const uint32_t *known[] = {of_encode, of_encode_elements, of_segwit_decode, of_segwit_encode, of_correct};
-    const uint32_t *known[] = {of_encode, of_segwit_decode, of_segwit_encode, of_correct, of_liquid_decode};
+    const uint32_t *known[] = {of_encode,  of_encode_elements, of_segwit_decode, of_segwit_encode,
+                               of_correct, of_liquid_decode,   of_suggest};
     expect(bech32_version() == BECH32_VERSION_NUMBER, "another version");
     try_sentence(&message, bech32_message, known[below(sizeof known / sizeof *known)]);
 }
@@ -2001,9 +2077,9 @@ static void print(const Function *function) {
 int main(int argc, char **argv) {
     static void (*const tries[])(void) = {
         try_encode,        try_decode,        try_check,   try_fault,
-        try_decode_strict, try_decode_elements,   try_encode_elements,
         try_segwit_encode, try_segwit_decode, try_residue, try_correct,
 #ifndef FIRST_CALLS_ALONE
+        try_decode_strict, try_decode_elements, try_encode_elements, try_suggest,
         try_codex32_parse, try_codex32_propose, try_codex32_share,
         try_codex32_encode, try_codex32_encode_payload, try_codex32_derive, try_codex32_split,
         try_codex32_recover, try_codex32_propose_long,

@@ -274,6 +274,8 @@ static uint32_t try_encode_elements(unsigned n) {
     elements[n % 64] = (u8)(n % 33);
     return bech32_encode_elements(1 + n % 3, (const u8 *)"bc", n % 5, elements, n % 65, &length, out,
                                   n % 9 ? sizeof out : 20, &length_2);
+}
+
 #define LIQUID "lq1qqf8er278e6nyvuwtgf39e6ewvdcnjupn9a86rzpx655y5lhkt0walu3djf9cklkxd3ryld97hu8h3xepw7sh2rlu7q45dcew5"
 
 static uint32_t try_liquid_encode(unsigned n) {
