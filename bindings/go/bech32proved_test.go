@@ -1,0 +1,297 @@
+package bech32proved_test
+
+import (
+	"bytes"
+	"errors"
+	"fmt"
+	"strings"
+	"testing"
+
+	"bech32proved"
+	"bech32proved/descriptor"
+	"bech32proved/liquid"
+	"bech32proved/segwit"
+)
+
+func ExampleEncode() {
+	text, err := bech32proved.Encode(bech32proved.Bech32m, "abc", bytes.Repeat([]byte{0xab}, 5))
+	fmt.Println(text, err)
+	// Output: abc14w46h2ata5yucn <nil>
+}
+
+func ExampleDecode() {
+	hrp, data, err := bech32proved.Decode("abc14w46h2ata5yucn")
+	fmt.Printf("%s %x %v\n", hrp, data, err)
+	_, _, err = bech32proved.Decode("x1b4n0q5v")
+	var refused *bech32proved.Refused
+	fmt.Println(errors.As(err, &refused), errors.Is(err, bech32proved.InvalidCharacter), refused.Place)
+	fmt.Println(err)
+	// Output:
+	// abc ababababab <nil>
+	// true true 2
+	// a character behind the separator may not stand there: character 3, b
+}
+
+func ExampleDecodeElements() {
+	hrp, elements, err := bech32proved.DecodeElements(bech32proved.Bech32, "a1qpamnt9j")
+	fmt.Println(hrp, elements, err)
+	// Output: a [0 1] <nil>
+}
+
+func ExampleCorrect() {
+	mended, err := bech32proved.Correct(bech32proved.Bech32, "A12UEL5Q")
+	fmt.Println(mended.Text, mended.Changes[0], err)
+	mended, err = bech32proved.Correct(bech32proved.Bech32, "a1?ue?5q", 7)
+	fmt.Println(mended.Text, mended.Changes, err)
+	// Output:
+	// A12UEL5L character 8: Q becomes L <nil>
+	// a12uel5l [character 3: ? becomes 2 character 6: ? becomes l character 8: q becomes l] <nil>
+}
+
+func ExampleNearest() {
+	near, err := bech32proved.Nearest(bech32proved.Bech32, "bc1q?508d6qejxtdg4y5r3zarvaty0c5xw7kv8f3t4", 2)
+	fmt.Println(len(near), near[0].Text, err)
+	// Output: 1 bc1qw508d6qejxtdg4y5r3zarvary0c5xw7kv8f3t4 <nil>
+}
+
+func ExampleNearEdits() {
+	near, err := bech32proved.NearEdits(bech32proved.Bech32, "a12uel5")
+	fmt.Println(near[0].Text, near[0].Edit, err)
+	// Output: a12uel5l character 8: l is put in <nil>
+}
+
+func Example_address() {
+	address, err := segwit.Decode("BC1QW508D6QEJXTDG4Y5R3ZARVARY0C5XW7KV8F3T4")
+	fmt.Println(address.HRP, address.Version, len(address.Program), err)
+	meant, err := segwit.Suggest("bc1q?508d6qejxtdg4y5r3zarvaty0c5xw7kv8f3t4", "bc")
+	fmt.Println(meant[0].Text, meant[0].Changes, err)
+	// Output:
+	// BC 0 20 <nil>
+	// bc1qw508d6qejxtdg4y5r3zarvary0c5xw7kv8f3t4 [character 5: ? becomes w character 28: t becomes r] <nil>
+}
+
+func Example_descriptor() {
+	checksum, err := descriptor.Checksum("raw(deadbeef)")
+	fmt.Println(checksum, err)
+	mended, err := descriptor.Mend("raw(deedbeef)#89f8spxm", 1)
+	fmt.Println(mended[0].Text, mended[0], err)
+	// Output:
+	// 89f8spxm <nil>
+	// raw(deadbeef)#89f8spxm character 7: e becomes a <nil>
+}
+
+// Confidential addresses that are known to be right, as vectors/liquid.py has them.
+func TestLiquid(t *testing.T) {
+	text := "lq1qqf8er278e6nyvuwtgf39e6ewvdcnjupn9a86rzpx655y5lhkt0walu3djf9cklkxd3ryld97hu8h3xepw7sh2rlu7q45dcew5"
+	address, err := liquid.Decode(text)
+	if err != nil || address.HRP != "lq" || len(address.Key) != 33 {
+		t.Fatal(address, err)
+	}
+	made, err := liquid.Encode(address.HRP, address.Version, address.Key, address.Program)
+	if err != nil || made != text {
+		t.Fatal(made, err)
+	}
+	wrong := strings.Replace(text, "er278", "qr2q8", 1)
+	near, err := liquid.Nearest(wrong, 3)
+	if err != nil || len(near) != 1 || near[0].Text != text || len(near[0].Changes) != 2 {
+		t.Fatal(near, err)
+	}
+	if _, err := liquid.Encode("lq", 0, nil, address.Program); !errors.Is(err, bech32proved.NoBlindingKey) {
+		t.Fatal(err)
+	}
+}
+
+// Each refusal of the table has a sentence of its own.
+func TestSentences(t *testing.T) {
+	said := map[string]bech32proved.Number{}
+	for number := bech32proved.Number(1); number < 100; number++ {
+		sentence := number.Error()
+		if other, is := said[sentence]; is && sentence != "" {
+			t.Errorf("%d and %d say the same", number, other)
+		}
+		said[sentence] = number
+	}
+	if len(said) < 34 {
+		t.Errorf("only %d sentences", len(said))
+	}
+}
+
+func TestWhatIsNotGiven(t *testing.T) {
+	if _, err := bech32proved.Correct(bech32proved.Bech32, "a12uel5q", 8); err == nil {
+		t.Error("a place that the text has not")
+	}
+	if _, err := bech32proved.Nearest(bech32proved.Bech32, "a12uel5q", -1); !errors.Is(err, bech32proved.BadNumber) {
+		t.Error(err)
+	}
+	if _, err := bech32proved.Nearest(bech32proved.Bech32, "a12uel5q", 3); !errors.Is(err, bech32proved.BadNumber) {
+		t.Error(err)
+	}
+	if _, err := segwit.Encode("bc", -1, make([]byte, 20)); !errors.Is(err, bech32proved.BadNumber) {
+		t.Error(err)
+	}
+	if _, err := segwit.Encode("bc", 17, make([]byte, 20)); !errors.Is(err, bech32proved.EncodedBadVersion) {
+		t.Error(err)
+	}
+	for _, text := range []string{"", "\x80", "1", "a1"} {
+		if _, _, err := bech32proved.Decode(text); err == nil {
+			t.Errorf("%q is accepted", text)
+		}
+	}
+}
+
+// Texts of up to 7,089 characters by the long checksums, and none longer.
+func TestLongTexts(t *testing.T) {
+	data := bytes.Repeat([]byte{7}, 4425)
+	text, err := bech32proved.Encode(bech32proved.LongBech32, "a", data)
+	if err != nil || len(text) != 7088 {
+		t.Fatal(len(text), err)
+	}
+	if _, _, err := bech32proved.Decode(text); !errors.Is(err, bech32proved.TextTooLong) {
+		t.Error(err)
+	}
+	hrp, read, err := bech32proved.DecodeStrict(bech32proved.LongBech32, text)
+	if err != nil || hrp != "a" || !bytes.Equal(read, data) {
+		t.Error(hrp, len(read), err)
+	}
+	if _, err := bech32proved.Encode(bech32proved.LongBech32, "a", append(data, 7)); !errors.Is(err, bech32proved.EncodedTooLong) {
+		t.Error(err)
+	}
+}
+
+// Whatever is given: nothing panics, and what is read is written again, in lower case.
+func FuzzTexts(f *testing.F) {
+	for _, text := range []string{
+		"A12UEL5L", "abcdef1qpzry9x8gf2tvdw0s3jn54khce6mua7lmqqqxw", "abcdef1l7aum6echk45nj3s0wdvt2fg8x9yrzpqzd3ryx",
+		"BC1QW508D6QEJXTDG4Y5R3ZARVARY0C5XW7KV8F3T4", "x1b4n0q5v", "raw(deadbeef)#89f8spxm", "a1?ue?5q", "é1qq",
+	} {
+		f.Add(text, 1)
+	}
+	f.Fuzz(func(t *testing.T, text string, place int) {
+		if hrp, data, err := bech32proved.DecodeStrict(bech32proved.Bech32, text); err == nil {
+			if made, err := bech32proved.Encode(bech32proved.Bech32, hrp, data); err != nil || made != strings.ToLower(text) {
+				t.Errorf("%q is read, and %q written: %v", text, made, err)
+			}
+		}
+		if hrp, elements, err := bech32proved.DecodeElements(bech32proved.Bech32m, text); err == nil {
+			made, err := bech32proved.EncodeElements(bech32proved.Bech32m, hrp, elements)
+			if err != nil || made != strings.ToLower(text) {
+				t.Errorf("%q is read, and %q written: %v", text, made, err)
+			}
+		}
+		if address, err := segwit.Decode(text); err == nil {
+			made, err := segwit.Encode(address.HRP, address.Version, address.Program)
+			if err != nil || made != strings.ToLower(text) {
+				t.Errorf("%q is read, and %q written: %v", text, made, err)
+			}
+		}
+		if mended, err := bech32proved.Correct(bech32proved.Bech32, text, place); err == nil {
+			if _, _, err := bech32proved.Check(bech32proved.Bech32, mended.Text); err != nil {
+				t.Errorf("%q is mended to %q: %v", text, mended.Text, err)
+			}
+		}
+		if plain, err := descriptor.Check(text); err == nil {
+			if checksum, err := descriptor.Checksum(plain); err != nil || plain+"#"+checksum != text {
+				t.Errorf("%q has the checksum %q: %v", text, checksum, err)
+			}
+		}
+		var refused *bech32proved.Refused
+		if _, _, err := bech32proved.Check(bech32proved.Bech32, text); err != nil && !errors.As(err, &refused) {
+			t.Errorf("%q: %v", text, err)
+		}
+	})
+}
+
+// plainDecode decodes a text as most libraries do: a character at a time, by a table and five words of the generator.
+func plainDecode(text string) (string, []byte, bool) {
+	lower := strings.ToLower(text)
+	if lower != text && strings.ToUpper(text) != text || len(text) > 90 {
+		return "", nil, false
+	}
+	one := strings.LastIndexByte(lower, '1')
+	if one < 1 || one+7 > len(lower) {
+		return "", nil, false
+	}
+	elements := make([]byte, 0, len(lower))
+	for _, letter := range []byte(lower[one+1:]) {
+		element := strings.IndexByte(bech32proved.Alphabet, letter)
+		if element < 0 {
+			return "", nil, false
+		}
+		elements = append(elements, byte(element))
+	}
+	residue := uint32(1)
+	step := func(element byte) {
+		top := residue >> 25
+		residue = (residue&0x1ffffff)<<5 ^ uint32(element)
+		for at, word := range [5]uint32{0x3b6a57b2, 0x26508e6d, 0x1ea119fa, 0x3d4233dd, 0x2a1462b3} {
+			if top>>uint(at)&1 == 1 {
+				residue ^= word
+			}
+		}
+	}
+	for _, letter := range []byte(lower[:one]) {
+		step(letter >> 5)
+	}
+	step(0)
+	for _, letter := range []byte(lower[:one]) {
+		step(letter & 31)
+	}
+	for _, element := range elements {
+		step(element)
+	}
+	if residue != 1 {
+		return "", nil, false
+	}
+	var data []byte
+	held, bits := uint32(0), uint(0)
+	for _, element := range elements[:len(elements)-6] {
+		held, bits = held<<5|uint32(element), bits+5
+		if bits >= 8 {
+			bits -= 8
+			data = append(data, byte(held>>bits))
+		}
+	}
+	return lower[:one], data, true
+}
+
+const measured = "npub10elfcs4fr0l0r8af98jlmgdh9c8tcxjvz9qkw038js35mp4dma8qzvjptg"
+
+func TestPlainDecode(t *testing.T) {
+	hrp, data, _ := bech32proved.Decode(measured)
+	plain, bytesOfPlain, is := plainDecode(measured)
+	if !is || plain != hrp || !bytes.Equal(data, bytesOfPlain) {
+		t.Error(plain, bytesOfPlain)
+	}
+}
+
+func BenchmarkDecode(b *testing.B) {
+	for at := 0; at < b.N; at++ {
+		if _, _, err := bech32proved.Decode(measured); err != nil {
+			b.Fatal(err)
+		}
+	}
+}
+
+func BenchmarkPlainDecode(b *testing.B) {
+	for at := 0; at < b.N; at++ {
+		if _, _, is := plainDecode(measured); !is {
+			b.Fatal("refused")
+		}
+	}
+}
+
+func BenchmarkSegwitDecode(b *testing.B) {
+	for at := 0; at < b.N; at++ {
+		if _, err := segwit.Decode("BC1QW508D6QEJXTDG4Y5R3ZARVARY0C5XW7KV8F3T4"); err != nil {
+			b.Fatal(err)
+		}
+	}
+}
+
+func BenchmarkCorrect(b *testing.B) {
+	for at := 0; at < b.N; at++ {
+		if _, err := bech32proved.Correct(bech32proved.Bech32, "bc1qw508d6qejxtdg4y5r3zarvaty0c5xw7kv8f3t4"); err != nil {
+			b.Fatal(err)
+		}
+	}
+}

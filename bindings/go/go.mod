@@ -1,0 +1,3 @@
+module bech32proved
+
+go 1.19

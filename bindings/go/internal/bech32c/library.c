@@ -1,0 +1,2 @@
+/* The library: in a release, the C file stands in the place of this one. */
+#include "../../../../dist/bech32.c"
