@@ -1,0 +1,73 @@
+package bech32proved;
+
+import java.util.ArrayList;
+import java.util.List;
+
+/**
+ * Checksums of output descriptors (BIP-380). What a descriptor says is not read. It may hold private keys, of which strings
+ * cannot be wiped: what a call takes for itself in C is.
+ */
+public final class Descriptor {
+    private static final int CHECKSUM_LENGTH = 8;
+
+    private Descriptor() {}
+
+    /**
+     * Computes the checksum of a descriptor without one: the text, {@code #} and these eight characters are the descriptor.
+     *
+     * @throws RefusedException {@code NOT_IN_DESCRIPTOR}, with the place
+     */
+    public static String checksum(String text) {
+        byte[] checksum = new byte[CHECKSUM_LENGTH];
+        int[] out = new int[2];
+        refuse(Native.descriptorChecksum(Native.bytes(text), checksum, out), text, out[1]);
+        return Native.text(checksum, 0, out[0]);
+    }
+
+    /**
+     * Tests a descriptor with its checksum, and returns it without.
+     *
+     * @throws RefusedException the first of {@code NO_DESCRIPTOR_CHECKSUM}, {@code NOT_IN_DESCRIPTOR}, with the place, {@code
+     *     WRONG_CHECKSUM}
+     */
+    public static String check(String text) {
+        int[] out = new int[1];
+        refuse(Native.descriptorCheck(Native.bytes(text), out), text, out[0]);
+        return text.substring(0, text.length() - CHECKSUM_LENGTH - 1);
+    }
+
+    private static void refuse(int number, String text, int place) {
+        if (number != 0) {
+            Refusal refusal = Refusal.of(number, false);
+            int at = refusal == Refusal.NOT_IN_DESCRIPTOR ? RefusedException.unit(text, place) : -1;
+            throw new RefusedException(refusal, text, at);
+        }
+    }
+
+    /**
+     * Lists the other texts with a right checksum that one mistake makes of a text: a character is changed (unless {@code
+     * changed}, the most characters that may be, is 0), two neighbours are swapped, a character is left out, or one is put in.
+     * The C header bech32.h says their order. It may be that none is what was meant: compare the wallet's addresses.
+     *
+     * @throws RefusedException the first of {@code BAD_NUMBER} ({@code changed} is neither 0 nor 1), {@code
+     *     DESCRIPTOR_TOO_LONG}, {@code NO_MEMORY}
+     */
+    public static List<Edited> mend(String text, int changed) {
+        // A character that is not ASCII is one, and stands in no descriptor.
+        byte[] bytes = new byte[text.length()];
+        for (int at = 0; at < bytes.length; at++) {
+            bytes[at] = (byte) Math.min(text.charAt(at), 127);
+        }
+        if (changed < 0) {
+            throw new RefusedException(Refusal.BAD_NUMBER);
+        }
+        int memory = 16384 + 400 * Math.min(bytes.length, 7500);
+        List<Edited> listed = new ArrayList<>();
+        for (Search.Found found : Search.edits(null, bytes.length, memory, 8, 2, (lent, kinds, places, texts, out) ->
+                Native.descriptorMend(bytes, changed, lent, kinds, places, texts, out))) {
+            Edit edit = Edit.of(found.kind, found.places[0], found.places[1], text, found.text);
+            listed.add(new Edited(found.text, edit));
+        }
+        return listed;
+    }
+}
