@@ -126,8 +126,8 @@ fn corrected_by_search<Ck: CorrectsInPlace>(
     }
 }
 
-// Mends a text by one checksum.
-#[inline(never)]
+// Mends a text by one checksum. In line: what it answers is not moved.
+#[inline(always)]
 fn corrected_by<Ck: CorrectsInPlace>(
     text: &[u8],
     erasures: &[usize],
@@ -168,6 +168,7 @@ fn corrected_by<Ck: CorrectsInPlace>(
 /// The first of: a number that is neither 1 nor 2; a text that is not UTF-8; its first fault, but
 /// for a wrong checksum; no such few errors in the data part that mend it, or an erasure that is
 /// not in it; a buffer that is too small.
+#[inline(always)]
 pub fn corrected(
     checksum: u32,
     text: &[u8],

@@ -1,13 +1,14 @@
 //! Reads what a C program gives: texts, human-readable parts, elements.
 
-ghost use Rattle.std.specs.Prelude.{◌≡◌, ◌≤◌, ◌<◌, MatchResult};
+ghost use Rattle.std.specs.Prelude.{◌≡◌, ◌≤◌, ◌<◌, Some, MatchResult};
 ghost use Rattle.std.specs.Str.{IsUtf8};
 ghost use Rattle.bech32_gf.specs.Fe32.{element};
-ghost use Rattle.bech32_hrp.specs.Hrp.{IsHrp};
+ghost use Rattle.bech32_hrp.specs.Hrp.{IsHrp, hrp_refusal};
 ghost use Rattle.bech32_hrp.specs.HrpBytes.{hrp_bytes};
 ghost use Rattle.bech32_calls.specs.Faults.{IsPartFault, IsTextFault};
 
 use crate::refusal::Refusal;
+use bech32::primitives::hrp;
 use bech32::{Checksum, Fe32, Hrp};
 use bech32_decode::Reading;
 use bech32_hrp::is_part;
@@ -80,6 +81,23 @@ pub fn part_of(bytes: &[u8]) -> Result<Hrp, Refusal>
     Ok(hrp)
 }
 
+// The first fault of bytes that are no human-readable part. Out of line: few bytes come here. It is
+// small, unlike a refusal: where the result stands is cleared in each call.
+#[cold]
+#[inline(never)]
+fn fault_of_part(bytes: &[u8]) -> Result<hrp::Error, NotText>
+    requires { ¬ (IsHrp bytes.now) }
+    ensures { MatchResult result
+        (λ e. IsUtf8 bytes.now × (hrp_refusal bytes.now ≡ Some e))
+        (λ _. ¬ (IsUtf8 bytes.now)) }
+{
+    let part = text_of(bytes)?;
+    match Hrp::parse(part) {
+        Err(e) => Ok(e),
+        Ok(_) => unreachable!(),
+    }
+}
+
 /// Tests that bytes are a human-readable part.
 ///
 /// # Errors
@@ -92,8 +110,10 @@ pub fn test_part(bytes: &[u8]) -> Result<(), Refusal>
     if is_part(bytes) {
         return Ok(());
     }
-    part_of(bytes)?;
-    Ok(())
+    match fault_of_part(bytes) {
+        Ok(e) => Err(Refusal::Hrp(e)),
+        Err(_) => Err(Refusal::NotUtf8),
+    }
 }
 
 /// The element of a number, which is one up to 31.

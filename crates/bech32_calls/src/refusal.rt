@@ -48,6 +48,8 @@ pub enum Refusal {
 
 impl Refusal {
     /// The number that a call returns.
+    // In line: a refusal that is known is not moved to be asked for its number.
+    #[inline(always)]
     pub fn number(self) -> u32
         ensures value { result ≡ number_of self }
         ensures some { 0 < result }
