@@ -26,7 +26,7 @@ part_under hrp text part has is =
     let one = only-from_IsText text is.part is.has_part.0 is.has_part.1 part has.0 has.1.split has.1.data_bytes in
     ap lowered one.0 ∙ is.same_part
 
-if_ok : {R E : Type 0} {P Q : Type 0} (r : Result R E) → (P → Q) → IfOk r (λ _. P) → IfOk r (λ _. Q)
+pub if_ok : {R E : Type 0} {P Q : Type 0} (r : Result R E) → (P → Q) → IfOk r (λ _. P) → IfOk r (λ _. Q)
 if_ok (Ok x) more h = more h
 if_ok (Err e) more h = tt
 
@@ -106,6 +106,17 @@ module _ (hrp typed : List ℕ) where
           are = are;
           adds = subst (λ (l : List (List ℕ)). AddsEach hrp typed before l after) (ap (map (λ m. (f m).1)) same ∙ sym (map-map (λ p. p.1) f items)) h;
         }) added
+
+  -- those that one edit makes are added by both checksums, where all characters can be read
+  pub edits_read : (text unread : List ℕ) (before middle after : List Suggested) → length unread ≡ 0 → AddsEdits bech32 text hrp typed before middle
+      → AddsEdits bech32m text hrp typed middle after → AddsEditsOfRead unread text hrp typed before after
+  edits_read text [] before middle after none one other = (middle, one, other)
+  edits_read text (x ∷ xs) before middle after none one other = absurd (omega (arith, none))
+
+  -- and else none
+  pub edits_unread : (text unread : List ℕ) (before : List Suggested) → (length unread ≡ 0 → ⊥) → AddsEditsOfRead unread text hrp typed before before
+  edits_unread text [] before some = absurd (some refl)
+  edits_unread text (x ∷ xs) before some = refl
 
   -- the texts near one by both checksums are added, and then those that one edit makes
   pub adds_found : {R E : Type 0} (text unread : List ℕ) (errors : ℕ) (before first second after : List Suggested) (r : Result R E) → AddsNear bech32 text unread errors hrp typed before first

@@ -1,6 +1,6 @@
 -- Which addresses are suggested to someone who typed a text.
 use Rattle.std.specs.Prelude.{◌≡◌, ◌<◌, ◌≤◌, ◌⊎◌, ℕ, List, [], ◌∷◌, ◌++◌, length, map}
-use Rattle.std.specs.Prelude.{Some, MatchOption}
+use Rattle.std.specs.Prelude.{Some, MatchOption, Bool, true, false}
 use Rattle.std.specs.List.{AllByRecursion}
 use Rattle.bech32_gf.specs.declared.gf32.Fe32.{Fe32}
 use Rattle.bech32_poly.specs.Distinct.{IsAmong, IsOnce}
@@ -38,6 +38,11 @@ Suggested = List ℕ × (Mending × ℕ)
 -- the typed text is in lower case
 abbrev pub suggestion_of : List ℕ → List ℕ → Suggested
 suggestion_of typed text = (text, (mending_of typed text, common_length typed text))
+
+-- Bech32m, or Bech32
+abbrev pub either_code : Bool → Code
+either_code true = bech32m
+either_code false = bech32
 
 -- ---- the texts that are tried, one after another
 

@@ -1,16 +1,71 @@
 //! Which of the texts that are tried are suggested.
 
-ghost use Rattle.std.specs.Prelude.{◌≡◌, ◌↔◌, IfOk, IsTrue, map, string_bytes};
+ghost use Rattle.std.specs.Prelude.{◌≡◌, ◌↔◌, ℕ, List, IfOk, IsTrue, map, string_bytes};
 ghost use Rattle.bech32_hrp.specs.HrpBytes.{hrp_bytes};
 ghost use Rattle.bech32_poly.specs.Distinct.{IsAmong};
 ghost use Rattle.bech32_suggest.specs.Suggestions.{AddsEach, AddsOne, IsAddressUnder};
 
 use crate::mendings::{Suggestion, compared};
-use bech32_correction::Mended;
+use bech32_correction::MendedBy;
 use bech32_decode::SegwitHrpstring;
 use bech32_hrp::Hrp;
 use bech32_near_edits::NearEdit;
 use std::alloc::{AllocError, Allocator};
+
+/// What has a text, among what is listed.
+pub trait HasText {
+    ghost text_of: { Self → List ℕ };
+
+    /// The text.
+    fn as_text(&self) -> &str
+        ensures { result.now ≡ text_of self.now };
+}
+
+impl<L, A: Allocator> HasText for MendedBy<L, String<A>> {
+    ghost use Rattle.std.specs.Prelude.{string_bytes};
+
+    ghost text_of = { λ m. string_bytes m.text };
+
+    #[inline]
+    fn as_text(&self) -> &str {
+        self.text.as_str()
+    }
+}
+
+impl<A: Allocator> HasText for NearEdit<String<A>> {
+    ghost use Rattle.std.specs.Prelude.{string_bytes};
+
+    ghost text_of = { λ m. string_bytes m.text };
+
+    #[inline]
+    fn as_text(&self) -> &str {
+        self.text.as_str()
+    }
+}
+
+impl<A: Allocator> HasText for Suggestion<String<A>> {
+    ghost use Rattle.std.specs.Prelude.{string_bytes};
+
+    ghost text_of = { λ s. string_bytes s.text };
+
+    #[inline]
+    fn as_text(&self) -> &str {
+        self.text.as_str()
+    }
+}
+
+/// Which addresses are looked for.
+#[derive(Clone, Copy)]
+pub(crate) struct Wanted<'a> {
+    /// The text that someone typed, in lower case.
+    pub(crate) typed: &'a str,
+    /// The human-readable part of the addresses.
+    pub(crate) hrp: &'a Hrp,
+    /// The locations of characters that cannot be read.
+    pub(crate) unread: &'a [usize],
+    /// How many errors are looked for beside them.
+    pub(crate) errors: usize,
+}
 
 // Whether a text is an address with a human-readable part.
 fn is_address_under(text: &str, hrp: &Hrp) -> bool
@@ -34,26 +89,24 @@ fn is_among<A: Allocator>(text: &str, found: &[Suggestion<String<A>>]) -> bool
     false
 }
 
-// Adds a text, if it is such an address and does not stand among those that are found. The typed
-// text is in lower case.
+// Adds a text, if it is such an address and does not stand among those that are found.
 fn push_one<A: Allocator + Copy>(
     alloc: A,
-    typed: &str,
-    hrp: &Hrp,
+    wanted: &Wanted<'_>,
     text: &str,
     found: &mut Vec<Suggestion<String<A>>, A>,
 ) -> Result<(), AllocError>
-    ensures { IfOk result (λ _. AddsOne (hrp_bytes hrp.now) typed.now
+    ensures { IfOk result (λ _. AddsOne (hrp_bytes wanted.now.hrp.now) wanted.now.typed.now
         (map (λ s. (string_bytes s.text, (s.mending, s.place))) found.old.items) text.now
         (map (λ s. (string_bytes s.text, (s.mending, s.place))) found.new.items)) }
 {
     if is_among(text, found.as_slice()) {
         return Ok(());
     }
-    if !is_address_under(text, hrp) {
+    if !is_address_under(text, wanted.hrp) {
         return Ok(());
     }
-    let (mending, place) = compared(typed.as_bytes(), text.as_bytes());
+    let (mending, place) = compared(wanted.typed.as_bytes(), text.as_bytes());
     let text = String::from_str(alloc, text)?;
     found.push(Suggestion {
         text,
@@ -63,40 +116,20 @@ fn push_one<A: Allocator + Copy>(
     Ok(())
 }
 
-/// Adds each mended text that is such an address, and does not stand among those that are found.
-pub(crate) fn push_mended<A: Allocator + Copy, B: Allocator + Copy>(
+/// Adds each text that is such an address, and does not stand among those that are found.
+pub(crate) fn push_each<A: Allocator + Copy, T: HasText>(
     alloc: A,
-    typed: &str,
-    hrp: &Hrp,
-    near: &[Mended<B>],
+    wanted: &Wanted<'_>,
+    texts: &[T],
     found: &mut Vec<Suggestion<String<A>>, A>,
 ) -> Result<(), AllocError>
-    ensures { IfOk result (λ _. AddsEach (hrp_bytes hrp.now) typed.now
+    ensures { IfOk result (λ _. AddsEach (hrp_bytes wanted.now.hrp.now) wanted.now.typed.now
         (map (λ s. (string_bytes s.text, (s.mending, s.place))) found.old.items)
-        (map (λ m. string_bytes m.text) near.now)
+        (map T.text_of texts.now)
         (map (λ s. (string_bytes s.text, (s.mending, s.place))) found.new.items)) }
 {
-    for one in near {
-        push_one(alloc, typed, hrp, one.text.as_str(), found)?;
-    }
-    Ok(())
-}
-
-/// Adds each edited text that is such an address, and does not stand among those that are found.
-pub(crate) fn push_edited<A: Allocator + Copy, B: Allocator + Copy>(
-    alloc: A,
-    typed: &str,
-    hrp: &Hrp,
-    edited: &[NearEdit<String<B>>],
-    found: &mut Vec<Suggestion<String<A>>, A>,
-) -> Result<(), AllocError>
-    ensures { IfOk result (λ _. AddsEach (hrp_bytes hrp.now) typed.now
-        (map (λ s. (string_bytes s.text, (s.mending, s.place))) found.old.items)
-        (map (λ m. string_bytes m.text) edited.now)
-        (map (λ s. (string_bytes s.text, (s.mending, s.place))) found.new.items)) }
-{
-    for one in edited {
-        push_one(alloc, typed, hrp, one.text.as_str(), found)?;
+    for one in texts {
+        push_one(alloc, wanted, one.as_text(), found)?;
     }
     Ok(())
 }

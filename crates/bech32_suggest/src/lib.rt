@@ -11,5 +11,6 @@ mod suggestions;
 mod tried;
 mod typed;
 
+pub use self::kept::HasText;
 pub use self::mendings::{Mending, Suggestion};
 pub use self::suggestions::{suggest, suggest_in, validate_typed};

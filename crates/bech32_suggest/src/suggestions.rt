@@ -8,6 +8,7 @@ ghost use Rattle.bech32_suggest.specs.Suggestions.{AreFound, AreFoundIn, AreSugg
 ghost use Rattle.bech32_suggest.specs.Typed.{as_read, unread_locations};
 
 use crate::chance::errors_for;
+use crate::kept::Wanted;
 use crate::mendings::Suggestion;
 use crate::tried::push_found;
 use crate::typed::{count_unreadable, put_read, unreadable_in};
@@ -40,16 +41,13 @@ fn found_in<A: Allocator + Copy>(
     let unread = unreadable_in(*alloc, typed.as_bytes())?;
     let lower = typed.to_ascii_lowercase(*alloc)?;
     let mut found = Vec::new(*alloc);
-    push_found(
-        alloc,
-        text,
-        reading,
-        unread.as_slice(),
-        errors,
-        lower.as_str(),
+    let wanted = Wanted {
+        typed: lower.as_str(),
         hrp,
-        &mut found,
-    )?;
+        unread: unread.as_slice(),
+        errors,
+    };
+    push_found(alloc, text, reading, &wanted, &mut found)?;
     Ok(found)
 }
 

@@ -5,5 +5,5 @@ use Rattle.bech32_suggest.proofs.tried.push_edits.Goals as goal
 
 pub returns-in-Ok : goal.returns-in-Ok
 returns-in-Ok g c =
-    adds_edits (hrp_bytes c.args.hrp.now) c.args.typed.now c.args.text.now g.Ck.Checksum.code _ _ c.in-Ok.edited.items c.as_slice.result.now c.push_edited.result c.as_slice.ensures.value
-    (λ m. (m.edit, string_bytes m.text)) c.in-Ok.ensures c.push_edited.ensures
+    adds_edits (hrp_bytes c.args.wanted.now.hrp.now) c.args.wanted.now.typed.now c.args.text.now g.Ck.Checksum.code _ _ c.in-Ok.edited.items c.as_slice.result.now c.push_each.result c.as_slice.ensures.value
+    (λ m. (m.edit, string_bytes m.text)) c.in-Ok.ensures c.push_each.ensures

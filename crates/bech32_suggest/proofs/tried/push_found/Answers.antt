@@ -1,8 +1,25 @@
+use Rattle.std.proofs.Common.{◌≡◌, ◌∙◌, true, false, length, sym}
+use Rattle.std.proofs.lemmas.Bool.{eq-eqb, eqb-true}
 use Rattle.bech32_hrp.specs.HrpBytes.{hrp_bytes}
-use Rattle.bech32_suggest.proofs.Adding.{adds_found}
+use Rattle.bech32_suggest.proofs.Adding.{adds_found, edits_read, edits_unread, if_ok}
 use Rattle.bech32_suggest.proofs.tried.push_found.Goals as goal
+
+pub returns-then-not-is_empty : goal.returns-then-not-is_empty
+returns-then-not-is_empty g c =
+    let w = c.args.wanted.now in
+    let some : length w.unread.now ≡ 0 → ⊥ = λ e. absurd (let k : true ≡ false = sym (eq-eqb (length w.unread.now) 0 e) ∙ (sym c.is_empty.ensures ∙ c.if-not-is_empty.true) in cc k) in
+    record {
+      first = _;
+      second = _;
+      by_bech32 = rw c.requires.text at c.in_ok-push_near.ensures;
+      by_bech32m = rw c.requires.text at c.in_ok-push_near-2.ensures;
+      edits = edits_unread (hrp_bytes w.hrp.now) w.typed.now c.args.text.now w.unread.now _ some;
+    }
 
 pub returns : goal.returns
 returns g c =
-    adds_found (hrp_bytes c.args.hrp.now) c.args.typed.now c.args.text.now c.args.unread.now c.args.errors _ _ _ _ c.push_edits_of_read.result
-    (rw c.requires.text at c.in_ok-push_near_by_bech32.ensures) (rw c.requires.text at c.in_ok-push_near_by_bech32m.ensures) c.push_edits_of_read.ensures
+    let w = c.args.wanted.now in
+    let none : length w.unread.now ≡ 0 = eqb-true (length w.unread.now) 0 (sym c.is_empty.ensures ∙ c.if-not-is_empty.false) in
+    adds_found (hrp_bytes w.hrp.now) w.typed.now c.args.text.now w.unread.now w.errors _ _ _ _ c.push_edits-2.result
+    (rw c.requires.text at c.in_ok-push_near.ensures) (rw c.requires.text at c.in_ok-push_near-2.ensures)
+    (if_ok c.push_edits-2.result (λ h. edits_read (hrp_bytes w.hrp.now) w.typed.now c.args.text.now w.unread.now _ _ _ none c.in_ok-push_edits.ensures h) c.push_edits-2.ensures)
