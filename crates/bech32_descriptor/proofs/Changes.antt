@@ -5,7 +5,7 @@ use Rattle.std.proofs.lemmas.Bool.{cond-false, ne_eqb}
 use Rattle.bech32_gf.specs.Fe32.{element}
 use Rattle.bech32_gf.specs.declared.gf32.Fe32.{Fe32}
 use Rattle.bech32_descriptor.specs.Descriptor.{group, symbol, symbols}
-use Rattle.bech32_descriptor.specs.Walks.{behind_group, behind_symbol, count, end_at, first_at, group_from, group_number}
+use Rattle.bech32_descriptor.specs.Walks.{behind_group, behind_symbol, count, first_at, group_from, group_number}
 
 -- one list is the other with two symbols changed, behind which so many stand
 pub record IsChange (old new : List Fe32) (behind_groups behind_symbols : ℕ) (x y g h : Fe32) : Type 0 where

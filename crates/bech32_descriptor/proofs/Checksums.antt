@@ -1,10 +1,10 @@
 -- A text in its parts, and the one checksum that makes it a descriptor.
 use Rattle.std.specs.Prelude.{nat_lt}
 use Rattle.std.specs.List.{position_or_len}
-use Rattle.std.proofs.Common.{◌≡◌, ◌<◌, ◌≤◌, ◌+◌, ◌-◌, ◌%◌, ◌==◌, ℕ, suc, Bool, true, false, cond, Option, Some, None, List, [], ◌∷◌, ◌++◌, length, get_or, take, drop, map, reverse, length-append, append_assoc, sym, ap, subst, ◌∙◌, refl, arith}
+use Rattle.std.proofs.Common.{◌≡◌, ◌<◌, ◌≤◌, ◌+◌, ◌-◌, ◌%◌, ◌==◌, ℕ, suc, Bool, false, cond, Option, Some, None, List, [], ◌∷◌, ◌++◌, length, get_or, drop, map, reverse, length-append, append_assoc, sym, ap, subst, ◌∙◌, refl, arith}
 use Rattle.std.specs.Prelude.{not, position}
-use Rattle.std.proofs.lemmas.Bool.{cond-true, cond_both, eqb-true, le-ltb, ltb-false, not-true}
-use Rattle.std.proofs.lemmas.List.{drop_at, get_or_at, get_or_default, get_or-map, length-map, length-reverse, same_lists, take_at}
+use Rattle.std.proofs.lemmas.Bool.{cond_both, eqb-true, le-ltb, ltb-false, not-true}
+use Rattle.std.proofs.lemmas.List.{drop_at, get_or_at, get_or_default, get_or-map, length-map, same_lists, take_at}
 use Rattle.std.proofs.lemmas.List.Sums.{fails_before_first}
 use Rattle.bech32_gf.specs.Alphabet.{alphabet, char_of}
 use Rattle.bech32_gf.specs.Fe32 as fe32
@@ -16,9 +16,8 @@ use Rattle.bech32_poly.specs.Polynomial.{appended}
 use Rattle.bech32_poly.specs.Remainder.{IsRemainder}
 use Rattle.bech32_poly.proofs.Appended.{checksum_of_target, checksum_unique}
 use Rattle.bech32_checksum.specs.Packed.{digits}
-use Rattle.bech32_checksum.proofs.Digits.{length-tabulate}
 use Rattle.bech32_descriptor.specs.Code.{descriptor}
-use Rattle.bech32_descriptor.specs.Descriptor.{IsCheckRefusal, IsChecksum, IsDescriptor, IsDescriptorText, checksum_in, checksum_place_of, checksum_symbol, first_place_of, further, is_checksum_stranger, is_stranger, descriptor_payload, place_among, polynomial, polynomial_of, stranger_in, symbols}
+use Rattle.bech32_descriptor.specs.Descriptor.{IsCheckRefusal, IsChecksum, IsDescriptor, checksum_in, checksum_place_of, checksum_symbol, first_place_of, further, is_checksum_stranger, is_stranger, descriptor_payload, place_among, polynomial, polynomial_of, stranger_in, symbols}
 use Rattle.bech32_descriptor.specs.declared.error.CheckError.{CheckError}
 use Rattle.bech32_descriptor.specs.declared.error.CheckError.TheVariants.{InvalidCharacter, NoChecksum, WrongChecksum}
 

@@ -2,11 +2,15 @@ mod Changes
 mod Checksums
 mod Kept
 mod Listed
+mod Listings
+mod MarkedChanges
 mod Rewritten
 mod RowsOfWords
+mod SetBits
 mod Sums
 mod Symbols
 mod Tables
 mod Told
+mod TwoChanges
 mod Verdicts
 mod Words

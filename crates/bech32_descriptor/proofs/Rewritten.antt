@@ -1,7 +1,7 @@
 -- The word of a text with another byte at one place.
-use Rattle.std.specs.Prelude.{◌/◌, ◌%◌, ◌==◌, cond, min, nat_lt, set}
+use Rattle.std.specs.Prelude.{◌/◌, ◌%◌, ◌==◌, min, nat_lt, set}
 use Rattle.std.specs.Int.Bits.{xor_assoc, xor_zero_r}
-use Rattle.std.proofs.Common.{inl, inr, ◌≡◌, ◌<◌, ◌≤◌, ◌+◌, ◌-◌, ◌*◌, ℕ, zero, suc, bit_xor, true, false, List, [], ◌∷◌, ◌++◌, length, get_or, take, drop, map, append_assoc, sym, ap, subst, ◌∙◌, refl, arith}
+use Rattle.std.proofs.Common.{inl, inr, ◌≡◌, ◌<◌, ◌≤◌, ◌+◌, ◌-◌, ◌*◌, ℕ, zero, suc, bit_xor, List, [], ◌∷◌, ◌++◌, length, get_or, take, drop, map, append_assoc, sym, ap, subst, ◌∙◌, arith}
 use Rattle.std.proofs.lemmas.Bool.{cases_Bool, cond-true, cond-false, eqb-true, eqb-false, ltb-true, ltb-false}
 use Rattle.std.proofs.lemmas.List.{drop-set-add, drop-set-lt, get_or-drop, get_or-map, length-drop, length-map, length-set, length-take-le, map-set, set-append_left, set-get_or, set_split, take-append-drop, take-set-le, take_at}
 use Rattle.bech32_gf.specs.Fe32 as fe32
@@ -9,7 +9,7 @@ use Rattle.bech32_gf.specs.declared.gf32.Fe32.{Fe32}
 use Rattle.bech32_poly.specs.Polynomial.{appended}
 use Rattle.bech32_poly.proofs.Appended.{appended-append}
 use Rattle.bech32_descriptor.specs.Descriptor.{checksum_in, checksum_symbol, descriptor_payload, polynomial, polynomial_of, symbol, symbols}
-use Rattle.bech32_descriptor.specs.Walks.{AreRows, behind_group, behind_symbol, change_in, count, first_at, group_from, payload_change, rows_for, times_power_of_x, word_in}
+use Rattle.bech32_descriptor.specs.Walks.{AreRows, behind_group, behind_symbol, change_in, first_at, group_from, payload_change, rows_for, times_power_of_x, word_in}
 use Rattle.bech32_descriptor.specs.Words.{IsWordOfSymbols}
 use Rattle.bech32_descriptor.proofs.Changes.{changes}
 use Rattle.bech32_descriptor.proofs.Sums.{changed_one}

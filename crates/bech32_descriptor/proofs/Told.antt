@@ -3,12 +3,13 @@ use Rattle.std.specs.Prelude.{◌≢◌, set}
 use Rattle.std.proofs.Common.{◌≡◌, ℕ, zero, suc, ◌+◌, ◌<◌, ◌≤◌, List, [], ◌∷◌, ◌++◌, append_assoc, length, length-append, get_or, take, drop, inl, inr, subst, sym, ap, ◌∙◌, refl, arith, add-one}
 use Rattle.std.proofs.lemmas.List.{drop_more, length-drop, length-set, length-take-le, set_at, set_split, take_more}
 use Rattle.bech32_descriptor.specs.Descriptor.{IsDescriptor}
-use Rattle.bech32_descriptor.specs.Edits.{AreAllMends, IsAt, IsMendBefore, IsMend, IsMendWithin, IsPrinted, IsToldAt, byte_put, characters_changed, kind_of_change, made_at}
+use Rattle.bech32_descriptor.specs.Edits.{AreAllMends, IsAt, IsMendBefore, IsMend, IsPrinted, IsToldAt, byte_put, characters_changed, kind_of_change, made_at}
+use Rattle.bech32_descriptor.specs.PairWalks.{IsMendBelow}
 use Rattle.bech32_descriptor.specs.Walks.{IsMendAt, IsMendBy, IsMendOfKind, IsWithinOfKind}
 use Rattle.bech32_descriptor.specs.declared.edits.Change.{Change}
 use Rattle.bech32_descriptor.specs.declared.edits.Change.TheVariants.{Changed, LeftOut, PutIn, Swapped}
 use Rattle.bech32_descriptor.specs.declared.edits.Edit.{Edit}
-use Rattle.bech32_descriptor.proofs.Kept.{nothing, same_all}
+use Rattle.bech32_descriptor.proofs.Listings.{nothing, same_all}
 
 -- the only edit of which P may hold, where it does
 the_one : (P : Edit → Type 0) (Q : Type 0) (only : Edit) → ((e : Edit) → P e → (e ≡ only) × Q) → P only → AreAllMends P (only ∷ [])
@@ -20,12 +21,12 @@ the_one P Q only found p = record {
 
 -- where it does not
 not_the_one : (P : Edit → Type 0) (Q : Type 0) (only : Edit) → ((e : Edit) → P e → (e ≡ only) × Q) → (Q → ⊥) → AreAllMends P []
-not_the_one P Q only found none = nothing P (λ e h. none (found e h).1)
+not_the_one P Q only found none = nothing IsMendBefore P (λ e h. none (found e h).1)
 
-same_edit : (e : Edit) (i : ℕ) (change : Change) → e.place ≡ i → e.change ≡ change → e ≡ record { place = i; change = change }
+pub same_edit : (e : Edit) (i : ℕ) (change : Change) → e.place ≡ i → e.change ≡ change → e ≡ record { place = i; change = change }
 same_edit e i change p c = λ j. record { place = p j; change = c j }
 
-is_changed : (c : Change) (b : ℕ) → kind_of_change c ≡ 0 → byte_put c ≡ b → c ≡ Changed b
+pub is_changed : (c : Change) (b : ℕ) → kind_of_change c ≡ 0 → byte_put c ≡ b → c ≡ Changed b
 is_changed (Changed d) b k h = ap Changed h
 is_changed Swapped b k h = absurd (omega (arith, k))
 is_changed LeftOut b k h = absurd (omega (arith, k))
@@ -109,15 +110,19 @@ changed_few (PutIn b) k e h = refl
 
 pub within_first : (most : ℕ) (text : List ℕ) (xs : List Edit) → 0 < most → AreAllMends (IsMendOfKind 0 text) xs → AreAllMends (IsWithinOfKind 0 most text) xs
 within_first most text xs some a =
-    same_all (IsMendOfKind 0 text) (IsWithinOfKind 0 most text) xs
+    same_all IsMendBefore (IsMendOfKind 0 text) (IsWithinOfKind 0 most text) xs
     (λ e h. (h.0, (omega (arith, changed_first e.change h.0, some), h.1))) (λ e h. (h.0, h.1.1)) a
+
+-- those before the end of the text are all
+pub changed_anywhere : (text : List ℕ) (xs : List Edit) → AreAllMends (IsMendBelow text (length text)) xs → AreAllMends (IsMendOfKind 0 text) xs
+changed_anywhere text xs a = same_all IsMendBefore (IsMendBelow text (length text)) (IsMendOfKind 0 text) xs (λ e h. h.0) (λ e h. (h, (printed_changed text e h).1)) a
 
 pub none_within : (text : List ℕ) (e : Edit) → IsWithinOfKind 0 0 text e → ⊥
 none_within text e h = omega (arith, changed_first e.change h.0, h.1.0)
 
 pub within_later : (k most : ℕ) (text : List ℕ) (xs : List Edit) → 0 < k → AreAllMends (IsMendOfKind k text) xs → AreAllMends (IsWithinOfKind k most text) xs
 within_later k most text xs later a =
-    same_all (IsMendOfKind k text) (IsWithinOfKind k most text) xs
+    same_all IsMendBefore (IsMendOfKind k text) (IsWithinOfKind k most text) xs
     (λ e h. (h.0, (omega (arith, changed_few e.change k h.0 later), h.1))) (λ e h. (h.0, h.1.1)) a
 
 module _ (text : List ℕ) (i : ℕ) where

@@ -1,6 +1,6 @@
 -- A text whose polynomial leaves the target is a descriptor where it is in the grammar.
 use Rattle.std.specs.Prelude.{IsTrue, MatchOption, is_some, not}
-use Rattle.std.proofs.Common.{◌≡◌, Bool, true, false, Option, None, Some, List, ℕ, sym, ap, ◌∙◌, true≢false}
+use Rattle.std.proofs.Common.{◌≡◌, Bool, Option, None, Some, List, ℕ, sym, ap, ◌∙◌, true≢false}
 use Rattle.std.proofs.lemmas.Bool.{not-false}
 use Rattle.bech32_gf.specs.Fe32.{ops}
 use Rattle.bech32_poly.specs.Remainder.{IsRemainder}

@@ -1,7 +1,6 @@
 -- The checksum of output descriptors (BIP-380, Checksum).
-use Rattle.std.specs.Prelude.{ℕ, List, [], ◌∷◌, map}
+use Rattle.std.specs.Prelude.{[], ◌∷◌, map}
 use Rattle.bech32_gf.specs.Fe32 as fe32
-use Rattle.bech32_gf.specs.declared.gf32.Fe32.{Fe32}
 use Rattle.bech32_checksum.specs.Code.{Code}
 
 -- the generator x^8 + 30 x^7 + 23 x^6 + 15 x^5 + 14 x^4 + 10 x^3 + 6 x^2 + 12 x + 9 and the target

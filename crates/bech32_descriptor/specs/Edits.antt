@@ -1,9 +1,8 @@
 -- Edits of texts: a character changed, two neighbours swapped, a character left out, one put in.
-use Rattle.std.specs.Prelude.{◌≡◌, ◌≢◌, ◌⊎◌, ◌<◌, ◌≤◌, ◌+◌, ℕ, List, [], ◌∷◌, ◌++◌}
+use Rattle.std.specs.Prelude.{◌≡◌, ◌≢◌, ◌⊎◌, ◌<◌, ◌≤◌, ◌+◌, ℕ, List, ◌∷◌, ◌++◌}
 use Rattle.std.specs.Prelude.{drop, get_or, length, slice_set, take}
-use Rattle.std.specs.List.{AllByRecursion}
-use Rattle.bech32_poly.specs.Distinct.{IsAmong}
 use Rattle.bech32_descriptor.specs.Descriptor.{IsDescriptor}
+use Rattle.bech32_descriptor.specs.Listings.{AreAllInOrder}
 use Rattle.bech32_descriptor.specs.declared.edits.Change.{Change}
 use Rattle.bech32_descriptor.specs.declared.edits.Change.TheVariants.{Changed, LeftOut, PutIn}
 use Rattle.bech32_descriptor.specs.declared.edits.Change.TheVariants.{Swapped}
@@ -78,13 +77,6 @@ IsMendBefore x y =
     × ((x.place < y.place) ⊎ ((x.place ≡ y.place)
     × (byte_put x.change < byte_put y.change))))
 
--- each is before all behind it
-abbrev pub AreMendsInOrder : List Edit → Type 0
-AreMendsInOrder [] = Unit {0}
-AreMendsInOrder (x ∷ xs) = AllByRecursion (IsMendBefore x) xs × AreMendsInOrder xs
-
 -- these are all the edits of which P holds, each once and in order
-pub record AreAllMends (P : Edit → Type 0) (edits : List Edit) : Type 0 where
-  pub each : AllByRecursion P edits
-  pub all : (edit : Edit) → P edit → IsAmong edit edits
-  pub in_order : AreMendsInOrder edits
+abbrev pub AreAllMends : (Edit → Type 0) → List Edit → Type 0
+AreAllMends P edits = AreAllInOrder IsMendBefore P edits

@@ -1,7 +1,11 @@
 pub mod Code
 pub mod Descriptor
 pub mod Edits
+pub mod Listings
+pub mod Marks
 pub mod Mends
+pub mod PairWalks
+pub mod Pairs
 pub mod Walks
 pub mod Words
 pub mod laws

@@ -22,11 +22,29 @@ pub struct Edit {
     pub change: Change,
 }
 
+/// Two edits, at two places.
+#[derive(Clone, Copy, Debug, PartialEq, Eq, Drop)]
+pub struct TwoEdits {
+    /// The one nearer to the front.
+    pub first: Edit,
+    /// The other one.
+    pub second: Edit,
+}
+
 /// An edit, and the text that it makes.
 #[derive(Drop)]
 pub struct Mended<T> {
     /// The edit.
     pub edit: Edit,
+    /// The text.
+    pub text: T,
+}
+
+/// Two edits, and the text that they make.
+#[derive(Drop)]
+pub struct MendedTwice<T> {
+    /// The edits.
+    pub edits: TwoEdits,
     /// The text.
     pub text: T,
 }

@@ -12,7 +12,9 @@ mod checks;
 mod code;
 mod edits;
 mod error;
+mod marks;
 mod mends;
+mod pairs;
 mod places;
 mod residue;
 mod rows;
@@ -21,6 +23,7 @@ mod walks;
 
 pub use self::checks::{check, checksum};
 pub use self::code::Descriptor;
-pub use self::edits::{Change, Edit, Mended};
+pub use self::edits::{Change, Edit, Mended, MendedTwice, TwoEdits};
 pub use self::error::{CheckError, InvalidCharacter, MendError};
 pub use self::mends::{mend, mend_in};
+pub use self::pairs::{mend_two, mend_two_in};

@@ -14,11 +14,11 @@ use crate::edits::{Change, Edit, Mended};
 use crate::error::MendError;
 use crate::residue::residue_of;
 use crate::rows::rows_of;
-use crate::walks::{push_changed, push_left_out, push_put_in, push_swapped};
+use crate::walks::{push_changed_below, push_left_out, push_put_in, push_swapped};
 use std::alloc::{AllocError, Allocator, Global};
 
 // A text with other bytes in place of those from one place to another.
-fn text_with<A: Allocator>(
+pub(crate) fn text_with<A: Allocator>(
     alloc: A,
     text: &[u8],
     start: usize,
@@ -57,7 +57,8 @@ fn push_changed_if<A: Allocator>(
     if most == 0 {
         return Ok(());
     }
-    push_changed(rows, text, word, found)
+    let end = text.len();
+    push_changed_below(rows, text, word, end, found)
 }
 
 // Adds the edits that keep the length of a text, of which this is a copy.
@@ -225,7 +226,11 @@ fn longer_text<A: Allocator>(
 }
 
 // The text that an edit makes.
-fn made_text<A: Allocator>(alloc: A, text: &[u8], edit: Edit) -> Result<Vec<u8, A>, AllocError>
+pub(crate) fn made_text<A: Allocator>(
+    alloc: A,
+    text: &[u8],
+    edit: Edit,
+) -> Result<Vec<u8, A>, AllocError>
     requires few { length text.now ≤ 7500 }
     requires told { IsToldMend edit text.now }
     ensures { IfOk result (λ new. new.items ≡ made edit text.now) }

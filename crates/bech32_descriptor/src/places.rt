@@ -2,9 +2,12 @@
 
 ghost use Rattle.std.specs.Prelude.{◌≡◌, ◌<◌, ◌≤◌, ◌+◌, ◌*◌, ℕ, List, get_or, length, slice_set};
 ghost use Rattle.bech32_gf.specs.declared.gf32.Fe32.{Fe32 as Element};
+ghost use Rattle.bech32_descriptor.specs.Marks.{KeepsMarks};
+ghost use Rattle.bech32_descriptor.specs.PairWalks.{MarksChanges, group_power, symbol_power};
 ghost use Rattle.bech32_descriptor.specs.Walks.{change_in, group_from, payload_change, rows_for, word_in};
 
 use crate::alphabet::{checksum_place, place};
+use crate::marks::mark_sums;
 use bech32_gf::gf32::Fe32;
 
 // The byte at a place, where another one stands at one place.
@@ -89,4 +92,41 @@ pub(crate) fn change_of(rows: &[u64], text: &[u8], i: usize, b: u8) -> u64
         n - 1 - i,
         element + Fe32::from_low_bits(checksum_place(text[i])),
     )
+}
+
+// The powers of x at which a change at a place of a text of a length adds to the symbol, and to the
+// number of the groups.
+#[inline]
+fn powers_at(n: usize, i: usize) -> (usize, usize)
+    requires long { 9 ≤ n }
+    requires few { n ≤ 7501 }
+    requires within { i < n }
+    ensures symbol { result.0 ≡ symbol_power n i }
+    ensures group { result.1 ≡ group_power n i }
+    ensures fits { (32 * result.0 + 32 ≤ rows_for n) × (32 * result.1 + 32 ≤ rows_for n) }
+{
+    if n <= i + 9 {
+        return (n - 1 - i, n - 1 - i);
+    }
+    let end = (3 * (i / 3) + 3).min(n - 9);
+    let left = n - 9 - end;
+    let behind_group = 8 + left + (left + 2) / 3;
+    (behind_group + (end - i), behind_group)
+}
+
+// Puts what any byte at a place of any text of a length adds into a set.
+pub(crate) fn mark_place(cells: &mut [u64], rows: &[u64], n: usize, i: usize)
+    requires some { 0 < length cells.old }
+    requires few { (n ≤ 7501) × (i < n) }
+    requires long { 9 ≤ n }
+    requires enough { rows_for n ≤ length rows.now }
+    ensures size { length cells.new ≡ length cells.old }
+    ensures kept { KeepsMarks cells.old cells.new }
+    ensures changes { MarksChanges cells.new rows.now n i }
+{
+    let (symbol, group) = powers_at(n, i);
+    let row = &rows[32 * group..32 * group + 32];
+    for x in 0..32 {
+        mark_sums(cells, rows[32 * symbol + x], row);
+    }
 }

@@ -3,6 +3,7 @@
 ghost use Rattle.std.specs.Prelude.{◌≡◌, ◌<◌, ◌≤◌, ◌+◌, ◌-◌, ◌*◌, ◌++◌, ◌∷◌, ◌↔◌, ℕ, List, drop, length, option_to_list, take, IfOk, IsTrue};
 ghost use Rattle.bech32_descriptor.specs.Descriptor.{polynomial_of};
 ghost use Rattle.bech32_descriptor.specs.Edits.{AreAllMends, IsAt};
+ghost use Rattle.bech32_descriptor.specs.PairWalks.{IsMendBelow};
 ghost use Rattle.bech32_descriptor.specs.Walks.{AreRows, IsMendAt, IsMendBy, IsMendOfKind, rows_for};
 ghost use Rattle.bech32_descriptor.specs.Words.{IsWordOfSymbols};
 ghost use Rattle.bech32_descriptor.specs.declared.edits.Edit.{Edit as AnEdit};
@@ -73,23 +74,25 @@ fn push_changed_at<A: Allocator>(
     Ok(())
 }
 
-// Adds all changes of one character.
-pub(crate) fn push_changed<A: Allocator>(
+// Adds all changes of one character before a place.
+pub(crate) fn push_changed_below<A: Allocator>(
     rows: &[u64],
     text: &mut [u8],
     word: u64,
+    end: usize,
     found: &mut Vec<Edit, A>,
 ) -> Result<(), AllocError>
     requires long { 9 ≤ length text.old }
     requires few { length text.old ≤ 7501 }
+    requires within { end ≤ length text.old }
     requires enough { rows_for (length text.old) ≤ length rows.now }
     requires rows { AreRows rows.now }
     requires word { IsWordOfSymbols word (polynomial_of text.old) }
     ensures { IfOk result (λ _. (text.new ≡ text.old)
         × (edits : List AnEdit) × (found.new.items ≡ found.old.items ++ edits)
-        × AreAllMends (IsMendOfKind 0 text.old) edits) }
+        × AreAllMends (IsMendBelow text.old end) edits) }
 {
-    for place in 0..text.len() {
+    for place in 0..end {
         push_changed_at(rows, text, word, place, found)?;
     }
     Ok(())

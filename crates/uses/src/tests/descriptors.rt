@@ -1,7 +1,9 @@
 //! Output descriptors.
 
 use crate::tests::compare::same;
-use bech32_descriptor::{Change, CheckError, InvalidCharacter, MendError, check, checksum, mend};
+use bech32_descriptor::{
+    Change, CheckError, InvalidCharacter, MendError, check, checksum, mend, mend_two,
+};
 use std::alloc::Global;
 use std::fmt::Display;
 use std::process::Abort;
@@ -39,6 +41,39 @@ fn a_descriptor_mended(rt: HostRuntime) {
         &rt,
         &mended(rt.alloc(), b"raw(deedbeef)#89f8spxm"),
         &changed,
+    );
+}
+
+// How many descriptors two changed characters make of a text, and where the first two are changed.
+fn mended_by_two(alloc: Global, text: &[u8]) -> Option<(usize, usize, usize)> {
+    let Ok(found) = mend_two(alloc, text) else {
+        return None;
+    };
+    let edits = found.first()?.edits;
+    Some((found.len(), edits.first.place, edits.second.place))
+}
+
+// Two before the mark, one there and one in the checksum, two in the checksum, and the mark.
+#[test]
+fn a_descriptor_with_two_changed(rt: HostRuntime) {
+    let rows: [(&[u8], usize, usize); 5] = [
+        (b"raw(deedbeaf)#89f8spxm", 6, 10),
+        (b"raw(dezebeef)#89f8spxm", 6, 7),
+        (b"raw(deedbeef)#89f8spxn", 6, 21),
+        (b"raw(deadbeef)#98f8spxm", 14, 15),
+        (b"Raw(deadbeef)?89f8spxm", 0, 13),
+    ];
+    for (text, first, second) in rows {
+        same(
+            &rt,
+            &mended_by_two(rt.alloc(), text),
+            &Some((1, first, second)),
+        );
+    }
+    same(
+        &rt,
+        &mended_by_two(rt.alloc(), b"raw(deadbeef)#89f8spxm"),
+        &None,
     );
 }
 

@@ -1,6 +1,5 @@
-use Rattle.std.proofs.Common.{◌∷◌, [], ℕ, List, ap, subst, sym, ◌∙◌}
+use Rattle.std.proofs.Common.{◌∷◌, [], sym, ◌∙◌}
 use Rattle.bech32_gf.specs.Fe32.{one}
-use Rattle.bech32_descriptor.specs.Descriptor.{IsChecksum}
 use Rattle.bech32_descriptor.proofs.Checksums.{is_checksum}
 use Rattle.bech32_descriptor.proofs.checks.checksum.Goals as goal
 

@@ -1,5 +1,5 @@
 use Rattle.std.specs.Prelude.{set}
-use Rattle.std.proofs.Common.{◌≡◌, ◌+◌, ◌++◌, ◌∷◌, [], ℕ, List, append-nil, append_assoc, get_or, take, drop, ap, ◌∙◌}
+use Rattle.std.proofs.Common.{◌≡◌, ◌+◌, ◌++◌, ◌∷◌, [], append_assoc, take, drop, ◌∙◌}
 use Rattle.bech32_descriptor.proofs.Told.{change_parts}
 use Rattle.bech32_descriptor.proofs.mends.changed_text.Goals as goal
 

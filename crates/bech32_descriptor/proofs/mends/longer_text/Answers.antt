@@ -1,5 +1,4 @@
-use Rattle.std.specs.Prelude.{set}
-use Rattle.std.proofs.Common.{◌≡◌, ◌+◌, ◌++◌, ◌∷◌, [], ℕ, List, append-nil, append_assoc, get_or, take, drop, ap, ◌∙◌}
+use Rattle.std.proofs.Common.{◌≡◌, ◌++◌, ◌∷◌, [], append_assoc, take, drop}
 use Rattle.bech32_descriptor.proofs.mends.longer_text.Goals as goal
 
 pub returns : goal.returns

@@ -2,7 +2,7 @@ use Rattle.std.specs.List.{AllByRecursion}
 use Rattle.std.specs.Vec.Iter.{into_iter_items}
 use Rattle.std.proofs.Common.{◌≡◌, ◌++◌, ◌∷◌, [], List, length, append-nil, append_assoc, subst, sym, ap, ◌∙◌, refl, arith}
 use Rattle.std.proofs.lemmas.List.{nil_from_length}
-use Rattle.bech32_descriptor.specs.Edits.{IsToldMend}
+use Rattle.bech32_descriptor.specs.Edits.{IsToldMend, made}
 use Rattle.bech32_descriptor.specs.declared.edits.Edit.{Edit}
 use Rattle.bech32_descriptor.proofs.Listed.{all_within, texts_more}
 use Rattle.bech32_descriptor.proofs.mends.made_all.Goals as goal
@@ -23,7 +23,7 @@ loop-edit-preserved g c =
     record {
       rest = append_assoc at.yielded (c.in-Some.edit ∷ []) (into_iter_items c.next.new.self) ∙ ap (λ (u : List Edit). at.yielded ++ u) (sym steps) ∙ at.invariant.rest;
       left = let gone = c.in-Some.ensures.steps.1 in omega (arith, at.invariant.left, gone, ap length steps);
-      texts = texts_more (λ m. m.edit) (λ m. m.text.items) c.args.text.now at.yielded c.in-Some.edit at.found.items c.push.new.self.items _ refl
+      texts = texts_more (λ m. m.edit) (λ m. m.text.items) (λ e. made e c.args.text.now) at.yielded c.in-Some.edit at.found.items c.push.new.self.items _ refl
           c.in_ok-text.ensures c.in_ok-push.ensures.items at.invariant.texts;
     }
 

@@ -1,6 +1,5 @@
-use Rattle.std.specs.Prelude.{IfOk}
-use Rattle.std.proofs.Common.{◌≡◌, ◌<◌, ◌≤◌, ◌+◌, ℕ, List, length, sym, subst}
-use Rattle.bech32_descriptor.specs.Edits.{IsToldAt, made_at}
+use Rattle.std.proofs.Common.{subst}
+use Rattle.bech32_descriptor.specs.Edits.{IsToldAt}
 use Rattle.bech32_descriptor.specs.declared.edits.Change.{Change}
 use Rattle.bech32_descriptor.proofs.mends.made_text.Goals as goal
 

@@ -1,10 +1,10 @@
-use Rattle.std.proofs.Common.{◌≡◌, ◌<◌, ◌≤◌, ◌++◌, ◌⊎◌, [], ℕ, List, append-nil, length, take, drop, sym, ap, subst, ◌∙◌, arith}
+use Rattle.std.proofs.Common.{◌≡◌, ◌<◌, ◌≤◌, ◌++◌, [], ℕ, List, append-nil, length, take, drop, sym, ap, subst, ◌∙◌, arith}
 use Rattle.std.proofs.lemmas.List.{take-append-drop}
 use Rattle.std.proofs.lemmas.Result.{IfOk-weaker}
-use Rattle.bech32_descriptor.specs.Edits.{AreAllMends}
+use Rattle.bech32_descriptor.specs.Edits.{AreAllMends, IsMendBefore}
 use Rattle.bech32_descriptor.specs.Walks.{IsMendOfKind, IsWithinOfKind, rows_for}
 use Rattle.bech32_descriptor.specs.declared.edits.Edit.{Edit}
-use Rattle.bech32_descriptor.proofs.Kept.{nothing}
+use Rattle.bech32_descriptor.proofs.Listings.{nothing}
 use Rattle.bech32_descriptor.proofs.Told.{none_changed, none_swapped}
 use Rattle.bech32_descriptor.proofs.mends.push_same_length.Goals as goal
 
@@ -16,8 +16,8 @@ returns-then-text-lt9 g c =
       [],
       [],
       sym (append-nil (found ++ []) ∙ append-nil found),
-      nothing (IsWithinOfKind 0 c.args.most text) (λ e h. none_changed text e short (h.0, h.1.1)),
-      nothing (IsMendOfKind 1 text) (λ e h. none_swapped text e short h),
+      nothing IsMendBefore (IsWithinOfKind 0 c.args.most text) (λ e h. none_changed text e short (h.0, h.1.1)),
+      nothing IsMendBefore (IsMendOfKind 1 text) (λ e h. none_swapped text e short h),
     )
 
 pub push_on_copy-requires : goal.push_on_copy-requires

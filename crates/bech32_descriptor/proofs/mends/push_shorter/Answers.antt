@@ -1,6 +1,7 @@
-use Rattle.std.proofs.Common.{◌<◌, ◌≤◌, [], ℕ, length, sym, append-nil, ◌∙◌, arith}
+use Rattle.std.proofs.Common.{◌<◌, length, ◌∙◌, arith}
+use Rattle.bech32_descriptor.specs.Edits.{IsMendBefore}
 use Rattle.bech32_descriptor.specs.Walks.{IsMendOfKind}
-use Rattle.bech32_descriptor.proofs.Kept.{found_none}
+use Rattle.bech32_descriptor.proofs.Listings.{found_none}
 use Rattle.bech32_descriptor.proofs.Told.{none_left_out}
 use Rattle.bech32_descriptor.proofs.mends.push_shorter.Goals as goal
 
@@ -8,7 +9,7 @@ pub returns-then-text-lt10 : goal.returns-then-text-lt10
 returns-then-text-lt10 g c =
     let text = c.args.text.now in
     let short : length text < 10 = omega arith in
-    found_none (IsMendOfKind 2 text) c.args.found.now.items (λ e h. none_left_out text e short h)
+    found_none IsMendBefore (IsMendOfKind 2 text) c.args.found.now.items (λ e h. none_left_out text e short h)
 
 pub push_left_out-requires : goal.push_left_out-requires
 push_left_out-requires g c = record {

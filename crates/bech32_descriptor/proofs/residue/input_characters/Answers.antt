@@ -1,10 +1,9 @@
-use Rattle.std.proofs.Common.{◌≤◌, ◌∙◌, ℕ, List, length, get_or, refl, ap, subst, arith}
+use Rattle.std.proofs.Common.{◌≤◌, ◌∙◌, ℕ, List, length, get_or, refl, subst, arith}
 use Rattle.std.proofs.lemmas.List.{take_rest}
 use Rattle.bech32_gf.specs.declared.gf32.Fe32.{Fe32 as Element}
 use Rattle.bech32_poly.specs.Polynomial.{appended}
 use Rattle.bech32_checksum.specs.Code.{IsResidueOf}
 use Rattle.bech32_descriptor.specs.Code.{descriptor}
-use Rattle.bech32_descriptor.specs.Descriptor.{symbols}
 use Rattle.bech32_descriptor.proofs.Symbols.{three, three_more}
 use Rattle.bech32_descriptor.proofs.residue.input_characters.Goals as goal
 

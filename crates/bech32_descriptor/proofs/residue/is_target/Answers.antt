@@ -1,4 +1,3 @@
-use Rattle.std.proofs.Common.{ℕ}
 use Rattle.std.proofs.lemmas.Bool.{eqb-true, eq-eqb}
 use Rattle.bech32_descriptor.proofs.Words.{leaves_target, target_alone}
 use Rattle.bech32_descriptor.proofs.residue.is_target.Goals as goal

@@ -1,4 +1,4 @@
-use Rattle.std.proofs.Common.{ℕ, List, ◌∷◌, [], sym, subst, take, drop}
+use Rattle.std.proofs.Common.{ℕ, ◌∷◌, [], sym, subst}
 use Rattle.std.proofs.lemmas.List.{take_rest}
 use Rattle.bech32_gf.specs.Fe32.{one}
 use Rattle.bech32_checksum.specs.Code.{IsResidueOf}

@@ -1,4 +1,4 @@
-use Rattle.std.proofs.Common.{◌≡◌, ℕ, List, ◌∷◌, [], ap, sym, subst, ◌∙◌}
+use Rattle.std.proofs.Common.{ℕ, ◌∷◌, [], sym, subst}
 use Rattle.bech32_gf.specs.Fe32.{element}
 use Rattle.bech32_gf.specs.declared.gf32.Fe32.{Fe32 as Element}
 use Rattle.bech32_checksum.specs.Code.{IsResidueOf}

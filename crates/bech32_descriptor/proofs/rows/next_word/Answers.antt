@@ -1,4 +1,4 @@
-use Rattle.std.proofs.Common.{◌<◌, ◌≤◌, ◌-◌, ℕ, length, get_or, arith}
+use Rattle.std.proofs.Common.{◌<◌, ◌≤◌, ◌-◌, length, arith}
 use Rattle.bech32_descriptor.proofs.RowsOfWords.{first_power, next_power}
 use Rattle.bech32_descriptor.proofs.rows.next_word.Goals as goal
 

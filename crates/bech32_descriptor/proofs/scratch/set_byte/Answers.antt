@@ -1,6 +1,3 @@
-use Rattle.std.proofs.Common.{ℕ, List, bit_xor, sym, ap, subst}
-use Rattle.bech32_descriptor.specs.Descriptor.{polynomial_of}
-use Rattle.bech32_descriptor.specs.Words.{IsWordOfSymbols}
 use Rattle.bech32_descriptor.proofs.Rewritten.{changed_word}
 use Rattle.bech32_descriptor.proofs.scratch.set_byte.Goals as goal
 

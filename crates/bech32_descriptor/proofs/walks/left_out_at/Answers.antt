@@ -1,4 +1,4 @@
-use Rattle.std.proofs.Common.{ℕ, List, refl, sym, subst}
+use Rattle.std.proofs.Common.{refl, sym, subst}
 use Rattle.std.proofs.lemmas.Bool.{false≢true}
 use Rattle.bech32_descriptor.specs.Descriptor.{IsDescriptor}
 use Rattle.bech32_descriptor.proofs.Told.{left_not_told, left_told}

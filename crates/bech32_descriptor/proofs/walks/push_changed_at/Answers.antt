@@ -1,17 +1,17 @@
 use Rattle.std.specs.Prelude.{option_to_list}
-use Rattle.std.proofs.Common.{◌≡◌, ◌<◌, ◌≤◌, ℕ, List, length, refl, sym, subst, ap, ◌∙◌, arith}
+use Rattle.std.proofs.Common.{◌<◌, ◌≤◌, ℕ, List, length, refl, sym, subst, ◌∙◌, arith}
 use Rattle.bech32_descriptor.specs.Descriptor.{polynomial_of}
-use Rattle.bech32_descriptor.specs.Edits.{AreAllMends, byte_put}
+use Rattle.bech32_descriptor.specs.Edits.{AreAllMends, IsMendBefore, byte_put}
 use Rattle.bech32_descriptor.specs.Walks.{IsMendAt, IsMendBy, rows_for}
 use Rattle.bech32_descriptor.specs.Words.{IsWordOfSymbols}
-use Rattle.bech32_descriptor.proofs.Kept.{found_all, found_more, found_start}
+use Rattle.bech32_descriptor.proofs.Listings.{found_all, found_more, found_start}
 use Rattle.bech32_descriptor.proofs.Told.{byte_first, printed_changed}
 use Rattle.bech32_descriptor.proofs.walks.push_changed_at.Goals as goal
 
 pub loop-byte-init : goal.loop-byte-init
 loop-byte-init g c = record {
   same = refl;
-  kept = found_start (IsMendAt 0 c.args.text.now c.args.place) (λ e. byte_put e.change) 32 c.args.found.now.items
+  kept = found_start IsMendBefore (IsMendAt 0 c.args.text.now c.args.place) (λ e. byte_put e.change) 32 c.args.found.now.items
       (λ e h less. let p = printed_changed c.args.text.now e h.0 in absurd (omega (arith, p.0.0, less)));
 }
 
@@ -35,7 +35,7 @@ loop-byte-preserved g c =
     let here = c.args.place in
     record {
       same = c.changed_at-edit.ensures.text ∙ at.invariant.same;
-      kept = found_more (IsMendAt 0 text here) (λ e. byte_put e.change) at.byte c.args.found.now.items at.found.items c.push_some.new.found.items
+      kept = found_more IsMendBefore (IsMendAt 0 text here) (λ e. byte_put e.change) at.byte c.args.found.now.items at.found.items c.push_some.new.found.items
           (option_to_list c.changed_at-edit.result) (byte_first 0 text here) c.in_ok-push_some.ensures
           (subst (λ (t : List ℕ). AreAllMends (IsMendBy 0 t here at.byte) (option_to_list c.changed_at-edit.result)) at.invariant.same c.changed_at-edit.ensures.all)
           at.invariant.kept;
@@ -46,6 +46,6 @@ returns g c =
     let at = c.loop-byte in
     let text = c.args.text.now in
     let end : 127 ≤ at.byte = omega arith in
-    let (xs, is, all) = found_all (IsMendAt 0 text c.args.place) (λ e. byte_put e.change) at.byte c.args.found.now.items at.found.items
+    let (xs, is, all) = found_all IsMendBefore (IsMendAt 0 text c.args.place) (λ e. byte_put e.change) at.byte c.args.found.now.items at.found.items
     (λ e h. let p = printed_changed text e h.0 in omega (arith, p.0.1, end)) at.invariant.kept in
     (at.invariant.same, xs, is, all)

@@ -1,8 +1,9 @@
 use Rattle.std.specs.Prelude.{option_to_list}
-use Rattle.std.proofs.Common.{◌≡◌, ◌<◌, ◌≤◌, ◌-◌, ℕ, List, length, drop, refl, sym, subst, ap, ◌∙◌, arith}
+use Rattle.std.proofs.Common.{◌≡◌, ◌≤◌, ◌-◌, ℕ, List, length, refl, ap, ◌∙◌, arith}
 use Rattle.std.proofs.lemmas.List.{length-drop}
-use Rattle.bech32_descriptor.specs.Walks.{IsMendAt, IsMendOfKind, rows_for}
-use Rattle.bech32_descriptor.proofs.Kept.{found_all, found_more, found_start}
+use Rattle.bech32_descriptor.specs.Edits.{IsMendBefore}
+use Rattle.bech32_descriptor.specs.Walks.{IsMendOfKind}
+use Rattle.bech32_descriptor.proofs.Listings.{found_all, found_more, found_start}
 use Rattle.bech32_descriptor.proofs.Told.{left_out_within, place_first}
 use Rattle.bech32_descriptor.proofs.walks.push_left_out.Goals as goal
 
@@ -14,7 +15,7 @@ loop-place-init g c = record {
   size = refl;
   rest = λ low. c.requires.rest;
   word = c.residue_of-word.ensures;
-  kept = found_start (IsMendOfKind 2 c.args.text.now) (λ e. e.place) 0 c.args.found.now.items (λ e h less. absurd (omega (arith, less)));
+  kept = found_start IsMendBefore (IsMendOfKind 2 c.args.text.now) (λ e. e.place) 0 c.args.found.now.items (λ e h less. absurd (omega (arith, less)));
 }
 
 pub left_out_at-edit-requires : goal.left_out_at-edit-requires
@@ -46,7 +47,7 @@ loop-place-preserved g c =
       size = c.next_left_out-word.ensures.size ∙ at.invariant.size;
       rest = c.next_left_out-word.ensures.rest;
       word = c.next_left_out-word.ensures.word;
-      kept = found_more (IsMendOfKind 2 text) (λ e. e.place) at.place c.args.found.now.items at.found.items c.push_some.new.found.items
+      kept = found_more IsMendBefore (IsMendOfKind 2 text) (λ e. e.place) at.place c.args.found.now.items at.found.items c.push_some.new.found.items
           (option_to_list c.left_out_at-edit.result) (place_first 2 text) c.in_ok-push_some.ensures c.left_out_at-edit.ensures at.invariant.kept;
     }
 
@@ -55,5 +56,5 @@ returns g c =
     let at = c.loop-place in
     let text = c.args.text.now in
     let end : length text ≤ at.place = omega arith in
-    found_all (IsMendOfKind 2 text) (λ e. e.place) at.place c.args.found.now.items at.found.items
+    found_all IsMendBefore (IsMendOfKind 2 text) (λ e. e.place) at.place c.args.found.now.items at.found.items
     (λ e h. let p = left_out_within text e h in omega (arith, p, end)) at.invariant.kept

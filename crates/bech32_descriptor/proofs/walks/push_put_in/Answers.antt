@@ -1,8 +1,9 @@
-use Rattle.std.proofs.Common.{◌≡◌, ◌<◌, ◌≤◌, ◌+◌, ◌++◌, ◌∷◌, ℕ, List, length, take, drop, refl, sym, subst, ap, ◌∙◌, arith}
+use Rattle.std.proofs.Common.{◌≡◌, ◌<◌, ◌≤◌, ◌+◌, ℕ, List, length, refl, sym, subst, ap, ◌∙◌, arith}
+use Rattle.bech32_descriptor.specs.Edits.{IsMendBefore}
 use Rattle.bech32_descriptor.specs.Descriptor.{polynomial_of}
-use Rattle.bech32_descriptor.specs.Walks.{IsMendAt, IsMendOfKind, rows_for}
+use Rattle.bech32_descriptor.specs.Walks.{IsMendOfKind, rows_for}
 use Rattle.bech32_descriptor.specs.Words.{IsWordOfSymbols}
-use Rattle.bech32_descriptor.proofs.Kept.{found_all, found_chain, found_start}
+use Rattle.bech32_descriptor.proofs.Listings.{found_all, found_chain, found_start}
 use Rattle.bech32_descriptor.proofs.Told.{place_first, printed_put_in}
 use Rattle.bech32_descriptor.proofs.walks.push_put_in.Goals as goal
 
@@ -14,7 +15,7 @@ loop-place-init g c = record {
   size = refl;
   new = λ low. c.requires.new;
   word = c.residue_of-word.ensures;
-  kept = found_start (IsMendOfKind 3 c.args.text.now) (λ e. e.place) 0 c.args.found.now.items (λ e h less. absurd (omega (arith, less)));
+  kept = found_start IsMendBefore (IsMendOfKind 3 c.args.text.now) (λ e. e.place) 0 c.args.found.now.items (λ e h less. absurd (omega (arith, less)));
 }
 
 pub push_put_in_at-requires : goal.push_put_in_at-requires
@@ -59,7 +60,7 @@ loop-place-preserved g c =
       size = c.next_put_in-word.ensures.size ∙ ap (λ (u : List ℕ). length u) same ∙ at.invariant.size;
       new = λ low. let less : at.place < length text = omega (arith, low) in c.next_put_in-word.ensures.new less;
       word = c.next_put_in-word.ensures.word;
-      kept = found_chain (IsMendOfKind 3 text) (λ e. e.place) at.place c.args.found.now.items at.found.items c.push_put_in_at.new.found.items
+      kept = found_chain IsMendBefore (IsMendOfKind 3 text) (λ e. e.place) at.place c.args.found.now.items at.found.items c.push_put_in_at.new.found.items
           (place_first 3 text) (xs, is, all) at.invariant.kept;
     }
 
@@ -68,5 +69,5 @@ returns g c =
     let at = c.loop-place in
     let text = c.args.text.now in
     let end : length text + 1 ≤ at.place = omega arith in
-    found_all (IsMendOfKind 3 text) (λ e. e.place) at.place c.args.found.now.items at.found.items
+    found_all IsMendBefore (IsMendOfKind 3 text) (λ e. e.place) at.place c.args.found.now.items at.found.items
     (λ e h. let p = printed_put_in text e h in omega (arith, p.1, end)) at.invariant.kept

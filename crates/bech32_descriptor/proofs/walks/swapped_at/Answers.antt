@@ -1,5 +1,5 @@
-use Rattle.std.specs.Prelude.{◌≢◌, set}
-use Rattle.std.proofs.Common.{◌≡◌, ◌<◌, ◌≤◌, ◌+◌, ℕ, List, length, get_or, refl, sym, ap, subst, ◌∙◌, arith}
+use Rattle.std.specs.Prelude.{set}
+use Rattle.std.proofs.Common.{◌≡◌, ◌<◌, ◌≤◌, ◌+◌, ℕ, List, length, get_or, sym, ap, subst, ◌∙◌, arith}
 use Rattle.std.proofs.lemmas.List.{length-set, set-get_or, set-set}
 use Rattle.std.proofs.lemmas.Bool.{false≢true}
 use Rattle.bech32_descriptor.specs.Descriptor.{IsDescriptor}

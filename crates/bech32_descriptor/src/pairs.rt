@@ -1,0 +1,276 @@
+//! The descriptors that two changed characters make of a text.
+//!
+//! A first character beside a second one adds to the remainder what the second leaves wrong. What
+//! any first one may add is in a set, so that few second ones are tried with all first ones.
+
+ghost use Rattle.std.specs.Prelude.{◌≡◌, ◌≢◌, ◌<◌, ◌≤◌, ◌++◌, ℕ, List, get_or, length, map, IfOk, MatchResult};
+ghost use Rattle.std.specs.List.{AllByRecursion};
+ghost use Rattle.bech32_descriptor.specs.Edits.{IsPrinted};
+ghost use Rattle.bech32_descriptor.specs.Mends.{IsMendRefusal};
+ghost use Rattle.bech32_descriptor.specs.PairWalks.{IsReady, IsTwoAt, IsTwoBy, MarksChangesBelow, beside};
+ghost use Rattle.bech32_descriptor.specs.Pairs.{AreAllByTwo, AreTwoMends, IsMendByTwo, made_by_two};
+ghost use Rattle.bech32_descriptor.specs.Walks.{AreRows, rows_for};
+ghost use Rattle.bech32_descriptor.specs.declared.edits.TwoEdits.{TwoEdits as TheTwo};
+
+use crate::edits::{Change, Edit, MendedTwice, TwoEdits};
+use crate::error::MendError;
+use crate::marks::{cells_for, may_be_marked};
+use crate::mends::{made_text, text_with};
+use crate::places::{change_of, mark_place};
+use crate::residue::residue_of;
+use crate::rows::rows_of;
+use crate::scratch::set_byte;
+use crate::walks::push_changed_below;
+use std::alloc::{AllocError, Allocator, Global};
+
+// Adds each of some edits beside another one.
+fn push_beside<A: Allocator>(
+    firsts: &[Edit],
+    second: Edit,
+    found: &mut Vec<TwoEdits, A>,
+) -> Result<(), AllocError>
+    ensures { IfOk result (λ _.
+        found.new.items ≡ found.old.items ++ map (beside second) firsts.now) }
+{
+    for first in firsts {
+        found.push(TwoEdits {
+            first: *first,
+            second,
+        })?;
+    }
+    Ok(())
+}
+
+// Adds all that make a descriptor and change the character at a place to this one, and another
+// before it.
+fn push_two_with<A: Allocator + Copy>(
+    alloc: A,
+    rows: &[u64],
+    text: &mut [u8],
+    word: u64,
+    place: usize,
+    byte: u8,
+    found: &mut Vec<TwoEdits, A>,
+) -> Result<(), AllocError>
+    requires ready { IsReady rows.now text.old word }
+    requires within { place < length text.old }
+    requires printed { IsPrinted byte }
+    requires other { get_or text.old place 0 ≢ byte }
+    ensures { IfOk result (λ _. (text.new ≡ text.old)
+        × (edits : List TheTwo) × (found.new.items ≡ found.old.items ++ edits)
+        × AreAllByTwo (IsTwoBy text.old place byte) edits) }
+{
+    let old = text[place];
+    let changed = set_byte(rows, text, word, place, byte);
+    let mut firsts = Vec::new(alloc);
+    push_changed_below(rows, text, changed, place, &mut firsts)?;
+    text[place] = old;
+    let second = Edit {
+        place,
+        change: Change::Changed(byte),
+    };
+    push_beside(&firsts, second, found)
+}
+
+// The same, of any byte: most of them leave what no character before adds.
+#[inline]
+fn push_two_by<A: Allocator + Copy>(
+    alloc: A,
+    rows: &[u64],
+    cells: &[u64],
+    text: &mut [u8],
+    word: u64,
+    place: usize,
+    byte: u8,
+    found: &mut Vec<TwoEdits, A>,
+) -> Result<(), AllocError>
+    requires ready { IsReady rows.now text.old word }
+    requires within { place < length text.old }
+    requires printed { IsPrinted byte }
+    requires some { 0 < length cells.now }
+    requires marks { MarksChangesBelow cells.now rows.now (length text.old) place }
+    ensures { IfOk result (λ _. (text.new ≡ text.old)
+        × (edits : List TheTwo) × (found.new.items ≡ found.old.items ++ edits)
+        × AreAllByTwo (IsTwoBy text.old place byte) edits) }
+{
+    if text[place] == byte {
+        return Ok(());
+    }
+    let changed = word ^ change_of(rows, text, place, byte);
+    if !may_be_marked(cells, changed ^ 1) {
+        return Ok(());
+    }
+    push_two_with(alloc, rows, text, word, place, byte, found)
+}
+
+// Adds all that make a descriptor and change the character at a place, and another before it.
+fn push_two_at<A: Allocator + Copy>(
+    alloc: A,
+    rows: &[u64],
+    cells: &[u64],
+    text: &mut [u8],
+    word: u64,
+    place: usize,
+    found: &mut Vec<TwoEdits, A>,
+) -> Result<(), AllocError>
+    requires ready { IsReady rows.now text.old word }
+    requires within { place < length text.old }
+    requires some { 0 < length cells.now }
+    requires marks { MarksChangesBelow cells.now rows.now (length text.old) place }
+    ensures { IfOk result (λ _. (text.new ≡ text.old)
+        × (edits : List TheTwo) × (found.new.items ≡ found.old.items ++ edits)
+        × AreAllByTwo (IsTwoAt text.old place) edits) }
+{
+    for byte in 32..127 {
+        push_two_by(alloc, rows, cells, text, word, place, byte, found)?;
+    }
+    Ok(())
+}
+
+// Adds all changes of two characters that make a descriptor: of the cells all is used.
+fn push_two<A: Allocator + Copy>(
+    alloc: A,
+    rows: &[u64],
+    cells: &mut [u64],
+    text: &mut [u8],
+    word: u64,
+    found: &mut Vec<TwoEdits, A>,
+) -> Result<(), AllocError>
+    requires ready { IsReady rows.now text.old word }
+    requires some { 0 < length cells.old }
+    ensures { IfOk result (λ _. (edits : List TheTwo)
+        × (found.new.items ≡ found.old.items ++ edits)
+        × AreAllByTwo (IsMendByTwo text.old) edits) }
+{
+    for place in 0..text.len() {
+        push_two_at(alloc, rows, cells, text, word, place, found)?;
+        mark_place(cells, rows, text.len(), place);
+    }
+    Ok(())
+}
+
+// All changes of two characters that make a descriptor of a text, of which this is a copy.
+fn two_on_copy<A: Allocator + Copy>(
+    alloc: A,
+    rows: &[u64],
+    text: &mut [u8],
+) -> Result<Vec<TwoEdits, A>, AllocError>
+    requires long { 9 ≤ length text.old }
+    requires few { length text.old ≤ 7501 }
+    requires enough { rows_for (length text.old) ≤ length rows.now }
+    requires rows { AreRows rows.now }
+    ensures { IfOk result (λ edits. AreAllByTwo (IsMendByTwo text.old) edits.items) }
+{
+    let word = residue_of(text);
+    let mut found = Vec::new(alloc);
+    let mut cells = vec![in alloc; 0u64; cells_for(text.len())]?;
+    push_two(alloc, rows, &mut cells, text, word, &mut found)?;
+    Ok(found)
+}
+
+// The same of the text itself.
+fn two_of<A: Allocator + Copy>(alloc: A, text: &[u8]) -> Result<Vec<TwoEdits, A>, AllocError>
+    requires { length text.now ≤ 7500 }
+    ensures { IfOk result (λ edits. AreAllByTwo (IsMendByTwo text.now) edits.items) }
+{
+    if text.len() < 9 {
+        return Ok(Vec::new(alloc));
+    }
+    let mut copy = text_with(alloc, text, text.len(), &[], text.len())?;
+    let rows = rows_of(alloc, text.len())?;
+    two_on_copy(alloc, &rows, &mut copy)
+}
+
+// The text that two edits make.
+fn text_by_two<A: Allocator + Copy>(
+    alloc: A,
+    text: &[u8],
+    edits: TwoEdits,
+) -> Result<Vec<u8, A>, AllocError>
+    requires few { length text.now ≤ 7500 }
+    requires mends { IsMendByTwo text.now edits }
+    ensures { IfOk result (λ new. new.items ≡ made_by_two edits text.now) }
+{
+    let half = made_text(alloc, text, edits.second)?;
+    made_text(alloc, &half, edits.first)
+}
+
+// Each two edits with the text that they make.
+fn texts_by_two<A: Allocator + Copy>(
+    alloc: A,
+    text: &[u8],
+    found: Vec<TwoEdits, A>,
+) -> Result<Vec<MendedTwice<Vec<u8, A>>, A>, AllocError>
+    requires few { length text.now ≤ 7500 }
+    requires mends { AllByRecursion (IsMendByTwo text.now) found.items }
+    ensures same { IfOk result (λ all. map (λ m. m.edits) all.items ≡ found.items) }
+    ensures each { IfOk result (λ all.
+        AllByRecursion (λ m. m.text.items ≡ made_by_two m.edits text.now) all.items) }
+{
+    let mut all = Vec::new(alloc);
+    for edits in found {
+        let text = text_by_two(alloc, text, edits)?;
+        all.push(MendedTwice { edits, text })?;
+    }
+    Ok(all)
+}
+
+// All changes of two characters that make a descriptor of a text, with the texts.
+fn mended_by_two<A: Allocator + Copy>(
+    alloc: A,
+    text: &[u8],
+) -> Result<Vec<MendedTwice<Vec<u8, A>>, A>, AllocError>
+    requires { length text.now ≤ 7500 }
+    ensures { IfOk result (λ found.
+        AreTwoMends text.now (map (λ m. (m.edits, m.text.items)) found.items)) }
+{
+    let found = two_of(alloc, text)?;
+    Ok(texts_by_two(alloc, text, found)?)
+}
+
+/// The descriptors that two changed characters make of a text, with memory from `alloc`;
+/// [`mend_two`] says more.
+///
+/// # Errors
+///
+/// Those of [`mend_two`].
+pub fn mend_two_in<A: Allocator + Copy>(
+    alloc: A,
+    text: &[u8],
+) -> Result<Vec<MendedTwice<Vec<u8, A>>, A>, MendError>
+    ensures { MatchResult result
+        (λ found. AreTwoMends text.now (map (λ m. (m.edits, m.text.items)) found.items))
+        (λ e. IsMendRefusal text.now e) }
+{
+    if text.len() > 7500 {
+        return Err(MendError::TooLong);
+    }
+    match mended_by_two(alloc, text) {
+        Ok(found) => Ok(found),
+        Err(_) => Err(MendError::Memory),
+    }
+}
+
+/// All descriptors with a right checksum that come from a text by two of its characters changed.
+/// Either may be in the checksum, or be the `#`. A character is a byte here: any byte of the text
+/// may be a wrong one. Each descriptor stands once, with both edits.
+///
+/// They are in the order of the second edits, those further back: by their places, and at one place
+/// by the codes of the characters put there. With one second edit they are in that order of the
+/// first ones. Texts that one edit makes are told by [`mend`](crate::mend), and take much less
+/// memory and time: try that first.
+///
+/// A text that is found is a guess: compare what it describes with the wallet's addresses before it
+/// is used.
+///
+/// # Errors
+///
+/// [`MendError::TooLong`] where the text has more than 7,500 characters; else
+/// [`MendError::Memory`] alone.
+pub fn mend_two(alloc: Global, text: &[u8]) -> Result<Vec<MendedTwice<Vec<u8>>>, MendError>
+    ensures { MatchResult result
+        (λ found. AreTwoMends text.now (map (λ m. (m.edits, m.text.items)) found.items))
+        (λ e. IsMendRefusal text.now e) }
+{
+    mend_two_in::<Global>(alloc, text)
+}
