@@ -48,26 +48,36 @@ const PAGES = {
 
 const variable = (file) => `$${path.basename(file, '.js')}`;
 
-// A file as a function that returns what it exports: a script in a page that is read from a disk may import nothing.
-const asFunction = (file, source) => {
-  const exported = [];
+// A file as a function that returns what it exports: a script in a page that is read from a disk may import nothing. `known`
+// has the names that each file before it exports, and gets its own.
+const asFunction = (file, source, known) => {
+  const exported = [], names = new Set();
+  const needed = (list, from) => {
+    const missing = list.split(', ').filter((name) => !known.get(variable(from))?.has(name));
+    if (missing.length) throw new Error(`${file}: ${from} does not export ${missing.join(', ')}, or not as the first name of a line`);
+    return list.split(', ');
+  };
   const body = source
-    .replace(/^import \{ ([^}]+) \} from '([^']+)';$/gm, (_, names, from) => `const { ${names} } = ${variable(from)};`)
-    .replace(/^export \{ ([^}]+) \} from '([^']+)';$/gm, (_, names, from) => {
-      exported.push(...names.split(', ').map((name) => `${name}: ${variable(from)}.${name}`));
+    .replace(/^import \{ ([^}]+) \} from '([^']+)';$/gm, (_, list, from) => `const { ${needed(list, from).join(', ')} } = ${variable(from)};`)
+    .replace(/^export \{ ([^}]+) \} from '([^']+)';$/gm, (_, list, from) => {
+      exported.push(...needed(list, from).map((name) => `${name}: ${variable(from)}.${name}`));
+      for (const name of needed(list, from)) names.add(name);
       return '';
     })
     .replace(/^export (const|class) (\w+)/gm, (_, kind, name) => {
       exported.push(name);
+      names.add(name);
       return `${kind} ${name}`;
     });
   if (/^(import|export)\b/m.test(body)) throw new Error(`${file} has an import or an export in another form`);
+  known.set(variable(file), names);
   return `const ${variable(file)} = (() => {\n${body}return { ${exported.join(', ')} };\n})();\n`;
 };
 
 const script = (names) => {
   const files = [...LIBRARY, ...names.map((name) => `page/${name}.js`)];
-  const parts = files.map((file) => asFunction(file, file === 'src/modules.js' ? modulesSource() : read(file)));
+  const known = new Map();
+  const parts = files.map((file) => asFunction(file, file === 'src/modules.js' ? modulesSource() : read(file), known));
   const text = `'use strict';\n{\n${parts.join('')}}\n`;
   if (/<\/script|<!--/i.test(text)) throw new Error('the script has words that end a script');
   return text;

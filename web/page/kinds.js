@@ -11,7 +11,8 @@ export const CHECKSUMS = [['bech32m', 'Bech32m'], ['bech32', 'Bech32']];
 
 /** The same for texts of more than `SHORT` characters, up to `LONG`, which are tested and not corrected. */
 export const LONG_CHECKSUMS = [['longBech32m', 'Bech32m'], ['longBech32', 'Bech32']];
-export const SHORT = 1023, LONG = 7089;
+export const SHORT = 1023;
+export const LONG = 7089;
 
 /** The checksums that may accept a text. */
 export const checksumsFor = ({ length }) => (length > SHORT ? LONG_CHECKSUMS : CHECKSUMS);

@@ -64,6 +64,21 @@ const EACH = `
 // What the answer says is spoken behind a pause, and what a button says is not to be mistaken for it.
 const isSpoken = (page) => until(() => page.evaluate('return document.getElementById("spoken").textContent !== "";'), 'word of the answer', 10);
 
+// Presses the button that copies, by its key, until it says that it did: a key that comes before the window has its focus is
+// lost, and a second one copies the same again.
+const copiedByKey = async (page) => {
+  const isCopied = () => page.evaluate('return document.querySelector(".copy").textContent === "Copied";');
+  for (let left = 6; ; left--) {
+    await page.evaluate('window.focus(); document.querySelector(".copy").focus();');
+    await page.press('Enter');
+    try {
+      return await until(isCopied, 'word that it was copied', 5);
+    } catch (error) {
+      if (left === 0) throw error;
+    }
+  }
+};
+
 // A kind of text, what is said of it, and the characters that are struck out and mended.
 const KINDS = [
   ['an address', V0, /This is a valid Bech32 address\.[^]*segwit address of Bitcoin[^]*Witness version 0, program of 20 bytes:\s+751e 76e8 1991 96d4 5494 1c45 d1b3 a323 f143 3bd6/, '', ''],
@@ -165,9 +180,7 @@ const common = (browser) => async (t, page) => {
       await page.visit(PAGE);
       await shownFor(page, text);
       await isSpoken(page);
-      await page.evaluate('document.querySelector(".copy").focus();');
-      await page.press('Enter');
-      await until(() => page.evaluate('return document.querySelector(".copy").textContent === "Copied";'), 'word that it was copied', 5);
+      await copiedByKey(page);
       assert.equal(await page.evaluate('return document.getElementById("spoken").textContent;'), 'Copied');
       await page.evaluate('const typed = document.getElementById("typed"); typed.focus(); typed.select();');
       await page.paste();
