@@ -215,7 +215,7 @@ public final class Lines {
             if (refused.place() >= 0) {
                 place = text.substring(0, refused.place()).getBytes(StandardCharsets.UTF_8).length;
             } else if (refused.refusal() == Refusal.HRP_EMPTY || refused.refusal() == Refusal.HRP_TOO_LONG) {
-                place = text.lastIndexOf('1');
+                place = text.substring(0, text.lastIndexOf('1')).getBytes(StandardCharsets.UTF_8).length;
             }
             return "err " + refused.refusal().number() + " " + place;
         }
