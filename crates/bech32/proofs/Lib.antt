@@ -1,3 +1,4 @@
+pub mod Contents
 pub mod Decoding
 pub mod RoundTrip
 pub mod Spellings

@@ -1,4 +1,5 @@
 pub mod Carried
+pub mod Contents
 pub mod Elements
 pub mod Long
 pub mod Refusals

@@ -1,9 +1,6 @@
 -- The checksums of long texts: Bech32 (BIP-173) and Bech32m (BIP-350) with another code length. It
 -- is that of the longest invoices (BOLT 11), as readers of these have it.
-use Rattle.std.specs.Prelude.{◌≡◌, ℕ}
-use Rattle.std.proofs.Common.{ap}
-use Rattle.bech32_checksum.specs.Code.{Code, bech32, bech32m, code_of}
-use Rattle.bech32_checksum.specs.laws.CodeLaws.{bech32_is_packed, bech32m_is_packed, words}
+use Rattle.bech32_checksum.specs.Code.{Code, bech32, bech32m}
 
 -- a code for texts of up to 7,089 characters
 abbrev pub long : Code → Code
@@ -14,9 +11,3 @@ long_bech32 = long bech32
 
 abbrev pub long_bech32m : Code
 long_bech32m = long bech32m
-
-pub long_bech32_is_packed : long_bech32 ≡ code_of (λ (x : ℕ). x) 7089 6 words 1
-long_bech32_is_packed = ap long bech32_is_packed
-
-pub long_bech32m_is_packed : long_bech32m ≡ code_of (λ (x : ℕ). x) 7089 6 words 0x2bc830a3
-long_bech32m_is_packed = ap long bech32m_is_packed

@@ -43,6 +43,11 @@ pub record IsSpelledBy (code : Code) (text hrp : List ℕ) (elements : List Fe32
   pub spelling : IsSpelling code hrp elements text
   pub only : IsOnlySpelling code hrp elements text
 
+-- the text has the human-readable part that was decoded, in the case of the text, and is the only
+-- spelling of it and of the elements of what else was decoded
+abbrev pub IsOnlyTextOf : {V : Type 0} → (V → List Fe32) → Code → List ℕ → Hrp × V → Type 0
+IsOnlyTextOf elements code text d = IsSpelledBy code text (hrp_bytes d.0) (elements d.1)
+
 -- the checksum accepts the text with this human-readable part, the bits behind the last whole byte
 -- of the elements before it are at most four zeros, and these are the bytes
 pub record IsPaddedText (code : Code) (text hrp bytes : List ℕ) : Type 0 where

@@ -1,23 +1,22 @@
 //! Texts of elements, each given as a byte from 0 to 31: of what is not bytes alone, as the
 //! addresses of silent payments (BIP-352), which begin with a version, and invoices (BOLT 11).
 
-ghost use Rattle.std.specs.Prelude.{◌≡◌, ◌≤◌, ◌+◌, ◌++◌, ℕ, List, true, length, drop, map, IfOk, IfErr, IsOkUnless, MatchOption, MatchResult, Some, string_bytes};
+ghost use Rattle.std.specs.Prelude.{◌≡◌, ◌≤◌, ◌++◌, ℕ, List, true, length, drop, map, IfOk, IfErr, IsOkUnless, MatchOption, MatchResult, Some, string_bytes};
 ghost use Rattle.bech32_gf.specs.Alphabet.{is_data};
 ghost use Rattle.bech32_gf.specs.Fe32.{elements_of, value};
 ghost use Rattle.bech32_checksum.specs.Encoded.{IsEncodedText};
 ghost use Rattle.bech32_decode.specs.Acceptance.{Accepts};
-ghost use Rattle.bech32_decode.specs.Parts.{checked_data};
 ghost use Rattle.bech32_encode.specs.Buffers.{IsPutAsFits};
 ghost use Rattle.bech32_encode.specs.TextLength.{encoded_length_of};
 ghost use Rattle.bech32_hrp.specs.HrpBytes.{hrp_bytes};
 ghost use Rattle.bech32.specs.Elements.{AreValues, Fits, GivesElementsBack, IsElementsEncodeRefusal};
-ghost use Rattle.bech32.specs.Elements.{IsElementsDecodeRefusal, IsInElements, elements_in};
-ghost use Rattle.bech32.specs.Elements.{elements_to_come, first_above};
-ghost use Rattle.bech32.specs.Spelling.{IsSpelledBy};
+ghost use Rattle.bech32.specs.Elements.{IsElementsDecodeRefusal, elements_in, elements_to_come, first_above};
+ghost use Rattle.bech32.specs.Spelling.{IsOnlyTextOf};
 
+use crate::content::{Content, content_in};
 use crate::error::{ElementsError, TextError};
 use bech32_checksum::Checksum;
-use bech32_decode::{CheckedHrpstring, CodeLengthError};
+use bech32_decode::CodeLengthError;
 use bech32_encode::put_text;
 use bech32_gf::gf32::Fe32;
 use bech32_hrp::Hrp;
@@ -129,32 +128,6 @@ pub fn put_text_of_elements<Ck: Checksum>(hrp: &Hrp, values: &[u8], buffer: &mut
     put_text::<ElementIter<'_>, Ck>(hrp, None, ElementIter::new(values), buffer)
 }
 
-// The elements before the checksum.
-fn elements_of_checked<A: Allocator>(
-    alloc: A,
-    checked: &CheckedHrpstring<'_>,
-) -> Result<Vec<u8, A>, AllocError>
-    ensures { IfOk result (λ v. v.items ≡ map value (elements_of (checked_data checked.now))) }
-{
-    let characters = checked.data_part_ascii_no_checksum();
-    let mut elements = vec![in alloc; 0u8; characters.len()]?;
-    put_elements(characters, elements.as_mut_slice());
-    Ok(elements)
-}
-
-// What a text is decoded to, or why it is not.
-fn elements_decoded_in<Ck: Checksum, A: Allocator>(
-    alloc: A,
-    s: &str,
-) -> Result<(Hrp, Vec<u8, A>), TextError>
-    ensures value { IfOk result (λ d. IsInElements Ck.code s.now (hrp_bytes d.0) d.1.items) }
-    ensures refused { IfErr result (λ e. IsElementsDecodeRefusal Ck.code s.now e) }
-{
-    let checked = CheckedHrpstring::new::<Ck>(s)?;
-    let elements = elements_of_checked(alloc, &checked)?;
-    Ok((checked.hrp(), elements))
-}
-
 /// Decodes a text that the checksum accepts, with memory from `alloc`: its human-readable part, in
 /// the case of the text, and the elements before its checksum, a byte from 0 to 31 each.
 ///
@@ -169,14 +142,13 @@ pub fn decode_elements_in<Ck: Checksum, A: Allocator>(
     alloc: A,
     s: &str,
 ) -> Result<(Hrp, Vec<u8, A>), TextError>
-    ensures value { IfOk result
-        (λ d. IsSpelledBy Ck.code s.now (hrp_bytes d.0) (elements_in d.1.items)) }
+    ensures value { IfOk result (IsOnlyTextOf (λ v. elements_in v.items) Ck.code s.now) }
     ensures values { IfOk result (λ d. AreValues d.1.items) }
     ensures accepts { Accepts Ck.code s.now → IsOkUnless result TextError.Memory }
-    ensures refused { IfErr result (λ e. IsElementsDecodeRefusal Ck.code s.now e) }
+    ensures refused { IfErr result (IsElementsDecodeRefusal Ck.code s.now) }
     ensures back { GivesElementsBack (λ v. v.items) Ck.code s.now result }
 {
-    elements_decoded_in::<Ck, A>(alloc, s)
+    content_in::<Ck, A>(alloc, s, Content::Elements)
 }
 
 /// Decodes as [`decode_elements_in`] does, with memory of the global allocator.
@@ -185,11 +157,10 @@ pub fn decode_elements_in<Ck: Checksum, A: Allocator>(
 ///
 /// Those of [`decode_elements_in`].
 pub fn decode_elements<Ck: Checksum>(alloc: Global, s: &str) -> Result<(Hrp, Vec<u8>), TextError>
-    ensures value { IfOk result
-        (λ d. IsSpelledBy Ck.code s.now (hrp_bytes d.0) (elements_in d.1.items)) }
+    ensures value { IfOk result (IsOnlyTextOf (λ v. elements_in v.items) Ck.code s.now) }
     ensures values { IfOk result (λ d. AreValues d.1.items) }
     ensures accepts { Accepts Ck.code s.now → IsOkUnless result TextError.Memory }
-    ensures refused { IfErr result (λ e. IsElementsDecodeRefusal Ck.code s.now e) }
+    ensures refused { IfErr result (IsElementsDecodeRefusal Ck.code s.now) }
     ensures back { GivesElementsBack (λ v. v.items) Ck.code s.now result }
 {
     decode_elements_in::<Ck, Global>(alloc, s)
@@ -246,8 +217,7 @@ pub fn encode_elements_in<Ck: Checksum, A: Allocator>(
         IsEncodedText Ck.code (hrp_bytes hrp) (elements_in values.now) (string_bytes s)) }
     ensures fits { IfOk result (λ _. Fits Ck.code (hrp_bytes hrp) values.now) }
     ensures values { IfOk result (λ _. AreValues values.now) }
-    ensures refused { IfErr result
-        (λ e. IsElementsEncodeRefusal Ck.code (hrp_bytes hrp) values.now e) }
+    ensures refused { IfErr result (IsElementsEncodeRefusal Ck.code (hrp_bytes hrp) values.now) }
 {
     let size = length_of_values::<Ck>(&hrp, values)?;
     let text = text_of_length_in::<Ck, A>(alloc, hrp, values, size)?;
@@ -268,8 +238,7 @@ pub fn encode_elements<Ck: Checksum>(
         IsEncodedText Ck.code (hrp_bytes hrp) (elements_in values.now) (string_bytes s)) }
     ensures fits { IfOk result (λ _. Fits Ck.code (hrp_bytes hrp) values.now) }
     ensures values { IfOk result (λ _. AreValues values.now) }
-    ensures refused { IfErr result
-        (λ e. IsElementsEncodeRefusal Ck.code (hrp_bytes hrp) values.now e) }
+    ensures refused { IfErr result (IsElementsEncodeRefusal Ck.code (hrp_bytes hrp) values.now) }
 {
     encode_elements_in::<Ck, Global>(alloc, hrp, values)
 }

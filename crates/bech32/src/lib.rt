@@ -16,6 +16,7 @@ ghost use Rattle.bech32_encode.specs.TextLength.{encoded_length_of};
 ghost use Rattle.bech32.specs.Refusals.{IsDecodeRefusal, IsEncodeRefusal};
 ghost use Rattle.bech32.specs.WayBack.{GivesBack};
 
+mod content;
 pub mod elements;
 mod error;
 pub mod hrp;
@@ -40,29 +41,18 @@ pub use bech32_near::{NearTexts, nearest, nearest_in, nearest_listings};
 pub use bech32_near_edits::{Change, Edit, EditsError, NearEdit, near_edits, near_edits_in};
 pub use bech32_near_search::Listings;
 pub use bech32_segwit as segwit;
+use content::{Content, items_in};
 pub use elements::{
     decode_elements, decode_elements_in, elements_length, encode_elements, encode_elements_in,
 };
 pub use error::{DecodeError, ElementsError, EncodeError, EncodeIoError, TextError};
 pub use long::{LongBech32, LongBech32m};
-use std::alloc::{AllocError, Allocator, Global};
+use std::alloc::{Allocator, Global};
 pub use strict::{decode_strict, decode_strict_in};
 pub use writers::{
     encode_into_bytes, encode_into_fmt, encode_lower_to_fmt, encode_lower_to_writer, encode_to_fmt,
     encode_to_writer, encode_upper_to_fmt, encode_upper_to_writer,
 };
-
-// The bytes of the data.
-fn bytes_in<A: Allocator>(
-    alloc: A,
-    checked: &CheckedHrpstring<'_>,
-) -> Result<Vec<u8, A>, AllocError>
-    ensures { IfOk result (λ v. v.items ≡ checked_bytes checked.now) }
-{
-    let mut bytes = vec![in alloc; 0u8; checked.byte_iter().len()]?;
-    checked.put_bytes(bytes.as_mut_slice());
-    Ok(bytes)
-}
 
 // A text without its checksum, where Bech32m or Bech32 accepts it.
 fn checked(s: &str) -> Result<CheckedHrpstring<'_>, DecodeError>
@@ -81,7 +71,7 @@ fn decoded_in<A: Allocator>(alloc: A, s: &str) -> Result<(Hrp, Vec<u8, A>), Deco
     ensures refused { IfErr result (λ e. IsDecodeRefusal s.now e) }
 {
     let checked = checked(s)?;
-    let bytes = bytes_in(alloc, &checked)?;
+    let bytes = items_in(alloc, &checked, Content::Bytes)?;
     Ok((checked.hrp(), bytes))
 }
 
@@ -181,8 +171,7 @@ pub fn encode_in<Ck: Checksum, A: Allocator>(
         (λ s. IsEncodedText Ck.code (hrp_bytes hrp) (to_fes «data».now) (string_bytes s)) }
     ensures fits { IsOk result
         → encoded_length_of Ck.code (hrp_bytes hrp) (to_fes «data».now) ≤ Ck.code.code_length }
-    ensures refused { IfErr result
-        (λ e. IsEncodeRefusal Ck.code (hrp_bytes hrp) (to_fes «data».now) e) }
+    ensures refused { IfErr result (IsEncodeRefusal Ck.code (hrp_bytes hrp) (to_fes «data».now)) }
 {
     let size = encoded_length::<Ck>(hrp, data)?;
     let text = text_of_size_in::<Ck, A>(alloc, hrp, None, data, size)?;
@@ -199,8 +188,7 @@ pub fn encode<Ck: Checksum>(alloc: Global, hrp: Hrp, data: &[u8]) -> Result<Stri
         (λ s. IsEncodedText Ck.code (hrp_bytes hrp) (to_fes «data».now) (string_bytes s)) }
     ensures fits { IsOk result
         → encoded_length_of Ck.code (hrp_bytes hrp) (to_fes «data».now) ≤ Ck.code.code_length }
-    ensures refused { IfErr result
-        (λ e. IsEncodeRefusal Ck.code (hrp_bytes hrp) (to_fes «data».now) e) }
+    ensures refused { IfErr result (IsEncodeRefusal Ck.code (hrp_bytes hrp) (to_fes «data».now)) }
 {
     encode_in::<Ck, Global>(alloc, hrp, data)
 }
@@ -219,8 +207,7 @@ pub fn encode_lower_in<Ck: Checksum, A: Allocator>(
         (λ s. IsEncodedText Ck.code (hrp_bytes hrp) (to_fes «data».now) (string_bytes s)) }
     ensures fits { IsOk result
         → encoded_length_of Ck.code (hrp_bytes hrp) (to_fes «data».now) ≤ Ck.code.code_length }
-    ensures refused { IfErr result
-        (λ e. IsEncodeRefusal Ck.code (hrp_bytes hrp) (to_fes «data».now) e) }
+    ensures refused { IfErr result (IsEncodeRefusal Ck.code (hrp_bytes hrp) (to_fes «data».now)) }
 {
     encode_in::<Ck, A>(alloc, hrp, data)
 }
@@ -239,8 +226,7 @@ pub fn encode_lower<Ck: Checksum>(
         (λ s. IsEncodedText Ck.code (hrp_bytes hrp) (to_fes «data».now) (string_bytes s)) }
     ensures fits { IsOk result
         → encoded_length_of Ck.code (hrp_bytes hrp) (to_fes «data».now) ≤ Ck.code.code_length }
-    ensures refused { IfErr result
-        (λ e. IsEncodeRefusal Ck.code (hrp_bytes hrp) (to_fes «data».now) e) }
+    ensures refused { IfErr result (IsEncodeRefusal Ck.code (hrp_bytes hrp) (to_fes «data».now)) }
 {
     encode_lower_in::<Ck, Global>(alloc, hrp, data)
 }
@@ -260,8 +246,7 @@ pub fn encode_upper_in<Ck: Checksum, A: Allocator>(
         (λ s. IsTextInCase true Ck.code (hrp_bytes hrp) (to_fes «data».now) (string_bytes s)) }
     ensures fits { IsOk result
         → encoded_length_of Ck.code (hrp_bytes hrp) (to_fes «data».now) ≤ Ck.code.code_length }
-    ensures refused { IfErr result
-        (λ e. IsEncodeRefusal Ck.code (hrp_bytes hrp) (to_fes «data».now) e) }
+    ensures refused { IfErr result (IsEncodeRefusal Ck.code (hrp_bytes hrp) (to_fes «data».now)) }
 {
     let mut text = encode_in::<Ck, A>(alloc, hrp, data)?;
     text.make_ascii_uppercase();
@@ -282,8 +267,7 @@ pub fn encode_upper<Ck: Checksum>(
         (λ s. IsTextInCase true Ck.code (hrp_bytes hrp) (to_fes «data».now) (string_bytes s)) }
     ensures fits { IsOk result
         → encoded_length_of Ck.code (hrp_bytes hrp) (to_fes «data».now) ≤ Ck.code.code_length }
-    ensures refused { IfErr result
-        (λ e. IsEncodeRefusal Ck.code (hrp_bytes hrp) (to_fes «data».now) e) }
+    ensures refused { IfErr result (IsEncodeRefusal Ck.code (hrp_bytes hrp) (to_fes «data».now)) }
 {
     encode_upper_in::<Ck, Global>(alloc, hrp, data)
 }

@@ -1,6 +1,6 @@
 use Rattle.std.proofs.lemmas.Result.{err_from_is_err_and}
 use Rattle.bech32.proofs.Spellings.{refused_by_checked}
-use Rattle.bech32.proofs.strict.padded.Goals as goal
+use Rattle.bech32.proofs.content.padded.Goals as goal
 
 pub returns-in_err-checked : goal.returns-in_err-checked
 returns-in_err-checked g c =
