@@ -1,5 +1,5 @@
 -- The symbols of characters, some characters at a time.
-use Rattle.std.proofs.Common.{◌≡◌, ◌<◌, ◌≤◌, ◌+◌, ◌*◌, ℕ, suc, List, [], ◌∷◌, length, drop, get_or, map, add-one, ap, sym, ◌∙◌, refl, arith}
+use Rattle.std.proofs.Common.{◌≡◌, ◌<◌, ◌≤◌, ◌+◌, ◌*◌, ℕ, suc, List, [], ◌∷◌, ◌++◌, length, drop, get_or, map, add-one, ap, sym, ◌∙◌, refl, arith}
 use Rattle.std.proofs.Math.Seq.{drop-cons}
 use Rattle.bech32_gf.specs.Fe32.{element}
 use Rattle.bech32_gf.specs.declared.gf32.Fe32.{Fe32}
@@ -16,6 +16,18 @@ three_more q [] h = absurd (omega arith)
 three_more q (a ∷ []) h = absurd (omega arith)
 three_more q (a ∷ b ∷ []) h = absurd (omega arith)
 three_more q (a ∷ b ∷ c ∷ more) h = refl
+
+-- those of six
+pub six_more : (q : List Fe32) (rest : List ℕ) → 6 ≤ length rest
+    → appended (appended q (three (get_or rest 0 0) (get_or rest 1 0) (get_or rest 2 0) ++ three (get_or rest 3 0) (get_or rest 4 0) (get_or rest 5 0))) (symbols (drop 6 rest))
+    ≡ appended q (symbols rest)
+six_more q [] h = absurd (omega arith)
+six_more q (a ∷ []) h = absurd (omega arith)
+six_more q (a ∷ b ∷ []) h = absurd (omega arith)
+six_more q (a ∷ b ∷ c ∷ []) h = absurd (omega arith)
+six_more q (a ∷ b ∷ c ∷ d ∷ []) h = absurd (omega arith)
+six_more q (a ∷ b ∷ c ∷ d ∷ e ∷ []) h = absurd (omega arith)
+six_more q (a ∷ b ∷ c ∷ d ∷ e ∷ f ∷ more) h = refl
 
 pub two_left : (rest : List ℕ) → length rest < 3 → 2 ≤ length rest
     → symbols rest ≡ symbol (get_or rest 0 0) ∷ symbol (get_or rest 1 0) ∷ element (3 * group (get_or rest 0 0) + group (get_or rest 1 0)) ∷ []

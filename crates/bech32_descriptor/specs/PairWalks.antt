@@ -1,11 +1,13 @@
 -- What the search for two changed characters keeps.
-use Rattle.std.specs.Prelude.{◌≡◌, ◌<◌, ◌≤◌, ◌+◌, ◌-◌, ℕ, List, if◌then◌else◌, length, nat_lt}
-use Rattle.bech32_descriptor.specs.Descriptor.{polynomial_of}
+use Rattle.std.specs.Prelude.{◌≡◌, ◌<◌, ◌≤◌, ◌+◌, ◌-◌, ℕ, List, if◌then◌else◌, get_or, length}
+use Rattle.std.specs.Prelude.{nat_lt, slice_set}
+use Rattle.bech32_gf.specs.Fe32 as fe32
+use Rattle.bech32_descriptor.specs.Descriptor.{descriptor_payload, group, polynomial_of}
 use Rattle.bech32_descriptor.specs.Edits.{byte_put}
 use Rattle.bech32_descriptor.specs.Marks.{IsMarked}
 use Rattle.bech32_descriptor.specs.Pairs.{IsMendByTwo}
 use Rattle.bech32_descriptor.specs.Walks.{AreRows, IsMendOfKind, behind_group, behind_symbol}
-use Rattle.bech32_descriptor.specs.Walks.{change_in, rows_for}
+use Rattle.bech32_descriptor.specs.Walks.{change_in, first_at, group_from, rows_for, word_in}
 use Rattle.bech32_descriptor.specs.Words.{IsWordOfSymbols}
 use Rattle.bech32_descriptor.specs.declared.edits.Edit.{Edit}
 use Rattle.bech32_descriptor.specs.declared.edits.TwoEdits.{TwoEdits}
@@ -25,6 +27,14 @@ symbol_power n i = if nat_lt (i + 9) n then 8 + behind_symbol (n - 9) i else n -
 
 abbrev pub group_power : ℕ → ℕ → ℕ
 group_power n i = if nat_lt (i + 9) n then 8 + behind_group (n - 9) i else n - 1 - i
+
+-- what the number of the groups adds with each byte at a place before the mark, by its group
+abbrev pub AreBases : List ℕ → List ℕ → ℕ → List ℕ → Type 0
+AreBases rows text i bases = (b : ℕ) → i + 9 < length text
+    → get_or bases (group b) 0 ≡ word_in rows (8 + behind_group (length text - 9) i)
+    (fe32.add
+    (fe32.element (group_from (slice_set (descriptor_payload text) i b) (first_at i)))
+    (fe32.element (group_from (descriptor_payload text) (first_at i))))
 
 -- what any byte at the place of any text of this length adds is marked
 abbrev pub MarksChanges : List ℕ → List ℕ → ℕ → ℕ → Type 0

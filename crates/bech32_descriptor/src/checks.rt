@@ -1,6 +1,7 @@
 //! The checksum of a descriptor, computed and tested.
 
-ghost use Rattle.std.specs.Prelude.{◌≡◌, ◌<◌, ◌≤◌, ◌↔◌, Some, length, map, position, reverse, IsOk, IsTrue, MatchOption, MatchResult};
+ghost use Rattle.std.specs.List.{list_all};
+ghost use Rattle.std.specs.Prelude.{◌≡◌, ◌<◌, ◌≤◌, ◌↔◌, Some, length, map, not, position, reverse, IsOk, IsTrue, MatchOption, MatchResult};
 ghost use Rattle.bech32_gf.specs.Alphabet.{char_of};
 ghost use Rattle.bech32_gf.specs.Fe32.{value};
 ghost use Rattle.bech32_checksum.specs.Packed.{digit_of, digits};
@@ -13,10 +14,33 @@ use crate::residue::{input_characters, is_target, residue_of};
 use bech32_checksum::{Engine, PackedFe32};
 use bech32_gf::gf32::Fe32;
 
+// Whether a byte is a character of a descriptor: those are the printed ones of ASCII.
+#[inline]
+fn is_character(byte: u8) -> bool
+    ensures { result ≡ not (is_stranger byte) }
+{
+    (32 <= byte) & (byte < 127)
+}
+
+// Whether all bytes are characters of a descriptor. It reads all of them, whatever they are, so
+// that many are compared at once.
+fn are_characters(bytes: &[u8]) -> bool
+    ensures { result ≡ list_all (λ b. not (is_stranger b)) bytes.now }
+{
+    let mut all = true;
+    for b in bytes {
+        all = all & is_character(*b);
+    }
+    all
+}
+
 // The first byte that is no character of a descriptor.
 fn first_stranger(payload: &[u8]) -> Option<usize>
     ensures { result ≡ position is_stranger payload.now }
 {
+    if are_characters(payload) {
+        return None;
+    }
     payload.iter().position(|b| 94 < place(*b))
 }
 

@@ -7,6 +7,7 @@ ghost use Rattle.bech32_checksum.specs.Roots.{HasLawfulRoots};
 ghost use Rattle.bech32_descriptor.specs.Code.{descriptor};
 ghost use Rattle.bech32_descriptor.specs.laws.CodeLaws.{descriptor_is_packed, descriptor_keeps, words};
 
+use crate::steps::{after_word_by_tables, product_with};
 use bech32_checksum::Checksum;
 use bech32_gf::gf32::Fe32;
 use bech32_gf_ext::{Fe32Ext, Fe32768};
@@ -63,6 +64,16 @@ impl Checksum for Descriptor {
     ];
 
     const TARGET_RESIDUE: u64 = 1;
+
+    #[inline]
+    fn generator_times(element: Fe32) -> u64 {
+        product_with(element)
+    }
+
+    #[inline]
+    fn after_word(residue: u64, word: u64) -> u64 {
+        after_word_by_tables(residue, word)
+    }
 
     ghost packing_laws = { descriptor_keeps };
 

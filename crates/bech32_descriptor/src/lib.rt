@@ -15,10 +15,13 @@ mod error;
 mod marks;
 mod mends;
 mod pairs;
+mod parts;
 mod places;
+mod powers;
 mod residue;
 mod rows;
 mod scratch;
+mod steps;
 mod walks;
 
 pub use self::checks::{check, checksum};

@@ -3,7 +3,7 @@
 ghost use Rattle.std.specs.Prelude.{◌≡◌, ◌<◌, ◌≤◌, ◌+◌, ◌*◌, ℕ, List, get_or, length, slice_set};
 ghost use Rattle.bech32_gf.specs.declared.gf32.Fe32.{Fe32 as Element};
 ghost use Rattle.bech32_descriptor.specs.Marks.{KeepsMarks};
-ghost use Rattle.bech32_descriptor.specs.PairWalks.{MarksChanges, group_power, symbol_power};
+ghost use Rattle.bech32_descriptor.specs.PairWalks.{AreBases, MarksChanges, group_power, symbol_power};
 ghost use Rattle.bech32_descriptor.specs.Walks.{change_in, group_from, payload_change, rows_for, word_in};
 
 use crate::alphabet::{checksum_place, place};
@@ -112,6 +112,52 @@ fn powers_at(n: usize, i: usize) -> (usize, usize)
     let left = n - 9 - end;
     let behind_group = 8 + left + (left + 2) / 3;
     (behind_group + (end - i), behind_group)
+}
+
+// What the number of the groups adds with a byte of each group at a place before the mark.
+pub(crate) fn bases_of(rows: &[u64], text: &[u8], i: usize) -> [u64; 3]
+    requires long { 9 ≤ length text.now }
+    requires few { length text.now ≤ 7501 }
+    requires within { i < length text.now }
+    requires enough { rows_for (length text.now) ≤ length rows.now }
+    ensures { AreBases rows.now text.now i result }
+{
+    let n = text.len();
+    if n <= i + 9 {
+        return [0; 3];
+    }
+    let payload = &text[..n - 9];
+    let start = 3 * (i / 3);
+    let (_, power) = powers_at(n, i);
+    let old = Fe32::from_low_bits(group_with(payload, i, payload[i], start));
+    let zero = Fe32::from_low_bits(group_with(payload, i, b'0', start));
+    let one = Fe32::from_low_bits(group_with(payload, i, b'I', start));
+    let two = Fe32::from_low_bits(group_with(payload, i, b'i', start));
+    [
+        word_at(rows, power, zero + old),
+        word_at(rows, power, one + old),
+        word_at(rows, power, two + old),
+    ]
+}
+
+// What another byte at a place adds to the remainder of a text, by the bases of the place.
+#[inline]
+pub(crate) fn change_by(rows: &[u64], text: &[u8], bases: &[u64; 3], i: usize, b: u8) -> u64
+    requires long { 9 ≤ length text.now }
+    requires few { length text.now ≤ 7501 }
+    requires within { i < length text.now }
+    requires enough { rows_for (length text.now) ≤ length rows.now }
+    requires bases { AreBases rows.now text.now i bases.now }
+    ensures { result ≡ change_in rows.now text.now i b }
+{
+    let n = text.len();
+    if n <= i + 9 {
+        return change_of(rows, text, i, b);
+    }
+    let (power, _) = powers_at(n, i);
+    let new = place(b);
+    let symbols = Fe32::from_low_bits(new) + Fe32::from_low_bits(place(text[i]));
+    word_at(rows, power, symbols) ^ bases[(new / 32) as usize]
 }
 
 // Puts what any byte at a place of any text of a length adds into a set.

@@ -3,13 +3,14 @@
 ghost use Rattle.std.specs.Prelude.{◌≡◌, ◌<◌, ◌≤◌, ◌+◌, ◌-◌, ◌*◌, ◌++◌, ◌∷◌, ◌↔◌, ℕ, List, drop, length, option_to_list, take, IfOk, IsTrue};
 ghost use Rattle.bech32_descriptor.specs.Descriptor.{polynomial_of};
 ghost use Rattle.bech32_descriptor.specs.Edits.{AreAllMends, IsAt};
-ghost use Rattle.bech32_descriptor.specs.PairWalks.{IsMendBelow};
+ghost use Rattle.bech32_descriptor.specs.PairWalks.{AreBases, IsMendBelow};
 ghost use Rattle.bech32_descriptor.specs.Walks.{AreRows, IsMendAt, IsMendBy, IsMendOfKind, rows_for};
 ghost use Rattle.bech32_descriptor.specs.Words.{IsWordOfSymbols};
 ghost use Rattle.bech32_descriptor.specs.declared.edits.Edit.{Edit as AnEdit};
 
 use crate::edits::{Change, Edit};
-use crate::residue::residue_of;
+use crate::places::{bases_of, change_by};
+use crate::residue::{is_target, residue_of};
 use crate::scratch::{is_right, is_right_with, set_byte};
 use std::alloc::{AllocError, Allocator};
 
@@ -26,18 +27,29 @@ fn push_some<A: Allocator>(found: &mut Vec<Edit, A>, edit: Option<Edit>) -> Resu
 
 // The change of the character at a place to another, if it makes a descriptor.
 #[inline]
-fn changed_at(rows: &[u64], text: &mut [u8], word: u64, place: usize, byte: u8) -> Option<Edit>
+fn changed_at(
+    rows: &[u64],
+    text: &mut [u8],
+    bases: &[u64; 3],
+    word: u64,
+    place: usize,
+    byte: u8,
+) -> Option<Edit>
     requires long { 9 ≤ length text.old }
     requires few { length text.old ≤ 7501 }
     requires within { place < length text.old }
     requires printed { (32 ≤ byte) × (byte < 127) }
     requires enough { rows_for (length text.old) ≤ length rows.now }
     requires rows { AreRows rows.now }
+    requires bases { AreBases rows.now text.old place bases.now }
     requires word { IsWordOfSymbols word (polynomial_of text.old) }
     ensures text { text.new ≡ text.old }
     ensures all { AreAllMends (IsMendBy 0 text.old place byte) (option_to_list result) }
 {
     if text[place] == byte {
+        return None;
+    }
+    if !is_target(word ^ change_by(rows, text, bases, place, byte)) {
         return None;
     }
     if !is_right_with(rows, text, word, place, byte) {
@@ -67,8 +79,9 @@ fn push_changed_at<A: Allocator>(
         × (edits : List AnEdit) × (found.new.items ≡ found.old.items ++ edits)
         × AreAllMends (IsMendAt 0 text.old place) edits) }
 {
+    let bases = bases_of(rows, text, place);
     for byte in 32..127 {
-        let edit = changed_at(rows, text, word, place, byte);
+        let edit = changed_at(rows, text, &bases, word, place, byte);
         push_some(found, edit)?;
     }
     Ok(())
@@ -239,6 +252,7 @@ fn put_in_at(
     rows: &[u64],
     text: &[u8],
     new: &mut [u8],
+    bases: &[u64; 3],
     word: u64,
     place: usize,
     byte: u8,
@@ -250,11 +264,15 @@ fn put_in_at(
     requires enough { rows_for (length new.old) ≤ length rows.now }
     requires rows { AreRows rows.now }
     requires new { (b : ℕ) × (new.old ≡ take place text.now ++ b ∷ drop place text.now) }
+    requires bases { AreBases rows.now new.old place bases.now }
     requires word { IsWordOfSymbols word (polynomial_of new.old) }
     ensures new { new.new ≡ new.old }
     ensures all { AreAllMends (IsMendBy 3 text.now place byte) (option_to_list result) }
 {
     if is_at(text, place, byte) {
+        return None;
+    }
+    if !is_target(word ^ change_by(rows, new, bases, place, byte)) {
         return None;
     }
     if !is_right_with(rows, new, word, place, byte) {
@@ -286,8 +304,9 @@ fn push_put_in_at<A: Allocator>(
         × (edits : List AnEdit) × (found.new.items ≡ found.old.items ++ edits)
         × AreAllMends (IsMendAt 3 text.now place) edits) }
 {
+    let bases = bases_of(rows, new, place);
     for byte in 32..127 {
-        let edit = put_in_at(rows, text, new, word, place, byte);
+        let edit = put_in_at(rows, text, new, &bases, word, place, byte);
         push_some(found, edit)?;
     }
     Ok(())

@@ -2,6 +2,7 @@ use Rattle.std.specs.Prelude.{option_to_list}
 use Rattle.std.proofs.Common.{◌<◌, ◌≤◌, ℕ, List, length, refl, sym, subst, ◌∙◌, arith}
 use Rattle.bech32_descriptor.specs.Descriptor.{polynomial_of}
 use Rattle.bech32_descriptor.specs.Edits.{AreAllMends, IsMendBefore, byte_put}
+use Rattle.bech32_descriptor.specs.PairWalks.{AreBases}
 use Rattle.bech32_descriptor.specs.Walks.{IsMendAt, IsMendBy, rows_for}
 use Rattle.bech32_descriptor.specs.Words.{IsWordOfSymbols}
 use Rattle.bech32_descriptor.proofs.Listings.{found_all, found_more, found_start}
@@ -25,6 +26,7 @@ changed_at-edit-requires g c =
       printed = (omega arith, omega arith);
       enough = subst (λ (t : List ℕ). rows_for (length t) ≤ length c.args.rows.now) same c.requires.enough;
       rows = c.requires.rows;
+      bases = subst (λ (t : List ℕ). AreBases c.args.rows.now t c.args.place c.bases_of-bases.result) same c.bases_of-bases.ensures;
       word = subst (λ (t : List ℕ). IsWordOfSymbols c.args.word (polynomial_of t)) same c.requires.word;
     }
 
