@@ -4,6 +4,7 @@ ghost use Rattle.std.specs.Prelude.{◌≡◌, ◌≢◌, length};
 ghost use Rattle.codex32_calls.specs.Derive.{CanDerive, IsDeriveFault, PutsDerived};
 ghost use Rattle.codex32_calls.specs.Faults.{IsNumberOfCodex32};
 
+use codex32_calls::Texts;
 use codex32_calls::derive::put_derived;
 
 /// Puts the string at an index that others of its set give at the front of `text`, as
@@ -34,7 +35,11 @@ pub extern "C" fn codex32_derive(
         (IsDeriveFault share_index texts.now lengths.now (length text.old)) result }
     ensures same { result ≢ 0 → (text.new ≡ text.old) × (text_length.new ≡ text_length.old) }
 {
-    match put_derived(share_index, texts, lengths, text) {
+    let texts = Texts {
+        characters: texts,
+        lengths,
+    };
+    match put_derived(share_index, texts, text) {
         Ok(count) => {
             *text_length = count;
             0

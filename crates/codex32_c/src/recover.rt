@@ -4,6 +4,7 @@ ghost use Rattle.std.specs.Prelude.{◌≡◌, ◌≢◌, length};
 ghost use Rattle.codex32_calls.specs.Faults.{IsNumberOfCodex32};
 ghost use Rattle.codex32_calls.specs.Recover.{CanRecover, IsRecoverFault, PutsRecovered};
 
+use codex32_calls::Texts;
 use codex32_calls::recover::put_recovered;
 
 /// Puts the bytes of the secret that shares give at the front of `bytes`: those of the string that
@@ -32,7 +33,11 @@ pub extern "C" fn codex32_recover(
     ensures same { result ≢ 0
         → (bytes.new ≡ bytes.old) × (bytes_length.new ≡ bytes_length.old) }
 {
-    match put_recovered(texts, lengths, bytes) {
+    let texts = Texts {
+        characters: texts,
+        lengths,
+    };
+    match put_recovered(texts, bytes) {
         Ok(count) => {
             *bytes_length = count;
             0

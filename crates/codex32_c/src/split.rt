@@ -39,7 +39,7 @@ pub extern "C" fn codex32_split(
     ensures same { result ≢ 0
         → (texts.new ≡ texts.old) × (text_length.new ≡ text_length.old) }
 {
-    match put_split(threshold, identifier, secret, random, count, texts) {
+    match put_split(texts, threshold, identifier, secret, count, random) {
         Ok(length) => {
             *text_length = length;
             0

@@ -1,10 +1,11 @@
 mod Accepted
 mod Inputs
 mod Letters
+mod Made
 mod Payloads
 mod Proposals
 mod Recovered
 mod SameShares
 mod Sizes
 mod Splits
-mod Texts
+mod TextsInTurn

@@ -28,7 +28,7 @@ use Rattle.codex32_calls.specs.declared.refusal.Refusal.{Refusal}
 use Rattle.codex32_calls.specs.declared.refusal.Refusal.TheVariants as refusals
 use Rattle.codex32_calls.proofs.Accepted.{no_either_fault}
 use Rattle.codex32_calls.proofs.SameShares.{length-same, no_derive_fault, same_shares, size-same}
-use Rattle.codex32_calls.proofs.Texts.{never}
+use Rattle.codex32_calls.proofs.TextsInTurn.{never}
 
 -- ---- how long a payload is
 

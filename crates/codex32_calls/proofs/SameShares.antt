@@ -21,7 +21,7 @@ use Rattle.codex32_calls.specs.Derive.{CanDerive, IsDeriveFault, IsTextsFault, L
 use Rattle.codex32_calls.specs.declared.refusal.Refusal.{Refusal}
 use Rattle.codex32_calls.specs.declared.refusal.Refusal.TheVariants as refusals
 use Rattle.codex32_calls.proofs.Accepted.{no_either_fault}
-use Rattle.codex32_calls.proofs.Texts.{either-from_share}
+use Rattle.codex32_calls.proofs.TextsInTurn.{either-from_share}
 
 -- two shares have the same parts
 pub record IsSame (s r : Share) : Type 0 where

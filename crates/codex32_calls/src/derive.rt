@@ -1,23 +1,23 @@
 //! Derives codex32 strings from others of their set.
 
-ghost use Rattle.std.specs.Prelude.{◌≡◌, ◌≤◌, ◌==◌, ℕ, length, take, true, IfErr, IfOk, IsOk, MatchResult, OnErr};
+ghost use Rattle.std.specs.Prelude.{◌≡◌, ◌≤◌, ◌==◌, ℕ, length, take, true, false, IfErr, IfOk, IsOk, MatchResult, OnErr};
 ghost use Rattle.std.specs.List.{sum};
 ghost use Rattle.codex32.specs.Share.{AreSharesOf};
 ghost use Rattle.codex32_calls.specs.Derive.{CanDerive, IsAsked, IsDeriveFault, IsDerivedOf, IsTextsFault, PutsDerived, are_lengths, texts_of};
 
-use crate::input::{share_index_of, share_of};
+use crate::input::{Texts, share_index_of, share_of};
+use crate::output::put_made;
 use crate::refusal::Refusal;
-use bech32_encode::put_at_front;
 use codex32::{DeriveError, Share, derive_into};
 
 // The most characters that a string has.
 pub(crate) const LONGEST: usize = 127;
 
 // The most strings of a set.
-pub(crate) const MOST: usize = 32;
+const MOST: usize = 32;
 
 // Whether lengths add up to this.
-pub(crate) fn do_add_up(lengths: &[usize], total: usize) -> bool
+fn do_add_up(lengths: &[usize], total: usize) -> bool
     ensures { result ≡ (sum lengths.now == total) }
 {
     let mut left = total;
@@ -48,8 +48,20 @@ fn put_shares<'t>(room: &mut [Share<'t>], texts: &'t [u8], lengths: &[usize]) ->
     Ok(())
 }
 
-// Puts the string at an index that texts give, and returns its length.
-pub(crate) fn put_string(
+// Tests that lengths are those of at most 32 texts.
+fn validate_lengths(texts: &[u8], lengths: &[usize]) -> Result<(), Refusal>
+    ensures { MatchResult result
+        (λ _. are_lengths texts.now lengths.now ≡ true)
+        (λ e. (e ≡ Refusal.BadLengths) × (are_lengths texts.now lengths.now ≡ false)) }
+{
+    if lengths.len() > MOST || !do_add_up(lengths, texts.len()) {
+        return Err(Refusal::BadLengths);
+    }
+    Ok(())
+}
+
+// Puts the string at an index that tested texts give, and returns its length.
+fn put_string_of(
     room: &mut [u8],
     share_index: u32,
     texts: &[u8],
@@ -74,28 +86,39 @@ pub(crate) fn put_string(
     Ok(derive_into(room, &shares[..lengths.len()], index)?)
 }
 
-/// Puts the string at an index that texts give at the front of a buffer, and returns its length.
-pub fn put_derived(
+// Puts the string at an index that texts give, and returns its length.
+pub(crate) fn put_string(
+    room: &mut [u8],
     share_index: u32,
-    texts: &[u8],
-    lengths: &[usize],
-    text: &mut [u8],
+    texts: Texts<'_>,
 ) -> Result<usize, Refusal>
+    requires { 127 ≤ length room.old }
+    ensures value { IfOk result (λ n.
+        IsAsked share_index texts.entry.characters.now texts.entry.lengths.now
+        × IsDerivedOf share_index (texts_of texts.entry.characters.now texts.entry.lengths.now)
+        (take n room.new)
+        × (n ≡ length (take n room.new)) × (n ≤ length room.new)) }
+    ensures refused { IfErr result (λ e. (left : ℕ)
+        → IsDeriveFault share_index texts.entry.characters.now texts.entry.lengths.now left e) }
+    ensures size { length room.new ≡ length room.old }
+{
+    validate_lengths(texts.characters, texts.lengths)?;
+    put_string_of(room, share_index, texts.characters, texts.lengths)
+}
+
+/// Puts the string at an index that texts give at the front of a buffer, and returns its length.
+pub fn put_derived(share_index: u32, texts: Texts<'_>, text: &mut [u8]) -> Result<usize, Refusal>
     ensures value { IfOk result
-        (PutsDerived share_index texts.now lengths.now text.old text.new) }
-    ensures accepts { CanDerive share_index texts.now lengths.now (length text.old) → IsOk result }
+        (PutsDerived share_index texts.entry.characters.now texts.entry.lengths.now
+        text.old text.new) }
+    ensures accepts { CanDerive share_index texts.entry.characters.now texts.entry.lengths.now
+        (length text.old) → IsOk result }
     ensures refused { IfErr result
-        (IsDeriveFault share_index texts.now lengths.now (length text.old)) }
+        (IsDeriveFault share_index texts.entry.characters.now texts.entry.lengths.now
+        (length text.old)) }
     ensures same { OnErr result (text.new ≡ text.old) }
 {
-    if lengths.len() > MOST || !do_add_up(lengths, texts.len()) {
-        return Err(Refusal::BadLengths);
-    }
     let mut room = [0u8; LONGEST];
-    let count = put_string(&mut room, share_index, texts, lengths)?;
-    if count > text.len() {
-        return Err(Refusal::NoRoom);
-    }
-    put_at_front(text, &room[..count]);
-    Ok(count)
+    let count = put_string(&mut room, share_index, texts)?;
+    put_made(text, &room[..count])
 }

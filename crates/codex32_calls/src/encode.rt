@@ -9,9 +9,9 @@ ghost use Rattle.codex32_calls.specs.Encode.{CanEncode, IsEncodeStringFault, Put
 ghost use Rattle.codex32_calls.specs.Payload.{CanEncodePayload, IsEncodePayloadFault, PutsEncodedPayload};
 
 use crate::input::{header_of, validate_payload};
+use crate::output::put_made;
 use crate::refusal::Refusal;
 use bech32::Fe32;
-use bech32_encode::put_at_front;
 use codex32::{EncodeError, Header, encode_into, encode_payload_into};
 use codex32_steady::put_elements;
 
@@ -40,11 +40,7 @@ pub fn put_encoded(
     let header = header_of(threshold, identifier, share_index)?;
     let mut room = [0u8; LONGEST];
     let count = encode_into(&mut room, &header, bytes)?;
-    if count > text.len() {
-        return Err(Refusal::NoRoom);
-    }
-    put_at_front(text, &room[..count]);
-    Ok(count)
+    put_made(text, &room[..count])
 }
 
 // Puts the string of a header and the characters of a payload at the front of a buffer, and returns
@@ -91,9 +87,5 @@ pub fn put_encoded_payload(
     validate_payload(payload)?;
     let mut room = [0u8; LONGEST];
     let count = put_payload(&mut room, &header, payload)?;
-    if count > text.len() {
-        return Err(Refusal::NoRoom);
-    }
-    put_at_front(text, &room[..count]);
-    Ok(count)
+    put_made(text, &room[..count])
 }

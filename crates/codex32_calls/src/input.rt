@@ -14,16 +14,22 @@ use bech32::Fe32;
 use codex32::{Header, HeaderError, Identifier, Share, Threshold};
 use codex32_steady::{are_of_alphabet, has_both_cases};
 
+/// Texts, one behind another.
+#[derive(Clone, Copy)]
+pub struct Texts<'t> {
+    /// Their characters.
+    pub characters: &'t [u8],
+    /// How many each of them has.
+    pub lengths: &'t [usize],
+}
+
 /// The text of bytes.
 pub fn text_of(bytes: &[u8]) -> Result<&str, Refusal>
     ensures { MatchResult result
         (λ text. (text.now ≡ bytes.now) × IsUtf8 bytes.now)
         (λ e. (e ≡ Refusal.NotUtf8) × ¬ (IsUtf8 bytes.now)) }
 {
-    match str::from_utf8(bytes) {
-        Ok(text) => Ok(text),
-        Err(_) => Err(Refusal::NotUtf8),
-    }
+    str::from_utf8(bytes).map_err(|_| Refusal::NotUtf8)
 }
 
 /// The string of either length of bytes.

@@ -12,9 +12,12 @@
 pub mod derive;
 pub mod encode;
 mod input;
+mod output;
 pub mod parse;
 pub mod propose;
 pub mod recover;
 pub mod refusal;
 pub mod share;
 pub mod split;
+
+pub use self::input::Texts;

@@ -7,9 +7,9 @@ ghost use Rattle.codex32_calls.specs.Nearest.{IsNearest, IsNearestStringRefusal,
 ghost use Rattle.codex32_calls.specs.Propose.{CanPropose, IsProposeFault, PutsNearest};
 
 use crate::input::text_of;
+use crate::output::put_made;
 use crate::refusal::Refusal;
 use arrayvec::ArrayString;
-use bech32_encode::put_at_front;
 use caller_memory::{Lent, Memory};
 use codex32::{Codex32Error, propose_in, propose_long_in, validate_damaged, validate_damaged_long};
 use std::alloc::Allocator;
@@ -141,9 +141,5 @@ pub fn nearest_of(
     let text = text_of(bytes)?;
     validate(kind, text)?;
     let nearest = nearest_with(memory, kind, text)?;
-    if nearest.len() > proposed.len() {
-        return Err(Refusal::NoRoom);
-    }
-    put_at_front(proposed, nearest.as_str().as_bytes());
-    Ok(nearest.len())
+    put_made(proposed, nearest.as_str().as_bytes())
 }

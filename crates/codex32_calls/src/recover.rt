@@ -6,7 +6,8 @@ ghost use Rattle.codex32.specs.declared.header.Header.{Header as Head};
 ghost use Rattle.codex32_calls.specs.Recover.{CanRecover, IsRecoverFault, PutsRecovered};
 ghost use Rattle.codex32_calls.specs.Share.{CanReadShare, IsShareFault, PutsPayload};
 
-use crate::derive::{LONGEST, MOST, do_add_up, put_string};
+use crate::derive::{LONGEST, put_string};
+use crate::input::Texts;
 use crate::refusal::Refusal;
 use codex32::Share;
 
@@ -33,16 +34,16 @@ fn put_bytes_of(string: &[u8], bytes: &mut [u8]) -> Result<usize, Refusal>
 
 /// Puts the bytes of the secret that texts give at the front of a buffer, and returns how many they
 /// are.
-pub fn put_recovered(texts: &[u8], lengths: &[usize], bytes: &mut [u8]) -> Result<usize, Refusal>
-    ensures value { IfOk result (PutsRecovered texts.now lengths.now bytes.old bytes.new) }
-    ensures accepts { CanRecover texts.now lengths.now (length bytes.old) → IsOk result }
-    ensures refused { IfErr result (IsRecoverFault texts.now lengths.now (length bytes.old)) }
+pub fn put_recovered(texts: Texts<'_>, bytes: &mut [u8]) -> Result<usize, Refusal>
+    ensures value { IfOk result
+        (PutsRecovered texts.entry.characters.now texts.entry.lengths.now bytes.old bytes.new) }
+    ensures accepts { CanRecover texts.entry.characters.now texts.entry.lengths.now
+        (length bytes.old) → IsOk result }
+    ensures refused { IfErr result
+        (IsRecoverFault texts.entry.characters.now texts.entry.lengths.now (length bytes.old)) }
     ensures same { OnErr result (bytes.new ≡ bytes.old) }
 {
-    if lengths.len() > MOST || !do_add_up(lengths, texts.len()) {
-        return Err(Refusal::BadLengths);
-    }
     let mut room = [0u8; LONGEST];
-    let count = put_string(&mut room, u32::from(b's'), texts, lengths)?;
+    let count = put_string(&mut room, u32::from(b's'), texts)?;
     put_bytes_of(&room[..count], bytes)
 }

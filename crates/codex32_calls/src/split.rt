@@ -7,15 +7,15 @@ use crate::input::{identifier_of, threshold_of};
 use crate::refusal::Refusal;
 use codex32::split_into;
 
-/// Puts shares of a secret at the front of a buffer, one behind another, and returns the length of
-/// each.
+/// Puts shares of a secret at the front of a buffer, one behind another, as [`split_into`] does,
+/// and returns the length of each.
 pub fn put_split(
+    texts: &mut [u8],
     threshold: u32,
     identifier: &[u8],
     secret: &[u8],
-    random: &[u8],
     count: usize,
-    texts: &mut [u8],
+    random: &[u8],
 ) -> Result<usize, Refusal>
     ensures value { IfOk result
         (PutsSplit threshold identifier.now secret.now random.now count texts.old texts.new) }

@@ -7,7 +7,7 @@ use Rattle.codex32.specs.Share.{AreSharesOf, IsShareOf}
 use Rattle.codex32.specs.declared.share.Share.{Share}
 use Rattle.codex32_calls.specs.Derive.{texts_of}
 use Rattle.codex32_calls.specs.Share.{IsEitherFault}
-use Rattle.codex32_calls.proofs.Texts.{fault-at, front_at, length-texts, shares-more, sum-cons, tail_at, texts-next}
+use Rattle.codex32_calls.proofs.TextsInTurn.{fault-at, front_at, length-texts, shares-more, sum-cons, tail_at, texts-next}
 use Rattle.codex32_calls.proofs.derive.put_shares.Goals as goal
 
 pub returns-in_err-room-clause-outcome : goal.returns-in_err-room-clause-outcome
