@@ -6,6 +6,7 @@ ghost use Rattle.bech32_descriptor.specs.Descriptor.{IsCheckRefusal, IsDescripto
 ghost use Rattle.bech32_descriptor.specs.declared.error.CheckError.{CheckError as ACheckError};
 ghost use Rattle.descriptor_calls.specs.Checks.{IsPutFault, PutsChecksum, number_of_check, number_of_put};
 ghost use Rattle.descriptor_calls.specs.Mends.{IsMendFault, PutsFirstMends, PutsMends, number_of_mend};
+ghost use Rattle.descriptor_calls.specs.TwoMends.{IsTwoMendFault, PutsFirstTwoMends, PutsTwoMends};
 ghost use Rattle.descriptor_calls.specs.declared.checks.PutError.{PutError as APutError};
 ghost use Rattle.descriptor_calls.specs.declared.mends.MendRefusal.{MendRefusal as AMendRefusal};
 
@@ -13,6 +14,7 @@ use bech32_descriptor::{CheckError, check};
 use caller_memory::Memory;
 use descriptor_calls::checks::{PutError, check_number, put_checksum};
 use descriptor_calls::mends::put_mends;
+use descriptor_calls::two_mends::put_two_mends;
 
 /// Computes the checksum of a descriptor (BIP-380), which is given without `#` and checksum. Its
 /// eight characters are put at the front of `checksum`, and `checksum_length` is then 8.
@@ -123,6 +125,54 @@ pub extern "C" fn bech32_descriptor_mend(
         ⊎ ((result ≡ 91) × IsKept memory.old memory.new) }
 {
     match put_mends(memory, text, changed, kinds, places, texts) {
+        Ok(listed) => {
+            *count = listed.count;
+            if listed.fit {
+                return 0;
+            }
+            92
+        }
+        Err(refusal) => refusal.number(),
+    }
+}
+
+/// Lists the descriptors that come from this text by two of its characters changed. Of each two
+/// places are put at the front of `places`, and the text, one behind another, at the front of
+/// `texts`; `count` is their number, which may be 0. A place is the number of bytes before it. They
+/// are in the order of the second place, then of the byte put there, then of the first place, and
+/// of its byte. They are worked out in `memory`.
+///
+/// # Errors
+///
+/// Answers the number of the first of: a text of more than 7,500 bytes (89), before any memory is
+/// taken; buffers that are too small (92), only where not all fit: then `count` is the number of
+/// all, and as many as fit in both buffers are put there, the first. Where `memory` does not
+/// suffice, 91 in place of 0 or 92: then `memory` and the buffers are as they were; or `memory` had
+/// bytes and has none, and the buffers may have changed. With every other number `memory` is as it
+/// was.
+#[unsafe(no_mangle)]
+pub extern "C" fn bech32_descriptor_mend_two(
+    text: &[u8],
+    memory: &mut Memory,
+    places: &mut [usize],
+    texts: &mut [u8],
+    count: &mut usize,
+) -> u32
+    ensures value { result ≡ 0 → PutsTwoMends text.now places.old places.new
+        texts.old texts.new count.new }
+    ensures first { result ≡ 92 → PutsFirstTwoMends text.now places.old places.new
+        texts.old texts.new count.new }
+    ensures accepts { length text.now ≤ 7500
+        → (result ≡ 0) ⊎ ((result ≡ 92) ⊎ (result ≡ 91)) }
+    ensures refused { result ≢ 0 → result ≢ 92 → (e : AMendRefusal)
+        × IsTwoMendFault text.now e × (result ≡ number_of_mend e) }
+    ensures same { result ≢ 0 → result ≢ 92 → (count.new ≡ count.old)
+        × (((places.new ≡ places.old) × (texts.new ≡ texts.old))
+        ⊎ ((result ≡ 91) × IsKept memory.old memory.new)) }
+    ensures memory { (memory.new ≡ memory.old)
+        ⊎ ((result ≡ 91) × IsKept memory.old memory.new) }
+{
+    match put_two_mends(memory, text, places, texts) {
         Ok(listed) => {
             *count = listed.count;
             if listed.fit {

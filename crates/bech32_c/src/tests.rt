@@ -1,3 +1,4 @@
+mod columns;
 mod confidential;
 mod descriptor;
 mod elements;

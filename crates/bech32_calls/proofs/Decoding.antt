@@ -4,7 +4,7 @@ use Rattle.std.specs.Str.{IsUtf8}
 use Rattle.bech32_gf.specs.Fe32.{elements_of}
 use Rattle.bech32_bits.specs.Bits.{to_bytes}
 use Rattle.bech32_checksum.specs.Code.{bech32, bech32m}
-use Rattle.bech32_decode.specs.Acceptance.{Accepts, IsAccepted, IsDecoded}
+use Rattle.bech32_decode.specs.Acceptance.{Accepts, IsAccepted, IsAcceptedByEither, IsDecoded}
 use Rattle.bech32_decode.specs.BeforeChecksum.{IsBeforeChecksum}
 use Rattle.bech32_decode.specs.Refusals.{IsRefusedByBoth}
 use Rattle.bech32.specs.Refusals.{IsDecodeRefusal}
@@ -60,6 +60,14 @@ no_decode_fault text m n (Checksum e) a h =
 no_decode_fault text m n NoRoom a h = no_room_fault text m n a h
 no_decode_fault text m n _ a h = h
 
+-- nothing is wrong with a text that a checksum accepts
+pub no_read_fault : (text : List ℕ) (e : Refusal) → IsAcceptedByEither text → IsReadFault text e → ⊥
+no_read_fault text NotUtf8 (inl a) h = h (IsUtf8-from_text text a.0 a.1 a.2.grammar)
+no_read_fault text NotUtf8 (inr a) h = h (IsUtf8-from_text text a.0 a.1 a.2.grammar)
+no_read_fault text (Text e) a h = let same : Parse e ≡ Memory = decoded-from_refusal {D = ℕ} text h.0 (Err (Parse e)) h.1 a in absurd (cc)
+no_read_fault text (Checksum e) a h = let same : NoChecksumAccepts e ≡ Memory = decoded-from_refusal {D = ℕ} text h.0 (Err (NoChecksumAccepts e)) h.1 a in absurd (cc)
+no_read_fault text _ a h = h
+
 -- ---- what is put
 
 module _ (text part data_part characters : List ℕ) (a : IsAccepted bech32m text part data_part ⊎ IsAccepted bech32 text part data_part)
@@ -86,7 +94,13 @@ module _ (text part data_part characters : List ℕ) (a : IsAccepted bech32m tex
 pub refused_either : (text : List ℕ) (e : ChecksumError) → IsRefusedByBoth text e → IsReadFault text (Checksum e)
 refused_either text e r = (IsUtf8-from_text text r.hrp r.data_part r.grammar, r)
 
--- why a text is not read is why it is not decoded
+-- why a text is not read is why no checksum accepts it
+pub unread_read : (text : List ℕ) (e : Refusal) → IsTextFault text e → IsReadFault text e
+unread_read text NotUtf8 h = h
+unread_read text (Text e) h = h
+unread_read text _ h = absurd h
+
+-- and why it is not decoded
 pub unread_decode : (text : List ℕ) (m n : ℕ) (e : Refusal) → IsTextFault text e → IsDecodeFault text m n e
 unread_decode text m n NotUtf8 h = h
 unread_decode text m n (Text e) h = h

@@ -126,7 +126,7 @@ fn corrected_by_search<Ck: CorrectsInPlace>(
     }
 }
 
-// Mends a text by one checksum. In line: what it answers is not moved.
+// Mends a text by one checksum. In line: what it returns is not moved.
 #[inline(always)]
 fn corrected_by<Ck: CorrectsInPlace>(
     text: &[u8],

@@ -7,7 +7,8 @@ ghost use Rattle.bech32_gf.specs.Alphabet.{is_data};
 ghost use Rattle.bech32_encode.specs.Buffers.{IsPut};
 ghost use Rattle.bech32_calls.specs.Check.{IsCheckedAs, IsCheckFault};
 ghost use Rattle.bech32_calls.specs.Checksums.{ForTexts, IsFaultOfTexts};
-ghost use Rattle.bech32_calls.specs.Decode.{PutsDecoded, IsDecodeFault};
+ghost use Rattle.bech32_calls.specs.Decode.{PutsDecoded, IsDecodeFault, IsReadFault};
+ghost use Rattle.bech32_decode.specs.Acceptance.{IsAcceptedByEither};
 ghost use Rattle.bech32_calls.specs.declared.refusal.Refusal.TheVariants.{NoRoom};
 
 use crate::checksum::{BECH32, BECH32M, LONG_BECH32, LONG_BECH32M};
@@ -59,6 +60,23 @@ pub fn decoded(text: &[u8], hrp: &mut [u8], bytes: &mut [u8]) -> Result<(usize, 
     let reading = read::<Bech32m>(text)?;
     reading.validate_either()?;
     put_parts(reading.hrp, reading.characters(), hrp, bytes)
+}
+
+/// Tests whether Bech32m or Bech32 accepts a text.
+///
+/// # Errors
+///
+/// The first of: a text that is not UTF-8; its first fault.
+pub fn checked_by_either(text: &[u8]) -> Result<(), Refusal>
+    ensures { MatchResult result
+        (λ _. IsAcceptedByEither text.now)
+        (λ e. IsReadFault text.now e) }
+{
+    let reading = read::<Bech32m>(text)?;
+    match reading.validate_either() {
+        Ok(()) => Ok(()),
+        Err(e) => Err(Refusal::Checksum(e)),
+    }
 }
 
 // The lengths of the parts of a text that the checksum accepts.

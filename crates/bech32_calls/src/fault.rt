@@ -1,6 +1,6 @@
 //! Says where the fault of a text stands.
 
-ghost use Rattle.std.specs.Prelude.{◌≡◌, ◌≢◌, ◌≤◌, ◌-◌, ◌++◌, ℕ, List, false, not, length, position};
+ghost use Rattle.std.specs.Prelude.{◌≡◌, ◌≢◌, ◌≤◌, ◌<◌, ◌-◌, ◌++◌, ℕ, List, false, not, length, position};
 ghost use Rattle.std.specs.List.{suffix_len};
 ghost use Rattle.bech32_hrp.specs.Hrp.{is_graphic, is_lower, is_upper, is_mixed_case};
 ghost use Rattle.bech32_decode.specs.Acceptance.{Accepts};
@@ -134,6 +134,7 @@ pub fn number_of(checksum: u32, text: &[u8]) -> u32
     ensures refused { result ≢ 0
         → IsNumberOf (IsFaultOfTexts checksum (IsCheckFault text.now)) result }
     ensures stands { (p : ℕ) × IsPlace text.now result p }
+    ensures byte { result < 256 }
 {
     match checked_by(checksum, text) {
         Ok(_) => 0,

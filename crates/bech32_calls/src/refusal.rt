@@ -53,6 +53,7 @@ impl Refusal {
     pub fn number(self) -> u32
         ensures value { result ≡ number_of self }
         ensures some { 0 < result }
+        ensures byte { result < 256 }
     {
         let small: u8 = match self {
             Refusal::NotUtf8 => 2,

@@ -23,7 +23,9 @@ common_sentence n =
 -- the sentence of a number of bech32.h, empty for a number that is none of it
 abbrev pub bech32_sentence : ℕ → List ℕ
 bech32_sentence n =
-    if n == 4 then codes "the number of no checksum, an element above 31, or too many errors"
+    if n == 1 then codes "the row is null"
+    else (if n == 4 then codes
+    "the number of no checksum, an element above 31, too many errors, or no such rows"
     else (if n == 31 then codes "the text has more than 1023 characters (7089 by a long checksum)"
     else (if n == 32 then codes "too few characters for a checksum stand behind the separator"
     else (if n == 34 then codes "no correction of the data part mends the text"
@@ -35,6 +37,7 @@ bech32_sentence n =
     else (if n == 46 then codes "the program has less than 2 bytes"
     else (if n == 47 then codes "the program has more than 40 bytes"
     else (if n == 48 then codes "in version 0 the program has neither 20 nor 32 bytes"
+    else (if n == 49 then codes "the address has another human-readable part than is wanted"
     else (if n == 51 then codes
     "the text would have more than 1023 characters (7089 by a long checksum)"
     else (if n == 52 then codes "the witness version is above 16"
@@ -46,7 +49,7 @@ bech32_sentence n =
     else (if n == 80 then codes "a character may not stand in a descriptor, or not in its checksum"
     else (if n == 88 then codes "the text does not end in `#` and eight characters"
     else (if n == 89 then codes "the text has more than 7500 characters, too many to be mended"
-    else common_sentence n))))))))))))))))))))
+    else common_sentence n))))))))))))))))))))))
 
 -- End of the sentences.
 

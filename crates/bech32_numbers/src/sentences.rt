@@ -38,7 +38,8 @@ pub fn bech32_sentence_of(number: u32) -> &'static str
 {
     match number {
         // The sentences of bech32.h alone.
-        4 => "the number of no checksum, an element above 31, or too many errors",
+        1 => "the row is null",
+        4 => "the number of no checksum, an element above 31, too many errors, or no such rows",
         31 => "the text has more than 1023 characters (7089 by a long checksum)",
         32 => "too few characters for a checksum stand behind the separator",
         34 => "no correction of the data part mends the text",
@@ -50,6 +51,7 @@ pub fn bech32_sentence_of(number: u32) -> &'static str
         46 => "the program has less than 2 bytes",
         47 => "the program has more than 40 bytes",
         48 => "in version 0 the program has neither 20 nor 32 bytes",
+        49 => "the address has another human-readable part than is wanted",
         51 => "the text would have more than 1023 characters (7089 by a long checksum)",
         52 => "the witness version is above 16",
         53 => "the address would have more than 90 characters",

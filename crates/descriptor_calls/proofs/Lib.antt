@@ -1,1 +1,2 @@
 mod Puts
+mod TwoPuts

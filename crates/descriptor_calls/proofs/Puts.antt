@@ -34,18 +34,15 @@ pair_put front old i x y size room =
     ∙ append_assoc front (x ∷ []) (y ∷ rest) ∙ sym (append_assoc front (x ∷ y ∷ []) rest)
     ∙ ap (λ (k : ℕ). (front ++ (x ∷ y ∷ [])) ++ drop k old) end
 
-module _ {A : Type 0} (edit : A → Edit) (text : A → List ℕ) (items : List A) where
-  abbrev pairs : A → List ℕ
-  pairs m = places_of (edit m)
-
+module _ {A : Type 0} (pairs : A → List ℕ) (two : (m : A) → length (pairs m) ≡ 2) (items : List A) where
   pairs-length : (xs : List A) → length (flat_map pairs xs) ≡ 2 * length xs
   pairs-length [] = refl
-  pairs-length (x ∷ xs) = omega (arith, pairs-length xs)
+  pairs-length (x ∷ xs) = omega (arith, pairs-length xs, two x, length-append (pairs x) (flat_map pairs xs))
 
   first-pairs : (n : ℕ) → n ≤ length items → length (flat_map pairs (take n items)) ≡ 2 * n
   first-pairs n few = pairs-length (take n items) ∙ ap (λ (k : ℕ). 2 * k) (length-take-le n items few)
 
-  -- the places of one edit more
+  -- the places of one more
   pub pair_more : (old b : List ℕ) (i x y : ℕ) (d : A) → i < length items → 2 * i + 1 < length old → b ≡ flat_map pairs (take i items) ++ drop (2 * i) old
       → x ∷ y ∷ [] ≡ pairs (get_or items i d) → set (set b (2 * i) x) (2 * i + 1) y ≡ flat_map pairs (take (i + 1) items) ++ drop (2 * (i + 1)) old
   pair_more old b i x y d less room is same =
@@ -54,7 +51,7 @@ module _ {A : Type 0} (edit : A → Edit) (text : A → List ℕ) (items : List 
       ∙ ap (λ (u : List ℕ). (flat_map pairs (take i items) ++ u) ++ drop (2 * (i + 1)) old) same
       ∙ ap (λ (u : List ℕ). u ++ drop (2 * (i + 1)) old) (sym (joined_more pairs items i d less))
 
-  -- those of the first edits
+  -- those of the first
   pub first_places : (old b : List ℕ) (n : ℕ) → n ≤ length items → 2 * n ≤ length old → b ≡ flat_map pairs (take n items) ++ drop (2 * n) old
       → IsPut (flat_map pairs (take n items)) old b (length (flat_map pairs (take n items)))
   first_places old b n few room is =
@@ -64,6 +61,10 @@ module _ {A : Type 0} (edit : A → Edit) (text : A → List ℕ) (items : List 
         buffer = is ∙ ap (λ (k : ℕ). flat_map pairs (take n items) ++ drop k old) (sym size);
         count_is = refl;
       }
+
+module _ {A : Type 0} (edit : A → Edit) (text : A → List ℕ) (items : List A) where
+  abbrev pairs : A → List ℕ
+  pairs m = places_of (edit m)
 
   -- each with the text that it makes
   abbrev pub made : List (Edit × List ℕ)

@@ -7,3 +7,4 @@
 
 pub mod checks;
 pub mod mends;
+pub mod two_mends;

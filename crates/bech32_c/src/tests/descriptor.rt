@@ -1,5 +1,6 @@
 use crate::descriptor::{
     bech32_descriptor_check, bech32_descriptor_checksum, bech32_descriptor_mend,
+    bech32_descriptor_mend_two,
 };
 use crate::tests::{BEFORE, LENGTH_BEFORE, same};
 use caller_memory::Memory;
@@ -190,6 +191,75 @@ fn refuses_descriptors(rt: HostRuntime) {
     for (text, changed, want) in rows {
         let mut memory = Memory::leaked(rt.alloc(), 0).expect(&rt, "memory");
         let (number, held) = mend(&mut memory, text, changed, AMPLE);
+        same(&rt, &number, &want);
+        same(&rt, &held.count, &LENGTH_BEFORE);
+        assert!(&rt; hold(&held, None));
+    }
+}
+
+// The number that is returned with this memory and buffers of these sizes, and what they hold then.
+fn mend_two(memory: &mut Memory, text: &[u8], rooms: (usize, usize)) -> (u32, Buffers) {
+    let mut held = Buffers {
+        count: LENGTH_BEFORE,
+        kinds: [BEFORE; 2],
+        places: [LENGTH_BEFORE; 4],
+        texts: [BEFORE; 64],
+    };
+    let (places, _) = held.places.split_at_mut(rooms.0.min(4));
+    let (texts, _) = held.texts.split_at_mut(rooms.1.min(64));
+    let number = bech32_descriptor_mend_two(text, memory, places, texts, &mut held.count);
+    (number, held)
+}
+
+// With as many bytes of memory as are stated, all of which come back, it answers this number,
+// counts this many, and puts `RAW` with these places, or nothing.
+fn answers_two(
+    rt: &impl Abort,
+    alloc: Global,
+    row: (&[u8], (usize, usize)),
+    want: (u32, usize, Option<(usize, usize)>),
+) {
+    let size = 65536 + 4608 * row.0.len().min(1024);
+    let mut memory = Memory::leaked(alloc, size).expect(rt, "memory");
+    let (number, held) = mend_two(&mut memory, row.0, row.1);
+    same(rt, &number, &want.0);
+    same(rt, &held.count, &want.1);
+    let put = want.2.map(|places| (BEFORE, places.0, places.1, RAW));
+    assert!(rt; hold(&held, put));
+    same(rt, &memory.with_size().0, &size);
+}
+
+// Two before the mark, one there and one behind it, two behind it, and the mark itself.
+#[test]
+fn mends_two_changed(rt: HostRuntime) {
+    let rows: [(&[u8], Option<(usize, usize)>); 8] = [
+        (b"raw(deedbeaf)#89f8spxm", Some((6, 10))),
+        (b"raw(dezebeef)#89f8spxm", Some((6, 7))),
+        (b"raw(deedbeef)#89f8spxn", Some((6, 21))),
+        (b"raw(deadbeef)#98f8spxm", Some((14, 15))),
+        (b"Raw(deadbeef)?89f8spxm", Some((0, 13))),
+        (b"raw(dea\xe4beef)#89f8spx\xff", Some((7, 21))),
+        (RAW, None),
+        (b"", None),
+    ];
+    for (text, want) in rows {
+        let count = usize::from(want.is_some());
+        answers_two(&rt, rt.alloc(), (text, (4, 64)), (0, count, want));
+    }
+    for room in [(1, 64), (4, 21)] {
+        let row: (&[u8], (usize, usize)) = (b"raw(deedbeaf)#89f8spxm", room);
+        answers_two(&rt, rt.alloc(), row, (92, 1, None));
+    }
+}
+
+// A refusal needs no memory, and where there is none, it says so.
+#[test]
+fn refuses_two_changed(rt: HostRuntime) {
+    let long = [b'a'; 7501];
+    let rows: [(&[u8], u32); 2] = [(&long, 89), (RAW, 91)];
+    for (text, want) in rows {
+        let mut memory = Memory::leaked(rt.alloc(), 0).expect(&rt, "memory");
+        let (number, held) = mend_two(&mut memory, text, (4, 64));
         same(&rt, &number, &want);
         same(&rt, &held.count, &LENGTH_BEFORE);
         assert!(&rt; hold(&held, None));

@@ -29,16 +29,21 @@ fn says(rt: &impl Abort, number: u32, sentence: &[u8]) {
 
 #[test]
 fn says_sentences(rt: HostRuntime) {
-    let rows: [(u32, &[u8]); 8] = [
+    let rows: [(u32, &[u8]); 10] = [
+        (1, b"the row is null"),
         (2, b"a text or a human-readable part is not UTF-8"),
         (
             4,
-            b"the number of no checksum, an element above 31, or too many errors",
+            b"the number of no checksum, an element above 31, too many errors, or no such rows",
         ),
         (23, b"the text has no separator, `1`"),
         (33, b"the checksum is wrong"),
         (34, b"no correction of the data part mends the text"),
         (45, b"the bits behind the last whole byte are not all zero"),
+        (
+            49,
+            b"the address has another human-readable part than is wanted",
+        ),
         (91, b"the lent memory did not suffice"),
         (92, b"a buffer is too small"),
     ];
@@ -49,7 +54,7 @@ fn says_sentences(rt: HostRuntime) {
 
 #[test]
 fn says_nothing_of_other_numbers(rt: HostRuntime) {
-    for number in [0, 1, 3, 5, 16, 24, 54, 55, 81, 90, 93, 256, u32::MAX] {
+    for number in [0, 3, 5, 16, 24, 54, 55, 81, 90, 93, 256, u32::MAX] {
         says(&rt, number, b"");
     }
 }

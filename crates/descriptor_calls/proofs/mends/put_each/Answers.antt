@@ -1,5 +1,5 @@
 use Rattle.std.specs.Prelude.{◌/◌, flat_map, map, set}
-use Rattle.std.proofs.Common.{◌≡◌, ◌<◌, ◌≤◌, ◌+◌, ◌*◌, ◌∙◌, ◌∷◌, [], ℕ, get_or, length, min, take, ap, subst, arith}
+use Rattle.std.proofs.Common.{◌≡◌, ◌<◌, ◌≤◌, ◌+◌, ◌*◌, ◌∙◌, ◌∷◌, [], ℕ, get_or, length, min, take, ap, refl, subst, arith}
 use Rattle.std.proofs.lemmas.List.{get_or_default}
 use Rattle.bech32_calls.proofs.Joined.{most_at, next_room, next_size, put_first_joined, put_next}
 use Rattle.bech32_calls.proofs.Listings.{put_first, put_more}
@@ -28,7 +28,7 @@ returns-then-text-texts-clause-put g c =
     let few_places : 2 * i ≤ length c.args.places.now = omega (arith, c.loop-i-test.true, c.min.ensures, c.min-most.ensures) in
     puts_each (λ m. m.edit) (λ m. m.text.items) found c.args.kinds.now c.loop-i.kinds c.args.places.now c.loop-i.places c.args.texts.now c.loop-i.texts i (omega (arith, less))
     (put_first (λ m. number_of_mend_change m.edit.change) found c.args.kinds.now c.loop-i.kinds i (omega (arith, less)) few_kinds c.loop-i.invariant.kinds)
-    (first_places (λ m. m.edit) (λ m. m.text.items) found c.args.places.now c.loop-i.places i (omega (arith, less)) few_places c.loop-i.invariant.places)
+    (first_places (λ m. places_of m.edit) (λ m. refl) found c.args.places.now c.loop-i.places i (omega (arith, less)) few_places c.loop-i.invariant.places)
     (put_first_joined (λ m. m.text.items) found c.args.texts.now c.loop-i.texts i c.loop-i.end c.loop-i.invariant.size c.loop-i.invariant.fits c.loop-i.invariant.buffer)
 
 pub put_at_front-requires : goal.put_at_front-requires
@@ -56,7 +56,7 @@ loop-i-preserved g c =
       kinds =
           ap (set c.loop-i.kinds i) c.change_number.ensures
           ∙ put_more (λ m. number_of_mend_change m.edit.change) found c.args.kinds.now c.loop-i.kinds i c.index-found-i-in-loop-i.result less less_kinds c.loop-i.invariant.kinds;
-      places = pair_more (λ m. m.edit) (λ m. m.text.items) found c.args.places.now c.loop-i.places i (get_or found i d).edit.place c.second.result d less less_places c.loop-i.invariant.places
+      places = pair_more (λ m. places_of m.edit) (λ m. refl) found c.args.places.now c.loop-i.places i (get_or found i d).edit.place c.second.result d less less_places c.loop-i.invariant.places
           (ap (λ (n : ℕ). (get_or found i d).edit.place ∷ n ∷ []) second);
       buffer = put_next (λ m. m.text.items) found i c.index-found-i.result c.loop-i.end c.as_slice-text.result.now less c.as_slice-text.ensures.value c.loop-i.invariant.size
           c.args.texts.now c.loop-i.texts c.put_at_front.new.buffer c.loop-i.invariant.buffer c.put_at_front.ensures.buffer;
@@ -84,5 +84,5 @@ returns-clause-put g c =
     subst (λ (k : ℕ). PutsEachMend (take k (map (λ m. (m.edit, m.text.items)) found)) c.args.kinds.now c.loop-i.kinds c.args.places.now c.loop-i.places c.args.texts.now c.loop-i.texts) at
     (puts_each (λ m. m.edit) (λ m. m.text.items) found c.args.kinds.now c.loop-i.kinds c.args.places.now c.loop-i.places c.args.texts.now c.loop-i.texts i few
     (put_first (λ m. number_of_mend_change m.edit.change) found c.args.kinds.now c.loop-i.kinds i few few_kinds c.loop-i.invariant.kinds)
-    (first_places (λ m. m.edit) (λ m. m.text.items) found c.args.places.now c.loop-i.places i few few_places c.loop-i.invariant.places)
+    (first_places (λ m. places_of m.edit) (λ m. refl) found c.args.places.now c.loop-i.places i few few_places c.loop-i.invariant.places)
     (put_first_joined (λ m. m.text.items) found c.args.texts.now c.loop-i.texts i c.loop-i.end c.loop-i.invariant.size c.loop-i.invariant.fits c.loop-i.invariant.buffer))

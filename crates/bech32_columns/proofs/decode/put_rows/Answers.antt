@@ -1,0 +1,46 @@
+use Rattle.std.proofs.Common.{◌≡◌, ◌≤◌, ℕ, List, [], ap, length, refl, take, arith}
+use Rattle.bech32_columns.specs.Decoded.{AddressRow, program_of}
+use Rattle.bech32_columns.proofs.Held.{held-none}
+use Rattle.bech32_columns.proofs.Rowed.{addresses-more, addresses-none, addresses-some, lacks-more}
+use Rattle.bech32_columns.proofs.decode.put_rows.Goals as goal
+
+pub loop-i-init : goal.loop-i-init
+loop-i-init c = record {
+  so_far = addresses-none c.args.column.now c.args.first c.args.hrp.now c.args.numbers.now c.args.versions.now c.args.hrp_lengths.now c.args.offsets.now c.args.programs.now
+      c.put_item.new.buffer (c.put_item.ensures [] c.args.offsets.now refl (held-none c.args.offsets.now));
+  within = omega arith;
+}
+
+pub returns-then-kept-room : goal.returns-then-kept-room
+returns-then-kept-room c =
+    let row : AddressRow = record {
+      number = c.decode_row-row.result.number;
+      version = c.decode_row-row.result.version;
+      hrp_length = c.decode_row-row.result.hrp_length;
+      program = take c.decode_row-row.result.count c.decode_row-row.new.program;
+    } in
+    let is : c.kept-kept.result.now ≡ program_of c.args.offsets.now row = c.kept-kept.ensures in
+    addresses-some c.args.column.now c.args.first c.args.hrp.now c.args.numbers.now c.args.versions.now c.args.hrp_lengths.now c.args.offsets.now c.args.programs.now
+    c.loop-i.numbers c.loop-i.versions c.loop-i.hrp_lengths c.loop-i.offsets c.loop-i.programs c.loop-i.i c.loop-i.end c.loop-i.invariant.so_far
+    (omega (arith, c.loop-i-test.true, c.requires.most))
+    (λ l. c.requires.room (lacks-more _ _ _ c.loop-i.i c.args.most (omega (arith, c.loop-i-test.true)) l))
+    row c.decode_row-row.ensures.said (omega (arith, c.if-kept-room.true, ap length is, c.room_in-room.ensures, c.loop-i.invariant.within))
+
+pub loop-i-preserved : goal.loop-i-preserved
+loop-i-preserved c =
+    let row : AddressRow = record {
+      number = c.decode_row-row.result.number;
+      version = c.decode_row-row.result.version;
+      hrp_length = c.decode_row-row.result.hrp_length;
+      program = take c.decode_row-row.result.count c.decode_row-row.new.program;
+    } in
+    let is : c.kept-kept.result.now ≡ program_of c.args.offsets.now row = c.kept-kept.ensures in
+    record {
+      so_far = addresses-more c.args.column.now c.args.first c.args.hrp.now c.args.numbers.now c.args.versions.now c.args.hrp_lengths.now c.args.offsets.now c.args.programs.now
+          c.loop-i.numbers c.loop-i.versions c.loop-i.hrp_lengths c.loop-i.offsets c.loop-i.programs c.loop-i.i c.loop-i.end c.loop-i.invariant.so_far
+          row c.kept-kept.result.now c.put_item-in-loop-i-2.new.buffer c.put_item-in-loop-i-3.new.buffer c.put_item-in-loop-i-4.new.buffer c.put_item-in-loop-i.new.buffer c.put_bytes.new.buffer
+          c.decode_row-row.ensures.said is
+          (omega (arith, c.if-kept-room.false, c.room_in-room.ensures, c.loop-i.invariant.within)) (omega (arith, c.if-kept-room.false, c.room_in-room.ensures, c.loop-i.invariant.within))
+          c.put_item-in-loop-i-2.ensures c.put_item-in-loop-i-3.ensures c.put_item-in-loop-i-4.ensures c.put_item-in-loop-i.ensures c.put_bytes.ensures;
+      within = omega (arith, c.if-kept-room.false, c.loop-i.invariant.within);
+    }

@@ -1,0 +1,146 @@
+//! Encodes the rows of a column of programs as segwit addresses.
+
+ghost use Rattle.std.specs.Prelude.{◌≡◌, ◌≢◌, ◌<◌, ◌≤◌, ◌⊎◌, ◌+◌, ℕ, List, IfNone, IfSome, MatchOption, length, slice_index};
+ghost use Rattle.bech32_encode.specs.Buffers.{IsPut};
+ghost use Rattle.bech32_calls.specs.Numbers.{number_of};
+ghost use Rattle.bech32_columns.specs.Encoded.{IsEncodedProgram, IsEncodedRow, PutsTexts};
+ghost use Rattle.bech32_columns.specs.Rows.{HasRows, row_of};
+
+use crate::column::Column;
+use crate::put::{put_item, room_in};
+use bech32_calls::refusal::Refusal;
+use bech32_calls::segwit::encoded;
+
+// What is put of a row: its number, and the length of its address.
+#[derive(Clone, Copy)]
+struct Text {
+    number: u8,
+    count: usize,
+}
+
+// What is put of a row that is refused, unless it is for want of room.
+#[inline]
+fn refused(refusal: Refusal) -> Option<Text>
+    ensures { MatchOption result (refusal ≡ Refusal.NoRoom) (λ t. (refusal ≢ Refusal.NoRoom)
+        × (t.number ≡ number_of refusal) × (t.number ≢ 0) × (t.count ≡ 0)) }
+{
+    match refusal {
+        Refusal::NoRoom => None,
+        _ => Some(Text {
+            number: refusal.number() as u8,
+            count: 0,
+        }),
+    }
+}
+
+// Puts the address of a program at the front of a buffer; nothing, where it does not fit.
+#[inline]
+fn encode_program(hrp: &[u8], version: u8, program: &[u8], text: &mut [u8]) -> Option<Text>
+    ensures value { IfSome result (λ t. (written : List ℕ)
+        × IsEncodedProgram hrp.now version program.now
+        (record { number = t.number; text = written })
+        × IsPut written text.old text.new t.count) }
+    ensures full { IfNone result ((written : List ℕ)
+        × IsEncodedProgram hrp.now version program.now (record { number = 0; text = written })
+        × (length text.old < length written)) }
+    ensures same { IfNone result (text.new ≡ text.old) }
+{
+    match encoded(hrp, u32::from(version), program, text) {
+        Ok(count) => Some(Text { number: 0, count }),
+        Err(refusal) => refused(refusal),
+    }
+}
+
+// The same of a row.
+#[inline]
+fn encode_row(
+    column: &Column<'_>,
+    i: usize,
+    hrp: &[u8],
+    version: u8,
+    text: &mut [u8],
+) -> Option<Text>
+    requires { i < usize.MAX }
+    ensures value { IfSome result (λ t. (written : List ℕ)
+        × IsEncodedRow hrp.now version (row_of column.now i)
+        (record { number = t.number; text = written })
+        × IsPut written text.old text.new t.count) }
+    ensures full { IfNone result ((written : List ℕ)
+        × IsEncodedRow hrp.now version (row_of column.now i)
+        (record { number = 0; text = written })
+        × (length text.old < length written)) }
+    ensures same { IfNone result (text.new ≡ text.old) }
+{
+    match column.row(i) {
+        Ok(program) => encode_program(hrp, version, program, text),
+        Err(number) => Some(Text { number, count: 0 }),
+    }
+}
+
+// Puts the addresses of this many rows from one on, and returns how many are put: fewer where one
+// does not fit.
+fn put_rows(
+    column: &Column<'_>,
+    first: usize,
+    most: usize,
+    hrp: &[u8],
+    versions: &[u8],
+    numbers: &mut [u8],
+    offsets: &mut [u32],
+    texts: &mut [u8],
+) -> usize
+    requires rows { first + most ≤ column.now.rows }
+    requires versions { most ≤ length versions.now }
+    requires most { most ≤ length numbers.old }
+    requires room { (most ≡ 0) ⊎ (most < length offsets.old) }
+    requires full { most ≢ length numbers.old → length offsets.old ≤ most + 1 }
+    ensures { PutsTexts column.now first hrp.now versions.now numbers.old numbers.new
+        offsets.old offsets.new texts.old texts.new result }
+{
+    let room = room_in(texts);
+    let mut end = 0;
+    put_item(offsets, 0, 0);
+    for i in 0..most {
+        let Some(row) = encode_row(column, first + i, hrp, versions[i], &mut texts[end..room])
+        else {
+            return i;
+        };
+        end += row.count;
+        put_item(offsets, i + 1, end as u32);
+        put_item(numbers, i, row.number);
+    }
+    most
+}
+
+/// Encodes the rows from one on, as many as there are numbers, as segwit addresses of one
+/// human-readable part: row `first + i` by the witness version `versions[i]`. Of each its number is
+/// put, and its address, in lower case: they stand in `texts` one behind another, from `offsets[i]`
+/// up to `offsets[i + 1]`. Where the number is not 0, the address is empty.
+///
+/// Returns how many rows are put: all, or as many as there is room for in all buffers, and as have
+/// less than 2^31 characters. Nothing, where there are no such rows, fewer versions, or the column
+/// has no layout: then it puts nothing.
+pub fn encode_many(
+    hrp: &[u8],
+    versions: &[u8],
+    column: &Column<'_>,
+    first: usize,
+    numbers: &mut [u8],
+    offsets: &mut [u32],
+    texts: &mut [u8],
+) -> Option<usize>
+    ensures value { IfSome result (λ done. PutsTexts column.now first hrp.now versions.now
+        numbers.old numbers.new offsets.old offsets.new texts.old texts.new done) }
+    ensures refused { IfNone result ((HasRows column.now first (length numbers.old)
+        → length versions.now < length numbers.old)) }
+    ensures accepts { IfSome result (λ _. HasRows column.now first (length numbers.old)
+        × (length numbers.old ≤ length versions.now)) }
+    ensures same { IfNone result ((numbers.new ≡ numbers.old) × (offsets.new ≡ offsets.old)
+        × (texts.new ≡ texts.old)) }
+{
+    if !column.has_rows(first, numbers.len()) || versions.len() < numbers.len() {
+        return None;
+    }
+    let most = numbers.len().min(offsets.len().saturating_sub(1));
+    Some(put_rows(column, first, most, hrp, versions, numbers, offsets, texts))
+}

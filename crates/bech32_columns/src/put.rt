@@ -1,0 +1,34 @@
+//! Puts what is said of rows into buffers.
+
+ghost use Rattle.std.specs.Prelude.{◌≡◌, ◌≤◌, ◌+◌, ◌++◌, ℕ, List, [], ◌∷◌, length, min};
+ghost use Rattle.bech32_columns.specs.Arrays.{Fills};
+
+use bech32_encode::put_at_front;
+
+/// How many bytes offsets of 32 bits lead to in a buffer.
+pub(crate) fn room_in(buffer: &[u8]) -> usize
+    ensures { result ≡ min (length buffer.now) 2_147_483_647 }
+{
+    buffer.len().min(0x7FFF_FFFF)
+}
+
+/// Puts an item behind those before it, where there is room.
+#[inline(always)]
+pub(crate) fn put_item<T: Copy>(buffer: &mut [T], i: usize, item: T)
+    ensures { (items start : List T) → length items ≡ i → Fills items start buffer.old
+        → Fills (items ++ item ∷ []) start buffer.new }
+{
+    if i < buffer.len() {
+        buffer[i] = item;
+    }
+}
+
+/// Puts bytes behind those before them.
+#[inline(always)]
+pub(crate) fn put_bytes(buffer: &mut [u8], end: usize, bytes: &[u8])
+    requires { end + length bytes.now ≤ length buffer.old }
+    ensures { (items start : List ℕ) → length items ≡ end → Fills items start buffer.old
+        → Fills (items ++ bytes.now) start buffer.new }
+{
+    put_at_front(&mut buffer[end..], bytes);
+}
