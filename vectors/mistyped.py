@@ -18,6 +18,8 @@ from itertools import combinations, product as choices
 from math import comb
 from pathlib import Path
 
+import descriptors
+import liquid
 import model
 from model import ALPHABET, CODES, Refusal, VALUE
 from rows import Maker, ODD_PARTS
@@ -227,6 +229,14 @@ def place_of(text, number):
 
 # --- the lines of mend ---
 
+def is_text(line):
+    try:
+        line.decode("utf-8")
+    except UnicodeDecodeError:
+        return False
+    return True
+
+
 def number_of_errors(word):
     if word not in ("0", "1", "2"):
         raise Refusal(4)
@@ -250,16 +260,37 @@ def fault(code, text):
         return f"err {refusal.number} {place_of(text, refusal.number)}"
 
 
+# How descriptors.py names what is done to a descriptor.
+DONE = {"=": "changed", "x": "swapped", "-": "left-out", "+": "put-in"}
+
+
+def about_descriptor(name, text):
+    """The answer to a command of descriptors, whose text is the rest of the line, or nothing."""
+    # A character is a byte here.
+    text = text.decode("latin-1")
+    if name == b"descriptor":
+        found = descriptors.mended(text)
+        return b" ".join([b"ok", *(f"{DONE[kind]} {place} {made}".encode("latin-1") for (kind, place), made in found)]).decode()
+    if name == b"descriptor-check":
+        said = descriptors.checked(text)
+        return {"right": "ok", "wrong": "err 33", "none": "err 88"}.get(said) or said.replace("at", "err 80")
+    if name == b"descriptor-checksum":
+        said = descriptors.reply(f"checksum|{text}")
+        return said.replace("at", "err 80") if said.startswith("at ") else f"ok {said}"
+    return None
+
+
 def answer(line):
-    if len(line) > 4096:
-        raise Refusal(1)
-    try:
-        words = line.decode("utf-8").split(" ")
-    except UnicodeDecodeError:
-        raise Refusal(2) from None
-    if "" in words:
-        raise Refusal(3)
-    name, arguments = words[0], words[1:]
+    name, space, text = line.partition(b" ")
+    said = about_descriptor(name, text) if space and len(line) <= 4096 and is_text(line) else None
+    if said is not None:
+        return said
+    name, *arguments = model.words_of(line)
+    if name == "liquid" and len(arguments) in (2, 3):
+        listed = arguments[1].split(",") if len(arguments) == 3 else []
+        locations = [model.number(word, 1022) for word in listed]
+        errors = model.number(arguments[-1], 3)
+        return " ".join(["ok"] + liquid.near(arguments[0], locations, errors))
     if name == "nearest" and len(arguments) in (3, 4) and arguments[0] in CODES:
         listed = arguments[2].split(",") if len(arguments) == 4 else []
         locations = [model.number(word, 1022) for word in listed]

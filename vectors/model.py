@@ -54,6 +54,10 @@ CODEX32 = Code([0x19DC500CE73FDE210 >> 5 * i & 31 for i in range(12, -1, -1)],
                [0x10CE0795C2FD1E62A >> 5 * i & 31 for i in range(12, -1, -1)], 93, 8)
 CODES = {"bech32": BECH32, "bech32m": BECH32M}
 
+# The same for long texts, of which no distance is promised, and all.
+LONG_CODES = {f"long-{name}": code._replace(length=7089, bound=0) for name, code in CODES.items()}
+ALL_CODES = {**CODES, **LONG_CODES}
+
 
 def remainder(code, coefficients):
     """The remainder by the generator: as many coefficients as its degree."""
@@ -408,7 +412,8 @@ def word_of(data):
     return data.hex() or "-"
 
 
-def answer(line):
+def words_of(line):
+    """The words of a line, or its refusal."""
     if len(line) > 4096:
         raise Refusal(1)
     try:
@@ -417,24 +422,57 @@ def answer(line):
         raise Refusal(2) from None
     if "" in words:
         raise Refusal(3)
-    name, arguments = words[0], words[1:]
-    if name == "encode" and len(arguments) == 3 and arguments[0] in CODES:
-        data = bytes_of(arguments[2])
-        test_hrp(arguments[1])
-        return "ok " + encode(CODES[arguments[0]], arguments[1], data)
+    return words
+
+
+def by_checksum(codes, name, arguments):
+    """The answer to a command that names one of these checksums, or nothing."""
+    if not arguments or arguments[0] not in codes:
+        return None
+    code, arguments = codes[arguments[0]], arguments[1:]
+    if name == "encode" and len(arguments) == 2:
+        data = bytes_of(arguments[1])
+        test_hrp(arguments[0])
+        return "ok " + encode(code, arguments[0], data)
+    if name == "decode-strict" and len(arguments) == 1:
+        hrp, data = decode_strict(code, arguments[0])
+        return f"ok {hrp.lower()} {word_of(data)}"
+    if name == "encode-elements" and len(arguments) == 2:
+        values = bytes_of(arguments[1])
+        test_hrp(arguments[0])
+        return "ok " + encode_elements(code, arguments[0], values)
+    if name == "decode-elements" and len(arguments) == 1:
+        hrp, values = decode_elements(code, arguments[0])
+        return f"ok {hrp.lower()} {word_of(bytes(values))}"
+    return None
+
+
+def by_liquid(name, arguments):
+    """The answer to a command of confidential addresses, or nothing."""
+    import liquid  # which stands on this module
+    if name == "liquid-encode" and len(arguments) == 4:
+        version, key = number(arguments[1], 31), bytes_of(arguments[2])
+        if len(key) != 33:
+            raise Refusal(5)
+        program = bytes_of(arguments[3])
+        test_hrp(arguments[0])
+        return "ok " + liquid.encode(arguments[0], version, key, program)
+    if name == "liquid-decode" and len(arguments) == 1:
+        hrp, version, key, program = liquid.decode(arguments[0])
+        return f"ok {hrp.lower()} {version} {word_of(key)} {word_of(program)}"
+    return None
+
+
+def answer(line):
+    name, *arguments = words_of(line)
+    said = by_checksum(ALL_CODES, name, arguments)
+    if said is None:
+        said = by_liquid(name, arguments)
+    if said is not None:
+        return said
     if name == "decode" and len(arguments) == 1:
         hrp, data = decode(arguments[0])
         return f"ok {hrp.lower()} {word_of(data)}"
-    if name == "decode-strict" and len(arguments) == 2 and arguments[0] in CODES:
-        hrp, data = decode_strict(CODES[arguments[0]], arguments[1])
-        return f"ok {hrp.lower()} {word_of(data)}"
-    if name == "encode-elements" and len(arguments) == 3 and arguments[0] in CODES:
-        values = bytes_of(arguments[2])
-        test_hrp(arguments[1])
-        return "ok " + encode_elements(CODES[arguments[0]], arguments[1], values)
-    if name == "decode-elements" and len(arguments) == 2 and arguments[0] in CODES:
-        hrp, values = decode_elements(CODES[arguments[0]], arguments[1])
-        return f"ok {hrp.lower()} {word_of(bytes(values))}"
     if name == "segwit-encode" and len(arguments) == 3:
         version, program = number(arguments[1], 31), bytes_of(arguments[2])
         test_hrp(arguments[0])

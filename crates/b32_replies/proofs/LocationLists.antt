@@ -15,7 +15,7 @@ pub pieces-split_once : (bs : List ℕ) (r : Option (Bor (List ℕ) × Bor (List
     → MatchOption r (pieces bs ≡ bs ∷ []) (λ x. pieces bs ≡ x.0.now ∷ pieces x.1.now)
 pieces-split_once bs r h = split-split_once 44 bs r (omega arith) h
 
-no_location : (given all : List ℕ) (piece : List ℕ) (more : List (List ℕ)) → map decimal given ++ (piece ∷ more) ≡ map decimal all
+pub no_location : (given all : List ℕ) (piece : List ℕ) (more : List (List ℕ)) → map decimal given ++ (piece ∷ more) ≡ map decimal all
     → AllByRecursion (λ i. i ≤ 1022) all → ((n : ℕ) → n ≤ 1022 → piece ≢ decimal n) → ⊥
 no_location [] [] piece more e below bad = cc
 no_location (g ∷ given) [] piece more e below bad = cc

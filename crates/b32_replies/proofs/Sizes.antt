@@ -65,11 +65,10 @@ decoded-sizes text hrp bytes h =
     let size = mapped-size _ (take (length h.data_part - 6) h.data_part) bytes h.bytes_are in
     (parts.0, omega (arith, parts.1, size, length-take (length h.data_part - 6) h.data_part))
 
--- the reply to a text that is decoded
-pub decode-reply-size : (text hrp bytes : List ℕ) → IsDecoded text hrp bytes → length (codes "ok " ++ (lowered hrp ++ (32 ∷ hex_of bytes))) ≤ 2047
-decode-reply-size text hrp bytes h =
-    let (part, rest) = decoded-sizes text hrp bytes h in
-    omega (arith, part, rest, length-hex_of bytes, length-append (codes "ok ") (lowered hrp ++ (32 ∷ hex_of bytes)), length-append (lowered hrp) (32 ∷ hex_of bytes), length-map hrp to_ascii_lowercase)
+-- the reply to one of so many bytes
+pub parts-reply : (hrp bytes : List ℕ) → length (codes "ok " ++ (lowered hrp ++ (32 ∷ hex_of bytes))) ≤ 5 + length hrp + 2 * length bytes
+parts-reply hrp bytes =
+    omega (arith, length-hex_of bytes, length-append (codes "ok ") (lowered hrp ++ (32 ∷ hex_of bytes)), length-append (lowered hrp) (32 ∷ hex_of bytes), length-map hrp to_ascii_lowercase)
 
 -- ---- texts that are the only ones of their elements
 
@@ -106,20 +105,6 @@ elements-sizes code text hrp values n degree h =
     let (some, part, rest) = spelled-sizes code text hrp (elements_in values) n h in
     let count : length (elements_in values) ≡ length values = length-map values element in
     (some, omega (arith, degree, rest, count))
-
--- the reply to one of so many bytes
-parts-reply : (hrp bytes : List ℕ) → length (codes "ok " ++ (lowered hrp ++ (32 ∷ hex_of bytes))) ≤ 5 + length hrp + 2 * length bytes
-parts-reply hrp bytes =
-    omega (arith, length-hex_of bytes, length-append (codes "ok ") (lowered hrp ++ (32 ∷ hex_of bytes)), length-append (lowered hrp) (32 ∷ hex_of bytes), length-map hrp to_ascii_lowercase)
-
-pub strict-reply-size : (code : Code) (text hrp bytes : List ℕ) → code.code_length ≤ 1023 → IsSpelledBy code text hrp (to_fes bytes)
-    → length (codes "ok " ++ (lowered hrp ++ (32 ∷ hex_of bytes))) ≤ 2047
-strict-reply-size code text hrp bytes n h = let (part, rest) = strict-sizes code text hrp bytes n h in omega (arith, part, rest, parts-reply hrp bytes)
-
-pub elements-reply-size : (code : Code) (text hrp values : List ℕ) → code.code_length ≤ 1023 → 6 ≤ length code.generator → IsSpelledBy code text hrp (elements_in values)
-    → length (codes "ok " ++ (lowered hrp ++ (32 ∷ hex_of values))) ≤ 2047
-elements-reply-size code text hrp values n degree h =
-    let (some, rest) = elements-sizes code text hrp values n degree h in omega (arith, some, rest, parts-reply hrp values)
 
 -- a text of elements that is no longer than a code
 pub elements-text-size : (code : Code) (hrp values text : List ℕ) → code.code_length ≤ 1023 → Fits code hrp values → IsEncodedText code hrp (elements_in values) text → length text ≤ 1023

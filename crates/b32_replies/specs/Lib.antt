@@ -1,6 +1,9 @@
+pub mod Contents
+pub mod Counted
 pub mod Ends
 pub mod Hex
 pub mod Locations
+pub mod LongRequest
 pub mod Numbers
 pub mod Reply
 pub mod Request

@@ -1,5 +1,5 @@
 -- A word that lists locations: numbers up to 1022 in decimal, with commas between them.
-use Rattle.std.specs.Prelude.{◌≡◌, ◌≤◌, ◌==◌, ℕ, List, map}
+use Rattle.std.specs.Prelude.{◌≡◌, ◌≤◌, ◌==◌, ℕ, List, ◌∷◌, map}
 use Rattle.std.specs.Fmt.{decimal}
 use Rattle.std.specs.List.{AllByRecursion, slice_split}
 
@@ -11,6 +11,11 @@ pieces word = slice_split (λ b. b == 44) word
 pub record AreLocations (word given : List ℕ) : Type 0 where
   pub pieces_are : pieces word ≡ map decimal given
   pub below : AllByRecursion (λ i. i ≤ 1022) given
+
+-- its first piece is a location
+abbrev pub BeginsWithLocation : List ℕ → Type 0
+BeginsWithLocation word =
+    (n : ℕ) × (more : List (List ℕ)) × (n ≤ 1022) × (pieces word ≡ decimal n ∷ more)
 
 -- it lists none
 abbrev pub IsNoListOfLocations : List ℕ → Type 0

@@ -6,11 +6,13 @@ use Rattle.bech32_numbers.specs.Numbers.{number_of_encode_error, number_of_check
 use Rattle.bech32_numbers.specs.Numbers.{number_of_segwit_decode_error}
 use Rattle.bech32_numbers.specs.Numbers.{number_of_segwit_encode_error}
 use Rattle.bech32_numbers.specs.Numbers.{number_of_elements_error, number_of_text_decode_error}
+use Rattle.liquid.specs.Numbers.{number_of_confidential_encode_error, number_of_confidential_error}
 use Rattle.b32_replies.specs.declared.refusal.Refusal.{Refusal}
 use Rattle.b32_replies.specs.declared.refusal.Refusal.TheVariants.{BadNumber, BadHex, Hrp}
 use Rattle.b32_replies.specs.declared.refusal.Refusal.TheVariants.{Encode, Decode, SegwitEncode}
 use Rattle.b32_replies.specs.declared.refusal.Refusal.TheVariants.{SegwitDecode, Correct, Memory}
 use Rattle.b32_replies.specs.declared.refusal.Refusal.TheVariants.{Text, Elements}
+use Rattle.b32_replies.specs.declared.refusal.Refusal.TheVariants.{LiquidEncode, LiquidDecode}
 
 -- of any refusal
 abbrev pub number_of_reply : Refusal → ℕ
@@ -24,4 +26,6 @@ number_of_reply (Elements e) = number_of_elements_error e
 number_of_reply (SegwitEncode e) = number_of_segwit_encode_error e
 number_of_reply (SegwitDecode e) = number_of_segwit_decode_error e
 number_of_reply (Correct e) = number_of_checked_error e
+number_of_reply (LiquidEncode e) = number_of_confidential_encode_error e
+number_of_reply (LiquidDecode e) = number_of_confidential_error e
 number_of_reply Memory = 91

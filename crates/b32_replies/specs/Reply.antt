@@ -1,6 +1,6 @@
 -- What may be said of a line.
 use Rattle.std.specs.Prelude.{◌≡◌, ◌<◌, ◌≤◌, ◌⊎◌, ℕ, List, [], ◌∷◌}
-use Rattle.std.specs.Prelude.{◌++◌, codes, MatchOption}
+use Rattle.std.specs.Prelude.{◌++◌, codes, length, MatchOption, Some}
 use Rattle.std.specs.Fmt.{decimal}
 use Rattle.bech32_gf.specs.declared.gf32.Fe32.{Fe32}
 use Rattle.bech32_bits.specs.Bits.{to_fes}
@@ -13,11 +13,16 @@ use Rattle.bech32_correction.specs.Mistyped.{HasNoListing, IsListingOf, IsMended
 use Rattle.bech32_encode.specs.TextLength.{encoded_length_of}
 use Rattle.bech32.specs.Elements.{AreValues, Fits, IsElementsEncodeRefusal, IsElementsDecodeRefusal}
 use Rattle.bech32.specs.Elements.{elements_in}
-use Rattle.bech32.specs.Refusals.{IsDecodeRefusal}
+use Rattle.bech32.specs.Refusals.{IsDecodeRefusal, IsEncodeRefusal}
 use Rattle.bech32.specs.Spelling.{IsSpelledBy, IsStrictRefusal}
 use Rattle.bech32_decode.specs.Segwit.{IsLowerAddress, IsAddress}
 use Rattle.bech32_segwit.specs.SegwitDecoding.{IsSegwitDecodeRefusal}
 use Rattle.bech32_segwit.specs.SegwitEncoding.{IsSegwitEncodeRefusal}
+use Rattle.blech32.specs.Words.{blech32_code}
+use Rattle.liquid.specs.Confidential.{IsDecodedConfidential, IsLowerConfidential}
+use Rattle.liquid.specs.Numbers.{number_of_confidential_encode_error, number_of_confidential_error}
+use Rattle.liquid.specs.Refusals.{IsConfidentialRefusal}
+use Rattle.liquid.specs.Writing.{IsConfidentialEncodeRefusal}
 use Rattle.line_program.specs.Refused.{SaysRefusal, err}
 use Rattle.line_program.specs.Reply.{IsReplyBy}
 use Rattle.b32_replies.specs.Hex.{AreBytes, IsHex, bytes_of, hex_of}
@@ -26,10 +31,22 @@ use Rattle.bech32_numbers.specs.Numbers.{number_of_decode_error, number_of_eleme
 use Rattle.bech32_numbers.specs.Numbers.{number_of_text_decode_error}
 use Rattle.bech32_numbers.specs.Numbers.{number_of_segwit_decode_error}
 use Rattle.bech32_numbers.specs.Numbers.{number_of_segwit_encode_error}
+use Rattle.b32_replies.specs.Numbers.{number_of_reply}
+use Rattle.b32_replies.specs.declared.long_command.Kind.{Kind}
+use Rattle.b32_replies.specs.declared.long_command.Kind.TheVariants.{Bytes, Elements}
+use Rattle.b32_replies.specs.declared.refusal.Refusal.{Refusal}
+use Rattle.b32_replies.specs.declared.refusal.Refusal.TheVariants.{Encode as EncodeRefusal}
+use Rattle.b32_replies.specs.declared.refusal.Refusal.TheVariants.{Elements as ElementsRefusal}
+use Rattle.bech32.specs.declared.error.EncodeError.TheVariants.{Memory as no_encode_memory}
+use Rattle.bech32.specs.declared.error.ElementsError.TheVariants.{Memory as no_elements_memory}
+use Rattle.bech32.specs.declared.error.TextError.{TextError}
 use Rattle.b32_replies.specs.Locations.{AreLocations, IsNoListOfLocations}
 use Rattle.b32_replies.specs.Request.{Request, Encode, Decode, SegwitEncode, SegwitDecode}
 use Rattle.b32_replies.specs.Request.{DecodeStrict, EncodeElements, DecodeElements}
-use Rattle.b32_replies.specs.Request.{Correct, CorrectAt, code_of_name, request_of}
+use Rattle.b32_replies.specs.Request.{Correct, CorrectAt, code_of_name}
+use Rattle.b32_replies.specs.LongRequest.{LongRequest, LongEncode, LongDecode, LiquidEncode}
+use Rattle.b32_replies.specs.LongRequest.{LiquidDecode, LineRequest, Short, Long, code_of_long}
+use Rattle.b32_replies.specs.LongRequest.{line_request_of, long_request_of}
 
 -- an answer, or out of memory for the bytes of a word of hex digits
 abbrev pub OrNoMemory : List ℕ → (List ℕ → Type 0) → List ℕ → Type 0
@@ -213,6 +230,153 @@ IsAnswer (Correct checksum text) said = IsCorrectAnswer (code_of_name checksum) 
 IsAnswer (CorrectAt checksum text word) said =
     IsCorrectAtAnswer (code_of_name checksum) text word said
 
+-- ---- long texts and confidential addresses
+
+-- the elements of bytes, or of the numbers of elements
+abbrev pub elements_by : Kind → List ℕ → List Fe32
+elements_by Bytes values = to_fes values
+elements_by Elements values = elements_in values
+
+-- numbers that may be so
+abbrev pub MayBe : Kind → List ℕ → Type 0
+MayBe Bytes values = Unit {0}
+MayBe Elements values = AreValues values
+
+-- the text of a human-readable part and data, which fits in the code
+pub record IsLongWritten (kind : Kind) (code : Code) (hrp values text : List ℕ)
+    : Type 0 where
+  pub is_text : IsEncodedText code hrp (elements_by kind values) text
+  pub fits : encoded_length_of code hrp (elements_by kind values) ≤ code.code_length
+  pub may_be : MayBe kind values
+
+-- why it is not written
+abbrev pub IsNotWritten : Kind → Code → List ℕ → List ℕ → Refusal → Type 0
+IsNotWritten Bytes code hrp values (EncodeRefusal e) = IsEncodeRefusal code hrp (to_fes values) e
+IsNotWritten Elements code hrp values (ElementsRefusal e) =
+    IsElementsEncodeRefusal code hrp values e
+IsNotWritten kind code hrp values _ = ⊥
+
+-- the refusal of a text for which there is no memory
+abbrev pub memory_refusal : Kind → Refusal
+memory_refusal Bytes = EncodeRefusal no_encode_memory
+memory_refusal Elements = ElementsRefusal no_elements_memory
+
+-- the text is said
+pub record SaysWritten (kind : Kind) (code : Code) (hrp values said : List ℕ) : Type 0 where
+  pub text : List ℕ
+  pub written : IsLongWritten kind code hrp values text
+  pub spelling : said ≡ codes "ok " ++ text
+
+-- the answer to `encode` and `encode-elements` of long texts: bad hex is refused, then a bad
+-- human-readable part; memory for the bytes of the hex may run out first
+abbrev pub IsLongEncodeAnswer : Kind → Code → List ℕ → List ℕ → List ℕ → Type 0
+IsLongEncodeAnswer kind code hrp hex said =
+    OrNoMemory hex (λ said. MatchOption (bytes_of hex)
+    (said ≡ err 5)
+    (λ values. MatchOption (hrp_refusal hrp)
+    (SaysWritten kind code hrp values said
+    ⊎ SaysRefusal (IsNotWritten kind code hrp values) number_of_reply said)
+    (λ error. said ≡ err (number_of_hrp_error error)))) said
+
+-- the text is the only spelling of a human-readable part and data
+pub record IsLongRead (kind : Kind) (code : Code) (text hrp values : List ℕ) : Type 0 where
+  pub is_spelled : IsSpelledBy code text hrp (elements_by kind values)
+  pub may_be : MayBe kind values
+
+-- why it is that of none
+abbrev pub IsNotRead : Kind → Code → List ℕ → TextError → Type 0
+IsNotRead Bytes code text e = IsStrictRefusal code text e
+IsNotRead Elements code text e = IsElementsDecodeRefusal code text e
+
+-- the human-readable part, in lower case, and the data are said
+pub record SaysRead (kind : Kind) (code : Code) (text said : List ℕ) : Type 0 where
+  pub hrp : List ℕ
+  pub values : List ℕ
+  pub is_read : IsLongRead kind code text hrp values
+  pub spelling : said ≡ codes "ok " ++ (lowered hrp ++ (32 ∷ hex_of values))
+
+-- the answer to `decode-strict` and `decode-elements` of long texts
+abbrev pub IsLongDecodeAnswer : Kind → Code → List ℕ → List ℕ → Type 0
+IsLongDecodeAnswer kind code text said =
+    SaysRead kind code text said
+    ⊎ SaysRefusal (IsNotRead kind code text) number_of_text_decode_error said
+
+-- the word is the bytes of a blinding key
+abbrev pub IsKeyWord : List ℕ → List ℕ → Type 0
+IsKeyWord word key = (bytes_of word ≡ Some key) × (length key ≡ 33)
+
+-- it is those of none
+abbrev pub IsNoKey : List ℕ → Type 0
+IsNoKey word = (key : List ℕ) → IsKeyWord word key → ⊥
+
+-- the confidential address of a human-readable part, a version, a blinding key and a program is
+-- said
+pub record SaysConfidential (hrp : List ℕ) (version : Fe32) (key program said : List ℕ)
+    : Type 0 where
+  pub text : List ℕ
+  pub is_address : IsLowerConfidential blech32_code hrp version key program text
+  pub spelling : said ≡ codes "ok " ++ text
+
+-- the answer to `liquid-encode` with this version and this blinding key: bad hex is refused, then a
+-- bad human-readable part
+abbrev pub IsKeyedAnswer : List ℕ → Fe32 → List ℕ → List ℕ → List ℕ → Type 0
+IsKeyedAnswer hrp version key hex said =
+    MatchOption (bytes_of hex)
+    (said ≡ err 5)
+    (λ program. MatchOption (hrp_refusal hrp)
+    (SaysConfidential hrp version key program said
+    ⊎ SaysRefusal (IsConfidentialEncodeRefusal version (length program))
+    number_of_confidential_encode_error said)
+    (λ error. said ≡ err (number_of_hrp_error error)))
+
+-- and with any words: a bad number is refused first, then a word that is no blinding key
+abbrev pub IsLiquidEncodeAnswer : List ℕ → List ℕ → List ℕ → List ℕ → List ℕ → Type 0
+IsLiquidEncodeAnswer hrp number key_word hex said =
+    (IsNoVersion number × (said ≡ err 4))
+    ⊎ ((version : Fe32) × IsVersionWord number version
+    × ((IsNoKey key_word × (said ≡ err 5))
+    ⊎ ((key : List ℕ) × IsKeyWord key_word key × IsKeyedAnswer hrp version key hex said)))
+
+-- the parts of a confidential address are said: its human-readable part, in lower case, its
+-- version, its blinding key and its program
+pub record SaysConfidentialParts (text said : List ℕ) : Type 0 where
+  pub hrp : List ℕ
+  pub version : Fe32
+  pub key : List ℕ
+  pub program : List ℕ
+  pub decoded : IsDecodedConfidential blech32_code text hrp version key program
+  pub are_bytes : AreBytes key × AreBytes program
+  pub spelling : said ≡ codes "ok " ++ (lowered hrp ++ (32 ∷ (decimal version.value
+      ++ (32 ∷ (hex_of key ++ (32 ∷ hex_of program))))))
+
+-- the answer to `liquid-decode`
+abbrev pub IsLiquidDecodeAnswer : List ℕ → List ℕ → Type 0
+IsLiquidDecodeAnswer text said =
+    SaysConfidentialParts text said
+    ⊎ SaysRefusal (IsConfidentialRefusal blech32_code text) number_of_confidential_error said
+
+-- the answer to such a request
+abbrev pub IsLongAnswer : LongRequest → List ℕ → Type 0
+IsLongAnswer (LongEncode kind checksum hrp hex) said =
+    IsLongEncodeAnswer kind (code_of_long checksum) hrp hex said
+IsLongAnswer (LongDecode kind checksum text) said =
+    IsLongDecodeAnswer kind (code_of_long checksum) text said
+IsLongAnswer (LiquidEncode hrp version key hex) said =
+    IsLiquidEncodeAnswer hrp version key hex said
+IsLongAnswer (LiquidDecode text) said = IsLiquidDecodeAnswer text said
+
+-- ---- lines
+
+-- what may be said of a line that is no other command: it is such a request, or none
+abbrev pub IsLongOutcome : List ℕ → List ℕ → Type 0
+IsLongOutcome line said =
+    MatchOption (long_request_of line) (said ≡ err 3) (λ request. IsLongAnswer request said)
+
+-- the answer to a request of either kind
+abbrev pub IsLineAnswer : LineRequest → List ℕ → Type 0
+IsLineAnswer (Short request) said = IsAnswer request said
+IsLineAnswer (Long request) said = IsLongAnswer request said
+
 -- what may be said of a line
 abbrev pub IsReply : List ℕ → List ℕ → Type 0
-IsReply line said = IsReplyBy request_of IsAnswer line said
+IsReply line said = IsReplyBy line_request_of IsLineAnswer line said

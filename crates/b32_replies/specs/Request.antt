@@ -9,9 +9,8 @@ use Rattle.b32_replies.specs.declared.command.Command.{Command}
 use Rattle.b32_replies.specs.declared.command.Command.TheVariants.{Encode as EncodeCommand}
 use Rattle.b32_replies.specs.declared.command.Command.TheVariants.{Decode as DecodeCommand}
 use Rattle.b32_replies.specs.declared.command.Command.TheVariants.{
-  DecodeStrict as DecodeStrictCommand,
+  DecodeBy as DecodeByCommand,
   EncodeElements as EncodeElementsCommand,
-  DecodeElements as DecodeElementsCommand,
 }
 use Rattle.b32_replies.specs.declared.command.Command.TheVariants.{
   SegwitEncode as SegwitEncodeCommand,
@@ -19,6 +18,8 @@ use Rattle.b32_replies.specs.declared.command.Command.TheVariants.{
 }
 use Rattle.b32_replies.specs.declared.command.Command.TheVariants.{Correct as CorrectCommand}
 use Rattle.b32_replies.specs.declared.command.Command.TheVariants.{CorrectAt as CorrectAtCommand}
+use Rattle.b32_replies.specs.declared.content.Content.{Content}
+use Rattle.b32_replies.specs.declared.content.Content.TheVariants.{Bytes, Elements}
 use Rattle.line_program.specs.Words.{is_empty, request_by}
 
 -- the text of bytes, or the bytes of a text, which may have to be the only one of them; the text of
@@ -61,16 +62,21 @@ abbrev pub decode_request : List (List ℕ) → Option Request
 decode_request (text ∷ []) = Some (Decode text)
 decode_request _ = None
 
--- a text that is the only one of its bytes by the checksum of a word, if it is one
-abbrev pub decode_strict_under : Option ChecksumName → List ℕ → Option Request
-decode_strict_under None text = None
-decode_strict_under (Some checksum) text = Some (DecodeStrict checksum text)
+-- the bytes or the elements of a text by a checksum
+abbrev pub content_request : Content → ChecksumName → List ℕ → Request
+content_request Bytes checksum text = DecodeStrict checksum text
+content_request Elements checksum text = DecodeElements checksum text
 
--- `decode-strict CHECKSUM TEXT`
-abbrev pub decode_strict_request : List (List ℕ) → Option Request
-decode_strict_request (checksum ∷ text ∷ []) =
-    decode_strict_under (checksum_of_word checksum) text
-decode_strict_request _ = None
+-- the same by the checksum of a word, if it is one
+abbrev pub decode_by_under : Content → Option ChecksumName → List ℕ → Option Request
+decode_by_under content None text = None
+decode_by_under content (Some checksum) text = Some (content_request content checksum text)
+
+-- `decode-strict CHECKSUM TEXT` and `decode-elements CHECKSUM TEXT`
+abbrev pub decode_by_request : Content → List (List ℕ) → Option Request
+decode_by_request content (checksum ∷ text ∷ []) =
+    decode_by_under content (checksum_of_word checksum) text
+decode_by_request content _ = None
 
 -- the text of elements by the checksum of a word, if it is one
 abbrev pub encode_elements_under : Option ChecksumName → List ℕ → List ℕ → Option Request
@@ -82,17 +88,6 @@ abbrev pub encode_elements_request : List (List ℕ) → Option Request
 encode_elements_request (checksum ∷ hrp ∷ hex ∷ []) =
     encode_elements_under (checksum_of_word checksum) hrp hex
 encode_elements_request _ = None
-
--- the elements of a text by the checksum of a word, if it is one
-abbrev pub decode_elements_under : Option ChecksumName → List ℕ → Option Request
-decode_elements_under None text = None
-decode_elements_under (Some checksum) text = Some (DecodeElements checksum text)
-
--- `decode-elements CHECKSUM TEXT`
-abbrev pub decode_elements_request : List (List ℕ) → Option Request
-decode_elements_request (checksum ∷ text ∷ []) =
-    decode_elements_under (checksum_of_word checksum) text
-decode_elements_request _ = None
 
 -- `segwit-encode HRP VERSION HEX`
 abbrev pub segwit_encode_request : List (List ℕ) → Option Request
@@ -126,20 +121,15 @@ abbrev pub correct_arguments : List (List ℕ) → Option Request
 correct_arguments arguments =
     if list_any is_empty arguments then None else correct_request arguments
 
--- what those behind `decode-strict` do
-abbrev pub decode_strict_arguments : List (List ℕ) → Option Request
-decode_strict_arguments arguments =
-    if list_any is_empty arguments then None else decode_strict_request arguments
+-- what those behind `decode-strict` and `decode-elements` do
+abbrev pub decode_by_arguments : Content → List (List ℕ) → Option Request
+decode_by_arguments content arguments =
+    if list_any is_empty arguments then None else decode_by_request content arguments
 
 -- what those behind `encode-elements` do
 abbrev pub encode_elements_arguments : List (List ℕ) → Option Request
 encode_elements_arguments arguments =
     if list_any is_empty arguments then None else encode_elements_request arguments
-
--- what those behind `decode-elements` do
-abbrev pub decode_elements_arguments : List (List ℕ) → Option Request
-decode_elements_arguments arguments =
-    if list_any is_empty arguments then None else decode_elements_request arguments
 
 -- what words ask for
 abbrev pub request_of_words : List (List ℕ) → Option Request
@@ -150,9 +140,9 @@ request_of_words (name ∷ arguments) =
     else (if bytes_eq name (codes "segwit-encode") then segwit_encode_request arguments
     else (if bytes_eq name (codes "segwit-decode") then segwit_decode_request arguments
     else (if bytes_eq name (codes "correct") then correct_request arguments
-    else (if bytes_eq name (codes "decode-strict") then decode_strict_request arguments
+    else (if bytes_eq name (codes "decode-strict") then decode_by_request Bytes arguments
     else (if bytes_eq name (codes "encode-elements") then encode_elements_request arguments
-    else (if bytes_eq name (codes "decode-elements") then decode_elements_request arguments
+    else (if bytes_eq name (codes "decode-elements") then decode_by_request Elements arguments
     else None)))))))
 
 -- what a line asks for, which has no empty word
@@ -163,10 +153,10 @@ request_of line = request_by request_of_words line
 abbrev pub request_of_command : Command → Request
 request_of_command (EncodeCommand checksum hrp hex) = Encode checksum hrp.now hex.now
 request_of_command (DecodeCommand text) = Decode text.now
-request_of_command (DecodeStrictCommand checksum text) = DecodeStrict checksum text.now
+request_of_command (DecodeByCommand checksum text content) =
+    content_request content checksum text.now
 request_of_command (EncodeElementsCommand checksum hrp hex) =
     EncodeElements checksum hrp.now hex.now
-request_of_command (DecodeElementsCommand checksum text) = DecodeElements checksum text.now
 request_of_command (SegwitEncodeCommand hrp version hex) = SegwitEncode hrp.now version.now hex.now
 request_of_command (SegwitDecodeCommand text) = SegwitDecode text.now
 request_of_command (CorrectCommand checksum text) = Correct checksum text.now

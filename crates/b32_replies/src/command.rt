@@ -3,10 +3,10 @@
 ghost use Rattle.std.specs.Prelude.{◌≡◌};
 ghost use Rattle.line_program.specs.Words.{Reads, words};
 ghost use Rattle.b32_replies.specs.Request.{checksum_of_word, correct_arguments};
-ghost use Rattle.b32_replies.specs.Request.{decode_elements_arguments, decode_strict_arguments};
-ghost use Rattle.b32_replies.specs.Request.{encode_elements_arguments, request_of};
-ghost use Rattle.b32_replies.specs.Request.{request_of_command};
+ghost use Rattle.b32_replies.specs.Request.{decode_by_arguments, encode_elements_arguments};
+ghost use Rattle.b32_replies.specs.Request.{request_of, request_of_command};
 
+use crate::content::Content;
 use line_program::{first_word, only_word};
 
 /// The checksum that a command names.
@@ -31,21 +31,18 @@ pub enum Command<'a> {
     Decode {
         text: &'a str,
     },
-    /// `decode-strict CHECKSUM TEXT`: the same of a text that is the only one of its bytes.
-    DecodeStrict {
+    /// `decode-strict CHECKSUM TEXT`: the same of a text that is the only one of its bytes;
+    /// `decode-elements CHECKSUM TEXT`: the elements of a text.
+    DecodeBy {
         checksum: ChecksumName,
         text: &'a str,
+        content: Content,
     },
     /// `encode-elements CHECKSUM HRP HEX`: the text of elements, a byte from 0 to 31 each.
     EncodeElements {
         checksum: ChecksumName,
         hrp: &'a str,
         hex: &'a str,
-    },
-    /// `decode-elements CHECKSUM TEXT`: the elements of a text.
-    DecodeElements {
-        checksum: ChecksumName,
-        text: &'a str,
     },
     /// `segwit-encode HRP VERSION HEX`: the segwit address of a program.
     SegwitEncode {
@@ -113,22 +110,26 @@ impl<'a> Command<'a> {
                 text: only_word(arguments)?,
             }),
             "correct" => Command::parse_correct(arguments),
-            "decode-strict" => Command::parse_strict(arguments),
+            "decode-strict" => Command::parse_decode_by(arguments, Content::Bytes),
             "encode-elements" => Command::parse_encode_elements(arguments),
-            "decode-elements" => Command::parse_decode_elements(arguments),
+            "decode-elements" => Command::parse_decode_by(arguments, Content::Elements),
             _ => None,
         }
     }
 
-    // Reads what stands behind `decode-strict`.
-    fn parse_strict(arguments: &'a str) -> Option<Command<'a>>
+    // Reads what stands behind `decode-strict` and `decode-elements`.
+    fn parse_decode_by(arguments: &'a str, content: Content) -> Option<Command<'a>>
         ensures { Reads request_of_command
-            (decode_strict_arguments (words arguments.now)) result }
+            (decode_by_arguments content (words arguments.now)) result }
     {
         let (name, text) = first_word(arguments)?;
         let checksum = checksum_named(name)?;
         let text = only_word(text)?;
-        Some(Command::DecodeStrict { checksum, text })
+        Some(Command::DecodeBy {
+            checksum,
+            text,
+            content,
+        })
     }
 
     // Reads what stands behind `encode-elements`.
@@ -141,17 +142,6 @@ impl<'a> Command<'a> {
         let (hrp, hex) = first_word(arguments)?;
         let hex = only_word(hex)?;
         Some(Command::EncodeElements { checksum, hrp, hex })
-    }
-
-    // Reads what stands behind `decode-elements`.
-    fn parse_decode_elements(arguments: &'a str) -> Option<Command<'a>>
-        ensures { Reads request_of_command
-            (decode_elements_arguments (words arguments.now)) result }
-    {
-        let (name, text) = first_word(arguments)?;
-        let checksum = checksum_named(name)?;
-        let text = only_word(text)?;
-        Some(Command::DecodeElements { checksum, text })
     }
 
     // Reads what stands behind `correct`.

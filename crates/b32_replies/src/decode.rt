@@ -5,8 +5,7 @@ ghost use Rattle.b32_replies.specs.Numbers.{number_of_reply};
 ghost use Rattle.line_program.specs.Added.{AddsOrRefuses};
 ghost use Rattle.b32_replies.specs.Reply.{IsDecodeAnswer};
 
-use crate::append::append_part;
-use crate::hex_word::append_hex;
+use crate::append::append_decoded;
 use crate::refusal::Refusal;
 use bech32::decode_in;
 use std::alloc::Allocator;
@@ -22,7 +21,6 @@ pub fn decode<A: Allocator + Copy>(alloc: A, text: &str, out: &mut Vec<u8>) -> R
         Ok(decoded) => decoded,
         Err(e) => return Err(Refusal::Decode(e)),
     };
-    append_part(out, &hrp);
-    append_hex(out, bytes.as_slice());
+    append_decoded(out, &hrp, bytes.as_slice());
     Ok(())
 }

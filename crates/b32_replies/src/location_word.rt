@@ -1,14 +1,15 @@
 //! Locations as a word: numbers up to 1022, in decimal, with commas between them.
 
-ghost use Rattle.std.specs.Prelude.{◌≡◌, ◌≢◌, ◌<◌, ◌≤◌, ℕ, List, [], ◌∷◌, length, take, MatchOption, MatchResult};
+ghost use Rattle.std.specs.Prelude.{◌≡◌, ◌≢◌, ◌⊎◌, ◌<◌, ◌≤◌, ℕ, List, [], ◌∷◌, ◌++◌, length, take, MatchOption, MatchResult};
 ghost use Rattle.std.specs.Fmt.{decimal};
 ghost use Rattle.bech32_bch.specs.Erasures.{with_erasures};
-ghost use Rattle.b32_replies.specs.Locations.{AreLocations, IsNoListOfLocations};
+ghost use Rattle.b32_replies.specs.Locations.{AreLocations, BeginsWithLocation, IsNoListOfLocations};
 
 use crate::refusal::Refusal;
 use crate::version_word::digit_value;
 use bech32_bch::{ShortVec, contains};
 use bech32_correction::NoMemory;
+use std::alloc::Global;
 
 /// The highest location in a text.
 const MOST: usize = 1022;
@@ -69,4 +70,38 @@ pub fn locations_of_word(word: &str) -> Result<ShortVec<usize, NoMemory>, Refusa
     };
     add_location(&mut few, location);
     Ok(few)
+}
+
+/// The locations that a word lists, in its order.
+pub fn all_locations_of_word(alloc: Global, word: &str) -> Result<Vec<usize>, Refusal>
+    ensures { MatchResult result
+        (λ given. AreLocations word.now given.items)
+        (λ e. ((e ≡ Refusal.BadNumber) × IsNoListOfLocations word.now)
+        ⊎ ((e ≡ Refusal.Memory) × BeginsWithLocation word.now)) }
+{
+    let mut given = Vec::new(alloc);
+    let mut rest = word;
+    'pieces: while let Some((piece, others)) = rest.split_once(',') {
+        push_location(&mut given, piece)?;
+        rest = others;
+    }
+    push_location(&mut given, rest)?;
+    Ok(given)
+}
+
+// Adds the location that a word is.
+fn push_location(given: &mut Vec<usize>, word: &str) -> Result<(), Refusal>
+    ensures { MatchResult result
+        (λ _. (n : ℕ) × (n ≤ 1022) × (word.now ≡ decimal n)
+        × (given.new.items ≡ given.old.items ++ n ∷ []))
+        (λ e. ((e ≡ Refusal.BadNumber) × ((n : ℕ) → n ≤ 1022 → word.now ≢ decimal n))
+        ⊎ ((e ≡ Refusal.Memory) × (n : ℕ) × (n ≤ 1022) × (word.now ≡ decimal n))) }
+{
+    let Some(location) = location_of_word(word.as_bytes()) else {
+        return Err(Refusal::BadNumber);
+    };
+    match given.push(location) {
+        Ok(()) => Ok(()),
+        Err(_) => Err(Refusal::Memory),
+    }
 }

@@ -35,6 +35,10 @@ pub enum Refusal {
     SegwitDecode(segwit::DecodeError),
     /// The text is refused, and not for its residue.
     Correct(CheckedHrpstringError),
+    /// The confidential address is not written.
+    LiquidEncode(liquid::EncodeError),
+    /// The text is not decoded as a confidential address.
+    LiquidDecode(liquid::DecodeError),
     /// Out of memory for the reply.
     Memory,
 }
@@ -56,6 +60,8 @@ impl Refusal {
             Refusal::SegwitEncode(e) => segwit_encode_error_number(e),
             Refusal::SegwitDecode(e) => segwit_decode_error_number(e),
             Refusal::Correct(e) => checked_error_number(e),
+            Refusal::LiquidEncode(e) => liquid::encode_error_number(e),
+            Refusal::LiquidDecode(e) => liquid::decode_error_number(e),
             Refusal::Memory => 91,
         }
     }

@@ -1,24 +1,27 @@
 //! The replies to commands, by which `line_program` replies to a line.
 
-ghost use Rattle.std.specs.Prelude.{◌≡◌, ℕ, ◌+◌, ◌≤◌, List, [], ◌∷◌, ◌++◌};
-ghost use Rattle.std.specs.Prelude.{vec_len, vec_capacity};
+ghost use Rattle.std.specs.Prelude.{◌≡◌, ℕ, ◌+◌, ◌<◌, ◌≤◌, List, [], ◌∷◌, ◌++◌};
+ghost use Rattle.std.specs.Prelude.{vec_len, vec_capacity, IfErr, OnOk};
 ghost use Rattle.b32_replies.specs.Numbers.{number_of_reply};
-ghost use Rattle.b32_replies.specs.Request.{Request, request_of, request_of_command};
-ghost use Rattle.line_program.specs.Added.{AddsOrRefuses};
-ghost use Rattle.b32_replies.specs.Reply.{IsAnswer, IsReply};
+ghost use Rattle.b32_replies.specs.Request.{request_of_command};
+ghost use Rattle.line_program.specs.Added.{AddsOrRefuses, AddsOrSaysNumber};
+ghost use Rattle.line_program.specs.Reply.{IsReplyBy};
+ghost use Rattle.b32_replies.specs.LongRequest.{line_request_of};
+ghost use Rattle.b32_replies.specs.Reply.{IsAnswer, IsLineAnswer, IsReply};
 
 use crate::command::{ChecksumName, Command};
+use crate::content::decode_by;
 use crate::correct::correct;
 use crate::decode::decode;
-use crate::elements::{decode_elements_by, encode_elements_by};
+use crate::elements::encode_elements;
 use crate::encode::encode;
 use crate::location_word::locations_of_word;
+use crate::long_reply::answer_long;
 use crate::refusal::Refusal;
 use crate::segwit_decode::segwit_decode;
 use crate::segwit_encode::segwit_encode;
-use crate::strict::decode_strict_by;
 use bech32::{Bech32, Bech32m};
-use line_program::{Execute, NotExecuted, Replies};
+use line_program::{Replies, end_reply, text_of_line};
 use std::alloc::Allocator;
 
 /// Adds the answer to a command, or leaves all as it was.
@@ -38,13 +41,15 @@ fn execute_command<A: Allocator + Copy>(
             ChecksumName::Bech32m => encode::<Bech32m>(hrp, hex, out),
         },
         Command::Decode { text } => decode(alloc, text, out),
-        Command::DecodeStrict { checksum, text } => decode_strict_by(alloc, checksum, text, out),
-        Command::EncodeElements { checksum, hrp, hex } => {
-            encode_elements_by(alloc, checksum, hrp, hex, out)
-        }
-        Command::DecodeElements { checksum, text } => {
-            decode_elements_by(alloc, checksum, text, out)
-        }
+        Command::DecodeBy {
+            checksum,
+            text,
+            content,
+        } => decode_by(alloc, checksum, text, content, out),
+        Command::EncodeElements { checksum, hrp, hex } => match checksum {
+            ChecksumName::Bech32 => encode_elements::<Bech32, A>(alloc, hrp, hex, out),
+            ChecksumName::Bech32m => encode_elements::<Bech32m, A>(alloc, hrp, hex, out),
+        },
         Command::SegwitEncode { hrp, version, hex } => segwit_encode(alloc, hrp, version, hex, out),
         Command::SegwitDecode { text } => segwit_decode(alloc, text, out),
         Command::Correct { checksum, text } => correct(checksum, text, &[], out),
@@ -65,21 +70,37 @@ pub struct Commands<A> {
     pub alloc: A,
 }
 
-impl<A: Allocator + Copy> Execute for Commands<A> {
-    ghost request = { Request };
-
-    ghost request_of = { request_of };
-
-    ghost is_answer = { IsAnswer };
-
-    fn execute(&self, text: &str, out: &mut Vec<u8>) -> Result<(), NotExecuted> {
+impl<A: Allocator + Copy> Commands<A> {
+    // Adds what is said of a line, or leaves all as it was and returns the number of the refusal.
+    fn answer_line(&self, line: &[u8], out: &mut Vec<u8>) -> Result<(), u8>
+        requires { vec_len out.old + 2048 ≤ vec_capacity out.old }
+        ensures answer { AddsOrSaysNumber (IsReply line.now) result out.old.items out.new.items }
+        ensures small { IfErr result (λ number. number < 100) }
+        ensures room { OnOk result (vec_len out.new + 1 ≤ vec_capacity out.new) }
+        ensures capacity { vec_capacity out.old ≤ vec_capacity out.new }
+    {
+        let text = text_of_line(line)?;
         let Some(command) = Command::parse(text) else {
-            return Err(NotExecuted::NoCommand);
+            return answer_long(self.alloc, text, out);
         };
-        match execute_command(self.alloc, command, out) {
-            Ok(()) => Ok(()),
-            Err(refusal) => Err(NotExecuted::Refused(refusal.number())),
+        if let Err(refusal) = execute_command(self.alloc, command, out) {
+            return Err(refusal.number());
         }
+        Ok(())
+    }
+}
+
+// The reply to a line of a long text may be longer than the room of the commands of `Execute`.
+impl<A: Allocator + Copy> Replies for Commands<A> {
+    ghost use Rattle.line_program.specs.laws.LongLines.{long_lines};
+
+    ghost is_reply = { IsReplyBy line_request_of IsLineAnswer };
+
+    ghost too_long = { long_lines line_request_of IsLineAnswer };
+
+    fn reply(&self, line: &[u8], out: &mut Vec<u8>) {
+        let answered = self.answer_line(line, out);
+        end_reply(answered, out);
     }
 }
 

@@ -1,6 +1,10 @@
+pub mod DescriptorReplies
 pub mod Faults
 pub mod Few
+pub mod LiquidReplies
+pub mod Listed
 pub mod OneAnswer
+pub mod OtherCommands
 pub mod Replies
 pub mod Split
 pub mod Suggested

@@ -46,7 +46,7 @@ module _ (code : Code) (text given word : List ℕ) where
 
 -- ---- what is said of texts
 
-spaced_of : {A : Type 0} (f : A → List (ℕ × Fe32) × List ℕ) (near : List A) → spaced (map (λ m. m.1) (map f near)) ≡ flat_map (λ m. 32 ∷ (f m).1) near
+pub spaced_of : {A : Type 0} (f : A → List (ℕ × Fe32) × List ℕ) (near : List A) → spaced (map (λ m. m.1) (map f near)) ≡ flat_map (λ m. 32 ∷ (f m).1) near
 spaced_of f [] = refl
 spaced_of f (m ∷ ms) = ap (λ (l : List ℕ). (32 ∷ (f m).1) ++ l) (spaced_of f ms)
 

@@ -1,6 +1,6 @@
 -- What may be said of a request. Of lines that ask for nothing `line_program` says it.
-use Rattle.std.specs.Prelude.{◌≡◌, ◌⊎◌, ℕ, List, [], ◌∷◌, ◌++◌, codes, flat_map, map, MatchOption}
-use Rattle.std.specs.Prelude.{None, Some}
+use Rattle.std.specs.Prelude.{◌≡◌, ◌⊎◌, ◌<◌, ℕ, List, [], ◌∷◌, ◌++◌, codes, flat_map, length, map}
+use Rattle.std.specs.Prelude.{None, Some, MatchOption, position}
 use Rattle.std.specs.Fmt.{decimal}
 use Rattle.bech32_gf.specs.declared.gf32.Fe32.{Fe32}
 use Rattle.bech32_checksum.specs.Code.{Code, bech32, bech32m}
@@ -25,12 +25,24 @@ use Rattle.bech32_suggest.specs.declared.mendings.Mending.TheVariants.{Swapped a
 use Rattle.bech32_numbers.specs.Numbers.{number_of_checked_error, number_of_hrp_error}
 use Rattle.bech32_refusals.specs.declared.error.CheckedHrpstringError.{CheckedHrpstringError}
 use Rattle.bech32_calls.specs.Place.{IsPlace}
-use Rattle.b32_replies.specs.Locations.{AreLocations, IsNoListOfLocations}
+use Rattle.bech32_descriptor.specs.Descriptor.{IsCheckRefusal, IsChecksum, IsDescriptor}
+use Rattle.bech32_descriptor.specs.Descriptor.{is_stranger}
+use Rattle.bech32_descriptor.specs.Mends.{AreMends}
+use Rattle.bech32_descriptor.specs.declared.edits.Change.{Change as DescriptorChange}
+use Rattle.bech32_descriptor.specs.declared.edits.Change.TheVariants as descriptor_changes
+use Rattle.bech32_descriptor.specs.declared.edits.Edit.{Edit as DescriptorEdit}
+use Rattle.bech32_descriptor.specs.declared.error.CheckError.{CheckError}
+use Rattle.bech32_descriptor.specs.declared.error.CheckError.TheVariants.{InvalidCharacter}
+use Rattle.bech32_descriptor.specs.declared.error.CheckError.TheVariants.{NoChecksum, WrongChecksum}
+use Rattle.blech32.specs.Words.{blech32_code}
+use Rattle.b32_replies.specs.Locations.{AreLocations, BeginsWithLocation, IsNoListOfLocations}
 use Rattle.b32_replies.specs.Request.{code_of_name}
 use Rattle.line_program.specs.Refused.{SaysRefusal, err}
+use Rattle.mend.specs.Found.{said_of_found}
 use Rattle.mend.specs.Numbers.{number_of_correct_error, number_of_edits_error}
 use Rattle.mend.specs.Request.{MendRequest, Nearest, NearestAt, Edits, Fault, Suggest, Checksum}
-use Rattle.mend.specs.Request.{errors_of_word}
+use Rattle.mend.specs.Request.{Liquid, LiquidAt, Descriptor, DescriptorCheck, DescriptorChecksum}
+use Rattle.mend.specs.Request.{errors_of_word, liquid_errors_of_word}
 
 -- texts, each with a space before it
 abbrev pub spaced : List (List ℕ) → List ℕ
@@ -75,8 +87,7 @@ word_of_change (PutIn x) = codes "put-in"
 
 -- what is done to a text, where, and the text that this makes, each with a space before it
 abbrev pub said_of_edit : Edit → List ℕ → List ℕ
-said_of_edit edit text =
-    (32 ∷ word_of_change edit.change) ++ ((32 ∷ decimal edit.location) ++ (32 ∷ text))
+said_of_edit edit text = said_of_found (word_of_change edit.change) edit.location text
 
 -- all texts that one edit makes of one are said, each with the edit, in their order
 pub record SaysEdits (code : Code) (text said : List ℕ) : Type 0 where
@@ -133,7 +144,7 @@ word_of_mending Replaced = codes "replaced"
 
 -- what is done to a typed text, where, and the address, each with a space before it
 abbrev pub said_of_suggestion : Suggested → List ℕ
-said_of_suggestion s = (32 ∷ word_of_mending s.1.0) ++ ((32 ∷ decimal s.1.1) ++ (32 ∷ s.0))
+said_of_suggestion s = said_of_found (word_of_mending s.1.0) s.1.1 s.0
 
 -- all suggestions for a text are said, in their order
 pub record SaysSuggestions (hrp text said : List ℕ) : Type 0 where
@@ -153,6 +164,76 @@ IsSuggestAnswer part text said =
     SaysRefusal (λ e. hrp_refusal part ≡ Some e) number_of_hrp_error said
     ⊎ ((hrp_refusal part ≡ None) × IsSuggestionsAnswer part text said)
 
+-- all confidential addresses near a text, by their checksum, are said, in their order
+pub record SaysLiquid (text given : List ℕ) (errors : ℕ) (said : List ℕ) : Type 0 where
+  pub found : List (List (ℕ × Fe32) × List ℕ)
+  pub near : AreNearTexts blech32_code (singleton_bound 1 6) text given errors found
+  pub spelling : said ≡ codes "ok" ++ spaced (map (λ m. m.1) found)
+
+-- the answer to `liquid`, where these locations are known to be wrong: a word that is no number of
+-- errors is refused first
+abbrev pub IsLiquidAnswer : List ℕ → List ℕ → List ℕ → List ℕ → Type 0
+IsLiquidAnswer text given word said =
+    MatchOption (liquid_errors_of_word word)
+    (said ≡ err 4)
+    (λ errors. SaysLiquid text given errors said
+    ⊎ SaysRefusal (IsNearTextsRefusal blech32_code text) number_of_correct_error said)
+
+-- the same where a word lists the locations: a word that lists none is refused, and memory for them
+-- may run out where its first piece is one
+abbrev pub IsLiquidAtAnswer : List ℕ → List ℕ → List ℕ → List ℕ → Type 0
+IsLiquidAtAnswer text locations word said =
+    (IsNoListOfLocations locations × (said ≡ err 4))
+    ⊎ ((BeginsWithLocation locations × (said ≡ err 91))
+    ⊎ ((given : List ℕ) × AreLocations locations given × IsLiquidAnswer text given word said))
+
+-- the word for what is done to a descriptor
+abbrev pub word_of_descriptor_change : DescriptorChange → List ℕ
+word_of_descriptor_change (descriptor_changes.Changed b) = codes "changed"
+word_of_descriptor_change descriptor_changes.Swapped = codes "swapped"
+word_of_descriptor_change descriptor_changes.LeftOut = codes "left-out"
+word_of_descriptor_change (descriptor_changes.PutIn b) = codes "put-in"
+
+-- what is done to a descriptor, where, and the descriptor that this makes, each with a space before
+-- it
+abbrev pub said_of_mend : DescriptorEdit → List ℕ → List ℕ
+said_of_mend edit text =
+    (32 ∷ word_of_descriptor_change edit.change) ++ ((32 ∷ decimal edit.place) ++ (32 ∷ text))
+
+-- all descriptors that one edit makes of a text are said, each with the edit, in their order
+pub record SaysMends (text said : List ℕ) : Type 0 where
+  pub found : List (DescriptorEdit × List ℕ)
+  pub are : AreMends 1 text found
+  pub spelling : said ≡ codes "ok" ++ flat_map (λ m. said_of_mend m.0 m.1) found
+
+-- the answer to `descriptor`: a text that is too long is refused, and memory may run out
+abbrev pub IsDescriptorAnswer : List ℕ → List ℕ → Type 0
+IsDescriptorAnswer text said =
+    SaysMends text said ⊎ (((7500 < length text) × (said ≡ err 89)) ⊎ (said ≡ err 91))
+
+-- a refusal with this number, and the place of a character
+abbrev pub err_at : ℕ → ℕ → List ℕ
+err_at number place = err number ++ (32 ∷ decimal place)
+
+-- how it is said that a text is no descriptor with its checksum
+abbrev pub said_of_check : CheckError → List ℕ
+said_of_check NoChecksum = err 88
+said_of_check (InvalidCharacter place) = err_at 80 place
+said_of_check WrongChecksum = err 33
+
+-- the answer to `descriptor-check`
+abbrev pub IsDescriptorCheckAnswer : List ℕ → List ℕ → Type 0
+IsDescriptorCheckAnswer text said =
+    (IsDescriptor text × (said ≡ codes "ok"))
+    ⊎ ((e : CheckError) × IsCheckRefusal text e × (said ≡ said_of_check e))
+
+-- the answer to `descriptor-checksum`: the checksum, or the place of the first character that may
+-- not stand in a descriptor
+abbrev pub IsDescriptorChecksumAnswer : List ℕ → List ℕ → Type 0
+IsDescriptorChecksumAnswer text said =
+    ((checksum : List ℕ) × IsChecksum text checksum × (said ≡ codes "ok " ++ checksum))
+    ⊎ ((place : ℕ) × (position is_stranger text ≡ Some place) × (said ≡ err_at 80 place))
+
 -- the answer to a request
 abbrev pub IsMendAnswer : MendRequest → List ℕ → Type 0
 IsMendAnswer (Nearest checksum text errors) said =
@@ -163,3 +244,8 @@ IsMendAnswer (Edits checksum text) said = IsEditsAnswer (code_of_name checksum) 
 IsMendAnswer (Fault checksum text) said = IsFaultAnswer (code_of_name checksum) text said
 IsMendAnswer (Suggest part text) said = IsSuggestAnswer part text said
 IsMendAnswer (Checksum text) said = IsChecksumAnswer text said
+IsMendAnswer (Liquid text errors) said = IsLiquidAnswer text [] errors said
+IsMendAnswer (LiquidAt text locations errors) said = IsLiquidAtAnswer text locations errors said
+IsMendAnswer (Descriptor text) said = IsDescriptorAnswer text said
+IsMendAnswer (DescriptorCheck text) said = IsDescriptorCheckAnswer text said
+IsMendAnswer (DescriptorChecksum text) said = IsDescriptorChecksumAnswer text said

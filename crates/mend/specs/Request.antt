@@ -1,16 +1,19 @@
 -- What a line asks for: its first word names a command, the others are its arguments.
-use Rattle.std.specs.Prelude.{ℕ, if◌then◌else◌, List, [], ◌∷◌, codes, Option, Some, None}
+use Rattle.std.specs.Prelude.{◌==◌, ℕ, if◌then◌else◌, List, [], ◌∷◌, codes, Option, Some, None}
 use Rattle.std.specs.List.{list_any}
 use Rattle.std.specs.Str.{bytes_eq}
 use Rattle.b32_replies.specs.Request.{checksum_of_word}
 use Rattle.b32_replies.specs.declared.command.ChecksumName.{ChecksumName}
-use Rattle.line_program.specs.Words.{is_empty, request_by}
+use Rattle.b32_replies.specs.Counted.{three_of, two_of}
+use Rattle.line_program.specs.Words.{is_empty, request_by, words}
 use Rattle.mend.specs.declared.command.Command.{Command}
 use Rattle.mend.specs.declared.command.Command.TheVariants as commands
 
 -- the texts near one, with or without locations that are known to be wrong; the texts that one edit
 -- makes of one; why a checksum refuses a text; the addresses with a human-readable part that
--- someone may have meant who typed a text; which checksum accepts a text; each argument as its word
+-- someone may have meant who typed a text; which checksum accepts a text; the confidential
+-- addresses near a text, with or without locations; the descriptors that one edit makes of a text,
+-- why a text is no descriptor, the checksum of one; each argument as its word
 pub data MendRequest : Type 0 where
   Nearest : (checksum : ChecksumName) (text errors : List ℕ) → MendRequest
   NearestAt : (checksum : ChecksumName) (text locations errors : List ℕ) → MendRequest
@@ -18,6 +21,11 @@ pub data MendRequest : Type 0 where
   Fault : (checksum : ChecksumName) (text : List ℕ) → MendRequest
   Suggest : (part text : List ℕ) → MendRequest
   Checksum : (text : List ℕ) → MendRequest
+  Liquid : (text errors : List ℕ) → MendRequest
+  LiquidAt : (text locations errors : List ℕ) → MendRequest
+  Descriptor : (text : List ℕ) → MendRequest
+  DescriptorCheck : (text : List ℕ) → MendRequest
+  DescriptorChecksum : (text : List ℕ) → MendRequest
 
 -- how many errors a word allows
 abbrev pub errors_of_word : List ℕ → Option ℕ
@@ -71,6 +79,54 @@ mend_request_of_words (name ∷ arguments) =
 abbrev pub mend_request_of : List ℕ → Option MendRequest
 mend_request_of line = request_by mend_request_of_words line
 
+-- ---- confidential addresses, and descriptors
+
+-- what arguments ask for, where they are there
+abbrev pub asks : {A : Type 0} → (A → MendRequest) → Option A → Option MendRequest
+asks request None = None
+asks request (Some arguments) = Some (request arguments)
+
+-- the first of two that asks for something
+abbrev pub first_request : Option MendRequest → Option MendRequest → Option MendRequest
+first_request None request = request
+first_request (Some asked) request = Some asked
+
+-- how many errors a word allows in a confidential address
+abbrev pub liquid_errors_of_word : List ℕ → Option ℕ
+liquid_errors_of_word word =
+    if bytes_eq word (codes "3") then Some 3 else errors_of_word word
+
+-- `liquid TEXT ERRORS` and `liquid TEXT LOCATIONS ERRORS`
+abbrev pub liquid_request : List (List ℕ) → Option MendRequest
+liquid_request arguments =
+    first_request (asks (λ a. Liquid a.0 a.1) (two_of arguments))
+    (asks (λ a. LiquidAt a.0 a.1.0 a.1.1) (three_of arguments))
+
+abbrev pub liquid_request_of : List (List ℕ) → Option MendRequest
+liquid_request_of [] = None
+liquid_request_of (name ∷ arguments) =
+    if bytes_eq name (codes "liquid") then liquid_request arguments else None
+
+-- what stands behind a front, where a line has it
+abbrev pub behind : List ℕ → List ℕ → Option (List ℕ)
+behind [] line = Some line
+behind (b ∷ bs) [] = None
+behind (b ∷ bs) (c ∷ cs) = if b == c then behind bs cs else None
+
+-- `descriptor TEXT`, `descriptor-check TEXT`, `descriptor-checksum TEXT`: the text is the rest of
+-- the line, and may have spaces, or be empty
+abbrev pub descriptor_request_of : List ℕ → Option MendRequest
+descriptor_request_of line =
+    first_request (asks Descriptor (behind (codes "descriptor ") line))
+    (first_request (asks DescriptorCheck (behind (codes "descriptor-check ") line))
+    (asks DescriptorChecksum (behind (codes "descriptor-checksum ") line)))
+
+-- what a line asks for
+abbrev pub mend_line_request_of : List ℕ → Option MendRequest
+mend_line_request_of line =
+    first_request (descriptor_request_of line)
+    (first_request (liquid_request_of (words line)) (mend_request_of line))
+
 -- ---- on the way
 
 -- what the words behind `nearest` ask for, of which none is empty
@@ -99,3 +155,9 @@ mend_request_of_command (commands.Edits checksum text) = Edits checksum text.now
 mend_request_of_command (commands.Fault checksum text) = Fault checksum text.now
 mend_request_of_command (commands.Suggest part text) = Suggest part.now text.now
 mend_request_of_command (commands.Checksum text) = Checksum text.now
+mend_request_of_command (commands.Liquid text errors) = Liquid text.now errors.now
+mend_request_of_command (commands.LiquidAt text locations errors) =
+    LiquidAt text.now locations.now errors.now
+mend_request_of_command (commands.Descriptor text) = Descriptor text.now
+mend_request_of_command (commands.DescriptorCheck text) = DescriptorCheck text.now
+mend_request_of_command (commands.DescriptorChecksum text) = DescriptorChecksum text.now

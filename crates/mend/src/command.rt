@@ -44,6 +44,29 @@ pub enum Command<'a> {
     Checksum {
         text: &'a str,
     },
+    /// `liquid TEXT ERRORS`: the confidential addresses near a mistyped one.
+    Liquid {
+        text: &'a str,
+        errors: &'a str,
+    },
+    /// `liquid TEXT LOCATIONS ERRORS`: the same, where characters are known to be wrong.
+    LiquidAt {
+        text: &'a str,
+        locations: &'a str,
+        errors: &'a str,
+    },
+    /// `descriptor TEXT`: the descriptors that one edit makes of a mistyped one.
+    Descriptor {
+        text: &'a str,
+    },
+    /// `descriptor-check TEXT`: why a text is no descriptor with its checksum.
+    DescriptorCheck {
+        text: &'a str,
+    },
+    /// `descriptor-checksum TEXT`: the checksum of a descriptor.
+    DescriptorChecksum {
+        text: &'a str,
+    },
 }
 
 /// How many errors a word allows: 0, 1 or 2.

@@ -29,7 +29,7 @@ fn tested(checksum: ChecksumName, text: &str) -> Result<(), CheckedHrpstringErro
 }
 
 // Adds a place, and a space before it.
-fn append_place(out: &mut Vec<u8>, place: usize)
+pub(crate) fn append_place(out: &mut Vec<u8>, place: usize)
     requires { vec_len out.old + 41 ≤ vec_capacity out.old }
     ensures items { out.new.items ≡ out.old.items ++ (32 ∷ decimal place) }
     ensures size { vec_len out.new ≤ vec_len out.old + 41 }

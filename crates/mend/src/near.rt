@@ -1,6 +1,6 @@
 //! Answers `nearest`.
 
-ghost use Rattle.std.specs.Prelude.{◌≡◌, ◌+◌, ◌<◌, ◌≤◌, ◌++◌, codes, flat_map, ◌∷◌, map, string_bytes, vec_len, vec_capacity, IfErr, IfOk, MatchResult, OnOk};
+ghost use Rattle.std.specs.Prelude.{◌≡◌, ◌+◌, ◌<◌, ◌≤◌, ◌∷◌, map, string_bytes, vec_len, vec_capacity, IfErr, MatchResult, OnOk};
 ghost use Rattle.bech32_checksum.specs.Roots.{singleton_bound};
 ghost use Rattle.bech32_near.specs.NearTexts.{AreNearTexts, IsNearestRefusal};
 ghost use Rattle.b32_replies.specs.Request.{code_of_name};
@@ -9,6 +9,7 @@ ghost use Rattle.mend.specs.Numbers.{number_of_correct_error};
 ghost use Rattle.mend.specs.Reply.{IsNearTextsAnswer, IsNearTextsRefusal, SaysNear};
 
 use crate::command::errors_in;
+use crate::found::{Found, said_of};
 use crate::numbers::{BAD_WORD, NO_MEMORY};
 use b32_replies::ChecksumName;
 use bech32::{Bech32, Bech32m, CorrectError, Mended, nearest};
@@ -17,7 +18,7 @@ use line_program::append_any;
 use std::alloc::{AllocError, Global};
 
 // The number of a refusal.
-fn correct_error_number(e: CorrectError) -> u8
+pub(crate) fn correct_error_number(e: CorrectError) -> u8
     ensures value { result ≡ number_of_correct_error e }
     ensures small { result < 100 }
 {
@@ -47,17 +48,13 @@ fn near_by(
     }
 }
 
-// What is said of texts: `ok`, and each with a space before it.
-fn said_of(alloc: Global, near: &[Mended]) -> Result<Vec<u8>, AllocError>
-    ensures { IfOk result (λ said. said.items
-        ≡ codes "ok" ++ flat_map (λ m. 32 ∷ string_bytes m.text) near.now) }
-{
-    let mut said = Vec::from_slice(alloc, b"ok")?;
-    for mended in near {
+impl Found for Mended {
+    ghost spelling = { λ m. 32 ∷ string_bytes m.text };
+
+    fn push_to(&self, said: &mut Vec<u8>) -> Result<(), AllocError> {
         said.push(b' ')?;
-        said.extend_from_slice(mended.text.as_bytes())?;
+        said.extend_from_slice(self.text.as_bytes())
     }
-    Ok(said)
 }
 
 // What is said of the texts near one.

@@ -4,14 +4,17 @@ ghost use Rattle.std.specs.Prelude.{◌+◌, ◌<◌, ◌≤◌, vec_len, vec_ca
 ghost use Rattle.line_program.specs.Added.{AddsOrSaysNumber};
 ghost use Rattle.line_program.specs.Reply.{IsReplyBy};
 ghost use Rattle.mend.specs.Reply.{IsMendAnswer};
-ghost use Rattle.mend.specs.Request.{mend_request_of, mend_request_of_command};
+ghost use Rattle.mend.specs.Request.{mend_line_request_of, mend_request_of_command};
 
 use crate::accepting::checksum;
 use crate::command::Command;
+use crate::descriptors::{descriptor, descriptor_check, descriptor_checksum};
 use crate::edits::edits;
 use crate::fault::fault;
+use crate::liquid_near::{liquid, listed};
 use crate::near::near_texts;
 use crate::numbers::BAD_WORD;
+use crate::other_command::command_in;
 use crate::suggest::suggest;
 use b32_replies::locations_of_word;
 use line_program::{Replies, end_reply, text_of_line};
@@ -57,20 +60,39 @@ impl Commands {
             }
             Command::Suggest { part, text } => suggest(self.alloc, part, text, out),
             Command::Checksum { text } => checksum(text, out),
+            Command::Liquid { text, errors } => liquid(self.alloc, text, (&[], errors), out),
+            Command::LiquidAt {
+                text,
+                locations,
+                errors,
+            } => {
+                let given = listed(self.alloc, locations)?;
+                liquid(self.alloc, text, (given.as_slice(), errors), out)
+            }
+            Command::Descriptor { text } => descriptor(self.alloc, text, out),
+            Command::DescriptorCheck { text } => {
+                descriptor_check(text, out);
+                Ok(())
+            }
+            Command::DescriptorChecksum { text } => {
+                descriptor_checksum(text, out);
+                Ok(())
+            }
         }
     }
 
     // Adds what is said of a line, or leaves all as it was and returns the number of the refusal.
     fn answer_line(&self, line: &[u8], out: &mut Vec<u8>) -> Result<(), u8>
         requires { vec_len out.old + 2048 ≤ vec_capacity out.old }
-        ensures answer { AddsOrSaysNumber (IsReplyBy mend_request_of IsMendAnswer line.now)
+        ensures answer { AddsOrSaysNumber (IsReplyBy mend_line_request_of IsMendAnswer
+            line.now)
             result out.old.items out.new.items }
         ensures small { IfErr result (λ number. number < 100) }
         ensures room { OnOk result (vec_len out.new + 1 ≤ vec_capacity out.new) }
         ensures capacity { vec_capacity out.old ≤ vec_capacity out.new }
     {
         let text = text_of_line(line)?;
-        let Some(command) = Command::parse(text) else {
+        let Some(command) = command_in(text) else {
             return Err(3);
         };
         self.answer(command, out)
@@ -81,9 +103,9 @@ impl Commands {
 impl Replies for Commands {
     ghost use Rattle.line_program.specs.laws.LongLines.{long_lines};
 
-    ghost is_reply = { IsReplyBy mend_request_of IsMendAnswer };
+    ghost is_reply = { IsReplyBy mend_line_request_of IsMendAnswer };
 
-    ghost too_long = { long_lines mend_request_of IsMendAnswer };
+    ghost too_long = { long_lines mend_line_request_of IsMendAnswer };
 
     fn reply(&self, line: &[u8], out: &mut Vec<u8>) {
         let answered = self.answer_line(line, out);

@@ -57,7 +57,12 @@ fn refused_at_first(
 #[test]
 fn each_request_refused(rt: HostRuntime) {
     // Each takes more memory than the smallest heap has.
-    let rows: [(&[u8], &[u8]); 2] = [
+    let rows: [(&[u8], &[u8]); 4] = [
+        (b"encode-elements long-bech32 a 001f", b"ok a1ql2pu6jt\n"),
+        (
+            b"decode-strict long-bech32m test1lu08d6qejxtdg4y5r3zarvary0c5xw7kmz4lky",
+            b"ok test ff1e76e8199196d454941c45d1b3a323f1433bd6\n",
+        ),
         (
             b"decode TB1VT82HPZY9SWH27Q5PSTZQKDGR02GN8F9CJJL2L",
             b"ok tb 62ceab84442c1d7578140c162059a81bd4899d25\n",
@@ -74,7 +79,13 @@ fn each_request_refused(rt: HostRuntime) {
 
 #[test]
 fn texts_and_corrections_take_no_memory(rt: HostRuntime) {
-    let rows: [(&[u8], &[u8]); 5] = [
+    let rows: [(&[u8], &[u8]); 6] = [
+        (
+            b"liquid-decode lq1qqf8er278e6nyvuwtgf39e6ewvdcnjupn9a86rzpx655y5lhkt0walu3djf9cklkxd3ryl\
+d97hu8h3xepw7sh2rlu7q45dcew5",
+            b"ok lq 0 024f91abc7cea64671cb42625ceb2e63713970332f4fa18826d5284a7ef65bdddf \
+f22d924b8b7ec66c464fb4bebf0f789b2177a175\n",
+        ),
         (
             b"encode bech32m test ff1e76e8199196d454941c45d1b3a323f1433bd6",
             b"ok test1lu08d6qejxtdg4y5r3zarvary0c5xw7kmz4lky\n",

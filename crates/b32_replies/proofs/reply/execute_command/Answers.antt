@@ -3,6 +3,7 @@ use Rattle.std.proofs.lemmas.Result.{err_from_is_err_and}
 use Rattle.line_program.proofs.Replied.{adds_or_refuses-weaker}
 use Rattle.b32_replies.specs.Numbers.{number_of_reply}
 use Rattle.b32_replies.specs.Request.{code_of_name}
+use Rattle.b32_replies.proofs.Contents.{answers-content}
 use Rattle.b32_replies.proofs.CorrectReplies.{says-at, says-refused_locations}
 use Rattle.b32_replies.proofs.reply.execute_command.Goals as goal
 
@@ -15,14 +16,17 @@ returns-in-Bech32m-clause-answer g c = rw c.in-Encode.is (rw c.in-Bech32m.is c.e
 pub returns-in-Decode-clause-answer : goal.returns-in-Decode-clause-answer
 returns-in-Decode-clause-answer g c = rw c.in-Decode.is c.decode.ensures.answer
 
-pub returns-in-DecodeStrict-clause-answer : goal.returns-in-DecodeStrict-clause-answer
-returns-in-DecodeStrict-clause-answer g c = rw c.in-DecodeStrict.is c.decode_strict_by.ensures.answer
+pub returns-in-DecodeBy-clause-answer : goal.returns-in-DecodeBy-clause-answer
+returns-in-DecodeBy-clause-answer g c =
+    rw c.in-DecodeBy.is (adds_or_refuses-weaker _ _ number_of_reply c.decode_by.result _ _
+    (answers-content c.in-DecodeBy.content c.in-DecodeBy.checksum c.in-DecodeBy.text.now)
+    c.decode_by.ensures.answer)
 
-pub returns-in-EncodeElements-clause-answer : goal.returns-in-EncodeElements-clause-answer
-returns-in-EncodeElements-clause-answer g c = rw c.in-EncodeElements.is c.encode_elements_by.ensures.answer
+pub returns-in-Bech32-checksum-clause-answer : goal.returns-in-Bech32-checksum-clause-answer
+returns-in-Bech32-checksum-clause-answer g c = rw c.in-EncodeElements.is (rw c.in-Bech32-checksum.is c.encode_elements.ensures.answer)
 
-pub returns-in-DecodeElements-clause-answer : goal.returns-in-DecodeElements-clause-answer
-returns-in-DecodeElements-clause-answer g c = rw c.in-DecodeElements.is c.decode_elements_by.ensures.answer
+pub returns-in-Bech32m-checksum-clause-answer : goal.returns-in-Bech32m-checksum-clause-answer
+returns-in-Bech32m-checksum-clause-answer g c = rw c.in-EncodeElements.is (rw c.in-Bech32m-checksum.is c.encode_elements-in-Bech32m-checksum.ensures.answer)
 
 pub returns-in-SegwitEncode-clause-answer : goal.returns-in-SegwitEncode-clause-answer
 returns-in-SegwitEncode-clause-answer g c = rw c.in-SegwitEncode.is c.segwit_encode.ensures.answer

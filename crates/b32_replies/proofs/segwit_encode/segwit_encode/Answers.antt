@@ -1,6 +1,5 @@
-use Rattle.std.proofs.Common.{◌≡◌, ◌∙◌, Some, sym, ap, refl}
+use Rattle.std.proofs.Common.{◌∙◌, Some, sym, ap, refl}
 use Rattle.std.proofs.lemmas.Result.{err_from_is_err_and}
-use Rattle.b32_replies.specs.Hex.{bytes_of}
 use Rattle.b32_replies.proofs.SegwitReplies.{says-bad_number, says-bad_hex, says-refused_hex}
 use Rattle.b32_replies.proofs.segwit_encode.segwit_encode.Goals as goal
 

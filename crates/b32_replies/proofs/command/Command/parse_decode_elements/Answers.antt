@@ -1,9 +1,0 @@
-use Rattle.std.proofs.Common.{refl, ap, ◌∙◌}
-use Rattle.b32_replies.specs.Request.{decode_elements_arguments, decode_elements_request}
-use Rattle.b32_replies.proofs.ElementsSplit.{no-second}
-use Rattle.b32_replies.proofs.command.Command.parse_decode_elements.Goals as goal
-
-pub returns-in_err-text : goal.returns-in_err-text
-returns-in_err-text c =
-    rw c.from_residual-in_err-text.ensures
-    (ap decode_elements_arguments c.in_ok-name.ensures.0 ∙ no-second decode_elements_request c.in_ok-name.text.now c.in_ok-name.name.now (λ x y more. refl) c.in_err-text.ensures)

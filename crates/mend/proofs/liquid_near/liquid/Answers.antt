@@ -1,0 +1,13 @@
+use Rattle.std.proofs.Common.{refl, sym}
+use Rattle.mend.proofs.LiquidReplies.{liquid-answer, liquid-bad_word}
+use Rattle.mend.proofs.Replies.{adds-wider}
+use Rattle.mend.proofs.liquid_near.liquid.Goals as goal
+
+pub returns-in_default-clause-answer : goal.returns-in_default-clause-answer
+returns-in_default-clause-answer c = (liquid-bad_word c.args.text.now c.args.asked.0.now c.args.asked.1.now (sym c.in_default.ensures), refl)
+
+pub returns-clause-answer : goal.returns-clause-answer
+returns-clause-answer c =
+    adds-wider _ _ c.append_said.result _ _
+    (λ t h. liquid-answer c.args.text.now c.args.asked.0.now c.args.asked.1.now c.in-Some.errors (sym c.in-Some.ensures) (λ s. s.items) c.said_near.result t c.said_near.ensures h)
+    c.append_said.ensures.answer
