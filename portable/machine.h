@@ -52,7 +52,7 @@ ALIGNED(16) static const union {
 }};
 
 #ifdef MACHINE_IS_TESTED
-#define PARTS 8u
+#define PARTS 12u
 
 typedef struct {
     u8 *at;

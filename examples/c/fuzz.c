@@ -187,6 +187,15 @@ static Function residue = {"bech32_residue", 0, {0}, of_residue};
 static const uint32_t of_suggest[] = {2, 11, 12, 13, 14, 15, 21, 22, 23, 91, 92, 0};
 static Function suggest_calls = {"bech32_suggest", 0, {0}, of_suggest};
 
+static const uint32_t of_check_many[] = {4, 0};
+static const uint32_t of_segwit_decode_many[] = {4, 92, 0};
+static const uint32_t of_segwit_encode_many[] = {4, 92, 0};
+static const uint32_t of_validity_of[] = {92, 0};
+static Function check_many_calls = {"bech32_check_many", 0, {0}, of_check_many};
+static Function segwit_decode_many_calls = {"bech32_segwit_decode_many", 0, {0}, of_segwit_decode_many};
+static Function segwit_encode_many_calls = {"bech32_segwit_encode_many", 0, {0}, of_segwit_encode_many};
+static Function validity_of_calls = {"bech32_validity_of", 0, {0}, of_validity_of};
+
 /* The sentences of the numbers. */
 static const uint32_t of_message[] = {92, 0};
 static const uint32_t of_codex32_message[] = {92, 0};
@@ -1903,8 +1912,9 @@ static void try_sentence(Function *function, Message *call, const uint32_t *know
 }
 
 static void try_message(void) {
+    static const uint32_t of_rows[] = {BECH32_NULL_ROW, BECH32_OTHER_HRP, 0};
     const uint32_t *known[] = {of_encode,  of_encode_elements, of_segwit_decode, of_segwit_encode,
-                               of_correct, of_liquid_decode,   of_suggest};
+                               of_correct, of_liquid_decode,   of_suggest,       of_rows};
     expect(bech32_version() == BECH32_VERSION_NUMBER, "another version");
     try_sentence(&message, bech32_message, known[below(sizeof known / sizeof *known)]);
 }
@@ -1923,6 +1933,8 @@ static const uint32_t of_descriptor_check[] = {33, 80, 88, 0};
 static Function descriptor_check = {"bech32_descriptor_check", 0, {0}, of_descriptor_check};
 static const uint32_t of_descriptor_mend[] = {4, 89, 91, 92, 0};
 static Function descriptor_mend = {"bech32_descriptor_mend", 0, {0}, of_descriptor_mend};
+static const uint32_t of_descriptor_mend_two[] = {89, 91, 92, 0};
+static Function descriptor_mend_two = {"bech32_descriptor_mend_two", 0, {0}, of_descriptor_mend_two};
 
 /* Characters of a descriptor, at times with a byte that is none. */
 static void random_characters(size_t most) {
@@ -1935,10 +1947,15 @@ static void random_characters(size_t most) {
     }
 }
 
+/* The longest descriptor here, and memory for its search, as ample_memory and some_memory are. */
+#define DESCRIPTOR 109u
+static _Alignas(16) uint8_t ample_for_descriptor[BECH32_DESCRIPTOR_TWO_MEMORY(DESCRIPTOR)];
+static _Alignas(16) uint8_t some_for_descriptor[BECH32_DESCRIPTOR_TWO_MEMORY(DESCRIPTOR)];
+
 /* A text with its checksum, of which often a character or two are other ones. */
 static void random_descriptor(void) {
     size_t length = 0, at = 0;
-    random_characters(100);
+    random_characters(DESCRIPTOR - 9);
     text[text_length] = '#';
     bech32_descriptor_checksum(text, text_length, text + text_length + 1, 8, &length, &at);
     text_length += length == 8 ? 9 : below(9);
@@ -2017,12 +2034,12 @@ static void try_descriptor_mend(void) {
     static uint8_t ample[EDITS * (MOST + 1)], ample_kinds[EDITS];
     static size_t ample_places[2 * EDITS];
     size_t all = 0, size_of_all = 0, fit = 0, fit_size = 0, changed = below(3);
-    bech32_memory whole = {ample_memory, sizeof ample_memory};
+    bech32_memory whole = {ample_for_descriptor, sizeof ample_for_descriptor};
     begin(&descriptor_mend);
     random_descriptor();
     uint32_t expected = bech32_descriptor_mend(text, text_length, changed, &whole, ample_kinds, EDITS, ample_places,
                                                2 * EDITS, ample, sizeof ample, &all);
-    expect(whole.start == ample_memory && whole.size == sizeof ample_memory, "the memory was kept");
+    expect(whole.start == ample_for_descriptor && whole.size == sizeof ample_for_descriptor, "the memory was kept");
     expect(expected == (changed > 1 ? BECH32_BAD_NUMBER : BECH32_OK), "another number");
     for (size_t i = 0; i < all; i++) {
         expect_mended(ample + size_of_all, ample_kinds[i], ample_places + 2 * i);
@@ -2030,8 +2047,8 @@ static void try_descriptor_mend(void) {
     }
     int is_small = percent(30);
     size_t enough = BECH32_DESCRIPTOR_MEND_MEMORY(text_length), size = is_small ? below(enough) : enough;
-    bech32_memory memory = {some_memory + (sizeof some_memory - size) / 16 * 16, size};
-    FORBID(some_memory, sizeof some_memory);
+    bech32_memory memory = {some_for_descriptor + (sizeof some_for_descriptor - size) / 16 * 16, size};
+    FORBID(some_for_descriptor, sizeof some_for_descriptor);
     ALLOW(memory.start, size);
     place(&read_1, text, text_length, 1);
     place(&memory_area, &memory, sizeof memory, sizeof(size_t));
@@ -2063,6 +2080,377 @@ static void try_descriptor_mend(void) {
     expect(fit_size == 0 || memcmp(written_1.buffer, ample, fit_size) == 0, "other texts");
 }
 
+/* Columns of random rows, in each layout, with nulls, with offsets that are wrong, and with buffers that end too soon. */
+enum { ROWS = 24 };
+static Area offsets_area, validity_area, column_area, numbers_area, versions_area, parts_area, places_area;
+static uint8_t column_bytes[AREA], column_offsets[8 * (ROWS + 1)];
+static bech32_column column;
+static size_t column_first, column_count;
+
+/* One row: a text, or a program, often of a length that a version allows. */
+static void random_row(int is_program) {
+    if (!is_program) {
+        random_text();
+        return;
+    }
+    random_data(45);
+    text_length = percent(60) ? 20 + 12 * below(2) : data_length;
+    memcpy(text, data, text_length);
+}
+
+static void put_offset(size_t i, uint64_t offset, size_t width) {
+    uint32_t narrow = (uint32_t)offset;
+    memcpy(column_offsets + i * width, width == 4 ? (const void *)&narrow : (const void *)&offset, width);
+}
+
+/* Rows one behind another, as many as there is room for: their offsets, and how many bytes they have. */
+static size_t random_rows(int is_program, size_t rows, size_t offset_width) {
+    size_t end = 0;
+    for (size_t i = 0; i < rows; i++) {
+        put_offset(i, end, offset_width);
+        random_row(is_program);
+        size_t length = column.layout >= BECH32_FIXED ? column.width : text_length;
+        length = length > AREA - end ? AREA - end : length;
+        memset(column_bytes + end, 0, length);
+        memcpy(column_bytes + end, text, text_length < length ? text_length : length);
+        end += length;
+    }
+    put_offset(rows, end, offset_width);
+    return end;
+}
+
+/* A length, or often less, so that a buffer ends too soon. */
+static size_t cut_short(size_t length) {
+    return percent(85) || length == 0 ? length : below(length);
+}
+
+static void random_column(int is_program) {
+    size_t rows = below(ROWS + 1), offset_width;
+    column.layout = percent(97) ? 1 + (uint32_t)below(4) : (uint32_t)next_number();
+    column.width = is_program && percent(60) ? 20 + 12 * below(2) : below(100);
+    offset_width = column.layout == BECH32_OFFSETS_64 ? 8 : 4;
+    place(&read_1, column_bytes, cut_short(random_rows(is_program, rows, offset_width)), 1);
+    for (size_t i = below(10); i < 2; i++) {
+        put_offset(below(rows + 1), percent(50) ? below(AREA) : next_number(), offset_width);
+    }
+    place(&offsets_area, column_offsets, percent(95) ? cut_short((rows + 1) * offset_width) : 0, 1);
+    for (size_t i = 0; i < ROWS / 8; i++) {
+        text[i] = (uint8_t)(next_number() | next_number());
+    }
+    place(&validity_area, text, percent(50) ? 0 : cut_short((rows + 7) / 8), 1);
+    column.bytes = read_1.buffer, column.bytes_length = read_1.length;
+    column.offsets = offsets_area.buffer, column.offsets_length = offsets_area.length;
+    column.validity = validity_area.buffer, column.validity_length = validity_area.length;
+    column.rows = percent(95) ? rows : below(ROWS + 1);
+    if (percent(2)) {
+        column.rows = column.width = SIZE_MAX;
+    }
+    place(&column_area, &column, sizeof column, sizeof(size_t));
+    column_first = below((column.rows < ROWS ? column.rows : ROWS) + 1);
+    column_count = below((column.rows < ROWS ? column.rows : ROWS) - column_first + 1);
+    if (percent(3)) {
+        column_first = percent(50) ? SIZE_MAX - below(ROWS) : column_first + ROWS;
+    }
+    place(&numbers_area, NULL, column_count, 1);
+}
+
+static const bech32_column *given_column(void) {
+    return (const bech32_column *)(void *)column_area.buffer;
+}
+
+static int has_rows(void) {
+    return column.layout >= 1 && column.layout <= 4 && column_first <= column.rows &&
+           column_count <= column.rows - column_first;
+}
+
+/* Offset i, or one behind all bytes where it is not there or is negative. */
+static size_t offset_of(size_t i) {
+    size_t width = column.layout == BECH32_OFFSETS_64 ? 8 : 4;
+    if ((i + 1) * width > column.offsets_length) {
+        return AREA + 1;
+    }
+    int64_t offset;
+    int32_t narrow;
+    memcpy(&offset, column_offsets + i * 8 / (8 / width), 8 <= width ? 8 : 0);
+    memcpy(&narrow, column_offsets + i * width, 4);
+    offset = width == 4 ? narrow : offset;
+    return offset < 0 || offset > AREA ? AREA + 1 : (size_t)offset;
+}
+
+/* The number of row `first + i` without its bytes, or 0, and then its bytes are in `text`. */
+static uint32_t read_row(size_t i) {
+    size_t row = column_first + i, start = 0, end = 0;
+    if (column.validity_length > 0) {
+        if (row / 8 >= column.validity_length) {
+            return BECH32_BAD_NUMBER;
+        }
+        if ((column.validity[row / 8] >> row % 8 & 1) == 0) {
+            return BECH32_NULL_ROW;
+        }
+    }
+    if (column.layout <= BECH32_OFFSETS_64) {
+        start = offset_of(row), end = offset_of(row + 1);
+    } else if (column.width > AREA) {
+        end = AREA + 1;
+    } else {
+        start = row * column.width, end = start + column.width;
+    }
+    if (start > end || end > column.bytes_length) {
+        return BECH32_BAD_NUMBER;
+    }
+    while (column.layout == BECH32_FIXED_ZERO && end > start && column_bytes[end - 1] == 0) {
+        end--;
+    }
+    text_length = end - start;
+    memcpy(text, column_bytes + start, text_length);
+    return BECH32_OK;
+}
+
+static void expect_column_kept(void) {
+    expect_kept(&read_1, 0, "the bytes of the column changed");
+    expect_kept(&offsets_area, 0, "the offsets of the column changed");
+    expect_kept(&validity_area, 0, "the validity of the column changed");
+    expect_kept(&column_area, 0, "the column changed");
+}
+
+static void try_check_many(void) {
+    uint32_t checksum = percent(90) ? (uint32_t)below(5) : (uint32_t)next_number();
+    begin(&check_many_calls);
+    random_column(0);
+    uint32_t number = bech32_check_many(checksum, given_column(), column_first, numbers_area.buffer, column_count);
+    count(&check_many_calls, number);
+    expect(number == (checksum <= 4 && has_rows() ? BECH32_OK : BECH32_BAD_NUMBER), "the answer");
+    expect_column_kept();
+    expect_kept(&numbers_area, number == BECH32_OK ? column_count : 0, "the numbers changed elsewhere");
+    for (size_t i = 0; number == BECH32_OK && i < column_count; i++) {
+        uint32_t expected = read_row(i);
+        size_t h, n;
+        if (expected == BECH32_OK) {
+            expected = bech32_check(checksum == 0 ? BECH32_BECH32M : checksum, text, text_length, &h, &n);
+            if (checksum == 0 && expected != BECH32_OK) {
+                expected = bech32_check(BECH32_BECH32, text, text_length, &h, &n);
+            }
+        }
+        expect(numbers_area.buffer[i] == expected, "another number of a row");
+    }
+}
+
+/* What a row of addresses gives. */
+typedef struct {
+    uint32_t number, version;
+    size_t hrp_length, length;
+    uint8_t program[BECH32_MAX_SEGWIT_PROGRAM];
+} Decoded;
+
+static void decode_one(size_t i, Decoded *row) {
+    uint8_t found[BECH32_MAX_HRP];
+    memset(row, 0, sizeof *row);
+    row->number = read_row(i);
+    if (row->number == BECH32_OK) {
+        row->number = bech32_segwit_decode(text, text_length, found, sizeof found, &row->hrp_length, &row->version,
+                                           row->program, sizeof row->program, &row->length);
+    }
+    if (row->number == BECH32_OK && part_length > 0 &&
+        (row->hrp_length != part_length || !same_lowered(found, part, part_length))) {
+        row->number = BECH32_OTHER_HRP;
+    }
+    if (row->number != BECH32_OK) {
+        row->version = 0, row->hrp_length = row->length = 0;
+    }
+}
+
+static int32_t place_in(size_t i) {
+    int32_t place;
+    memcpy(&place, places_area.buffer + 4 * i, sizeof place);
+    return place;
+}
+
+/* Room for so many items and some more, or none, or too little. */
+static size_t item_room(size_t items) {
+    return percent(60) ? items + below(3) : percent(60) ? 0 : below(items + 1);
+}
+
+static void try_segwit_decode_many(void) {
+    static const char *const wanted[] = {"", "bc", "TB", "a", "x"};
+    Decoded row;
+    size_t put = 0, done = 0;
+    int is_put = 1;
+    begin(&segwit_decode_many_calls);
+    random_column(0);
+    const char *one = wanted[below(5)];
+    size_t hrp_length = strlen(one);
+    place(&identifier_area, one, hrp_length, 1);
+    place(&versions_area, NULL, item_room(column_count), 1);
+    place(&parts_area, NULL, item_room(column_count), 1);
+    place(&places_area, NULL, 4 * item_room(column_count + 1), 4);
+    place(&written_2, NULL, percent(70) ? 40 * column_count : below(40 * column_count + 1), 1);
+    size_t *told = new_length(&length_1), places = places_area.length / 4;
+    uint32_t number = bech32_segwit_decode_many(
+        given_column(), column_first, identifier_area.buffer, hrp_length, numbers_area.buffer, column_count,
+        versions_area.buffer, versions_area.length, parts_area.buffer, parts_area.length,
+        (int32_t *)(void *)places_area.buffer, places, written_2.buffer, written_2.length, told);
+    count(&segwit_decode_many_calls, number);
+    expect_column_kept();
+    if (!has_rows()) {
+        expect(number == BECH32_BAD_NUMBER, "the answer without such rows");
+    }
+    for (; has_rows() && is_put && done < column_count; done += (size_t)is_put) {
+        memcpy(part, one, part_length = hrp_length);
+        decode_one(done, &row);
+        size_t length = places > 0 ? row.length : 0;
+        is_put = (versions_area.length == 0 || done < versions_area.length) &&
+                 (parts_area.length == 0 || done < parts_area.length) && (places == 0 || done + 1 < places) &&
+                 put + length <= written_2.length;
+        if (is_put) {
+            ALLOW(written_2.bytes, AREA);
+            expect(length == 0 || memcmp(written_2.buffer + put, row.program, length) == 0, "another program");
+            put += length;
+            expect(numbers_area.buffer[done] == row.number, "another number of a row");
+            expect(versions_area.length == 0 || versions_area.buffer[done] == row.version, "another version");
+            expect(parts_area.length == 0 || parts_area.buffer[done] == row.hrp_length, "another length of a part");
+            expect(places == 0 || place_in(done + 1) == (int32_t)put, "another offset");
+        }
+    }
+    int is_told = has_rows();
+    expect(!is_told || number == (done == column_count ? BECH32_OK : BECH32_NO_ROOM), "the answer");
+    expect(!is_told || places == 0 || place_in(0) == 0, "the first offset");
+    expect_kept(&identifier_area, 0, "the human-readable part changed");
+    expect_kept(&numbers_area, done, "the numbers changed elsewhere");
+    expect_kept(&versions_area, versions_area.length > 0 ? done : 0, "the versions changed elsewhere");
+    expect_kept(&parts_area, parts_area.length > 0 ? done : 0, "the lengths changed elsewhere");
+    expect_kept(&places_area, is_told && places > 0 ? 4 * (done + 1) : 0, "the offsets changed elsewhere");
+    expect_kept(&written_2, put, "the programs changed elsewhere");
+    expect_kept(&length_1, is_told ? sizeof done : 0, "the number of rows changed");
+    expect(!is_told || length_in(&length_1) == done, "another number of rows");
+}
+
+static void try_segwit_encode_many(void) {
+    uint8_t ample[AREA];
+    size_t put = 0, done = 0, length = 0;
+    int is_put = 1;
+    begin(&segwit_encode_many_calls);
+    random_column(1);
+    random_part();
+    place(&identifier_area, part, part_length, 1);
+    for (size_t i = 0; i < ROWS; i++) {
+        text[i] = (uint8_t)random_version();
+    }
+    place(&versions_area, text, percent(90) ? column_count : below(ROWS), 1);
+    place(&places_area, NULL, 4 * item_room(column_count + 1), 4);
+    place(&written_2, NULL, percent(70) ? 90 * column_count : below(90 * column_count + 1), 1);
+    size_t *told = new_length(&length_1), places = places_area.length / 4;
+    uint32_t number = bech32_segwit_encode_many(
+        identifier_area.buffer, part_length, versions_area.buffer, versions_area.length, given_column(), column_first,
+        numbers_area.buffer, column_count, (int32_t *)(void *)places_area.buffer, places, written_2.buffer,
+        written_2.length, told);
+    int is_told = has_rows() && versions_area.length >= column_count;
+    count(&segwit_encode_many_calls, number);
+    expect_column_kept();
+    expect(is_told || number == BECH32_BAD_NUMBER, "the answer without such rows");
+    for (; is_told && is_put && done < column_count; done += (size_t)is_put) {
+        uint32_t expected = read_row(done);
+        length = 0;
+        if (expected == BECH32_OK) {
+            expected = bech32_segwit_encode(part, part_length, versions_area.buffer[done], text, text_length, ample,
+                                            sizeof ample, &length);
+        }
+        is_put = done + 1 < places && put + length <= written_2.length;
+        if (is_put) {
+            ALLOW(written_2.bytes, AREA);
+            expect(length == 0 || memcmp(written_2.buffer + put, ample, length) == 0, "another address");
+            put += length;
+            expect(numbers_area.buffer[done] == expected, "another number of a row");
+            expect(place_in(done + 1) == (int32_t)put, "another offset");
+        }
+    }
+    expect(!is_told || number == (done == column_count ? BECH32_OK : BECH32_NO_ROOM), "the answer");
+    expect(!is_told || places == 0 || place_in(0) == 0, "the first offset");
+    expect_kept(&identifier_area, 0, "the human-readable part changed");
+    expect_kept(&versions_area, 0, "the versions changed");
+    expect_kept(&numbers_area, done, "the numbers changed elsewhere");
+    expect_kept(&places_area, is_told && places > 0 ? 4 * (done + 1) : 0, "the offsets changed elsewhere");
+    expect_kept(&written_2, put, "the addresses changed elsewhere");
+    expect_kept(&length_1, is_told ? sizeof done : 0, "the number of rows changed");
+    expect(!is_told || length_in(&length_1) == done, "another number of rows");
+}
+
+static void try_validity_of(void) {
+    size_t rows = below(200), accepted = 0, bytes = (rows + 7) / 8;
+    begin(&validity_of_calls);
+    for (size_t i = 0; i < rows; i++) {
+        text[i] = (uint8_t)(percent(50) ? 0 : below(256));
+        accepted += text[i] == 0;
+    }
+    place(&numbers_area, text, rows, 1);
+    place(&written_1, NULL, percent(80) ? bytes + below(4) : below(bytes + 1), 1);
+    size_t *told = new_length(&length_1);
+    uint32_t number = bech32_validity_of(numbers_area.buffer, rows, written_1.buffer, written_1.length, told);
+    count(&validity_of_calls, number);
+    expect(number == (bytes <= written_1.length ? BECH32_OK : BECH32_NO_ROOM), "the answer");
+    expect_kept(&numbers_area, 0, "the numbers changed");
+    expect_kept(&written_1, number == BECH32_OK ? bytes : 0, "the validity changed elsewhere");
+    expect_kept(&length_1, number == BECH32_OK ? sizeof accepted : 0, "the number of rows changed");
+    for (size_t i = 0; number == BECH32_OK && i < 8 * bytes; i++) {
+        expect((written_1.buffer[i / 8] >> i % 8 & 1) == (i < rows && text[i] == 0), "another bit");
+    }
+    expect(number != BECH32_OK || length_in(&length_1) == accepted, "another number of rows");
+}
+
+/* Each text is the given one with other characters at the two places, and is a descriptor. */
+static void try_descriptor_mend_two(void) {
+    static uint8_t ample[EDITS * MOST], made[AREA];
+    static size_t ample_places[2 * EDITS];
+    size_t all = 0, fit = 0, told = 0;
+    bech32_memory whole = {ample_for_descriptor, sizeof ample_for_descriptor};
+    begin(&descriptor_mend_two);
+    random_descriptor();
+    uint32_t expected =
+        bech32_descriptor_mend_two(text, text_length, &whole, ample_places, 2 * EDITS, ample, sizeof ample, &all);
+    expect(whole.start == ample_for_descriptor && whole.size == sizeof ample_for_descriptor, "the memory was kept");
+    expect(expected == BECH32_OK, "another number");
+    for (size_t i = 0; i < all; i++) {
+        const uint8_t *found = ample + i * text_length;
+        size_t first = ample_places[2 * i], second = ample_places[2 * i + 1];
+        expect(first < second && second < text_length, "places in another order, or behind the text");
+        memcpy(made, text, text_length);
+        made[first] = found[first];
+        made[second] = found[second];
+        expect(memcmp(made, found, text_length) == 0, "another text than that of the places");
+        expect(found[first] != text[first] && found[second] != text[second], "a character that is not changed");
+        expect(bech32_descriptor_check(found, text_length, &told) == BECH32_OK, "a text that is made is refused");
+    }
+    int is_small = percent(30);
+    size_t enough = BECH32_DESCRIPTOR_TWO_MEMORY(text_length), size = is_small ? below(enough) : enough;
+    bech32_memory memory = {some_for_descriptor + (sizeof some_for_descriptor - size) / 16 * 16, size};
+    FORBID(some_for_descriptor, sizeof some_for_descriptor);
+    ALLOW(memory.start, size);
+    place(&read_1, text, text_length, 1);
+    place(&memory_area, &memory, sizeof memory, sizeof(size_t));
+    place(&locations_area, NULL, below(5) * sizeof(size_t), sizeof(size_t));
+    place(&written_1, NULL, room(all * text_length), 1);
+    size_t *count_of = new_length(&length_1), places_room = locations_area.length / sizeof(size_t);
+    uint32_t number = bech32_descriptor_mend_two(
+        read_1.buffer, text_length, (bech32_memory *)(void *)memory_area.buffer, (size_t *)(void *)locations_area.buffer,
+        places_room, written_1.buffer, written_1.length, count_of);
+    int is_counted = number == BECH32_OK || number == BECH32_NO_ROOM;
+    count(&descriptor_mend_two, number);
+    while (is_counted && fit < all && 2 * fit + 2 <= places_room && (fit + 1) * text_length <= written_1.length) {
+        fit++;
+    }
+    if (number == BECH32_NO_MEMORY) {
+        expect(is_small, "out of memory where the stated size is lent");
+    } else {
+        expect_number(number, expected, fit == all);
+    }
+    expect_kept(&read_1, 0, "the text changed");
+    expect_kept(&memory_area, 0, "the memory was kept");
+    expect_kept(&length_1, is_counted ? sizeof all : 0, "the number of texts changed");
+    expect(!is_counted || length_in(&length_1) == all, "the number of texts");
+    expect_kept(&locations_area, 2 * fit * sizeof(size_t), "the places changed elsewhere");
+    expect_kept(&written_1, fit * text_length, "the buffer changed elsewhere");
+    expect(fit == 0 || memcmp(written_1.buffer, ample, fit * text_length) == 0, "other texts");
+}
+
 static void print(const Function *function) {
     printf("%s: %llu calls; ", function->name, function->calls);
     printf("%llu answered", function->numbers[BECH32_OK]);
@@ -2084,7 +2472,7 @@ int main(int argc, char **argv) {
         try_codex32_encode, try_codex32_encode_payload, try_codex32_derive, try_codex32_split,
         try_codex32_recover, try_codex32_propose_long,
         try_nearest, try_near_edits, try_liquid_encode, try_liquid_decode, try_liquid_nearest, try_message, try_descriptor_checksum, try_descriptor_check, try_descriptor_mend,
-        try_codex32_message,
+        try_descriptor_mend_two, try_codex32_message, try_check_many, try_segwit_decode_many, try_segwit_encode_many, try_validity_of,
 #endif
     };
     unsigned long long count = argc > 1 ? strtoull(argv[1], NULL, 10) : 100000;
@@ -2092,6 +2480,7 @@ int main(int argc, char **argv) {
         &read_1,        &read_2,         &written_1,   &written_2,   &length_1, &length_2,
         &erasures_area, &locations_area, &values_area, &mended_area, &length_3,
         &threshold_area, &share_index_area, &memory_area, &identifier_area, &lengths_area,
+        &offsets_area, &validity_area, &column_area, &numbers_area, &versions_area, &parts_area, &places_area,
     };
     state = argc > 2 ? strtoull(argv[2], NULL, 10) : 1;
     for (size_t i = 0; i < sizeof areas / sizeof *areas; i++) {
@@ -2130,6 +2519,12 @@ int main(int argc, char **argv) {
     print(&descriptor_checksum);
     print(&descriptor_check);
     print(&descriptor_mend);
+    print(&check_many_calls);
+    print(&segwit_decode_many_calls);
+    print(&segwit_encode_many_calls);
+    print(&validity_of_calls);
+
+    print(&descriptor_mend_two);
     print(&message);
     print(&codex32_message_calls);
     return 0;

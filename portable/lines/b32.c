@@ -1,11 +1,14 @@
-/* The commands of b32: texts of Bech32 and Bech32m, and segwit addresses (BIP-173, BIP-350). */
+/*
+ * The commands of b32: texts of Bech32 and Bech32m, segwit addresses (BIP-173, BIP-350), long texts, and confidential
+ * addresses of Liquid.
+ */
 #include "bech32.h"
 #include "lines.h"
 
 static uint32_t encode(const Words *words, Out *out) {
-    uint32_t checksum = checksum_of(words->word[0]);
+    uint32_t checksum = any_checksum_of(words->word[0]);
     Word hrp = words->word[1];
-    uint8_t bytes[MOST_BYTES], text[BECH32_MAX_TEXT];
+    uint8_t bytes[MOST_BYTES], text[BECH32_MAX_LONG_TEXT];
     size_t count, length;
     if (checksum == 0) {
         return NO_COMMAND;
@@ -41,9 +44,9 @@ typedef uint32_t DecodeBy(uint32_t checksum, const uint8_t *text, size_t text_le
                           size_t *hrp_length, uint8_t *bytes, size_t bytes_room, size_t *bytes_length);
 
 static uint32_t decode_by(const Words *words, Out *out, DecodeBy *call) {
-    uint32_t checksum = checksum_of(words->word[0]);
+    uint32_t checksum = any_checksum_of(words->word[0]);
     Word text = words->word[1];
-    uint8_t hrp[BECH32_MAX_HRP], bytes[BECH32_MAX_ELEMENTS];
+    uint8_t hrp[BECH32_MAX_HRP], bytes[BECH32_MAX_LONG_ELEMENTS];
     size_t hrp_length, count;
     if (checksum == 0) {
         return NO_COMMAND;
@@ -66,9 +69,9 @@ static uint32_t decode_elements(const Words *words, Out *out) {
 }
 
 static uint32_t encode_elements(const Words *words, Out *out) {
-    uint32_t checksum = checksum_of(words->word[0]);
+    uint32_t checksum = any_checksum_of(words->word[0]);
     Word hrp = words->word[1];
-    uint8_t elements[MOST_BYTES], text[BECH32_MAX_TEXT];
+    uint8_t elements[MOST_BYTES], text[BECH32_MAX_LONG_TEXT];
     size_t count, place, length;
     if (checksum == 0) {
         return NO_COMMAND;
@@ -164,6 +167,48 @@ static uint32_t correct(const Words *words, Out *out) {
     return FINE;
 }
 
+static uint32_t liquid_encode(const Words *words, Out *out) {
+    Word hrp = words->word[0];
+    uint8_t key[MOST_BYTES], program[MOST_BYTES], text[BECH32_MAX_LIQUID_TEXT];
+    size_t version, key_length, count, length;
+    if (!read_number(words->word[1], 31, &version)) {
+        return BAD_WORD;
+    }
+    if (!read_hex(words->word[2], key, &key_length) || key_length != BECH32_LIQUID_KEY_LENGTH) {
+        return BAD_HEX;
+    }
+    if (!read_hex(words->word[3], program, &count)) {
+        return BAD_HEX;
+    }
+    uint32_t number = bech32_liquid_encode(hrp.bytes, hrp.length, (uint32_t)version, key, program, count, text,
+                                           sizeof text, &length);
+    if (number == BECH32_OK) {
+        put_text(out, "ok ");
+        put(out, text, length);
+    }
+    return number;
+}
+
+static uint32_t liquid_decode(const Words *words, Out *out) {
+    Word text = words->word[0];
+    uint8_t hrp[BECH32_MAX_HRP], key[BECH32_LIQUID_KEY_LENGTH], program[BECH32_MAX_LIQUID_PROGRAM];
+    size_t hrp_length, count;
+    uint32_t version;
+    uint32_t number = bech32_liquid_decode(text.bytes, text.length, hrp, sizeof hrp, &hrp_length, &version, key,
+                                           program, sizeof program, &count);
+    if (number == BECH32_OK) {
+        put_text(out, "ok ");
+        put_lowered(out, hrp, hrp_length);
+        put_text(out, " ");
+        put_number(out, version);
+        put_text(out, " ");
+        put_hex(out, key, sizeof key);
+        put_text(out, " ");
+        put_hex(out, program, count);
+    }
+    return number;
+}
+
 const Command b32_commands[] = {
     {"encode", 3, 3, encode},
     {"decode", 1, 1, decode},
@@ -173,5 +218,7 @@ const Command b32_commands[] = {
     {"segwit-encode", 3, 3, segwit_encode},
     {"segwit-decode", 1, 1, segwit_decode},
     {"correct", 2, 3, correct},
+    {"liquid-encode", 4, 4, liquid_encode},
+    {"liquid-decode", 1, 1, liquid_decode},
     {NULL, 0, 0, NULL},
 };

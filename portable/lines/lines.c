@@ -23,15 +23,17 @@
 #define OUT_ROOM 16384u
 #define REPLY_ROOM 2048u
 
+static const Command no_commands[] = {{NULL, 0, 0, NULL}};
+
 typedef struct {
     const char *name, *no_memory;
-    const Command *commands;
+    const Command *commands, *rest_commands;
 } Program;
 
 static const Program programs[] = {
-    {"b32", "no memory", b32_commands},
-    {"c32", "out of memory", c32_commands},
-    {"mend", "out of memory", mend_commands},
+    {"b32", "no memory", b32_commands, no_commands},
+    {"c32", "out of memory", c32_commands, no_commands},
+    {"mend", "out of memory", mend_commands, mend_rest_commands},
 };
 
 /* The length of the character that bytes begin with, in UTF-8, or 0 where there is none. */
@@ -88,6 +90,19 @@ static size_t cut(const uint8_t *line, size_t length, Word *words) {
     return count;
 }
 
+/* Puts the answer to a command whose word is the rest of the line, or returns the number of the refusal. */
+static uint32_t answer_rest(const Command *commands, const uint8_t *line, size_t length, Out *out) {
+    for (const Command *it = commands; it->name != NULL; it++) {
+        size_t size = strlen(it->name);
+        if (length > size && memcmp(line, it->name, size) == 0 && line[size] == ' ') {
+            Word rest = {line + size + 1, length - size - 1};
+            Words words = {&rest, 1};
+            return it->answer(&words, out);
+        }
+    }
+    return NO_COMMAND;
+}
+
 /* Puts the answer to a line, or returns the number of the refusal. */
 static uint32_t answer(const Program *program, const uint8_t *line, size_t length, Out *out) {
     Word word[MOST_WORDS];
@@ -97,9 +112,10 @@ static uint32_t answer(const Program *program, const uint8_t *line, size_t lengt
     if (!is_utf8(line, length)) {
         return LINE_NOT_UTF8;
     }
+    uint32_t number = answer_rest(program->rest_commands, line, length, out);
     size_t count = cut(line, length, word);
-    if (count == 0) {
-        return NO_COMMAND;
+    if (number != NO_COMMAND || count == 0) {
+        return number;
     }
     Words words = {word + 1, count - 1};
     for (const Command *it = program->commands; it->name != NULL; it++) {

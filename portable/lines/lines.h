@@ -20,6 +20,7 @@
 #define NO_COMMAND 3u
 #define BAD_WORD 4u
 #define BAD_HEX 5u
+#define NOT_IN_DESCRIPTOR 80u
 #define OUT_OF_MEMORY 91u
 
 typedef struct {
@@ -52,11 +53,15 @@ typedef struct {
 
 extern const Command b32_commands[], c32_commands[], mend_commands[];
 
+/* Commands of one word, which is the rest of the line: it may have spaces, or be empty. They are tried first. */
+extern const Command mend_rest_commands[];
+
 /* Whether a word is a text of C. */
 int is_word(Word word, const char *text);
 
-/* The number of a checksum in bech32.h, or 0 where the word names none. */
+/* The number of a checksum in bech32.h, or 0 where the word names none. Of those for long texts the second knows too. */
 uint32_t checksum_of(Word word);
+uint32_t any_checksum_of(Word word);
 
 /* Reads a number of at most `most`, in decimal without leading zeros, or returns 0. */
 int read_number(Word word, size_t most, size_t *number);
@@ -64,7 +69,7 @@ int read_number(Word word, size_t most, size_t *number);
 /* Reads locations, with commas between them, or returns 0. `locations` has room for MOST_LOCATIONS. */
 int read_locations(Word word, size_t *locations, size_t *count);
 
-/* Reads pairs of hexadecimal digits, or `-` for no bytes, or returns 0. `bytes` has room for MOST_BYTES. */
+/* Reads pairs of hexadecimal digits, or `-` for no bytes, or returns 0. `bytes` has room for half of the word. */
 int read_hex(Word word, uint8_t *bytes, size_t *count);
 
 void put(Out *out, const uint8_t *bytes, size_t length);

@@ -1,4 +1,4 @@
-/* The commands of mend: mistyped texts of Bech32 and Bech32m. */
+/* The commands of mend: mistyped texts of Bech32 and Bech32m, of Liquid, and descriptors. */
 #include <stdlib.h>
 
 #include "bech32.h"
@@ -89,9 +89,39 @@ static uint32_t search(Search *it, uint32_t (*once)(Search *, bech32_memory *)) 
     }
 }
 
+static uint32_t liquid_once(Search *it, bech32_memory *memory) {
+    it->texts = malloc(it->room * it->text.length);
+    if (it->texts == NULL) {
+        return OUT_OF_MEMORY;
+    }
+    return bech32_liquid_nearest(it->text.bytes, it->text.length, it->erasures, it->erasures_length, it->errors,
+                                 memory, it->texts, it->room * it->text.length, &it->count);
+}
+
+static uint32_t descriptor_once(Search *it, bech32_memory *memory) {
+    size_t texts_room = it->room * (it->text.length + 1);
+    it->texts = malloc(texts_room);
+    it->kinds = malloc(it->room);
+    it->locations = malloc(2 * it->room * sizeof *it->locations);
+    if (it->texts == NULL || it->kinds == NULL || it->locations == NULL) {
+        return OUT_OF_MEMORY;
+    }
+    return bech32_descriptor_mend(it->text.bytes, it->text.length, 1, memory, it->kinds, it->room, it->locations,
+                                  2 * it->room, it->texts, texts_room, &it->count);
+}
+
 /* The length of a text, by which memory is lent. A longer one is refused. */
 static size_t measure(Word text) {
     return text.length < BECH32_MAX_TEXT ? text.length : BECH32_MAX_TEXT;
+}
+
+/* All texts, each with a space before it. */
+static void put_texts(Out *out, const Search *it) {
+    put_text(out, "ok");
+    for (size_t i = 0; i < it->count; i++) {
+        put_text(out, " ");
+        put(out, it->texts + i * it->text.length, it->text.length);
+    }
 }
 
 static uint32_t nearest(const Words *words, Out *out) {
@@ -110,11 +140,7 @@ static uint32_t nearest(const Words *words, Out *out) {
     it.room = BECH32_NEAREST_FEW_TEXTS(measure(it.text));
     uint32_t number = search(&it, nearest_once);
     if (number == BECH32_OK) {
-        put_text(out, "ok");
-        for (size_t i = 0; i < it.count; i++) {
-            put_text(out, " ");
-            put(out, it.texts + i * it.text.length, it.text.length);
-        }
+        put_texts(out, &it);
     }
     drop_results(&it);
     return number;
@@ -218,11 +244,97 @@ static uint32_t checksum(const Words *words, Out *out) {
     return number;
 }
 
+static uint32_t liquid(const Words *words, Out *out) {
+    size_t erasures[MOST_LOCATIONS];
+    Search it = {0, words->word[0], erasures, 0, 0, 0, 1, 0, NULL, NULL, NULL};
+    if (words->count == 3 && !read_locations(words->word[1], erasures, &it.erasures_length)) {
+        return BAD_WORD;
+    }
+    if (!read_number(words->word[words->count - 1], BECH32_MAX_LIQUID_ERRORS, &it.errors)) {
+        return BAD_WORD;
+    }
+    it.memory = BECH32_LIQUID_NEAREST_MEMORY(measure(it.text));
+    uint32_t number = search(&it, liquid_once);
+    if (number == BECH32_OK) {
+        put_texts(out, &it);
+    }
+    drop_results(&it);
+    return number;
+}
+
+/* ---- descriptors, which may hold private keys: nothing of them is kept, and nothing is wiped */
+
+static uint32_t descriptor(const Words *words, Out *out) {
+    static const char *const done[] = {"", " swapped ", " left-out ", " put-in ", " changed "};
+    Search it = {0, words->word[0], NULL, 0, 0, 0, BECH32_NEAR_EDITS, 0, NULL, NULL, NULL};
+    it.memory = BECH32_DESCRIPTOR_MEND_MEMORY(it.text.length);
+    uint32_t number = search(&it, descriptor_once);
+    if (number == BECH32_OK) {
+        const uint8_t *text = it.texts;
+        put_text(out, "ok");
+        for (size_t i = 0; i < it.count; i++) {
+            size_t length = it.text.length;
+            length += it.kinds[i] == BECH32_PUT_IN;
+            length -= it.kinds[i] == BECH32_LEFT_OUT;
+            put_text(out, done[it.kinds[i]]);
+            put_number(out, it.locations[2 * i]);
+            put_text(out, " ");
+            put(out, text, length);
+            text += length;
+        }
+    }
+    drop_results(&it);
+    return number;
+}
+
+/* A refusal, with the place of a character that may not stand there. */
+static uint32_t refuse_at(Out *out, uint32_t number, size_t place) {
+    if (number != NOT_IN_DESCRIPTOR) {
+        return number;
+    }
+    put_text(out, "err ");
+    put_number(out, number);
+    put_text(out, " ");
+    put_number(out, place);
+    return FINE;
+}
+
+static uint32_t descriptor_check(const Words *words, Out *out) {
+    Word text = words->word[0];
+    size_t place = 0;
+    uint32_t number = bech32_descriptor_check(text.bytes, text.length, &place);
+    if (number == BECH32_OK) {
+        put_text(out, "ok");
+    }
+    return refuse_at(out, number, place);
+}
+
+static uint32_t descriptor_checksum(const Words *words, Out *out) {
+    Word text = words->word[0];
+    uint8_t letters[BECH32_DESCRIPTOR_CHECKSUM];
+    size_t length = 0, place = 0;
+    uint32_t number =
+        bech32_descriptor_checksum(text.bytes, text.length, letters, sizeof letters, &length, &place);
+    if (number == BECH32_OK) {
+        put_text(out, "ok ");
+        put(out, letters, length);
+    }
+    return refuse_at(out, number, place);
+}
+
 const Command mend_commands[] = {
     {"nearest", 3, 4, nearest},
     {"edits", 2, 2, edits},
     {"suggest", 2, 2, suggest},
     {"fault", 2, 2, fault},
     {"checksum", 1, 1, checksum},
+    {"liquid", 2, 3, liquid},
+    {NULL, 0, 0, NULL},
+};
+
+const Command mend_rest_commands[] = {
+    {"descriptor", 1, 1, descriptor},
+    {"descriptor-check", 1, 1, descriptor_check},
+    {"descriptor-checksum", 1, 1, descriptor_checksum},
     {NULL, 0, 0, NULL},
 };

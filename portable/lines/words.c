@@ -17,6 +17,13 @@ uint32_t checksum_of(Word word) {
     return is_word(word, "bech32m") ? BECH32_BECH32M : 0;
 }
 
+uint32_t any_checksum_of(Word word) {
+    if (is_word(word, "long-bech32")) {
+        return BECH32_LONG_BECH32;
+    }
+    return is_word(word, "long-bech32m") ? BECH32_LONG_BECH32M : checksum_of(word);
+}
+
 int read_number(Word word, size_t most, size_t *number) {
     size_t found = 0;
     for (size_t i = 0; i < word.length; i++) {

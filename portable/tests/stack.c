@@ -43,7 +43,12 @@ static unsigned stack_size;
 #define stack_bech32_descriptor_checksum stack_size
 #define stack_bech32_descriptor_check stack_size
 #define stack_bech32_descriptor_mend stack_size
+#define stack_bech32_descriptor_mend_two stack_size
 #define stack_bech32_suggest stack_size
+#define stack_bech32_check_many stack_size
+#define stack_bech32_segwit_decode_many stack_size
+#define stack_bech32_segwit_encode_many stack_size
+#define stack_bech32_validity_of stack_size
 #define stack_bech32_message stack_size
 #define stack_bech32_version stack_size
 #endif
@@ -315,6 +320,14 @@ static uint32_t try_descriptor_mend(unsigned n) {
     return bech32_descriptor_mend(text, text_length, n % 3, &memory, other, n % 4, places, 8, out, sizeof out, &length);
 }
 
+static uint32_t try_descriptor_mend_two(unsigned n) {
+    static const char of[] = "raw(deadbeef)#89f8spxm";
+    bech32_memory memory = {lent, n % 11 ? sizeof lent : 900};
+    size_t places[8];
+    damage(of, n % 7 == 6 ? n : n % 2);
+    return bech32_descriptor_mend_two(text, text_length, &memory, places, n % 8, out, sizeof out, &length);
+}
+
 static uint32_t try_suggest(unsigned n) {
     bech32_memory memory = {lent, n % 11 ? sizeof lent : 900};
     size_t places[4];
@@ -323,6 +336,47 @@ static uint32_t try_suggest(unsigned n) {
         text[20] = '?';
     }
     return bech32_suggest(text, text_length, (const u8 *)"bc", 2, &memory, other, n % 4, places, 4, out, sizeof out, &length);
+}
+
+/* Columns of two damaged addresses, and of their programs, in each layout. */
+static int32_t places[3], offsets[3];
+static u8 both[2 * 91];
+
+static bech32_column column_of(unsigned n, size_t first, size_t second) {
+    bech32_column column = {both, first + second, offsets, sizeof offsets, NULL, 0, 2, first, n % 4 + 1};
+    offsets[1] = (int32_t)first;
+    offsets[2] = (int32_t)(first + second);
+    return column;
+}
+
+static bech32_column damaged_column(unsigned n) {
+    damage(ADDRESS, n);
+    memset(both, 0, sizeof both);
+    memcpy(both, text, text_length);
+    memcpy(both + text_length, ADDRESS, text_length);
+    return column_of(n, text_length, text_length);
+}
+
+static uint32_t try_check_many(unsigned n) {
+    bech32_column column = damaged_column(n);
+    return bech32_check_many(n % 5, &column, 0, other, 2);
+}
+
+static uint32_t try_segwit_decode_many(unsigned n) {
+    bech32_column column = damaged_column(n);
+    return bech32_segwit_decode_many(&column, n % 2, (const u8 *)"bc", n % 3, other, 2 - n % 2, other + 2, 2, other + 4, 2,
+                                     places, n % 7 ? 3 : 0, out, n % 9 ? sizeof out : 20, &length);
+}
+
+static uint32_t try_segwit_encode_many(unsigned n) {
+    bech32_column column = column_of(n, n % 11 ? 20 : 2, 20 + n % 5);
+    u8 versions[2] = {(u8)(n % 3), (u8)(n % 18)};
+    return bech32_segwit_encode_many((const u8 *)"bc", 2, versions, 2, &column, 0, other, 2, places, n % 7 ? 3 : 1, out,
+                                     n % 9 ? sizeof out : 50, &length);
+}
+
+static uint32_t try_validity_of(unsigned n) {
+    return bech32_validity_of(both, n, out, n % 5 ? sizeof out : 3, &length);
 }
 
 static uint32_t try_message(unsigned n) {
@@ -357,7 +411,12 @@ static const struct {
     {"bech32_descriptor_checksum", try_descriptor_checksum, STATED_descriptor_checksum},
     {"bech32_descriptor_check", try_descriptor_check, STATED_descriptor_check},
     {"bech32_descriptor_mend", try_descriptor_mend, STATED_descriptor_mend},
+    {"bech32_descriptor_mend_two", try_descriptor_mend_two, STATED_descriptor_mend_two},
     {"bech32_suggest", try_suggest, STATED_suggest},
+    {"bech32_check_many", try_check_many, STATED_check_many},
+    {"bech32_segwit_decode_many", try_segwit_decode_many, STATED_segwit_decode_many},
+    {"bech32_segwit_encode_many", try_segwit_encode_many, STATED_segwit_encode_many},
+    {"bech32_validity_of", try_validity_of, STATED_validity_of},
     {"bech32_message", try_message, STATED_message},
     {"bech32_version", try_version, STATED_version},
 };
