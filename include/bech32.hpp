@@ -24,6 +24,7 @@
 #define BECH32_HPP
 
 #include "bech32.h"
+#include "bech32_rooms.hpp"
 #include "bech32_views.hpp"
 
 namespace bech32_proved {
@@ -249,7 +250,10 @@ inline std::optional<Refusal> fault(Checksum checksum, std::string_view text) no
     return parts ? std::nullopt : std::optional<Refusal>(parts.error());
 }
 
-/* A character of a mistyped text, and the one that is in its place in the mended one, in lower case. */
+/*
+ * A character of a mistyped text, and the one that is in its place in the mended one, in lower case where they
+ * are no descriptors.
+ */
 struct Change {
     std::size_t place;
     char from, to;
@@ -349,99 +353,6 @@ inline Outcome<Correction> correct(Checksum checksum, std::string_view text, Num
     return made;
 }
 
-/* Memory that a search may use; where it does not begin at a multiple of 16, up to 15 bytes are left out. */
-class Memory {
-public:
-    Memory(void* start, std::size_t size) noexcept {
-        const std::size_t left_out = (0U - reinterpret_cast<std::uintptr_t>(start)) % 16;
-        if (size > left_out) {
-            lent_ = {static_cast<std::uint8_t*>(start) + left_out, size - left_out};
-        }
-    }
-    Memory(const Memory&) = delete;
-    Memory& operator=(const Memory&) = delete;
-
-    /* What the library is given: of size 0 after a call that kept the memory (bech32.h says when). */
-    bech32_memory* lent() noexcept { return &lent_; }
-
-private:
-    bech32_memory lent_{nullptr, 0};
-};
-
-/* What a search of near texts is given: memory, and where the texts are put. */
-struct SearchSpace {
-    Memory& memory;
-    std::uint8_t* texts;
-    std::size_t texts_room;
-};
-
-/* The same in place. Where it does not suffice, the refusal is 91 or 92. */
-template <std::size_t MemorySize, std::size_t TextsSize>
-class SearchRoom {
-public:
-    SearchRoom() noexcept : memory_(bytes_, MemorySize) {}
-    operator SearchSpace() noexcept { return {memory_, texts_, TextsSize}; }
-
-private:
-    alignas(16) std::uint8_t bytes_[MemorySize];
-    std::uint8_t texts_[TextsSize];
-    Memory memory_;
-};
-
-/* For texts of at most MaxText characters of which nothing is known to be wrong. */
-template <std::size_t MaxText = BECH32_MAX_SEGWIT_TEXT>
-using NearestRoom = SearchRoom<BECH32_NEAREST_PLAIN_MEMORY(MaxText), BECH32_NEAREST_PLAIN_TEXTS(MaxText) * MaxText>;
-
-/* For two errors with up to two erasures in up to 90 characters, two with one in more, one with three. Of other
- * searches bech32.h says what suffices. */
-template <std::size_t MaxText = BECH32_MAX_SEGWIT_TEXT>
-using FewNearestRoom = SearchRoom<BECH32_NEAREST_FEW_MEMORY(MaxText), BECH32_NEAREST_FEW_TEXTS(MaxText) * MaxText>;
-
-template <std::size_t MaxText = BECH32_MAX_LIQUID_TEXT>
-using LiquidNearestRoom = SearchRoom<BECH32_LIQUID_NEAREST_MEMORY(MaxText), 8 * MaxText>;
-
-/* Texts of one length, in lower case: views of the room of the search. */
-class Texts {
-public:
-    Texts(const std::uint8_t* texts, std::size_t each, std::size_t count) noexcept
-        : texts_(texts), each_(each), count_(count) {}
-
-    class iterator {
-    public:
-        using iterator_category = std::input_iterator_tag;
-        using value_type = std::string_view;
-        using difference_type = std::ptrdiff_t;
-        using pointer = const std::string_view*;
-        using reference = std::string_view;
-
-        iterator(const Texts& texts, std::size_t index) noexcept : texts_(&texts), index_(index) {}
-        std::string_view operator*() const noexcept { return (*texts_)[index_]; }
-        iterator& operator++() noexcept {
-            index_++;
-            return *this;
-        }
-        iterator operator++(int) noexcept { return {*texts_, index_++}; }
-        bool operator==(const iterator& other) const noexcept { return index_ == other.index_; }
-        bool operator!=(const iterator& other) const noexcept { return index_ != other.index_; }
-
-    private:
-        const Texts* texts_;
-        std::size_t index_;
-    };
-
-    std::size_t size() const noexcept { return count_; }
-    bool empty() const noexcept { return count_ == 0; }
-    iterator begin() const noexcept { return {*this, 0}; }
-    iterator end() const noexcept { return {*this, count_}; }
-    std::string_view operator[](std::size_t index) const noexcept {
-        return {static_cast<const char*>(static_cast<const void*>(texts_ + index * each_)), each_};
-    }
-
-private:
-    const std::uint8_t* texts_;
-    std::size_t each_, count_;
-};
-
 namespace detail {
 
 /* The refusal of a search, with the number of all texts where there is no room for them. */
@@ -470,98 +381,6 @@ inline Outcome<Texts> nearest(Checksum checksum, std::string_view text, SearchSp
     }
     return Texts(room.texts, text.size(), count);
 }
-
-/* What is done to a mistyped text to make another of it. */
-enum class Kind : std::uint8_t {
-    unchanged = BECH32_UNCHANGED, /* nothing */
-    swapped = BECH32_SWAPPED,     /* two neighbours are swapped */
-    left_out = BECH32_LEFT_OUT,   /* a character is left out */
-    put_in = BECH32_PUT_IN,       /* a character is put in */
-    replaced = BECH32_REPLACED,   /* characters are replaced by others (in a descriptor, one) */
-};
-
-/*
- * A text, in lower case where it is no descriptor; what was done to make it; and where: the first of two
- * that are swapped, and of those that are replaced; of one that is put in, its place in this text.
- */
-struct Edited {
-    std::string_view text;
-    Kind kind;
-    std::size_t place;
-};
-
-/* What a search of edits is given: memory, and where what it finds is put, at most `most` of all. */
-struct EditsSpace {
-    Memory& memory;
-    std::uint8_t* kinds;
-    std::size_t* places; /* two for each text of descriptor::mend, one else */
-    std::size_t most;
-    std::uint8_t* texts;
-    std::size_t texts_room;
-};
-
-/* The same in place. Where it does not suffice, the refusal is 91 or 92. */
-template <std::size_t MemorySize, std::size_t TextSize, std::size_t Most>
-class EditsRoom {
-public:
-    EditsRoom() noexcept : memory_(bytes_, MemorySize) {}
-    operator EditsSpace() noexcept { return {memory_, kinds_, places_, Most, texts_, sizeof texts_}; }
-
-private:
-    alignas(16) std::uint8_t bytes_[MemorySize];
-    std::size_t places_[2 * Most];
-    std::uint8_t kinds_[Most], texts_[Most * TextSize];
-    Memory memory_;
-};
-
-/* For texts of at most MaxText characters, and at most Most edits of each. */
-template <std::size_t MaxText = BECH32_MAX_SEGWIT_TEXT, std::size_t Most = BECH32_NEAR_EDITS>
-using NearEditsRoom = EditsRoom<BECH32_NEAR_EDITS_MEMORY(MaxText), MaxText + 1, Most>;
-
-template <std::size_t MaxText, std::size_t Most = BECH32_NEAR_EDITS>
-using MendRoom = EditsRoom<BECH32_DESCRIPTOR_MEND_MEMORY(MaxText), MaxText + 1, Most>;
-
-using SuggestRoom = EditsRoom<BECH32_SUGGEST_MEMORY, BECH32_MAX_SEGWIT_TEXT, BECH32_SUGGESTIONS>;
-
-/* Texts that edits make: views of the room of the search. */
-class Edits {
-public:
-    using value_type = Edited;
-    using iterator = detail::Walk<Edits>;
-
-    /* How places stand in a room: from the end, from the front, or in pairs from the front. */
-    enum class Places { from_the_end, from_the_front, in_pairs };
-
-    Edits(const EditsSpace& room, std::size_t before, std::size_t count, Places places) noexcept
-        : kinds_(room.kinds), places_(room.places), texts_(room.texts), before_(before), count_(count), as_(places) {}
-
-    std::size_t size() const noexcept { return count_; }
-    bool empty() const noexcept { return count_ == 0; }
-    iterator begin() const noexcept { return {*this, 0}; }
-    iterator end() const noexcept { return {*this, count_}; }
-
-    /* The item at an index, whose text begins at an offset. */
-    Edited item(std::size_t index, std::size_t offset) const noexcept {
-        const auto kind = static_cast<Kind>(kinds_[index]);
-        const std::size_t size = before_ + (kind == Kind::put_in) - (kind == Kind::left_out);
-        const std::string_view text(static_cast<const char*>(static_cast<const void*>(texts_ + offset)), size);
-        if (as_ == Places::in_pairs) {
-            return {text, kind, places_[2 * index]};
-        }
-        if (as_ == Places::from_the_front) {
-            return {text, kind, places_[index]};
-        }
-        const std::size_t last = (kind == Kind::put_in ? size : before_) - 1;
-        return {text, kind, last - places_[index] - (kind == Kind::swapped)};
-    }
-
-private:
-    const std::uint8_t* kinds_;
-    const std::size_t* places_;
-    const std::uint8_t* texts_;
-    std::size_t before_, count_;
-    Places as_;
-};
 
 /*
  * Lists the other texts that Checksum::bech32 or bech32m accepts and that one edit makes of a text: two
@@ -773,6 +592,57 @@ inline Outcome<Edits> mend(std::string_view text, EditsSpace room, std::size_t c
         return Refusal(refused);
     }
     return Edits(room, text.size(), count, Edits::Places::in_pairs);
+}
+
+/* A text that two changed characters make, and both, the one with the lower place first. */
+struct MendedTwice {
+    std::string_view text;
+    Change first, second;
+};
+
+/* Texts that two changed characters make: views of the room of the search, and of the mistyped text. */
+class MendedTexts {
+public:
+    using value_type = MendedTwice;
+    using iterator = detail::Steps<MendedTexts>;
+
+    MendedTexts(const EditsSpace& room, std::string_view before, std::size_t count) noexcept
+        : texts_(room.texts, before.size(), count), places_(room.places), before_(before) {}
+
+    std::size_t size() const noexcept { return texts_.size(); }
+    bool empty() const noexcept { return texts_.empty(); }
+    iterator begin() const noexcept { return {*this, 0}; }
+    iterator end() const noexcept { return {*this, size()}; }
+    MendedTwice operator[](std::size_t index) const noexcept {
+        return {texts_[index], change(index, places_[2 * index]), change(index, places_[2 * index + 1])};
+    }
+
+private:
+    Change change(std::size_t index, std::size_t place) const noexcept {
+        return {place, before_[place], texts_[index][place]};
+    }
+
+    Texts texts_;
+    const std::size_t* places_;
+    std::string_view before_;
+};
+
+/*
+ * Lists the texts with a right checksum that come from a text by two of its characters changed. Either may be
+ * in the checksum, or be the `#`. Try `mend` first, which takes a tenth of the time and of the memory. bech32.h
+ * says their order. They may be none of what was meant: compare them with the wallet's addresses.
+ *
+ * Refusals, the first that applies: 89; 92; and 91 in place of 92.
+ */
+inline Outcome<MendedTexts> mend_two(std::string_view text, EditsSpace room) noexcept {
+    std::size_t count = 0;
+    const std::uint32_t refused =
+        bech32_descriptor_mend_two(detail::at(text), text.size(), room.memory.lent(), room.places, 2 * room.most,
+                                   room.texts, room.texts_room, &count);
+    if (refused != BECH32_OK) {
+        return detail::refused_search(refused, text, count);
+    }
+    return MendedTexts(room, text, count);
 }
 
 }  // namespace descriptor

@@ -1,6 +1,6 @@
 /*
  * What bech32.hpp and codex32.hpp have in common: views of bytes, texts and bytes held in place, lists of
- * numbers, and results that are a value or a refusal. C++17, header only.
+ * numbers, results that are a value or a refusal, and memory that is lent. C++17, header only.
  *
  * Nothing here allocates or throws. A view does not own what it shows.
  */
@@ -172,7 +172,53 @@ private:
     E refusal_{};
 };
 
+/* Memory that a library may use; where it does not begin at a multiple of 16, up to 15 bytes are left out. */
+template <class Lent>
+class LentMemory {
+public:
+    LentMemory(void* start, std::size_t size) noexcept {
+        const std::size_t left_out = (0U - reinterpret_cast<std::uintptr_t>(start)) % 16;
+        if (size > left_out) {
+            lent_ = {static_cast<std::uint8_t*>(start) + left_out, size - left_out};
+        }
+    }
+    LentMemory(const LentMemory&) = delete;
+    LentMemory& operator=(const LentMemory&) = delete;
+
+    /* What the library is given: of size 0 after a call that kept the memory (its C header says when). */
+    Lent* lent() noexcept { return &lent_; }
+
+private:
+    Lent lent_{nullptr, 0};
+};
+
 namespace detail {
+
+/* Walks through a list by the indexes of its items. */
+template <class List>
+class Steps {
+public:
+    using iterator_category = std::input_iterator_tag;
+    using value_type = typename List::value_type;
+    using difference_type = std::ptrdiff_t;
+    using pointer = const value_type*;
+    using reference = value_type;
+
+    Steps(const List& list, std::size_t index) noexcept : list_(&list), index_(index) {}
+
+    value_type operator*() const noexcept { return (*list_)[index_]; }
+    Steps& operator++() noexcept {
+        index_++;
+        return *this;
+    }
+    Steps operator++(int) noexcept { return {*list_, index_++}; }
+    bool operator==(const Steps& other) const noexcept { return index_ == other.index_; }
+    bool operator!=(const Steps& other) const noexcept { return index_ != other.index_; }
+
+private:
+    const List* list_;
+    std::size_t index_;
+};
 
 /* Walks through a list whose item at an index begins where the texts of the items before it end. */
 template <class List>

@@ -102,29 +102,7 @@ struct Share {
 class Shares {
 public:
     using value_type = std::string_view;
-
-    class iterator {
-    public:
-        using iterator_category = std::input_iterator_tag;
-        using value_type = std::string_view;
-        using difference_type = std::ptrdiff_t;
-        using pointer = const std::string_view*;
-        using reference = std::string_view;
-
-        iterator(const Shares& shares, std::size_t index) noexcept : shares_(&shares), index_(index) {}
-        std::string_view operator*() const noexcept { return (*shares_)[index_]; }
-        iterator& operator++() noexcept {
-            index_++;
-            return *this;
-        }
-        iterator operator++(int) noexcept { return {*shares_, index_++}; }
-        bool operator==(const iterator& other) const noexcept { return index_ == other.index_; }
-        bool operator!=(const iterator& other) const noexcept { return index_ != other.index_; }
-
-    private:
-        const Shares* shares_;
-        std::size_t index_;
-    };
+    using iterator = bech32_proved::detail::Steps<Shares>;
 
     std::size_t size() const noexcept { return count_; }
     iterator begin() const noexcept { return {*this, 0}; }
@@ -352,24 +330,8 @@ Outcome<SecretBytes> recover(const List& texts) noexcept {
     });
 }
 
-/* Memory that a proposal may use; where it does not begin at a multiple of 16, up to 15 bytes are left out. */
-class Memory {
-public:
-    Memory(void* start, std::size_t size) noexcept {
-        const std::size_t left_out = (0U - reinterpret_cast<std::uintptr_t>(start)) % 16;
-        if (size > left_out) {
-            lent_ = {static_cast<std::uint8_t*>(start) + left_out, size - left_out};
-        }
-    }
-    Memory(const Memory&) = delete;
-    Memory& operator=(const Memory&) = delete;
-
-    /* What the library is given: of size 0 after a call that kept the memory (codex32.h says when). */
-    codex32_memory* lent() noexcept { return &lent_; }
-
-private:
-    codex32_memory lent_{nullptr, 0};
-};
+/* Memory that a proposal may use. */
+using Memory = LentMemory<codex32_memory>;
 
 /* The same in place, for texts of up to 127 characters: wiped when it goes. */
 class ProposeRoom {

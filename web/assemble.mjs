@@ -109,9 +109,8 @@ const manifest = () => {
 
 const packageFiles = () => {
   const files = { 'modules.js': modulesSource(), 'package.json': manifest(), 'README.md': read('README.md') };
-  for (const name of ['index.js', 'index.d.ts', 'library.js', 'calls.js', 'lists.js', 'descriptors.js', 'instance.js', 'reasons.js']) {
-    files[name] = read('src', name);
-  }
+  const own = ['index', 'library', 'calls', 'lists', 'descriptors', 'columns', 'instance', 'reasons'].map((name) => `${name}.js`);
+  for (const name of [...own, 'index.d.ts']) files[name] = read('src', name);
   const licence = path.join(HERE, '..', 'LICENSE');
   if (fs.existsSync(licence)) files.LICENSE = fs.readFileSync(licence, 'utf8');
   return files;

@@ -1,6 +1,6 @@
 /*
  * The commands of b32, c32 and mend by bech32.hpp and codex32.hpp: put beside portable/lines/lines.c and words.c, in
- * place of its other files, they reply to the stored lines of these programs (examples/cpp/run compares the replies).
+ * place of its other files, they reply to the stored lines of these programs (test compares the replies).
  */
 #include <array>
 #include <memory>
@@ -38,6 +38,15 @@ struct NotAnswered {
 
 Checksum checksum_in(Word word) {
     const uint32_t number = checksum_of(word);
+    if (number == 0) {
+        throw NotAnswered{NO_COMMAND};
+    }
+    return static_cast<Checksum>(number);
+}
+
+/* The same, with the checksums for long texts. */
+Checksum any_checksum_in(Word word) {
+    const uint32_t number = any_checksum_of(word);
     if (number == 0) {
         throw NotAnswered{NO_COMMAND};
     }
@@ -113,9 +122,9 @@ void put_parts(Out* out, std::string_view hrp, Octets bytes) {
 
 uint32_t encode_line(const Words* words, Out* out) {
     return answered([&] {
-        const auto checksum = checksum_in(words->word[0]);
-        return said(out, encode(checksum, view(words->word[1]), bytes_in(words->word[2])),
-                    as_text<Text<BECH32_MAX_TEXT>>(out));
+        const auto checksum = any_checksum_in(words->word[0]);
+        return said(out, encode<BECH32_MAX_LONG_TEXT>(checksum, view(words->word[1]), bytes_in(words->word[2])),
+                    as_text<Text<BECH32_MAX_LONG_TEXT>>(out));
     });
 }
 
@@ -125,25 +134,25 @@ uint32_t decode_line(const Words* words, Out* out) {
 
 uint32_t decode_strict_line(const Words* words, Out* out) {
     return answered([&] {
-        const auto checksum = checksum_in(words->word[0]);
-        return said(out, decode_strict(checksum, view(words->word[1])),
+        const auto checksum = any_checksum_in(words->word[0]);
+        return said(out, decode_strict<BECH32_MAX_LONG_BYTES>(checksum, view(words->word[1])),
                     [&](const auto& it) { put_parts(out, it.hrp, it.data); });
     });
 }
 
 uint32_t decode_elements_line(const Words* words, Out* out) {
     return answered([&] {
-        const auto checksum = checksum_in(words->word[0]);
-        return said(out, decode_elements(checksum, view(words->word[1])),
+        const auto checksum = any_checksum_in(words->word[0]);
+        return said(out, decode_elements<BECH32_MAX_LONG_ELEMENTS>(checksum, view(words->word[1])),
                     [&](const auto& it) { put_parts(out, it.hrp, it.elements); });
     });
 }
 
 uint32_t encode_elements_line(const Words* words, Out* out) {
     return answered([&] {
-        const auto checksum = checksum_in(words->word[0]);
-        return said(out, encode_elements(checksum, view(words->word[1]), bytes_in(words->word[2])),
-                    as_text<Text<BECH32_MAX_TEXT>>(out));
+        const auto checksum = any_checksum_in(words->word[0]);
+        return said(out, encode_elements<BECH32_MAX_LONG_TEXT>(checksum, view(words->word[1]), bytes_in(words->word[2])),
+                    as_text<Text<BECH32_MAX_LONG_TEXT>>(out));
     });
 }
 
@@ -161,6 +170,31 @@ uint32_t segwit_decode_line(const Words* words, Out* out) {
         put_lowered(out, it.hrp);
         put_text(out, " ");
         put_number(out, it.version);
+        put_text(out, " ");
+        put_hex(out, it.program.data(), it.program.size());
+    });
+}
+
+uint32_t liquid_encode_line(const Words* words, Out* out) {
+    return answered([&] {
+        const auto version = static_cast<uint32_t>(number_in(words->word[1], 31));
+        const auto key = bytes_in(words->word[2]);
+        if (key.size() != BECH32_LIQUID_KEY_LENGTH) {
+            throw NotAnswered{BAD_HEX};
+        }
+        return said(out, liquid::encode(view(words->word[0]), version, key, bytes_in(words->word[3])),
+                    as_text<Text<BECH32_MAX_LIQUID_TEXT>>(out));
+    });
+}
+
+uint32_t liquid_decode_line(const Words* words, Out* out) {
+    return said(out, liquid::decode(view(words->word[0])), [&](const auto& it) {
+        put_text(out, " ");
+        put_lowered(out, it.hrp);
+        put_text(out, " ");
+        put_number(out, it.version);
+        put_text(out, " ");
+        put_hex(out, it.key.data(), it.key.size());
         put_text(out, " ");
         put_hex(out, it.program.data(), it.program.size());
     });
@@ -355,6 +389,64 @@ uint32_t checksum_line(const Words* words, Out* out) {
     return by_bech32m.error().number();
 }
 
+uint32_t liquid_line(const Words* words, Out* out) {
+    return answered([&] {
+        const auto text = view(words->word[0]);
+        std::vector<size_t> places;
+        if (words->count == 3) {
+            places = places_in(words->word[1], text.size());
+        }
+        const size_t errors = number_in(words->word[words->count - 1], BECH32_MAX_LIQUID_ERRORS);
+        Grown room{BECH32_LIQUID_NEAREST_MEMORY(measured(text)), 1, text.size(), {}, {}, {}, {}};
+        const auto found = room.searched([&](Memory& lent) {
+            return liquid::nearest(text, {lent, room.texts.data(), room.texts.size()}, places, errors);
+        });
+        return said(out, found, [&](const Texts& texts) {
+            for (const std::string_view near : texts) {
+                put_text(out, " ");
+                put(out, near);
+            }
+        });
+    });
+}
+
+/* Its one word is the rest of the line, as that of the others of descriptors is. */
+uint32_t descriptor_line(const Words* words, Out* out) {
+    const auto text = view(words->word[0]);
+    Grown room{BECH32_DESCRIPTOR_MEND_MEMORY(text.size()), BECH32_NEAR_EDITS, text.size() + 1, {}, {}, {}, {}};
+    const auto found = room.searched([&](Memory& lent) { return descriptor::mend(text, room.edits(lent)); });
+    return said(out, found, [&](const Edits& edits) {
+        for (const Edited& it : edits) {
+            put_text(out, it.kind == Kind::replaced ? " changed " : word_of(it.kind));
+            put_number(out, it.place);
+            put_text(out, " ");
+            put(out, it.text);
+        }
+    });
+}
+
+/* "ok" and what is put, or a refusal, with the place of a character that may not stand where it does. */
+template <class Outcome, class Put>
+uint32_t said_with_place(Out* out, const Outcome& outcome, Put put_value) {
+    if (outcome || outcome.error().number() != NOT_IN_DESCRIPTOR) {
+        return said(out, outcome, put_value);
+    }
+    put_text(out, "err ");
+    put_number(out, NOT_IN_DESCRIPTOR);
+    put_text(out, " ");
+    put_number(out, *outcome.error().place());
+    return FINE;
+}
+
+uint32_t descriptor_check_line(const Words* words, Out* out) {
+    return said_with_place(out, descriptor::check(view(words->word[0])), [](std::string_view) {});
+}
+
+uint32_t descriptor_checksum_line(const Words* words, Out* out) {
+    return said_with_place(out, descriptor::checksum(view(words->word[0])),
+                           as_text<Text<BECH32_DESCRIPTOR_CHECKSUM>>(out));
+}
+
 /* No string has this threshold, which stands for a word that is no threshold. */
 uint32_t threshold_in(Word word) {
     size_t number = 0;
@@ -497,6 +589,8 @@ const Command b32_commands[] = {
     {"segwit-encode", 3, 3, segwit_encode_line},
     {"segwit-decode", 1, 1, segwit_decode_line},
     {"correct", 2, 3, correct_line},
+    {"liquid-encode", 4, 4, liquid_encode_line},
+    {"liquid-decode", 1, 1, liquid_decode_line},
     {nullptr, 0, 0, nullptr},
 };
 
@@ -518,6 +612,14 @@ const Command mend_commands[] = {
     {"suggest", 2, 2, suggest_line},
     {"fault", 2, 2, fault_line},
     {"checksum", 1, 1, checksum_line},
+    {"liquid", 2, 3, liquid_line},
+    {nullptr, 0, 0, nullptr},
+};
+
+const Command mend_rest_commands[] = {
+    {"descriptor", 1, 1, descriptor_line},
+    {"descriptor-check", 1, 1, descriptor_check_line},
+    {"descriptor-checksum", 1, 1, descriptor_checksum_line},
     {nullptr, 0, 0, nullptr},
 };
 }

@@ -80,6 +80,49 @@ func Example_descriptor() {
 	// raw(deadbeef)#89f8spxm character 7: e becomes a <nil>
 }
 
+// With two characters changed a descriptor comes out alone, with both places, and what stood and stands there.
+func TestTwoChangedCharacters(t *testing.T) {
+	right, longer := "raw(deadbeef)#89f8spxm", "wpkh(02f9308a019258c31049344f85f89d5229b531c845836f99b08601f113bce036f9)#8zl0zxma"
+	mends := func(right string, first, second int, one, other byte) {
+		wrong := []byte(right)
+		wrong[first], wrong[second] = one, other
+		expected := descriptor.MendedTwice{Text: right, Places: [2]int{first, second}, From: string([]byte{one, other}),
+			To: right[first:first+1] + right[second:second+1]}
+		if found, err := descriptor.MendTwo(string(wrong)); err != nil || len(found) != 1 || found[0] != expected {
+			t.Error(string(wrong), found, err)
+		}
+	}
+	otherThan := func(letter byte) byte {
+		if letter == 'x' {
+			return 'y'
+		}
+		return 'x'
+	}
+	for first := 0; first < len(right); first += 3 {
+		for second := first + 1; second < len(right); second += 5 {
+			mends(right, first, second, otherThan(right[first]), otherThan(right[second]))
+		}
+	}
+	mends(longer, 0, len(longer)-1, 'W', 'q')
+	mends(longer, len(longer)-9, len(longer)-1, ' ', '#')
+	mends(right, 5, 6, 0xc3, 0xa9)
+	found, _ := descriptor.MendTwo("sawqdeadbeef)#89f8spxm")
+	if said := fmt.Sprint(found[0]); said != "characters 1 and 4: s becomes r, q becomes (" {
+		t.Error(said)
+	}
+	for _, text := range []string{right, "xaw(deadbeef)#89f8spxm", "", "#", "raw(deadbeef)"} {
+		if found, err := descriptor.MendTwo(text); err != nil || len(found) != 0 {
+			t.Error(text, found, err)
+		}
+	}
+	long := strings.Repeat("x", 7501)
+	var refused *bech32proved.Refused
+	if _, err := descriptor.MendTwo(long); !errors.As(err, &refused) || !errors.Is(err, bech32proved.DescriptorTooLong) ||
+		refused.Number != 89 || refused.Place != -1 || refused.Text != long {
+		t.Error(err)
+	}
+}
+
 // Confidential addresses that are known to be right, as vectors/liquid.py has them.
 func TestLiquid(t *testing.T) {
 	text := "lq1qqf8er278e6nyvuwtgf39e6ewvdcnjupn9a86rzpx655y5lhkt0walu3djf9cklkxd3ryld97hu8h3xepw7sh2rlu7q45dcew5"
@@ -98,6 +141,112 @@ func TestLiquid(t *testing.T) {
 	}
 	if _, err := liquid.Encode("lq", 0, nil, address.Program); !errors.Is(err, bech32proved.NoBlindingKey) {
 		t.Fatal(err)
+	}
+}
+
+// Of each text a column says what the call for one text says.
+func TestColumns(t *testing.T) {
+	texts := []string{"bc1qw508d6qejxtdg4y5r3zarvary0c5xw7kv8f3t4", "BC1SW50QGDZ25J", "bc1pw5dgrnzv", "", "é", "a12uel5l",
+		"tb1qrp33g0q5c5txsp9arysrx4k6zdkfs4nce4xj0gdcccefvpysxf3q0sl5k7"}
+	for at, row := range segwit.DecodeMany(texts, "") {
+		address, err := segwit.Decode(texts[at])
+		if err == nil && (row.Number != 0 || row.Address.HRP != address.HRP || row.Address.Version != address.Version ||
+			!bytes.Equal(row.Address.Program, address.Program)) {
+			t.Error(texts[at], row)
+		}
+		if err != nil && !errors.Is(err, row.Number) {
+			t.Error(texts[at], row, err)
+		}
+	}
+	if rows := segwit.DecodeMany(texts, "bc"); rows[1].Number != 0 || rows[6].Number != bech32proved.OtherHrp {
+		t.Error(rows)
+	}
+	for _, checksum := range []bech32proved.Checksum{bech32proved.Bech32, bech32proved.Bech32m} {
+		numbers, err := bech32proved.CheckMany(checksum, texts)
+		for at, number := range numbers {
+			_, _, refused := bech32proved.Check(checksum, texts[at])
+			if err != nil || (refused == nil) != (number == 0) || refused != nil && !errors.Is(refused, number) {
+				t.Error(texts[at], number, err)
+			}
+		}
+	}
+	if numbers, err := bech32proved.CheckMany(0, []string{"a12uel5l", "a1lqfn3a"}); err != nil || numbers[0]+numbers[1] != 0 {
+		t.Error(numbers, err)
+	}
+	if _, err := bech32proved.CheckMany(9, texts); !errors.Is(err, bech32proved.BadNumber) {
+		t.Error(err)
+	}
+	numbers, made := segwit.EncodeMany("bc", []byte{0, 17}, [][]byte{make([]byte, 20), make([]byte, 32)})
+	one, _ := segwit.Encode("bc", 0, make([]byte, 20))
+	if numbers[0] != 0 || made[0] != one || numbers[1] != bech32proved.EncodedBadVersion || made[1] != "" {
+		t.Error(numbers, made)
+	}
+	if rows := segwit.DecodeMany(nil, "bc"); len(rows) != 0 {
+		t.Error(rows)
+	}
+}
+
+// A column as Arrow has it, with nulls and any offsets, cut, and what is made of it, which is one again.
+func TestColumnsOfArrow(t *testing.T) {
+	address, other := "bc1qw508d6qejxtdg4y5r3zarvary0c5xw7kv8f3t4", "BC1SW50QGDZ25J"
+	data := []byte(address + other + "x")
+	column := bech32proved.Column{Bytes: data, Offsets: []int32{0, 42, 56, 56, 57, -1, 0, 42, 58, 2147483647}, Validity: []byte{0xfb, 0xff}}
+	found := segwit.DecodeColumn(column, "bc")
+	if !bytes.Equal(found.Numbers, []byte{0, 0, 1, 23, 4, 4, 0, 4, 4}) && !bytes.Equal(found.Numbers, []byte{0, 0, 1, 21, 4, 4, 0, 4, 4}) {
+		t.Error(found.Numbers)
+	}
+	if found.Versions[1] != 16 || found.HRPLengths[0] != 2 || found.Programs.Len() != 9 {
+		t.Error(found)
+	}
+	if program, is := found.Programs.Row(6); !is || len(program) != 20 {
+		t.Error(program, is)
+	}
+	for _, null := range []int{2, 3, 4, 9, -1} {
+		if row, is := found.Programs.Row(null); is {
+			t.Error(null, row)
+		}
+	}
+	made := segwit.EncodeColumn("bc", found.Versions, found.Programs)
+	if text, is := made.Texts.Row(0); !is || string(text) != address {
+		t.Error(string(text))
+	}
+	if again := segwit.DecodeColumn(made.Texts.Slice(1, 7).Slice(0, 2), "bc"); !bytes.Equal(again.Numbers, []byte{0, 1}) {
+		t.Error(again)
+	}
+	large := bech32proved.Column{Bytes: data, LargeOffsets: []int64{0, 42, 1 << 62, -1 << 63, 42, 56}}
+	numbers, err := bech32proved.CheckColumn(0, large)
+	if err != nil || numbers[0] != 0 || numbers[1] != 4 || numbers[2] != 4 || numbers[3] != 4 || numbers[4] != 0 {
+		t.Error(numbers, err)
+	}
+	short := bech32proved.Column{Bytes: data, Offsets: make([]int32, 18), Validity: []byte{0xff}}
+	if numbers, err = bech32proved.CheckColumn(bech32proved.Bech32, short); err != nil || numbers[7] == 4 || numbers[8] != 4 {
+		t.Error(numbers, err)
+	}
+	if _, is := short.Row(8); is || (bech32proved.Column{}).Len() != 0 || len(segwit.DecodeColumn(bech32proved.Column{}, "").Numbers) != 0 {
+		t.Error("a row that is none")
+	}
+	programs := bech32proved.ColumnOf([][]byte{make([]byte, 20), make([]byte, 20), make([]byte, 5000)})
+	if made := segwit.EncodeColumn("bc", []byte{17, 200, 1}, programs); !bytes.Equal(made.Numbers, []byte{52, 52, 47}) {
+		t.Error(made.Numbers)
+	}
+	// More rows than are in one call of the library.
+	many := make([]string, 140000)
+	for at := range many {
+		many[at] = other
+	}
+	all := segwit.DecodeColumn(bech32proved.ColumnOf(many), "bc")
+	if row, is := all.Programs.Row(139999); !is || len(row) != 2 || len(all.Programs.Bytes) != 280000 {
+		t.Error(row, is)
+	}
+	for _, rows := range [][2]int{{-1, 0}, {2, 1}, {0, 10}} {
+		func() {
+			defer func() {
+				if recover() == nil {
+					t.Error(rows)
+				}
+			}()
+			column.Slice(rows[0], rows[1])
+		}()
 	}
 }
 

@@ -4,10 +4,13 @@ package bech32proved
 
 // The refusals.
 const (
+	// NullRow: the row is null.
+	NullRow Number = 1
+
 	// NotUtf8: a text or a human-readable part is not UTF-8.
 	NotUtf8 Number = 2
 
-	// BadNumber: the number of no checksum, an element above 31, or too many errors.
+	// BadNumber: the number of no checksum, an element above 31, too many errors, or no such rows.
 	BadNumber Number = 4
 
 	// HrpEmpty: the human-readable part is empty.
@@ -69,6 +72,9 @@ const (
 
 	// ProgramNotV0: in version 0 the program has neither 20 nor 32 bytes.
 	ProgramNotV0 Number = 48
+
+	// OtherHrp: the address has another human-readable part than is wanted.
+	OtherHrp Number = 49
 
 	// EncodedTooLong: the text would have more than 1023 characters (7089 by a long checksum).
 	EncodedTooLong Number = 51

@@ -23,8 +23,8 @@ from pathlib import Path
 HERE = Path(__file__).resolve().parent
 TOP = HERE.parent.parent
 NAME = "bech32_proved"
-# The libraries, with what is compiled beside each: the functions of its header that the package calls.
-LIBRARIES = {"bech32": [], "codex32": ["wipe"]}
+# The libraries, with what is compiled beside each: the functions of its header that the package calls, and memory of columns.
+LIBRARIES = {"bech32": ["arrow"], "codex32": ["wipe"]}
 LINUX = "Classifier: Operating System :: POSIX :: Linux\n"
 METADATA = f"""Metadata-Version: 2.1
 Name: bech32-proved

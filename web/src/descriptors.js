@@ -10,6 +10,7 @@ export const MAX_DESCRIPTOR = 7500;
 // Room for this many texts, and memory, which suffices for most. Where they do not, the room that the call tells is made, or this
 // many times as much memory, up to the most.
 const TEXTS = 8, MEMORY = 16384, OF_A_CHARACTER = 400, MORE = 8, MOST = 1 << 28;
+const TWO_MEMORY = 65536, TWO_OF_A_CHARACTER = 4608;
 
 // The kinds of mistakes by their numbers, with how much longer a text is that each makes.
 const KINDS = [null, ['swapped', 0], ['leftOut', -1], ['putIn', 1], ['changed', 0]];
@@ -41,6 +42,28 @@ const mendedIn = (it, octets, changed, { lent, kinds, places, near }) => {
   return { number, found };
 };
 
+const mendedByTwoIn = (it, octets, { lent, places, near }) => {
+  const p = (region) => it.pointer(region), length = it.putBytes('text', octets);
+  it.putSizes('memory', [it.at.lent, lent]);
+  const number = it.call('bech32_descriptor_mend_two', p('text'), length, p('memory'), p('places'), BigInt(places / SIZE),
+    p('near'), BigInt(near), p('count'));
+  if (number) return { number, count: it.size('count') };
+  const found = Array.from({ length: it.size('count') }, (_, i) => ({
+    kind: 'changed', places: [0, 1].map((n) => it.size('places', 2 * i + n)), text: it.text('near', octets.length, i * octets.length),
+  }));
+  return { number, found };
+};
+
+// What a call answers with as much room as it needs: `grown` makes that for a number of texts.
+const withRoom = (module, first, grown, call) => {
+  for (let regions = first; ;) {
+    const sizes = regions, answer = withInstance(module, sizes, (it) => call(it, sizes));
+    if (![NO_MEMORY, NO_ROOM].includes(answer.number)) return answer;
+    regions = { ...sizes, ...(answer.number === NO_MEMORY ? { lent: MORE * sizes.lent } : grown(answer.count)) };
+    if (Object.values(regions).some((it) => it > MOST)) return answer;
+  }
+};
+
 /** The calls on descriptors of the module of `bech32_c`. Places are those of characters. */
 export const descriptorCalls = (module) => ({
   checksum(text) {
@@ -60,16 +83,16 @@ export const descriptorCalls = (module) => ({
   },
   mend(text, changed) {
     const octets = octetsOf(text), size = octets.length + 1;
-    let regions = {
-      text: octets.length, memory: 2 * SIZE, lent: MEMORY + OF_A_CHARACTER * Math.min(size, MAX_DESCRIPTOR), kinds: TEXTS,
-      places: 2 * SIZE * TEXTS, near: TEXTS * size, count: SIZE,
-    };
-    for (;;) {
-      const sizes = regions, answer = withInstance(module, sizes, (it) => mendedIn(it, octets, changed, sizes));
-      if (![NO_MEMORY, NO_ROOM].includes(answer.number)) return answer;
-      const { count } = answer, room = { kinds: count, places: 2 * SIZE * count, near: count * size };
-      regions = { ...sizes, ...(answer.number === NO_MEMORY ? { lent: MORE * sizes.lent } : room) };
-      if (Object.values(regions).some((it) => it > MOST)) return answer;
-    }
+    const grown = (count) => ({ kinds: count, places: 2 * SIZE * count, near: count * size });
+    const lent = MEMORY + OF_A_CHARACTER * Math.min(size, MAX_DESCRIPTOR);
+    const regions = { text: octets.length, memory: 2 * SIZE, lent, count: SIZE, ...grown(TEXTS) };
+    return withRoom(module, regions, grown, (it, sizes) => mendedIn(it, octets, changed, sizes));
+  },
+  mendTwo(text) {
+    const octets = octetsOf(text), size = octets.length;
+    const grown = (count) => ({ places: 2 * SIZE * count, near: count * size });
+    const lent = TWO_MEMORY + TWO_OF_A_CHARACTER * Math.min(size, MAX_DESCRIPTOR);
+    const regions = { text: size, memory: 2 * SIZE, lent, count: SIZE, ...grown(TEXTS) };
+    return withRoom(module, regions, grown, (it, sizes) => mendedByTwoIn(it, octets, sizes));
   },
 });

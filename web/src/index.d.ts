@@ -10,14 +10,14 @@ export type AnyChecksum = Checksum | 'longBech32' | 'longBech32m';
 
 /** Why a text, or what is to become one, is refused. */
 export type Code =
-  | 'HRP_EMPTY' | 'HRP_TOO_LONG' | 'HRP_NOT_ASCII' | 'HRP_INVALID' | 'HRP_MIXED_CASE' | 'INVALID_CHARACTER'
-  | 'MIXED_CASE' | 'NO_SEPARATOR' | 'TEXT_TOO_LONG' | 'NO_CHECKSUM' | 'WRONG_CHECKSUM' | 'ADDRESS_TOO_LONG'
-  | 'NO_DATA' | 'BAD_VERSION' | 'PADDING_TOO_LONG' | 'PADDING_NOT_ZERO' | 'PROGRAM_TOO_SHORT' | 'PROGRAM_TOO_LONG'
-  | 'PROGRAM_NOT_V0' | 'ENCODED_TOO_LONG' | 'ENCODED_BAD_VERSION' | 'ENCODED_ADDRESS_TOO_LONG' | 'BAD_SIZE'
-  | 'TOO_FEW_SHARES' | 'OTHER_SET' | 'INDEX_TWICE' | 'CONTRADICTION' | 'BAD_COUNT' | 'BAD_RANDOM' | 'BAD_ELEMENT'
-  | 'UNSUPPORTED_VERSION' | 'NO_BLINDING_KEY' | 'NOT_IN_DESCRIPTOR' | 'NOT_MS' | 'BAD_LENGTH' | 'BAD_THRESHOLD'
-  | 'BAD_SHARE_INDEX' | 'BAD_IDENTIFIER' | 'NO_SHARE_INDEX' | 'BITS_LEFT_OVER' | 'NO_DESCRIPTOR_CHECKSUM'
-  | 'DESCRIPTOR_TOO_LONG';
+  | 'NULL_ROW' | 'HRP_EMPTY' | 'HRP_TOO_LONG' | 'HRP_NOT_ASCII' | 'HRP_INVALID' | 'HRP_MIXED_CASE'
+  | 'INVALID_CHARACTER' | 'MIXED_CASE' | 'NO_SEPARATOR' | 'TEXT_TOO_LONG' | 'NO_CHECKSUM' | 'WRONG_CHECKSUM'
+  | 'ADDRESS_TOO_LONG' | 'NO_DATA' | 'BAD_VERSION' | 'PADDING_TOO_LONG' | 'PADDING_NOT_ZERO' | 'PROGRAM_TOO_SHORT'
+  | 'PROGRAM_TOO_LONG' | 'PROGRAM_NOT_V0' | 'OTHER_HRP' | 'ENCODED_TOO_LONG' | 'ENCODED_BAD_VERSION'
+  | 'ENCODED_ADDRESS_TOO_LONG' | 'BAD_SIZE' | 'TOO_FEW_SHARES' | 'OTHER_SET' | 'INDEX_TWICE' | 'CONTRADICTION'
+  | 'BAD_COUNT' | 'BAD_RANDOM' | 'BAD_ELEMENT' | 'UNSUPPORTED_VERSION' | 'NO_BLINDING_KEY' | 'NOT_IN_DESCRIPTOR'
+  | 'NOT_MS' | 'BAD_LENGTH' | 'BAD_THRESHOLD' | 'BAD_SHARE_INDEX' | 'BAD_IDENTIFIER' | 'NO_SHARE_INDEX'
+  | 'BITS_LEFT_OVER' | 'NO_DESCRIPTOR_CHECKSUM' | 'DESCRIPTOR_TOO_LONG';
 
 /** A refusal. Its `message` is a sentence with the figures and the character at fault. */
 export class Refused extends Error {
@@ -132,6 +132,46 @@ export function nearEdits(checksum: Checksum, text: string): readonly NearEdit[]
  */
 export interface Suggestion { readonly text: string; readonly changes: readonly Change[]; readonly edit: Edit | null }
 
+/**
+ * A column as Apache Arrow lays it out: the bytes of all rows one behind another, and offsets, one more than rows; row i has the
+ * bytes from offset i up to offset i + 1. Bit i % 8 of byte i / 8 of `validity`, the lowest first, is 0 where row i is null;
+ * where there is none, no row is null. `first` and `count` are the rows that are meant; left out, all are.
+ */
+export interface Column {
+  readonly bytes: Uint8Array;
+  readonly offsets: Int32Array | Uint32Array | BigInt64Array;
+  readonly validity?: Uint8Array | null;
+  readonly first?: number;
+  readonly count?: number;
+}
+
+/** The rows of a result: a column, of which a row is null where its number is not 0. */
+export interface Rows<Row> extends Column, Iterable<Row | null> {
+  readonly offsets: Int32Array;
+  readonly validity: Uint8Array;
+  readonly nullCount: number;
+  readonly length: number;
+  /** A row by its place, from 0 on, or from the end on where that is negative; undefined where there is none. */
+  at(index: number): Row | null | undefined;
+  toArray(): (Row | null)[];
+}
+
+/** The row is null. */
+export const NULL_ROW: 1;
+/** The offsets of the row do not lie in the column. */
+export const BAD_ROW: 4;
+/** The address has another human-readable part than is wanted. */
+export const OTHER_HRP: 49;
+
+/**
+ * Tests each row by a checksum, or where that is null by Bech32m and Bech32, and returns its number: 0 where the text is accepted,
+ * NULL_ROW, BAD_ROW, or that of a refusal. No row throws; what is no column, and a row that is no string, is a `TypeError`.
+ */
+export function checkMany(checksum: AnyChecksum | null, texts: Iterable<string | null | undefined> | Column): Uint8Array;
+
+/** The sentence of the number of a row; of 0 it is empty. */
+export function message(number: number): string;
+
 export const segwit: {
   /**
    * Did you mean? The addresses of the network of a human-readable part that someone may have meant who typed a text, in which
@@ -148,6 +188,21 @@ export const segwit: {
    * `Refused`.
    */
   decode(text: string): { hrp: string; version: number; program: Uint8Array };
+  /**
+   * Decodes a column of addresses: of each row its number, as of `checkMany`, its witness version, the length of the human-readable
+   * part, with which it begins, and its program. Name the human-readable part of your network: another address then has the number
+   * OTHER_HRP. Where it is null any is accepted, and yours to compare.
+   */
+  decodeMany(texts: Iterable<string | null | undefined> | Column, hrp?: string | null): {
+    numbers: Uint8Array; versions: Uint8Array; hrpLengths: Uint8Array; programs: Rows<Uint8Array>;
+  };
+  /**
+   * Encodes addresses of one human-readable part, in lower case: a version, an element, and a program for each. Throws
+   * `RangeError` where there are not as many versions as programs.
+   */
+  encodeMany(hrp: string, versions: Iterable<number>, programs: Iterable<Uint8Array | null | undefined> | Column): {
+    numbers: Uint8Array; texts: Rows<string>;
+  };
 };
 
 /**
@@ -179,6 +234,12 @@ export const descriptor: {
    * lower places first. Throws `Refused`, and `RangeError` where 256 MB do not suffice.
    */
   mend(text: string, changed?: 0 | 1): readonly MendedDescriptor[];
+  /**
+   * The texts with a right checksum that come from this one by two of its characters changed, in the order of their second
+   * places. Try `mend` first, which takes a tenth of the time and of the memory. Throws `Refused`, and `RangeError` where 256 MB
+   * do not suffice.
+   */
+  mendTwo(text: string): readonly MendedDescriptor[];
 };
 
 /** Confidential addresses of Liquid, by the checksum Blech32. Only version 0 is read and written. */

@@ -260,6 +260,10 @@ const descriptorFunctions = (calls, reasons) => ({
     const answer = listable(calls.mend(given, changed), (n) => reasons.descriptor(n, given, null));
     return answer.found.map((it) => mendedOf(given, it));
   },
+  mendTwo(given) {
+    const answer = listable(calls.mendTwo(text(given)), (n) => reasons.descriptor(n, given, null));
+    return answer.found.map((it) => mendedOf(given, it));
+  },
 });
 
 // The strings of a set, and the code of a share index: 0 where it is no one character.

@@ -7,10 +7,10 @@
 
 /** The codes of the refusals, which the headers have with BECH32_ or CODEX32_ before them. */
 export const CODES = {
-  11: 'HRP_EMPTY', 12: 'HRP_TOO_LONG', 13: 'HRP_NOT_ASCII', 14: 'HRP_INVALID', 15: 'HRP_MIXED_CASE',
+  1: 'NULL_ROW', 11: 'HRP_EMPTY', 12: 'HRP_TOO_LONG', 13: 'HRP_NOT_ASCII', 14: 'HRP_INVALID', 15: 'HRP_MIXED_CASE',
   21: 'INVALID_CHARACTER', 22: 'MIXED_CASE', 23: 'NO_SEPARATOR', 31: 'TEXT_TOO_LONG', 32: 'NO_CHECKSUM',
   33: 'WRONG_CHECKSUM', 41: 'ADDRESS_TOO_LONG', 42: 'NO_DATA', 43: 'BAD_VERSION', 44: 'PADDING_TOO_LONG',
-  45: 'PADDING_NOT_ZERO', 46: 'PROGRAM_TOO_SHORT', 47: 'PROGRAM_TOO_LONG', 48: 'PROGRAM_NOT_V0',
+  45: 'PADDING_NOT_ZERO', 46: 'PROGRAM_TOO_SHORT', 47: 'PROGRAM_TOO_LONG', 48: 'PROGRAM_NOT_V0', 49: 'OTHER_HRP',
   51: 'ENCODED_TOO_LONG', 52: 'ENCODED_BAD_VERSION', 53: 'ENCODED_ADDRESS_TOO_LONG', 55: 'BAD_SIZE',
   61: 'TOO_FEW_SHARES', 62: 'OTHER_SET', 63: 'INDEX_TWICE', 64: 'CONTRADICTION', 65: 'BAD_COUNT', 66: 'BAD_RANDOM',
   67: 'BAD_ELEMENT', 70: 'UNSUPPORTED_VERSION', 71: 'NO_BLINDING_KEY', 80: 'NOT_IN_DESCRIPTOR', 81: 'NOT_MS',
@@ -18,8 +18,9 @@ export const CODES = {
   87: 'BITS_LEFT_OVER', 88: 'NO_DESCRIPTOR_CHECKSUM', 89: 'DESCRIPTOR_TOO_LONG',
 };
 
-// What is said of a refusal that no sentence with figures fits.
-const SENTENCES = {
+/** What is said of a refusal that no sentence with figures fits. */
+export const SENTENCES = {
+  1: 'The row is null.',
   11: 'The human-readable part is empty.',
   12: 'The human-readable part has more than 83 bytes.',
   13: 'The human-readable part has a character that is not ASCII.',
@@ -39,6 +40,7 @@ const SENTENCES = {
   46: 'The program has less than 2 bytes.',
   47: 'The program has more than 40 bytes.',
   48: 'In version 0 the program has neither 20 nor 32 bytes.',
+  49: 'The address has another human-readable part than is wanted.',
   51: 'The text would have more than 1023 characters (7089 by a long checksum).',
   52: 'The witness version is above 16.',
   53: 'The address would have more than 90 characters.',

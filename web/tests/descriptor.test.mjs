@@ -41,7 +41,28 @@ test('one mistake is mended', () => {
   alone('raw(d\u{1f600}adbeef)#89f8spxm', RIGHT, { kind: 'changed', places: [5], from: '\u{1f600}', to: 'e' });
 });
 
+const aloneByTwo = (right, places, others) => {
+  const wrong = Array.from(right), to = places.map((place) => right[place]).join('');
+  places.forEach((place, i) => { wrong[place] = others[i]; });
+  assert.deepEqual(descriptor.mendTwo(wrong.join('')), [{ text: right, kind: 'changed', places, from: others.join(''), to }]);
+};
+
+test('two changed characters are mended', () => {
+  for (let first = 0; first < RIGHT.length; first += 3) {
+    for (let second = first + 1; second < RIGHT.length; second += 5) {
+      aloneByTwo(RIGHT, [first, second], [RIGHT[first] === 'x' ? 'y' : 'x', RIGHT[second] === 'q' ? 'p' : 'q']);
+    }
+  }
+  aloneByTwo(LONG, [0, LONG.length - 1], ['W', 'q']);
+  aloneByTwo(LONG, [LONG.length - 9, LONG.length - 1], [' ', '#']);
+  aloneByTwo(RIGHT, [5, 6], ['\u{e9}', '\u{1f600}']);
+  for (const text of [RIGHT, 'xaw(deadbeef)#89f8spxm', '', '#', 'raw(deadbeef)']) assert.deepEqual(descriptor.mendTwo(text), []);
+  assert.throws(() => descriptor.mendTwo('x'.repeat(7501)), { name: 'Refused', code: 'DESCRIPTOR_TOO_LONG', number: 89 });
+});
+
 test('values of another type', () => {
-  for (const call of [() => descriptor.check(5), () => descriptor.checksum(), () => descriptor.mend(null)]) assert.throws(call, TypeError);
+  for (const call of [() => descriptor.check(5), () => descriptor.checksum(), () => descriptor.mend(null), () => descriptor.mendTwo(5)]) {
+    assert.throws(call, TypeError);
+  }
   for (const changed of [2, -1, 0.5, '1']) assert.throws(() => descriptor.mend(RIGHT, changed), RangeError);
 });

@@ -1,6 +1,7 @@
 // The memory of the modules: what calls leave there, what a call that stops leaves, and which functions are offered.
 import test from 'node:test';
 import assert from 'node:assert/strict';
+import { columnFunctions } from '../out/package/columns.js';
 import { Instance, Stopped } from '../out/package/instance.js';
 import { library, Refused } from '../out/package/library.js';
 import { compiled } from '../out/package/modules.js';
@@ -157,6 +158,24 @@ test('a codex32 string is wiped where the call stops', () => {
     }
     return exports;
   });
+});
+
+test('a call for a column that stops is the last of its instance', () => {
+  let stops = 1;
+  withInstances((started) => {
+    const { decodeMany } = columnFunctions(modules[0]), found = () => [...decodeMany([ADDRESS, `t${ADDRESS}`], 'bc').numbers];
+    // It has one from the first call on.
+    assert.equal(started.length, 0);
+    assert.throws(found, Stopped);
+    assert.deepEqual([found(), found()], [[0, 33], [0, 33]]);
+    assert.equal(started.length, 2);
+  }, (exports) => ({
+    ...exports,
+    bech32_segwit_decode_many: (...given) => {
+      if (stops-- > 0) throw new WebAssembly.RuntimeError('unreachable');
+      return exports.bech32_segwit_decode_many(...given);
+    },
+  }));
 });
 
 test('arguments stand in regions of their own', () => {

@@ -3,13 +3,14 @@
 import test from 'node:test';
 import assert from 'node:assert/strict';
 import fs from 'node:fs';
-import { Refused, check, codex32, correct, decode, decodeElements, decodeStrict, encode, encodeElements, nearEdits, segwit } from '../out/package/index.js';
+import { Refused, check, codex32, correct, decode, decodeElements, decodeStrict, encode, encodeElements, liquid, nearEdits, segwit } from '../out/package/index.js';
 import { bech32Calls, CHECKSUMS } from '../out/package/calls.js';
 import { compiled } from '../out/package/modules.js';
 import { ALPHABET } from './reference.mjs';
 
 const TOP = new URL('../../', import.meta.url);
 const MOST = 4096;
+const LONG = { 'long-bech32': 'longBech32', 'long-bech32m': 'longBech32m' };
 
 class Reply extends Error {}
 const err = (number) => { throw new Reply(`err ${number}`); };
@@ -36,6 +37,7 @@ const textOf = (line) => {
   }
 };
 const checksumOf = (word) => (Object.hasOwn(CHECKSUMS, word) ? word : err(3));
+const anyChecksumOf = (word) => (Object.hasOwn(LONG, word) ? LONG[word] : checksumOf(word));
 const hexOf = (word) => {
   if (word === '-') return new Uint8Array();
   return /^(?:[0-9a-f]{2})+$/i.test(word) ? Uint8Array.from(Buffer.from(word, 'hex')) : err(5);
@@ -77,7 +79,7 @@ const correctedByPlaces = (checksum, text, locations) => {
 const OF_TEXTS = {
   encode(words) {
     const [, checksum, hrp, hex] = wanted(words, 4);
-    return `ok ${encode(checksumOf(checksum), hrp, hexOf(hex))}`;
+    return `ok ${encode(anyChecksumOf(checksum), hrp, hexOf(hex))}`;
   },
   decode(words) {
     const { checksum, hrp, bytes } = decode(wanted(words, 2)[1]);
@@ -85,16 +87,16 @@ const OF_TEXTS = {
     return `ok ${hrp.toLowerCase()} ${hexWord(bytes)}`;
   },
   'decode-strict'(words) {
-    const [, checksum, text] = wanted(words, 3), { hrp, bytes } = decodeStrict(checksumOf(checksum), text);
+    const [, checksum, text] = wanted(words, 3), { hrp, bytes } = decodeStrict(anyChecksumOf(checksum), text);
     return `ok ${hrp.toLowerCase()} ${hexWord(bytes)}`;
   },
   'decode-elements'(words) {
-    const [, checksum, text] = wanted(words, 3), { hrp, elements } = decodeElements(checksumOf(checksum), text);
+    const [, checksum, text] = wanted(words, 3), { hrp, elements } = decodeElements(anyChecksumOf(checksum), text);
     return `ok ${hrp.toLowerCase()} ${hexWord(elements)}`;
   },
   'encode-elements'(words) {
     const [, checksum, hrp, hex] = wanted(words, 4);
-    return `ok ${encodeElements(checksumOf(checksum), hrp, hexOf(hex))}`;
+    return `ok ${encodeElements(anyChecksumOf(checksum), hrp, hexOf(hex))}`;
   },
   'segwit-encode'(words) {
     const [, hrp, version, hex] = wanted(words, 4);
@@ -104,6 +106,16 @@ const OF_TEXTS = {
   'segwit-decode'(words) {
     const { hrp, version, program } = segwit.decode(wanted(words, 2)[1]);
     return `ok ${hrp.toLowerCase()} ${version} ${hexWord(program)}`;
+  },
+  'liquid-encode'(words) {
+    const [, hrp, version, word, hex] = wanted(words, 5);
+    const number = versionOf(version), key = hexOf(word);
+    if (key.length !== 33) err(5);
+    return `ok ${liquid.encode(hrp, number, key, hexOf(hex))}`;
+  },
+  'liquid-decode'(words) {
+    const { hrp, version, key, program } = liquid.decode(wanted(words, 2)[1]);
+    return `ok ${hrp.toLowerCase()} ${version} ${hexWord(key)} ${hexWord(program)}`;
   },
   correct(words) {
     const [, name, text, given] = wanted(words, 3, 4);

@@ -56,7 +56,7 @@ test('it installs without network, and its README is so', withNpm, () => inFolde
   assert.ok(readme.includes(`${name}-${version}.tgz`));
 }));
 
-const USE = `import { ALPHABET, encode, decode, decodeElements, decodeStrict, encodeElements, type AnyChecksum, check, correct, nearEdits, segwit, codex32, isLowered, Refused, Stopped, type Checksum, type Code, type Correction, type Edit, type NearEdit, type SecretText } from '${name}';
+const USE = `import { ALPHABET, BAD_ROW, checkMany, message, NULL_ROW, OTHER_HRP, type Column, type Rows, encode, decode, decodeElements, decodeStrict, encodeElements, type AnyChecksum, check, correct, nearEdits, segwit, codex32, isLowered, Refused, Stopped, type Checksum, type Code, type Correction, type Edit, type NearEdit, type SecretText } from '${name}';
 const checksum: Checksum = decode('a').checksum;
 const text: string = encode(checksum, 'a', new Uint8Array());
 const { hrp, data }: { hrp: string; data: string } = check('bech32', text);
@@ -75,6 +75,12 @@ const made: Uint8Array = codex32.encode(0, 'test', 's', secret, { into: Uint8Arr
 const kept: SecretText = again, characters: string = ALPHABET;
 const lowered: boolean = isLowered;
 try { decode(text); } catch (error) { if (error instanceof Refused) { const code: Code = error.code, at: number | null = error.place, which: number | null = error.which; console.log(code, at, which); } if (error instanceof Stopped) throw error; }
+const column: Column = { bytes: new Uint8Array(), offsets: new BigInt64Array(1), validity: null, first: 0 }, rows: Uint8Array = checkMany(null, ['a', null]);
+const decoded: { numbers: Uint8Array; versions: Uint8Array; hrpLengths: Uint8Array; programs: Rows<Uint8Array> } = segwit.decodeMany(column, 'bc');
+const addresses: Rows<string> = segwit.encodeMany('bc', decoded.versions, decoded.programs).texts, address: string | null | undefined = addresses.at(-1);
+console.log([NULL_ROW, BAD_ROW, OTHER_HRP].map(message), address, checkMany('bech32', addresses), addresses.toArray().concat([...addresses]), rows);
+// @ts-expect-error
+checkMany('bech32', 'a12uel5l'.length);
 // @ts-expect-error
 encode('bech33', 'a', new Uint8Array());
 // @ts-expect-error

@@ -93,3 +93,40 @@ func Mend(text string, changed int) ([]Mended, error) {
 	}
 	return listed, nil
 }
+
+// MendedTwice is a text with a right checksum that comes from a mistyped one by two characters changed.
+type MendedTwice struct {
+	Text string
+	// Places are where, from 0, the lower one first, and From and To are what stands there in the mistyped text and in this
+	// one: a character for each place.
+	Places   [2]int
+	From, To string
+}
+
+// String says what is done, for people.
+func (m MendedTwice) String() string {
+	return fmt.Sprintf("characters %d and %d: %s becomes %s, %s becomes %s",
+		m.Places[0]+1, m.Places[1]+1, m.From[:1], m.To[:1], m.From[1:], m.To[1:])
+}
+
+// MendTwo lists the texts with a right checksum that come from a text by two of its characters changed. Either may be in the
+// checksum, or be the `#`. Try Mend first, which takes a tenth of the time and of the memory. bech32.h says their order. It may
+// be that none is what was meant: compare the wallet's addresses.
+//
+// Refusals, the first that applies: DescriptorTooLong, NoMemory.
+func MendTwo(text string) ([]MendedTwice, error) {
+	found, number := bech32c.DescriptorMendTwo(text)
+	if number != 0 {
+		return nil, &bech32proved.Refused{Number: bech32proved.Number(number), Text: text, Place: -1}
+	}
+	listed := make([]MendedTwice, len(found))
+	for at, it := range found {
+		first, second := it.Where[0], it.Where[1]
+		listed[at] = MendedTwice{
+			Text: it.Text, Places: [2]int{first, second},
+			From: text[first:first+1] + text[second:second+1],
+			To:   it.Text[first:first+1] + it.Text[second:second+1],
+		}
+	}
+	return listed, nil
+}

@@ -287,6 +287,102 @@ NATIVE(jint, descriptorCheck)(JNIEnv *env, jclass self, jbyteArray text, jintArr
     return (jint)number;
 }
 
+/* The buffers of a column, arrays of Java or direct buffers, behind other arrays: how many are then in all. */
+enum { BYTES, OFFSETS, VALIDITY, BUFFERS };
+
+static size_t buffers_of(JNIEnv *env, Pinned *all, size_t count, const jobject *buffers, void **direct) {
+    jclass kind = (*env)->FindClass(env, "java/nio/ByteBuffer");
+    for (size_t i = 0; i < BUFFERS; i++) {
+        int is_direct = kind != NULL && buffers[i] != NULL && (*env)->IsInstanceOf(env, buffers[i], kind);
+        direct[i] = is_direct ? (*env)->GetDirectBufferAddress(env, buffers[i]) : NULL;
+        all[count + i].array = is_direct ? NULL : buffers[i];
+    }
+    return count + BUFFERS;
+}
+
+/* The column of pinned arrays, whose lengths and layout are the last but one and the last of these. */
+static bech32_column column_of(const Pinned *buffers, void *const *direct, const jlong *lengths, const jint *layout) {
+    const void *items[BUFFERS];
+    for (size_t i = 0; i < BUFFERS; i++) {
+        items[i] = direct[i] != NULL ? direct[i] : buffers[i].items;
+    }
+    bech32_column column = {items[BYTES], (size_t)lengths[BYTES], items[OFFSETS], (size_t)lengths[OFFSETS],
+                            items[VALIDITY], (size_t)lengths[VALIDITY], (size_t)layout[0], (size_t)layout[1],
+                            (uint32_t)layout[2]};
+    return column;
+}
+
+static uint8_t *from(const Pinned *it, jint at) { return (uint8_t *)it->items + at; }
+
+NATIVE(jint, checkMany)
+(JNIEnv *env, jclass self, jint checksum, jobject bytes, jobject offsets, jobject validity, jlongArray lengths,
+ jintArray layout, jint first, jbyteArray numbers, jint at, jint count) {
+    Pinned it[3 + BUFFERS] = {{numbers, 0, 0}, {lengths, 0, 0}, {layout, 0, 0}};
+    void *direct[BUFFERS];
+    size_t all = buffers_of(env, it, 3, (jobject[]){bytes, offsets, validity}, direct);
+    (void)self;
+    if (!pin(env, it, all)) {
+        return OUT_OF_MEMORY;
+    }
+    bech32_column texts = column_of(it + 3, direct, it[1].items, it[2].items);
+    uint32_t number = bech32_check_many((uint32_t)checksum, &texts, (size_t)first, from(&it[0], at), (size_t)count);
+    unpin(env, it, all);
+    return (jint)number;
+}
+
+NATIVE(jint, segwitDecodeMany)
+(JNIEnv *env, jclass self, jobject bytes, jobject offsets, jobject validity, jlongArray lengths, jintArray layout,
+ jint first, jbyteArray hrp, jbyteArray numbers, jbyteArray versions, jbyteArray hrp_lengths, jint at, jint count,
+ jintArray program_offsets, jbyteArray programs) {
+    Pinned it[8 + BUFFERS] = {{lengths, 0, 0}, {layout, 0, 0}, {hrp, 0, 0}, {numbers, 0, 0}, {versions, 0, 0},
+                              {hrp_lengths, 0, 0}, {program_offsets, 0, 0}, {programs, 0, 0}};
+    void *direct[BUFFERS];
+    size_t all = buffers_of(env, it, 8, (jobject[]){bytes, offsets, validity}, direct), done = 0, rows = (size_t)count;
+    (void)self;
+    if (!pin(env, it, all)) {
+        return OUT_OF_MEMORY;
+    }
+    bech32_column texts = column_of(it + 8, direct, it[0].items, it[1].items);
+    uint32_t number = bech32_segwit_decode_many(&texts, (size_t)first, it[2].items, it[2].length, from(&it[3], at), rows,
+                                                from(&it[4], at), rows, from(&it[5], at), rows, it[6].items,
+                                                it[6].length, it[7].items, it[7].length, &done);
+    unpin(env, it, all);
+    return (jint)number;
+}
+
+NATIVE(jint, segwitEncodeMany)
+(JNIEnv *env, jclass self, jbyteArray hrp, jbyteArray versions, jobject bytes, jobject offsets, jobject validity,
+ jlongArray lengths, jintArray layout, jint first, jbyteArray numbers, jint at, jint count, jintArray text_offsets,
+ jbyteArray texts) {
+    Pinned it[7 + BUFFERS] = {{lengths, 0, 0}, {layout, 0, 0}, {hrp, 0, 0}, {versions, 0, 0}, {numbers, 0, 0},
+                              {text_offsets, 0, 0}, {texts, 0, 0}};
+    void *direct[BUFFERS];
+    size_t all = buffers_of(env, it, 7, (jobject[]){bytes, offsets, validity}, direct), done = 0, rows = (size_t)count;
+    (void)self;
+    if (!pin(env, it, all)) {
+        return OUT_OF_MEMORY;
+    }
+    bech32_column programs = column_of(it + 7, direct, it[0].items, it[1].items);
+    uint32_t number = bech32_segwit_encode_many(it[2].items, it[2].length, from(&it[3], at), rows, &programs,
+                                                (size_t)first, from(&it[4], at), rows, it[5].items, it[5].length,
+                                                it[6].items, it[6].length, &done);
+    unpin(env, it, all);
+    return (jint)number;
+}
+
+NATIVE(jint, validityOf)(JNIEnv *env, jclass self, jbyteArray numbers, jbyteArray validity, jintArray out) {
+    Pinned it[] = {{numbers, 0, 0}, {validity, 0, 0}, {out, 0, 0}};
+    (void)self;
+    if (!pin(env, it, COUNT(it))) {
+        return OUT_OF_MEMORY;
+    }
+    size_t accepted = 0;
+    uint32_t number = bech32_validity_of(it[0].items, it[0].length, it[1].items, it[1].length, &accepted);
+    say(&it[2], accepted, 0);
+    unpin(env, it, COUNT(it));
+    return (jint)number;
+}
+
 /* What a search works on: copies of what it is given, and where its results are put. All is wiped and freed. */
 typedef struct {
     uint8_t *text, *hrp, *block, *kinds, *texts;
@@ -422,6 +518,19 @@ NATIVE(jint, descriptorMend)
                                         it.places, it.places_count, it.texts, it.texts_room, &it.count);
     }
     return end(env, &it, number, kinds, places, texts, out);
+}
+
+NATIVE(jint, descriptorMendTwo)
+(JNIEnv *env, jclass self, jbyteArray text, jint memory, jintArray places, jbyteArray texts, jintArray out) {
+    Search it;
+    (void)self;
+    memset(&it, 0, sizeof it);
+    uint32_t number = BECH32_NO_MEMORY;
+    if (begin(env, &it, text, memory, NULL, places, texts)) {
+        number = bech32_descriptor_mend_two(it.text, it.text_length, &it.memory, it.places, it.places_count, it.texts,
+                                            it.texts_room, &it.count);
+    }
+    return end(env, &it, number, NULL, places, texts, out);
 }
 
 /* Threshold, share index and length of the payload. */

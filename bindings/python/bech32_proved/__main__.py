@@ -5,8 +5,8 @@
 All lines of these programs are answered, by the functions of the package, and their replies are the same; `err NUMBER`
 says why a line is refused, by the numbers of `bech32_proved.errors`, and 1 to 5 (the line has more than 4,096 bytes; is not
 UTF-8; no such command or checksum, wrong number of words, or a space too many; a word is no number, version or list of
-locations; a word is not hexadecimal digits) and 91 (out of memory). Locations are counted from the end of a text, and 0 is
-its last character. What is proved is the library; this is tested.
+locations; a word is not hexadecimal digits, or no blinding key) and 91 (out of memory). Locations are counted from the end
+of a text, and 0 is its last character. What is proved is the library; this is tested.
 
 Lines to b32, which answers without a name too, each with its reply:
 
@@ -28,6 +28,12 @@ Lines to b32, which answers without a name too, each with its reply:
         ok 0:l a12uel5l
     correct bech32 a12uqqql 1,2,3
         ok 1:5 2:l 3:e a12uel5l
+    decode-strict long-bech32m a1lqfn3a
+        ok a -
+    liquid-decode lq1qqf8er278e6nyvuwtgf39e6ewvdcnjupn9a86rzpx655y5lhkt0walu3djf9cklkxd3ryld97hu8h3xepw7sh2rlu7q45dcew5
+        ok lq 0 024f91abc7cea64671cb42625ceb2e63713970332f4fa18826d5284a7ef65bdddf f22d924b8b7ec66c464fb4bebf0f789b2177a175
+    liquid-encode lq 0 024f91abc7cea64671cb42625ceb2e63713970332f4fa18826d5284a7ef65bdddf f22d924b8b7ec66c464fb4bebf0f789b2177a175
+        ok lq1qqf8er278e6nyvuwtgf39e6ewvdcnjupn9a86rzpx655y5lhkt0walu3djf9cklkxd3ryld97hu8h3xepw7sh2rlu7q45dcew5
 
 Lines to c32. Nothing of them is wiped, and whoever sees them has what is secret:
 
@@ -62,6 +68,17 @@ Lines to mend:
         err 21 6
     checksum a12uel5l
         ok bech32
+    liquid lq1qqf8er278e6nyvuwtgf39e6ewvdcnjupn9a86rzpx655y5lhkt0walu3djf9cklkxd3ryld97hu8h3xepw7sh2rlu7q45dcew6 1
+        ok lq1qqf8er278e6nyvuwtgf39e6ewvdcnjupn9a86rzpx655y5lhkt0walu3djf9cklkxd3ryld97hu8h3xepw7sh2rlu7q45dcew5
+
+And of descriptors, each the rest of its line, with the place in bytes from 0. One may hold private keys: nothing is wiped.
+
+    descriptor raw(deedbeef)#89f8spxm
+        ok changed 6 raw(deadbeef)#89f8spxm
+    descriptor-check raw(deadbeef)#89f8spxm
+        ok
+    descriptor-checksum raw(deadbeef)
+        ok 89f8spxm
 """
 
 import os

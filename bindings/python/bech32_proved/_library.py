@@ -151,6 +151,12 @@ descriptor_mend = _function(
     *(*_IN, _SIZE, ctypes.POINTER(Memory), *_OUT, _SIZE, *_OUT),
 )
 
+descriptor_mend_two = _function(
+    _BECH32,
+    "bech32_descriptor_mend_two",
+    *(*_IN, ctypes.POINTER(Memory), ctypes.POINTER(_SIZE), _SIZE, *_OUT),
+)
+
 # These suffice for a call: bytes that are lent, and room for this many addresses.
 SUGGEST_MEMORY, SUGGESTIONS = 196_608, 48
 
@@ -160,6 +166,48 @@ suggest = _function(
     *(*_IN, *_IN, ctypes.POINTER(Memory), *_OUT, _SIZE, *_OUT),
 )
 
+
+class Column(ctypes.Structure):
+    """A column, as Arrow lays it out."""
+
+    _fields_ = [
+        *(("bytes", ctypes.c_void_p), ("bytes_length", _SIZE), ("offsets", ctypes.c_void_p), ("offsets_length", _SIZE)),
+        *(("validity", ctypes.c_void_p), ("validity_length", _SIZE), ("rows", _SIZE), ("width", _SIZE), ("layout", _NUMBER)),
+    ]
+
+
+# How a column is laid out.
+OFFSETS_32, OFFSETS_64, FIXED, FIXED_ZERO = 1, 2, 3, 4
+
+check_many = _function(_BECH32, "bech32_check_many", _NUMBER, ctypes.POINTER(Column), _SIZE, *_IN)
+segwit_decode_many = _function(
+    _BECH32,
+    "bech32_segwit_decode_many",
+    *(ctypes.POINTER(Column), _SIZE, *_IN, *_IN, *_IN, *_IN, ctypes.POINTER(ctypes.c_int32), _SIZE, *_OUT),
+)
+segwit_encode_many = _function(
+    _BECH32,
+    "bech32_segwit_encode_many",
+    *(*_IN, *_IN, ctypes.POINTER(Column), _SIZE, *_IN, ctypes.POINTER(ctypes.c_int32), _SIZE, *_OUT),
+)
+validity_of = _function(_BECH32, "bech32_validity_of", *_IN, *_OUT)
+message = _function(_BECH32, "bech32_message", _NUMBER, *_OUT)
+
+
+def _of_arrow(name: str, result: Any, *arguments: Any) -> Any:
+    # A function of arrow.c.
+    function = getattr(_BECH32, f"bech32_proved_{name}")
+    function.restype, function.argtypes = result, arguments
+    return function
+
+
+hold = _of_arrow("hold", ctypes.c_void_p, _SIZE)
+drop = _of_arrow("drop", None, ctypes.c_void_p)
+new_schema = _of_arrow("schema", ctypes.c_void_p, ctypes.c_int, ctypes.c_int)
+new_array = _of_arrow("array", ctypes.c_void_p, ctypes.c_int64, ctypes.c_int64, *[ctypes.c_void_p] * 3)
+capsules = _of_arrow("capsules", None, ctypes.c_void_p)
+end_schema = _of_arrow("end_schema", None, ctypes.c_void_p)
+end_array = _of_arrow("end_array", None, ctypes.c_void_p)
 
 # codex32_wipe_stack, which is a function of the header alone (wipe.c).
 wipe_stack = getattr(_CODEX32, "bech32_proved_wipe_stack")
@@ -254,7 +302,7 @@ class Buffer:
     def __init__(self, room: int) -> None:
         self._bytes = ctypes.create_string_buffer(room)
         self._length = _SIZE()
-        self.out = (self._bytes, _SIZE(room), ctypes.byref(self._length))
+        self.out = (self._bytes, room, ctypes.byref(self._length))
 
     def made(self, into: Type[_Made], place: int = 0) -> _Made:
         """What was written, as a `str`, `bytes` or a `bytearray`; the one at a place of several of one length."""
@@ -264,12 +312,12 @@ class Buffer:
         return cast(_Made, made)
 
     def bytes(self) -> bytes:
-        """What was written."""
-        return self.made(bytes)
+        """What was written, which is no secret: a slice is copied twice."""
+        return self._bytes[: self._length.value]
 
     def text(self) -> str:
-        """What was written, which is ASCII."""
-        return self.made(str)
+        """The same, which is ASCII."""
+        return self._bytes[: self._length.value].decode("ascii")
 
     def wipe(self) -> None:
         """Puts zeros into all of it."""
@@ -278,6 +326,8 @@ class Buffer:
 
 def given(data: Union[bytes, bytearray]) -> Tuple[Any, int]:
     """Bytes as a function takes them: a pointer, which is never null, and a length."""
+    if type(data) is bytes:
+        return data, len(data)
     if isinstance(data, bytearray) and data:
         return (ctypes.c_char * len(data)).from_buffer(data), len(data)
     return bytes(data), len(data)

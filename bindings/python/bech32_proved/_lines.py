@@ -5,10 +5,10 @@ import os
 import re
 from typing import Callable, Dict, List, NamedTuple, Tuple
 
-from . import _library, codex32, segwit, texts
+from . import _library, codex32, descriptor, liquid, segwit, texts
 from ._library import given
 from .edits import EditKind, NearEdit, near_edits
-from .errors import NoCorrection, Refused
+from .errors import NoCorrection, NotInDescriptor, Refused
 from .texts import ALPHABET, Checksum, Correction, as_typed
 
 LINE_LIMIT = 4096
@@ -23,14 +23,22 @@ _BAD_HEX = 5
 _OUT_OF_MEMORY = 91
 
 _CHECKSUMS = {"bech32": Checksum.BECH32, "bech32m": Checksum.BECH32M}
+_LONG_CHECKSUMS = {"long-bech32": Checksum.LONG_BECH32, "long-bech32m": Checksum.LONG_BECH32M}
 
 # No string has this threshold, which stands for a word that is no threshold.
 _NO_THRESHOLD = 1
 
 # The largest location, witness version, number of errors, threshold and number of shares that a word may name.
 _MOST_LOCATION, _MOST_VERSION, _MOST_ERRORS, _MOST_THRESHOLD, _MOST_SHARES = _library.MAX_TEXT - 1, 31, 2, 9, 99
+_MOST_LIQUID_ERRORS = 3
 
 _DONE = {EditKind.SWAPPED: "swapped", EditKind.LEFT_OUT: "left-out", EditKind.PUT_IN: "put-in"}
+_MENDED = {
+    descriptor.Mistake.SWAPPED: "swapped",
+    descriptor.Mistake.LEFT_OUT: "left-out",
+    descriptor.Mistake.PUT_IN: "put-in",
+    descriptor.Mistake.CHANGED: "changed",
+}
 
 
 class _NotAnswered(Exception):
@@ -48,6 +56,10 @@ def _checksum(word: str) -> Checksum:
     if word not in _CHECKSUMS:
         raise _NotAnswered(_NO_COMMAND)
     return _CHECKSUMS[word]
+
+
+def _any_checksum(word: str) -> Checksum:
+    return _LONG_CHECKSUMS[word] if word in _LONG_CHECKSUMS else _checksum(word)
 
 
 def _number(word: str, most: int) -> int:
@@ -88,7 +100,7 @@ def _hexadecimal(data: bytes) -> str:
 
 
 def _encode(checksum: str, hrp: str, data: str) -> str:
-    known = _checksum(checksum)
+    known = _any_checksum(checksum)
     return f"ok {texts.encode(known, hrp, _bytes(data))}"
 
 
@@ -98,17 +110,17 @@ def _decode(text: str) -> str:
 
 
 def _decode_strict(checksum: str, text: str) -> str:
-    hrp, data = texts.decode_strict(_checksum(checksum), text)
+    hrp, data = texts.decode_strict(_any_checksum(checksum), text)
     return f"ok {hrp.lower()} {_hexadecimal(data)}"
 
 
 def _decode_elements(checksum: str, text: str) -> str:
-    hrp, elements = texts.decode_elements(_checksum(checksum), text)
+    hrp, elements = texts.decode_elements(_any_checksum(checksum), text)
     return f"ok {hrp.lower()} {_hexadecimal(elements)}"
 
 
 def _encode_elements(checksum: str, hrp: str, elements: str) -> str:
-    known = _checksum(checksum)
+    known = _any_checksum(checksum)
     return f"ok {texts.encode_elements(known, hrp, _bytes(elements))}"
 
 
@@ -120,6 +132,18 @@ def _segwit_encode(hrp: str, version: str, program: str) -> str:
 def _segwit_decode(text: str) -> str:
     hrp, version, program = segwit.decode(text)
     return f"ok {hrp.lower()} {version} {program.hex()}"
+
+
+def _liquid_encode(hrp: str, version: str, key: str, program: str) -> str:
+    number, blinding_key = _number(version, _MOST_VERSION), _bytes(key)
+    if len(blinding_key) != _library.LIQUID_KEY_LENGTH:
+        raise _NotAnswered(_BAD_HEX)
+    return f"ok {liquid.encode(hrp, number, blinding_key, _bytes(program))}"
+
+
+def _liquid_decode(text: str) -> str:
+    hrp, version, key, program = liquid.decode(text)
+    return f"ok {hrp.lower()} {version} {key.hex()} {program.hex()}"
 
 
 def _correct(checksum: str, text: str, *locations: str) -> str:
@@ -230,6 +254,40 @@ def _accepting(text: str) -> str:
     return "ok bech32m"
 
 
+def _liquid(text: str, *words: str) -> str:
+    *locations, errors = words
+    typed = as_typed(text, _locations(locations))
+    wrong = _number(errors, _MOST_LIQUID_ERRORS)
+    near = texts.listed_near(_library.liquid_nearest, (), typed, wrong)
+    return " ".join(["ok", *(it.text.lower() for it in near)])
+
+
+def _descriptor(text: str) -> str:
+    found = descriptor.mend(bytearray(text.encode("utf-8")))
+    return " ".join(["ok", *(f"{_MENDED[it.kind]} {it.places[0]} {it.text}" for it in found)])
+
+
+def _checked(data: bytearray) -> str:
+    descriptor.check(data)
+    return "ok"
+
+
+def _descriptor_check(text: str) -> str:
+    return _with_place(_checked, text)
+
+
+def _descriptor_checksum(text: str) -> str:
+    return _with_place(lambda data: f"ok {descriptor.checksum(data)}", text)
+
+
+def _with_place(call: Callable[[bytearray], str], text: str) -> str:
+    # The place of a character that may not stand where it does is in bytes.
+    try:
+        return call(bytearray(text.encode("utf-8")))
+    except NotInDescriptor as refused:
+        return f"err {refused.number} {refused.place}"
+
+
 # ---- lines
 
 
@@ -238,6 +296,8 @@ class _Command(NamedTuple):
     # How many words stand behind that of the command.
     least: int
     most: int
+    # Whether its one word is the rest of the line, which may have spaces, or be empty.
+    takes_rest: bool = False
 
 
 # No line has more words.
@@ -252,6 +312,8 @@ PROGRAMS: Dict[str, Dict[str, _Command]] = {
         "encode-elements": _Command(_encode_elements, 3, 3),
         "segwit-encode": _Command(_segwit_encode, 3, 3),
         "segwit-decode": _Command(_segwit_decode, 1, 1),
+        "liquid-encode": _Command(_liquid_encode, 4, 4),
+        "liquid-decode": _Command(_liquid_decode, 1, 1),
         "correct": _Command(_correct, 2, 3),
     },
     "c32": {
@@ -270,31 +332,36 @@ PROGRAMS: Dict[str, Dict[str, _Command]] = {
         "suggest": _Command(_suggest, 2, 2),
         "fault": _Command(_fault, 2, 2),
         "checksum": _Command(_accepting, 1, 1),
+        "liquid": _Command(_liquid, 2, 3),
+        "descriptor": _Command(_descriptor, 1, 1, takes_rest=True),
+        "descriptor-check": _Command(_descriptor_check, 1, 1, takes_rest=True),
+        "descriptor-checksum": _Command(_descriptor_checksum, 1, 1, takes_rest=True),
     },
 }
 """The commands of each program by their words."""
 
 
-def _words(line: bytes) -> Tuple[str, List[str]]:
-    # The word of a command and those behind it, between single spaces.
+def _asked(program: str, line: bytes) -> Tuple[_Command, List[str]]:
+    # A command, and the words behind its own, between single spaces.
     if len(line) > LINE_LIMIT:
         raise _NotAnswered(_LINE_TOO_LONG)
     try:
-        name, *words = line.decode("utf-8").split(" ")
+        name, space, rest = line.decode("utf-8").partition(" ")
     except UnicodeDecodeError:
         raise _NotAnswered(_LINE_NOT_UTF8) from None
-    if "" in (name, *words):
+    command = PROGRAMS[program].get(name)
+    if command is None or not space:
         raise _NotAnswered(_NO_COMMAND)
-    return name, words
+    words = [rest] if command.takes_rest else rest.split(" ")
+    if not command.takes_rest and "" in words or not command.least <= len(words) <= command.most:
+        raise _NotAnswered(_NO_COMMAND)
+    return command, words
 
 
 def reply(program: str, line: bytes) -> str:
     """The reply of a program to a line, both without their end."""
     try:
-        name, words = _words(line)
-        command = PROGRAMS[program].get(name)
-        if command is None or not command.least <= len(words) <= command.most:
-            raise _NotAnswered(_NO_COMMAND)
+        command, words = _asked(program, line)
         return command.answer(*words)
     except (Refused, _NotAnswered) as refused:
         return f"err {refused.number}"

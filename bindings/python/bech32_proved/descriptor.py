@@ -15,7 +15,7 @@ is read where it lies and is yours to wipe. The buffers of a call, and the stack
 
 import ctypes
 from enum import Enum
-from typing import Any, List, NamedTuple, NoReturn, Optional, Tuple
+from typing import Any, Callable, List, NamedTuple, NoReturn, Optional, Tuple
 
 from . import _library, errors
 from ._library import Copied, Lent, Text, given, secretly, whole
@@ -31,6 +31,9 @@ _STRANGE = 0x7F
 # The texts that there is room for at first, the bytes that are lent, with as many more for each character, and the
 # factor by which they grow if they do not suffice.
 _LEAST_TEXTS, _LEAST_MEMORY, _OF_A_CHARACTER, _GROWTH = 8, 16384, 400, 8
+
+# The bytes for two changed characters.
+_TWO_MEMORY, _TWO_OF_A_CHARACTER = 65536, 4608
 
 
 class Mistake(Enum):
@@ -63,8 +66,8 @@ class Mended(NamedTuple):
     """What is done."""
 
     places: Tuple[int, ...]
-    """Where, counted from 0 on: one place, or two of characters that are swapped; in the mistyped text, but of a character
-    that is put in, in the new one."""
+    """Where, counted from 0 on: one place, or two of characters that are swapped, or of two that are changed; in the
+    mistyped text, but of a character that is put in, in the new one."""
 
     from_: str
     """What stands there in the mistyped text: a character for each place, none for one that is put in."""
@@ -80,6 +83,9 @@ class Mended(NamedTuple):
             return f"character {numbers[0]}: {self.from_} is left out"
         if self.kind is Mistake.PUT_IN:
             return f"character {numbers[0]}: {self.to} is put in"
+        if len(numbers) == 2:
+            both = f"{self.from_[0]} becomes {self.to[0]}, {self.from_[1]} becomes {self.to[1]}"
+            return f"characters {numbers[0]} and {numbers[1]}: {both}"
         return f"character {numbers[0]}: {self.from_} becomes {self.to}"
 
 
@@ -131,13 +137,31 @@ def mend(text: Text, changed: int = 1) -> List[Mended]:
     most = whole(changed, "changed")
     if most not in range(2):
         raise ValueError(f"changed must be 0 or 1, not {most}")
+    return _listed(text, lambda room, data: room.count(data, most))
+
+
+def mend_two(text: Text) -> List[Mended]:
+    """Lists the texts with a right checksum that come from this one by two of its characters changed. Either may be in the
+    checksum, or be the `#`. Try `mend` first, which takes a tenth of the time and of the memory.
+
+    They are in the order of their second places. Each is listed once. Of a descriptor of some 400 characters with two such
+    mistakes the right text is nearly always the only one listed; the longer it is, the more likely is another one. It may
+    not be what was meant: compare the addresses of the wallet.
+
+    Raises `DescriptorTooLong` of more than 7,500 characters, and `MemoryError` if the texts are too many for 256 MB.
+    """
+    return _listed(text, lambda room, data: room.count_two(data))
+
+
+def _listed(text: Text, count_in: "Callable[[_Room, Copied], int]") -> List[Mended]:
+    # The texts that a call puts into as much room as they need.
     data = _copied(text)
     try:
         room = _Room(_LEAST_TEXTS, len(data.octets))
-        count = room.count(data, most)
+        count = count_in(room, data)
         if count > _LEAST_TEXTS:
             room = _Room(count, len(data.octets))
-            room.count(data, most)
+            count_in(room, data)
         return room.read(text, count)
     finally:
         data.wipe()
@@ -157,15 +181,23 @@ class _Room:
         self._out = (self._kinds, count, self._places, 2 * count, self._texts, size)
 
     def count(self, data: Copied, changed: int) -> int:
-        # How many texts there are in all. As many as fit are put.
-        size, count = _LEAST_MEMORY + _OF_A_CHARACTER * min(self._length, _library.MAX_DESCRIPTOR), ctypes.c_size_t()
+        # How many texts one mistake makes. As many as fit are put.
+        call, least = _library.descriptor_mend, (_LEAST_MEMORY, _OF_A_CHARACTER)
+        return self._count(call, (*data.given, changed), least, self._out)
+
+    def count_two(self, data: Copied) -> int:
+        # How many come from two changed characters. As many as fit are put.
+        call, least = _library.descriptor_mend_two, (_TWO_MEMORY, _TWO_OF_A_CHARACTER)
+        ctypes.memset(self._kinds, Mistake.CHANGED.value, len(self._kinds))
+        return self._count(call, data.given, least, self._out[2:])
+
+    def _count(self, call: Any, given: Tuple[Any, ...], least: Tuple[int, int], out: Tuple[Any, ...]) -> int:
+        size, count = least[0] + least[1] * min(self._length, _library.MAX_DESCRIPTOR), ctypes.c_size_t()
         while True:
             lent = Lent(size)
             memory = ctypes.byref(lent.memory)
             try:
-                number = _library.interruptible(
-                    secretly, _library.descriptor_mend, *data.given, changed, memory, *self._out, ctypes.byref(count)
-                )
+                number = _library.interruptible(secretly, call, *given, memory, *out, ctypes.byref(count))
             finally:
                 lent.wipe()
             if number != _NO_MEMORY or size >= MOST_MEMORY:

@@ -72,6 +72,13 @@ class Refused(ValueError):
 # Written by tools/refusals.
 
 
+class NullRow(Refused):
+    """The row is null."""
+
+    sentence = "the row is null"
+    number = 1
+
+
 class NotUnicode(Refused):
     """The text holds half of a surrogate pair, which is no character."""
 
@@ -217,6 +224,13 @@ class ProgramNotV0(Refused):
 
     sentence = "a witness program of version 0 has 20 or 32 bytes"
     number = 48
+
+
+class OtherHrp(Refused):
+    """The address has another human-readable part than is wanted."""
+
+    sentence = "the address has another human-readable part than is wanted"
+    number = 49
 
 
 class EncodedTooLong(Refused):
@@ -378,6 +392,7 @@ OF_A_CHARACTER = frozenset({13, 14, 21, 22})
 
 # The refusals by the numbers of bech32.h and codex32.h.
 BY_NUMBER: Dict[int, Type[Refused]] = {
+    1: NullRow,
     2: NotUnicode,
     4: BadVersion,
     11: HrpEmpty,
@@ -400,6 +415,7 @@ BY_NUMBER: Dict[int, Type[Refused]] = {
     46: ProgramTooShort,
     47: ProgramTooLong,
     48: ProgramNotV0,
+    49: OtherHrp,
     51: EncodedTooLong,
     52: BadVersion,
     53: EncodedAddressTooLong,

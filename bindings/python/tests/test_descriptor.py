@@ -51,7 +51,7 @@ class Descriptors(unittest.TestCase):
             with self.subTest(text), self.assertRaises(error) as raised:
                 descriptor.check(text)
             self.assertEqual(raised.exception.text, text)
-        for call in (descriptor.checksum, descriptor.check, descriptor.mend):
+        for call in (descriptor.checksum, descriptor.check, descriptor.mend, descriptor.mend_two):
             self.assertRaises(TypeError, call, b"raw(deadbeef)#89f8spxm")
             self.assertRaises(TypeError, call, None)
 
@@ -95,6 +95,31 @@ class Descriptors(unittest.TestCase):
                 descriptor.check(it.text)
             self.assertEqual(descriptor.mend(text, 1), found)
             self.assertEqual(descriptor.mend(text, changed=0), [it for it in found if it.kind is not Mistake.CHANGED])
+
+    def alone_by_two(self, right, places, others):
+        """That a text is the only one listed of it with other characters at two places, and how it is made."""
+        (first, second), it = places, list(right)
+        it[first], it[second] = others
+        wrong, to = "".join(it), right[first] + right[second]
+        found = descriptor.mend_two(wrong)
+        self.assertEqual(found, [(right, Mistake.CHANGED, places, others, to)])
+        if wrong.isascii():
+            self.assertEqual(descriptor.mend_two(bytearray(wrong.encode())), found)
+        both = f"{others[0]} becomes {to[0]}, {others[1]} becomes {to[1]}"
+        self.assertEqual(str(found[0]), f"characters {first + 1} and {second + 1}: {both}")
+
+    def test_mends_two(self):
+        for first in range(0, len(RIGHT), 3):
+            for second in range(first + 1, len(RIGHT), 5):
+                others = ("y" if RIGHT[first] == "x" else "x") + ("p" if RIGHT[second] == "q" else "q")
+                self.alone_by_two(RIGHT, (first, second), others)
+        self.alone_by_two(LONG, (0, len(LONG) - 1), "Wq")
+        self.alone_by_two(LONG, (len(LONG) - 9, len(LONG) - 1), " #")
+        self.alone_by_two(RIGHT, (5, 6), "\xe9\U0001f600")
+        for text in (RIGHT, "xaw(deadbeef)#89f8spxm", "", "#", "raw(deadbeef)"):
+            self.assertEqual(descriptor.mend_two(text), [], text)
+        self.assertRaises(errors.DescriptorTooLong, descriptor.mend_two, "x" * 7501)
+        self.assertEqual(errors.DescriptorTooLong.number, 89)
 
     def test_refuses_to_mend(self):
         self.assertRaises(errors.DescriptorTooLong, descriptor.mend, "x" * 7501)

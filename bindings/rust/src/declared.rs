@@ -9,6 +9,20 @@ pub struct Memory {
     pub size: usize,
 }
 
+/// A column of rows.
+#[repr(C)]
+pub struct Column {
+    pub bytes: *const u8,
+    pub bytes_length: usize,
+    pub offsets: *const u8,
+    pub offsets_length: usize,
+    pub validity: *const u8,
+    pub validity_length: usize,
+    pub rows: usize,
+    pub width: usize,
+    pub layout: u32,
+}
+
 /// Declares functions that are called as those of the header are, under names given in this order.
 macro_rules! declare {
     ($encode:ident, $decode:ident, $check:ident, $fault:ident, $residue:ident,

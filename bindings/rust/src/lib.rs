@@ -64,6 +64,7 @@
 mod checksum;
 #[cfg(feature = "codex32")]
 pub mod codex32;
+pub mod columns;
 #[cfg(feature = "correct")]
 mod correction;
 mod declared;

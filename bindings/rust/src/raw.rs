@@ -8,7 +8,8 @@
 
 #[cfg(feature = "codex32")]
 use crate::codex32;
-use crate::declared::Memory;
+use crate::columns::{self, Layout};
+use crate::declared::{Column, Memory};
 use crate::Refusal;
 #[cfg(any(feature = "codex32", feature = "correct"))]
 use std::mem::MaybeUninit;
@@ -16,6 +17,8 @@ use std::mem::MaybeUninit;
 use std::sync::atomic::{compiler_fence, Ordering};
 
 mod c {
+    use super::Column;
+
     crate::declared::declare!(
         bech32_encode,
         bech32_decode,
@@ -146,6 +149,67 @@ mod c {
             texts: *mut u8,
             texts_room: usize,
             count: *mut usize,
+        ) -> u32;
+
+        pub fn bech32_descriptor_mend_two(
+            text: *const u8,
+            text_length: usize,
+            memory: *mut super::Memory,
+            places: *mut usize,
+            places_room: usize,
+            texts: *mut u8,
+            texts_room: usize,
+            count: *mut usize,
+        ) -> u32;
+
+        pub fn bech32_check_many(
+            checksum: u32,
+            texts: *const Column,
+            first: usize,
+            numbers: *mut u8,
+            count: usize,
+        ) -> u32;
+
+        pub fn bech32_segwit_decode_many(
+            texts: *const Column,
+            first: usize,
+            hrp: *const u8,
+            hrp_length: usize,
+            numbers: *mut u8,
+            count: usize,
+            versions: *mut u8,
+            versions_room: usize,
+            hrp_lengths: *mut u8,
+            hrp_lengths_room: usize,
+            program_offsets: *mut i32,
+            program_offsets_room: usize,
+            programs: *mut u8,
+            programs_room: usize,
+            done: *mut usize,
+        ) -> u32;
+
+        pub fn bech32_segwit_encode_many(
+            hrp: *const u8,
+            hrp_length: usize,
+            versions: *const u8,
+            versions_length: usize,
+            programs: *const Column,
+            first: usize,
+            numbers: *mut u8,
+            count: usize,
+            text_offsets: *mut i32,
+            text_offsets_room: usize,
+            texts: *mut u8,
+            texts_room: usize,
+            done: *mut usize,
+        ) -> u32;
+
+        pub fn bech32_validity_of(
+            numbers: *const u8,
+            count: usize,
+            validity: *mut u8,
+            validity_room: usize,
+            accepted: *mut usize,
         ) -> u32;
     }
 }
@@ -1000,4 +1064,166 @@ pub fn descriptor_mend(
     };
     wipe_stack();
     counted(number, count)
+}
+
+/// Puts what two changed characters make of a descriptor into buffers, as much as they have room for, and returns how
+/// many such texts there are in all: two places for each, and the texts, one behind another. The memory is for the
+/// call's own use.
+#[cfg(feature = "correct")]
+pub fn descriptor_mend_two(
+    text: &[u8],
+    memory: &mut [Block],
+    places: &mut [usize],
+    texts: &mut [u8],
+) -> Result<usize, Refusal> {
+    let (mut lent, mut count) = (lent(memory), 0);
+    // SAFETY: as in `nearest`.
+    let number = unsafe {
+        c::bech32_descriptor_mend_two(
+            text.as_ptr(),
+            text.len(),
+            &mut lent,
+            places.as_mut_ptr(),
+            places.len(),
+            texts.as_mut_ptr(),
+            texts.len(),
+            &mut count,
+        )
+    };
+    wipe_stack();
+    counted(number, count)
+}
+
+// A column as a function takes it. Each pointer stands with the length of its slice.
+fn laid(column: &columns::Column<'_>) -> Column {
+    let (offsets, offsets_length, width, layout) = match column.layout {
+        Layout::Offsets32(it) => (it.as_ptr().cast(), std::mem::size_of_val(it), 0, 1),
+        Layout::Offsets64(it) => (it.as_ptr().cast(), std::mem::size_of_val(it), 0, 2),
+        Layout::Fixed(width) => (std::ptr::null(), 0, width, 3),
+    };
+    let validity = column.validity.unwrap_or_default();
+    Column {
+        bytes: column.bytes.as_ptr(),
+        bytes_length: column.bytes.len(),
+        offsets,
+        offsets_length,
+        validity: validity.as_ptr(),
+        validity_length: validity.len(),
+        rows: column.rows,
+        width,
+        layout,
+    }
+}
+
+/// Puts the numbers of as many rows, from one on, into a buffer.
+pub fn check_many(
+    checksum: u32,
+    texts: &columns::Column<'_>,
+    first: usize,
+    numbers: &mut [u8],
+) -> Result<(), Refusal> {
+    // SAFETY: as in `encode`; the column holds for the call.
+    let number = unsafe {
+        c::bech32_check_many(
+            checksum,
+            &laid(texts),
+            first,
+            numbers.as_mut_ptr(),
+            numbers.len(),
+        )
+    };
+    returned(number, ())
+}
+
+/// What `segwit_decode_many` puts, for as many rows as it has numbers.
+pub struct Decoded<'b> {
+    pub numbers: &'b mut [u8],
+    pub versions: &'b mut [u8],
+    pub hrp_lengths: &'b mut [u8],
+    pub program_offsets: &'b mut [i32],
+    pub programs: &'b mut [u8],
+}
+
+/// Decodes segwit addresses, from a row on.
+pub fn segwit_decode_many(
+    texts: &columns::Column<'_>,
+    first: usize,
+    hrp: &[u8],
+    decoded: Decoded<'_>,
+) -> Result<(), Refusal> {
+    let mut done = 0;
+    // SAFETY: as in `check_many`.
+    let number = unsafe {
+        c::bech32_segwit_decode_many(
+            &laid(texts),
+            first,
+            hrp.as_ptr(),
+            hrp.len(),
+            decoded.numbers.as_mut_ptr(),
+            decoded.numbers.len(),
+            decoded.versions.as_mut_ptr(),
+            decoded.versions.len(),
+            decoded.hrp_lengths.as_mut_ptr(),
+            decoded.hrp_lengths.len(),
+            decoded.program_offsets.as_mut_ptr(),
+            decoded.program_offsets.len(),
+            decoded.programs.as_mut_ptr(),
+            decoded.programs.len(),
+            &mut done,
+        )
+    };
+    returned(number, ())
+}
+
+/// What `segwit_encode_many` puts, for as many rows as it has numbers.
+pub struct Encoded<'b> {
+    pub numbers: &'b mut [u8],
+    pub text_offsets: &'b mut [i32],
+    pub texts: &'b mut [u8],
+}
+
+/// Encodes segwit addresses, from a row on.
+pub fn segwit_encode_many(
+    hrp: &[u8],
+    versions: &[u8],
+    programs: &columns::Column<'_>,
+    first: usize,
+    encoded: Encoded<'_>,
+) -> Result<(), Refusal> {
+    let mut done = 0;
+    // SAFETY: as in `check_many`.
+    let number = unsafe {
+        c::bech32_segwit_encode_many(
+            hrp.as_ptr(),
+            hrp.len(),
+            versions.as_ptr(),
+            versions.len(),
+            &laid(programs),
+            first,
+            encoded.numbers.as_mut_ptr(),
+            encoded.numbers.len(),
+            encoded.text_offsets.as_mut_ptr(),
+            encoded.text_offsets.len(),
+            encoded.texts.as_mut_ptr(),
+            encoded.texts.len(),
+            &mut done,
+        )
+    };
+    returned(number, ())
+}
+
+/// Puts the bits of numbers into a buffer, and returns how many are 0.
+pub fn validity_of(numbers: &[u8], validity: &mut [u8]) -> Result<usize, Refusal> {
+    let mut accepted = 0;
+    // SAFETY: as in `encode`.
+    let number = unsafe {
+        c::bech32_validity_of(
+            numbers.as_ptr(),
+            numbers.len(),
+            validity.as_mut_ptr(),
+            validity.len(),
+            &mut accepted,
+        )
+    };
+    returned(number, accepted)
 }

@@ -70,8 +70,9 @@ refusals! {
     /// ```
     pub enum Refusal {
         // Written by tools/refusals.
+        NullRow = 1, "the row is null";
         NotUtf8 = 2, "a text or a human-readable part is not UTF-8";
-        BadNumber = 4, "the number of no checksum, an element above 31, or too many errors";
+        BadNumber = 4, "the number of no checksum, an element above 31, too many errors, or no such rows";
         HrpEmpty = 11, "the human-readable part is empty";
         HrpTooLong = 12, "the human-readable part has more than 83 bytes";
         HrpNotAscii = 13, "the human-readable part has a character that is not ASCII";
@@ -92,6 +93,7 @@ refusals! {
         ProgramTooShort = 46, "the program has less than 2 bytes";
         ProgramTooLong = 47, "the program has more than 40 bytes";
         ProgramNotV0 = 48, "in version 0 the program has neither 20 nor 32 bytes";
+        OtherHrp = 49, "the address has another human-readable part than is wanted";
         EncodedTooLong = 51, "the text would have more than 1023 characters (7089 by a long checksum)";
         EncodedBadVersion = 52, "the witness version is above 16";
         EncodedAddressTooLong = 53, "the address would have more than 90 characters";

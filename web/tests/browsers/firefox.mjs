@@ -69,7 +69,11 @@ export const open = async (colors = 'light') => {
   };
   const { folder, quit, stop } = started(program, words, ['ignore', 'ignore', 'ignore']);
   const file = path.join(folder, 'MarionetteActivePort');
-  const port = await until(() => fs.existsSync(file) && Number(fs.readFileSync(file, 'utf8')), 'port of Firefox');
+  // It starts within minutes where other programs have the machine.
+  const port = await until(() => fs.existsSync(file) && Number(fs.readFileSync(file, 'utf8')), 'port of Firefox', 300).catch(async (error) => {
+    await stop();
+    throw error;
+  });
   const socket = net.connect(port, '127.0.0.1');
   const waiting = new Map();
   let count = 0;

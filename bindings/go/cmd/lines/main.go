@@ -14,6 +14,8 @@ import (
 
 	"bech32proved"
 	"bech32proved/codex32"
+	"bech32proved/descriptor"
+	"bech32proved/liquid"
 	"bech32proved/segwit"
 )
 
@@ -46,6 +48,17 @@ func checksumOf(word string) (bech32proved.Checksum, error) {
 		return bech32proved.Bech32m, nil
 	}
 	return 0, noCommand
+}
+
+// anyChecksumOf knows the checksums for long texts too.
+func anyChecksumOf(word string) (bech32proved.Checksum, error) {
+	switch word {
+	case "long-bech32":
+		return bech32proved.LongBech32, nil
+	case "long-bech32m":
+		return bech32proved.LongBech32m, nil
+	}
+	return checksumOf(word)
 }
 
 func numberOf(word string, most int) (int, error) {
@@ -94,7 +107,7 @@ func hexOf(bytes []byte) string {
 func lowered(hrp string) string { return strings.ToLower(hrp) }
 
 func encode(words []string, by func(bech32proved.Checksum, string, []byte) (string, error)) (string, error) {
-	checksum, err := checksumOf(words[0])
+	checksum, err := anyChecksumOf(words[0])
 	if err != nil {
 		return "", err
 	}
@@ -107,7 +120,7 @@ func encode(words []string, by func(bech32proved.Checksum, string, []byte) (stri
 }
 
 func decode(words []string, by func(bech32proved.Checksum, string) (string, []byte, error)) (string, error) {
-	checksum, err := checksumOf(words[0])
+	checksum, err := anyChecksumOf(words[0])
 	if err != nil {
 		return "", err
 	}
@@ -130,8 +143,7 @@ func correct(words []string) (string, error) {
 		}
 		order = places
 	}
-	if strings.ContainsRune(words[1][strings.LastIndexByte(words[1], '1')+1:], '?') && strings.ContainsRune(words[1], '1') {
-		// To the programs a `?` is a character like others.
+	if hasUnreadable(words[1]) {
 		return "", errors.Unwrap(bech32proved.Fault(checksum, words[1]))
 	}
 	mended, err := bech32proved.Correct(checksum, words[1], places...)
@@ -271,6 +283,92 @@ func checksum(words []string) (string, error) {
 	return "", err
 }
 
+func liquidEncode(words []string) (string, error) {
+	version, err := numberOf(words[1], 31)
+	if err != nil {
+		return "", err
+	}
+	key, err := bytesOf(words[2])
+	if err != nil || len(key) != liquid.KeyLength {
+		return "", badHex
+	}
+	program, err := bytesOf(words[3])
+	if err != nil {
+		return "", err
+	}
+	text, err := liquid.Encode(words[0], version, key, program)
+	return "ok " + text, err
+}
+
+func liquidDecode(words []string) (string, error) {
+	address, err := liquid.Decode(words[0])
+	return fmt.Sprintf("ok %s %d %s %s", lowered(address.HRP), address.Version, hexOf(address.Key), hexOf(address.Program)), err
+}
+
+// hasUnreadable is whether a text has a `?`, which to the programs is a character like others, where it cannot be read.
+func hasUnreadable(text string) bool {
+	return strings.ContainsRune(text[strings.LastIndexByte(text, '1')+1:], '?') && strings.ContainsRune(text, '1')
+}
+
+func liquidNearest(words []string) (string, error) {
+	var places []int
+	var err error
+	has := true
+	if len(words) == 3 {
+		if places, has, err = placesOf(words[1], words[0]); err != nil {
+			return "", err
+		}
+	}
+	most, err := numberOf(words[len(words)-1], 3)
+	if err != nil {
+		return "", err
+	}
+	if hasUnreadable(words[0]) {
+		_, err := liquid.Decode(words[0])
+		return "", err
+	}
+	near, err := liquid.Nearest(words[0], most, places...)
+	reply := "ok"
+	for _, it := range near {
+		if has {
+			reply += " " + lowered(it.Text)
+		}
+	}
+	return reply, err
+}
+
+func descriptorMend(words []string) (string, error) {
+	mended, err := descriptor.Mend(words[0], 1)
+	reply := "ok"
+	for _, it := range mended {
+		kind := done[it.Kind]
+		if it.Kind == descriptor.Changed {
+			kind = "changed"
+		}
+		reply += fmt.Sprintf(" %s %d %s", kind, it.Place, it.Text)
+	}
+	return reply, err
+}
+
+// withPlace puts the place of a character that may not stand where it does behind the number.
+func withPlace(reply string, err error) (string, error) {
+	var refused *bech32proved.Refused
+	if errors.As(err, &refused) && refused.Number == bech32proved.NotInDescriptor {
+		return fmt.Sprintf("err %d %d", refused.Number, refused.Place), nil
+	}
+	return reply, err
+}
+
+func descriptorCheck(words []string) (string, error) {
+	_, err := descriptor.Check(words[0])
+	return withPlace("ok", err)
+}
+
+func descriptorChecksum(words []string) (string, error) {
+	checksum, err := descriptor.Checksum(words[0])
+	return withPlace("ok "+checksum, err)
+}
+
 var b32 = map[string]command{
 	"encode":          {3, 3, func(words []string) (string, error) { return encode(words, bech32proved.Encode) }},
 	"encode-elements": {3, 3, func(words []string) (string, error) { return encode(words, bech32proved.EncodeElements) }},
@@ -296,13 +394,20 @@ var b32 = map[string]command{
 		address, err := segwit.Decode(words[0])
 		return fmt.Sprintf("ok %s %d %s", lowered(address.HRP), address.Version, hexOf(address.Program)), err
 	}},
-	"correct": {2, 3, correct},
+	"correct":       {2, 3, correct},
+	"liquid-encode": {4, 4, liquidEncode},
+	"liquid-decode": {1, 1, liquidDecode},
 }
 
 var mend = map[string]command{
 	"nearest": {3, 4, nearest}, "edits": {2, 2, edits}, "suggest": {2, 2, suggest}, "fault": {2, 2, fault},
-	"checksum": {1, 1, checksum},
+	"checksum": {1, 1, checksum}, "liquid": {2, 3, liquidNearest},
+	"descriptor": {1, 1, descriptorMend}, "descriptor-check": {1, 1, descriptorCheck},
+	"descriptor-checksum": {1, 1, descriptorChecksum},
 }
+
+// takesRest has the commands whose one word is the rest of the line, which may have spaces, or be empty.
+var takesRest = map[string]bool{"descriptor": true, "descriptor-check": true, "descriptor-checksum": true}
 
 // thresholdOf is 1, which no string has, where a word is no threshold.
 func thresholdOf(word string) int {
@@ -417,9 +522,13 @@ func reply(commands map[string]command, line string) (string, error) {
 		return "", lineNotUTF8
 	}
 	words := strings.Split(line, " ")
-	for _, word := range words {
-		if word == "" {
-			return "", noCommand
+	if takesRest[words[0]] {
+		words = strings.SplitN(line, " ", 2)
+	} else {
+		for _, word := range words {
+			if word == "" {
+				return "", noCommand
+			}
 		}
 	}
 	it, is := commands[words[0]]

@@ -126,12 +126,56 @@ static uint32_t go_descriptor_mend(_GoString_ text, size_t changed, uint8_t *sta
                                   texts, room, found);
 }
 
+static uint32_t go_descriptor_mend_two(_GoString_ text, uint8_t *start, size_t size, size_t *places, size_t most,
+                                       uint8_t *texts, size_t room, size_t *found) {
+    bech32_memory memory = lent(start, size);
+    return bech32_descriptor_mend_two(at(text), _GoStringLen(text), &memory, places, 2 * most, texts, room, found);
+}
+
+// A column, of which Go's memory is pinned for a call.
+static bech32_column column_of(const uint8_t *bytes, size_t length, const void *offsets, size_t offsets_length,
+                               const uint8_t *validity, size_t validity_length, size_t rows, uint32_t layout) {
+    bech32_column column = {bytes, length, offsets, offsets_length, validity, validity_length, rows, 0, layout};
+    return column;
+}
+
+static uint32_t go_check_many(uint32_t checksum, const uint8_t *bytes, size_t length, const void *offsets,
+                              size_t offsets_length, const uint8_t *validity, size_t validity_length, size_t rows,
+                              uint32_t layout, size_t first, uint8_t *numbers, size_t count) {
+    bech32_column texts =
+        column_of(bytes, length, offsets, offsets_length, validity, validity_length, rows, layout);
+    return bech32_check_many(checksum, &texts, first, numbers, count);
+}
+
+static uint32_t go_segwit_decode_many(const uint8_t *bytes, size_t length, const void *offsets, size_t offsets_length,
+                                      const uint8_t *validity, size_t validity_length, size_t rows, uint32_t layout,
+                                      size_t first, _GoString_ hrp, uint8_t *numbers, size_t count, uint8_t *versions,
+                                      uint8_t *hrp_lengths, int32_t *program_offsets, uint8_t *programs, size_t room,
+                                      size_t *done) {
+    bech32_column texts =
+        column_of(bytes, length, offsets, offsets_length, validity, validity_length, rows, layout);
+    return bech32_segwit_decode_many(&texts, first, at(hrp), _GoStringLen(hrp), numbers, count, versions, count,
+                                     hrp_lengths, count, program_offsets, count + 1, programs, room, done);
+}
+
+static uint32_t go_segwit_encode_many(_GoString_ hrp, const uint8_t *versions, const uint8_t *bytes, size_t length,
+                                      const void *offsets, size_t offsets_length, const uint8_t *validity,
+                                      size_t validity_length, size_t rows, uint32_t layout, size_t first,
+                                      uint8_t *numbers, size_t count, int32_t *text_offsets, uint8_t *texts,
+                                      size_t room, size_t *done) {
+    bech32_column programs =
+        column_of(bytes, length, offsets, offsets_length, validity, validity_length, rows, layout);
+    return bech32_segwit_encode_many(at(hrp), _GoStringLen(hrp), versions, count, &programs, first, numbers, count,
+                                     text_offsets, count + 1, texts, room, done);
+}
+
 // The macros of memory that suffices, as functions.
 static size_t go_nearest_memory(size_t length) { return BECH32_NEAREST_FEW_MEMORY(length); }
 static size_t go_nearest_texts(size_t length) { return BECH32_NEAREST_FEW_TEXTS(length); }
 static size_t go_near_edits_memory(size_t length) { return BECH32_NEAR_EDITS_MEMORY(length); }
 static size_t go_liquid_memory(size_t length) { return BECH32_LIQUID_NEAREST_MEMORY(length); }
 static size_t go_mend_memory(size_t length) { return BECH32_DESCRIPTOR_MEND_MEMORY(length); }
+static size_t go_mend_two_memory(size_t length) { return BECH32_DESCRIPTOR_TWO_MEMORY(length); }
 */
 import "C"
 
@@ -465,6 +509,140 @@ func DescriptorMend(text string, changed int) ([]Edited, uint32) {
 			return C.go_descriptor_mend(text, C.size_t(changed), first(memory), C.size_t(len(memory)), first(kinds),
 				firstSize(where), C.size_t(len(kinds)), first(texts), C.size_t(len(texts)), count)
 		})
+}
+
+// DescriptorMendTwo calls bech32_descriptor_mend_two: two places for each text, from the front. It puts no kinds.
+func DescriptorMendTwo(text string) ([]Edited, uint32) {
+	memory := int(C.go_mend_two_memory(C.size_t(min(len(text), MaxDescriptor))))
+	return editsFound(memory, NearEditsLeast, len(text), 2,
+		func(memory, kinds []byte, where []C.size_t, texts []byte, count *C.size_t) C.uint32_t {
+			return C.go_descriptor_mend_two(text, first(memory), C.size_t(len(memory)), firstSize(where),
+				C.size_t(len(kinds)), first(texts), C.size_t(len(texts)), count)
+		})
+}
+
+// Rows at most in one call of a column: their addresses have less than 2^31 bytes.
+const mostRows = 1 << 16
+
+// Column has rows as the library takes them: the bytes of all, offsets of 32 or of 64 bits, and bits of which one is 0
+// where a row is null, or none.
+type Column struct {
+	Bytes    []byte
+	Offsets  []int32
+	Large    []int64
+	Validity []byte
+	First    int
+	Rows     int
+}
+
+// ColumnOf puts the rows of a list one behind another.
+func ColumnOf[Row string | []byte](rows []Row) *Column {
+	size := 0
+	for _, row := range rows {
+		size += len(row)
+	}
+	column := &Column{Bytes: make([]byte, 0, size), Large: make([]int64, len(rows)+1), Rows: len(rows)}
+	for at, row := range rows {
+		column.Bytes = append(column.Bytes, row...)
+		column.Large[at+1] = int64(len(column.Bytes))
+	}
+	return column
+}
+
+// Count is the number of rows.
+func (c *Column) Count() int { return c.Rows }
+
+// The offsets, their length in bytes, how many rows they are of, and the layout.
+func (c *Column) laid() (unsafe.Pointer, C.size_t, C.size_t, C.uint32_t) {
+	if c.Large != nil {
+		count := len(c.Large)
+		if count == 0 {
+			return nil, 0, 0, C.BECH32_OFFSETS_64
+		}
+		return unsafe.Pointer(&c.Large[0]), C.size_t(8 * count), C.size_t(count - 1), C.BECH32_OFFSETS_64
+	}
+	count := len(c.Offsets)
+	if count == 0 {
+		return nil, 0, 0, C.BECH32_OFFSETS_32
+	}
+	return unsafe.Pointer(&c.Offsets[0]), C.size_t(4 * count), C.size_t(count - 1), C.BECH32_OFFSETS_32
+}
+
+// CheckMany calls bech32_check_many: the number of each row. Of a checksum that there is not, the refusal's.
+func CheckMany(checksum uint32, column *Column) ([]byte, uint32) {
+	numbers := make([]byte, column.Count())
+	offsets, size, rows, layout := column.laid()
+	number := C.go_check_many(C.uint32_t(checksum), first(column.Bytes), C.size_t(len(column.Bytes)), offsets, size,
+		first(column.Validity), C.size_t(len(column.Validity)), rows, layout, C.size_t(column.First), first(numbers),
+		C.size_t(len(numbers)))
+	return numbers, uint32(number)
+}
+
+// Rows are what is made of rows: their numbers, and bytes one behind another.
+type Rows struct {
+	Numbers []byte
+	Offsets []int64
+	Bytes   []byte
+}
+
+func newRows(count int) *Rows { return &Rows{make([]byte, count), make([]int64, count+1), nil} }
+
+func (r *Rows) add(start int, offsets []C.int32_t, made []byte) {
+	before := int64(len(r.Bytes))
+	for at, offset := range offsets {
+		r.Offsets[start+at] = before + int64(offset)
+	}
+	r.Bytes = append(r.Bytes, made[:offsets[len(offsets)-1]]...)
+}
+
+// SegwitDecodeMany calls bech32_segwit_decode_many, for at most mostRows rows at once: also the versions, and the lengths of
+// the human-readable parts.
+func SegwitDecodeMany(column *Column, hrp string) (*Rows, []byte, []byte) {
+	count := column.Count()
+	decoded, versions, lengths := newRows(count), make([]byte, count), make([]byte, count)
+	most := min(count, mostRows)
+	own, programs := make([]C.int32_t, most+1), make([]byte, most*MaxProgram)
+	offsets, size, rows, layout := column.laid()
+	for start := 0; start < count; start += mostRows {
+		end := min(start+mostRows, count)
+		var done C.size_t
+		C.go_segwit_decode_many(first(column.Bytes), C.size_t(len(column.Bytes)), offsets, size, first(column.Validity),
+			C.size_t(len(column.Validity)), rows, layout, C.size_t(column.First+start), hrp,
+			first(decoded.Numbers[start:end]), C.size_t(end-start), first(versions[start:end]), first(lengths[start:end]),
+			&own[0], first(programs), C.size_t(len(programs)), &done)
+		decoded.add(start, own[:end-start+1], programs)
+	}
+	return decoded, versions, lengths
+}
+
+// SegwitEncodeMany calls bech32_segwit_encode_many, for at most mostRows rows at once. Of a version that no element has, the
+// number is that of one above 16.
+func SegwitEncodeMany(hrp string, versions []byte, column *Column) *Rows {
+	count := column.Count()
+	given := make([]byte, count)
+	for at := range given {
+		given[at] = byte(min(int(versions[at]), 31))
+	}
+	encoded, most := newRows(count), min(count, mostRows)
+	own, made := make([]C.int32_t, most+1), make([]byte, most*MaxAddress)
+	offsets, size, rows, layout := column.laid()
+	for start := 0; start < count; start += mostRows {
+		end := min(start+mostRows, count)
+		var done C.size_t
+		C.go_segwit_encode_many(hrp, first(given[start:end]), first(column.Bytes), C.size_t(len(column.Bytes)), offsets,
+			size, first(column.Validity), C.size_t(len(column.Validity)), rows, layout, C.size_t(column.First+start),
+			first(encoded.Numbers[start:end]), C.size_t(end-start), &own[0], first(made), C.size_t(len(made)), &done)
+		encoded.add(start, own[:end-start+1], made)
+	}
+	return encoded
+}
+
+// ValidityOf calls bech32_validity_of: a bit for each number, 1 where it is 0, and how many are.
+func ValidityOf(numbers []byte) ([]byte, int) {
+	validity := make([]byte, (len(numbers)+7)/8)
+	var accepted C.size_t
+	C.bech32_validity_of(first(numbers), C.size_t(len(numbers)), first(validity), C.size_t(len(validity)), &accepted)
+	return validity, int(accepted)
 }
 
 func min(one, other int) int {

@@ -1,6 +1,8 @@
 package bech32proved;
 
 import java.util.ArrayList;
+import java.util.Arrays;
+import java.util.Collections;
 import java.util.List;
 
 /**
@@ -9,6 +11,7 @@ import java.util.List;
  */
 public final class Descriptor {
     private static final int CHECKSUM_LENGTH = 8;
+    private static final int MAX_LENGTH = 7500;
 
     private Descriptor() {}
 
@@ -53,15 +56,11 @@ public final class Descriptor {
      *     DESCRIPTOR_TOO_LONG}, {@code NO_MEMORY}
      */
     public static List<Edited> mend(String text, int changed) {
-        // A character that is not ASCII is one, and stands in no descriptor.
-        byte[] bytes = new byte[text.length()];
-        for (int at = 0; at < bytes.length; at++) {
-            bytes[at] = (byte) Math.min(text.charAt(at), 127);
-        }
+        byte[] bytes = bytes(text);
         if (changed < 0) {
             throw new RefusedException(Refusal.BAD_NUMBER);
         }
-        int memory = 16384 + 400 * Math.min(bytes.length, 7500);
+        int memory = 16384 + 400 * Math.min(bytes.length, MAX_LENGTH);
         List<Edited> listed = new ArrayList<>();
         for (Search.Found found : Search.edits(null, bytes.length, memory, 8, 2, (lent, kinds, places, texts, out) ->
                 Native.descriptorMend(bytes, changed, lent, kinds, places, texts, out))) {
@@ -69,5 +68,38 @@ public final class Descriptor {
             listed.add(new Edited(found.text, edit));
         }
         return listed;
+    }
+
+    /**
+     * Lists the texts with a right checksum that come from a text by two of its characters changed. Either may be in the
+     * checksum, or be the {@code #}. Try {@link #mend} first, which takes a tenth of the time and of the memory. The C header
+     * bech32.h says their order. It may be that none is what was meant: compare the wallet's addresses.
+     *
+     * @throws RefusedException the first of {@code DESCRIPTOR_TOO_LONG}, {@code NO_MEMORY}
+     */
+    public static List<Correction> mendTwo(String text) {
+        byte[] bytes = bytes(text);
+        int memory = 65536 + 4608 * Math.min(bytes.length, MAX_LENGTH);
+        List<Correction> listed = new ArrayList<>();
+        for (Search.Found found : Search.edits(null, bytes.length, memory, 8, 2, (lent, kinds, places, texts, out) ->
+                Native.descriptorMendTwo(bytes, lent, places, texts, out))) {
+            Change first = changed(found.places[0], text, found.text);
+            Change second = changed(found.places[1], text, found.text);
+            listed.add(new Correction(found.text, Collections.unmodifiableList(Arrays.asList(first, second))));
+        }
+        return listed;
+    }
+
+    private static Change changed(int place, String text, String made) {
+        return new Change(place, text.charAt(place), made.charAt(place));
+    }
+
+    /** A byte for each character. One that is not ASCII stands in no descriptor. */
+    private static byte[] bytes(String text) {
+        byte[] bytes = new byte[text.length()];
+        for (int at = 0; at < bytes.length; at++) {
+            bytes[at] = (byte) Math.min(text.charAt(at), 127);
+        }
+        return bytes;
     }
 }

@@ -84,6 +84,22 @@ final class Native {
     static native int descriptorMend(
             byte[] text, int changed, int memory, byte[] kinds, int[] places, byte[] texts, int[] out);
 
+    static native int descriptorMendTwo(byte[] text, int memory, int[] places, byte[] texts, int[] out);
+
+    static native int checkMany(
+            int checksum, Object bytes, Object offsets, Object validity, long[] lengths, int[] layout, int first,
+            byte[] numbers, int at, int count);
+
+    static native int segwitDecodeMany(
+            Object bytes, Object offsets, Object validity, long[] lengths, int[] layout, int first, byte[] hrp,
+            byte[] numbers, byte[] versions, byte[] hrpLengths, int at, int count, int[] programOffsets, byte[] programs);
+
+    static native int segwitEncodeMany(
+            byte[] hrp, byte[] versions, Object bytes, Object offsets, Object validity, long[] lengths, int[] layout,
+            int first, byte[] numbers, int at, int count, int[] textOffsets, byte[] texts);
+
+    static native int validityOf(byte[] numbers, byte[] validity, int[] out);
+
     static native int parse(byte[] text, int[] out);
 
     static native int share(byte[] text, byte[] identifier, byte[] bytes, int[] out);

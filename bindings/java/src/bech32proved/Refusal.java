@@ -3,9 +3,11 @@ package bech32proved;
 /** Why something is refused: the numbers and sentences of bech32.h and codex32.h. */
 public enum Refusal {
     // Written by tools/refusals.
+    /** The row is null. */
+    NULL_ROW(1, false),
     /** A text or a human-readable part is not UTF-8. */
     NOT_UTF8(2, false),
-    /** The number of no checksum, an element above 31, or too many errors. */
+    /** The number of no checksum, an element above 31, too many errors, or no such rows. */
     BAD_NUMBER(4, false),
     /** There are more than 32 texts, or their lengths do not add up to that of all. */
     BAD_LENGTHS(4, true),
@@ -51,6 +53,8 @@ public enum Refusal {
     PROGRAM_TOO_LONG(47, false),
     /** In version 0 the program has neither 20 nor 32 bytes. */
     PROGRAM_NOT_V0(48, false),
+    /** The address has another human-readable part than is wanted. */
+    OTHER_HRP(49, false),
     /** The text would have more than 1023 characters (7089 by a long checksum). */
     ENCODED_TOO_LONG(51, false),
     /** The witness version is above 16. */

@@ -127,6 +127,57 @@ class Bech32Test {
                 .replace("dé", "de"));
     }
 
+    /** The other character at each of two places. */
+    private static String changed(String text, int first, char one, int second, char other) {
+        StringBuilder wrong = new StringBuilder(text);
+        wrong.setCharAt(first, one);
+        wrong.setCharAt(second, other);
+        return wrong.toString();
+    }
+
+    private static void mendsTwo(String right, int first, char one, int second, char other) {
+        List<Correction> found = Descriptor.mendTwo(changed(right, first, one, second, other));
+        assertEquals(1, found.size());
+        assertEquals(right, found.get(0).text());
+        assertEquals(List.of(new Change(first, one, right.charAt(first)), new Change(second, other, right.charAt(second))),
+                found.get(0).changes());
+    }
+
+    @Test
+    void twoChangedCharactersOfDescriptors() {
+        String right = "raw(deadbeef)#89f8spxm";
+        String longer = "wpkh(02f9308a019258c31049344f85f89d5229b531c845836f99b08601f113bce036f9)#8zl0zxma";
+        for (int first = 0; first < right.length(); first += 3) {
+            for (int second = first + 1; second < right.length(); second += 5) {
+                char one = right.charAt(first) == 'x' ? 'y' : 'x';
+                mendsTwo(right, first, one, second, right.charAt(second) == 'q' ? 'p' : 'q');
+            }
+        }
+        mendsTwo(longer, 0, 'W', longer.length() - 1, 'q');
+        mendsTwo(longer, longer.length() - 9, ' ', longer.length() - 1, '#');
+        mendsTwo(right, 5, 'é', 6, '€');
+        assertEquals("[raw(deadbeef)#89f8spxm [character 1: s becomes r, character 4: q becomes (]]",
+                Descriptor.mendTwo("sawqdeadbeef)#89f8spxm").toString());
+        for (String text : List.of(right, "xaw(deadbeef)#89f8spxm", "", "#", "raw(deadbeef)")) {
+            assertTrue(Descriptor.mendTwo(text).isEmpty(), text);
+        }
+        assertEquals(Refusal.DESCRIPTOR_TOO_LONG, refusal(() -> Descriptor.mendTwo("x".repeat(7501))));
+        assertEquals(89, Refusal.DESCRIPTOR_TOO_LONG.number());
+        // The call itself, with less memory, and less room, than it wants.
+        byte[] wrong = "sawqdeadbeef)#89f8spxm".getBytes(StandardCharsets.US_ASCII);
+        int[] places = new int[2];
+        int[] out = new int[1];
+        byte[] texts = new byte[wrong.length];
+        assertEquals(91, Native.descriptorMendTwo(wrong, 16, places, texts, out));
+        int memory = 65536 + 4608 * wrong.length;
+        assertEquals(92, Native.descriptorMendTwo(wrong, memory, places, new byte[wrong.length - 1], out));
+        assertEquals(92, Native.descriptorMendTwo(wrong, memory, new int[1], texts, out));
+        assertEquals(1, out[0]);
+        assertEquals(0, Native.descriptorMendTwo(wrong, memory, places, texts, out));
+        assertEquals(right, new String(texts, StandardCharsets.US_ASCII));
+        assertArrayEquals(new int[] {0, 3}, places);
+    }
+
     @Test
     void secretsAreSharedAndRecovered() {
         byte[] secret = filled(16, 7);

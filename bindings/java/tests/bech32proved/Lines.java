@@ -13,10 +13,15 @@ import java.util.Arrays;
 import java.util.HashMap;
 import java.util.Locale;
 import java.util.Map;
+import java.util.Set;
+import java.util.function.Supplier;
 
 /** Replies to each line of standard input as the programs b32, c32 and mend do: java bech32proved.Lines b32|c32|mend. */
 public final class Lines {
     private static final int LINE_LIMIT = 4096;
+
+    /** The commands whose one word is the rest of the line, which may have spaces, or be empty. */
+    private static final Set<String> TAKE_REST = Set.of("descriptor", "descriptor-check", "descriptor-checksum");
 
     /** A line is refused by a number of the programs. */
     private static final class NotAnswered extends RuntimeException {
@@ -52,6 +57,14 @@ public final class Lines {
             return Checksum.BECH32M;
         }
         throw new NotAnswered(3);
+    }
+
+    /** Those for long texts too. */
+    private static Checksum anyChecksum(String word) {
+        if (word.equals("long-bech32")) {
+            return Checksum.LONG_BECH32;
+        }
+        return word.equals("long-bech32m") ? Checksum.LONG_BECH32M : checksum(word);
     }
 
     private static int number(String word, int most) {
@@ -235,6 +248,57 @@ public final class Lines {
         }
     }
 
+    private static String liquidEncode(String[] words) {
+        int version = number(words[1], 31);
+        byte[] key = bytes(words[2]);
+        if (key.length != 33) {
+            throw new NotAnswered(5);
+        }
+        return "ok " + LiquidAddress.of(words[0], version, key, bytes(words[3]));
+    }
+
+    private static String liquidDecode(String[] words) {
+        LiquidAddress it = LiquidAddress.parse(words[0]);
+        return "ok " + it.hrp() + " " + it.version() + " " + hex(it.key()) + " " + hex(it.program());
+    }
+
+    private static String liquid(String[] words) {
+        String text = words[0];
+        int[] places = words.length == 3 ? places(words[1], text) : new int[0];
+        int errors = number(words[words.length - 1], 3);
+        if (new Typed(text).hasUnreadable()) {
+            LiquidAddress.parse(text);
+        }
+        StringBuilder reply = new StringBuilder("ok");
+        for (Correction near : LiquidAddress.nearest(text, errors, known(places))) {
+            if (areAll(places)) {
+                reply.append(" ").append(lower(near.text()));
+            }
+        }
+        return reply.toString();
+    }
+
+    /** To the programs a character is a byte, as those of this text are. */
+    private static String descriptor(String[] words) {
+        StringBuilder reply = new StringBuilder("ok");
+        for (Edited it : Descriptor.mend(new String(text(words[0]), StandardCharsets.ISO_8859_1), 1)) {
+            reply.append(" ").append(done(it.edit())).append(" ").append(it.edit().place()).append(" ").append(it.text());
+        }
+        return reply.toString();
+    }
+
+    /** A reply, or a refusal with the place, in bytes, of a character that may not stand where it does. */
+    private static String withPlace(String text, Supplier<String> reply) {
+        try {
+            return reply.get();
+        } catch (RefusedException refused) {
+            if (refused.refusal() != Refusal.NOT_IN_DESCRIPTOR) {
+                throw refused;
+            }
+            return "err " + refused.refusal().number() + " " + text(text.substring(0, refused.place())).length;
+        }
+    }
+
     private static byte[] text(String word) {
         return word.getBytes(StandardCharsets.UTF_8);
     }
@@ -316,18 +380,18 @@ public final class Lines {
         switch (program) {
             case "b32":
                 all.put("encode", new Command(3, 3, words -> {
-                    Checksum checksum = checksum(words[0]);
+                    Checksum checksum = anyChecksum(words[0]);
                     return "ok " + Bech32.encode(checksum, words[1], bytes(words[2]));
                 }));
                 all.put("encode-elements", new Command(3, 3, words -> {
-                    Checksum checksum = checksum(words[0]);
+                    Checksum checksum = anyChecksum(words[0]);
                     return "ok " + Bech32.encodeElements(checksum, words[1], bytes(words[2]));
                 }));
                 all.put("decode", new Command(1, 1, words -> decoded(Bech32.decode(words[0]))));
                 all.put("decode-strict", new Command(2, 2,
-                        words -> decoded(Bech32.decodeStrict(checksum(words[0]), words[1]))));
+                        words -> decoded(Bech32.decodeStrict(anyChecksum(words[0]), words[1]))));
                 all.put("decode-elements", new Command(2, 2,
-                        words -> decoded(Bech32.decodeElements(checksum(words[0]), words[1]))));
+                        words -> decoded(Bech32.decodeElements(anyChecksum(words[0]), words[1]))));
                 all.put("segwit-encode", new Command(3, 3, words -> {
                     int version = number(words[1], 31);
                     SegwitAddress address = SegwitAddress.of(words[0], version, bytes(words[2]));
@@ -335,6 +399,8 @@ public final class Lines {
                 }));
                 all.put("segwit-decode", new Command(1, 1, words -> address(SegwitAddress.parse(words[0]))));
                 all.put("correct", new Command(2, 3, Lines::correct));
+                all.put("liquid-encode", new Command(4, 4, Lines::liquidEncode));
+                all.put("liquid-decode", new Command(1, 1, Lines::liquidDecode));
                 break;
             case "mend":
                 all.put("nearest", new Command(3, 4, Lines::nearest));
@@ -342,6 +408,14 @@ public final class Lines {
                 all.put("suggest", new Command(2, 2, Lines::suggest));
                 all.put("fault", new Command(2, 2, Lines::fault));
                 all.put("checksum", new Command(1, 1, Lines::checksumOf));
+                all.put("liquid", new Command(2, 3, Lines::liquid));
+                all.put("descriptor", new Command(1, 1, Lines::descriptor));
+                all.put("descriptor-check", new Command(1, 1, words -> withPlace(words[0], () -> {
+                    Descriptor.check(words[0]);
+                    return "ok";
+                })));
+                all.put("descriptor-checksum", new Command(1, 1,
+                        words -> withPlace(words[0], () -> "ok " + Descriptor.checksum(words[0]))));
                 break;
             default:
                 all.put("parse", new Command(1, 1, words -> {
@@ -374,9 +448,11 @@ public final class Lines {
         } catch (CharacterCodingException notText) {
             throw new NotAnswered(2);
         }
-        String[] words = text.split(" ", -1);
+        boolean takesRest = TAKE_REST.contains(text.split(" ", 2)[0]);
+        String[] words = text.split(" ", takesRest ? 2 : -1);
         Command it = commands.get(words[0]);
-        if (Arrays.asList(words).contains("") || it == null || words.length - 1 < it.least || words.length - 1 > it.most) {
+        boolean hasEmpty = !takesRest && Arrays.asList(words).contains("");
+        if (hasEmpty || it == null || words.length - 1 < it.least || words.length - 1 > it.most) {
             throw new NotAnswered(3);
         }
         return it.reply.to(Arrays.copyOfRange(words, 1, words.length));

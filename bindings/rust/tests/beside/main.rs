@@ -72,7 +72,7 @@ impl Compared {
 
     fn agreed(&self) {
         for place in self.explained.keys() {
-            let row = format!("| {place}");
+            let row = format!("|{place}");
             assert!(
                 DIFFERENCES.contains(&row),
                 "docs/rust/DIFFERENCES.md has no row {place}"

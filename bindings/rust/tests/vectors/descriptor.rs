@@ -1,6 +1,6 @@
 //! Output descriptors (BIP-380).
 
-use bech32_proved::descriptor::{check, checksum, mend, Error, Mistake};
+use bech32_proved::descriptor::{check, checksum, mend, mend_two, Error, Mistake};
 use bech32_proved::Refusal;
 
 const RIGHT: &str = "raw(deadbeef)#89f8spxm";
@@ -112,4 +112,68 @@ fn mends_one_mistake() {
         Mistake::Changed(5),
         words,
     );
+}
+
+// That one text alone is listed, and how it is made.
+fn alone_by_two(text: &str, right: &str, places: (usize, usize), words: &str) {
+    let found = mend_two(text).unwrap();
+    assert_eq!(found.len(), 1, "{text}");
+    assert_eq!(
+        (
+            found[0].as_str(),
+            found[0].places(),
+            found[0].to_string().as_str()
+        ),
+        (right, places, words)
+    );
+    assert!(!format!("{found:?}").contains(&right[..5]));
+}
+
+// A text with other characters at two places.
+fn with_two(text: &str, places: (usize, usize), others: (char, char)) -> String {
+    let mut all: Vec<char> = text.chars().collect();
+    all[places.0] = others.0;
+    all[places.1] = others.1;
+    all.into_iter().collect()
+}
+
+fn mends_two(right: &str, places: (usize, usize), others: (char, char)) {
+    let it = |place: usize| char::from(right.as_bytes()[place]);
+    let words = format!(
+        "characters {} and {}: {} becomes {}, {} becomes {}",
+        places.0 + 1,
+        places.1 + 1,
+        others.0,
+        it(places.0),
+        others.1,
+        it(places.1)
+    );
+    let wrong = with_two(right, places, others);
+    alone_by_two(&wrong, right, places, &words);
+}
+
+#[test]
+fn mends_two_changed_characters() {
+    let other = |place: usize, one, two| {
+        if RIGHT[place..].starts_with(one) {
+            two
+        } else {
+            one
+        }
+    };
+    for first in (0..RIGHT.len()).step_by(3) {
+        for second in (first + 1..RIGHT.len()).step_by(5) {
+            let others = (other(first, 'x', 'y'), other(second, 'q', 'p'));
+            mends_two(RIGHT, (first, second), others);
+        }
+    }
+    mends_two(LONG, (0, LONG.len() - 1), ('W', 'q'));
+    mends_two(LONG, (LONG.len() - 9, LONG.len() - 1), (' ', '#'));
+    mends_two(RIGHT, (5, 6), ('\u{e9}', '\u{1f600}'));
+    for text in [RIGHT, "xaw(deadbeef)#89f8spxm", "", "#", "raw(deadbeef)"] {
+        assert!(mend_two(text).unwrap().is_empty(), "{text}");
+    }
+    let error = mend_two(&"x".repeat(7501)).unwrap_err();
+    assert_eq!(error, Error::TooLong);
+    assert_eq!(Refusal::from(error).number(), 89);
 }

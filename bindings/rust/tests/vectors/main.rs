@@ -1,5 +1,6 @@
 //! The public vectors, and what of this crate no other crate has: its numbers.
 
+mod columns;
 #[cfg(feature = "correct")]
 mod descriptor;
 mod elements;
