@@ -12,6 +12,7 @@ use bech32::{segwit, DecodeError, EncodeError};
 
 // Written by tools/refusals.
 pub const LINE_TOO_LONG: u32 = 1;
+pub const NULL_ROW: u32 = 1;
 pub const LINE_NOT_UTF8: u32 = 2;
 pub const NOT_UTF8: u32 = 2;
 pub const NO_COMMAND: u32 = 3;
@@ -42,6 +43,7 @@ pub const PADDING_NOT_ZERO: u32 = 45;
 pub const PROGRAM_TOO_SHORT: u32 = 46;
 pub const PROGRAM_TOO_LONG: u32 = 47;
 pub const PROGRAM_NOT_V0: u32 = 48;
+pub const OTHER_HRP: u32 = 49;
 pub const ENCODED_TOO_LONG: u32 = 51;
 pub const ENCODED_BAD_VERSION: u32 = 52;
 pub const ENCODED_ADDRESS_TOO_LONG: u32 = 53;

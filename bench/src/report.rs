@@ -41,7 +41,7 @@ impl Row {
 
     fn columns(&self) -> String {
         let times = self.nanoseconds;
-        let times = times.map(|[least, median]| format!("{least:.0}, {median:.0}"));
+        let times = times.map(|[least, median]| format!("{least:.0}/{median:.0}"));
         let counts = match self.instructions {
             Some(counts) => counts.map(|n| format!("{n:.0}")),
             None => [(); 3].map(|_| "not counted".to_string()),
