@@ -10,9 +10,9 @@
  *
  * Each function returns BECH32_OK, or the number of a refusal (below). On a refusal it writes nothing:
  * the buffers and the lengths stay as they were. The exceptions are the place of bech32_fault, of
- * bech32_encode_elements and of bech32_descriptor_checksum and _check, lent memory, and what is said where
- * memory is lent. Otherwise the output stands at the front of the buffer, and the bytes behind it stay as
- * they were. No output ends in a zero byte.
+ * bech32_encode_elements and of bech32_descriptor_checksum and _check, lent memory, what is said where
+ * memory is lent, and the rows before one for which a buffer is too small. Otherwise the output stands at
+ * the front of the buffer, and the bytes behind it stay as they were. No output ends in a zero byte.
  *
  * All texts are written in lower case, those mended from text in upper case too. To give them back in
  * upper case, change `a` to `z` into `A` to `Z`: the checksum accepts both.
@@ -23,8 +23,8 @@
  * memory are all that a caller owes.
  *
  * Lengths are in bytes; in a text that is accepted or written these are characters. The C file of the
- * library, if it tests each access (MACHINE_IS_TESTED), refuses a text, a human-readable part or
- * elements of 2^32 bytes or more with BECH32_NO_MEMORY, before all else.
+ * library, if it tests each access (MACHINE_IS_TESTED), refuses a text, a human-readable part,
+ * elements, numbers or the bytes of a column of 2^32 bytes or more with BECH32_NO_MEMORY, before all else.
  *
  * This describes the version of the library that BECH32_VERSION names, which is that of the file
  * VERSION and of the packages over it. The refusals are those of the Rust crate bech32 0.12.0, in its
@@ -105,9 +105,10 @@ extern "C" {
 
 /* Answers. */
 #define BECH32_OK 0u
+#define BECH32_NULL_ROW 1u              /* the row is null */
 #define BECH32_NOT_UTF8 2u              /* a text or a human-readable part is not UTF-8 */
-#define BECH32_BAD_NUMBER 4u            /* the number of no checksum, an element above 31, or too many
-                                           errors */
+#define BECH32_BAD_NUMBER 4u            /* the number of no checksum, an element above 31, too many errors,
+                                           or no such rows */
 #define BECH32_HRP_EMPTY 11u            /* the human-readable part is empty */
 #define BECH32_HRP_TOO_LONG 12u         /* the human-readable part has more than 83 bytes */
 #define BECH32_HRP_NOT_ASCII 13u        /* the human-readable part has a character that is not ASCII */
@@ -129,6 +130,7 @@ extern "C" {
 #define BECH32_PROGRAM_TOO_SHORT 46u    /* the program has less than 2 bytes */
 #define BECH32_PROGRAM_TOO_LONG 47u     /* the program has more than 40 bytes */
 #define BECH32_PROGRAM_NOT_V0 48u       /* in version 0 the program has neither 20 nor 32 bytes */
+#define BECH32_OTHER_HRP 49u            /* the address has another human-readable part than is wanted */
 #define BECH32_ENCODED_TOO_LONG 51u     /* the text would have more than 1023 characters (7089 by a long
                                            checksum) */
 #define BECH32_ENCODED_BAD_VERSION 52u  /* the witness version is above 16 */
@@ -496,7 +498,7 @@ uint32_t bech32_liquid_nearest(const uint8_t *text, size_t text_length, const si
  * With 80 *place is where the first byte is that is no such character, from 0 for the first.
  *
  * A descriptor may hold private keys. Nothing of it is kept; but its bytes, and the checksum, may stand
- * on the stack behind the call, and the caller wipes buffers and lent memory itself. So for all three
+ * on the stack behind the call, and the caller wipes buffers and lent memory itself. So for all four
  * functions.
  *
  * Refusals, the first that applies: 80, 92.
@@ -547,6 +549,32 @@ uint32_t bech32_descriptor_mend(const uint8_t *text, size_t text_length, size_t 
                                 bech32_memory *memory, uint8_t *kinds, size_t kinds_room,
                                 size_t *places, size_t places_room, uint8_t *texts,
                                 size_t texts_room, size_t *count);
+
+/* These bytes suffice for a few texts (bech32_descriptor_mend_two); for many, lend more. */
+#define BECH32_DESCRIPTOR_TWO_MEMORY(text_length) (65536u + 4608u * (text_length))
+
+/*
+ * Lists the texts that two changed characters make of this one and that bech32_descriptor_check accepts.
+ * Either may be in the checksum, or be the `#`. A character is a byte: any bytes of the text may be wrong.
+ * Try bech32_descriptor_mend first, which takes a tenth of the time and of the memory.
+ *
+ * *count, which may be 0, is their number. Of each both places are put into `places`, the lower one first,
+ * from 0 for the first character. The new texts, each of text_length bytes, are put into `texts` one behind
+ * another. They are in the order of the second place, then of the code of the character put there, then of
+ * the first place, and of the character put there. Each text is listed once.
+ *
+ * If they do not all fit (92), *count is the number of all, and the first of them are put, as many as
+ * both buffers have room for. places_room is a number of items. It may be that none is what was meant:
+ * compare it with the wallet's addresses.
+ *
+ * Refusals, the first that applies: 89; 92; and 91 in place of 0 or 92 where `memory` does not suffice.
+ * If the function keeps the memory (above), the buffers may have changed; with every other refusal but
+ * 92, and with every other 91, they are as they were.
+ */
+uint32_t bech32_descriptor_mend_two(const uint8_t *text, size_t text_length, bech32_memory *memory,
+                                    size_t *places, size_t places_room, uint8_t *texts,
+                                    size_t texts_room, size_t *count);
+
 /* These suffice for bech32_suggest: bytes of memory, and room for this many addresses, of 90 bytes each. */
 #define BECH32_SUGGEST_MEMORY 196608u
 #define BECH32_SUGGESTIONS 48u
@@ -591,6 +619,112 @@ uint32_t bech32_descriptor_mend(const uint8_t *text, size_t text_length, size_t 
 uint32_t bech32_suggest(const uint8_t *text, size_t text_length, const uint8_t *hrp, size_t hrp_length,
                         bech32_memory *memory, uint8_t *kinds, size_t kinds_room, size_t *places,
                         size_t places_room, uint8_t *texts, size_t texts_room, size_t *count);
+
+/*
+ * Columns: many rows in one call, as databases and data frames have them.
+ *
+ * A column is laid out as Apache Arrow has it: the bytes of all rows one behind another, offsets, and a bit
+ * for each row that is 0 where the row is null. So the buffers of an Arrow array are handed over as they
+ * are, and what is written is an Arrow array again: utf8 or binary, with offsets of 32 bits. Rows may also
+ * have one width. Rows are counted from 0. `first` and `count` cut a column, so threads can share one, each
+ * with rows and buffers of its own.
+ *
+ * A bad row ends nothing: its number, a byte, is put into `numbers`, and the next row is read. The number
+ * is the first that applies of: 4, its bit is not in `validity`; BECH32_NULL_ROW, it is null; 4, its
+ * offsets are not in `offsets`, fall, or are negative, or its bytes are not in `bytes`; what the call for
+ * one text returns, which is 0 where the row is accepted; BECH32_OTHER_HRP. Whatever the buffers hold,
+ * nothing outside of them is read.
+ *
+ * Of each buffer, what is behind the last row that is put stays as it was.
+ */
+
+/* How a column is laid out. */
+#define BECH32_OFFSETS_32 1u /* offsets are int32_t: Arrow's utf8 and binary */
+#define BECH32_OFFSETS_64 2u /* offsets are int64_t: Arrow's large_utf8 and large_binary */
+#define BECH32_FIXED 3u      /* each row has `width` bytes: Arrow's fixed_size_binary */
+#define BECH32_FIXED_ZERO 4u /* the same, and a row ends before the zeros at its end: NumPy's S */
+
+/*
+ * A column. Row i has the bytes from offset i up to offset i + 1, or those from i * width up to (i + 1) *
+ * width. Offsets are in the order of bytes of the machine, and need not be aligned. Each buffer has its
+ * length in bytes: there are rows + 1 offsets, so `offsets` has 4 * (rows + 1) or 8 * (rows + 1). Where
+ * rows have a width, `offsets` is not read.
+ */
+typedef struct {
+    const uint8_t *bytes;    /* of all rows */
+    size_t bytes_length;
+    const void *offsets;     /* where each row begins, and the last one ends */
+    size_t offsets_length;   /* in bytes */
+    const uint8_t *validity; /* bit i % 8 of byte i / 8, the lowest bit first, is 0 where row i is null */
+    size_t validity_length;  /* in bytes; 0: no row is null */
+    size_t rows;             /* how many rows there are */
+    size_t width;            /* the bytes of each row, where they have one width */
+    uint32_t layout;         /* BECH32_OFFSETS_32 to BECH32_FIXED_ZERO */
+} bech32_column;
+
+/*
+ * Tests `count` rows from `first` on by a checksum, any of the four, or with 0 by BECH32_BECH32M and
+ * BECH32_BECH32: one that accepts the text suffices. `numbers` has count bytes: numbers[i] is the number of
+ * row first + i, as bech32_check returns it.
+ *
+ * Refusals: 4 (no such checksum or layout, or there are no such rows).
+ */
+uint32_t bech32_check_many(uint32_t checksum, const bech32_column *texts, size_t first,
+                           uint8_t *numbers, size_t count);
+
+/*
+ * Decodes `count` segwit addresses, the rows from `first` on. `numbers` has count bytes: numbers[i] is the
+ * number of row first + i, as bech32_segwit_decode returns it. If hrp_length is not 0, an address with
+ * another human-readable part than `hrp`, in either case, has the number BECH32_OTHER_HRP: name that of
+ * your network.
+ *
+ * versions[i] is the witness version, and hrp_lengths[i] the length of the human-readable part, with which
+ * the text begins. The programs are put into `programs` one behind another: that of row first + i stands
+ * from program_offsets[i] up to program_offsets[i + 1], and program_offsets[0] is 0. Where the number is
+ * not 0, version and length are 0 and the program is empty. What is not wanted has a room of 0: versions,
+ * hrp_lengths, or program_offsets, and then no program is put.
+ *
+ * versions_room and hrp_lengths_room are at least count, program_offsets_room, in items, at least count +
+ * 1, and count times BECH32_MAX_SEGWIT_PROGRAM bytes are always enough for `programs`. *done is the number
+ * of the rows that are put: count, or with 92 fewer, as many as all buffers have room for, and as have less
+ * than 2^31 bytes of programs. The call for the others begins at first + *done.
+ *
+ * Refusals, the first that applies: 4 (no such layout, or there are no such rows); 92.
+ */
+uint32_t bech32_segwit_decode_many(const bech32_column *texts, size_t first, const uint8_t *hrp,
+                                   size_t hrp_length, uint8_t *numbers, size_t count, uint8_t *versions,
+                                   size_t versions_room, uint8_t *hrp_lengths, size_t hrp_lengths_room,
+                                   int32_t *program_offsets, size_t program_offsets_room,
+                                   uint8_t *programs, size_t programs_room, size_t *done);
+
+/*
+ * Encodes `count` segwit addresses of one human-readable part. Their programs are the rows of `programs`
+ * from `first` on; versions[i] is the witness version of row first + i, and versions_length, in bytes, is
+ * at least count. `numbers` has count bytes: numbers[i] is the number of row first + i, as
+ * bech32_segwit_encode returns it. The addresses, in lower case, are put into `texts` one behind another:
+ * that of row first + i stands from text_offsets[i] up to text_offsets[i + 1], text_offsets[0] is 0, and
+ * where the number is not 0 the address is empty.
+ *
+ * text_offsets_room, in items, is at least count + 1, and count times BECH32_MAX_SEGWIT_TEXT bytes are
+ * always enough for `texts`. *done is as bech32_segwit_decode_many has it.
+ *
+ * Refusals, the first that applies: 4 (no such layout, there are no such rows, or fewer versions); 92.
+ */
+uint32_t bech32_segwit_encode_many(const uint8_t *hrp, size_t hrp_length, const uint8_t *versions,
+                                   size_t versions_length, const bech32_column *programs, size_t first,
+                                   uint8_t *numbers, size_t count, int32_t *text_offsets,
+                                   size_t text_offsets_room, uint8_t *texts, size_t texts_room,
+                                   size_t *done);
+
+/*
+ * Makes the validity of what was decoded or encoded: bit i % 8 of validity[i / 8], the lowest bit first, is
+ * 1 where numbers[i] is 0. The bits behind the last are 0: (count + 7) / 8 bytes are put. *accepted is how
+ * many numbers are 0.
+ *
+ * Refusals: 92.
+ */
+uint32_t bech32_validity_of(const uint8_t *numbers, size_t count, uint8_t *validity,
+                            size_t validity_room, size_t *accepted);
 
 #ifdef __cplusplus
 }
