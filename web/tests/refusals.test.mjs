@@ -227,7 +227,10 @@ const NO_PLACE = new Set([23, 33, 46, 47, 48]);
 
 test('each refusal of the table is among these', async () => {
   const { CODES } = await import('../out/package/reasons.js');
-  const seen = new Set(CASES.map(([, code]) => code));
+  // Two are of rows of a column alone.
+  const { numbers } = segwit.decodeMany([null, 'bc1qw508d6qejxtdg4y5r3zarvary0c5xw7kv8f3t4'], 'tb');
+  assert.deepEqual(Array.from(numbers, (it) => CODES[it]), ['NULL_ROW', 'OTHER_HRP']);
+  const seen = new Set([...CASES.map(([, code]) => code), ...Array.from(numbers, (it) => CODES[it])]);
   assert.deepEqual(Object.values(CODES).filter((code) => !seen.has(code)), []);
 });
 
