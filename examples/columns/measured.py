@@ -28,7 +28,7 @@ def make(file, asked, rows):
     ends = np.cumsum(lengths)
     drawn = draw.integers(0, 256, int(ends[-1]), np.uint8)
     programs = columns.Lines(np.concatenate([[0], ends]), drawn)
-    texts = columns.encode("bc", np.arange(rows) % 10 > 6, programs).texts.to_list()
+    texts = columns.encode("bc", (np.arange(rows) % 10 > 6).astype(np.uint8), programs).texts.to_list()
     for i in range(0, rows, 100):
         texts[i] = texts[i][:19] + ("p" if texts[i][19] == "q" else "q") + texts[i][20:]
     with open(file, "w", encoding="ascii") as to:
