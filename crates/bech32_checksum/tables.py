@@ -137,10 +137,14 @@ def locations():
 
 
 def powers_of_x():
+    rows = powers()
     return (
         "//! The remainders of the powers of x by the generator of BIP-173: written by tables.py.\n"
         "\n// The remainder of x to the power i at place i, packed.\n"
-        + words("POWERS_OF_X", powers())
+        + words("POWERS_OF_X", rows)
+        + "\n// The highest coefficient of each. The order of x is 1,023: eleven more stand behind these, so\n"
+        "// that those of powers one after another are read as they stand.\n"
+        + table("HIGHEST", "u8", [rows[power % 1023] >> 25 for power in range(1034)])
     )
 
 

@@ -1,14 +1,11 @@
 -- Rows of digits.
-use Rattle.std.proofs.Common.{◌≡◌, ◌<◌, ◌+◌, ◌-◌, ◌*◌, ◌/◌, ◌%◌, ◌^◌, ℕ, zero, suc, length, get_or, refl, sym, ◌∙◌, ap, arith, mod-lt}
+use Rattle.std.proofs.Common.{◌≡◌, ◌<◌, ◌+◌, ◌-◌, ◌*◌, ◌/◌, ◌%◌, ◌^◌, ℕ, zero, suc, get_or, refl, sym, ◌∙◌, ap, arith, mod-lt}
 use Rattle.std.proofs.lemmas.Nat.{field_of, div-mul-add}
 use Rattle.std.proofs.Math.Pow.{shr_mod, mod-mod-pow, pow-add, pow_pos}
 use Rattle.std.proofs.Math.Nat.{div-div-eq-div-mul}
 use Rattle.bech32_gf.specs.Fe32 as fe32
 use Rattle.bech32_checksum.specs.Packed.{digit_of, tabulate}
-
-pub length-tabulate : {A : Type 0} → (n : ℕ) (f : ℕ → A) → length (tabulate n f) ≡ n
-length-tabulate zero f = refl
-length-tabulate (suc n) f = ap suc (length-tabulate n (λ i. f (suc i)))
+pub use Rattle.bech32_checksum.specs.laws.WordLaws.{length-tabulate}
 
 pub get_or-tabulate : {A : Type 0} → (n : ℕ) (f : ℕ → A) (k : ℕ) (d : A) → k < n → get_or (tabulate n f) k d ≡ f k
 get_or-tabulate zero f k d h = absurd (omega arith)

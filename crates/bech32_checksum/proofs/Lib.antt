@@ -4,6 +4,7 @@ pub mod Digits
 pub mod EightSteps
 pub mod EightTables
 pub mod Erased
+pub mod Highest
 pub mod HrpInput
 pub mod HrpPlaces
 pub mod Input

@@ -163,7 +163,7 @@ key-scale v p n =
     ∙ ap (λ l. scale fe32.ops (fe32.mul (fe32.inv l) v) p) whole
     ∙ ap (λ u. scale fe32.ops u p) (inverse_left v (leading p) nl nv))
 
-packed-injective : (p q : List Fe32) → length p ≡ length q → packed p ≡ packed q → p ≡ q
+pub packed-injective : (p q : List Fe32) → length p ≡ length q → packed p ≡ packed q → p ≡ q
 packed-injective [] [] s e = refl
 packed-injective [] (y ∷ q) s e = absurd (omega arith)
 packed-injective (x ∷ p) [] s e = absurd (omega arith)
@@ -172,7 +172,7 @@ packed-injective (x ∷ p) (y ∷ q) s e =
     let high : packed p ≡ packed q = omega (arith, x.in_field, y.in_field) in
     same_cons x y p q (fe32.path x y low) (packed-injective p q (omega arith) high)
 
-scale-one : (p : List Fe32) → scale fe32.ops fe32.one p ≡ p
+pub scale-one : (p : List Fe32) → scale fe32.ops fe32.one p ≡ p
 scale-one [] = refl
 scale-one (x ∷ p) = same_cons _ _ _ _ (is_field.mul_comm fe32.one x ∙ is_field.mul_one x) (scale-one p)
 
@@ -184,7 +184,7 @@ slot k = (k % 2 ^ 25 * 208833772613 / 2 ^ 34 + get_or MOVES (k % 2 ^ 25 * 208833
 pub entry-lt : (h : ℕ) → h < 1024 → get_or ANSWERS h 0 / 32 < 1023
 entry-lt h l = ltb-true _ _ (each_below-at 1024 (λ h. nat_lt (get_or ANSWERS h 0 / 32) 1023) refl h l)
 
-entry_is : (h : ℕ) → h < 1024 → get_or KEYS h 0 ≡ packed (scale fe32.ops (fe32.element (get_or ANSWERS h 0)) (digits 6 (get_or POWERS_OF_X (get_or ANSWERS h 0 / 32) 0)))
+pub entry_is : (h : ℕ) → h < 1024 → get_or KEYS h 0 ≡ packed (scale fe32.ops (fe32.element (get_or ANSWERS h 0)) (digits 6 (get_or POWERS_OF_X (get_or ANSWERS h 0 / 32) 0)))
 unfolding product
 entry_is h l =
     eqb-true _ _ (each_below-at 1024 (λ h. get_or KEYS h 0 == packed (scale fe32.ops (fe32.element (get_or ANSWERS h 0)) (digits 6 (get_or POWERS_OF_X (get_or ANSWERS h 0 / 32) 0)))) refl h l)
@@ -221,7 +221,7 @@ low_slot i number h n e =
     let same : number % 2 ^ 25 ≡ k % 2 ^ 25 = omega (arith, is) in
     ap (λ m. (m * 208833772613 / 2 ^ 34 + get_or MOVES (m * 208833772613 / 2 ^ 44 % 512) 0) % 1024) same
 
-five_row : digits 6 (get_or POWERS_OF_X 5 0) ≡ zeros fe32.ops 5 ++ (fe32.one ∷ [])
+pub five_row : digits 6 (get_or POWERS_OF_X 5 0) ≡ zeros fe32.ops 5 ++ (fe32.one ∷ [])
 five_row =
     same_cons _ _ _ _ (fe32.path _ _ refl) (same_cons _ _ _ _ (fe32.path _ _ refl) (same_cons _ _ _ _ (fe32.path _ _ refl)
     (same_cons _ _ _ _ (fe32.path _ _ refl) (same_cons _ _ _ _ (fe32.path _ _ refl) (same_cons _ _ _ _ (fe32.path _ _ refl) refl)))))

@@ -1,5 +1,6 @@
 pub mod Code
 pub mod Encoded
+pub mod Highest
 pub mod HrpFes
 pub mod OneError
 pub mod Packed

@@ -3,3 +3,4 @@ pub mod CodeLaws
 pub mod LocatorLaws
 pub mod PackedLaws
 pub mod RootLaws
+pub mod WordLaws

@@ -1,6 +1,7 @@
 //! The checksums of the standards, and the absence of one.
 
 ghost use Rattle.std.specs.Prelude.{◌∷◌, [], ◌^◌, ◌-◌, refl};
+ghost use Rattle.std.proofs.Common.{arith};
 ghost use Rattle.bech32_gf.specs.Fe32 as fe32;
 ghost use Rattle.bech32_gf_ext.specs.Fe1024 as fe1024;
 ghost use Rattle.bech32_checksum.specs.laws.PackedLaws as packed;
@@ -19,7 +20,7 @@ mod products;
 mod twos;
 mod words;
 
-use self::beside::one_beside_by_rows;
+use self::beside::{Beside, one_beside_by_rows};
 use self::eights::after_eight_by_tables;
 use self::erased::values_by_rows;
 use self::ones::one_error_by_tables;
@@ -76,10 +77,6 @@ impl Checksum for NoChecksum {
     ghost packing_laws = { packed.null_keeps _ _ refl };
 
     ghost code_law = { refl };
-
-    ghost degree_law = { refl };
-
-    ghost code_length_law = { refl };
 
     ghost bound_law = { refl };
 
@@ -177,21 +174,13 @@ impl Checksum for Bech32 {
     }
 
     #[inline]
-    fn one_beside(
-        residue: &[Fe32],
-        location: usize,
-        window: usize,
-    ) -> Option<Option<(Fe32, (usize, Fe32))>> {
+    fn one_beside(residue: &[Fe32], location: usize, window: usize) -> Beside {
         one_beside_by_rows(residue, location, window)
     }
 
     ghost packing_laws = { codes.bech32_keeps };
 
     ghost code_law = { codes.bech32_is_packed };
-
-    ghost degree_law = { refl };
-
-    ghost code_length_law = { refl };
 
     ghost bound_law = { refl };
 
@@ -211,35 +200,35 @@ impl Checksum for Bech32m {
 
     type CorrectionField = Fe1024;
 
-    ghost ROOT_GENERATOR = { fe1024.pair fe32.one (fe32.element 6) };
+    ghost ROOT_GENERATOR = { ⟦<Bech32 as Checksum>⟧.ROOT_GENERATOR };
 
-    ghost ROOT_EXPONENTS_START = { 24 };
+    ghost ROOT_EXPONENTS_START = { ⟦<Bech32 as Checksum>⟧.ROOT_EXPONENTS_START };
 
-    ghost ROOT_EXPONENTS_END = { 26 };
+    ghost ROOT_EXPONENTS_END = { ⟦<Bech32 as Checksum>⟧.ROOT_EXPONENTS_END };
 
-    ghost CODE_LENGTH = { 1023 };
+    ghost CODE_LENGTH = { ⟦<Bech32 as Checksum>⟧.CODE_LENGTH };
 
-    ghost CHECKSUM_LENGTH = { 6 };
+    ghost CHECKSUM_LENGTH = { ⟦<Bech32 as Checksum>⟧.CHECKSUM_LENGTH };
 
-    ghost GENERATOR_SH = { codes.words };
+    ghost GENERATOR_SH = { ⟦<Bech32 as Checksum>⟧.GENERATOR_SH };
 
     ghost TARGET_RESIDUE = { 0x2bc830a3 };
 
     ghost code = { bech32m };
 
-    ghost bound = { 3 };
+    ghost bound = { ⟦<Bech32 as Checksum>⟧.bound };
 
     ghost lawful = { HasLawfulRoots fe1024.ops fe1024.embed bech32m roots.base 24 26 };
 
     const ROOT_GENERATOR: Fe1024 = BASE;
 
-    const ROOT_EXPONENTS_START: usize = 24;
+    const ROOT_EXPONENTS_START: usize = Bech32::ROOT_EXPONENTS_START;
 
-    const ROOT_EXPONENTS_END: usize = 26;
+    const ROOT_EXPONENTS_END: usize = Bech32::ROOT_EXPONENTS_END;
 
-    const CODE_LENGTH: usize = 1023;
+    const CODE_LENGTH: usize = Bech32::CODE_LENGTH;
 
-    const CHECKSUM_LENGTH: usize = 6;
+    const CHECKSUM_LENGTH: usize = Bech32::CHECKSUM_LENGTH;
 
     const GENERATOR_SH: [u32; 5] = WORDS;
 
@@ -247,22 +236,22 @@ impl Checksum for Bech32m {
 
     #[inline]
     fn generator_times(element: Fe32) -> u32 {
-        product_with(element)
+        Bech32::generator_times(element)
     }
 
     #[inline]
     fn after_eight(residue: u32, elements: [Fe32; 8]) -> u32 {
-        after_eight_by_tables(residue, elements)
+        Bech32::after_eight(residue, elements)
     }
 
     #[inline]
     fn after_word(residue: u32, word: u64) -> u32 {
-        after_word_by_tables(residue, word)
+        Bech32::after_word(residue, word)
     }
 
     #[inline]
     fn after_two(residue: u32, two: u32) -> u32 {
-        after_two_by_table(residue, two)
+        Bech32::after_two(residue, two)
     }
 
     #[inline]
@@ -272,30 +261,22 @@ impl Checksum for Bech32m {
 
     #[inline]
     fn one_error(residue: &[Fe32]) -> Option<Option<(usize, Fe32)>> {
-        one_error_by_tables(residue)
+        Bech32::one_error(residue)
     }
 
     #[inline]
     fn values_or_none(residue: &[Fe32], locations: &[usize]) -> Option<Option<[Fe32; 3]>> {
-        values_by_rows(residue, locations)
+        Bech32::values_or_none(residue, locations)
     }
 
     #[inline]
-    fn one_beside(
-        residue: &[Fe32],
-        location: usize,
-        window: usize,
-    ) -> Option<Option<(Fe32, (usize, Fe32))>> {
-        one_beside_by_rows(residue, location, window)
+    fn one_beside(residue: &[Fe32], location: usize, window: usize) -> Beside {
+        Bech32::one_beside(residue, location, window)
     }
 
-    ghost packing_laws = { codes.bech32m_keeps };
+    ghost packing_laws = { packed.retargeted codes.bech32_keeps (Prim.omega arith) };
 
     ghost code_law = { codes.bech32m_is_packed };
-
-    ghost degree_law = { refl };
-
-    ghost code_length_law = { refl };
 
     ghost bound_law = { refl };
 

@@ -13,8 +13,9 @@ ghost use Rattle.bech32_checksum.specs.Packed.{HasDigits, IsRowOf, sum_of_words}
 ghost use Rattle.bech32_checksum.specs.Code.{Code, code_of, IsResidueOf, IsResidueAfter};
 ghost use Rattle.bech32_checksum.specs.OneError.{AreOnlyValues, IsBeside, IsLeftBy, IsSingle, valued};
 ghost use Rattle.bech32_checksum.specs.PackingLaws.{KeepsPackingLaws};
-ghost use Rattle.bech32_checksum.specs.Word.{two_elements, word_elements};
+ghost use Rattle.bech32_checksum.specs.Word.{IsResidueAfterTwo, IsResidueAfterWord};
 ghost use Rattle.bech32_checksum.specs.Roots.{HasLawfulRoots, singleton_bound};
+ghost use Rattle.bech32_checksum.specs.laws.WordLaws.{code_length_of, degree_of};
 
 mod checksums;
 mod hrp_fes;
@@ -150,8 +151,7 @@ pub trait Checksum {
         requires residue { HasDigits CHECKSUM_LENGTH (Self.MidstateRepr.number residue) }
         requires word { word < 2 ^ 40 }
         ensures clear { HasDigits CHECKSUM_LENGTH (Self.MidstateRepr.number result) }
-        ensures after { IsResidueAfter Self.MidstateRepr.number code residue
-            (word_elements word) result }
+        ensures after { IsResidueAfterWord Self.MidstateRepr.number code residue word result }
     {
         Self::after_eight(residue, elements_in(word))
     }
@@ -166,8 +166,7 @@ pub trait Checksum {
         requires residue { HasDigits CHECKSUM_LENGTH (Self.MidstateRepr.number residue) }
         requires two { two < 2 ^ 10 }
         ensures clear { HasDigits CHECKSUM_LENGTH (Self.MidstateRepr.number result) }
-        ensures after { IsResidueAfter Self.MidstateRepr.number code residue
-            (two_elements two) result }
+        ensures after { IsResidueAfterTwo Self.MidstateRepr.number code residue two result }
     {
         let next = Self::after_one(residue, Fe32::from_low_bits((two / 32) as u8));
         Self::after_one(next, Fe32::from_low_bits((two % 32) as u8))
@@ -276,9 +275,11 @@ pub trait Checksum {
         ≡ code_of Self.MidstateRepr.number
         CODE_LENGTH CHECKSUM_LENGTH GENERATOR_SH TARGET_RESIDUE };
 
-    ghost degree_law: { length code.generator ≡ CHECKSUM_LENGTH };
+    ghost degree_law: { length code.generator ≡ CHECKSUM_LENGTH } = { degree_of
+        Self.MidstateRepr.number CODE_LENGTH CHECKSUM_LENGTH GENERATOR_SH TARGET_RESIDUE code_law };
 
-    ghost code_length_law: { code.code_length ≡ CODE_LENGTH };
+    ghost code_length_law: { code.code_length ≡ CODE_LENGTH } = { code_length_of
+        Self.MidstateRepr.number CODE_LENGTH CHECKSUM_LENGTH GENERATOR_SH TARGET_RESIDUE code_law };
 
     ghost bound_law: { bound ≡ singleton_bound ROOT_EXPONENTS_START ROOT_EXPONENTS_END };
 
@@ -393,8 +394,7 @@ impl<Ck: Checksum> Engine<Ck> {
     #[inline]
     pub fn input_word(&mut self, word: u64)
         requires { word < 2 ^ 40 }
-        ensures { IsResidueAfter Ck.MidstateRepr.number Ck.code self.old
-            (word_elements word) self.new }
+        ensures { IsResidueAfterWord Ck.MidstateRepr.number Ck.code self.old word self.new }
     {
         self.residue = Ck::after_word(self.residue, word);
     }
@@ -403,8 +403,7 @@ impl<Ck: Checksum> Engine<Ck> {
     #[inline]
     pub fn input_two(&mut self, two: u32)
         requires { two < 2 ^ 10 }
-        ensures { IsResidueAfter Ck.MidstateRepr.number Ck.code self.old
-            (two_elements two) self.new }
+        ensures { IsResidueAfterTwo Ck.MidstateRepr.number Ck.code self.old two self.new }
     {
         self.residue = Ck::after_two(self.residue, two);
     }

@@ -9,9 +9,7 @@ ghost use Rattle.bech32_gf.specs.Fe32 as fe32;
 ghost use Rattle.bech32_checksum.specs.Packed.{digit_of, HasDigits, Packs, highest_digit, pushed_digits};
 ghost use Rattle.bech32_checksum.specs.laws.PackedLaws as packed;
 
-mod in_u128;
-mod in_u32;
-mod in_u64;
+mod integers;
 
 use std::ops::BitXor;
 

@@ -40,7 +40,9 @@ fn characters_of(fes: [Fe32; 8]) -> [u8; 8]
     ]
 }
 
-// Puts bytes behind those that were put, one by one, and returns how many there are.
+// Puts bytes behind those that were put, one by one, and returns how many there are. Out of line, as
+// is what calls it: few buffers lack room.
+#[inline(never)]
 fn put_each(bytes: &[u8], count: usize, buffer: &mut [u8]) -> usize
     ensures { PutsBehind bytes.now buffer.old count buffer.new result }
 {
@@ -99,6 +101,7 @@ fn put_group<Ck: Checksum>(
 
 // Puts the characters of the elements of as many groups of five bytes as there are, and hands these
 // to the engine.
+#[inline(never)]
 fn put_groups<Ck: Checksum>(
     bytes: &[u8],
     engine: &mut Engine<Ck>,

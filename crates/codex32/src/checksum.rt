@@ -1,16 +1,13 @@
 //! The checksum of codex32 (BIP-93, Checksum).
 
 ghost use Rattle.std.specs.Prelude.{refl};
-ghost use Rattle.bech32_gf.specs.Fe32.{element};
-ghost use Rattle.bech32_gf_ext.specs.Fe1024.{pair};
 ghost use Rattle.codex32.specs.Code.{codex32};
 ghost use Rattle.codex32.specs.laws.CodeLaws as codes;
-ghost use Rattle.codex32.specs.laws.RootLaws.{codex32_roots};
+ghost use Rattle.codex32.specs.laws.RootLaws.{base, codex32_roots};
 ghost use Rattle.bech32_gf_ext.specs.Fe1024 as fe1024;
 ghost use Rattle.bech32_checksum.specs.Roots.{HasLawfulRoots};
 
-use crate::products::{WORDS, product_with};
-use bech32::primitives::gf32_ext::Fe32Ext;
+use crate::products::{BASE, WORDS, product_with};
 use bech32::{Checksum, CorrectingChecksum, Fe32, Fe1024};
 
 /// The checksum of codex32: degree 13, for texts of at most 93 characters (BIP-93, Checksum). Four
@@ -23,7 +20,7 @@ impl Checksum for Codex32 {
 
     type CorrectionField = Fe1024;
 
-    ghost ROOT_GENERATOR = { pair (element 5) (element 5) };
+    ghost ROOT_GENERATOR = { base };
 
     ghost ROOT_EXPONENTS_START = { 9 };
 
@@ -41,13 +38,9 @@ impl Checksum for Codex32 {
 
     ghost bound = { 8 };
 
-    ghost lawful = { HasLawfulRoots fe1024.ops fe1024.embed
-        codex32 (pair (element 5) (element 5)) 9 16 };
+    ghost lawful = { HasLawfulRoots fe1024.ops fe1024.embed codex32 base 9 16 };
 
-    // The powers 9 to 16 of 5 + 5 z, which has order 93, are roots of the generator.
-    const ROOT_GENERATOR: Fe1024 = Fe32Ext {
-        inner: [Fe32::_9, Fe32::_9],
-    };
+    const ROOT_GENERATOR: Fe1024 = BASE;
 
     const ROOT_EXPONENTS_START: usize = 9;
 
@@ -69,10 +62,6 @@ impl Checksum for Codex32 {
     ghost packing_laws = { codes.codex32_keeps };
 
     ghost code_law = { codes.codex32_is_packed };
-
-    ghost degree_law = { refl };
-
-    ghost code_length_law = { refl };
 
     ghost bound_law = { refl };
 

@@ -34,30 +34,6 @@ pub enum Codex32Error {
     Memory,
 }
 
-impl From<UncheckedHrpstringError> for Codex32Error {
-    ghost from_gives = { λ e r. r ≡ Text e };
-
-    fn from(e: UncheckedHrpstringError) -> Self {
-        Self::Text(e)
-    }
-}
-
-impl From<ChecksumError> for Codex32Error {
-    ghost from_gives = { λ e r. r ≡ Checksum e };
-
-    fn from(e: ChecksumError) -> Self {
-        Self::Checksum(e)
-    }
-}
-
-impl From<AllocError> for Codex32Error {
-    ghost from_gives = { λ e r. r ≡ Memory };
-
-    fn from(_: AllocError) -> Self {
-        Self::Memory
-    }
-}
-
 /// Why a header is not made.
 #[derive(Clone, Copy, Debug, PartialEq, Eq, Drop, Error)]
 pub enum HeaderError {
@@ -94,16 +70,6 @@ pub enum EncodeError {
     Memory,
 }
 
-impl From<AllocError> for EncodeError {
-    ghost use Rattle.codex32.specs.declared.error.EncodeError.TheVariants as refusals;
-
-    ghost from_gives = { λ e r. r ≡ refusals.Memory };
-
-    fn from(_: AllocError) -> Self {
-        Self::Memory
-    }
-}
-
 /// Why no string is derived from shares.
 #[derive(Clone, Copy, Debug, PartialEq, Eq, Drop, Error)]
 pub enum DeriveError {
@@ -127,16 +93,6 @@ pub enum DeriveError {
     Memory,
 }
 
-impl From<AllocError> for DeriveError {
-    ghost use Rattle.codex32.specs.declared.error.DeriveError.TheVariants as refusals;
-
-    ghost from_gives = { λ e r. r ≡ refusals.Memory };
-
-    fn from(_: AllocError) -> Self {
-        Self::Memory
-    }
-}
-
 /// Why a secret is not split into shares.
 #[derive(Clone, Copy, Debug, PartialEq, Eq, Drop, Error)]
 pub enum SplitError {
@@ -155,4 +111,48 @@ pub enum SplitError {
     /// The buffer is too small.
     #[error("the buffer is too small")]
     NoRoom,
+}
+
+impl From<UncheckedHrpstringError> for Codex32Error {
+    ghost from_gives = { λ e r. r ≡ Text e };
+
+    fn from(e: UncheckedHrpstringError) -> Self {
+        Self::Text(e)
+    }
+}
+
+impl From<ChecksumError> for Codex32Error {
+    ghost from_gives = { λ e r. r ≡ Checksum e };
+
+    fn from(e: ChecksumError) -> Self {
+        Self::Checksum(e)
+    }
+}
+
+impl From<AllocError> for Codex32Error {
+    ghost from_gives = { λ e r. r ≡ Memory };
+
+    fn from(_: AllocError) -> Self {
+        Self::Memory
+    }
+}
+
+impl From<AllocError> for EncodeError {
+    ghost use Rattle.codex32.specs.declared.error.EncodeError.TheVariants as refusals;
+
+    ghost from_gives = { λ e r. r ≡ refusals.Memory };
+
+    fn from(_: AllocError) -> Self {
+        Self::Memory
+    }
+}
+
+impl From<AllocError> for DeriveError {
+    ghost use Rattle.codex32.specs.declared.error.DeriveError.TheVariants as refusals;
+
+    ghost from_gives = { λ e r. r ≡ refusals.Memory };
+
+    fn from(_: AllocError) -> Self {
+        Self::Memory
+    }
 }

@@ -1,16 +1,13 @@
 //! The checksum of long codex32 strings (BIP-93, Long codex32 Strings).
 
 ghost use Rattle.std.specs.Prelude.{refl};
-ghost use Rattle.bech32_gf.specs.Fe32.{element};
-ghost use Rattle.bech32_gf_ext.specs.Fe1024.{pair};
 ghost use Rattle.codex32.specs.Code.{long_codex32};
 ghost use Rattle.codex32.specs.laws.LongCodeLaws as codes;
-ghost use Rattle.codex32.specs.laws.LongRootLaws.{long_codex32_roots};
+ghost use Rattle.codex32.specs.laws.LongRootLaws.{long_base, long_codex32_roots};
 ghost use Rattle.bech32_gf_ext.specs.Fe1024 as fe1024;
 ghost use Rattle.bech32_checksum.specs.Roots.{HasLawfulRoots};
 
-use crate::products::{LONG_WORDS, long_product_with};
-use bech32::primitives::gf32_ext::Fe32Ext;
+use crate::products::{LONG_BASE, LONG_WORDS, long_product_with};
 use bech32::{Checksum, CorrectingChecksum, Fe32, Fe1024};
 
 /// The checksum of long codex32 strings: degree 15, for texts of at most 1,023 characters, of which
@@ -24,7 +21,7 @@ impl Checksum for LongCodex32 {
 
     type CorrectionField = Fe1024;
 
-    ghost ROOT_GENERATOR = { pair (element 25) (element 6) };
+    ghost ROOT_GENERATOR = { long_base };
 
     ghost ROOT_EXPONENTS_START = { 1019 };
 
@@ -42,13 +39,9 @@ impl Checksum for LongCodex32 {
 
     ghost bound = { 8 };
 
-    ghost lawful = { HasLawfulRoots fe1024.ops fe1024.embed
-        long_codex32 (pair (element 25) (element 6)) 1019 1026 };
+    ghost lawful = { HasLawfulRoots fe1024.ops fe1024.embed long_codex32 long_base 1019 1026 };
 
-    // The powers 1019 to 1026 of 25 + 6 z, which has order 1023, are roots of the generator.
-    const ROOT_GENERATOR: Fe1024 = Fe32Ext {
-        inner: [Fe32::E, Fe32::X],
-    };
+    const ROOT_GENERATOR: Fe1024 = LONG_BASE;
 
     const ROOT_EXPONENTS_START: usize = 1019;
 
@@ -70,10 +63,6 @@ impl Checksum for LongCodex32 {
     ghost packing_laws = { codes.long_codex32_keeps };
 
     ghost code_law = { codes.long_codex32_is_packed };
-
-    ghost degree_law = { refl };
-
-    ghost code_length_law = { refl };
 
     ghost bound_law = { refl };
 

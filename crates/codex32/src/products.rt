@@ -1,4 +1,5 @@
-//! The products of the generators of codex32, of which nothing can be told of the element.
+//! The generators of codex32: their words, the bases of their roots, and their products, of which
+//! nothing can be told of the element.
 
 ghost use Rattle.std.specs.Prelude.{◌≡◌, get_or};
 ghost use Rattle.bech32_poly.specs.Polynomial.{scale};
@@ -9,7 +10,8 @@ ghost use Rattle.codex32.specs.Code.{codex32, long_codex32};
 ghost use Rattle.codex32.specs.laws.CodeLaws.{words};
 ghost use Rattle.codex32.specs.laws.LongCodeLaws.{long_words};
 
-use bech32::Fe32;
+use bech32::primitives::gf32_ext::Fe32Ext;
+use bech32::{Fe32, Fe1024};
 use codex32_steady::chosen_sum;
 
 // The generator of codex32, packed, and its products with 2, 4, 8 and 16.
@@ -29,6 +31,16 @@ pub(crate) const LONG_WORDS: [u128; 5] = [
     0x0c577eaeccf1990d13c,
     0x1887f74f8dc71b10651,
 ];
+
+// The powers 9 to 16 of 5 + 5 z, which has order 93, are roots of the generator.
+pub(crate) const BASE: Fe1024 = Fe32Ext {
+    inner: [Fe32::_9, Fe32::_9],
+};
+
+// The powers 1019 to 1026 of 25 + 6 z, which has order 1023, are roots of that of long strings.
+pub(crate) const LONG_BASE: Fe1024 = Fe32Ext {
+    inner: [Fe32::E, Fe32::X],
+};
 
 // The product of an element and the generator's lower coefficients, packed.
 #[inline]

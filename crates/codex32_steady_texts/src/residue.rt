@@ -1,11 +1,11 @@
 //! Tests the checksum of a data part, and tells of its characters only whether it is right; and of
 //! a wrong one, to who looks for errors, by how much it is wrong.
 
-ghost use Rattle.std.specs.Prelude.{◌≡◌, ◌<◌, ◌*◌, ◌^◌, ◌↔◌, true, length, IsTrue, MatchOption, MatchResult};
+ghost use Rattle.std.specs.Prelude.{◌≡◌, ◌↔◌, true, length, IsTrue, MatchOption, MatchResult};
 ghost use Rattle.bech32_gf.specs.Alphabet.{is_data};
 ghost use Rattle.bech32_gf.specs.Fe32.{elements_of, ops};
 ghost use Rattle.bech32_poly.specs.Remainder.{IsRemainder};
-ghost use Rattle.bech32_checksum.specs.Code.{IsResidueOf};
+ghost use Rattle.bech32_checksum.specs.Code.{IsResidueAfter};
 ghost use Rattle.bech32_checksum.specs.TextPolynomial.{text_polynomial};
 ghost use Rattle.bech32_decode.specs.Refusals.{HasValidChecksum, IsChecksumRefusal};
 ghost use Rattle.bech32_refusals.specs.ResidueRows.{IsResidueError, error_residue_of};
@@ -15,19 +15,15 @@ use bech32_gf::gf32::Fe32;
 use bech32_refusals::{ChecksumError, CodeLengthError, InvalidResidueError};
 use codex32_steady::element_of_character;
 
-// The remainder of a text's polynomial, packed.
-fn residue_of<Ck: Checksum>(part: &[u8], data_part: &[u8]) -> Ck::MidstateRepr
-    requires { is_data data_part.now ≡ true }
-    ensures residue { IsResidueOf Ck.MidstateRepr.number Ck.code result
-        (text_polynomial part.now (elements_of data_part.now)) }
-    ensures clear { Ck.MidstateRepr.number result < 2 ^ (5 * Ck.CHECKSUM_LENGTH) }
+// Hands the elements of characters to an engine. Each is looked at, and nothing of it can be told.
+fn input_elements<Ck: Checksum>(characters: &[u8], engine: &mut Engine<Ck>)
+    requires { is_data characters.now ≡ true }
+    ensures { IsResidueAfter Ck.MidstateRepr.number Ck.code engine.old
+        (elements_of characters.now) engine.new }
 {
-    let mut engine = Engine::<Ck>::new();
-    engine.input_part(part);
-    for c in data_part {
+    for c in characters {
         engine.input_fe(element_of_character(*c));
     }
-    *engine.residue()
 }
 
 // Whether a remainder is the target. Only that can be told.
@@ -46,7 +42,10 @@ pub fn residue_error_of<Ck: Checksum>(part: &[u8], data_part: &[u8]) -> Option<I
         (text_polynomial part.now (elements_of data_part.now)) Ck.code.target)
         (λ e. IsResidueError Ck.code (text_polynomial part.now (elements_of data_part.now)) e) }
 {
-    let residue = residue_of::<Ck>(part, data_part);
+    let mut engine = Engine::<Ck>::new();
+    engine.input_part(part);
+    input_elements(data_part, &mut engine);
+    let residue = *engine.residue();
     if is_target::<Ck>(&residue) {
         return None;
     }

@@ -15,10 +15,6 @@ pub bech32_keeps : KeepsPackingLaws (λ (x : ℕ). x) 6 6 words 1
 unfolding product
 bech32_keeps = keeps 6 6 words 1 refl
 
-pub bech32m_keeps : KeepsPackingLaws (λ (x : ℕ). x) 6 6 words 0x2bc830a3
-unfolding product
-bech32m_keeps = keeps 6 6 words 0x2bc830a3 refl
-
 same_cons : (x y : Fe32) (xs ys : List Fe32) → x ≡ y → xs ≡ ys → x ∷ xs ≡ y ∷ ys
 same_cons x y xs ys e f = cc
 

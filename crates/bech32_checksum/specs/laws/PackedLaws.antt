@@ -10,7 +10,7 @@ use Rattle.std.proofs.Math.Pow.{pow_mono}
 use Rattle.bech32_gf.specs.laws.Below.{each_below, each_below-at, and_left, and_right}
 use Rattle.bech32_gf.specs.Gf32.{product}
 use Rattle.bech32_gf.specs.Fe32 as fe32
-use Rattle.bech32_checksum.specs.Packed.{digit_of}
+use Rattle.bech32_checksum.specs.Packed.{digit_of, HasDigits}
 use Rattle.bech32_checksum.specs.PackingLaws.{KeepsPackingLaws}
 
 -- whether the lowest d digits of v are those of w times the generator of the field
@@ -137,4 +137,18 @@ null_keeps words target five = record {
   shifts = λ i w v _ _ n. zero_shift n;
   words_clear = λ i w _. omega arith;
   target_clear = omega arith;
+}
+
+-- words keep the laws with another target that has no bit past their elements
+pub retargeted : {R : Type 0} {number : R → ℕ} {width degree : ℕ} {words : List R} {target : R}
+    → KeepsPackingLaws number width degree words target
+    → {other : R} → HasDigits degree (number other)
+    → KeepsPackingLaws number width degree words other
+retargeted kept clear = record {
+  fits = kept.fits;
+  empty = kept.empty;
+  five = kept.five;
+  shifts = kept.shifts;
+  words_clear = kept.words_clear;
+  target_clear = clear;
 }

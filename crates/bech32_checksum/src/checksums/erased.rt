@@ -15,7 +15,7 @@ use bech32_gf::gf32::Fe32;
 
 // The coefficient of a packed row that begins at a bit.
 #[inline]
-pub(super) fn coefficient_at(row: u32, bit: u32) -> Fe32
+fn coefficient_at(row: u32, bit: u32) -> Fe32
     requires { bit < 32 }
     ensures { result ≡ fe32.element (row / 2 ^ bit) }
 {
@@ -24,7 +24,7 @@ pub(super) fn coefficient_at(row: u32, bit: u32) -> Fe32
 
 // The product of two elements, by a table.
 #[inline]
-fn product(a: Fe32, b: Fe32) -> Fe32
+pub(super) fn product(a: Fe32, b: Fe32) -> Fe32
     ensures { result ≡ fe32.mul a b }
 {
     Fe32::from_low_bits(product_value(a, b) as u8)
@@ -32,7 +32,7 @@ fn product(a: Fe32, b: Fe32) -> Fe32
 
 // A packed row, each coefficient times a factor.
 #[inline]
-pub(super) fn multiple_of(row: u32, factor: Fe32) -> u32
+fn multiple_of(row: u32, factor: Fe32) -> u32
     ensures { result ≡ packed (scale fe32.ops factor (digits 6 row)) }
 {
     let fifth = product_value(factor, coefficient_at(row, 20))
@@ -89,7 +89,7 @@ fn value_at_one(residue: u32, row: u32) -> Option<Option<Fe32>>
 // multiple of the second one is taken from the residue and from the first one, so that they have no
 // coefficient at its pivot.
 #[inline]
-pub(super) fn values_at_two(residue: u32, first: u32, second: u32) -> Option<Option<(Fe32, Fe32)>>
+fn values_at_two(residue: u32, first: u32, second: u32) -> Option<Option<(Fe32, Fe32)>>
     requires { residue < 2 ^ 30 }
     ensures { MatchOption result ⊤ (λ found. MatchOption found
         ((v w : Element) → digits 6 residue
@@ -153,7 +153,7 @@ fn values_at_three(
 
 // The packed remainder of x to the power of a location.
 #[inline]
-pub(super) fn row_at(location: usize) -> Option<u32>
+fn row_at(location: usize) -> Option<u32>
     ensures { MatchOption result ⊤
         (λ row. (location < 1023) × (row ≡ get_or POWERS_OF_X location 0)) }
 {
@@ -165,7 +165,7 @@ pub(super) fn row_at(location: usize) -> Option<u32>
 
 // Six elements packed, the first one lowest.
 #[inline]
-pub(super) fn packed_list(list: &[Fe32]) -> u32
+fn packed_list(list: &[Fe32]) -> u32
     requires { length list.now ≡ 6 }
     ensures { result ≡ packed list.now }
 {

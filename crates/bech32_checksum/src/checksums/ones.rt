@@ -1,6 +1,6 @@
 //! One error by the generator of BIP-173, looked up by its remainder.
 
-ghost use Rattle.std.specs.Prelude.{◌≡◌, ◌≢◌, ◌<◌, ◌+◌, ◌*◌, ◌/◌, ◌%◌, ◌^◌, ℕ, Some, get_or, length, IfSome, MatchOption, ⊤};
+ghost use Rattle.std.specs.Prelude.{◌≡◌, ◌≢◌, ◌<◌, ◌+◌, ◌*◌, ◌/◌, ◌%◌, ◌^◌, ℕ, get_or, length, IfSome, MatchOption, ⊤};
 ghost use Rattle.bech32_gf.specs.Fe32 as fe32;
 ghost use Rattle.bech32_gf.specs.Fe32.{value};
 ghost use Rattle.bech32_poly.specs.Polynomial.{scale};
@@ -67,21 +67,26 @@ fn slot_of(number: u32) -> usize
     (moved % 1024) as usize
 }
 
-// The location whose remainder has a key of its five lowest coefficients, if any. They are zero at
-// location 5.
+// The location whose remainder has a key of its five lowest coefficients, if any, with the inverse
+// of the first of them that is not zero. They are zero at location 5.
 #[inline]
-pub(super) fn location_of(number: u32) -> Option<usize>
+pub(super) fn location_of(number: u32) -> Option<(usize, Fe32)>
     requires { number < 2 ^ 25 }
     ensures found { (i : ℕ) → i < 1023 → i ≢ 5 → key (digits 5 (get_or POWERS_OF_X i 0)) ≡ number
-        → result ≡ Some i }
-    ensures below { IfSome result (λ i. i < 1023) }
+        → MatchOption result ⊥ (λ p. p.0 ≡ i) }
+    ensures is { IfSome result (λ p. (p.0 < 1023)
+        × (number ≡ packed (scale fe32.ops p.1 (digits 5 (get_or POWERS_OF_X p.0 0))))) }
 {
     let slot = slot_of(number);
     let stored = KEYS[slot] % 0x200_0000;
     if stored != number {
         return None;
     }
-    Some((ANSWERS[slot] / 32) as usize)
+    let answer = ANSWERS[slot];
+    Some((
+        (answer / 32) as usize,
+        Fe32::from_low_bits((answer % 32) as u8),
+    ))
 }
 
 // The single error that leaves a residue; says nothing of a residue that is zero or has not six

@@ -4,4 +4,4 @@ use Rattle.bech32_checksum.proofs.checksums.words.after_word_by_tables.Goals as 
 pub returns : goal.returns
 returns c =
     let both = word_after c.args.residue c.args.word c.requires.residue c.requires.word in
-    record { clear = both.0; after = both.1 }
+    rw c.sum_of_pairs.ensures (record { clear = both.0; after = both.1 })
