@@ -1,11 +1,12 @@
 #!/usr/bin/env python3
-"""Makes the lines of b32 and mend on long texts, confidential addresses and descriptors, with the models' replies.
+"""Makes lines on long texts, confidential addresses and descriptors, and about as long as one may be, with the models' replies.
 
     further.py b32 SEED      lines of b32, each with `|`, a tab, `|` and its reply
+    further.py c32 SEED      lines of c32
     further.py mend SEED     lines of mend
     further.py check PROGRAM LINES REPLIES   prints where a model's reply is another
 
-The models are those of model.py, liquid.py, descriptors.py and mistyped.py: nothing is shared with the library.
+The models are those of model.py, liquid.py, descriptors.py, mistyped.py and shares.py: nothing is shared with the library.
 """
 import random
 import sys
@@ -16,11 +17,22 @@ import descriptors  # noqa: E402, so that no folder is left behind
 import liquid  # noqa: E402
 import mistyped  # noqa: E402
 import model  # noqa: E402
+import shares  # noqa: E402
+from model import LONGEST_LINE  # noqa: E402
 
-REPLIES = {"b32": model.reply, "mend": mistyped.reply}
+
+
+def split_reply(line):
+    return shares.reply(line.decode()) if len(line) <= LONGEST_LINE else "err 1"
+
+
+REPLIES = {"b32": model.reply, "c32": split_reply, "mend": mistyped.reply}
 
 # Texts of other standards: an invoice (BOLT 11), LNURL (LUD-01), nostr (NIP-19), a silent payment address (BIP-352).
 KNOWN = ["lnbc", "LNURL1", "nprofile1", "sp1", "age1yubikey1"]
+# About as many bytes as a line may have.
+NEAR_LIMIT = [LONGEST_LINE - 1, LONGEST_LINE, LONGEST_LINE + 1]
+
 LENGTHS = [8, 90, 1022, 1023, 1024, 1025, 1500, 1999, 2000, 2046, 2047, 3000, 4060]
 
 
@@ -123,9 +135,44 @@ class Lines:
         for line in ("liquid-decode", "liquid-decode ", "liquid-decode a b", "liquid-encode", "Liquid-decode a1", "liquid-decode lq1" + "q" * 3000):
             yield line
 
+    def of_the_greatest_lengths(self):
+        for name, hrp, length in (("long-bech32", "nprofile", 5000), ("long-bech32", "lnbc", 7089), ("long-bech32m", "u", 7088),
+                                  ("long-bech32", "lnbc", 7090)):
+            values = self.values(length - len(hrp) - 7)
+            text = model.encoded(model.LONG_CODES[name], hrp, list(values))
+            yield f"encode-elements {name} {hrp} {values.hex()}"
+            yield f"decode-elements {name} {text.upper() if hrp == 'lnbc' else text}"
+            yield f"decode-elements {name} {self.changed(text)}"
+            data = self.data((length - len(hrp) - 7) * 5 // 8)
+            yield f"encode {name} {hrp} {data.hex()}"
+            yield f"decode-strict {name} {model.encoded(model.LONG_CODES[name], hrp, model.to_elements(data))}"
+
+    def at_the_longest_line(self):
+        for front, digit in (("decode-elements long-bech32 a1", "q"), ("decode-strict long-bech32m a1", "q"), ("encode long-bech32 ab ", "0"),
+                             ("encode-elements long-bech32 ab ", "0"), ("liquid-decode lq1", "q"), ("correct bech32 a12uqqql 1", ",2")):
+            for length in NEAR_LIMIT:
+                yield (front + digit * length)[:length]
+        # It is bytes that are counted, not characters.
+        for length in NEAR_LIMIT:
+            yield f"decode {'q' * (length % 2 + 1)}{(length - 8) // 2 * 'é'}"
+        for front in ("decode ", "segwit-decode "):
+            for length in (4095, 4096, 4097, 4098):
+                yield front.ljust(length, "q")
+
     def b32(self):
-        for kind in (self.of_other_standards, self.of_each_length, self.at_the_limits, self.refused, self.confidential):
+        for kind in (self.of_other_standards, self.of_each_length, self.at_the_limits, self.refused, self.confidential,
+                     self.of_the_greatest_lengths, self.at_the_longest_line):
             yield from kind()
+
+    # ---- c32
+
+    def c32(self):
+        for length in NEAR_LIMIT:
+            front = f"split 2 {'1' * (length % 2 == 0)}3 test "
+            yield f"{front}{'5a' * ((length - len(front)) // 2 - 1)} -"
+        for length in NEAR_LIMIT:
+            front = f"split 2 {'1' * (length % 2)}3 test {self.data(16).hex()} "
+            yield f"{front}{'a5' * ((length - len(front)) // 2)}"
 
     # ---- mend
 
@@ -165,15 +212,34 @@ class Lines:
         for line in ("descriptor", "descriptor-check", "descriptor-checksum", "descriptor ", "descriptor-check ", "descriptor-checksum ", "descriptors a", "Descriptor a",
                      " descriptor a", "descriptor-mend a", "descriptor\ta", "descriptor \u00fc", "descriptor-checksum a\u00fc", "descriptor-checksum a\x7f"):
             yield line
-        # A descriptor of 4,084 characters has a line of 4,096 bytes with `descriptor-check`, and one more is too long.
+        # One of 4,079 characters, and one more.
         payload = "raw(" + "0" * (4096 - len("descriptor-check ") - 14) + ")"
         text = f"{payload}#{descriptors.checksum_of(payload)}"
+        yield f"descriptor-check {text}"
+        yield f"descriptor-check {text}q"
+
+    def at_the_longest_line_of_mend(self):
+        for front, digit in (("checksum ", "q"), ("fault bech32 ", "q"), ("fault bech32m a1", "b"), ("nearest bech32 a12uqq5l 2", ",3"),
+                             ("liquid lq1", "q"), ("descriptor ", "a"), ("descriptor-checksum ", "a")):
+            end = {"nearest": " 0", "liquid": " 1"}.get(front.split(" ")[0], "")
+            for length in NEAR_LIMIT:
+                yield (front + digit * length)[:length - len(end)] + end
+        for length in (4095, 4096, 4097, 4098):
+            yield "checksum ".ljust(length, "q")
+        # The longest descriptor that is mended, here of a wrong mark, and one that is longer; and one that ends with its line.
+        payload = "raw(" + "0" * (mistyped.LONGEST_MENDED - 14) + ")"
+        yield f"descriptor {payload}x{descriptors.checksum_of(payload)}"
+        yield f"descriptor {payload}0#{descriptors.checksum_of(payload + '0')}"
+        payload = "raw(" + "0" * (LONGEST_LINE - len("descriptor-check ") - 14) + ")"
+        text = f"{payload}#{descriptors.checksum_of(payload)}"
+        yield f"descriptor-check {text[:-1]}"
         yield f"descriptor-check {text}"
         yield f"descriptor-check {text}q"
 
     def mend(self):
         yield from self.near_confidential()
         yield from self.about_descriptors()
+        yield from self.at_the_longest_line_of_mend()
 
 
 def check(program, lines, replies):

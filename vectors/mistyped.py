@@ -261,6 +261,9 @@ def fault(code, text):
 
 
 # How descriptors.py names what is done to a descriptor.
+# No descriptor of more characters is mended.
+LONGEST_MENDED = 7500
+
 DONE = {"=": "changed", "x": "swapped", "-": "left-out", "+": "put-in"}
 
 
@@ -268,6 +271,8 @@ def about_descriptor(name, text):
     """The answer to a command of descriptors, whose text is the rest of the line, or nothing."""
     # A character is a byte here.
     text = text.decode("latin-1")
+    if name == b"descriptor" and len(text) > LONGEST_MENDED:
+        return "err 89"
     if name == b"descriptor":
         found = descriptors.mended(text)
         return b" ".join([b"ok", *(f"{DONE[kind]} {place} {made}".encode("latin-1") for (kind, place), made in found)]).decode()
@@ -282,7 +287,7 @@ def about_descriptor(name, text):
 
 def answer(line):
     name, space, text = line.partition(b" ")
-    said = about_descriptor(name, text) if space and len(line) <= 4096 and is_text(line) else None
+    said = about_descriptor(name, text) if space and len(line) <= model.LONGEST_LINE and is_text(line) else None
     if said is not None:
         return said
     name, *arguments = model.words_of(line)
@@ -457,7 +462,7 @@ class Lines(Maker):
         if kind == 2:
             return line + self.random.choice([" ", " 1", " q"])
         if kind == 3 and self.one_in(4):
-            return "checksum ".ljust(self.random.randint(4095, 4098), "q")
+            return "checksum ".ljust(self.random.randint(model.LONGEST_LINE - 1, model.LONGEST_LINE + 2), "q")
         return self.mistyped(line, self.random.randint(1, 3))
 
 

@@ -391,6 +391,8 @@ def correct(code, text, locations):
 
 # --- the lines of b32 ---
 
+LONGEST_LINE = 16384
+
 def number(word, most):
     """A number in decimal without leading zeros."""
     if not word or any(digit not in "0123456789" for digit in word) or (word[0] == "0" and word != "0"):
@@ -414,7 +416,7 @@ def word_of(data):
 
 def words_of(line):
     """The words of a line, or its refusal."""
-    if len(line) > 4096:
+    if len(line) > LONGEST_LINE:
         raise Refusal(1)
     try:
         words = line.decode("utf-8").split(" ")

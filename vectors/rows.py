@@ -181,7 +181,7 @@ class Maker:
             return self.random.choice(ODD_LINES)
         if kind == 1 and self.one_in(6):
             name = self.random.choice(["decode ", "segwit-decode ", ""])
-            return name.ljust(self.random.randint(4095, 4098), "q")
+            return name.ljust(self.random.randint(model.LONGEST_LINE - 1, model.LONGEST_LINE + 2), "q")
         line = self.random.choice([self.encode, self.decode, self.segwit_encode])()
         if kind == 2:
             return line.replace(" ", self.random.choice(["  ", "\t", ""]), 1)

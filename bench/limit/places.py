@@ -74,7 +74,7 @@ def main(folder):
         name = list(model.CODES)[number % 2]
         line = b"fault %s %s" % (name.encode(), text)
         try:
-            said = reply(name, text.decode()) if len(line) <= 4096 else "err 1"
+            said = reply(name, text.decode()) if len(line) <= model.LONGEST_LINE else "err 1"
         except UnicodeDecodeError:
             said = "err 2"
         print(f"{rows.word_of(line)}\t{said}")

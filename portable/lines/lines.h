@@ -6,7 +6,7 @@
 #include <stdint.h>
 
 /* A line has this many bytes at most, and so has a word of it. Words are not empty, and one space stands between two. */
-#define LINE_LIMIT 4096u
+#define LINE_LIMIT 16384u
 #define MOST_WORDS (LINE_LIMIT / 2u)
 
 /* What a word holds at most: two digits for a byte, and at least a digit and a comma for a location. */

@@ -6,7 +6,7 @@ use bech32::{segwit, Bech32, Bech32m, Checksum, CorrectableError, Fe32, Hrp};
 use std::panic::{catch_unwind, AssertUnwindSafe};
 
 /// A line may have this many bytes.
-pub const LINE_LIMIT: usize = 4096;
+pub const LINE_LIMIT: usize = 16384;
 
 const HIGHEST_VERSION: usize = 31;
 const HIGHEST_LOCATION: usize = 1022;

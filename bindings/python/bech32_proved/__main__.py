@@ -3,7 +3,7 @@
     python -m bech32_proved [b32|c32|mend]
 
 All lines of these programs are answered, by the functions of the package, and their replies are the same; `err NUMBER`
-says why a line is refused, by the numbers of `bech32_proved.errors`, and 1 to 5 (the line has more than 4,096 bytes; is not
+says why a line is refused, by the numbers of `bech32_proved.errors`, and 1 to 5 (the line has more than 16,384 bytes; is not
 UTF-8; no such command or checksum, wrong number of words, or a space too many; a word is no number, version or list of
 locations; a word is not hexadecimal digits, or no blinding key) and 91 (out of memory). Locations are counted from the end
 of a text, and 0 is its last character. What is proved is the library; this is tested.

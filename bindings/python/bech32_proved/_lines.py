@@ -11,7 +11,7 @@ from .edits import EditKind, NearEdit, near_edits
 from .errors import NoCorrection, NotInDescriptor, Refused
 from .texts import ALPHABET, Checksum, Correction, as_typed
 
-LINE_LIMIT = 4096
+LINE_LIMIT = 16384
 """The bytes that a line has at most."""
 
 # Refusals of the programs; the others are those of the libraries.

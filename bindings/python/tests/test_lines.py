@@ -188,7 +188,11 @@ class Lines(unittest.TestCase):
         self.assertEqual(printed(b"decode a12uel5l", "b32"), (0, b"ok a -\n", b""))
         self.assertEqual(printed(b"decode a12uel5l\r\n"), (0, b"err 21\n", b""))
         long = b"decode " + b"q" * 200_000
-        self.assertEqual(printed(long[:4096] + b"\n" + long[:4097] + b"\n" + long), (0, b"err 23\nerr 1\nerr 1\n", b""))
+        for length, reply in ((16_383, b"err 23\n"), (16_384, b"err 23\n"), (16_385, b"err 1\n"), (len(long), b"err 1\n")):
+            line = long[:length]
+            self.assertEqual(printed(line), (0, reply, b""))
+            self.assertEqual(printed(line + b"\n"), (0, reply, b""))
+            self.assertEqual(printed(line + b"\n" + line), (0, 2 * reply, b""))
         self.assertEqual(printed(b"checksum \xff\n", "mend"), (0, b"err 2\n", b""))
         for words in (("b33",), ("b32", "mend")):
             status, out, said = printed(b"", *words)

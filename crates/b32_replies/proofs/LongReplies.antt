@@ -2,13 +2,14 @@
 use Rattle.std.specs.Str.{IsUtf8}
 use Rattle.std.proofs.Common.{◌≡◌, ℕ, ◌≤◌, List, length, refl, sym, ap, subst, Option, Some, None, MatchOption, Result, Ok, Err}
 use Rattle.line_program.specs.Added.{AddsAnyOrRefuses}
+use Rattle.line_program.specs.Limit.{longest_line}
 use Rattle.line_program.specs.Refused.{err}
 use Rattle.line_program.proofs.Replied.{answer-reply, text-reply}
 use Rattle.b32_replies.specs.LongRequest.{LongRequest, Short, line_request_of, long_request_of, or_long}
 use Rattle.b32_replies.specs.Reply.{IsAnswer, IsLineAnswer, IsLongAnswer, IsLongOutcome, IsReply}
 use Rattle.b32_replies.specs.Request.{Request, request_of}
 
-module _ (line : List ℕ) (short : length line ≤ 4096) (u : IsUtf8 line) where
+module _ (line : List ℕ) (short : length line ≤ longest_line) (u : IsUtf8 line) where
   pub short-reply : (request : Request) (said : List ℕ) → request_of line ≡ Some request → IsAnswer request said → IsReply line said
   short-reply request said is h =
       answer-reply line_request_of IsLineAnswer line short u (Short request) said (ap (λ (o : Option Request). or_long o (long_request_of line)) is) h

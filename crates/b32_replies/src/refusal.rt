@@ -4,7 +4,7 @@ ghost use Rattle.std.specs.Prelude.{◌≡◌, ◌<◌};
 ghost use Rattle.b32_replies.specs.Numbers.{number_of_reply};
 
 use bech32::primitives::decode::CheckedHrpstringError;
-use bech32::primitives::hrp;
+use bech32::primitives::hrp::Error as HrpError;
 use bech32::{DecodeError, ElementsError, EncodeError, TextError, segwit};
 use bech32_numbers::{
     checked_error_number, decode_error_number, elements_error_number, encode_error_number,
@@ -20,7 +20,7 @@ pub enum Refusal {
     /// A word that should be bytes in hex is not.
     BadHex,
     /// A word that should be a human-readable part is not.
-    Hrp(hrp::Error),
+    Hrp(HrpError),
     /// The text is not written.
     Encode(EncodeError),
     /// The text is not decoded.
@@ -67,12 +67,12 @@ impl Refusal {
     }
 }
 
-impl From<hrp::Error> for Refusal {
+impl From<HrpError> for Refusal {
     ghost use Rattle.b32_replies.specs.declared.refusal.Refusal.TheVariants.{Hrp};
 
     ghost from_gives = { λ e r. r ≡ Hrp e };
 
-    fn from(e: hrp::Error) -> Refusal {
+    fn from(e: HrpError) -> Refusal {
         Refusal::Hrp(e)
     }
 }

@@ -30,13 +30,12 @@ pub enum Refusal {
     Split(SplitError),
 }
 
-impl Refusal {
-    /// The number of the innermost refusal.
-    pub fn number(self) -> u8
-        ensures value { result ≡ number_of_codex32_reply self }
-        ensures small { result < 100 }
-    {
-        match self {
+/// The number of the innermost refusal.
+impl From<Refusal> for u8 {
+    ghost from_gives = { λ e n. (n ≡ number_of_codex32_reply e) × (n < 100) };
+
+    fn from(e: Refusal) -> u8 {
+        match e {
             Refusal::BadNumber => 4,
             Refusal::BadHex => 5,
             Refusal::Header(e) => header_error_number(e),

@@ -61,10 +61,7 @@ impl<A: Allocator + Copy> Commands<A> {
         let Some(command) = Command::parse(text) else {
             return Err(3);
         };
-        match self.answer(command, out) {
-            Ok(()) => Ok(()),
-            Err(e) => Err(e.number()),
-        }
+        Ok(self.answer(command, out)?)
     }
 }
 

@@ -3,6 +3,7 @@ use Rattle.std.proofs.Common.{◌≡◌, ℕ, suc, ◌+◌, ◌<◌, true, false
 use Rattle.std.proofs.lemmas.Bool.{eqb-true, false_from_ne_true}
 use Rattle.std.proofs.lemmas.List.{take-append-drop, drop_more, length-take, get_or-take}
 use Rattle.memchr.specs.Find.{IsFirstByte, is_byte}
+use Rattle.line_program.specs.Limit.{kept_of_line}
 use Rattle.line_program.specs.Lines.{ended_from, rest_from, last_line}
 
 pub ended-append : (before xs ys : List ℕ) → ended_from before (xs ++ ys) ≡ ended_from before xs ++ ended_from (rest_from before xs) ys
@@ -89,11 +90,11 @@ pub rest-more : (before gone rest : List ℕ) → HasNoNewline rest → rest_fro
 rest-more before gone rest none = rest-append before gone rest ∙ rest-piece (rest_from before gone) rest none
 
 -- what is kept of the last line, and more bytes behind it
-pub kept-more : (read bytes kept : List ℕ) → kept ≡ take 4097 (rest_from (rest_from [] read) bytes) → kept ≡ take 4097 (rest_from [] (read ++ bytes))
-kept-more read bytes kept e = e ∙ ap (λ (t : List ℕ). take 4097 t) (sym (rest-append [] read bytes))
+pub kept-more : (read bytes kept : List ℕ) → kept ≡ take kept_of_line (rest_from (rest_from [] read) bytes) → kept ≡ take kept_of_line (rest_from [] (read ++ bytes))
+kept-more read bytes kept e = e ∙ ap (λ (t : List ℕ). take kept_of_line t) (sym (rest-append [] read bytes))
 
 -- ---- the line at the end
 
-pub last-some : (before kept : List ℕ) → kept ≡ take 4097 before → 0 < length kept → last_line before ≡ before ∷ []
+pub last-some : (before kept : List ℕ) → kept ≡ take kept_of_line before → 0 < length kept → last_line before ≡ before ∷ []
 last-some [] kept e l = absurd (omega (arith, ap length e))
 last-some (x ∷ xs) kept e l = refl

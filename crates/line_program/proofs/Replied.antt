@@ -5,18 +5,19 @@ use Rattle.std.proofs.lemmas.Bool.{le-ltb, lt-ltb, false_from_ne_true}
 use Rattle.std.proofs.lemmas.Str.{is_utf8-from_IsUtf8, IsUtf8-from_is_utf8}
 use Rattle.std.specs.Str.{IsUtf8, is_utf8}
 use Rattle.line_program.specs.Added.{Adds, AddsAnyOrRefuses, AddsOrRefuses, AddsOrSaysNumber}
+use Rattle.line_program.specs.Limit.{longest_line}
 use Rattle.line_program.specs.Refused.{err, refusal_in}
 use Rattle.line_program.specs.Reply.{IsLineRefusal, IsOutcomeBy, IsReplyBy}
 
 module _ {Request : Type 0} (request_of : List ℕ → Option Request) (IsAnswer : Request → List ℕ → Type 0)
-    (line : List ℕ) (short : length line ≤ 4096) where
+    (line : List ℕ) (short : length line ≤ longest_line) where
   -- of one that is not UTF-8
   pub bytes-reply : (IsUtf8 line → ⊥) → IsReplyBy request_of IsAnswer line (err 2)
-  bytes-reply u = rw (le-ltb 4096 (length line) short, false_from_ne_true (is_utf8 line) (λ t. u (IsUtf8-from_is_utf8 line t))) refl
+  bytes-reply u = rw (le-ltb longest_line (length line) short, false_from_ne_true (is_utf8 line) (λ t. u (IsUtf8-from_is_utf8 line t))) refl
 
   -- of one that is a text
   pub text-reply : (said : List ℕ) → IsUtf8 line → IsOutcomeBy request_of IsAnswer line said → IsReplyBy request_of IsAnswer line said
-  text-reply said u h = rw (le-ltb 4096 (length line) short, is_utf8-from_IsUtf8 line u) h
+  text-reply said u h = rw (le-ltb longest_line (length line) short, is_utf8-from_IsUtf8 line u) h
 
   -- of one that asks for nothing
   pub no_command-reply : IsUtf8 line → request_of line ≡ None → IsReplyBy request_of IsAnswer line (err 3)
@@ -29,7 +30,7 @@ module _ {Request : Type 0} (request_of : List ℕ → Option Request) (IsAnswer
 -- of one that is refused before it is executed
 pub refused-reply : {Request : Type 0} (request_of : List ℕ → Option Request) (IsAnswer : Request → List ℕ → Type 0) (line : List ℕ) (number : ℕ) → IsLineRefusal line number
     → IsReplyBy request_of IsAnswer line (err number)
-refused-reply request_of IsAnswer line number (inl h) = rw (lt-ltb 4096 (length line) h.0, h.1) refl
+refused-reply request_of IsAnswer line number (inl h) = rw (lt-ltb longest_line (length line) h.0, h.1) refl
 refused-reply request_of IsAnswer line number (inr h) = rw h.2 (bytes-reply request_of IsAnswer line h.0 h.1)
 
 -- what is added may be said more widely

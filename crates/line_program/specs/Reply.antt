@@ -2,6 +2,7 @@
 use Rattle.std.specs.Prelude.{◌≡◌, ◌⊎◌, ◌<◌, ◌≤◌, ℕ, List, length, nat_lt, Option, MatchOption}
 use Rattle.std.specs.Prelude.{MatchBool}
 use Rattle.std.specs.Str.{IsUtf8, is_utf8}
+use Rattle.line_program.specs.Limit.{longest_line}
 use Rattle.line_program.specs.Refused.{err}
 
 -- what may be said of a text: it is no command, or it is answered
@@ -14,7 +15,7 @@ IsOutcomeBy request_of IsAnswer text said =
 abbrev pub IsReplyBy : {Request : Type 0} → (List ℕ → Option Request)
     → (Request → List ℕ → Type 0) → List ℕ → List ℕ → Type 0
 IsReplyBy request_of IsAnswer line said =
-    MatchBool (nat_lt 4096 (length line))
+    MatchBool (nat_lt longest_line (length line))
     (said ≡ err 1)
     (MatchBool (is_utf8 line)
     (IsOutcomeBy request_of IsAnswer line said)
@@ -23,11 +24,11 @@ IsReplyBy request_of IsAnswer line said =
 -- the text of a line that is not too long
 pub record IsTextOfLine (line text : List ℕ) : Type 0 where
   pub same : text ≡ line
-  pub short : length line ≤ 4096
+  pub short : length line ≤ longest_line
   pub utf8 : IsUtf8 line
 
 -- the number that a line is refused with: it is too long, or no text, in this order
 abbrev pub IsLineRefusal : List ℕ → ℕ → Type 0
 IsLineRefusal line number =
-    ((4096 < length line) × (number ≡ 1))
-    ⊎ ((length line ≤ 4096) × (IsUtf8 line → ⊥) × (number ≡ 2))
+    ((longest_line < length line) × (number ≡ 1))
+    ⊎ ((length line ≤ longest_line) × (IsUtf8 line → ⊥) × (number ≡ 2))

@@ -41,7 +41,7 @@ pub trait Execute {
 
     ghost is_answer: { request → List ℕ → Type 0 };
 
-    /// Adds the answer to a text of at most 4,096 bytes, or leaves all as it was. `NoCommand` is
+    /// Adds the answer to a text of at most 16,384 bytes, or leaves all as it was. `NoCommand` is
     /// returned exactly for a text that is no command.
     fn execute(&self, text: &str, out: &mut Vec<u8>) -> Result<(), NotExecuted>
         requires { vec_len out.old + 2047 ≤ vec_capacity out.old }

@@ -3,19 +3,20 @@
 ghost use Rattle.std.specs.Prelude.{◌≡◌, ℕ, ◌+◌, ◌≤◌, ◌<◌, false, true, List, [], ◌∷◌, ◌++◌, take};
 ghost use Rattle.std.specs.Prelude.{vec_len, vec_capacity, OnOk, OnErr, IsErrOf, IfOk};
 ghost use Rattle.std.specs.Io.KnownBytes.{Appends, Keeps};
+ghost use Rattle.line_program.specs.Limit.{kept_of_line};
 ghost use Rattle.line_program.specs.Lines.{ended_from, rest_from, last_line};
 ghost use Rattle.line_program.specs.Output.{IsOutput, IsBeginning, IsAnswered, IsAnsweredSoFar, IsCutShort};
 
 use crate::error::RunError;
 use crate::output::append;
-use crate::replies::{REPLY_ROOM, Replies};
+use crate::replies::{LINE_LIMIT, REPLY_ROOM, Replies};
 use devices::{ByteSink, ByteSource, Watched, write_all};
 use memchr::memchr;
 use std::alloc::{AllocError, Global};
 use std::io;
 
 // What is kept of a line: one byte more than it may have shows that it is too long.
-const KEPT: usize = 4097;
+const KEPT: usize = LINE_LIMIT + 1;
 
 // The number of bytes that are read at once.
 const READ: usize = 65536;
@@ -28,7 +29,7 @@ const OUT_ROOM: usize = 16384;
 struct Lines {
     line: Vec<u8>,
     out: Vec<u8>,
-    ghost line_room: { vec_len line ≤ 4097 × 4097 ≤ vec_capacity line },
+    ghost line_room: { vec_len line ≤ kept_of_line × kept_of_line ≤ vec_capacity line },
     ghost out_room: { 16384 ≤ vec_capacity out },
 }
 
@@ -44,8 +45,8 @@ impl Lines {
 
     /// Takes bytes of a line that has not ended.
     fn keep(&mut self, piece: &[u8])
-        ensures line { (before : List ℕ) → self.old.line.items ≡ take 4097 before
-            → self.new.line.items ≡ take 4097 (before ++ piece.now) }
+        ensures line { (before : List ℕ) → self.old.line.items ≡ take kept_of_line before
+            → self.new.line.items ≡ take kept_of_line (before ++ piece.now) }
         ensures out { self.new.out ≡ self.old.out }
     {
         let kept = piece.len().min(KEPT - self.line.len());
@@ -101,7 +102,7 @@ impl Lines {
     /// Gathers the reply to the line that ends behind these bytes, and makes ready for the next.
     fn gather<P: Replies>(&mut self, program: &P, piece: &[u8])
         requires { vec_len self.old.out ≤ 14336 }
-        ensures reply { (before : List ℕ) → self.old.line.items ≡ take 4097 before
+        ensures reply { (before : List ℕ) → self.old.line.items ≡ take kept_of_line before
             → (said : List ℕ) × P.is_reply (before ++ piece.now) said
             × (self.new.out.items ≡ self.old.out.items ++ (said ++ 10 ∷ [])) }
         ensures next { self.new.line.items ≡ [] }
@@ -124,7 +125,7 @@ impl Lines {
         sink: &mut K,
     ) -> Result<(), RunError>
         requires { K.has_failed sink.old ≡ false }
-        ensures ok { OnOk result ((before : List ℕ) → self.old.line.items ≡ take 4097 before
+        ensures ok { OnOk result ((before : List ℕ) → self.old.line.items ≡ take kept_of_line before
             → (said : List ℕ) × P.is_reply (before ++ piece.now) said
             × (out : List ℕ) × Appends (K.contents sink.old) (K.contents sink.new) out
             × (self.old.out.items ++ (said ++ 10 ∷ []) ≡ out ++ self.new.out.items)) }
@@ -151,13 +152,14 @@ impl Lines {
     ) -> Result<(), RunError>
         requires unmarked { K.has_failed sink.old ≡ false }
         requires none_left { self.old.out.items ≡ [] }
-        ensures ok { OnOk result ((before : List ℕ) → self.old.line.items ≡ take 4097 before
-            → (self.new.line.items ≡ take 4097 (rest_from before bytes.now))
+        ensures ok { OnOk result ((before : List ℕ) → self.old.line.items ≡ take kept_of_line before
+            → (self.new.line.items ≡ take kept_of_line (rest_from before bytes.now))
             × (out : List ℕ) × Appends (K.contents sink.old) (K.contents sink.new) out
             × IsOutput P.is_reply (ended_from before bytes.now) out) }
         ensures ok_mark { OnOk result (K.has_failed sink.new ≡ false) }
         ensures none_left { OnOk result (self.new.out.items ≡ []) }
-        ensures err { OnErr result ((before : List ℕ) → self.old.line.items ≡ take 4097 before
+        ensures err { OnErr result ((before : List ℕ)
+            → self.old.line.items ≡ take kept_of_line before
             → (out : List ℕ) × Appends (K.contents sink.old) (K.contents sink.new) out
             × IsBeginning P.is_reply (ended_from before bytes.now) out) }
         ensures err_mark { OnErr result (K.has_failed sink.new ≡ true) }
@@ -178,11 +180,12 @@ impl Lines {
     fn finish<P: Replies, K: ByteSink>(&mut self, program: &P, sink: &mut K) -> Result<(), RunError>
         requires unmarked { K.has_failed sink.old ≡ false }
         requires none_left { self.old.out.items ≡ [] }
-        ensures ok { OnOk result ((before : List ℕ) → self.old.line.items ≡ take 4097 before
+        ensures ok { OnOk result ((before : List ℕ) → self.old.line.items ≡ take kept_of_line before
             → (out : List ℕ) × Appends (K.contents sink.old) (K.contents sink.new) out
             × IsOutput P.is_reply (last_line before) out) }
         ensures ok_mark { OnOk result (K.has_failed sink.new ≡ false) }
-        ensures err { OnErr result ((before : List ℕ) → self.old.line.items ≡ take 4097 before
+        ensures err { OnErr result ((before : List ℕ)
+            → self.old.line.items ≡ take kept_of_line before
             → (out : List ℕ) × Appends (K.contents sink.old) (K.contents sink.new) out
             × ((xs : List (List ℕ)) (a : List ℕ) → IsOutput P.is_reply xs a
             → IsBeginning P.is_reply (xs ++ last_line before) (a ++ out))) }

@@ -2,9 +2,10 @@
 
 ghost use Rattle.std.specs.Prelude.{◌≡◌, ℕ, ◌+◌, ◌≤◌, ◌<◌, List, [], ◌∷◌, ◌++◌, length};
 ghost use Rattle.std.specs.Prelude.{vec_len, vec_capacity};
+ghost use Rattle.line_program.specs.Limit.{longest_line};
 
 /// A line may have this many bytes. A longer one is refused, whatever it holds.
-pub const LINE_LIMIT: usize = 4096;
+pub const LINE_LIMIT: usize = 16384;
 
 /// What a reply adds to its output is no longer than this.
 pub const REPLY_ROOM: usize = 2048;
@@ -22,6 +23,6 @@ pub trait Replies {
         ensures capacity { vec_capacity out.old ≤ vec_capacity out.new };
 
     // What may be said of one line that is too long may be said of each.
-    ghost too_long: { (one other said : List ℕ) → 4096 < length one → 4096 < length other
-        → is_reply one said → is_reply other said };
+    ghost too_long: { (one other said : List ℕ) → longest_line < length one
+        → longest_line < length other → is_reply one said → is_reply other said };
 }

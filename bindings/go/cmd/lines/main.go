@@ -19,7 +19,7 @@ import (
 	"bech32proved/segwit"
 )
 
-const lineLimit = 4096
+const lineLimit = 16384
 
 // notAnswered is the number of a refusal of the programs.
 type notAnswered int

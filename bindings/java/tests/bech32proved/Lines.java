@@ -18,7 +18,7 @@ import java.util.function.Supplier;
 
 /** Replies to each line of standard input as the programs b32, c32 and mend do: java bech32proved.Lines b32|c32|mend. */
 public final class Lines {
-    private static final int LINE_LIMIT = 4096;
+    private static final int LINE_LIMIT = 16384;
 
     /** The commands whose one word is the rest of the line, which may have spaces, or be empty. */
     private static final Set<String> TAKE_REST = Set.of("descriptor", "descriptor-check", "descriptor-checksum");

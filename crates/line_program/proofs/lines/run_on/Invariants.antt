@@ -1,5 +1,6 @@
 use Rattle.std.proofs.Common.{◌≡◌, ℕ, List, [], false, take}
 use Rattle.std.specs.Io.KnownBytes.{Appends, Consumes}
+use Rattle.line_program.specs.Limit.{kept_of_line}
 use Rattle.line_program.specs.Lines.{ended_lines, rest_from}
 use Rattle.line_program.specs.Output.{IsOutput}
 use Rattle.line_program.proofs.lines.run_on.Given as goal
@@ -13,7 +14,7 @@ invariant-reads g l = record {
   none_left : l.lines.out.items ≡ [];
   unflushed : g.K.ByteSink.flushes l.sink ≡ g.K.ByteSink.flushes l.initial.sink;
   answered : (read : List ℕ) × Consumes (g.S.ByteSource.remaining l.initial.source) (g.S.ByteSource.remaining l.source) read
-      × (l.lines.line.items ≡ take 4097 (rest_from [] read))
+      × (l.lines.line.items ≡ take kept_of_line (rest_from [] read))
       × (written : List ℕ) × Appends (g.K.ByteSink.contents l.initial.sink) (g.K.ByteSink.contents l.sink) written
       × IsOutput g.P.Replies.is_reply (ended_lines read) written;
 }

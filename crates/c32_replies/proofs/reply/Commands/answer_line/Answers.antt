@@ -15,16 +15,22 @@ returns-in_default-clause-answer g c =
     let text = c.in_ok-text.ensures.text in
     (no_command-reply codex32_request_of IsCodex32Answer c.args.line.now text.short text.utf8 (rw text.same at c.in_default.ensures), refl)
 
-pub returns-in-Ok-clause-answer : goal.returns-in-Ok-clause-answer
-returns-in-Ok-clause-answer g c =
+pub returns-clause-answer : goal.returns-clause-answer
+returns-clause-answer g c =
     let text = c.in_ok-text.ensures.text in
     let request = codex32_request_of_command c.in-Some.command in
-    let (said, says, added) = c.in-Ok.ensures.answer in
+    let (said, says, added) = c.in_ok-answer.ensures.answer in
     (said, answer-reply codex32_request_of IsCodex32Answer c.args.line.now text.short text.utf8 request said (rw text.same at c.in-Some.ensures) says, added)
 
-pub returns-in-Err-clause-answer : goal.returns-in-Err-clause-answer
-returns-in-Err-clause-answer g c =
+pub returns-in_err-answer-clause-answer : goal.returns-in_err-answer-clause-answer
+returns-in_err-answer-clause-answer g c =
     let text = c.in_ok-text.ensures.text in
     let request = codex32_request_of_command c.in-Some.command in
-    let refused = c.in-Err.ensures.answer in
-    rw c.number.ensures.value (answer-reply codex32_request_of IsCodex32Answer c.args.line.now text.short text.utf8 request _ (rw text.same at c.in-Some.ensures) refused.0, refused.1)
+    let refused = c.in_err-answer.ensures.answer in
+    let p = err_from_is_err_and c.from_residual-in_err-answer.result c.from_residual-in_err-answer.ensures.1 in
+    rw p.1 (rw p.2.0 (answer-reply codex32_request_of IsCodex32Answer c.args.line.now text.short text.utf8 request _ (rw text.same at c.in-Some.ensures) refused.0, refused.1))
+
+pub returns-in_err-answer-clause-small : goal.returns-in_err-answer-clause-small
+returns-in_err-answer-clause-small g c =
+    let p = err_from_is_err_and c.from_residual-in_err-answer.result c.from_residual-in_err-answer.ensures.1 in
+    rw p.1 p.2.1

@@ -3,6 +3,7 @@ use Rattle.std.proofs.lemmas.List.{take_rest}
 use Rattle.std.proofs.lemmas.Result.{err_from_is_err_and, on_ok_weaker, on_err_weaker}
 use Rattle.std.specs.Io.KnownBytes.{Appends}
 use Rattle.memchr.specs.Find.{IsFirstByte, is_byte}
+use Rattle.line_program.specs.Limit.{kept_of_line}
 use Rattle.line_program.specs.Lines.{ended_from, rest_from}
 use Rattle.line_program.specs.Output.{IsOutput, IsBeginning}
 use Rattle.line_program.proofs.Ended.{HasNoNewline, at_newline, ended-more, front-no_newline, no_newline, rest-more, rest-turn, split-turn}
@@ -43,7 +44,7 @@ lines-preserved g c =
             let (kept, written, appended, is) = so_far before e in
             let (said, reply, out, more, made) = c.in_ok-reply_to.ensures.ok _ kept in
             let gathered = c.lines.self.out.items in (
-              c.in_ok-reply_to.ensures.next ∙ ap (λ (t : List ℕ). take 4097 t) (sym (rest-turn before gone piece)),
+              c.in_ok-reply_to.ensures.next ∙ ap (λ (t : List ℕ). take kept_of_line t) (sym (rest-turn before gone piece)),
               written ++ out,
               Appends-then _ _ _ written out appended more,
               subst (IsOutput R (ended_from before (gone ++ (piece ++ 10 ∷ [])))) (gathered-more written gathered (said ++ 10 ∷ []) out _ made)
@@ -63,7 +64,7 @@ returns-clause-ok g c = on_ok_weaker c.write_out.result
     let out = written ++ c.lines.self.out.items in
     let more' = subst (λ o. Appends (g.K.ByteSink.contents c.lines.sink) (g.K.ByteSink.contents c.write_out.new.sink) o.items) c.keep.ensures.out more in (
       ap (λ l. l.items) c.write_out.ensures.line ∙ c.keep.ensures.line _ kept
-          ∙ ap (λ (t : List ℕ). take 4097 t) (sym (rest-more before gone rest none) ∙ ap (rest_from before) (sym split)),
+          ∙ ap (λ (t : List ℕ). take kept_of_line t) (sym (rest-more before gone rest none) ∙ ap (rest_from before) (sym split)),
       out,
       Appends-then _ _ _ written _ appended more',
       subst (λ ls. IsOutput R ls out) (sym (ended-more before gone rest none) ∙ ap (ended_from before) (sym split)) is,

@@ -1,4 +1,6 @@
-use Rattle.std.proofs.Common.{◌≡◌, ◌∙◌, ◌++◌, ◌∷◌, [], ◌<◌, List, ℕ, length, rules, subst, sym, ap, take, arith, append-nil}
+use Rattle.std.proofs.Common.{◌≡◌, ◌∙◌, ◌++◌, ◌∷◌, [], ◌<◌, List, ℕ, length, subst, sym, ap, take, arith, append-nil}
+use Rattle.std.specs.Prelude.{vec_len}
+use Rattle.std.proofs.lemmas.Bool.{eqb-false}
 use Rattle.std.proofs.lemmas.List.{take_all}
 use Rattle.std.proofs.lemmas.Result.{err_from_is_err_and, on_ok_weaker, on_err_weaker}
 use Rattle.line_program.specs.Lines.{last_line}
@@ -32,7 +34,7 @@ returns-clause-ok g c = on_ok_weaker c.write_out.result
     let R = g.P.Replies.is_reply in
     let (said, is', out, appended, made) = c.in_ok-reply_to.ensures.ok before e in
     let is = subst (λ (l : List ℕ). R l said) (append-nil before) is' in
-    let some : 0 < length c.args.self.now.line.items = search rules in
+    let some : 0 < length c.args.self.now.line.items = omega (arith, eqb-false (vec_len c.args.self.now.line) 0 (sym c.if-is_empty.ensures)) in
     let one = last-some before _ e some in
     let gathered = c.reply_to.new.self.out.items in (
       out ++ gathered,
@@ -49,7 +51,7 @@ returns-clause-err g c = on_err_weaker c.write_out.result
     let (n, more) = h in
     let (said, is', out, appended, made) = c.in_ok-reply_to.ensures.ok before e in
     let is = subst (λ (l : List ℕ). R l said) (append-nil before) is' in
-    let some : 0 < length c.args.self.now.line.items = search rules in
+    let some : 0 < length c.args.self.now.line.items = omega (arith, eqb-false (vec_len c.args.self.now.line) 0 (sym c.if-is_empty.ensures)) in
     let one = last-some before _ e some in
     let gathered = c.reply_to.new.self.out.items in (
       out ++ take n gathered,

@@ -1,4 +1,5 @@
 use Rattle.std.proofs.Common.{◌≡◌, rules, ◌∙◌, ◌-◌, ◌++◌, List, ℕ, length, take, min, ap}
+use Rattle.line_program.specs.Limit.{kept_of_line}
 use Rattle.line_program.proofs.Kept.{kept-piece, take-least}
 use Rattle.line_program.proofs.lines.Lines.keep.Goals as goal
 
@@ -6,5 +7,5 @@ pub returns-clause-line : goal.returns-clause-line
 returns-clause-line c before e =
     let kept = c.args.self.now.line.items in
     let piece = c.args.piece.now in
-    let added : c.append.new.out.items ≡ kept ++ take (min (length piece) (4097 - length kept)) piece = search rules in
-    added ∙ ap (λ (l : List ℕ). kept ++ l) (take-least (4097 - length kept) piece) ∙ kept-piece 4097 before kept piece e
+    let added : c.append.new.out.items ≡ kept ++ take (min (length piece) (kept_of_line - length kept)) piece = search rules in
+    added ∙ ap (λ (l : List ℕ). kept ++ l) (take-least (kept_of_line - length kept) piece) ∙ kept-piece kept_of_line before kept piece e
