@@ -9,6 +9,7 @@ mod Printed
 mod Rewritten
 mod RowsOfWords
 mod SetBits
+pub mod Short
 mod Sums
 mod Symbols
 mod Tables

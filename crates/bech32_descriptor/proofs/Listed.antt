@@ -1,6 +1,6 @@
 -- Edits and their texts, one after another.
 use Rattle.std.specs.List.{AllByRecursion}
-use Rattle.std.proofs.Common.{◌≡◌, ℕ, List, [], ◌∷◌, ◌++◌, map, subst, sym, ap, ◌∙◌, refl}
+use Rattle.std.proofs.Common.{◌≡◌, ◌≤◌, ℕ, List, [], ◌∷◌, ◌++◌, length, map, subst, sym, ap, ◌∙◌, refl}
 use Rattle.bech32_descriptor.specs.Edits.{AreAllMends, IsMendWithin, IsToldMend, made}
 use Rattle.bech32_descriptor.specs.Mends.{AreMends}
 use Rattle.bech32_descriptor.specs.Pairs.{AreAllByTwo, AreTwoMends, IsMendByTwo, made_by_two}
@@ -45,16 +45,18 @@ pair_texts : {M E : Type 0} (edit_in : M → E) (text_in : M → List ℕ) (made
 pair_texts edit_in text_in made_of [] h = tt
 pair_texts edit_in text_in made_of (m ∷ found) h = (h.0, pair_texts edit_in text_in made_of found h.1)
 
-pub are_mends : {M : Type 0} (edit_in : M → Edit) (text_in : M → List ℕ) (most : ℕ) (text : List ℕ) (edits : List Edit) (found : List M) → AreAllMends (IsMendWithin most text) edits
+pub are_mends : {M : Type 0} (edit_in : M → Edit) (text_in : M → List ℕ) (most : ℕ) (text : List ℕ) (edits : List Edit) (found : List M) → length text ≤ 7500 → AreAllMends (IsMendWithin most text) edits
     → map edit_in found ≡ edits → AllByRecursion (λ m. text_in m ≡ made (edit_in m) text) found → AreMends most text (map (λ m. (edit_in m, text_in m)) found)
-are_mends edit_in text_in most text edits found all same each = record {
+are_mends edit_in text_in most text edits found short all same each = record {
+  short = short;
   edits = subst (AreAllMends (IsMendWithin most text)) (sym (pair_edits edit_in text_in found ∙ same)) all;
   texts = pair_texts edit_in text_in (λ e. made e text) found each;
 }
 
-pub are_two_mends : {M : Type 0} (edits_in : M → TwoEdits) (text_in : M → List ℕ) (text : List ℕ) (edits : List TwoEdits) (found : List M) → AreAllByTwo (IsMendByTwo text) edits
+pub are_two_mends : {M : Type 0} (edits_in : M → TwoEdits) (text_in : M → List ℕ) (text : List ℕ) (edits : List TwoEdits) (found : List M) → length text ≤ 7500 → AreAllByTwo (IsMendByTwo text) edits
     → map edits_in found ≡ edits → AllByRecursion (λ m. text_in m ≡ made_by_two (edits_in m) text) found → AreTwoMends text (map (λ m. (edits_in m, text_in m)) found)
-are_two_mends edits_in text_in text edits found all same each = record {
+are_two_mends edits_in text_in text edits found short all same each = record {
+  short = short;
   edits = subst (AreAllByTwo (IsMendByTwo text)) (sym (pair_edits edits_in text_in found ∙ same)) all;
   texts = pair_texts edits_in text_in (λ e. made_by_two e text) found each;
 }

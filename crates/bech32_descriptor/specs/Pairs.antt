@@ -1,5 +1,5 @@
 -- Texts of which two characters are changed.
-use Rattle.std.specs.Prelude.{◌≡◌, ◌⊎◌, ◌<◌, ℕ, List, map}
+use Rattle.std.specs.Prelude.{◌≡◌, ◌⊎◌, ◌<◌, ◌≤◌, ℕ, List, length, map}
 use Rattle.std.specs.List.{AllByRecursion}
 use Rattle.bech32_descriptor.specs.Descriptor.{IsDescriptor}
 use Rattle.bech32_descriptor.specs.Edits.{IsMendBefore, IsToldMend, kind_of_change, made}
@@ -33,8 +33,9 @@ IsTwoBefore x y =
 abbrev pub AreAllByTwo : (TwoEdits → Type 0) → List TwoEdits → Type 0
 AreAllByTwo P edits = AreAllInOrder IsTwoBefore P edits
 
--- these are all changes of two characters that make a descriptor of the text, each once and in
--- order, and the texts that they make
+-- the text is not too long, and these are all changes of two characters that make a descriptor of
+-- it, each once and in order, and the texts that they make
 pub record AreTwoMends (text : List ℕ) (found : List (TwoEdits × List ℕ)) : Type 0 where
+  pub short : length text ≤ 7500
   pub edits : AreAllByTwo (IsMendByTwo text) (map (λ m. m.0) found)
   pub texts : AllByRecursion (λ m. m.1 ≡ made_by_two m.0 text) found

@@ -133,6 +133,7 @@ fn push_longer<A: Allocator + Copy>(
     text: &[u8],
     found: &mut Vec<Edit, A>,
 ) -> Result<(), AllocError>
+    requires long { 8 ≤ length text.now }
     requires few { length text.now ≤ 7500 }
     requires enough { rows_for (length text.now + 1) ≤ length rows.now }
     requires rows { AreRows rows.now }
@@ -140,9 +141,6 @@ fn push_longer<A: Allocator + Copy>(
         × (found.new.items ≡ found.old.items ++ edits)
         × AreAllMends (IsMendOfKind 3 text.now) edits) }
 {
-    if text.len() < 8 {
-        return Ok(());
-    }
     let mut new = text_with(alloc, text, 0, &[b'0'], 0)?;
     push_put_in(rows, text, &mut new, found)
 }
@@ -154,6 +152,7 @@ fn edits_of<A: Allocator + Copy>(
     text: &[u8],
     most: usize,
 ) -> Result<Vec<Edit, A>, AllocError>
+    requires long { 8 ≤ length text.now }
     requires few { length text.now ≤ 7500 }
     requires enough { rows_for (length text.now + 1) ≤ length rows.now }
     requires rows { AreRows rows.now }
@@ -172,7 +171,8 @@ fn edits_for<A: Allocator + Copy>(
     text: &[u8],
     most: usize,
 ) -> Result<Vec<Edit, A>, AllocError>
-    requires { length text.now ≤ 7500 }
+    requires long { 8 ≤ length text.now }
+    requires few { length text.now ≤ 7500 }
     ensures { IfOk result (λ edits. AreAllMends (IsMendWithin most text.now) edits.items) }
 {
     let rows = rows_of(alloc, text.len() + 1)?;
@@ -275,10 +275,13 @@ pub fn mend_in<A: Allocator + Copy>(
 ) -> Result<Vec<Mended<Vec<u8, A>>, A>, MendError>
     ensures { MatchResult result
         (λ found. AreMends most text.now (map (λ m. (m.edit, m.text.items)) found.items))
-        (λ e. IsMendRefusal text.now e) }
+        (λ e. IsMendRefusal 8 text.now e) }
 {
     if text.len() > 7500 {
         return Err(MendError::TooLong);
+    }
+    if text.len() < 8 {
+        return Ok(Vec::new(alloc));
     }
     let edits = edits_for(alloc, text, most)?;
     Ok(made_all(alloc, text, edits)?)
@@ -300,11 +303,11 @@ pub fn mend_in<A: Allocator + Copy>(
 /// # Errors
 ///
 /// [`MendError::TooLong`] where the text has more than 7,500 characters; else
-/// [`MendError::Memory`] alone.
+/// [`MendError::Memory`] alone, and only where it has at least eight: from fewer no descriptor comes.
 pub fn mend(alloc: Global, text: &[u8], most: usize) -> Result<Vec<Mended<Vec<u8>>>, MendError>
     ensures { MatchResult result
         (λ found. AreMends most text.now (map (λ m. (m.edit, m.text.items)) found.items))
-        (λ e. IsMendRefusal text.now e) }
+        (λ e. IsMendRefusal 8 text.now e) }
 {
     mend_in::<Global>(alloc, text, most)
 }

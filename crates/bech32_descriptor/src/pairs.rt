@@ -170,12 +170,10 @@ fn two_on_copy<A: Allocator + Copy>(
 
 // The same of the text itself.
 fn two_of<A: Allocator + Copy>(alloc: A, text: &[u8]) -> Result<Vec<TwoEdits, A>, AllocError>
-    requires { length text.now ≤ 7500 }
+    requires long { 9 ≤ length text.now }
+    requires few { length text.now ≤ 7500 }
     ensures { IfOk result (λ edits. AreAllByTwo (IsMendByTwo text.now) edits.items) }
 {
-    if text.len() < 9 {
-        return Ok(Vec::new(alloc));
-    }
     let mut copy = text_with(alloc, text, text.len(), &[], text.len())?;
     let rows = rows_of(alloc, text.len())?;
     two_on_copy(alloc, &rows, &mut copy)
@@ -220,7 +218,8 @@ fn mended_by_two<A: Allocator + Copy>(
     alloc: A,
     text: &[u8],
 ) -> Result<Vec<MendedTwice<Vec<u8, A>>, A>, AllocError>
-    requires { length text.now ≤ 7500 }
+    requires long { 9 ≤ length text.now }
+    requires few { length text.now ≤ 7500 }
     ensures { IfOk result (λ found.
         AreTwoMends text.now (map (λ m. (m.edits, m.text.items)) found.items)) }
 {
@@ -240,10 +239,13 @@ pub fn mend_two_in<A: Allocator + Copy>(
 ) -> Result<Vec<MendedTwice<Vec<u8, A>>, A>, MendError>
     ensures { MatchResult result
         (λ found. AreTwoMends text.now (map (λ m. (m.edits, m.text.items)) found.items))
-        (λ e. IsMendRefusal text.now e) }
+        (λ e. IsMendRefusal 9 text.now e) }
 {
     if text.len() > 7500 {
         return Err(MendError::TooLong);
+    }
+    if text.len() < 9 {
+        return Ok(Vec::new(alloc));
     }
     match mended_by_two(alloc, text) {
         Ok(found) => Ok(found),
@@ -266,11 +268,11 @@ pub fn mend_two_in<A: Allocator + Copy>(
 /// # Errors
 ///
 /// [`MendError::TooLong`] where the text has more than 7,500 characters; else
-/// [`MendError::Memory`] alone.
+/// [`MendError::Memory`] alone, and only where it has at least nine: from fewer no descriptor comes.
 pub fn mend_two(alloc: Global, text: &[u8]) -> Result<Vec<MendedTwice<Vec<u8>>>, MendError>
     ensures { MatchResult result
         (λ found. AreTwoMends text.now (map (λ m. (m.edits, m.text.items)) found.items))
-        (λ e. IsMendRefusal text.now e) }
+        (λ e. IsMendRefusal 9 text.now e) }
 {
     mend_two_in::<Global>(alloc, text)
 }

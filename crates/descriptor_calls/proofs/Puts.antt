@@ -14,6 +14,7 @@ use Rattle.bech32_descriptor.specs.Mends.{AreMends}
 use Rattle.bech32_descriptor.specs.declared.edits.Change.{Change}
 use Rattle.bech32_descriptor.specs.declared.edits.Change.TheVariants.{Changed, LeftOut, PutIn, Swapped}
 use Rattle.bech32_descriptor.specs.declared.edits.Edit.{Edit}
+use Rattle.bech32_descriptor.proofs.Short.{no_mends}
 use Rattle.descriptor_calls.specs.Mends.{MendsFit, PutsEachMend, PutsFirstMends, PutsMends, number_of_mend_change, places_of}
 
 -- two numbers more at the front of a buffer
@@ -178,3 +179,16 @@ module _ {A : Type 0} (edit : A → Edit) (text : A → List ℕ) (most : ℕ) (
           (sym (length-map {B = Edit × List ℕ} near (λ m. (edit m, text m)))) fit;
       put = put;
     }
+
+-- ---- of a text that is too short for any
+
+pub nothing_put : (old : List ℕ) → IsPut [] old old 0
+nothing_put old = record { fits = omega arith; buffer = refl; count_is = refl }
+
+pub puts_no_mends : (most : ℕ) (old kinds places texts : List ℕ) → length old < 8 → PutsMends most old kinds kinds places places texts texts 0
+puts_no_mends most old kinds places texts short = record {
+  found = [];
+  are = no_mends most old short;
+  count_is = refl;
+  put = record { kinds_put = nothing_put kinds; places_put = nothing_put places; texts_put = nothing_put texts };
+}

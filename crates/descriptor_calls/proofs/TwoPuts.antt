@@ -1,6 +1,6 @@
 -- Two edits and the texts that they make put into buffers.
 use Rattle.std.specs.Prelude.{map, flat_map}
-use Rattle.std.proofs.Common.{◌≡◌, ◌<◌, ◌≤◌, ◌+◌, ◌*◌, ℕ, List, length, take, subst, sym, ap, ◌∙◌, refl, arith}
+use Rattle.std.proofs.Common.{◌≡◌, ◌<◌, ◌≤◌, ◌+◌, ◌*◌, ℕ, List, [], length, take, subst, sym, ap, ◌∙◌, refl, arith}
 use Rattle.std.proofs.lemmas.List.{length-map, length-take-le, take_all}
 use Rattle.bech32_encode.specs.Buffers.{IsPut}
 use Rattle.bech32_calls.specs.Fitting.{FirstFit, IsMost}
@@ -8,7 +8,9 @@ use Rattle.bech32_calls.proofs.Fitting.{first_fit, first_fit_back, joined_first,
 use Rattle.bech32_calls.proofs.Puts.{put-same}
 use Rattle.bech32_descriptor.specs.Pairs.{AreTwoMends}
 use Rattle.bech32_descriptor.specs.declared.edits.TwoEdits.{TwoEdits}
+use Rattle.bech32_descriptor.proofs.Short.{no_two_mends}
 use Rattle.descriptor_calls.specs.TwoMends.{PutsEachTwo, PutsFirstTwoMends, PutsTwoMends, TwoMendsFit, places_of_two}
+use Rattle.descriptor_calls.proofs.Puts.{nothing_put}
 
 module _ {A : Type 0} (edits : A → TwoEdits) (text : A → List ℕ) (items : List A) where
   abbrev pub made_two : List (TwoEdits × List ℕ)
@@ -80,3 +82,13 @@ module _ {A : Type 0} (edits : A → TwoEdits) (text : A → List ℕ) (old : Li
           (sym (length_made_two edits text near)) fit;
       put = put;
     }
+
+-- ---- of a text that is too short for any
+
+pub puts_no_two_mends : (old places texts : List ℕ) → length old < 9 → PutsTwoMends old places places texts texts 0
+puts_no_two_mends old places texts short = record {
+  found = [];
+  are = no_two_mends old short;
+  count_is = refl;
+  put = record { places_put = nothing_put places; texts_put = nothing_put texts };
+}

@@ -3,7 +3,7 @@ use Rattle.std.specs.Prelude.{◌≡◌, ◌<◌, ◌≤◌, ◌+◌, ◌*◌, �
 use Rattle.std.specs.Prelude.{take}
 use Rattle.bech32_encode.specs.Buffers.{IsPut}
 use Rattle.bech32_calls.specs.Fitting.{FirstFit, IsMost}
-use Rattle.bech32_descriptor.specs.Mends.{AreMends}
+use Rattle.bech32_descriptor.specs.Mends.{AreMends, MayBeMended}
 use Rattle.bech32_descriptor.specs.declared.edits.Change.{Change}
 use Rattle.bech32_descriptor.specs.declared.edits.Change.TheVariants.{Changed, LeftOut, PutIn}
 use Rattle.bech32_descriptor.specs.declared.edits.Change.TheVariants.{Swapped}
@@ -70,11 +70,12 @@ pub record PutsFirstMends (most : ℕ) (text kinds kinds' places places' texts t
   pub put : PutsEachMend (take put_count found) kinds kinds' places places' texts texts'
 
 -- why nothing is put into buffers, the first that applies: more than one character is to be
--- changed; the text is too long; or neither, and the memory does not suffice
+-- changed; the text is too long; or neither, descriptors may come from it, and the memory does not
+-- suffice
 abbrev pub IsMendFault : ℕ → List ℕ → MendRefusal → Type 0
 IsMendFault most text BadNumber = 1 < most
 IsMendFault most text TooLong = (most ≤ 1) × (7500 < length text)
-IsMendFault most text Memory = (most ≤ 1) × (length text ≤ 7500)
+IsMendFault most text Memory = (most ≤ 1) × MayBeMended 8 text
 
 abbrev pub number_of_mend : MendRefusal → ℕ
 number_of_mend BadNumber = 4

@@ -2,6 +2,7 @@
 use Rattle.std.specs.Prelude.{◌≡◌, ◌<◌, ◌≤◌, ◌*◌, ℕ, List, [], ◌∷◌, length, flat_map, take}
 use Rattle.bech32_encode.specs.Buffers.{IsPut}
 use Rattle.bech32_calls.specs.Fitting.{FirstFit, IsMost}
+use Rattle.bech32_descriptor.specs.Mends.{MayBeMended}
 use Rattle.bech32_descriptor.specs.Pairs.{AreTwoMends}
 use Rattle.bech32_descriptor.specs.declared.edits.TwoEdits.{TwoEdits}
 use Rattle.descriptor_calls.specs.declared.mends.MendRefusal.{MendRefusal}
@@ -43,9 +44,9 @@ pub record PutsFirstTwoMends (text places places' texts texts' : List ℕ) (coun
   pub most_fit : IsMost (TwoMendsFit found (length places) (length texts)) (length found) put_count
   pub put : PutsEachTwo (take put_count found) places places' texts texts'
 
--- why nothing is put into buffers: the text is too long; or it is not, and the memory does not
--- suffice
+-- why nothing is put into buffers: the text is too long; or it is not, descriptors may come from
+-- it, and the memory does not suffice
 abbrev pub IsTwoMendFault : List ℕ → MendRefusal → Type 0
 IsTwoMendFault text BadNumber = ⊥
 IsTwoMendFault text TooLong = 7500 < length text
-IsTwoMendFault text Memory = length text ≤ 7500
+IsTwoMendFault text Memory = MayBeMended 9 text

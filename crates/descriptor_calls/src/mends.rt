@@ -131,8 +131,9 @@ fn put_found(
 /// # Errors
 ///
 /// The first of: more than one character to be changed; a text of more than 7,500 bytes;
-/// [`MendRefusal::Memory`] where `memory` does not suffice: then `memory` and the buffers are as
-/// they were; or `memory` had bytes and has none, and the buffers may have changed.
+/// [`MendRefusal::Memory`] where the text has at least eight bytes and `memory` does not suffice:
+/// then `memory` and the buffers are as they were; or `memory` had bytes and has none, and the
+/// buffers may have changed.
 pub fn put_mends(
     memory: &mut Memory,
     text: &[u8],
@@ -162,6 +163,12 @@ pub fn put_mends(
     }
     if text.len() > 7500 {
         return Err(MendRefusal::TooLong);
+    }
+    if text.len() < 8 {
+        return Ok(Listed {
+            count: 0,
+            fit: true,
+        });
     }
     let lent = Lent::new(memory.take());
     let listed = put_found(&lent, text, most, kinds, places, texts);

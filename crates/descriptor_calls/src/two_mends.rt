@@ -74,9 +74,9 @@ fn put_two_found(
 ///
 /// # Errors
 ///
-/// The first of: a text of more than 7,500 bytes; [`MendRefusal::Memory`] where `memory` does not
-/// suffice: then `memory` and the buffers are as they were; or `memory` had bytes and has none, and
-/// the buffers may have changed.
+/// The first of: a text of more than 7,500 bytes; [`MendRefusal::Memory`] where the text has at
+/// least nine bytes and `memory` does not suffice: then `memory` and the buffers are as they were;
+/// or `memory` had bytes and has none, and the buffers may have changed.
 pub fn put_two_mends(
     memory: &mut Memory,
     text: &[u8],
@@ -98,6 +98,12 @@ pub fn put_two_mends(
 {
     if text.len() > 7500 {
         return Err(MendRefusal::TooLong);
+    }
+    if text.len() < 9 {
+        return Ok(Listed {
+            count: 0,
+            fit: true,
+        });
     }
     let lent = Lent::new(memory.take());
     let listed = put_two_found(&lent, text, places, texts);

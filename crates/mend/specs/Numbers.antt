@@ -3,6 +3,8 @@
 use Rattle.std.specs.Prelude.{ℕ}
 use Rattle.bech32_correction.specs.declared.error.CorrectError.{CorrectError}
 use Rattle.bech32_correction.specs.declared.error.CorrectError.TheVariants.{Memory, Refused}
+use Rattle.bech32_descriptor.specs.declared.error.MendError.{MendError}
+use Rattle.bech32_descriptor.specs.declared.error.MendError.TheVariants as mends
 use Rattle.bech32_near_edits.specs.declared.error.EditsError.{EditsError}
 use Rattle.bech32_near_edits.specs.declared.error.EditsError.TheVariants as edits
 use Rattle.bech32_numbers.specs.Numbers.{number_of_checked_error, number_of_text_error}
@@ -16,3 +18,8 @@ number_of_correct_error Memory = 91
 abbrev pub number_of_edits_error : EditsError → ℕ
 number_of_edits_error (edits.Refused e) = number_of_text_error e
 number_of_edits_error edits.Memory = 91
+
+-- of a text of which no descriptors are looked for
+abbrev pub number_of_mend_error : MendError → ℕ
+number_of_mend_error mends.TooLong = 89
+number_of_mend_error mends.Memory = 91

@@ -1,5 +1,5 @@
 -- What may be said of a request. Of lines that ask for nothing `line_program` says it.
-use Rattle.std.specs.Prelude.{◌≡◌, ◌⊎◌, ◌<◌, ℕ, List, [], ◌∷◌, ◌++◌, codes, flat_map, length, map}
+use Rattle.std.specs.Prelude.{◌≡◌, ◌⊎◌, ℕ, List, [], ◌∷◌, ◌++◌, codes, flat_map, map}
 use Rattle.std.specs.Prelude.{None, Some, MatchOption, position}
 use Rattle.std.specs.Fmt.{decimal}
 use Rattle.bech32_gf.specs.declared.gf32.Fe32.{Fe32}
@@ -27,7 +27,7 @@ use Rattle.bech32_refusals.specs.declared.error.CheckedHrpstringError.{CheckedHr
 use Rattle.bech32_calls.specs.Place.{IsPlace}
 use Rattle.bech32_descriptor.specs.Descriptor.{IsCheckRefusal, IsChecksum, IsDescriptor}
 use Rattle.bech32_descriptor.specs.Descriptor.{is_stranger}
-use Rattle.bech32_descriptor.specs.Mends.{AreMends}
+use Rattle.bech32_descriptor.specs.Mends.{AreMends, IsMendRefusal}
 use Rattle.bech32_descriptor.specs.declared.edits.Change.{Change as DescriptorChange}
 use Rattle.bech32_descriptor.specs.declared.edits.Change.TheVariants as descriptor_changes
 use Rattle.bech32_descriptor.specs.declared.edits.Edit.{Edit as DescriptorEdit}
@@ -39,7 +39,7 @@ use Rattle.b32_replies.specs.Locations.{AreLocations, BeginsWithLocation, IsNoLi
 use Rattle.b32_replies.specs.Request.{code_of_name}
 use Rattle.line_program.specs.Refused.{SaysRefusal, err}
 use Rattle.mend.specs.Found.{said_of_found}
-use Rattle.mend.specs.Numbers.{number_of_correct_error, number_of_edits_error}
+use Rattle.mend.specs.Numbers.{number_of_correct_error, number_of_edits_error, number_of_mend_error}
 use Rattle.mend.specs.Request.{MendRequest, Nearest, NearestAt, Edits, Fault, Suggest, Checksum}
 use Rattle.mend.specs.Request.{Liquid, LiquidAt, Descriptor, DescriptorCheck, DescriptorChecksum}
 use Rattle.mend.specs.Request.{errors_of_word, liquid_errors_of_word}
@@ -198,7 +198,7 @@ word_of_descriptor_change (descriptor_changes.PutIn b) = codes "put-in"
 -- it
 abbrev pub said_of_mend : DescriptorEdit → List ℕ → List ℕ
 said_of_mend edit text =
-    (32 ∷ word_of_descriptor_change edit.change) ++ ((32 ∷ decimal edit.place) ++ (32 ∷ text))
+    said_of_found (word_of_descriptor_change edit.change) edit.place text
 
 -- all descriptors that one edit makes of a text are said, each with the edit, in their order
 pub record SaysMends (text said : List ℕ) : Type 0 where
@@ -206,10 +206,10 @@ pub record SaysMends (text said : List ℕ) : Type 0 where
   pub are : AreMends 1 text found
   pub spelling : said ≡ codes "ok" ++ flat_map (λ m. said_of_mend m.0 m.1) found
 
--- the answer to `descriptor`: a text that is too long is refused, and memory may run out
+-- the answer to `descriptor`
 abbrev pub IsDescriptorAnswer : List ℕ → List ℕ → Type 0
 IsDescriptorAnswer text said =
-    SaysMends text said ⊎ (((7500 < length text) × (said ≡ err 89)) ⊎ (said ≡ err 91))
+    SaysMends text said ⊎ SaysRefusal (IsMendRefusal 8 text) number_of_mend_error said
 
 -- a refusal with this number, and the place of a character
 abbrev pub err_at : ℕ → ℕ → List ℕ

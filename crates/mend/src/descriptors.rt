@@ -2,16 +2,16 @@
 //!
 //! A descriptor may hold private keys. Nothing of it is kept behind its reply; nothing is wiped.
 
-ghost use Rattle.std.specs.Prelude.{◌≡◌, ◌+◌, ◌<◌, ◌≤◌, ◌++◌, ◌∷◌, ℕ, List, codes, flat_map, length, vec_len, vec_capacity, IfErr, IfOk, MatchResult, OnOk};
-ghost use Rattle.bech32_descriptor.specs.declared.error.MendError.TheVariants.{TooLong};
+ghost use Rattle.std.specs.Prelude.{◌≡◌, ◌+◌, ◌<◌, ◌≤◌, ◌++◌, ℕ, List, vec_len, vec_capacity, IfErr, OnOk};
 ghost use Rattle.line_program.specs.Added.{AddsOrSaysNumber};
-ghost use Rattle.mend.specs.Reply.{IsDescriptorAnswer, IsDescriptorCheckAnswer, IsDescriptorChecksumAnswer, SaysMends, err_at, said_of_mend, word_of_descriptor_change};
+ghost use Rattle.mend.specs.Numbers.{number_of_mend_error};
+ghost use Rattle.mend.specs.Reply.{IsDescriptorAnswer, IsDescriptorCheckAnswer, IsDescriptorChecksumAnswer, err_at, said_of_mend, word_of_descriptor_change};
 
 use crate::fault::append_place;
+use crate::found::{Found, append_found, push_found};
 use crate::numbers::{NO_CHECKSUM, NO_MEMORY, NOT_IN_DESCRIPTOR, TOO_LONG, WRONG_CHECKSUM};
 use bech32_descriptor::{Change, CheckError, Edit, MendError, Mended, check, checksum, mend};
-use itoa::Buffer;
-use line_program::{append, append_any, append_refusal};
+use line_program::{append, append_refusal};
 use std::alloc::{AllocError, Global};
 
 // The word for what is done to a descriptor.
@@ -26,63 +26,39 @@ fn change_word(change: Change) -> &'static str
     }
 }
 
-// Adds a space and a word.
-fn push_word(said: &mut Vec<u8>, word: &[u8]) -> Result<(), AllocError>
-    ensures { OnOk result (said.new.items ≡ said.old.items ++ (32 ∷ word.now)) }
+// The number of a refusal.
+fn mend_error_number(e: MendError) -> u8
+    ensures value { result ≡ number_of_mend_error e }
+    ensures small { result < 100 }
 {
-    said.push(b' ')?;
-    said.extend_from_slice(word)
-}
-
-// Adds what is done to a descriptor, where, and the descriptor that this makes.
-fn push_mend(said: &mut Vec<u8>, mended: &Mended<Vec<u8>>) -> Result<(), AllocError>
-    ensures { OnOk result (said.new.items
-        ≡ said.old.items ++ said_of_mend mended.now.edit mended.now.text.items) }
-{
-    let mut buffer = Buffer::new();
-    push_word(said, change_word(mended.edit.change).as_bytes())?;
-    push_word(said, buffer.format(mended.edit.place).as_bytes())?;
-    push_word(said, mended.text.as_slice())
-}
-
-// What is said of descriptors: `ok`, and each with the edit that makes it.
-fn said_of(alloc: Global, found: &[Mended<Vec<u8>>]) -> Result<Vec<u8>, AllocError>
-    ensures { IfOk result (λ said. said.items
-        ≡ codes "ok" ++ flat_map (λ m. said_of_mend m.edit m.text.items) found.now) }
-{
-    let mut said = Vec::from_slice(alloc, b"ok")?;
-    for mended in found {
-        push_mend(&mut said, mended)?;
+    match e {
+        MendError::TooLong => TOO_LONG,
+        MendError::Memory => NO_MEMORY,
     }
-    Ok(said)
 }
 
-// What is said of the descriptors that one edit makes of a text.
-fn said_mends(alloc: Global, text: &str) -> Result<Vec<u8>, MendError>
-    ensures { MatchResult result
-        (λ said. SaysMends text.now said.items)
-        (λ e. e ≡ TooLong → 7500 < length text.now) }
-{
-    let found = mend(alloc, text.as_bytes(), 1)?;
-    Ok(said_of(alloc, found.as_slice())?)
+impl Found for Mended<Vec<u8>> {
+    ghost spelling = { λ m. said_of_mend m.edit m.text.items };
+
+    fn push_to(&self, said: &mut Vec<u8>) -> Result<(), AllocError> {
+        let word = change_word(self.edit.change);
+        push_found(said, word, self.edit.place, self.text.as_slice())
+    }
 }
 
 /// Adds the descriptors that one edit makes of a text, each with that edit, or leaves all as it was
 /// and returns the number of the refusal.
 pub fn descriptor(alloc: Global, text: &str, out: &mut Vec<u8>) -> Result<(), u8>
-    ensures answer { AddsOrSaysNumber (IsDescriptorAnswer text.now) result
-        out.old.items out.new.items }
+    requires { vec_len out.old + 2048 ≤ vec_capacity out.old }
     ensures small { IfErr result (λ number. number < 100) }
     ensures room { OnOk result (vec_len out.new + 1 ≤ vec_capacity out.new) }
     ensures capacity { vec_capacity out.old ≤ vec_capacity out.new }
+    ensures answer { AddsOrSaysNumber (IsDescriptorAnswer text.now) result
+        out.old.items out.new.items }
 {
-    match said_mends(alloc, text) {
-        Ok(said) => match append_any(out, said.as_slice()) {
-            Ok(()) => Ok(()),
-            Err(_) => Err(NO_MEMORY),
-        },
-        Err(MendError::TooLong) => Err(TOO_LONG),
-        Err(MendError::Memory) => Err(NO_MEMORY),
+    match mend(alloc, text.as_bytes(), 1) {
+        Ok(found) => append_found(alloc, found.as_slice(), out),
+        Err(e) => Err(mend_error_number(e)),
     }
 }
 

@@ -58,7 +58,7 @@ impl Found for NearEdit<String> {
 
     fn push_to(&self, said: &mut Vec<u8>) -> Result<(), AllocError> {
         let word = change_word(self.edit.change);
-        push_found(said, word, self.edit.location, self.text.as_str())
+        push_found(said, word, self.edit.location, self.text.as_bytes())
     }
 }
 

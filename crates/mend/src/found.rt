@@ -24,7 +24,7 @@ pub fn push_found(
     said: &mut Vec<u8>,
     word: &str,
     place: usize,
-    text: &str,
+    text: &[u8],
 ) -> Result<(), AllocError>
     ensures { OnOk result
         (said.new.items ≡ said.old.items ++ said_of_found word.now place text.now) }
@@ -35,7 +35,7 @@ pub fn push_found(
     said.push(b' ')?;
     said.extend_from_slice(buffer.format(place).as_bytes())?;
     said.push(b' ')?;
-    said.extend_from_slice(text.as_bytes())
+    said.extend_from_slice(text)
 }
 
 /// What is said of texts: `ok`, and what is said of each.

@@ -29,7 +29,7 @@ impl Found for Suggestion<String> {
 
     fn push_to(&self, said: &mut Vec<u8>) -> Result<(), AllocError> {
         let word = mending_word(self.mending);
-        push_found(said, word, self.place, self.text.as_str())
+        push_found(said, word, self.place, self.text.as_bytes())
     }
 }
 
