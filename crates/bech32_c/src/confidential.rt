@@ -11,7 +11,7 @@ ghost use Rattle.liquid_calls.specs.Address.{PutsConfidential, PutsParts};
 ghost use Rattle.liquid_calls.specs.Nearest.{IsLiquidNearFaultOrKept, PutsFirstLiquidNear, PutsLiquidNear};
 ghost use Rattle.liquid_calls.specs.Numbers.{IsNumberOfLiquid};
 
-use bech32_calls::refusal::Refusal;
+use crate::listed::counted;
 use caller_memory::Memory;
 use liquid_calls::address::{decoded, encoded};
 use liquid_calls::nearest::put_nearest;
@@ -135,13 +135,7 @@ pub extern "C" fn bech32_liquid_nearest(
         ⊎ ((result ≡ 91) × IsKept memory.old memory.new) }
 {
     match put_nearest(memory, text, erasures, errors, texts) {
-        Ok(listed) => {
-            *count = listed.count;
-            if listed.fit {
-                return 0;
-            }
-            Refusal::NoRoom.number()
-        }
+        Ok(listed) => counted(listed, count),
         Err(refusal) => refusal.number(),
     }
 }

@@ -10,6 +10,7 @@ ghost use Rattle.descriptor_calls.specs.TwoMends.{IsTwoMendFault, PutsFirstTwoMe
 ghost use Rattle.descriptor_calls.specs.declared.checks.PutError.{PutError as APutError};
 ghost use Rattle.descriptor_calls.specs.declared.mends.MendRefusal.{MendRefusal as AMendRefusal};
 
+use crate::listed::counted;
 use bech32_descriptor::{CheckError, check};
 use caller_memory::Memory;
 use descriptor_calls::checks::{PutError, check_number, put_checksum};
@@ -97,9 +98,9 @@ pub extern "C" fn bech32_descriptor_check(text: &[u8], place: &mut usize) -> u32
 /// Answers the number of the first of: more than one to be changed (4); a text of more than 7,500
 /// bytes (89), both before any memory is taken; buffers that are too small (92), only where not all
 /// fit: then `count` is the number of all, and as many as fit in each of the three buffers are put
-/// there, the first. Where `memory` does not suffice, 91 in place of 0 or 92: then `memory` and the
-/// buffers are as they were; or `memory` had bytes and has none, and the buffers may have changed.
-/// With every other number `memory` is as it was.
+/// there, the first. Where the text has at least eight bytes and `memory` does not suffice, 91 in
+/// place of 0 or 92: then `memory` and the buffers are as they were; or `memory` had bytes and has
+/// none, and the buffers may have changed. With every other number `memory` is as it was.
 #[unsafe(no_mangle)]
 pub extern "C" fn bech32_descriptor_mend(
     text: &[u8],
@@ -125,13 +126,7 @@ pub extern "C" fn bech32_descriptor_mend(
         ⊎ ((result ≡ 91) × IsKept memory.old memory.new) }
 {
     match put_mends(memory, text, changed, kinds, places, texts) {
-        Ok(listed) => {
-            *count = listed.count;
-            if listed.fit {
-                return 0;
-            }
-            92
-        }
+        Ok(listed) => counted(listed, count),
         Err(refusal) => refusal.number(),
     }
 }
@@ -146,10 +141,10 @@ pub extern "C" fn bech32_descriptor_mend(
 ///
 /// Answers the number of the first of: a text of more than 7,500 bytes (89), before any memory is
 /// taken; buffers that are too small (92), only where not all fit: then `count` is the number of
-/// all, and as many as fit in both buffers are put there, the first. Where `memory` does not
-/// suffice, 91 in place of 0 or 92: then `memory` and the buffers are as they were; or `memory` had
-/// bytes and has none, and the buffers may have changed. With every other number `memory` is as it
-/// was.
+/// all, and as many as fit in both buffers are put there, the first. Where the text has at least
+/// nine bytes and `memory` does not suffice, 91 in place of 0 or 92: then `memory` and the buffers
+/// are as they were; or `memory` had bytes and has none, and the buffers may have changed. With
+/// every other number `memory` is as it was.
 #[unsafe(no_mangle)]
 pub extern "C" fn bech32_descriptor_mend_two(
     text: &[u8],
@@ -173,13 +168,7 @@ pub extern "C" fn bech32_descriptor_mend_two(
         ⊎ ((result ≡ 91) × IsKept memory.old memory.new) }
 {
     match put_two_mends(memory, text, places, texts) {
-        Ok(listed) => {
-            *count = listed.count;
-            if listed.fit {
-                return 0;
-            }
-            92
-        }
+        Ok(listed) => counted(listed, count),
         Err(refusal) => refusal.number(),
     }
 }

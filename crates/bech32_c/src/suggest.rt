@@ -6,7 +6,7 @@ ghost use Rattle.caller_memory.specs.Memory.{IsKept};
 ghost use Rattle.bech32_calls.specs.Faults.{IsNumberOf};
 ghost use Rattle.bech32_calls.specs.Suggest.{IsSuggestFaultOrKept, IsTyped, LacksRoomForSuggestions, PutsFirstSuggestions, PutsSuggestions};
 
-use bech32_calls::refusal::Refusal;
+use crate::listed::counted;
 use bech32_calls::suggest::put_suggestions;
 use caller_memory::Memory;
 
@@ -65,13 +65,7 @@ pub extern "C" fn bech32_suggest(
         ⊎ ((result ≡ 91) × IsKept memory.old memory.new) }
 {
     match put_suggestions(memory, text, hrp, kinds, places, texts) {
-        Ok(listed) => {
-            *count = listed.count;
-            if listed.fit {
-                return 0;
-            }
-            Refusal::NoRoom.number()
-        }
+        Ok(listed) => counted(listed, count),
         Err(refusal) => refusal.number(),
     }
 }

@@ -70,6 +70,32 @@ module _ (IsFault : Code → Refusal → Type 0) (e : Refusal) (Q : Type 0) (non
   out_of_fault None h = none h
   out_of_fault (Some code) h = gives code h
 
+-- a number that is that of no checksum is refused
+pub unchecked_by : (IsFault : Code → Refusal → Type 0) (e : Refusal) (n : ℕ) → IsFaultBy n (λ _ _. ⊥) e → IsFaultBy n IsFault e
+unchecked_by IsFault e = fault_by (λ _ _. ⊥) IsFault e (λ code h. absurd h)
+
+module _ (IsFault : Code → Refusal → Type 0) (e : Refusal) (one : IsFault bech32 e) (two : IsFault bech32m e) where
+  fault_of_either : (first second : Bool) → MatchOption (if first then Some bech32 else (if second then Some bech32m else None)) ⊥ (λ _. Unit {0})
+      → MatchOption (if first then Some bech32 else (if second then Some bech32m else None)) (e ≡ BadNumber) (λ code. IsFault code e)
+  fault_of_either true second h = one
+  fault_of_either false true h = two
+  fault_of_either false false h = absurd h
+
+  -- what is wrong by both checksums is by that of a number
+  pub either_fault : (n : ℕ) → ForChecksum n (λ _. Unit {0}) → IsFaultBy n IsFault e
+  either_fault n = fault_of_either (n == 1) (n == 2)
+
+module _ (P : Code → Type 0) (one : P bech32) (two : P bech32m) where
+  so_of_either : (first second : Bool) → MatchOption (if first then Some bech32 else (if second then Some bech32m else None)) ⊥ (λ _. Unit {0})
+      → MatchOption (if first then Some bech32 else (if second then Some bech32m else None)) ⊥ P
+  so_of_either true second h = one
+  so_of_either false true h = two
+  so_of_either false false h = absurd h
+
+  -- what holds of both checksums does of that of a number
+  pub so_by_number : (n : ℕ) → ForChecksum n (λ _. Unit {0}) → ForChecksum n P
+  so_by_number n = so_of_either (n == 1) (n == 2)
+
 -- ---- the same of texts that are read and written
 
 pub no_fault_of_texts : (P : Code → Type 0) (IsFault : Code → Refusal → Type 0) (e : Refusal) → ((code : Code) → P code → IsFault code e → ⊥) → (n : ℕ) → ForTexts n P

@@ -36,6 +36,7 @@ use Rattle.bech32_near_search.proofs.NearestPatterns.{gathered_of}
 use Rattle.bech32_near.specs.NearTexts.{AreNearTexts}
 use Rattle.bech32_calls.specs.Checksums.{ForChecksum}
 use Rattle.bech32_calls.specs.Correct.{bound}
+use Rattle.bech32_calls.specs.Listing.{IfAllPut, IfNotAllPut}
 use Rattle.bech32_calls.specs.Nearest.{PutsFirstNear, PutsNear}
 use Rattle.bech32_calls.specs.declared.listed.Listed.{Listed}
 use Rattle.bech32_calls.specs.declared.refusal.Refusal.{Refusal}
@@ -228,8 +229,7 @@ few_texts code root lawful text given errors found count none few counted near =
         ]
 
 pub few_listed : (n : ℕ) (text given : List ℕ) (errors : ℕ) (old new : List ℕ) → given ≡ [] → (r : Result Listed Refusal)
-    → IfOk r (λ listed. listed.fit ≡ true → ForChecksum n (PutsNear text given errors old new listed.count))
-    → IfOk r (λ listed. listed.fit ≡ false → ForChecksum n (PutsFirstNear text given errors old new listed.count))
+    → IfAllPut r (λ count. ForChecksum n (PutsNear text given errors old new count)) → IfNotAllPut r (λ count. ForChecksum n (PutsFirstNear text given errors old new count))
     → IfOk r (λ listed. (listed.count ≤ 1) ⊎ (2 * listed.count ≤ length text))
 few_listed n text given errors old new none (Ok listed) all first = step listed.fit refl
   where

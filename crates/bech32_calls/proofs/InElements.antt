@@ -2,7 +2,6 @@
 use Rattle.std.proofs.Common.{◌≡◌, ◌≢◌, ◌≤◌, ◌<◌, ◌⊎◌, ◌∙◌, ◌+◌, ◌^◌, ◌++◌, ℕ, List, None, Some, Result, Ok, Err, IfErr, IfOk, inl, inr, length, map, drop, refl, sym, ap, subst, arith, ⊎_elim}
 use Rattle.std.proofs.lemmas.List.{length-map}
 use Rattle.bech32_gf.specs.Fe32.{element, element_of, elements_of, value}
-use Rattle.bech32_gf.specs.declared.gf32.Fe32.{Fe32}
 use Rattle.bech32_checksum.specs.Code.{Code}
 use Rattle.bech32_checksum.specs.Encoded.{IsEncodedText}
 use Rattle.bech32_checksum.proofs.Uniqueness.{length-encoded}
@@ -19,8 +18,7 @@ use Rattle.bech32_encode.proofs.TextPieces.{put_whole}
 use Rattle.bech32_numbers.specs.Numbers.{number_of_hrp_error}
 use Rattle.bech32_refusals.specs.declared.error.ChecksumError.{ChecksumError}
 use Rattle.bech32.specs.Elements.{AreValues, Fits, elements_in, first_above}
-use Rattle.bech32.specs.Spelling.{IsSpelledBy, IsSpelling}
-use Rattle.bech32.specs.declared.error.TextError.{TextError}
+use Rattle.bech32.specs.Spelling.{IsSpelledBy}
 use Rattle.bech32.specs.declared.error.TextError.TheVariants.{Parse, Checksum as NotAccepted, Memory}
 use Rattle.bech32.proofs.Spellings.{one_spelled, parts-from_spelling}
 use Rattle.bech32.proofs.Values.{are_values, decoded-from_elements, none-from_values, spelled-from_values}
@@ -29,7 +27,7 @@ use Rattle.bech32_calls.specs.Elements.{CanDecodeElements, HasElementsText, IsEl
 use Rattle.bech32_calls.specs.Faults.{IsPartFault, IsTextFault}
 use Rattle.bech32_calls.specs.Numbers.{number_of}
 use Rattle.bech32_calls.specs.declared.refusal.Refusal.{Refusal}
-use Rattle.bech32_calls.specs.declared.refusal.Refusal.TheVariants.{NotUtf8, BadNumber, NoRoom, Text, Checksum, Hrp, TooLong, BadElement}
+use Rattle.bech32_calls.specs.declared.refusal.Refusal.TheVariants.{NotUtf8, NoRoom, Text, Checksum, Hrp, TooLong, BadElement}
 use Rattle.bech32_calls.proofs.ByNumber.{from_fault_of_texts}
 use Rattle.bech32_calls.proofs.Letters.{IsUtf8-from_text, no_part_fault}
 use Rattle.bech32_calls.proofs.OneSpelling.{part-length}

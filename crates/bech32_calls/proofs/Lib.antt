@@ -6,6 +6,7 @@ pub mod Checking
 pub mod Decoding
 pub mod Encoding
 pub mod Edited
+pub mod Ending
 pub mod Ends
 pub mod Few
 pub mod Fitting

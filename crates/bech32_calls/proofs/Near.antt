@@ -1,7 +1,7 @@
 -- Near texts put into a buffer, and why none are.
-use Rattle.std.specs.Prelude.{map, flat_map, false, None, Some, Result, Ok, Err, IfErr, IfOk}
+use Rattle.std.specs.Prelude.{map, flat_map, None, Some, Result, Ok, Err, IfErr, MatchResult}
 use Rattle.std.specs.List.{AllByRecursion}
-use Rattle.std.proofs.Common.{◌≡◌, ◌<◌, ◌≤◌, ◌+◌, ◌*◌, ℕ, zero, suc, List, [], ◌∷◌, ◌++◌, length, length-append, suc-mul, zero-mul, take, inl, inr, refl, sym, mul-le-mul_right, ap, subst, ◌∙◌, arith}
+use Rattle.std.proofs.Common.{◌≡◌, ◌<◌, ◌≤◌, ◌+◌, ◌*◌, ℕ, zero, suc, List, [], ◌∷◌, ◌++◌, length, length-append, suc-mul, zero-mul, take, inr, refl, sym, mul-le-mul_right, ap, subst, ◌∙◌, arith}
 use Rattle.std.proofs.lemmas.List.{length-map, take_all}
 use Rattle.std.proofs.lemmas.List.Folds.{flat_map-map}
 use Rattle.bech32_gf.specs.Fe32.{elements_of, ops}
@@ -21,12 +21,13 @@ use Rattle.caller_memory.specs.declared.memory.Memory.{Memory as Lent}
 use Rattle.bech32_calls.specs.Checksums.{ForChecksum, IsFaultBy}
 use Rattle.bech32_calls.specs.Correct.{IsResidueFault, bound}
 use Rattle.bech32_calls.specs.Fitting.{FirstFit, IsMost}
+use Rattle.bech32_calls.specs.Listing.{EndsWell, IfAllPut, IfNotAllPut, LacksMemory, ListsTexts}
 use Rattle.bech32_calls.specs.Nearest.{IsNearFault, IsNearFaultOrKept, IsRead, PutsFirstNear, PutsNear, joined}
 use Rattle.bech32_calls.specs.declared.listed.Listed.{Listed}
 use Rattle.bech32_calls.specs.declared.refusal.Refusal.{Refusal}
 use Rattle.bech32_calls.specs.declared.refusal.Refusal.TheVariants.{BadNumber, Checksum, Memory, NotUtf8, Text}
 use Rattle.bech32_calls.proofs.ByNumber.{fault_by, from_both, from_checksum, more_for, wrong_by}
-use Rattle.bech32_calls.proofs.Fitting.{joined_first, most_mapped}
+use Rattle.bech32_calls.proofs.Fitting.{are_all, are_few, joined_first, most_mapped}
 use Rattle.bech32_calls.proofs.Letters.{IsUtf8-from_text}
 use Rattle.bech32_calls.proofs.Mending.{no_other_refusal}
 use Rattle.bech32_calls.proofs.Puts.{put-same}
@@ -47,11 +48,6 @@ near_unread_by n text given errors e few =
 pub near_memory_by : (n : ℕ) (text given : List ℕ) (errors : ℕ) → errors ≤ 2 → ForChecksum n (λ code. IsOutOfMemory code bound text given errors) → IsFaultBy n (IsNearFault text given errors) Memory
 near_memory_by n text given errors few =
     wrong_by (λ code. IsOutOfMemory code bound text given errors) (IsNearFault text given errors) Memory (λ code h. (few, h)) n
-
--- the memory came back
-pub fault_or_kept : {R : Type 0} (n : ℕ) (text given : List ℕ) (errors : ℕ) (old new : Lent) (r : Result R Refusal) → IfErr r (λ e. IsFaultBy n (IsNearFault text given errors) e) → IfErr r (λ e. IsNearFaultOrKept n text given errors old new e)
-fault_or_kept n text given errors old new (Ok listed) h = tt
-fault_or_kept n text given errors old new (Err e) h = inl h
 
 -- the residue of a text that was read, and whose lengths a checksum takes, is read
 read_there : (text hrp data_part : List ℕ) → IsText text hrp data_part → (code : Code) → HasLengths code (length text) (length data_part) → IsRead text code
@@ -81,10 +77,6 @@ module _ (n : ℕ) (text given : List ℕ) (errors : ℕ) (few : errors ≤ 2) (
   -- the same by the checksum of a number
   pub read_memory_by : (e : Refusal) → IsFaultBy n (IsNearFault text given errors) e → e ≡ Memory
   read_memory_by e = from_both (IsRead text) (IsNearFault text given errors) e (e ≡ Memory) (read_memory text given errors e few) n is
-
-  pub only_memory : {R : Type 0} (r : Result R Refusal) → IfErr r (λ e. IsFaultBy n (IsNearFault text given errors) e) → IfErr r (λ e. e ≡ Memory)
-  only_memory (Ok listed) h = tt
-  only_memory (Err e) h = read_memory_by e h
 
 -- ---- what is put
 
@@ -141,8 +133,7 @@ long_first text given errors old new count code h =
     omega (arith, next, size, few)
 
 pub long_listed : (n : ℕ) (text given : List ℕ) (errors : ℕ) (old new : List ℕ) (r : Result Listed Refusal)
-    → IfOk r (λ listed. listed.fit ≡ false → ForChecksum n (PutsFirstNear text given errors old new listed.count))
-    → IfOk r (λ listed. listed.fit ≡ false → length old < listed.count * length text)
+    → IfNotAllPut r (λ count. ForChecksum n (PutsFirstNear text given errors old new count)) → IfNotAllPut r (λ count. length old < count * length text)
 long_listed n text given errors old new (Ok listed) h = λ part.
     from_checksum (PutsFirstNear text given errors old new listed.count) (length old < listed.count * length text) (long_first text given errors old new listed.count) n (h part)
 long_listed n text given errors old new (Err e) h = tt
@@ -165,3 +156,39 @@ module _ {A : Type 0} (f : A → List (ℕ × Fe32) × List ℕ) (n : ℕ) (text
   puts_first_near_by old new count k few counted less most put =
       more_for (λ code. AreNearTexts code bound text given errors (map f near)) (PutsFirstNear text given errors old new count)
       (λ code h. puts_first_near f text given errors near code h old new count k few counted less most put) n these
+
+-- ---- what was found, listed by the checksum of a number
+
+module _ (n : ℕ) (text given : List ℕ) (errors : ℕ) (few : errors ≤ 2) (old new : List ℕ) (r : Result Listed Refusal) {V A E : Type 0} where
+  abbrev Found : Result V E → (V → List A) → (A → List (ℕ × Fe32) × List ℕ) → Type 0
+  Found found items f =
+      MatchResult found (λ v. ForChecksum n (λ code. AreNearTexts code bound text given errors (map f (items v)))) (λ _. ForChecksum n (λ code. IsOutOfMemory code bound text given errors))
+
+  abbrev Lists : Result V E → (V → List A) → (A → List (ℕ × Fe32) × List ℕ) → Type 0
+  Lists found items f =
+      MatchResult found (λ v. EndsWell r (ListsTexts (λ m. (f m).1) (items v) old new)) (λ _. LacksMemory r × (new ≡ old))
+
+  pub near_all : (found : Result V E) (items : V → List A) (f : A → List (ℕ × Fe32) × List ℕ) → Found found items f → Lists found items f
+      → IfAllPut r (λ count. ForChecksum n (PutsNear text given errors old new count))
+  near_all (Ok v) items f are (listed, is, h) =
+      subst (λ (t : Result Listed Refusal). IfAllPut t (λ count. ForChecksum n (PutsNear text given errors old new count))) (sym is)
+      (λ all. puts_near_by f n text given errors (items v) (items v) refl are old new listed.count h.put_count few h.count_is (are_all h.put_count (length (items v)) (sym h.fit_is ∙ all)) h.put)
+  near_all (Err e) items f out h =
+      subst (λ (t : Result Listed Refusal). IfAllPut t (λ count. ForChecksum n (PutsNear text given errors old new count))) (sym h.0) tt
+
+  pub near_first : (found : Result V E) (items : V → List A) (f : A → List (ℕ × Fe32) × List ℕ) → Found found items f → Lists found items f
+      → IfNotAllPut r (λ count. ForChecksum n (PutsFirstNear text given errors old new count))
+  near_first (Ok v) items f are (listed, is, h) =
+      subst (λ (t : Result Listed Refusal). IfNotAllPut t (λ count. ForChecksum n (PutsFirstNear text given errors old new count))) (sym is)
+      (λ part. puts_first_near_by f n text given errors (items v) (items v) refl are old new listed.count h.put_count few h.count_is
+      (are_few h.put_count (length (items v)) h.most.within (sym h.fit_is ∙ part)) h.most h.put)
+  near_first (Err e) items f out h =
+      subst (λ (t : Result Listed Refusal). IfNotAllPut t (λ count. ForChecksum n (PutsFirstNear text given errors old new count))) (sym h.0) tt
+
+  -- only memory may not suffice, and then nothing is put
+  pub near_refused : (found : Result V E) (items : V → List A) (f : A → List (ℕ × Fe32) × List ℕ) → Found found items f → Lists found items f
+      → IfErr r (λ e. IsFaultBy n (IsNearFault text given errors) e × (new ≡ old))
+  near_refused (Ok v) items f are (listed, is, h) =
+      subst (λ (t : Result Listed Refusal). IfErr t (λ e. IsFaultBy n (IsNearFault text given errors) e × (new ≡ old))) (sym is) tt
+  near_refused (Err e) items f out h =
+      subst (λ (t : Result Listed Refusal). IfErr t (λ e. IsFaultBy n (IsNearFault text given errors) e × (new ≡ old))) (sym h.0) (near_memory_by n text given errors few out, h.1)

@@ -6,7 +6,7 @@ use Rattle.bech32_gf.specs.Fe32.{elements_of}
 use Rattle.bech32_bits.specs.Bits.{fes_count, to_bytes, to_fes}
 use Rattle.bech32_bits.proofs.RoundTrip.{length-to_fes}
 use Rattle.bech32_checksum.specs.Code.{Code}
-use Rattle.bech32_hrp.specs.Hrp.{IsHrp, lowered}
+use Rattle.bech32_hrp.specs.Hrp.{lowered}
 use Rattle.bech32_decode.specs.Acceptance.{IsAccepted}
 use Rattle.bech32_decode.specs.BeforeChecksum.{IsBeforeChecksum}
 use Rattle.bech32_decode.specs.Refusals.{IsChecksumRefusal}
@@ -15,8 +15,6 @@ use Rattle.bech32_decode.specs.Text.{IsText}
 use Rattle.bech32_encode.specs.Buffers.{IsPut}
 use Rattle.bech32_refusals.specs.declared.error.ChecksumError.{ChecksumError}
 use Rattle.bech32_refusals.specs.declared.error.PaddingError.{PaddingError}
-use Rattle.bech32.specs.Spelling.{IsSpelling}
-use Rattle.bech32.specs.declared.error.TextError.{TextError}
 use Rattle.bech32.specs.declared.error.TextError.TheVariants.{Parse, Checksum as NotAccepted, Padding as NotPadded, Memory}
 use Rattle.bech32.proofs.Spellings.{decoded-from_strict, one_spelled, parts-from_spelling, spelled-from_padded}
 use Rattle.bech32_calls.specs.Faults.{IsTextFault}

@@ -1,12 +1,9 @@
 -- Suggestions put into buffers, and why none are.
-use Rattle.std.specs.Prelude.{map, flat_map, false, None, Some, Result, Ok, Err, IfErr, IfOk}
-use Rattle.std.proofs.Common.{◌≡◌, ◌<◌, ◌≤◌, ◌+◌, ◌⊎◌, ℕ, List, length, take, min, inl, inr, ap, subst, sym, refl, ◌∙◌, arith}
-use Rattle.std.proofs.Math.Decide.{dec_lt}
-use Rattle.std.proofs.lemmas.List.{length-map, length-take-le, take-map, take_all}
-use Rattle.std.proofs.lemmas.Simd.{map-map}
+use Rattle.std.specs.Prelude.{map, false, true, None, Some, Result, Ok, Err, IfErr, MatchResult}
+use Rattle.std.proofs.Common.{◌≡◌, ◌<◌, ◌≤◌, ℕ, List, length, take, inl, inr, subst, sym, refl, ◌∙◌, arith}
+use Rattle.std.proofs.lemmas.List.{length-map, take_all}
 use Rattle.bech32_decode.specs.Text.{text_refusal}
 use Rattle.bech32_decode.proofs.Grammar.{text_refusal-none}
-use Rattle.bech32_encode.specs.Buffers.{IsPut}
 use Rattle.bech32_hrp.specs.Hrp.{IsHrp}
 use Rattle.bech32_near_edits.specs.declared.error.EditsError.{EditsError}
 use Rattle.bech32_near_edits.specs.declared.error.EditsError.TheVariants.{Memory as OutOfMemory, Refused}
@@ -14,15 +11,13 @@ use Rattle.bech32_suggest.specs.Suggestions.{AreSuggestions, IsSuggestRefusal, I
 use Rattle.bech32_suggest.specs.Typed.{as_read}
 use Rattle.bech32_suggest.specs.declared.mendings.Mending.{Mending}
 use Rattle.bech32_suggest.proofs.Reading.{utf8_read}
-use Rattle.bech32_calls.specs.Fitting.{FirstFit, IsMost}
-use Rattle.bech32_calls.specs.Suggest.{IsSuggestFault, IsTyped, IsTypedFault, LacksRoomForSuggestions, PutsFirstSuggestions, PutsSuggested, PutsSuggestions, SuggestionsFit, number_of_mending}
+use Rattle.bech32_calls.specs.Listing.{EndsWell, IfAllPut, IfNotAllPut, LacksMemory, ListsRows}
+use Rattle.bech32_calls.specs.Suggest.{IsSuggestFault, IsTyped, IsTypedFault, LacksRoomForSuggestions, PutsFirstSuggestions, PutsSuggested, PutsSuggestions, number_of_mending}
 use Rattle.bech32_calls.specs.declared.listed.Listed.{Listed}
 use Rattle.bech32_calls.specs.declared.refusal.Refusal.{Refusal}
 use Rattle.bech32_calls.specs.declared.refusal.Refusal.TheVariants.{Memory, NotUtf8, Text}
-use Rattle.bech32_calls.proofs.Edited.{length_first}
-use Rattle.bech32_calls.proofs.Fitting.{first_fit, first_fit_back, joined_first, most_as}
+use Rattle.bech32_calls.proofs.Fitting.{are_all, are_few, rows_lack, rows_mapped, rows_most}
 use Rattle.bech32_calls.proofs.Letters.{no_part_fault}
-use Rattle.bech32_calls.proofs.Puts.{put-same}
 
 -- ---- where none are put
 
@@ -53,130 +48,95 @@ pub only_memory : (text hrp : List ℕ) (e : Refusal) → IsHrp hrp → IsTyped 
 only_memory text hrp e is typed (inl h) = absurd (no_part_fault hrp e is h)
 only_memory text hrp e is typed (inr h) = typed_memory text e typed h.1
 
--- ---- where some are
-
-module _ {A : Type 0} (text : A → List ℕ) (mending : A → Mending) (place : A → ℕ) (items : List A) where
-  -- each with what is done, and where
-  abbrev pub told : List Suggested
-  told = map (λ s. (text s, (mending s, place s))) items
-
-  length_told : length told ≡ length items
-  length_told = length-map {B = Suggested} items (λ s. (text s, (mending s, place s)))
-
-  size : (n : ℕ) → n ≤ length items → length (take n told) ≡ n
-  size n few = length-take-le n told (omega (arith, few, length_told))
-
-  mapped : (k : Suggested → ℕ) (n : ℕ) → map (λ s. k (text s, (mending s, place s))) (take n items) ≡ map k (take n told)
-  mapped k n = sym (ap (map k) (take-map (λ s. (text s, (mending s, place s))) n items) ∙ map-map k (λ s. (text s, (mending s, place s))) (take n items))
-
-  -- the first of them are put into buffers
-  pub puts_each : (kinds kinds' places places' texts texts' : List ℕ) (n : ℕ) → n ≤ length items → IsPut (map (λ s. number_of_mending (mending s)) (take n items)) kinds kinds' n
-      → IsPut (map place (take n items)) places places' n → IsPut (flat_map text (take n items)) texts texts' (length (flat_map text (take n items)))
-      → PutsSuggested (take n told) kinds kinds' places places' texts texts'
-  puts_each kinds kinds' places places' texts texts' n few k l t = record {
-    kinds_put = put-same (map (λ s. number_of_mending (mending s)) (take n items)) (map (λ s. number_of_mending s.1.0) (take n told)) kinds kinds' n (length (take n told))
-        (mapped (λ s. number_of_mending s.1.0) n) (sym (size n few)) k;
-    places_put = put-same (map place (take n items)) (map (λ s. s.1.1) (take n told)) places places' n (length (take n told))
-        (mapped (λ s. s.1.1) n) (sym (size n few)) l;
-    texts_put = put-same (flat_map text (take n items)) (flat_map (λ s. s.0) (take n told)) texts texts' (length (flat_map text (take n items))) (length (flat_map (λ s. s.0) (take n told)))
-        (sym (joined_first (λ s. (text s, (mending s, place s))) (λ s. s.0) items n)) (ap length (sym (joined_first (λ s. (text s, (mending s, place s))) (λ s. s.0) items n))) t;
-  }
-
-  module _ (kinds_room places_room texts_room n : ℕ) where
-    -- the most that fit in three buffers
-    most_told : IsMost (λ k. (k ≤ kinds_room) × (k ≤ places_room) × FirstFit text items texts_room k) (length items) n
-        → IsMost (SuggestionsFit told kinds_room places_room texts_room) (length items) n
-    most_told =
-        most_as (λ k. (k ≤ kinds_room) × (k ≤ places_room) × FirstFit text items texts_room k) (SuggestionsFit told kinds_room places_room texts_room) (length items) (length items) n refl
-        (λ k h. (h.0, h.1, first_fit (λ s. (text s, (mending s, place s))) (λ s. s.0) items texts_room k h.2))
-        (λ k h. (h.0, h.1, first_fit_back (λ s. (text s, (mending s, place s))) (λ s. s.0) items texts_room k h.2))
-
-    -- of those that have room in two buffers the texts fit so far
-    pub most_of_texts : n ≤ kinds_room → n ≤ places_room → IsMost (FirstFit text items texts_room) (length items) n → IsMost (SuggestionsFit told kinds_room places_room texts_room) (length items) n
-    most_of_texts few_kinds few_places h =
-        most_told record {
-          within = h.within;
-          fits = (few_kinds, few_places, h.fits);
-          full = λ less next. h.full less next.2;
-        }
-
-    -- the others have no room in one of two buffers
-    pub most_of_rooms : n ≡ min (min (length items) kinds_room) places_room → FirstFit text items texts_room n → IsMost (SuggestionsFit told kinds_room places_room texts_room) (length items) n
-    most_of_rooms is fits =
-        most_told record {
-          within = omega (arith, is);
-          fits = (omega (arith, is), omega (arith, is), fits);
-          full = λ less next. omega (arith, is, less, next.0, next.1);
-        }
-
-  -- ---- a copy of the list
-
-  module _ (old hrp : List ℕ) (is : IsHrp hrp) (near : List A) (same : near ≡ items) (are : AreSuggestions old hrp told) where
-    abbrev copied : List Suggested
-    copied = map (λ s. (text s, (mending s, place s))) near
-
-    length_copied : length copied ≡ length near
-    length_copied = length-map {B = Suggested} near (λ s. (text s, (mending s, place s)))
-
-    these : AreSuggestions old hrp copied
-    these = subst (λ (l : List A). AreSuggestions old hrp (map (λ s. (text s, (mending s, place s))) l)) (sym same) are
-
-    module _ (kinds kinds' places places' texts texts' : List ℕ) (k : ℕ) (put : PutsSuggested (take k copied) kinds kinds' places places' texts texts') where
-      pub puts_all : k ≡ length near → PutsSuggestions old hrp kinds kinds' places places' texts texts' (length near)
-      puts_all whole = record {
-        is_hrp = is;
-        found = copied;
-        are = these;
-        count_is = sym length_copied;
-        put = subst (λ l. PutsSuggested l kinds kinds' places places' texts texts') (take_all k copied (omega (arith, whole, length_copied))) put;
-      }
-
-      pub puts_first : k < length near → IsMost (SuggestionsFit copied (length kinds) (length places) (length texts)) (length near) k
-          → PutsFirstSuggestions old hrp kinds kinds' places places' texts texts' (length near)
-      puts_first less most = record {
-        is_hrp = is;
-        found = copied;
-        are = these;
-        count_is = sym length_copied;
-        put_count = k;
-        lacks = omega (arith, less, length_copied);
-        most = subst (λ (all : ℕ). IsMost (SuggestionsFit copied (length kinds) (length places) (length texts)) all k) (sym length_copied) most;
-        put = put;
-      }
-
 -- ---- where some do not fit
 
-module _ (text hrp kinds kinds' places places' texts texts' : List ℕ) (count : ℕ) (h : PutsFirstSuggestions text hrp kinds kinds' places places' texts texts' count) where
-  abbrev more : ℕ
-  more = h.put_count + 1
-
-  within : more ≤ count
-  within = omega (arith, h.lacks, h.count_is)
-
-  -- one buffer has no room for one more
-  lacking : (kinds_room places_room texts_room : ℕ) → (SuggestionsFit h.found kinds_room places_room texts_room more → ⊥)
-      → (kinds_room < count) ⊎ ((places_room < count) ⊎ (texts_room < length (flat_map (λ s. s.0) h.found)))
-  lacking kinds_room places_room texts_room none = elim (dec_lt kinds_room more) [
-    | yes k ↦ inl (omega (arith, k, within))
-    | no k ↦ elim (dec_lt places_room more) [
-      | yes l ↦ inr (inl (omega (arith, l, within)))
-      | no l ↦ elim (dec_lt texts_room (length (flat_map (λ s. s.0) (take more h.found)))) [
-        | yes t ↦ inr (inr (omega (arith, t, length_first (λ s. s.0) more h.found)))
-        | no t ↦ absurd (none (omega (arith, k), omega (arith, l), omega (arith, t)))
-      ]
-    ]
-  ]
-
-  pub lacks_room : LacksRoomForSuggestions text hrp (length kinds) (length places) (length texts) count
-  lacks_room = record {
-    found = h.found;
-    are = h.are;
-    count_is = h.count_is;
-    lacks = lacking (length kinds) (length places) (length texts) (h.most.full h.lacks);
-  }
+lacks_room : (text hrp kinds kinds' places places' texts texts' : List ℕ) (count : ℕ) → PutsFirstSuggestions text hrp kinds kinds' places places' texts texts' count
+    → LacksRoomForSuggestions text hrp (length kinds) (length places) (length texts) count
+lacks_room text hrp kinds kinds' places places' texts texts' count h = record {
+  found = h.found;
+  are = h.are;
+  count_is = h.count_is;
+  lacks = rows_lack (λ s. s.0) h.found (length kinds) (length places) (length texts) h.put_count count h.lacks h.count_is (h.most.full h.lacks);
+}
 
 pub lacks_listed : (text hrp kinds kinds' places places' texts texts' : List ℕ) (r : Result Listed Refusal)
-    → IfOk r (λ listed. listed.fit ≡ false → PutsFirstSuggestions text hrp kinds kinds' places places' texts texts' listed.count)
-    → IfOk r (λ listed. listed.fit ≡ false → LacksRoomForSuggestions text hrp (length kinds) (length places) (length texts) listed.count)
+    → IfNotAllPut r (PutsFirstSuggestions text hrp kinds kinds' places places' texts texts')
+    → IfNotAllPut r (LacksRoomForSuggestions text hrp (length kinds) (length places) (length texts))
 lacks_listed text hrp kinds kinds' places places' texts texts' (Ok listed) h = λ part. lacks_room text hrp kinds kinds' places places' texts texts' listed.count (h part)
 lacks_listed text hrp kinds kinds' places places' texts texts' (Err e) h = tt
+
+-- ---- what was found, listed
+
+module _ (text hrp kinds kinds' places places' texts texts' : List ℕ) (is_hrp : IsHrp hrp) (typed : IsTyped text) (r : Result Listed Refusal) where
+  module _ {A : Type 0} (shown : A → List ℕ) (mending : A → Mending) (place : A → ℕ) (items : List A) (are : AreSuggestions text hrp (map (λ s. (shown s, (mending s, place s))) items)) where
+    abbrev told : List Suggested
+    told = map (λ s. (shown s, (mending s, place s))) items
+
+    length_told : length told ≡ length items
+    length_told = length-map {B = Suggested} items (λ s. (shown s, (mending s, place s)))
+
+    abbrev Lists : Listed → Type 0
+    Lists = ListsRows (λ s. number_of_mending (mending s)) place shown items kinds kinds' places places' texts texts'
+
+    puts_told : (listed : Listed) (h : Lists listed) → PutsSuggested (take h.put_count told) kinds kinds' places places' texts texts'
+    puts_told listed h =
+        rows_mapped (λ s. (shown s, (mending s, place s))) (λ s. number_of_mending s.1.0) (λ s. s.1.1) (λ s. s.0) items kinds kinds' places places' texts texts' h.put_count h.put
+
+    puts_all : (listed : Listed) → Lists listed → listed.fit ≡ true → PutsSuggestions text hrp kinds kinds' places places' texts texts' listed.count
+    puts_all listed h all =
+        let whole : h.put_count ≡ length items = are_all h.put_count (length items) (sym h.fit_is ∙ all) in
+        record {
+          is_hrp = is_hrp;
+          found = told;
+          are = are;
+          count_is = h.count_is ∙ sym length_told;
+          put = subst (λ l. PutsSuggested l kinds kinds' places places' texts texts') (take_all h.put_count told (omega (arith, whole, length_told))) (puts_told listed h);
+        }
+
+    puts_first : (listed : Listed) → Lists listed → listed.fit ≡ false → PutsFirstSuggestions text hrp kinds kinds' places places' texts texts' listed.count
+    puts_first listed h part =
+        let less : h.put_count < length items = are_few h.put_count (length items) h.most.within (sym h.fit_is ∙ part) in
+        record {
+          is_hrp = is_hrp;
+          found = told;
+          are = are;
+          count_is = h.count_is ∙ sym length_told;
+          put_count = h.put_count;
+          lacks = omega (arith, less, length_told);
+          most = rows_most (λ s. (shown s, (mending s, place s))) (λ s. number_of_mending s.1.0) (λ s. s.1.1) (λ s. s.0) items (length kinds) (length places) (length texts) h.put_count h.most;
+          put = puts_told listed h;
+        }
+
+  module _ {V A : Type 0} where
+    abbrev Found : Result V EditsError → (V → List A) → (A → List ℕ) → (A → Mending) → (A → ℕ) → Type 0
+    Found found items shown mending place =
+        MatchResult found (λ v. AreSuggestions text hrp (map (λ s. (shown s, (mending s, place s))) (items v))) (λ e. IsSuggestRefusal text e)
+
+    abbrev Lists_found : Result V EditsError → (V → List A) → (A → List ℕ) → (A → Mending) → (A → ℕ) → Type 0
+    Lists_found found items shown mending place =
+        MatchResult found (λ v. EndsWell r (ListsRows (λ s. number_of_mending (mending s)) place shown (items v) kinds kinds' places places' texts texts'))
+        (λ _. LacksMemory r × ((kinds' ≡ kinds) × (places' ≡ places) × (texts' ≡ texts)))
+
+    pub suggested_all : (found : Result V EditsError) (items : V → List A) (shown : A → List ℕ) (mending : A → Mending) (place : A → ℕ)
+        → Found found items shown mending place → Lists_found found items shown mending place → IfAllPut r (PutsSuggestions text hrp kinds kinds' places places' texts texts')
+    suggested_all (Ok v) items shown mending place are (listed, is, h) =
+        subst (λ (t : Result Listed Refusal). IfAllPut t (PutsSuggestions text hrp kinds kinds' places places' texts texts')) (sym is) (puts_all shown mending place (items v) are listed h)
+    suggested_all (Err e) items shown mending place refused h =
+        subst (λ (t : Result Listed Refusal). IfAllPut t (PutsSuggestions text hrp kinds kinds' places places' texts texts')) (sym h.0) tt
+
+    pub suggested_first : (found : Result V EditsError) (items : V → List A) (shown : A → List ℕ) (mending : A → Mending) (place : A → ℕ)
+        → Found found items shown mending place → Lists_found found items shown mending place → IfNotAllPut r (PutsFirstSuggestions text hrp kinds kinds' places places' texts texts')
+    suggested_first (Ok v) items shown mending place are (listed, is, h) =
+        subst (λ (t : Result Listed Refusal). IfNotAllPut t (PutsFirstSuggestions text hrp kinds kinds' places places' texts texts')) (sym is) (puts_first shown mending place (items v) are listed h)
+    suggested_first (Err e) items shown mending place refused h =
+        subst (λ (t : Result Listed Refusal). IfNotAllPut t (PutsFirstSuggestions text hrp kinds kinds' places places' texts texts')) (sym h.0) tt
+
+    -- only memory may not suffice, and then nothing is put
+    pub suggested_refused : (found : Result V EditsError) (items : V → List A) (shown : A → List ℕ) (mending : A → Mending) (place : A → ℕ)
+        → Found found items shown mending place → Lists_found found items shown mending place
+        → IfErr r (λ e. (e ≡ Memory) × IsTypedFault text e × ((kinds' ≡ kinds) × (places' ≡ places) × (texts' ≡ texts)))
+    suggested_refused (Ok v) items shown mending place are (listed, is, h) =
+        subst (λ (t : Result Listed Refusal). IfErr t (λ e. (e ≡ Memory) × IsTypedFault text e × ((kinds' ≡ kinds) × (places' ≡ places) × (texts' ≡ texts)))) (sym is) tt
+    suggested_refused (Err e) items shown mending place refused h =
+        subst (λ (t : Result Listed Refusal). IfErr t (λ e. (e ≡ Memory) × IsTypedFault text e × ((kinds' ≡ kinds) × (places' ≡ places) × (texts' ≡ texts)))) (sym h.0)
+        (refl, untried text e typed refused, h.1)

@@ -8,6 +8,7 @@ pub mod Engine
 pub mod Faults
 pub mod Fitting
 pub mod Kinds
+pub mod Listing
 pub mod NearEdits
 pub mod Nearest
 pub mod Numbers

@@ -1,10 +1,8 @@
 -- The texts that one edit makes of a text put into buffers, and why none are.
-use Rattle.std.specs.Prelude.{◌≡◌, ◌<◌, ◌≤◌, ◌⊎◌, ℕ, List, length, map, flat_map, take, Some}
-use Rattle.std.specs.Prelude.{false, true}
+use Rattle.std.specs.Prelude.{◌≡◌, ◌<◌, ◌⊎◌, ℕ, List, length, flat_map, take, Some}
 use Rattle.std.specs.Str.{IsUtf8}
 use Rattle.bech32_checksum.specs.Code.{Code}
 use Rattle.bech32_decode.specs.Text.{IsInGrammar, text_refusal}
-use Rattle.bech32_encode.specs.Buffers.{IsPut}
 use Rattle.bech32_near_edits.specs.NearEdits.{AreNearEdits, IsEditsRefusal}
 use Rattle.bech32_near_edits.specs.declared.edits.Change.{Change}
 use Rattle.bech32_near_edits.specs.declared.edits.Change.TheVariants.{LeftOut, PutIn, Swapped}
@@ -13,8 +11,7 @@ use Rattle.bech32_near_edits.specs.declared.error.EditsError.TheVariants.{Memory
 use Rattle.caller_memory.specs.Memory.{IsKept}
 use Rattle.caller_memory.specs.declared.memory.Memory.{Memory as Lent}
 use Rattle.bech32_calls.specs.Checksums.{ForChecksum, IsFaultBy}
-use Rattle.bech32_calls.specs.Fitting.{FirstFit, IsMost}
-use Rattle.bech32_calls.specs.declared.listed.Listed.{Listed}
+use Rattle.bech32_calls.specs.Fitting.{IsMost, PutsRows, RowsFit}
 use Rattle.bech32_calls.specs.declared.refusal.Refusal.{Refusal}
 use Rattle.bech32_calls.specs.declared.refusal.Refusal.TheVariants.{NotUtf8, Memory, Text}
 
@@ -26,12 +23,9 @@ number_of_change (PutIn x) = 3
 
 -- of each edit its number, its location and the text that it makes, one behind another, are put
 -- into buffers
-pub record PutsEach (edits : List (Edit × List ℕ))
-    (kinds kinds' locations locations' texts texts' : List ℕ) : Type 0 where
-  pub kinds_put : IsPut (map (λ m. number_of_change m.0.change) edits) kinds kinds' (length edits)
-  pub locations_put : IsPut (map (λ m. m.0.location) edits) locations locations' (length edits)
-  pub texts_put : IsPut (flat_map (λ m. m.1) edits) texts texts'
-      (length (flat_map (λ m. m.1) edits))
+abbrev pub PutsEach : List (Edit × List ℕ)
+    → List ℕ → List ℕ → List ℕ → List ℕ → List ℕ → List ℕ → Type 0
+PutsEach = PutsRows (λ m. number_of_change m.0.change) (λ m. m.0.location) (λ m. m.1)
 
 -- this many edits, which are all that make a text that the checksum accepts, are put into buffers
 pub record PutsEdits (text kinds kinds' locations locations' texts texts' : List ℕ)
@@ -44,8 +38,7 @@ pub record PutsEdits (text kinds kinds' locations locations' texts texts' : List
 
 -- the first this many edits fit in buffers of these sizes
 abbrev pub EditsFit : List (Edit × List ℕ) → ℕ → ℕ → ℕ → ℕ → Type 0
-EditsFit found kinds_room locations_room texts_room n =
-    (n ≤ kinds_room) × (n ≤ locations_room) × FirstFit (λ m. m.1) found texts_room n
+EditsFit = RowsFit (λ m. m.1)
 
 -- this many edits, which are all that make a text that the checksum accepts, do not fit in buffers:
 -- the most of them that fit, the first ones, are put there
@@ -60,15 +53,6 @@ pub record PutsFirstEdits (text kinds kinds' locations locations' texts texts' :
   pub most : IsMost (EditsFit found (length kinds) (length locations) (length texts))
       (length found) put_count
   pub put : PutsEach (take put_count found) kinds kinds' locations locations' texts texts'
-
--- by the checksum of a number, all such edits are put into buffers where they fit, and else the
--- first of them, and it is told how many they are
-pub record PutsListed (checksum : ℕ) (text kinds kinds' locations locations' texts texts' : List ℕ)
-    (listed : Listed) : Type 0 where
-  pub all : listed.fit ≡ true → ForChecksum checksum
-      (PutsEdits text kinds kinds' locations locations' texts texts' listed.count)
-  pub first : listed.fit ≡ false → ForChecksum checksum
-      (PutsFirstEdits text kinds kinds' locations locations' texts texts' listed.count)
 
 -- this many edits, which are all that make a text that the checksum accepts, are more than a buffer
 -- of one of these sizes has room for, or their texts, one behind another, are longer

@@ -1,8 +1,7 @@
 -- Addresses that are suggested put into buffers, and why none are.
-use Rattle.std.specs.Prelude.{◌≡◌, ◌<◌, ◌≤◌, ◌⊎◌, ℕ, List, length, map, flat_map, take, Some}
+use Rattle.std.specs.Prelude.{◌≡◌, ◌<◌, ◌≤◌, ◌⊎◌, ℕ, List, length, flat_map, take, Some}
 use Rattle.std.specs.Str.{IsUtf8}
 use Rattle.bech32_decode.specs.Text.{IsInGrammar, text_refusal}
-use Rattle.bech32_encode.specs.Buffers.{IsPut}
 use Rattle.bech32_hrp.specs.Hrp.{IsHrp}
 use Rattle.bech32_suggest.specs.Suggestions.{AreSuggestions, IsTriedText, Suggested}
 use Rattle.bech32_suggest.specs.Typed.{as_read}
@@ -12,7 +11,7 @@ use Rattle.bech32_suggest.specs.declared.mendings.Mending.TheVariants.{Swapped, 
 use Rattle.caller_memory.specs.Memory.{IsKept}
 use Rattle.caller_memory.specs.declared.memory.Memory.{Memory as Lent}
 use Rattle.bech32_calls.specs.Faults.{IsPartFault}
-use Rattle.bech32_calls.specs.Fitting.{FirstFit, IsMost}
+use Rattle.bech32_calls.specs.Fitting.{IsMost, PutsRows, RowsFit}
 use Rattle.bech32_calls.specs.declared.refusal.Refusal.{Refusal}
 use Rattle.bech32_calls.specs.declared.refusal.Refusal.TheVariants.{NotUtf8, Memory, Text}
 
@@ -26,12 +25,9 @@ number_of_mending Replaced = 4
 
 -- of each suggestion the number of what is done, its place and the address, one behind another, are
 -- put into buffers
-pub record PutsSuggested (found : List Suggested)
-    (kinds kinds' places places' texts texts' : List ℕ) : Type 0 where
-  pub kinds_put : IsPut (map (λ s. number_of_mending s.1.0) found) kinds kinds' (length found)
-  pub places_put : IsPut (map (λ s. s.1.1) found) places places' (length found)
-  pub texts_put : IsPut (flat_map (λ s. s.0) found) texts texts'
-      (length (flat_map (λ s. s.0) found))
+abbrev pub PutsSuggested : List Suggested
+    → List ℕ → List ℕ → List ℕ → List ℕ → List ℕ → List ℕ → Type 0
+PutsSuggested = PutsRows (λ s. number_of_mending s.1.0) (λ s. s.1.1) (λ s. s.0)
 
 -- this many suggestions, which are all, are put into buffers
 pub record PutsSuggestions (text hrp kinds kinds' places places' texts texts' : List ℕ)
@@ -44,8 +40,7 @@ pub record PutsSuggestions (text hrp kinds kinds' places places' texts texts' : 
 
 -- the first this many suggestions fit in buffers of these sizes
 abbrev pub SuggestionsFit : List Suggested → ℕ → ℕ → ℕ → ℕ → Type 0
-SuggestionsFit found kinds_room places_room texts_room n =
-    (n ≤ kinds_room) × (n ≤ places_room) × FirstFit (λ s. s.0) found texts_room n
+SuggestionsFit = RowsFit (λ s. s.0)
 
 -- this many suggestions, which are all, do not fit in buffers: the most of them that fit, the first
 -- ones, are put there

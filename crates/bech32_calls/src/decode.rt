@@ -1,6 +1,6 @@
 //! Decodes texts, and tests them by a checksum.
 
-ghost use Rattle.std.specs.Prelude.{◌≡◌, ◌<◌, ◌⊎◌, true, length, MatchResult, IfOk, IfErr, OnErr};
+ghost use Rattle.std.specs.Prelude.{◌≡◌, ◌<◌, ◌≤◌, ◌⊎◌, true, length, MatchResult, IfOk, IfErr, OnErr};
 ghost use Rattle.bech32_gf.specs.Fe32.{elements_of};
 ghost use Rattle.bech32_bits.specs.Bits.{to_bytes};
 ghost use Rattle.bech32_gf.specs.Alphabet.{is_data};
@@ -11,12 +11,38 @@ ghost use Rattle.bech32_calls.specs.Decode.{PutsDecoded, IsDecodeFault, IsReadFa
 ghost use Rattle.bech32_decode.specs.Acceptance.{IsAcceptedByEither};
 ghost use Rattle.bech32_calls.specs.declared.refusal.Refusal.TheVariants.{NoRoom};
 
-use crate::checksum::{BECH32, BECH32M, LONG_BECH32, LONG_BECH32M};
+use crate::checksum::by_number;
 use crate::input::read;
 use crate::refusal::Refusal;
-use bech32::{Bech32, Bech32m, Checksum, LongBech32, LongBech32m};
+use bech32::{Bech32m, Checksum};
 use bech32_decode::{data_bytes_count, put_data_bytes};
 use bech32_encode::put_at_front;
+
+/// Tests that a human-readable part and what stands beside it, of these lengths, have room in two
+/// buffers.
+///
+/// # Errors
+///
+/// [`Refusal::NoRoom`] where a buffer is too small.
+#[inline(always)]
+pub fn validate_rooms(
+    part: usize,
+    part_room: usize,
+    other: usize,
+    other_room: usize,
+) -> Result<(), Refusal>
+    ensures { MatchResult result
+        (λ _. (part ≤ part_room) × (other ≤ other_room))
+        (λ e. (e ≡ NoRoom) × ((part_room < part) ⊎ (other_room < other))) }
+{
+    if part > part_room {
+        return Err(Refusal::NoRoom);
+    }
+    if other > other_room {
+        return Err(Refusal::NoRoom);
+    }
+    Ok(())
+}
 
 // Puts a human-readable part and the bytes of characters at the fronts of two buffers, and returns
 // their lengths.
@@ -34,12 +60,8 @@ pub(crate) fn put_parts(
         ⊎ (length bytes.old < length (to_bytes (elements_of characters.now))))) }
     ensures same { OnErr result ((hrp.new ≡ hrp.old) × (bytes.new ≡ bytes.old)) }
 {
-    if part.len() > hrp.len() {
-        return Err(Refusal::NoRoom);
-    }
-    if data_bytes_count(characters) > bytes.len() {
-        return Err(Refusal::NoRoom);
-    }
+    let count = data_bytes_count(characters);
+    validate_rooms(part.len(), hrp.len(), count, bytes.len())?;
     put_at_front(hrp, part);
     Ok((part.len(), put_data_bytes(characters, bytes)))
 }
@@ -101,11 +123,5 @@ pub fn checked_by(checksum: u32, bytes: &[u8]) -> Result<(usize, usize), Refusal
         (λ n. ForTexts checksum (IsCheckedAs bytes.now n.0 n.1))
         (λ e. IsFaultOfTexts checksum (IsCheckFault bytes.now) e) }
 {
-    match checksum {
-        BECH32 => checked::<Bech32>(bytes),
-        BECH32M => checked::<Bech32m>(bytes),
-        LONG_BECH32 => checked::<LongBech32>(bytes),
-        LONG_BECH32M => checked::<LongBech32m>(bytes),
-        _ => Err(Refusal::BadNumber),
-    }
+    by_number!(checksum, checked(bytes))
 }

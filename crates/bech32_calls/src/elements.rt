@@ -1,45 +1,17 @@
 //! Decodes and encodes elements, a byte from 0 to 31 each.
 
-ghost use Rattle.std.specs.Prelude.{◌≡◌, ◌<◌, ◌^◌, ◌⊎◌, true, length, map, IfOk, IfErr, OnErr};
-ghost use Rattle.bech32_gf.specs.Alphabet.{is_data};
-ghost use Rattle.bech32_gf.specs.Fe32.{elements_of, value};
-ghost use Rattle.bech32_encode.specs.Buffers.{IsPut};
+ghost use Rattle.std.specs.Prelude.{◌≡◌, ◌<◌, ◌^◌, length, IfOk, IfErr, OnErr};
 ghost use Rattle.bech32_calls.specs.Checksums.{ForTexts, IsFaultOfTexts};
 ghost use Rattle.bech32_calls.specs.Elements.{PutsElements, IsElementsFault, PutsElementsText};
 ghost use Rattle.bech32_calls.specs.Elements.{IsElementsEncodeFault, element_place};
-ghost use Rattle.bech32_calls.specs.declared.refusal.Refusal.TheVariants.{NoRoom};
 
-use crate::checksum::{BECH32, BECH32M, LONG_BECH32, LONG_BECH32M};
+use crate::checksum::by_number;
+use crate::decode::validate_rooms;
 use crate::input::{part_of, read};
 use crate::refusal::Refusal;
+use bech32::Checksum;
 use bech32::elements::{elements_length, place_above, put_elements, put_text_of_elements};
-use bech32::{Bech32, Bech32m, Checksum, LongBech32, LongBech32m};
 use bech32_encode::put_at_front;
-
-// Puts a human-readable part and the elements of characters at the fronts of two buffers, and
-// returns their lengths.
-fn put_part_and_elements(
-    part: &[u8],
-    characters: &[u8],
-    hrp: &mut [u8],
-    elements: &mut [u8],
-) -> Result<(usize, usize), Refusal>
-    requires { is_data characters.now ≡ true }
-    ensures value { IfOk result (λ n. IsPut part.now hrp.old hrp.new n.0
-        × IsPut (map value (elements_of characters.now)) elements.old elements.new n.1) }
-    ensures refused { IfErr result (λ e. (e ≡ NoRoom) × ((length hrp.old < length part.now)
-        ⊎ (length elements.old < length characters.now))) }
-    ensures same { OnErr result ((hrp.new ≡ hrp.old) × (elements.new ≡ elements.old)) }
-{
-    if part.len() > hrp.len() {
-        return Err(Refusal::NoRoom);
-    }
-    if characters.len() > elements.len() {
-        return Err(Refusal::NoRoom);
-    }
-    put_at_front(hrp, part);
-    Ok((part.len(), put_elements(characters, elements)))
-}
 
 // Decodes by one checksum.
 fn decoded_elements<Ck: Checksum>(
@@ -55,7 +27,11 @@ fn decoded_elements<Ck: Checksum>(
 {
     let reading = read::<Ck>(text)?;
     reading.validate()?;
-    put_part_and_elements(reading.hrp, reading.characters(), hrp, elements)
+    let part = reading.hrp;
+    let characters = reading.characters();
+    validate_rooms(part.len(), hrp.len(), characters.len(), elements.len())?;
+    put_at_front(hrp, part);
+    Ok((part.len(), put_elements(characters, elements)))
 }
 
 /// Puts the human-readable part, in the case of the text, and the elements before the checksum of a
@@ -78,13 +54,7 @@ pub fn decoded_elements_by(
         (IsElementsFault text.now (length hrp.old) (length elements.old)) e) }
     ensures same { OnErr result ((hrp.new ≡ hrp.old) × (elements.new ≡ elements.old)) }
 {
-    match checksum {
-        BECH32 => decoded_elements::<Bech32>(text, hrp, elements),
-        BECH32M => decoded_elements::<Bech32m>(text, hrp, elements),
-        LONG_BECH32 => decoded_elements::<LongBech32>(text, hrp, elements),
-        LONG_BECH32M => decoded_elements::<LongBech32m>(text, hrp, elements),
-        _ => Err(Refusal::BadNumber),
-    }
+    by_number!(checksum, decoded_elements(text, hrp, elements))
 }
 
 // Encodes by one checksum.
@@ -131,13 +101,7 @@ pub fn encoded_elements_by(
         (IsElementsEncodeFault hrp.now elements.now (length text.old)) e) }
     ensures same { OnErr result (text.new ≡ text.old) }
 {
-    match checksum {
-        BECH32 => encoded_elements::<Bech32>(hrp, elements, text),
-        BECH32M => encoded_elements::<Bech32m>(hrp, elements, text),
-        LONG_BECH32 => encoded_elements::<LongBech32>(hrp, elements, text),
-        LONG_BECH32M => encoded_elements::<LongBech32m>(hrp, elements, text),
-        _ => Err(Refusal::BadNumber),
-    }
+    by_number!(checksum, encoded_elements(hrp, elements, text))
 }
 
 /// Where the byte that is above 31 stands, if a call is refused for one.

@@ -7,11 +7,11 @@ ghost use Rattle.bech32_encode.specs.Buffers.{IsPut};
 ghost use Rattle.bech32_calls.specs.Checksums.{ForTexts, IsFaultOfTexts};
 ghost use Rattle.bech32_calls.specs.Encode.{PutsText, IsEncodeFault};
 
-use crate::checksum::{BECH32, BECH32M, LONG_BECH32, LONG_BECH32M};
+use crate::checksum::by_number;
 use crate::input::test_part;
 use crate::refusal::Refusal;
 use bech32::primitives::encode;
-use bech32::{Bech32, Bech32m, Checksum, Fe32, LongBech32, LongBech32m, encoded_length_of_part};
+use bech32::{Checksum, Fe32, encoded_length_of_part};
 
 /// Puts the text of a human-readable part, a witness version where there is one, and bytes into a
 /// buffer that has room for it, and returns its length.
@@ -68,11 +68,5 @@ pub fn encoded_by(
         (λ e. IsFaultOfTexts checksum (IsEncodeFault hrp.now bytes.now (length text.old)) e) }
     ensures same { OnErr result (text.new ≡ text.old) }
 {
-    match checksum {
-        BECH32 => encoded::<Bech32>(hrp, bytes, text),
-        BECH32M => encoded::<Bech32m>(hrp, bytes, text),
-        LONG_BECH32 => encoded::<LongBech32>(hrp, bytes, text),
-        LONG_BECH32M => encoded::<LongBech32m>(hrp, bytes, text),
-        _ => Err(Refusal::BadNumber),
-    }
+    by_number!(checksum, encoded(hrp, bytes, text))
 }

@@ -44,7 +44,7 @@ pub fn text_of(bytes: &[u8]) -> Result<&str, NotText>
 ///
 /// Bytes that are not UTF-8; else the first fault of their text.
 #[inline(always)]
-pub(crate) fn read<Ck: Checksum>(bytes: &[u8]) -> Result<Reading<'_, Ck>, Refusal>
+pub fn read<Ck: Checksum>(bytes: &[u8]) -> Result<Reading<'_, Ck>, Refusal>
     ensures { MatchResult result
         (λ r. r.text.now ≡ bytes.now)
         (λ e. IsTextFault bytes.now e) }

@@ -17,7 +17,7 @@ pub mod elements;
 pub mod encode;
 pub mod engine;
 pub mod fault;
-mod input;
+pub mod input;
 pub mod listed;
 pub mod near_edits;
 pub mod nearest;

@@ -1,23 +1,21 @@
 //! Lists the texts near to a mistyped one.
 
-ghost use Rattle.std.specs.Prelude.{◌≡◌, ◌<◌, ◌≤◌, ◌*◌, ◌⊎◌, [], length, map, flat_map, string_bytes, take, true, false, IfErr, IfOk, MatchResult, OnErr};
+ghost use Rattle.std.specs.Prelude.{◌≡◌, ◌<◌, ◌≤◌, ◌*◌, ◌⊎◌, [], length, map, string_bytes, IfErr, IfOk, MatchResult};
 ghost use Rattle.bech32_checksum.specs.Code.{bech32, bech32m};
 ghost use Rattle.bech32_decode.specs.Refusals.{HasLengths};
 ghost use Rattle.bech32_near.specs.NearTexts.{AreNearTexts, IsOutOfMemory};
-ghost use Rattle.bech32_encode.specs.Buffers.{IsPut};
-ghost use Rattle.caller_memory.specs.Memory.{IsKept, LeavesMemory, memory_size};
+ghost use Rattle.caller_memory.specs.Memory.{IsKept};
 ghost use Rattle.bech32_calls.specs.Checksums.{ForChecksum, IsFaultBy};
 ghost use Rattle.bech32_calls.specs.Correct.{IsResidueFault, bound};
-ghost use Rattle.bech32_calls.specs.Fitting.{FirstFit, IsMost};
-ghost use Rattle.bech32_calls.specs.Nearest.{IsNearFault, IsNearFaultOrKept, IsRead, PutsFirstNear, PutsNear};
+ghost use Rattle.bech32_calls.specs.Listing.{ReturnsMemory, IfAllPut, IfNotAllPut};
+ghost use Rattle.bech32_calls.specs.Nearest.{IsNearFaultOrKept, IsRead, PutsFirstNear, PutsNear};
 
-use crate::checksum::{BECH32, BECH32M};
+use crate::checksum::{BECH32, BECH32M, validate_checksum};
 use crate::input::read;
-use crate::listed::Listed;
+use crate::listed::{Listed, end_with, list_texts};
 use crate::refusal::Refusal;
 use bech32::{Bech32, Bech32m, Mended};
 use bech32_decode::Reading;
-use bech32_encode::put_at_front;
 use bech32_near::nearest_of_read;
 use caller_memory::{Lent, Memory};
 use std::alloc::{AllocError, Allocator};
@@ -44,11 +42,9 @@ fn read_by(checksum: u32, bytes: &[u8]) -> Result<Reading<'_, Bech32m>, Refusal>
         (λ code. HasLengths code (length r.text.now) (length r.data_part.now)))
         (λ e. IsFaultBy checksum (IsResidueFault bytes.now) e) }
 {
-    match checksum {
-        BECH32 => Ok(read_either(bytes)?),
-        BECH32M => Ok(read_either(bytes)?),
-        _ => Err(Refusal::BadNumber),
-    }
+    validate_checksum(checksum)?;
+    let reading = read_either(bytes)?;
+    Ok(reading)
 }
 
 // The texts that are near to one that was read, by the checksum of a number.
@@ -82,59 +78,6 @@ fn near_by<'a, A: Allocator>(
     }
 }
 
-// Puts texts, one behind another, at the front of a buffer, as many whole ones as fit, and returns
-// how many.
-fn put_each<A: Allocator + Copy>(near: &[Mended<A>], texts: &mut [u8]) -> usize
-    ensures most { IsMost
-        (FirstFit (λ m. string_bytes m.text) near.now (length texts.old)) (length near.now) result }
-    ensures put { IsPut (flat_map (λ m. string_bytes m.text) (take result near.now))
-        texts.old texts.new
-        (length (flat_map (λ m. string_bytes m.text) (take result near.now))) }
-{
-    let mut end = 0;
-    for i in 0..near.len() {
-        let text = near[i].text.as_bytes();
-        if text.len() > texts.len() - end {
-            return i;
-        }
-        put_at_front(&mut texts[end..], text);
-        end += text.len();
-    }
-    near.len()
-}
-
-// Puts the texts that are near to one that was read into a buffer.
-fn put_near<A: Allocator>(
-    alloc: &A,
-    checksum: u32,
-    reading: &Reading<'_, Bech32m>,
-    given: &[usize],
-    errors: usize,
-    texts: &mut [u8],
-) -> Result<Listed, Refusal>
-    requires few { errors ≤ 2 }
-    requires lengths { ForChecksum checksum
-        (λ code. HasLengths code (length reading.now.text.now) (length reading.now.data_part.now)) }
-    ensures all { IfOk result (λ listed. listed.fit ≡ true → ForChecksum checksum
-        (PutsNear reading.now.text.now given.now errors texts.old texts.new listed.count)) }
-    ensures first { IfOk result (λ listed. listed.fit ≡ false → ForChecksum checksum
-        (PutsFirstNear reading.now.text.now given.now errors
-        texts.old texts.new listed.count)) }
-    ensures refused { IfErr result (λ e. IsFaultBy checksum
-        (IsNearFault reading.now.text.now given.now errors) e) }
-    ensures same { OnErr result (texts.new ≡ texts.old) }
-{
-    let Ok(found) = near_by(alloc, checksum, reading, given, errors) else {
-        return Err(Refusal::Memory);
-    };
-    let near = found.as_slice();
-    let put = put_each(near, texts);
-    Ok(Listed {
-        count: near.len(),
-        fit: put == near.len(),
-    })
-}
-
 /// Puts all texts near to a mistyped one, by the checksum of a number, at the front of a buffer, in
 /// lower case and one behind another, each as long as that one, and tells how many they are. They
 /// differ from it in at most `errors` characters, 0 to 2, of the data part outside `given`, the
@@ -165,34 +108,29 @@ pub fn put_nearest(
     errors: usize,
     texts: &mut [u8],
 ) -> Result<Listed, Refusal>
-    ensures all { IfOk result (λ listed. listed.fit ≡ true → ForChecksum checksum
-        (PutsNear bytes.now given.now errors texts.old texts.new listed.count)) }
-    ensures first { IfOk result (λ listed. listed.fit ≡ false → ForChecksum checksum
-        (PutsFirstNear bytes.now given.now errors texts.old texts.new listed.count)) }
+    ensures all { IfAllPut result (λ count. ForChecksum checksum
+        (PutsNear bytes.now given.now errors texts.old texts.new count)) }
+    ensures first { IfNotAllPut result (λ count. ForChecksum checksum
+        (PutsFirstNear bytes.now given.now errors texts.old texts.new count)) }
     ensures few { given.now ≡ [] → IfOk result (λ listed. (listed.count ≤ 1)
         ⊎ (2 * listed.count ≤ length bytes.now)) }
-    ensures room { IfOk result (λ listed. listed.fit ≡ false
-        → length texts.old < listed.count * length bytes.now) }
+    ensures room { IfNotAllPut result (λ count. length texts.old < count * length bytes.now) }
     ensures accepts { errors ≤ 2 → ForChecksum checksum (IsRead bytes.now)
         → IfErr result (λ e. e ≡ Refusal.Memory) }
     ensures refused { IfErr result (λ e.
         IsNearFaultOrKept checksum bytes.now given.now errors memory.old memory.new e) }
     ensures same { IfErr result (λ e. (texts.new ≡ texts.old)
         ⊎ ((e ≡ Refusal.Memory) × IsKept memory.old memory.new)) }
-    ensures memory { MatchResult result
-        (λ _. memory.new ≡ memory.old)
-        (λ e. LeavesMemory memory.old memory.new
-        ((e ≡ Refusal.Memory) × (0 < memory_size memory.old))) }
+    ensures memory { ReturnsMemory memory.old memory.new result }
 {
     if errors > MOST_ERRORS {
         return Err(Refusal::BadNumber);
     }
     let reading = read_by(checksum, bytes)?;
     let lent = Lent::new(memory.take());
-    let listed = put_near(&lent.arena(), checksum, &reading, given, errors, texts);
-    // Memory that does not come back did not suffice.
-    if !lent.put_back(memory) {
-        return Err(Refusal::Memory);
-    }
-    listed
+    let listed = list_texts(
+        near_by(&lent.arena(), checksum, &reading, given, errors),
+        texts,
+    );
+    end_with(lent, memory, listed)
 }

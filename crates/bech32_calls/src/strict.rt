@@ -4,11 +4,11 @@ ghost use Rattle.std.specs.Prelude.{◌≡◌, length, IfOk, IfErr, OnErr};
 ghost use Rattle.bech32_calls.specs.Checksums.{ForTexts, IsFaultOfTexts};
 ghost use Rattle.bech32_calls.specs.Strict.{PutsStrict, IsStrictFault};
 
-use crate::checksum::{BECH32, BECH32M, LONG_BECH32, LONG_BECH32M};
+use crate::checksum::by_number;
 use crate::decode::put_parts;
 use crate::input::read;
 use crate::refusal::Refusal;
-use bech32::{Bech32, Bech32m, Checksum, LongBech32, LongBech32m};
+use bech32::Checksum;
 
 // The same by one checksum.
 fn decoded_strict<Ck: Checksum>(
@@ -50,11 +50,5 @@ pub fn decoded_strict_by(
         (IsStrictFault text.now (length hrp.old) (length bytes.old)) e) }
     ensures same { OnErr result ((hrp.new ≡ hrp.old) × (bytes.new ≡ bytes.old)) }
 {
-    match checksum {
-        BECH32 => decoded_strict::<Bech32>(text, hrp, bytes),
-        BECH32M => decoded_strict::<Bech32m>(text, hrp, bytes),
-        LONG_BECH32 => decoded_strict::<LongBech32>(text, hrp, bytes),
-        LONG_BECH32M => decoded_strict::<LongBech32m>(text, hrp, bytes),
-        _ => Err(Refusal::BadNumber),
-    }
+    by_number!(checksum, decoded_strict(text, hrp, bytes))
 }

@@ -67,57 +67,57 @@ impl From<Codex32Error> for Refusal {
 
     ghost from_gives = { λ e r. r ≡ Text e };
 
-    fn from(e: Codex32Error) -> Refusal {
-        Refusal::Text(e)
+    fn from(e: Codex32Error) -> Self {
+        Self::Text(e)
     }
 }
 
 impl From<HeaderError> for Refusal {
-    ghost use Rattle.codex32_calls.specs.declared.refusal.Refusal.TheVariants as refusals;
+    ghost use Rattle.codex32_calls.specs.declared.refusal.Refusal.TheVariants.{Header};
 
-    ghost from_gives = { λ e r. r ≡ refusals.Header e };
+    ghost from_gives = { λ e r. r ≡ Header e };
 
-    fn from(e: HeaderError) -> Refusal {
-        Refusal::Header(e)
+    fn from(e: HeaderError) -> Self {
+        Self::Header(e)
     }
 }
 
 impl From<PayloadError> for Refusal {
-    ghost use Rattle.codex32_calls.specs.declared.refusal.Refusal.TheVariants as refusals;
+    ghost use Rattle.codex32_calls.specs.declared.refusal.Refusal.TheVariants.{Payload};
 
-    ghost from_gives = { λ e r. r ≡ refusals.Payload e };
+    ghost from_gives = { λ e r. r ≡ Payload e };
 
-    fn from(e: PayloadError) -> Refusal {
-        Refusal::Payload(e)
+    fn from(e: PayloadError) -> Self {
+        Self::Payload(e)
     }
 }
 
 impl From<EncodeError> for Refusal {
-    ghost use Rattle.codex32_calls.specs.declared.refusal.Refusal.TheVariants as refusals;
+    ghost use Rattle.codex32_calls.specs.declared.refusal.Refusal.TheVariants.{Encode};
 
-    ghost from_gives = { λ e r. r ≡ refusals.Encode e };
+    ghost from_gives = { λ e r. r ≡ Encode e };
 
-    fn from(e: EncodeError) -> Refusal {
-        Refusal::Encode(e)
+    fn from(e: EncodeError) -> Self {
+        Self::Encode(e)
     }
 }
 
 impl From<DeriveError> for Refusal {
-    ghost use Rattle.codex32_calls.specs.declared.refusal.Refusal.TheVariants as refusals;
+    ghost use Rattle.codex32_calls.specs.declared.refusal.Refusal.TheVariants.{Derive};
 
-    ghost from_gives = { λ e r. r ≡ refusals.Derive e };
+    ghost from_gives = { λ e r. r ≡ Derive e };
 
-    fn from(e: DeriveError) -> Refusal {
-        Refusal::Derive(e)
+    fn from(e: DeriveError) -> Self {
+        Self::Derive(e)
     }
 }
 
 impl From<SplitError> for Refusal {
-    ghost use Rattle.codex32_calls.specs.declared.refusal.Refusal.TheVariants as refusals;
+    ghost use Rattle.codex32_calls.specs.declared.refusal.Refusal.TheVariants.{Split};
 
-    ghost from_gives = { λ e r. r ≡ refusals.Split e };
+    ghost from_gives = { λ e r. r ≡ Split e };
 
-    fn from(e: SplitError) -> Refusal {
-        Refusal::Split(e)
+    fn from(e: SplitError) -> Self {
+        Self::Split(e)
     }
 }

@@ -1,7 +1,7 @@
 -- Near texts put into a buffer, and why none are.
-use Rattle.std.specs.Prelude.{map, flat_map, false, Result, Ok, Err, IfErr, IfOk}
+use Rattle.std.specs.Prelude.{map, flat_map, Result, Ok, Err, IfErr, MatchResult}
 use Rattle.std.specs.List.{AllByRecursion}
-use Rattle.std.proofs.Common.{◌≡◌, ◌<◌, ◌≤◌, ◌+◌, ◌*◌, ℕ, zero, suc, List, [], ◌∷◌, ◌++◌, None, Some, length, length-append, suc-mul, zero-mul, take, inl, inr, refl, sym, mul-le-mul_right, ap, subst, ◌∙◌, arith}
+use Rattle.std.proofs.Common.{◌≡◌, ◌<◌, ◌≤◌, ◌+◌, ◌*◌, ℕ, zero, suc, List, [], ◌∷◌, ◌++◌, None, Some, length, length-append, suc-mul, zero-mul, take, inr, refl, sym, mul-le-mul_right, ap, subst, ◌∙◌, arith}
 use Rattle.std.proofs.lemmas.List.{length-map, take_all}
 use Rattle.std.proofs.lemmas.List.Folds.{flat_map-map}
 use Rattle.bech32_gf.specs.Fe32.{elements_of, ops}
@@ -14,17 +14,18 @@ use Rattle.bech32_decode.specs.Refusals.{HasLengths}
 use Rattle.bech32_decode.specs.Text.{IsText, text_refusal}
 use Rattle.bech32_decode.proofs.Grammar.{text_refusal-none}
 use Rattle.bech32_encode.specs.Buffers.{IsPut}
-use Rattle.bech32_near.specs.NearTexts.{AreNearTexts, IsNearText}
+use Rattle.bech32_near.specs.NearTexts.{AreNearTexts, IsNearText, IsOutOfMemory}
 use Rattle.bech32_near.proofs.Nearby.{residue_left_by}
 use Rattle.caller_memory.specs.Memory.{IsKept}
 use Rattle.caller_memory.specs.declared.memory.Memory.{Memory as Lent}
 use Rattle.bech32_calls.specs.Correct.{IsResidueFault}
 use Rattle.bech32_calls.specs.Fitting.{FirstFit, IsMost}
+use Rattle.bech32_calls.specs.Listing.{EndsWell, IfAllPut, IfNotAllPut, LacksMemory, ListsTexts}
 use Rattle.bech32_calls.specs.Nearest.{IsRead, joined}
 use Rattle.bech32_calls.specs.declared.listed.Listed.{Listed}
 use Rattle.bech32_calls.specs.declared.refusal.Refusal.{Refusal}
 use Rattle.bech32_calls.specs.declared.refusal.Refusal.TheVariants.{BadNumber, Checksum, Memory, NotUtf8, Text}
-use Rattle.bech32_calls.proofs.Fitting.{joined_first, most_mapped}
+use Rattle.bech32_calls.proofs.Fitting.{are_all, are_few, joined_first, most_mapped}
 use Rattle.bech32_calls.proofs.Letters.{IsUtf8-from_text}
 use Rattle.bech32_calls.proofs.Mending.{no_other_refusal}
 use Rattle.bech32_calls.proofs.Puts.{put-same}
@@ -37,12 +38,6 @@ module _ (code : Code) (text given : List ℕ) (errors : ℕ) where
   near_unread BadNumber few h = absurd h
   near_unread Memory few h = absurd h
   near_unread _ few h = (few, h)
-
-  -- the memory came back
-  pub fault_or_kept : {R : Type 0} (old new : Lent) (r : Result R Refusal) → IfErr r (λ e. IsLiquidNearFault code text given errors e)
-      → IfErr r (λ e. IsLiquidNearFaultOrKept code text given errors old new e)
-  fault_or_kept old new (Ok listed) h = tt
-  fault_or_kept old new (Err e) h = inl h
 
   -- the memory did not come back
   pub kept_of_read : (old new : Lent) (hrp data_part : List ℕ) → errors ≤ most_liquid_errors → IsText text hrp data_part
@@ -63,10 +58,6 @@ module _ (code : Code) (text given : List ℕ) (errors : ℕ) where
       absurd (cc)
   read_memory (Checksum e) few is h = absurd (no_other_refusal code text is.hrp is.data_part is.residue e is.read h.1.1 h.1.2)
   read_memory _ few is h = absurd h.1
-
-  pub only_memory : {R : Type 0} (r : Result R Refusal) → errors ≤ most_liquid_errors → IsRead text code → IfErr r (λ e. IsLiquidNearFault code text given errors e) → IfErr r (λ e. e ≡ Memory)
-  only_memory (Ok listed) few is h = tt
-  only_memory (Err e) few is h = read_memory e few is h
 
   -- ---- what is put
 
@@ -126,8 +117,40 @@ module _ (code : Code) (text given : List ℕ) (errors : ℕ) where
       let few : (h.put_count + 1) * length text ≤ count * length text = mul-le-mul_right (length text) (omega (arith, h.lacks, h.count_is)) in
       omega (arith, next, size, few)
 
-  pub long_listed : (old new : List ℕ) (r : Result Listed Refusal)
-      → IfOk r (λ listed. listed.fit ≡ false → PutsFirstLiquidNear code text given errors old new listed.count)
-      → IfOk r (λ listed. listed.fit ≡ false → length old < listed.count * length text)
+  pub long_listed : (old new : List ℕ) (r : Result Listed Refusal) → IfNotAllPut r (PutsFirstLiquidNear code text given errors old new)
+      → IfNotAllPut r (λ count. length old < count * length text)
   long_listed old new (Ok listed) h = λ part. long_first old new listed.count (h part)
   long_listed old new (Err e) h = tt
+
+  -- ---- what was found, listed
+
+  module _ (few : errors ≤ most_liquid_errors) (old new : List ℕ) (r : Result Listed Refusal) {V A E : Type 0} where
+    abbrev Found : Result V E → (V → List A) → (A → List (ℕ × Fe32) × List ℕ) → Type 0
+    Found found items f = MatchResult found (λ v. AreNearTexts code liquid_bound text given errors (map f (items v))) (λ _. IsOutOfMemory code liquid_bound text given errors)
+
+    abbrev Lists : Result V E → (V → List A) → (A → List (ℕ × Fe32) × List ℕ) → Type 0
+    Lists found items f =
+        MatchResult found (λ v. EndsWell r (ListsTexts (λ m. (f m).1) (items v) old new)) (λ _. LacksMemory r × (new ≡ old))
+
+    pub near_all : (found : Result V E) (items : V → List A) (f : A → List (ℕ × Fe32) × List ℕ) → Found found items f → Lists found items f
+        → IfAllPut r (PutsLiquidNear code text given errors old new)
+    near_all (Ok v) items f are (listed, is, h) =
+        subst (λ (t : Result Listed Refusal). IfAllPut t (PutsLiquidNear code text given errors old new)) (sym is)
+        (λ all. puts_near f (items v) (items v) refl are old new listed.count h.put_count few h.count_is (are_all h.put_count (length (items v)) (sym h.fit_is ∙ all)) h.put)
+    near_all (Err e) items f out h = subst (λ (t : Result Listed Refusal). IfAllPut t (PutsLiquidNear code text given errors old new)) (sym h.0) tt
+
+    pub near_first : (found : Result V E) (items : V → List A) (f : A → List (ℕ × Fe32) × List ℕ) → Found found items f → Lists found items f
+        → IfNotAllPut r (PutsFirstLiquidNear code text given errors old new)
+    near_first (Ok v) items f are (listed, is, h) =
+        subst (λ (t : Result Listed Refusal). IfNotAllPut t (PutsFirstLiquidNear code text given errors old new)) (sym is)
+        (λ part. puts_first_near f (items v) (items v) refl are old new listed.count h.put_count few h.count_is
+        (are_few h.put_count (length (items v)) h.most.within (sym h.fit_is ∙ part)) h.most h.put)
+    near_first (Err e) items f out h = subst (λ (t : Result Listed Refusal). IfNotAllPut t (PutsFirstLiquidNear code text given errors old new)) (sym h.0) tt
+
+    -- only memory may not suffice, and then nothing is put
+    pub near_refused : (found : Result V E) (items : V → List A) (f : A → List (ℕ × Fe32) × List ℕ) → Found found items f → Lists found items f
+        → IfErr r (λ e. IsLiquidNearFault code text given errors e × (new ≡ old))
+    near_refused (Ok v) items f _ (listed, is, h) =
+        subst (λ (t : Result Listed Refusal). IfErr t (λ e. IsLiquidNearFault code text given errors e × (new ≡ old))) (sym is) tt
+    near_refused (Err e) items f out h =
+        subst (λ (t : Result Listed Refusal). IfErr t (λ e. IsLiquidNearFault code text given errors e × (new ≡ old))) (sym h.0) ((few, out), h.1)

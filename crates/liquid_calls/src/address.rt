@@ -5,9 +5,10 @@ ghost use Rattle.bech32_encode.specs.Buffers.{IsPut};
 ghost use Rattle.liquid.specs.Parts.{confidential_key, confidential_part, confidential_program};
 ghost use Rattle.liquid_calls.specs.Address.{IsDecodedAs, IsLiquidDecodeFault, IsLiquidEncodeFault, LacksRoomForParts, PutsConfidential, PutsParts};
 
-use crate::input::{element_and_part, text_of};
 use crate::refusal::Refusal;
 use bech32::Fe32;
+use bech32_calls::decode::validate_rooms;
+use bech32_calls::input::{element_of, test_part, text_of};
 use bech32_calls::refusal::Refusal as Other;
 use bech32_encode::put_at_front;
 use liquid::{Address, address_length, decode, put_address, validate};
@@ -33,7 +34,8 @@ pub fn encoded(
         (λ e. IsLiquidEncodeFault hrp.now version (length program.now) (length text.old) e) }
     ensures same { OnErr result (text.new ≡ text.old) }
 {
-    let element = element_and_part(version, hrp)?;
+    let element = element_of(version)?;
+    test_part(hrp)?;
     validate(element, program.len())?;
     if address_length(hrp, program.len()) > text.len() {
         return Err(Refusal::Other(Other::NoRoom));
@@ -59,12 +61,7 @@ fn put_parts(
 {
     let part = address.hrp();
     let (part, found) = (part.as_bytes(), address.program());
-    if part.len() > hrp.len() {
-        return Err(Refusal::Other(Other::NoRoom));
-    }
-    if found.len() > program.len() {
-        return Err(Refusal::Other(Other::NoRoom));
-    }
+    validate_rooms(part.len(), hrp.len(), found.len(), program.len())?;
     put_at_front(hrp, part);
     key.copy_from_slice(address.blinding_key());
     put_at_front(program, found);
@@ -102,7 +99,9 @@ fn read(bytes: &[u8]) -> Result<Address, Refusal>
         (λ a. IsDecodedAs bytes.now a)
         (λ e. (m n : ℕ) → IsLiquidDecodeFault bytes.now m n e) }
 {
-    let text = text_of(bytes)?;
+    let Ok(text) = text_of(bytes) else {
+        return Err(Refusal::Other(Other::NotUtf8));
+    };
     let address = decode(text)?;
     Ok(address)
 }

@@ -6,6 +6,5 @@
 #![tactic(auto)]
 
 pub mod address;
-mod input;
 pub mod nearest;
 pub mod refusal;

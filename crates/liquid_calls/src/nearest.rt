@@ -1,22 +1,20 @@
 //! Lists the texts near to a mistyped one, by Blech32.
 
-ghost use Rattle.std.specs.Prelude.{◌≡◌, ◌<◌, ◌≤◌, ◌*◌, ◌⊎◌, flat_map, length, map, string_bytes, take, true, false, IfErr, IfOk, MatchResult, OnErr};
+ghost use Rattle.std.specs.Prelude.{◌≡◌, ◌<◌, ◌≤◌, ◌*◌, ◌⊎◌, length, map, string_bytes, IfErr, MatchResult};
 ghost use Rattle.bech32_decode.specs.Refusals.{HasLengths};
 ghost use Rattle.bech32_near.specs.NearTexts.{AreNearTexts, IsOutOfMemory};
-ghost use Rattle.caller_memory.specs.Memory.{IsKept, LeavesMemory, memory_size};
-ghost use Rattle.bech32_encode.specs.Buffers.{IsPut};
+ghost use Rattle.caller_memory.specs.Memory.{IsKept};
 ghost use Rattle.bech32_calls.specs.Correct.{IsResidueFault};
-ghost use Rattle.bech32_calls.specs.Fitting.{FirstFit, IsMost};
+ghost use Rattle.bech32_calls.specs.Listing.{ReturnsMemory, IfAllPut, IfNotAllPut};
 ghost use Rattle.bech32_calls.specs.Nearest.{IsRead};
 ghost use Rattle.blech32.specs.Words.{blech32_code};
-ghost use Rattle.liquid_calls.specs.Nearest.{IsLiquidNearFault, IsLiquidNearFaultOrKept, PutsFirstLiquidNear, PutsLiquidNear, liquid_bound};
+ghost use Rattle.liquid_calls.specs.Nearest.{IsLiquidNearFaultOrKept, PutsFirstLiquidNear, PutsLiquidNear, liquid_bound};
 
-use crate::input::text_of;
 use bech32::Mended;
-use bech32_calls::listed::Listed;
+use bech32_calls::input::read;
+use bech32_calls::listed::{Listed, end_with, list_texts};
 use bech32_calls::refusal::Refusal;
 use bech32_decode::Reading;
-use bech32_encode::put_at_front;
 use bech32_near::nearest_of_read;
 use caller_memory::{Lent, Memory};
 use liquid::Blech32;
@@ -26,14 +24,13 @@ use std::alloc::{AllocError, Allocator};
 const MOST_ERRORS: usize = 3;
 
 // Reads a text, and tests its lengths.
-fn read(bytes: &[u8]) -> Result<Reading<'_, Blech32>, Refusal>
+fn read_to_mend(bytes: &[u8]) -> Result<Reading<'_, Blech32>, Refusal>
     ensures { MatchResult result
         (λ r. (r.text.now ≡ bytes.now)
         × HasLengths blech32_code (length r.text.now) (length r.data_part.now))
         (λ e. IsResidueFault bytes.now blech32_code e) }
 {
-    let text = text_of(bytes)?;
-    let reading = Reading::<Blech32>::new(text)?;
+    let reading = read::<Blech32>(bytes)?;
     reading.validate_lengths()?;
     Ok(reading)
 }
@@ -54,57 +51,6 @@ fn near_to<'a, A: Allocator>(
 {
     let near = nearest_of_read::<Blech32, &A>(alloc, reading, given, errors)?;
     Ok(near.texts)
-}
-
-// Puts texts, one behind another, at the front of a buffer, as many whole ones as fit, and returns
-// how many.
-fn put_each<A: Allocator + Copy>(near: &[Mended<A>], texts: &mut [u8]) -> usize
-    ensures most { IsMost
-        (FirstFit (λ m. string_bytes m.text) near.now (length texts.old)) (length near.now) result }
-    ensures put { IsPut (flat_map (λ m. string_bytes m.text) (take result near.now))
-        texts.old texts.new
-        (length (flat_map (λ m. string_bytes m.text) (take result near.now))) }
-{
-    let mut end = 0;
-    for i in 0..near.len() {
-        let text = near[i].text.as_bytes();
-        if text.len() > texts.len() - end {
-            return i;
-        }
-        put_at_front(&mut texts[end..], text);
-        end += text.len();
-    }
-    near.len()
-}
-
-// Puts the texts that are near to one that was read into a buffer.
-fn put_near<A: Allocator>(
-    alloc: &A,
-    reading: &Reading<'_, Blech32>,
-    given: &[usize],
-    errors: usize,
-    texts: &mut [u8],
-) -> Result<Listed, Refusal>
-    requires few { errors ≤ 3 }
-    requires lengths { HasLengths blech32_code
-        (length reading.now.text.now) (length reading.now.data_part.now) }
-    ensures all { IfOk result (λ listed. listed.fit ≡ true → PutsLiquidNear blech32_code
-        reading.now.text.now given.now errors texts.old texts.new listed.count) }
-    ensures first { IfOk result (λ listed. listed.fit ≡ false → PutsFirstLiquidNear blech32_code
-        reading.now.text.now given.now errors texts.old texts.new listed.count) }
-    ensures refused { IfErr result
-        (λ e. IsLiquidNearFault blech32_code reading.now.text.now given.now errors e) }
-    ensures same { OnErr result (texts.new ≡ texts.old) }
-{
-    let Ok(found) = near_to(alloc, reading, given, errors) else {
-        return Err(Refusal::Memory);
-    };
-    let near = found.as_slice();
-    let put = put_each(near, texts);
-    Ok(Listed {
-        count: near.len(),
-        fit: put == near.len(),
-    })
 }
 
 /// Puts all texts near to a mistyped one, by Blech32, at the front of a buffer, in lower case and
@@ -130,32 +76,24 @@ pub fn put_nearest(
     errors: usize,
     texts: &mut [u8],
 ) -> Result<Listed, Refusal>
-    ensures all { IfOk result (λ listed. listed.fit ≡ true → PutsLiquidNear blech32_code
-        bytes.now given.now errors texts.old texts.new listed.count) }
-    ensures first { IfOk result (λ listed. listed.fit ≡ false → PutsFirstLiquidNear blech32_code
-        bytes.now given.now errors texts.old texts.new listed.count) }
-    ensures room { IfOk result (λ listed. listed.fit ≡ false
-        → length texts.old < listed.count * length bytes.now) }
+    ensures all { IfAllPut result (PutsLiquidNear blech32_code
+        bytes.now given.now errors texts.old texts.new) }
+    ensures first { IfNotAllPut result (PutsFirstLiquidNear blech32_code
+        bytes.now given.now errors texts.old texts.new) }
+    ensures room { IfNotAllPut result (λ count. length texts.old < count * length bytes.now) }
     ensures accepts { errors ≤ 3 → IsRead bytes.now blech32_code
         → IfErr result (λ e. e ≡ Refusal.Memory) }
     ensures refused { IfErr result (λ e. IsLiquidNearFaultOrKept blech32_code
         bytes.now given.now errors memory.old memory.new e) }
     ensures same { IfErr result (λ e. (texts.new ≡ texts.old)
         ⊎ ((e ≡ Refusal.Memory) × IsKept memory.old memory.new)) }
-    ensures memory { MatchResult result
-        (λ _. memory.new ≡ memory.old)
-        (λ e. LeavesMemory memory.old memory.new
-        ((e ≡ Refusal.Memory) × (0 < memory_size memory.old))) }
+    ensures memory { ReturnsMemory memory.old memory.new result }
 {
     if errors > MOST_ERRORS {
         return Err(Refusal::BadNumber);
     }
-    let reading = read(bytes)?;
+    let reading = read_to_mend(bytes)?;
     let lent = Lent::new(memory.take());
-    let listed = put_near(&lent.arena(), &reading, given, errors, texts);
-    // Memory that does not come back did not suffice.
-    if !lent.put_back(memory) {
-        return Err(Refusal::Memory);
-    }
-    listed
+    let listed = list_texts(near_to(&lent.arena(), &reading, given, errors), texts);
+    end_with(lent, memory, listed)
 }

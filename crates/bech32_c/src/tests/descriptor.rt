@@ -265,3 +265,21 @@ fn refuses_two_changed(rt: HostRuntime) {
         assert!(&rt; hold(&held, None));
     }
 }
+
+// From seven bytes no descriptor comes, from eight none by two of them changed: 0 of them are told,
+// without memory.
+#[test]
+fn short_texts_need_no_memory(rt: HostRuntime) {
+    let rows: [(&[u8], &[u8]); 2] = [(b"", b""), (b"#89f8sp", b"#89f8spx")];
+    for (text, longer) in rows {
+        let mut memory = Memory::leaked(rt.alloc(), 0).expect(&rt, "memory");
+        let (number, held) = mend(&mut memory, text, 1, AMPLE);
+        same(&rt, &number, &0);
+        same(&rt, &held.count, &0);
+        assert!(&rt; hold(&held, None));
+        let (number, held) = mend_two(&mut memory, longer, (4, 64));
+        same(&rt, &number, &0);
+        same(&rt, &held.count, &0);
+        assert!(&rt; hold(&held, None));
+    }
+}

@@ -1,8 +1,12 @@
-use Rattle.std.proofs.Common.{rules, ◌≤◌, inl, arith}
+use Rattle.std.specs.Prelude.{string_bytes}
+use Rattle.std.proofs.Common.{rules, ◌≡◌, ◌≤◌, inl, inr, refl, arith}
 use Rattle.std.proofs.lemmas.Result.{err_from_is_err_and}
-use Rattle.caller_memory.specs.Memory.{IsKept}
+use Rattle.bech32_calls.specs.Listing.{EndsWith}
+use Rattle.bech32_calls.specs.Nearest.{IsNearFaultOrKept}
+use Rattle.bech32_calls.specs.declared.refusal.Refusal.TheVariants.{Memory}
+use Rattle.bech32_calls.proofs.Ending.{ends_err, ends_ok, err_more, returns_memory}
 use Rattle.bech32_calls.proofs.Few.{few_listed}
-use Rattle.bech32_calls.proofs.Near.{fault_or_kept, kept_of_read, long_listed, near_unread_by, only_memory, read_memory_by}
+use Rattle.bech32_calls.proofs.Near.{kept_of_read, long_listed, near_all, near_first, near_refused, near_unread_by, read_memory_by}
 use Rattle.bech32_calls.proofs.nearest.put_nearest.Goals as goal
 
 pub returns-in_err-reading-clause-refused : goal.returns-in_err-reading-clause-refused
@@ -18,39 +22,85 @@ returns-in_err-reading-clause-accepts c few is =
     (rw p.2 (read_memory_by c.args.checksum c.args.bytes.now c.args.given.now c.args.errors few is c.in_err-reading.field-0.0
     (near_unread_by c.args.checksum c.args.bytes.now c.args.given.now c.args.errors c.in_err-reading.field-0.0 few c.in_err-reading.ensures)))
 
-pub put_near-listed-requires : goal.put_near-listed-requires
-put_near-listed-requires c =
-    let few : c.args.errors ≤ 2 = omega arith in
-    record { few = few; lengths = c.in_ok-reading.ensures.1 }
-
-pub returns-then-not-put_back-clause-refused : goal.returns-then-not-put_back-clause-refused
-returns-then-not-put_back-clause-refused c =
-    let r = c.in_ok-reading.reading in
-    let few : c.args.errors ≤ 2 = omega arith in
-    let kept : IsKept c.args.memory.now c.put_back.new.memory = search rules in
-    kept_of_read c.args.checksum c.args.bytes.now c.args.given.now c.args.errors c.args.memory.now c.put_back.new.memory r.hrp.now r.data_part.now few
-    (rw c.in_ok-reading.ensures.0 at r.is_reading.grammar) (rw c.in_ok-reading.ensures.0 at c.in_ok-reading.ensures.1) kept
+pub near_by-requires : goal.near_by-requires
+near_by-requires c = (search rules, c.in_ok-reading.ensures.1)
 
 pub returns-clause-all : goal.returns-clause-all
-returns-clause-all c = rw c.in_ok-reading.ensures.0 at c.put_near-listed.ensures.all
+returns-clause-all c =
+    let back : EndsWith c.args.memory.now c.end_with.new.memory c.list_texts-listed.result c.end_with.result = search rules in
+    let few : c.args.errors ≤ 2 = omega arith in
+    let t = c.in_ok-reading.reading.text.now in
+    let listed = near_all c.args.checksum t c.args.given.now c.args.errors few c.args.texts.now c.list_texts-listed.new.texts c.list_texts-listed.result
+    c.near_by.result (λ v. v.items) (λ m. (m.listing, string_bytes m.text)) c.near_by.ensures c.list_texts-listed.ensures in
+    ends_ok c.args.memory.now c.end_with.new.memory c.list_texts-listed.result c.end_with.result back _ (rw c.in_ok-reading.ensures.0 at listed)
 
 pub returns-clause-first : goal.returns-clause-first
-returns-clause-first c = rw c.in_ok-reading.ensures.0 at c.put_near-listed.ensures.first
-
-pub returns-clause-refused : goal.returns-clause-refused
-returns-clause-refused c =
-    fault_or_kept c.args.checksum c.args.bytes.now c.args.given.now c.args.errors c.args.memory.now c.put_back.new.memory c.put_near-listed.result (rw c.in_ok-reading.ensures.0 at c.put_near-listed.ensures.refused)
-
-pub returns-clause-accepts : goal.returns-clause-accepts
-returns-clause-accepts c few is =
-    only_memory c.args.checksum c.args.bytes.now c.args.given.now c.args.errors few is c.put_near-listed.result (rw c.in_ok-reading.ensures.0 at c.put_near-listed.ensures.refused)
+returns-clause-first c =
+    let back : EndsWith c.args.memory.now c.end_with.new.memory c.list_texts-listed.result c.end_with.result = search rules in
+    let few : c.args.errors ≤ 2 = omega arith in
+    let t = c.in_ok-reading.reading.text.now in
+    let listed = near_first c.args.checksum t c.args.given.now c.args.errors few c.args.texts.now c.list_texts-listed.new.texts c.list_texts-listed.result
+    c.near_by.result (λ v. v.items) (λ m. (m.listing, string_bytes m.text)) c.near_by.ensures c.list_texts-listed.ensures in
+    ends_ok c.args.memory.now c.end_with.new.memory c.list_texts-listed.result c.end_with.result back _ (rw c.in_ok-reading.ensures.0 at listed)
 
 pub returns-clause-few : goal.returns-clause-few
 returns-clause-few c none =
-    few_listed c.args.checksum c.args.bytes.now c.args.given.now c.args.errors c.args.texts.now c.put_near-listed.new.texts none c.put_near-listed.result
-    (rw c.in_ok-reading.ensures.0 at c.put_near-listed.ensures.all) (rw c.in_ok-reading.ensures.0 at c.put_near-listed.ensures.first)
+    let back : EndsWith c.args.memory.now c.end_with.new.memory c.list_texts-listed.result c.end_with.result = search rules in
+    let few : c.args.errors ≤ 2 = omega arith in
+    let t = c.in_ok-reading.reading.text.now in
+    let all = near_all c.args.checksum t c.args.given.now c.args.errors few c.args.texts.now c.list_texts-listed.new.texts c.list_texts-listed.result
+    c.near_by.result (λ v. v.items) (λ m. (m.listing, string_bytes m.text)) c.near_by.ensures c.list_texts-listed.ensures in
+    let first = near_first c.args.checksum t c.args.given.now c.args.errors few c.args.texts.now c.list_texts-listed.new.texts c.list_texts-listed.result
+    c.near_by.result (λ v. v.items) (λ m. (m.listing, string_bytes m.text)) c.near_by.ensures c.list_texts-listed.ensures in
+    ends_ok c.args.memory.now c.end_with.new.memory c.list_texts-listed.result c.end_with.result back _
+    (few_listed c.args.checksum c.args.bytes.now c.args.given.now c.args.errors c.args.texts.now c.list_texts-listed.new.texts none c.list_texts-listed.result
+    (rw c.in_ok-reading.ensures.0 at all) (rw c.in_ok-reading.ensures.0 at first))
 
 pub returns-clause-room : goal.returns-clause-room
 returns-clause-room c =
-    long_listed c.args.checksum c.args.bytes.now c.args.given.now c.args.errors c.args.texts.now c.put_near-listed.new.texts c.put_near-listed.result
-    (rw c.in_ok-reading.ensures.0 at c.put_near-listed.ensures.first)
+    let back : EndsWith c.args.memory.now c.end_with.new.memory c.list_texts-listed.result c.end_with.result = search rules in
+    let few : c.args.errors ≤ 2 = omega arith in
+    let t = c.in_ok-reading.reading.text.now in
+    let listed = near_first c.args.checksum t c.args.given.now c.args.errors few c.args.texts.now c.list_texts-listed.new.texts c.list_texts-listed.result
+    c.near_by.result (λ v. v.items) (λ m. (m.listing, string_bytes m.text)) c.near_by.ensures c.list_texts-listed.ensures in
+    ends_ok c.args.memory.now c.end_with.new.memory c.list_texts-listed.result c.end_with.result back _
+    (long_listed c.args.checksum c.args.bytes.now c.args.given.now c.args.errors c.args.texts.now c.list_texts-listed.new.texts c.list_texts-listed.result
+    (rw c.in_ok-reading.ensures.0 at listed))
+
+pub returns-clause-accepts : goal.returns-clause-accepts
+returns-clause-accepts c few is =
+    let back : EndsWith c.args.memory.now c.end_with.new.memory c.list_texts-listed.result c.end_with.result = search rules in
+    let t = c.in_ok-reading.reading.text.now in
+    let refused = near_refused c.args.checksum t c.args.given.now c.args.errors few c.args.texts.now c.list_texts-listed.new.texts c.list_texts-listed.result
+    c.near_by.result (λ v. v.items) (λ m. (m.listing, string_bytes m.text)) c.near_by.ensures c.list_texts-listed.ensures in
+    ends_err c.args.memory.now c.end_with.new.memory c.list_texts-listed.result c.end_with.result back (λ e. e ≡ Memory)
+    (err_more _ (λ e. e ≡ Memory) c.list_texts-listed.result (λ e h. read_memory_by c.args.checksum c.args.bytes.now c.args.given.now c.args.errors few is e (rw c.in_ok-reading.ensures.0 at h.0)) refused)
+    (λ _. refl)
+
+pub returns-clause-refused : goal.returns-clause-refused
+returns-clause-refused c =
+    let back : EndsWith c.args.memory.now c.end_with.new.memory c.list_texts-listed.result c.end_with.result = search rules in
+    let few : c.args.errors ≤ 2 = omega arith in
+    let t = c.in_ok-reading.reading.text.now in
+    let refused = near_refused c.args.checksum t c.args.given.now c.args.errors few c.args.texts.now c.list_texts-listed.new.texts c.list_texts-listed.result
+    c.near_by.result (λ v. v.items) (λ m. (m.listing, string_bytes m.text)) c.near_by.ensures c.list_texts-listed.ensures in
+    let r = c.in_ok-reading.reading in
+    let P = IsNearFaultOrKept c.args.checksum c.args.bytes.now c.args.given.now c.args.errors c.args.memory.now c.end_with.new.memory in
+    ends_err c.args.memory.now c.end_with.new.memory c.list_texts-listed.result c.end_with.result back P
+    (err_more _ P c.list_texts-listed.result (λ e h. inl (rw c.in_ok-reading.ensures.0 at h.0)) refused)
+    (λ kept. kept_of_read c.args.checksum c.args.bytes.now c.args.given.now c.args.errors c.args.memory.now c.end_with.new.memory r.hrp.now r.data_part.now few
+    (rw c.in_ok-reading.ensures.0 at r.is_reading.grammar) (rw c.in_ok-reading.ensures.0 at c.in_ok-reading.ensures.1) kept)
+
+pub returns-clause-same : goal.returns-clause-same
+returns-clause-same c =
+    let back : EndsWith c.args.memory.now c.end_with.new.memory c.list_texts-listed.result c.end_with.result = search rules in
+    let few : c.args.errors ≤ 2 = omega arith in
+    let t = c.in_ok-reading.reading.text.now in
+    let refused = near_refused c.args.checksum t c.args.given.now c.args.errors few c.args.texts.now c.list_texts-listed.new.texts c.list_texts-listed.result
+    c.near_by.result (λ v. v.items) (λ m. (m.listing, string_bytes m.text)) c.near_by.ensures c.list_texts-listed.ensures in
+    ends_err c.args.memory.now c.end_with.new.memory c.list_texts-listed.result c.end_with.result back _ (err_more _ _ c.list_texts-listed.result (λ e h. inl h.1) refused) (λ kept. inr (refl, kept))
+
+pub returns-clause-memory : goal.returns-clause-memory
+returns-clause-memory c =
+    let back : EndsWith c.args.memory.now c.end_with.new.memory c.list_texts-listed.result c.end_with.result = search rules in
+    returns_memory c.args.memory.now c.end_with.new.memory c.list_texts-listed.result c.end_with.result back
