@@ -111,13 +111,41 @@ const listOf = (rows, putBlock) => ({
   },
 });
 
+const isWide = (offsets) => offsets instanceof BigInt64Array;
+// The halves of offsets of 64 bits, and the offset of a row of them.
+const halvesOf = ({ buffer, byteOffset, length }) => new Int32Array(buffer, byteOffset, 2 * length);
+const joined = (halves, i) => halves[2 * i + 1] * 2 ** 32 + (halves[2 * i] >>> 0);
+
 // What reads an offset, or -1 of one that does not lie in so many bytes.
 const readerOf = (offsets, length) => {
   const within = (offset) => (offset >= 0 && offset <= length ? offset : -1);
   if (offsets instanceof Int32Array || offsets instanceof Uint32Array) return (i) => within(offsets[i]);
-  if (!(offsets instanceof BigInt64Array)) throw new TypeError('the offsets are no Int32Array, Uint32Array or BigInt64Array');
-  const halves = new Int32Array(offsets.buffer, offsets.byteOffset, 2 * offsets.length);
-  return (i) => within(halves[2 * i + 1] * 2 ** 32 + (halves[2 * i] >>> 0));
+  if (!isWide(offsets)) throw new TypeError('the offsets are no Int32Array, Uint32Array or BigInt64Array');
+  const halves = halvesOf(offsets);
+  return (i) => within(joined(halves, i));
+};
+
+// The offsets of so many rows from one on, as numbers.
+const offsetsOf = (offsets, from, count) => {
+  const part = offsets.subarray(from, from + count + 1);
+  if (!isWide(part)) return part;
+  const halves = halvesOf(part), numbers = new Float64Array(part.length);
+  for (let i = 0; i < part.length; i++) numbers[i] = joined(halves, i);
+  return numbers;
+};
+
+// Puts offsets that rise, as nearly all do, less the first of them: whether they do, no row is too long, and the rows, which
+// lie in so many bytes, are one block.
+const putRising = (offsets, put, length) => {
+  const low = offsets[0];
+  let before = low;
+  for (let i = 0; i < offsets.length; i++) {
+    const offset = offsets[i];
+    if (offset < before || offset - before > ROW_ROOM) return false;
+    put[i] = offset - low;
+    before = offset;
+  }
+  return low >= 0 && before <= length && before - low <= BYTES;
 };
 
 const whole = (it, least, most, what) => {
@@ -142,6 +170,19 @@ const blockFrom = (read, from, most) => {
   return { low: read(from), high: read(from) + ROW_ROOM, count: 1, isCut: true };
 };
 
+// Puts the offsets of the rows from one on that are a block: -1 is one that does not lie in the bytes of the column.
+const putOffsets = (read, { offsets, from, most, length }, put) => {
+  const given = offsetsOf(offsets, from, most);
+  if (putRising(given, put, length)) return { low: given[0], high: given[most], count: most, isCut: false };
+  const block = blockFrom(read, from, most);
+  for (let i = 0; i <= block.count; i++) {
+    const offset = read(from + i);
+    put[i] = offset < 0 ? -1 : Math.max(-1, Math.min(offset - block.low, LARGEST));
+  }
+  if (block.isCut) put[1] = ROW_ROOM;
+  return block;
+};
+
 // A column as Arrow lays it out. What stands in the memory is the same but for the bytes before the block.
 const arrowOf = ({ bytes, offsets, validity = null, first = 0, count }) => {
   if (!(bytes instanceof Uint8Array)) throw new TypeError('the bytes are no Uint8Array');
@@ -153,13 +194,8 @@ const arrowOf = ({ bytes, offsets, validity = null, first = 0, count }) => {
   return {
     count: total,
     put(it, at) {
-      const from = first + at, { low, high, count, isCut } = blockFrom(read, from, Math.min(ROWS, total - at));
-      const skip = validity === null ? 0 : from % BITS, put = int32s(it, 'offsets', skip + count + 1);
-      for (let i = 0; i <= count; i++) {
-        const offset = read(from + i);
-        put[skip + i] = offset < 0 ? -1 : Math.max(-1, Math.min(offset - low, LARGEST));
-      }
-      if (isCut) put[skip + 1] = ROW_ROOM;
+      const from = first + at, skip = validity === null ? 0 : from % BITS, put = int32s(it, 'offsets', ROWS + BITS + 1).subarray(skip);
+      const { low, high, count, isCut } = putOffsets(read, { offsets, from, most: Math.min(ROWS, total - at), length: bytes.length }, put);
       it.putBytes('bytes', bytes.subarray(low, high));
       const bits = validity === null ? 0n : it.putBytes('validity', validity.subarray((from - skip) / BITS, Math.ceil((from + count) / BITS)));
       return laid(it, { count, skip, length: high - low, bits, isCut });

@@ -9,7 +9,7 @@ import { compiled } from '../out/package/modules.js';
 import { ALPHABET } from './reference.mjs';
 
 const TOP = new URL('../../', import.meta.url);
-const MOST = 4096;
+const MOST = 16384;
 const LONG = { 'long-bech32': 'longBech32', 'long-bech32m': 'longBech32m' };
 
 class Reply extends Error {}
@@ -187,12 +187,19 @@ const replyTo = (line, commands, count) => {
   }
 };
 
+// A text of more than 8,192 bytes is not given to the library: it is too long, whatever else is wrong with it.
+const wantedOf = (line, reply) =>
+  (line.startsWith('decode ') && line.length > 'decode '.length + 8192 && reply !== 'err 1' ? 'err 31' : reply);
+
 for (const [program, commands] of [['b32', OF_TEXTS], ['c32', OF_STRINGS]]) {
   test(`replies to the stored lines of ${program}`, (t) => {
     const lines = linesOf(`crates/${program}/stdin`), replies = linesOf(`crates/${program}/stdout`);
     assert.equal(lines.length, replies.length);
     const count = { called: 0 };
-    lines.forEach((line, i) => assert.equal(replyTo(line, commands, count), replies[i].toString('latin1'), `line ${i + 1}: ${line.toString('latin1')}`));
+    lines.forEach((line, i) => {
+      const shown = line.toString('latin1'), wanted = wantedOf(shown, replies[i].toString('latin1'));
+      assert.equal(replyTo(line, commands, count), wanted, `line ${i + 1}: ${shown.slice(0, 200)}`);
+    });
     t.diagnostic(`${lines.length} lines, of which ${count.called} have the words of a command`);
     assert.ok(count.called > lines.length / 2);
   });

@@ -1,8 +1,10 @@
 // The calls for columns beside those for one text: web/measure runs it.
 import { check, checkMany, isLowered, segwit } from '../out/package/index.js';
+import { Instance } from '../out/package/instance.js';
+import { compiled } from '../out/package/modules.js';
 import { numbersFrom } from './reference.mjs';
 
-const ROWS = Number(process.argv[2]), FEW = Math.ceil(ROWS / 10), TURNS = 7;
+const ROWS = Number(process.argv[2]), FEW = Math.ceil(ROWS / 10), TURNS = 15;
 const below = numbersFrom(80);
 
 // Six of ten programs have 20 bytes, and the others 32; one address in a hundred has a wrong character.
@@ -33,6 +35,21 @@ const each = (list, call) => () => {
   }
 };
 
+// The call of the module alone, over rows that stand in its memory: no call of the package takes less.
+const checkAlone = () => {
+  const count = Math.min(ROWS, 4000), length = column.offsets[count], offsets = column.offsets.slice(0, count + 1);
+  const it = new Instance(compiled().modules[0], { column: 72, bytes: length, offsets: offsets.byteLength, numbers: count });
+  it.putBytes('bytes', column.bytes.subarray(0, length));
+  it.putBytes('offsets', new Uint8Array(offsets.buffer));
+  it.putSizes('column', [it.at.bytes, length, it.at.offsets, offsets.byteLength, it.at.bytes, 0, count, 0]);
+  it.view.setUint32(it.at.column + 64, 1, true);
+  return () => {
+    for (let done = 0; done < ROWS; done += count) {
+      it.call('bech32_check_many', 1, it.pointer('column'), 0n, it.pointer('numbers'), BigInt(count));
+    }
+  };
+};
+
 const SETS = [
   ['segwit.decode', each(texts, segwit.decode), [
     ['decodeMany, a column', () => segwit.decodeMany(column, 'bc')], ['with offsets of 64 bits', () => segwit.decodeMany(large, 'bc')],
@@ -40,6 +57,7 @@ const SETS = [
   ]],
   ['check', each(texts, (it) => check('bech32', it)), [
     ['checkMany, a column', () => checkMany('bech32', column)], ['a list of strings', () => checkMany('bech32', texts)],
+    ['the module alone', checkAlone()],
   ]],
   ['segwit.encode', each(programs, (it) => segwit.encode('bc', 0, it)), [
     ['encodeMany, a column', () => segwit.encodeMany('bc', versions, held)],

@@ -51,6 +51,8 @@ _LAYOUTS = {np.dtype(np.int32): _library.OFFSETS_32, np.dtype(np.int64): _librar
 _MAX_PROGRAM, _MAX_ADDRESS = _library.MAX_PROGRAM, _library.MAX_ADDRESS
 # So many rows at most at once: a call of some hundredths of a second, behind which Ctrl-C is seen.
 _ROWS = 1 << 18
+# Room for all rows is made at once where it is of so many bytes: what is not written of it takes no memory.
+_ROOM = 1 << 30
 # Above so many rows the offsets of all have 64 bits.
 _SMALL = (2**31 - 1) // _MAX_ADDRESS
 
@@ -435,8 +437,7 @@ def decode(texts: Any, hrp: Optional[str] = None, threads: int = 1, progress: Pr
     total, parts = _parts(_pieces(texts), threads)
     numbers, versions, lengths = (np.empty(total, np.uint8) for _ in range(3))
 
-    def work(part: _Part) -> Tuple[_Part, Any, Any]:
-        own, data = np.empty(part.count + 1, np.int32), np.empty(part.count * _MAX_PROGRAM, np.uint8)
+    def put(part: _Part, own: Any, data: Any) -> None:
         done = ctypes.c_size_t()
         _stop(
             _library.segwit_decode_many(
@@ -445,22 +446,50 @@ def decode(texts: Any, hrp: Optional[str] = None, threads: int = 1, progress: Pr
                 *(_offsets(own), len(own), _bytes(data), len(data), done),
             )
         )
+
+    return Addresses(numbers, versions, lengths, Rows(*_made(put, parts, threads, progress, _MAX_PROGRAM), numbers, False))
+
+
+def _made(put: Callable[[_Part, Any, Any], None], parts: List[_Part], threads: int, progress: Progress, most: int) -> Tuple[Any, Any]:
+    # The offsets and the bytes of all rows: `put` puts those of a part, and a row has at most so many bytes.
+    total = sum(it.count for it in parts)
+    if total * most > _ROOM or (threads > 1 and len(parts) > 1):
+        return _gathered(put, parts, threads, progress, most)
+    offsets, data = _held(total + 1, np.int32), _held(total * most, np.uint8)
+    offsets[0] = end = 0
+
+    def work(part: _Part) -> None:
+        # Where they stay, behind those of the parts before.
+        nonlocal end
+        own = offsets[part.at : part.at + part.count + 1]
+        put(part, own, data[end:])
+        if end:
+            own += end
+        end = int(own[-1])
+
+    _each(work, parts, 1, progress)
+    return offsets, data[:end]
+
+
+def _gathered(
+    put: Callable[[_Part, Any, Any], None], parts: List[_Part], threads: int, progress: Progress, most: int
+) -> Tuple[Any, Any]:
+    # The same of parts that are put beside one another, and then one behind another.
+    def work(part: _Part) -> Tuple[_Part, Any, Any]:
+        own, data = np.empty(part.count + 1, np.int32), np.empty(part.count * most, np.uint8)
+        put(part, own, data)
         return part, own, data[: own[-1]]
 
-    return Addresses(numbers, versions, lengths, _gathered(_each(work, parts, threads, progress), total, numbers, False))
-
-
-def _gathered(made: List[Tuple[_Part, Any, Any]], total: int, numbers: Any, is_text: bool) -> Rows:
-    # The rows of all parts, one behind another.
+    made, total = _each(work, parts, threads, progress), sum(it.count for it in parts)
     offsets = _held(total + 1, np.int32 if total <= _SMALL else np.int64)
     data = _held(sum(len(it[2]) for it in made), np.uint8)
-    offsets[0] = put = 0
+    offsets[0] = end = 0
     for part, own, bytes_of in made:
         offsets[part.at + 1 : part.at + part.count + 1] = own[1:]
-        offsets[part.at + 1 : part.at + part.count + 1] += put
-        data[put : put + len(bytes_of)] = bytes_of
-        put += len(bytes_of)
-    return Rows(offsets, data, numbers, is_text)
+        offsets[part.at + 1 : part.at + part.count + 1] += end
+        data[end : end + len(bytes_of)] = bytes_of
+        end += len(bytes_of)
+    return offsets, data
 
 
 def encode(hrp: str, versions: Any, programs: Any, threads: int = 1, progress: Progress = None) -> Texts:
@@ -479,8 +508,7 @@ def encode(hrp: str, versions: Any, programs: Any, threads: int = 1, progress: P
     versions = np.where((versions >= 0) & (versions <= 31), versions, 31)
     versions, numbers = np.ascontiguousarray(versions, np.uint8), np.empty(total, np.uint8)
 
-    def work(part: _Part) -> Tuple[_Part, Any, Any]:
-        own, data = np.empty(part.count + 1, np.int32), np.empty(part.count * _MAX_ADDRESS, np.uint8)
+    def put(part: _Part, own: Any, data: Any) -> None:
         done = ctypes.c_size_t()
         _stop(
             _library.segwit_encode_many(
@@ -489,6 +517,5 @@ def encode(hrp: str, versions: Any, programs: Any, threads: int = 1, progress: P
                 *(_offsets(own), len(own), _bytes(data), len(data), done),
             )
         )
-        return part, own, data[: own[-1]]
 
-    return Texts(numbers, _gathered(_each(work, parts, threads, progress), total, numbers, True))
+    return Texts(numbers, Rows(*_made(put, parts, threads, progress, _MAX_ADDRESS), numbers, True))

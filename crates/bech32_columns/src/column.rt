@@ -148,7 +148,7 @@ impl<'a> Column<'a> {
     }
 
     // The bytes of row i, where they are in the column.
-    #[inline]
+    #[inline(always)]
     fn bytes_at(&self, i: usize) -> Option<&'a [u8]>
         requires { i < usize.MAX }
         ensures { MatchOption result
@@ -185,7 +185,7 @@ impl<'a> Column<'a> {
     /// # Errors
     ///
     /// The number of a row that is null, 1, or not in the column, 4.
-    #[inline]
+    #[inline(always)]
     pub fn row(&self, i: usize) -> Result<&'a [u8], u8>
         requires { i < usize.MAX }
         ensures { MatchResult result
