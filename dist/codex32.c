@@ -1,6 +1,6 @@
 /*
  * codex32.h in C99: the functions of the proved library, made of its object for WebAssembly (sha256
- * 4f1e2d69ac705675c829f2fba7b9465c31279bacad7ff87d255f2d5b3e002895) by portable/translate. Do not edit.
+ * 2edfdddc96633a0c4a3a88d8423804de27ba0cfaf23221e7cf84c92f193d74ab) by portable/translate. Do not edit.
  *
  *     cc -std=c99 -O2 -c codex32.c
  *
@@ -9,16 +9,16 @@
  * MACHINE_IS_TESTED defined, each access is tested to be within the stack, the constants, or what the caller
  * handed over. The bytes of the library's stack that a call takes, on the stack of C:
  *
- *     codex32_derive          3200
+ *     codex32_derive          3216
  *     codex32_encode          1088
  *     codex32_encode_payload  1088
  *     codex32_message         16
- *     codex32_parse           800
+ *     codex32_parse           816
  *     codex32_propose         7472
  *     codex32_propose_long    7472
- *     codex32_recover         3424
- *     codex32_share           1248
- *     codex32_split           1584
+ *     codex32_recover         3440
+ *     codex32_share           1264
+ *     codex32_split           1600
  *     codex32_version         16
  *
  * SPDX-License-Identifier: MIT
@@ -26,7 +26,7 @@
 #include "codex32.h"
 
 #ifndef stack_codex32_derive
-#define stack_codex32_derive 3200u
+#define stack_codex32_derive 3216u
 #endif
 #ifndef stack_codex32_encode
 #define stack_codex32_encode 1088u
@@ -38,7 +38,7 @@
 #define stack_codex32_message 16u
 #endif
 #ifndef stack_codex32_parse
-#define stack_codex32_parse 800u
+#define stack_codex32_parse 816u
 #endif
 #ifndef stack_codex32_propose
 #define stack_codex32_propose 7472u
@@ -47,13 +47,13 @@
 #define stack_codex32_propose_long 7472u
 #endif
 #ifndef stack_codex32_recover
-#define stack_codex32_recover 3424u
+#define stack_codex32_recover 3440u
 #endif
 #ifndef stack_codex32_share
-#define stack_codex32_share 1248u
+#define stack_codex32_share 1264u
 #endif
 #ifndef stack_codex32_split
-#define stack_codex32_split 1584u
+#define stack_codex32_split 1600u
 #endif
 #ifndef stack_codex32_version
 #define stack_codex32_version 16u
@@ -2673,22 +2673,22 @@ static void f11(Machine *m, u64 l0, u32 l1, u64 l2, u64 l3) {
     m->stack_pointer = t0;
 }
 
-/* codex32_steady_texts::residue::residue_error_of::<#90b8b50a8b282450> */
+/* codex32_steady_texts::residue::residue_error_of::<#771ad920835cb552> */
 static void f12(Machine *m, u64 l0, u64 l1, u64 l2, u64 l3, u64 l4) {
     u32 l7 = 0, w0;
     u64 l5 = 0, l6 = 0, t0, t1, t2;
-    FRAME(m, 288u);
+    FRAME(m, 304u);
     t0 = m->stack_pointer;
-    t0 = t0 - 288ull;
+    t0 = t0 - 304ull;
     l5 = t0;
     m->stack_pointer = l5;
-    I64_STORE(m, l5 + 232u, 0ull);
-    I64_STORE(m, l5 + 224u, 1ull);
-    t0 = l5 + 224ull;
+    I64_STORE(m, l5 + 168u, 0ull);
+    I64_STORE(m, l5 + 160u, 1ull);
+    t0 = l5 + 160ull;
     f20(m, t0, l1, l2);
-    t0 = I64_LOAD(m, l5 + 232u);
+    t0 = I64_LOAD(m, l5 + 168u);
     l2 = t0;
-    t0 = I64_LOAD(m, l5 + 224u);
+    t0 = I64_LOAD(m, l5 + 160u);
     l6 = t0;
     w0 = l4 == 0;
     if (w0) goto L1;
@@ -2786,43 +2786,43 @@ static void f12(Machine *m, u64 l0, u64 l1, u64 l2, u64 l3, u64 l4) {
     L4:;
     I64_STORE(m, l5 + 64u, 927874960084559402ull);
     I64_STORE(m, l5 + 72u, 1ull);
+    I64_STORE(m, l5 + 216u, 0ull);
+    I64_STORE(m, l5 + 224u, 0ull);
+    I64_STORE(m, l5 + 232u, 0ull);
+    I32_STORE8(m, l5 + 240u, 0u);
+    I64_STORE(m, l5 + 184u, 0ull);
     I64_STORE(m, l5 + 192u, 0ull);
     I64_STORE(m, l5 + 200u, 0ull);
-    I64_STORE(m, l5 + 208u, 0ull);
-    I32_STORE8(m, l5 + 216u, 0u);
-    I64_STORE(m, l5 + 160u, 0ull);
-    I64_STORE(m, l5 + 168u, 0ull);
-    I64_STORE(m, l5 + 176u, 0ull);
-    I32_STORE8(m, l5 + 184u, 0u);
-    t0 = l5 + 192ull;
+    I32_STORE8(m, l5 + 208u, 0u);
+    t0 = l5 + 216ull;
     t1 = l5 + 144ull;
     f23(m, t0, t1);
-    t0 = l5 + 160ull;
+    t0 = l5 + 184ull;
     t1 = l5 + 64ull;
     f23(m, t0, t1);
-    t0 = I64_LOAD(m, l5 + 160u);
-    I64_STORE(m, l5 + 249u, t0);
-    w0 = I32_LOAD8_U(m, l5 + 216u);
-    I32_STORE8(m, l5 + 248u, w0);
-    t0 = I64_LOAD(m, l5 + 168u);
-    I64_STORE(m, l5 + 257u, t0);
-    t0 = I64_LOAD(m, l5 + 176u);
-    I64_STORE(m, l5 + 265u, t0);
-    w0 = I32_LOAD8_U(m, l5 + 184u);
-    I32_STORE8(m, l5 + 273u, w0);
+    t0 = I64_LOAD(m, l5 + 184u);
+    I64_STORE(m, l5 + 273u, t0);
+    w0 = I32_LOAD8_U(m, l5 + 240u);
+    I32_STORE8(m, l5 + 272u, w0);
     t0 = I64_LOAD(m, l5 + 192u);
-    I64_STORE(m, l5 + 88u, t0);
+    I64_STORE(m, l5 + 281u, t0);
     t0 = I64_LOAD(m, l5 + 200u);
+    I64_STORE(m, l5 + 289u, t0);
+    w0 = I32_LOAD8_U(m, l5 + 208u);
+    I32_STORE8(m, l5 + 297u, w0);
+    t0 = I64_LOAD(m, l5 + 216u);
+    I64_STORE(m, l5 + 88u, t0);
+    t0 = I64_LOAD(m, l5 + 224u);
     I64_STORE(m, l5 + 96u, t0);
-    t0 = I64_LOAD(m, l5 + 208u);
+    t0 = I64_LOAD(m, l5 + 232u);
     I64_STORE(m, l5 + 104u, t0);
-    t0 = I64_LOAD(m, l5 + 248u);
+    t0 = I64_LOAD(m, l5 + 272u);
     I64_STORE(m, l5 + 112u, t0);
-    t0 = I64_LOAD(m, l5 + 256u);
+    t0 = I64_LOAD(m, l5 + 280u);
     I64_STORE(m, l5 + 120u, t0);
-    t0 = I64_LOAD(m, l5 + 264u);
+    t0 = I64_LOAD(m, l5 + 288u);
     I64_STORE(m, l5 + 128u, t0);
-    w0 = I32_LOAD16_U(m, l5 + 272u);
+    w0 = I32_LOAD16_U(m, l5 + 296u);
     I32_STORE16(m, l5 + 136u, w0);
     t0 = l0 + 49ull;
     w0 = I32_LOAD16_U(m, l5 + 136u);
@@ -2848,29 +2848,29 @@ static void f12(Machine *m, u64 l0, u64 l1, u64 l2, u64 l3, u64 l4) {
     l7 = 1u;
     L3:;
     I32_STORE8(m, l0, l7);
-    t0 = l5 + 288ull;
+    t0 = l5 + 304ull;
     m->stack_pointer = t0;
     return;
     TRAP(m);
     return;
 }
 
-/* codex32_steady_texts::residue::residue_error_of::<#2e2640dc43978e12> */
+/* codex32_steady_texts::residue::residue_error_of::<#ff86a0b986cb5a24> */
 static void f13(Machine *m, u64 l0, u64 l1, u64 l2, u64 l3, u64 l4) {
     u32 l7 = 0, w0;
     u64 l5 = 0, l6 = 0, t0, t1, t2;
-    FRAME(m, 304u);
+    FRAME(m, 320u);
     t0 = m->stack_pointer;
-    t0 = t0 - 304ull;
+    t0 = t0 - 320ull;
     l5 = t0;
     m->stack_pointer = l5;
-    I64_STORE(m, l5 + 248u, 0ull);
-    I64_STORE(m, l5 + 240u, 1ull);
-    t0 = l5 + 240ull;
+    I64_STORE(m, l5 + 184u, 0ull);
+    I64_STORE(m, l5 + 176u, 1ull);
+    t0 = l5 + 176ull;
     f24(m, t0, l1, l2);
-    t0 = I64_LOAD(m, l5 + 248u);
+    t0 = I64_LOAD(m, l5 + 184u);
     l1 = t0;
-    t0 = I64_LOAD(m, l5 + 240u);
+    t0 = I64_LOAD(m, l5 + 176u);
     l6 = t0;
     w0 = l4 == 0;
     if (w0) goto L1;
@@ -2978,43 +2978,43 @@ static void f13(Machine *m, u64 l0, u64 l1, u64 l2, u64 l3, u64 l4) {
     L4:;
     I64_STORE(m, l5 + 88u, 1075ull);
     I64_STORE(m, l5 + 80u, 9360011367401696038ull);
+    I64_STORE(m, l5 + 232u, 0ull);
+    I64_STORE(m, l5 + 240u, 0ull);
+    I64_STORE(m, l5 + 248u, 0ull);
+    I32_STORE8(m, l5 + 256u, 0u);
+    I64_STORE(m, l5 + 200u, 0ull);
     I64_STORE(m, l5 + 208u, 0ull);
     I64_STORE(m, l5 + 216u, 0ull);
-    I64_STORE(m, l5 + 224u, 0ull);
-    I32_STORE8(m, l5 + 232u, 0u);
-    I64_STORE(m, l5 + 176u, 0ull);
-    I64_STORE(m, l5 + 184u, 0ull);
-    I64_STORE(m, l5 + 192u, 0ull);
-    I32_STORE8(m, l5 + 200u, 0u);
-    t0 = l5 + 208ull;
+    I32_STORE8(m, l5 + 224u, 0u);
+    t0 = l5 + 232ull;
     t1 = l5 + 160ull;
     f23(m, t0, t1);
-    t0 = l5 + 176ull;
+    t0 = l5 + 200ull;
     t1 = l5 + 80ull;
     f23(m, t0, t1);
-    t0 = I64_LOAD(m, l5 + 176u);
-    I64_STORE(m, l5 + 265u, t0);
-    w0 = I32_LOAD8_U(m, l5 + 232u);
-    I32_STORE8(m, l5 + 264u, w0);
-    t0 = I64_LOAD(m, l5 + 184u);
-    I64_STORE(m, l5 + 273u, t0);
-    t0 = I64_LOAD(m, l5 + 192u);
-    I64_STORE(m, l5 + 281u, t0);
-    w0 = I32_LOAD8_U(m, l5 + 200u);
-    I32_STORE8(m, l5 + 289u, w0);
+    t0 = I64_LOAD(m, l5 + 200u);
+    I64_STORE(m, l5 + 289u, t0);
+    w0 = I32_LOAD8_U(m, l5 + 256u);
+    I32_STORE8(m, l5 + 288u, w0);
     t0 = I64_LOAD(m, l5 + 208u);
-    I64_STORE(m, l5 + 104u, t0);
+    I64_STORE(m, l5 + 297u, t0);
     t0 = I64_LOAD(m, l5 + 216u);
+    I64_STORE(m, l5 + 305u, t0);
+    w0 = I32_LOAD8_U(m, l5 + 224u);
+    I32_STORE8(m, l5 + 313u, w0);
+    t0 = I64_LOAD(m, l5 + 232u);
+    I64_STORE(m, l5 + 104u, t0);
+    t0 = I64_LOAD(m, l5 + 240u);
     I64_STORE(m, l5 + 112u, t0);
-    t0 = I64_LOAD(m, l5 + 224u);
+    t0 = I64_LOAD(m, l5 + 248u);
     I64_STORE(m, l5 + 120u, t0);
-    t0 = I64_LOAD(m, l5 + 264u);
+    t0 = I64_LOAD(m, l5 + 288u);
     I64_STORE(m, l5 + 128u, t0);
-    t0 = I64_LOAD(m, l5 + 272u);
+    t0 = I64_LOAD(m, l5 + 296u);
     I64_STORE(m, l5 + 136u, t0);
-    t0 = I64_LOAD(m, l5 + 280u);
+    t0 = I64_LOAD(m, l5 + 304u);
     I64_STORE(m, l5 + 144u, t0);
-    w0 = I32_LOAD16_U(m, l5 + 288u);
+    w0 = I32_LOAD16_U(m, l5 + 312u);
     I32_STORE16(m, l5 + 152u, w0);
     t0 = l0 + 49ull;
     w0 = I32_LOAD16_U(m, l5 + 152u);
@@ -3040,7 +3040,7 @@ static void f13(Machine *m, u64 l0, u64 l1, u64 l2, u64 l3, u64 l4) {
     l7 = 1u;
     L3:;
     I32_STORE8(m, l0, l7);
-    t0 = l5 + 304ull;
+    t0 = l5 + 320ull;
     m->stack_pointer = t0;
     return;
     TRAP(m);
@@ -3686,7 +3686,7 @@ static u64 f19(Machine *m, u64 l0, u64 l1) {
     return 0;
 }
 
-/* bech32_checksum::Engine::input_part::<#90b8b50a8b282450> */
+/* bech32_checksum::Engine::input_part::<#771ad920835cb552> */
 static void f20(Machine *m, u64 l0, u64 l1, u64 l2) {
     u32 l6 = 0, l10 = 0, w0, w1;
     u64 l3 = 0, l4 = 0, l5 = 0, l7 = 0, l8 = 0, l9 = 0, t0, t1, t2;
@@ -3955,7 +3955,7 @@ static u32 f21(Machine *m, u32 l0) {
     return 0;
 }
 
-/* codex32_steady_texts::residue::is_target::<#90b8b50a8b282450> */
+/* codex32_steady_texts::residue::is_target::<#771ad920835cb552> */
 static u32 f22(Machine *m, u64 l0, u64 l1) {
     u32 w0;
     u64 t0, t1;
@@ -3968,7 +3968,7 @@ static u32 f22(Machine *m, u64 l0, u64 l1) {
     return 0;
 }
 
-/* bech32_refusals::residue::Residue::new::<#039397794b2decc1> */
+/* bech32_refusals::residue::Residue::new::<#ec7dd70f91e8cde7> */
 static void f23(Machine *m, u64 l0, u64 l1) {
     u32 l3 = 0, l4 = 0, w0;
     u64 l2 = 0, t0, t1;
@@ -4074,7 +4074,7 @@ static void f23(Machine *m, u64 l0, u64 l1) {
     return;
 }
 
-/* bech32_checksum::Engine::input_part::<#2e2640dc43978e12> */
+/* bech32_checksum::Engine::input_part::<#ff86a0b986cb5a24> */
 static void f24(Machine *m, u64 l0, u64 l1, u64 l2) {
     u32 l6 = 0, l10 = 0, w0, w1;
     u64 l3 = 0, l4 = 0, l5 = 0, l7 = 0, l8 = 0, l9 = 0, t0, t1, t2;
@@ -4336,7 +4336,7 @@ static void f24(Machine *m, u64 l0, u64 l1, u64 l2) {
     return;
 }
 
-/* codex32_steady_texts::residue::is_target::<#2e2640dc43978e12> */
+/* codex32_steady_texts::residue::is_target::<#ff86a0b986cb5a24> */
 static u32 f25(Machine *m, u64 l0, u64 l1) {
     u32 w0;
     u64 t0, t1;
@@ -8926,7 +8926,7 @@ static void f39(Machine *m, u64 l0, u64 l1, u32 l2, u64 l3, u64 l4) {
     return;
 }
 
-/* bech32_finders::erased::eliminated_values::<#90b8b50a8b282450> */
+/* bech32_finders::erased::eliminated_values::<#771ad920835cb552> */
 static void f40(Machine *m, u64 l0, u64 l1, u64 l2, u64 l3) {
     u32 l13 = 0, l14 = 0, l15 = 0, l16 = 0, l17 = 0, l18 = 0, l19 = 0, l20 = 0, l21 = 0, l22 = 0, l23 = 0, l24 = 0, l25 = 0, w0, w1;
     u64 l4 = 0, l5 = 0, l6 = 0, l7 = 0, l8 = 0, l9 = 0, l10 = 0, l11 = 0, l12 = 0, t0, t1, t2, t3;
@@ -10147,7 +10147,7 @@ static void f41(Machine *m, u64 l0, u64 l1, u64 l2, u64 l3, u64 l4) {
     return;
 }
 
-/* bech32_finders::correction::correct_by_roots::<#ed7190316cd46ea5> */
+/* bech32_finders::correction::correct_by_roots::<#a4f5505ff1a120c3> */
 static void f42(Machine *m, u64 l0, u64 l1, u64 l2, u64 l3, u64 l4, u64 l5) {
     u32 l8 = 0, l12 = 0, l17 = 0, w0;
     u64 l6 = 0, l7 = 0, l9 = 0, l10 = 0, l11 = 0, l13 = 0, l14 = 0, l15 = 0, l16 = 0, l18 = 0, l19 = 0, t0, t1, t2;
@@ -10582,7 +10582,7 @@ static void f43(Machine *m, u64 l0) {
     return;
 }
 
-/* bech32_finders::erased::eliminated_values::<#2e2640dc43978e12> */
+/* bech32_finders::erased::eliminated_values::<#ff86a0b986cb5a24> */
 static void f44(Machine *m, u64 l0, u64 l1, u64 l2, u64 l3) {
     u32 l12 = 0, l13 = 0, l14 = 0, l15 = 0, l16 = 0, l17 = 0, l18 = 0, l19 = 0, l20 = 0, l21 = 0, l22 = 0, l23 = 0, l24 = 0, l25 = 0, l26 = 0, w0;
     u32 w1;
@@ -11770,7 +11770,7 @@ static void f44(Machine *m, u64 l0, u64 l1, u64 l2, u64 l3) {
     m->stack_pointer = t0;
 }
 
-/* bech32_finders::correction::correct_by_roots::<#8c2ca46ba215f877> */
+/* bech32_finders::correction::correct_by_roots::<#caf49f828756fa55> */
 static void f45(Machine *m, u64 l0, u64 l1, u64 l2, u64 l3, u64 l4, u64 l5) {
     u32 l8 = 0, l12 = 0, l17 = 0, w0;
     u64 l6 = 0, l7 = 0, l9 = 0, l10 = 0, l11 = 0, l13 = 0, l14 = 0, l15 = 0, l16 = 0, l18 = 0, l19 = 0, t0, t1, t2;
@@ -19422,7 +19422,7 @@ static void f66(Machine *m, u64 l0, u64 l1, u64 l2, u64 l3, u64 l4, u64 l5, u64 
     m->stack_pointer = t0;
 }
 
-/* bech32_finders::division::is_same::<#039397794b2decc1> */
+/* bech32_finders::division::is_same::<#ec7dd70f91e8cde7> */
 static u32 f67(Machine *m, u64 l0, u64 l1, u64 l2) {
     u32 l3 = 0, l4 = 0, w0, w1;
     u64 t0, t1;
