@@ -303,7 +303,8 @@ pub fn mend_in<A: Allocator + Copy>(
 /// # Errors
 ///
 /// [`MendError::TooLong`] where the text has more than 7,500 characters; else
-/// [`MendError::Memory`] alone, and only where it has at least eight: from fewer no descriptor comes.
+/// [`MendError::Memory`] alone, and only where it has at least eight: from fewer no descriptor
+/// comes.
 pub fn mend(alloc: Global, text: &[u8], most: usize) -> Result<Vec<Mended<Vec<u8>>>, MendError>
     ensures { MatchResult result
         (λ found. AreMends most text.now (map (λ m. (m.edit, m.text.items)) found.items))

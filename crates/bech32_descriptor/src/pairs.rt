@@ -268,7 +268,8 @@ pub fn mend_two_in<A: Allocator + Copy>(
 /// # Errors
 ///
 /// [`MendError::TooLong`] where the text has more than 7,500 characters; else
-/// [`MendError::Memory`] alone, and only where it has at least nine: from fewer no descriptor comes.
+/// [`MendError::Memory`] alone, and only where it has at least nine: from fewer no descriptor
+/// comes.
 pub fn mend_two(alloc: Global, text: &[u8]) -> Result<Vec<MendedTwice<Vec<u8>>>, MendError>
     ensures { MatchResult result
         (λ found. AreTwoMends text.now (map (λ m. (m.edits, m.text.items)) found.items))

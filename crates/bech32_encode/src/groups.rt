@@ -40,8 +40,8 @@ fn characters_of(fes: [Fe32; 8]) -> [u8; 8]
     ]
 }
 
-// Puts bytes behind those that were put, one by one, and returns how many there are. Out of line, as
-// is what calls it: few buffers lack room.
+// Puts bytes behind those that were put, one by one, and returns how many there are. Out of line,
+// as is what calls it: few buffers lack room.
 #[inline(never)]
 fn put_each(bytes: &[u8], count: usize, buffer: &mut [u8]) -> usize
     ensures { PutsBehind bytes.now buffer.old count buffer.new result }
