@@ -1,0 +1,12 @@
+pub mod Checked
+pub mod Codes
+pub mod DividedByX
+pub mod Errors
+pub mod Found
+pub mod Left
+pub mod Lengths
+pub mod Numbers
+pub mod Remainders
+pub mod Scaled
+pub mod Searched
+pub mod Targets

@@ -1,0 +1,8 @@
+use Rattle.std.proofs.Common.{◌≤◌, length, arith}
+use Rattle.bech32_small.proofs.Numbers.{read_number}
+use Rattle.bech32_small.proofs.segwit.read_short.Goals as goal
+
+pub returns : goal.returns
+returns c =
+    let few : length c.args.text.now ≤ 90 = omega (arith, c.if-text-gt-MAX_STRING_LENGTH.false) in
+    read_number _ c.args.text.now c.read.result few c.read.ensures
