@@ -120,7 +120,7 @@ impl CorrectableError for DecodeError {
     fn residue_error(&self) -> Option<&InvalidResidueError> {
         match self {
             DecodeError::Checksum(e) => e.residue_error(),
-            _ => None,
+            DecodeError::Parse(_) | DecodeError::Memory => None,
         }
     }
 }

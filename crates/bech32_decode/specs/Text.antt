@@ -1,7 +1,7 @@
 -- Texts (BIP-173, Bech32): a human-readable part, the separator `1`, and a data part; and
 -- why a list of bytes is none.
 use Rattle.std.specs.Prelude.{◌≡◌, ℕ, if◌then◌else◌, List, [], ◌∷◌, ◌++◌}
-use Rattle.std.specs.Prelude.{Option, Some, None, ◌==◌, true, false}
+use Rattle.std.specs.Prelude.{Option, Some, None, ◌==◌, true, false, Result, MatchResult}
 use Rattle.std.specs.Str.{chars}
 use Rattle.bech32_gf.specs.Alphabet.{is_of_alphabet, is_data}
 use Rattle.bech32_hrp.specs.Hrp.{IsHrp, is_mixed_case, first_of, hrp_refusal}
@@ -79,3 +79,8 @@ text_refusal text =
     (first_of (as_char (mixed_case text))
     (first_of (as_char (missing_separator (split_at_last text)))
     (as_hrp (bad_hrp (split_at_last text)))))
+
+-- what is returned of a text is the first fault, where there is one
+abbrev pub IsRefusedAsText : {T : Type 0} → List ℕ → Result T UncheckedHrpstringError → Type 0
+IsRefusedAsText text r =
+    MatchResult r (λ _. text_refusal text ≡ None) (λ e. text_refusal text ≡ Some e)

@@ -4,6 +4,7 @@ ghost use Rattle.std.specs.Prelude.{◌≡◌, ◌≤◌, true, length, drop};
 ghost use Rattle.bech32_gf.specs.Alphabet.{is_of_alphabet, is_data};
 
 use crate::parts::CharacterTests;
+use bech32_gf::alphabet::is_data_byte;
 use bech32_hrp::{self as hrp, Hrp, is_part};
 
 // How many bytes are tested at a time.
@@ -29,22 +30,8 @@ fn is_in_alphabet(b: u8) -> bool
     ALPHABET[b as usize] == 1
 }
 
-// Whether a byte is of the alphabet: a letter or a digit, and none of `1`, `b`, `i` and `o`. A
-// block of bytes is tested so, many at a time, as no table can be asked.
-#[inline]
-fn is_data_byte(b: u8) -> bool
-    ensures { result ≡ is_of_alphabet b }
-{
-    let lower = b | 32;
-    // 0 where one of these four is the same byte: quicker for many bytes than four comparisons.
-    let apart = (lower ^ b'1')
-        .min(lower ^ b'b')
-        .min(lower ^ b'i')
-        .min(lower ^ b'o');
-    b.is_ascii_alphanumeric() & (apart != 0)
-}
-
-// Whether bytes are of the alphabet. Each is looked at, so that many can be at a time.
+// Whether bytes are of the alphabet. Each is looked at, so that many can be at a time, as no table
+// can be asked.
 #[inline]
 fn is_data_block(bytes: &[u8]) -> bool
     ensures { result ≡ is_data bytes.now }

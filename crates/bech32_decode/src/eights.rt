@@ -9,7 +9,7 @@ ghost use Rattle.bech32_checksum.specs.Word.{two_elements, word_elements};
 ghost use Rattle.bech32_decode.specs.Cases.{counts_as_lower, counts_as_upper};
 ghost use Rattle.bech32_decode.specs.Cases.{lower_count, upper_count};
 
-use crate::places::{at_0, at_5, at_10, at_15, at_20, at_25, at_30, at_35};
+use crate::places::at_place;
 use bech32_checksum::{Checksum, Engine};
 use bech32_gf::gf32::Fe32;
 
@@ -23,14 +23,14 @@ pub fn word_of_eight(characters: &[u8]) -> u64
     ensures lower { result / 2 ^ 40 % 2 ^ 12 ≡ lower_count (take 8 characters.now) }
     ensures upper { result / 2 ^ 52 ≡ upper_count (take 8 characters.now) }
 {
-    at_35(characters[0])
-        + at_30(characters[1])
-        + at_25(characters[2])
-        + at_20(characters[3])
-        + at_15(characters[4])
-        + at_10(characters[5])
-        + at_5(characters[6])
-        + at_0(characters[7])
+    at_place(0, characters[0])
+        + at_place(1, characters[1])
+        + at_place(2, characters[2])
+        + at_place(3, characters[3])
+        + at_place(4, characters[4])
+        + at_place(5, characters[5])
+        + at_place(6, characters[6])
+        + at_place(7, characters[7])
 }
 
 /// The element of a character of the alphabet, in either case; zero of any other.
@@ -38,7 +38,7 @@ pub fn word_of_eight(characters: &[u8]) -> u64
 pub fn element_at(character: u8) -> Fe32
     ensures { result ≡ element_of character }
 {
-    Fe32::from_low_bits((at_0(character) % 32) as u8)
+    Fe32::from_low_bits((at_place(7, character) % 32) as u8)
 }
 
 // The case of a character: 1 for a small letter, 2^12 for a capital one, their sum for a character
@@ -47,7 +47,7 @@ pub fn element_at(character: u8) -> Fe32
 fn case_of(character: u8) -> u64
     ensures { result ≡ counts_as_lower character + 2 ^ 12 * counts_as_upper character }
 {
-    at_0(character) / 0x100_0000_0000
+    at_place(7, character) / 0x100_0000_0000
 }
 
 /// Whether a character is not of the alphabet.
@@ -86,7 +86,7 @@ fn two_of(characters: &[u8]) -> u64
     ensures lower { result / 2 ^ 40 % 2 ^ 12 ≡ lower_count (take 2 characters.now) }
     ensures upper { result / 2 ^ 52 ≡ upper_count (take 2 characters.now) }
 {
-    at_5(characters[0]) + at_0(characters[1])
+    at_place(6, characters[0]) + at_place(7, characters[1])
 }
 
 // Hands the elements of characters, of which there are at most 1,023, to an engine, two at a time,

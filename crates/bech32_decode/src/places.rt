@@ -1,6 +1,6 @@
 //! What each character is at each of eight places.
 
-ghost use Rattle.std.specs.Prelude.{◌≡◌, ◌<◌, ◌+◌, ◌*◌, ◌^◌};
+ghost use Rattle.std.specs.Prelude.{◌≡◌, ◌<◌, ◌+◌, ◌-◌, ◌*◌, ◌^◌};
 ghost use Rattle.bech32_gf.specs.Alphabet.{value_of};
 ghost use Rattle.bech32_decode.specs.Cases.{counts_as_lower, counts_as_upper};
 
@@ -28,82 +28,14 @@ const PLACES: [[u64; 256]; 8] = [
     PLACE_35, PLACE_30, PLACE_25, PLACE_20, PLACE_15, PLACE_10, PLACE_5, PLACE_0,
 ];
 
-// A character at the place of 2^35.
+// A character at one of the eight places: the last one is that of 2^0, and each other that of 2^5
+// times the next.
 #[inline]
-pub(crate) fn at_35(character: u8) -> u64
-    ensures value { result ≡ value_of character * 2 ^ 35 + counts_as_lower character * 2 ^ 40
-        + counts_as_upper character * 2 ^ 52 }
+pub(crate) fn at_place(place: usize, character: u8) -> u64
+    requires { place < 8 }
+    ensures value { result ≡ value_of character * 2 ^ (35 - 5 * place)
+        + counts_as_lower character * 2 ^ 40 + counts_as_upper character * 2 ^ 52 }
     ensures small { result < 2 ^ 53 }
 {
-    PLACES[0][character as usize]
-}
-
-// A character at the place of 2^30.
-#[inline]
-pub(crate) fn at_30(character: u8) -> u64
-    ensures value { result ≡ value_of character * 2 ^ 30 + counts_as_lower character * 2 ^ 40
-        + counts_as_upper character * 2 ^ 52 }
-    ensures small { result < 2 ^ 53 }
-{
-    PLACES[1][character as usize]
-}
-
-// A character at the place of 2^25.
-#[inline]
-pub(crate) fn at_25(character: u8) -> u64
-    ensures value { result ≡ value_of character * 2 ^ 25 + counts_as_lower character * 2 ^ 40
-        + counts_as_upper character * 2 ^ 52 }
-    ensures small { result < 2 ^ 53 }
-{
-    PLACES[2][character as usize]
-}
-
-// A character at the place of 2^20.
-#[inline]
-pub(crate) fn at_20(character: u8) -> u64
-    ensures value { result ≡ value_of character * 2 ^ 20 + counts_as_lower character * 2 ^ 40
-        + counts_as_upper character * 2 ^ 52 }
-    ensures small { result < 2 ^ 53 }
-{
-    PLACES[3][character as usize]
-}
-
-// A character at the place of 2^15.
-#[inline]
-pub(crate) fn at_15(character: u8) -> u64
-    ensures value { result ≡ value_of character * 2 ^ 15 + counts_as_lower character * 2 ^ 40
-        + counts_as_upper character * 2 ^ 52 }
-    ensures small { result < 2 ^ 53 }
-{
-    PLACES[4][character as usize]
-}
-
-// A character at the place of 2^10.
-#[inline]
-pub(crate) fn at_10(character: u8) -> u64
-    ensures value { result ≡ value_of character * 2 ^ 10 + counts_as_lower character * 2 ^ 40
-        + counts_as_upper character * 2 ^ 52 }
-    ensures small { result < 2 ^ 53 }
-{
-    PLACES[5][character as usize]
-}
-
-// A character at the place of 2^5.
-#[inline]
-pub(crate) fn at_5(character: u8) -> u64
-    ensures value { result ≡ value_of character * 2 ^ 5 + counts_as_lower character * 2 ^ 40
-        + counts_as_upper character * 2 ^ 52 }
-    ensures small { result < 2 ^ 53 }
-{
-    PLACES[6][character as usize]
-}
-
-// A character at the place of 2^0.
-#[inline]
-pub(crate) fn at_0(character: u8) -> u64
-    ensures value { result ≡ value_of character * 2 ^ 0 + counts_as_lower character * 2 ^ 40
-        + counts_as_upper character * 2 ^ 52 }
-    ensures small { result < 2 ^ 53 }
-{
-    PLACES[7][character as usize]
+    PLACES[place][character as usize]
 }

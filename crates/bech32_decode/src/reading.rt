@@ -1,6 +1,6 @@
 //! Reads a text in one walk: its parts, and the remainder that it leaves.
 
-ghost use Rattle.std.specs.Prelude.{◌≡◌, ◌≤◌, ◌%◌, ◌/◌, ◌^◌, ◌+◌, ◌*◌, ◌<◌, ◌↔◌, if◌then◌else◌, ◌⊎◌, ℕ, true, length, take, drop, None, Some, IfOk, IfSome, IsOk, IsTrue, MatchResult};
+ghost use Rattle.std.specs.Prelude.{◌≡◌, ◌≤◌, ◌%◌, ◌/◌, ◌^◌, ◌+◌, ◌*◌, ◌<◌, ◌↔◌, if◌then◌else◌, ◌⊎◌, ℕ, true, length, take, drop, IfOk, IfSome, IsOk, IsTrue, MatchResult};
 ghost use Rattle.std.specs.List.{list_all};
 ghost use Rattle.bech32_checksum.specs.Code.{bech32, bech32m};
 ghost use Rattle.bech32_hrp.specs.Hrp.{is_graphic, is_lower, is_upper};
@@ -18,7 +18,7 @@ ghost use Rattle.bech32_decode.specs.Parts.{checked_data, checked_length, checke
 ghost use Rattle.bech32_decode.specs.Refusals.{IsChecksumRefusal, IsRefusedByBoth};
 ghost use Rattle.bech32_decode.specs.Segwit.{IsAddressRefusal, IsVersioned, segwit_code};
 ghost use Rattle.bech32_decode.specs.SegwitParts.{IsReadIn};
-ghost use Rattle.bech32_decode.specs.Text.{IsInGrammar, text_refusal};
+ghost use Rattle.bech32_decode.specs.Text.{IsInGrammar, IsRefusedAsText};
 ghost use Rattle.bech32_gf.specs.Alphabet.{is_data};
 
 use crate::address_data::{AddressData, data_of_version, validate_sizes};
@@ -122,9 +122,7 @@ impl<'s, Ck: Checksum> Reading<'s, Ck> {
     #[inline(always)]
     pub fn new(text: &'s str) -> Result<Self, UncheckedHrpstringError>
         ensures value { IfOk result (λ r. r.text.now ≡ text.now) }
-        ensures refused { MatchResult result
-            (λ _. text_refusal text.now ≡ None)
-            (λ e. text_refusal text.now ≡ Some e) }
+        ensures refused { IsRefusedAsText text.now result }
         ensures accepts { IsOk result ↔ IsInGrammar text.now }
     {
         match Self::of(text.as_bytes()) {
@@ -143,9 +141,7 @@ impl<'s, Ck: Checksum> Reading<'s, Ck> {
     #[inline(always)]
     pub fn in_steps(text: &'s str) -> Result<Self, UncheckedHrpstringError>
         ensures value { IfOk result (λ r. r.text.now ≡ text.now) }
-        ensures refused { MatchResult result
-            (λ _. text_refusal text.now ≡ None)
-            (λ e. text_refusal text.now ≡ Some e) }
+        ensures refused { IsRefusedAsText text.now result }
         ensures accepts { IsOk result ↔ IsInGrammar text.now }
     {
         let (hrp, data_part) = parts_in(text)?;

@@ -1,10 +1,10 @@
 //! A text whose characters were tested, and its checksum not.
 
-ghost use Rattle.std.specs.Prelude.{◌≡◌, ◌↔◌, ◌≤◌, ℕ, true, List, length, drop, None, Some, MatchResult, MatchOption, IfOk, IsOk, IsTrue};
+ghost use Rattle.std.specs.Prelude.{◌≡◌, ◌↔◌, ◌≤◌, ℕ, true, List, length, drop, Some, MatchResult, MatchOption, IfOk, IsOk, IsTrue};
 ghost use Rattle.bech32_gf.specs.Alphabet.{is_data};
 ghost use Rattle.bech32_gf.specs.Fe32.{elements_of};
 ghost use Rattle.bech32_decode.specs.Version.{version_of};
-ghost use Rattle.bech32_decode.specs.Text.{IsText, IsInGrammar, text_refusal};
+ghost use Rattle.bech32_decode.specs.Text.{IsText, IsInGrammar, IsRefusedAsText, text_refusal};
 
 use crate::characters::Quick;
 use crate::checked::CheckedHrpstring;
@@ -57,9 +57,7 @@ impl<'s> UncheckedHrpstring<'s> {
             × (unchecked_length u ≡ length s.now)) }
         ensures only { IfOk result (λ u. (h : List ℕ) → (d : List ℕ) → IsText s.now h d
             → (h ≡ unchecked_part u) × (d ≡ unchecked_data u)) }
-        ensures refused { MatchResult result
-            (λ u. text_refusal s.now ≡ None)
-            (λ e. text_refusal s.now ≡ Some e) }
+        ensures refused { IsRefusedAsText s.now result }
         ensures accepts { IsOk result ↔ IsInGrammar s.now }
     {
         let (part, data_part_ascii) = parts_in(s)?;

@@ -4,6 +4,7 @@
 //! Standard: BIP-173, Bech32 (the alphabet) and Checksum (the field).
 #![tactic(auto)]
 
+pub mod alphabet;
 pub mod arithmetic;
 pub mod field;
 pub mod gf32;

@@ -1,3 +1,4 @@
+pub mod Hints
 pub mod Hrp
 pub mod HrpBytes
 pub mod Iterators

@@ -1,6 +1,7 @@
 //! The bytes and characters of a human-readable part, in turn, from either end.
 
-ghost use Rattle.std.specs.Prelude.{◌≡◌, length, Some, IfSome};
+ghost use Rattle.std.specs.Prelude.{◌≡◌, IfSome};
+ghost use Rattle.bech32_hrp.specs.Hints.{IsHintFor};
 ghost use Rattle.bech32_hrp.specs.HrpBytes.{hrp_bytes};
 
 use crate::Hrp;
@@ -53,16 +54,13 @@ impl<'b> Iterator for ByteIter<'b> {
 
     #[inline]
     fn next(&mut self) -> Option<u8> {
-        let (first, rest) = self.rest.split_first()?;
-        self.rest = rest;
-        Some(*first)
+        Some(*self.rest.split_off_first()?)
     }
 
     fn size_hint(&self) -> (usize, Option<usize>)
         ensures lower { IsWithinCount result.0 (item_count hrp_bytes_to_come self.now) }
         ensures upper { IfSome result.1 (UpTo (item_count hrp_bytes_to_come self.now)) }
-        ensures exact { result
-            ≡ (length (hrp_bytes_to_come self.now), Some (length (hrp_bytes_to_come self.now))) }
+        ensures exact { IsHintFor result (hrp_bytes_to_come self.now) }
     {
         (self.len(), Some(self.len()))
     }
@@ -76,9 +74,7 @@ impl<'b> DoubleEndedIterator for ByteIter<'b> {
 
     #[inline]
     fn next_back(&mut self) -> Option<u8> {
-        let (last, rest) = self.rest.split_last()?;
-        self.rest = rest;
-        Some(*last)
+        Some(*self.rest.split_off_last()?)
     }
 }
 
@@ -103,15 +99,13 @@ impl<'b> Iterator for CharIter<'b> {
 
     #[inline]
     fn next(&mut self) -> Option<char> {
-        let first = self.bytes.next()?;
-        Some(char::from(first))
+        Some(char::from(self.bytes.next()?))
     }
 
     fn size_hint(&self) -> (usize, Option<usize>)
         ensures lower { IsWithinCount result.0 (item_count chars_to_come self.now) }
         ensures upper { IfSome result.1 (UpTo (item_count chars_to_come self.now)) }
-        ensures exact { result
-            ≡ (length (chars_to_come self.now), Some (length (chars_to_come self.now))) }
+        ensures exact { IsHintFor result (chars_to_come self.now) }
     {
         self.bytes.size_hint()
     }
@@ -125,8 +119,7 @@ impl<'b> DoubleEndedIterator for CharIter<'b> {
 
     #[inline]
     fn next_back(&mut self) -> Option<char> {
-        let last = self.bytes.next_back()?;
-        Some(char::from(last))
+        Some(char::from(self.bytes.next_back()?))
     }
 }
 

@@ -1,6 +1,7 @@
 //! The bytes and characters of a human-readable part in lower case, in turn, from either end.
 
-ghost use Rattle.std.specs.Prelude.{◌≡◌, length, Some, IfSome};
+ghost use Rattle.std.specs.Prelude.{◌≡◌, IfSome};
+ghost use Rattle.bech32_hrp.specs.Hints.{IsHintFor};
 ghost use Rattle.bech32_hrp.specs.HrpBytes.{lowered_bytes};
 
 use crate::{ByteIter, Hrp};
@@ -53,18 +54,13 @@ impl<'b> Iterator for LowercaseByteIter<'b> {
 
     #[inline]
     fn next(&mut self) -> Option<u8> {
-        let first = self.iter.next()?;
-        Some(first.to_ascii_lowercase())
+        Some(self.iter.next()?.to_ascii_lowercase())
     }
 
     fn size_hint(&self) -> (usize, Option<usize>)
         ensures lower { IsWithinCount result.0 (item_count lower_bytes_to_come self.now) }
         ensures upper { IfSome result.1 (UpTo (item_count lower_bytes_to_come self.now)) }
-        ensures exact { result
-            ≡ (
-              length (lower_bytes_to_come self.now),
-              Some (length (lower_bytes_to_come self.now)),
-            ) }
+        ensures exact { IsHintFor result (lower_bytes_to_come self.now) }
     {
         (self.len(), Some(self.len()))
     }
@@ -78,8 +74,7 @@ impl<'b> DoubleEndedIterator for LowercaseByteIter<'b> {
 
     #[inline]
     fn next_back(&mut self) -> Option<u8> {
-        let last = self.iter.next_back()?;
-        Some(last.to_ascii_lowercase())
+        Some(self.iter.next_back()?.to_ascii_lowercase())
     }
 }
 
@@ -104,18 +99,13 @@ impl<'b> Iterator for LowercaseCharIter<'b> {
 
     #[inline]
     fn next(&mut self) -> Option<char> {
-        let first = self.bytes.next()?;
-        Some(char::from(first))
+        Some(char::from(self.bytes.next()?))
     }
 
     fn size_hint(&self) -> (usize, Option<usize>)
         ensures lower { IsWithinCount result.0 (item_count lower_chars_to_come self.now) }
         ensures upper { IfSome result.1 (UpTo (item_count lower_chars_to_come self.now)) }
-        ensures exact { result
-            ≡ (
-              length (lower_chars_to_come self.now),
-              Some (length (lower_chars_to_come self.now)),
-            ) }
+        ensures exact { IsHintFor result (lower_chars_to_come self.now) }
     {
         self.bytes.size_hint()
     }
@@ -129,8 +119,7 @@ impl<'b> DoubleEndedIterator for LowercaseCharIter<'b> {
 
     #[inline]
     fn next_back(&mut self) -> Option<char> {
-        let last = self.bytes.next_back()?;
-        Some(char::from(last))
+        Some(char::from(self.bytes.next_back()?))
     }
 }
 

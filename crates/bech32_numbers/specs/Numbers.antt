@@ -40,6 +40,16 @@ use Rattle.bech32_refusals.specs.declared.segwit.WitnessLengthError.TheVariants.
   TooLong as LongProgram,
   InvalidSegwitV0,
 }
+use Rattle.bech32_correction.specs.declared.error.CorrectError.{CorrectError}
+use Rattle.bech32_correction.specs.declared.error.CorrectError.TheVariants.{
+  Refused as NotCorrected,
+  Memory as CorrectMemory,
+}
+use Rattle.bech32_near_edits.specs.declared.error.EditsError.{EditsError}
+use Rattle.bech32_near_edits.specs.declared.error.EditsError.TheVariants.{
+  Refused as NotEdited,
+  Memory as EditsMemory,
+}
 use Rattle.bech32.specs.declared.error.DecodeError.{DecodeError}
 use Rattle.bech32.specs.declared.error.DecodeError.TheVariants.{Parse, Checksum}
 use Rattle.bech32.specs.declared.error.DecodeError.TheVariants.{Memory as DecodeMemory}
@@ -110,6 +120,16 @@ number_of_no_correction = 34
 abbrev pub number_of_checked_error : CheckedHrpstringError → ℕ
 number_of_checked_error (NoText e) = number_of_text_error e
 number_of_checked_error (Refused e) = number_of_checksum_error e
+
+-- of a text that is not corrected, or near which none is looked for
+abbrev pub number_of_correct_error : CorrectError → ℕ
+number_of_correct_error (NotCorrected e) = number_of_checked_error e
+number_of_correct_error CorrectMemory = 91
+
+-- of a text of which no edits are looked for
+abbrev pub number_of_edits_error : EditsError → ℕ
+number_of_edits_error (NotEdited e) = number_of_text_error e
+number_of_edits_error EditsMemory = 91
 
 -- of bits behind the last whole byte that are refused
 abbrev pub number_of_padding_error : PaddingError → ℕ

@@ -12,6 +12,7 @@ ghost use Rattle.bech32_numbers.specs.Numbers.{IsSmall, number_of_hrp_error, num
 ghost use Rattle.bech32_numbers.specs.Numbers.{number_of_text_error, number_of_checksum_error};
 ghost use Rattle.bech32_numbers.specs.Numbers.{number_of_checked_error, number_of_padding_error};
 ghost use Rattle.bech32_numbers.specs.Numbers.{number_of_length_error, number_of_address_error};
+ghost use Rattle.bech32_numbers.specs.Numbers.{number_of_correct_error, number_of_edits_error};
 ghost use Rattle.bech32_numbers.specs.Numbers.{number_of_decode_error, number_of_encode_error};
 ghost use Rattle.bech32_numbers.specs.Numbers.{number_of_segwit_decode_error};
 ghost use Rattle.bech32_numbers.specs.Numbers.{number_of_segwit_encode_error};
@@ -27,7 +28,9 @@ use bech32::primitives::decode::{
 };
 use bech32::primitives::hrp;
 use bech32::primitives::segwit::WitnessLengthError;
-use bech32::{DecodeError, ElementsError, EncodeError, TextError, segwit};
+use bech32::{
+    CorrectError, DecodeError, EditsError, ElementsError, EncodeError, TextError, segwit,
+};
 
 /// The number of a text that a checksum refuses for its residue, and that no correction mends.
 pub const NO_CORRECTION: u8 = 34;
@@ -92,6 +95,28 @@ pub fn checked_error_number(e: CheckedHrpstringError) -> u8
     match e {
         CheckedHrpstringError::Parse(e) => text_error_number(e),
         CheckedHrpstringError::Checksum(e) => checksum_error_number(e),
+    }
+}
+
+/// The number, 11 to 33 or 91, of a text that is not corrected, or near which none is looked for.
+pub fn correct_error_number(e: CorrectError) -> u8
+    ensures value { result ≡ number_of_correct_error e }
+    ensures small { IsSmall result }
+{
+    match e {
+        CorrectError::Refused(e) => checked_error_number(e),
+        CorrectError::Memory => 91,
+    }
+}
+
+/// The number, 11 to 24 or 91, of a text of which no edits are looked for.
+pub fn edits_error_number(e: EditsError) -> u8
+    ensures value { result ≡ number_of_edits_error e }
+    ensures small { IsSmall result }
+{
+    match e {
+        EditsError::Refused(e) => text_error_number(e),
+        EditsError::Memory => 91,
     }
 }
 

@@ -8,7 +8,7 @@ use Rattle.bech32_hrp.specs.Hrp.{first_of}
 use Rattle.codex32.specs.Code.{codex32, long_codex32}
 use Rattle.codex32.specs.Encode.{code_of_byte_count, is_byte_count, is_long_byte_count}
 use Rattle.codex32.specs.HeaderParts.{threshold_number}
-use Rattle.codex32.specs.Split.{count_fault, first_texts, payload_count, random_fault, random_size, room_fault, secret_fault, split_refusal, text_size, unshared_split_fault}
+use Rattle.codex32.specs.Split.{count_fault, payload_count, random_fault, random_size, room_fault, secret_fault, split_refusal, text_size, unshared_split_fault}
 use Rattle.codex32.specs.declared.error.SplitError.TheVariants as refusals
 use Rattle.codex32.specs.declared.threshold.Threshold.{Threshold}
 use Rattle.codex32.proofs.Digits.{or_true}

@@ -2,7 +2,8 @@
 //!
 //! A table is read at an address that depends on what is looked up, and so it can be told from the
 //! time that it takes. Here each value is made of all bits by shifts, masks and sums. Each function
-//! has the contract of the plain one of another crate.
+//! has the contract of the plain one of another crate. The test of a byte in `bech32_gf::alphabet`
+//! is as steady, and serves here too.
 //!
 //! What the compiler makes of it is not proved: it is tested in the machine code.
 //!
@@ -21,6 +22,7 @@ ghost use Rattle.codex32_steady.specs.Masks.{masks_of, repeated_byte};
 mod products;
 
 use crate::products::PRODUCT_BITS;
+pub use bech32_gf::alphabet::is_data_byte;
 use bech32_gf::gf32::Fe32;
 
 // For each of the five bits of a value, by the keys of characters. Words are read two bits at a
@@ -137,20 +139,6 @@ pub fn chosen_sum(words: [u128; 5], bits: u8) -> u128
     let [a, b, c, d, e] = words;
     let low = a & mask_at(masks, 8) ^ b & mask_at(masks, 16) ^ c & mask_at(masks, 24);
     low ^ d & mask_at(masks, 32) ^ e & mask_at(masks, 40)
-}
-
-/// Whether a byte is of the alphabet: a letter or a digit, and none of `1`, `b`, `i` and `o`.
-#[inline]
-pub fn is_data_byte(b: u8) -> bool
-    ensures { result ≡ is_of_alphabet b }
-{
-    let lower = b | 32;
-    // 0 where one of these four is the same byte.
-    let apart = (lower ^ b'1')
-        .min(lower ^ b'b')
-        .min(lower ^ b'i')
-        .min(lower ^ b'o');
-    b.is_ascii_alphanumeric() & (apart != 0)
 }
 
 /// Whether bytes are of the alphabet. Each is looked at, and only whether all are can be told.

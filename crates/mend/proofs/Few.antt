@@ -13,7 +13,7 @@ use Rattle.bech32_near.specs.NearTexts.{AreNearTexts, AreNearestListings, IsNear
 use Rattle.bech32_near.proofs.Differing.{differences, few_outside}
 use Rattle.b32_replies.proofs.FewLocations.{each_few, each_given, no_more, same_erasures}
 use Rattle.line_program.specs.Refused.{SaysRefusal, err}
-use Rattle.mend.specs.Numbers.{number_of_correct_error}
+use Rattle.bech32_numbers.specs.Numbers.{number_of_correct_error}
 use Rattle.mend.specs.Reply.{IsNearTextsAnswer, IsNearTextsRefusal, SaysNear}
 use Rattle.mend.specs.Request.{errors_of_word}
 

@@ -8,7 +8,7 @@ use Rattle.bech32_correction.specs.declared.error.CorrectError.TheVariants.{Memo
 use Rattle.bech32_near.specs.NearTexts.{AreNearTexts}
 use Rattle.blech32.specs.Words.{blech32_code}
 use Rattle.line_program.specs.Refused.{SaysRefusal, err}
-use Rattle.mend.specs.Numbers.{number_of_correct_error}
+use Rattle.bech32_numbers.specs.Numbers.{number_of_correct_error}
 use Rattle.b32_replies.specs.Locations.{BeginsWithLocation, IsNoListOfLocations}
 use Rattle.mend.specs.Reply.{IsLiquidAnswer, IsLiquidAtAnswer, IsNearTextsRefusal, SaysLiquid}
 use Rattle.mend.specs.Request.{liquid_errors_of_word}

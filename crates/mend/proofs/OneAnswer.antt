@@ -16,7 +16,7 @@ use Rattle.b32_replies.specs.Locations.{AreLocations}
 use Rattle.b32_replies.proofs.OneAnswer.{one_list}
 use Rattle.b32_replies.proofs.Unrefused.{IsUtf8-from_grammar, accepted_unrefused, not_by_both, residue_unrefused}
 use Rattle.line_program.specs.Refused.{SaysRefusal, err}
-use Rattle.mend.specs.Numbers.{number_of_correct_error, number_of_edits_error}
+use Rattle.bech32_numbers.specs.Numbers.{number_of_correct_error, number_of_edits_error}
 use Rattle.mend.specs.Reply.{IsChecksumAnswer, IsEditsAnswer, IsFaultAnswer, IsNearTextsAnswer, IsNearTextsAtAnswer, IsNearTextsRefusal, SaysAccepted, SaysChecksum, SaysEdits, SaysNear}
 use Rattle.mend.specs.Request.{errors_of_word}
 

@@ -13,7 +13,7 @@ use Rattle.bech32_near_edits.specs.declared.error.EditsError.TheVariants as edit
 use Rattle.bech32_near_edits.specs.NearEdits.{AreNearEdits, IsEditsRefusal}
 use Rattle.line_program.specs.Added.{AddsOrSaysNumber}
 use Rattle.line_program.specs.Refused.{err}
-use Rattle.mend.specs.Numbers.{number_of_correct_error, number_of_edits_error}
+use Rattle.bech32_numbers.specs.Numbers.{number_of_correct_error, number_of_edits_error}
 use Rattle.mend.specs.Reply.{IsEditsAnswer, IsNearTextsAnswer, IsNearTextsRefusal, SaysNear, said_of_edit, spaced}
 use Rattle.mend.specs.Request.{errors_of_word}
 use Rattle.mend.proofs.Few.{SaysBy}

@@ -7,7 +7,7 @@ use Rattle.bech32_hrp.specs.Hrp.{hrp_refusal}
 use Rattle.bech32_suggest.specs.Suggestions.{AreSuggestions, IsSuggestRefusal, Suggested}
 use Rattle.bech32_suggest.proofs.Adding.{some_tried}
 use Rattle.line_program.specs.Refused.{err}
-use Rattle.mend.specs.Numbers.{number_of_edits_error}
+use Rattle.bech32_numbers.specs.Numbers.{number_of_edits_error}
 use Rattle.mend.specs.Reply.{IsSuggestAnswer, IsSuggestionsAnswer, said_of_suggestion}
 
 module _ {A : Type 0} (f : A → Suggested) where

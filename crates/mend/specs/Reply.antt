@@ -22,7 +22,12 @@ use Rattle.bech32_suggest.specs.declared.mendings.Mending.TheVariants.{Replaced,
 use Rattle.bech32_suggest.specs.declared.mendings.Mending.TheVariants.{LeftOut as LeftOutOne}
 use Rattle.bech32_suggest.specs.declared.mendings.Mending.TheVariants.{PutIn as PutInOne}
 use Rattle.bech32_suggest.specs.declared.mendings.Mending.TheVariants.{Swapped as SwappedTwo}
-use Rattle.bech32_numbers.specs.Numbers.{number_of_checked_error, number_of_hrp_error}
+use Rattle.bech32_numbers.specs.Numbers.{
+  number_of_checked_error,
+  number_of_correct_error,
+  number_of_edits_error,
+  number_of_hrp_error,
+}
 use Rattle.bech32_refusals.specs.declared.error.CheckedHrpstringError.{CheckedHrpstringError}
 use Rattle.bech32_calls.specs.Place.{IsPlace}
 use Rattle.bech32_descriptor.specs.Descriptor.{IsCheckRefusal, IsChecksum, IsDescriptor}
@@ -39,7 +44,7 @@ use Rattle.b32_replies.specs.Locations.{AreLocations, BeginsWithLocation, IsNoLi
 use Rattle.b32_replies.specs.Request.{code_of_name}
 use Rattle.line_program.specs.Refused.{SaysRefusal, err}
 use Rattle.mend.specs.Found.{said_of_found}
-use Rattle.mend.specs.Numbers.{number_of_correct_error, number_of_edits_error, number_of_mend_error}
+use Rattle.mend.specs.Numbers.{number_of_mend_error}
 use Rattle.mend.specs.Request.{MendRequest, Nearest, NearestAt, Edits, Fault, Suggest, Checksum}
 use Rattle.mend.specs.Request.{Liquid, LiquidAt, Descriptor, DescriptorCheck, DescriptorChecksum}
 use Rattle.mend.specs.Request.{errors_of_word, liquid_errors_of_word}

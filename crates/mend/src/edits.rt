@@ -4,26 +4,13 @@ ghost use Rattle.std.specs.Prelude.{◌≡◌, ◌+◌, ◌<◌, ◌≤◌, map,
 ghost use Rattle.bech32_near_edits.specs.NearEdits.{AreNearEdits, IsEditsRefusal};
 ghost use Rattle.b32_replies.specs.Request.{code_of_name};
 ghost use Rattle.line_program.specs.Added.{AddsOrSaysNumber};
-ghost use Rattle.mend.specs.Numbers.{number_of_edits_error};
 ghost use Rattle.mend.specs.Reply.{IsEditsAnswer, said_of_edit, word_of_change};
 
 use crate::found::{Found, append_found, push_found};
-use crate::numbers::NO_MEMORY;
 use b32_replies::ChecksumName;
 use bech32::{Bech32, Bech32m, Change, Edit, EditsError, NearEdit, near_edits};
-use bech32_numbers::text_error_number;
+use bech32_numbers::edits_error_number;
 use std::alloc::{AllocError, Global};
-
-// The number of a refusal.
-pub(crate) fn edits_error_number(e: EditsError) -> u8
-    ensures value { result ≡ number_of_edits_error e }
-    ensures small { result < 100 }
-{
-    match e {
-        EditsError::Refused(refusal) => text_error_number(refusal),
-        EditsError::Memory => NO_MEMORY,
-    }
-}
 
 // The texts that one edit makes of one, by a checksum.
 fn edits_by(

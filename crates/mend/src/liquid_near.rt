@@ -5,16 +5,16 @@ ghost use Rattle.blech32.specs.Words.{blech32_code};
 ghost use Rattle.line_program.specs.Added.{AddsOrSaysNumber};
 ghost use Rattle.line_program.specs.Refused.{err};
 ghost use Rattle.b32_replies.specs.Locations.{AreLocations, BeginsWithLocation, IsNoListOfLocations};
-ghost use Rattle.mend.specs.Numbers.{number_of_correct_error};
+ghost use Rattle.bech32_numbers.specs.Numbers.{number_of_correct_error};
 ghost use Rattle.mend.specs.Reply.{IsLiquidAnswer, IsNearTextsRefusal, SaysLiquid};
 ghost use Rattle.mend.specs.Request.{liquid_errors_of_word};
 
 use crate::command::errors_in;
 use crate::found::said_of;
-use crate::near::correct_error_number;
 use crate::numbers::{BAD_WORD, NO_MEMORY};
 use b32_replies::{Refusal, all_locations_of_word};
 use bech32::{CorrectError, nearest};
+use bech32_numbers::correct_error_number;
 use line_program::append_any;
 use liquid::Blech32;
 use std::alloc::Global;

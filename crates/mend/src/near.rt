@@ -5,7 +5,6 @@ ghost use Rattle.bech32_checksum.specs.Roots.{singleton_bound};
 ghost use Rattle.bech32_near.specs.NearTexts.{AreNearTexts, IsNearestRefusal};
 ghost use Rattle.b32_replies.specs.Request.{code_of_name};
 ghost use Rattle.line_program.specs.Added.{AddsOrSaysNumber};
-ghost use Rattle.mend.specs.Numbers.{number_of_correct_error};
 ghost use Rattle.mend.specs.Reply.{IsNearTextsAnswer, IsNearTextsRefusal, SaysNear};
 
 use crate::command::errors_in;
@@ -13,20 +12,9 @@ use crate::found::{Found, said_of};
 use crate::numbers::{BAD_WORD, NO_MEMORY};
 use b32_replies::ChecksumName;
 use bech32::{Bech32, Bech32m, CorrectError, Mended, nearest};
-use bech32_numbers::checked_error_number;
+use bech32_numbers::correct_error_number;
 use line_program::append_any;
 use std::alloc::{AllocError, Global};
-
-// The number of a refusal.
-pub(crate) fn correct_error_number(e: CorrectError) -> u8
-    ensures value { result ≡ number_of_correct_error e }
-    ensures small { result < 100 }
-{
-    match e {
-        CorrectError::Refused(refusal) => checked_error_number(refusal),
-        CorrectError::Memory => NO_MEMORY,
-    }
-}
 
 // The texts near one by a checksum.
 fn near_by(

@@ -4,10 +4,9 @@ ghost use Rattle.std.specs.Prelude.{◌≡◌, ◌+◌, ◌<◌, ◌≤◌, stri
 ghost use Rattle.line_program.specs.Added.{AddsOrSaysNumber};
 ghost use Rattle.mend.specs.Reply.{IsSuggestAnswer, said_of_suggestion, word_of_mending};
 
-use crate::edits::edits_error_number;
 use crate::found::{Found, append_found, push_found};
 use bech32::Hrp;
-use bech32_numbers::hrp_error_number;
+use bech32_numbers::{edits_error_number, hrp_error_number};
 use bech32_suggest::{Mending, Suggestion};
 use std::alloc::{AllocError, Global};
 

@@ -3,4 +3,4 @@ use Rattle.bech32_decode.proofs.EightAtOnce.{element_is}
 use Rattle.bech32_decode.proofs.eights.element_at.Goals as goal
 
 pub returns : goal.returns
-returns c = element_is c.args.character _ _ _ c.at_0.ensures.value refl c.from_low_bits.ensures
+returns c = element_is c.args.character _ _ _ c.at_place.ensures.value refl c.from_low_bits.ensures

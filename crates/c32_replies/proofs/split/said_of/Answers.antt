@@ -1,5 +1,4 @@
 use Rattle.std.proofs.Common.{◌≡◌, ◌∙◌, ◌+◌, ◌-◌, ◌*◌, ℕ, suc, List, [], ◌∷◌, ◌++◌, take, sym, ap, arith, rules}
-use Rattle.codex32.specs.Split.{first_texts}
 use Rattle.c32_replies.specs.Split.{spaced_shares}
 use Rattle.c32_replies.proofs.Shares.{told-more}
 use Rattle.c32_replies.proofs.split.said_of.Goals as goal

@@ -1,5 +1,4 @@
 use Rattle.std.proofs.Common.{◌≡◌, ◌-◌, ◌*◌, ◌++◌, codes, length}
-use Rattle.codex32.specs.Split.{first_texts}
 use Rattle.c32_replies.specs.Split.{spaced_shares}
 use Rattle.c32_replies.proofs.split.said_of.Given as goal
 

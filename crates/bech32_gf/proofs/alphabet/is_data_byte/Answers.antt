@@ -3,7 +3,7 @@ use mathlib.Core.Bool.{not}
 use Rattle.std.proofs.lemmas.Bool.{agree_below_at}
 use Rattle.std.specs.Char.{is_ascii_alphanumeric}
 use Rattle.bech32_gf.specs.Alphabet.{is_of_alphabet}
-use Rattle.bech32_decode.proofs.characters.is_data_byte.Goals as goal
+use Rattle.bech32_gf.proofs.alphabet.is_data_byte.Goals as goal
 
 abbrev apart : ℕ → ℕ
 apart b = min (min (min (bit_xor (bit_or b 32) 49) (bit_xor (bit_or b 32) 98)) (bit_xor (bit_or b 32) 105)) (bit_xor (bit_or b 32) 111)
