@@ -10,8 +10,8 @@ ghost use Rattle.bech32_columns.specs.Validity.{PutsValidity, accepted_of};
 use bech32_calls::refusal::Refusal;
 use bech32_columns::check::check_many;
 use bech32_columns::column::Column;
-use bech32_columns::decode::decode_many;
-use bech32_columns::encode::encode_many;
+use bech32_columns::decode::{Addresses, decode_many};
+use bech32_columns::encode::{Programs, encode_many};
 use bech32_columns::validity::put_validity;
 
 // Tells how many rows are put, and returns the number of the call: 92 where not all are.
@@ -101,17 +101,20 @@ pub extern "C" fn bech32_segwit_decode_many(
         × (program_offsets.new ≡ program_offsets.old) × (programs.new ≡ programs.old)
         × (done.new ≡ done.old) }
 {
-    let rows = decode_many(
-        texts,
+    let rows = Addresses {
+        column: *texts,
         first,
         hrp,
+    };
+    let put = decode_many(
+        &rows,
         numbers,
         versions,
         hrp_lengths,
         program_offsets,
         programs,
     );
-    match rows {
+    match put {
         Some(rows) => told(rows, numbers.len(), done),
         None => Refusal::BadNumber.number(),
     }
@@ -156,7 +159,13 @@ pub extern "C" fn bech32_segwit_encode_many(
         × (text_offsets.new ≡ text_offsets.old) × (texts.new ≡ texts.old)
         × (done.new ≡ done.old) }
 {
-    match encode_many(hrp, versions, programs, first, numbers, text_offsets, texts) {
+    let rows = Programs {
+        column: *programs,
+        first,
+        hrp,
+        versions,
+    };
+    match encode_many(&rows, numbers, text_offsets, texts) {
         Some(rows) => told(rows, numbers.len(), done),
         None => Refusal::BadNumber.number(),
     }

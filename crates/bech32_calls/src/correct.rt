@@ -22,9 +22,9 @@ use bech32::{Bech32, Bech32m, Fe32};
 use bech32_correction::{CorrectsInPlace, found_of_read, mend, searched_of_read};
 use bech32_decode::Reading;
 
-// Puts the locations and the values of a listing at the fronts of buffers that have room for them.
+/// Puts the locations and the values of a listing at the fronts of buffers that have room for them.
 #[inline(always)]
-fn put_listing(listing: &[(usize, Fe32)], locations: &mut [usize], values: &mut [u8])
+pub fn put_listing(listing: &[(usize, Fe32)], locations: &mut [usize], values: &mut [u8])
     requires locations { length listing.now ≤ length locations.old }
     requires values { length listing.now ≤ length values.old }
     ensures locations { IsPut (locations_of listing.now)
@@ -39,10 +39,10 @@ fn put_listing(listing: &[(usize, Fe32)], locations: &mut [usize], values: &mut 
     }
 }
 
-// Puts a text in lower case, with a listing's values added, at the front of a buffer that has room
-// for it.
+/// Puts a text in lower case, with a listing's values added, at the front of a buffer that has room
+/// for it.
 #[inline(always)]
-fn put_mended(buffer: &mut [u8], text: &[u8], listing: &[(usize, Fe32)])
+pub fn put_mended(buffer: &mut [u8], text: &[u8], listing: &[(usize, Fe32)])
     requires room { length text.now ≤ length buffer.old }
     requires inside { (front : List ℕ)
         × ((elements : List Element) × EndsIn (lowered text.now) front elements

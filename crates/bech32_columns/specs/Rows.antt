@@ -14,13 +14,17 @@ cut most bytes start end =
     then Some (take (end - start) (drop start bytes))
     else None
 
+-- the width of numbers of four bytes, or of eight
+abbrev pub offset_width : ℕ → Width
+offset_width size = if size == 4 then w32 else w64
+
 -- the bytes of row i by its two offsets of so many bytes each, the lowest first, where they are
 -- there; one above the most is negative
-abbrev pub row_by : Width → ℕ → ℕ → List ℕ → List ℕ → ℕ → Option (List ℕ)
-row_by w size most bytes offsets i =
+abbrev pub row_of_size : ℕ → ℕ → List ℕ → List ℕ → ℕ → Option (List ℕ)
+row_of_size size most bytes offsets i =
     if nat_lt (i + 1) (length offsets / size)
-    then cut most bytes (from_le_bytes w (take size (drop (size * i) offsets)))
-    (from_le_bytes w (take size (drop (size * (i + 1)) offsets)))
+    then cut most bytes (from_le_bytes (offset_width size) (take size (drop (size * i) offsets)))
+    (from_le_bytes (offset_width size) (take size (drop (size * (i + 1)) offsets)))
     else None
 
 -- the bytes of row i where all have one width
@@ -39,8 +43,8 @@ some_without_zeros None = None
 -- the bytes of row i, where they are in the column
 abbrev pub bytes_of_row : Column → ℕ → Option (List ℕ)
 bytes_of_row c i =
-    if c.layout == 1 then row_by w32 4 2_147_483_647 c.bytes.now c.offsets.now i
-    else (if c.layout == 2 then row_by w64 8 9_223_372_036_854_775_807 c.bytes.now c.offsets.now i
+    if c.layout == 1 then row_of_size 4 2_147_483_647 c.bytes.now c.offsets.now i
+    else (if c.layout == 2 then row_of_size 8 9_223_372_036_854_775_807 c.bytes.now c.offsets.now i
     else (if c.layout == 3 then row_of_width c.bytes.now c.width i
     else some_without_zeros (row_of_width c.bytes.now c.width i)))
 

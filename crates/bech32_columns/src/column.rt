@@ -1,8 +1,8 @@
 //! Columns and their rows.
 
-ghost use Rattle.std.specs.Prelude.{◌≡◌, ◌≤◌, ◌<◌, ◌+◌, ◌*◌, ◌/◌, ◌%◌, ◌^◌, ◌↔◌, IsTrue, MatchOption, MatchResult, None, Some, Ok, Err, drop, length, take};
+ghost use Rattle.std.specs.Prelude.{◌≡◌, ◌≤◌, ◌<◌, ◌+◌, ◌*◌, ◌/◌, ◌%◌, ◌^◌, ◌↔◌, ◌⊎◌, IsTrue, MatchOption, MatchResult, None, Some, Ok, Err, drop, length, take};
 ghost use Rattle.std.specs.Int.{from_le_bytes, w32, w64};
-ghost use Rattle.bech32_columns.specs.Rows.{HasRows, bit, bytes_of_row, cut, found, row_by, row_of, row_of_width, without_zeros};
+ghost use Rattle.bech32_columns.specs.Rows.{HasRows, bit, bytes_of_row, cut, found, row_of, row_of_size, row_of_width, offset_width, without_zeros};
 
 /// A column: row i has the bytes from offset i up to offset i + 1, or those from `i * width` up to
 /// `(i + 1) * width`.
@@ -62,39 +62,40 @@ fn number_of_8(bytes: &[u8], at: usize) -> usize
     u64::from_le_bytes([b[0], b[1], b[2], b[3], b[4], b[5], b[6], b[7]]) as usize
 }
 
-// The bytes of row i by offsets of 32 bits.
+// The offset from a place on, which has four bytes or eight.
 #[inline(always)]
-fn row_by_32<'a>(bytes: &'a [u8], offsets: &[u8], i: usize) -> Option<&'a [u8]>
-    requires { i < usize.MAX }
-    ensures { MatchOption result
-        (row_by w32 4 2_147_483_647 bytes.now offsets.now i ≡ None)
-        (λ r. row_by w32 4 2_147_483_647 bytes.now offsets.now i ≡ Some r.now) }
+fn offset_at(offsets: &[u8], size: usize, at: usize) -> usize
+    requires size { (size ≡ 4) ⊎ (size ≡ 8) }
+    requires inside { at + size ≤ length offsets.now }
+    ensures { result ≡ from_le_bytes (offset_width size) (take size (drop at offsets.now)) }
 {
-    if i + 1 >= offsets.len() / 4 {
-        return None;
+    if size == 4 {
+        number_of_4(offsets, at)
+    } else {
+        number_of_8(offsets, at)
     }
-    let start = number_of_4(offsets, 4 * i);
-    part_of(0x7FFF_FFFF, bytes, start, number_of_4(offsets, 4 * (i + 1)))
 }
 
-// The same by offsets of 64 bits.
+// The bytes of row i by offsets of one size, none of them above the most.
 #[inline(always)]
-fn row_by_64<'a>(bytes: &'a [u8], offsets: &[u8], i: usize) -> Option<&'a [u8]>
-    requires { i < usize.MAX }
+fn row_by<'a>(
+    bytes: &'a [u8],
+    offsets: &[u8],
+    size: usize,
+    most: usize,
+    i: usize,
+) -> Option<&'a [u8]>
+    requires size { (size ≡ 4) ⊎ (size ≡ 8) }
+    requires row { i < usize.MAX }
     ensures { MatchOption result
-        (row_by w64 8 9_223_372_036_854_775_807 bytes.now offsets.now i ≡ None)
-        (λ r. row_by w64 8 9_223_372_036_854_775_807 bytes.now offsets.now i ≡ Some r.now) }
+        (row_of_size size most bytes.now offsets.now i ≡ None)
+        (λ r. row_of_size size most bytes.now offsets.now i ≡ Some r.now) }
 {
-    if i + 1 >= offsets.len() / 8 {
+    if i + 1 >= offsets.len() / size {
         return None;
     }
-    let start = number_of_8(offsets, 8 * i);
-    part_of(
-        0x7FFF_FFFF_FFFF_FFFF,
-        bytes,
-        start,
-        number_of_8(offsets, 8 * (i + 1)),
-    )
+    let start = offset_at(offsets, size, size * i);
+    part_of(most, bytes, start, offset_at(offsets, size, size * (i + 1)))
 }
 
 // The bytes of row i where all have one width.
@@ -156,8 +157,8 @@ impl<'a> Column<'a> {
             (λ r. bytes_of_row self.now i ≡ Some r.now) }
     {
         match self.layout {
-            1 => row_by_32(self.bytes, self.offsets, i),
-            2 => row_by_64(self.bytes, self.offsets, i),
+            1 => row_by(self.bytes, self.offsets, 4, 0x7FFF_FFFF, i),
+            2 => row_by(self.bytes, self.offsets, 8, 0x7FFF_FFFF_FFFF_FFFF, i),
             3 => row_by_width(self.bytes, self.width, i),
             _ => match row_by_width(self.bytes, self.width, i) {
                 Some(bytes) => Some(before_zeros(bytes)),

@@ -17,6 +17,17 @@ const HRP: usize = 83;
 
 const PROGRAM: usize = 40;
 
+/// Rows of a column of addresses, and the human-readable part that is wanted of them.
+#[derive(Clone, Copy)]
+pub struct Addresses<'a> {
+    /// The column.
+    pub column: Column<'a>,
+    /// The first row.
+    pub first: usize,
+    /// The human-readable part, in either case; any is wanted, where it is empty.
+    pub hrp: &'a [u8],
+}
+
 // What is said of a row, beside its program, which has `count` bytes.
 #[derive(Clone, Copy)]
 struct Address {
@@ -143,28 +154,26 @@ fn kept(program: &[u8], count: usize, places: usize) -> &[u8]
     &program[..count]
 }
 
-// Puts what is said of this many rows from one on, and returns how many are put: fewer where a
-// program does not fit.
+// Puts what is said of this many rows, and returns how many are put: fewer where a program does not
+// fit.
 fn put_rows(
-    column: &Column<'_>,
-    first: usize,
+    rows: &Addresses<'_>,
     most: usize,
-    hrp: &[u8],
     numbers: &mut [u8],
     versions: &mut [u8],
     hrp_lengths: &mut [u8],
     offsets: &mut [u32],
     programs: &mut [u8],
 ) -> usize
-    requires rows { first + most ≤ column.now.rows }
+    requires rows { rows.now.first + most ≤ rows.now.column.rows }
     requires most { most ≤ length numbers.old }
     requires room { ¬ (LacksItems (length versions.old) (length hrp_lengths.old)
         (length offsets.old) most) }
     requires full { most ≢ length numbers.old → LacksItems (length versions.old)
         (length hrp_lengths.old) (length offsets.old) (most + 1) }
-    ensures { PutsAddresses column.now first hrp.now numbers.old numbers.new
-        versions.old versions.new hrp_lengths.old hrp_lengths.new offsets.old offsets.new
-        programs.old programs.new result }
+    ensures { PutsAddresses rows.now.column rows.now.first rows.now.hrp.now
+        numbers.old numbers.new versions.old versions.new hrp_lengths.old hrp_lengths.new
+        offsets.old offsets.new programs.old programs.new result }
 {
     // As many bytes as a human-readable part and a program have at most.
     let mut part = [0; 83];
@@ -174,7 +183,13 @@ fn put_rows(
     let mut end = 0;
     put_item(offsets, 0, 0);
     for i in 0..most {
-        let row = decode_row(column, first + i, hrp, &mut part, &mut program);
+        let row = decode_row(
+            &rows.column,
+            rows.first + i,
+            rows.hrp,
+            &mut part,
+            &mut program,
+        );
         let kept = kept(&program, row.count, places);
         if kept.len() > room - end {
             return i;
@@ -189,36 +204,37 @@ fn put_rows(
     most
 }
 
-/// Decodes the rows from one on, as many as there are numbers. Of each its number is put, its
-/// witness version, the length of its human-readable part, with which the text begins, and its
-/// program: they stand in `programs` one behind another, from `offsets[i]` up to `offsets[i + 1]`.
-/// Where the number is not 0, there are no others: they are 0, and the program is empty. What has a
-/// room of 0 is not put; and no program is where there is none for offsets. An address whose
-/// human-readable part is not `hrp`, in either case, is refused, unless `hrp` is empty.
+/// Decodes the rows, as many as there are numbers. Of each its number is put, its witness version,
+/// the length of its human-readable part, with which the text begins, and its program: they stand
+/// in `programs` one behind another, from `offsets[i]` up to `offsets[i + 1]`. Where the number is
+/// not 0, there are no others: they are 0, and the program is empty. What has a room of 0 is not
+/// put; and no program is where there is none for offsets. An address whose human-readable part is
+/// not the wanted one is refused.
 ///
 /// Returns how many rows are put: all, or as many as there is room for in all buffers, and as have
 /// less than 2^31 bytes of programs. Nothing, where there are no such rows, or the column has no
 /// layout: then it puts nothing.
 pub fn decode_many(
-    column: &Column<'_>,
-    first: usize,
-    hrp: &[u8],
+    rows: &Addresses<'_>,
     numbers: &mut [u8],
     versions: &mut [u8],
     hrp_lengths: &mut [u8],
     offsets: &mut [u32],
     programs: &mut [u8],
 ) -> Option<usize>
-    ensures value { IfSome result (λ done. PutsAddresses column.now first hrp.now
-        numbers.old numbers.new versions.old versions.new hrp_lengths.old hrp_lengths.new
+    ensures value { IfSome result (λ done. PutsAddresses
+        rows.now.column rows.now.first rows.now.hrp.now numbers.old numbers.new
+        versions.old versions.new hrp_lengths.old hrp_lengths.new
         offsets.old offsets.new programs.old programs.new done) }
-    ensures refused { IfNone result (¬ (HasRows column.now first (length numbers.old))) }
-    ensures accepts { IfSome result (λ _. HasRows column.now first (length numbers.old)) }
+    ensures refused { IfNone result
+        (¬ (HasRows rows.now.column rows.now.first (length numbers.old))) }
+    ensures accepts { IfSome result
+        (λ _. HasRows rows.now.column rows.now.first (length numbers.old)) }
     ensures same { IfNone result ((numbers.new ≡ numbers.old) × (versions.new ≡ versions.old)
         × (hrp_lengths.new ≡ hrp_lengths.old) × (offsets.new ≡ offsets.old)
         × (programs.new ≡ programs.old)) }
 {
-    if !column.has_rows(first, numbers.len()) {
+    if !rows.column.has_rows(rows.first, numbers.len()) {
         return None;
     }
     let most = most_rows(
@@ -228,10 +244,8 @@ pub fn decode_many(
         offsets.len(),
     );
     Some(put_rows(
-        column,
-        first,
+        rows,
         most,
-        hrp,
         numbers,
         versions,
         hrp_lengths,

@@ -11,6 +11,19 @@ use crate::put::{put_item, room_in};
 use bech32_calls::refusal::Refusal;
 use bech32_calls::segwit::encoded;
 
+/// Rows of a column of programs, and what they are encoded with.
+#[derive(Clone, Copy)]
+pub struct Programs<'a> {
+    /// The column.
+    pub column: Column<'a>,
+    /// The first row.
+    pub first: usize,
+    /// The human-readable part of all addresses.
+    pub hrp: &'a [u8],
+    /// The witness version of each row, from the first on.
+    pub versions: &'a [u8],
+}
+
 // What is put of a row: its number, and the length of its address.
 #[derive(Clone, Copy)]
 struct Text {
@@ -77,32 +90,29 @@ fn encode_row(
     }
 }
 
-// Puts the addresses of this many rows from one on, and returns how many are put: fewer where one
-// does not fit.
+// Puts the addresses of this many rows, and returns how many are put: fewer where one does not fit.
 fn put_rows(
-    column: &Column<'_>,
-    first: usize,
+    rows: &Programs<'_>,
     most: usize,
-    hrp: &[u8],
-    versions: &[u8],
     numbers: &mut [u8],
     offsets: &mut [u32],
     texts: &mut [u8],
 ) -> usize
-    requires rows { first + most ≤ column.now.rows }
-    requires versions { most ≤ length versions.now }
+    requires rows { rows.now.first + most ≤ rows.now.column.rows }
+    requires versions { most ≤ length rows.now.versions.now }
     requires most { most ≤ length numbers.old }
     requires room { (most ≡ 0) ⊎ (most < length offsets.old) }
     requires full { most ≢ length numbers.old → length offsets.old ≤ most + 1 }
-    ensures { PutsTexts column.now first hrp.now versions.now numbers.old numbers.new
-        offsets.old offsets.new texts.old texts.new result }
+    ensures { PutsTexts rows.now.column rows.now.first rows.now.hrp.now rows.now.versions.now
+        numbers.old numbers.new offsets.old offsets.new texts.old texts.new result }
 {
     let room = room_in(texts);
     let mut end = 0;
     put_item(offsets, 0, 0);
     for i in 0..most {
-        let Some(row) = encode_row(column, first + i, hrp, versions[i], &mut texts[end..room])
-        else {
+        let text = &mut texts[end..room];
+        let version = rows.versions[i];
+        let Some(row) = encode_row(&rows.column, rows.first + i, rows.hrp, version, text) else {
             return i;
         };
         end += row.count;
@@ -112,35 +122,34 @@ fn put_rows(
     most
 }
 
-/// Encodes the rows from one on, as many as there are numbers, as segwit addresses of one
-/// human-readable part: row `first + i` by the witness version `versions[i]`. Of each its number is
-/// put, and its address, in lower case: they stand in `texts` one behind another, from `offsets[i]`
-/// up to `offsets[i + 1]`. Where the number is not 0, the address is empty.
+/// Encodes the rows, as many as there are numbers, as segwit addresses: row `first + i` by the
+/// witness version `versions[i]`. Of each its number is put, and its address, in lower case: they
+/// stand in `texts` one behind another, from `offsets[i]` up to `offsets[i + 1]`. Where the number
+/// is not 0, the address is empty.
 ///
 /// Returns how many rows are put: all, or as many as there is room for in all buffers, and as have
 /// less than 2^31 characters. Nothing, where there are no such rows, fewer versions, or the column
 /// has no layout: then it puts nothing.
 pub fn encode_many(
-    hrp: &[u8],
-    versions: &[u8],
-    column: &Column<'_>,
-    first: usize,
+    rows: &Programs<'_>,
     numbers: &mut [u8],
     offsets: &mut [u32],
     texts: &mut [u8],
 ) -> Option<usize>
-    ensures value { IfSome result (λ done. PutsTexts column.now first hrp.now versions.now
+    ensures value { IfSome result (λ done. PutsTexts
+        rows.now.column rows.now.first rows.now.hrp.now rows.now.versions.now
         numbers.old numbers.new offsets.old offsets.new texts.old texts.new done) }
-    ensures refused { IfNone result ((HasRows column.now first (length numbers.old)
-        → length versions.now < length numbers.old)) }
-    ensures accepts { IfSome result (λ _. HasRows column.now first (length numbers.old)
-        × (length numbers.old ≤ length versions.now)) }
+    ensures refused { IfNone result (HasRows rows.now.column rows.now.first (length numbers.old)
+        → length rows.now.versions.now < length numbers.old) }
+    ensures accepts { IfSome result
+        (λ _. HasRows rows.now.column rows.now.first (length numbers.old)
+        × (length numbers.old ≤ length rows.now.versions.now)) }
     ensures same { IfNone result ((numbers.new ≡ numbers.old) × (offsets.new ≡ offsets.old)
         × (texts.new ≡ texts.old)) }
 {
-    if !column.has_rows(first, numbers.len()) || versions.len() < numbers.len() {
+    if !rows.column.has_rows(rows.first, numbers.len()) || rows.versions.len() < numbers.len() {
         return None;
     }
     let most = numbers.len().min(offsets.len().saturating_sub(1));
-    Some(put_rows(column, first, most, hrp, versions, numbers, offsets, texts))
+    Some(put_rows(rows, most, numbers, offsets, texts))
 }

@@ -6,7 +6,7 @@ use Rattle.bech32_columns.proofs.decode.put_rows.Goals as goal
 
 pub loop-i-init : goal.loop-i-init
 loop-i-init c = record {
-  so_far = addresses-none c.args.column.now c.args.first c.args.hrp.now c.args.numbers.now c.args.versions.now c.args.hrp_lengths.now c.args.offsets.now c.args.programs.now
+  so_far = addresses-none c.args.rows.now.column c.args.rows.now.first c.args.rows.now.hrp.now c.args.numbers.now c.args.versions.now c.args.hrp_lengths.now c.args.offsets.now c.args.programs.now
       c.put_item.new.buffer (c.put_item.ensures [] c.args.offsets.now refl (held-none c.args.offsets.now));
   within = omega arith;
 }
@@ -20,7 +20,7 @@ returns-then-kept-room c =
       program = take c.decode_row-row.result.count c.decode_row-row.new.program;
     } in
     let is : c.kept-kept.result.now ≡ program_of c.args.offsets.now row = c.kept-kept.ensures in
-    addresses-some c.args.column.now c.args.first c.args.hrp.now c.args.numbers.now c.args.versions.now c.args.hrp_lengths.now c.args.offsets.now c.args.programs.now
+    addresses-some c.args.rows.now.column c.args.rows.now.first c.args.rows.now.hrp.now c.args.numbers.now c.args.versions.now c.args.hrp_lengths.now c.args.offsets.now c.args.programs.now
     c.loop-i.numbers c.loop-i.versions c.loop-i.hrp_lengths c.loop-i.offsets c.loop-i.programs c.loop-i.i c.loop-i.end c.loop-i.invariant.so_far
     (omega (arith, c.loop-i-test.true, c.requires.most))
     (λ l. c.requires.room (lacks-more _ _ _ c.loop-i.i c.args.most (omega (arith, c.loop-i-test.true)) l))
@@ -36,7 +36,7 @@ loop-i-preserved c =
     } in
     let is : c.kept-kept.result.now ≡ program_of c.args.offsets.now row = c.kept-kept.ensures in
     record {
-      so_far = addresses-more c.args.column.now c.args.first c.args.hrp.now c.args.numbers.now c.args.versions.now c.args.hrp_lengths.now c.args.offsets.now c.args.programs.now
+      so_far = addresses-more c.args.rows.now.column c.args.rows.now.first c.args.rows.now.hrp.now c.args.numbers.now c.args.versions.now c.args.hrp_lengths.now c.args.offsets.now c.args.programs.now
           c.loop-i.numbers c.loop-i.versions c.loop-i.hrp_lengths c.loop-i.offsets c.loop-i.programs c.loop-i.i c.loop-i.end c.loop-i.invariant.so_far
           row c.kept-kept.result.now c.put_item-in-loop-i-2.new.buffer c.put_item-in-loop-i-3.new.buffer c.put_item-in-loop-i-4.new.buffer c.put_item-in-loop-i.new.buffer c.put_bytes.new.buffer
           c.decode_row-row.ensures.said is

@@ -7,7 +7,7 @@ use Rattle.bech32_columns.proofs.encode.put_rows.Goals as goal
 
 pub loop-i-init : goal.loop-i-init
 loop-i-init c = record {
-  so_far = texts-none c.args.column.now c.args.first c.args.hrp.now c.args.versions.now c.args.numbers.now c.args.offsets.now c.args.texts.now
+  so_far = texts-none c.args.rows.now.column c.args.rows.now.first c.args.rows.now.hrp.now c.args.rows.now.versions.now c.args.numbers.now c.args.offsets.now c.args.texts.now
       c.put_item.new.buffer (c.put_item.ensures [] c.args.offsets.now refl (held-none c.args.offsets.now));
   within = omega arith;
 }
@@ -22,9 +22,9 @@ returns-in_default c =
     let row : TextRow = record { number = 0; text = written } in
     let room : (c.loop-i.i ≡ 0) ⊎ (c.loop-i.i < length c.args.offsets.now) =
     ⊎_elim (λ (z : c.args.most ≡ 0). inl (omega (arith, z, c.loop-i-test.true))) (λ (l : c.args.most < length c.args.offsets.now). inr (omega (arith, l, c.loop-i-test.true))) c.requires.room in
-    subst (λ (t : List ℕ). PutsTexts c.args.column.now c.args.first c.args.hrp.now c.args.versions.now c.args.numbers.now c.loop-i.numbers c.args.offsets.now c.loop-i.offsets c.args.texts.now t c.loop-i.i)
+    subst (λ (t : List ℕ). PutsTexts c.args.rows.now.column c.args.rows.now.first c.args.rows.now.hrp.now c.args.rows.now.versions.now c.args.numbers.now c.loop-i.numbers c.args.offsets.now c.loop-i.offsets c.args.texts.now t c.loop-i.i)
     (sym (put_mid-same end k xs c.encode_row.new.text c.in_default.ensures.same))
-    (texts-some c.args.column.now c.args.first c.args.hrp.now c.args.versions.now c.args.numbers.now c.args.offsets.now c.args.texts.now
+    (texts-some c.args.rows.now.column c.args.rows.now.first c.args.rows.now.hrp.now c.args.rows.now.versions.now c.args.numbers.now c.args.offsets.now c.args.texts.now
     c.loop-i.numbers c.loop-i.offsets xs c.loop-i.i end c.loop-i.invariant.so_far
     (omega (arith, c.loop-i-test.true, c.requires.most)) room row said
     (omega (arith, lacks, part-size end k xs within, c.room_in-room.ensures, c.loop-i.invariant.within)))
@@ -40,7 +40,7 @@ loop-i-preserved c =
     let size : c.in-Some.row.count ≡ length written = put.count_is in
     let few : c.in-Some.row.count ≤ k = omega (arith, put.fits, size, part-size end k xs within) in
     record {
-      so_far = texts-more c.args.column.now c.args.first c.args.hrp.now c.args.versions.now c.args.numbers.now c.args.offsets.now c.args.texts.now
+      so_far = texts-more c.args.rows.now.column c.args.rows.now.first c.args.rows.now.hrp.now c.args.rows.now.versions.now c.args.numbers.now c.args.offsets.now c.args.texts.now
           c.loop-i.numbers c.loop-i.offsets xs c.loop-i.i end c.loop-i.invariant.so_far
           row c.in-Some.row.count c.put_item-in-loop-i-2.new.buffer c.put_item-in-loop-i.new.buffer (put_mid end k xs c.encode_row.new.text) size said
           (omega (arith, few, c.room_in-room.ensures, c.loop-i.invariant.within)) (omega (arith, few, c.room_in-room.ensures, c.loop-i.invariant.within))
