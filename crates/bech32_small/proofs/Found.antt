@@ -1,7 +1,7 @@
 -- What is found for the row in which a remainder differs from a target says how the text is mended.
 use Rattle.std.specs.List.{AllByRecursion}
 use Rattle.std.specs.Prelude.{◌≢◌, slice_index}
-use Rattle.std.proofs.Common.{◌≡◌, ◌<◌, ◌≤◌, ◌+◌, ◌*◌, ◌⊎◌, inl, inr, ℕ, List, [], ◌∷◌, length, take, Option, Some, None, MatchOption, refl, sym, ap, ◌∙◌, subst, arith}
+use Rattle.std.proofs.Common.{◌≡◌, ◌<◌, ◌≤◌, ◌+◌, ◌*◌, ◌⊎◌, inl, inr, ℕ, List, [], ◌∷◌, length, Option, Some, None, MatchOption, refl, sym, ap, ◌∙◌, subst, arith}
 use Rattle.bech32_gf.specs.Field.{power, value_at}
 use Rattle.bech32_gf.specs.Fe32 as fe32
 use Rattle.bech32_gf.specs.declared.gf32.Fe32.{Fe32}
@@ -42,21 +42,23 @@ IsBeside window residue erasure found = MatchOption found
     × ((v : Fe32) × ((listing ≡ (erasure, v) ∷ [])
     ⊎ ((error : ℕ × Fe32) × (listing ≡ (erasure, v) ∷ error ∷ []) × (error.0 < window) × (error.0 ≢ erasure) × (error.1 ≢ fe32.zero)))))
 
--- the first of three locations
-pub first_one : (items : List ℕ) → length items ≡ 3 → take 1 items ≡ slice_index items 0 ∷ []
-first_one [] size = absurd (omega (arith, size))
-first_one (x ∷ items) size = refl
+-- so many locations
+pub none_of : (xs : List ℕ) → length xs < 1 → xs ≡ []
+none_of [] few = refl
+none_of (x ∷ xs) few = absurd (omega (arith, few))
 
-pub first_two : (items : List ℕ) → length items ≡ 3 → take 2 items ≡ slice_index items 0 ∷ slice_index items 1 ∷ []
-first_two [] size = absurd (omega (arith, size))
-first_two (x ∷ []) size = absurd (omega (arith, size))
-first_two (x ∷ y ∷ items) size = refl
+pub one_of : (xs : List ℕ) → 1 ≤ length xs → length xs < 2 → xs ≡ slice_index xs 0 ∷ []
+one_of [] some few = absurd (omega (arith, some))
+one_of (x ∷ []) some few = refl
+one_of (x ∷ y ∷ xs) some few = absurd (omega (arith, few))
 
-pub first_three : (items : List ℕ) → length items ≡ 3 → take 3 items ≡ slice_index items 0 ∷ slice_index items 1 ∷ slice_index items 2 ∷ []
-first_three [] size = absurd (omega (arith, size))
-first_three (x ∷ []) size = absurd (omega (arith, size))
-first_three (x ∷ y ∷ []) size = absurd (omega (arith, size))
-first_three (x ∷ y ∷ z ∷ items) size = refl
+pub two_of : (xs : List ℕ) → 2 ≤ length xs → length xs < 3 → xs ≡ slice_index xs 0 ∷ slice_index xs 1 ∷ []
+two_of [] some few = absurd (omega (arith, some))
+two_of (x ∷ xs) some few = ap (λ (l : List ℕ). x ∷ l) (one_of xs (omega (arith, some)) (omega (arith, few)))
+
+pub three_of : (xs : List ℕ) → 3 ≤ length xs → length xs ≤ 3 → xs ≡ slice_index xs 0 ∷ slice_index xs 1 ∷ slice_index xs 2 ∷ []
+three_of [] some few = absurd (omega (arith, some))
+three_of (x ∷ xs) some few = ap (λ (l : List ℕ). x ∷ l) (two_of xs (omega (arith, some)) (omega (arith, few)))
 
 -- the only erasure is in the data part
 pub first_below : (window x : ℕ) (given s : List ℕ) → s ≡ with_erasures [] given → s ≡ x ∷ [] → AllByRecursion (λ i. i < window) given → x < window

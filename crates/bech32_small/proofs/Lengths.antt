@@ -18,10 +18,7 @@ use Rattle.bech32_decode.specs.Refusals.{HasLengths, IsChecksumRefusal}
 use Rattle.bech32_correction.specs.Mistyped.{IsRefusedFor}
 use Rattle.bech32_refusals.specs.declared.error.ChecksumError.{ChecksumError}
 use Rattle.bech32_refusals.specs.declared.error.ChecksumError.TheVariants.{CodeLength, InvalidLength, InvalidResidue}
-use Rattle.bech32_small.specs.Target.{PacksTarget, code_by}
-
-pub has-code_by : (target : ℕ) → PacksTarget target (code_by target)
-has-code_by target = record { generator = refl; target_is = refl }
+use Rattle.bech32_small.specs.Target.{PacksTarget}
 
 -- two numbers that differ in no bit are the same
 pub same-from_xor : (a b : ℕ) → bit_xor a b ≡ 0 → a ≡ b

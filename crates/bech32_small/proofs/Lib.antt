@@ -3,9 +3,9 @@ pub mod Codes
 pub mod DividedByX
 pub mod Errors
 pub mod Found
-pub mod Left
 pub mod Lengths
 pub mod Numbers
+pub mod Regrouped
 pub mod Remainders
 pub mod Scaled
 pub mod Searched

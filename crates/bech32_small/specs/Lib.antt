@@ -1,2 +1,2 @@
-pub mod Left
+pub mod Check
 pub mod Target

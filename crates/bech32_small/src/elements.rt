@@ -1,6 +1,6 @@
 //! The elements of a data part, and the bytes that they stand for, one at a time.
 
-ghost use Rattle.std.specs.Prelude.{◌≡◌, ◌≤◌, ◌<◌, ◌^◌, ℕ, true, length, Some, IfSome};
+ghost use Rattle.std.specs.Prelude.{◌≡◌, ◌≤◌, ◌<◌, ◌^◌, ℕ, true, length};
 ghost use Rattle.bech32_bits.specs.Bits.{to_bytes};
 ghost use Rattle.bech32_checksum.specs.Code.{IsResidueOf, bech32m};
 ghost use Rattle.bech32_checksum.specs.TextPolynomial.{text_polynomial};
@@ -8,56 +8,9 @@ ghost use Rattle.bech32_encode.specs.Buffers.{IsPut};
 ghost use Rattle.bech32_gf.specs.Alphabet.{is_data};
 ghost use Rattle.bech32_gf.specs.Fe32.{elements_of};
 
-use crate::bytes::put_each;
-use bech32_bits::FesToBytes;
+use crate::bytes::put_byte;
 use bech32_checksum::{Bech32m, Engine};
 use bech32_gf::gf32::Fe32;
-
-/// The elements of characters of the alphabet, in turn.
-#[derive(Drop)]
-pub(crate) struct Elements<'s> {
-    rest: &'s [u8],
-    ghost of_alphabet: { is_data rest.now ≡ true },
-}
-
-impl<'s> Elements<'s> {
-    ghost use Rattle.bech32_small.specs.Left.{characters_left};
-
-    /// Reads characters of the alphabet, in either case.
-    pub(crate) fn new(rest: &'s [u8]) -> Self
-        requires { is_data rest.now ≡ true }
-        ensures { characters_left result ≡ elements_of rest.now }
-    {
-        Elements { rest }
-    }
-}
-
-impl<'s> Iterator for Elements<'s> {
-    type Item = Fe32;
-
-    ghost use Rattle.std.specs.Iterator.{UpTo, YieldsFirst, item_count};
-    ghost use Rattle.std.specs.Iterator.SizeHint.{IsWithinCount};
-    ghost use Rattle.bech32_small.specs.Left.{characters_left};
-
-    ghost next_gives = { YieldsFirst characters_left };
-
-    ghost remaining = { item_count characters_left };
-
-    fn next(&mut self) -> Option<Fe32> {
-        let (first, rest) = self.rest.split_first()?;
-        self.rest = rest;
-        Some(Fe32::from_char_unchecked(*first))
-    }
-
-    fn size_hint(&self) -> (usize, Option<usize>)
-        ensures lower { IsWithinCount result.0 (item_count characters_left self.now) }
-        ensures upper { IfSome result.1 (UpTo (item_count characters_left self.now)) }
-        ensures exact { result
-            ≡ (length (characters_left self.now), Some (length (characters_left self.now))) }
-    {
-        (self.rest.len(), Some(self.rest.len()))
-    }
-}
 
 /// The remainder of a text's polynomial, packed.
 #[inline(never)]
@@ -69,8 +22,8 @@ pub(crate) fn residue_of(part: &[u8], data_part: &[u8]) -> u32
 {
     let mut engine = Engine::<Bech32m>::new();
     engine.input_part(part);
-    for fe in Elements::new(data_part) {
-        engine.input_fe(fe);
+    for c in data_part {
+        engine.input_fe(Fe32::from_char_unchecked(*c));
     }
     *engine.residue()
 }
@@ -83,7 +36,21 @@ pub(crate) fn put_bytes(characters: &[u8], buffer: &mut [u8]) -> usize
     requires room { length (to_bytes (elements_of characters.now)) ≤ length buffer.old }
     ensures { IsPut (to_bytes (elements_of characters.now)) buffer.old buffer.new result }
 {
-    let elements = Elements::new(characters);
-    let bytes = FesToBytes::new(elements, false);
-    put_each(bytes, buffer)
+    let mut count = 0;
+    // How many bits are not put yet: the lowest of `held`.
+    let mut left = 0u32;
+    let mut held = 0;
+    for c in characters {
+        let element = Fe32::from_char_unchecked(*c).to_u8() as u32;
+        let bits = held * 32 + element;
+        if left < 3 {
+            left += 5;
+            held = bits;
+            continue;
+        }
+        left -= 3;
+        held = element;
+        count = put_byte(((bits >> left) % 256) as u8, count, buffer);
+    }
+    count
 }

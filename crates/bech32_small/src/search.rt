@@ -15,24 +15,24 @@ use bech32_bch::contains;
 use bech32_gf::gf32::Fe32;
 use std::marker::Model;
 
-/// At most three locations, and the element to add at each.
+/// At most three items.
 #[derive(Drop)]
-pub(crate) struct Found {
-    items: [(usize, Fe32); 3],
+pub(crate) struct Few<T: Copy> {
+    items: [T; 3],
     count: usize,
 }
 
-impl Model for Found {
-    ghost Value = { List (ℕ × Element) };
+impl<T: Copy> Model for Few<T> {
+    ghost Value = { List T };
 
     ghost view = { λ a. take a.count a.items };
 
     ghost invariant = { λ a. a.count ≤ 3 };
 }
 
-impl Found {
-    /// The locations, and the element to add at each.
-    pub(crate) fn as_slice(&self) -> &[(usize, Fe32)]
+impl<T: Copy> Few<T> {
+    /// The items.
+    pub(crate) fn as_slice(&self) -> &[T]
         ensures value { result.now ≡ self.now }
         ensures few { length result.now ≤ 3 }
     {
@@ -40,24 +40,27 @@ impl Found {
     }
 }
 
-/// At most three different locations below a window.
-#[derive(Clone, Copy)]
-pub(crate) struct Erasures {
-    pub(crate) items: [usize; 3],
-    pub(crate) count: usize,
-    pub ghost few: { count ≤ 3 },
-    pub ghost full: { length items ≡ 3 },
+/// The error to add at each of some locations.
+pub(crate) type Found = Few<(usize, Fe32)>;
+
+/// No errors.
+pub(crate) fn no_errors() -> Found
+    ensures { result ≡ [] }
+{
+    Few {
+        items: [(0, Fe32::Q); 3],
+        count: 0,
+    }
 }
 
 /// The given locations, each once, in the order given; none where one is not below the window, or
 /// where there are more than three.
 #[inline(never)]
-pub(crate) fn erasures_of(given: &[usize], window: usize) -> Option<Erasures>
+pub(crate) fn erasures_of(given: &[usize], window: usize) -> Option<Few<usize>>
     ensures { MatchOption result
         ((AllByRecursion (λ i. i < window) given.now → ⊥)
         ⊎ (3 < length (with_erasures [] given.now)))
-        (λ e. AllByRecursion (λ i. i < window) given.now
-        × (take e.count e.items ≡ with_erasures [] given.now)) }
+        (λ s. AllByRecursion (λ i. i < window) given.now × (s ≡ with_erasures [] given.now)) }
 {
     let mut items = [0; 3];
     let mut count = 0;
@@ -74,7 +77,7 @@ pub(crate) fn erasures_of(given: &[usize], window: usize) -> Option<Erasures>
         items[count] = *location;
         count += 1;
     }
-    Some(Erasures { items, count })
+    Some(Few { items, count })
 }
 
 // The error below the window, and not at one location, that alone leaves the remainder, if any.
@@ -108,7 +111,7 @@ pub(crate) fn error_below(row: u32, window: usize) -> Option<Found>
         × IsErrorBelow bech32m.generator window (digits 6 row) (Some error)) }
 {
     let error = error_apart(row, window, window)?;
-    Some(Found {
+    Some(Few {
         items: [error, (0, Fe32::Q), (0, Fe32::Q)],
         count: 1,
     })
@@ -134,13 +137,13 @@ pub(crate) fn error_beside(row: u32, window: usize, erasure: usize) -> Option<Fo
         let value = Fe32::from_low_bits(v);
         let left = row ^ times(value, power);
         if left == 0 {
-            return Some(Found {
+            return Some(Few {
                 items: [(erasure, value), (0, Fe32::Q), (0, Fe32::Q)],
                 count: 1,
             });
         }
         if let Some(error) = error_apart(left, window, erasure) {
-            return Some(Found {
+            return Some(Few {
                 items: [(erasure, value), error, (0, Fe32::Q)],
                 count: 2,
             });
@@ -161,7 +164,7 @@ pub(crate) fn values_at_two(row: u32, one: usize, two: usize) -> Option<Found>
         let value = Fe32::from_low_bits(v);
         let left = row ^ times(value, power);
         if left < 32 {
-            return Some(Found {
+            return Some(Few {
                 items: [
                     (one, value),
                     (two, Fe32::from_low_bits(left as u8)),
@@ -184,7 +187,7 @@ pub(crate) fn values_at_three(row: u32, one: usize, two: usize, three: usize) ->
     for v in 0..32 {
         let value = Fe32::from_low_bits(v);
         if let Some(found) = values_at_two(row ^ times(value, power), two, three) {
-            return Some(Found {
+            return Some(Few {
                 items: [(one, value), found.items[0], found.items[1]],
                 count: 3,
             });

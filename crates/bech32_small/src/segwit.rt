@@ -1,15 +1,12 @@
 //! Encodes and decodes segwit addresses.
 
-ghost use Rattle.std.specs.Prelude.{◌≡◌, ◌≤◌, ◌<◌, ◌∷◌, ℕ, List, length, IfOk, IfErr, MatchResult, OnErr};
+ghost use Rattle.std.specs.Prelude.{◌≡◌, ◌≤◌, ◌<◌, ℕ, length, IfOk, IfErr, MatchResult, OnErr};
 ghost use Rattle.bech32_gf.specs.Fe32.{value};
-ghost use Rattle.bech32_bits.specs.Bits.{to_fes};
-ghost use Rattle.bech32_checksum.specs.Encoded.{IsEncodedText};
 ghost use Rattle.bech32_decode.specs.Segwit.{segwit_code};
-ghost use Rattle.bech32_segwit.specs.SegwitEncoding.{address_length};
-ghost use Rattle.bech32_encode.specs.Buffers.{IsPut};
 ghost use Rattle.bech32_calls.specs.Faults.{IsNumberOf};
 ghost use Rattle.bech32_calls.specs.Segwit.{PutsAddress, IsSegwitEncodeFault};
 ghost use Rattle.bech32_calls.specs.Segwit.{PutsProgram, IsSegwitDecodeFault};
+ghost use Rattle.bech32_small.specs.Target.{PacksTarget};
 
 use crate::checksum::{ADDRESS_TOO_LONG, BAD_NUMBER, NO_ROOM, NOT_UTF8, TARGET, TARGET_M};
 use crate::decode::put_parts;
@@ -21,18 +18,14 @@ use bech32::{Bech32m, Fe32};
 use bech32_calls::refusal::Refusal;
 use bech32_decode::Reading;
 
-// Puts the text of a version and a program by the checksum of the version.
-fn put_address(part: &[u8], version: Fe32, program: &[u8], text: &mut [u8]) -> usize
-    requires { address_length part.now program.now ≤ length text.old }
-    ensures { (written : List ℕ)
-        × IsEncodedText (segwit_code version) part.now
-        (version ∷ to_fes program.now) written
-        × IsPut written text.old text.new result }
+// The target of the checksum of a version.
+fn target_of(version: Fe32) -> u32
+    ensures { PacksTarget result (segwit_code version) }
 {
     if version == VERSION_0 {
-        put_in_room(TARGET, part, Some(version), program, text)
+        TARGET
     } else {
-        put_in_room(TARGET_M, part, Some(version), program, text)
+        TARGET_M
     }
 }
 
@@ -62,7 +55,8 @@ pub fn encoded(hrp: &[u8], version: u32, program: &[u8], text: &mut [u8]) -> Res
     if size > text.len() {
         return Err(NO_ROOM);
     }
-    Ok(put_address(hrp, element, program, text))
+    let target = target_of(element);
+    Ok(put_in_room(target, hrp, Some(element), program, text))
 }
 
 // Why a text of more than 90 characters is no address. Out of line: few texts come here.

@@ -1,6 +1,6 @@
 //! Puts whole texts into buffers, an element at a time.
 
-ghost use Rattle.std.specs.Prelude.{◌≤◌, ◌+◌, ◌++◌, ℕ, List, [], ◌∷◌, map, reverse, length, option_to_list};
+ghost use Rattle.std.specs.Prelude.{◌≤◌, ◌+◌, ◌++◌, ℕ, List, map, reverse, length, option_to_list};
 ghost use Rattle.std.specs.Iterator.{Drains, IsFinite};
 ghost use Rattle.bech32_bits.specs.Bits.{to_fes};
 ghost use Rattle.bech32_checksum.specs.Code.{Code, IsResidueAfter, bech32m};
@@ -14,6 +14,7 @@ ghost use Rattle.bech32_small.specs.Target.{PacksTarget};
 use crate::bytes::put_byte;
 use bech32_bits::ByteIterExt;
 use bech32_checksum::{Bech32m, Engine, PackedFe32};
+use bech32_encode::WitnessVersionIter;
 use bech32_gf::gf32::Fe32;
 
 // Puts the human-readable part in lower case and `1`.
@@ -25,70 +26,6 @@ fn put_front(part: &[u8], buffer: &mut [u8]) -> usize
         count = put_byte(b.to_ascii_lowercase(), count, buffer);
     }
     put_byte(b'1', count, buffer)
-}
-
-// Puts the character of an element, and hands the element to the engine.
-#[inline(never)]
-fn put_element(
-    element: Fe32,
-    engine: &mut Engine<Bech32m>,
-    count: usize,
-    buffer: &mut [u8],
-) -> usize
-    ensures text { PutsBehind (char_of_element element ∷ []) buffer.old count buffer.new result }
-    ensures residue { IsResidueAfter (λ (n : ℕ). n) bech32m engine.old (element ∷ []) engine.new }
-{
-    engine.input_fe(element);
-    put_byte(element.to_char() as u8, count, buffer)
-}
-
-// Puts the character of the version where there is one, and hands it to the engine.
-fn put_version(
-    version: Option<Fe32>,
-    engine: &mut Engine<Bech32m>,
-    count: usize,
-    buffer: &mut [u8],
-) -> usize
-    ensures text { PutsBehind (map char_of_element (option_to_list version))
-        buffer.old count buffer.new result }
-    ensures residue { IsResidueAfter (λ (n : ℕ). n) bech32m engine.old
-        (option_to_list version) engine.new }
-{
-    match version {
-        Some(version) => put_element(version, engine, count, buffer),
-        None => count,
-    }
-}
-
-// Puts the characters of elements, and hands the elements to the engine.
-fn put_elements<I: Iterator<Item = Fe32>>(
-    elements: I,
-    engine: &mut Engine<Bech32m>,
-    count: usize,
-    buffer: &mut [u8],
-) -> usize
-    requires can { I.can_next elements }
-    requires finite { IsFinite (I.remaining elements) }
-    ensures { (fes : List Element) × Drains I.next_gives elements fes
-        × PutsBehind (map char_of_element fes) buffer.old count buffer.new result
-        × IsResidueAfter (λ (n : ℕ). n) bech32m engine.old fes engine.new }
-{
-    let mut count = count;
-    for fe in elements {
-        count = put_element(fe, engine, count, buffer);
-    }
-    count
-}
-
-// Puts the characters of the elements of bytes, and hands these to the engine.
-fn put_bytes(bytes: &[u8], engine: &mut Engine<Bech32m>, count: usize, buffer: &mut [u8]) -> usize
-    ensures text { PutsBehind (map char_of_element (to_fes bytes.now))
-        buffer.old count buffer.new result }
-    ensures residue { IsResidueAfter (λ (n : ℕ). n) bech32m engine.old
-        (to_fes bytes.now) engine.new }
-{
-    let elements = bytes.iter().copied().bytes_to_fes();
-    put_elements(elements, engine, count, buffer)
 }
 
 // Hands the elements of a packed row to the engine, the highest first.
@@ -114,26 +51,30 @@ fn put_row(row: u32, count: usize, buffer: &mut [u8]) -> usize
     count
 }
 
-// Puts the text of a human-readable part, a witness version where there is one, and bytes, by the
-// checksum with a target, at the front of a buffer that has room for it, and returns its length.
-fn put_text(
+// Puts the text of a human-readable part and elements, by the checksum with a target, at the front
+// of a buffer that has room for it, and returns its length.
+fn put_text<I: Iterator<Item = Fe32>>(
     target: u32,
     part: &[u8],
-    version: Option<Fe32>,
-    bytes: &[u8],
+    elements: I,
     buffer: &mut [u8],
 ) -> usize
-    ensures { (code : Code) → PacksTarget target code → (text : List ℕ)
-        × IsEncodedText code part.now (option_to_list version ++ to_fes bytes.now) text
-        × IsPutAsFits text buffer.old buffer.new result }
+    requires can { I.can_next elements }
+    requires finite { IsFinite (I.remaining elements) }
+    ensures { (code : Code) → PacksTarget target code → (fes : List Element)
+        × Drains I.next_gives elements fes
+        × ((text : List ℕ) × IsEncodedText code part.now fes text
+        × IsPutAsFits text buffer.old buffer.new result) }
 {
     let mut engine = Engine::<Bech32m>::new();
     engine.input_part(part);
-    let front = put_front(part, buffer);
-    let start = put_version(version, &mut engine, front, buffer);
-    let end = put_bytes(bytes, &mut engine, start, buffer);
+    let mut count = put_front(part, buffer);
+    for fe in elements {
+        engine.input_fe(fe);
+        count = put_byte(fe.to_char() as u8, count, buffer);
+    }
     input_row(target, &mut engine);
-    put_row(*engine.residue(), end, buffer)
+    put_row(*engine.residue(), count, buffer)
 }
 
 /// Puts the text of a human-readable part, a witness version where there is one, and bytes, by the
@@ -152,5 +93,6 @@ pub(crate) fn put_in_room(
         × IsEncodedText code part.now (option_to_list version ++ to_fes bytes.now) written
         × IsPut written text.old text.new result }
 {
-    put_text(target, part, version, bytes, text)
+    let elements = WitnessVersionIter::new(version, bytes.iter().copied().bytes_to_fes());
+    put_text(target, part, elements, text)
 }

@@ -1,13 +1,12 @@
-use Rattle.std.proofs.Common.{◌≡◌, ℕ, List}
-use Rattle.bech32_gf.specs.declared.gf32.Fe32.{Fe32 as Element}
+use Rattle.std.proofs.Common.{ℕ, ◌∷◌, [], take}
+use Rattle.bech32_gf.specs.Fe32 as fe32
 use Rattle.bech32_gf.specs.Fe32.{elements_of}
 use Rattle.bech32_poly.specs.Polynomial.{appended}
 use Rattle.bech32_checksum.specs.Code.{IsResidueOf, bech32m}
-use Rattle.bech32_checksum.specs.TextPolynomial.{text_polynomial}
-use Rattle.bech32_small.specs.Left.{characters_left}
+use Rattle.bech32_checksum.specs.TextPolynomial.{hrp_elements}
 use Rattle.bech32_small.proofs.elements.residue_of.Given as goal
 
-abbrev pub invariant-loop-fe : goal.invariant-loop-fe
-invariant-loop-fe l =
-    (p : List Element) × (appended p (characters_left l.fe-iterator) ≡ text_polynomial l.fn.part (elements_of l.fn.data_part))
-    × IsResidueOf (λ (n : ℕ). n) bech32m l.engine p
+abbrev pub invariant-loop-c : goal.invariant-loop-c
+invariant-loop-c l =
+    IsResidueOf (λ (n : ℕ). n) bech32m l.engine
+    (appended (appended (fe32.one ∷ []) (hrp_elements l.part)) (elements_of (take l.c-index l.data_part)))

@@ -1,7 +1,7 @@
 use Rattle.std.proofs.Common.{◌≢◌, ◌<◌, length, inl, inr, refl, subst, arith}
 use Rattle.std.proofs.lemmas.Result.{err_from_is_err_and}
 use Rattle.bech32_gf.specs.declared.gf32.Fe32.{Fe32}
-use Rattle.bech32_decode.specs.Segwit.{IsLowerAddress}
+use Rattle.bech32_decode.specs.Segwit.{IsLowerAddress, segwit_code}
 use Rattle.bech32_segwit.specs.SegwitEncoding.{HasAddress, IsSegwitEncodeRefusal, address_length}
 use Rattle.bech32_segwit.specs.declared.error.EncodeError.TheVariants.{Memory}
 use Rattle.bech32_segwit.proofs.SegwitEncoding.{address-from_text}
@@ -15,7 +15,7 @@ returns-clause-value c =
     let version = c.in-Some.element in
     let program = c.args.program.now in
     let (small, version_is) = (rw c.in-Some.is at c.element_of.ensures) in
-    let (written, is_text, put) = c.put_address.ensures in
+    let (written, is_text, put) = c.put_in_room.ensures (segwit_code version) c.target_of-target.ensures in
     record {
       text = written;
       is_hrp = c.in_ok-test_part.ensures;
@@ -59,3 +59,6 @@ returns-then-size-text-clause-refused c =
       holds = inr (small, inr (c.in_ok-test_part.ensures, (subst (λ (v : Fe32). HasAddress c.args.hrp.now v c.args.program.now) version_is c.in-Ok.ensures.0, lack)));
       number = refl;
     }
+
+pub put_in_room-requires : goal.put_in_room-requires
+put_in_room-requires c = omega (arith, c.in-Ok.ensures.1, c.if-size-text.false)
