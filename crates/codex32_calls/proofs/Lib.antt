@@ -1,11 +1,11 @@
-mod Accepted
-mod Inputs
-mod Letters
-mod Made
-mod Payloads
-mod Proposals
-mod Recovered
-mod SameShares
-mod Sizes
-mod Splits
-mod TextsInTurn
+pub mod Accepted
+pub mod Inputs
+pub mod Letters
+pub mod Made
+pub mod Payloads
+pub mod Proposals
+pub mod Recovered
+pub mod SameShares
+pub mod Sizes
+pub mod Splits
+pub mod TextsInTurn

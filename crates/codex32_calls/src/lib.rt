@@ -11,7 +11,7 @@
 
 pub mod derive;
 pub mod encode;
-mod input;
+pub mod input;
 mod output;
 pub mod parse;
 pub mod propose;

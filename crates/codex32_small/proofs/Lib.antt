@@ -1,0 +1,5 @@
+mod Checksums
+mod Parts
+mod Rows
+mod Shares
+mod Strings

@@ -1,0 +1,11 @@
+use Rattle.std.proofs.Common.{◌≡◌, length, map, take}
+use Rattle.bech32_checksum.specs.Encoded.{char_of_element}
+use Rattle.bech32_gf.specs.Fe32.{elements_of}
+use Rattle.codex32_small.proofs.letters.put_characters.Given as goal
+
+-- the first ones are written
+abbrev pub invariant-loop-i : goal.invariant-loop-i
+invariant-loop-i l = record {
+  size : length l.target ≡ length l.fn.target;
+  so_far : take l.i l.target ≡ map char_of_element (elements_of (take l.i l.characters));
+}
