@@ -126,6 +126,7 @@ TELLS(0, codex32ZusteadyZcZcareZuofZualphabet, are_of_alphabetZa)
 TELLS(1, codex32ZusteadyZcZchasZubothZucases, has_both_casesZa)
 /* whether the checksum is right, of either length */
 TELLS(2, codex32ZusteadyZutextsZcZcresidueZcZcisZutargetZa, is_targetZa)
+TELLS(2, codex32ZusmallZcZcregisterZcZchasZutarget, hasZutargetZa)
 /* whether a share beyond the threshold is the one that the others give */
 TELLS(3, codex32ZusharesZcZcagreementZcZcareZuelementsZuof, are_elements_ofZa)
 /* where the last character ends that is not of the alphabet; where the first begins that is not from 33 to 126 */
@@ -312,6 +313,8 @@ static void add_share(Set *set)
 {
     uint8_t text[LONGEST];
     size_t size = 0, at = set->count;
+    given = set->texts;
+    given_size = at * set->size;
     uint32_t number = codex32_derive((uint32_t)indices[at], (const uint8_t *)set->texts, at * set->size, set->lengths, at,
                                      text, sizeof text, &size);
     expect(number, CODEX32_OK, "codex32_derive", set->size);
