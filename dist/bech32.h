@@ -542,8 +542,9 @@ uint32_t bech32_descriptor_check(const uint8_t *text, size_t text_length, size_t
  * it with the wallet's addresses.
  *
  * Refusals, the first that applies: 4 (`changed` is above 1); 89; 92; and 91 in place of 0 or 92 where
- * `memory` does not suffice. If the function keeps the memory (above), the buffers may have changed;
- * with every other refusal but 92, and with every other 91, they are as they were.
+ * the text has at least eight bytes and `memory` does not suffice. If the function keeps the memory
+ * (above), the buffers may have changed; with every other refusal but 92, and with every other 91, they
+ * are as they were.
  */
 uint32_t bech32_descriptor_mend(const uint8_t *text, size_t text_length, size_t changed,
                                 bech32_memory *memory, uint8_t *kinds, size_t kinds_room,
@@ -567,9 +568,9 @@ uint32_t bech32_descriptor_mend(const uint8_t *text, size_t text_length, size_t 
  * both buffers have room for. places_room is a number of items. It may be that none is what was meant:
  * compare it with the wallet's addresses.
  *
- * Refusals, the first that applies: 89; 92; and 91 in place of 0 or 92 where `memory` does not suffice.
- * If the function keeps the memory (above), the buffers may have changed; with every other refusal but
- * 92, and with every other 91, they are as they were.
+ * Refusals, the first that applies: 89; 92; and 91 in place of 0 or 92 where the text has at least nine
+ * bytes and `memory` does not suffice. If the function keeps the memory (above), the buffers may have
+ * changed; with every other refusal but 92, and with every other 91, they are as they were.
  */
 uint32_t bech32_descriptor_mend_two(const uint8_t *text, size_t text_length, bech32_memory *memory,
                                     size_t *places, size_t places_room, uint8_t *texts,
