@@ -207,6 +207,7 @@ test('values of another type', () => {
 // ---- all stored lines: the place is that of a character at fault
 
 const isData = (c) => c.length === 1 && ALPHABET.includes(c.toLowerCase());
+const bytesOf = (text) => new TextEncoder().encode(text).length;
 const HAS_FAULT = {
   11: (text, place) => place === 0 && text.lastIndexOf('1') === 0,
   12: (text, place) => place <= 83 && place < text.lastIndexOf('1'),
@@ -214,7 +215,7 @@ const HAS_FAULT = {
   14: (text, place) => !/[!-~]/.test(text[place]) && place < text.lastIndexOf('1'),
   21: (text, place) => !isData(text[place]) && Array.from(text.slice(place + 1)).every((c, i) => isData(c) || (i === 0 && /[\udc00-\udfff]/.test(c))),
   22: (text, place) => (/[A-Z]/.test(text[place]) ? /[a-z]/ : /[a-z]/.test(text[place]) ? /[A-Z]/ : /$^/).test(text.slice(0, place)),
-  31: (text, place) => place === 1023,
+  31: (text, place) => bytesOf(text.slice(0, place)) <= 1023 && bytesOf(text.slice(0, place + 1)) > 1023,
   32: (text, place) => text[place] === '1' && text.length - place <= 6,
   41: (text, place) => place <= 90,
   42: (text, place) => text[place] === '1',
