@@ -2,7 +2,8 @@
 """Writes the tables of src/checksums/, which belong to the generator of BIP-173, as `rt fmt` lays them
 out. With --check it writes nothing, names each file that differs, and ends with status 1 if one does.
 
-twos.rt, locations.rt and powers.rt are written whole; in eights.rt and products.rt, the tables alone.
+twos.rt, locations.rt, powers.rt and syndromes.rt are written whole; in eights.rt and products.rt, the
+tables alone.
 The proofs do not trust this script: they compute each entry again.
 """
 import pathlib
@@ -14,6 +15,8 @@ FOLDER = pathlib.Path(__file__).parent / "src" / "checksums"
 WORDS = [0x3B6A57B2, 0x26508E6D, 0x1EA119FA, 0x3D4233DD, 0x2A1462B3]
 # Hashes the keys of the locations; found by trial. ones.rt has it too.
 MULTIPLIER = 208833772613
+# 1 + 6 z, whose powers 24 to 26 are roots of the generator.
+BASE = 1 + 32 * 6
 
 
 def product(a, b):
@@ -142,9 +145,37 @@ def powers_of_x():
         "//! The remainders of the powers of x by the generator of BIP-173: written by tables.py.\n"
         "\n// The remainder of x to the power i at place i, packed.\n"
         + words("POWERS_OF_X", rows)
-        + "\n// The highest coefficient of each. The order of x is 1,023: eleven more stand behind these, so\n"
-        "// that those of powers one after another are read as they stand.\n"
-        + table("HIGHEST", "u8", [rows[power % 1023] >> 25 for power in range(1034)])
+    )
+
+
+def product_of_pairs(a, b):
+    """The product of two elements of the field of 1,024, the constant part lowest: z^2 = z + 1."""
+    low, high = product(a % 32, b % 32), product(a // 32, b // 32)
+    return (low ^ high) + 32 * (product(a % 32, b // 32) ^ product(a // 32, b % 32) ^ high)
+
+
+def syndromes():
+    base = [1]
+    while len(base) < 1023:
+        base.append(product_of_pairs(BASE, base[-1]))
+    logarithms = [0] * 1024
+    for exponent, power in enumerate(base):
+        logarithms[power] = exponent
+    values = [
+        sum(product_of_pairs(element, base[root * place]) << 10 * (root - 24) for root in (24, 25, 26))
+        for place in range(6)
+        for element in range(32)
+    ]
+    return (
+        "//! The field of 1,024 elements, in which the generator of BIP-173 has its roots, and the values\n"
+        "//! of a residue there: written by tables.py. An element a + b z is the number a + 32 b.\n"
+        "\n// The power i of 1 + 6 z at place i.\n"
+        + table("POWERS", "u16", base)
+        + "\n// Which power of 1 + 6 z each element is; 0 for zero, which is none.\n"
+        + table("LOGARITHMS", "u16", logarithms)
+        + "\n// The values at the powers 24, 25 and 26 of 1 + 6 z, ten bits each, of each element at each place\n"
+        "// of a residue: 32 elements for one place, one place behind the other.\n"
+        + words("SYNDROMES", values)
     )
 
 
@@ -165,6 +196,7 @@ def main():
         "twos.rt": twos(),
         "locations.rt": locations(),
         "powers.rt": powers_of_x(),
+        "syndromes.rt": syndromes(),
         "eights.rt": with_tables("eights.rt", eights),
         "products.rt": with_tables("products.rt", {"PRODUCTS": [generator_times(e) for e in range(32)]}),
     }

@@ -36,7 +36,7 @@ pub digits-xor : (a b : ℕ) → digits 6 (bit_xor a b) ≡ add fe32.ops (digits
 digits-xor a b = tabulated 6 (digit_of (bit_xor a b)) (λ n. fe32.add (digit_of a n) (digit_of b n)) (λ n below. xor_digits a b (bit_xor a b) refl n)
 
 -- a row from which another one was taken
-back : (r m : ℕ) → digits 6 r ≡ add fe32.ops (digits 6 (bit_xor r m)) (digits 6 m)
+pub back : (r m : ℕ) → digits 6 r ≡ add fe32.ops (digits 6 (bit_xor r m)) (digits 6 m)
 back r m =
     ap (digits 6) (sym (xor_zero_r r) ∙ ap (bit_xor r) (sym (xor_self m)) ∙ sym (xor_assoc r m m))
     ∙ digits-xor (bit_xor r m) m

@@ -4,7 +4,6 @@ pub mod Digits
 pub mod EightSteps
 pub mod EightTables
 pub mod Erased
-pub mod Highest
 pub mod HrpInput
 pub mod HrpPlaces
 pub mod Input
@@ -18,6 +17,7 @@ pub mod Residue
 pub mod ResidueRuns
 pub mod RootTests
 pub mod Shifts
+pub mod Syndromes
 pub mod Target
 pub mod TimesX
 pub mod TwoTables

@@ -14,10 +14,36 @@ use Rattle.bech32_poly.proofs.Remainder.{remainder_of-itself, remainder_of-same,
 use Rattle.bech32_checksum.specs.Code.{bech32}
 use Rattle.bech32_checksum.specs.OneError.{IsLeftBy, packed, valued}
 use Rattle.bech32_checksum.specs.Packed.{digit_of, digits}
-use Rattle.bech32_checksum.proofs.Beside.{both_leave, digit_at, packed-lt, six}
-use Rattle.bech32_checksum.proofs.DigitRows.{digits-injective}
+use Rattle.bech32_checksum.proofs.DigitRows.{coefficient-below, digits-injective}
+use Rattle.bech32_checksum.proofs.Digits.{length-tabulate}
 use Rattle.bech32_checksum.proofs.Erased.{HasRow, added, digits-packed_six, first_and_others}
 use Rattle.bech32_checksum.proofs.OneError.{left_is, remainder_is, row}
+
+pub packed-lt : (p : List Fe32) → length p ≡ 6 → packed p < 2 ^ 30
+packed-lt [] size = absurd (omega arith)
+packed-lt (a ∷ []) size = absurd (omega arith)
+packed-lt (a ∷ b ∷ []) size = absurd (omega arith)
+packed-lt (a ∷ b ∷ c ∷ []) size = absurd (omega arith)
+packed-lt (a ∷ b ∷ c ∷ d ∷ []) size = absurd (omega arith)
+packed-lt (a ∷ b ∷ c ∷ d ∷ e ∷ []) size = absurd (omega arith)
+packed-lt (a ∷ b ∷ c ∷ d ∷ e ∷ f ∷ g ∷ more) size = absurd (omega arith)
+packed-lt (a ∷ b ∷ c ∷ d ∷ e ∷ f ∷ []) size = omega (arith, a.in_field, b.in_field, c.in_field, d.in_field, e.in_field, f.in_field)
+
+pub digit_at : (n k : ℕ) → k < 6 → coefficient fe32.ops (digits 6 n) k ≡ digit_of n k
+digit_at n k h = coefficient-below 6 (digit_of n) k h
+
+pub six : (n : ℕ) → length (digits 6 n) ≡ 6
+six n = length-tabulate 6 (digit_of n)
+
+pub both_leave : (l : List Fe32) (i j : ℕ) (v w : Fe32) → length l ≡ 6 → i < 1023 → j < 1023 → IsLeftBy bech32.generator l ((i, v) ∷ (j, w) ∷ [])
+    → l ≡ add fe32.ops (scale fe32.ops v (digits 6 (row i))) (scale fe32.ops w (digits 6 (row j)))
+both_leave l i j v w size hi hj left =
+    sym (remainder_of-itself is_field bech32.generator l size)
+    ∙ sym (remainder_of-same is_field bech32.generator left.0 l left.2)
+    ∙ remainder_of-itself is_field bech32.generator left.0 left.1.short
+    ∙ remainder_unique is_field bech32.generator (pattern_polynomial fe32.ops ((i, v) ∷ (j, w) ∷ [])) left.0 left.1
+    ∙ first_and_others i v ((j, w) ∷ []) hi
+    ∙ ap (add fe32.ops (scale fe32.ops v (digits 6 (row i)))) (remainder_is j w hj)
 
 -- ---- one row
 

@@ -1,10 +1,9 @@
 -- One error by the generator of BIP-173: its residue has one key at each value, and the tables give
 -- the location of each key.
 use Rattle.std.specs.Prelude.{◌≢◌, nat_lt, cond, Bool, true, false}
-use Rattle.std.proofs.Common.{◌≡◌, ◌<◌, ◌+◌, ◌*◌, ◌/◌, ◌%◌, ◌^◌, ◌==◌, ◌⊎◌, inl, inr, ℕ, zero, suc, List, [], ◌∷◌, ◌++◌, length, take, get_or, refl, sym, ap, subst, ◌∙◌, arith, bit_xor}
+use Rattle.std.proofs.Common.{◌≡◌, ◌<◌, ◌+◌, ◌*◌, ◌/◌, ◌%◌, ◌^◌, ◌==◌, ◌⊎◌, inl, inr, ℕ, zero, suc, List, [], ◌∷◌, length, get_or, refl, sym, ap, subst, ◌∙◌, arith, bit_xor}
 use Rattle.std.proofs.Math.Decide.{dec_lt}
-use Rattle.std.proofs.lemmas.Bool.{cond-false, eqb-true, ltb-true}
-use Rattle.std.proofs.lemmas.Bool.Decides.{eqb_tells}
+use Rattle.std.proofs.lemmas.Bool.{eqb-true, ltb-true}
 use Rattle.bech32_gf.specs.Gf32.{product, product_of, inverse}
 use Rattle.bech32_gf.specs.Fe32 as fe32
 use Rattle.bech32_gf.specs.declared.gf32.Fe32.{Fe32}
@@ -198,44 +197,6 @@ pub answer_there : (i : ℕ) → i < 1023 → get_or ANSWERS (slot (key (digits 
 unfolding product product_of inverse
 answer_there i l =
     eqb-true _ _ (each_below-at 1023 (λ i. get_or ANSWERS (slot (key (digits 6 (get_or POWERS_OF_X i 0)))) 0 / 32 == i) refl i l)
-
--- ---- the five lowest coefficients
-
-not_five : (i : ℕ) → i ≢ 5 → (i == 5) ≡ false
-not_five i n = elim (eqb_tells i 5) [
-  | inl e ↦ absurd (n e.1)
-  | inr e ↦ e.0
-]
-
--- their key is that of all six, but for x^5
-pub low_key : (i : ℕ) → i < 1023 → i ≢ 5 → key (digits 5 (get_or POWERS_OF_X i 0)) ≡ key (digits 6 (get_or POWERS_OF_X i 0)) % 2 ^ 25
-unfolding product product_of inverse
-low_key i l n =
-    eqb-true _ _ (sym (cond-false (i == 5) true (key (digits 5 (get_or POWERS_OF_X i 0)) == key (digits 6 (get_or POWERS_OF_X i 0)) % 2 ^ 25) (not_five i n))
-    ∙ each_below-at 1023 (λ i. cond (i == 5) true (key (digits 5 (get_or POWERS_OF_X i 0)) == key (digits 6 (get_or POWERS_OF_X i 0)) % 2 ^ 25)) refl i l)
-
-pub low_slot : (i number : ℕ) → i < 1023 → i ≢ 5 → key (digits 5 (get_or POWERS_OF_X i 0)) ≡ number → slot number ≡ slot (key (digits 6 (get_or POWERS_OF_X i 0)))
-low_slot i number h n e =
-    let k : ℕ = key (digits 6 (get_or POWERS_OF_X i 0)) in
-    let is : number ≡ k % 2 ^ 25 = sym e ∙ low_key i h n in
-    let same : number % 2 ^ 25 ≡ k % 2 ^ 25 = omega (arith, is) in
-    ap (λ m. (m * 208833772613 / 2 ^ 34 + get_or MOVES (m * 208833772613 / 2 ^ 44 % 512) 0) % 1024) same
-
-pub five_row : digits 6 (get_or POWERS_OF_X 5 0) ≡ zeros fe32.ops 5 ++ (fe32.one ∷ [])
-five_row =
-    same_cons _ _ _ _ (fe32.path _ _ refl) (same_cons _ _ _ _ (fe32.path _ _ refl) (same_cons _ _ _ _ (fe32.path _ _ refl)
-    (same_cons _ _ _ _ (fe32.path _ _ refl) (same_cons _ _ _ _ (fe32.path _ _ refl) (same_cons _ _ _ _ (fe32.path _ _ refl) refl)))))
-
-pub five_low : digits 5 (get_or POWERS_OF_X 5 0) ≡ zeros fe32.ops 5
-five_low = ap (take 5) five_row
-
--- no multiple of x^5 has an element that is not zero below its highest
-pub past_five : (i : ℕ) (v : Fe32) → leading (scale fe32.ops v (digits 5 (get_or POWERS_OF_X i 0))) ≢ fe32.zero → i ≢ 5
-past_five i v some five =
-    let nv = scaled_some v (digits 5 (get_or POWERS_OF_X i 0)) some in
-    let none : leading (digits 5 (get_or POWERS_OF_X 5 0)) ≡ fe32.zero = refl in
-    some (ap (λ j. leading (scale fe32.ops v (digits 5 (get_or POWERS_OF_X j 0)))) five ∙ leading-scale v (digits 5 (get_or POWERS_OF_X 5 0)) nv
-    ∙ ap (fe32.mul v) none ∙ mul_zero is_field v)
 
 -- ---- what is looked up
 

@@ -1,11 +1,11 @@
 pub mod Code
 pub mod Encoded
-pub mod Highest
 pub mod HrpFes
 pub mod OneError
 pub mod Packed
 pub mod PackingLaws
 pub mod Roots
+pub mod Syndromes
 pub mod TextPolynomial
 pub mod Word
 pub mod laws

@@ -17,6 +17,7 @@ mod locations;
 mod ones;
 mod powers;
 mod products;
+mod syndromes;
 mod twos;
 mod words;
 

@@ -1,160 +1,157 @@
-//! One error beside an element at a known location, by the generator of BIP-173. Times a power of
-//! x the element stands at place 5 of the residue, and the five coefficients below it are those of
-//! the error alone, by which it is looked up.
+//! One error beside an element at a known location, by the generator of BIP-173. The generator has
+//! three roots in the field of 1,024 elements, and the values of the residue there, its syndromes,
+//! tell where alone the error may stand.
 
-ghost use Rattle.std.specs.Prelude.{◌≡◌, ◌<◌, ◌≤◌, ◌+◌, ◌-◌, ◌%◌, ◌++◌, ℕ, get_or, length, take, MatchOption, ⊤};
-ghost use Rattle.bech32_gf.specs.Fe32 as fe32;
+ghost use Rattle.std.specs.Prelude.{◌≡◌, ◌<◌, ◌≤◌, ◌+◌, ◌%◌, ◌∷◌, ℕ, [], length, MatchOption, ⊤};
+ghost use Rattle.bech32_gf.specs.Fe32.{value};
+ghost use Rattle.bech32_gf.specs.Field.{power};
 ghost use Rattle.bech32_gf.specs.declared.gf32.Fe32.{Fe32 as Element};
-ghost use Rattle.bech32_poly.specs.Division.{push, remainder_of, zeros};
-ghost use Rattle.bech32_poly.specs.Polynomial.{add, scale};
+ghost use Rattle.bech32_gf_ext.specs.Fe1024 as fe1024;
 ghost use Rattle.bech32_checksum.specs.Code.{bech32};
-ghost use Rattle.bech32_checksum.specs.Highest.{IsKeyOf, five_highest, highest_after, left_by};
-ghost use Rattle.bech32_checksum.specs.OneError.{IsBeside};
-ghost use Rattle.bech32_checksum.specs.Packed.{digit_of, digits};
+ghost use Rattle.bech32_checksum.specs.OneError.{IsBeside, IsLeftBy};
+ghost use Rattle.bech32_checksum.specs.Syndromes.{error_sum, pair_at, sum_beside, syndrome};
+ghost use Rattle.bech32_checksum.specs.laws.RootLaws.{base};
 
-use super::erased::product;
-use super::ones::{inverse_of, leading_of, location_of};
-use super::powers::{HIGHEST, POWERS_OF_X};
-use super::products::product_with;
+use super::erased::{multiple_of, packed_list, value_at_one};
+use super::powers::POWERS_OF_X;
+use super::syndromes::{LOGARITHMS, POWERS, SYNDROMES};
 use bech32_gf::gf32::Fe32;
 
 // The element at a location, and the location and the element of the error beside it, if any; the
 // outer `None` says nothing.
 pub(super) type Beside = Option<Option<(Fe32, (usize, Fe32))>>;
 
-// The lowest coefficient of the generator.
-const LOWEST: u8 = 18;
-
-// The highest coefficient of the remainder of x to a power times a factor.
+// What an element at a place of a residue adds to the syndromes.
 #[inline]
-fn highest_multiple(power: usize, factor: Fe32) -> Fe32
-    requires { power < 1034 }
-    ensures { result ≡ fe32.mul factor (digit_of (get_or POWERS_OF_X (power % 1023) 0) 5) }
+fn syndromes_at(place: usize, element: Fe32) -> u32
+    requires { place < 6 }
+    ensures { (j : ℕ) → j < 3 → pair_at result j ≡ fe1024.mul (fe1024.embed element)
+        (power fe1024.ops (power fe1024.ops base (24 + j)) place) }
 {
-    product(factor, Fe32::from_low_bits(HIGHEST[power]))
+    SYNDROMES[32 * place + element.to_u8() as usize]
 }
 
-// The highest coefficient of a residue of six elements times x to a power: the sum of those of six
-// powers, each times an element.
+// The syndromes of a residue, ten bits each.
 #[inline]
-fn highest_moved(residue: &[Fe32], power: usize) -> Fe32
-    requires six { length residue.now ≡ 6 }
-    requires small { power < 1029 }
-    ensures { result ≡ highest_after residue.now power }
+fn syndromes_of(residue: &[Fe32]) -> u32
+    requires { length residue.now ≡ 6 }
+    ensures { (j : ℕ) → j < 3 → pair_at result j ≡ syndrome residue.now j }
 {
-    let first = highest_multiple(power, residue[0]);
-    let second = highest_multiple(power + 1, residue[1]);
-    let third = highest_multiple(power + 2, residue[2]);
-    let fourth = highest_multiple(power + 3, residue[3]);
-    let fifth = highest_multiple(power + 4, residue[4]);
-    let sixth = highest_multiple(power + 5, residue[5]);
-    first + (second + (third + (fourth + (fifth + sixth))))
+    let last = syndromes_at(4, residue[4]) ^ syndromes_at(5, residue[5]);
+    let upper = syndromes_at(2, residue[2]) ^ (syndromes_at(3, residue[3]) ^ last);
+    syndromes_at(0, residue[0]) ^ (syndromes_at(1, residue[1]) ^ upper)
 }
 
-// A packed row one place higher, and a multiple of the generator added: the remainder of the row
-// times x, where its highest coefficient is this one.
+// The remainder by the order of the base of a number below twice that.
 #[inline]
-fn after_highest(row: u32, highest: Fe32) -> u32
-    ensures { digits 6 result ≡ add fe32.ops (push fe32.zero (digits 6 row))
-        (scale fe32.ops highest bech32.generator) }
+fn around(exponent: usize) -> usize
+    requires { exponent < 2046 }
+    ensures { result ≡ exponent % 1023 }
 {
-    (row % 0x200_0000 * 32) ^ product_with(highest)
-}
-
-// The highest coefficients of a residue of six elements times x to a power and to the four powers
-// behind it, the last of them first.
-#[inline]
-fn highest_five(residue: &[Fe32], power: usize) -> [Fe32; 5]
-    requires six { length residue.now ≡ 6 }
-    requires small { power < 1024 }
-    ensures { result ≡ five_highest residue.now power }
-{
-    [
-        highest_moved(residue, power + 4),
-        highest_moved(residue, power + 3),
-        highest_moved(residue, power + 2),
-        highest_moved(residue, power + 1),
-        highest_moved(residue, power),
-    ]
-}
-
-// The lowest coefficients that come of five highest ones, each times a factor, packed.
-#[inline]
-fn lowest_of(highest: &[Fe32], factor: Fe32) -> u32
-    requires { length highest.now ≡ 5 }
-    ensures { digits 6 result ≡ left_by (scale fe32.ops factor highest.now) }
-{
-    let first = after_highest(0, product(factor, highest[4]));
-    let second = after_highest(first, product(factor, highest[3]));
-    let third = after_highest(second, product(factor, highest[2]));
-    let fourth = after_highest(third, product(factor, highest[1]));
-    after_highest(fourth, product(factor, highest[0]))
-}
-
-// The key of the five lowest coefficients that come of five highest ones, and the first of them
-// that is not zero; none where they are zero.
-#[inline]
-fn key_of(highest: &[Fe32]) -> Option<(u32, Fe32)>
-    requires { length highest.now ≡ 5 }
-    ensures { MatchOption result ⊤ (IsKeyOf (take 5 (left_by highest.now))) }
-{
-    let leading = leading_of(highest);
-    if leading == Fe32::Q {
-        return None;
+    if exponent < 1023 {
+        return exponent;
     }
-    let first = product(leading, Fe32::from_low_bits(LOWEST));
-    Some((lowest_of(highest, inverse_of(first)) % 0x200_0000, first))
+    exponent - 1023
 }
 
-// The location below the window at which alone an error may stand beside an element at another
-// location, with the location that it is moved to and its value; says nothing where the element
-// alone leaves the residue.
+// An element of the field of 1,024 times a power of the base.
 #[inline]
-fn error_beside(
-    residue: &[Fe32],
-    location: usize,
-    window: usize,
-) -> Option<Option<(usize, (usize, Fe32))>>
+fn times_power(element: u32, exponent: usize) -> u32
+    requires element { element < 1024 }
+    requires exponent { exponent < 1023 }
+    ensures below { result < 1024 }
+    ensures product { pair_at result 0
+        ≡ fe1024.mul (pair_at element 0) (power fe1024.ops base exponent) }
+{
+    if element == 0 {
+        return 0;
+    }
+    POWERS[around(LOGARITHMS[element as usize] as usize + exponent)] as u32
+}
+
+// The sums of a syndrome and the one before it times a power of the base, of the second syndrome
+// and of the third one: what an element at that location adds to the residue is not in them.
+#[inline]
+fn sums_beside(residue: &[Fe32], location: usize) -> (u32, u32)
+    requires six { length residue.now ≡ 6 }
+    requires small { location < 1023 }
+    ensures below { (result.0 < 1024) × (result.1 < 1024) }
+    ensures lower { pair_at result.0 0 ≡ sum_beside residue.now location 0 }
+    ensures upper { pair_at result.1 0 ≡ sum_beside residue.now location 1 }
+{
+    let all = syndromes_of(residue);
+    let (first, second, third) = (all % 1024, all / 1024 % 1024, all / 0x10_0000 % 1024);
+    (
+        second ^ times_power(first, location),
+        third ^ times_power(second, location),
+    )
+}
+
+// The number of the element that an error has to be at another location than that of the element
+// beside it, where it leaves the lower sum.
+#[inline]
+fn value_beside(lower: u32, location: usize, other: usize) -> u32
+    requires some { 0 < lower }
+    requires lower { lower < 1024 }
+    requires location { location < 1023 }
+    requires other { other < 1023 }
+    ensures { (w : Element) → pair_at lower 0 ≡ error_sum w location other → result ≡ value w }
+{
+    let apart = POWERS[location] ^ POWERS[other];
+    let above = LOGARITHMS[lower as usize] as usize + 1023 - LOGARITHMS[apart as usize] as usize;
+    POWERS[(above + 24 * (1023 - other)) % 1023] as u32
+}
+
+// The error below a window that alone may stand beside an element at a location, if any; says
+// nothing where the element alone may leave the residue.
+#[inline]
+fn error_beside(residue: &[Fe32], location: usize, window: usize) -> Option<Option<(usize, Fe32)>>
     requires six { length residue.now ≡ 6 }
     requires small { location < 1023 }
     requires within { window ≤ 1023 }
-    ensures { MatchOption result ⊤ (λ found. MatchOption found
-        ((v : Element) (i : ℕ) (w : Element) → i < window → residue.now
-        ≡ add fe32.ops (scale fe32.ops v (digits 6 (get_or POWERS_OF_X location 0)))
-        (scale fe32.ops w (digits 6 (get_or POWERS_OF_X i 0))) → ⊥)
-        (λ p. (p.0 < window) × ((p.0 ≡ (p.1.0 + location + 1018) % 1023) × ((p.1.0 < 1023)
-        × (take 5 (remainder_of fe32.ops bech32.generator
-        (zeros fe32.ops (1028 - location) ++ residue.now))
-        ≡ scale fe32.ops p.1.1 (digits 5 (get_or POWERS_OF_X p.1.0 0))))))) }
+    ensures { MatchOption result ⊤ (λ found. ((v : Element) (i : ℕ) (w : Element) → i < window
+        → IsLeftBy bech32.generator residue.now ((location, v) ∷ (i, w) ∷ [])
+        → MatchOption found ⊥ (λ error. (error.0 ≡ i) × (error.1 ≡ w)))
+        × MatchOption found ⊤ (λ error. error.0 < window)) }
 {
-    let key = key_of(&highest_five(residue, 1023 - location))?;
-    let Some(moved) = location_of(key.0) else {
-        return Some(None);
-    };
-    let found = (moved.0 + location + 1018) % 1023;
-    if found >= window {
+    let (lower, upper) = sums_beside(residue, location);
+    if lower == 0 && upper == 0 {
+        return None;
+    }
+    if lower == 0 || upper == 0 {
         return Some(None);
     }
-    Some(Some((found, (moved.0, product(key.1, moved.1)))))
+    let (from, to) = (LOGARITHMS[lower as usize], LOGARITHMS[upper as usize]);
+    let other = around(to as usize + 1023 - from as usize);
+    if other >= window {
+        return Some(None);
+    }
+    let value = value_beside(lower, location, other);
+    if value >= 32 {
+        return Some(None);
+    }
+    Some(Some((other, Fe32::from_low_bits(value as u8))))
 }
 
-// The element that leaves a residue together with an error: what the highest coefficient of the
-// residue times x to a power has beside that of the error. Out of line: where there is no error,
-// nothing is kept for it.
+// The element at a location that leaves a residue together with an error, if any. Out of line: few
+// texts come here.
 #[inline(never)]
-fn value_beside(residue: &[Fe32], power: usize, moved: usize, value: Fe32) -> Fe32
+fn element_beside(residue: &[Fe32], location: usize, error: (usize, Fe32)) -> Option<Option<Fe32>>
     requires six { length residue.now ≡ 6 }
-    requires small { power < 1029 }
-    requires within { moved < 1023 }
-    ensures { result ≡ fe32.add (highest_after residue.now power)
-        (fe32.mul value (digit_of (get_or POWERS_OF_X (moved % 1023) 0) 5)) }
+    requires small { location < 1023 }
+    requires error { error.0 < 1023 }
+    ensures { MatchOption result ⊤ (λ found. MatchOption found
+        ((v : Element)
+        → IsLeftBy bech32.generator residue.now ((location, v) ∷ error ∷ []) → ⊥)
+        (λ v. IsLeftBy bech32.generator residue.now ((location, v) ∷ error ∷ []))) }
 {
-    highest_moved(residue, power) + highest_multiple(moved, value)
+    let row = multiple_of(POWERS_OF_X[error.0], error.1);
+    value_at_one(packed_list(residue) ^ row, POWERS_OF_X[location])
 }
 
 // The element at a location and the error below a window that together leave a residue; says
-// nothing where the element alone leaves it, nor of other residues than those of six elements. Out
-// of line: few texts come here.
+// nothing where the element alone may leave it, nor of other residues than those of six elements.
+// Out of line: few texts come here.
 #[inline(never)]
 pub(super) fn one_beside_by_rows(residue: &[Fe32], location: usize, window: usize) -> Beside
     ensures { MatchOption result ⊤
@@ -166,7 +163,8 @@ pub(super) fn one_beside_by_rows(residue: &[Fe32], location: usize, window: usiz
     let Some(error) = error_beside(residue, location, window)? else {
         return Some(None);
     };
-    let (moved, value) = error.1;
-    let own = value_beside(residue, 1028 - location, moved, value);
-    Some(Some((own, (error.0, value))))
+    let Some(element) = element_beside(residue, location, error)? else {
+        return Some(None);
+    };
+    Some(Some((element, error)))
 }

@@ -32,7 +32,7 @@ pub(super) fn product(a: Fe32, b: Fe32) -> Fe32
 
 // A packed row, each coefficient times a factor.
 #[inline]
-fn multiple_of(row: u32, factor: Fe32) -> u32
+pub(super) fn multiple_of(row: u32, factor: Fe32) -> u32
     ensures { result ≡ packed (scale fe32.ops factor (digits 6 row)) }
 {
     let fifth = product_value(factor, coefficient_at(row, 20))
@@ -72,7 +72,7 @@ fn factor_of(row: u32, pivot: (u32, Fe32)) -> Fe32
 // The value by which a row has to be multiplied to be the residue, if any; the outer `None` says
 // nothing.
 #[inline]
-fn value_at_one(residue: u32, row: u32) -> Option<Option<Fe32>>
+pub(super) fn value_at_one(residue: u32, row: u32) -> Option<Option<Fe32>>
     requires { residue < 2 ^ 30 }
     ensures { MatchOption result ⊤ (λ found. MatchOption found
         ((v : Element) → digits 6 residue ≡ scale fe32.ops v (digits 6 row) → ⊥)
@@ -165,7 +165,7 @@ fn row_at(location: usize) -> Option<u32>
 
 // Six elements packed, the first one lowest.
 #[inline]
-fn packed_list(list: &[Fe32]) -> u32
+pub(super) fn packed_list(list: &[Fe32]) -> u32
     requires { length list.now ≡ 6 }
     ensures { result ≡ packed list.now }
 {

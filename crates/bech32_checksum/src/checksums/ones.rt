@@ -1,20 +1,18 @@
 //! One error by the generator of BIP-173, looked up by its remainder.
 
-ghost use Rattle.std.specs.Prelude.{◌≡◌, ◌≢◌, ◌<◌, ◌+◌, ◌*◌, ◌/◌, ◌%◌, ◌^◌, ℕ, get_or, length, IfSome, MatchOption, ⊤};
+ghost use Rattle.std.specs.Prelude.{◌≡◌, ◌≢◌, ◌<◌, ◌+◌, ◌*◌, ◌/◌, ◌%◌, ◌^◌, get_or, length, MatchOption, ⊤};
 ghost use Rattle.bech32_gf.specs.Fe32 as fe32;
 ghost use Rattle.bech32_gf.specs.Fe32.{value};
 ghost use Rattle.bech32_poly.specs.Polynomial.{scale};
 ghost use Rattle.bech32_checksum.specs.Code.{bech32};
-ghost use Rattle.bech32_checksum.specs.OneError.{IsSingle, key, leading, packed};
-ghost use Rattle.bech32_checksum.specs.Packed.{digits};
+ghost use Rattle.bech32_checksum.specs.OneError.{IsSingle, leading, packed};
 
 use super::locations::{ANSWERS, INVERSES, KEYS, MOVES, PRODUCTS_OF_TWO};
-use super::powers::POWERS_OF_X;
 use bech32_gf::gf32::Fe32;
 
 // The first element that is not zero; zero where there is none.
 #[inline]
-pub(super) fn leading_of(list: &[Fe32]) -> Fe32
+fn leading_of(list: &[Fe32]) -> Fe32
     ensures { result ≡ leading list.now }
 {
     for element in list {
@@ -65,28 +63,6 @@ fn slot_of(number: u32) -> usize
     let hash = (number % 0x200_0000) as u64 * 208833772613;
     let moved = hash / 0x4_0000_0000 + MOVES[(hash / 0x1000_0000_0000 % 512) as usize] as u64;
     (moved % 1024) as usize
-}
-
-// The location whose remainder has a key of its five lowest coefficients, if any, with the inverse
-// of the first of them that is not zero. They are zero at location 5.
-#[inline]
-pub(super) fn location_of(number: u32) -> Option<(usize, Fe32)>
-    requires { number < 2 ^ 25 }
-    ensures found { (i : ℕ) → i < 1023 → i ≢ 5 → key (digits 5 (get_or POWERS_OF_X i 0)) ≡ number
-        → MatchOption result ⊥ (λ p. p.0 ≡ i) }
-    ensures is { IfSome result (λ p. (p.0 < 1023)
-        × (number ≡ packed (scale fe32.ops p.1 (digits 5 (get_or POWERS_OF_X p.0 0))))) }
-{
-    let slot = slot_of(number);
-    let stored = KEYS[slot] % 0x200_0000;
-    if stored != number {
-        return None;
-    }
-    let answer = ANSWERS[slot];
-    Some((
-        (answer / 32) as usize,
-        Fe32::from_low_bits((answer % 32) as u8),
-    ))
 }
 
 // The single error that leaves a residue; says nothing of a residue that is zero or has not six

@@ -1,61 +1,79 @@
-use Rattle.std.proofs.Common.{◌≡◌, ◌<◌, ◌+◌, ◌-◌, ◌%◌, ◌++◌, get_or, ℕ, List, take, refl, sym, ap, ◌∙◌, arith}
+use Rattle.std.proofs.Common.{◌≡◌, ◌<◌, ◌%◌, sym, ap, ◌∙◌, arith}
 use Rattle.bech32_gf.specs.Fe32 as fe32
-use Rattle.bech32_gf.specs.declared.gf32.Fe32.{Fe32}
-use Rattle.bech32_poly.specs.Division.{remainder_of, zeros}
-use Rattle.bech32_poly.specs.Polynomial.{scale}
-use Rattle.bech32_checksum.specs.Code.{bech32}
-use Rattle.bech32_checksum.specs.Highest.{left_by}
-use Rattle.bech32_checksum.specs.Packed.{digits}
-use Rattle.bech32_checksum.specs.declared.checksums.powers.TheConstants.{POWERS_OF_X}
-use Rattle.bech32_checksum.proofs.Beside.{moved_key, multiple_there}
-use Rattle.bech32_checksum.proofs.Highest.{five_left, length-low}
+use Rattle.bech32_checksum.specs.Syndromes.{error_sum}
+use Rattle.bech32_checksum.proofs.Beside.{location_there, told}
+use Rattle.bech32_checksum.proofs.Syndromes.{difference-lt, logarithm-le}
+use Rattle.bech32_checksum.proofs.checksums.beside.error_beside.Goals.{else-lower-eq0-via-else-lower-eq0, else-lower-eq0-via-then-lower-eq0+else-upper-eq0}
+use Rattle.bech32_checksum.proofs.checksums.beside.error_beside.Goals.{then-lower-eq0-2-via-else-lower-eq0-2+then-upper-eq0-2, then-lower-eq0-2-via-then-lower-eq0-2}
 use Rattle.bech32_checksum.proofs.checksums.beside.error_beside.Goals as goal
 
-pub location_of-requires : goal.location_of-requires
-location_of-requires c = c.in_ok-key.ensures.0
+pub returns-then-lower-eq0-2 : goal.returns-then-lower-eq0-2
+returns-then-lower-eq0-2 c = (
+  λ v i w below left.
+      let sums = c.sums_beside-lower.ensures in
+      let tells = told c.args.residue.now c.args.location i c.sums_beside-lower.result.0 c.sums_beside-lower.result.1 v w c.requires.six left sums.below.0 sums.below.1 sums.lower sums.upper in
+      let none : c.sums_beside-lower.result.0 ≡ 0 → c.sums_beside-lower.result.1 ≡ 0 = tells.none in
+      let some : 0 < c.sums_beside-lower.result.0 → 0 < c.sums_beside-lower.result.1 = tells.some in
+      elim c.then-lower-eq0-2.branch [
+        | then-lower-eq0-2-via-then-lower-eq0-2 t ↦ elim c.else-lower-eq0.branch [
+          | else-lower-eq0-via-then-lower-eq0+else-upper-eq0 e ↦
+              let zero : c.sums_beside-lower.result.0 ≡ 0 = omega arith in
+              let both = none zero in
+              omega (arith, both)
+          | else-lower-eq0-via-else-lower-eq0 e ↦ omega arith
+        ]
+        | then-lower-eq0-2-via-else-lower-eq0-2+then-upper-eq0-2 t ↦
+            let positive : 0 < c.sums_beside-lower.result.0 = omega arith in
+            let both = some positive in
+            omega (arith, both)
+      ],
+  tt,
+)
 
-pub returns-in_default : goal.returns-in_default
-returns-in_default c v i w below e =
-    let l = c.args.residue.now in
-    let k : ℕ = 1023 - c.args.location + 5 in
-    let inside : i < 1023 = omega (arith, below, c.requires.within) in
-    let up : (1023 - c.args.location + 5 + c.args.location) % 1023 ≡ 5 = omega (arith, c.requires.small) in
-    let moved : (1023 - c.args.location + 5 + i) % 1023 < 1023 = omega arith in
-    let low = ap (λ (hs : List Fe32). take 5 (left_by hs)) c.highest_five.ensures ∙ five_left l (1023 - c.args.location) in
-    let both = moved_key l (take 5 (left_by c.highest_five.result)) k c.args.location i c.in_ok-key.key.0 v w c.requires.six c.requires.small inside up
-    low c.in_ok-key.ensures.1.1.0 c.in_ok-key.ensures.1.0 e in
-    rw c.in_default.is at (c.location_of.ensures.found ((1023 - c.args.location + 5 + i) % 1023) moved both.0 both.1)
+pub overflow_sub-to : goal.overflow_sub-to
+overflow_sub-to c = logarithm-le c.sums_beside-lower.result.0 _ c.sums_beside-lower.ensures.below.0
 
-pub returns-then-found-window : goal.returns-then-found-window
-returns-then-found-window c v i w below e =
-    let l = c.args.residue.now in
-    let k : ℕ = 1023 - c.args.location + 5 in
-    let inside : i < 1023 = omega (arith, below, c.requires.within) in
-    let up : (1023 - c.args.location + 5 + c.args.location) % 1023 ≡ 5 = omega (arith, c.requires.small) in
-    let moved : (1023 - c.args.location + 5 + i) % 1023 < 1023 = omega arith in
-    let low = ap (λ (hs : List Fe32). take 5 (left_by hs)) c.highest_five.ensures ∙ five_left l (1023 - c.args.location) in
-    let both = moved_key l (take 5 (left_by c.highest_five.result)) k c.args.location i c.in_ok-key.key.0 v w c.requires.six c.requires.small inside up
-    low c.in_ok-key.ensures.1.1.0 c.in_ok-key.ensures.1.0 e in
-    let at : c.in-Some.moved.0 ≡ (1023 - c.args.location + 5 + i) % 1023 =
-    rw c.in-Some.is at (c.location_of.ensures.found ((1023 - c.args.location + 5 + i) % 1023) moved both.0 both.1) in
-    let back : (c.in-Some.moved.0 + c.args.location + 1018) % 1023 ≡ i = omega (arith, at, inside, c.requires.small) in
-    absurd (omega (arith, back, below, c.if-found-window.true))
+pub around-other-requires : goal.around-other-requires
+around-other-requires c = difference-lt c.sums_beside-lower.result.1 c.sums_beside-lower.result.0 c.sums_beside-lower.ensures.below.1
+
+pub returns-then-other-window : goal.returns-then-other-window
+returns-then-other-window c = (
+  λ v i w below left.
+      let sums = c.sums_beside-lower.ensures in
+      let positive : 0 < c.sums_beside-lower.result.0 = omega arith in
+      let inside : i < 1023 = omega (arith, below, c.requires.within) in
+      let tells = told c.args.residue.now c.args.location i c.sums_beside-lower.result.0 c.sums_beside-lower.result.1 v w c.requires.six left sums.below.0 sums.below.1 sums.lower sums.upper in
+      let there : c.around-other.result ≡ i =
+      c.around-other.ensures ∙ location_there c.args.location i c.sums_beside-lower.result.0 c.sums_beside-lower.result.1 w inside positive sums.below.0 tells in
+      omega (arith, there, below),
+  tt,
+)
+
+pub returns-then-value-ge32 : goal.returns-then-value-ge32
+returns-then-value-ge32 c = (
+  λ v i w below left.
+      let sums = c.sums_beside-lower.ensures in
+      let positive : 0 < c.sums_beside-lower.result.0 = omega arith in
+      let inside : i < 1023 = omega (arith, below, c.requires.within) in
+      let tells = told c.args.residue.now c.args.location i c.sums_beside-lower.result.0 c.sums_beside-lower.result.1 v w c.requires.six left sums.below.0 sums.below.1 sums.lower sums.upper in
+      let there : c.around-other.result ≡ i =
+      c.around-other.ensures ∙ location_there c.args.location i c.sums_beside-lower.result.0 c.sums_beside-lower.result.1 w inside positive sums.below.0 tells in
+      let value : c.value_beside-value.result ≡ w.value = c.value_beside-value.ensures w (tells.sum ∙ ap (error_sum w c.args.location) (sym there)) in
+      omega (arith, value, w.in_field),
+  tt,
+)
 
 pub returns : goal.returns
-returns c =
-    let l = c.args.residue.now in
-    let there = rw c.in-Some.is at c.location_of.ensures.is in
-    let far : 1023 - c.args.location + 5 ≡ 1028 - c.args.location = omega (arith, c.requires.small) in
-    let low = ap (λ (hs : List Fe32). take 5 (left_by hs)) c.highest_five.ensures ∙ five_left l (1023 - c.args.location) in (
-      omega (arith, c.if-found-window.false),
-      (
-        refl,
-        (
-          there.0,
-          ap (λ (n : ℕ). take 5 (remainder_of fe32.ops bech32.generator (zeros fe32.ops n ++ l))) (sym far) ∙ sym low
-              ∙ multiple_there (take 5 (left_by c.highest_five.result)) c.in_ok-key.key.0 _ c.in_ok-key.key.1 c.in-Some.moved.1 (length-low c.highest_five.result)
-              c.in_ok-key.ensures.1.1.0 c.in_ok-key.ensures.1.1.1 c.in_ok-key.ensures.1.0 there.1
-              ∙ ap (λ (u : Fe32). scale fe32.ops u (digits 5 (get_or POWERS_OF_X c.in-Some.moved.0 0))) (sym c.product.ensures),
-        ),
-      ),
-    )
+returns c = (
+  λ v i w below left.
+      let sums = c.sums_beside-lower.ensures in
+      let positive : 0 < c.sums_beside-lower.result.0 = omega arith in
+      let inside : i < 1023 = omega (arith, below, c.requires.within) in
+      let tells = told c.args.residue.now c.args.location i c.sums_beside-lower.result.0 c.sums_beside-lower.result.1 v w c.requires.six left sums.below.0 sums.below.1 sums.lower sums.upper in
+      let there : c.around-other.result ≡ i =
+      c.around-other.ensures ∙ location_there c.args.location i c.sums_beside-lower.result.0 c.sums_beside-lower.result.1 w inside positive sums.below.0 tells in
+      let value : c.value_beside-value.result ≡ w.value = c.value_beside-value.ensures w (tells.sum ∙ ap (error_sum w c.args.location) (sym there)) in
+      let low : c.value_beside-value.result % 32 ≡ w.value = omega (arith, value, w.in_field) in
+      (there, c.from_low_bits.ensures ∙ fe32.path (fe32.element c.value_beside-value.result) w low),
+  omega (arith, c.if-other-window.false),
+)

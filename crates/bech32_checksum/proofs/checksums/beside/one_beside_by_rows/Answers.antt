@@ -1,19 +1,16 @@
-use Rattle.std.proofs.Common.{◌≡◌, ◌<◌, length, arith}
-use Rattle.bech32_checksum.proofs.Beside.{both_leave, two_found}
+use Rattle.std.proofs.Common.{ℕ, ◌∷◌, [], subst, sym}
+use Rattle.bech32_gf.specs.declared.gf32.Fe32.{Fe32}
+use Rattle.bech32_checksum.specs.Code.{bech32}
+use Rattle.bech32_checksum.specs.OneError.{IsLeftBy}
 use Rattle.bech32_checksum.proofs.checksums.beside.one_beside_by_rows.Goals as goal
 
 pub returns-in_default : goal.returns-in_default
-returns-in_default c v i w below left =
-    let six : length c.args.residue.now ≡ 6 = omega arith in
-    let small : c.args.location < 1023 = omega arith in
-    let inside : i < 1023 = omega (arith, below, c.if-window-gt1023.false) in
-    (rw c.in_default.is at c.in_ok-error.ensures) v i w below (both_leave c.args.residue.now c.args.location i v w six small inside left)
+returns-in_default c = (rw c.in_default.is at c.in_ok-error.ensures).0
 
-pub returns : goal.returns
-returns c =
-    let six : length c.args.residue.now ≡ 6 = omega arith in
-    let small : c.args.location < 1023 = omega arith in
-    let there = rw c.in-Some.is at c.in_ok-error.ensures in (
-      there.0,
-      two_found c.args.residue.now c.args.location c.in-Some.error.0 c.in-Some.error.1.0 c.value_beside-own.result c.in-Some.error.1.1 six small there.1.1.0 there.1.0 there.1.1.1 c.value_beside-own.ensures,
-    )
+pub returns-in_default-2 : goal.returns-in_default-2
+returns-in_default-2 c v i w below left =
+    let error = c.in-Some.error in
+    let same = (rw c.in-Some.is at c.in_ok-error.ensures).0 v i w below left in
+    (rw c.in_default-2.is at c.in_ok-element.ensures) v
+    (subst (λ (u : Fe32). IsLeftBy bech32.generator c.args.residue.now ((c.args.location, v) ∷ (error.0, u) ∷ [])) (sym same.1)
+    (subst (λ (n : ℕ). IsLeftBy bech32.generator c.args.residue.now ((c.args.location, v) ∷ (n, w) ∷ [])) (sym same.0) left))

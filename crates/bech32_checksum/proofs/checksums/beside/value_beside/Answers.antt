@@ -1,10 +1,12 @@
-use Rattle.std.proofs.Common.{ap, ◌∙◌}
-use Rattle.bech32_gf.specs.Fe32 as fe32
-use Rattle.bech32_gf.specs.declared.gf32.Fe32.{Fe32}
-use Rattle.bech32_checksum.specs.Highest.{highest_after}
+use Rattle.bech32_checksum.proofs.Beside.{apart-lt, value_there}
+use Rattle.bech32_checksum.proofs.Syndromes.{logarithm-le}
 use Rattle.bech32_checksum.proofs.checksums.beside.value_beside.Goals as goal
 
+pub bounds-apart : goal.bounds-apart
+bounds-apart c = apart-lt c.args.location c.args.other c.requires.location c.requires.other
+
+pub overflow_sub-above : goal.overflow_sub-above
+overflow_sub-above c = logarithm-le _ _ (apart-lt c.args.location c.args.other c.requires.location c.requires.other)
+
 pub returns : goal.returns
-returns c =
-    c.add.ensures ∙ ap (λ (x : Fe32). fe32.add x c.highest_multiple.result) c.highest_moved.ensures
-    ∙ ap (fe32.add (highest_after c.args.residue.now c.args.power)) c.highest_multiple.ensures
+returns c w e = value_there c.args.lower c.args.location c.args.other w c.requires.some c.requires.lower c.requires.location c.requires.other e
