@@ -10,7 +10,7 @@ from textwrap import wrap
 # A function with its clauses, or a conversion with what it gives, up to its last arm.
 CODE = re.compile(r"(?:^ *///[^\n]*\n)*(?:^ *ghost from_gives = .*\n\n)?^ *(?:pub )?fn (\w+)\([^)]*\) -> u(?:8|32)"
                   r"(?: \{\n|\n(?:(?!^ *\{$).*\n)+?^ *\{\n)(?:(?!^ *\}$).*\n)*", re.M)
-CLAUSE = re.compile(r"\w+ ≡ (number_of\w*) (?:e|self)(?: \}|\))")
+CLAUSE = re.compile(r"(?:\w+ ≡|HasNumber) (number_of\w*) (?:e|self)(?: result)?(?: \}|\))")
 ARM = re.compile(r"^ *([A-Za-z_]\w*(?:::\w+)*)::(\w+)(?:\((\w+)\))? => (.+),$")
 SPEC = re.compile(r"^abbrev pub (number_of\w*) : (\w+) → ℕ\n((?:\1 .*\n?)+)", re.M)
 SPEC_ARM = re.compile(r"^\w+ (?:\((\w+) \w+\)|(\w+)) = (.+)$")

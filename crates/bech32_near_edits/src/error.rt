@@ -1,5 +1,7 @@
 //! Why the edits of a text are not told.
 
+ghost use Rattle.std.specs.Prelude.{◌≡◌};
+
 use bech32_decode::UncheckedHrpstringError;
 use std::alloc::AllocError;
 use thiserror::Error;
@@ -16,7 +18,6 @@ pub enum EditsError {
 }
 
 impl From<UncheckedHrpstringError> for EditsError {
-    ghost use Rattle.std.specs.Prelude.{◌≡◌};
     ghost use Rattle.bech32_near_edits.specs.declared.error.EditsError.TheVariants.{Refused};
 
     ghost from_gives = { λ e r. r ≡ Refused e };
@@ -27,7 +28,6 @@ impl From<UncheckedHrpstringError> for EditsError {
 }
 
 impl From<AllocError> for EditsError {
-    ghost use Rattle.std.specs.Prelude.{◌≡◌};
     ghost use Rattle.bech32_near_edits.specs.declared.error.EditsError.TheVariants.{Memory};
 
     ghost from_gives = { λ e r. r ≡ Memory };

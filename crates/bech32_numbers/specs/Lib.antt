@@ -1,3 +1,4 @@
+pub mod Message
 pub mod Numbers
 pub mod Refused
 pub mod Sentences

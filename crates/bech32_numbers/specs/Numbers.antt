@@ -1,7 +1,7 @@
 -- The numbers of refusals: from 11 for a human-readable part, 21 for characters, 31 for a checksum,
 -- 41 for a segwit address, 51 for a text that is not written, 67 for a byte that is no element, and
 -- 91 for out of memory. An error that carries another has its number.
-use Rattle.std.specs.Prelude.{◌<◌, ℕ}
+use Rattle.std.specs.Prelude.{◌≡◌, ◌<◌, ℕ}
 use Rattle.bech32_hrp.specs.declared.Error.{Error as HrpError}
 use Rattle.bech32_hrp.specs.declared.Error.TheVariants.{Empty, TooLong as HrpTooLong}
 use Rattle.bech32_hrp.specs.declared.Error.TheVariants.{NonAsciiChar, InvalidAsciiByte}
@@ -83,6 +83,11 @@ use Rattle.bech32_segwit.specs.declared.error.EncodeError.TheVariants.{
 pub record IsSmall (number : ℕ) : Type 0 where
   pub above : 0 < number
   pub below : number < 100
+
+-- a refusal has this number
+pub record HasNumber {E : Type 0} (number_of : E → ℕ) (refusal : E) (number : ℕ) : Type 0 where
+  pub value : number ≡ number_of refusal
+  pub small : IsSmall number
 
 -- of a human-readable part that is refused; the last comes of a value that does not
 -- print, which no command reads

@@ -1,5 +1,6 @@
 -- The sentences of refusals, by their numbers: written by tools/refusals from docs/refusals.tsv.
-use Rattle.std.specs.Prelude.{ℕ, List, [], codes, ◌==◌, if◌then◌else◌}
+use Rattle.std.specs.Prelude.{◌≡◌, ◌≤◌, ℕ, List, [], length, codes, ◌==◌, if◌then◌else◌}
+use Rattle.std.specs.Borrow.{Bor}
 
 -- the sentence of a number that both headers have in the same words, empty for any other
 abbrev pub common_sentence : ℕ → List ℕ
@@ -76,3 +77,8 @@ codex32_sentence n =
     else common_sentence n)))))))))))))))
 
 -- End of the sentences.
+
+-- a text is what these sentences say of a number, in at most 100 characters
+pub record IsSentence (sentences : ℕ → List ℕ) (number : ℕ) (text : Bor (List ℕ)) : Type 0 where
+  pub sentence : text.now ≡ sentences number
+  pub short : length (sentences number) ≤ 100

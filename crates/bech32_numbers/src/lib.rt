@@ -7,20 +7,22 @@
 //! Standard: none.
 #![tactic(auto)]
 
-ghost use Rattle.std.specs.Prelude.{◌≡◌};
-ghost use Rattle.bech32_numbers.specs.Numbers.{IsSmall, number_of_hrp_error, number_of_char_error};
-ghost use Rattle.bech32_numbers.specs.Numbers.{number_of_text_error, number_of_checksum_error};
-ghost use Rattle.bech32_numbers.specs.Numbers.{number_of_checked_error, number_of_padding_error};
-ghost use Rattle.bech32_numbers.specs.Numbers.{number_of_length_error, number_of_address_error};
-ghost use Rattle.bech32_numbers.specs.Numbers.{number_of_correct_error, number_of_edits_error};
-ghost use Rattle.bech32_numbers.specs.Numbers.{number_of_decode_error, number_of_encode_error};
+ghost use Rattle.bech32_numbers.specs.Numbers.{HasNumber, number_of_hrp_error};
+ghost use Rattle.bech32_numbers.specs.Numbers.{number_of_char_error, number_of_text_error};
+ghost use Rattle.bech32_numbers.specs.Numbers.{number_of_checksum_error, number_of_checked_error};
+ghost use Rattle.bech32_numbers.specs.Numbers.{number_of_padding_error, number_of_length_error};
+ghost use Rattle.bech32_numbers.specs.Numbers.{number_of_address_error, number_of_correct_error};
+ghost use Rattle.bech32_numbers.specs.Numbers.{number_of_edits_error, number_of_decode_error};
+ghost use Rattle.bech32_numbers.specs.Numbers.{number_of_encode_error};
 ghost use Rattle.bech32_numbers.specs.Numbers.{number_of_segwit_decode_error};
 ghost use Rattle.bech32_numbers.specs.Numbers.{number_of_segwit_encode_error};
 ghost use Rattle.bech32_numbers.specs.Numbers.{number_of_text_decode_error};
 ghost use Rattle.bech32_numbers.specs.Numbers.{number_of_elements_error};
 
+mod message;
 mod sentences;
 
+pub use self::message::put_sentence;
 pub use self::sentences::{bech32_sentence_of, codex32_sentence_of};
 use bech32::primitives::decode::{
     CharError, CheckedHrpstringError, ChecksumError, PaddingError, SegwitHrpstringError,
@@ -32,14 +34,10 @@ use bech32::{
     CorrectError, DecodeError, EditsError, ElementsError, EncodeError, TextError, segwit,
 };
 
-/// The number of a text that a checksum refuses for its residue, and that no correction mends.
-pub const NO_CORRECTION: u8 = 34;
-
 /// The number, 11 to 16, of a human-readable part that is refused. `Fmt`, 16, comes of
 /// `Hrp::parse_display` alone, so no program of this repository prints it.
 pub fn hrp_error_number(e: hrp::Error) -> u8
-    ensures value { result ≡ number_of_hrp_error e }
-    ensures small { IsSmall result }
+    ensures { HasNumber number_of_hrp_error e result }
 {
     match e {
         hrp::Error::Empty => 11,
@@ -53,8 +51,7 @@ pub fn hrp_error_number(e: hrp::Error) -> u8
 
 /// The number, 21 to 24, of characters that are refused.
 pub fn char_error_number(e: CharError) -> u8
-    ensures value { result ≡ number_of_char_error e }
-    ensures small { IsSmall result }
+    ensures { HasNumber number_of_char_error e result }
 {
     match e {
         CharError::InvalidChar(_) => 21,
@@ -66,8 +63,7 @@ pub fn char_error_number(e: CharError) -> u8
 
 /// The number, 11 to 24, of a text that is not in the grammar.
 pub fn text_error_number(e: UncheckedHrpstringError) -> u8
-    ensures value { result ≡ number_of_text_error e }
-    ensures small { IsSmall result }
+    ensures { HasNumber number_of_text_error e result }
 {
     match e {
         UncheckedHrpstringError::Char(e) => char_error_number(e),
@@ -77,8 +73,7 @@ pub fn text_error_number(e: UncheckedHrpstringError) -> u8
 
 /// The number, 31 to 33, of a text that a checksum refuses.
 pub fn checksum_error_number(e: ChecksumError) -> u8
-    ensures value { result ≡ number_of_checksum_error e }
-    ensures small { IsSmall result }
+    ensures { HasNumber number_of_checksum_error e result }
 {
     match e {
         ChecksumError::CodeLength(_) => 31,
@@ -89,8 +84,7 @@ pub fn checksum_error_number(e: ChecksumError) -> u8
 
 /// The number, 11 to 33, of a text that is not in the grammar, or that a checksum refuses.
 pub fn checked_error_number(e: CheckedHrpstringError) -> u8
-    ensures value { result ≡ number_of_checked_error e }
-    ensures small { IsSmall result }
+    ensures { HasNumber number_of_checked_error e result }
 {
     match e {
         CheckedHrpstringError::Parse(e) => text_error_number(e),
@@ -98,10 +92,12 @@ pub fn checked_error_number(e: CheckedHrpstringError) -> u8
     }
 }
 
+/// The number of a text that a checksum refuses for its residue, and that no correction mends.
+pub const NO_CORRECTION: u8 = 34;
+
 /// The number, 11 to 33 or 91, of a text that is not corrected, or near which none is looked for.
 pub fn correct_error_number(e: CorrectError) -> u8
-    ensures value { result ≡ number_of_correct_error e }
-    ensures small { IsSmall result }
+    ensures { HasNumber number_of_correct_error e result }
 {
     match e {
         CorrectError::Refused(e) => checked_error_number(e),
@@ -111,8 +107,7 @@ pub fn correct_error_number(e: CorrectError) -> u8
 
 /// The number, 11 to 24 or 91, of a text of which no edits are looked for.
 pub fn edits_error_number(e: EditsError) -> u8
-    ensures value { result ≡ number_of_edits_error e }
-    ensures small { IsSmall result }
+    ensures { HasNumber number_of_edits_error e result }
 {
     match e {
         EditsError::Refused(e) => text_error_number(e),
@@ -123,8 +118,7 @@ pub fn edits_error_number(e: EditsError) -> u8
 /// The number, 44 or 45, of bits behind the last whole byte that are refused (BIP-173, Segwit
 /// address format).
 pub fn padding_error_number(e: PaddingError) -> u8
-    ensures value { result ≡ number_of_padding_error e }
-    ensures small { IsSmall result }
+    ensures { HasNumber number_of_padding_error e result }
 {
     match e {
         PaddingError::TooMuch => 44,
@@ -134,8 +128,7 @@ pub fn padding_error_number(e: PaddingError) -> u8
 
 /// The number, 46 to 48, of the length of a witness program that is refused.
 pub fn length_error_number(e: WitnessLengthError) -> u8
-    ensures value { result ≡ number_of_length_error e }
-    ensures small { IsSmall result }
+    ensures { HasNumber number_of_length_error e result }
 {
     match e {
         WitnessLengthError::TooShort => 46,
@@ -146,8 +139,7 @@ pub fn length_error_number(e: WitnessLengthError) -> u8
 
 /// The number, 11 to 48 or 91, of a text that is not a segwit address.
 pub fn address_error_number(e: SegwitHrpstringError) -> u8
-    ensures value { result ≡ number_of_address_error e }
-    ensures small { IsSmall result }
+    ensures { HasNumber number_of_address_error e result }
 {
     match e {
         SegwitHrpstringError::Unchecked(e) => text_error_number(e),
@@ -163,8 +155,7 @@ pub fn address_error_number(e: SegwitHrpstringError) -> u8
 
 /// The number, 11 to 33 or 91, of a text that is not decoded.
 pub fn decode_error_number(e: DecodeError) -> u8
-    ensures value { result ≡ number_of_decode_error e }
-    ensures small { IsSmall result }
+    ensures { HasNumber number_of_decode_error e result }
 {
     match e {
         DecodeError::Parse(e) => text_error_number(e),
@@ -175,8 +166,7 @@ pub fn decode_error_number(e: DecodeError) -> u8
 
 /// The number, 11 to 45 or 91, of a text that is not decoded by a checksum that is asked for.
 pub fn text_decode_error_number(e: TextError) -> u8
-    ensures value { result ≡ number_of_text_decode_error e }
-    ensures small { IsSmall result }
+    ensures { HasNumber number_of_text_decode_error e result }
 {
     match e {
         TextError::Parse(e) => text_error_number(e),
@@ -188,8 +178,7 @@ pub fn text_decode_error_number(e: TextError) -> u8
 
 /// The number, 51, 67 or 91, of elements that are not written.
 pub fn elements_error_number(e: ElementsError) -> u8
-    ensures value { result ≡ number_of_elements_error e }
-    ensures small { IsSmall result }
+    ensures { HasNumber number_of_elements_error e result }
 {
     match e {
         ElementsError::TooLong(_) => 51,
@@ -200,8 +189,7 @@ pub fn elements_error_number(e: ElementsError) -> u8
 
 /// The number, 51, 54 or 91, of a text that is not written.
 pub fn encode_error_number(e: EncodeError) -> u8
-    ensures value { result ≡ number_of_encode_error e }
-    ensures small { IsSmall result }
+    ensures { HasNumber number_of_encode_error e result }
 {
     match e {
         EncodeError::TooLong(_) => 51,
@@ -212,16 +200,14 @@ pub fn encode_error_number(e: EncodeError) -> u8
 
 /// The number, 11 to 48 or 91, of a segwit address that is not decoded.
 pub fn segwit_decode_error_number(e: segwit::DecodeError) -> u8
-    ensures value { result ≡ number_of_segwit_decode_error e }
-    ensures small { IsSmall result }
+    ensures { HasNumber number_of_segwit_decode_error e result }
 {
     address_error_number(e.0)
 }
 
 /// The number, 46 to 48, 52 to 54 or 91, of a segwit address that is not written.
 pub fn segwit_encode_error_number(e: segwit::EncodeError) -> u8
-    ensures value { result ≡ number_of_segwit_encode_error e }
-    ensures small { IsSmall result }
+    ensures { HasNumber number_of_segwit_encode_error e result }
 {
     match e {
         segwit::EncodeError::WitnessVersion(_) => 52,

@@ -2,14 +2,12 @@
 //!
 //! The tables are written by tools/refusals from docs/refusals.tsv, as `specs/Sentences.antt` is.
 
-ghost use Rattle.std.specs.Prelude.{◌≡◌, ◌≤◌, length};
-ghost use Rattle.bech32_numbers.specs.Sentences.{bech32_sentence, codex32_sentence};
+ghost use Rattle.bech32_numbers.specs.Sentences.{IsSentence, bech32_sentence, codex32_sentence};
 ghost use Rattle.bech32_numbers.specs.Sentences.{common_sentence};
 
 // What a number means that both headers have in the same words; nothing for any other.
 fn common_sentence_of(number: u32) -> &'static str
-    ensures sentence { result.now ≡ common_sentence number }
-    ensures short { length (common_sentence number) ≤ 100 }
+    ensures { IsSentence common_sentence number result }
 {
     match number {
         // The sentences of both headers.
@@ -33,8 +31,7 @@ fn common_sentence_of(number: u32) -> &'static str
 /// What a number of `include/bech32.h` means, in ASCII, at most 100 characters; nothing for a
 /// number that is none of it.
 pub fn bech32_sentence_of(number: u32) -> &'static str
-    ensures sentence { result.now ≡ bech32_sentence number }
-    ensures short { length (bech32_sentence number) ≤ 100 }
+    ensures { IsSentence bech32_sentence number result }
 {
     match number {
         // The sentences of bech32.h alone.
@@ -69,8 +66,7 @@ pub fn bech32_sentence_of(number: u32) -> &'static str
 /// What a number of `include/codex32.h` means, in ASCII, at most 100 characters; nothing for a
 /// number that is none of it.
 pub fn codex32_sentence_of(number: u32) -> &'static str
-    ensures sentence { result.now ≡ codex32_sentence number }
-    ensures short { length (codex32_sentence number) ≤ 100 }
+    ensures { IsSentence codex32_sentence number result }
 {
     match number {
         // The sentences of codex32.h alone.

@@ -11,7 +11,7 @@ use crate::residue::{MAX_DEGREE, Residue};
 use crate::segwit::{MAX_STRING_LENGTH, WitnessLengthError};
 use bech32_checksum::{Bech32, Checksum, PackedFe32};
 use bech32_gf::gf32::Fe32;
-use bech32_hrp as hrp;
+use bech32_hrp::Error as HrpError;
 use thiserror::Error;
 
 /// Why the characters of a text are refused.
@@ -40,29 +40,7 @@ pub enum UncheckedHrpstringError {
     Char(CharError),
     /// Its human-readable part.
     #[error("invalid human-readable part: {0}")]
-    Hrp(hrp::Error),
-}
-
-impl From<CharError> for UncheckedHrpstringError {
-    ghost use Rattle.std.specs.Prelude.{◌≡◌};
-    ghost use Rattle.bech32_refusals.specs.declared.error.UncheckedHrpstringError.TheVariants.{Char};
-
-    ghost from_gives = { λ e r. r ≡ Char e };
-
-    fn from(e: CharError) -> Self {
-        Self::Char(e)
-    }
-}
-
-impl From<hrp::Error> for UncheckedHrpstringError {
-    ghost use Rattle.std.specs.Prelude.{◌≡◌};
-    ghost use Rattle.bech32_refusals.specs.declared.error.UncheckedHrpstringError.TheVariants.{Hrp};
-
-    ghost from_gives = { λ e r. r ≡ Hrp e };
-
-    fn from(e: hrp::Error) -> Self {
-        Self::Hrp(e)
-    }
+    Hrp(HrpError),
 }
 
 /// A text is longer than its checksum's code.
@@ -82,6 +60,77 @@ pub struct CodeLengthError {
 pub struct InvalidResidueError {
     actual: Residue,
     target: Residue,
+}
+
+/// Why a checksum refuses a text.
+#[derive(Clone, Copy, Debug, PartialEq, Eq, Drop, Error)]
+pub enum ChecksumError {
+    /// The text is longer than the code.
+    #[error("string exceeds maximum allowed length: {0}")]
+    CodeLength(CodeLengthError),
+    /// The remainder is not the target.
+    #[error("checksum failed: {0}")]
+    InvalidResidue(InvalidResidueError),
+    /// The data part is shorter than the checksum.
+    #[error("the checksummed string is not a valid length")]
+    InvalidLength,
+}
+
+/// Why a text is not one that a checksum accepts.
+#[derive(Clone, Copy, Debug, PartialEq, Eq, Drop, Error)]
+pub enum CheckedHrpstringError {
+    /// It is not in the grammar.
+    #[error("parse failed: {0}")]
+    Parse(UncheckedHrpstringError),
+    /// Its checksum.
+    #[error("invalid checksum: {0}")]
+    Checksum(ChecksumError),
+}
+
+/// A segwit address would have more than 90 characters: how many.
+#[derive(Clone, Copy, Debug, PartialEq, Eq, Drop, Error)]
+#[error("encoded length {0} exceeds maximum (code length) {max}", max = MAX_STRING_LENGTH)]
+pub struct SegwitCodeLengthError(pub usize);
+
+/// Why the bits behind the last whole byte of a witness program are refused (BIP-173, Segwit
+/// address format).
+#[derive(Clone, Copy, Debug, PartialEq, Eq, Drop, Error)]
+pub enum PaddingError {
+    /// There are more than four.
+    #[error("the data payload has too many bits of padding")]
+    TooMuch,
+    /// Not all of them are zero.
+    #[error("the data payload is padded with non-zero bits")]
+    NonZero,
+}
+
+/// Why a text is not a segwit address.
+#[derive(Clone, Copy, Debug, PartialEq, Eq, Drop, Error)]
+pub enum SegwitHrpstringError {
+    /// It is not in the grammar.
+    #[error("parsing unchecked hrpstring failed: {0}")]
+    Unchecked(UncheckedHrpstringError),
+    /// The data part is empty, or nothing is left of it before the checksum.
+    #[error("no data found after removing the checksum")]
+    NoData,
+    /// It has more than 90 characters: how many.
+    #[error("encoded length {0} exceeds spec limit {max} chars", max = MAX_STRING_LENGTH)]
+    TooLong(usize),
+    /// The witness version is above 16.
+    #[error("invalid segwit witness version: {} (bech32 character: '{}')", .0.to_u8(), .0.to_char())]
+    InvalidWitnessVersion(Fe32),
+    /// The bits behind the last whole byte of the program.
+    #[error("invalid padding on the witness data: {0}")]
+    Padding(PaddingError),
+    /// The length of the program.
+    #[error("invalid witness length: {0}")]
+    WitnessLength(WitnessLengthError),
+    /// The checksum.
+    #[error("invalid checksum: {0}")]
+    Checksum(ChecksumError),
+    /// Out of memory for the program (given by [`bech32_segwit::decode`] alone).
+    #[error("out of memory")]
+    Memory,
 }
 
 impl PartialEq for InvalidResidueError {
@@ -154,33 +203,27 @@ impl InvalidResidueError {
     }
 }
 
-/// Why a checksum refuses a text.
-#[derive(Clone, Copy, Debug, PartialEq, Eq, Drop, Error)]
-pub enum ChecksumError {
-    /// The text is longer than the code.
-    #[error("string exceeds maximum allowed length: {0}")]
-    CodeLength(CodeLengthError),
-    /// The remainder is not the target.
-    #[error("checksum failed: {0}")]
-    InvalidResidue(InvalidResidueError),
-    /// The data part is shorter than the checksum.
-    #[error("the checksummed string is not a valid length")]
-    InvalidLength,
+impl From<CharError> for UncheckedHrpstringError {
+    ghost use Rattle.bech32_refusals.specs.declared.error.UncheckedHrpstringError.TheVariants.{Char};
+
+    ghost from_gives = { λ e r. r ≡ Char e };
+
+    fn from(e: CharError) -> Self {
+        Self::Char(e)
+    }
 }
 
-/// Why a text is not one that a checksum accepts.
-#[derive(Clone, Copy, Debug, PartialEq, Eq, Drop, Error)]
-pub enum CheckedHrpstringError {
-    /// It is not in the grammar.
-    #[error("parse failed: {0}")]
-    Parse(UncheckedHrpstringError),
-    /// Its checksum.
-    #[error("invalid checksum: {0}")]
-    Checksum(ChecksumError),
+impl From<HrpError> for UncheckedHrpstringError {
+    ghost use Rattle.bech32_refusals.specs.declared.error.UncheckedHrpstringError.TheVariants.{Hrp};
+
+    ghost from_gives = { λ e r. r ≡ Hrp e };
+
+    fn from(e: HrpError) -> Self {
+        Self::Hrp(e)
+    }
 }
 
 impl From<UncheckedHrpstringError> for CheckedHrpstringError {
-    ghost use Rattle.std.specs.Prelude.{◌≡◌};
     ghost use Rattle.bech32_refusals.specs.declared.error.CheckedHrpstringError.TheVariants.{Parse};
 
     ghost from_gives = { λ e r. r ≡ Parse e };
@@ -191,7 +234,6 @@ impl From<UncheckedHrpstringError> for CheckedHrpstringError {
 }
 
 impl From<ChecksumError> for CheckedHrpstringError {
-    ghost use Rattle.std.specs.Prelude.{◌≡◌};
     ghost use Rattle.bech32_refusals.specs.declared.error.CheckedHrpstringError.TheVariants.{Checksum};
 
     ghost from_gives = { λ e r. r ≡ Checksum e };
@@ -201,14 +243,7 @@ impl From<ChecksumError> for CheckedHrpstringError {
     }
 }
 
-/// A segwit address would have more than 90 characters: how many.
-#[derive(Clone, Copy, Debug, PartialEq, Eq, Drop, Error)]
-#[error("encoded length {0} exceeds maximum (code length) {max}", max = MAX_STRING_LENGTH)]
-pub struct SegwitCodeLengthError(pub usize);
-
 impl From<CodeLengthError> for SegwitCodeLengthError {
-    ghost use Rattle.std.specs.Prelude.{◌≡◌};
-
     ghost from_gives = { λ e r. r.0 ≡ e.encoded_length };
 
     fn from(e: CodeLengthError) -> Self {
@@ -216,49 +251,7 @@ impl From<CodeLengthError> for SegwitCodeLengthError {
     }
 }
 
-/// Why the bits behind the last whole byte of a witness program are refused (BIP-173, Segwit
-/// address format).
-#[derive(Clone, Copy, Debug, PartialEq, Eq, Drop, Error)]
-pub enum PaddingError {
-    /// There are more than four.
-    #[error("the data payload has too many bits of padding")]
-    TooMuch,
-    /// Not all of them are zero.
-    #[error("the data payload is padded with non-zero bits")]
-    NonZero,
-}
-
-/// Why a text is not a segwit address.
-#[derive(Clone, Copy, Debug, PartialEq, Eq, Drop, Error)]
-pub enum SegwitHrpstringError {
-    /// It is not in the grammar.
-    #[error("parsing unchecked hrpstring failed: {0}")]
-    Unchecked(UncheckedHrpstringError),
-    /// The data part is empty, or nothing is left of it before the checksum.
-    #[error("no data found after removing the checksum")]
-    NoData,
-    /// It has more than 90 characters: how many.
-    #[error("encoded length {0} exceeds spec limit {max} chars", max = MAX_STRING_LENGTH)]
-    TooLong(usize),
-    /// The witness version is above 16.
-    #[error("invalid segwit witness version: {} (bech32 character: '{}')", .0.to_u8(), .0.to_char())]
-    InvalidWitnessVersion(Fe32),
-    /// The bits behind the last whole byte of the program.
-    #[error("invalid padding on the witness data: {0}")]
-    Padding(PaddingError),
-    /// The length of the program.
-    #[error("invalid witness length: {0}")]
-    WitnessLength(WitnessLengthError),
-    /// The checksum.
-    #[error("invalid checksum: {0}")]
-    Checksum(ChecksumError),
-    /// Out of memory for the program (given by [`bech32_segwit::decode`] alone).
-    #[error("out of memory")]
-    Memory,
-}
-
 impl From<UncheckedHrpstringError> for SegwitHrpstringError {
-    ghost use Rattle.std.specs.Prelude.{◌≡◌};
     ghost use Rattle.bech32_refusals.specs.declared.error.SegwitHrpstringError.TheVariants.{Unchecked};
 
     ghost from_gives = { λ e r. r ≡ Unchecked e };
@@ -269,7 +262,6 @@ impl From<UncheckedHrpstringError> for SegwitHrpstringError {
 }
 
 impl From<WitnessLengthError> for SegwitHrpstringError {
-    ghost use Rattle.std.specs.Prelude.{◌≡◌};
     ghost use Rattle.bech32_refusals.specs.declared.error.SegwitHrpstringError.TheVariants.{WitnessLength};
 
     ghost from_gives = { λ e r. r ≡ WitnessLength e };
@@ -280,7 +272,6 @@ impl From<WitnessLengthError> for SegwitHrpstringError {
 }
 
 impl From<PaddingError> for SegwitHrpstringError {
-    ghost use Rattle.std.specs.Prelude.{◌≡◌};
     ghost use Rattle.bech32_refusals.specs.declared.error.SegwitHrpstringError.TheVariants.{Padding};
 
     ghost from_gives = { λ e r. r ≡ Padding e };
@@ -291,7 +282,6 @@ impl From<PaddingError> for SegwitHrpstringError {
 }
 
 impl From<ChecksumError> for SegwitHrpstringError {
-    ghost use Rattle.std.specs.Prelude.{◌≡◌};
     ghost use Rattle.bech32_refusals.specs.declared.error.SegwitHrpstringError.TheVariants.{Checksum};
 
     ghost from_gives = { λ e r. r ≡ Checksum e };

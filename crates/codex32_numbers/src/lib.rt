@@ -7,8 +7,7 @@
 //! Standard: none.
 #![tactic(auto)]
 
-ghost use Rattle.std.specs.Prelude.{◌≡◌};
-ghost use Rattle.bech32_numbers.specs.Numbers.{IsSmall};
+ghost use Rattle.bech32_numbers.specs.Numbers.{HasNumber};
 ghost use Rattle.codex32_numbers.specs.Numbers.{number_of_codex32_error, number_of_derive_error, number_of_codex32_encode_error, number_of_header_error, number_of_payload_error, number_of_split_error};
 
 use bech32_numbers::{checksum_error_number, text_error_number};
@@ -17,8 +16,7 @@ use codex32::{Codex32Error, DeriveError, EncodeError, HeaderError, PayloadError,
 /// The number, 11 to 33, 81 to 84 or 91, of a text that is not a codex32 string, or for which no
 /// nearest text is looked for.
 pub fn codex32_error_number(e: Codex32Error) -> u8
-    ensures value { result ≡ number_of_codex32_error e }
-    ensures small { IsSmall result }
+    ensures { HasNumber number_of_codex32_error e result }
 {
     match e {
         Codex32Error::Text(e) => text_error_number(e),
@@ -33,8 +31,7 @@ pub fn codex32_error_number(e: Codex32Error) -> u8
 
 /// The number, 83 to 86, of words or parts of which no header is made.
 pub fn header_error_number(e: HeaderError) -> u8
-    ensures value { result ≡ number_of_header_error e }
-    ensures small { IsSmall result }
+    ensures { HasNumber number_of_header_error e result }
 {
     match e {
         HeaderError::Threshold => 83,
@@ -46,8 +43,7 @@ pub fn header_error_number(e: HeaderError) -> u8
 
 /// The number, 87, of a payload that has no bytes.
 pub fn payload_error_number(e: PayloadError) -> u8
-    ensures value { result ≡ number_of_payload_error e }
-    ensures small { IsSmall result }
+    ensures { HasNumber number_of_payload_error e result }
 {
     match e {
         PayloadError::LeftOver => 87,
@@ -56,8 +52,7 @@ pub fn payload_error_number(e: PayloadError) -> u8
 
 /// The number, 55 or 91, of bytes of which no string is made.
 pub fn encode_error_number(e: EncodeError) -> u8
-    ensures value { result ≡ number_of_codex32_encode_error e }
-    ensures small { IsSmall result }
+    ensures { HasNumber number_of_codex32_encode_error e result }
 {
     match e {
         EncodeError::Size => 55,
@@ -67,8 +62,7 @@ pub fn encode_error_number(e: EncodeError) -> u8
 
 /// The number, 61 to 64, 84 or 91, of shares that give no string.
 pub fn derive_error_number(e: DeriveError) -> u8
-    ensures value { result ≡ number_of_derive_error e }
-    ensures small { IsSmall result }
+    ensures { HasNumber number_of_derive_error e result }
 {
     match e {
         DeriveError::TooFew => 61,
@@ -82,8 +76,7 @@ pub fn derive_error_number(e: DeriveError) -> u8
 
 /// The number, 55, 65, 66, 84 or 92, of a secret that is not split.
 pub fn split_error_number(e: SplitError) -> u8
-    ensures value { result ≡ number_of_split_error e }
-    ensures small { IsSmall result }
+    ensures { HasNumber number_of_split_error e result }
 {
     match e {
         SplitError::Size => 55,

@@ -1,5 +1,7 @@
 //! Why a confidential address is not read or not written.
 
+ghost use Rattle.std.specs.Prelude.{◌≡◌};
+
 use bech32_gf::gf32::Fe32;
 use bech32_refusals::segwit::WitnessLengthError;
 use bech32_refusals::{ChecksumError, PaddingError, UncheckedHrpstringError};
@@ -53,7 +55,6 @@ pub enum EncodeError {
 }
 
 impl From<UncheckedHrpstringError> for DecodeError {
-    ghost use Rattle.std.specs.Prelude.{◌≡◌};
     ghost use Rattle.liquid.specs.declared.error.DecodeError.TheVariants.{Unchecked};
 
     ghost from_gives = { λ e r. r ≡ Unchecked e };
@@ -64,7 +65,6 @@ impl From<UncheckedHrpstringError> for DecodeError {
 }
 
 impl From<ChecksumError> for DecodeError {
-    ghost use Rattle.std.specs.Prelude.{◌≡◌};
     ghost use Rattle.liquid.specs.declared.error.DecodeError.TheVariants.{Checksum};
 
     ghost from_gives = { λ e r. r ≡ Checksum e };
@@ -75,7 +75,6 @@ impl From<ChecksumError> for DecodeError {
 }
 
 impl From<PaddingError> for DecodeError {
-    ghost use Rattle.std.specs.Prelude.{◌≡◌};
     ghost use Rattle.liquid.specs.declared.error.DecodeError.TheVariants.{Padding};
 
     ghost from_gives = { λ e r. r ≡ Padding e };
@@ -86,7 +85,6 @@ impl From<PaddingError> for DecodeError {
 }
 
 impl From<WitnessLengthError> for DecodeError {
-    ghost use Rattle.std.specs.Prelude.{◌≡◌};
     ghost use Rattle.liquid.specs.declared.error.DecodeError.TheVariants.{WitnessLength};
 
     ghost from_gives = { λ e r. r ≡ WitnessLength e };
@@ -97,7 +95,6 @@ impl From<WitnessLengthError> for DecodeError {
 }
 
 impl From<WitnessLengthError> for EncodeError {
-    ghost use Rattle.std.specs.Prelude.{◌≡◌};
     ghost use Rattle.liquid.specs.declared.error.EncodeError.TheVariants.{WitnessLength};
 
     ghost from_gives = { λ e r. r ≡ WitnessLength e };
@@ -108,7 +105,6 @@ impl From<WitnessLengthError> for EncodeError {
 }
 
 impl From<AllocError> for EncodeError {
-    ghost use Rattle.std.specs.Prelude.{◌≡◌};
     ghost use Rattle.liquid.specs.declared.error.EncodeError.TheVariants.{Memory};
 
     ghost from_gives = { λ e r. r ≡ Memory };

@@ -19,5 +19,7 @@ pub use self::address::{Address, KEY_LENGTH};
 pub use self::error::{DecodeError, EncodeError};
 pub use self::numbers::{decode_error_number, encode_error_number};
 pub use self::reading::decode;
-pub use self::writing::{address_length, encode, encode_in, put_address, validate};
+pub use self::writing::{address_length, encode_in, put_address, validate};
+/// Another name of [`encode_in`].
+pub use self::writing::encode_in as encode;
 pub use blech32::Blech32;

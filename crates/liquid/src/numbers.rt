@@ -1,7 +1,6 @@
 //! The numbers of refusals, as programs print and the functions for C return them.
 
-ghost use Rattle.std.specs.Prelude.{◌≡◌};
-ghost use Rattle.bech32_numbers.specs.Numbers.{IsSmall};
+ghost use Rattle.bech32_numbers.specs.Numbers.{HasNumber};
 ghost use Rattle.liquid.specs.Numbers.{number_of_confidential_error, number_of_confidential_encode_error};
 
 use crate::error::{DecodeError, EncodeError};
@@ -11,8 +10,7 @@ use bech32_numbers::{
 
 /// The number, 11 to 71, of a text that is not a confidential address.
 pub fn decode_error_number(e: DecodeError) -> u8
-    ensures value { result ≡ number_of_confidential_error e }
-    ensures small { IsSmall result }
+    ensures { HasNumber number_of_confidential_error e result }
 {
     match e {
         DecodeError::Unchecked(e) => text_error_number(e),
@@ -28,8 +26,7 @@ pub fn decode_error_number(e: DecodeError) -> u8
 
 /// The number, 46 to 48, 52, 70 or 91, of a confidential address that is not written.
 pub fn encode_error_number(e: EncodeError) -> u8
-    ensures value { result ≡ number_of_confidential_encode_error e }
-    ensures small { IsSmall result }
+    ensures { HasNumber number_of_confidential_encode_error e result }
 {
     match e {
         EncodeError::WitnessVersion(_) => 52,

@@ -15,7 +15,7 @@ use bech32_gf::gf32::Fe32;
 use bech32_hrp::Hrp;
 use bech32_refusals::segwit::validate_witness_program_length;
 use blech32::Blech32;
-use std::alloc::{Allocator, Global};
+use std::alloc::Allocator;
 
 /// Tests that a witness version and a program of so many bytes have a confidential address.
 ///
@@ -108,49 +108,10 @@ pub fn encode_in<A: Allocator>(
     ensures spelling { SpellsEachConfidential blech32_code (λ s. string_bytes s)
         (hrp_bytes hrp) witness_version blinding_key.now program.now result }
 {
-    encoded_in(alloc, hrp, witness_version, blinding_key, program)
-}
-
-// The address, or why there is none.
-fn encoded_in<A: Allocator>(
-    alloc: A,
-    hrp: Hrp,
-    version: Fe32,
-    key: &[u8; 33],
-    program: &[u8],
-) -> Result<String<A>, EncodeError>
-    ensures text { IfOk result (λ s. IsLowerConfidential blech32_code (hrp_bytes hrp)
-        version key.now program.now (string_bytes s)) }
-    ensures refused { IfErr result
-        (λ e. IsConfidentialEncodeRefusal version (length program.now) e) }
-{
-    validate(version, program.len())?;
-    let (bytes, count) = payload_of(key, program);
+    validate(witness_version, program.len())?;
+    let (bytes, count) = payload_of(blinding_key, program);
     let size = address_length(hrp.as_bytes(), program.len());
-    let text = text_of_size_in::<Blech32, A>(alloc, hrp, Some(version), &bytes[..count], size)?;
+    let payload = &bytes[..count];
+    let text = text_of_size_in::<Blech32, A>(alloc, hrp, Some(witness_version), payload, size)?;
     Ok(text)
-}
-
-/// Encodes as [`encode_in`] does, with memory of the global allocator.
-///
-/// # Errors
-///
-/// Those of [`encode_in`].
-pub fn encode(
-    alloc: Global,
-    hrp: Hrp,
-    witness_version: Fe32,
-    blinding_key: &[u8; 33],
-    program: &[u8],
-) -> Result<String, EncodeError>
-    ensures text { IfOk result (λ s. IsLowerConfidential blech32_code (hrp_bytes hrp)
-        witness_version blinding_key.now program.now (string_bytes s)) }
-    ensures exists { IsVersionAndLength witness_version (length program.now)
-        → IsOkUnless result EncodeError.Memory }
-    ensures refused { IfErr result
-        (λ e. IsConfidentialEncodeRefusal witness_version (length program.now) e) }
-    ensures spelling { SpellsEachConfidential blech32_code (λ s. string_bytes s)
-        (hrp_bytes hrp) witness_version blinding_key.now program.now result }
-{
-    encode_in(alloc, hrp, witness_version, blinding_key, program)
 }
