@@ -12,28 +12,28 @@ FILE = pathlib.Path(__file__).parent / "src" / "part_cases.rt"
 HEAD = """\
 //! The cases of the bytes of human-readable parts. Written by tables.py.
 
-// For each byte 1 where it is a small letter and 2^12 where it is a capital one; 2^24 where it may
-// not stand before the first `1`.
+// What a byte is: one that may not stand before the first `1`, a small letter, or a capital one.
+const N: u32 = 1 << 24;
+
+const S: u32 = 1;
+
+const C: u32 = 1 << 12;
+
+// What each byte is; 0 where it may stand there and is no letter.
 pub(crate) const PART_CASES: [u32; 256] = [
 """
 
 
 def entry(byte):
     if byte == ord("1") or not 33 <= byte <= 126:
-        return 1 << 24
+        return "N"
     character = chr(byte)
-    return character.islower() + (character.isupper() << 12)
+    return "S" if character.islower() else "C" if character.isupper() else "0"
 
 
 def table():
-    lines, line = [], "   "
-    for byte in range(256):
-        word = f" {int(entry(byte))},"
-        if len(line + word) > 99:
-            lines.append(line)
-            line = "   "
-        line += word
-    return HEAD + "\n".join(lines + [line]) + "\n];\n"
+    rows = (" ".join(f"{entry(byte)}," for byte in range(first, first + 32)) for first in range(0, 256, 32))
+    return HEAD + "".join(f"    {row}\n" for row in rows) + "];\n"
 
 
 def main():

@@ -4,7 +4,6 @@ use Rattle.std.proofs.Common.{◌≡◌, ◌≤◌, ◌<◌, ◌∙◌, ◌+◌,
 use Rattle.std.proofs.lemmas.List.{drop_more, length-map, length-take-le, map-append, map_more, set_at}
 use Rattle.std.proofs.lemmas.List.Elements.{All-cons, All-from_get_or, All-get_or, All-head, All-nil, All-tail}
 use Rattle.std.proofs.lemmas.List.Sums.{prefix_len_passes, prefix_len_stops}
-use Rattle.std.specs.Iterator.{Drains, YieldsFirst}
 use Rattle.std.specs.List.{position_or_len}
 use Rattle.std.specs.Result.{IsOkUnless}
 use Rattle.std.specs.Str.{IsUtf8}
@@ -121,13 +120,6 @@ value_more characters old before i byte l room is so_far =
     ∙ ap (λ (b : List ℕ). b ++ drop (i + 1) old) (sym (values-more characters i l))
 
 -- ---- a walk
-
--- a whole walk gives what was left
-pub all_given : {S A : Type 0} (rest : S → List A) (xs : List A) (s : S) → Drains (YieldsFirst rest) s xs → xs ≡ rest s
-all_given rest [] s h = sym (ap rest h.1.1 ∙ h.1.2.0)
-all_given rest (x ∷ xs) s h =
-    let next = h.1.1.0 in
-    ap (λ ys. x ∷ ys) (all_given rest xs next (h.0, (h.1.0, h.1.1.2, h.1.2))) ∙ sym h.1.1.1
 
 -- ---- the text of elements
 

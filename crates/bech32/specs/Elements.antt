@@ -13,7 +13,6 @@ use Rattle.bech32_decode.specs.Checked.{IsRefusedByChecksum}
 use Rattle.bech32_decode.specs.Text.{text_refusal}
 use Rattle.bech32_encode.specs.TextLength.{encoded_length_of}
 use Rattle.bech32.specs.Spelling.{IsSpelling}
-use Rattle.bech32.specs.declared.elements.ElementIter.{ElementIter}
 use Rattle.bech32.specs.declared.error.ElementsError.{ElementsError}
 use Rattle.bech32.specs.declared.error.ElementsError.TheVariants.{
   TooLong,
@@ -26,10 +25,6 @@ use Rattle.bech32.specs.declared.error.TextError.TheVariants.{Parse, Checksum, P
 -- the elements of numbers
 abbrev pub elements_in : List ℕ → List Fe32
 elements_in values = map element values
-
--- the elements that are to come
-abbrev pub elements_to_come : ElementIter → List Fe32
-elements_to_come s = elements_in s.rest.now
 
 -- each number is that of an element
 abbrev pub AreValues : List ℕ → Type 0

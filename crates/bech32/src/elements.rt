@@ -10,7 +10,7 @@ ghost use Rattle.bech32_encode.specs.Buffers.{IsPutAsFits};
 ghost use Rattle.bech32_encode.specs.TextLength.{encoded_length_of};
 ghost use Rattle.bech32_hrp.specs.HrpBytes.{hrp_bytes};
 ghost use Rattle.bech32.specs.Elements.{AreValues, Fits, GivesElementsBack, IsElementsEncodeRefusal};
-ghost use Rattle.bech32.specs.Elements.{IsElementsDecodeRefusal, elements_in, elements_to_come, first_above};
+ghost use Rattle.bech32.specs.Elements.{IsElementsDecodeRefusal, elements_in, first_above};
 ghost use Rattle.bech32.specs.Spelling.{IsOnlyTextOf};
 
 use crate::content::{Content, content_in};
@@ -21,41 +21,6 @@ use bech32_encode::put_text;
 use bech32_gf::gf32::Fe32;
 use bech32_hrp::Hrp;
 use std::alloc::{AllocError, Allocator, Global};
-use std::iter::FusedIterator;
-
-/// The elements of numbers, in turn: of each the lowest five bits.
-#[derive(Drop)]
-struct ElementIter<'v> {
-    rest: &'v [u8],
-}
-
-impl<'v> ElementIter<'v> {
-    // The elements of these numbers.
-    fn new(values: &'v [u8]) -> Self
-        ensures { elements_to_come result ≡ elements_in values.now }
-    {
-        ElementIter { rest: values }
-    }
-}
-
-impl<'v> Iterator for ElementIter<'v> {
-    type Item = Fe32;
-
-    ghost use Rattle.std.specs.Iterator.{YieldsFirst, item_count};
-
-    ghost next_gives = { YieldsFirst elements_to_come };
-
-    ghost remaining = { item_count elements_to_come };
-
-    #[inline]
-    fn next(&mut self) -> Option<Fe32> {
-        let (first, rest) = self.rest.split_first()?;
-        self.rest = rest;
-        Some(Fe32::from_low_bits(*first))
-    }
-}
-
-impl<'v> FusedIterator for ElementIter<'v> {}
 
 /// Puts the elements of characters of the alphabet, in either case, at the front of a buffer that
 /// has room for them, a byte from 0 to 31 for each, and returns how many they are.
@@ -125,7 +90,8 @@ pub fn put_text_of_elements<Ck: Checksum>(hrp: &Hrp, values: &[u8], buffer: &mut
         × IsEncodedText Ck.code (hrp_bytes hrp.now) (elements_in values.now) text
         × IsPutAsFits text buffer.old buffer.new result }
 {
-    put_text::<ElementIter<'_>, Ck>(hrp, None, ElementIter::new(values), buffer)
+    let elements = values.iter().map(|value| Fe32::from_low_bits(*value));
+    put_text::<_, Ck>(hrp, None, elements, buffer)
 }
 
 /// Decodes a text that the checksum accepts, with memory from `alloc`: its human-readable part, in

@@ -1,12 +1,15 @@
 //! Why a text is not decoded or not written.
 
+ghost use Rattle.std.specs.Prelude.{◌≡◌};
+
 use bech32_correction::CorrectableError;
 use bech32_decode::{
     CheckedHrpstringError, ChecksumError, CodeLengthError, InvalidResidueError, PaddingError,
     UncheckedHrpstringError,
 };
 use std::alloc::AllocError;
-use std::{fmt, io};
+use std::fmt::Error as FmtError;
+use std::io;
 use thiserror::Error;
 
 /// Why a text is not decoded.
@@ -40,6 +43,82 @@ pub enum TextError {
     Memory,
 }
 
+impl From<CheckedHrpstringError> for TextError {
+    ghost use Rattle.bech32.specs.Carried.{of_checked_text};
+
+    ghost from_gives = { λ e r. r ≡ of_checked_text e };
+
+    fn from(e: CheckedHrpstringError) -> Self {
+        match e {
+            CheckedHrpstringError::Parse(e) => Self::Parse(e),
+            CheckedHrpstringError::Checksum(e) => Self::Checksum(e),
+        }
+    }
+}
+
+impl From<PaddingError> for TextError {
+    ghost use Rattle.bech32.specs.declared.error.TextError.TheVariants.{Padding};
+
+    ghost from_gives = { λ e r. r ≡ Padding e };
+
+    fn from(e: PaddingError) -> Self {
+        Self::Padding(e)
+    }
+}
+
+impl From<AllocError> for TextError {
+    ghost use Rattle.bech32.specs.declared.error.TextError.TheVariants.{Memory};
+
+    ghost from_gives = { λ e r. r ≡ Memory };
+
+    fn from(_e: AllocError) -> Self {
+        Self::Memory
+    }
+}
+
+impl CorrectableError for DecodeError {
+    ghost use Rattle.bech32.specs.Carried.{of_decoding};
+
+    ghost carried = { of_decoding };
+
+    fn residue_error(&self) -> Option<&InvalidResidueError> {
+        match self {
+            DecodeError::Checksum(e) => e.residue_error(),
+            DecodeError::Parse(_) | DecodeError::Memory => None,
+        }
+    }
+}
+
+impl From<UncheckedHrpstringError> for DecodeError {
+    ghost use Rattle.bech32.specs.declared.error.DecodeError.TheVariants.{Parse};
+
+    ghost from_gives = { λ e r. r ≡ Parse e };
+
+    fn from(e: UncheckedHrpstringError) -> Self {
+        Self::Parse(e)
+    }
+}
+
+impl From<ChecksumError> for DecodeError {
+    ghost use Rattle.bech32.specs.declared.error.DecodeError.TheVariants.{Checksum};
+
+    ghost from_gives = { λ e r. r ≡ Checksum e };
+
+    fn from(e: ChecksumError) -> Self {
+        Self::Checksum(e)
+    }
+}
+
+impl From<AllocError> for DecodeError {
+    ghost use Rattle.bech32.specs.declared.error.DecodeError.TheVariants.{Memory};
+
+    ghost from_gives = { λ e r. r ≡ Memory };
+
+    fn from(_e: AllocError) -> Self {
+        Self::Memory
+    }
+}
+
 /// Why elements are not written.
 #[derive(Clone, Copy, Debug, PartialEq, Eq, Drop, Error)]
 pub enum ElementsError {
@@ -62,7 +141,7 @@ pub enum EncodeError {
     TooLong(CodeLengthError),
     /// The formatter failed.
     #[error("encode to formatter failed: {0}")]
-    Fmt(fmt::Error),
+    Fmt(FmtError),
     /// Out of memory for the text.
     #[error("out of memory")]
     Memory,
@@ -79,145 +158,7 @@ pub enum EncodeIoError {
     Write(io::Error),
 }
 
-impl From<UncheckedHrpstringError> for DecodeError {
-    ghost use Rattle.std.specs.Prelude.{◌≡◌};
-    ghost use Rattle.bech32.specs.declared.error.DecodeError.TheVariants.{Parse};
-
-    ghost from_gives = { λ e r. r ≡ Parse e };
-
-    fn from(e: UncheckedHrpstringError) -> Self {
-        Self::Parse(e)
-    }
-}
-
-impl From<ChecksumError> for DecodeError {
-    ghost use Rattle.std.specs.Prelude.{◌≡◌};
-    ghost use Rattle.bech32.specs.declared.error.DecodeError.TheVariants.{Checksum};
-
-    ghost from_gives = { λ e r. r ≡ Checksum e };
-
-    fn from(e: ChecksumError) -> Self {
-        Self::Checksum(e)
-    }
-}
-
-impl From<AllocError> for DecodeError {
-    ghost use Rattle.std.specs.Prelude.{◌≡◌};
-    ghost use Rattle.bech32.specs.declared.error.DecodeError.TheVariants.{Memory};
-
-    ghost from_gives = { λ e r. r ≡ Memory };
-
-    fn from(_e: AllocError) -> Self {
-        Self::Memory
-    }
-}
-
-impl CorrectableError for DecodeError {
-    ghost use Rattle.bech32.specs.Carried.{of_decoding};
-
-    ghost carried = { of_decoding };
-
-    fn residue_error(&self) -> Option<&InvalidResidueError> {
-        match self {
-            DecodeError::Checksum(e) => e.residue_error(),
-            DecodeError::Parse(_) | DecodeError::Memory => None,
-        }
-    }
-}
-
-impl From<CheckedHrpstringError> for TextError {
-    ghost use Rattle.std.specs.Prelude.{◌≡◌};
-    ghost use Rattle.bech32.specs.Carried.{of_checked_text};
-
-    ghost from_gives = { λ e r. r ≡ of_checked_text e };
-
-    fn from(e: CheckedHrpstringError) -> Self {
-        match e {
-            CheckedHrpstringError::Parse(e) => Self::Parse(e),
-            CheckedHrpstringError::Checksum(e) => Self::Checksum(e),
-        }
-    }
-}
-
-impl From<PaddingError> for TextError {
-    ghost use Rattle.std.specs.Prelude.{◌≡◌};
-    ghost use Rattle.bech32.specs.declared.error.TextError.TheVariants.{Padding};
-
-    ghost from_gives = { λ e r. r ≡ Padding e };
-
-    fn from(e: PaddingError) -> Self {
-        Self::Padding(e)
-    }
-}
-
-impl From<AllocError> for TextError {
-    ghost use Rattle.std.specs.Prelude.{◌≡◌};
-    ghost use Rattle.bech32.specs.declared.error.TextError.TheVariants.{Memory};
-
-    ghost from_gives = { λ e r. r ≡ Memory };
-
-    fn from(_e: AllocError) -> Self {
-        Self::Memory
-    }
-}
-
-impl From<CodeLengthError> for ElementsError {
-    ghost use Rattle.std.specs.Prelude.{◌≡◌};
-    ghost use Rattle.bech32.specs.declared.error.ElementsError.TheVariants.{TooLong};
-
-    ghost from_gives = { λ e r. r ≡ TooLong e };
-
-    fn from(e: CodeLengthError) -> Self {
-        Self::TooLong(e)
-    }
-}
-
-impl From<AllocError> for ElementsError {
-    ghost use Rattle.std.specs.Prelude.{◌≡◌};
-    ghost use Rattle.bech32.specs.declared.error.ElementsError.TheVariants.{Memory};
-
-    ghost from_gives = { λ e r. r ≡ Memory };
-
-    fn from(_e: AllocError) -> Self {
-        Self::Memory
-    }
-}
-
-impl From<CodeLengthError> for EncodeError {
-    ghost use Rattle.std.specs.Prelude.{◌≡◌};
-    ghost use Rattle.bech32.specs.declared.error.EncodeError.TheVariants.{TooLong};
-
-    ghost from_gives = { λ e r. r ≡ TooLong e };
-
-    fn from(e: CodeLengthError) -> Self {
-        Self::TooLong(e)
-    }
-}
-
-impl From<fmt::Error> for EncodeError {
-    ghost use Rattle.std.specs.Prelude.{◌≡◌};
-    ghost use Rattle.bech32.specs.declared.error.EncodeError.TheVariants.{Fmt};
-
-    ghost from_gives = { λ e r. r ≡ Fmt e };
-
-    fn from(e: fmt::Error) -> Self {
-        Self::Fmt(e)
-    }
-}
-
-impl From<AllocError> for EncodeError {
-    ghost use Rattle.std.specs.Prelude.{◌≡◌};
-    ghost use Rattle.bech32.specs.declared.error.EncodeError.TheVariants.{Memory};
-
-    ghost from_gives = { λ e r. r ≡ Memory };
-
-    fn from(_e: AllocError) -> Self {
-        Self::Memory
-    }
-}
-
 impl From<CodeLengthError> for EncodeIoError {
-    ghost use Rattle.std.specs.Prelude.{◌≡◌};
     ghost use Rattle.bech32.specs.declared.error.EncodeIoError.TheVariants.{TooLong};
 
     ghost from_gives = { λ e r. r ≡ TooLong e };
@@ -228,12 +169,61 @@ impl From<CodeLengthError> for EncodeIoError {
 }
 
 impl From<io::Error> for EncodeIoError {
-    ghost use Rattle.std.specs.Prelude.{◌≡◌};
     ghost use Rattle.bech32.specs.declared.error.EncodeIoError.TheVariants.{Write};
 
     ghost from_gives = { λ e r. r ≡ Write e };
 
     fn from(e: io::Error) -> Self {
         Self::Write(e)
+    }
+}
+
+impl From<CodeLengthError> for ElementsError {
+    ghost use Rattle.bech32.specs.declared.error.ElementsError.TheVariants.{TooLong};
+
+    ghost from_gives = { λ e r. r ≡ TooLong e };
+
+    fn from(e: CodeLengthError) -> Self {
+        Self::TooLong(e)
+    }
+}
+
+impl From<AllocError> for ElementsError {
+    ghost use Rattle.bech32.specs.declared.error.ElementsError.TheVariants.{Memory};
+
+    ghost from_gives = { λ e r. r ≡ Memory };
+
+    fn from(_e: AllocError) -> Self {
+        Self::Memory
+    }
+}
+
+impl From<CodeLengthError> for EncodeError {
+    ghost use Rattle.bech32.specs.declared.error.EncodeError.TheVariants.{TooLong};
+
+    ghost from_gives = { λ e r. r ≡ TooLong e };
+
+    fn from(e: CodeLengthError) -> Self {
+        Self::TooLong(e)
+    }
+}
+
+impl From<FmtError> for EncodeError {
+    ghost use Rattle.bech32.specs.declared.error.EncodeError.TheVariants.{Fmt};
+
+    ghost from_gives = { λ e r. r ≡ Fmt e };
+
+    fn from(e: FmtError) -> Self {
+        Self::Fmt(e)
+    }
+}
+
+impl From<AllocError> for EncodeError {
+    ghost use Rattle.bech32.specs.declared.error.EncodeError.TheVariants.{Memory};
+
+    ghost from_gives = { λ e r. r ≡ Memory };
+
+    fn from(_e: AllocError) -> Self {
+        Self::Memory
     }
 }

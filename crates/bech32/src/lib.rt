@@ -47,6 +47,8 @@ pub use elements::{
 };
 pub use error::{DecodeError, ElementsError, EncodeError, EncodeIoError, TextError};
 pub use long::{LongBech32, LongBech32m};
+/// [`encode`] and [`encode_in`], which write lower case.
+pub use self::{encode as encode_lower, encode_in as encode_lower_in};
 use std::alloc::{Allocator, Global};
 pub use strict::{decode_strict, decode_strict_in};
 pub use writers::{
@@ -191,44 +193,6 @@ pub fn encode<Ck: Checksum>(alloc: Global, hrp: Hrp, data: &[u8]) -> Result<Stri
     ensures refused { IfErr result (IsEncodeRefusal Ck.code (hrp_bytes hrp) (to_fes «data».now)) }
 {
     encode_in::<Ck, Global>(alloc, hrp, data)
-}
-
-/// Encodes as [`encode_in`] does: in lower case.
-///
-/// # Errors
-///
-/// Those of [`encode_in`].
-pub fn encode_lower_in<Ck: Checksum, A: Allocator>(
-    alloc: A,
-    hrp: Hrp,
-    data: &[u8],
-) -> Result<String<A>, EncodeError>
-    ensures text { IfOk result
-        (λ s. IsEncodedText Ck.code (hrp_bytes hrp) (to_fes «data».now) (string_bytes s)) }
-    ensures fits { IsOk result
-        → encoded_length_of Ck.code (hrp_bytes hrp) (to_fes «data».now) ≤ Ck.code.code_length }
-    ensures refused { IfErr result (IsEncodeRefusal Ck.code (hrp_bytes hrp) (to_fes «data».now)) }
-{
-    encode_in::<Ck, A>(alloc, hrp, data)
-}
-
-/// Encodes as [`encode_lower_in`] does, with memory of the global allocator.
-///
-/// # Errors
-///
-/// Those of [`encode_in`].
-pub fn encode_lower<Ck: Checksum>(
-    alloc: Global,
-    hrp: Hrp,
-    data: &[u8],
-) -> Result<String, EncodeError>
-    ensures text { IfOk result
-        (λ s. IsEncodedText Ck.code (hrp_bytes hrp) (to_fes «data».now) (string_bytes s)) }
-    ensures fits { IsOk result
-        → encoded_length_of Ck.code (hrp_bytes hrp) (to_fes «data».now) ≤ Ck.code.code_length }
-    ensures refused { IfErr result (IsEncodeRefusal Ck.code (hrp_bytes hrp) (to_fes «data».now)) }
-{
-    encode_lower_in::<Ck, Global>(alloc, hrp, data)
 }
 
 /// Encodes bytes under a human-readable part, in upper case, with memory from `alloc`: what

@@ -371,12 +371,6 @@ no_elements (x ∷ characters) b e t = elim (eqb_tells (length (x ∷ characters
   | inr y ↦ (let is : false ≡ true = sym (e ∙ y.0) ∙ t in absurd (cc is))
 ]
 
-pub segwit-of : (c : CheckedHrpstring) (a : SegwitHrpstring) (version : Fe32) (program : List ℕ) → a.hrp ≡ c.hrp → a.witness_version ≡ version → a.ascii.now ≡ program
-    → IsDataOf c.hrpstring_length c.ascii.now version program → IsSegwitOf c a
-segwit-of c a version program part v ascii h =
-    let same = subst (λ (x : Fe32). IsDataOf c.hrpstring_length c.ascii.now x a.ascii.now) (sym v) (subst (IsDataOf c.hrpstring_length c.ascii.now version) (sym ascii) h) in
-    record { hrp = part; elements = same.elements; characters = same.characters; lawful = same.lawful }
-
 pub outcome-from_segwit : (code : Code) (u : UncheckedHrpstring) (c : CheckedHrpstring) → HasValidChecksum code u.hrpstring_length (hrp_bytes u.hrp) u.data_part_ascii.now
     → IsWithoutChecksum code u c → (r : Result SegwitHrpstring SegwitHrpstringError)
     → MatchResult r (λ a. IsSegwitOf c a) (λ e. IsDataRefusal c.hrpstring_length (elements_of c.ascii.now) e)

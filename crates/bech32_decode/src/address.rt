@@ -21,9 +21,9 @@ use bech32_refusals::segwit::MAX_STRING_LENGTH;
 /// without version and checksum. It borrows the text.
 #[derive(Clone, Copy, Debug)]
 pub struct SegwitHrpstring<'s> {
-    hrp: Hrp,
-    witness_version: Fe32,
-    ascii: &'s [u8],
+    pub(crate) hrp: Hrp,
+    pub(crate) witness_version: Fe32,
+    pub(crate) ascii: &'s [u8],
     pub ghost of_alphabet: { is_data ascii.now ≡ true },
 }
 
@@ -31,21 +31,6 @@ impl<'s> SegwitHrpstring<'s> {
     ghost use Rattle.bech32_decode.specs.Parts.{address_hrp, address_part, address_version, address_data, address_program};
     ghost use Rattle.bech32_decode.specs.Segwit.{segwit_code, IsAddress, IsAddressText, IsAddressRefusal, IsSegwitRefusal};
     ghost use Rattle.bech32_decode.specs.SegwitParts.{IsReadAddress, IsReadBy, IsRefusedBy, IsWrongDataOf};
-
-    // An address of these parts.
-    #[inline]
-    pub(crate) fn of_parts(hrp: Hrp, witness_version: Fe32, ascii: &'s [u8]) -> Self
-        requires { is_data ascii.now ≡ true }
-        ensures hrp { address_hrp result ≡ hrp }
-        ensures version { address_version result ≡ witness_version }
-        ensures characters { address_data result ≡ ascii.now }
-    {
-        SegwitHrpstring {
-            hrp,
-            witness_version,
-            ascii,
-        }
-    }
 
     // Tests the checksum, and what stands before it.
     fn of_unchecked<Ck: Checksum>(
@@ -70,8 +55,11 @@ impl<'s> SegwitHrpstring<'s> {
         }
         let reading = Reading::<Bech32m>::new(s)?;
         let found = reading.short_address()?;
-        let hrp = Hrp::of_bytes(reading.hrp);
-        Ok(Self::of_parts(hrp, found.version, found.program))
+        Ok(SegwitHrpstring {
+            hrp: Hrp::of_bytes(reading.hrp),
+            witness_version: found.version,
+            ascii: found.program,
+        })
     }
 
     /// Reads a segwit address: of version 0 by Bech32, of another version by Bech32m (BIP-350).

@@ -25,30 +25,15 @@ use bech32_refusals::{CheckedHrpstringError, PaddingError, SegwitHrpstringError}
 /// the text.
 #[derive(Clone, Copy, Debug)]
 pub struct CheckedHrpstring<'s> {
-    hrp: Hrp,
-    ascii: &'s [u8],
-    hrpstring_length: usize,
+    pub(crate) hrp: Hrp,
+    pub(crate) ascii: &'s [u8],
+    pub(crate) hrpstring_length: usize,
     pub ghost of_alphabet: { is_data ascii.now ≡ true },
 }
 
 impl<'s> CheckedHrpstring<'s> {
     ghost use Rattle.bech32_decode.specs.Checked.{IsAcceptedAs, IsCheckedRefusal};
     ghost use Rattle.bech32_decode.specs.Parts.{checked_hrp, checked_part, checked_data, checked_bytes, checked_length};
-
-    // A text of these parts.
-    #[inline]
-    pub(crate) fn of_parts(hrp: Hrp, ascii: &'s [u8], hrpstring_length: usize) -> Self
-        requires { is_data ascii.now ≡ true }
-        ensures hrp { checked_hrp result ≡ hrp }
-        ensures characters { checked_data result ≡ ascii.now }
-        ensures text_length { checked_length result ≡ hrpstring_length }
-    {
-        CheckedHrpstring {
-            hrp,
-            ascii,
-            hrpstring_length,
-        }
-    }
 
     // What `new` returns.
     fn read<Ck: Checksum>(s: &'s str) -> Result<Self, CheckedHrpstringError>
@@ -169,7 +154,11 @@ impl<'s> CheckedHrpstring<'s> {
             IsDataRefusal (checked_length self.entry) (elements_of (checked_data self.entry)) e) }
     {
         let found = address_data(self.hrpstring_length, self.ascii)?;
-        Ok(SegwitHrpstring::of_parts(self.hrp, found.version, found.program))
+        Ok(SegwitHrpstring {
+            hrp: self.hrp,
+            witness_version: found.version,
+            ascii: found.program,
+        })
     }
 
     /// Tests the padding: the bits of the data part behind its last whole byte (BIP-173, Segwit

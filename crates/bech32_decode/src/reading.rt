@@ -269,7 +269,11 @@ impl<'s, Ck: Checksum> Reading<'s, Ck> {
         ensures before { IsBeforeChecksum Ck.code self.now.data_part.now (checked_data result) }
         ensures text_length { checked_length result ≡ length self.now.text.now }
     {
-        CheckedHrpstring::of_parts(Hrp::of_bytes(self.hrp), self.characters(), self.text.len())
+        CheckedHrpstring {
+            hrp: Hrp::of_bytes(self.hrp),
+            ascii: self.characters(),
+            hrpstring_length: self.text.len(),
+        }
     }
 
     /// Tests the checksum of the text. A checksum of degree 0 asks nothing of it.
@@ -416,7 +420,7 @@ impl<'s> Reading<'s, Bech32m> {
     /// # Errors
     ///
     /// Those of [`Self::address`], in the same order.
-    #[inline]
+    #[inline(always)]
     pub fn short_address(&self) -> Result<AddressData<'s>, SegwitHrpstringError>
         requires { length self.now.text.now ≤ 90 }
         ensures { MatchResult result

@@ -182,10 +182,10 @@ impl<'s> UncheckedHrpstring<'s> {
         ensures { IsWithoutChecksum Ck.code self.entry result }
     {
         let end = self.data_part_ascii.len() - Ck::CHECKSUM_LENGTH;
-        CheckedHrpstring::of_parts(
-            self.hrp,
-            &self.data_part_ascii[..end],
-            self.hrpstring_length,
-        )
+        CheckedHrpstring {
+            hrp: self.hrp,
+            ascii: &self.data_part_ascii[..end],
+            hrpstring_length: self.hrpstring_length,
+        }
     }
 }

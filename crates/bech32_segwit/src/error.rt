@@ -1,10 +1,12 @@
 //! Why a segwit address is not read or not written.
 
+ghost use Rattle.std.specs.Prelude.{◌≡◌};
+
 use bech32_correction::CorrectableError;
 use bech32_decode::segwit::{InvalidWitnessVersionError, WitnessLengthError};
 use bech32_decode::{InvalidResidueError, SegwitCodeLengthError, SegwitHrpstringError};
 use std::alloc::AllocError;
-use std::fmt;
+use std::fmt::Error as FmtError;
 use thiserror::Error;
 
 /// Why a text is not decoded as a segwit address.
@@ -26,15 +28,13 @@ pub enum EncodeError {
     TooLong(SegwitCodeLengthError),
     /// The formatter failed (never given).
     #[error("writing to formatter failed: {0}")]
-    Fmt(fmt::Error),
+    Fmt(FmtError),
     /// Out of memory for the address.
     #[error("out of memory")]
     Memory,
 }
 
 impl From<SegwitHrpstringError> for DecodeError {
-    ghost use Rattle.std.specs.Prelude.{◌≡◌};
-
     ghost from_gives = { λ e r. r.0 ≡ e };
 
     fn from(e: SegwitHrpstringError) -> Self {
@@ -43,7 +43,6 @@ impl From<SegwitHrpstringError> for DecodeError {
 }
 
 impl From<AllocError> for DecodeError {
-    ghost use Rattle.std.specs.Prelude.{◌≡◌};
     ghost use Rattle.bech32_refusals.specs.declared.error.SegwitHrpstringError.TheVariants.{Memory};
 
     ghost from_gives = { λ e r. r.0 ≡ Memory };
@@ -64,7 +63,6 @@ impl CorrectableError for DecodeError {
 }
 
 impl From<InvalidWitnessVersionError> for EncodeError {
-    ghost use Rattle.std.specs.Prelude.{◌≡◌};
     ghost use Rattle.bech32_segwit.specs.declared.error.EncodeError.TheVariants.{WitnessVersion};
 
     ghost from_gives = { λ e r. r ≡ WitnessVersion e };
@@ -75,7 +73,6 @@ impl From<InvalidWitnessVersionError> for EncodeError {
 }
 
 impl From<WitnessLengthError> for EncodeError {
-    ghost use Rattle.std.specs.Prelude.{◌≡◌};
     ghost use Rattle.bech32_segwit.specs.declared.error.EncodeError.TheVariants.{WitnessLength};
 
     ghost from_gives = { λ e r. r ≡ WitnessLength e };
@@ -86,7 +83,6 @@ impl From<WitnessLengthError> for EncodeError {
 }
 
 impl From<SegwitCodeLengthError> for EncodeError {
-    ghost use Rattle.std.specs.Prelude.{◌≡◌};
     ghost use Rattle.bech32_segwit.specs.declared.error.EncodeError.TheVariants.{TooLong};
 
     ghost from_gives = { λ e r. r ≡ TooLong e };
@@ -96,19 +92,17 @@ impl From<SegwitCodeLengthError> for EncodeError {
     }
 }
 
-impl From<fmt::Error> for EncodeError {
-    ghost use Rattle.std.specs.Prelude.{◌≡◌};
+impl From<FmtError> for EncodeError {
     ghost use Rattle.bech32_segwit.specs.declared.error.EncodeError.TheVariants.{Fmt};
 
     ghost from_gives = { λ e r. r ≡ Fmt e };
 
-    fn from(e: fmt::Error) -> Self {
+    fn from(e: FmtError) -> Self {
         Self::Fmt(e)
     }
 }
 
 impl From<AllocError> for EncodeError {
-    ghost use Rattle.std.specs.Prelude.{◌≡◌};
     ghost use Rattle.bech32_segwit.specs.declared.error.EncodeError.TheVariants.{Memory};
 
     ghost from_gives = { λ e r. r ≡ Memory };

@@ -1,4 +1,4 @@
-use Rattle.std.proofs.Common.{◌≡◌, ◌∙◌, ◌-◌, ◌++◌, ℕ, List, length, drop, sym, ap, arith, length-drop}
+use Rattle.std.proofs.Common.{◌≡◌, ◌-◌, length, drop, refl, sym, arith, length-drop}
 use Rattle.std.proofs.lemmas.List.{take-append-drop}
 use Rattle.bech32_decode.proofs.Letters.{is_data-take}
 use Rattle.bech32_decode.proofs.unchecked.UncheckedHrpstring.remove_checksum.Goals as goal
@@ -10,8 +10,8 @@ overflow_sub-end g c =
     let fits = c.requires in
     omega arith
 
-pub of_parts-requires : goal.of_parts-requires
-of_parts-requires g c = is_data-take _ c.args.self.data_part_ascii.now c.args.self.of_alphabet
+pub invariant_of-result : goal.invariant_of-result
+invariant_of-result g c = record { of_alphabet = is_data-take _ c.args.self.data_part_ascii.now c.args.self.of_alphabet }
 
 pub returns : goal.returns
 returns g c =
@@ -22,11 +22,7 @@ returns g c =
     let n = length bytes - c.CHECKSUM_LENGTH.result in
     let rest : length (drop n bytes) ≡ length bytes - n = length-drop n bytes in
     record {
-      hrp = c.of_parts.ensures.hrp;
-      characters = record {
-        checksum = drop n bytes;
-        data_part_is = sym (ap (λ (l : List ℕ). l ++ drop n bytes) c.of_parts.ensures.characters ∙ take-append-drop n bytes);
-        size = omega arith;
-      };
-      text_length = c.of_parts.ensures.text_length;
+      hrp = refl;
+      characters = record { checksum = drop n bytes; data_part_is = sym (take-append-drop n bytes); size = omega arith };
+      text_length = refl;
     }
