@@ -1,6 +1,6 @@
 -- What walks over the elements of a text keep: packed remainders, and the edits that were found.
 use Rattle.std.specs.Prelude.{◌≡◌, ◌+◌, ◌≤◌, ◌-◌, ℕ, List, ◌∷◌, ◌++◌}
-use Rattle.std.specs.Prelude.{drop, get_or, length, replicate, take}
+use Rattle.std.specs.Prelude.{drop, get_or, length, replicate, take, MatchResult, Result}
 use Rattle.bech32_gf.specs.Fe32 as fe32
 use Rattle.bech32_gf.specs.Fe32.{elements_of, ops}
 use Rattle.bech32_gf.specs.declared.gf32.Fe32.{Fe32}
@@ -11,7 +11,9 @@ use Rattle.bech32_checksum.specs.Packed.{HasDigits}
 use Rattle.bech32_checksum.specs.Encoded.{spelled}
 use Rattle.bech32_checksum.specs.TextPolynomial.{text_polynomial}
 use Rattle.bech32_decode.specs.Text.{IsText}
-use Rattle.bech32_near_edits.specs.Edits.{IsEdit, IsToldEdit, kind, value_put}
+use Rattle.bech32_hrp.specs.HrpBytes.{hrp_bytes}
+use Rattle.bech32_hrp.specs.declared.Hrp.{Hrp}
+use Rattle.bech32_near_edits.specs.Edits.{AreAllOf, IsEdit, IsToldEdit, kind, value_put}
 use Rattle.bech32_near_edits.specs.declared.edits.Edit.{Edit}
 
 -- the packed word is the remainder of the polynomial, and has no bit above it
@@ -61,6 +63,16 @@ IsAcceptedOfKind k code hrp old edit =
 -- there is such an edit
 abbrev pub HasAcceptedEdit : Code → List ℕ → List Fe32 → Type 0
 HasAcceptedEdit code hrp old = (edit : Edit) × IsAcceptedEdit code hrp old edit
+
+-- all such edits of one kind that there are of a text were put behind those that were found; where
+-- memory runs out, there is such an edit
+abbrev pub AddsOfKind : {E : Type 0} → ℕ → Code → Hrp → List ℕ → (old new : List Edit)
+    → Result (Unit {0}) E → Type 0
+AddsOfKind {E} k code hrp characters old new result =
+    MatchResult result
+    (λ _. (edits : List Edit) × (new ≡ old ++ edits)
+    × AreAllOf (IsAcceptedOfKind k code (hrp_bytes hrp) (elements_of characters)) edits)
+    (λ _. HasAcceptedEdit code (hrp_bytes hrp) (elements_of characters))
 
 -- such an edit of one kind, at one location
 abbrev pub IsAcceptedAt : ℕ → Code → List ℕ → List Fe32 → ℕ → Edit → Type 0

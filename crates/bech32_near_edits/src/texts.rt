@@ -1,9 +1,8 @@
 //! All texts that one edit makes of a text, and that a checksum accepts.
 
-ghost use Rattle.std.specs.Prelude.{◌≡◌, ◌<◌, ◌≤◌, ◌+◌, ◌-◌, ◌++◌, ℕ, List, ◌∷◌, [], length, map, true, take, drop, IfErr, IfOk, MatchResult, IsTrue, string_bytes};
+ghost use Rattle.std.specs.Prelude.{◌≡◌, ◌<◌, ◌≤◌, ◌+◌, ◌-◌, ◌++◌, ℕ, List, ◌∷◌, [], length, map, take, drop, IfErr, IfOk, MatchResult, IsTrue, string_bytes};
 ghost use Rattle.std.specs.List.{AllByRecursion};
 ghost use Rattle.std.specs.Str.{IsAscii};
-ghost use Rattle.bech32_gf.specs.Alphabet.{is_data};
 ghost use Rattle.bech32_gf.specs.Fe32.{elements_of};
 ghost use Rattle.bech32_gf.specs.declared.gf32.Fe32.{Fe32 as Element};
 ghost use Rattle.bech32_checksum.specs.Encoded.{spelled};
@@ -18,7 +17,7 @@ ghost use Rattle.bech32_near_edits.specs.Walks.{HasAcceptedEdit, IsAcceptedEdit,
 
 use crate::edits::{Change, Edit, NearEdit};
 use crate::error::EditsError;
-use crate::walks::{push_left_out, push_put_in, push_swapped};
+use crate::walks::Original;
 use bech32_checksum::Checksum;
 use bech32_decode::Reading;
 use bech32_hrp::Hrp;
@@ -27,19 +26,18 @@ use std::alloc::{AllocError, Allocator, Global};
 // All edits that make a text that the checksum accepts.
 fn edits_of<Ck: Checksum, A: Allocator>(
     alloc: A,
-    hrp: Hrp,
-    characters: &[u8],
+    text: &Original<'_, Ck>,
 ) -> Result<Vec<Edit, A>, AllocError>
-    requires { is_data characters.now ≡ true }
     ensures { MatchResult result
-        (λ edits. AreAllOf
-        (IsAcceptedEdit Ck.code (hrp_bytes hrp) (elements_of characters.now)) edits.items)
-        (λ _. HasAcceptedEdit Ck.code (hrp_bytes hrp) (elements_of characters.now)) }
+        (λ edits. AreAllOf (IsAcceptedEdit Ck.code (hrp_bytes text.now.hrp)
+        (elements_of text.now.characters.now)) edits.items)
+        (λ _. HasAcceptedEdit Ck.code (hrp_bytes text.now.hrp)
+        (elements_of text.now.characters.now)) }
 {
     let mut found = Vec::new(alloc);
-    push_swapped::<Ck, A>(hrp, characters, &mut found)?;
-    push_left_out::<Ck, A>(hrp, characters, &mut found)?;
-    push_put_in::<Ck, A>(hrp, characters, &mut found)?;
+    text.push_swapped(&mut found)?;
+    text.push_left_out(&mut found)?;
+    text.push_put_in(&mut found)?;
     Ok(found)
 }
 
@@ -120,7 +118,8 @@ pub fn near_edits_in<Ck: Checksum, A: Allocator + Copy>(
         (λ e. IsEditsRefusal Ck.code text.now e) }
 {
     let reading = Reading::<Ck>::new(text)?;
-    let edits = edits_of::<Ck, A>(alloc, Hrp::of_bytes(reading.hrp), reading.data_part)?;
+    let original = Original::<Ck>::new(Hrp::of_bytes(reading.hrp), reading.data_part);
+    let edits = edits_of::<Ck, A>(alloc, &original)?;
     Ok(edited_all(alloc, text, edits)?)
 }
 

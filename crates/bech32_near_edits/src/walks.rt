@@ -5,7 +5,7 @@ ghost use Rattle.bech32_gf.specs.Alphabet.{is_data};
 ghost use Rattle.bech32_gf.specs.Fe32.{elements_of};
 ghost use Rattle.bech32_hrp.specs.HrpBytes.{hrp_bytes};
 ghost use Rattle.bech32_near_edits.specs.Edits.{AreAllOf};
-ghost use Rattle.bech32_near_edits.specs.Walks.{HasAcceptedEdit, HasLengthsFor, IsAcceptedAt, IsAcceptedOfKind, WherePutIn};
+ghost use Rattle.bech32_near_edits.specs.Walks.{AddsOfKind, HasAcceptedEdit, HasLengthsFor, IsAcceptedAt, WherePutIn};
 ghost use Rattle.bech32_near_edits.specs.declared.edits.Edit.{Edit as AnEdit};
 
 use crate::edits::Edit;
@@ -16,6 +16,17 @@ use bech32_checksum::Checksum;
 use bech32_gf::gf32::Fe32;
 use bech32_hrp::Hrp;
 use std::alloc::{AllocError, Allocator};
+use std::marker::PhantomData;
+
+/// A text whose edits are looked for.
+#[derive(Drop)]
+pub(crate) struct Original<'a, Ck: Checksum> {
+    hrp: Hrp,
+    // What stands behind the separator.
+    characters: &'a [u8],
+    of: PhantomData<Ck>,
+    ghost of_alphabet: { is_data characters.now ≡ true },
+}
 
 // Whether a text with a human-readable part and a data part of this many characters is not longer
 // than the code, and has room for the checksum.
@@ -36,59 +47,6 @@ fn push_some<A: Allocator>(found: &mut Vec<Edit, A>, edit: Option<Edit>) -> Resu
 {
     if let Some(edit) = edit {
         found.push(edit)?;
-    }
-    Ok(())
-}
-
-// Adds all swaps.
-pub(crate) fn push_swapped<Ck: Checksum, A: Allocator>(
-    hrp: Hrp,
-    characters: &[u8],
-    found: &mut Vec<Edit, A>,
-) -> Result<(), AllocError>
-    requires { is_data characters.now ≡ true }
-    ensures { MatchResult result
-        (λ _. (edits : List AnEdit) × (found.new.items ≡ found.old.items ++ edits)
-        × AreAllOf (IsAcceptedOfKind 0 Ck.code (hrp_bytes hrp) (elements_of characters.now)) edits)
-        (λ _. HasAcceptedEdit Ck.code (hrp_bytes hrp) (elements_of characters.now)) }
-{
-    if !has_lengths::<Ck>(hrp, characters.len()) {
-        return Ok(());
-    }
-    let whole = word_of(&engine_of::<Ck>(hrp, characters));
-    let mut pairs = Powers::<Ck>::new(2);
-    for location in 0..characters.len() {
-        push_some(found, swap_at(whole, &pairs, characters, location))?;
-        pairs.raise();
-    }
-    Ok(())
-}
-
-// Adds all that leave a character out.
-pub(crate) fn push_left_out<Ck: Checksum, A: Allocator>(
-    hrp: Hrp,
-    characters: &[u8],
-    found: &mut Vec<Edit, A>,
-) -> Result<(), AllocError>
-    requires { is_data characters.now ≡ true }
-    ensures { MatchResult result
-        (λ _. (edits : List AnEdit) × (found.new.items ≡ found.old.items ++ edits)
-        × AreAllOf (IsAcceptedOfKind 1 Ck.code (hrp_bytes hrp) (elements_of characters.now)) edits)
-        (λ _. HasAcceptedEdit Ck.code (hrp_bytes hrp) (elements_of characters.now)) }
-{
-    if characters.is_empty() {
-        return Ok(());
-    }
-    if !has_lengths::<Ck>(hrp, characters.len() - 1) {
-        return Ok(());
-    }
-    let mut rest = word_of(&engine_of::<Ck>(hrp, &characters[..characters.len() - 1]));
-    let mut powers = Powers::<Ck>::new(1);
-    for location in 0..characters.len() {
-        push_some(found, left_out_at::<Ck>(rest, characters, location))?;
-        let change = change_above(characters, location);
-        rest = sum_of::<Ck>(rest, powers.times(change));
-        powers.raise();
     }
     Ok(())
 }
@@ -121,32 +79,80 @@ fn push_put_in_at<Ck: Checksum, A: Allocator>(
     Ok(())
 }
 
-// Adds all that put a character in.
-pub(crate) fn push_put_in<Ck: Checksum, A: Allocator>(
-    hrp: Hrp,
-    characters: &[u8],
-    found: &mut Vec<Edit, A>,
-) -> Result<(), AllocError>
-    requires { is_data characters.now ≡ true }
-    ensures { MatchResult result
-        (λ _. (edits : List AnEdit) × (found.new.items ≡ found.old.items ++ edits)
-        × AreAllOf (IsAcceptedOfKind 2 Ck.code (hrp_bytes hrp) (elements_of characters.now)) edits)
-        (λ _. HasAcceptedEdit Ck.code (hrp_bytes hrp) (elements_of characters.now)) }
-{
-    if !has_lengths::<Ck>(hrp, characters.len() + 1) {
-        return Ok(());
+impl<'a, Ck: Checksum> Original<'a, Ck> {
+    /// The text of a human-readable part and of characters behind the separator.
+    pub fn new(hrp: Hrp, characters: &'a [u8]) -> Self
+        requires { is_data characters.now ≡ true }
+        ensures hrp { result.hrp ≡ hrp }
+        ensures characters { result.characters.now ≡ characters.now }
+    {
+        Original {
+            hrp,
+            characters,
+            of: PhantomData,
+        }
     }
-    let mut engine = engine_of::<Ck>(hrp, characters);
-    engine.input_fe(Fe32::Q);
-    let mut with_none = word_of(&engine);
-    let mut powers = Powers::<Ck>::new(1);
-    let mut pairs = Powers::<Ck>::new(2);
-    for location in 0..characters.len() + 1 {
-        push_put_in_at(with_none, &powers, characters, location, found)?;
-        let element = element_or_zero(characters, location);
-        with_none = sum_of::<Ck>(with_none, pairs.times(element));
-        powers.raise();
-        pairs.raise();
+
+    /// Adds all swaps.
+    pub fn push_swapped<A: Allocator>(&self, found: &mut Vec<Edit, A>) -> Result<(), AllocError>
+        ensures { AddsOfKind 0 Ck.code self.now.hrp self.now.characters.now
+            found.old.items found.new.items result }
+    {
+        if !has_lengths::<Ck>(self.hrp, self.characters.len()) {
+            return Ok(());
+        }
+        let whole = word_of(&engine_of::<Ck>(self.hrp, self.characters));
+        let mut pairs = Powers::<Ck>::new(2);
+        for location in 0..self.characters.len() {
+            push_some(found, swap_at(whole, &pairs, self.characters, location))?;
+            pairs.raise();
+        }
+        Ok(())
     }
-    Ok(())
+
+    /// Adds all that leave a character out.
+    pub fn push_left_out<A: Allocator>(&self, found: &mut Vec<Edit, A>) -> Result<(), AllocError>
+        ensures { AddsOfKind 1 Ck.code self.now.hrp self.now.characters.now
+            found.old.items found.new.items result }
+    {
+        if self.characters.is_empty() {
+            return Ok(());
+        }
+        if !has_lengths::<Ck>(self.hrp, self.characters.len() - 1) {
+            return Ok(());
+        }
+        let front = &self.characters[..self.characters.len() - 1];
+        let mut rest = word_of(&engine_of::<Ck>(self.hrp, front));
+        let mut powers = Powers::<Ck>::new(1);
+        for location in 0..self.characters.len() {
+            push_some(found, left_out_at::<Ck>(rest, self.characters, location))?;
+            let change = change_above(self.characters, location);
+            rest = sum_of::<Ck>(rest, powers.times(change));
+            powers.raise();
+        }
+        Ok(())
+    }
+
+    /// Adds all that put a character in.
+    pub fn push_put_in<A: Allocator>(&self, found: &mut Vec<Edit, A>) -> Result<(), AllocError>
+        ensures { AddsOfKind 2 Ck.code self.now.hrp self.now.characters.now
+            found.old.items found.new.items result }
+    {
+        if !has_lengths::<Ck>(self.hrp, self.characters.len() + 1) {
+            return Ok(());
+        }
+        let mut engine = engine_of::<Ck>(self.hrp, self.characters);
+        engine.input_fe(Fe32::Q);
+        let mut with_none = word_of(&engine);
+        let mut powers = Powers::<Ck>::new(1);
+        let mut pairs = Powers::<Ck>::new(2);
+        for location in 0..self.characters.len() + 1 {
+            push_put_in_at(with_none, &powers, self.characters, location, found)?;
+            let element = element_or_zero(self.characters, location);
+            with_none = sum_of::<Ck>(with_none, pairs.times(element));
+            powers.raise();
+            pairs.raise();
+        }
+        Ok(())
+    }
 }

@@ -1,18 +1,42 @@
 -- What a table of sketches tells of the listings with one error and with two.
 use Rattle.std.specs.Prelude.{bit_xor, ◌≢◌}
 use Rattle.std.specs.List.{Contains}
-use Rattle.std.proofs.Common.{◌≡◌, ℕ, ◌+◌, ◌*◌, ◌^◌, ◌<◌, ◌≤◌, List, get_or, length, ◌⊎◌, inl, inr, sym, subst, ◌∙◌, arith}
+use Rattle.std.proofs.Common.{◌≡◌, ℕ, ◌+◌, ◌*◌, ◌^◌, ◌<◌, ◌≤◌, List, get_or, length, min, ◌⊎◌, inl, inr, sym, ap, subst, ◌∙◌, arith}
 use Rattle.bech32_gf.specs.Fe32 as fe32
 use Rattle.bech32_gf.specs.Fe32.{ops}
 use Rattle.bech32_gf.specs.declared.gf32.Fe32.{Fe32}
 use Rattle.bech32_gf.specs.laws.Fe32Laws.{is_field}
+use Rattle.bech32_checksum.specs.Code.{Code}
+use Rattle.bech32_finders.specs.Question.{Question}
+use Rattle.bech32_near_search.specs.Added.{IsTableFor}
 use Rattle.bech32_near_search.specs.Nearest.{IsEarlier}
-use Rattle.bech32_near_search.specs.Sketch.{IsTable, entry_number, sketch, sketch_at}
+use Rattle.bech32_near_search.specs.Sketch.{AreColumns, AreEntries, AreForgotten, IsTable, entry_number, sketch, sketch_at}
 use Rattle.bech32_near_search.specs.Steps.{AreAdded, HasHighest}
 use Rattle.bech32_near_search.proofs.Coded.{IsCodedBelow, coded_on}
 use Rattle.bech32_near_search.proofs.Elements.{lowest, value_below}
 use Rattle.bech32_near_search.proofs.Entries.{entry_is, none_between}
 use Rattle.bech32_near_search.proofs.Skipped.{IsPartner, alone, with_other}
+
+-- the table by its parts, where columns and entries were made for it
+pub table_for : (code : Code) (bound n : ℕ) (q : Question) (rows : List (ℕ × ℕ)) (w : ℕ) (made seen columns listed entries : List ℕ)
+    → length q.erasures ≤ bound → q.window < 2 ^ 24 → AreForgotten rows (min n 12) code.generator q.erasures
+    → w ≡ q.window → AreColumns rows (min n 12) code.generator w made → seen ≡ made → columns ≡ made
+    → ((window : ℕ) → length seen ≡ 5 * window → AreEntries seen window listed) → entries ≡ listed
+    → IsTableFor code bound n q rows columns entries
+table_for code bound n q rows w made seen columns listed entries few wide forgotten at are seen_is columns_is of entries_is =
+    let here : AreColumns rows (min n 12) code.generator q.window columns =
+    subst (λ (v : ℕ). AreColumns rows (min n 12) code.generator v columns) at (subst (λ (u : List ℕ). AreColumns rows (min n 12) code.generator w u) (sym columns_is) are) in
+    let same : seen ≡ columns = seen_is ∙ sym columns_is in
+    record {
+      few = few;
+      wide = wide;
+      table = record {
+        forgotten = forgotten;
+        columns_are = here;
+        entries_are = subst (λ (u : List ℕ). AreEntries columns q.window u) (sym entries_is)
+            (subst (λ (u : List ℕ). AreEntries u q.window listed) same (of q.window (ap (λ u. length u) same ∙ here.long)));
+      };
+    }
 
 module _ (size : ℕ) (g : List Fe32) (s : List ℕ) (w : ℕ) (rows : List (ℕ × ℕ)) (columns entries : List ℕ) (table : IsTable size g s w rows columns entries) where
   -- an error below the window has its entry

@@ -21,6 +21,13 @@ use std::alloc::{AllocError, Allocator, Global};
 /// add there.
 pub type Listings<A = Global> = Vec<ShortVec<(usize, Fe32), A>, A>;
 
+/// At most this many errors, all of them below a limit.
+#[derive(Clone, Copy)]
+pub(crate) struct Few {
+    pub(crate) errors: usize,
+    pub(crate) limit: usize,
+}
+
 // Whether this many errors and erasures are within the bound.
 fn fits(errors: usize, erasures: usize, bound: usize) -> bool
     ensures { IsTrue result ↔ (2 * errors + erasures ≤ bound) }
@@ -57,16 +64,16 @@ pub(crate) fn is_erasure<Ck: Checksum, A: Allocator + Copy>(
     contains(corrector.erasures(), place)
 }
 
-// Whether the errors are no more than `most`, and all below the limit.
-fn are_within(errors: &[(usize, Fe32)], limit: usize, most: usize) -> bool
-    ensures { IsTrue result ↔ ((length errors.now ≤ most)
-        × AllByRecursion (λ q. q.0 < limit) errors.now) }
+// Whether the errors are so few, and all below the limit.
+fn are_within(errors: &[(usize, Fe32)], few: Few) -> bool
+    ensures { IsTrue result ↔ ((length errors.now ≤ few.errors)
+        × AllByRecursion (λ q. q.0 < few.limit) errors.now) }
 {
-    if errors.len() > most {
+    if errors.len() > few.errors {
         return false;
     }
     for error in errors {
-        if error.0 >= limit {
+        if error.0 >= few.limit {
             return false;
         }
     }
@@ -171,13 +178,12 @@ fn push_raised<A: Allocator + Copy>(
 // where all of its errors are below the limit.
 fn add_answer<Ck: Checksum, A: Allocator + Copy>(
     corrector: &Corrector<Ck, A>,
-    limit: usize,
-    errors: usize,
+    few: Few,
     found: &mut Listings<A>,
 ) -> Result<(), AllocError>
-    ensures { 2 * errors + length corrector.now.erasures ≤ Ck.bound
-        → limit ≤ corrector.now.window
-        → OnOk result (AddsGathered Ck.code corrector.now limit errors
+    ensures { 2 * few.errors + length corrector.now.erasures ≤ Ck.bound
+        → few.limit ≤ corrector.now.window
+        → OnOk result (AddsGathered Ck.code corrector.now few.limit few.errors
         found.old.items found.new.items) }
 {
     let erased = corrector.erasures().len();
@@ -185,7 +191,7 @@ fn add_answer<Ck: Checksum, A: Allocator + Copy>(
         return Ok(());
     };
     let (_, listed) = listing.as_slice().split_at(erased);
-    if !are_within(listed, limit, errors) {
+    if !are_within(listed, few) {
         return Ok(());
     }
     push_listing(listing, found)?;
@@ -221,7 +227,11 @@ pub(crate) fn add_errorless<Ck: Checksum, A: Allocator + Copy>(
         → OnOk result (AddsGathered Ck.code corrector.now 0 0 found.old.items found.new.items) }
 {
     if !corrector.erasures().is_empty() {
-        return add_answer(corrector, 0, 0, found);
+        let none = Few {
+            errors: 0,
+            limit: 0,
+        };
+        return add_answer(corrector, none, found);
     }
     if !are_zero(corrector.residue()) {
         return Ok(());
@@ -259,59 +269,56 @@ fn erased_listing<Ck: Checksum, A: Allocator + Copy>(
     corrector.listing_up_to(highest_of(erasures, place), wider.as_slice())
 }
 
-// Whether the value is not zero, and the other errors are no more than `others`, all below the
-// place.
-fn is_highest(value: Fe32, rest: &[(usize, Fe32)], place: usize, others: usize) -> bool
-    ensures { IsTrue result ↔ ((value ≢ fe32.zero)
-        × ((length rest.now ≤ others) × AllByRecursion (λ q. q.0 < place) rest.now)) }
+// Whether the value is not zero, and the other errors are so few, and all below the limit.
+fn is_highest(value: Fe32, rest: &[(usize, Fe32)], others: Few) -> bool
+    ensures { IsTrue result ↔ ((value ≢ fe32.zero) × ((length rest.now ≤ others.errors)
+        × AllByRecursion (λ q. q.0 < others.limit) rest.now)) }
 {
     if is_zero(value) {
         return false;
     }
-    are_within(rest, place, others)
+    are_within(rest, others)
 }
 
 // Tries the error behind this many erasures as the highest of a listing.
 fn push_highest<A: Allocator + Copy>(
     listing: &ShortVec<(usize, Fe32), A>,
     erased: usize,
-    place: usize,
-    others: usize,
+    others: Few,
     found: &mut Listings<A>,
 ) -> Result<(), AllocError>
-    ensures { erased < length listing.now → OnOk result (IsTried fe32.zero erased place others
-        listing.now found.old.items found.new.items) }
+    ensures { erased < length listing.now → OnOk result (IsTried fe32.zero erased
+        others.limit others.errors listing.now found.old.items found.new.items) }
 {
     let (given, behind) = parts_at(listing.as_slice(), erased);
     let Some((error, rest)) = behind.split_first() else {
         return Ok(());
     };
-    if !is_highest(error.1, rest, place, others) {
+    if !is_highest(error.1, rest, others) {
         return Ok(());
     }
     let raised = with_error(listing.allocator(), given, *error, rest)?;
-    push_listing(raised, found)?;
-    Ok(())
+    push_listing(raised, found)
 }
 
-// Puts the one listing whose highest error is at this location behind those that were found: the
-// corrector lists it where the location is one more erasure.
+// Puts the one listing whose highest error is at the limit of the others behind those that were
+// found: the corrector lists it where this location is one more erasure.
 fn add_erased<Ck: Checksum, A: Allocator + Copy>(
     corrector: &Corrector<Ck, A>,
-    place: usize,
-    others: usize,
+    others: Few,
     found: &mut Listings<A>,
 ) -> Result<(), AllocError>
-    ensures { 2 * others + length corrector.now.erasures + 1 ≤ Ck.bound
-        → place < corrector.now.window → has corrector.now.erasures place ≡ false
-        → OnOk result (AddsHighestAt Ck.code corrector.now place others
+    ensures { 2 * others.errors + length corrector.now.erasures + 1 ≤ Ck.bound
+        → others.limit < corrector.now.window
+        → has corrector.now.erasures others.limit ≡ false
+        → OnOk result (AddsHighestAt Ck.code corrector.now others.limit others.errors
         found.old.items found.new.items) }
 {
     let erased = corrector.erasures().len();
-    let Some(listing) = erased_listing(corrector, place)? else {
+    let Some(listing) = erased_listing(corrector, others.limit)? else {
         return Ok(());
     };
-    push_highest(&listing, erased, place, others, found)?;
+    push_highest(&listing, erased, others, found)?;
     Ok(())
 }
 
@@ -355,7 +362,12 @@ pub fn gathered<Ck: Checksum, A: Allocator + Copy>(
     if !are_few(corrector, 0, 0) {
         return Ok(found);
     }
-    gather_all(corrector, limit, errors, &mut found)?;
+    let few = Few { errors, limit };
+    if are_sketched(corrector, errors) {
+        gather_sketched(corrector, few, &mut found)?;
+        return Ok(found);
+    }
+    gather(corrector, few, &mut found)?;
     Ok(found)
 }
 
@@ -383,43 +395,24 @@ fn are_sketched<Ck: Checksum, A: Allocator + Copy>(
 
 // Puts all listings with at most this many errors, all below the limit, behind those that were
 // found.
-fn gather_all<Ck: Checksum, A: Allocator + Copy>(
-    corrector: &Corrector<Ck, A>,
-    limit: usize,
-    errors: usize,
-    found: &mut Listings<A>,
-) -> Result<(), AllocError>
-    ensures { length corrector.now.erasures ≤ Ck.bound → limit ≤ corrector.now.window
-        → OnOk result (AddsGathered Ck.code corrector.now limit errors
-        found.old.items found.new.items) }
-{
-    if are_sketched(corrector, errors) {
-        return gather_sketched(corrector, limit, errors, found);
-    }
-    gather(corrector, limit, errors, found)
-}
-
-// Puts all listings with at most this many errors, all below the limit, behind those that were
-// found.
 #[cycle(gather)]
 fn gather<Ck: Checksum, A: Allocator + Copy>(
     corrector: &Corrector<Ck, A>,
-    limit: usize,
-    errors: usize,
+    few: Few,
     found: &mut Listings<A>,
 ) -> Result<(), AllocError>
-    ensures { length corrector.now.erasures ≤ Ck.bound → limit ≤ corrector.now.window
-        → OnOk result (AddsGathered Ck.code corrector.now limit errors
+    ensures { length corrector.now.erasures ≤ Ck.bound → few.limit ≤ corrector.now.window
+        → OnOk result (AddsGathered Ck.code corrector.now few.limit few.errors
         found.old.items found.new.items) }
 {
-    if are_few(corrector, errors, 0) {
-        return add_answer(corrector, limit, errors, found);
+    if are_few(corrector, few.errors, 0) {
+        return add_answer(corrector, few, found);
     }
-    let Some(others) = errors.checked_sub(1) else {
+    let Some(others) = few.errors.checked_sub(1) else {
         return Ok(());
     };
     add_errorless(corrector, found)?;
-    for place in 0..limit {
+    for place in 0..few.limit {
         gather_at(corrector, place, others, found)?;
     }
     Ok(())
@@ -441,7 +434,11 @@ fn gather_at<Ck: Checksum, A: Allocator + Copy>(
         return Ok(());
     }
     if are_few(corrector, others, 1) {
-        return add_erased(corrector, place, others, found);
+        let rest = Few {
+            errors: others,
+            limit: place,
+        };
+        return add_erased(corrector, rest, found);
     }
     for value in 1..32u8 {
         gather_with(
@@ -469,7 +466,11 @@ pub(crate) fn gather_with<Ck: Checksum, A: Allocator + Copy>(
 {
     let left = corrector.without_error(error)?;
     let mut lower = Vec::new(corrector.allocator());
-    let gathered = gather(&left, error.0, others, &mut lower);
+    let rest = Few {
+        errors: others,
+        limit: error.0,
+    };
+    let gathered = gather(&left, rest, &mut lower);
     push_with(corrector, gathered, lower, error, found)?;
     Ok(())
 }

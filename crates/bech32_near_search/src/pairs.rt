@@ -1,17 +1,14 @@
 //! Gathers all patterns of one or two errors beside erasures: the sketches tell which errors can
 //! stand alone, and which together.
 
-ghost use Rattle.std.specs.Prelude.{◌≡◌, ◌≢◌, ◌≤◌, ◌<◌, ◌/◌, ◌%◌, ◌^◌, ℕ, List, false};
+ghost use Rattle.std.specs.Prelude.{◌≡◌, ◌≤◌, ◌<◌, ◌/◌, ◌%◌, ◌^◌, ℕ, List};
 ghost use Rattle.std.specs.Prelude.{bit_xor, length, min, OnOk};
-ghost use Rattle.bech32_bch.specs.Erasures.{has};
 ghost use Rattle.bech32_gf.specs.Fe32 as fe32;
-ghost use Rattle.bech32_gf.specs.declared.gf32.Fe32.{Fe32 as Element};
 ghost use Rattle.bech32_near_search.specs.Added.{AddsGathered, AddsHighest, AddsHighestAt};
-ghost use Rattle.bech32_near_search.specs.Sketch.{AreColumns, AreForgotten, IsTable};
-ghost use Rattle.bech32_near_search.specs.Sketch.{sketch, sketch_at};
-ghost use Rattle.bech32_near_search.specs.Steps.{IsGathered};
+ghost use Rattle.bech32_near_search.specs.Added.{IsBareKey, IsSketched, IsTableFor, StandsBeside};
+ghost use Rattle.bech32_near_search.specs.Sketch.{AreForgotten, sketch, sketch_at};
 
-use crate::gathering::{Listings, add_errorless, gather_with, is_erasure, push_with};
+use crate::gathering::{Few, Listings, add_errorless, gather_with, is_erasure, push_with};
 use crate::sketch::Row;
 use crate::table::{can_explain, entries_of, entry_at, entry_of, first_of, five_at, key_of};
 use crate::terms::{columns_of, rows_of, sketch_of};
@@ -58,9 +55,7 @@ fn add_bare<Ck: Checksum, A: Allocator + Copy>(
     key: u64,
     found: &mut Listings<A>,
 ) -> Result<(), AllocError>
-    ensures { length corrector.now.erasures ≤ Ck.bound
-        → ((items : List (ℕ × Element)) → IsGathered fe32.ops Ck.code.generator
-        corrector.now.residue corrector.now.erasures 0 0 items → key ≡ 0)
+    ensures { length corrector.now.erasures ≤ Ck.bound → IsBareKey Ck.code corrector.now key
         → OnOk result (AddsGathered Ck.code corrector.now 0 0 found.old.items found.new.items) }
 {
     if key != 0 {
@@ -72,22 +67,21 @@ fn add_bare<Ck: Checksum, A: Allocator + Copy>(
 // Puts all listings with at most one error, below the limit, behind those that were found.
 fn add_single<Ck: Checksum, A: Allocator + Copy>(
     corrector: &Corrector<Ck, A>,
-    table: &Table<'_>,
+    rows: &[Row],
+    entries: &[u64],
     limit: usize,
     found: &mut Listings<A>,
 ) -> Result<(), AllocError>
-    ensures { length corrector.now.erasures ≤ Ck.bound → limit ≤ corrector.now.window
-        → corrector.now.window < 2 ^ 24
-        → IsTable (min Ck.CHECKSUM_LENGTH 12) Ck.code.generator corrector.now.erasures
-        corrector.now.window table.now.rows.now table.now.columns.now table.now.entries.now
+    ensures { (columns : List ℕ) → limit ≤ corrector.now.window
+        → IsTableFor Ck.code Ck.bound Ck.CHECKSUM_LENGTH corrector.now rows.now columns entries.now
         → OnOk result (AddsGathered Ck.code corrector.now limit 1 found.old.items found.new.items) }
 {
-    let key = sketch_of::<Ck>(table.rows, corrector.residue());
+    let key = sketch_of::<Ck>(rows, corrector.residue());
     add_bare(corrector, key, found)?;
     let end = entry_of(key, limit, 0);
     let mut next = entry_of(key, 0, 0);
-    for i in first_of(table.entries, key)..table.entries.len() {
-        let entry = entry_at(table.entries, i);
+    for i in first_of(entries, key)..entries.len() {
+        let entry = entry_at(entries, i);
         if entry >= end {
             return Ok(());
         }
@@ -106,17 +100,14 @@ fn add_with<Ck: Checksum, A: Allocator + Copy>(
     error: (usize, Fe32),
     found: &mut Listings<A>,
 ) -> Result<(), AllocError>
-    ensures { length corrector.now.erasures ≤ Ck.bound → error.0 < corrector.now.window
-        → corrector.now.window < 2 ^ 24
-        → IsTable (min Ck.CHECKSUM_LENGTH 12) Ck.code.generator corrector.now.erasures
-        corrector.now.window table.now.rows.now table.now.columns.now table.now.entries.now
-        → has corrector.now.erasures error.0 ≡ false → error.1 ≢ fe32.zero
+    ensures { IsSketched Ck.code Ck.bound Ck.CHECKSUM_LENGTH corrector.now table.now
+        → StandsBeside corrector.now error
         → OnOk result (AddsHighest Ck.code corrector.now error 1 found.old.items found.new.items) }
 {
     // Room beforehand: an arena gets back what is gathered below it.
     let mut lower = Vec::with_capacity(corrector.allocator(), 4)?;
     let left = corrector.without_error(error)?;
-    let gathered = add_single(&left, table, error.0, &mut lower);
+    let gathered = add_single(&left, table.rows, table.entries, error.0, &mut lower);
     push_with(corrector, gathered, lower, error, found)?;
     Ok(())
 }
@@ -129,11 +120,8 @@ fn try_with<Ck: Checksum, A: Allocator + Copy>(
     error: (usize, Fe32),
     found: &mut Listings<A>,
 ) -> Result<(), AllocError>
-    ensures { length corrector.now.erasures ≤ Ck.bound → error.0 < corrector.now.window
-        → corrector.now.window < 2 ^ 24
-        → IsTable (min Ck.CHECKSUM_LENGTH 12) Ck.code.generator corrector.now.erasures
-        corrector.now.window table.now.rows.now table.now.columns.now table.now.entries.now
-        → has corrector.now.erasures error.0 ≡ false → error.1 ≢ fe32.zero
+    ensures { IsSketched Ck.code Ck.bound Ck.CHECKSUM_LENGTH corrector.now table.now
+        → StandsBeside corrector.now error
         → key ≡ bit_xor
         (sketch table.now.rows.now (min Ck.CHECKSUM_LENGTH 12) corrector.now.residue)
         (sketch_at table.now.rows.now (min Ck.CHECKSUM_LENGTH 12) Ck.code.generator error.0 error.1)
@@ -154,10 +142,8 @@ fn add_at<Ck: Checksum, A: Allocator + Copy>(
     place: usize,
     found: &mut Listings<A>,
 ) -> Result<(), AllocError>
-    ensures { length corrector.now.erasures ≤ Ck.bound → place < corrector.now.window
-        → corrector.now.window < 2 ^ 24
-        → IsTable (min Ck.CHECKSUM_LENGTH 12) Ck.code.generator corrector.now.erasures
-        corrector.now.window table.now.rows.now table.now.columns.now table.now.entries.now
+    ensures { IsSketched Ck.code Ck.bound Ck.CHECKSUM_LENGTH corrector.now table.now
+        → place < corrector.now.window
         → whole ≡ sketch table.now.rows.now (min Ck.CHECKSUM_LENGTH 12) corrector.now.residue
         → OnOk result (AddsHighestAt Ck.code corrector.now place 1
         found.old.items found.new.items) }
@@ -180,10 +166,8 @@ fn add_all<Ck: Checksum, A: Allocator + Copy>(
     limit: usize,
     found: &mut Listings<A>,
 ) -> Result<(), AllocError>
-    ensures { length corrector.now.erasures ≤ Ck.bound → limit ≤ corrector.now.window
-        → corrector.now.window < 2 ^ 24
-        → IsTable (min Ck.CHECKSUM_LENGTH 12) Ck.code.generator corrector.now.erasures
-        corrector.now.window table.now.rows.now table.now.columns.now table.now.entries.now
+    ensures { IsSketched Ck.code Ck.bound Ck.CHECKSUM_LENGTH corrector.now table.now
+        → limit ≤ corrector.now.window
         → OnOk result (AddsGathered Ck.code corrector.now limit 2 found.old.items found.new.items) }
 {
     add_errorless(corrector, found)?;
@@ -194,91 +178,47 @@ fn add_all<Ck: Checksum, A: Allocator + Copy>(
     Ok(())
 }
 
-// Puts all listings with at most this many errors, one or two, below the limit, behind those that
-// were found.
-fn add_few<Ck: Checksum, A: Allocator + Copy>(
-    corrector: &Corrector<Ck, A>,
-    table: &Table<'_>,
-    limit: usize,
-    errors: usize,
-    found: &mut Listings<A>,
-) -> Result<(), AllocError>
-    ensures { length corrector.now.erasures ≤ Ck.bound → limit ≤ corrector.now.window
-        → corrector.now.window < 2 ^ 24
-        → IsTable (min Ck.CHECKSUM_LENGTH 12) Ck.code.generator corrector.now.erasures
-        corrector.now.window table.now.rows.now table.now.columns.now table.now.entries.now
-        → 0 < errors → errors ≤ 2
-        → OnOk result (AddsGathered Ck.code corrector.now limit errors
-        found.old.items found.new.items) }
-{
-    if errors == 1 {
-        return add_single(corrector, table, limit, found);
-    }
-    add_all(corrector, table, limit, found)
-}
-
-// The same, by rows that forget the erasures, and by the columns of sketches.
-fn add_by_columns<Ck: Checksum, A: Allocator + Copy>(
-    corrector: &Corrector<Ck, A>,
-    rows: &[Row],
-    columns: &[u64],
-    limit: usize,
-    errors: usize,
-    found: &mut Listings<A>,
-) -> Result<(), AllocError>
-    ensures { length corrector.now.erasures ≤ Ck.bound → limit ≤ corrector.now.window
-        → corrector.now.window < 2 ^ 24
-        → AreForgotten rows.now (min Ck.CHECKSUM_LENGTH 12) Ck.code.generator
-        corrector.now.erasures
-        → AreColumns rows.now (min Ck.CHECKSUM_LENGTH 12) Ck.code.generator corrector.now.window
-        columns.now
-        → 0 < errors → errors ≤ 2
-        → OnOk result (AddsGathered Ck.code corrector.now limit errors
-        found.old.items found.new.items) }
-{
-    let entries = entries_of(corrector.allocator(), columns)?;
-    let table = Table {
-        rows,
-        columns,
-        entries: &entries,
-    };
-    add_few(corrector, &table, limit, errors, found)
-}
-
-// The same, by rows that forget the erasures.
+// Puts all listings with so few errors, one or two, behind those that were found: by rows that
+// forget the erasures.
 fn add_by_rows<Ck: Checksum, A: Allocator + Copy>(
     corrector: &Corrector<Ck, A>,
     rows: &[Row],
-    limit: usize,
-    errors: usize,
+    few: Few,
     found: &mut Listings<A>,
 ) -> Result<(), AllocError>
-    ensures { length corrector.now.erasures ≤ Ck.bound → limit ≤ corrector.now.window
+    ensures { length corrector.now.erasures ≤ Ck.bound → few.limit ≤ corrector.now.window
         → corrector.now.window < 2 ^ 24
         → AreForgotten rows.now (min Ck.CHECKSUM_LENGTH 12) Ck.code.generator
         corrector.now.erasures
-        → 0 < errors → errors ≤ 2
-        → OnOk result (AddsGathered Ck.code corrector.now limit errors
+        → 0 < few.errors → few.errors ≤ 2
+        → OnOk result (AddsGathered Ck.code corrector.now few.limit few.errors
         found.old.items found.new.items) }
 {
     let columns = columns_of::<Ck, A>(corrector.allocator(), rows, corrector.window())?;
-    add_by_columns(corrector, rows, &columns, limit, errors, found)
+    let entries = entries_of(corrector.allocator(), &columns)?;
+    if few.errors == 1 {
+        return add_single(corrector, rows, &entries, few.limit, found);
+    }
+    let table = Table {
+        rows,
+        columns: &columns,
+        entries: &entries,
+    };
+    add_all(corrector, &table, few.limit, found)
 }
 
-/// Puts all listings with at most this many errors, one or two, below the limit, behind those that
-/// were found.
+/// Puts all listings with so few errors, one or two, behind those that were found.
 pub(crate) fn gather_sketched<Ck: Checksum, A: Allocator + Copy>(
     corrector: &Corrector<Ck, A>,
-    limit: usize,
-    errors: usize,
+    few: Few,
     found: &mut Listings<A>,
 ) -> Result<(), AllocError>
-    ensures { length corrector.now.erasures ≤ Ck.bound → limit ≤ corrector.now.window
+    ensures { length corrector.now.erasures ≤ Ck.bound → few.limit ≤ corrector.now.window
         → corrector.now.window < 2 ^ 24
-        → 0 < errors → errors ≤ 2
-        → OnOk result (AddsGathered Ck.code corrector.now limit errors
+        → 0 < few.errors → few.errors ≤ 2
+        → OnOk result (AddsGathered Ck.code corrector.now few.limit few.errors
         found.old.items found.new.items) }
 {
     let rows = rows_of::<Ck, A>(corrector.allocator(), corrector.erasures())?;
-    add_by_rows(corrector, &rows, limit, errors, found)
+    add_by_rows(corrector, &rows, few, found)
 }

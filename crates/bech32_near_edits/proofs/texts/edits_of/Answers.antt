@@ -9,7 +9,7 @@ use Rattle.bech32_near_edits.proofs.texts.edits_of.Goals as goal
 
 pub returns : goal.returns
 returns g c =
-    let A = IsAcceptedEdit g.Ck.Checksum.code (hrp_bytes c.args.hrp) (elements_of c.args.characters.now) in
+    let A = IsAcceptedEdit g.Ck.Checksum.code (hrp_bytes c.args.text.now.hrp) (elements_of c.args.text.now.characters.now) in
     let (xs, e, a) = c.in_ok-push_swapped.ensures in
     let (ys, f, b) = c.in_ok-push_left_out.ensures in
     let (zs, h, d) = c.in_ok-push_put_in.ensures in

@@ -15,26 +15,26 @@ gather-returns-then-are_few g t c = λ few within. c.add_answer.ensures (omega (
 
 pub gather-returns-in_default : goal.gather-returns-in_default
 gather-returns-in_default g t c = λ few within.
-    let some : 0 < c.args.errors = some_errors c.args.errors (length c.args.corrector.now.erasures) g.Ck.Checksum.bound c.are_few.result c.are_few.ensures.few c.if-are_few.false few in
+    let some : 0 < c.args.few.errors = some_errors c.args.few.errors (length c.args.corrector.now.erasures) g.Ck.Checksum.bound c.are_few.result c.are_few.ensures.few c.if-are_few.false few in
     absurd (c.in_default.ensures some)
 
 pub gather-loop-place-init : goal.gather-loop-place-init
 gather-loop-place-init g t c = λ few within.
     let q = c.args.corrector.now in
-    first_place is_field fe32.value lowest fe32.path g.Ck.Checksum.code.generator q.residue q.erasures c.args.errors c.args.found.now.items c.add_errorless.new.found.items
+    first_place is_field fe32.value lowest fe32.path g.Ck.Checksum.code.generator q.residue q.erasures c.args.few.errors c.args.found.now.items c.add_errorless.new.found.items
     (c.in_ok-add_errorless.ensures few)
 
 pub gather-loop-place-preserved : goal.gather-loop-place-preserved
 gather-loop-place-preserved g t c = λ few within.
     let q = c.args.corrector.now in
-    next_place is_field fe32.value lowest fe32.path g.Ck.Checksum.code.generator q.residue q.erasures c.loop-place.place (c.loop-place.place + 1) c.args.errors c.in-Some.others c.args.found.now.items c.loop-place.found.items c.gather_at.new.found.items
+    next_place is_field fe32.value lowest fe32.path g.Ck.Checksum.code.generator q.residue q.erasures c.loop-place.place (c.loop-place.place + 1) c.args.few.errors c.in-Some.others c.args.found.now.items c.loop-place.found.items c.gather_at.new.found.items
     (omega arith) (omega (arith, c.in-Some.ensures.0, c.in-Some.ensures.1)) (c.loop-place.invariant few within) (c.in_ok-gather_at.ensures few (omega (arith, within)))
 
 pub gather-returns : goal.gather-returns
 gather-returns g t c = λ few within.
     let q = c.args.corrector.now in
-    let end : c.loop-place.place ≡ c.args.limit = omega arith in
-    subst (λ (n : ℕ). AreAdded (IsEarlier fe32.ops fe32.value q.erasures) (IsGathered fe32.ops g.Ck.Checksum.code.generator q.residue q.erasures n c.args.errors) c.args.found.now.items c.loop-place.found.items) end (c.loop-place.invariant few within)
+    let end : c.loop-place.place ≡ c.args.few.limit = omega arith in
+    subst (λ (n : ℕ). AreAdded (IsEarlier fe32.ops fe32.value q.erasures) (IsGathered fe32.ops g.Ck.Checksum.code.generator q.residue q.erasures n c.args.few.errors) c.args.found.now.items c.loop-place.found.items) end (c.loop-place.invariant few within)
 
 pub gather_at-returns-then-is_erasure : goal.gather_at-returns-then-is_erasure
 gather_at-returns-then-is_erasure g t c = λ few within.
@@ -77,7 +77,7 @@ gather_with-returns g t c = λ few within outside not_zero.
 -- what the calls require
 pub gather-gather_at-requires : goal.gather-gather_at-requires
 gather-gather_at-requires g t c =
-    let less : 3 * c.in-Some.others + 2 < 3 * c.args.errors = omega (arith, c.in-Some.ensures.0, c.in-Some.ensures.1) in
+    let less : 3 * c.in-Some.others + 2 < 3 * c.args.few.errors = omega (arith, c.in-Some.ensures.0, c.in-Some.ensures.1) in
     search rules
 
 pub gather_at-gather_with-requires : goal.gather_at-gather_with-requires

@@ -5,7 +5,7 @@ use Rattle.bech32_near_search.specs.Steps.{AreAdded, HasHighestBelow, IsGathered
 use Rattle.bech32_near_search.proofs.gathering.+gather.Given as goal
 
 abbrev pub decreases-gather : goal.decreases-gather
-decreases-gather g l = 3 * l.errors
+decreases-gather g l = 3 * l.few.errors
 
 abbrev pub decreases-gather_at : goal.decreases-gather_at
 decreases-gather_at g l = 3 * l.others + 2
@@ -15,9 +15,9 @@ decreases-gather_with g l = 3 * l.others + 1
 
 abbrev pub invariant-gather-loop-place : goal.invariant-gather-loop-place
 invariant-gather-loop-place g l =
-    length l.corrector.erasures ≤ g.Ck.Checksum.bound → l.limit ≤ l.corrector.window
+    length l.corrector.erasures ≤ g.Ck.Checksum.bound → l.fn.few.limit ≤ l.corrector.window
     → AreAdded (IsEarlier fe32.ops fe32.value l.corrector.erasures)
-    (IsGathered fe32.ops g.Ck.Checksum.code.generator l.corrector.residue l.corrector.erasures l.place l.errors)
+    (IsGathered fe32.ops g.Ck.Checksum.code.generator l.corrector.residue l.corrector.erasures l.place l.fn.few.errors)
     l.fn.found.items l.found.items
 
 abbrev pub invariant-gather_at-loop-value : goal.invariant-gather_at-loop-value

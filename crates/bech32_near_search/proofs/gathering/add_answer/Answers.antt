@@ -19,7 +19,7 @@ push_listing-requires g c = search rules
 pub returns-in_default : goal.returns-in_default
 returns-in_default g c = λ few within.
     let q = c.args.corrector.now in
-    alone_none is_field fe32.value g.Ck.Checksum.code.generator q.residue q.erasures q.window g.Ck.Checksum.bound _ c.args.limit c.args.errors c.args.found.now.items
+    alone_none is_field fe32.value g.Ck.Checksum.code.generator q.residue q.erasures q.window g.Ck.Checksum.bound _ c.args.few.limit c.args.few.errors c.args.found.now.items
     (answer_of fe32.value q.erasures g.Ck.Checksum.code g.Ck.Checksum.bound q _ c.erasures-erased.ensures.lawful c.in_ok-listing.ensures.answer)
     few within c.in_default.is
 
@@ -36,18 +36,18 @@ returns-then-not-are_within g c = λ few within.
     let q = c.args.corrector.now in
     let same : c.split_at.result.1.now ≡ drop (length q.erasures) c.in-Some.listing =
     c.split_at.ensures.back ∙ ap (drop (length c.erasures-erased.result.now)) c.as_slice.ensures ∙ ap (λ u. drop (length u) c.in-Some.listing) c.erasures-erased.ensures.value in
-    alone_not is_field fe32.value g.Ck.Checksum.code.generator q.residue q.erasures q.window g.Ck.Checksum.bound _ c.args.limit c.args.errors c.args.found.now.items c.in-Some.listing
+    alone_not is_field fe32.value g.Ck.Checksum.code.generator q.residue q.erasures q.window g.Ck.Checksum.bound _ c.args.few.limit c.args.few.errors c.args.found.now.items c.in-Some.listing
     (answer_of fe32.value q.erasures g.Ck.Checksum.code g.Ck.Checksum.bound q _ c.erasures-erased.ensures.lawful c.in_ok-listing.ensures.answer)
     few within c.in-Some.is
-    (λ k. let no : false ≡ true = sym c.if-not-are_within.true ∙ c.are_within.ensures.1 (subst (λ (u : List (ℕ × Fe32)). AreWithin c.args.limit c.args.errors u) (sym same) k) in cc no)
+    (λ k. let no : false ≡ true = sym c.if-not-are_within.true ∙ c.are_within.ensures.1 (subst (λ (u : List (ℕ × Fe32)). AreWithin c.args.few.limit c.args.few.errors u) (sym same) k) in cc no)
 
 pub returns : goal.returns
 returns g c = λ few within.
     let q = c.args.corrector.now in
     let same : c.split_at.result.1.now ≡ drop (length q.erasures) c.in-Some.listing =
     c.split_at.ensures.back ∙ ap (drop (length c.erasures-erased.result.now)) c.as_slice.ensures ∙ ap (λ u. drop (length u) c.in-Some.listing) c.erasures-erased.ensures.value in
-    alone_one is_field fe32.value g.Ck.Checksum.code.generator q.residue q.erasures q.window g.Ck.Checksum.bound _ c.args.limit c.args.errors c.args.found.now.items c.push_listing.new.found.items c.in-Some.listing
+    alone_one is_field fe32.value g.Ck.Checksum.code.generator q.residue q.erasures q.window g.Ck.Checksum.bound _ c.args.few.limit c.args.few.errors c.args.found.now.items c.push_listing.new.found.items c.in-Some.listing
     (answer_of fe32.value q.erasures g.Ck.Checksum.code g.Ck.Checksum.bound q _ c.erasures-erased.ensures.lawful c.in_ok-listing.ensures.answer)
     few within c.in-Some.is
-    (subst (λ (u : List (ℕ × Fe32)). AreWithin c.args.limit c.args.errors u) same (c.are_within.ensures.0 c.if-not-are_within.false))
+    (subst (λ (u : List (ℕ × Fe32)). AreWithin c.args.few.limit c.args.few.errors u) same (c.are_within.ensures.0 c.if-not-are_within.false))
     c.in_ok-push_listing.ensures

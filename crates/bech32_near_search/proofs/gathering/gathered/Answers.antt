@@ -14,11 +14,23 @@ returns-then-not-are_few-clause-all g c = λ within few.
 pub returns-then-not-are_few-clause-none : goal.returns-then-not-are_few-clause-none
 returns-then-not-are_few-clause-none g c = λ many. c.new-found.ensures.items
 
+pub returns-then-are_sketched-clause-all : goal.returns-then-are_sketched-clause-all
+returns-then-are_sketched-clause-all g c = λ within few.
+    let q = c.args.corrector.now in
+    let is = c.if-are_sketched.true in
+    subst (λ (start : List (List (ℕ × Fe32))). AreAdded (IsEarlier fe32.ops fe32.value q.erasures) (IsGathered fe32.ops g.Ck.Checksum.code.generator q.residue q.erasures c.args.limit c.args.errors) start c.gather_sketched.new.found.items)
+    c.new-found.ensures.items (c.in_ok-gather_sketched.ensures few within (c.are_sketched.ensures.within is) (c.are_sketched.ensures.some is) (c.are_sketched.ensures.two is))
+
+pub returns-then-are_sketched-clause-none : goal.returns-then-are_sketched-clause-none
+returns-then-are_sketched-clause-none g c = λ many.
+    let few : length c.args.corrector.now.erasures ≤ g.Ck.Checksum.bound = omega (arith, c.are_few.ensures.few.0 c.if-not-are_few.false) in
+    absurd (omega (arith, many, few))
+
 pub returns-clause-all : goal.returns-clause-all
 returns-clause-all g c = λ within few.
     let q = c.args.corrector.now in
-    subst (λ (start : List (List (ℕ × Fe32))). AreAdded (IsEarlier fe32.ops fe32.value q.erasures) (IsGathered fe32.ops g.Ck.Checksum.code.generator q.residue q.erasures c.args.limit c.args.errors) start c.gather_all.new.found.items)
-    c.new-found.ensures.items (c.in_ok-gather_all.ensures few within)
+    subst (λ (start : List (List (ℕ × Fe32))). AreAdded (IsEarlier fe32.ops fe32.value q.erasures) (IsGathered fe32.ops g.Ck.Checksum.code.generator q.residue q.erasures c.args.limit c.args.errors) start c.gather.new.found.items)
+    c.new-found.ensures.items (c.in_ok-gather.ensures few within)
 
 pub returns-clause-none : goal.returns-clause-none
 returns-clause-none g c = λ many.

@@ -7,12 +7,12 @@ use Rattle.bech32_near_search.proofs.Tables.{none_with}
 use Rattle.bech32_near_search.proofs.pairs.try_with.Goals as goal
 
 pub returns-then-not-can_explain : goal.returns-then-not-can_explain
-returns-then-not-can_explain g c = λ few within wide table out not_zero is.
+returns-then-not-can_explain g c = λ t beside is.
     let q = c.args.corrector.now in
     let code = g.Ck.Checksum.code in
     added_none (IsEarlier fe32.ops fe32.value q.erasures) (HasHighest fe32.ops code.generator q.residue q.erasures c.args.error 1) c.args.found.now.items
-    (λ items h. none_with (min g.Ck.Checksum.CHECKSUM_LENGTH 12) code.generator q.erasures q.window c.args.table.now.rows.now c.args.table.now.columns.now c.args.table.now.entries.now table q.residue c.args.error c.args.key items within wide is
-    (c.can_explain.ensures.none c.if-not-can_explain.true) (c.can_explain.ensures.above table.entries_are.sorted c.if-not-can_explain.true) h)
+    (λ items h. none_with (min g.Ck.Checksum.CHECKSUM_LENGTH 12) code.generator q.erasures q.window c.args.table.now.rows.now c.args.table.now.columns.now c.args.table.now.entries.now t.table q.residue c.args.error c.args.key items beside.within t.wide is
+    (c.can_explain.ensures.none c.if-not-can_explain.true) (c.can_explain.ensures.above t.table.entries_are.sorted c.if-not-can_explain.true) h)
 
 pub returns : goal.returns
-returns g c = λ few within wide table out not_zero is. c.add_with.ensures few within wide table out not_zero
+returns g c = λ t beside is. c.add_with.ensures t beside

@@ -5,7 +5,7 @@ use Rattle.bech32_near_edits.specs.Edits.{AreAllOf}
 use Rattle.bech32_near_edits.specs.Walks.{ArePowers, IsAcceptedOfKind}
 use Rattle.bech32_near_edits.specs.declared.edits.Edit.{Edit}
 use Rattle.bech32_near_edits.proofs.Kept.{IsLower}
-use Rattle.bech32_near_edits.proofs.walks.push_swapped.Given as goal
+use Rattle.bech32_near_edits.proofs.walks.Original.push_swapped.Given as goal
 
 abbrev pub invariant-loop-location : goal.invariant-loop-location
 invariant-loop-location g l =
@@ -13,5 +13,5 @@ invariant-loop-location g l =
     record {
       powers : ArePowers g.Ck.MidstateRepr.PackedFe32.number code l.location 2 l.pairs.one l.pairs.two l.pairs.four l.pairs.eight l.pairs.sixteen;
       kept : (edits : List Edit) × (l.found.items ≡ l.initial.found.items ++ edits)
-          × AreAllOf (IsLower (IsAcceptedOfKind 0 code (hrp_bytes l.fn.hrp) (elements_of l.characters)) (λ e. e.location) l.location) edits;
+          × AreAllOf (IsLower (IsAcceptedOfKind 0 code (hrp_bytes l.self.hrp) (elements_of l.self.characters.now)) (λ e. e.location) l.location) edits;
     }

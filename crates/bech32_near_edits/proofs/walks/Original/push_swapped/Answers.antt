@@ -9,29 +9,29 @@ use Rattle.bech32_near_edits.specs.Walks.{HasLengthsFor, IsAcceptedAt, IsAccepte
 use Rattle.bech32_near_edits.proofs.Kept.{found_all, found_more, found_none, none_lower, some_kept}
 use Rattle.bech32_near_edits.proofs.Located.{never}
 use Rattle.bech32_near_edits.proofs.Verdicts.{lower_first, of_swap}
-use Rattle.bech32_near_edits.proofs.walks.push_swapped.Goals as goal
+use Rattle.bech32_near_edits.proofs.walks.Original.push_swapped.Goals as goal
 
 pub returns-then-not-has_lengths : goal.returns-then-not-has_lengths
 returns-then-not-has_lengths g c =
     let code = g.Ck.Checksum.code in
-    let hrp = hrp_bytes c.args.hrp in
-    let old = elements_of c.args.characters.now in
-    let size = length-map c.args.characters.now element_of in
+    let hrp = hrp_bytes c.args.self.now.hrp in
+    let old = elements_of c.args.self.now.characters.now in
+    let size = length-map c.args.self.now.characters.now element_of in
     found_none (IsAcceptedOfKind 0 code hrp old) c.args.found.now.items
     (λ e h. never (c.if-not-has_lengths.ensures.1 (subst (HasLengthsFor code hrp) size (of_swap code hrp old e h).0)))
 
 pub loop-location-init : goal.loop-location-init
 loop-location-init g c = record {
   powers = c.new-pairs.ensures;
-  kept = ([], sym (append-nil c.args.found.now.items), none_lower (IsAcceptedOfKind 0 g.Ck.Checksum.code (hrp_bytes c.args.hrp) (elements_of c.args.characters.now)) (λ e. e.location));
+  kept = ([], sym (append-nil c.args.found.now.items), none_lower (IsAcceptedOfKind 0 g.Ck.Checksum.code (hrp_bytes c.args.self.now.hrp) (elements_of c.args.self.now.characters.now)) (λ e. e.location));
 }
 
 pub loop-location-preserved : goal.loop-location-preserved
 loop-location-preserved g c =
     let at = c.loop-location in
     let code = g.Ck.Checksum.code in
-    let hrp = hrp_bytes c.args.hrp in
-    let old = elements_of c.args.characters.now in
+    let hrp = hrp_bytes c.args.self.now.hrp in
+    let old = elements_of c.args.self.now.characters.now in
     let word = c.word_of-whole.ensures (text_polynomial hrp old) c.engine_of.ensures in
     let room = c.if-not-has_lengths.ensures.0 refl in
     record {
@@ -44,8 +44,8 @@ pub returns-in_err-push_some : goal.returns-in_err-push_some
 returns-in_err-push_some g c =
     let at = c.loop-location in
     let code = g.Ck.Checksum.code in
-    let hrp = hrp_bytes c.args.hrp in
-    let old = elements_of c.args.characters.now in
+    let hrp = hrp_bytes c.args.self.now.hrp in
+    let old = elements_of c.args.self.now.characters.now in
     let word = c.word_of-whole.ensures (text_polynomial hrp old) c.engine_of.ensures in
     let room = c.if-not-has_lengths.ensures.0 refl in
     let (e, ((k, a), l)) = some_kept (IsAcceptedAt 0 code hrp old at.location) c.swap_at.result c.in_err-push_some.ensures (c.swap_at.ensures hrp room word at.invariant.powers) in
@@ -56,8 +56,8 @@ pub returns : goal.returns
 returns g c =
     let at = c.loop-location in
     let code = g.Ck.Checksum.code in
-    let hrp = hrp_bytes c.args.hrp in
-    let old = elements_of c.args.characters.now in
-    let size = length-map c.args.characters.now element_of in
-    let end : length c.args.characters.now ≤ at.location = omega arith in
+    let hrp = hrp_bytes c.args.self.now.hrp in
+    let old = elements_of c.args.self.now.characters.now in
+    let size = length-map c.args.self.now.characters.now element_of in
+    let end : length c.args.self.now.characters.now ≤ at.location = omega arith in
     found_all (IsAcceptedOfKind 0 code hrp old) (λ e. e.location) at.location c.args.found.now.items at.found.items (λ e h. let low = (of_swap code hrp old e h).1 in omega (arith, low, end, size)) at.invariant.kept
