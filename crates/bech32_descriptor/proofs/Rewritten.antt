@@ -9,7 +9,7 @@ use Rattle.bech32_gf.specs.declared.gf32.Fe32.{Fe32}
 use Rattle.bech32_poly.specs.Polynomial.{appended}
 use Rattle.bech32_poly.proofs.Appended.{appended-append}
 use Rattle.bech32_descriptor.specs.Descriptor.{checksum_in, checksum_symbol, descriptor_payload, polynomial, polynomial_of, symbol, symbols}
-use Rattle.bech32_descriptor.specs.Walks.{AreRows, behind_group, behind_symbol, change_in, first_at, group_from, payload_change, rows_for, times_power_of_x, word_in}
+use Rattle.bech32_descriptor.specs.Walks.{AreRows, IsReady, behind_group, behind_symbol, change_in, first_at, group_from, payload_change, rows_for, times_power_of_x, word_in}
 use Rattle.bech32_descriptor.specs.Words.{IsWordOfSymbols}
 use Rattle.bech32_descriptor.proofs.Changes.{changes}
 use Rattle.bech32_descriptor.proofs.Sums.{changed_one}
@@ -171,7 +171,7 @@ module _ (rows : List ℕ) (are : AreRows rows) where
         (λ j. bit_xor w (word_in rows (power j) (fe32.add (checksum_symbol b) (checksum_symbol (byte j)))))
         (subst (IsWordOfSymbols _) (λ j. polynomial (sym (same_payload (omega arith)) j) (sym new j)) held)
 
-    pub changed_word : IsWordOfSymbols (bit_xor w (change_in rows text i b)) (polynomial_of (set text i b))
+    changed_word : IsWordOfSymbols (bit_xor w (change_in rows text i b)) (polynomial_of (set text i b))
     changed_word =
         elim (cases_Bool (nat_lt (i + 9) (length text))) [
           | inl first ↦ subst (λ (v : ℕ). IsWordOfSymbols (bit_xor w v) (polynomial_of (set text i b))) (sym (cond-true _ _ _ first)) (before (ltb-true _ _ first))
@@ -183,3 +183,15 @@ module _ (rows : List ℕ) (are : AreRows rows) where
                 let high : length text < i + 9 = omega (arith, no_less, not_same) in behind high)
           ]
         ]
+
+-- a text with another byte at a place, and its word
+pub changed_ready : (rows text : List ℕ) (w i b : ℕ) → IsReady rows text w → i < length text → IsReady rows (set text i b) (bit_xor w (change_in rows text i b))
+changed_ready rows text w i b ready low =
+    let size : length (set text i b) ≡ length text = length-set text i b in
+    record {
+      long = omega (arith, size, ready.long);
+      few = omega (arith, size, ready.few);
+      enough = subst (λ (n : ℕ). rows_for n ≤ length rows) (sym size) ready.enough;
+      rows_are = ready.rows_are;
+      word_is = changed_word rows ready.rows_are w text i b ready.long low ready.enough ready.word_is;
+    }

@@ -1,11 +1,12 @@
 -- The edits at one place that are told.
 use Rattle.std.specs.Prelude.{◌≢◌, set}
-use Rattle.std.proofs.Common.{◌≡◌, ℕ, zero, suc, ◌+◌, ◌<◌, ◌≤◌, List, [], ◌∷◌, ◌++◌, append_assoc, length, length-append, get_or, take, drop, inl, inr, subst, sym, ap, ◌∙◌, refl, arith, add-one}
-use Rattle.std.proofs.lemmas.List.{drop_more, length-drop, length-set, length-take-le, set_at, set_split, take_more}
+use Rattle.std.proofs.Common.{◌≡◌, Bool, true, false, ℕ, zero, suc, ◌+◌, ◌-◌, ◌<◌, ◌≤◌, List, [], ◌∷◌, ◌++◌, append_assoc, length, length-append, get_or, take, drop, inl, inr, subst, sym, ap, ◌∙◌, refl, arith, add-one}
+use Rattle.std.proofs.lemmas.List.{drop_more, get_or-append_right, get_or-drop, get_or_past, length-drop, length-set, length-take-le, set_at, set_split, take_more}
+use Rattle.std.proofs.Math.Decide.{dec_lt}
 use Rattle.bech32_descriptor.specs.Descriptor.{IsDescriptor}
 use Rattle.bech32_descriptor.specs.Edits.{AreAllMends, IsAt, IsMendBefore, IsMend, IsPrinted, IsToldAt, byte_put, characters_changed, kind_of_change, made_at}
 use Rattle.bech32_descriptor.specs.PairWalks.{IsMendBelow}
-use Rattle.bech32_descriptor.specs.Walks.{IsMendAt, IsMendBy, IsMendOfKind, IsWithinOfKind}
+use Rattle.bech32_descriptor.specs.Walks.{IsMendAt, IsMendOfKind, IsPutAt, IsPutBy, IsWithinOfKind, change_that}
 use Rattle.bech32_descriptor.specs.declared.edits.Change.{Change}
 use Rattle.bech32_descriptor.specs.declared.edits.Change.TheVariants.{Changed, LeftOut, PutIn, Swapped}
 use Rattle.bech32_descriptor.specs.declared.edits.Edit.{Edit}
@@ -50,12 +51,9 @@ is_put_in Swapped b k h = absurd (omega (arith, k))
 is_put_in LeftOut b k h = absurd (omega (arith, k))
 is_put_in (PutIn d) b k h = ap PutIn h
 
--- of one kind, the edit at a lower place comes first; at one place, that which puts the lower byte
+-- of one kind, the edit at a lower place comes first
 pub place_first : (k : ℕ) (text : List ℕ) (x y : Edit) → IsMendOfKind k text x → IsMendOfKind k text y → x.place < y.place → IsMendBefore x y
 place_first k text x y p q less = inr (p.0 ∙ sym q.0, inl less)
-
-pub byte_first : (k : ℕ) (text : List ℕ) (i : ℕ) (x y : Edit) → IsMendAt k text i x → IsMendAt k text i y → byte_put x.change < byte_put y.change → IsMendBefore x y
-byte_first k text i x y p q less = inr (p.0.0 ∙ sym q.0.0, inr (p.1 ∙ sym q.1, less))
 
 -- the bytes that are put
 pub printed_changed : (text : List ℕ) (e : Edit) → IsMendOfKind 0 text e → IsPrinted (byte_put e.change) × (e.place < length text)
@@ -108,61 +106,103 @@ changed_few Swapped k e h = refl
 changed_few LeftOut k e h = refl
 changed_few (PutIn b) k e h = refl
 
-pub within_first : (most : ℕ) (text : List ℕ) (xs : List Edit) → 0 < most → AreAllMends (IsMendOfKind 0 text) xs → AreAllMends (IsWithinOfKind 0 most text) xs
+within_first : (most : ℕ) (text : List ℕ) (xs : List Edit) → 0 < most → AreAllMends (IsMendOfKind 0 text) xs → AreAllMends (IsWithinOfKind 0 most text) xs
 within_first most text xs some a =
     same_all IsMendBefore (IsMendOfKind 0 text) (IsWithinOfKind 0 most text) xs
     (λ e h. (h.0, (omega (arith, changed_first e.change h.0, some), h.1))) (λ e h. (h.0, h.1.1)) a
 
 -- those before the end of the text are all
-pub changed_anywhere : (text : List ℕ) (xs : List Edit) → AreAllMends (IsMendBelow text (length text)) xs → AreAllMends (IsMendOfKind 0 text) xs
+changed_anywhere : (text : List ℕ) (xs : List Edit) → AreAllMends (IsMendBelow text (length text)) xs → AreAllMends (IsMendOfKind 0 text) xs
 changed_anywhere text xs a = same_all IsMendBefore (IsMendBelow text (length text)) (IsMendOfKind 0 text) xs (λ e h. h.0) (λ e h. (h, (printed_changed text e h).1)) a
 
-pub none_within : (text : List ℕ) (e : Edit) → IsWithinOfKind 0 0 text e → ⊥
+none_within : (text : List ℕ) (e : Edit) → IsWithinOfKind 0 0 text e → ⊥
 none_within text e h = omega (arith, changed_first e.change h.0, h.1.0)
+
+-- those before an end that is that of the text, or its begin where none is to be changed
+pub changed_before : (most end : ℕ) (text : List ℕ) (xs : List Edit) → (most ≡ 0 → end ≡ 0) → (0 < most → end ≡ length text) → AreAllMends (IsMendBelow text end) xs
+    → AreAllMends (IsWithinOfKind 0 most text) xs
+changed_before most end text xs none all a = elim (dec_lt 0 most) [
+  | yes some ↦ within_first most text xs some (changed_anywhere text xs (subst (λ (n : ℕ). AreAllMends (IsMendBelow text n) xs) (all some) a))
+  | no few ↦
+      (let zero : most ≡ 0 = omega (arith, few) in
+      same_all IsMendBefore (IsMendBelow text end) (IsWithinOfKind 0 most text) xs
+      (λ e h. absurd (omega (arith, h.1, none zero)))
+      (λ e h. absurd (none_within text e (subst (λ (n : ℕ). IsWithinOfKind 0 n text e) zero h))) a)
+]
 
 pub within_later : (k most : ℕ) (text : List ℕ) (xs : List Edit) → 0 < k → AreAllMends (IsMendOfKind k text) xs → AreAllMends (IsWithinOfKind k most text) xs
 within_later k most text xs later a =
     same_all IsMendBefore (IsMendOfKind k text) (IsWithinOfKind k most text) xs
     (λ e h. (h.0, (omega (arith, changed_few e.change k h.0 later), h.1))) (λ e h. (h.0, h.1.1)) a
 
-module _ (text : List ℕ) (i : ℕ) where
-  -- ---- one changed
+-- ---- a byte put at a place
 
+put_byte : (put_in : Bool) (b : ℕ) → byte_put (change_that put_in b) ≡ b
+put_byte true b = refl
+put_byte false b = refl
+
+put_kind : (put_in : Bool) (b c : ℕ) → kind_of_change (change_that put_in b) ≡ kind_of_change (change_that put_in c)
+put_kind true b c = refl
+put_kind false b c = refl
+
+module _ (put_in : Bool) (kept i : ℕ) (text : List ℕ) where
   module _ (b : ℕ) where
-    abbrev ChangeRight : Type 0
-    ChangeRight = (get_or text i 0 ≢ b) × IsDescriptor (set text i b)
-
-    change_found : (e : Edit) → IsMendBy 0 text i b e → (e ≡ record { place = i; change = Changed b }) × ChangeRight
-    change_found e h =
-        let same = same_edit e i (Changed b) h.0.1 (is_changed e.change b h.0.0.0 h.1) in
-        let m = subst (IsMend text) same h.0.0.1 in
-        (same, (m.0.2, m.1))
-
-    pub change_told : i < length text → IsPrinted b → ChangeRight → AreAllMends (IsMendBy 0 text i b) (record { place = i; change = Changed b } ∷ [])
-    change_told low printed q =
-        the_one (IsMendBy 0 text i b) ChangeRight (record { place = i; change = Changed b }) change_found (((refl, ((low, printed, q.0), q.1)), refl), refl)
-
-    pub change_not_told : (ChangeRight → ⊥) → AreAllMends (IsMendBy 0 text i b) []
-    change_not_told none = not_the_one (IsMendBy 0 text i b) ChangeRight (record { place = i; change = Changed b }) change_found none
-
-    -- ---- one put in
-
     abbrev PutRight : Type 0
-    PutRight = (IsAt text i b → ⊥) × IsDescriptor (take i text ++ b ∷ drop i text)
+    PutRight = (b ≢ kept) × IsDescriptor (set text i b)
 
-    put_found : (e : Edit) → IsMendBy 3 text i b e → (e ≡ record { place = i; change = PutIn b }) × PutRight
+    abbrev the_put : Edit
+    the_put = record { place = i; change = change_that put_in b }
+
+    put_found : (e : Edit) → IsPutBy put_in kept i text b e → (e ≡ the_put) × PutRight
     put_found e h =
-        let same = same_edit e i (PutIn b) h.0.1 (is_put_in e.change b h.0.0.0 h.1) in
-        let m = subst (IsMend text) same h.0.0.1 in
-        (same, (m.0.2, m.1))
+        let p = h.0 in
+        let is = h.1 in (
+          same_edit e i (change_that put_in b) p.place_is (p.change_is ∙ ap (λ (n : ℕ). change_that put_in n) is),
+          (subst (λ (n : ℕ). n ≢ kept) is p.other, subst (λ (n : ℕ). IsDescriptor (set text i n)) is p.right),
+        )
 
-    pub put_told : i ≤ length text → IsPrinted b → PutRight → AreAllMends (IsMendBy 3 text i b) (record { place = i; change = PutIn b } ∷ [])
-    put_told low printed q =
-        the_one (IsMendBy 3 text i b) PutRight (record { place = i; change = PutIn b }) put_found (((refl, ((low, printed, q.0), q.1)), refl), refl)
+    pub put_told : IsPrinted b → PutRight → AreAllMends (IsPutBy put_in kept i text b) (the_put ∷ [])
+    put_told printed q =
+        let back = sym (put_byte put_in b) in
+        the_one (IsPutBy put_in kept i text b) PutRight the_put put_found (
+          record {
+            place_is = refl;
+            change_is = ap (λ (n : ℕ). change_that put_in n) back;
+            printed = subst (λ (n : ℕ). IsPrinted n) back printed;
+            other = subst (λ (n : ℕ). n ≢ kept) back q.0;
+            right = subst (λ (n : ℕ). IsDescriptor (set text i n)) back q.1;
+          },
+          sym back,
+        )
 
-    pub put_not_told : (PutRight → ⊥) → AreAllMends (IsMendBy 3 text i b) []
-    put_not_told none = not_the_one (IsMendBy 3 text i b) PutRight (record { place = i; change = PutIn b }) put_found none
+    pub put_not_told : (PutRight → ⊥) → AreAllMends (IsPutBy put_in kept i text b) []
+    put_not_told none = not_the_one (IsPutBy put_in kept i text b) PutRight the_put put_found none
 
+  pub put_first : (x y : Edit) → IsPutAt put_in kept i text x → IsPutAt put_in kept i text y → byte_put x.change < byte_put y.change → IsMendBefore x y
+  put_first x y p q less =
+      let kinds = ap (λ (c : Change). kind_of_change c) p.change_is ∙ put_kind put_in (byte_put x.change) (byte_put y.change)
+      ∙ sym (ap (λ (c : Change). kind_of_change c) q.change_is) in
+      inr (kinds, inr (p.place_is ∙ sym q.place_is, less))
+
+-- those put in place of the character there are all changes of it
+pub all_changed_at : (text : List ℕ) (i : ℕ) (xs : List Edit) → i < length text → AreAllMends (IsPutAt false (get_or text i 0) i text) xs → AreAllMends (IsMendAt 0 text i) xs
+all_changed_at text i xs low a = same_all IsMendBefore (IsPutAt false (get_or text i 0) i text) (IsMendAt 0 text i) xs to from a
+  where
+    to : (e : Edit) → IsPutAt false (get_or text i 0) i text e → IsMendAt 0 text i e
+    to e p =
+        let b = byte_put e.change in
+        let is : e.change ≡ Changed b = p.change_is in
+        let told : IsMend text (record { place = i; change = Changed b }) = ((low, p.printed, λ k. p.other (sym k)), p.right) in
+        ((ap (λ (c : Change). kind_of_change c) is, subst (IsMend text) (sym (same_edit e i (Changed b) p.place_is is)) told), p.place_is)
+
+    from : (e : Edit) → IsMendAt 0 text i e → IsPutAt false (get_or text i 0) i text e
+    from e h =
+        let b = byte_put e.change in
+        let is : e.change ≡ Changed b = is_changed e.change b h.0.0 refl in
+        let m : IsMend text (record { place = i; change = Changed b }) = subst (IsMend text) (same_edit e i (Changed b) h.1 is) h.0.1 in
+        record { place_is = h.1; change_is = is; printed = m.0.1; other = λ k. m.0.2 (sym k); right = m.1 }
+
+module _ (text : List ℕ) (i : ℕ) where
   -- ---- two swapped
 
   abbrev SwapRight : Type 0
@@ -220,6 +260,62 @@ module _ (text : List ℕ) (i : ℕ) where
 
   pub change_parts : (b : ℕ) → i < length text → take i text ++ b ∷ drop (i + 1) text ≡ set text i b
   change_parts b low = ap (λ (n : ℕ). take i text ++ b ∷ drop n text) (add-one i) ∙ sym (set_split text i b low)
+
+-- ---- a text with one character put in
+
+module _ (text new : List ℕ) (i x : ℕ) (low : i ≤ length text) (is : new ≡ take i text ++ x ∷ drop i text) where
+  pub put_length : length new ≡ length text + 1
+  put_length = omega (arith, ap (λ (u : List ℕ). length u) is, length-append (take i text) (x ∷ drop i text), length-take-le i text low, length-drop i text, low)
+
+  next_byte : get_or new (i + 1) 0 ≡ get_or text i 0
+  next_byte =
+      let one : i + 1 - i ≡ 1 = omega arith in
+      let none : i + 0 ≡ i = omega arith in
+      ap (λ (u : List ℕ). get_or u (i + 1) 0) is
+      ∙ get_or-append_right (take i text) (x ∷ drop i text) i (i + 1) 0 (length-take-le i text low) (omega arith)
+      ∙ ap (λ (n : ℕ). get_or (x ∷ drop i text) n 0) one ∙ get_or-drop i text 0 0 ∙ ap (λ (n : ℕ). get_or text n 0) none
+
+  -- it is put in at the next place
+  pub put_behind : i < length text → set new i (get_or new (i + 1) 0) ≡ take (i + 1) text ++ get_or text i 0 ∷ drop (i + 1) text
+  put_behind less =
+      ap (λ (b : ℕ). set new i b) next_byte ∙ ap (λ (u : List ℕ). set u i (get_or text i 0)) is ∙ put_next text i x less
+
+  -- those put in place of it, other than the next one, are all that put one in
+  pub all_put_in_at : (xs : List Edit) → AreAllMends (IsPutAt true (get_or new (i + 1) 0) i new) xs → AreAllMends (IsMendAt 3 text i) xs
+  all_put_in_at xs a = same_all IsMendBefore (IsPutAt true (get_or new (i + 1) 0) i new) (IsMendAt 3 text i) xs to from a
+    where
+      made : (b : ℕ) → set new i b ≡ take i text ++ b ∷ drop i text
+      made b = ap (λ (u : List ℕ). set u i b) is ∙ put_at text i x b low
+
+      to : (e : Edit) → IsPutAt true (get_or new (i + 1) 0) i new e → IsMendAt 3 text i e
+      to e p =
+          let b = byte_put e.change in
+          let change : e.change ≡ PutIn b = p.change_is in
+          let told : IsMend text (record { place = i; change = PutIn b }) =
+          ((low, p.printed, λ at. p.other (sym at.1 ∙ sym next_byte)), subst IsDescriptor (made b) p.right) in
+          ((ap (λ (c : Change). kind_of_change c) change, subst (IsMend text) (sym (same_edit e i (PutIn b) p.place_is change)) told), p.place_is)
+
+      other : (b : ℕ) → IsPrinted b → (IsAt text i b → ⊥) → b ≡ get_or text i 0 → ⊥
+      other b printed none same = elim (dec_lt i (length text)) [
+        | yes less ↦ none (less, sym same)
+        | no more ↦
+            (let past : length text ≤ i = omega (arith, more) in
+            let zero : get_or text i 0 ≡ 0 = get_or_past text i 0 past in
+            omega (arith, same, zero, printed.0))
+      ]
+
+      from : (e : Edit) → IsMendAt 3 text i e → IsPutAt true (get_or new (i + 1) 0) i new e
+      from e h =
+          let b = byte_put e.change in
+          let change : e.change ≡ PutIn b = is_put_in e.change b h.0.0 refl in
+          let m : IsMend text (record { place = i; change = PutIn b }) = subst (IsMend text) (same_edit e i (PutIn b) h.1 change) h.0.1 in
+          record {
+            place_is = h.1;
+            change_is = change;
+            printed = m.0.1;
+            other = λ k. other b m.0.1 m.0.2 (k ∙ next_byte);
+            right = subst IsDescriptor (sym (made b)) m.1;
+          }
 
 swap-parts : (text : List ℕ) (i x y : ℕ) → i + 1 < length text → take i text ++ (x ∷ y ∷ drop (suc (suc i)) text) ≡ set (set text i x) (suc i) y
 swap-parts [] i x y h = absurd (omega arith)

@@ -2,7 +2,7 @@
 use Rattle.std.specs.Prelude.{◌≢◌, bit_xor, map, set}
 use Rattle.std.specs.List.{AllByRecursion}
 use Rattle.std.specs.Int.Bits.{xor_assoc, xor_self, xor_zero_r}
-use Rattle.std.proofs.Common.{◌≡◌, ◌<◌, ◌≤◌, ℕ, List, [], ◌∷◌, get_or, length, inl, inr, sym, ap, subst, ◌∙◌, refl, arith}
+use Rattle.std.proofs.Common.{◌≡◌, ◌<◌, ℕ, List, [], ◌∷◌, get_or, length, inl, inr, sym, ap, subst, ◌∙◌, refl, arith}
 use Rattle.std.proofs.lemmas.List.{get_or-set_other, length-set}
 use Rattle.std.proofs.lemmas.Nat.{xor_comm}
 use Rattle.bech32_poly.specs.Distinct.{IsAmong}
@@ -10,15 +10,14 @@ use Rattle.bech32_descriptor.specs.Descriptor.{IsDescriptor, polynomial_of}
 use Rattle.bech32_descriptor.specs.Edits.{AreAllMends, IsMendBefore, IsPrinted, IsToldAt, IsToldMend, byte_put, kind_of_change, made, made_at}
 use Rattle.bech32_descriptor.specs.Listings.{AreOrdered}
 use Rattle.bech32_descriptor.specs.Marks.{IsMarked}
-use Rattle.bech32_descriptor.specs.PairWalks.{IsMendBelow, IsReady, IsTwoAt, IsTwoBy, MarksChangesBelow, beside}
+use Rattle.bech32_descriptor.specs.PairWalks.{IsMendBelow, IsTwoAt, IsTwoBy, MarksChangesBelow, beside}
 use Rattle.bech32_descriptor.specs.Pairs.{AreAllByTwo, IsMendByTwo, IsTwoBefore}
-use Rattle.bech32_descriptor.specs.Walks.{change_in, rows_for}
-use Rattle.bech32_descriptor.specs.Words.{IsWordOfSymbols}
+use Rattle.bech32_descriptor.specs.Walks.{IsReady, change_in}
 use Rattle.bech32_descriptor.specs.declared.edits.Change.{Change}
 use Rattle.bech32_descriptor.specs.declared.edits.Change.TheVariants.{Changed, LeftOut, PutIn, Swapped}
 use Rattle.bech32_descriptor.specs.declared.edits.Edit.{Edit}
 use Rattle.bech32_descriptor.specs.declared.edits.TwoEdits.{TwoEdits}
-use Rattle.bech32_descriptor.proofs.Rewritten.{changed_word}
+use Rattle.bech32_descriptor.proofs.Rewritten.{changed_ready}
 use Rattle.bech32_descriptor.proofs.Told.{is_changed, same_edit}
 use Rattle.bech32_descriptor.proofs.Words.{target_alone}
 
@@ -135,14 +134,11 @@ none_by rows text cells word j c ready within marks none p h =
     let size : length t ≡ length text = length-set text j c in
     let same : made p.second text ≡ t = made_changed text p.second m.second_changes.0 ∙ (λ k. set text (h.0.1 k) (h.1 k)) in
     let low : i < j = omega (arith, m.apart, h.0.1) in
-    let long : 9 ≤ length t = omega (arith, size, ready.long) in
     let inside : i < length t = omega (arith, size, low, within) in
-    let enough : rows_for (length t) ≤ length rows = subst (λ (n : ℕ). rows_for n ≤ length rows) (sym size) ready.enough in
-    let first : IsWordOfSymbols sum (polynomial_of t) = changed_word rows ready.rows_are word text j c ready.long within ready.enough ready.word_is in
-    let both : IsWordOfSymbols (bit_xor sum (change_in rows t i b)) (polynomial_of (set t i b)) = changed_word rows ready.rows_are sum t i b long inside enough first in
+    let both : IsReady rows (set t i b) (bit_xor sum (change_in rows t i b)) = changed_ready rows t sum i b (changed_ready rows text word j c ready within) inside in
     let right : IsDescriptor (set t i b) =
     subst IsDescriptor (ap (λ (u : List ℕ). made p.first u) same ∙ made_changed t p.first m.first_changes.0) m.right in
-    let is : change_in rows t i b ≡ bit_xor sum 1 = added sum (change_in rows t i b) 1 (target_alone (bit_xor sum (change_in rows t i b)) (polynomial_of (set t i b)) both right.has_target) in
+    let is : change_in rows t i b ≡ bit_xor sum 1 = added sum (change_in rows t i b) 1 (target_alone (bit_xor sum (change_in rows t i b)) (polynomial_of (set t i b)) both.word_is right.has_target) in
     none (subst (IsMarked cells) is (marks i low t b size))
 
 -- a byte is not changed to itself

@@ -80,3 +80,13 @@ IsMendBefore x y =
 -- these are all the edits of which P holds, each once and in order
 abbrev pub AreAllMends : (Edit → Type 0) → List Edit → Type 0
 AreAllMends P edits = AreAllInOrder IsMendBefore P edits
+
+-- behind the edits from before stand all of which P holds
+abbrev pub AddsAllMends : (Edit → Type 0) → List Edit → List Edit → Type 0
+AddsAllMends P old new = (edits : List Edit) × (new ≡ old ++ edits) × AreAllMends P edits
+
+-- behind the edits from before stand all of which P holds, and then all of which Q holds
+abbrev pub AddsTwoKinds : (Edit → Type 0) → (Edit → Type 0) → List Edit → List Edit → Type 0
+AddsTwoKinds P Q old new =
+    (first : List Edit) × (second : List Edit) × (new ≡ (old ++ first) ++ second)
+    × AreAllMends P first × AreAllMends Q second

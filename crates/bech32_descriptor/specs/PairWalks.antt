@@ -1,24 +1,15 @@
 -- What the search for two changed characters keeps.
-use Rattle.std.specs.Prelude.{◌≡◌, ◌<◌, ◌≤◌, ◌+◌, ◌-◌, ℕ, List, if◌then◌else◌, get_or, length}
+use Rattle.std.specs.Prelude.{◌≡◌, ◌<◌, ◌+◌, ◌-◌, ℕ, List, if◌then◌else◌, get_or, length}
 use Rattle.std.specs.Prelude.{nat_lt, slice_set}
 use Rattle.bech32_gf.specs.Fe32 as fe32
-use Rattle.bech32_descriptor.specs.Descriptor.{descriptor_payload, group, polynomial_of}
+use Rattle.bech32_descriptor.specs.Descriptor.{descriptor_payload, group}
 use Rattle.bech32_descriptor.specs.Edits.{byte_put}
 use Rattle.bech32_descriptor.specs.Marks.{IsMarked}
 use Rattle.bech32_descriptor.specs.Pairs.{IsMendByTwo}
-use Rattle.bech32_descriptor.specs.Walks.{AreRows, IsMendOfKind, behind_group, behind_symbol}
-use Rattle.bech32_descriptor.specs.Walks.{change_in, first_at, group_from, rows_for, word_in}
-use Rattle.bech32_descriptor.specs.Words.{IsWordOfSymbols}
+use Rattle.bech32_descriptor.specs.Walks.{IsMendOfKind, behind_group, behind_symbol, change_in}
+use Rattle.bech32_descriptor.specs.Walks.{first_at, group_from, word_in}
 use Rattle.bech32_descriptor.specs.declared.edits.Edit.{Edit}
 use Rattle.bech32_descriptor.specs.declared.edits.TwoEdits.{TwoEdits}
-
--- a text that may have a mark and a checksum, with its word, and rows that suffice for it
-pub record IsReady (rows text : List ℕ) (word : ℕ) : Type 0 where
-  pub long : 9 ≤ length text
-  pub few : length text ≤ 7501
-  pub enough : rows_for (length text) ≤ length rows
-  pub rows_are : AreRows rows
-  pub word_is : IsWordOfSymbols word (polynomial_of text)
 
 -- the powers of x at which a change at a place of a text of a length adds to the symbol, and to
 -- the number of the groups; in a checksum both are that of its element

@@ -1,5 +1,5 @@
 -- Texts of which two characters are changed.
-use Rattle.std.specs.Prelude.{◌≡◌, ◌⊎◌, ◌<◌, ◌≤◌, ℕ, List, length, map}
+use Rattle.std.specs.Prelude.{◌≡◌, ◌⊎◌, ◌<◌, ◌≤◌, ◌++◌, ℕ, List, length, map}
 use Rattle.std.specs.List.{AllByRecursion}
 use Rattle.bech32_descriptor.specs.Descriptor.{IsDescriptor}
 use Rattle.bech32_descriptor.specs.Edits.{IsMendBefore, IsToldMend, kind_of_change, made}
@@ -32,6 +32,10 @@ IsTwoBefore x y =
 -- these are all two edits of which P holds, each two once and in order
 abbrev pub AreAllByTwo : (TwoEdits → Type 0) → List TwoEdits → Type 0
 AreAllByTwo P edits = AreAllInOrder IsTwoBefore P edits
+
+-- behind those from before stand all of which P holds
+abbrev pub AddsAllByTwo : (TwoEdits → Type 0) → List TwoEdits → List TwoEdits → Type 0
+AddsAllByTwo P old new = (edits : List TwoEdits) × (new ≡ old ++ edits) × AreAllByTwo P edits
 
 -- the text is not too long, and these are all changes of two characters that make a descriptor of
 -- it, each once and in order, and the texts that they make

@@ -1,13 +1,18 @@
 -- What walks over the places of a text keep: words, rows of words, and the edits that were found.
-use Rattle.std.specs.Prelude.{◌≡◌, ◌<◌, ◌+◌, ◌-◌, ◌*◌, ◌/◌, ◌==◌, ℕ, List, [], ◌∷◌, ◌++◌}
-use Rattle.std.specs.Prelude.{bit_xor, get_or, if◌then◌else◌, length, min, nat_lt, slice_set}
+use Rattle.std.specs.Prelude.{◌≡◌, ◌≢◌, ◌<◌, ◌≤◌, ◌+◌, ◌-◌, ◌*◌, ◌/◌, ◌==◌, ℕ, Bool, List, []}
+use Rattle.std.specs.Prelude.{◌∷◌, ◌++◌, bit_xor, get_or, if◌then◌else◌, length, min, nat_lt}
+use Rattle.std.specs.Prelude.{slice_set}
 use Rattle.bech32_gf.specs.Fe32 as fe32
 use Rattle.bech32_gf.specs.Fe32.{ops}
 use Rattle.bech32_gf.specs.declared.gf32.Fe32.{Fe32}
 use Rattle.bech32_poly.specs.Division.{zeros}
-use Rattle.bech32_descriptor.specs.Descriptor.{checksum_symbol, group, descriptor_payload, symbol}
-use Rattle.bech32_descriptor.specs.Edits.{IsMend, IsMendWithin, byte_put, kind_of_change}
+use Rattle.bech32_descriptor.specs.Descriptor.{IsDescriptor, checksum_symbol, group}
+use Rattle.bech32_descriptor.specs.Descriptor.{descriptor_payload, polynomial_of, symbol}
+use Rattle.bech32_descriptor.specs.Edits.{IsMend, IsMendWithin, IsPrinted, byte_put}
+use Rattle.bech32_descriptor.specs.Edits.{kind_of_change}
 use Rattle.bech32_descriptor.specs.Words.{IsWordOfSymbols}
+use Rattle.bech32_descriptor.specs.declared.edits.Change.{Change}
+use Rattle.bech32_descriptor.specs.declared.edits.Change.TheVariants.{Changed, PutIn}
 use Rattle.bech32_descriptor.specs.declared.edits.Edit.{Edit}
 
 -- the polynomial times so high a power of x
@@ -22,6 +27,20 @@ pub record AreRows (rows : List ℕ) : Type 0 where
 -- how many words changes in a text of this length need
 abbrev pub rows_for : ℕ → ℕ
 rows_for n = 32 * (n + n / 3 + 8)
+
+-- rows that suffice for a text of so many characters
+pub record SufficeFor (rows : List ℕ) (n : ℕ) : Type 0 where
+  pub few : n ≤ 7501
+  pub enough : rows_for n ≤ length rows
+  pub rows_are : AreRows rows
+
+-- a text that may have a mark and a checksum, with its word, and rows that suffice for it
+pub record IsReady (rows text : List ℕ) (word : ℕ) : Type 0 where
+  pub long : 9 ≤ length text
+  pub few : length text ≤ 7501
+  pub enough : rows_for (length text) ≤ length rows
+  pub rows_are : AreRows rows
+  pub word_is : IsWordOfSymbols word (polynomial_of text)
 
 -- the word of an element times a power of x
 abbrev pub word_in : List ℕ → ℕ → Fe32 → ℕ
@@ -83,9 +102,22 @@ IsMendOfKind k text edit = (kind_of_change edit.change ≡ k) × IsMend text edi
 abbrev pub IsMendAt : ℕ → List ℕ → ℕ → Edit → Type 0
 IsMendAt k text i edit = IsMendOfKind k text edit × (edit.place ≡ i)
 
--- one that puts one byte there
-abbrev pub IsMendBy : ℕ → List ℕ → ℕ → ℕ → Edit → Type 0
-IsMendBy k text i b edit = IsMendAt k text i edit × (byte_put edit.change ≡ b)
+-- what puts a byte somewhere: it is put in, or another is changed to it
+abbrev pub change_that : Bool → ℕ → Change
+change_that put_in b = if put_in then PutIn b else Changed b
+
+-- a character other than one is put at a place, where it makes a descriptor of the text there
+pub record IsPutAt (put_in : Bool) (kept i : ℕ) (text : List ℕ) (edit : Edit) : Type 0 where
+  pub place_is : edit.place ≡ i
+  pub change_is : edit.change ≡ change_that put_in (byte_put edit.change)
+  pub printed : IsPrinted (byte_put edit.change)
+  pub other : byte_put edit.change ≢ kept
+  pub right : IsDescriptor (slice_set text i (byte_put edit.change))
+
+-- the same, and it is this one
+abbrev pub IsPutBy : Bool → ℕ → ℕ → List ℕ → ℕ → Edit → Type 0
+IsPutBy put_in kept i text b edit =
+    IsPutAt put_in kept i text edit × (byte_put edit.change ≡ b)
 
 -- one of one kind that changes at most so many characters
 abbrev pub IsWithinOfKind : ℕ → ℕ → List ℕ → Edit → Type 0

@@ -1,20 +1,16 @@
 //! The descriptors that one edit makes of a text.
 
-ghost use Rattle.std.specs.Prelude.{◌≡◌, ◌<◌, ◌≤◌, ◌+◌, ◌++◌, ◌∷◌, ℕ, List, drop, length, map, slice_set, take, IfOk, MatchResult};
+ghost use Rattle.std.specs.Prelude.{◌≡◌, ◌<◌, ◌≤◌, ◌+◌, ◌++◌, [], drop, length, map, take, IfOk, MatchResult};
 ghost use Rattle.std.specs.List.{AllByRecursion};
-ghost use Rattle.bech32_descriptor.specs.Descriptor.{polynomial_of};
-ghost use Rattle.bech32_descriptor.specs.Edits.{AreAllMends, IsMendWithin, IsToldMend, made, made_at};
+ghost use Rattle.bech32_descriptor.specs.Edits.{AddsTwoKinds, AreAllMends, IsMendWithin, IsToldMend, made};
 ghost use Rattle.bech32_descriptor.specs.Mends.{AreMends, IsMendRefusal};
-ghost use Rattle.bech32_descriptor.specs.Walks.{AreRows, IsMendOfKind, IsWithinOfKind, rows_for};
-ghost use Rattle.bech32_descriptor.specs.Words.{IsWordOfSymbols};
-ghost use Rattle.bech32_descriptor.specs.declared.edits.Change.TheVariants.{Swapped};
-ghost use Rattle.bech32_descriptor.specs.declared.edits.Edit.{Edit as AnEdit};
+ghost use Rattle.bech32_descriptor.specs.Walks.{IsMendOfKind, IsWithinOfKind, SufficeFor};
 
 use crate::edits::{Change, Edit, Mended};
 use crate::error::MendError;
 use crate::residue::residue_of;
 use crate::rows::rows_of;
-use crate::walks::{push_changed_below, push_left_out, push_put_in, push_swapped};
+use crate::walks::{changed_below, push_left_out, push_put_in, push_swapped};
 use std::alloc::{AllocError, Allocator, Global};
 
 // A text with other bytes in place of those from one place to another.
@@ -37,112 +33,55 @@ pub(crate) fn text_with<A: Allocator>(
     Ok(new)
 }
 
-// Adds the changes of one character, unless none is to be changed.
-fn push_changed_if<A: Allocator>(
-    rows: &[u64],
-    text: &mut [u8],
-    word: u64,
-    most: usize,
-    found: &mut Vec<Edit, A>,
-) -> Result<(), AllocError>
-    requires long { 9 ≤ length text.old }
-    requires few { length text.old ≤ 7501 }
-    requires enough { rows_for (length text.old) ≤ length rows.now }
-    requires rows { AreRows rows.now }
-    requires word { IsWordOfSymbols word (polynomial_of text.old) }
-    ensures { IfOk result (λ _. (text.new ≡ text.old)
-        × (edits : List AnEdit) × (found.new.items ≡ found.old.items ++ edits)
-        × AreAllMends (IsWithinOfKind 0 most text.old) edits) }
+// Before which place a character is changed: before none, where none is to be changed.
+fn end_of_changes(n: usize, most: usize) -> usize
+    ensures none { most ≡ 0 → result ≡ 0 }
+    ensures all { 0 < most → result ≡ n }
+    ensures within { result ≤ n }
 {
     if most == 0 {
-        return Ok(());
+        return 0;
     }
-    let end = text.len();
-    push_changed_below(rows, text, word, end, found)
+    n
 }
 
-// Adds the edits that keep the length of a text, of which this is a copy.
-fn push_on_copy<A: Allocator>(
+// The edits that keep the length of a text, of which this is a copy.
+fn edits_on_copy<A: Allocator>(
+    alloc: A,
     rows: &[u64],
     text: &mut [u8],
     most: usize,
-    found: &mut Vec<Edit, A>,
-) -> Result<(), AllocError>
-    requires long { 9 ≤ length text.old }
-    requires few { length text.old ≤ 7501 }
-    requires enough { rows_for (length text.old) ≤ length rows.now }
-    requires rows { AreRows rows.now }
-    ensures { IfOk result (λ _. (changed : List AnEdit) × (swapped : List AnEdit)
-        × (found.new.items ≡ (found.old.items ++ changed) ++ swapped)
-        × AreAllMends (IsWithinOfKind 0 most text.old) changed
-        × AreAllMends (IsMendOfKind 1 text.old) swapped) }
-{
-    let word = residue_of(text);
-    push_changed_if(rows, text, word, most, found)?;
-    push_swapped(rows, text, word, found)
-}
-
-// Adds the edits that keep the length of a text.
-fn push_same_length<A: Allocator + Copy>(
-    alloc: A,
-    rows: &[u64],
-    text: &[u8],
-    most: usize,
-    found: &mut Vec<Edit, A>,
-) -> Result<(), AllocError>
-    requires few { length text.now ≤ 7500 }
-    requires enough { rows_for (length text.now) ≤ length rows.now }
-    requires rows { AreRows rows.now }
-    ensures { IfOk result (λ _. (changed : List AnEdit) × (swapped : List AnEdit)
-        × (found.new.items ≡ (found.old.items ++ changed) ++ swapped)
-        × AreAllMends (IsWithinOfKind 0 most text.now) changed
-        × AreAllMends (IsMendOfKind 1 text.now) swapped) }
+) -> Result<Vec<Edit, A>, AllocError>
+    requires { SufficeFor rows.now (length text.old) }
+    ensures { IfOk result (λ edits.
+        AddsTwoKinds (IsWithinOfKind 0 most text.old) (IsMendOfKind 1 text.old) [] edits.items) }
 {
     if text.len() < 9 {
-        return Ok(());
+        return Ok(Vec::new(alloc));
     }
-    let mut copy = text_with(alloc, text, text.len(), &[], text.len())?;
-    push_on_copy(rows, &mut copy, most, found)
+    let word = residue_of(text);
+    let end = end_of_changes(text.len(), most);
+    let mut found = changed_below(alloc, rows, text, word, end)?;
+    push_swapped(rows, text, word, &mut found)?;
+    Ok(found)
 }
 
-// Adds the edits that leave a character out.
-fn push_shorter<A: Allocator + Copy>(
-    alloc: A,
-    rows: &[u64],
-    text: &[u8],
-    found: &mut Vec<Edit, A>,
-) -> Result<(), AllocError>
-    requires few { length text.now ≤ 7500 }
-    requires enough { rows_for (length text.now) ≤ length rows.now }
-    requires rows { AreRows rows.now }
-    ensures { IfOk result (λ _. (edits : List AnEdit)
-        × (found.new.items ≡ found.old.items ++ edits)
-        × AreAllMends (IsMendOfKind 2 text.now) edits) }
-{
-    if text.len() < 10 {
-        return Ok(());
-    }
-    let mut rest = text_with(alloc, text, 0, &[], 1)?;
-    push_left_out(rows, text, &mut rest, found)
-}
-
-// Adds the edits that put a character in.
-fn push_longer<A: Allocator + Copy>(
+// Adds the edits that leave a character out, and those that put one in.
+fn push_other_length<A: Allocator + Copy>(
     alloc: A,
     rows: &[u64],
     text: &[u8],
     found: &mut Vec<Edit, A>,
 ) -> Result<(), AllocError>
     requires long { 8 ≤ length text.now }
-    requires few { length text.now ≤ 7500 }
-    requires enough { rows_for (length text.now + 1) ≤ length rows.now }
-    requires rows { AreRows rows.now }
-    ensures { IfOk result (λ _. (edits : List AnEdit)
-        × (found.new.items ≡ found.old.items ++ edits)
-        × AreAllMends (IsMendOfKind 3 text.now) edits) }
+    requires rows { SufficeFor rows.now (length text.now + 1) }
+    ensures { IfOk result (λ _. AddsTwoKinds (IsMendOfKind 2 text.now) (IsMendOfKind 3 text.now)
+        found.old.items found.new.items) }
 {
+    let mut rest = text_with(alloc, text, 0, &[], 1)?;
+    push_left_out(rows, text, &mut rest, found)?;
     let mut new = text_with(alloc, text, 0, &[b'0'], 0)?;
-    push_put_in(rows, text, &mut new, found)
+    push_put_in(rows, &mut new, found)
 }
 
 // All edits that make a descriptor of a text.
@@ -153,15 +92,12 @@ fn edits_of<A: Allocator + Copy>(
     most: usize,
 ) -> Result<Vec<Edit, A>, AllocError>
     requires long { 8 ≤ length text.now }
-    requires few { length text.now ≤ 7500 }
-    requires enough { rows_for (length text.now + 1) ≤ length rows.now }
-    requires rows { AreRows rows.now }
+    requires rows { SufficeFor rows.now (length text.now + 1) }
     ensures { IfOk result (λ edits. AreAllMends (IsMendWithin most text.now) edits.items) }
 {
-    let mut found = Vec::new(alloc);
-    push_same_length(alloc, rows, text, most, &mut found)?;
-    push_shorter(alloc, rows, text, &mut found)?;
-    push_longer(alloc, rows, text, &mut found)?;
+    let mut copy = Vec::from_slice(alloc, text)?;
+    let mut found = edits_on_copy(alloc, rows, &mut copy, most)?;
+    push_other_length(alloc, rows, text, &mut found)?;
     Ok(found)
 }
 
@@ -179,52 +115,6 @@ fn edits_for<A: Allocator + Copy>(
     edits_of(alloc, &rows, text, most)
 }
 
-// A text with another byte at a place.
-fn changed_text<A: Allocator>(
-    alloc: A,
-    text: &[u8],
-    i: usize,
-    b: u8,
-) -> Result<Vec<u8, A>, AllocError>
-    requires few { length text.now ≤ 7500 }
-    requires within { i < length text.now }
-    ensures { IfOk result (λ new. new.items ≡ slice_set text.now i b) }
-{
-    text_with(alloc, text, i, &[b], i + 1)
-}
-
-// A text with two neighbours swapped.
-fn swapped_text<A: Allocator>(alloc: A, text: &[u8], i: usize) -> Result<Vec<u8, A>, AllocError>
-    requires few { length text.now ≤ 7500 }
-    requires within { i + 1 < length text.now }
-    ensures { IfOk result (λ new. new.items ≡ made_at i Swapped text.now) }
-{
-    text_with(alloc, text, i, &[text[i + 1], text[i]], i + 2)
-}
-
-// A text without one byte.
-fn shorter_text<A: Allocator>(alloc: A, text: &[u8], i: usize) -> Result<Vec<u8, A>, AllocError>
-    requires few { length text.now ≤ 7500 }
-    requires within { i < length text.now }
-    ensures { IfOk result (λ new. new.items ≡ take i text.now ++ drop (i + 1) text.now) }
-{
-    text_with(alloc, text, i, &[], i + 1)
-}
-
-// A text with one byte more.
-fn longer_text<A: Allocator>(
-    alloc: A,
-    text: &[u8],
-    i: usize,
-    b: u8,
-) -> Result<Vec<u8, A>, AllocError>
-    requires few { length text.now ≤ 7500 }
-    requires within { i ≤ length text.now }
-    ensures { IfOk result (λ new. new.items ≡ take i text.now ++ b ∷ drop i text.now) }
-{
-    text_with(alloc, text, i, &[b], i)
-}
-
 // The text that an edit makes.
 pub(crate) fn made_text<A: Allocator>(
     alloc: A,
@@ -235,11 +125,12 @@ pub(crate) fn made_text<A: Allocator>(
     requires told { IsToldMend edit text.now }
     ensures { IfOk result (λ new. new.items ≡ made edit text.now) }
 {
+    let i = edit.place;
     match edit.change {
-        Change::Changed(b) => changed_text(alloc, text, edit.place, b),
-        Change::Swapped => swapped_text(alloc, text, edit.place),
-        Change::LeftOut => shorter_text(alloc, text, edit.place),
-        Change::PutIn(b) => longer_text(alloc, text, edit.place, b),
+        Change::Changed(b) => text_with(alloc, text, i, &[b], i + 1),
+        Change::Swapped => text_with(alloc, text, i, &[text[i + 1], text[i]], i + 2),
+        Change::LeftOut => text_with(alloc, text, i, &[], i + 1),
+        Change::PutIn(b) => text_with(alloc, text, i, &[b], i),
     }
 }
 
@@ -249,8 +140,8 @@ fn made_all<A: Allocator + Copy>(
     text: &[u8],
     edits: Vec<Edit, A>,
 ) -> Result<Vec<Mended<Vec<u8, A>>, A>, AllocError>
-    requires few { length text.now ≤ 7500 }
-    requires told { AllByRecursion (λ e. IsToldMend e text.now) edits.items }
+    requires { (length text.now ≤ 7500)
+        × AllByRecursion (λ e. IsToldMend e text.now) edits.items }
     ensures same { IfOk result (λ found. map (λ m. m.edit) found.items ≡ edits.items) }
     ensures each { IfOk result (λ found.
         AllByRecursion (λ m. m.text.items ≡ made m.edit text.now) found.items) }

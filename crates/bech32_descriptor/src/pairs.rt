@@ -3,24 +3,25 @@
 //! A first character beside a second one adds to the remainder what the second leaves wrong. What
 //! any first one may add is in a set, so that few second ones are tried with all first ones.
 
-ghost use Rattle.std.specs.Prelude.{◌≡◌, ◌≢◌, ◌<◌, ◌≤◌, ◌++◌, ℕ, List, get_or, length, map, IfOk, MatchResult};
+ghost use Rattle.std.specs.Prelude.{◌≡◌, ◌≢◌, ◌<◌, ◌≤◌, ◌++◌, false, get_or, length, map, IfOk, IsTrue, MatchResult};
 ghost use Rattle.std.specs.List.{AllByRecursion};
-ghost use Rattle.bech32_descriptor.specs.Edits.{IsPrinted};
+ghost use Rattle.bech32_descriptor.specs.Edits.{IsToldAt};
 ghost use Rattle.bech32_descriptor.specs.Mends.{IsMendRefusal};
-ghost use Rattle.bech32_descriptor.specs.PairWalks.{IsReady, IsTwoAt, IsTwoBy, MarksChangesBelow, beside};
-ghost use Rattle.bech32_descriptor.specs.Pairs.{AreAllByTwo, AreTwoMends, IsMendByTwo, made_by_two};
-ghost use Rattle.bech32_descriptor.specs.Walks.{AreRows, rows_for};
+ghost use Rattle.bech32_descriptor.specs.PairWalks.{IsTwoAt, IsTwoBy, MarksChangesBelow, beside};
+ghost use Rattle.bech32_descriptor.specs.Pairs.{AddsAllByTwo, AreAllByTwo, AreTwoMends, IsMendByTwo, made_by_two};
+ghost use Rattle.bech32_descriptor.specs.Walks.{IsReady, SufficeFor};
+ghost use Rattle.bech32_descriptor.specs.declared.edits.Change.TheVariants.{Changed};
 ghost use Rattle.bech32_descriptor.specs.declared.edits.TwoEdits.{TwoEdits as TheTwo};
 
 use crate::edits::{Change, Edit, MendedTwice, TwoEdits};
 use crate::error::MendError;
 use crate::marks::{cells_for, may_be_marked};
-use crate::mends::{made_text, text_with};
+use crate::mends::made_text;
 use crate::places::{change_of, mark_place};
 use crate::residue::residue_of;
 use crate::rows::rows_of;
 use crate::scratch::set_byte;
-use crate::walks::push_changed_below;
+use crate::walks::changed_below;
 use std::alloc::{AllocError, Allocator, Global};
 
 // Adds each of some edits beside another one.
@@ -53,17 +54,13 @@ fn push_two_with<A: Allocator + Copy>(
     found: &mut Vec<TwoEdits, A>,
 ) -> Result<(), AllocError>
     requires ready { IsReady rows.now text.old word }
-    requires within { place < length text.old }
-    requires printed { IsPrinted byte }
-    requires other { get_or text.old place 0 ≢ byte }
+    requires told { IsToldAt place (Changed byte) text.old }
     ensures { IfOk result (λ _. (text.new ≡ text.old)
-        × (edits : List TheTwo) × (found.new.items ≡ found.old.items ++ edits)
-        × AreAllByTwo (IsTwoBy text.old place byte) edits) }
+        × AddsAllByTwo (IsTwoBy text.old place byte) found.old.items found.new.items) }
 {
     let old = text[place];
     let changed = set_byte(rows, text, word, place, byte);
-    let mut firsts = Vec::new(alloc);
-    push_changed_below(rows, text, changed, place, &mut firsts)?;
+    let firsts = changed_below(alloc, rows, text, changed, place)?;
     text[place] = old;
     let second = Edit {
         place,
@@ -72,35 +69,28 @@ fn push_two_with<A: Allocator + Copy>(
     push_beside(&firsts, second, found)
 }
 
-// The same, of any byte: most of them leave what no character before adds.
+// Whether a byte other than that at a place may leave what a character before adds: of most bytes
+// it is known that they do not.
 #[inline]
-fn push_two_by<A: Allocator + Copy>(
-    alloc: A,
+fn may_be_second(
     rows: &[u64],
     cells: &[u64],
-    text: &mut [u8],
+    text: &[u8],
     word: u64,
     place: usize,
     byte: u8,
-    found: &mut Vec<TwoEdits, A>,
-) -> Result<(), AllocError>
-    requires ready { IsReady rows.now text.old word }
-    requires within { place < length text.old }
-    requires printed { IsPrinted byte }
+) -> bool
+    requires ready { IsReady rows.now text.now word }
+    requires within { place < length text.now }
     requires some { 0 < length cells.now }
-    requires marks { MarksChangesBelow cells.now rows.now (length text.old) place }
-    ensures { IfOk result (λ _. (text.new ≡ text.old)
-        × (edits : List TheTwo) × (found.new.items ≡ found.old.items ++ edits)
-        × AreAllByTwo (IsTwoBy text.old place byte) edits) }
+    requires marks { MarksChangesBelow cells.now rows.now (length text.now) place }
+    ensures other { IsTrue result → get_or text.now place 0 ≢ byte }
+    ensures none { result ≡ false → (edits : TheTwo) → ¬ IsTwoBy text.now place byte edits }
 {
     if text[place] == byte {
-        return Ok(());
+        return false;
     }
-    let changed = word ^ change_of(rows, text, place, byte);
-    if !may_be_marked(cells, changed ^ 1) {
-        return Ok(());
-    }
-    push_two_with(alloc, rows, text, word, place, byte, found)
+    may_be_marked(cells, word ^ change_of(rows, text, place, byte) ^ 1)
 }
 
 // Adds all that make a descriptor and change the character at a place, and another before it.
@@ -118,11 +108,13 @@ fn push_two_at<A: Allocator + Copy>(
     requires some { 0 < length cells.now }
     requires marks { MarksChangesBelow cells.now rows.now (length text.old) place }
     ensures { IfOk result (λ _. (text.new ≡ text.old)
-        × (edits : List TheTwo) × (found.new.items ≡ found.old.items ++ edits)
-        × AreAllByTwo (IsTwoAt text.old place) edits) }
+        × AddsAllByTwo (IsTwoAt text.old place) found.old.items found.new.items) }
 {
     for byte in 32..127 {
-        push_two_by(alloc, rows, cells, text, word, place, byte, found)?;
+        if !may_be_second(rows, cells, text, word, place, byte) {
+            continue;
+        }
+        push_two_with(alloc, rows, text, word, place, byte, found)?;
     }
     Ok(())
 }
@@ -138,9 +130,8 @@ fn push_two<A: Allocator + Copy>(
 ) -> Result<(), AllocError>
     requires ready { IsReady rows.now text.old word }
     requires some { 0 < length cells.old }
-    ensures { IfOk result (λ _. (edits : List TheTwo)
-        × (found.new.items ≡ found.old.items ++ edits)
-        × AreAllByTwo (IsMendByTwo text.old) edits) }
+    ensures { IfOk result
+        (λ _. AddsAllByTwo (IsMendByTwo text.old) found.old.items found.new.items) }
 {
     for place in 0..text.len() {
         push_two_at(alloc, rows, cells, text, word, place, found)?;
@@ -156,9 +147,7 @@ fn two_on_copy<A: Allocator + Copy>(
     text: &mut [u8],
 ) -> Result<Vec<TwoEdits, A>, AllocError>
     requires long { 9 ≤ length text.old }
-    requires few { length text.old ≤ 7501 }
-    requires enough { rows_for (length text.old) ≤ length rows.now }
-    requires rows { AreRows rows.now }
+    requires rows { SufficeFor rows.now (length text.old) }
     ensures { IfOk result (λ edits. AreAllByTwo (IsMendByTwo text.old) edits.items) }
 {
     let word = residue_of(text);
@@ -174,23 +163,9 @@ fn two_of<A: Allocator + Copy>(alloc: A, text: &[u8]) -> Result<Vec<TwoEdits, A>
     requires few { length text.now ≤ 7500 }
     ensures { IfOk result (λ edits. AreAllByTwo (IsMendByTwo text.now) edits.items) }
 {
-    let mut copy = text_with(alloc, text, text.len(), &[], text.len())?;
+    let mut copy = Vec::from_slice(alloc, text)?;
     let rows = rows_of(alloc, text.len())?;
     two_on_copy(alloc, &rows, &mut copy)
-}
-
-// The text that two edits make.
-fn text_by_two<A: Allocator + Copy>(
-    alloc: A,
-    text: &[u8],
-    edits: TwoEdits,
-) -> Result<Vec<u8, A>, AllocError>
-    requires few { length text.now ≤ 7500 }
-    requires mends { IsMendByTwo text.now edits }
-    ensures { IfOk result (λ new. new.items ≡ made_by_two edits text.now) }
-{
-    let half = made_text(alloc, text, edits.second)?;
-    made_text(alloc, &half, edits.first)
 }
 
 // Each two edits with the text that they make.
@@ -207,7 +182,8 @@ fn texts_by_two<A: Allocator + Copy>(
 {
     let mut all = Vec::new(alloc);
     for edits in found {
-        let text = text_by_two(alloc, text, edits)?;
+        let half = made_text(alloc, text, edits.second)?;
+        let text = made_text(alloc, &half, edits.first)?;
         all.push(MendedTwice { edits, text })?;
     }
     Ok(all)

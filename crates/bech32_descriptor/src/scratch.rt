@@ -1,8 +1,8 @@
 //! A text with its remainder, of which one byte after another is changed.
 
-ghost use Rattle.std.specs.Prelude.{◌≡◌, ◌<◌, ◌≤◌, ◌↔◌, length, slice_set, IsTrue};
+ghost use Rattle.std.specs.Prelude.{◌≡◌, ◌<◌, ◌↔◌, length, slice_set, IsTrue};
 ghost use Rattle.bech32_descriptor.specs.Descriptor.{IsDescriptor, polynomial_of};
-ghost use Rattle.bech32_descriptor.specs.Walks.{AreRows, rows_for};
+ghost use Rattle.bech32_descriptor.specs.Walks.{IsReady};
 ghost use Rattle.bech32_descriptor.specs.Words.{IsWordOfSymbols};
 
 use crate::checks::grammar_fault;
@@ -12,14 +12,10 @@ use crate::residue::is_target;
 // Puts a byte at a place, and returns the remainder of the text with it.
 #[inline]
 pub(crate) fn set_byte(rows: &[u64], text: &mut [u8], word: u64, i: usize, b: u8) -> u64
-    requires long { 9 ≤ length text.old }
-    requires few { length text.old ≤ 7501 }
+    requires ready { IsReady rows.now text.old word }
     requires within { i < length text.old }
-    requires enough { rows_for (length text.old) ≤ length rows.now }
-    requires rows { AreRows rows.now }
-    requires word { IsWordOfSymbols word (polynomial_of text.old) }
     ensures text { text.new ≡ slice_set text.old i b }
-    ensures word { IsWordOfSymbols result (polynomial_of text.new) }
+    ensures ready { IsReady rows.now text.new result }
 {
     let change = change_of(rows, text, i, b);
     text[i] = b;
@@ -41,12 +37,8 @@ pub(crate) fn is_right(text: &[u8], word: u64) -> bool
 // Whether a text is a descriptor with another byte at a place.
 #[inline]
 pub(crate) fn is_right_with(rows: &[u64], text: &mut [u8], word: u64, i: usize, b: u8) -> bool
-    requires long { 9 ≤ length text.old }
-    requires few { length text.old ≤ 7501 }
+    requires ready { IsReady rows.now text.old word }
     requires within { i < length text.old }
-    requires enough { rows_for (length text.old) ≤ length rows.now }
-    requires rows { AreRows rows.now }
-    requires word { IsWordOfSymbols word (polynomial_of text.old) }
     ensures text { text.new ≡ text.old }
     ensures right { IsTrue result ↔ IsDescriptor (slice_set text.old i b) }
 {

@@ -1,12 +1,11 @@
 //! All edits of one kind that make a descriptor of a text.
 
-ghost use Rattle.std.specs.Prelude.{◌≡◌, ◌<◌, ◌≤◌, ◌+◌, ◌-◌, ◌*◌, ◌++◌, ◌∷◌, ◌↔◌, ℕ, List, drop, length, option_to_list, take, IfOk, IsTrue};
+ghost use Rattle.std.specs.Prelude.{◌≡◌, ◌<◌, ◌≤◌, ◌+◌, ◌++◌, ◌↔◌, drop, get_or, length, option_to_list, slice_set, take, IfOk, IsTrue};
 ghost use Rattle.bech32_descriptor.specs.Descriptor.{polynomial_of};
-ghost use Rattle.bech32_descriptor.specs.Edits.{AreAllMends, IsAt};
+ghost use Rattle.bech32_descriptor.specs.Edits.{AddsAllMends, AreAllMends, IsAt, IsPrinted};
 ghost use Rattle.bech32_descriptor.specs.PairWalks.{AreBases, IsMendBelow};
-ghost use Rattle.bech32_descriptor.specs.Walks.{AreRows, IsMendAt, IsMendBy, IsMendOfKind, rows_for};
+ghost use Rattle.bech32_descriptor.specs.Walks.{IsMendAt, IsMendOfKind, IsPutAt, IsPutBy, IsReady, SufficeFor, change_that};
 ghost use Rattle.bech32_descriptor.specs.Words.{IsWordOfSymbols};
-ghost use Rattle.bech32_descriptor.specs.declared.edits.Edit.{Edit as AnEdit};
 
 use crate::edits::{Change, Edit};
 use crate::places::{bases_of, change_by};
@@ -25,101 +24,117 @@ fn push_some<A: Allocator>(found: &mut Vec<Edit, A>, edit: Option<Edit>) -> Resu
     Ok(())
 }
 
-// The change of the character at a place to another, if it makes a descriptor.
+// The byte at a place, or 0 where there is none.
 #[inline]
-fn changed_at(
-    rows: &[u64],
-    text: &mut [u8],
-    bases: &[u64; 3],
+fn byte_at(text: &[u8], place: usize) -> u8
+    ensures { result ≡ get_or text.now place 0 }
+{
+    if text.len() <= place {
+        return 0;
+    }
+    text[place]
+}
+
+// What puts a byte somewhere.
+#[inline]
+fn change_to(byte: u8, put_in: bool) -> Change
+    ensures { result ≡ change_that put_in byte }
+{
+    if put_in {
+        return Change::PutIn(byte);
+    }
+    Change::Changed(byte)
+}
+
+// Where bytes are put in a text with this remainder: those other than `kept` are put in, or are
+// changed to.
+#[derive(Clone, Copy)]
+struct Put {
     word: u64,
     place: usize,
-    byte: u8,
-) -> Option<Edit>
-    requires long { 9 ≤ length text.old }
-    requires few { length text.old ≤ 7501 }
-    requires within { place < length text.old }
-    requires printed { (32 ≤ byte) × (byte < 127) }
-    requires enough { rows_for (length text.old) ≤ length rows.now }
-    requires rows { AreRows rows.now }
-    requires bases { AreBases rows.now text.old place bases.now }
-    requires word { IsWordOfSymbols word (polynomial_of text.old) }
+    kept: u8,
+    put_in: bool,
+}
+
+// The edit that puts a byte at a place, if it makes a descriptor.
+#[inline]
+fn put_at(rows: &[u64], text: &mut [u8], bases: &[u64; 3], put: Put, byte: u8) -> Option<Edit>
+    requires ready { IsReady rows.now text.old put.word }
+    requires within { put.place < length text.old }
+    requires printed { IsPrinted byte }
+    requires bases { AreBases rows.now text.old put.place bases.now }
     ensures text { text.new ≡ text.old }
-    ensures all { AreAllMends (IsMendBy 0 text.old place byte) (option_to_list result) }
+    ensures all { AreAllMends (IsPutBy put.put_in put.kept put.place text.old byte)
+        (option_to_list result) }
 {
-    if text[place] == byte {
+    if byte == put.kept {
         return None;
     }
-    if !is_target(word ^ change_by(rows, text, bases, place, byte)) {
+    if !is_target(put.word ^ change_by(rows, text, bases, put.place, byte)) {
         return None;
     }
-    if !is_right_with(rows, text, word, place, byte) {
+    if !is_right_with(rows, text, put.word, put.place, byte) {
         return None;
     }
     Some(Edit {
-        place,
-        change: Change::Changed(byte),
+        place: put.place,
+        change: change_to(byte, put.put_in),
     })
 }
 
-// Adds all changes of the character at one place.
-fn push_changed_at<A: Allocator>(
+// Adds all edits that put a byte at one place.
+fn push_put_at<A: Allocator>(
     rows: &[u64],
     text: &mut [u8],
-    word: u64,
-    place: usize,
+    put: Put,
     found: &mut Vec<Edit, A>,
 ) -> Result<(), AllocError>
-    requires long { 9 ≤ length text.old }
-    requires few { length text.old ≤ 7501 }
-    requires within { place < length text.old }
-    requires enough { rows_for (length text.old) ≤ length rows.now }
-    requires rows { AreRows rows.now }
-    requires word { IsWordOfSymbols word (polynomial_of text.old) }
+    requires ready { IsReady rows.now text.old put.word }
+    requires within { put.place < length text.old }
     ensures { IfOk result (λ _. (text.new ≡ text.old)
-        × (edits : List AnEdit) × (found.new.items ≡ found.old.items ++ edits)
-        × AreAllMends (IsMendAt 0 text.old place) edits) }
+        × AddsAllMends (IsPutAt put.put_in put.kept put.place text.old)
+        found.old.items found.new.items) }
 {
-    let bases = bases_of(rows, text, place);
+    let bases = bases_of(rows, text, put.place);
     for byte in 32..127 {
-        let edit = changed_at(rows, text, &bases, word, place, byte);
+        let edit = put_at(rows, text, &bases, put, byte);
         push_some(found, edit)?;
     }
     Ok(())
 }
 
-// Adds all changes of one character before a place.
-pub(crate) fn push_changed_below<A: Allocator>(
+// All changes of one character before a place.
+pub(crate) fn changed_below<A: Allocator>(
+    alloc: A,
     rows: &[u64],
     text: &mut [u8],
     word: u64,
     end: usize,
-    found: &mut Vec<Edit, A>,
-) -> Result<(), AllocError>
-    requires long { 9 ≤ length text.old }
-    requires few { length text.old ≤ 7501 }
+) -> Result<Vec<Edit, A>, AllocError>
+    requires ready { IsReady rows.now text.old word }
     requires within { end ≤ length text.old }
-    requires enough { rows_for (length text.old) ≤ length rows.now }
-    requires rows { AreRows rows.now }
-    requires word { IsWordOfSymbols word (polynomial_of text.old) }
-    ensures { IfOk result (λ _. (text.new ≡ text.old)
-        × (edits : List AnEdit) × (found.new.items ≡ found.old.items ++ edits)
-        × AreAllMends (IsMendBelow text.old end) edits) }
+    ensures { IfOk result (λ edits. (text.new ≡ text.old)
+        × AreAllMends (IsMendBelow text.old end) edits.items) }
 {
+    let mut found = Vec::new(alloc);
     for place in 0..end {
-        push_changed_at(rows, text, word, place, found)?;
+        let kept = text[place];
+        let put = Put {
+            word,
+            place,
+            kept,
+            put_in: false,
+        };
+        push_put_at(rows, text, put, &mut found)?;
     }
-    Ok(())
+    Ok(found)
 }
 
 // The swap of the characters at a place and behind it, if it makes a descriptor.
 #[inline]
 fn swapped_at(rows: &[u64], text: &mut [u8], word: u64, place: usize) -> Option<Edit>
-    requires long { 9 ≤ length text.old }
-    requires few { length text.old ≤ 7501 }
+    requires ready { IsReady rows.now text.old word }
     requires within { place < length text.old }
-    requires enough { rows_for (length text.old) ≤ length rows.now }
-    requires rows { AreRows rows.now }
-    requires word { IsWordOfSymbols word (polynomial_of text.old) }
     ensures text { text.new ≡ text.old }
     ensures all { AreAllMends (IsMendAt 1 text.old place) (option_to_list result) }
 {
@@ -150,14 +165,9 @@ pub(crate) fn push_swapped<A: Allocator>(
     word: u64,
     found: &mut Vec<Edit, A>,
 ) -> Result<(), AllocError>
-    requires long { 9 ≤ length text.old }
-    requires few { length text.old ≤ 7501 }
-    requires enough { rows_for (length text.old) ≤ length rows.now }
-    requires rows { AreRows rows.now }
-    requires word { IsWordOfSymbols word (polynomial_of text.old) }
+    requires { IsReady rows.now text.old word }
     ensures { IfOk result (λ _. (text.new ≡ text.old)
-        × (edits : List AnEdit) × (found.new.items ≡ found.old.items ++ edits)
-        × AreAllMends (IsMendOfKind 1 text.old) edits) }
+        × AddsAllMends (IsMendOfKind 1 text.old) found.old.items found.new.items) }
 {
     for place in 0..text.len() {
         let edit = swapped_at(rows, text, word, place);
@@ -202,17 +212,12 @@ fn left_out_at(text: &[u8], rest: &[u8], word: u64, place: usize) -> Option<Edit
 // then without the other.
 #[inline]
 fn next_left_out(rows: &[u64], text: &[u8], rest: &mut [u8], word: u64, place: usize) -> u64
-    requires long { 9 ≤ length rest.old }
-    requires few { length rest.old ≤ 7501 }
+    requires ready { IsReady rows.now rest.old word }
     requires within { place < length text.now }
-    requires enough { rows_for (length rest.old) ≤ length rows.now }
-    requires rows { AreRows rows.now }
     requires rest { rest.old ≡ take place text.now ++ drop (place + 1) text.now }
-    requires word { IsWordOfSymbols word (polynomial_of rest.old) }
-    ensures size { length rest.new ≡ length rest.old }
     ensures rest { place + 1 < length text.now
         → rest.new ≡ take (place + 1) text.now ++ drop (place + 1 + 1) text.now }
-    ensures word { IsWordOfSymbols result (polynomial_of rest.new) }
+    ensures ready { IsReady rows.now rest.new result }
 {
     if place + 1 == text.len() {
         return word;
@@ -227,15 +232,14 @@ pub(crate) fn push_left_out<A: Allocator>(
     rest: &mut [u8],
     found: &mut Vec<Edit, A>,
 ) -> Result<(), AllocError>
-    requires long { 10 ≤ length text.now }
-    requires few { length text.now ≤ 7501 }
-    requires enough { rows_for (length text.now) ≤ length rows.now }
-    requires rows { AreRows rows.now }
+    requires rows { SufficeFor rows.now (length text.now + 1) }
     requires rest { rest.old ≡ drop 1 text.now }
-    ensures { IfOk result (λ _. (edits : List AnEdit)
-        × (found.new.items ≡ found.old.items ++ edits)
-        × AreAllMends (IsMendOfKind 2 text.now) edits) }
+    ensures { IfOk result
+        (λ _. AddsAllMends (IsMendOfKind 2 text.now) found.old.items found.new.items) }
 {
+    if text.len() < 10 {
+        return Ok(());
+    }
     let mut word = residue_of(rest);
     for place in 0..text.len() {
         let edit = left_out_at(text, rest, word, place);
@@ -245,115 +249,45 @@ pub(crate) fn push_left_out<A: Allocator>(
     Ok(())
 }
 
-// What puts a character in at a place, if it makes a descriptor: `new` is the text with some
-// character put in there.
+// Puts the next character at a place, if there is one.
 #[inline]
-fn put_in_at(
-    rows: &[u64],
-    text: &[u8],
-    new: &mut [u8],
-    bases: &[u64; 3],
-    word: u64,
-    place: usize,
-    byte: u8,
-) -> Option<Edit>
-    requires long { 9 ≤ length new.old }
-    requires few { length new.old ≤ 7501 }
-    requires within { place ≤ length text.now }
-    requires printed { (32 ≤ byte) × (byte < 127) }
-    requires enough { rows_for (length new.old) ≤ length rows.now }
-    requires rows { AreRows rows.now }
-    requires new { (b : ℕ) × (new.old ≡ take place text.now ++ b ∷ drop place text.now) }
-    requires bases { AreBases rows.now new.old place bases.now }
-    requires word { IsWordOfSymbols word (polynomial_of new.old) }
-    ensures new { new.new ≡ new.old }
-    ensures all { AreAllMends (IsMendBy 3 text.now place byte) (option_to_list result) }
+fn next_put_in(rows: &[u64], new: &mut [u8], word: u64, place: usize) -> u64
+    requires ready { IsReady rows.now new.old word }
+    requires within { place < length new.old }
+    ensures new { place + 1 < length new.old
+        → new.new ≡ slice_set new.old place (get_or new.old (place + 1) 0) }
+    ensures ready { IsReady rows.now new.new result }
 {
-    if is_at(text, place, byte) {
-        return None;
-    }
-    if !is_target(word ^ change_by(rows, new, bases, place, byte)) {
-        return None;
-    }
-    if !is_right_with(rows, new, word, place, byte) {
-        return None;
-    }
-    Some(Edit {
-        place,
-        change: Change::PutIn(byte),
-    })
-}
-
-// Adds all that put a character in at one place.
-fn push_put_in_at<A: Allocator>(
-    rows: &[u64],
-    text: &[u8],
-    new: &mut [u8],
-    word: u64,
-    place: usize,
-    found: &mut Vec<Edit, A>,
-) -> Result<(), AllocError>
-    requires long { 9 ≤ length new.old }
-    requires few { length new.old ≤ 7501 }
-    requires within { place ≤ length text.now }
-    requires enough { rows_for (length new.old) ≤ length rows.now }
-    requires rows { AreRows rows.now }
-    requires new { (b : ℕ) × (new.old ≡ take place text.now ++ b ∷ drop place text.now) }
-    requires word { IsWordOfSymbols word (polynomial_of new.old) }
-    ensures { IfOk result (λ _. (new.new ≡ new.old)
-        × (edits : List AnEdit) × (found.new.items ≡ found.old.items ++ edits)
-        × AreAllMends (IsMendAt 3 text.now place) edits) }
-{
-    let bases = bases_of(rows, new, place);
-    for byte in 32..127 {
-        let edit = put_in_at(rows, text, new, &bases, word, place, byte);
-        push_some(found, edit)?;
-    }
-    Ok(())
-}
-
-// Goes on to the next place: `new` is the text with some character put in at the one, and then at
-// the other.
-#[inline]
-fn next_put_in(rows: &[u64], text: &[u8], new: &mut [u8], word: u64, place: usize) -> u64
-    requires long { 9 ≤ length new.old }
-    requires few { length new.old ≤ 7501 }
-    requires within { place ≤ length text.now }
-    requires enough { rows_for (length new.old) ≤ length rows.now }
-    requires rows { AreRows rows.now }
-    requires new { (b : ℕ) × (new.old ≡ take place text.now ++ b ∷ drop place text.now) }
-    requires word { IsWordOfSymbols word (polynomial_of new.old) }
-    ensures size { length new.new ≡ length new.old }
-    ensures new { place < length text.now → (b : ℕ)
-        × (new.new ≡ take (place + 1) text.now ++ b ∷ drop (place + 1) text.now) }
-    ensures word { IsWordOfSymbols result (polynomial_of new.new) }
-{
-    if place == text.len() {
+    if place + 1 == new.len() {
         return word;
     }
-    set_byte(rows, new, word, place, text[place])
+    let next = new[place + 1];
+    set_byte(rows, new, word, place, next)
 }
 
-// Adds all that put a character in: `new` is the text with some character put in before it.
+// Adds all that put a character in: `new` is the text with some character put in before it, and
+// then behind one character after another.
 pub(crate) fn push_put_in<A: Allocator>(
     rows: &[u64],
-    text: &[u8],
     new: &mut [u8],
     found: &mut Vec<Edit, A>,
 ) -> Result<(), AllocError>
-    requires long { 8 ≤ length text.now }
-    requires few { length text.now ≤ 7500 }
-    requires enough { rows_for (length text.now + 1) ≤ length rows.now }
-    requires rows { AreRows rows.now }
-    requires new { (b : ℕ) × (new.old ≡ b ∷ text.now) }
-    ensures { IfOk result (λ _. (edits : List AnEdit)
-        × (found.new.items ≡ found.old.items ++ edits)
-        × AreAllMends (IsMendOfKind 3 text.now) edits) }
+    requires long { 9 ≤ length new.old }
+    requires rows { SufficeFor rows.now (length new.old) }
+    ensures { IfOk result
+        (λ _. AddsAllMends (IsMendOfKind 3 (drop 1 new.old)) found.old.items found.new.items) }
 {
     let mut word = residue_of(new);
-    for place in 0..text.len() + 1 {
-        push_put_in_at(rows, text, new, word, place, found)?;
-        word = next_put_in(rows, text, new, word, place);
+    for place in 0..new.len() {
+        let kept = byte_at(new, place + 1);
+        let put = Put {
+            word,
+            place,
+            kept,
+            put_in: true,
+        };
+        push_put_at(rows, new, put, found)?;
+        word = next_put_in(rows, new, word, place);
     }
     Ok(())
 }

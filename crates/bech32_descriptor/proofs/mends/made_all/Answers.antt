@@ -13,8 +13,8 @@ made_text-requires g c =
     let steps : into_iter_items at.edit-iterator ≡ c.in-Some.edit ∷ into_iter_items c.next.new.self = c.in-Some.ensures.steps.0 in
     let P = λ (e : Edit). IsToldMend e c.args.text.now in
     let all : AllByRecursion P (at.yielded ++ c.in-Some.edit ∷ into_iter_items c.next.new.self) =
-    subst (AllByRecursion P) (sym at.invariant.rest ∙ ap (λ (u : List Edit). at.yielded ++ u) steps) c.requires.told in
-    record { few = c.requires.few; told = all_within P at.yielded c.in-Some.edit (into_iter_items c.next.new.self) all }
+    subst (AllByRecursion P) (sym at.invariant.rest ∙ ap (λ (u : List Edit). at.yielded ++ u) steps) c.requires.1 in
+    record { few = c.requires.0; told = all_within P at.yielded c.in-Some.edit (into_iter_items c.next.new.self) all }
 
 pub loop-edit-preserved : goal.loop-edit-preserved
 loop-edit-preserved g c =

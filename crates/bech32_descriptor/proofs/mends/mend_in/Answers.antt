@@ -9,7 +9,7 @@ returns-then-text-lt8 g c =
     no_mends_of (λ m. (m.edit, m.text.items)) c.args.most c.args.text.now c.new.result.items short c.new.ensures.items
 
 pub made_all-requires : goal.made_all-requires
-made_all-requires g c = record { few = omega arith; told = all_told c.args.most c.args.text.now c.in_ok-edits.edits.items c.in_ok-edits.ensures.each }
+made_all-requires g c = (omega arith, all_told c.args.most c.args.text.now c.in_ok-edits.edits.items c.in_ok-edits.ensures.each)
 
 pub returns : goal.returns
 returns g c =

@@ -1,8 +1,8 @@
 use Rattle.std.proofs.Common.{◌≡◌, ◌<◌, ◌≤◌, ℕ, List, length, inl, inr, refl, sym, ap, subst, ◌∙◌, arith}
 use Rattle.std.proofs.lemmas.Bool.{cases_lt}
-use Rattle.bech32_descriptor.specs.PairWalks.{IsReady, IsTwoAt, MarksChanges, MarksChangesBelow}
+use Rattle.bech32_descriptor.specs.PairWalks.{IsTwoAt, MarksChanges, MarksChangesBelow}
 use Rattle.bech32_descriptor.specs.Pairs.{IsMendByTwo, IsTwoBefore}
-use Rattle.bech32_descriptor.specs.Walks.{change_in, rows_for}
+use Rattle.bech32_descriptor.specs.Walks.{IsReady, change_in, rows_for}
 use Rattle.bech32_descriptor.proofs.Listings.{HasFoundAll, found_all, found_chain, found_start}
 use Rattle.bech32_descriptor.proofs.TwoChanges.{second_place_first, second_within}
 use Rattle.bech32_descriptor.proofs.pairs.push_two.Goals as goal
@@ -44,8 +44,8 @@ loop-place-preserved g c =
     let at = c.loop-place in
     let text = c.args.text.now in
     let rows = c.args.rows.now in
-    let (same, xs, is, all) = c.in_ok-push_two_at.ensures in
-    let whole = same ∙ at.invariant.same in
+    let h = c.in_ok-push_two_at.ensures in
+    let whole = h.0 ∙ at.invariant.same in
     let after = c.mark_place in
     let here : MarksChanges after.new.cells rows (length text) at.place =
     subst (λ (t : List ℕ). MarksChanges after.new.cells rows (length t) at.place) whole after.ensures.changes in
@@ -58,7 +58,7 @@ loop-place-preserved g c =
       ];
       kept = found_chain IsTwoBefore (IsMendByTwo text) (λ e. e.second.place) at.place c.args.found.now.items at.found.items c.push_two_at.new.found.items
           (second_place_first text)
-          (subst (λ (t : List ℕ). HasFoundAll IsTwoBefore (IsTwoAt t at.place) at.found.items c.push_two_at.new.found.items) at.invariant.same (xs, is, all))
+          (subst (λ (t : List ℕ). HasFoundAll IsTwoBefore (IsTwoAt t at.place) at.found.items c.push_two_at.new.found.items) at.invariant.same h.1)
           at.invariant.kept;
     }
 

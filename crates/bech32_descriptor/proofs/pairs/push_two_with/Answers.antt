@@ -1,40 +1,24 @@
 use Rattle.std.specs.Prelude.{map, set}
-use Rattle.std.proofs.Common.{◌≡◌, ◌≤◌, ◌++◌, ℕ, List, get_or, length, sym, ap, subst, ◌∙◌, arith}
+use Rattle.std.proofs.Common.{◌≡◌, ◌++◌, ℕ, List, get_or, length, ap, subst, ◌∙◌, arith}
 use Rattle.std.proofs.lemmas.List.{length-set, set-get_or, set-set}
 use Rattle.std.proofs.lemmas.Result.{IfOk-weaker}
 use Rattle.bech32_descriptor.specs.Edits.{AreAllMends}
 use Rattle.bech32_descriptor.specs.PairWalks.{IsMendBelow, IsTwoBy, beside}
-use Rattle.bech32_descriptor.specs.Pairs.{AreAllByTwo}
-use Rattle.bech32_descriptor.specs.Walks.{rows_for}
+use Rattle.bech32_descriptor.specs.Pairs.{AddsAllByTwo}
 use Rattle.bech32_descriptor.specs.declared.edits.Change.TheVariants.{Changed}
 use Rattle.bech32_descriptor.specs.declared.edits.Edit.{Edit}
-use Rattle.bech32_descriptor.specs.declared.edits.TwoEdits.{TwoEdits}
 use Rattle.bech32_descriptor.proofs.TwoChanges.{all_beside}
 use Rattle.bech32_descriptor.proofs.pairs.push_two_with.Goals as goal
 
 pub set_byte-changed-requires : goal.set_byte-changed-requires
-set_byte-changed-requires g c = record {
-  long = c.requires.ready.long;
-  few = c.requires.ready.few;
-  within = c.requires.within;
-  enough = c.requires.ready.enough;
-  rows = c.requires.ready.rows_are;
-  word = c.requires.ready.word_is;
-}
+set_byte-changed-requires g c = record { ready = c.requires.ready; within = c.requires.told.0 }
 
-pub push_changed_below-requires : goal.push_changed_below-requires
-push_changed_below-requires g c =
+pub changed_below-requires : goal.changed_below-requires
+changed_below-requires g c =
     let text = c.args.text.now in
     let size : length c.set_byte-changed.new.text ≡ length text =
     ap (λ (u : List ℕ). length u) c.set_byte-changed.ensures.text ∙ length-set text c.args.place c.args.byte in
-    record {
-      long = omega (arith, size, c.requires.ready.long);
-      few = omega (arith, size, c.requires.ready.few);
-      within = omega (arith, size, c.requires.within);
-      enough = subst (λ (n : ℕ). rows_for n ≤ length c.args.rows.now) (sym size) c.requires.ready.enough;
-      rows = c.requires.ready.rows_are;
-      word = c.set_byte-changed.ensures.word;
-    }
+    record { ready = c.set_byte-changed.ensures.ready; within = omega (arith, size, c.requires.told.0) }
 
 pub returns : goal.returns
 returns g c =
@@ -43,14 +27,19 @@ returns g c =
     let b = c.args.byte in
     let found = c.args.found.now.items in
     let second : Edit = record { place = i; change = Changed b } in
-    let (same, firsts, is, all) = c.in_ok-push_changed_below.ensures in
-    let back : set c.push_changed_below.new.text i (get_or text i 0) ≡ text =
+    let told = c.requires.told in
+    let firsts = c.in_ok-firsts.firsts.items in
+    let (same, all) = c.in_ok-firsts.ensures in
+    let back : set c.changed_below.new.text i (get_or text i 0) ≡ text =
     ap (λ (u : List ℕ). set u i (get_or text i 0)) (same ∙ c.set_byte-changed.ensures.text)
     ∙ set-set text i b (get_or text i 0) ∙ set-get_or text i 0 in
     let these = subst (λ (u : List ℕ). AreAllMends (IsMendBelow u i) firsts) c.set_byte-changed.ensures.text all in
-    let listed : c.deref.result.now ≡ firsts = c.deref.ensures.value ∙ is ∙ ap (λ (u : List Edit). u ++ firsts) c.new-firsts.ensures.items in
+    let listed : c.deref.result.now ≡ firsts = c.deref.ensures.value in
     let P = λ (u : Unit {0}). c.push_beside.new.found.items ≡ found ++ map (beside second) c.deref.result.now in
-    let Q = λ (u : Unit {0}). (set c.push_changed_below.new.text i (get_or text i 0) ≡ text) × (edits : List TwoEdits) × (c.push_beside.new.found.items ≡ found ++ edits) × AreAllByTwo (IsTwoBy text i b) edits in
+    let Q = λ (u : Unit {0}). (set c.changed_below.new.text i (get_or text i 0) ≡ text) × AddsAllByTwo (IsTwoBy text i b) found c.push_beside.new.found.items in
     IfOk-weaker c.push_beside.result P Q
-    (λ u h. (back, map (beside second) firsts, h ∙ ap (λ (l : List Edit). found ++ map (beside second) l) listed, all_beside text i b c.requires.within c.requires.printed c.requires.other firsts these))
+    (λ u h. (
+      back,
+      (map (beside second) firsts, h ∙ ap (λ (l : List Edit). found ++ map (beside second) l) listed, all_beside text i b told.0 told.1 told.2 firsts these),
+    ))
     c.push_beside.ensures

@@ -8,9 +8,9 @@ pub push_two-requires : goal.push_two-requires
 push_two-requires g c = record {
   ready = record {
     long = c.requires.long;
-    few = c.requires.few;
-    enough = c.requires.enough;
-    rows_are = c.requires.rows;
+    few = c.requires.rows.few;
+    enough = c.requires.rows.enough;
+    rows_are = c.requires.rows.rows_are;
     word_is = c.residue_of-word.ensures;
   };
   some = omega (arith, ap (λ (l : List ℕ). length l) c.deref_mut.ensures.value, ap (λ (l : List ℕ). length l) (c.in_ok-cells.ensures.items_if_clones_equal (λ y e. e)), length-replicate {A = ℕ} c.cells_for.result 0, c.cells_for.ensures.some);

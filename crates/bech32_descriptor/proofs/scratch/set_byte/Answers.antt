@@ -1,7 +1,14 @@
-use Rattle.bech32_descriptor.proofs.Rewritten.{changed_word}
+use Rattle.bech32_descriptor.proofs.Rewritten.{changed_ready}
 use Rattle.bech32_descriptor.proofs.scratch.set_byte.Goals as goal
 
-pub returns-clause-word : goal.returns-clause-word
-returns-clause-word c =
-    rw c.change_of-change.ensures (changed_word c.args.rows.now c.requires.rows c.args.word c.args.text.now c.args.i c.args.b
-    c.requires.long c.requires.within c.requires.enough c.requires.word)
+pub change_of-change-requires : goal.change_of-change-requires
+change_of-change-requires c = record {
+  long = c.requires.ready.long;
+  few = c.requires.ready.few;
+  within = c.requires.within;
+  enough = c.requires.ready.enough;
+}
+
+pub returns-clause-ready : goal.returns-clause-ready
+returns-clause-ready c =
+    rw c.change_of-change.ensures (changed_ready c.args.rows.now c.args.text.now c.args.word c.args.i c.args.b c.requires.ready c.requires.within)

@@ -1,6 +1,6 @@
 use Rattle.std.specs.Prelude.{set}
 use Rattle.std.proofs.Common.{◌<◌, ◌≤◌, ◌+◌, ℕ, List, length, length-append, get_or, take, drop, ap, ◌∙◌, arith}
-use Rattle.std.proofs.lemmas.List.{length-drop, length-set, length-take-le}
+use Rattle.std.proofs.lemmas.List.{length-drop, length-take-le}
 use Rattle.bech32_descriptor.proofs.Told.{left_next}
 use Rattle.bech32_descriptor.proofs.walks.next_left_out.Goals as goal
 
@@ -16,14 +16,8 @@ set_byte-requires-clause-within c =
     let more : i + 1 < length text = omega arith in
     omega (arith, ap (λ (u : List ℕ). length u) c.requires.rest, length-append (take i text) (drop (i + 1) text), length-take-le i text few, length-drop (i + 1) text, more)
 
-pub returns-clause-size : goal.returns-clause-size
-returns-clause-size c = ap (λ (u : List ℕ). length u) c.set_byte.ensures.text ∙ length-set c.args.rest.now c.args.place (get_or c.args.text.now c.args.place 0)
-
 pub returns-clause-rest : goal.returns-clause-rest
 returns-clause-rest c low =
     let text = c.args.text.now in
     let i = c.args.place in
     c.set_byte.ensures.text ∙ ap (λ (u : List ℕ). set u i (get_or text i 0)) c.requires.rest ∙ left_next text i low
-
-pub returns-clause-word : goal.returns-clause-word
-returns-clause-word c = c.set_byte.ensures.word

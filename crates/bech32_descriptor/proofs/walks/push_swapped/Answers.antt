@@ -1,9 +1,7 @@
 use Rattle.std.specs.Prelude.{option_to_list}
 use Rattle.std.proofs.Common.{◌<◌, ◌≤◌, ℕ, List, length, refl, sym, subst, ◌∙◌, arith}
-use Rattle.bech32_descriptor.specs.Descriptor.{polynomial_of}
 use Rattle.bech32_descriptor.specs.Edits.{AreAllMends, IsMendBefore}
-use Rattle.bech32_descriptor.specs.Walks.{IsMendAt, IsMendOfKind, rows_for}
-use Rattle.bech32_descriptor.specs.Words.{IsWordOfSymbols}
+use Rattle.bech32_descriptor.specs.Walks.{IsMendAt, IsMendOfKind, IsReady}
 use Rattle.bech32_descriptor.proofs.Listings.{found_all, found_more, found_start}
 use Rattle.bech32_descriptor.proofs.Told.{place_first, swapped_within}
 use Rattle.bech32_descriptor.proofs.walks.push_swapped.Goals as goal
@@ -18,12 +16,8 @@ pub swapped_at-edit-requires : goal.swapped_at-edit-requires
 swapped_at-edit-requires g c =
     let same = sym c.loop-place.invariant.same in
     record {
-      long = subst (λ (t : List ℕ). 9 ≤ length t) same c.requires.long;
-      few = subst (λ (t : List ℕ). length t ≤ 7501) same c.requires.few;
+      ready = subst (λ (t : List ℕ). IsReady c.args.rows.now t c.args.word) same c.requires;
       within = subst (λ (t : List ℕ). c.loop-place.place < length t) same c.loop-place-test.true;
-      enough = subst (λ (t : List ℕ). rows_for (length t) ≤ length c.args.rows.now) same c.requires.enough;
-      rows = c.requires.rows;
-      word = subst (λ (t : List ℕ). IsWordOfSymbols c.args.word (polynomial_of t)) same c.requires.word;
     }
 
 pub loop-place-preserved : goal.loop-place-preserved
@@ -42,7 +36,8 @@ pub returns : goal.returns
 returns g c =
     let at = c.loop-place in
     let text = c.args.text.now in
-    let end : length text ≤ at.place = omega arith in
-    let (xs, is, all) = found_all IsMendBefore (IsMendOfKind 1 text) (λ e. e.place) at.place c.args.found.now.items at.found.items
-    (λ e h. let p = swapped_within text e h in omega (arith, p, end)) at.invariant.kept in
-    (at.invariant.same, xs, is, all)
+    let end : length text ≤ at.place = omega arith in (
+      at.invariant.same,
+      found_all IsMendBefore (IsMendOfKind 1 text) (λ e. e.place) at.place c.args.found.now.items at.found.items
+          (λ e h. let p = swapped_within text e h in omega (arith, p, end)) at.invariant.kept,
+    )

@@ -1,9 +1,8 @@
 use Rattle.std.specs.Prelude.{set}
-use Rattle.std.proofs.Common.{◌≡◌, ◌<◌, ◌≤◌, ◌+◌, ℕ, List, length, get_or, sym, ap, subst, ◌∙◌, arith}
+use Rattle.std.proofs.Common.{◌≡◌, ◌<◌, ◌+◌, ℕ, List, length, get_or, sym, ap, subst, ◌∙◌, arith}
 use Rattle.std.proofs.lemmas.List.{length-set, set-get_or, set-set}
 use Rattle.std.proofs.lemmas.Bool.{false≢true}
 use Rattle.bech32_descriptor.specs.Descriptor.{IsDescriptor}
-use Rattle.bech32_descriptor.specs.Walks.{rows_for}
 use Rattle.bech32_descriptor.proofs.Told.{swap_not_told, swap_told}
 use Rattle.bech32_descriptor.proofs.walks.swapped_at.Goals as goal
 
@@ -20,14 +19,7 @@ is_right_with-right-requires c =
     let size : length c.set_byte-half.new.text ≡ length text =
     ap (λ (u : List ℕ). length u) c.set_byte-half.ensures.text ∙ length-set text c.args.place (get_or text (c.args.place + 1) 0) in
     let low : c.args.place < length text = c.requires.within in
-    record {
-      long = omega (arith, size, c.requires.long);
-      few = omega (arith, size, c.requires.few);
-      within = omega (arith, size);
-      enough = subst (λ (n : ℕ). rows_for n ≤ length c.args.rows.now) (sym size) c.requires.enough;
-      rows = c.requires.rows;
-      word = c.set_byte-half.ensures.word;
-    }
+    record { ready = c.set_byte-half.ensures.ready; within = omega (arith, size) }
 
 pub bounds-text-place-3 : goal.bounds-text-place-3
 bounds-text-place-3 c =
