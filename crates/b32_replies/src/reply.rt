@@ -99,8 +99,7 @@ impl<A: Allocator + Copy> Replies for Commands<A> {
     ghost too_long = { long_lines line_request_of IsLineAnswer };
 
     fn reply(&self, line: &[u8], out: &mut Vec<u8>) {
-        let answered = self.answer_line(line, out);
-        end_reply(answered, out);
+        end_reply(self.answer_line(line, out), out);
     }
 }
 

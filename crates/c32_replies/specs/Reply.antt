@@ -1,6 +1,7 @@
 -- What may be said of a request. Of lines that ask for nothing `line_program` says it.
 use Rattle.std.specs.Prelude.{◌≡◌, ◌⊎◌, ◌<◌, ◌≤◌, ℕ, List, [], ◌∷◌, ◌++◌, codes, length, map}
-use Rattle.std.specs.Prelude.{◌||◌, true, Option, None, Some}
+use Rattle.std.specs.Prelude.{◌||◌, true, Option, None, Some, Result, Vec, vec_capacity}
+use Rattle.std.specs.Global.{Global}
 use Rattle.std.specs.List.{AllByRecursion}
 use Rattle.bech32_bits.specs.Bits.{to_bytes}
 use Rattle.bech32_checksum.specs.Encoded.{char_of_element}
@@ -30,6 +31,7 @@ use Rattle.codex32.specs.declared.identifier.Identifier.{Identifier}
 use Rattle.codex32.specs.declared.share.Share.{Share as CodexShare}
 use Rattle.codex32.specs.declared.threshold.Threshold.{Threshold}
 use Rattle.codex32_numbers.specs.Numbers.{number_of_codex32_error, number_of_header_error}
+use Rattle.line_program.specs.Added.{AddsOrRefuses}
 use Rattle.line_program.specs.Refused.{SaysRefusal}
 use Rattle.c32_replies.specs.Numbers.{number_of_codex32_reply}
 use Rattle.c32_replies.specs.Request.{Codex32Request, Parse, Propose, ProposeLong, Share}
@@ -37,6 +39,13 @@ use Rattle.c32_replies.specs.Request.{Encode, Derive, Recover, Split}
 use Rattle.c32_replies.specs.Split.{IsSplitAnswer}
 use Rattle.c32_replies.specs.declared.refusal.Refusal.{Refusal}
 use Rattle.c32_replies.specs.declared.refusal.Refusal.TheVariants as refusals
+
+-- what may be said is added, or nothing is, and the refusal with the error's number may be said;
+-- the output keeps its room
+pub record AddsAnswer {E : Type 0} (Says : List ℕ → Type 0) (number_of : E → ℕ)
+    (result : Result (Unit {0}) E) (old new : Vec ℕ Global) : Type 0 where
+  pub answer : AddsOrRefuses Says number_of result old.items new.items
+  pub capacity : vec_capacity old ≤ vec_capacity new
 
 -- the parts of a codex32 string are said, which are the text's own characters: the threshold, the
 -- identifier, the share index and the payload

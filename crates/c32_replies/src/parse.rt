@@ -1,9 +1,8 @@
 //! Answers `parse`.
 
 ghost use Rattle.std.specs.Prelude.{◌+◌, ◌≤◌, vec_len, vec_capacity};
-ghost use Rattle.line_program.specs.Added.{AddsOrRefuses};
 ghost use Rattle.codex32_numbers.specs.Numbers.{number_of_codex32_error};
-ghost use Rattle.c32_replies.specs.Reply.{IsParseAnswer};
+ghost use Rattle.c32_replies.specs.Reply.{AddsAnswer, IsParseAnswer};
 
 use codex32::{Codex32Error, Codex32Str};
 use line_program::append;
@@ -11,9 +10,7 @@ use line_program::append;
 /// Adds the parts of a codex32 string, in the case of the text, or leaves all as it was.
 pub fn parse(text: &str, out: &mut Vec<u8>) -> Result<(), Codex32Error>
     requires { vec_len out.old + 2047 ≤ vec_capacity out.old }
-    ensures answer { AddsOrRefuses (IsParseAnswer text.now) number_of_codex32_error result
-        out.old.items out.new.items }
-    ensures capacity { vec_capacity out.old ≤ vec_capacity out.new }
+    ensures { AddsAnswer (IsParseAnswer text.now) number_of_codex32_error result out.old out.new }
 {
     let parts = Codex32Str::parse(text)?;
     // Both are ASCII characters: the casts are proved to lose nothing.

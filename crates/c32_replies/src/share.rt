@@ -2,9 +2,8 @@
 
 ghost use Rattle.std.specs.Prelude.{◌≡◌, ◌+◌, ◌≤◌, ◌++◌, vec_len, vec_capacity};
 ghost use Rattle.codex32.specs.Header.{identifier_of_header, share_index_of_header, threshold_of_header};
-ghost use Rattle.line_program.specs.Added.{AddsOrRefuses};
 ghost use Rattle.c32_replies.specs.Numbers.{number_of_codex32_reply};
-ghost use Rattle.c32_replies.specs.Reply.{IsShareAnswer, header_words};
+ghost use Rattle.c32_replies.specs.Reply.{AddsAnswer, IsShareAnswer, header_words};
 
 use crate::refusal::Refusal;
 use b32_replies::hex_word::append_hex;
@@ -34,9 +33,7 @@ fn append_header(header: Header, out: &mut Vec<u8>)
 /// was.
 pub fn share(text: &str, out: &mut Vec<u8>) -> Result<(), Refusal>
     requires { vec_len out.old + 2047 ≤ vec_capacity out.old }
-    ensures answer { AddsOrRefuses (IsShareAnswer text.now) number_of_codex32_reply result
-        out.old.items out.new.items }
-    ensures capacity { vec_capacity out.old ≤ vec_capacity out.new }
+    ensures { AddsAnswer (IsShareAnswer text.now) number_of_codex32_reply result out.old out.new }
 {
     let share = Share::parse(text)?;
     let count = share.byte_count()?;

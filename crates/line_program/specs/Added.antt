@@ -1,5 +1,7 @@
 -- What is added to an output.
-use Rattle.std.specs.Prelude.{◌≡◌, ◌≤◌, ℕ, List, ◌++◌, length, Result, MatchResult}
+use Rattle.std.specs.Prelude.{◌≡◌, ◌+◌, ◌≤◌, ℕ, List, ◌++◌, length, Result, MatchResult}
+use Rattle.std.specs.Prelude.{Vec, vec_capacity, vec_len}
+use Rattle.std.specs.Global.{Global}
 use Rattle.line_program.specs.Refused.{err}
 
 -- what is said is added to bytes, and leaves room for a newline
@@ -8,6 +10,12 @@ pub record Adds (Says : List ℕ → Type 0) (old new : List ℕ) : Type 0 where
   pub says : Says said
   pub size : length said ≤ 2047
   pub added : new ≡ old ++ said
+
+-- bytes are added, at most so many of them, and the output keeps its room
+pub record AddsBytes (most : ℕ) (bytes : List ℕ) (old new : Vec ℕ Global) : Type 0 where
+  pub items : new.items ≡ old.items ++ bytes
+  pub size : vec_len new ≤ vec_len old + most
+  pub capacity : vec_capacity old ≤ vec_capacity new
 
 -- what may be said is added, or nothing is, and the refusal with the error's number may be said
 abbrev pub AddsOrRefuses : {E : Type 0} → (List ℕ → Type 0) → (E → ℕ) → Result (Unit {0}) E

@@ -110,7 +110,6 @@ impl<P: Execute> Replies for P {
     ghost too_long = { long_lines P.request_of P.is_answer };
 
     fn reply(&self, line: &[u8], out: &mut Vec<u8>) {
-        let answered = execute_line(self, line, out);
-        end_reply(answered, out);
+        end_reply(execute_line(self, line, out), out);
     }
 }

@@ -3,6 +3,7 @@
 ghost use Rattle.std.specs.Prelude.{◌≡◌, ◌+◌, ◌<◌, ◌≤◌, ◌++◌, ◌∷◌, [], length, vec_len, vec_capacity};
 ghost use Rattle.std.specs.Prelude.{if◌then◌else◌, is_ok, IfErr, MatchResult, OnOk};
 ghost use Rattle.std.specs.Fmt.{decimal};
+ghost use Rattle.line_program.specs.Added.{AddsBytes};
 ghost use Rattle.line_program.specs.Refused.{err, refusal_in};
 
 use std::alloc::AllocError;
@@ -38,23 +39,20 @@ pub fn append_any(out: &mut Vec<u8>, said: &[u8]) -> Result<(), AllocError>
 pub fn append_number(out: &mut Vec<u8>, number: u8)
     requires small { number < 100 }
     requires room { vec_len out.old + 2 ≤ vec_capacity out.old }
-    ensures items { out.new.items ≡ out.old.items ++ decimal number }
-    ensures size { vec_len out.new ≤ vec_len out.old + 2 }
-    ensures capacity { vec_capacity out.old ≤ vec_capacity out.new }
+    ensures { AddsBytes 2 (decimal number) out.old out.new }
 {
     if number >= 10 {
-        append(out, &[b'0' + number / 10]);
+        append(out, &[b'0' + number / 10, b'0' + number % 10]);
+    } else {
+        append(out, &[b'0' + number]);
     }
-    append(out, &[b'0' + number % 10]);
 }
 
 /// Adds a refusal with this number, which is below 100.
 pub fn append_refusal(out: &mut Vec<u8>, number: u8)
     requires small { number < 100 }
     requires room { vec_len out.old + 6 ≤ vec_capacity out.old }
-    ensures items { out.new.items ≡ out.old.items ++ err number }
-    ensures size { vec_len out.new ≤ vec_len out.old + 6 }
-    ensures capacity { vec_capacity out.old ≤ vec_capacity out.new }
+    ensures { AddsBytes 6 (err number) out.old out.new }
 {
     if number >= 10 {
         let tens = b'0' + number / 10;

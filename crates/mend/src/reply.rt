@@ -108,7 +108,6 @@ impl Replies for Commands {
     ghost too_long = { long_lines mend_line_request_of IsMendAnswer };
 
     fn reply(&self, line: &[u8], out: &mut Vec<u8>) {
-        let answered = self.answer_line(line, out);
-        end_reply(answered, out);
+        end_reply(self.answer_line(line, out), out);
     }
 }

@@ -5,7 +5,7 @@ use Rattle.line_program.proofs.execute.AnyReplies.reply.Goals as goal
 
 pub end_reply-requires-clause-room : goal.end_reply-requires-clause-room
 end_reply-requires-clause-room g c =
-    let answered = c.execute_line-answered in
+    let answered = c.execute_line in
     let before = c.args.out.now in
     let after = answered.new.out in
     let fine : vec_len before ≡ length before.items = omega (arith, before.ok.0) in
@@ -15,4 +15,4 @@ end_reply-requires-clause-room g c =
     (any-from_adds _ _ answered.result _ _ answered.ensures.outcome)
 
 pub returns-clause-reply : goal.returns-clause-reply
-returns-clause-reply g c = ended-reply _ c.execute_line-answered.result _ _ _ (any-from_adds _ _ c.execute_line-answered.result _ _ c.execute_line-answered.ensures.outcome) c.end_reply.ensures.items
+returns-clause-reply g c = ended-reply _ c.execute_line.result _ _ _ (any-from_adds _ _ c.execute_line.result _ _ c.execute_line.ensures.outcome) c.end_reply.ensures.items
