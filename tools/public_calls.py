@@ -32,8 +32,10 @@ def functions(crate, body):
     """The functions of a body by name."""
     found = []
     # The length of an array would end a head.
-    for head, _ in reading.blocks(re.sub(r"(\[[^][;]*);([^][;]*\])", r"\1 \2", body)):
+    for head, said in reading.blocks(re.sub(r"(\[[^][;]*);([^][;]*\])", r"\1 \2", body)):
         head = without_attributes(head)
+        # A clause without a name may be a record of facts, which is its first word.
+        head += " { " + said.split()[0] if head.endswith("ensures") else ""
         match = FUNCTION.search(head)
         if match and not match[1]:
             found.append([bool(match[2]), match[3], head])

@@ -34,3 +34,4 @@ pub mod strict;
 pub mod suggest;
 #[cfg(test)]
 mod tests;
+pub mod version;

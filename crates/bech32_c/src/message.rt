@@ -1,11 +1,9 @@
-//! Says in words what a number means, and which version of the library this is.
+//! Says in words what a number means.
 
-ghost use Rattle.std.specs.Prelude.{◌≡◌, ◌≢◌, ◌≤◌, ◌<◌, length};
-ghost use Rattle.bech32_encode.specs.Buffers.{IsPut};
+ghost use Rattle.bech32_numbers.specs.Message.{IsMessage};
 ghost use Rattle.bech32_numbers.specs.Sentences.{bech32_sentence};
 
-use bech32_encode::put_at_front;
-use bech32_numbers::bech32_sentence_of;
+use bech32_numbers::{bech32_sentence_of, put_sentence};
 
 /// Puts the sentence of a refusal's number at the front of `message`, in ASCII: it stands beside
 /// the number in `include/bech32.h`. `message_length` is then its length, at most 100, and 0 for a
@@ -16,30 +14,8 @@ use bech32_numbers::bech32_sentence_of;
 /// Returns 92 where `message` has no room for it.
 #[unsafe(no_mangle)]
 pub extern "C" fn bech32_message(number: u32, message: &mut [u8], message_length: &mut usize) -> u32
-    ensures value { result ≡ 0
-        → IsPut (bech32_sentence number) message.old message.new message_length.new }
-    ensures accepts { length (bech32_sentence number) ≤ length message.old → result ≡ 0 }
-    ensures short { (result ≡ 0 → message_length.new ≤ 100)
-        × (100 ≤ length message.old → result ≡ 0) }
-    ensures refused { result ≢ 0
-        → (result ≡ 92) × (length message.old < length (bech32_sentence number)) }
-    ensures same { result ≢ 0
-        → (message.new ≡ message.old) × (message_length.new ≡ message_length.old) }
+    ensures { IsMessage (bech32_sentence number) message.old message.new
+        message_length.old message_length.new result }
 {
-    let sentence = bech32_sentence_of(number).as_bytes();
-    if sentence.len() > message.len() {
-        return 92;
-    }
-    put_at_front(message, sentence);
-    *message_length = sentence.len();
-    0
-}
-
-/// The version of the library: 10,000 times the first of its numbers, 100 times the second, and the
-/// third.
-#[unsafe(no_mangle)]
-pub extern "C" fn bech32_version() -> u32
-    ensures { result ≡ 100 }
-{
-    100
+    put_sentence(bech32_sentence_of(number), message, message_length)
 }

@@ -5,6 +5,7 @@ pub mod Decode
 pub mod Elements
 pub mod Encode
 pub mod Engine
+pub mod FaultCall
 pub mod Faults
 pub mod Fitting
 pub mod Kinds

@@ -102,6 +102,7 @@ pub fn checked_by_either(text: &[u8]) -> Result<(), Refusal>
 }
 
 // The lengths of the parts of a text that the checksum accepts.
+#[inline(always)]
 fn checked<Ck: Checksum>(bytes: &[u8]) -> Result<(usize, usize), Refusal>
     ensures { MatchResult result
         (λ n. IsCheckedAs bytes.now n.0 n.1 Ck.code)
@@ -118,6 +119,7 @@ fn checked<Ck: Checksum>(bytes: &[u8]) -> Result<(usize, usize), Refusal>
 /// # Errors
 ///
 /// The first of: a number that is not from 1 to 4; a text that is not UTF-8; its first fault.
+#[inline(always)]
 pub fn checked_by(checksum: u32, bytes: &[u8]) -> Result<(usize, usize), Refusal>
     ensures { MatchResult result
         (λ n. ForTexts checksum (IsCheckedAs bytes.now n.0 n.1))

@@ -8,7 +8,7 @@ use bech32::primitives::decode::{
     CheckedHrpstringError, ChecksumError, CodeLengthError, PaddingError, SegwitHrpstringError,
     UncheckedHrpstringError,
 };
-use bech32::primitives::hrp;
+use bech32::primitives::hrp::Error as HrpError;
 use bech32::{EncodeError, segwit};
 use bech32_numbers::{
     NO_CORRECTION, address_error_number, checksum_error_number, encode_error_number,
@@ -31,7 +31,7 @@ pub enum Refusal {
     /// Lent memory does not suffice.
     Memory,
     /// A human-readable part is none.
-    Hrp(hrp::Error),
+    Hrp(HrpError),
     /// The text would be longer than the checksum's code.
     TooLong(CodeLengthError),
     /// The text is not in the grammar.
@@ -74,22 +74,12 @@ impl Refusal {
     }
 }
 
-impl From<NotText> for Refusal {
-    ghost use Rattle.bech32_calls.specs.declared.refusal.Refusal.TheVariants.{NotUtf8};
-
-    ghost from_gives = { λ _ r. r ≡ NotUtf8 };
-
-    fn from(_: NotText) -> Refusal {
-        Refusal::NotUtf8
-    }
-}
-
-impl From<hrp::Error> for Refusal {
+impl From<HrpError> for Refusal {
     ghost use Rattle.bech32_calls.specs.declared.refusal.Refusal.TheVariants.{Hrp};
 
     ghost from_gives = { λ e r. r ≡ Hrp e };
 
-    fn from(e: hrp::Error) -> Refusal {
+    fn from(e: HrpError) -> Refusal {
         Refusal::Hrp(e)
     }
 }
@@ -131,8 +121,8 @@ impl From<CheckedHrpstringError> for Refusal {
 
     fn from(e: CheckedHrpstringError) -> Refusal {
         match e {
-            CheckedHrpstringError::Parse(e) => Refusal::Text(e),
-            CheckedHrpstringError::Checksum(e) => Refusal::Checksum(e),
+            CheckedHrpstringError::Parse(e) => e.into(),
+            CheckedHrpstringError::Checksum(e) => e.into(),
         }
     }
 }
@@ -154,5 +144,15 @@ impl From<SegwitHrpstringError> for Refusal {
 
     fn from(e: SegwitHrpstringError) -> Refusal {
         Refusal::Address(e)
+    }
+}
+
+impl From<NotText> for Refusal {
+    ghost use Rattle.bech32_calls.specs.declared.refusal.Refusal.TheVariants.{NotUtf8};
+
+    ghost from_gives = { λ _ r. r ≡ NotUtf8 };
+
+    fn from(_: NotText) -> Refusal {
+        Refusal::NotUtf8
     }
 }

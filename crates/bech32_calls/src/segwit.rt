@@ -111,6 +111,8 @@ fn read_short(text: &[u8]) -> Result<Reading<'_, Bech32m>, Refusal>
 /// # Errors
 ///
 /// The first of: a text that is not UTF-8; its first fault; a buffer that is too small.
+// In line, where two crates call it: what was read is then in registers, and no result is cleared.
+#[inline(always)]
 pub fn decoded(
     text: &[u8],
     hrp: &mut [u8],

@@ -90,36 +90,14 @@ fn encode_row(
     }
 }
 
-// Puts the addresses of this many rows, and returns how many are put: fewer where one does not fit.
-fn put_rows(
-    rows: &Programs<'_>,
-    most: usize,
-    numbers: &mut [u8],
-    offsets: &mut [u32],
-    texts: &mut [u8],
-) -> usize
-    requires rows { rows.now.first + most ≤ rows.now.column.rows }
-    requires versions { most ≤ length rows.now.versions.now }
-    requires most { most ≤ length numbers.old }
-    requires room { (most ≡ 0) ⊎ (most < length offsets.old) }
-    requires full { most ≢ length numbers.old → length offsets.old ≤ most + 1 }
-    ensures { PutsTexts rows.now.column rows.now.first rows.now.hrp.now rows.now.versions.now
-        numbers.old numbers.new offsets.old offsets.new texts.old texts.new result }
+// How many rows the buffers have items for: of offsets it takes one more.
+#[inline]
+fn most_rows(count: usize, offsets: usize) -> usize
+    ensures less { result ≤ count }
+    ensures room { (result ≡ 0) ⊎ (result < offsets) }
+    ensures full { result ≢ count → offsets ≤ result + 1 }
 {
-    let room = room_in(texts);
-    let mut end = 0;
-    put_item(offsets, 0, 0);
-    for i in 0..most {
-        let text = &mut texts[end..room];
-        let version = rows.versions[i];
-        let Some(row) = encode_row(&rows.column, rows.first + i, rows.hrp, version, text) else {
-            return i;
-        };
-        end += row.count;
-        put_item(offsets, i + 1, end as u32);
-        put_item(numbers, i, row.number);
-    }
-    most
+    count.min(offsets.saturating_sub(1))
 }
 
 /// Encodes the rows, as many as there are numbers, as segwit addresses: row `first + i` by the
@@ -150,6 +128,19 @@ pub fn encode_many(
     if !rows.column.has_rows(rows.first, numbers.len()) || rows.versions.len() < numbers.len() {
         return None;
     }
-    let most = numbers.len().min(offsets.len().saturating_sub(1));
-    Some(put_rows(rows, most, numbers, offsets, texts))
+    let most = most_rows(numbers.len(), offsets.len());
+    let room = room_in(texts);
+    let mut end = 0;
+    put_item(offsets, 0, 0);
+    for i in 0..most {
+        let text = &mut texts[end..room];
+        let version = rows.versions[i];
+        let Some(row) = encode_row(&rows.column, rows.first + i, rows.hrp, version, text) else {
+            return Some(i);
+        };
+        end += row.count;
+        put_item(offsets, i + 1, end as u32);
+        put_item(numbers, i, row.number);
+    }
+    Some(most)
 }

@@ -15,3 +15,4 @@ pub mod message;
 pub mod segwit;
 #[cfg(test)]
 mod tests;
+pub mod version;

@@ -2,8 +2,9 @@ use crate::correct::bech32_correct;
 use crate::decode::{bech32_check, bech32_decode};
 use crate::encode::bech32_encode;
 use crate::fault::bech32_fault;
-use crate::message::{bech32_message, bech32_version};
+use crate::message::bech32_message;
 use crate::segwit::{bech32_segwit_decode, bech32_segwit_encode};
+use crate::version::bech32_version;
 
 // Each call accepts what it is given.
 #[test]

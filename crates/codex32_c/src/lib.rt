@@ -22,3 +22,4 @@ pub mod share;
 pub mod split;
 #[cfg(test)]
 mod tests;
+pub mod version;

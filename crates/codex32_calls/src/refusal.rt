@@ -1,6 +1,7 @@
 //! Why a call writes nothing, and the numbers of refusals.
 
-ghost use Rattle.std.specs.Prelude.{◌≡◌, ◌<◌};
+ghost use Rattle.std.specs.Prelude.{◌≡◌};
+ghost use Rattle.bech32_numbers.specs.Numbers.{HasNumber};
 ghost use Rattle.codex32_calls.specs.Numbers.{number_of_codex32_refusal};
 
 use codex32::{Codex32Error, DeriveError, EncodeError, HeaderError, PayloadError, SplitError};
@@ -41,8 +42,7 @@ pub enum Refusal {
 impl Refusal {
     /// The number that a call returns.
     pub fn number(self) -> u32
-        ensures value { result ≡ number_of_codex32_refusal self }
-        ensures some { 0 < result }
+        ensures { HasNumber number_of_codex32_refusal self result }
     {
         let small: u8 = match self {
             Refusal::NotUtf8 => 2,

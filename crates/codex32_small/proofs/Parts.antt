@@ -7,11 +7,18 @@ use Rattle.bech32_gf.specs.Fe32.{elements_of}
 use Rattle.bech32_gf.specs.declared.gf32.Fe32.{Fe32}
 use Rattle.codex32.specs.Derive.{AreOfSet, IsOfSet, IsUnshared, count_of, indices_of, rows_of, size_of}
 use Rattle.codex32.specs.HeaderParts.{points_of, secret_index}
-use Rattle.codex32.specs.Share.{AreSharesOf}
+use Rattle.codex32.specs.Share.{AreSharesOf, characters_of_share, index_of_share}
 use Rattle.codex32.specs.declared.share.Share.{Share}
 use Rattle.codex32_calls.specs.Derive.{texts_of}
-use Rattle.codex32_small.specs.Parts.{characters_of_part, index_of_part, share_of_part, shares_of}
+use Rattle.codex32_small.specs.Parts.{share_of_part, shares_of}
 use Rattle.codex32_small.specs.declared.part.Part.{Part}
+
+-- what polynomials through shares see of a part
+abbrev pub index_of_part : Part → Fe32
+index_of_part p = index_of_share (share_of_part p)
+
+abbrev pub characters_of_part : Part → List ℕ
+characters_of_part p = characters_of_share (share_of_part p)
 
 pub length-shares : (ps : List Part) → length (shares_of ps) ≡ length ps
 length-shares ps = length-map ps share_of_part

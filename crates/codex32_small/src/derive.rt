@@ -1,9 +1,8 @@
 //! Derives codex32 strings from others of their set.
 
-ghost use Rattle.std.specs.Prelude.{◌≡◌, ◌≤◌, ◌<◌, ◌==◌, ◌↔◌, ◌⊎◌, ℕ, List, true, length, take, None, IfErr, IfOk, IsOk, IsTrue, MatchResult, OnErr};
+ghost use Rattle.std.specs.Prelude.{◌≡◌, ◌≤◌, ◌<◌, ◌==◌, ◌↔◌, ◌⊎◌, ℕ, List, true, length, take, IfErr, IfOk, IsOk, IsTrue, MatchResult, OnErr};
 ghost use Rattle.std.specs.List.{AllByRecursion, sum};
 ghost use Rattle.bech32_encode.specs.Buffers.{IsPut};
-ghost use Rattle.bech32_gf.specs.Alphabet.{is_data};
 ghost use Rattle.bech32_gf.specs.Fe32 as fe32;
 ghost use Rattle.bech32_gf.specs.Fe32.{element_of, elements_of};
 ghost use Rattle.bech32_numbers.specs.Refused.{IsNumberBy};
@@ -11,13 +10,12 @@ ghost use Rattle.codex32.specs.Derive.{IsDeriveIntoRefusal, IsDerivedString, IsO
 ghost use Rattle.codex32.specs.Header.{header_elements};
 ghost use Rattle.codex32.specs.HeaderParts.{points_of};
 ghost use Rattle.codex32.specs.Share.{AreSharesOf, IsShareOf};
-ghost use Rattle.codex32.specs.Strings.{header_fault};
 ghost use Rattle.codex32_calls.specs.Derive.{CanDerive, IsAsked, IsDeriveFault, IsTextsFault, PutsDerived, are_lengths, texts_of};
 ghost use Rattle.codex32_calls.specs.Faults.{IsNumberOfCodex32};
 ghost use Rattle.codex32_calls.specs.Share.{IsEitherFault};
 ghost use Rattle.codex32_numbers.specs.Numbers.{number_of_derive_error};
 ghost use Rattle.codex32_shares.specs.Shares.{IsGiven};
-ghost use Rattle.codex32_small.specs.Parts.{share_of_part, shares_of};
+ghost use Rattle.codex32_small.specs.Parts.{HasHeader, share_of_part, shares_of};
 
 use crate::part::Part;
 use crate::share::data_part_of;
@@ -46,9 +44,7 @@ const NO_ROOM: u32 = 92;
 
 // The header of a data part, whose first characters were tested.
 fn header_in(data_part: &[u8]) -> Header
-    requires size { 6 ≤ length data_part.now }
-    requires of_alphabet { is_data data_part.now ≡ true }
-    requires tested { header_fault data_part.now ≡ None }
+    requires { HasHeader data_part.now }
     ensures { header_elements result ≡ elements_of (take 6 data_part.now) }
 {
     let Some(threshold) = Threshold::new(data_part[0] - b'0') else {

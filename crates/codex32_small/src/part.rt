@@ -23,11 +23,12 @@ pub(crate) struct Part<'t> {
 }
 
 impl<'t> IndexedText for Part<'t> {
-    ghost use Rattle.codex32_small.specs.Parts.{characters_of_part as characters, index_of_part as index};
+    ghost use Rattle.codex32.specs.Share.{characters_of_share, index_of_share};
+    ghost use Rattle.codex32_small.specs.Parts.{share_of_part};
 
-    ghost index_of = { index };
+    ghost index_of = { λ p. index_of_share (share_of_part p) };
 
-    ghost characters_of = { characters };
+    ghost characters_of = { λ p. characters_of_share (share_of_part p) };
 
     fn index(&self) -> Fe32 {
         self.header.share_index()

@@ -10,7 +10,7 @@ ghost use Rattle.bech32_gf.specs.declared.gf32.Fe32.{Fe32 as Element};
 ghost use Rattle.bech32_poly.specs.Division.{remainder_of, step};
 ghost use Rattle.bech32_poly.specs.Polynomial.{appended};
 ghost use Rattle.codex32_steady_texts.specs.Parts.{ms};
-ghost use Rattle.codex32_small.specs.Code.{code_of_kind};
+ghost use Rattle.codex32_small.specs.Code.{code_of_kind, coefficients_of};
 
 use crate::product::product;
 use bech32_gf::gf32::Fe32;
@@ -46,25 +46,30 @@ pub(crate) fn degree_of(kind: Kind) -> usize
     }
 }
 
-// A lower coefficient of the generator.
-fn generator_at(kind: Kind, i: usize) -> Fe32
-    requires { i < length (code_of_kind kind).generator }
-    ensures { result ≡ get_or (code_of_kind kind).generator i fe32.zero }
-{
-    match kind {
-        Kind::Short => Fe32::from_low_bits(GENERATOR[i]),
-        Kind::Long => Fe32::from_low_bits(LONG_GENERATOR[i]),
-    }
+// A row of elements of a checksum.
+#[derive(Clone, Copy)]
+enum Row {
+    // The lower coefficients of the generator.
+    Generator,
+    // The coefficients of the target.
+    Target,
 }
 
-// A coefficient of the target.
-fn target_at(kind: Kind, i: usize) -> Fe32
+// An element of a row, that of the constant coefficient at 0. In line: the row is known there.
+#[inline(always)]
+fn coefficient_at(row: Row, kind: Kind, i: usize) -> Fe32
     requires { i < length (code_of_kind kind).generator }
-    ensures { result ≡ get_or (code_of_kind kind).target i fe32.zero }
+    ensures { result ≡ get_or (coefficients_of row (code_of_kind kind)) i fe32.zero }
 {
-    match kind {
-        Kind::Short => Fe32::from_low_bits(TARGET[i]),
-        Kind::Long => Fe32::from_low_bits(LONG_TARGET[i]),
+    match row {
+        Row::Generator => match kind {
+            Kind::Short => Fe32::from_low_bits(GENERATOR[i]),
+            Kind::Long => Fe32::from_low_bits(LONG_GENERATOR[i]),
+        },
+        Row::Target => match kind {
+            Kind::Short => Fe32::from_low_bits(TARGET[i]),
+            Kind::Long => Fe32::from_low_bits(LONG_TARGET[i]),
+        },
     }
 }
 
@@ -78,7 +83,7 @@ fn take_in(kind: Kind, rest: &mut [Fe32], next: Fe32)
     let mut coming = next;
     for i in 0..rest.len() {
         let here = rest[i];
-        rest[i] = coming + product(generator_at(kind, i), top);
+        rest[i] = coming + product(coefficient_at(Row::Generator, kind, i), top);
         coming = here;
     }
 }
@@ -117,7 +122,11 @@ fn take_target(kind: Kind, rest: &mut [Fe32])
         (appended p (reverse (code_of_kind kind).target)) }
 {
     for i in 0..rest.len() {
-        take_in(kind, rest, target_at(kind, rest.len() - 1 - i));
+        take_in(
+            kind,
+            rest,
+            coefficient_at(Row::Target, kind, rest.len() - 1 - i),
+        );
     }
 }
 
@@ -129,7 +138,7 @@ fn are_target(kind: Kind, rest: &[Fe32]) -> bool
 {
     let mut same = true;
     for i in 0..rest.len() {
-        same &= rest[i] == target_at(kind, i);
+        same &= rest[i] == coefficient_at(Row::Target, kind, i);
     }
     same
 }

@@ -13,3 +13,4 @@ pub mod message;
 pub mod share;
 #[cfg(test)]
 mod tests;
+pub mod version;

@@ -1,7 +1,8 @@
 use crate::derive::codex32_derive;
 use crate::encode::{codex32_encode, codex32_encode_payload};
-use crate::message::{codex32_message, codex32_version};
+use crate::message::codex32_message;
 use crate::share::codex32_share;
+use crate::version::codex32_version;
 
 // Each call accepts what it is given.
 #[test]

@@ -7,7 +7,7 @@ use Rattle.std.proofs.lemmas.Simd.{map-map}
 use Rattle.bech32_encode.specs.Buffers.{IsPut}
 use Rattle.bech32_calls.specs.Fitting.{FirstFit, IsMost}
 use Rattle.bech32_calls.proofs.Fitting.{first_fit, first_fit_back, joined_first, most_as}
-use Rattle.bech32_calls.proofs.Joined.{joined_more}
+use Rattle.bech32_calls.proofs.Joined.{joined_more, put_joined}
 use Rattle.bech32_calls.proofs.Puts.{put-same}
 use Rattle.bech32_descriptor.specs.Edits.{IsMendWithin, IsToldAt}
 use Rattle.bech32_descriptor.specs.Mends.{AreMends}
@@ -62,6 +62,15 @@ module _ {A : Type 0} (pairs : A → List ℕ) (two : (m : A) → length (pairs 
         buffer = is ∙ ap (λ (k : ℕ). flat_map pairs (take n items) ++ drop k old) (sym size);
         count_is = refl;
       }
+
+-- one text more behind the others
+pub text_more : {A : Type 0} (f : A → List ℕ) (items : List A) (old b c x : List ℕ) (i end next : ℕ) (d : A) → i < length items → x ≡ f (get_or items i d)
+    → end ≡ length (flat_map f (take i items)) → b ≡ flat_map f (take i items) ++ drop end old → next ≡ end + length x → c ≡ take end b ++ (x ++ drop (length x) (drop end b))
+    → c ≡ flat_map f (take (i + 1) items) ++ drop next old
+text_more f items old b c x i end next d less same size is at put =
+    put
+    ∙ put_joined f items old b (x ++ drop (length x) (drop end b)) i end d less size is (ap (λ (y : List ℕ). y ++ drop (length y) (drop end b)) same)
+    ∙ ap (λ (k : ℕ). flat_map f (take (i + 1) items) ++ drop k old) (ap (λ (y : List ℕ). end + length y) (sym same) ∙ sym at)
 
 module _ {A : Type 0} (edit : A → Edit) (text : A → List ℕ) (items : List A) where
   abbrev pairs : A → List ℕ

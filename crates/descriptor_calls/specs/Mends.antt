@@ -1,8 +1,9 @@
 -- The descriptors that one edit makes of a text put into buffers, and why none are.
 use Rattle.std.specs.Prelude.{◌≡◌, ◌<◌, ◌≤◌, ◌+◌, ◌*◌, ℕ, List, [], ◌∷◌, length, map, flat_map}
-use Rattle.std.specs.Prelude.{take}
+use Rattle.std.specs.Prelude.{take, true, false}
 use Rattle.bech32_encode.specs.Buffers.{IsPut}
 use Rattle.bech32_calls.specs.Fitting.{FirstFit, IsMost}
+use Rattle.bech32_calls.specs.declared.listed.Listed.{Listed}
 use Rattle.bech32_descriptor.specs.Mends.{AreMends, MayBeMended}
 use Rattle.bech32_descriptor.specs.declared.edits.Change.{Change}
 use Rattle.bech32_descriptor.specs.declared.edits.Change.TheVariants.{Changed, LeftOut, PutIn}
@@ -68,6 +69,14 @@ pub record PutsFirstMends (most : ℕ) (text kinds kinds' places places' texts t
   pub most_fit : IsMost (MendsFit found (length kinds) (length places) (length texts))
       (length found) put_count
   pub put : PutsEachMend (take put_count found) kinds kinds' places places' texts texts'
+
+-- all or the first ones are put, and this is told of them
+pub record ListsMends (most : ℕ) (text kinds kinds' places places' texts texts' : List ℕ)
+    (listed : Listed) : Type 0 where
+  pub all : listed.fit ≡ true
+      → PutsMends most text kinds kinds' places places' texts texts' listed.count
+  pub first : listed.fit ≡ false
+      → PutsFirstMends most text kinds kinds' places places' texts texts' listed.count
 
 -- why nothing is put into buffers, the first that applies: more than one character is to be
 -- changed; the text is too long; or neither, descriptors may come from it, and the memory does not

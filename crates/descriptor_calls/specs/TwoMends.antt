@@ -1,7 +1,9 @@
 -- The descriptors that two changed characters make of a text put into buffers.
 use Rattle.std.specs.Prelude.{◌≡◌, ◌<◌, ◌≤◌, ◌*◌, ℕ, List, [], ◌∷◌, length, flat_map, take}
+use Rattle.std.specs.Prelude.{true, false}
 use Rattle.bech32_encode.specs.Buffers.{IsPut}
 use Rattle.bech32_calls.specs.Fitting.{FirstFit, IsMost}
+use Rattle.bech32_calls.specs.declared.listed.Listed.{Listed}
 use Rattle.bech32_descriptor.specs.Mends.{MayBeMended}
 use Rattle.bech32_descriptor.specs.Pairs.{AreTwoMends}
 use Rattle.bech32_descriptor.specs.declared.edits.TwoEdits.{TwoEdits}
@@ -43,6 +45,12 @@ pub record PutsFirstTwoMends (text places places' texts texts' : List ℕ) (coun
   pub lacks : put_count < length found
   pub most_fit : IsMost (TwoMendsFit found (length places) (length texts)) (length found) put_count
   pub put : PutsEachTwo (take put_count found) places places' texts texts'
+
+-- all or the first ones are put, and this is told of them
+pub record ListsTwoMends (text places places' texts texts' : List ℕ) (listed : Listed)
+    : Type 0 where
+  pub all : listed.fit ≡ true → PutsTwoMends text places places' texts texts' listed.count
+  pub first : listed.fit ≡ false → PutsFirstTwoMends text places places' texts texts' listed.count
 
 -- why nothing is put into buffers: the text is too long; or it is not, descriptors may come from
 -- it, and the memory does not suffice

@@ -1,10 +1,10 @@
 //! Lists the descriptors that one edit makes of a text.
 
-ghost use Rattle.std.specs.Prelude.{◌≡◌, ◌<◌, ◌≤◌, ◌⊎◌, length, map, take, true, false, IfErr, IfOk, MatchResult, OnErr};
+ghost use Rattle.std.specs.Prelude.{◌≡◌, ◌<◌, ◌≤◌, ◌⊎◌, ◌+◌, ◌-◌, ◌++◌, length, map, take, drop, true, false, IfErr, IfOk, MatchOption, MatchResult};
 ghost use Rattle.std.specs.List.{AllByRecursion};
 ghost use Rattle.bech32_calls.specs.Fitting.{IsMost};
 ghost use Rattle.caller_memory.specs.Memory.{IsKept, LeavesMemory, memory_size};
-ghost use Rattle.descriptor_calls.specs.Mends.{IsMendFault, MendsFit, PutsEachMend, PutsFirstMends, PutsMends, number_of_mend_change, number_of_mend, second_place};
+ghost use Rattle.descriptor_calls.specs.Mends.{IsMendFault, ListsMends, MendsFit, PutsEachMend, PutsFirstMends, PutsMends, number_of_mend_change, number_of_mend, second_place};
 
 use bech32_calls::listed::Listed;
 use bech32_descriptor::{Change, Edit, Mended, mend_in};
@@ -59,6 +59,32 @@ fn second(edit: Edit) -> usize
     }
 }
 
+/// What is told of no texts.
+pub(crate) fn nothing() -> Listed
+    ensures { (result.count ≡ 0) × (result.fit ≡ true) }
+{
+    Listed {
+        count: 0,
+        fit: true,
+    }
+}
+
+/// Puts a text behind others, where there is room for it, and returns where it ends.
+pub(crate) fn put_behind(text: &[u8], end: usize, texts: &mut [u8]) -> Option<usize>
+    requires { end ≤ length texts.old }
+    ensures { MatchOption result
+        ((length texts.old - end < length text.now) × (texts.new ≡ texts.old))
+        (λ next. (next ≡ end + length text.now) × (next ≤ length texts.old)
+        × (texts.new
+        ≡ take end texts.old ++ (text.now ++ drop (length text.now) (drop end texts.old)))) }
+{
+    if text.len() > texts.len() - end {
+        return None;
+    }
+    put_at_front(&mut texts[end..], text);
+    Some(end + text.len())
+}
+
 // Puts edits and their texts at the fronts of buffers, as many as fit, and returns how many.
 fn put_each<A: Allocator + Copy>(
     found: &[Mended<Vec<u8, A>>],
@@ -76,19 +102,18 @@ fn put_each<A: Allocator + Copy>(
     let mut end = 0;
     for i in 0..most {
         let text = found[i].text.as_slice();
-        if text.len() > texts.len() - end {
+        let Some(next) = put_behind(text, end, texts) else {
             return i;
-        }
+        };
         kinds[i] = change_number(found[i].edit.change);
         places[2 * i] = found[i].edit.place;
         places[2 * i + 1] = second(found[i].edit);
-        put_at_front(&mut texts[end..], text);
-        end += text.len();
+        end = next;
     }
     most
 }
 
-// Puts the descriptors that one edit makes of a text into buffers.
+// Puts the descriptors that one edit makes of a text into buffers, if memory suffices.
 fn put_found(
     lent: &Lent,
     text: &[u8],
@@ -96,25 +121,20 @@ fn put_found(
     kinds: &mut [u8],
     places: &mut [usize],
     texts: &mut [u8],
-) -> Result<Listed, MendRefusal>
+) -> Option<Listed>
     requires { length text.now ≤ 7500 }
-    ensures all { IfOk result (λ listed. listed.fit ≡ true
-        → PutsMends most text.now kinds.old kinds.new places.old places.new
-        texts.old texts.new listed.count) }
-    ensures first { IfOk result (λ listed. listed.fit ≡ false
-        → PutsFirstMends most text.now kinds.old kinds.new places.old places.new
-        texts.old texts.new listed.count) }
-    ensures refused { IfErr result (λ e. e ≡ MendRefusal.Memory) }
-    ensures same { OnErr result ((kinds.new ≡ kinds.old) × (places.new ≡ places.old)
-        × (texts.new ≡ texts.old)) }
+    ensures { MatchOption result
+        ((kinds.new ≡ kinds.old) × (places.new ≡ places.old) × (texts.new ≡ texts.old))
+        (λ listed. ListsMends most text.now
+        kinds.old kinds.new places.old places.new texts.old texts.new listed) }
 {
     let arena = lent.arena();
     let Ok(found) = mend_in(&arena, text, most) else {
-        return Err(MendRefusal::Memory);
+        return None;
     };
     let mends = found.as_slice();
     let put = put_each(mends, kinds, places, texts);
-    Ok(Listed {
+    Some(Listed {
         count: mends.len(),
         fit: put == mends.len(),
     })
@@ -165,10 +185,7 @@ pub fn put_mends(
         return Err(MendRefusal::TooLong);
     }
     if text.len() < 8 {
-        return Ok(Listed {
-            count: 0,
-            fit: true,
-        });
+        return Ok(nothing());
     }
     let lent = Lent::new(memory.take());
     let listed = put_found(&lent, text, most, kinds, places, texts);
@@ -176,5 +193,8 @@ pub fn put_mends(
     if !lent.put_back(memory) {
         return Err(MendRefusal::Memory);
     }
-    listed
+    match listed {
+        Some(listed) => Ok(listed),
+        None => Err(MendRefusal::Memory),
+    }
 }

@@ -1,14 +1,13 @@
 //! Lists the descriptors that two changed characters make of a text.
 
-ghost use Rattle.std.specs.Prelude.{◌≡◌, ◌<◌, ◌≤◌, ◌⊎◌, length, map, take, true, false, IfErr, IfOk, MatchResult, OnErr};
+ghost use Rattle.std.specs.Prelude.{◌≡◌, ◌<◌, ◌≤◌, ◌⊎◌, length, map, take, true, false, IfErr, IfOk, MatchOption, MatchResult};
 ghost use Rattle.bech32_calls.specs.Fitting.{IsMost};
 ghost use Rattle.caller_memory.specs.Memory.{IsKept, LeavesMemory, memory_size};
-ghost use Rattle.descriptor_calls.specs.TwoMends.{IsTwoMendFault, PutsEachTwo, PutsFirstTwoMends, PutsTwoMends, TwoMendsFit};
+ghost use Rattle.descriptor_calls.specs.TwoMends.{IsTwoMendFault, ListsTwoMends, PutsEachTwo, PutsFirstTwoMends, PutsTwoMends, TwoMendsFit};
 
-use crate::mends::MendRefusal;
+use crate::mends::{MendRefusal, nothing, put_behind};
 use bech32_calls::listed::Listed;
 use bech32_descriptor::{MendedTwice, mend_two_in};
-use bech32_encode::put_at_front;
 use caller_memory::{Lent, Memory};
 use std::alloc::Allocator;
 
@@ -28,40 +27,31 @@ fn put_each_two<A: Allocator + Copy>(
     let mut end = 0;
     for i in 0..most {
         let text = found[i].text.as_slice();
-        if texts.len() - end < text.len() {
+        let Some(next) = put_behind(text, end, texts) else {
             return i;
-        }
+        };
         let edits = found[i].edits;
         places[2 * i] = edits.first.place;
         places[2 * i + 1] = edits.second.place;
-        put_at_front(&mut texts[end..], text);
-        end += text.len();
+        end = next;
     }
     most
 }
 
-// Puts the descriptors that two changed characters make of a text into buffers.
-fn put_two_found(
-    lent: &Lent,
-    text: &[u8],
-    places: &mut [usize],
-    texts: &mut [u8],
-) -> Result<Listed, MendRefusal>
+// Puts the descriptors that two changed characters make of a text into buffers, if memory suffices.
+fn put_two_found(lent: &Lent, text: &[u8], places: &mut [usize], texts: &mut [u8]) -> Option<Listed>
     requires { length text.now ≤ 7500 }
-    ensures all { IfOk result (λ listed. listed.fit ≡ true
-        → PutsTwoMends text.now places.old places.new texts.old texts.new listed.count) }
-    ensures first { IfOk result (λ listed. listed.fit ≡ false
-        → PutsFirstTwoMends text.now places.old places.new texts.old texts.new listed.count) }
-    ensures refused { IfErr result (λ e. e ≡ MendRefusal.Memory) }
-    ensures same { OnErr result ((places.new ≡ places.old) × (texts.new ≡ texts.old)) }
+    ensures { MatchOption result
+        ((places.new ≡ places.old) × (texts.new ≡ texts.old))
+        (λ listed. ListsTwoMends text.now places.old places.new texts.old texts.new listed) }
 {
     let arena = lent.arena();
     let Ok(found) = mend_two_in(&arena, text) else {
-        return Err(MendRefusal::Memory);
+        return None;
     };
     let mends = found.as_slice();
     let put = put_each_two(mends, places, texts);
-    Ok(Listed {
+    Some(Listed {
         count: mends.len(),
         fit: put == mends.len(),
     })
@@ -100,10 +90,7 @@ pub fn put_two_mends(
         return Err(MendRefusal::TooLong);
     }
     if text.len() < 9 {
-        return Ok(Listed {
-            count: 0,
-            fit: true,
-        });
+        return Ok(nothing());
     }
     let lent = Lent::new(memory.take());
     let listed = put_two_found(&lent, text, places, texts);
@@ -111,5 +98,8 @@ pub fn put_two_mends(
     if !lent.put_back(memory) {
         return Err(MendRefusal::Memory);
     }
-    listed
+    match listed {
+        Some(listed) => Ok(listed),
+        None => Err(MendRefusal::Memory),
+    }
 }

@@ -1,5 +1,6 @@
-use crate::message::{bech32_message, bech32_version};
+use crate::message::bech32_message;
 use crate::tests::{BEFORE, LENGTH_BEFORE, holds, is_untouched, same};
+use crate::version::bech32_version;
 use std::process::Abort;
 
 const ROOM: usize = 100;

@@ -1,5 +1,6 @@
 use super::{BYTE_BEFORE, LENGTH_BEFORE, same};
-use crate::message::{codex32_message, codex32_version};
+use crate::message::codex32_message;
+use crate::version::codex32_version;
 use std::process::Abort;
 
 const ROOM: usize = 100;

@@ -6,17 +6,15 @@ use Rattle.codex32.specs.Strings.{is_within_either}
 use Rattle.codex32_small.specs.Parts.{share_of_part}
 use Rattle.codex32_small.proofs.derive.part_of.Goals as goal
 
-pub header_in-requires-clause-size : goal.header_in-requires-clause-size
-header_in-requires-clause-size c =
+pub header_in-requires : goal.header_in-requires
+header_in-requires c =
     let has = c.in_ok-characters.ensures in
     let long = fits (3 + length has.share.data_part.now) has.share.within in
-    omega (arith, long.least, ap (λ (l : List ℕ). length l) has.characters)
-
-pub header_in-requires-clause-of_alphabet : goal.header_in-requires-clause-of_alphabet
-header_in-requires-clause-of_alphabet c = let has = c.in_ok-characters.ensures in subst (λ (l : List ℕ). is_data l ≡ true) has.characters has.share.of_alphabet
-
-pub header_in-requires-clause-tested : goal.header_in-requires-clause-tested
-header_in-requires-clause-tested c = c.in_ok-characters.ensures.fine
+    record {
+      size = omega (arith, long.least, ap (λ (l : List ℕ). length l) has.characters);
+      of_alphabet = subst (λ (l : List ℕ). is_data l ≡ true) has.characters has.share.of_alphabet;
+      tested = has.fine;
+    }
 
 pub invariant_of-result : goal.invariant_of-result
 invariant_of-result c =

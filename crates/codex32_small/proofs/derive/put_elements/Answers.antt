@@ -6,9 +6,9 @@ use Rattle.codex32_shares.specs.Shares.{AreShares, DoAgree, IsGiven}
 use Rattle.codex32.specs.Derive.{count_of, indices_of, rows_of, size_of}
 use Rattle.codex32.proofs.Derived.{count-some, shares-from_set}
 use Rattle.codex32.proofs.ShareParts.{fits}
-use Rattle.codex32_small.specs.Parts.{characters_of_part, index_of_part, shares_of}
+use Rattle.codex32_small.specs.Parts.{shares_of}
 use Rattle.codex32_small.specs.declared.part.Part.{Part}
-use Rattle.codex32_small.proofs.Parts.{indices-parts, rows-parts, size-parts}
+use Rattle.codex32_small.proofs.Parts.{characters_of_part, index_of_part, indices-parts, rows-parts, size-parts}
 use Rattle.codex32_small.proofs.derive.put_elements.Goals as goal
 
 -- the rows of parts

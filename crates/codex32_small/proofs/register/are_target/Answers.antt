@@ -42,9 +42,9 @@ loop-i-preserved c =
     let rest = c.args.rest.now in
     let target : List Fe32 = (code_of_kind c.args.kind).target in
     let within : i < length rest = c.loop-i-test.true in
-    let stepped = step rest target i c.index-rest-i.result c.target_at.result c.loop-i.same c.eq-same.result
+    let stepped = step rest target i c.index-rest-i.result c.coefficient_at.result c.loop-i.same c.eq-same.result
     within (omega (arith, within, c.requires, length-target c.args.kind)) c.index-rest-i.is
-    c.target_at.ensures c.eq-same.ensures c.loop-i.invariant.alike c.loop-i.invariant.apart in
+    c.coefficient_at.ensures c.eq-same.ensures c.loop-i.invariant.alike c.loop-i.invariant.apart in
     record { alike = stepped.0; apart = stepped.1 }
 
 found : (xs ys : List Fe32) (s : Bool) → (s ≡ false → Differ xs ys) → xs ≡ ys → s ≡ true

@@ -25,7 +25,7 @@ loop-i-preserved c =
     let is_top : c.index-rest-rest.result ≡ f =
     c.index-rest-rest.is ∙ last_out next c.index-rest-rest.result old (length old) (omega arith) (omega (arith, least, size)) in
     let scaled : c.product.result ≡ fe32.mul f (get_or low i fe32.zero) =
-    c.product.ensures ∙ is_field.mul_comm c.generator_at.result c.index-rest-rest.result ∙ ap (λ (x : Fe32). fe32.mul x c.generator_at.result) is_top ∙ ap (fe32.mul f) c.generator_at.ensures in
+    c.product.ensures ∙ is_field.mul_comm c.coefficient_at.result c.index-rest-rest.result ∙ ap (λ (x : Fe32). fe32.mul x c.coefficient_at.result) is_top ∙ ap (fe32.mul f) c.coefficient_at.ensures in
     let put : c.add.result ≡ get_or new i fe32.zero =
     c.add.ensures ∙ ap (λ (x : Fe32). fe32.add x c.product.result) c.loop-i.invariant.out ∙ ap (fe32.add (top next (take i old))) scaled ∙ sym (stepped_at f next low old i size within) in
     record {

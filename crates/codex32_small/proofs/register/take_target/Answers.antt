@@ -15,13 +15,13 @@ loop-i-preserved c =
     let target : List Fe32 = (code_of_kind c.args.kind).target in
     let i : ℕ = c.loop-i.i in
     let rest : List Fe32 = c.loop-i.rest in
-    let x : Fe32 = c.target_at.result in
+    let x : Fe32 = c.coefficient_at.result in
     let size : length rest ≡ length low = c.loop-i.invariant.size ∙ c.requires in
     let inside : i < length target = omega (arith, c.loop-i-test.true, size, length-target c.args.kind, c.loop-i.invariant.size) in
     let within : i < length (reverse target) = omega (arith, inside, length-reverse target) in
     let place : length rest - 1 - i ≡ length target - 1 - i = omega (arith, size, length-target c.args.kind) in
     let read : x ≡ get_or (reverse target) i fe32.zero =
-    c.target_at.ensures ∙ ap (λ (k : ℕ). get_or target k fe32.zero) place ∙ sym (get_or-reverse target i fe32.zero inside) in
+    c.coefficient_at.ensures ∙ ap (λ (k : ℕ). get_or target k fe32.zero) place ∙ sym (get_or-reverse target i fe32.zero inside) in
     record {
       size = ap (λ (r : List Fe32). length r) c.take_in.ensures ∙ length-stepped (top x rest) x low rest (sym size) ∙ c.loop-i.invariant.size;
       so_far = λ p h. remainder-more c.args.kind p (reverse target) rest _ i x within read (c.loop-i.invariant.so_far p h) c.take_in.ensures;

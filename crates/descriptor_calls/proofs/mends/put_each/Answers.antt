@@ -1,42 +1,37 @@
 use Rattle.std.specs.Prelude.{◌/◌, flat_map, map, set}
 use Rattle.std.proofs.Common.{◌≡◌, ◌<◌, ◌≤◌, ◌+◌, ◌*◌, ◌∙◌, ◌∷◌, [], ℕ, get_or, length, min, take, ap, refl, subst, arith}
 use Rattle.std.proofs.lemmas.List.{get_or_default}
-use Rattle.bech32_calls.proofs.Joined.{most_at, next_room, next_size, put_first_joined, put_next}
+use Rattle.bech32_calls.proofs.Joined.{most_at, next_size, put_first_joined}
 use Rattle.bech32_calls.proofs.Listings.{put_first, put_more}
 use Rattle.bech32_descriptor.specs.declared.edits.Edit.{Edit}
 use Rattle.descriptor_calls.specs.Mends.{PutsEachMend, number_of_mend_change, places_of, second_place}
-use Rattle.descriptor_calls.proofs.Puts.{first_places, most_of_rooms, most_of_texts, pair_more, place_at, puts_each}
+use Rattle.descriptor_calls.proofs.Puts.{first_places, most_of_rooms, most_of_texts, pair_more, place_at, puts_each, text_more}
 use Rattle.descriptor_calls.proofs.mends.put_each.Goals as goal
 
-pub returns-then-text-texts-clause-most : goal.returns-then-text-texts-clause-most
-returns-then-text-texts-clause-most g c =
+pub returns-in_default-clause-most : goal.returns-in_default-clause-most
+returns-in_default-clause-most g c =
     let found = c.args.found.now in
     let i = c.loop-i.i in
     let less : i < length found = omega (arith, c.loop-i-test.true, c.min.ensures, c.min-most.ensures) in
     let few_kinds : i ≤ length c.args.kinds.now = omega (arith, c.loop-i-test.true, c.min.ensures, c.min-most.ensures) in
     let few_places : 2 * i ≤ length c.args.places.now = omega (arith, c.loop-i-test.true, c.min.ensures, c.min-most.ensures) in
+    let none = rw c.in_default.is at c.put_behind.ensures in
     most_of_texts (λ m. m.edit) (λ m. m.text.items) found (length c.args.kinds.now) (length c.args.places.now) (length c.args.texts.now) i few_kinds few_places
     (most_at (λ m. m.text.items) found i c.index-found-i.result c.loop-i.end c.as_slice-text.result.now less c.as_slice-text.ensures.value c.loop-i.invariant.size
-    (length c.args.texts.now) c.loop-i.invariant.fits (omega (arith, c.if-text-texts.true, c.loop-i.auto.texts)))
+    (length c.args.texts.now) c.loop-i.invariant.fits (omega (arith, none.0, c.loop-i.auto.texts)))
 
-pub returns-then-text-texts-clause-put : goal.returns-then-text-texts-clause-put
-returns-then-text-texts-clause-put g c =
+pub returns-in_default-clause-put : goal.returns-in_default-clause-put
+returns-in_default-clause-put g c =
     let found = c.args.found.now in
     let i = c.loop-i.i in
     let less : i < length found = omega (arith, c.loop-i-test.true, c.min.ensures, c.min-most.ensures) in
     let few_kinds : i ≤ length c.args.kinds.now = omega (arith, c.loop-i-test.true, c.min.ensures, c.min-most.ensures) in
     let few_places : 2 * i ≤ length c.args.places.now = omega (arith, c.loop-i-test.true, c.min.ensures, c.min-most.ensures) in
-    puts_each (λ m. m.edit) (λ m. m.text.items) found c.args.kinds.now c.loop-i.kinds c.args.places.now c.loop-i.places c.args.texts.now c.loop-i.texts i (omega (arith, less))
+    rw (rw c.in_default.is at c.put_behind.ensures).1
+    (puts_each (λ m. m.edit) (λ m. m.text.items) found c.args.kinds.now c.loop-i.kinds c.args.places.now c.loop-i.places c.args.texts.now c.loop-i.texts i (omega (arith, less))
     (put_first (λ m. number_of_mend_change m.edit.change) found c.args.kinds.now c.loop-i.kinds i (omega (arith, less)) few_kinds c.loop-i.invariant.kinds)
     (first_places (λ m. places_of m.edit) (λ m. refl) found c.args.places.now c.loop-i.places i (omega (arith, less)) few_places c.loop-i.invariant.places)
-    (put_first_joined (λ m. m.text.items) found c.args.texts.now c.loop-i.texts i c.loop-i.end c.loop-i.invariant.size c.loop-i.invariant.fits c.loop-i.invariant.buffer)
-
-pub put_at_front-requires : goal.put_at_front-requires
-put_at_front-requires g c =
-    let less : c.loop-i.i < length c.args.found.now = omega (arith, c.loop-i-test.true, c.min.ensures, c.min-most.ensures) in
-    next_room (λ m. m.text.items) c.args.found.now c.loop-i.i c.index-found-i.result c.loop-i.end c.as_slice-text.result.now
-    less c.as_slice-text.ensures.value c.loop-i.invariant.size
-    c.loop-i.texts (omega (arith, c.if-text-texts.false))
+    (put_first_joined (λ m. m.text.items) found c.args.texts.now c.loop-i.texts i c.loop-i.end c.loop-i.invariant.size c.loop-i.invariant.fits c.loop-i.invariant.buffer))
 
 pub loop-i-preserved : goal.loop-i-preserved
 loop-i-preserved g c =
@@ -50,16 +45,17 @@ loop-i-preserved g c =
     let place = place_at (λ m. m.edit) found i e c.requires less in
     let second : c.second.result ≡ second_place (get_or found i d).edit =
     c.second.ensures place ∙ ap (λ m. second_place m.edit) (get_or_default found i e d less) in
+    let put = rw c.in-Some.is at c.put_behind.ensures in
     record {
-      size = next_size (λ m. m.text.items) found i c.index-found-i.result c.loop-i.end c.as_slice-text.result.now less c.as_slice-text.ensures.value c.loop-i.invariant.size;
-      fits = omega (arith, c.if-text-texts.false, c.loop-i.auto.texts, c.loop-i.invariant.fits);
+      size = put.0 ∙ next_size (λ m. m.text.items) found i c.index-found-i.result c.loop-i.end c.as_slice-text.result.now less c.as_slice-text.ensures.value c.loop-i.invariant.size;
+      fits = omega (arith, put.1, c.loop-i.auto.texts);
       kinds =
           ap (set c.loop-i.kinds i) c.change_number.ensures
           ∙ put_more (λ m. number_of_mend_change m.edit.change) found c.args.kinds.now c.loop-i.kinds i c.index-found-i-in-loop-i.result less less_kinds c.loop-i.invariant.kinds;
       places = pair_more (λ m. places_of m.edit) (λ m. refl) found c.args.places.now c.loop-i.places i (get_or found i d).edit.place c.second.result d less less_places c.loop-i.invariant.places
           (ap (λ (n : ℕ). (get_or found i d).edit.place ∷ n ∷ []) second);
-      buffer = put_next (λ m. m.text.items) found i c.index-found-i.result c.loop-i.end c.as_slice-text.result.now less c.as_slice-text.ensures.value c.loop-i.invariant.size
-          c.args.texts.now c.loop-i.texts c.put_at_front.new.buffer c.loop-i.invariant.buffer c.put_at_front.ensures.buffer;
+      buffer = text_more (λ m. m.text.items) found c.args.texts.now c.loop-i.texts c.put_behind.new.texts c.as_slice-text.result.now i c.loop-i.end c.in-Some.next c.index-found-i.result
+          less c.as_slice-text.ensures.value c.loop-i.invariant.size c.loop-i.invariant.buffer put.0 put.2;
     }
 
 pub returns-clause-most : goal.returns-clause-most

@@ -3,7 +3,7 @@ use Rattle.std.proofs.Common.{◌≡◌, ◌≤◌, ◌<◌, ◌+◌, ◌-◌, �
 use Rattle.bech32_columns.specs.Encoded.{PutsTexts, TextRow}
 use Rattle.bech32_columns.proofs.Held.{held-behind, held-none, part-size, put_mid-same}
 use Rattle.bech32_columns.proofs.Rowed.{texts-more, texts-none, texts-some}
-use Rattle.bech32_columns.proofs.encode.put_rows.Goals as goal
+use Rattle.bech32_columns.proofs.encode.encode_many.Goals as goal
 
 pub loop-i-init : goal.loop-i-init
 loop-i-init c = record {
@@ -12,8 +12,8 @@ loop-i-init c = record {
   within = omega arith;
 }
 
-pub returns-in_default : goal.returns-in_default
-returns-in_default c =
+pub returns-in_default-clause-value : goal.returns-in_default-clause-value
+returns-in_default-clause-value c =
     let end : ℕ = c.loop-i.end in
     let k : ℕ = c.room_in-room.result - end in
     let xs : List ℕ = c.loop-i.texts in
@@ -21,12 +21,12 @@ returns-in_default c =
     let (written, said, lacks) = c.in_default.ensures.full in
     let row : TextRow = record { number = 0; text = written } in
     let room : (c.loop-i.i ≡ 0) ⊎ (c.loop-i.i < length c.args.offsets.now) =
-    ⊎_elim (λ (z : c.args.most ≡ 0). inl (omega (arith, z, c.loop-i-test.true))) (λ (l : c.args.most < length c.args.offsets.now). inr (omega (arith, l, c.loop-i-test.true))) c.requires.room in
+    ⊎_elim (λ (z : c.most_rows-most.result ≡ 0). inl (omega (arith, z, c.loop-i-test.true))) (λ (l : c.most_rows-most.result < length c.args.offsets.now). inr (omega (arith, l, c.loop-i-test.true))) c.most_rows-most.ensures.room in
     subst (λ (t : List ℕ). PutsTexts c.args.rows.now.column c.args.rows.now.first c.args.rows.now.hrp.now c.args.rows.now.versions.now c.args.numbers.now c.loop-i.numbers c.args.offsets.now c.loop-i.offsets c.args.texts.now t c.loop-i.i)
     (sym (put_mid-same end k xs c.encode_row.new.text c.in_default.ensures.same))
     (texts-some c.args.rows.now.column c.args.rows.now.first c.args.rows.now.hrp.now c.args.rows.now.versions.now c.args.numbers.now c.args.offsets.now c.args.texts.now
     c.loop-i.numbers c.loop-i.offsets xs c.loop-i.i end c.loop-i.invariant.so_far
-    (omega (arith, c.loop-i-test.true, c.requires.most)) room row said
+    (omega (arith, c.loop-i-test.true, c.most_rows-most.ensures.less)) room row said
     (omega (arith, lacks, part-size end k xs within, c.room_in-room.ensures, c.loop-i.invariant.within)))
 
 pub loop-i-preserved : goal.loop-i-preserved

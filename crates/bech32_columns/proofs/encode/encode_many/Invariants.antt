@@ -1,6 +1,6 @@
 use Rattle.std.proofs.Common.{◌≤◌}
 use Rattle.bech32_columns.proofs.Rowed.{TextsSoFar}
-use Rattle.bech32_columns.proofs.encode.put_rows.Given as goal
+use Rattle.bech32_columns.proofs.encode.encode_many.Given as goal
 
 -- the first rows are put, and their texts have room
 abbrev pub invariant-loop-i : goal.invariant-loop-i
