@@ -17,6 +17,8 @@ const TEXT_TOO_LONG = 31, ADDRESS_TOO_LONG = 41;
 const ROWS = 4096, BYTES = 1 << 19, ROW_ROOM = TEXT_ROOM;
 const HRP_ROOM = 96, MAX_SEGWIT_TEXT = 90, MAX_SEGWIT_PROGRAM = 40;
 const MOST_BYTES = 2 ** 31 - 1, LARGEST = 2 ** 31 - 1;
+// So many bytes of results are expected at most while there are less, and this part of them more than the rows before let expect.
+const EXPECTED = 1 << 26, SPARE = 1 / 32;
 
 const SIZE = 8, OFFSETS_32 = 1;
 // A column is eight sizes and a layout. Rows before the first of a block stand there where bits of a byte are theirs.
@@ -125,27 +127,37 @@ const readerOf = (offsets, length) => {
   return (i) => within(joined(halves, i));
 };
 
-// The offsets of so many rows from one on, as numbers.
-const offsetsOf = (offsets, from, count) => {
-  const part = offsets.subarray(from, from + count + 1);
-  if (!isWide(part)) return part;
-  const halves = halvesOf(part), numbers = new Float64Array(part.length);
-  for (let i = 0; i < part.length; i++) numbers[i] = joined(halves, i);
+// The low halves of offsets of 64 bits less that of the first one, where all of them have its high half.
+const lowHalves = (offsets) => {
+  const halves = halvesOf(offsets), numbers = new Int32Array(offsets.length);
+  for (let i = 0; i < numbers.length; i++) {
+    if (halves[2 * i + 1] !== halves[1]) return null;
+    numbers[i] = halves[2 * i] - halves[0];
+  }
   return numbers;
 };
 
-// Puts offsets that rise, as nearly all do, less the first of them: whether they do, no row is too long, and the rows, which
-// lie in so many bytes, are one block.
-const putRising = (offsets, put, length) => {
-  const low = offsets[0];
-  let before = low;
-  for (let i = 0; i < offsets.length; i++) {
-    const offset = offsets[i];
-    if (offset < before || offset - before > ROW_ROOM) return false;
-    put[i] = offset - low;
+// The offsets of so many rows from one on, as numbers of 32 bits, which say of them alone how far apart they are; null where
+// these do not.
+const offsetsOf = (offsets, from, count) => {
+  const part = offsets.subarray(from, from + count + 1);
+  if (isWide(part)) return lowHalves(part);
+  return new Int32Array(part.buffer, part.byteOffset, part.length);
+};
+
+// Puts offsets that rise, as nearly all do, less the first of them: how many bytes the rows have, or -1 where the offsets fall
+// or a row is too long.
+const putRising = (offsets, put) => {
+  const low = offsets[0], length = offsets.length;
+  let before = 0, sign = 0;
+  for (let i = 0; i < length; i++) {
+    const offset = (offsets[i] - low) | 0, size = (offset - before) | 0;
+    put[i] = offset;
+    // Below zero where one of these is.
+    sign |= size | (ROW_ROOM - size);
     before = offset;
   }
-  return low >= 0 && before <= length && before - low <= BYTES;
+  return sign < 0 ? -1 : before;
 };
 
 const whole = (it, least, most, what) => {
@@ -171,9 +183,9 @@ const blockFrom = (read, from, most) => {
 };
 
 // Puts the offsets of the rows from one on that are a block: -1 is one that does not lie in the bytes of the column.
-const putOffsets = (read, { offsets, from, most, length }, put) => {
-  const given = offsetsOf(offsets, from, most);
-  if (putRising(given, put, length)) return { low: given[0], high: given[most], count: most, isCut: false };
+const putOffsets = (read, { offsets, from, most }, put) => {
+  const given = offsetsOf(offsets, from, most), size = given === null ? -1 : putRising(given, put), low = read(from);
+  if (size >= 0 && size <= BYTES && low >= 0 && read(from + most) === low + size) return { low, high: low + size, count: most, isCut: false };
   const block = blockFrom(read, from, most);
   for (let i = 0; i <= block.count; i++) {
     const offset = read(from + i);
@@ -195,7 +207,7 @@ const arrowOf = ({ bytes, offsets, validity = null, first = 0, count }) => {
     count: total,
     put(it, at) {
       const from = first + at, skip = validity === null ? 0 : from % BITS, put = int32s(it, 'offsets', ROWS + BITS + 1).subarray(skip);
-      const { low, high, count, isCut } = putOffsets(read, { offsets, from, most: Math.min(ROWS, total - at), length: bytes.length }, put);
+      const { low, high, count, isCut } = putOffsets(read, { offsets, from, most: Math.min(ROWS, total - at) }, put);
       it.putBytes('bytes', bytes.subarray(low, high));
       const bits = validity === null ? 0n : it.putBytes('validity', validity.subarray((from - skip) / BITS, Math.ceil((from + count) / BITS)));
       return laid(it, { count, skip, length: high - low, bits, isCut });
@@ -259,26 +271,30 @@ class Rows {
   }
 }
 
-// Gathers what is made of each block.
+// Gathers what is made of each block, in an array that is as large as the rows before let expect of all.
 const gathering = (total, isText) => {
-  const offsets = new Int32Array(total + 1), parts = [];
-  let end = 0;
+  const offsets = new Int32Array(total + 1);
+  let bytes = new Uint8Array(), end = 0;
+
+  const enlarge = (size, done) => {
+    const expected = Math.ceil(size * (total / done) * (1 + SPARE));
+    const more = new Uint8Array(Math.max(size, Math.min(expected, Math.max(2 * size, EXPECTED), MOST_BYTES)));
+    more.set(bytes.subarray(0, end));
+    bytes = more;
+  };
+
   return {
     add(it, count, at) {
       const own = int32s(it, 'madeOffsets', count + 1), length = own[count];
       if (end + length > MOST_BYTES) throw new RangeError('the results have more than 2147483647 bytes: give some rows at a time');
+      if (end + length > bytes.length) enlarge(end + length, at + count);
       for (let i = 1; i <= count; i++) offsets[at + i] = end + own[i];
-      parts.push(it.copy('made', length));
+      bytes.set(it.part('made', length), end);
       end += length;
     },
     rows(marked) {
-      const bytes = new Uint8Array(end);
-      let put = 0;
-      for (const part of parts) {
-        bytes.set(part, put);
-        put += part.length;
-      }
-      return new Rows({ offsets, bytes, ...marked, isText });
+      const isFull = bytes.length - end <= 4 * SPARE * end;
+      return new Rows({ offsets, bytes: isFull ? bytes.subarray(0, end) : bytes.slice(0, end), ...marked, isText });
     },
   };
 };
