@@ -147,9 +147,9 @@ single_at first row location v small before h =
 -- a row that is not zero is not zero divided by x
 pub some_left : (row left : ℕ) → row < 2 ^ 30 → 0 < row
     → ((p : List Fe32) → Leaves left p → Leaves row (appended p (fe32.zero ∷ []))) → 0 < left
-some_left row zero small some after =
+some_left word zero small some after =
     let none : Leaves 0 (fe32.zero ∷ []) = leaves-constant fe32.zero in
     let more : Leaves (times_x 0) (fe32.zero ∷ fe32.zero ∷ []) = one_more (fe32.zero ∷ []) 0 (omega arith) none in
-    let same : row ≡ 0 = same_row row 0 (fe32.zero ∷ fe32.zero ∷ []) small (omega arith) (after (fe32.zero ∷ []) none) more in
+    let same : word ≡ 0 = same_row word 0 (fe32.zero ∷ fe32.zero ∷ []) small (omega arith) (after (fe32.zero ∷ []) none) more in
     absurd (omega (arith, same, some))
 some_left row (suc left) small some after = omega arith

@@ -35,7 +35,7 @@ pub nothing_leaves : LeavesErrors 0 []
 nothing_leaves = nothing_left bech32m.generator (digits 6 0) no_digits
 
 pub none_left : (row : ℕ) → row < 2 ^ 30 → LeavesErrors row [] → row ≡ 0
-none_left row clear h = same_row row 0 [] clear (omega arith) (leaves-from_errors row [] h) (leaves-from_errors 0 [] nothing_leaves)
+none_left word clear h = same_row word 0 [] clear (omega arith) (leaves-from_errors word [] h) (leaves-from_errors 0 [] nothing_leaves)
 
 -- ---- an element at a location
 

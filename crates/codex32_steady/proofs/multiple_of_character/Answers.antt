@@ -12,7 +12,7 @@ use Rattle.codex32_steady.proofs.multiple_of_character.Goals as goal
 
 -- from the bit of a row on, of the product with the value of a key
 abbrev bits : ℕ → ℕ → ℕ
-bits row k = get_or PRODUCT_BITS row 0 / 2 ^ k % 4
+bits entry k = get_or PRODUCT_BITS entry 0 / 2 ^ k % 4
 
 abbrev by_bits : ℕ → ℕ → ℕ
 by_bits a k = bits (a * 5) k + bits (a * 5 + 1) k * 2 + bits (a * 5 + 2) k * 4 + (bits (a * 5 + 3) k + bits (a * 5 + 4) k * 2) * 8
