@@ -43,82 +43,6 @@ pub enum TextError {
     Memory,
 }
 
-impl From<CheckedHrpstringError> for TextError {
-    ghost use Rattle.bech32.specs.Carried.{of_checked_text};
-
-    ghost from_gives = { λ e r. r ≡ of_checked_text e };
-
-    fn from(e: CheckedHrpstringError) -> Self {
-        match e {
-            CheckedHrpstringError::Parse(e) => Self::Parse(e),
-            CheckedHrpstringError::Checksum(e) => Self::Checksum(e),
-        }
-    }
-}
-
-impl From<PaddingError> for TextError {
-    ghost use Rattle.bech32.specs.declared.error.TextError.TheVariants.{Padding};
-
-    ghost from_gives = { λ e r. r ≡ Padding e };
-
-    fn from(e: PaddingError) -> Self {
-        Self::Padding(e)
-    }
-}
-
-impl From<AllocError> for TextError {
-    ghost use Rattle.bech32.specs.declared.error.TextError.TheVariants.{Memory};
-
-    ghost from_gives = { λ e r. r ≡ Memory };
-
-    fn from(_e: AllocError) -> Self {
-        Self::Memory
-    }
-}
-
-impl CorrectableError for DecodeError {
-    ghost use Rattle.bech32.specs.Carried.{of_decoding};
-
-    ghost carried = { of_decoding };
-
-    fn residue_error(&self) -> Option<&InvalidResidueError> {
-        match self {
-            DecodeError::Checksum(e) => e.residue_error(),
-            DecodeError::Parse(_) | DecodeError::Memory => None,
-        }
-    }
-}
-
-impl From<UncheckedHrpstringError> for DecodeError {
-    ghost use Rattle.bech32.specs.declared.error.DecodeError.TheVariants.{Parse};
-
-    ghost from_gives = { λ e r. r ≡ Parse e };
-
-    fn from(e: UncheckedHrpstringError) -> Self {
-        Self::Parse(e)
-    }
-}
-
-impl From<ChecksumError> for DecodeError {
-    ghost use Rattle.bech32.specs.declared.error.DecodeError.TheVariants.{Checksum};
-
-    ghost from_gives = { λ e r. r ≡ Checksum e };
-
-    fn from(e: ChecksumError) -> Self {
-        Self::Checksum(e)
-    }
-}
-
-impl From<AllocError> for DecodeError {
-    ghost use Rattle.bech32.specs.declared.error.DecodeError.TheVariants.{Memory};
-
-    ghost from_gives = { λ e r. r ≡ Memory };
-
-    fn from(_e: AllocError) -> Self {
-        Self::Memory
-    }
-}
-
 /// Why elements are not written.
 #[derive(Clone, Copy, Debug, PartialEq, Eq, Drop, Error)]
 pub enum ElementsError {
@@ -158,23 +82,79 @@ pub enum EncodeIoError {
     Write(io::Error),
 }
 
-impl From<CodeLengthError> for EncodeIoError {
-    ghost use Rattle.bech32.specs.declared.error.EncodeIoError.TheVariants.{TooLong};
+impl From<UncheckedHrpstringError> for DecodeError {
+    ghost use Rattle.bech32.specs.declared.error.DecodeError.TheVariants.{Parse};
 
-    ghost from_gives = { λ e r. r ≡ TooLong e };
+    ghost from_gives = { λ e r. r ≡ Parse e };
 
-    fn from(e: CodeLengthError) -> Self {
-        Self::TooLong(e)
+    fn from(e: UncheckedHrpstringError) -> Self {
+        Self::Parse(e)
     }
 }
 
-impl From<io::Error> for EncodeIoError {
-    ghost use Rattle.bech32.specs.declared.error.EncodeIoError.TheVariants.{Write};
+impl From<ChecksumError> for DecodeError {
+    ghost use Rattle.bech32.specs.declared.error.DecodeError.TheVariants.{Checksum};
 
-    ghost from_gives = { λ e r. r ≡ Write e };
+    ghost from_gives = { λ e r. r ≡ Checksum e };
 
-    fn from(e: io::Error) -> Self {
-        Self::Write(e)
+    fn from(e: ChecksumError) -> Self {
+        Self::Checksum(e)
+    }
+}
+
+impl From<AllocError> for DecodeError {
+    ghost use Rattle.bech32.specs.declared.error.DecodeError.TheVariants.{Memory};
+
+    ghost from_gives = { λ e r. r ≡ Memory };
+
+    fn from(_e: AllocError) -> Self {
+        Self::Memory
+    }
+}
+
+impl CorrectableError for DecodeError {
+    ghost use Rattle.bech32.specs.Carried.{of_decoding};
+
+    ghost carried = { of_decoding };
+
+    fn residue_error(&self) -> Option<&InvalidResidueError> {
+        match self {
+            DecodeError::Checksum(e) => e.residue_error(),
+            DecodeError::Parse(_) | DecodeError::Memory => None,
+        }
+    }
+}
+
+impl From<CheckedHrpstringError> for TextError {
+    ghost use Rattle.bech32.specs.Carried.{of_checked_text};
+
+    ghost from_gives = { λ e r. r ≡ of_checked_text e };
+
+    fn from(e: CheckedHrpstringError) -> Self {
+        match e {
+            CheckedHrpstringError::Parse(e) => Self::Parse(e),
+            CheckedHrpstringError::Checksum(e) => Self::Checksum(e),
+        }
+    }
+}
+
+impl From<PaddingError> for TextError {
+    ghost use Rattle.bech32.specs.declared.error.TextError.TheVariants.{Padding};
+
+    ghost from_gives = { λ e r. r ≡ Padding e };
+
+    fn from(e: PaddingError) -> Self {
+        Self::Padding(e)
+    }
+}
+
+impl From<AllocError> for TextError {
+    ghost use Rattle.bech32.specs.declared.error.TextError.TheVariants.{Memory};
+
+    ghost from_gives = { λ e r. r ≡ Memory };
+
+    fn from(_e: AllocError) -> Self {
+        Self::Memory
     }
 }
 
@@ -225,5 +205,25 @@ impl From<AllocError> for EncodeError {
 
     fn from(_e: AllocError) -> Self {
         Self::Memory
+    }
+}
+
+impl From<CodeLengthError> for EncodeIoError {
+    ghost use Rattle.bech32.specs.declared.error.EncodeIoError.TheVariants.{TooLong};
+
+    ghost from_gives = { λ e r. r ≡ TooLong e };
+
+    fn from(e: CodeLengthError) -> Self {
+        Self::TooLong(e)
+    }
+}
+
+impl From<io::Error> for EncodeIoError {
+    ghost use Rattle.bech32.specs.declared.error.EncodeIoError.TheVariants.{Write};
+
+    ghost from_gives = { λ e r. r ≡ Write e };
+
+    fn from(e: io::Error) -> Self {
+        Self::Write(e)
     }
 }

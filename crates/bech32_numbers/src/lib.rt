@@ -34,6 +34,9 @@ use bech32::{
     CorrectError, DecodeError, EditsError, ElementsError, EncodeError, TextError, segwit,
 };
 
+/// The number of a text that a checksum refuses for its residue, and that no correction mends.
+pub const NO_CORRECTION: u8 = 34;
+
 /// The number, 11 to 16, of a human-readable part that is refused. `Fmt`, 16, comes of
 /// `Hrp::parse_display` alone, so no program of this repository prints it.
 pub fn hrp_error_number(e: hrp::Error) -> u8
@@ -91,9 +94,6 @@ pub fn checked_error_number(e: CheckedHrpstringError) -> u8
         CheckedHrpstringError::Checksum(e) => checksum_error_number(e),
     }
 }
-
-/// The number of a text that a checksum refuses for its residue, and that no correction mends.
-pub const NO_CORRECTION: u8 = 34;
 
 /// The number, 11 to 33 or 91, of a text that is not corrected, or near which none is looked for.
 pub fn correct_error_number(e: CorrectError) -> u8
