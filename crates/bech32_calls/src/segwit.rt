@@ -5,6 +5,7 @@ ghost use Rattle.bech32_gf.specs.Fe32.{value};
 ghost use Rattle.bech32_bits.specs.Bits.{to_fes};
 ghost use Rattle.bech32_checksum.specs.Encoded.{IsEncodedText};
 ghost use Rattle.bech32_decode.specs.Segwit.{segwit_code};
+ghost use Rattle.bech32_decode.specs.SegwitParts.{IsReadIn};
 ghost use Rattle.bech32_segwit.specs.SegwitEncoding.{address_length};
 ghost use Rattle.bech32_encode.specs.Buffers.{IsPut};
 ghost use Rattle.bech32_calls.specs.Faults.{IsTextFault};
@@ -19,7 +20,7 @@ use bech32::primitives::decode::SegwitHrpstringError;
 use bech32::primitives::segwit::{MAX_STRING_LENGTH, VERSION_0};
 use bech32::segwit::address_length_of_part;
 use bech32::{Bech32, Bech32m, Fe32};
-use bech32_decode::Reading;
+use bech32_decode::{AddressData, Reading};
 
 // Puts the text of a version and a program by the checksum of the version.
 fn put_address(part: &[u8], version: Fe32, program: &[u8], text: &mut [u8]) -> usize
@@ -98,8 +99,13 @@ fn read_short(text: &[u8]) -> Result<Reading<'_, Bech32m>, Refusal>
     if text.len() > MAX_STRING_LENGTH {
         return Err(refusal_of_long(text));
     }
-    match read(text) {
-        Ok(reading) => Ok(reading),
+    match read::<Bech32m>(text) {
+        Ok(reading) => Ok(Reading {
+            text,
+            hrp: reading.hrp,
+            data_part: reading.data_part,
+            residue: reading.residue,
+        }),
         Err(refusal) => Err(refusal_of_unread(refusal)),
     }
 }
@@ -128,4 +134,22 @@ pub fn decoded(
     let address = reading.short_address()?;
     let (part, count) = put_parts(reading.hrp, address.program, hrp, program)?;
     Ok((part, address.version, count))
+}
+
+/// Reads a segwit address, and returns its human-readable part, in the case of the text, and its
+/// data. It borrows the text.
+///
+/// # Errors
+///
+/// The first of: a text that is not UTF-8; its first fault.
+// In line, as what is below it: what was read is then in registers, and no result is cleared.
+#[inline(always)]
+pub fn address_in(text: &[u8]) -> Result<(&[u8], AddressData<'_>), Refusal>
+    ensures { MatchResult result
+        (λ a. IsReadIn segwit_code text.now a.0.now a.1.version a.1.program.now)
+        (λ e. (m n : ℕ) → IsSegwitDecodeFault text.now m n e) }
+{
+    let reading = read_short(text)?;
+    let address = reading.short_address()?;
+    Ok((reading.hrp, address))
 }

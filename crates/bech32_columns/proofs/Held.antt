@@ -1,8 +1,7 @@
 -- Items that stand at the front of a buffer, and more behind them.
-use Rattle.std.specs.Prelude.{flat_map}
 use borrow.Rule.Slice.PartMut.{put_mid}
-use Rattle.std.proofs.Common.{drop-cons, suc, subst, ◌≡◌, ℕ, ◌+◌, ◌-◌, ◌<◌, ◌≤◌, List, [], ◌∷◌, ◌++◌, length, length-append, length-drop, length-take-le, take, drop, set, take_all, take_at, drop_at, take-append-drop, append_assoc, append-nil, sym, ap, refl, ◌∙◌, arith}
-use Rattle.std.proofs.lemmas.List.{drop-append-le, drop-drop, flat_map_more, set_at, take-append-le}
+use Rattle.std.proofs.Common.{drop-cons, suc, subst, ◌≡◌, ℕ, ◌+◌, ◌-◌, ◌<◌, ◌≤◌, List, [], ◌∷◌, ◌++◌, length, length-append, length-drop, length-take-le, take, drop, set, take_all, take_at, drop_at, take-append-drop, append_assoc, sym, ap, refl, ◌∙◌, arith}
+use Rattle.std.proofs.lemmas.List.{drop-append-le, drop-drop, flat_map_more, set_at}
 use Rattle.bech32_encode.specs.Buffers.{IsPut}
 use Rattle.bech32_columns.specs.Arrays.{Fills, HoldsArray, ends_from, concat_of, offsets_of}
 

@@ -1,5 +1,5 @@
 -- Rows that are put, and one more.
-use Rattle.std.proofs.Common.{◌⊎◌, ⊎_elim, ◌≢◌, ◌≡◌, ℕ, ◌+◌, ◌<◌, ◌≤◌, List, [], ◌∷◌, ◌++◌, Result, length, length-append, map, min, inl, inr, sym, ap, refl, subst, ◌∙◌, arith}
+use Rattle.std.proofs.Common.{◌⊎◌, ◌≡◌, ℕ, ◌+◌, ◌<◌, ◌≤◌, List, [], ◌∷◌, ◌++◌, Result, length, length-append, map, min, inl, inr, sym, ap, refl, subst, ◌∙◌, arith}
 use Rattle.std.proofs.lemmas.List.{length-map, map-append}
 use Rattle.bech32_columns.specs.Arrays.{Fills, HoldsArray, concat_of, offsets_of}
 use Rattle.bech32_columns.specs.Decoded.{AddressRow, IsDecodedRow, LacksItems, LacksRoomForProgram, PutsAddresses, program_of}

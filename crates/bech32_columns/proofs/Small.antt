@@ -4,7 +4,6 @@ use Rattle.bech32_hrp.specs.declared.Error.{Error as HrpError}
 use Rattle.bech32_hrp.specs.declared.Error.TheVariants.{Empty, TooLong as HrpTooLong, NonAsciiChar, InvalidAsciiByte, MixedCase as HrpMixedCase, Fmt as HrpFmt}
 use Rattle.bech32_refusals.specs.declared.error.CharError.{CharError}
 use Rattle.bech32_refusals.specs.declared.error.CharError.TheVariants.{InvalidChar, MixedCase, MissingSeparator, NothingAfterSeparator}
-use Rattle.bech32_refusals.specs.declared.error.UncheckedHrpstringError.{UncheckedHrpstringError}
 use Rattle.bech32_refusals.specs.declared.error.UncheckedHrpstringError.TheVariants.{Char, Hrp}
 use Rattle.bech32_refusals.specs.declared.error.ChecksumError.{ChecksumError}
 use Rattle.bech32_refusals.specs.declared.error.ChecksumError.TheVariants.{CodeLength, InvalidLength, InvalidResidue}

@@ -1,5 +1,5 @@
 -- Arrays in the buffers of a caller.
-use Rattle.std.specs.Prelude.{◌≡◌, ◌≢◌, ◌≤◌, ◌<◌, ◌+◌, ◌++◌, ◌==◌}
+use Rattle.std.specs.Prelude.{◌≡◌, ◌≤◌, ◌<◌, ◌+◌, ◌++◌, ◌==◌}
 use Rattle.std.specs.Prelude.{ℕ, List, [], ◌∷◌, if◌then◌else◌, length, take, drop, flat_map}
 
 -- items stand at the front of a buffer, as many as there is room for, and the rest is as it was

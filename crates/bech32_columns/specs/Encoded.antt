@@ -6,7 +6,6 @@ use Rattle.bech32_hrp.specs.Hrp.{IsHrp}
 use Rattle.bech32_decode.specs.Segwit.{IsLowerAddress}
 use Rattle.bech32_calls.specs.Faults.{IsNumberOf}
 use Rattle.bech32_calls.specs.Segwit.{HasRoomFor, IsSegwitEncodeFault}
-use Rattle.bech32_segwit.specs.SegwitEncoding.{address_length}
 use Rattle.bech32_columns.specs.Arrays.{Fills, HoldsArray, concat_of}
 use Rattle.bech32_columns.specs.Rows.{EachRow, row_of}
 use Rattle.bech32_columns.specs.declared.column.Column.{Column}

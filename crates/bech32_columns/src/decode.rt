@@ -1,21 +1,20 @@
 //! Decodes the rows of a column of segwit addresses.
 
-ghost use Rattle.std.specs.Prelude.{◌≡◌, ◌≢◌, ◌<◌, ◌≤◌, ◌+◌, ◌↔◌, IfNone, IfSome, IsTrue, List, [], ℕ, if◌then◌else◌, ◌==◌, length, take};
+ghost use Rattle.std.specs.Prelude.{◌≡◌, ◌≢◌, ◌<◌, ◌≤◌, ◌+◌, ◌↔◌, IfNone, IfSome, IsTrue, List, [], ℕ, if◌then◌else◌, ◌==◌, true, length};
+ghost use Rattle.bech32_bits.specs.Bits.{to_bytes};
+ghost use Rattle.bech32_gf.specs.Alphabet.{is_data};
+ghost use Rattle.bech32_gf.specs.Fe32.{elements_of};
 ghost use Rattle.bech32_columns.specs.Arrays.{HoldsArray};
 ghost use Rattle.bech32_columns.specs.Decoded.{IsDecodedRow, IsDecodedText, IsWanted, LacksItems, PutsAddresses};
 ghost use Rattle.bech32_columns.specs.Rows.{HasRows, row_of};
 
 use crate::column::Column;
-use crate::put::{put_bytes, put_item, room_in};
-use bech32_calls::segwit::decoded;
+use crate::put::{put_data, put_item, room_in};
+use bech32_calls::segwit::address_in;
+use bech32_decode::data_bytes_count;
 
 /// The number of an address that has another human-readable part than is wanted.
 pub const OTHER_HRP: u8 = 49;
-
-// The bytes of a human-readable part, and of a program, at most.
-const HRP: usize = 83;
-
-const PROGRAM: usize = 40;
 
 /// Rows of a column of addresses, and the human-readable part that is wanted of them.
 #[derive(Clone, Copy)]
@@ -28,25 +27,29 @@ pub struct Addresses<'a> {
     pub hrp: &'a [u8],
 }
 
-// What is said of a row, beside its program, which has `count` bytes.
+// What is said of a row, and the characters of its program.
 #[derive(Clone, Copy)]
-struct Address {
+struct Address<'a> {
     number: u8,
     version: u8,
     hrp_length: u8,
-    count: usize,
+    characters: &'a [u8],
+    ghost of_alphabet: { is_data characters.now ≡ true },
 }
 
 // What is said of a row that is not accepted.
 #[inline(always)]
-fn refused(number: u8) -> Address
-    ensures { result ≡ record { number = number; version = 0; hrp_length = 0; count = 0 } }
+fn refused<'a>(number: u8) -> Address<'a>
+    ensures number { result.number ≡ number }
+    ensures version { result.version ≡ 0 }
+    ensures hrp_length { result.hrp_length ≡ 0 }
+    ensures characters { result.characters.now ≡ [] }
 {
     Address {
         number,
         version: 0,
         hrp_length: 0,
-        count: 0,
+        characters: &[],
     }
 }
 
@@ -58,57 +61,44 @@ fn is_wanted(hrp: &[u8], part: &[u8]) -> bool
     hrp.is_empty() || part.eq_ignore_ascii_case(hrp)
 }
 
-// Decodes a text, and puts its program at the front of a buffer.
-#[inline]
-fn decode_text(text: &[u8], hrp: &[u8], part: &mut [u8], program: &mut [u8]) -> Address
-    requires part { length part.old ≡ 83 }
-    requires program { length program.old ≡ 40 }
-    ensures said { IsDecodedText hrp.now text.now (record {
+// Decodes a text.
+#[inline(always)]
+fn decode_text<'a>(text: &'a [u8], hrp: &[u8]) -> Address<'a>
+    ensures { IsDecodedText hrp.now text.now (record {
       number = result.number;
       version = result.version;
       hrp_length = result.hrp_length;
-      program = take result.count program.new;
+      program = to_bytes (elements_of result.characters.now);
     }) }
-    ensures few { result.count ≤ 40 }
 {
-    match decoded(text, part, program) {
-        Ok((length, version, count)) => {
-            if !is_wanted(hrp, &part[..length]) {
-                return refused(49);
-            }
-            Address {
-                number: 0,
-                version: version.to_u8(),
-                hrp_length: length as u8,
-                count,
-            }
-        }
-        Err(refusal) => refused(refusal.number() as u8),
+    let (part, address) = match address_in(text) {
+        Ok(found) => found,
+        Err(refusal) => return refused(refusal.number() as u8),
+    };
+    if !is_wanted(hrp, part) {
+        return refused(OTHER_HRP);
+    }
+    Address {
+        number: 0,
+        version: address.version.to_u8(),
+        hrp_length: part.len() as u8,
+        characters: address.program,
     }
 }
 
 // The same of a row.
-#[inline]
-fn decode_row(
-    column: &Column<'_>,
-    i: usize,
-    hrp: &[u8],
-    part: &mut [u8],
-    program: &mut [u8],
-) -> Address
-    requires row { i < usize.MAX }
-    requires part { length part.old ≡ 83 }
-    requires program { length program.old ≡ 40 }
-    ensures said { IsDecodedRow hrp.now (row_of column.now i) (record {
+#[inline(always)]
+fn decode_row<'a>(column: &Column<'a>, i: usize, hrp: &[u8]) -> Address<'a>
+    requires { i < usize.MAX }
+    ensures { IsDecodedRow hrp.now (row_of column.now i) (record {
       number = result.number;
       version = result.version;
       hrp_length = result.hrp_length;
-      program = take result.count program.new;
+      program = to_bytes (elements_of result.characters.now);
     }) }
-    ensures few { result.count ≤ 40 }
 {
     match column.row(i) {
-        Ok(text) => decode_text(text, hrp, part, program),
+        Ok(text) => decode_text(text, hrp),
         Err(number) => refused(number),
     }
 }
@@ -142,16 +132,17 @@ fn most_rows(count: usize, versions: usize, hrp_lengths: usize, offsets: usize) 
     }
 }
 
-// The bytes at the front of a program, where there is room for offsets.
+// The characters of a program, where there is room for offsets.
 #[inline(always)]
-fn kept(program: &[u8], count: usize, places: usize) -> &[u8]
-    requires { count ≤ length program.now }
-    ensures { result.now ≡ (if places == 0 then [] else take count program.now) }
+fn kept(characters: &[u8], places: usize) -> &[u8]
+    requires { is_data characters.now ≡ true }
+    ensures value { result.now ≡ (if places == 0 then [] else characters.now) }
+    ensures of_alphabet { is_data result.now ≡ true }
 {
     if places == 0 {
-        return &program[..0];
+        return &characters[..0];
     }
-    &program[..count]
+    characters
 }
 
 // Puts what is said of this many rows, and returns how many are put: fewer where a program does not
@@ -175,27 +166,19 @@ fn put_rows(
         numbers.old numbers.new versions.old versions.new hrp_lengths.old hrp_lengths.new
         offsets.old offsets.new programs.old programs.new result }
 {
-    // As many bytes as a human-readable part and a program have at most.
-    let mut part = [0; 83];
-    let mut program = [0; 40];
     let places = offsets.len();
     let room = room_in(programs);
     let mut end = 0;
     put_item(offsets, 0, 0);
     for i in 0..most {
-        let row = decode_row(
-            &rows.column,
-            rows.first + i,
-            rows.hrp,
-            &mut part,
-            &mut program,
-        );
-        let kept = kept(&program, row.count, places);
-        if kept.len() > room - end {
+        let row = decode_row(&rows.column, rows.first + i, rows.hrp);
+        let characters = kept(row.characters, places);
+        let count = data_bytes_count(characters);
+        if count > room - end {
             return i;
         }
-        put_bytes(programs, end, kept);
-        end += kept.len();
+        put_data(programs, end, characters);
+        end += count;
         put_item(offsets, i + 1, end as u32);
         put_item(numbers, i, row.number);
         put_item(versions, i, row.version);

@@ -1,9 +1,12 @@
 //! Puts what is said of rows into buffers.
 
-ghost use Rattle.std.specs.Prelude.{◌≡◌, ◌≤◌, ◌+◌, ◌++◌, ℕ, List, [], ◌∷◌, length, min};
+ghost use Rattle.std.specs.Prelude.{◌≡◌, ◌≤◌, ◌+◌, ◌++◌, ℕ, List, [], ◌∷◌, true, length, min};
+ghost use Rattle.bech32_bits.specs.Bits.{to_bytes};
+ghost use Rattle.bech32_gf.specs.Alphabet.{is_data};
+ghost use Rattle.bech32_gf.specs.Fe32.{elements_of};
 ghost use Rattle.bech32_columns.specs.Arrays.{Fills};
 
-use bech32_encode::put_at_front;
+use bech32_decode::put_data_bytes;
 
 /// How many bytes offsets of 32 bits lead to in a buffer.
 pub(crate) fn room_in(buffer: &[u8]) -> usize
@@ -23,12 +26,13 @@ pub(crate) fn put_item<T: Copy>(buffer: &mut [T], i: usize, item: T)
     }
 }
 
-/// Puts bytes behind those before them.
+/// Puts the bytes of characters behind those before them.
 #[inline(always)]
-pub(crate) fn put_bytes(buffer: &mut [u8], end: usize, bytes: &[u8])
-    requires { end + length bytes.now ≤ length buffer.old }
+pub(crate) fn put_data(buffer: &mut [u8], end: usize, characters: &[u8])
+    requires data { is_data characters.now ≡ true }
+    requires room { end + length (to_bytes (elements_of characters.now)) ≤ length buffer.old }
     ensures { (items start : List ℕ) → length items ≡ end → Fills items start buffer.old
-        → Fills (items ++ bytes.now) start buffer.new }
+        → Fills (items ++ to_bytes (elements_of characters.now)) start buffer.new }
 {
-    put_at_front(&mut buffer[end..], bytes);
+    put_data_bytes(characters, &mut buffer[end..]);
 }

@@ -1,7 +1,10 @@
-use Rattle.std.proofs.Common.{◌≡◌, ◌≤◌, ℕ, List, [], ap, length, refl, take, arith}
+use Rattle.std.proofs.Common.{◌≡◌, ℕ, List, [], ap, length, refl, arith}
+use Rattle.bech32_bits.specs.Bits.{to_bytes}
+use Rattle.bech32_gf.specs.Fe32.{elements_of}
 use Rattle.bech32_columns.specs.Decoded.{AddressRow, program_of}
 use Rattle.bech32_columns.proofs.Held.{held-none}
 use Rattle.bech32_columns.proofs.Rowed.{addresses-more, addresses-none, addresses-some, lacks-more}
+use Rattle.bech32_columns.proofs.Said.{program-from_kept}
 use Rattle.bech32_columns.proofs.decode.put_rows.Goals as goal
 
 pub loop-i-init : goal.loop-i-init
@@ -11,20 +14,21 @@ loop-i-init c = record {
   within = omega arith;
 }
 
-pub returns-then-kept-room : goal.returns-then-kept-room
-returns-then-kept-room c =
+pub returns-then-count-room : goal.returns-then-count-room
+returns-then-count-room c =
     let row : AddressRow = record {
       number = c.decode_row-row.result.number;
       version = c.decode_row-row.result.version;
       hrp_length = c.decode_row-row.result.hrp_length;
-      program = take c.decode_row-row.result.count c.decode_row-row.new.program;
+      program = to_bytes (elements_of c.decode_row-row.result.characters.now);
     } in
-    let is : c.kept-kept.result.now ≡ program_of c.args.offsets.now row = c.kept-kept.ensures in
+    let kept : List ℕ = to_bytes (elements_of c.kept-characters.result.now) in
+    let is : kept ≡ program_of c.args.offsets.now row = program-from_kept c.args.offsets.now c.decode_row-row.result.characters.now c.kept-characters.result.now c.kept-characters.ensures.value in
     addresses-some c.args.rows.now.column c.args.rows.now.first c.args.rows.now.hrp.now c.args.numbers.now c.args.versions.now c.args.hrp_lengths.now c.args.offsets.now c.args.programs.now
     c.loop-i.numbers c.loop-i.versions c.loop-i.hrp_lengths c.loop-i.offsets c.loop-i.programs c.loop-i.i c.loop-i.end c.loop-i.invariant.so_far
     (omega (arith, c.loop-i-test.true, c.requires.most))
     (λ l. c.requires.room (lacks-more _ _ _ c.loop-i.i c.args.most (omega (arith, c.loop-i-test.true)) l))
-    row c.decode_row-row.ensures.said (omega (arith, c.if-kept-room.true, ap length is, c.room_in-room.ensures, c.loop-i.invariant.within))
+    row c.decode_row-row.ensures (omega (arith, c.if-count-room.true, ap length is, c.room_in-room.ensures, c.loop-i.invariant.within))
 
 pub loop-i-preserved : goal.loop-i-preserved
 loop-i-preserved c =
@@ -32,15 +36,16 @@ loop-i-preserved c =
       number = c.decode_row-row.result.number;
       version = c.decode_row-row.result.version;
       hrp_length = c.decode_row-row.result.hrp_length;
-      program = take c.decode_row-row.result.count c.decode_row-row.new.program;
+      program = to_bytes (elements_of c.decode_row-row.result.characters.now);
     } in
-    let is : c.kept-kept.result.now ≡ program_of c.args.offsets.now row = c.kept-kept.ensures in
+    let kept : List ℕ = to_bytes (elements_of c.kept-characters.result.now) in
+    let is : kept ≡ program_of c.args.offsets.now row = program-from_kept c.args.offsets.now c.decode_row-row.result.characters.now c.kept-characters.result.now c.kept-characters.ensures.value in
     record {
-      so_far = addresses-more c.args.rows.now.column c.args.rows.now.first c.args.rows.now.hrp.now c.args.numbers.now c.args.versions.now c.args.hrp_lengths.now c.args.offsets.now c.args.programs.now
+      so_far = rw c.data_bytes_count-count.ensures (addresses-more c.args.rows.now.column c.args.rows.now.first c.args.rows.now.hrp.now c.args.numbers.now c.args.versions.now c.args.hrp_lengths.now c.args.offsets.now c.args.programs.now
           c.loop-i.numbers c.loop-i.versions c.loop-i.hrp_lengths c.loop-i.offsets c.loop-i.programs c.loop-i.i c.loop-i.end c.loop-i.invariant.so_far
-          row c.kept-kept.result.now c.put_item-in-loop-i-2.new.buffer c.put_item-in-loop-i-3.new.buffer c.put_item-in-loop-i-4.new.buffer c.put_item-in-loop-i.new.buffer c.put_bytes.new.buffer
-          c.decode_row-row.ensures.said is
-          (omega (arith, c.if-kept-room.false, c.room_in-room.ensures, c.loop-i.invariant.within)) (omega (arith, c.if-kept-room.false, c.room_in-room.ensures, c.loop-i.invariant.within))
-          c.put_item-in-loop-i-2.ensures c.put_item-in-loop-i-3.ensures c.put_item-in-loop-i-4.ensures c.put_item-in-loop-i.ensures c.put_bytes.ensures;
-      within = omega (arith, c.if-kept-room.false, c.loop-i.invariant.within);
+          row kept c.put_item-in-loop-i-2.new.buffer c.put_item-in-loop-i-3.new.buffer c.put_item-in-loop-i-4.new.buffer c.put_item-in-loop-i.new.buffer c.put_data.new.buffer
+          c.decode_row-row.ensures is
+          (omega (arith, c.if-count-room.false, c.room_in-room.ensures, c.loop-i.invariant.within)) (omega (arith, c.if-count-room.false, c.room_in-room.ensures, c.loop-i.invariant.within))
+          c.put_item-in-loop-i-2.ensures c.put_item-in-loop-i-3.ensures c.put_item-in-loop-i-4.ensures (rw c.data_bytes_count-count.ensures at c.put_item-in-loop-i.ensures) c.put_data.ensures);
+      within = omega (arith, c.if-count-room.false, c.loop-i.invariant.within);
     }
