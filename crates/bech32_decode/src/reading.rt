@@ -298,7 +298,7 @@ impl<'s, Ck: Checksum> Reading<'s, Ck> {
 }
 
 impl<'s> Reading<'s, Bech32m> {
-    /// The same reading by Bech32, whose generator is the same.
+    /// This reading by Bech32, which has the same generator as Bech32m.
     #[inline]
     pub fn by_bech32(&self) -> Reading<'s, Bech32>
         ensures text { result.text.now ≡ self.now.text.now }

@@ -17,7 +17,7 @@ pub(crate) fn version_in(characters: &[u8]) -> Option<Fe32>
     ensures { result ≡ version_of (elements_of characters.now) }
 {
     let first = Fe32::from_char_unchecked(*characters.first()?);
-    if first.to_u8() > 16 {
+    if !is_valid_witness_version(first) {
         return None;
     }
     Some(first)

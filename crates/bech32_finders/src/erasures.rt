@@ -13,17 +13,17 @@ use std::alloc::{AllocError, Allocator};
 // Puts a location behind the erasures where it is not one of them.
 fn add_erasure<A: Allocator + Copy>(
     erasures: &mut ShortVec<usize, A>,
-    place: usize,
+    location: usize,
 ) -> Result<(), AllocError>
-    ensures ok { OnOk result (erasures.new ≡ with_erasures erasures.old (place ∷ [])) }
+    ensures ok { OnOk result (erasures.new ≡ with_erasures erasures.old (location ∷ [])) }
     ensures err { OnErr result (erasures.new ≡ erasures.old) }
-    ensures in_place { FitsInPlace (length (with_erasures erasures.old (place ∷ [])))
+    ensures in_place { FitsInPlace (length (with_erasures erasures.old (location ∷ [])))
         → IsOk result }
 {
-    if contains(erasures.as_slice(), place) {
+    if contains(erasures.as_slice(), location) {
         return Ok(());
     }
-    erasures.push(place)
+    erasures.push(location)
 }
 
 /// Puts those that are not there behind the erasures, and gives the locators of all.
@@ -41,8 +41,8 @@ pub fn extended<K: Arithmetic, A: Allocator + Copy>(
     ensures locators { IfOk result (λ known. known ≡ locators K.ops base erasures.new) }
     ensures in_place { FitsInPlace (length (with_erasures erasures.old more.now)) → IsOk result }
 {
-    for place in more {
-        add_erasure(erasures, *place)?;
+    for location in more {
+        add_erasure(erasures, *location)?;
     }
     locators_of(erasures.allocator(), base, erasures.as_slice())
 }

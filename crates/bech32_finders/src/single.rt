@@ -99,9 +99,9 @@ fn single_error<Ck: Checksum>(
 {
     let mut power = Engine::<Ck>::new();
     let mut screen = screen_of::<Ck>(residue);
-    for place in 0..window {
+    for location in 0..window {
         if let Some(value) = factor_of(screen.residue(), power.residue(), residue, pivot) {
-            return Some((place, value));
+            return Some((location, value));
         }
         power.input_fe(Fe32::Q);
         screen.input_fe(Fe32::Q);

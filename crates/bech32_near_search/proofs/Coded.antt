@@ -64,8 +64,8 @@ module _ {F : Type 0} {f : Ops F} (fl : IsField f) (rank : F → ℕ) (lowest : 
         | no p ↦ inr (subst (λ (z : ℕ × F). HasHighest f g residue s z 0 items) (same_code y x (omega (arith, p, low, is, up))) j)
       ]
 
-      at_place : (e e' : List (ℕ × F)) (y : ℕ × F) → y.0 ≡ x.0 → rank y.1 < rank x.1 → HasHighest f g residue s y 0 e → HasHighest f g residue s x 0 e' → Earlier e e'
-      at_place e e' y here less j l = value_earlier fl rank lowest g residue s x.0 0 y.1 x.1 e e' less (subst (λ i. HasHighest f g residue s (i, y.1) 0 e) here j) l
+      at_location : (e e' : List (ℕ × F)) (y : ℕ × F) → y.0 ≡ x.0 → rank y.1 < rank x.1 → HasHighest f g residue s y 0 e → HasHighest f g residue s x 0 e' → Earlier e e'
+      at_location e e' y here less j l = value_earlier fl rank lowest g residue s x.0 0 y.1 x.1 e e' less (subst (λ i. HasHighest f g residue s (i, y.1) 0 e) here j) l
 
       before : (e e' : List (ℕ × F)) → IsCodedBelow c e → HasHighest f g residue s x 0 e' → Earlier e e'
       before e e' (inl j) l = lower_earlier fl rank lowest g residue s x.0 0 0 e e' (lower_gathered fl g residue s 0 x.0 0 0 e (omega arith) (omega arith) j) (x.1, l)
@@ -73,7 +73,7 @@ module _ {F : Type 0} {f : Ops F} (fl : IsField f) (rank : F → ℕ) (lowest : 
         | yes p ↦ lower_earlier fl rank lowest g residue s x.0 1 0 e e' (lower_gathered fl g residue s (suc y.0) x.0 1 1 e (omega (arith, p)) (omega arith) (highest_gathered fl g residue s y 0 e j)) (x.1, l)
         | no p ↦
             let here : y.0 ≡ x.0 = omega (arith, p, low, is, small x.1, small y.1) in
-            at_place e e' y here (omega (arith, here, low, is)) j l
+            at_location e e' y here (omega (arith, here, low, is)) j l
       ]
 
   of_split : (n : ℕ) (items : List (ℕ × F)) → (IsGathered f g residue s n 1 items → IsCodedBelow (n * 32) items)

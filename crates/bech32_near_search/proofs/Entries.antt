@@ -101,11 +101,11 @@ module _ (f : ℕ → ℕ → ℕ) (w : ℕ) where
     each_of_five (suc (suc (suc (suc (suc i))))) l = absurd (omega (arith, l))
 
 pub columns_are : (rows : List (ℕ × ℕ)) (size : ℕ) (g : List Fe32) (w : ℕ) (columns : List ℕ)
-    → columns ≡ columns_up_to (λ i place. sketch_at rows size g place (fe32.element (2 ^ i))) w 5 → AreColumns rows size g w columns
+    → columns ≡ columns_up_to (λ i location. sketch_at rows size g location (fe32.element (2 ^ i))) w 5 → AreColumns rows size g w columns
 columns_are rows size g w columns e = subst (λ (u : List ℕ). AreColumns rows size g w u) (sym e) (record {
-  long = long_columns (λ i place. sketch_at rows size g place (fe32.element (2 ^ i))) w;
-  keys = λ place low v. by_five rows size g place (λ i. get_or (five_of (columns_up_to (λ i place. sketch_at rows size g place (fe32.element (2 ^ i))) w 5) w place) i 0)
-      (each_of_five (λ i place. sketch_at rows size g place (fe32.element (2 ^ i))) w place low) v;
+  long = long_columns (λ i location. sketch_at rows size g location (fe32.element (2 ^ i))) w;
+  keys = λ location low v. by_five rows size g location (λ i. get_or (five_of (columns_up_to (λ i location. sketch_at rows size g location (fe32.element (2 ^ i))) w 5) w location) i 0)
+      (each_of_five (λ i location. sketch_at rows size g location (fe32.element (2 ^ i))) w location low) v;
 })
 
 -- ---- entries in order
@@ -134,8 +134,8 @@ none_between xs i start next end number sorted low high (k, below, is) above fro
     ]
 
 -- the entries of a sketch
-pub entry_is : (key place value : ℕ) → place < 2 ^ 24 → value < 32 → entry_number key place value ≡ entry_number key 0 0 + (place * 32 + value)
-entry_is key place value low small = omega (arith, low, small)
+pub entry_is : (key location value : ℕ) → location < 2 ^ 24 → value < 32 → entry_number key location value ≡ entry_number key 0 0 + (location * 32 + value)
+entry_is key location value low small = omega (arith, low, small)
 
 -- where a search for a number ends, the entries before are no higher
 pub found_first : (xs : List ℕ) (x : ℕ) (r : Result ℕ ℕ) → IsSorted nat_cmp xs → IsBinarySearchResult (λ y. nat_cmp y x) xs r

@@ -21,16 +21,16 @@ below_at n [] i h low = absurd (omega arith)
 below_at n (k ∷ s) zero h low = h.0
 below_at n (k ∷ s) (suc i) h low = below_at n s i h.1 (omega arith)
 
--- no lower than the place and the erasures, and below whatever is above all of these
+-- no lower than the location and the erasures, and below whatever is above all of these
 abbrev pub IsHighest : ℕ → List ℕ → List ℕ → ℕ → Type 0
-IsHighest place some all highest =
-    (place ≤ highest) × AllByRecursion (λ i. i ≤ highest) some
-    × ((n : ℕ) → place < n → AllByRecursion (λ i. i < n) all → highest < n)
+IsHighest location some all highest =
+    (location ≤ highest) × AllByRecursion (λ i. i ≤ highest) some
+    × ((n : ℕ) → location < n → AllByRecursion (λ i. i < n) all → highest < n)
 
 -- with one erasure more
-pub highest_next : (place : ℕ) (s : List ℕ) (i highest next : ℕ) → i < length s → highest ≤ next → get_or s i 0 ≤ next → (next ≡ highest) ⊎ (next ≡ get_or s i 0)
-    → IsHighest place (take i s) s highest → IsHighest place (take (i + 1) s) s next
-highest_next place s i highest next within up above which h = (
+pub highest_next : (location : ℕ) (s : List ℕ) (i highest next : ℕ) → i < length s → highest ≤ next → get_or s i 0 ≤ next → (next ≡ highest) ⊎ (next ≡ get_or s i 0)
+    → IsHighest location (take i s) s highest → IsHighest location (take (i + 1) s) s next
+highest_next location s i highest next within up above which h = (
   omega (arith, h.0, up),
   subst (λ (t : List ℕ). AllByRecursion (λ k. k ≤ next) t) (sym (take_more s i 0 within)) (all_push (λ k. k ≤ next) (take i s) (get_or s i 0) (below_higher highest next (take i s) up h.1) above),
   λ n low below. elim which [

@@ -90,100 +90,100 @@ module _ {F : Type 0} {f : Ops F} (fl : IsField f) (rank : F → ℕ) (g residue
       let errors : drop (length s) items ≡ k.errors = ap (drop (length s)) same ∙ behind_erasures s limit most x k in
       outside (subst (λ u. AreWithin limit most u) (sym errors) (k.few, each_below f s limit k.errors k.each)))
 
-  module _ (place others : ℕ) (within : place < w) (out : IsAmong place s → ⊥) (few : 2 * others + length s + 1 ≤ bound) (answer : Option (List (ℕ × F))) (h : IsAnswer (s ++ (place ∷ [])) answer) where
-    room : 2 * others + length (s ++ (place ∷ [])) ≤ bound
-    room = omega (arith, few, length-append s (place ∷ []))
+  module _ (location others : ℕ) (within : location < w) (out : IsAmong location s → ⊥) (few : 2 * others + length s + 1 ≤ bound) (answer : Option (List (ℕ × F))) (h : IsAnswer (s ++ (location ∷ [])) answer) where
+    room : 2 * others + length (s ++ (location ∷ [])) ≤ bound
+    room = omega (arith, few, length-append s (location ∷ []))
 
-    -- where the highest error is at the place, it is the answer
-    highest_answered : (v : F) (x : List (ℕ × F)) (k : HasHighest f g residue s (place, v) others x) → (q : ErasedFrom fl g residue s place w others v x) × (answer ≡ Some (q.given ++ ((place, v) ∷ q.rest)))
+    -- where the highest error is at the location, it is the answer
+    highest_answered : (v : F) (x : List (ℕ × F)) (k : HasHighest f g residue s (location, v) others x) → (q : ErasedFrom fl g residue s location w others v x) × (answer ≡ Some (q.given ++ ((location, v) ∷ q.rest)))
     highest_answered v x k =
-        let q : ErasedFrom fl g residue s place w others v x = erased_from fl g residue s place w others v x within k in
-        (q, answer_is (s ++ (place ∷ [])) answer others (q.given ++ ((place, v) ∷ q.rest)) h room q.gathered)
+        let q : ErasedFrom fl g residue s location w others v x = erased_from fl g residue s location w others v x within k in
+        (q, answer_is (s ++ (location ∷ [])) answer others (q.given ++ ((location, v) ∷ q.rest)) h room q.gathered)
 
-    pub erased_none : (old : List (List (ℕ × F))) → answer ≡ None → AreAdded Earlier (HasHighestAt f g residue s place others) old old
-    erased_none old e = added_none Earlier (HasHighestAt f g residue s place others) old
-        (λ x k. let q = highest_answered k.0 x k.1 in none_some (q.0.given ++ ((place, k.0) ∷ q.0.rest)) (sym e ∙ q.1))
+    pub erased_none : (old : List (List (ℕ × F))) → answer ≡ None → AreAdded Earlier (HasHighestAt f g residue s location others) old old
+    erased_none old e = added_none Earlier (HasHighestAt f g residue s location others) old
+        (λ x k. let q = highest_answered k.0 x k.1 in none_some (q.0.given ++ ((location, k.0) ∷ q.0.rest)) (sym e ∙ q.1))
 
     module _ (items given rest : List (ℕ × F)) (error : ℕ × F) (e : answer ≡ Some items) (parts : items ≡ given ++ (error ∷ rest)) (size : length given ≡ length s) where
       -- a listing with the highest error there has these parts
-      parts_are : (v : F) (x : List (ℕ × F)) → HasHighest f g residue s (place, v) others x → (q : ErasedFrom fl g residue s place w others v x) × SameParts fl given q.given error (place, v) rest q.rest
+      parts_are : (v : F) (x : List (ℕ × F)) → HasHighest f g residue s (location, v) others x → (q : ErasedFrom fl g residue s location w others v x) × SameParts fl given q.given error (location, v) rest q.rest
       parts_are v x k =
           let q = highest_answered v x k in
-          (q.0, same_parts fl given q.0.given error (place, v) rest q.0.rest (size ∙ sym q.0.size) (sym parts ∙ some_same items (q.0.given ++ ((place, v) ∷ q.0.rest)) (sym e ∙ q.1)))
+          (q.0, same_parts fl given q.0.given error (location, v) rest q.0.rest (size ∙ sym q.0.size) (sym parts ∙ some_same items (q.0.given ++ ((location, v) ∷ q.0.rest)) (sym e ∙ q.1)))
 
-      pub erased_one : (old new : List (List (ℕ × F))) → error.1 ≢ f.zero → AreWithin place others rest → new ≡ old ++ (given ++ with_highest error rest) ∷ [] → AreAdded Earlier (HasHighestAt f g residue s place others) old new
-      erased_one old new not_zero low pushed = added_one Earlier (HasHighestAt f g residue s place others) old new (given ++ with_highest error rest) pushed
-          (error.1, erased_to fl g residue s place w others items given rest error out parts size not_zero low.0 low.1 opened) only
+      pub erased_one : (old new : List (List (ℕ × F))) → error.1 ≢ f.zero → AreWithin location others rest → new ≡ old ++ (given ++ with_highest error rest) ∷ [] → AreAdded Earlier (HasHighestAt f g residue s location others) old new
+      erased_one old new not_zero low pushed = added_one Earlier (HasHighestAt f g residue s location others) old new (given ++ with_highest error rest) pushed
+          (error.1, erased_to fl g residue s location w others items given rest error out parts size not_zero low.0 low.1 opened) only
         where
-          opened : OpenedGathered fl g residue s place w items
-          opened = let k = found_gathered (s ++ (place ∷ [])) answer items h e in open_last fl g residue s place w k.0 items k.1
+          opened : OpenedGathered fl g residue s location w items
+          opened = let k = found_gathered (s ++ (location ∷ [])) answer items h e in open_last fl g residue s location w k.0 items k.1
 
-          only : (x : List (ℕ × F)) → HasHighestAt f g residue s place others x → x ≡ given ++ with_highest error rest
+          only : (x : List (ℕ × F)) → HasHighestAt f g residue s location others x → x ≡ given ++ with_highest error rest
           only x k =
               let q = parts_are k.0 x k.1 in
               q.0.parts
-              ∙ ap (λ u. u ++ with_highest (place, k.0) q.0.rest) (sym q.1.given_same)
+              ∙ ap (λ u. u ++ with_highest (location, k.0) q.0.rest) (sym q.1.given_same)
               ∙ ap (λ u. given ++ with_highest u q.0.rest) (sym q.1.error_same)
               ∙ ap (λ u. given ++ with_highest error u) (sym q.1.rest_same)
 
-      pub erased_not : (old : List (List (ℕ × F))) → (error.1 ≢ f.zero → AreWithin place others rest → ⊥) → AreAdded Earlier (HasHighestAt f g residue s place others) old old
-      erased_not old none = added_none Earlier (HasHighestAt f g residue s place others) old (λ x k.
+      pub erased_not : (old : List (List (ℕ × F))) → (error.1 ≢ f.zero → AreWithin location others rest → ⊥) → AreAdded Earlier (HasHighestAt f g residue s location others) old old
+      erased_not old none = added_none Earlier (HasHighestAt f g residue s location others) old (λ x k.
           let q = parts_are k.0 x k.1 in
           none (λ z. q.0.not_zero (ap (λ (u : ℕ × F). u.1) (sym q.1.error_same) ∙ z))
-          (subst (λ u. AreWithin place others u) (sym q.1.rest_same) (q.0.few, q.0.below)))
+          (subst (λ u. AreWithin location others u) (sym q.1.rest_same) (q.0.few, q.0.below)))
 
-  -- where the place is an erasure there is no error
-  pub at_erasure : (place others : ℕ) (old : List (List (ℕ × F))) → IsAmong place s → AreAdded Earlier (HasHighestAt f g residue s place others) old old
-  at_erasure place others old m = added_none Earlier (HasHighestAt f g residue s place others) old (λ x k. k.1.outside m)
+  -- where the location is an erasure there is no error
+  pub at_erasure : (location others : ℕ) (old : List (List (ℕ × F))) → IsAmong location s → AreAdded Earlier (HasHighestAt f g residue s location others) old old
+  at_erasure location others old m = added_none Earlier (HasHighestAt f g residue s location others) old (λ x k. k.1.outside m)
 
 module _ {F : Type 0} {f : Ops F} (fl : IsField f) (rank : F → ℕ) (lowest : (x : F) → x ≢ f.zero → rank f.zero < rank x) (apart : (x y : F) → rank x ≡ rank y → x ≡ y) (g residue : List F) (s : List ℕ) where
-  -- all below a place, and all whose highest error is there, are all below the next
-  pub next_place : (place next errors others : ℕ) (old between new : List (List (ℕ × F))) → next ≡ suc place → errors ≡ suc others
-      → AreAdded (IsEarlier f rank s) (IsGathered f g residue s place errors) old between → AreAdded (IsEarlier f rank s) (HasHighestAt f g residue s place others) between new
+  -- all below a location, and all whose highest error is there, are all below the next
+  pub next_location : (location next errors others : ℕ) (old between new : List (List (ℕ × F))) → next ≡ suc location → errors ≡ suc others
+      → AreAdded (IsEarlier f rank s) (IsGathered f g residue s location errors) old between → AreAdded (IsEarlier f rank s) (HasHighestAt f g residue s location others) between new
       → AreAdded (IsEarlier f rank s) (IsGathered f g residue s next errors) old new
-  next_place place next errors others old between new e k =
-      added_both (IsEarlier f rank s) (IsGathered f g residue s place errors) (HasHighestAt f g residue s place others) (IsGathered f g residue s next errors) old between new
-      (λ x h. lower_gathered fl g residue s place next errors errors x (omega (arith, e)) (omega arith) h)
-      (λ x h. subst (λ n. IsGathered f g residue s n errors x) (sym e) (subst (λ n. IsGathered f g residue s (suc place) n x) (sym k) (highest_gathered fl g residue s (place, h.0) others x h.1)))
-      (λ x h. either x (split fl g residue s place others x (subst (λ n. IsGathered f g residue s (suc place) n x) k (subst (λ n. IsGathered f g residue s n errors x) e h))))
-      (λ x y h j. lower_earlier fl rank lowest g residue s place errors others x y h j)
+  next_location location next errors others old between new e k =
+      added_both (IsEarlier f rank s) (IsGathered f g residue s location errors) (HasHighestAt f g residue s location others) (IsGathered f g residue s next errors) old between new
+      (λ x h. lower_gathered fl g residue s location next errors errors x (omega (arith, e)) (omega arith) h)
+      (λ x h. subst (λ n. IsGathered f g residue s n errors x) (sym e) (subst (λ n. IsGathered f g residue s (suc location) n x) (sym k) (highest_gathered fl g residue s (location, h.0) others x h.1)))
+      (λ x h. either x (split fl g residue s location others x (subst (λ n. IsGathered f g residue s (suc location) n x) k (subst (λ n. IsGathered f g residue s n errors x) e h))))
+      (λ x y h j. lower_earlier fl rank lowest g residue s location errors others x y h j)
     where
-      either : (x : List (ℕ × F)) → IsGathered f g residue s place (suc others) x ⊎ HasHighestAt f g residue s place others x → IsGathered f g residue s place errors x ⊎ HasHighestAt f g residue s place others x
-      either x (inl h) = inl (subst (λ n. IsGathered f g residue s place n x) (sym k) h)
+      either : (x : List (ℕ × F)) → IsGathered f g residue s location (suc others) x ⊎ HasHighestAt f g residue s location others x → IsGathered f g residue s location errors x ⊎ HasHighestAt f g residue s location others x
+      either x (inl h) = inl (subst (λ n. IsGathered f g residue s location n x) (sym k) h)
       either x (inr h) = inr h
 
   -- below location 0 there are only those without errors
-  pub first_place : (errors : ℕ) (old new : List (List (ℕ × F))) → AreAdded (IsEarlier f rank s) (IsGathered f g residue s 0 0) old new → AreAdded (IsEarlier f rank s) (IsGathered f g residue s 0 errors) old new
-  first_place errors old new h = added_same (IsEarlier f rank s) (IsGathered f g residue s 0 0) (IsGathered f g residue s 0 errors) old new
+  pub first_location : (errors : ℕ) (old new : List (List (ℕ × F))) → AreAdded (IsEarlier f rank s) (IsGathered f g residue s 0 0) old new → AreAdded (IsEarlier f rank s) (IsGathered f g residue s 0 errors) old new
+  first_location errors old new h = added_same (IsEarlier f rank s) (IsGathered f g residue s 0 0) (IsGathered f g residue s 0 errors) old new
       (λ x k. lower_gathered fl g residue s 0 0 0 errors x (omega arith) (omega arith) k)
       (λ x k. none_gathered fl g residue s errors x k) h
 
   -- no error has a value below 1
-  pub first_value : (place others n : ℕ) (old : List (List (ℕ × F))) → n ≤ 1 → AreAdded (IsEarlier f rank s) (HasHighestBelow f rank g residue s place others n) old old
-  first_value place others n old low = added_none (IsEarlier f rank s) (HasHighestBelow f rank g residue s place others n) old
+  pub first_value : (location others n : ℕ) (old : List (List (ℕ × F))) → n ≤ 1 → AreAdded (IsEarlier f rank s) (HasHighestBelow f rank g residue s location others n) old old
+  first_value location others n old low = added_none (IsEarlier f rank s) (HasHighestBelow f rank g residue s location others n) old
       (λ x k. let some : rank f.zero < rank k.0 = lowest k.0 k.2.not_zero in let less : rank k.0 < n = k.1 in omega arith)
 
   -- all with a lower value, and all with this one, are all below the next
-  pub next_value : (place others n next : ℕ) (v : F) (old between new : List (List (ℕ × F))) → next ≡ suc n → rank v ≡ n
-      → AreAdded (IsEarlier f rank s) (HasHighestBelow f rank g residue s place others n) old between → AreAdded (IsEarlier f rank s) (HasHighest f g residue s (place, v) others) between new
-      → AreAdded (IsEarlier f rank s) (HasHighestBelow f rank g residue s place others next) old new
-  next_value place others n next v old between new e r =
-      added_both (IsEarlier f rank s) (HasHighestBelow f rank g residue s place others n) (HasHighest f g residue s (place, v) others) (HasHighestBelow f rank g residue s place others next) old between new
+  pub next_value : (location others n next : ℕ) (v : F) (old between new : List (List (ℕ × F))) → next ≡ suc n → rank v ≡ n
+      → AreAdded (IsEarlier f rank s) (HasHighestBelow f rank g residue s location others n) old between → AreAdded (IsEarlier f rank s) (HasHighest f g residue s (location, v) others) between new
+      → AreAdded (IsEarlier f rank s) (HasHighestBelow f rank g residue s location others next) old new
+  next_value location others n next v old between new e r =
+      added_both (IsEarlier f rank s) (HasHighestBelow f rank g residue s location others n) (HasHighest f g residue s (location, v) others) (HasHighestBelow f rank g residue s location others next) old between new
       (λ x h. (h.0, omega (arith, e, h.1), h.2))
       (λ x h. (v, omega (arith, e, r), h))
       either
-      (λ x y h k. value_earlier fl rank lowest g residue s place others h.0 v x y (omega (arith, r, h.1)) h.2 k)
+      (λ x y h k. value_earlier fl rank lowest g residue s location others h.0 v x y (omega (arith, r, h.1)) h.2 k)
     where
-      either : (x : List (ℕ × F)) → HasHighestBelow f rank g residue s place others next x → HasHighestBelow f rank g residue s place others n x ⊎ HasHighest f g residue s (place, v) others x
+      either : (x : List (ℕ × F)) → HasHighestBelow f rank g residue s location others next x → HasHighestBelow f rank g residue s location others n x ⊎ HasHighest f g residue s (location, v) others x
       either x (u, low, h) = elim (dec_lt (rank u) n) [
         | yes k ↦ inl (u, k, h)
-        | no k ↦ inr (subst (λ z. HasHighest f g residue s (place, z) others x) (apart u v (omega (arith, e, r))) h)
+        | no k ↦ inr (subst (λ z. HasHighest f g residue s (location, z) others x) (apart u v (omega (arith, e, r))) h)
       ]
 
   -- below the number of elements are all values
-  pub all_values : (place others n : ℕ) (old new : List (List (ℕ × F))) → ((v : F) → rank v < n) → AreAdded (IsEarlier f rank s) (HasHighestBelow f rank g residue s place others n) old new
-      → AreAdded (IsEarlier f rank s) (HasHighestAt f g residue s place others) old new
-  all_values place others n old new below h = added_same (IsEarlier f rank s) (HasHighestBelow f rank g residue s place others n) (HasHighestAt f g residue s place others) old new
+  pub all_values : (location others n : ℕ) (old new : List (List (ℕ × F))) → ((v : F) → rank v < n) → AreAdded (IsEarlier f rank s) (HasHighestBelow f rank g residue s location others n) old new
+      → AreAdded (IsEarlier f rank s) (HasHighestAt f g residue s location others) old new
+  all_values location others n old new below h = added_same (IsEarlier f rank s) (HasHighestBelow f rank g residue s location others n) (HasHighestAt f g residue s location others) old new
       (λ x k. (k.0, k.2)) (λ x k. (k.0, below k.0, k.1)) h
 
   -- what is gathered for the rest of the residue, each with the error

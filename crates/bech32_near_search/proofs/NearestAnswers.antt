@@ -40,19 +40,19 @@ answer_of rank s code bound q (Some listing) erased h = record {
 }
 
 -- the same with a location that is one more erasure
-erased_answer : (rank : Fe32 → ℕ) (s : List ℕ) (place window : ℕ) (code : Code) (bound : ℕ) (residue : List Fe32) (answer : Option (List (ℕ × Fe32))) → AreErasures window s → place < window → has s place ≡ false
-    → IsAnswerTo code bound (record { residue = residue; window = window; erasures = with_erasures s (place ∷ []) }) answer
-    → IsAnswer is_field rank code.generator residue s window bound (s ++ (place ∷ [])) answer
-erased_answer rank s place window code bound residue answer erased within out h =
-    subst (λ (t : List ℕ). IsAnswer is_field rank code.generator residue s window bound t answer) (ap (λ b. cond b s (s ++ (place ∷ []))) out)
-    (answer_of rank s code bound (record { residue = residue; window = window; erasures = with_erasures s (place ∷ []) }) answer (erasures_more window s (place ∷ []) erased (within, tt)) h)
+erased_answer : (rank : Fe32 → ℕ) (s : List ℕ) (location window : ℕ) (code : Code) (bound : ℕ) (residue : List Fe32) (answer : Option (List (ℕ × Fe32))) → AreErasures window s → location < window → has s location ≡ false
+    → IsAnswerTo code bound (record { residue = residue; window = window; erasures = with_erasures s (location ∷ []) }) answer
+    → IsAnswer is_field rank code.generator residue s window bound (s ++ (location ∷ [])) answer
+erased_answer rank s location window code bound residue answer erased within out h =
+    subst (λ (t : List ℕ). IsAnswer is_field rank code.generator residue s window bound t answer) (ap (λ b. cond b s (s ++ (location ∷ []))) out)
+    (answer_of rank s code bound (record { residue = residue; window = window; erasures = with_erasures s (location ∷ []) }) answer (erasures_more window s (location ∷ []) erased (within, tt)) h)
 
--- below an end that stands above the place and the erasures, a corrector's listing with the place
+-- below an end that stands above the location and the erasures, a corrector's listing with the location
 -- behind its erasures
-pub one_more : {E : Type 0} (code : Code) (bound : ℕ) (q : Question) (place highest : ℕ) (given : List ℕ) (r : Result (Option (List (ℕ × Fe32))) E) → given ≡ q.erasures ++ (place ∷ [])
-    → AreErasures q.window q.erasures → place ≤ highest → AllByRecursion (λ i. i ≤ highest) q.erasures → highest < q.window → IfOk r (λ answer. IsAnswerWith code bound (up_to q highest) given answer)
-    → IfOk r (λ answer. IsErasedAnswer code bound q place answer)
-one_more {E} code bound q place highest given r is erased low below within h = said r h
+pub one_more : {E : Type 0} (code : Code) (bound : ℕ) (q : Question) (location highest : ℕ) (given : List ℕ) (r : Result (Option (List (ℕ × Fe32))) E) → given ≡ q.erasures ++ (location ∷ [])
+    → AreErasures q.window q.erasures → location ≤ highest → AllByRecursion (λ i. i ≤ highest) q.erasures → highest < q.window → IfOk r (λ answer. IsAnswerWith code bound (up_to q highest) given answer)
+    → IfOk r (λ answer. IsErasedAnswer code bound q location answer)
+one_more {E} code bound q location highest given r is erased low below within h = said r h
   where
     end_is : min (highest + 1) q.window ≡ suc highest
     end_is = min_left (highest + 1) q.window (omega (arith, within)) ∙ omega arith
@@ -60,16 +60,16 @@ one_more {E} code bound q place highest given r is erased low below within h = s
     erasures : AllByRecursion (λ i. i < min (highest + 1) q.window) q.erasures
     erasures = subst (λ (n : ℕ). AllByRecursion (λ i. i < n) q.erasures) (sym end_is) (below_next highest q.erasures below)
 
-    above : place < min (highest + 1) q.window
+    above : location < min (highest + 1) q.window
     above = omega (arith, end_is, low)
 
     inside : AllByRecursion (λ i. i < min (highest + 1) q.window) given
-    inside = subst (λ (s : List ℕ). AllByRecursion (λ i. i < min (highest + 1) q.window) s) (sym is) (all_push (λ (i : ℕ). i < min (highest + 1) q.window) q.erasures place erasures above)
+    inside = subst (λ (s : List ℕ). AllByRecursion (λ i. i < min (highest + 1) q.window) s) (sym is) (all_push (λ (i : ℕ). i < min (highest + 1) q.window) q.erasures location erasures above)
 
-    same : with_erasures [] given ≡ with_erasures q.erasures (place ∷ [])
-    same = ap (with_erasures []) is ∙ with_erasures-append [] q.erasures (place ∷ []) ∙ ap (λ (s : List ℕ). with_erasures s (place ∷ [])) (erasures_are q.erasures erased.once)
+    same : with_erasures [] given ≡ with_erasures q.erasures (location ∷ [])
+    same = ap (with_erasures []) is ∙ with_erasures-append [] q.erasures (location ∷ []) ∙ ap (λ (s : List ℕ). with_erasures s (location ∷ [])) (erasures_are q.erasures erased.once)
 
-    moved : (answer : Option (List (ℕ × Fe32))) → IsAnswerTo code bound (with_given (up_to q highest) given) answer → IsErasedAnswer code bound q place answer
+    moved : (answer : Option (List (ℕ × Fe32))) → IsAnswerTo code bound (with_given (up_to q highest) given) answer → IsErasedAnswer code bound q location answer
     moved answer k = record {
       end = min (highest + 1) q.window;
       above = above;
@@ -78,7 +78,7 @@ one_more {E} code bound q place highest given r is erased low below within h = s
     }
 
     said : (r : Result (Option (List (ℕ × Fe32))) E) → IfOk r (λ answer. IsAnswerWith code bound (up_to q highest) given answer)
-        → IfOk r (λ answer. IsErasedAnswer code bound q place answer)
+        → IfOk r (λ answer. IsErasedAnswer code bound q location answer)
     said (Ok None) h = moved None (h inside)
     said (Ok (Some listing)) h = moved (Some listing) h.1
     said (Err e) h = tt
@@ -196,11 +196,11 @@ of_ok (Ok x) h k = h
 of_ok (Err x) h k = absurd (cc k)
 
 -- what was tried of a listing that was split behind the erasures
-module _ (items slice given behind rest : List (ℕ × Fe32)) (erased place others : ℕ) (error : ℕ × Fe32) (old : List (List (ℕ × Fe32))) (same : slice ≡ items) (front : given ≡ take erased slice) (back : behind ≡ drop erased slice) (is : behind ≡ error ∷ rest) (long : erased < length items) where
+module _ (items slice given behind rest : List (ℕ × Fe32)) (erased location others : ℕ) (error : ℕ × Fe32) (old : List (List (ℕ × Fe32))) (same : slice ≡ items) (front : given ≡ take erased slice) (back : behind ≡ drop erased slice) (is : behind ≡ error ∷ rest) (long : erased < length items) where
   cut_size : length given ≡ erased
   cut_size = omega (arith, ap (λ u. length u) front, ap (λ u. length u) same, length-take erased slice, long)
 
-  pub tried_not : (CanBeHighest fe32.zero place others error rest → ⊥) → IsTried fe32.zero erased place others items old old
+  pub tried_not : (CanBeHighest fe32.zero location others error rest → ⊥) → IsTried fe32.zero erased location others items old old
   tried_not never = record {
     given = given;
     error = error;
@@ -212,7 +212,7 @@ module _ (items slice given behind rest : List (ℕ × Fe32)) (erased place othe
     either = inr never;
   }
 
-  pub tried_one : (new : List (List (ℕ × Fe32))) → CanBeHighest fe32.zero place others error rest → new ≡ old ++ (given ++ with_highest error rest) ∷ [] → IsTried fe32.zero erased place others items old new
+  pub tried_one : (new : List (List (ℕ × Fe32))) → CanBeHighest fe32.zero location others error rest → new ≡ old ++ (given ++ with_highest error rest) ∷ [] → IsTried fe32.zero erased location others items old new
   tried_one new can pushed = record {
     given = given;
     error = error;
@@ -225,26 +225,26 @@ module _ (items slice given behind rest : List (ℕ × Fe32)) (erased place othe
   }
 
 -- the listing that was tried is the one with its highest error there, or there is none
-pub highest_tried : (q : Question) (place : ℕ) (code : Code) (bound : ℕ) (answer : Option (List (ℕ × Fe32))) (others : ℕ) (items : List (ℕ × Fe32)) (erased : ℕ) (old new : List (List (ℕ × Fe32)))
-    → has q.erasures place ≡ false → 2 * others + length q.erasures + 1 ≤ bound → IsErasedAnswer code bound q place answer → answer ≡ Some items → erased ≡ length q.erasures
-    → (erased < length items → IsTried fe32.zero erased place others items old new)
-    → AreAdded (IsEarlier fe32.ops fe32.value q.erasures) (HasHighestAt fe32.ops code.generator q.residue q.erasures place others) old new
-highest_tried q place code bound answer others items erased old new out few is some size try =
+pub highest_tried : (q : Question) (location : ℕ) (code : Code) (bound : ℕ) (answer : Option (List (ℕ × Fe32))) (others : ℕ) (items : List (ℕ × Fe32)) (erased : ℕ) (old new : List (List (ℕ × Fe32)))
+    → has q.erasures location ≡ false → 2 * others + length q.erasures + 1 ≤ bound → IsErasedAnswer code bound q location answer → answer ≡ Some items → erased ≡ length q.erasures
+    → (erased < length items → IsTried fe32.zero erased location others items old new)
+    → AreAdded (IsEarlier fe32.ops fe32.value q.erasures) (HasHighestAt fe32.ops code.generator q.residue q.erasures location others) old new
+highest_tried q location code bound answer others items erased old new out few is some size try =
     let s = q.erasures in
-    let h = erased_answer fe32.value s place is.end code bound q.residue answer is.erasures is.above out is.answers in
-    let long : length (s ++ (place ∷ [])) ≤ length items = erasures_first is_field fe32.value code.generator q.residue s is.end bound (s ++ (place ∷ [])) answer items h some in
-    let k : IsTried fe32.zero erased place others items old new = try (omega (arith, long, length-append s (place ∷ []), size)) in
+    let h = erased_answer fe32.value s location is.end code bound q.residue answer is.erasures is.above out is.answers in
+    let long : length (s ++ (location ∷ [])) ≤ length items = erasures_first is_field fe32.value code.generator q.residue s is.end bound (s ++ (location ∷ [])) answer items h some in
+    let k : IsTried fe32.zero erased location others items old new = try (omega (arith, long, length-append s (location ∷ []), size)) in
     elim k.either [
-      | inl y ↦ erased_one is_field fe32.value code.generator q.residue s is.end bound place others is.above (not_among s place out) few answer h items k.given k.rest k.error some k.parts (k.size ∙ size) old new y.0 y.1 (k.added y)
-      | inr n ↦ subst (λ (u : List (List (ℕ × Fe32))). AreAdded (IsEarlier fe32.ops fe32.value s) (HasHighestAt fe32.ops code.generator q.residue s place others) old u) (sym (k.left n))
-          (erased_not is_field fe32.value code.generator q.residue s is.end bound place others is.above (not_among s place out) few answer h items k.given k.rest k.error some k.parts (k.size ∙ size) old (λ z low. n (z, low)))
+      | inl y ↦ erased_one is_field fe32.value code.generator q.residue s is.end bound location others is.above (not_among s location out) few answer h items k.given k.rest k.error some k.parts (k.size ∙ size) old new y.0 y.1 (k.added y)
+      | inr n ↦ subst (λ (u : List (List (ℕ × Fe32))). AreAdded (IsEarlier fe32.ops fe32.value s) (HasHighestAt fe32.ops code.generator q.residue s location others) old u) (sym (k.left n))
+          (erased_not is_field fe32.value code.generator q.residue s is.end bound location others is.above (not_among s location out) few answer h items k.given k.rest k.error some k.parts (k.size ∙ size) old (λ z low. n (z, low)))
     ]
 
 -- where nothing is listed, there is none
-pub none_tried : (q : Question) (place : ℕ) (code : Code) (bound : ℕ) (answer : Option (List (ℕ × Fe32))) (others : ℕ) (old : List (List (ℕ × Fe32)))
-    → has q.erasures place ≡ false → 2 * others + length q.erasures + 1 ≤ bound → IsErasedAnswer code bound q place answer → answer ≡ None
-    → AreAdded (IsEarlier fe32.ops fe32.value q.erasures) (HasHighestAt fe32.ops code.generator q.residue q.erasures place others) old old
-none_tried q place code bound answer others old out few is none =
+pub none_tried : (q : Question) (location : ℕ) (code : Code) (bound : ℕ) (answer : Option (List (ℕ × Fe32))) (others : ℕ) (old : List (List (ℕ × Fe32)))
+    → has q.erasures location ≡ false → 2 * others + length q.erasures + 1 ≤ bound → IsErasedAnswer code bound q location answer → answer ≡ None
+    → AreAdded (IsEarlier fe32.ops fe32.value q.erasures) (HasHighestAt fe32.ops code.generator q.residue q.erasures location others) old old
+none_tried q location code bound answer others old out few is none =
     let s = q.erasures in
-    erased_none is_field fe32.value code.generator q.residue s is.end bound place others is.above (not_among s place out) few answer
-    (erased_answer fe32.value s place is.end code bound q.residue answer is.erasures is.above out is.answers) old none
+    erased_none is_field fe32.value code.generator q.residue s is.end bound location others is.above (not_among s location out) few answer
+    (erased_answer fe32.value s location is.end code bound q.residue answer is.erasures is.above out is.answers) old none

@@ -130,12 +130,12 @@ module _ {F : Type 0} {f : Ops F} (fl : IsField f) where
         at_other u = at_rest fl x u k.location (λ z. omega (arith, z, below))
 
   -- a list whose last location is this one
-  pub record Opened (s : List ℕ) (place : ℕ) (items : List (ℕ × F)) : Type 0 where
+  pub record Opened (s : List ℕ) (location : ℕ) (items : List (ℕ × F)) : Type 0 where
     pub given : List (ℕ × F)
     pub error : ℕ × F
     pub parts : items ≡ given ++ (error ∷ [])
     pub placed : locations given ≡ s
-    pub here : error.0 ≡ place
+    pub here : error.0 ≡ location
 
   tail_same : (i j : ℕ) (r t : List ℕ) → i ∷ r ≡ j ∷ t → r ≡ t
   tail_same i j r t e = cc e
@@ -146,39 +146,39 @@ module _ {F : Type 0} {f : Ops F} (fl : IsField f) where
   no_more : (i : ℕ) (r : List ℕ) → [] ≡ i ∷ r → ⊥
   no_more i r e = cc e
 
-  opened : (s : List ℕ) (place : ℕ) (items : List (ℕ × F)) → locations items ≡ s ++ (place ∷ []) → Opened s place items
-  opened [] place [] e = absurd (no_more place [] e)
-  opened [] place (q ∷ []) e = record { given = []; error = q; parts = refl; placed = refl; here = head_same q.0 place [] [] e }
-  opened [] place (q ∷ n ∷ items) e = absurd (no_more n.0 (locations items) (sym (tail_same q.0 place (n.0 ∷ locations items) [] e)))
-  opened (i ∷ s) place [] e = absurd (no_more i (s ++ (place ∷ [])) e)
-  opened (i ∷ s) place (q ∷ items) e = step (opened s place items (tail_same q.0 i (locations items) (s ++ (place ∷ [])) e))
+  opened : (s : List ℕ) (location : ℕ) (items : List (ℕ × F)) → locations items ≡ s ++ (location ∷ []) → Opened s location items
+  opened [] location [] e = absurd (no_more location [] e)
+  opened [] location (q ∷ []) e = record { given = []; error = q; parts = refl; placed = refl; here = head_same q.0 location [] [] e }
+  opened [] location (q ∷ n ∷ items) e = absurd (no_more n.0 (locations items) (sym (tail_same q.0 location (n.0 ∷ locations items) [] e)))
+  opened (i ∷ s) location [] e = absurd (no_more i (s ++ (location ∷ [])) e)
+  opened (i ∷ s) location (q ∷ items) e = step (opened s location items (tail_same q.0 i (locations items) (s ++ (location ∷ [])) e))
     where
       first : q.0 ≡ i
-      first = head_same q.0 i (locations items) (s ++ (place ∷ [])) e
+      first = head_same q.0 i (locations items) (s ++ (location ∷ [])) e
 
-      step : Opened s place items → Opened (i ∷ s) place (q ∷ items)
+      step : Opened s location items → Opened (i ∷ s) location (q ∷ items)
       step o = record { given = q ∷ o.given; error = o.error; parts = ap (λ u. q ∷ u) o.parts; placed = ap (λ u. u ∷ locations o.given) first ∙ ap (λ u. i ∷ u) o.placed; here = o.here }
 
-  pub record OpenedGathered (g residue : List F) (s : List ℕ) (place w : ℕ) (items : List (ℕ × F)) : Type 0 where
+  pub record OpenedGathered (g residue : List F) (s : List ℕ) (location w : ℕ) (items : List (ℕ × F)) : Type 0 where
     pub given : List (ℕ × F)
     pub error : ℕ × F
     pub rest : List (ℕ × F)
     pub parts : items ≡ given ++ (error ∷ rest)
     pub placed : locations given ≡ s
-    pub here : error.0 ≡ place
+    pub here : error.0 ≡ location
     pub in_order : IsInOrder (locations rest)
     pub each : AllByRecursion (IsOtherError f s w) rest
     pub remainder : HasRemainder f g residue items
 
   -- a listing with one more erasure
-  pub open_last : (g residue : List F) (s : List ℕ) (place w most : ℕ) (items : List (ℕ × F)) → IsGathered f g residue (s ++ (place ∷ [])) w most items → OpenedGathered g residue s place w items
-  open_last g residue s place w most items h = step (opened s place h.given h.placed)
+  pub open_last : (g residue : List F) (s : List ℕ) (location w most : ℕ) (items : List (ℕ × F)) → IsGathered f g residue (s ++ (location ∷ [])) w most items → OpenedGathered g residue s location w items
+  open_last g residue s location w most items h = step (opened s location h.given h.placed)
     where
-      fewer_erasures : (w : ℕ) (errors : List (ℕ × F)) → AllByRecursion (IsOtherError f (s ++ (place ∷ [])) w) errors → AllByRecursion (IsOtherError f s w) errors
+      fewer_erasures : (w : ℕ) (errors : List (ℕ × F)) → AllByRecursion (IsOtherError f (s ++ (location ∷ [])) w) errors → AllByRecursion (IsOtherError f s w) errors
       fewer_erasures w [] a = tt
-      fewer_erasures w (q ∷ errors) a = (record { below = a.0.below; outside = λ m. a.0.outside (mem_left q.0 s (place ∷ []) m); not_zero = a.0.not_zero }, fewer_erasures w errors a.1)
+      fewer_erasures w (q ∷ errors) a = (record { below = a.0.below; outside = λ m. a.0.outside (mem_left q.0 s (location ∷ []) m); not_zero = a.0.not_zero }, fewer_erasures w errors a.1)
 
-      step : Opened s place h.given → OpenedGathered g residue s place w items
+      step : Opened s location h.given → OpenedGathered g residue s location w items
       step o = record {
         given = o.given;
         error = o.error;
@@ -207,19 +207,19 @@ module _ {F : Type 0} {f : Ops F} (fl : IsField f) where
       behind : error ∷ rest ≡ error' ∷ rest'
       behind = sym (drop_first given (error ∷ rest)) ∙ ap (drop (length given)) both ∙ ap (λ n. drop n (given' ++ (error' ∷ rest'))) sizes ∙ drop_first given' (error' ∷ rest')
 
-  -- where its other errors are below the place
-  pub erased_to : (g residue : List F) (s : List ℕ) (place w others : ℕ) (items given rest : List (ℕ × F)) (error : ℕ × F) → (IsAmong place s → ⊥)
-      → items ≡ given ++ (error ∷ rest) → length given ≡ length s → error.1 ≢ f.zero → length rest ≤ others → AllByRecursion (λ (q : ℕ × F). q.0 < place) rest
-      → OpenedGathered g residue s place w items → HasHighest f g residue s (place, error.1) others (given ++ with_highest error rest)
-  erased_to g residue s place w others items given rest error out parts size not_zero few below h = record {
+  -- where its other errors are below the location
+  pub erased_to : (g residue : List F) (s : List ℕ) (location w others : ℕ) (items given rest : List (ℕ × F)) (error : ℕ × F) → (IsAmong location s → ⊥)
+      → items ≡ given ++ (error ∷ rest) → length given ≡ length s → error.1 ≢ f.zero → length rest ≤ others → AllByRecursion (λ (q : ℕ × F). q.0 < location) rest
+      → OpenedGathered g residue s location w items → HasHighest f g residue s (location, error.1) others (given ++ with_highest error rest)
+  erased_to g residue s location w others items given rest error out parts size not_zero few below h = record {
     given = h.given;
     rest = h.rest;
-    parts = ap (λ u. u ++ with_highest error rest) p.given_same ∙ ap (λ u. h.given ++ with_highest u rest) shown ∙ ap (λ u. h.given ++ with_highest (place, error.1) u) p.rest_same;
+    parts = ap (λ u. u ++ with_highest error rest) p.given_same ∙ ap (λ u. h.given ++ with_highest u rest) shown ∙ ap (λ u. h.given ++ with_highest (location, error.1) u) p.rest_same;
     placed = h.placed;
     outside = out;
     not_zero = not_zero;
     in_order = h.in_order;
-    each = each_lower f s w place h.rest (subst (λ u. AllByRecursion (λ (q : ℕ × F). q.0 < place) u) p.rest_same below) h.each;
+    each = each_lower f s w location h.rest (subst (λ u. AllByRecursion (λ (q : ℕ × F). q.0 < location) u) p.rest_same below) h.each;
     few = subst (λ u. length u ≤ others) p.rest_same few;
     remainder = same_remains fl g residue items (given ++ with_highest error rest)
         (λ i. ap (λ u. value_of_pattern_at f u i) (parts ∙ sym (append_assoc given (error ∷ []) rest)) ∙ sym (at-erased fl error given rest i)) h.remainder;
@@ -228,47 +228,47 @@ module _ {F : Type 0} {f : Ops F} (fl : IsField f) where
       p : SameParts given h.given error h.error rest h.rest
       p = same_parts given h.given error h.error rest h.rest (size ∙ sym (length-placed h.given s h.placed)) (sym parts ∙ h.parts)
 
-      shown : error ≡ (place, error.1)
+      shown : error ≡ (location, error.1)
       shown = ap (λ i. (i, error.1)) (ap (λ (q : ℕ × F). q.0) p.error_same ∙ h.here)
 
-  pub record ErasedFrom (g residue : List F) (s : List ℕ) (place w others : ℕ) (v : F) (items : List (ℕ × F)) : Type 0 where
+  pub record ErasedFrom (g residue : List F) (s : List ℕ) (location w others : ℕ) (v : F) (items : List (ℕ × F)) : Type 0 where
     pub given : List (ℕ × F)
     pub rest : List (ℕ × F)
-    pub parts : items ≡ given ++ with_highest (place, v) rest
+    pub parts : items ≡ given ++ with_highest (location, v) rest
     pub size : length given ≡ length s
-    pub below : AllByRecursion (λ (q : ℕ × F). q.0 < place) rest
+    pub below : AllByRecursion (λ (q : ℕ × F). q.0 < location) rest
     pub few : length rest ≤ others
     pub not_zero : v ≢ f.zero
-    pub gathered : IsGathered f g residue (s ++ (place ∷ [])) w others (given ++ ((place, v) ∷ rest))
+    pub gathered : IsGathered f g residue (s ++ (location ∷ [])) w others (given ++ ((location, v) ∷ rest))
 
-  -- with the highest place as one more erasure
-  pub erased_from : (g residue : List F) (s : List ℕ) (place w others : ℕ) (v : F) (items : List (ℕ × F)) → place < w → HasHighest f g residue s (place, v) others items → ErasedFrom g residue s place w others v items
-  erased_from g residue s place w others v items within h = record {
+  -- with the highest location as one more erasure
+  pub erased_from : (g residue : List F) (s : List ℕ) (location w others : ℕ) (v : F) (items : List (ℕ × F)) → location < w → HasHighest f g residue s (location, v) others items → ErasedFrom g residue s location w others v items
+  erased_from g residue s location w others v items within h = record {
     given = h.given;
     rest = h.rest;
     parts = h.parts;
     size = length-placed h.given s h.placed;
-    below = each_below f s place h.rest h.each;
+    below = each_below f s location h.rest h.each;
     few = h.few;
     not_zero = h.not_zero;
     gathered = record {
-      given = h.given ++ ((place, v) ∷ []);
+      given = h.given ++ ((location, v) ∷ []);
       errors = h.rest;
-      parts = sym (append_assoc h.given ((place, v) ∷ []) h.rest);
-      placed = locations-append h.given ((place, v) ∷ []) ∙ ap (λ u. u ++ (place ∷ [])) h.placed;
+      parts = sym (append_assoc h.given ((location, v) ∷ []) h.rest);
+      placed = locations-append h.given ((location, v) ∷ []) ∙ ap (λ u. u ++ (location ∷ [])) h.placed;
       in_order = h.in_order;
       each = one_more_erasure h.rest h.each;
       few = h.few;
-      remainder = same_remains fl g residue items (h.given ++ ((place, v) ∷ h.rest))
-          (λ i. ap (λ u. value_of_pattern_at f u i) h.parts ∙ at-erased fl (place, v) h.given h.rest i ∙ ap (λ u. value_of_pattern_at f u i) (append_assoc h.given ((place, v) ∷ []) h.rest)) h.remainder;
+      remainder = same_remains fl g residue items (h.given ++ ((location, v) ∷ h.rest))
+          (λ i. ap (λ u. value_of_pattern_at f u i) h.parts ∙ at-erased fl (location, v) h.given h.rest i ∙ ap (λ u. value_of_pattern_at f u i) (append_assoc h.given ((location, v) ∷ []) h.rest)) h.remainder;
     };
   }
     where
-      apart : (i : ℕ) → i < place → (IsAmong i s → ⊥) → IsAmong i (s ++ (place ∷ [])) → ⊥
-      apart i low out m = elim (mem_split i s (place ∷ []) m) [ inl k ↦ out k | inr k ↦ elim k [ inl e ↦ omega (arith, low, e) | inr n ↦ n ] ]
+      apart : (i : ℕ) → i < location → (IsAmong i s → ⊥) → IsAmong i (s ++ (location ∷ [])) → ⊥
+      apart i low out m = elim (mem_split i s (location ∷ []) m) [ inl k ↦ out k | inr k ↦ elim k [ inl e ↦ omega (arith, low, e) | inr n ↦ n ] ]
 
-      one_more_erasure : (errors : List (ℕ × F)) → AllByRecursion (IsOtherError f s place) errors → AllByRecursion (IsOtherError f (s ++ (place ∷ [])) w) errors
+      one_more_erasure : (errors : List (ℕ × F)) → AllByRecursion (IsOtherError f s location) errors → AllByRecursion (IsOtherError f (s ++ (location ∷ [])) w) errors
       one_more_erasure [] a = tt
       one_more_erasure (q ∷ errors) a =
-          let low : q.0 < place = a.0.below in
+          let low : q.0 < location = a.0.below in
           (record { below = omega (arith, low, within); outside = apart q.0 low a.0.outside; not_zero = a.0.not_zero }, one_more_erasure errors a.1)

@@ -39,12 +39,12 @@ length-placed {F = F} xs s e = length_of xs ∙ ap (λ u. length u) e
     length_of [] = refl
     length_of (y ∷ ys) = ap suc (length_of ys)
 
--- of an error that comes before another, and is no higher than the highest place
-before_highest : (i place : ℕ) → ComesBefore i place → i ≤ place → i ≡ 0
-before_highest i place h low = elim h.1 [ inl z ↦ z | inr k ↦ absurd (omega arith) ]
+-- of an error that comes before another, and is no higher than the highest location
+before_highest : (i location : ℕ) → ComesBefore i location → i ≤ location → i ≡ 0
+before_highest i location h low = elim h.1 [ inl z ↦ z | inr k ↦ absurd (omega arith) ]
 
-after_highest : (place j : ℕ) → ComesBefore place j → j ≤ place → j < place
-after_highest place j h low = elim h.1 [
+after_highest : (location j : ℕ) → ComesBefore location j → j ≤ location → j < location
+after_highest location j h low = elim h.1 [
   | inl z ↦ (let some : 0 < j = h.0 in absurd (omega arith))
   | inr k ↦ k
 ]
@@ -79,25 +79,25 @@ module _ {F : Type 0} (f : Ops F) (s : List ℕ) where
   each_lower limit limit' (q ∷ errors) b a = (record { below = b.0; outside = a.0.outside; not_zero = a.0.not_zero }, each_lower limit limit' errors b.1 a.1)
 
 module _ {F : Type 0} {f : Ops F} (fl : IsField f) where
-  pair_eta : (q : ℕ × F) (place : ℕ) → q.0 ≡ place → q ≡ (place, q.1)
-  pair_eta q place e = ap (λ i. (i, q.1)) e
+  pair_eta : (q : ℕ × F) (location : ℕ) → q.0 ≡ location → q ≡ (location, q.1)
+  pair_eta q location e = ap (λ i. (i, q.1)) e
 
   -- errors of which the highest is taken out
-  pub record TakenOut (s : List ℕ) (place : ℕ) (errors : List (ℕ × F)) : Type 0 where
+  pub record TakenOut (s : List ℕ) (location : ℕ) (errors : List (ℕ × F)) : Type 0 where
     pub value : F
     pub rest : List (ℕ × F)
-    pub is : errors ≡ with_highest (place, value) rest
+    pub is : errors ≡ with_highest (location, value) rest
     pub not_zero : value ≢ f.zero
     pub in_order : IsInOrder (locations rest)
-    pub each : AllByRecursion (IsOtherError f s place) rest
+    pub each : AllByRecursion (IsOtherError f s location) rest
     pub few : length errors ≡ suc (length rest)
 
   -- all behind the highest are below it
-  lower_rest : (s : List ℕ) (place : ℕ) (rest : List (ℕ × F)) → AllByRecursion (λ j. ComesBefore place j) (locations rest) → AllByRecursion (IsOtherError f s (suc place)) rest → AllByRecursion (IsOtherError f s place) rest
-  lower_rest s place [] o e = tt
-  lower_rest s place (q ∷ rest) o e =
-      let low : q.0 < suc place = e.0.below in
-      (record { below = after_highest place q.0 o.0 (omega arith); outside = e.0.outside; not_zero = e.0.not_zero }, lower_rest s place rest o.1 e.1)
+  lower_rest : (s : List ℕ) (location : ℕ) (rest : List (ℕ × F)) → AllByRecursion (λ j. ComesBefore location j) (locations rest) → AllByRecursion (IsOtherError f s (suc location)) rest → AllByRecursion (IsOtherError f s location) rest
+  lower_rest s location [] o e = tt
+  lower_rest s location (q ∷ rest) o e =
+      let low : q.0 < suc location = e.0.below in
+      (record { below = after_highest location q.0 o.0 (omega arith); outside = e.0.outside; not_zero = e.0.not_zero }, lower_rest s location rest o.1 e.1)
 
   positive_behind : (i : ℕ) (rest : List ℕ) → AllByRecursion (λ j. ComesBefore i j) rest → AllByRecursion (λ j. 0 < j) rest
   positive_behind i [] h = tt
@@ -107,49 +107,49 @@ module _ {F : Type 0} {f : Ops F} (fl : IsField f) where
   first_of x [] h = refl
   first_of x (q ∷ rest) h = ap (λ b. cond b (q ∷ x ∷ rest) (x ∷ q ∷ rest)) (sym (eqb_no q.0 h.0))
 
-  taken_first : (s : List ℕ) (place : ℕ) (q : ℕ × F) (rest : List (ℕ × F)) → q.0 ≡ place → IsInOrder (locations (q ∷ rest)) → AllByRecursion (IsOtherError f s (suc place)) (q ∷ rest) → TakenOut s place (q ∷ rest)
-  taken_first s place q rest e o a = record {
+  taken_first : (s : List ℕ) (location : ℕ) (q : ℕ × F) (rest : List (ℕ × F)) → q.0 ≡ location → IsInOrder (locations (q ∷ rest)) → AllByRecursion (IsOtherError f s (suc location)) (q ∷ rest) → TakenOut s location (q ∷ rest)
+  taken_first s location q rest e o a = record {
     value = q.1;
     rest = rest;
-    is = ap (λ x. x ∷ rest) (pair_eta q place e) ∙ first_of (place, q.1) rest (positive_behind q.0 (locations rest) o.0);
+    is = ap (λ x. x ∷ rest) (pair_eta q location e) ∙ first_of (location, q.1) rest (positive_behind q.0 (locations rest) o.0);
     not_zero = a.0.not_zero;
     in_order = o.1;
-    each = lower_rest s place rest (subst (λ i. AllByRecursion (λ j. ComesBefore i j) (locations rest)) e o.0) a.1;
+    each = lower_rest s location rest (subst (λ i. AllByRecursion (λ j. ComesBefore i j) (locations rest)) e o.0) a.1;
     few = refl;
   }
 
-  taken_second : (s : List ℕ) (place : ℕ) (q n : ℕ × F) (rest : List (ℕ × F)) → q.0 ≡ 0 → 0 < place → n.0 ≡ place → IsInOrder (locations (q ∷ n ∷ rest)) → AllByRecursion (IsOtherError f s (suc place)) (q ∷ n ∷ rest)
-      → TakenOut s place (q ∷ n ∷ rest)
-  taken_second s place q n rest z some e o a = record {
+  taken_second : (s : List ℕ) (location : ℕ) (q n : ℕ × F) (rest : List (ℕ × F)) → q.0 ≡ 0 → 0 < location → n.0 ≡ location → IsInOrder (locations (q ∷ n ∷ rest)) → AllByRecursion (IsOtherError f s (suc location)) (q ∷ n ∷ rest)
+      → TakenOut s location (q ∷ n ∷ rest)
+  taken_second s location q n rest z some e o a = record {
     value = n.1;
     rest = q ∷ rest;
-    is = ap (λ x. q ∷ x ∷ rest) (pair_eta n place e) ∙ ap (λ b. cond b (q ∷ (place, n.1) ∷ rest) ((place, n.1) ∷ q ∷ rest)) (sym (eqb_yes q.0 z));
+    is = ap (λ x. q ∷ x ∷ rest) (pair_eta n location e) ∙ ap (λ b. cond b (q ∷ (location, n.1) ∷ rest) ((location, n.1) ∷ q ∷ rest)) (sym (eqb_yes q.0 z));
     not_zero = a.1.0.not_zero;
     in_order = (o.0.1, o.1.1);
-    each = (record { below = omega (arith, z, some); outside = a.0.outside; not_zero = a.0.not_zero }, lower_rest s place rest (subst (λ i. AllByRecursion (λ j. ComesBefore i j) (locations rest)) e o.1.0) a.1.1);
+    each = (record { below = omega (arith, z, some); outside = a.0.outside; not_zero = a.0.not_zero }, lower_rest s location rest (subst (λ i. AllByRecursion (λ j. ComesBefore i j) (locations rest)) e o.1.0) a.1.1);
     few = refl;
   }
 
-  -- errors of which one is at the highest place
-  pub taken_out : (s : List ℕ) (place : ℕ) (errors : List (ℕ × F)) → IsInOrder (locations errors) → AllByRecursion (IsOtherError f s (suc place)) errors → IsAmong place (locations errors) → TakenOut s place errors
-  taken_out s place [] o a m = absurd m
-  taken_out s place (q ∷ rest) o a (inl e) = taken_first s place q rest (sym e) o a
-  taken_out s place (q ∷ rest) o a (inr m) = second rest m o a
+  -- errors of which one is at the highest location
+  pub taken_out : (s : List ℕ) (location : ℕ) (errors : List (ℕ × F)) → IsInOrder (locations errors) → AllByRecursion (IsOtherError f s (suc location)) errors → IsAmong location (locations errors) → TakenOut s location errors
+  taken_out s location [] o a m = absurd m
+  taken_out s location (q ∷ rest) o a (inl e) = taken_first s location q rest (sym e) o a
+  taken_out s location (q ∷ rest) o a (inr m) = second rest m o a
     where
-      second : (rest : List (ℕ × F)) → IsAmong place (locations rest) → IsInOrder (locations (q ∷ rest)) → AllByRecursion (IsOtherError f s (suc place)) (q ∷ rest) → TakenOut s place (q ∷ rest)
+      second : (rest : List (ℕ × F)) → IsAmong location (locations rest) → IsInOrder (locations (q ∷ rest)) → AllByRecursion (IsOtherError f s (suc location)) (q ∷ rest) → TakenOut s location (q ∷ rest)
       second [] m o a = absurd m
       second (n ∷ rest) (inl e) o a =
-          let h : ComesBefore q.0 place = subst (ComesBefore q.0) (sym e) o.0.0 in
-          taken_second s place q n rest (before_highest q.0 place h (omega (arith, a.0.below))) h.0 (sym e) o a
+          let h : ComesBefore q.0 location = subst (ComesBefore q.0) (sym e) o.0.0 in
+          taken_second s location q n rest (before_highest q.0 location h (omega (arith, a.0.below))) h.0 (sym e) o a
       second (n ∷ rest) (inr m) o a =
-          let h : ComesBefore n.0 place = look (ComesBefore n.0) place (locations rest) o.1.0 m in
+          let h : ComesBefore n.0 location = look (ComesBefore n.0) location (locations rest) o.1.0 m in
           let some : 0 < n.0 = o.0.0.0 in
-          let none : n.0 ≡ 0 = before_highest n.0 place h (omega (arith, a.1.0.below)) in
+          let none : n.0 ≡ 0 = before_highest n.0 location h (omega (arith, a.1.0.below)) in
           absurd (omega arith)
 
-  before_all : (s : List ℕ) (place : ℕ) (rest : List (ℕ × F)) → AllByRecursion (λ j. 0 < j) (locations rest) → AllByRecursion (IsOtherError f s place) rest → AllByRecursion (λ j. ComesBefore place j) (locations rest)
-  before_all s place [] h a = tt
-  before_all s place (q ∷ rest) h a = ((h.0, inr a.0.below), before_all s place rest h.1 a.1)
+  before_all : (s : List ℕ) (location : ℕ) (rest : List (ℕ × F)) → AllByRecursion (λ j. 0 < j) (locations rest) → AllByRecursion (IsOtherError f s location) rest → AllByRecursion (λ j. ComesBefore location j) (locations rest)
+  before_all s location [] h a = tt
+  before_all s location (q ∷ rest) h a = ((h.0, inr a.0.below), before_all s location rest h.1 a.1)
 
   -- the order of a listing with the highest error put in
   pub put_in_order : (s : List ℕ) (x : ℕ × F) (rest : List (ℕ × F)) → IsInOrder (locations rest) → AllByRecursion (IsOtherError f s x.0) rest → IsInOrder (locations (with_highest x rest))
@@ -305,30 +305,30 @@ module _ {F : Type 0} {f : Ops F} (fl : IsField f) where
       remainder = h.remainder;
     }
 
-    not_highest : (place : ℕ) (errors : List (ℕ × F)) → (IsAmong place (locations errors) → ⊥) → AllByRecursion (IsOtherError f s (suc place)) errors → AllByRecursion (IsOtherError f s place) errors
-    not_highest place [] n a = tt
-    not_highest place (q ∷ errors) n a =
-        let low : q.0 < suc place = a.0.below in
-        let other : q.0 ≢ place = λ e. n (inl (sym e)) in
-        (record { below = omega arith; outside = a.0.outside; not_zero = a.0.not_zero }, not_highest place errors (λ m. n (inr m)) a.1)
+    not_highest : (location : ℕ) (errors : List (ℕ × F)) → (IsAmong location (locations errors) → ⊥) → AllByRecursion (IsOtherError f s (suc location)) errors → AllByRecursion (IsOtherError f s location) errors
+    not_highest location [] n a = tt
+    not_highest location (q ∷ errors) n a =
+        let low : q.0 < suc location = a.0.below in
+        let other : q.0 ≢ location = λ e. n (inl (sym e)) in
+        (record { below = omega arith; outside = a.0.outside; not_zero = a.0.not_zero }, not_highest location errors (λ m. n (inr m)) a.1)
 
-    -- below the next limit the highest error is at the place, or below it
-    pub split : (place others : ℕ) (items : List (ℕ × F)) → IsGathered f g residue s (suc place) (suc others) items → IsGathered f g residue s place (suc others) items ⊎ HasHighestAt f g residue s place others items
-    split place others items h = elim (mem_or_not place (locations h.errors)) [
-      | inl m ↦ inr (highest (taken_out s place h.errors h.in_order h.each m) m)
+    -- below the next limit the highest error is at the location, or below it
+    pub split : (location others : ℕ) (items : List (ℕ × F)) → IsGathered f g residue s (suc location) (suc others) items → IsGathered f g residue s location (suc others) items ⊎ HasHighestAt f g residue s location others items
+    split location others items h = elim (mem_or_not location (locations h.errors)) [
+      | inl m ↦ inr (highest (taken_out s location h.errors h.in_order h.each m) m)
       | inr n ↦ inl (record {
         given = h.given;
         errors = h.errors;
         parts = h.parts;
         placed = h.placed;
         in_order = h.in_order;
-        each = not_highest place h.errors n h.each;
+        each = not_highest location h.errors n h.each;
         few = h.few;
         remainder = h.remainder;
       })
     ]
       where
-        highest : TakenOut s place h.errors → IsAmong place (locations h.errors) → HasHighestAt f g residue s place others items
+        highest : TakenOut s location h.errors → IsAmong location (locations h.errors) → HasHighestAt f g residue s location others items
         highest t m = (
           t.value,
           record {
@@ -336,7 +336,7 @@ module _ {F : Type 0} {f : Ops F} (fl : IsField f) where
             rest = t.rest;
             parts = h.parts ∙ ap (λ u. h.given ++ u) t.is;
             placed = h.placed;
-            outside = look (λ j. IsAmong j s → ⊥) place (locations h.errors) (located_outside f s (suc place) h.errors h.each) m;
+            outside = look (λ j. IsAmong j s → ⊥) location (locations h.errors) (located_outside f s (suc location) h.errors h.each) m;
             not_zero = t.not_zero;
             in_order = t.in_order;
             each = t.each;
@@ -363,22 +363,22 @@ module _ {F : Type 0} {f : Ops F} (fl : IsField f) where
     }
 
   module _ (rank : F → ℕ) (lowest : (x : F) → x ≢ f.zero → rank f.zero < rank x) (g residue : List F) (s : List ℕ) where
-    -- without an error at the place it is earlier
-    pub lower_earlier : (place most others : ℕ) (e e' : List (ℕ × F)) → IsGathered f g residue s place most e → HasHighestAt f g residue s place others e' → IsEarlier f rank s e e'
-    lower_earlier place most others e e' h (v, k) = record {
-      location = place;
+    -- without an error at the location it is earlier
+    pub lower_earlier : (location most others : ℕ) (e e' : List (ℕ × F)) → IsGathered f g residue s location most e → HasHighestAt f g residue s location others e' → IsEarlier f rank s e e'
+    lower_earlier location most others e e' h (v, k) = record {
+      location = location;
       outside = k.outside;
-      same_above = λ i high out. gathered_above g residue s place most e i h (omega arith) out ∙ sym (highest_above g residue s (place, v) others e' i k high out);
-      lower = subst (λ u. rank u < rank (value_of_pattern_at f e' place)) (sym (gathered_above g residue s place most e place h (omega arith) k.outside))
-          (subst (λ u. rank f.zero < rank u) (sym (highest_at g residue s (place, v) others e' k)) (lowest v k.not_zero));
+      same_above = λ i high out. gathered_above g residue s location most e i h (omega arith) out ∙ sym (highest_above g residue s (location, v) others e' i k high out);
+      lower = subst (λ u. rank u < rank (value_of_pattern_at f e' location)) (sym (gathered_above g residue s location most e location h (omega arith) k.outside))
+          (subst (λ u. rank f.zero < rank u) (sym (highest_at g residue s (location, v) others e' k)) (lowest v k.not_zero));
     }
 
-    -- with a lower value at the place it is earlier
-    pub value_earlier : (place others : ℕ) (v v' : F) (e e' : List (ℕ × F)) → rank v < rank v' → HasHighest f g residue s (place, v) others e → HasHighest f g residue s (place, v') others e' → IsEarlier f rank s e e'
-    value_earlier place others v v' e e' less h k = record {
-      location = place;
+    -- with a lower value at the location it is earlier
+    pub value_earlier : (location others : ℕ) (v v' : F) (e e' : List (ℕ × F)) → rank v < rank v' → HasHighest f g residue s (location, v) others e → HasHighest f g residue s (location, v') others e' → IsEarlier f rank s e e'
+    value_earlier location others v v' e e' less h k = record {
+      location = location;
       outside = k.outside;
-      same_above = λ i high out. highest_above g residue s (place, v) others e i h high out ∙ sym (highest_above g residue s (place, v') others e' i k high out);
-      lower = subst (λ u. rank u < rank (value_of_pattern_at f e' place)) (sym (highest_at g residue s (place, v) others e h))
-          (subst (λ u. rank v < rank u) (sym (highest_at g residue s (place, v') others e' k)) less);
+      same_above = λ i high out. highest_above g residue s (location, v) others e i h high out ∙ sym (highest_above g residue s (location, v') others e' i k high out);
+      lower = subst (λ u. rank u < rank (value_of_pattern_at f e' location)) (sym (highest_at g residue s (location, v) others e h))
+          (subst (λ u. rank v < rank u) (sym (highest_at g residue s (location, v') others e' k)) less);
     }

@@ -58,32 +58,32 @@ module _ (rows : List (ℕ × ℕ)) (size : ℕ) where
     monomial-add zero v w = refl
     monomial-add (suc i) v w = ap (λ (u : Fe32). u ∷ monomial ops i (fe32.add v w)) (sym (is_field.add_zero fe32.zero)) ∙ ap (λ (u : List Fe32). fe32.add fe32.zero fe32.zero ∷ u) (monomial-add i v w)
 
-    pub at-add : (place : ℕ) (v w : Fe32) → sketch_at rows size g place (fe32.add v w) ≡ bit_xor (sketch_at rows size g place v) (sketch_at rows size g place w)
-    at-add place v w = ap left (monomial-add place v w) ∙ left-add (monomial ops place v) (monomial ops place w)
+    pub at-add : (location : ℕ) (v w : Fe32) → sketch_at rows size g location (fe32.add v w) ≡ bit_xor (sketch_at rows size g location v) (sketch_at rows size g location w)
+    at-add location v w = ap left (monomial-add location v w) ∙ left-add (monomial ops location v) (monomial ops location w)
 
-    pub at-zero : (place : ℕ) → sketch_at rows size g place fe32.zero ≡ 0
-    at-zero place = ap (sketch_at rows size g place) (sym (is_field.add_zero fe32.zero)) ∙ at-add place fe32.zero fe32.zero ∙ xor_self (sketch_at rows size g place fe32.zero)
+    pub at-zero : (location : ℕ) → sketch_at rows size g location fe32.zero ≡ 0
+    at-zero location = ap (sketch_at rows size g location) (sym (is_field.add_zero fe32.zero)) ∙ at-add location fe32.zero fe32.zero ∙ xor_self (sketch_at rows size g location fe32.zero)
 
     -- by the sketches of 1, 2, 4, 8 and 16
     abbrev of_bits : ℕ → ℕ → ℕ
-    of_bits place n = sketch_at rows size g place (fe32.element n)
+    of_bits location n = sketch_at rows size g location (fe32.element n)
 
     element-xor : (a b : ℕ) → fe32.element (bit_xor a b) ≡ fe32.add (fe32.element a) (fe32.element b)
     element-xor a b =
         ap fe32.element (sym (div-one (bit_xor a b))) ∙ xor_digits a b (bit_xor a b) refl 0
         ∙ ap (λ u. fe32.add (fe32.element u) (fe32.element (b / 1))) (div-one a) ∙ ap (λ u. fe32.add (fe32.element a) (fe32.element u)) (div-one b)
 
-    of_either : (place n : ℕ) (b : Bool) → (if b then of_bits place n else 0) ≡ of_bits place (if b then n else 0)
-    of_either place n true = refl
-    of_either place n false = sym (at-zero place)
+    of_either : (location n : ℕ) (b : Bool) → (if b then of_bits location n else 0) ≡ of_bits location (if b then n else 0)
+    of_either location n true = refl
+    of_either location n false = sym (at-zero location)
 
-    of_words : (place n bits : ℕ) → sum_of_words (λ i. of_bits place (2 ^ i)) n bits ≡ of_bits place (sum_of_words (λ i. 2 ^ i) n bits)
-    of_words place zero bits = sym (at-zero place)
-    of_words place (suc n) bits =
-        ap (λ u. bit_xor u (if (bits / 2 ^ n) % 2 == 1 then of_bits place (2 ^ n) else 0)) (of_words place n bits)
-        ∙ ap (bit_xor (of_bits place (sum_of_words (λ i. 2 ^ i) n bits))) (of_either place (2 ^ n) ((bits / 2 ^ n) % 2 == 1))
-        ∙ sym (ap (sketch_at rows size g place) (element-xor (sum_of_words (λ i. 2 ^ i) n bits) (if (bits / 2 ^ n) % 2 == 1 then 2 ^ n else 0))
-        ∙ at-add place (fe32.element (sum_of_words (λ i. 2 ^ i) n bits)) (fe32.element (if (bits / 2 ^ n) % 2 == 1 then 2 ^ n else 0)))
+    of_words : (location n bits : ℕ) → sum_of_words (λ i. of_bits location (2 ^ i)) n bits ≡ of_bits location (sum_of_words (λ i. 2 ^ i) n bits)
+    of_words location zero bits = sym (at-zero location)
+    of_words location (suc n) bits =
+        ap (λ u. bit_xor u (if (bits / 2 ^ n) % 2 == 1 then of_bits location (2 ^ n) else 0)) (of_words location n bits)
+        ∙ ap (bit_xor (of_bits location (sum_of_words (λ i. 2 ^ i) n bits))) (of_either location (2 ^ n) ((bits / 2 ^ n) % 2 == 1))
+        ∙ sym (ap (sketch_at rows size g location) (element-xor (sum_of_words (λ i. 2 ^ i) n bits) (if (bits / 2 ^ n) % 2 == 1 then 2 ^ n else 0))
+        ∙ at-add location (fe32.element (sum_of_words (λ i. 2 ^ i) n bits)) (fe32.element (if (bits / 2 ^ n) % 2 == 1 then 2 ^ n else 0)))
 
     whole : (v : ℕ) → v < 32 → sum_of_words (λ i. 2 ^ i) 5 v ≡ v
     whole v low = eqb-true _ _ (each_below-at 32 (λ v. sum_of_words (λ i. 2 ^ i) 5 v == v) refl v low)
@@ -94,13 +94,13 @@ module _ (rows : List (ℕ × ℕ)) (size : ℕ) where
         ap (λ u. bit_xor u (if (bits / 2 ^ n) % 2 == 1 then f n else 0)) (words-same f h n bits (λ i low. e i (omega arith)))
         ∙ ap (λ u. bit_xor (sum_of_words h n bits) (if (bits / 2 ^ n) % 2 == 1 then u else 0)) (e n (omega arith))
 
-    pub by_five : (place : ℕ) (word : ℕ → ℕ) → ((i : ℕ) → i < 5 → word i ≡ sketch_at rows size g place (fe32.element (2 ^ i)))
-        → (v : Fe32) → sum_of_words word 5 v.value ≡ sketch_at rows size g place v
-    by_five place word is v =
-        words-same word (λ i. of_bits place (2 ^ i)) 5 v.value is
-        ∙ of_words place 5 v.value
-        ∙ ap (of_bits place) (whole v.value v.in_field)
-        ∙ ap (sketch_at rows size g place) (fe32.path (fe32.element v.value) v (omega (arith, v.in_field)))
+    pub by_five : (location : ℕ) (word : ℕ → ℕ) → ((i : ℕ) → i < 5 → word i ≡ sketch_at rows size g location (fe32.element (2 ^ i)))
+        → (v : Fe32) → sum_of_words word 5 v.value ≡ sketch_at rows size g location v
+    by_five location word is v =
+        words-same word (λ i. of_bits location (2 ^ i)) 5 v.value is
+        ∙ of_words location 5 v.value
+        ∙ ap (of_bits location) (whole v.value v.in_field)
+        ∙ ap (sketch_at rows size g location) (fe32.path (fe32.element v.value) v (omega (arith, v.in_field)))
 
     -- an error's polynomial
     pub one_term : (x : ℕ × Fe32) → pattern_polynomial ops (x ∷ []) ≡ monomial ops x.0 x.1

@@ -27,27 +27,27 @@ module _ (rows : List (ℕ × ℕ)) (size : ℕ) (g : List Fe32) (s : List ℕ) 
   pair x y = left-cons rows size g x (y ∷ []) ∙ ap (bit_xor (key x)) (single y)
 
   -- what stands at erasures is forgotten
-  forgotten : (given e : List (ℕ × Fe32)) → ((place : ℕ) → IsAmong place (locations given) → IsAmong place s) → left_of (given ++ e) ≡ left_of e
+  forgotten : (given e : List (ℕ × Fe32)) → ((location : ℕ) → IsAmong location (locations given) → IsAmong location s) → left_of (given ++ e) ≡ left_of e
   forgotten [] e all = refl
   forgotten (p ∷ given) e all =
       left-cons rows size g p (given ++ e)
       ∙ ap (λ u. bit_xor u (left_of (given ++ e))) (forgets p.0 (all p.0 (inl refl)) p.1)
       ∙ xor_zero_l (left_of (given ++ e))
-      ∙ forgotten given e (λ place h. all place (inr h))
+      ∙ forgotten given e (λ location h. all location (inr h))
 
   of_listing : (residue : List Fe32) (x : ℕ × Fe32) (others : ℕ) (items : List (ℕ × Fe32)) (h : HasHighest ops g residue s x others items)
       → sketch rows size residue ≡ left_of (with_highest x h.rest)
   of_listing residue x others items h =
       left-is rows size g (pattern_polynomial ops items) h.remainder.0 residue h.remainder.1 h.remainder.2
       ∙ ap (λ (e : List (ℕ × Fe32)). left_of e) h.parts
-      ∙ forgotten h.given (with_highest x h.rest) (λ place k. subst (λ (t : List ℕ). IsAmong place t) h.placed k)
+      ∙ forgotten h.given (with_highest x h.rest) (λ location k. subst (λ (t : List ℕ). IsAmong location t) h.placed k)
 
   -- without errors nothing is left of the residue
   pub bare : (residue : List Fe32) (items : List (ℕ × Fe32)) → IsGathered ops g residue s 0 0 items → sketch rows size residue ≡ 0
   bare residue items h =
       left-is rows size g (pattern_polynomial ops items) h.remainder.0 residue h.remainder.1 h.remainder.2
       ∙ ap (λ (e : List (ℕ × Fe32)). left_of e) h.parts
-      ∙ forgotten h.given h.errors (λ place k. subst (λ (t : List ℕ). IsAmong place t) h.placed k)
+      ∙ forgotten h.given h.errors (λ location k. subst (λ (t : List ℕ). IsAmong location t) h.placed k)
       ∙ nothing h.errors h.few
     where
       nothing : (errors : List (ℕ × Fe32)) → length errors ≤ 0 → left_of errors ≡ 0

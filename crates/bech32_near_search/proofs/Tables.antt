@@ -51,7 +51,7 @@ module _ (size : ℕ) (g : List Fe32) (s : List ℕ) (w : ℕ) (rows : List (ℕ
     one_listed : (x : ℕ × Fe32) (key : ℕ) (items : List (ℕ × Fe32)) → x.0 < w → key ≡ sketch rows size residue → HasHighest ops g residue s x 0 items → Contains entries (entry_number key x.0 x.1.value)
     one_listed x key items low is h = listed x key low h.not_zero (sym (alone rows size g s table.forgotten residue x items h) ∙ sym is)
 
-    -- where no entry of the sketch that is left is below the place, and something is left
+    -- where no entry of the sketch that is left is below the location, and something is left
     pub none_with : (x : ℕ × Fe32) (key : ℕ) (items : List (ℕ × Fe32)) → x.0 < w → w < 2 ^ 24 → key ≡ bit_xor (sketch rows size residue) (sketch_at rows size g x.0 x.1) → key ≢ 0
         → ((number : ℕ) → Contains entries number → entry_number key 0 0 < number → entry_number key x.0 0 ≤ number) → HasHighest ops g residue s x 1 items → ⊥
     none_with x key items low wide is some above h = either (with_other rows size g s table.forgotten residue x items h)

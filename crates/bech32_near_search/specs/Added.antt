@@ -26,12 +26,12 @@ module _ (code : Code) (question : Question) where
       (HasHighest fe32.ops code.generator question.residue question.erasures error others)
       old new
 
-  -- all listings whose highest error is at this place, with at most this many others, and nothing
-  -- else
-  abbrev pub AddsHighestAt : (place others : ℕ) (old new : List (List (ℕ × Fe32))) → Type 0
-  AddsHighestAt place others old new =
+  -- all listings whose highest error is at this location, with at most this many others, and
+  -- nothing else
+  abbrev pub AddsHighestAt : (location others : ℕ) (old new : List (List (ℕ × Fe32))) → Type 0
+  AddsHighestAt location others old new =
       AreAdded (IsEarlier fe32.ops fe32.value question.erasures)
-      (HasHighestAt fe32.ops code.generator question.residue question.erasures place others)
+      (HasHighestAt fe32.ops code.generator question.residue question.erasures location others)
       old new
 
   -- the key is zero if there is a listing without errors

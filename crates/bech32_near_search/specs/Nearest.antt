@@ -28,8 +28,8 @@ pub record IsEarlier {F : Type 0} (field : Ops F) (rank : F → ℕ) (erasures :
     : Type 0 where
   pub location : ℕ
   pub outside : IsAmong location erasures → ⊥
-  pub same_above : (place : ℕ) → location < place → (IsAmong place erasures → ⊥)
-      → value_of_pattern_at field one place ≡ value_of_pattern_at field other place
+  pub same_above : (higher : ℕ) → location < higher → (IsAmong higher erasures → ⊥)
+      → value_of_pattern_at field one higher ≡ value_of_pattern_at field other higher
   pub lower : rank (value_of_pattern_at field one location)
       < rank (value_of_pattern_at field other location)
 

@@ -40,27 +40,27 @@ sketch rows size list =
 
 -- that of the remainder of a value at a location
 abbrev pub sketch_at : List (ℕ × ℕ) → ℕ → List Fe32 → ℕ → Fe32 → ℕ
-sketch_at rows size generator place value =
-    sketch rows size (remainder_of ops generator (monomial ops place value))
+sketch_at rows size generator location value =
+    sketch rows size (remainder_of ops generator (monomial ops location value))
 
 -- nothing is left of any value at the location, nor of any number of which nothing was left before
 abbrev pub IsErasureForgotten : ℕ → List Fe32 → ℕ → List (ℕ × ℕ) → List (ℕ × ℕ) → Type 0
-IsErasureForgotten size generator place old new =
-    ((value : Fe32) → sketch_at new size generator place value ≡ 0)
+IsErasureForgotten size generator location old new =
+    ((value : Fe32) → sketch_at new size generator location value ≡ 0)
     × ((other : ℕ) → cleared_by old other ≡ 0 → cleared_by new other ≡ 0)
 
 -- nothing is left of any value at one of the erasures
 abbrev pub AreForgotten : List (ℕ × ℕ) → ℕ → List Fe32 → List ℕ → Type 0
 AreForgotten rows size generator erasures =
-    (place : ℕ) → IsAmong place erasures
-    → (value : Fe32) → sketch_at rows size generator place value ≡ 0
+    (location : ℕ) → IsAmong location erasures
+    → (value : Fe32) → sketch_at rows size generator location value ≡ 0
 
 -- the sketches of 1, 2, 4, 8 and 16 at a location, each in a column as long as the window
 abbrev pub five_of : List ℕ → ℕ → ℕ → List ℕ
-five_of columns window place =
-    get_or columns place 0 ∷ get_or columns (window + place) 0
-    ∷ get_or columns (2 * window + place) 0 ∷ get_or columns (3 * window + place) 0
-    ∷ get_or columns (4 * window + place) 0 ∷ []
+five_of columns window location =
+    get_or columns location 0 ∷ get_or columns (window + location) 0
+    ∷ get_or columns (2 * window + location) 0 ∷ get_or columns (3 * window + location) 0
+    ∷ get_or columns (4 * window + location) 0 ∷ []
 
 -- the sketch of a value by these
 abbrev pub key_of : List ℕ → ℕ → ℕ
@@ -71,19 +71,20 @@ pub record AreColumns (rows : List (ℕ × ℕ)) (size : ℕ) (generator : List 
     (columns : List ℕ)
     : Type 0 where
   pub long : length columns ≡ 5 * window
-  pub keys : (place : ℕ) → place < window → (value : Fe32)
-      → key_of (five_of columns window place) value.value
-      ≡ sketch_at rows size generator place value
+  pub keys : (location : ℕ) → location < window → (value : Fe32)
+      → key_of (five_of columns window location) value.value
+      ≡ sketch_at rows size generator location value
 
 -- the number of an error: by its sketch, its location and its value
 abbrev pub entry_number : ℕ → ℕ → ℕ → ℕ
-entry_number key place value = key % 2 ^ 35 * 2 ^ 29 + (place % 2 ^ 24 * 32 + value % 32)
+entry_number key location value = key % 2 ^ 35 * 2 ^ 29 + (location % 2 ^ 24 * 32 + value % 32)
 
 -- in order, and each error at these locations has its number among them
 pub record AreEntries (columns : List ℕ) (window : ℕ) (entries : List ℕ) : Type 0 where
   pub sorted : IsSorted nat_cmp entries
-  pub all : (place : ℕ) → place < window → (value : ℕ) → 0 < value → value < 32
-      → Contains entries (entry_number (key_of (five_of columns window place) value) place value)
+  pub all : (location : ℕ) → location < window → (value : ℕ) → 0 < value → value < 32
+      → Contains entries
+      (entry_number (key_of (five_of columns window location) value) location value)
 
 -- the sketches of all single errors below the window
 pub record IsTable (size : ℕ) (generator : List Fe32) (erasures : List ℕ) (window : ℕ)

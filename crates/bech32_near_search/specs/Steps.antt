@@ -59,18 +59,18 @@ pub record HasHighest {F : Type 0} (field : Ops F) (generator residue : List F)
   pub few : length rest ≤ others
   pub remainder : HasRemainder field generator residue items
 
--- the highest error is at this place, whatever its value
+-- the highest error is at this location, whatever its value
 abbrev pub HasHighestAt : {F : Type 0} → Ops F → List F → List F → List ℕ → ℕ → ℕ → List (ℕ × F)
     → Type 0
-HasHighestAt {F} field generator residue erasures place others items =
-    (value : F) × HasHighest field generator residue erasures (place, value) others items
+HasHighestAt {F} field generator residue erasures location others items =
+    (value : F) × HasHighest field generator residue erasures (location, value) others items
 
 -- the same with a value below a number
 abbrev pub HasHighestBelow : {F : Type 0} → Ops F → (F → ℕ) → List F → List F → List ℕ
     → ℕ → ℕ → ℕ → List (ℕ × F) → Type 0
-HasHighestBelow {F} field rank generator residue erasures place others n items =
+HasHighestBelow {F} field rank generator residue erasures location others n items =
     (value : F) × (rank value < n)
-    × HasHighest field generator residue erasures (place, value) others items
+    × HasHighest field generator residue erasures (location, value) others items
 
 -- the list has all that P holds of and nothing else, in rising order
 pub record AreAll {A : Type 0} (Earlier : A → A → Type 0) (P : A → Type 0) (items : List A)
@@ -86,28 +86,28 @@ pub record AreAdded {A : Type 0} (Earlier : A → A → Type 0) (P : A → Type 
   pub behind : new ≡ old ++ more
   pub are_all : AreAll Earlier P more
 
--- the answer with a place as one more erasure, below an end that stands above all of these
-pub record IsErasedAnswer (code : Code) (bound : ℕ) (question : Question) (place : ℕ)
+-- the answer with a location as one more erasure, below an end that stands above all of these
+pub record IsErasedAnswer (code : Code) (bound : ℕ) (question : Question) (location : ℕ)
     (answer : Option (List (ℕ × Fe32)))
     : Type 0 where
   pub end : ℕ
-  pub above : place < end
+  pub above : location < end
   pub erasures : AreErasures end question.erasures
   pub answers : IsAnswerTo code bound (record {
     residue = question.residue;
     window = end;
-    erasures = with_erasures question.erasures (place ∷ []);
+    erasures = with_erasures question.erasures (location ∷ []);
   }) answer
 
--- the value is not zero, and the other errors are at most this many, all below the place
+-- the value is not zero, and the other errors are at most this many, all below the location
 abbrev pub CanBeHighest : {F : Type 0} → F → ℕ → ℕ → ℕ × F → List (ℕ × F) → Type 0
-CanBeHighest {F} zero place others error rest =
+CanBeHighest {F} zero location others error rest =
     (error.1 ≢ zero)
-    × ((length rest ≤ others) × AllByRecursion (λ (q : ℕ × F). q.0 < place) rest)
+    × ((length rest ≤ others) × AllByRecursion (λ (q : ℕ × F). q.0 < location) rest)
 
 -- what stands behind this many erasures of a listing was put behind the errors that are lower than
 -- it, where it can be the highest error; else nothing was added
-pub record IsTried {F : Type 0} (zero : F) (erased place others : ℕ) (listing : List (ℕ × F))
+pub record IsTried {F : Type 0} (zero : F) (erased location others : ℕ) (listing : List (ℕ × F))
     (old new : List (List (ℕ × F)))
     : Type 0 where
   pub given : List (ℕ × F)
@@ -115,8 +115,8 @@ pub record IsTried {F : Type 0} (zero : F) (erased place others : ℕ) (listing 
   pub rest : List (ℕ × F)
   pub parts : listing ≡ given ++ error ∷ rest
   pub size : length given ≡ erased
-  pub added : CanBeHighest zero place others error rest
+  pub added : CanBeHighest zero location others error rest
       → new ≡ old ++ (given ++ with_highest error rest) ∷ []
-  pub left : (CanBeHighest zero place others error rest → ⊥) → new ≡ old
-  pub either : CanBeHighest zero place others error rest
-      ⊎ (CanBeHighest zero place others error rest → ⊥)
+  pub left : (CanBeHighest zero location others error rest → ⊥) → new ≡ old
+  pub either : CanBeHighest zero location others error rest
+      ⊎ (CanBeHighest zero location others error rest → ⊥)

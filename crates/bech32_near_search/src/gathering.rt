@@ -57,11 +57,11 @@ fn are_few<Ck: Checksum, A: Allocator + Copy>(
 // Whether a location is one of the erasures.
 pub(crate) fn is_erasure<Ck: Checksum, A: Allocator + Copy>(
     corrector: &Corrector<Ck, A>,
-    place: usize,
+    location: usize,
 ) -> bool
-    ensures { result ≡ has corrector.now.erasures place }
+    ensures { result ≡ has corrector.now.erasures location }
 {
-    contains(corrector.erasures(), place)
+    contains(corrector.erasures(), location)
 }
 
 // Whether the errors are so few, and all below the limit.
@@ -240,12 +240,12 @@ pub(crate) fn add_errorless<Ck: Checksum, A: Allocator + Copy>(
 }
 
 // The highest of a location and the erasures.
-fn highest_of(erasures: &[usize], place: usize) -> usize
-    ensures place { place ≤ result }
+fn highest_of(erasures: &[usize], location: usize) -> usize
+    ensures location { location ≤ result }
     ensures erasures { AllByRecursion (λ i. i ≤ result) erasures.now }
-    ensures among { (n : ℕ) → place < n → AllByRecursion (λ i. i < n) erasures.now → result < n }
+    ensures among { (n : ℕ) → location < n → AllByRecursion (λ i. i < n) erasures.now → result < n }
 {
-    let mut highest = place;
+    let mut highest = location;
     for erasure in erasures {
         if *erasure > highest {
             highest = *erasure;
@@ -258,15 +258,15 @@ fn highest_of(erasures: &[usize], place: usize) -> usize
 // highest error is there stands above it.
 fn erased_listing<Ck: Checksum, A: Allocator + Copy>(
     corrector: &Corrector<Ck, A>,
-    place: usize,
+    location: usize,
 ) -> Result<Option<ShortVec<(usize, Fe32), A>>, AllocError>
-    ensures { place < corrector.now.window → IfOk result
-        (λ answer. IsErasedAnswer Ck.code Ck.bound corrector.now place answer) }
+    ensures { location < corrector.now.window → IfOk result
+        (λ answer. IsErasedAnswer Ck.code Ck.bound corrector.now location answer) }
 {
     let erasures = corrector.erasures();
     let mut wider = ShortVec::from_slice(corrector.allocator(), erasures)?;
-    wider.push(place)?;
-    corrector.listing_up_to(highest_of(erasures, place), wider.as_slice())
+    wider.push(location)?;
+    corrector.listing_up_to(highest_of(erasures, location), wider.as_slice())
 }
 
 // Whether the value is not zero, and the other errors are so few, and all below the limit.
@@ -412,8 +412,8 @@ fn gather<Ck: Checksum, A: Allocator + Copy>(
         return Ok(());
     };
     add_errorless(corrector, found)?;
-    for place in 0..few.limit {
-        gather_at(corrector, place, others, found)?;
+    for location in 0..few.limit {
+        gather_at(corrector, location, others, found)?;
     }
     Ok(())
 }
@@ -422,28 +422,28 @@ fn gather<Ck: Checksum, A: Allocator + Copy>(
 #[cycle(gather)]
 fn gather_at<Ck: Checksum, A: Allocator + Copy>(
     corrector: &Corrector<Ck, A>,
-    place: usize,
+    location: usize,
     others: usize,
     found: &mut Listings<A>,
 ) -> Result<(), AllocError>
-    ensures { length corrector.now.erasures ≤ Ck.bound → place < corrector.now.window
-        → OnOk result (AddsHighestAt Ck.code corrector.now place others
+    ensures { length corrector.now.erasures ≤ Ck.bound → location < corrector.now.window
+        → OnOk result (AddsHighestAt Ck.code corrector.now location others
         found.old.items found.new.items) }
 {
-    if is_erasure(corrector, place) {
+    if is_erasure(corrector, location) {
         return Ok(());
     }
     if are_few(corrector, others, 1) {
         let rest = Few {
             errors: others,
-            limit: place,
+            limit: location,
         };
         return add_erased(corrector, rest, found);
     }
     for value in 1..32u8 {
         gather_with(
             corrector,
-            (place, Fe32::from_low_bits(value)),
+            (location, Fe32::from_low_bits(value)),
             others,
             found,
         )?;

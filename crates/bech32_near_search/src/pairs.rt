@@ -37,15 +37,15 @@ fn add_entry<Ck: Checksum, A: Allocator + Copy>(
         (number / 32 % 2 ^ 24, fe32.element number) 0
         found.old.items found.new.items) }
 {
-    let place = (number / 32 % 0x100_0000) as usize;
+    let location = (number / 32 % 0x100_0000) as usize;
     let value = (number % 32) as u8;
     if value == 0 {
         return Ok(());
     }
-    if is_erasure(corrector, place) {
+    if is_erasure(corrector, location) {
         return Ok(());
     }
-    gather_with(corrector, (place, Fe32::from_low_bits(value)), 0, found)
+    gather_with(corrector, (location, Fe32::from_low_bits(value)), 0, found)
 }
 
 // Puts the listing without errors behind those that were found, where nothing is left in the
@@ -139,21 +139,21 @@ fn add_at<Ck: Checksum, A: Allocator + Copy>(
     corrector: &Corrector<Ck, A>,
     table: &Table<'_>,
     whole: u64,
-    place: usize,
+    location: usize,
     found: &mut Listings<A>,
 ) -> Result<(), AllocError>
     ensures { IsSketched Ck.code Ck.bound Ck.CHECKSUM_LENGTH corrector.now table.now
-        → place < corrector.now.window
+        → location < corrector.now.window
         → whole ≡ sketch table.now.rows.now (min Ck.CHECKSUM_LENGTH 12) corrector.now.residue
-        → OnOk result (AddsHighestAt Ck.code corrector.now place 1
+        → OnOk result (AddsHighestAt Ck.code corrector.now location 1
         found.old.items found.new.items) }
 {
-    if is_erasure(corrector, place) {
+    if is_erasure(corrector, location) {
         return Ok(());
     }
-    let five = five_at(table.columns, place);
+    let five = five_at(table.columns, location);
     for value in 1..32u8 {
-        let error = (place, Fe32::from_low_bits(value));
+        let error = (location, Fe32::from_low_bits(value));
         try_with(corrector, table, whole ^ key_of(five, value), error, found)?;
     }
     Ok(())
@@ -172,8 +172,8 @@ fn add_all<Ck: Checksum, A: Allocator + Copy>(
 {
     add_errorless(corrector, found)?;
     let whole = sketch_of::<Ck>(table.rows, corrector.residue());
-    for place in 0..limit {
-        add_at(corrector, table, whole, place, found)?;
+    for location in 0..limit {
+        add_at(corrector, table, whole, location, found)?;
     }
     Ok(())
 }

@@ -26,29 +26,29 @@ pub(crate) fn key_of(five: [u64; 5], value: u8) -> u64
 /// The sketches of 1, 2, 4, 8 and 16 at a location: the columns are those of 1 at each location,
 /// and behind them those of 2, and so on.
 #[inline]
-pub(crate) fn five_at(columns: &[u64], place: usize) -> [u64; 5]
-    ensures { (window : ℕ) → length columns.now ≡ 5 * window → place < window
-        → result ≡ five_of columns.now window place }
+pub(crate) fn five_at(columns: &[u64], location: usize) -> [u64; 5]
+    ensures { (window : ℕ) → length columns.now ≡ 5 * window → location < window
+        → result ≡ five_of columns.now window location }
 {
     let window = columns.len() / 5;
-    if place >= window {
+    if location >= window {
         return [0; 5];
     }
     [
-        columns[place],
-        columns[window + place],
-        columns[2 * window + place],
-        columns[3 * window + place],
-        columns[4 * window + place],
+        columns[location],
+        columns[window + location],
+        columns[2 * window + location],
+        columns[3 * window + location],
+        columns[4 * window + location],
     ]
 }
 
 /// The entry of an error, by its sketch, its location and its value: 35 bits, 24 and 5.
 #[inline]
-pub(crate) fn entry_of(key: u64, place: usize, value: u8) -> u64
-    ensures { result ≡ entry_number key place value }
+pub(crate) fn entry_of(key: u64, location: usize, value: u8) -> u64
+    ensures { result ≡ entry_number key location value }
 {
-    let error = place as u64 % 0x100_0000 * 32 + value as u64 % 32;
+    let error = location as u64 % 0x100_0000 * 32 + value as u64 % 32;
     key % 0x8_0000_0000 * 0x2000_0000 + error
 }
 
@@ -56,15 +56,15 @@ pub(crate) fn entry_of(key: u64, place: usize, value: u8) -> u64
 fn push_entries<A: Allocator>(
     entries: &mut Vec<u64, A>,
     five: [u64; 5],
-    place: usize,
+    location: usize,
 ) -> Result<(), AllocError>
     ensures kept { OnOk result ((number : ℕ)
         → Contains entries.old.items number → Contains entries.new.items number) }
     ensures new { OnOk result ((value : ℕ) → 0 < value → value < 32
-        → Contains entries.new.items (entry_number (key_of five value) place value)) }
+        → Contains entries.new.items (entry_number (key_of five value) location value)) }
 {
     for value in 1..32u8 {
-        entries.push(entry_of(key_of(five, value), place, value))?;
+        entries.push(entry_of(key_of(five, value), location, value))?;
     }
     Ok(())
 }
@@ -76,8 +76,8 @@ pub(crate) fn entries_of<A: Allocator>(alloc: A, columns: &[u64]) -> Result<Vec<
 {
     let window = columns.len() / 5;
     let mut entries = Vec::with_capacity(alloc, window.saturating_mul(31))?;
-    for place in 0..window {
-        push_entries(&mut entries, five_at(columns, place), place)?;
+    for location in 0..window {
+        push_entries(&mut entries, five_at(columns, location), location)?;
     }
     entries.sort_unstable();
     Ok(entries)
@@ -106,11 +106,11 @@ pub(crate) fn first_of(entries: &[u64], key: u64) -> usize
 }
 
 /// Whether an error of a sketch can stand below a location, or none is needed.
-pub(crate) fn can_explain(entries: &[u64], key: u64, place: usize) -> bool
+pub(crate) fn can_explain(entries: &[u64], key: u64, location: usize) -> bool
     ensures none { result ≡ false → key ≢ 0 }
     ensures above { IsSorted nat_cmp entries.now → result ≡ false
         → (number : ℕ) → Contains entries.now number → entry_number key 0 0 < number
-        → entry_number key place 0 ≤ number }
+        → entry_number key location 0 ≤ number }
 {
     if key == 0 {
         return true;
@@ -119,5 +119,5 @@ pub(crate) fn can_explain(entries: &[u64], key: u64, place: usize) -> bool
     if first >= entries.len() {
         return false;
     }
-    entry_at(entries, first) < entry_of(key, place, 0)
+    entry_at(entries, first) < entry_of(key, location, 0)
 }

@@ -72,13 +72,13 @@ pub(crate) fn sketch_of<Ck: Checksum>(rows: &[Row], residue: &[Fe32]) -> u64
 // Goes on with the rows so that nothing is left of any error at a location.
 fn push_erasure<Ck: Checksum, A: Allocator>(
     rows: &mut Vec<Row, A>,
-    place: usize,
+    location: usize,
 ) -> Result<(), AllocError>
-    ensures { OnOk result (IsErasureForgotten (min Ck.CHECKSUM_LENGTH 12) Ck.code.generator place
+    ensures { OnOk result (IsErasureForgotten (min Ck.CHECKSUM_LENGTH 12) Ck.code.generator location
         rows.old.items rows.new.items) }
 {
     for value in 1..32u8 {
-        let engine = listed_engine::<Ck>(&[(place, Fe32::from_low_bits(value))]);
+        let engine = listed_engine::<Ck>(&[(location, Fe32::from_low_bits(value))]);
         push_row(rows, number_of::<Ck>(engine.residue()))?;
     }
     Ok(())
@@ -93,8 +93,8 @@ pub(crate) fn rows_of<Ck: Checksum, A: Allocator>(
         Ck.code.generator erasures.now) }
 {
     let mut rows = Vec::with_capacity(alloc, erasures.len().saturating_mul(5))?;
-    for place in erasures {
-        push_erasure::<Ck, A>(&mut rows, *place)?;
+    for location in erasures {
+        push_erasure::<Ck, A>(&mut rows, *location)?;
     }
     Ok(rows)
 }
@@ -107,8 +107,8 @@ fn push_column<Ck: Checksum, A: Allocator>(
     window: usize,
 ) -> Result<(), AllocError>
     ensures { OnOk result (columns.new.items ≡ columns.old.items
-        ++ tabulate window (λ place. sketch_at rows.now (min Ck.CHECKSUM_LENGTH 12)
-        Ck.code.generator place value)) }
+        ++ tabulate window (λ location. sketch_at rows.now (min Ck.CHECKSUM_LENGTH 12)
+        Ck.code.generator location value)) }
 {
     let mut engine = Engine::<Ck>::zero();
     engine.input_fe(value);

@@ -77,8 +77,7 @@ fn decoded(reading: &Reading<'_, Blech32>) -> Result<Address, DecodeError>
 /// version, its blinding key and its program. Any human-readable part is accepted: compare it with
 /// that of the network (`lq` for Liquid).
 ///
-/// The address of these parts has one spelling in lower case, and one in upper case. It takes no
-/// memory.
+/// These parts have one address in lower case and one in upper case. Decoding allocates nothing.
 ///
 /// # Errors
 ///

@@ -13,11 +13,12 @@ use crate::error::EncodeError;
 use bech32_encode::{put_text_of_part, text_length_of_part, text_of_size_in};
 use bech32_gf::gf32::Fe32;
 use bech32_hrp::Hrp;
-use bech32_refusals::segwit::validate_witness_program_length;
+use bech32_refusals::segwit::{is_valid_witness_version, validate_witness_program_length};
 use blech32::Blech32;
 use std::alloc::Allocator;
 
-/// Tests that a witness version and a program of so many bytes have a confidential address.
+/// Tests that a witness version and a program of `program_length` bytes have a confidential
+/// address.
 ///
 /// # Errors
 ///
@@ -29,10 +30,10 @@ pub fn validate(witness_version: Fe32, program_length: usize) -> Result<(), Enco
         (λ e. IsConfidentialEncodeRefusal witness_version program_length e
         × (e ≢ EncodeError.Memory)) }
 {
-    let number = witness_version.to_u8();
-    if number > 16 {
+    if !is_valid_witness_version(witness_version) {
         return Err(EncodeError::WitnessVersion(witness_version));
     }
+    let number = witness_version.to_u8();
     if number != 0 {
         return Err(EncodeError::UnsupportedVersion(witness_version));
     }
@@ -54,7 +55,7 @@ fn payload_of(blinding_key: &[u8; 33], program: &[u8]) -> ([u8; 65], usize)
 }
 
 /// The number of characters of the confidential address of a human-readable part, given as bytes,
-/// and a program of so many bytes.
+/// and a program of `program_length` bytes.
 pub fn address_length(part: &[u8], program_length: usize) -> usize
     requires { program_length ≤ 32 }
     ensures { result ≡ confidential_length part.now program_length }
@@ -86,7 +87,7 @@ pub fn put_address(
 /// Encodes a confidential address, in lower case, with memory from `alloc`: of version 0, by
 /// Blech32. That the blinding key is a point of the curve is not tested.
 ///
-/// Of what [`decode`](crate::decode) gives of a text it writes that text in lower case.
+/// Given what [`decode`](crate::decode) returned for a text, it writes that text in lower case.
 ///
 /// # Errors
 ///

@@ -14,31 +14,31 @@ refused h = absurd (cc h)
 
 pub returns-in_err-add_erasure-clause-front : goal.returns-in_err-add_erasure-clause-front
 returns-in_err-add_erasure-clause-front g c =
-    ap (take (length c.args.erasures.now)) (c.in_err-add_erasure.ensures.err ∙ c.loop-place.invariant)
-    ∙ take-with_erasures c.args.erasures.now (take c.loop-place.place-index c.args.more.now)
+    ap (take (length c.args.erasures.now)) (c.in_err-add_erasure.ensures.err ∙ c.loop-location.invariant)
+    ∙ take-with_erasures c.args.erasures.now (take c.loop-location.location-index c.args.more.now)
 
 pub returns-in_err-add_erasure-clause-in_place : goal.returns-in_err-add_erasure-clause-in_place
 returns-in_err-add_erasure-clause-in_place g c = λ fits.
-    let i : ℕ = c.loop-place.place-index in
-    let within : i < length c.args.more.now = omega (arith, c.loop-place-test.true) in
-    let now : with_erasures c.loop-place.erasures (get_or c.args.more.now i 0 ∷ []) ≡ with_erasures c.args.erasures.now (take (i + 1) c.args.more.now) =
-    with_erasures-more c.args.erasures.now c.args.more.now c.loop-place.erasures i within c.loop-place.invariant in
+    let i : ℕ = c.loop-location.location-index in
+    let within : i < length c.args.more.now = omega (arith, c.loop-location-test.true) in
+    let now : with_erasures c.loop-location.erasures (get_or c.args.more.now i 0 ∷ []) ≡ with_erasures c.args.erasures.now (take (i + 1) c.args.more.now) =
+    with_erasures-more c.args.erasures.now c.args.more.now c.loop-location.erasures i within c.loop-location.invariant in
     refused (c.in_err-add_erasure.ensures.in_place
     (omega (arith, fits, ap (λ u. length u) now, length-with_some c.args.erasures.now c.args.more.now (i + 1))))
 
-pub loop-place-preserved : goal.loop-place-preserved
-loop-place-preserved g c =
+pub loop-location-preserved : goal.loop-location-preserved
+loop-location-preserved g c =
     c.in_ok-add_erasure.ensures.ok
-    ∙ with_erasures-more c.args.erasures.now c.args.more.now c.loop-place.erasures c.loop-place.place-index (omega (arith, c.loop-place-test.true)) c.loop-place.invariant
+    ∙ with_erasures-more c.args.erasures.now c.args.more.now c.loop-location.erasures c.loop-location.location-index (omega (arith, c.loop-location-test.true)) c.loop-location.invariant
 
 pub returns-clause-front : goal.returns-clause-front
 returns-clause-front g c =
-    ap (take (length c.args.erasures.now)) c.loop-place.invariant ∙ take-with_erasures c.args.erasures.now (take c.loop-place.place-index c.args.more.now)
+    ap (take (length c.args.erasures.now)) c.loop-location.invariant ∙ take-with_erasures c.args.erasures.now (take c.loop-location.location-index c.args.more.now)
 
 pub returns-clause-ok : goal.returns-clause-ok
 returns-clause-ok g c =
     on_ok c.locators_of.result
-    (c.loop-place.invariant ∙ ap (with_erasures c.args.erasures.now) (all_taken c.args.more.now c.loop-place.place-index (omega (arith, c.loop-place-test.false))))
+    (c.loop-location.invariant ∙ ap (with_erasures c.args.erasures.now) (all_taken c.args.more.now c.loop-location.location-index (omega (arith, c.loop-location-test.false))))
 
 pub returns-clause-locators : goal.returns-clause-locators
 returns-clause-locators g c =
@@ -47,4 +47,4 @@ returns-clause-locators g c =
 pub returns-clause-in_place : goal.returns-clause-in_place
 returns-clause-in_place g c = λ fits.
     c.locators_of.ensures.in_place
-    (omega (arith, fits, ap (λ u. length u) c.as_slice.ensures, ap (λ u. length u) c.loop-place.invariant, length-with_some c.args.erasures.now c.args.more.now c.loop-place.place-index))
+    (omega (arith, fits, ap (λ u. length u) c.as_slice.ensures, ap (λ u. length u) c.loop-location.invariant, length-with_some c.args.erasures.now c.args.more.now c.loop-location.location-index))

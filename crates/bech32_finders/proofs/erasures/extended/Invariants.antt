@@ -2,5 +2,5 @@ use Rattle.std.proofs.Common.{◌≡◌, take}
 use Rattle.bech32_bch.specs.Erasures.{with_erasures}
 use Rattle.bech32_finders.proofs.erasures.extended.Given as goal
 
-abbrev pub invariant-loop-place : goal.invariant-loop-place
-invariant-loop-place g l = l.erasures ≡ with_erasures l.fn.erasures (take l.place-index l.more)
+abbrev pub invariant-loop-location : goal.invariant-loop-location
+invariant-loop-location g l = l.erasures ≡ with_erasures l.fn.erasures (take l.location-index l.more)

@@ -19,53 +19,53 @@ factor_of-requires-clause-screen g c =
 pub factor_of-requires-clause-row : goal.factor_of-requires-clause-row
 factor_of-requires-clause-row g c =
     let wider : 5 * g.Ck.Checksum.CHECKSUM_LENGTH ≤ 5 * g.Ck.MidstateRepr.PackedFe32.WIDTH = omega (arith, g.met.Ck.Checksum.packing_laws.fits) in
-    lt_of_lt_of_le c.residue-in-loop-place.ensures.clear (pow_mono wider)
+    lt_of_lt_of_le c.residue-in-loop-location.ensures.clear (pow_mono wider)
 
 pub factor_of-requires-clause-screens : goal.factor_of-requires-clause-screens
 factor_of-requires-clause-screens g c = λ factor h.
     let generator = g.Ck.Checksum.code.generator in
     let number = g.Ck.MidstateRepr.PackedFe32.number in
     let holds = IsResidueOf g.Ck.MidstateRepr.PackedFe32.number g.Ck.Checksum.code in
-    screened_digit generator c.args.residue.now g.Ck.Checksum.CHECKSUM_LENGTH c.loop-place.place factor (number c.residue-in-loop-place.result.now) (number c.residue.result.now)
-    g.met.Ck.Checksum.degree_law c.requires.degree c.residue-in-loop-place.ensures.clear c.residue.ensures.clear
-    (subst (λ r. holds r (monomial fe32.ops c.loop-place.place fe32.one)) (sym c.residue-in-loop-place.ensures.value) c.loop-place.invariant.power)
-    (subst (λ r. holds r (shifted fe32.ops c.loop-place.place (screen generator c.args.residue.now))) (sym c.residue.ensures.value) c.loop-place.invariant.screen)
+    screened_digit generator c.args.residue.now g.Ck.Checksum.CHECKSUM_LENGTH c.loop-location.location factor (number c.residue-in-loop-location.result.now) (number c.residue.result.now)
+    g.met.Ck.Checksum.degree_law c.requires.degree c.residue-in-loop-location.ensures.clear c.residue.ensures.clear
+    (subst (λ r. holds r (monomial fe32.ops c.loop-location.location fe32.one)) (sym c.residue-in-loop-location.ensures.value) c.loop-location.invariant.power)
+    (subst (λ r. holds r (shifted fe32.ops c.loop-location.location (screen generator c.args.residue.now))) (sym c.residue.ensures.value) c.loop-location.invariant.screen)
     h
 
 pub returns-in-Some : goal.returns-in-Some
 returns-in-Some g c =
     let found = rw c.in-Some.is at c.factor_of.ensures in
-    let both = single g.Ck.Checksum.code.generator c.args.residue.now c.loop-place.place c.in-Some.value g.Ck.Checksum.CHECKSUM_LENGTH (g.Ck.MidstateRepr.PackedFe32.number c.residue-in-loop-place.result.now)
-    g.met.Ck.Checksum.degree_law c.residue-in-loop-place.ensures.clear
-    (subst (λ r. IsResidueOf g.Ck.MidstateRepr.PackedFe32.number g.Ck.Checksum.code r (monomial fe32.ops c.loop-place.place fe32.one)) (sym c.residue-in-loop-place.ensures.value) c.loop-place.invariant.power) in
-    (c.loop-place-test.true, (found.0, both.0 found.1))
+    let both = single g.Ck.Checksum.code.generator c.args.residue.now c.loop-location.location c.in-Some.value g.Ck.Checksum.CHECKSUM_LENGTH (g.Ck.MidstateRepr.PackedFe32.number c.residue-in-loop-location.result.now)
+    g.met.Ck.Checksum.degree_law c.residue-in-loop-location.ensures.clear
+    (subst (λ r. IsResidueOf g.Ck.MidstateRepr.PackedFe32.number g.Ck.Checksum.code r (monomial fe32.ops c.loop-location.location fe32.one)) (sym c.residue-in-loop-location.ensures.value) c.loop-location.invariant.power) in
+    (c.loop-location-test.true, (found.0, both.0 found.1))
 
-pub loop-place-preserved : goal.loop-place-preserved
-loop-place-preserved g c =
+pub loop-location-preserved : goal.loop-location-preserved
+loop-location-preserved g c =
     let generator = g.Ck.Checksum.code.generator in
-    let place : ℕ = c.loop-place.place in
+    let location : ℕ = c.loop-location.location in
     let holds = IsResidueOf g.Ck.MidstateRepr.PackedFe32.number g.Ck.Checksum.code in
-    let more : suc c.loop-place.place ≡ c.loop-place.place + 1 = omega arith in
-    let power = c.input_fe.ensures (monomial fe32.ops c.loop-place.place fe32.one) c.loop-place.invariant.power in
-    let screened = c.input_fe-in-loop-place.ensures (shifted fe32.ops c.loop-place.place (screen generator c.args.residue.now)) c.loop-place.invariant.screen in
-    let here : (v : Fe32) → HasRemainder fe32.ops g.Ck.Checksum.code.generator c.args.residue.now ((c.loop-place.place, v) ∷ []) → ⊥ =
+    let more : suc c.loop-location.location ≡ c.loop-location.location + 1 = omega arith in
+    let power = c.input_fe.ensures (monomial fe32.ops c.loop-location.location fe32.one) c.loop-location.invariant.power in
+    let screened = c.input_fe-in-loop-location.ensures (shifted fe32.ops c.loop-location.location (screen generator c.args.residue.now)) c.loop-location.invariant.screen in
+    let here : (v : Fe32) → HasRemainder fe32.ops g.Ck.Checksum.code.generator c.args.residue.now ((c.loop-location.location, v) ∷ []) → ⊥ =
     λ v r. (rw c.in_default.is at c.factor_of.ensures) v
-    ((single generator c.args.residue.now place v g.Ck.Checksum.CHECKSUM_LENGTH (g.Ck.MidstateRepr.PackedFe32.number c.residue-in-loop-place.result.now)
-    g.met.Ck.Checksum.degree_law c.residue-in-loop-place.ensures.clear
-    (subst (λ r. holds r (monomial fe32.ops place fe32.one)) (sym c.residue-in-loop-place.ensures.value) c.loop-place.invariant.power)).1 r) in
+    ((single generator c.args.residue.now location v g.Ck.Checksum.CHECKSUM_LENGTH (g.Ck.MidstateRepr.PackedFe32.number c.residue-in-loop-location.result.now)
+    g.met.Ck.Checksum.degree_law c.residue-in-loop-location.ensures.clear
+    (subst (λ r. holds r (monomial fe32.ops location fe32.one)) (sym c.residue-in-loop-location.ensures.value) c.loop-location.invariant.power)).1 r) in
     record {
       power = subst (λ k. holds c.input_fe.new.self (monomial fe32.ops k fe32.one)) more
-          (subst (λ q. holds c.input_fe.new.self (q ∷ monomial fe32.ops place fe32.one)) (fe32.path _ fe32.zero refl) power);
-      screen = subst (λ k. holds c.input_fe-in-loop-place.new.self (shifted fe32.ops k (screen generator c.args.residue.now))) more
-          (subst (λ q. holds c.input_fe-in-loop-place.new.self (q ∷ shifted fe32.ops place (screen generator c.args.residue.now))) (fe32.path _ fe32.zero refl) screened);
-      none = λ i v below r. elim (dec_lt i place) [
-        | yes k ↦ c.loop-place.invariant.none i v k r
+          (subst (λ q. holds c.input_fe.new.self (q ∷ monomial fe32.ops location fe32.one)) (fe32.path _ fe32.zero refl) power);
+      screen = subst (λ k. holds c.input_fe-in-loop-location.new.self (shifted fe32.ops k (screen generator c.args.residue.now))) more
+          (subst (λ q. holds c.input_fe-in-loop-location.new.self (q ∷ shifted fe32.ops location (screen generator c.args.residue.now))) (fe32.path _ fe32.zero refl) screened);
+      none = λ i v below r. elim (dec_lt i location) [
+        | yes k ↦ c.loop-location.invariant.none i v k r
         | no k ↦ (
-            let e : i ≡ c.loop-place.place = omega arith in
+            let e : i ≡ c.loop-location.location = omega arith in
             here v (subst (λ k. HasRemainder fe32.ops generator c.args.residue.now ((k, v) ∷ [])) e r)
             )
       ];
     }
 
 pub returns : goal.returns
-returns g c = λ i v below. c.loop-place.invariant.none i v (omega (arith, below, c.loop-place-test.false))
+returns g c = λ i v below. c.loop-location.invariant.none i v (omega (arith, below, c.loop-location-test.false))

@@ -8,11 +8,11 @@ use Rattle.bech32_finders.specs.Multiple.{screen}
 use Rattle.bech32_finders.proofs.Screen.{shifted}
 use Rattle.bech32_finders.proofs.single.single_error.Given as goal
 
-abbrev pub invariant-loop-place : goal.invariant-loop-place
-invariant-loop-place g l =
+abbrev pub invariant-loop-location : goal.invariant-loop-location
+invariant-loop-location g l =
     let generator = g.Ck.Checksum.code.generator in
     record {
-      power : IsResidueOf g.Ck.MidstateRepr.PackedFe32.number g.Ck.Checksum.code l.power (monomial fe32.ops l.place fe32.one);
-      screen : IsResidueOf g.Ck.MidstateRepr.PackedFe32.number g.Ck.Checksum.code l.screen (shifted fe32.ops l.place (screen generator l.residue));
-      none : (i : ℕ) (v : Fe32) → i < l.place → HasRemainder fe32.ops generator l.residue ((i, v) ∷ []) → ⊥;
+      power : IsResidueOf g.Ck.MidstateRepr.PackedFe32.number g.Ck.Checksum.code l.power (monomial fe32.ops l.location fe32.one);
+      screen : IsResidueOf g.Ck.MidstateRepr.PackedFe32.number g.Ck.Checksum.code l.screen (shifted fe32.ops l.location (screen generator l.residue));
+      none : (i : ℕ) (v : Fe32) → i < l.location → HasRemainder fe32.ops generator l.residue ((i, v) ∷ []) → ⊥;
     }

@@ -5,7 +5,7 @@ use Rattle.bech32_gf.specs.laws.Fe32Laws.{is_field}
 use Rattle.bech32_bch.specs.Erasures.{has}
 use Rattle.bech32_near_search.specs.Nearest.{IsEarlier}
 use Rattle.bech32_near_search.specs.Steps.{AreAdded, IsGathered}
-use Rattle.bech32_near_search.proofs.NearestAdded.{all_values, at_erasure, first_place, first_value, next_place, next_value}
+use Rattle.bech32_near_search.proofs.NearestAdded.{all_values, at_erasure, first_location, first_value, next_location, next_value}
 use Rattle.bech32_near_search.proofs.NearestAnswers.{among_of, element_not_zero, element_value, of_ok, put_back, some_errors}
 use Rattle.bech32_near_search.proofs.Elements.{lowest, value_below}
 use Rattle.bech32_near_search.proofs.gathering.+gather.Goals as goal
@@ -18,29 +18,29 @@ gather-returns-in_default g t c = λ few within.
     let some : 0 < c.args.few.errors = some_errors c.args.few.errors (length c.args.corrector.now.erasures) g.Ck.Checksum.bound c.are_few.result c.are_few.ensures.few c.if-are_few.false few in
     absurd (c.in_default.ensures some)
 
-pub gather-loop-place-init : goal.gather-loop-place-init
-gather-loop-place-init g t c = λ few within.
+pub gather-loop-location-init : goal.gather-loop-location-init
+gather-loop-location-init g t c = λ few within.
     let q = c.args.corrector.now in
-    first_place is_field fe32.value lowest fe32.path g.Ck.Checksum.code.generator q.residue q.erasures c.args.few.errors c.args.found.now.items c.add_errorless.new.found.items
+    first_location is_field fe32.value lowest fe32.path g.Ck.Checksum.code.generator q.residue q.erasures c.args.few.errors c.args.found.now.items c.add_errorless.new.found.items
     (c.in_ok-add_errorless.ensures few)
 
-pub gather-loop-place-preserved : goal.gather-loop-place-preserved
-gather-loop-place-preserved g t c = λ few within.
+pub gather-loop-location-preserved : goal.gather-loop-location-preserved
+gather-loop-location-preserved g t c = λ few within.
     let q = c.args.corrector.now in
-    next_place is_field fe32.value lowest fe32.path g.Ck.Checksum.code.generator q.residue q.erasures c.loop-place.place (c.loop-place.place + 1) c.args.few.errors c.in-Some.others c.args.found.now.items c.loop-place.found.items c.gather_at.new.found.items
-    (omega arith) (omega (arith, c.in-Some.ensures.0, c.in-Some.ensures.1)) (c.loop-place.invariant few within) (c.in_ok-gather_at.ensures few (omega (arith, within)))
+    next_location is_field fe32.value lowest fe32.path g.Ck.Checksum.code.generator q.residue q.erasures c.loop-location.location (c.loop-location.location + 1) c.args.few.errors c.in-Some.others c.args.found.now.items c.loop-location.found.items c.gather_at.new.found.items
+    (omega arith) (omega (arith, c.in-Some.ensures.0, c.in-Some.ensures.1)) (c.loop-location.invariant few within) (c.in_ok-gather_at.ensures few (omega (arith, within)))
 
 pub gather-returns : goal.gather-returns
 gather-returns g t c = λ few within.
     let q = c.args.corrector.now in
-    let end : c.loop-place.place ≡ c.args.few.limit = omega arith in
-    subst (λ (n : ℕ). AreAdded (IsEarlier fe32.ops fe32.value q.erasures) (IsGathered fe32.ops g.Ck.Checksum.code.generator q.residue q.erasures n c.args.few.errors) c.args.found.now.items c.loop-place.found.items) end (c.loop-place.invariant few within)
+    let end : c.loop-location.location ≡ c.args.few.limit = omega arith in
+    subst (λ (n : ℕ). AreAdded (IsEarlier fe32.ops fe32.value q.erasures) (IsGathered fe32.ops g.Ck.Checksum.code.generator q.residue q.erasures n c.args.few.errors) c.args.found.now.items c.loop-location.found.items) end (c.loop-location.invariant few within)
 
 pub gather_at-returns-then-is_erasure : goal.gather_at-returns-then-is_erasure
 gather_at-returns-then-is_erasure g t c = λ few within.
     let q = c.args.corrector.now in
-    at_erasure is_field fe32.value g.Ck.Checksum.code.generator q.residue q.erasures q.window g.Ck.Checksum.bound c.args.place c.args.others c.args.found.now.items
-    (among_of q.erasures c.args.place (sym c.is_erasure.ensures ∙ c.if-is_erasure.true))
+    at_erasure is_field fe32.value g.Ck.Checksum.code.generator q.residue q.erasures q.window g.Ck.Checksum.bound c.args.location c.args.others c.args.found.now.items
+    (among_of q.erasures c.args.location (sym c.is_erasure.ensures ∙ c.if-is_erasure.true))
 
 pub gather_at-returns-then-are_few : goal.gather_at-returns-then-are_few
 gather_at-returns-then-are_few g t c = λ few within. c.add_erased.ensures (c.are_few.ensures.few.0 c.if-are_few.true) within (sym c.is_erasure.ensures ∙ c.if-is_erasure.false)
@@ -48,20 +48,20 @@ gather_at-returns-then-are_few g t c = λ few within. c.add_erased.ensures (c.ar
 pub gather_at-loop-value-init : goal.gather_at-loop-value-init
 gather_at-loop-value-init g t c = λ few within.
     let q = c.args.corrector.now in
-    first_value is_field fe32.value lowest fe32.path g.Ck.Checksum.code.generator q.residue q.erasures c.args.place c.args.others 1 c.args.found.now.items (omega arith)
+    first_value is_field fe32.value lowest fe32.path g.Ck.Checksum.code.generator q.residue q.erasures c.args.location c.args.others 1 c.args.found.now.items (omega arith)
 
 pub gather_at-loop-value-preserved : goal.gather_at-loop-value-preserved
 gather_at-loop-value-preserved g t c = λ few within.
     let q = c.args.corrector.now in
-    let outside : has q.erasures c.args.place ≡ false = sym c.is_erasure.ensures ∙ c.if-is_erasure.false in
+    let outside : has q.erasures c.args.location ≡ false = sym c.is_erasure.ensures ∙ c.if-is_erasure.false in
     let not_zero : c.from_low_bits.result ≢ fe32.zero = λ e. element_not_zero c.loop-value.value (omega arith) (omega arith) (sym c.from_low_bits.ensures ∙ e) in
-    next_value is_field fe32.value lowest fe32.path g.Ck.Checksum.code.generator q.residue q.erasures c.args.place c.args.others c.loop-value.value (c.loop-value.value + 1) c.from_low_bits.result c.args.found.now.items c.loop-value.found.items c.gather_with.new.found.items
+    next_value is_field fe32.value lowest fe32.path g.Ck.Checksum.code.generator q.residue q.erasures c.args.location c.args.others c.loop-value.value (c.loop-value.value + 1) c.from_low_bits.result c.args.found.now.items c.loop-value.found.items c.gather_with.new.found.items
     (omega arith) (ap fe32.value c.from_low_bits.ensures ∙ element_value c.loop-value.value (omega arith)) (c.loop-value.invariant few within) (c.in_ok-gather_with.ensures few within outside not_zero)
 
 pub gather_at-returns : goal.gather_at-returns
 gather_at-returns g t c = λ few within.
     let q = c.args.corrector.now in
-    all_values is_field fe32.value lowest fe32.path g.Ck.Checksum.code.generator q.residue q.erasures c.args.place c.args.others c.loop-value.value c.args.found.now.items c.loop-value.found.items
+    all_values is_field fe32.value lowest fe32.path g.Ck.Checksum.code.generator q.residue q.erasures c.args.location c.args.others c.loop-value.value c.args.found.now.items c.loop-value.found.items
     (λ v. omega (arith, value_below v)) (c.loop-value.invariant few within)
 
 pub gather_with-returns : goal.gather_with-returns

@@ -13,16 +13,16 @@ decreases-gather_at g l = 3 * l.others + 2
 abbrev pub decreases-gather_with : goal.decreases-gather_with
 decreases-gather_with g l = 3 * l.others + 1
 
-abbrev pub invariant-gather-loop-place : goal.invariant-gather-loop-place
-invariant-gather-loop-place g l =
+abbrev pub invariant-gather-loop-location : goal.invariant-gather-loop-location
+invariant-gather-loop-location g l =
     length l.corrector.erasures ≤ g.Ck.Checksum.bound → l.fn.few.limit ≤ l.corrector.window
     → AreAdded (IsEarlier fe32.ops fe32.value l.corrector.erasures)
-    (IsGathered fe32.ops g.Ck.Checksum.code.generator l.corrector.residue l.corrector.erasures l.place l.fn.few.errors)
+    (IsGathered fe32.ops g.Ck.Checksum.code.generator l.corrector.residue l.corrector.erasures l.location l.fn.few.errors)
     l.fn.found.items l.found.items
 
 abbrev pub invariant-gather_at-loop-value : goal.invariant-gather_at-loop-value
 invariant-gather_at-loop-value g l =
-    length l.corrector.erasures ≤ g.Ck.Checksum.bound → l.place < l.corrector.window
+    length l.corrector.erasures ≤ g.Ck.Checksum.bound → l.location < l.corrector.window
     → AreAdded (IsEarlier fe32.ops fe32.value l.corrector.erasures)
-    (HasHighestBelow fe32.ops fe32.value g.Ck.Checksum.code.generator l.corrector.residue l.corrector.erasures l.place l.others l.value)
+    (HasHighestBelow fe32.ops fe32.value g.Ck.Checksum.code.generator l.corrector.residue l.corrector.erasures l.location l.others l.value)
     l.fn.found.items l.found.items

@@ -3,4 +3,4 @@ use Rattle.bech32_near_search.proofs.Highest.{IsHighest}
 use Rattle.bech32_near_search.proofs.gathering.highest_of.Given as goal
 
 abbrev pub invariant-loop-erasure : goal.invariant-loop-erasure
-invariant-loop-erasure l = IsHighest l.place (take l.erasure-index l.erasures) l.erasures l.highest
+invariant-loop-erasure l = IsHighest l.location (take l.erasure-index l.erasures) l.erasures l.highest

@@ -5,9 +5,9 @@ use Rattle.bech32_near_search.specs.Nearest.{IsEarlier}
 use Rattle.bech32_near_search.specs.Steps.{AreAdded, IsGathered}
 use Rattle.bech32_near_search.proofs.pairs.add_all.Given as goal
 
-abbrev pub invariant-loop-place : goal.invariant-loop-place
-invariant-loop-place g l =
+abbrev pub invariant-loop-location : goal.invariant-loop-location
+invariant-loop-location g l =
     IsSketched g.Ck.Checksum.code g.Ck.Checksum.bound g.Ck.Checksum.CHECKSUM_LENGTH l.corrector l.table → l.limit ≤ l.corrector.window
     → AreAdded (IsEarlier fe32.ops fe32.value l.corrector.erasures)
-    (IsGathered fe32.ops g.Ck.Checksum.code.generator l.corrector.residue l.corrector.erasures l.place 2)
+    (IsGathered fe32.ops g.Ck.Checksum.code.generator l.corrector.residue l.corrector.erasures l.location 2)
     l.fn.found.items l.found.items

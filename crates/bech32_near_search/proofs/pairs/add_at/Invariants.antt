@@ -8,8 +8,8 @@ use Rattle.bech32_near_search.proofs.pairs.add_at.Given as goal
 
 abbrev pub invariant-loop-value : goal.invariant-loop-value
 invariant-loop-value g l =
-    IsSketched g.Ck.Checksum.code g.Ck.Checksum.bound g.Ck.Checksum.CHECKSUM_LENGTH l.corrector l.table → l.place < l.corrector.window
+    IsSketched g.Ck.Checksum.code g.Ck.Checksum.bound g.Ck.Checksum.CHECKSUM_LENGTH l.corrector l.table → l.location < l.corrector.window
     → l.whole ≡ sketch l.table.rows.now (min g.Ck.Checksum.CHECKSUM_LENGTH 12) l.corrector.residue
     → AreAdded (IsEarlier fe32.ops fe32.value l.corrector.erasures)
-    (HasHighestBelow fe32.ops fe32.value g.Ck.Checksum.code.generator l.corrector.residue l.corrector.erasures l.place 1 l.value)
+    (HasHighestBelow fe32.ops fe32.value g.Ck.Checksum.code.generator l.corrector.residue l.corrector.erasures l.location 1 l.value)
     l.fn.found.items l.found.items

@@ -49,10 +49,10 @@ loop-i-preserved g c = λ columns within t. elim c.if-entry-next.branch [
       let whole : found ≡ start + code_of = omega (arith, high) in
       let below : code_of < limit * 32 = omega (arith, whole, end, c.if-entry-end.false) in
       let wide_code : code_of < 2 ^ 29 = omega (arith, below, within, t.wide) in
-      let place : found / 32 % 2 ^ 24 ≡ code_of / 32 = omega (arith, whole, wide_code) in
+      let location : found / 32 % 2 ^ 24 ≡ code_of / 32 = omega (arith, whole, wide_code) in
       let value : found % 32 ≡ code_of % 32 = omega (arith, whole) in
       let more = subst (λ v. AreAdded (IsEarlier fe32.ops fe32.value q.erasures) (HasHighest fe32.ops code.generator q.residue q.erasures (found / 32 % 2 ^ 24, fe32.element found) 0) c.loop-i.found.items v.items)
-      (sym w.found-is) (w.in_ok-add_entry.ensures t.few (omega (arith, place, below, within))) in
+      (sym w.found-is) (w.in_ok-add_entry.ensures t.few (omega (arith, location, below, within))) in
       record {
         n = code_of + 1;
         next = w.next-is ∙ omega (arith, whole);
@@ -66,7 +66,7 @@ loop-i-preserved g c = λ columns within t. elim c.if-entry-next.branch [
         ];
         added = coded_more is_field fe32.value lowest fe32.path value_below code.generator q.residue q.erasures code_of (code_of + 1) (found / 32 % 2 ^ 24, fe32.element found)
             c.args.found.now.items c.loop-i.found.items c.if-entry-next.found.items
-            (omega (arith, place, value)) (omega arith)
+            (omega (arith, location, value)) (omega arith)
             (on_to size code.generator q.erasures q.window c.args.rows.now columns c.args.entries.now t.table q.residue key i h.n code_of limit c.args.found.now.items c.loop-i.found.items
             refl (omega (arith, high, whole)) (omega (arith, below)) within t.wide
             (λ k low above. let before = h.passed k low above in omega (arith, before, h.next))

@@ -14,15 +14,15 @@ loop-value-preserved g c =
     let pushed : c.push.new.self.items ≡ before ++ (c.entry_of.result ∷ []) = search rules in
     let stays : (number : ℕ) → Contains before number → Contains c.push.new.self.items number =
     λ number m. subst (λ (u : List ℕ). Contains u number) (sym pushed) (Contains-append_left before (c.entry_of.result ∷ []) number m) in
-    let is : c.entry_of.result ≡ entry_number (key_of c.args.five c.loop-value.value) c.args.place c.loop-value.value =
-    c.entry_of.ensures ∙ ap (λ k. entry_number k c.args.place c.loop-value.value) c.key_of.ensures in
+    let is : c.entry_of.result ≡ entry_number (key_of c.args.five c.loop-value.value) c.args.location c.loop-value.value =
+    c.entry_of.ensures ∙ ap (λ k. entry_number k c.args.location c.loop-value.value) c.key_of.ensures in
     record {
       kept = λ number m. stays number (c.loop-value.invariant.kept number m);
       new = λ value some low. elim (dec_lt value c.loop-value.value) [
         | yes p ↦ stays _ (c.loop-value.invariant.new value some p)
         | no p ↦
             let same : c.loop-value.value ≡ value = omega (arith, p, low) in
-            subst (λ n. Contains c.push.new.self.items (entry_number (key_of c.args.five n) c.args.place n)) same
+            subst (λ n. Contains c.push.new.self.items (entry_number (key_of c.args.five n) c.args.location n)) same
             (subst (λ n. Contains c.push.new.self.items n) is (subst (λ (u : List ℕ). Contains u c.entry_of.result) (sym pushed) (Contains-push before c.entry_of.result)))
       ];
     }

@@ -6,5 +6,5 @@ use Rattle.bech32_near_search.proofs.table.push_entries.Given as goal
 abbrev pub invariant-loop-value : goal.invariant-loop-value
 invariant-loop-value g l = record {
   kept : (number : ℕ) → Contains l.fn.entries.items number → Contains l.entries.items number;
-  new : (value : ℕ) → 0 < value → value < l.value → Contains l.entries.items (entry_number (key_of l.five value) l.place value);
+  new : (value : ℕ) → 0 < value → value < l.value → Contains l.entries.items (entry_number (key_of l.five value) l.location value);
 }

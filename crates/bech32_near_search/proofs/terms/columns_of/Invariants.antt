@@ -7,5 +7,5 @@ use Rattle.bech32_near_search.proofs.terms.columns_of.Given as goal
 abbrev pub invariant-loop-i : goal.invariant-loop-i
 invariant-loop-i g l =
     l.columns.items ≡ columns_up_to
-    (λ i place. sketch_at l.rows (min g.Ck.Checksum.CHECKSUM_LENGTH 12) g.Ck.Checksum.code.generator place (fe32.element (2 ^ i)))
+    (λ i location. sketch_at l.rows (min g.Ck.Checksum.CHECKSUM_LENGTH 12) g.Ck.Checksum.code.generator location (fe32.element (2 ^ i)))
     l.window l.i

@@ -19,7 +19,7 @@ loop-preserved g c =
     let number = g.Ck.MidstateRepr.PackedFe32.number in
     let rows = c.args.rows.now in
     let i : ℕ = c.loop.counter in
-    let f : ℕ → ℕ = λ place. sketch_at rows size code.generator place c.args.value in
+    let f : ℕ → ℕ = λ location. sketch_at rows size code.generator location c.args.value in
     let term = monomial fe32.ops i c.args.value in
     let shown : IsResidueOf number code c.residue.result.now term = subst (λ r. IsResidueOf number code r term) (sym c.residue.ensures.value) c.loop.invariant.term in
     let key : c.cleared_by.result ≡ f i =
@@ -39,6 +39,6 @@ loop-preserved g c =
 pub returns : goal.returns
 returns g c =
     let size : ℕ = min g.Ck.Checksum.CHECKSUM_LENGTH 12 in
-    let f : ℕ → ℕ = λ place. sketch_at c.args.rows.now size g.Ck.Checksum.code.generator place c.args.value in
+    let f : ℕ → ℕ = λ location. sketch_at c.args.rows.now size g.Ck.Checksum.code.generator location c.args.value in
     let end : c.loop.counter ≡ c.args.window = omega arith in
     c.loop.invariant.items ∙ ap (λ n. c.args.columns.now.items ++ tabulate n f) end

@@ -9,6 +9,6 @@ use Rattle.bech32_near_search.proofs.terms.push_column.Given as goal
 abbrev pub invariant-loop : goal.invariant-loop
 invariant-loop g l = record {
   items : l.columns.items ≡ l.fn.columns.items
-      ++ tabulate l.counter (λ place. sketch_at l.rows (min g.Ck.Checksum.CHECKSUM_LENGTH 12) g.Ck.Checksum.code.generator place l.fn.value);
+      ++ tabulate l.counter (λ location. sketch_at l.rows (min g.Ck.Checksum.CHECKSUM_LENGTH 12) g.Ck.Checksum.code.generator location l.fn.value);
   term : IsResidueOf g.Ck.MidstateRepr.PackedFe32.number g.Ck.Checksum.code l.engine (monomial fe32.ops l.counter l.fn.value);
 }
