@@ -4,12 +4,11 @@ use Rattle.std.proofs.Common.{◌≡◌, ◌<◌, ℕ, List, length, take, subst
 use Rattle.std.proofs.lemmas.List.{length-map, take_all}
 use Rattle.bech32_checksum.specs.Code.{Code}
 use Rattle.bech32_decode.specs.Text.{IsInGrammar, text_refusal}
-use Rattle.bech32_decode.proofs.Grammar.{not_in_grammar, text_refusal-none}
-use Rattle.bech32_near_edits.specs.NearEdits.{AreNearEdits, IsEditsRefusal}
+use Rattle.bech32_decode.proofs.Grammar.{text_refusal-none}
+use Rattle.bech32_near_edits.specs.NearEdits.{AreNearEdits, HasNearEdit}
 use Rattle.bech32_near_edits.specs.declared.edits.Edit.{Edit}
-use Rattle.bech32_near_edits.specs.declared.error.EditsError.{EditsError}
-use Rattle.bech32_near_edits.specs.declared.error.EditsError.TheVariants.{Memory as OutOfMemory, Refused}
 use Rattle.bech32_calls.specs.Checksums.{ForChecksum, IsFaultBy}
+use Rattle.bech32_calls.specs.Faults.{IsTextFault}
 use Rattle.bech32_calls.specs.Listing.{EndsWell, IfAllPut, IfNotAllPut, LacksMemory, ListsRows}
 use Rattle.bech32_calls.specs.NearEdits.{IsEditsFault, LacksRoomForEdits, PutsEach, PutsEdits, PutsFirstEdits, number_of_change}
 use Rattle.bech32_calls.specs.declared.listed.Listed.{Listed}
@@ -21,14 +20,19 @@ use Rattle.bech32_calls.proofs.Letters.{IsUtf8-from_text}
 
 -- ---- where none are put
 
--- the edits of a text in the grammar are not told: there is one, and no memory
-untold : (text : List ℕ) (e : EditsError) → IsInGrammar text → (code : Code) → IsEditsRefusal code text e → IsEditsRefusal code text OutOfMemory
-untold text (Refused e) is code h = absurd (not_in_grammar text e (IsUtf8-from_text text is.0 is.1 is.2) h is)
-untold text OutOfMemory is code h = h
+-- nothing is put of a text that is not read
+unread : (text : List ℕ) (e : Refusal) (code : Code) → IsTextFault text e → IsEditsFault text code e
+unread text NotUtf8 code h = h
+unread text (Text e) code h = h
+unread text _ code h = absurd h
 
 -- the same by the checksum of a number
-pub untold_by : (n : ℕ) (text : List ℕ) (e : EditsError) → IsInGrammar text → ForChecksum n (λ code. IsEditsRefusal code text e) → IsFaultBy n (IsEditsFault text) Memory
-untold_by n text e is = wrong_by (λ code. IsEditsRefusal code text e) (IsEditsFault text) Memory (untold text e is) n
+pub unread_by : (n : ℕ) (text : List ℕ) (e : Refusal) → ForChecksum n (λ _. Unit {0}) → IsTextFault text e → IsFaultBy n (IsEditsFault text) e
+unread_by n text e is h = wrong_by (λ _. Unit {0}) (IsEditsFault text) e (λ code _. unread text e code h) n is
+
+-- the edits of a text that was read are not told: there is one, and no memory
+untold_by : (n : ℕ) (text : List ℕ) → ForChecksum n (λ code. HasNearEdit code text) → IsFaultBy n (IsEditsFault text) Memory
+untold_by n text = wrong_by (λ code. HasNearEdit code text) (IsEditsFault text) Memory (λ code h. h) n
 
 -- of a text in the grammar only memory may not suffice
 grammar_memory : (text : List ℕ) (e : Refusal) (code : Code) → IsInGrammar text → IsEditsFault text code e → e ≡ Memory
@@ -110,17 +114,17 @@ module _ (n : ℕ) (text kinds kinds' locations locations' texts texts' : List �
         })
         n are
 
-  module _ {V A : Type 0} where
-    abbrev Found : Result V EditsError → (V → List A) → (A → Edit) → (A → List ℕ) → Type 0
+  module _ {V A E : Type 0} where
+    abbrev Found : Result V E → (V → List A) → (A → Edit) → (A → List ℕ) → Type 0
     Found found items edit made =
-        MatchResult found (λ v. ForChecksum n (λ code. AreNearEdits code text (map (λ m. (edit m, made m)) (items v)))) (λ e. ForChecksum n (λ code. IsEditsRefusal code text e))
+        MatchResult found (λ v. ForChecksum n (λ code. AreNearEdits code text (map (λ m. (edit m, made m)) (items v)))) (λ _. ForChecksum n (λ code. HasNearEdit code text))
 
-    abbrev Lists_found : Result V EditsError → (V → List A) → (A → Edit) → (A → List ℕ) → Type 0
+    abbrev Lists_found : Result V E → (V → List A) → (A → Edit) → (A → List ℕ) → Type 0
     Lists_found found items edit made =
         MatchResult found (λ v. EndsWell r (ListsRows (λ m. number_of_change (edit m).change) (λ m. (edit m).location) made (items v) kinds kinds' locations locations' texts texts'))
         (λ _. LacksMemory r × ((kinds' ≡ kinds) × (locations' ≡ locations) × (texts' ≡ texts)))
 
-    pub edits_all : (found : Result V EditsError) (items : V → List A) (edit : A → Edit) (made : A → List ℕ) → Found found items edit made → Lists_found found items edit made
+    pub edits_all : (found : Result V E) (items : V → List A) (edit : A → Edit) (made : A → List ℕ) → Found found items edit made → Lists_found found items edit made
         → IfAllPut r (λ count. ForChecksum n (PutsEdits text kinds kinds' locations locations' texts texts' count))
     edits_all (Ok v) items edit made are (listed, is, h) =
         subst (λ (t : Result Listed Refusal). IfAllPut t (λ count. ForChecksum n (PutsEdits text kinds kinds' locations locations' texts texts' count))) (sym is)
@@ -128,7 +132,7 @@ module _ (n : ℕ) (text kinds kinds' locations locations' texts texts' : List �
     edits_all (Err e) items edit made refused h =
         subst (λ (t : Result Listed Refusal). IfAllPut t (λ count. ForChecksum n (PutsEdits text kinds kinds' locations locations' texts texts' count))) (sym h.0) tt
 
-    pub edits_first : (found : Result V EditsError) (items : V → List A) (edit : A → Edit) (made : A → List ℕ) → Found found items edit made → Lists_found found items edit made
+    pub edits_first : (found : Result V E) (items : V → List A) (edit : A → Edit) (made : A → List ℕ) → Found found items edit made → Lists_found found items edit made
         → IfNotAllPut r (λ count. ForChecksum n (PutsFirstEdits text kinds kinds' locations locations' texts texts' count))
     edits_first (Ok v) items edit made are (listed, is, h) =
         subst (λ (t : Result Listed Refusal). IfNotAllPut t (λ count. ForChecksum n (PutsFirstEdits text kinds kinds' locations locations' texts texts' count))) (sym is)
@@ -137,10 +141,10 @@ module _ (n : ℕ) (text kinds kinds' locations locations' texts texts' : List �
         subst (λ (t : Result Listed Refusal). IfNotAllPut t (λ count. ForChecksum n (PutsFirstEdits text kinds kinds' locations locations' texts texts' count))) (sym h.0) tt
 
     -- only memory may not suffice, and then nothing is put
-    pub edits_refused : (found : Result V EditsError) (items : V → List A) (edit : A → Edit) (made : A → List ℕ) → Found found items edit made → Lists_found found items edit made
+    pub edits_refused : (found : Result V E) (items : V → List A) (edit : A → Edit) (made : A → List ℕ) → Found found items edit made → Lists_found found items edit made
         → IfErr r (λ e. (e ≡ Memory) × IsFaultBy n (IsEditsFault text) e × ((kinds' ≡ kinds) × (locations' ≡ locations) × (texts' ≡ texts)))
     edits_refused (Ok v) items edit made are (listed, is, h) =
         subst (λ (t : Result Listed Refusal). IfErr t (λ e. (e ≡ Memory) × IsFaultBy n (IsEditsFault text) e × ((kinds' ≡ kinds) × (locations' ≡ locations) × (texts' ≡ texts)))) (sym is) tt
     edits_refused (Err e) items edit made refused h =
         subst (λ (t : Result Listed Refusal). IfErr t (λ e. (e ≡ Memory) × IsFaultBy n (IsEditsFault text) e × ((kinds' ≡ kinds) × (locations' ≡ locations) × (texts' ≡ texts)))) (sym h.0)
-        (refl, untold_by n text e grammar refused, h.1)
+        (refl, untold_by n text refused, h.1)

@@ -5,9 +5,7 @@ use Rattle.std.proofs.lemmas.List.{length-map, take_all}
 use Rattle.bech32_decode.specs.Text.{text_refusal}
 use Rattle.bech32_decode.proofs.Grammar.{text_refusal-none}
 use Rattle.bech32_hrp.specs.Hrp.{IsHrp}
-use Rattle.bech32_near_edits.specs.declared.error.EditsError.{EditsError}
-use Rattle.bech32_near_edits.specs.declared.error.EditsError.TheVariants.{Memory as OutOfMemory, Refused}
-use Rattle.bech32_suggest.specs.Suggestions.{AreSuggestions, IsSuggestRefusal, IsTriedText, Suggested}
+use Rattle.bech32_suggest.specs.Suggestions.{AreSuggestions, IsTriedText, Suggested}
 use Rattle.bech32_suggest.specs.Typed.{as_read}
 use Rattle.bech32_suggest.specs.declared.mendings.Mending.{Mending}
 use Rattle.bech32_suggest.proofs.Reading.{utf8_read}
@@ -27,13 +25,6 @@ no_fault text (u, inl long) short = absurd (omega (arith, long, short))
 no_fault text (u, inr is) short = text_refusal-none (as_read text) (utf8_read text u) is
 
 -- of such a text only memory may not suffice
-pub untried : (text : List ℕ) (e : EditsError) → IsTyped text → IsSuggestRefusal text e → IsTriedText text
-untried text (Refused e) is h =
-    let none : text_refusal (as_read text) ≡ None = no_fault text is h.0 in
-    let some : text_refusal (as_read text) ≡ Some e = h.1 in
-    absurd (cc)
-untried text OutOfMemory is h = h
-
 typed_memory : (text : List ℕ) (e : Refusal) → IsTyped text → IsTypedFault text e → e ≡ Memory
 typed_memory text NotUtf8 is h = absurd (h is.0)
 typed_memory text (Text e) is h =
@@ -67,7 +58,7 @@ lacks_listed text hrp kinds kinds' places places' texts texts' (Err e) h = tt
 
 -- ---- what was found, listed
 
-module _ (text hrp kinds kinds' places places' texts texts' : List ℕ) (is_hrp : IsHrp hrp) (typed : IsTyped text) (r : Result Listed Refusal) where
+module _ (text hrp kinds kinds' places places' texts texts' : List ℕ) (is_hrp : IsHrp hrp) (r : Result Listed Refusal) where
   module _ {A : Type 0} (shown : A → List ℕ) (mending : A → Mending) (place : A → ℕ) (items : List A) (are : AreSuggestions text hrp (map (λ s. (shown s, (mending s, place s))) items)) where
     abbrev told : List Suggested
     told = map (λ s. (shown s, (mending s, place s))) items
@@ -107,24 +98,24 @@ module _ (text hrp kinds kinds' places places' texts texts' : List ℕ) (is_hrp 
           put = puts_told listed h;
         }
 
-  module _ {V A : Type 0} where
-    abbrev Found : Result V EditsError → (V → List A) → (A → List ℕ) → (A → Mending) → (A → ℕ) → Type 0
+  module _ {V A E : Type 0} where
+    abbrev Found : Result V E → (V → List A) → (A → List ℕ) → (A → Mending) → (A → ℕ) → Type 0
     Found found items shown mending place =
-        MatchResult found (λ v. AreSuggestions text hrp (map (λ s. (shown s, (mending s, place s))) (items v))) (λ e. IsSuggestRefusal text e)
+        MatchResult found (λ v. AreSuggestions text hrp (map (λ s. (shown s, (mending s, place s))) (items v))) (λ _. IsTriedText text)
 
-    abbrev Lists_found : Result V EditsError → (V → List A) → (A → List ℕ) → (A → Mending) → (A → ℕ) → Type 0
+    abbrev Lists_found : Result V E → (V → List A) → (A → List ℕ) → (A → Mending) → (A → ℕ) → Type 0
     Lists_found found items shown mending place =
         MatchResult found (λ v. EndsWell r (ListsRows (λ s. number_of_mending (mending s)) place shown (items v) kinds kinds' places places' texts texts'))
         (λ _. LacksMemory r × ((kinds' ≡ kinds) × (places' ≡ places) × (texts' ≡ texts)))
 
-    pub suggested_all : (found : Result V EditsError) (items : V → List A) (shown : A → List ℕ) (mending : A → Mending) (place : A → ℕ)
+    pub suggested_all : (found : Result V E) (items : V → List A) (shown : A → List ℕ) (mending : A → Mending) (place : A → ℕ)
         → Found found items shown mending place → Lists_found found items shown mending place → IfAllPut r (PutsSuggestions text hrp kinds kinds' places places' texts texts')
     suggested_all (Ok v) items shown mending place are (listed, is, h) =
         subst (λ (t : Result Listed Refusal). IfAllPut t (PutsSuggestions text hrp kinds kinds' places places' texts texts')) (sym is) (puts_all shown mending place (items v) are listed h)
     suggested_all (Err e) items shown mending place refused h =
         subst (λ (t : Result Listed Refusal). IfAllPut t (PutsSuggestions text hrp kinds kinds' places places' texts texts')) (sym h.0) tt
 
-    pub suggested_first : (found : Result V EditsError) (items : V → List A) (shown : A → List ℕ) (mending : A → Mending) (place : A → ℕ)
+    pub suggested_first : (found : Result V E) (items : V → List A) (shown : A → List ℕ) (mending : A → Mending) (place : A → ℕ)
         → Found found items shown mending place → Lists_found found items shown mending place → IfNotAllPut r (PutsFirstSuggestions text hrp kinds kinds' places places' texts texts')
     suggested_first (Ok v) items shown mending place are (listed, is, h) =
         subst (λ (t : Result Listed Refusal). IfNotAllPut t (PutsFirstSuggestions text hrp kinds kinds' places places' texts texts')) (sym is) (puts_first shown mending place (items v) are listed h)
@@ -132,11 +123,11 @@ module _ (text hrp kinds kinds' places places' texts texts' : List ℕ) (is_hrp 
         subst (λ (t : Result Listed Refusal). IfNotAllPut t (PutsFirstSuggestions text hrp kinds kinds' places places' texts texts')) (sym h.0) tt
 
     -- only memory may not suffice, and then nothing is put
-    pub suggested_refused : (found : Result V EditsError) (items : V → List A) (shown : A → List ℕ) (mending : A → Mending) (place : A → ℕ)
+    pub suggested_refused : (found : Result V E) (items : V → List A) (shown : A → List ℕ) (mending : A → Mending) (place : A → ℕ)
         → Found found items shown mending place → Lists_found found items shown mending place
         → IfErr r (λ e. (e ≡ Memory) × IsTypedFault text e × ((kinds' ≡ kinds) × (places' ≡ places) × (texts' ≡ texts)))
     suggested_refused (Ok v) items shown mending place are (listed, is, h) =
         subst (λ (t : Result Listed Refusal). IfErr t (λ e. (e ≡ Memory) × IsTypedFault text e × ((kinds' ≡ kinds) × (places' ≡ places) × (texts' ≡ texts)))) (sym is) tt
     suggested_refused (Err e) items shown mending place refused h =
         subst (λ (t : Result Listed Refusal). IfErr t (λ e. (e ≡ Memory) × IsTypedFault text e × ((kinds' ≡ kinds) × (places' ≡ places) × (texts' ≡ texts)))) (sym h.0)
-        (refl, untried text e typed refused, h.1)
+        (refl, refused, h.1)

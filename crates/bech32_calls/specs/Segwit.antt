@@ -32,8 +32,8 @@ pub record HasRoomFor (hrp : List ℕ) (version : ℕ) (program : List ℕ) (roo
   pub exists : HasAddress hrp (element version) program
   pub has_room : address_length hrp program ≤ room
 
--- why the address of a human-readable part, a version and a program is not put into a buffer of so
--- many bytes: the first fault
+-- why the address of a human-readable part, a version and a program is not put into a buffer of
+-- `room` bytes: the first fault
 abbrev pub IsAddressFault : List ℕ → Fe32 → List ℕ → ℕ → Refusal → Type 0
 IsAddressFault hrp version program room (NoAddress e) =
     IsSegwitEncodeRefusal hrp version program e × (e ≢ OutOfMemory)

@@ -84,7 +84,7 @@ fn put_rows<R: Row>(rows: &[R], kinds: &mut [u8], places: &mut [usize], texts: &
     put
 }
 
-// What is told of so many texts, of which so many are put.
+// What is told of `count` texts, of which the first `put` are put.
 fn listed_of(count: usize, put: usize) -> Listed
     ensures count { result.count ≡ count }
     ensures fit { result.fit ≡ (put == count) }

@@ -2,49 +2,48 @@
 
 ghost use Rattle.std.specs.Prelude.{◌≡◌, ◌⊎◌, length, map, string_bytes, IfErr, MatchResult};
 ghost use Rattle.bech32_decode.specs.Text.{IsInGrammar};
-ghost use Rattle.bech32_near_edits.specs.NearEdits.{AreNearEdits, IsEditsRefusal};
+ghost use Rattle.bech32_near_edits.specs.NearEdits.{AreNearEdits, HasNearEdit};
 ghost use Rattle.caller_memory.specs.Memory.{IsKept};
 ghost use Rattle.bech32_calls.specs.Checksums.{ForChecksum, IsFaultBy};
 ghost use Rattle.bech32_calls.specs.Listing.{ReturnsMemory, IfAllPut, IfNotAllPut};
 ghost use Rattle.bech32_calls.specs.NearEdits.{IsEditsFault, IsEditsFaultOrKept, LacksRoomForEdits, PutsEdits, PutsFirstEdits};
 
 use crate::checksum::{BECH32, BECH32M, validate_checksum};
-use crate::input::text_of;
+use crate::input::read;
 use crate::listed::{Listed, Row, end_with, list_rows};
 use crate::refusal::Refusal;
-use bech32::{Bech32, Bech32m, Change, EditsError, NearEdit, near_edits_in};
+use bech32::{Bech32, Bech32m, Change, NearEdit};
 use bech32_decode::Reading;
+use bech32_near_edits::near_edits_of_read;
 use caller_memory::{Lent, Memory};
-use std::alloc::Allocator;
+use std::alloc::{AllocError, Allocator};
 
-// The text of bytes, where it is in the grammar and a number is that of a checksum.
-fn text_for(checksum: u32, bytes: &[u8]) -> Result<&str, Refusal>
+// Reads a text by the generator of both checksums, where a number is that of one.
+fn read_for(checksum: u32, bytes: &[u8]) -> Result<Reading<'_, Bech32m>, Refusal>
     ensures { MatchResult result
-        (λ text. (text.now ≡ bytes.now) × IsInGrammar bytes.now
-        × ForChecksum checksum (λ _. Unit {0}))
+        (λ r. (r.text.now ≡ bytes.now) × ForChecksum checksum (λ _. Unit {0}))
         (λ e. IsFaultBy checksum (IsEditsFault bytes.now) e) }
 {
     validate_checksum(checksum)?;
-    let text = text_of(bytes)?;
-    Reading::<Bech32m>::new(text)?;
-    Ok(text)
+    let reading = read::<Bech32m>(bytes)?;
+    Ok(reading)
 }
 
-// The texts that one edit makes of a text, and that the checksum of a number accepts.
+// The texts that one edit makes of a text that was read, and that the checksum of a number accepts.
 fn edits_by<'a, A: Allocator>(
     alloc: &'a A,
     checksum: u32,
-    text: &str,
-) -> Result<Vec<NearEdit<String<&'a A>>, &'a A>, EditsError>
+    reading: &Reading<'_, Bech32m>,
+) -> Result<Vec<NearEdit<String<&'a A>>, &'a A>, AllocError>
     requires { ForChecksum checksum (λ _. Unit {0}) }
     ensures { MatchResult result
-        (λ found. ForChecksum checksum (λ code. AreNearEdits code text.now
+        (λ found. ForChecksum checksum (λ code. AreNearEdits code reading.now.text.now
         (map (λ m. (m.edit, string_bytes m.text)) found.items)))
-        (λ e. ForChecksum checksum (λ code. IsEditsRefusal code text.now e)) }
+        (λ _. ForChecksum checksum (λ code. HasNearEdit code reading.now.text.now)) }
 {
     match checksum {
-        BECH32 => near_edits_in::<Bech32, &A>(alloc, text),
-        BECH32M => near_edits_in::<Bech32m, &A>(alloc, text),
+        BECH32 => near_edits_of_read::<Bech32, &A>(alloc, &reading.by_bech32()),
+        BECH32M => near_edits_of_read::<Bech32m, &A>(alloc, reading),
         _ => unreachable!(),
     }
 }
@@ -112,10 +111,10 @@ pub fn put_near_edits(
         × (texts.new ≡ texts.old)) ⊎ ((e ≡ Refusal.Memory) × IsKept memory.old memory.new)) }
     ensures memory { ReturnsMemory memory.old memory.new result }
 {
-    let text = text_for(checksum, bytes)?;
+    let reading = read_for(checksum, bytes)?;
     let lent = Lent::new(memory.take());
     let listed = list_rows(
-        edits_by(&lent.arena(), checksum, text),
+        edits_by(&lent.arena(), checksum, &reading),
         kinds,
         locations,
         texts,

@@ -1,28 +1,17 @@
-//! Lists the addresses that someone may have meant who typed a text.
+//! Lists the addresses that someone who typed a text may have meant.
 
-ghost use Rattle.std.specs.Prelude.{◌≡◌, ◌⊎◌, length, IfErr, MatchResult};
+ghost use Rattle.std.specs.Prelude.{◌≡◌, ◌⊎◌, length, IfErr};
 ghost use Rattle.bech32_hrp.specs.Hrp.{IsHrp};
 ghost use Rattle.caller_memory.specs.Memory.{IsKept};
 ghost use Rattle.bech32_calls.specs.Listing.{ReturnsMemory, IfAllPut, IfNotAllPut};
-ghost use Rattle.bech32_calls.specs.Suggest.{IsSuggestFaultOrKept, IsTyped, IsTypedFault, LacksRoomForSuggestions, PutsFirstSuggestions, PutsSuggestions};
+ghost use Rattle.bech32_calls.specs.Suggest.{IsSuggestFaultOrKept, IsTyped, LacksRoomForSuggestions, PutsFirstSuggestions, PutsSuggestions};
 
 use crate::input::{part_of, text_of};
 use crate::listed::{Listed, Row, end_with, list_rows};
 use crate::refusal::Refusal;
-use bech32_suggest::{Mending, Suggestion, suggest_in, validate_typed};
+use bech32_suggest::{MOST_TYPED, Mending, Suggestion, read_typed, suggest_of_read};
 use caller_memory::{Lent, Memory};
 use std::alloc::Allocator;
-
-// The text of bytes, where something may be suggested for it.
-fn typed_text(bytes: &[u8]) -> Result<&str, Refusal>
-    ensures { MatchResult result
-        (λ text. (text.now ≡ bytes.now) × IsTyped bytes.now)
-        (λ e. IsTypedFault bytes.now e) }
-{
-    let text = text_of(bytes)?;
-    validate_typed(text)?;
-    Ok(text)
-}
 
 impl<A: Allocator> Row for Suggestion<String<A>> {
     ghost use Rattle.bech32_calls.specs.Suggest.{number_of_mending};
@@ -46,8 +35,8 @@ impl<A: Allocator> Row for Suggestion<String<A>> {
     }
 }
 
-/// Puts all segwit addresses with a human-readable part that someone may have meant who typed a
-/// text at the front of a buffer, in lower case and one behind another, in the order of
+/// Puts all segwit addresses with a human-readable part that someone who typed a text may have
+/// meant at the front of a buffer, in lower case and one behind another, in the order of
 /// [`suggest`](bech32_suggest::suggest), and tells how many they are. Of each the number of what is
 /// done to the text is put into `kinds`: 0 for nothing, 1 where two neighbours are swapped, 2 where
 /// a character is left out, 3 where one is put in, 4 where characters are replaced; and into
@@ -86,8 +75,15 @@ pub fn put_suggestions(
     ensures memory { ReturnsMemory memory.old memory.new result }
 {
     let hrp = part_of(part)?;
-    let text = typed_text(bytes)?;
+    let text = text_of(bytes)?;
+    let mut buffer = [0u8; MOST_TYPED];
+    let read = read_typed(text, &mut buffer)?;
     let lent = Lent::new(memory.take());
-    let listed = list_rows(suggest_in(&lent.arena(), text, hrp), kinds, places, texts);
+    let listed = list_rows(
+        suggest_of_read(&lent.arena(), text, read, &hrp),
+        kinds,
+        places,
+        texts,
+    );
     end_with(lent, memory, listed)
 }

@@ -1,6 +1,6 @@
 -- The texts of all edits that a checksum accepts are the near edits of a text.
 use Rattle.std.specs.List.{AllByRecursion}
-use Rattle.std.specs.Prelude.{◌≢◌}
+use Rattle.std.specs.Prelude.{◌≢◌, Result, Ok, Err, IfOk, IfErr, MatchResult}
 use Rattle.std.specs.Char.{to_ascii_lowercase}
 use Rattle.std.proofs.Common.{◌≡◌, ℕ, ◌+◌, ◌/◌, List, [], ◌∷◌, ◌++◌, map, length, length-append, inl, inr, subst, sym, ap, ◌∙◌, refl, arith}
 use Rattle.std.proofs.lemmas.List.{length-map}
@@ -9,6 +9,7 @@ use Rattle.bech32_gf.specs.Fe32.{element_of, elements_of}
 use Rattle.bech32_gf.specs.declared.gf32.Fe32.{Fe32}
 use Rattle.bech32_poly.specs.Distinct.{IsAmong, IsNotAmong, IsOnce}
 use Rattle.bech32_poly.specs.Polynomial.{appended}
+use Rattle.bech32_bch.proofs.Places.{look}
 use Rattle.bech32_hrp.specs.Hrp.{lowered}
 use Rattle.bech32_hrp.proofs.Lowered.{lowered-lowered}
 use Rattle.bech32_checksum.specs.Code.{Code}
@@ -19,7 +20,7 @@ use Rattle.bech32_decode.specs.Text.{IsText}
 use Rattle.bech32_decode.proofs.Grammar.{only-from_IsText}
 use Rattle.bech32_decode.proofs.Spelling.{characters-elements, lower_text, spelled-text}
 use Rattle.bech32_near_edits.specs.Edits.{AreAllOf, AreInOrder, IsBefore, IsEdit, IsToldEdit}
-use Rattle.bech32_near_edits.specs.NearEdits.{AreNearEdits, IsEditedText, IsToldText}
+use Rattle.bech32_near_edits.specs.NearEdits.{AreNearEdits, HasNearEdit, IsEditedText, IsToldText}
 use Rattle.bech32_near_edits.specs.Walks.{HasAcceptedEdit, LeavesTarget, IsAcceptedData, IsAcceptedEdit, IsEditOf, IsMadeText}
 use Rattle.bech32_near_edits.specs.declared.edits.Edit.{Edit}
 use Rattle.bech32_near_edits.proofs.Once.{changed, moved, not_before}
@@ -87,7 +88,7 @@ module _ (code : Code) (text hrp data_part : List ℕ) (is : IsText text hrp dat
     subst (Accepts code) (sym e) (accepted_text new a),
   )
 
-  pub some_told : HasAcceptedEdit code hrp old → (edit : Edit) × (new : List ℕ) × IsToldText edit text new × Accepts code new
+  pub some_told : HasAcceptedEdit code hrp old → HasNearEdit code text
   some_told (edit, (new, t, a)) = let p = told_text edit (spelled hrp new) new t a refl in (edit, spelled hrp new, p.0, p.1)
 
   -- ---- of anything that has an edit and a text
@@ -161,7 +162,7 @@ module _ (code : Code) (text hrp data_part : List ℕ) (is : IsText text hrp dat
           others items made.1 right.1,
         )
 
-    pub near_edits : (edits : List Edit) (items : List M) → AreAllOf (IsAcceptedEdit code hrp old) edits → map edit_in items ≡ edits → AllByRecursion Made items → AreNearEdits code text (pairs items)
+    near_edits : (edits : List Edit) (items : List M) → AreAllOf (IsAcceptedEdit code hrp old) edits → map edit_in items ≡ edits → AllByRecursion Made items → AreNearEdits code text (pairs items)
     near_edits edits items a same made =
         let all : AreAllOf (IsAcceptedEdit code hrp old) (map edit_in items) = subst (λ u. AreAllOf (IsAcceptedEdit code hrp old) u) (sym same) a in
         let right : AllByRecursion Right items = right_all items all.each in record {
@@ -172,3 +173,11 @@ module _ (code : Code) (text hrp data_part : List ℕ) (is : IsText text hrp dat
           once = each_once items made right all.in_order;
           not_itself = others items made right;
         }
+
+    -- the same where memory may not suffice for the texts
+    pub near_or_told : {V E : Type 0} (edits : List Edit) (items : V → List M) (r : Result V E) → AreAllOf (IsAcceptedEdit code hrp old) edits
+        → IfOk r (λ v. map edit_in (items v) ≡ edits) → IfOk r (λ v. AllByRecursion Made (items v)) → IfErr r (λ _. (edit : Edit) × IsAmong edit edits)
+        → MatchResult r (λ v. AreNearEdits code text (pairs (items v))) (λ _. HasNearEdit code text)
+    near_or_told edits items (Ok v) a same made some = near_edits edits (items v) a same made
+    near_or_told edits items (Err e) a same made some =
+        some_told (some.0, look (IsAcceptedEdit code hrp old) some.0 edits a.each some.1)

@@ -47,9 +47,13 @@ pub record AreNearEdits (code : Code) (text : List ℕ) (found : List (Edit × L
   pub once : IsOnce (map (λ m. m.1) found)
   pub not_itself : IsNotAmong (lowered text) (map (λ m. m.1) found)
 
+-- there is such an edit
+abbrev pub HasNearEdit : Code → List ℕ → Type 0
+HasNearEdit code text =
+    (edit : Edit) × (new : List ℕ) × IsToldText edit text new × Accepts code new
+
 -- why the edits of a text are not told: it is not in the grammar; or there is one at least, and no
 -- memory
 abbrev pub IsEditsRefusal : Code → List ℕ → EditsError → Type 0
 IsEditsRefusal code text (Refused e) = text_refusal text ≡ Some e
-IsEditsRefusal code text Memory =
-    (edit : Edit) × (new : List ℕ) × IsToldText edit text new × Accepts code new
+IsEditsRefusal code text Memory = HasNearEdit code text

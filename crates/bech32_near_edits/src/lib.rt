@@ -15,4 +15,4 @@ mod walks;
 
 pub use self::edits::{Change, Edit, NearEdit};
 pub use self::error::EditsError;
-pub use self::texts::{near_edits, near_edits_in};
+pub use self::texts::{near_edits, near_edits_in, near_edits_of_read};

@@ -12,7 +12,7 @@ ghost use Rattle.bech32_hrp.specs.HrpBytes.{hrp_bytes};
 ghost use Rattle.bech32_poly.specs.Distinct.{IsAmong};
 ghost use Rattle.bech32_near_edits.specs.Edits.{AreAllOf, IsEdit};
 ghost use Rattle.bech32_near_edits.specs.declared.edits.Edit.{Edit as AnEdit};
-ghost use Rattle.bech32_near_edits.specs.NearEdits.{AreNearEdits, IsEditsRefusal};
+ghost use Rattle.bech32_near_edits.specs.NearEdits.{AreNearEdits, HasNearEdit, IsEditsRefusal};
 ghost use Rattle.bech32_near_edits.specs.Walks.{HasAcceptedEdit, IsAcceptedEdit, IsEditOf, IsMadeText};
 
 use crate::edits::{Change, Edit, NearEdit};
@@ -65,28 +65,27 @@ fn text_with<A: Allocator>(
 }
 
 // The text that an edit makes, in lower case.
-fn edited_text<A: Allocator>(alloc: A, text: &str, edit: Edit) -> Result<String<A>, AllocError>
+fn edited_text<A: Allocator>(alloc: A, text: &[u8], edit: Edit) -> Result<String<A>, AllocError>
     requires { IsEditOf text.now edit }
     ensures { IfOk result (λ s. (hrp : List ℕ) (data_part : List ℕ) (new : List Element)
         → IsText text.now hrp data_part → IsEdit edit (elements_of data_part) new
         → string_bytes s ≡ spelled hrp new) }
 {
-    let bytes = text.as_bytes();
-    let end = bytes.len() - edit.location;
+    let end = text.len() - edit.location;
     match edit.change {
         Change::Swapped(higher, lower) => {
             let middle = [lower.to_char() as u8, higher.to_char() as u8];
-            text_with(alloc, bytes, end - 2, &middle, end)
+            text_with(alloc, text, end - 2, &middle, end)
         }
-        Change::LeftOut(_) => text_with(alloc, bytes, end - 1, &[], end),
-        Change::PutIn(element) => { text_with(alloc, bytes, end, &[element.to_char() as u8], end) }
+        Change::LeftOut(_) => text_with(alloc, text, end - 1, &[], end),
+        Change::PutIn(element) => text_with(alloc, text, end, &[element.to_char() as u8], end),
     }
 }
 
 // Each edit with the text that it makes.
 fn edited_all<A: Allocator + Copy>(
     alloc: A,
-    text: &str,
+    text: &[u8],
     edits: Vec<Edit, A>,
 ) -> Result<Vec<NearEdit<String<A>>, A>, AllocError>
     requires { AllByRecursion (IsEditOf text.now) edits.items }
@@ -101,6 +100,26 @@ fn edited_all<A: Allocator + Copy>(
         texts.push(NearEdit { edit, text })?;
     }
     Ok(texts)
+}
+
+/// The texts that one edit makes of a text that was read, as [`near_edits`] has them, with memory
+/// from `alloc`.
+///
+/// # Errors
+///
+/// Out of memory, as of [`near_edits`].
+pub fn near_edits_of_read<Ck: Checksum, A: Allocator + Copy>(
+    alloc: A,
+    reading: &Reading<'_, Ck>,
+) -> Result<Vec<NearEdit<String<A>>, A>, AllocError>
+    ensures { MatchResult result
+        (λ found. AreNearEdits Ck.code reading.now.text.now
+        (map (λ m. (m.edit, string_bytes m.text)) found.items))
+        (λ _. HasNearEdit Ck.code reading.now.text.now) }
+{
+    let original = Original::<Ck>::new(Hrp::of_bytes(reading.hrp), reading.data_part);
+    let edits = edits_of::<Ck, A>(alloc, &original)?;
+    edited_all(alloc, reading.text, edits)
 }
 
 /// The texts that one edit makes of a text, with memory from `alloc`; [`near_edits`] says more.
@@ -118,9 +137,7 @@ pub fn near_edits_in<Ck: Checksum, A: Allocator + Copy>(
         (λ e. IsEditsRefusal Ck.code text.now e) }
 {
     let reading = Reading::<Ck>::new(text)?;
-    let original = Original::<Ck>::new(Hrp::of_bytes(reading.hrp), reading.data_part);
-    let edits = edits_of::<Ck, A>(alloc, &original)?;
-    Ok(edited_all(alloc, text, edits)?)
+    Ok(near_edits_of_read::<Ck, A>(alloc, &reading)?)
 }
 
 /// All texts other than this one that one edit makes of it, and that the checksum accepts. An edit

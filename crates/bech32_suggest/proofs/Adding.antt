@@ -1,5 +1,5 @@
 -- Which texts are added to those that are found.
-use Rattle.std.specs.Prelude.{MatchOption, map, Result, Ok, Err, IfOk}
+use Rattle.std.specs.Prelude.{MatchOption, MatchResult, map, Result, Ok, Err, IfOk}
 use Rattle.std.specs.List.{AllByRecursion}
 use Rattle.std.proofs.Common.{◌≡◌, ◌⊎◌, ℕ, zero, suc, ◌+◌, ◌<◌, ◌≤◌, List, [], ◌∷◌, ◌++◌, Option, Some, None, length, take, get_or, inl, inr, subst, sym, ap, ◌∙◌, refl, arith}
 use Rattle.std.proofs.lemmas.List.{map_more, map-append, take_all}
@@ -12,11 +12,11 @@ use Rattle.bech32_checksum.specs.Code.{Code, bech32, bech32m}
 use Rattle.bech32_near.specs.NearTexts.{AreNearTexts, IsNearText}
 use Rattle.bech32_near_edits.specs.NearEdits.{AreNearEdits}
 use Rattle.bech32_near_edits.specs.declared.edits.Edit.{Edit}
-use Rattle.bech32_decode.specs.Text.{HasHrp}
+use Rattle.bech32_decode.specs.Text.{HasHrp, IsText}
 use Rattle.bech32_decode.proofs.Grammar.{only-from_IsText}
 use Rattle.bech32_suggest.specs.Chance.{most_errors}
-use Rattle.bech32_suggest.specs.Suggestions.{AddsEach, AddsEdits, AddsEditsOfRead, AddsFound, AddsNear, AddsOne, AreFound, AreSuggestions, IsAddressUnder, IsTriedText, Suggested, near_bound, suggestion_of}
-use Rattle.bech32_suggest.specs.Typed.{unread_locations}
+use Rattle.bech32_suggest.specs.Suggestions.{AddsEach, AddsEdits, AddsEditsOfRead, AddsFound, AddsNear, AddsOne, AreFound, AreFoundIn, AreSuggestions, IsAddressUnder, IsTriedText, Suggested, near_bound, suggestion_of}
+use Rattle.bech32_suggest.specs.Typed.{as_read, unread_locations}
 
 -- ---- addresses
 
@@ -214,6 +214,12 @@ module _ (hrp typed : List ℕ) where
     once_found unread found h =
         once_of_read unread h.second found h.edits
         (once_all h.first h.second (map (λ m. m.1) h.by_bech32m.near) h.by_bech32m.adds (once_all [] h.first (map (λ m. m.1) h.by_bech32.near) h.by_bech32.adds tt))
+
+-- what is found for a typed text that was read is suggested
+pub suggested : {V E : Type 0} (typed hrp part data_part : List ℕ) (items : V → List Suggested) (r : Result V E) → length typed ≤ 91 → IsText (as_read typed) part data_part
+    → MatchResult r (λ v. AreFoundIn data_part typed hrp (items v)) (λ _. IsTriedText typed) → MatchResult r (λ v. AreSuggestions typed hrp (items v)) (λ _. IsTriedText typed)
+suggested typed hrp part data_part items (Ok v) short is found = inr (short, (part, data_part, is, found))
+suggested typed hrp part data_part items (Err e) short is tried = tried
 
 -- texts are tried for a typed one that has suggestions
 pub some_tried : (typed hrp : List ℕ) (one : Suggested) (others : List Suggested) → AreSuggestions typed hrp (one ∷ others) → IsTriedText typed

@@ -12,7 +12,8 @@ from_is : (n : ℕ) (o : Option ℕ) → is n o ≡ true → o ≡ Some n
 from_is n None h = let k : false ≡ true = h in absurd (cc k)
 from_is n (Some m) h = ap Some (eqb-true m n h)
 
--- a number of errors that is looked for in each of so many lengths from one on is looked for in this one
+-- a number of errors that is looked for at each of `count` lengths from `from` on is looked for at
+-- this one
 module _ (unread errors from count : ℕ) (same : (k : ℕ) → k < count → is errors (most_errors (from + k) unread) ≡ true) where
   at : (n : ℕ) → from ≤ n → n < from + count → most_errors n unread ≡ Some errors
   at n low high =

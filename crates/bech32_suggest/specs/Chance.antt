@@ -14,7 +14,7 @@ tried_within m errors =
 abbrev pub tried_by_edits : ℕ → ℕ
 tried_by_edits n = 2 * ((n - 1) + n + 32 * (n + 1))
 
--- how many are tried in all for n characters behind the separator, where so many of them cannot be
+-- how many are tried in all for n characters behind the separator, of which `unread` cannot be
 -- read: each of these may be any of 32; edits are tried only where all can be read
 abbrev pub tried : ℕ → ℕ → ℕ → ℕ
 tried n unread errors =

@@ -1,4 +1,4 @@
-//! "Did you mean": the addresses of a network that someone may have meant who typed a text.
+//! "Did you mean": the addresses of a network that someone who typed a text may have meant.
 //!
 //! Below it: `bech32_near`, `bech32_near_edits`.
 //! Standard: BIP-173; BIP-350.
@@ -13,4 +13,5 @@ mod typed;
 
 pub use self::kept::HasText;
 pub use self::mendings::{Mending, Suggestion};
-pub use self::suggestions::{suggest, suggest_in, validate_typed};
+pub use self::suggestions::{suggest, suggest_in, suggest_of_read, validate_typed};
+pub use self::typed::{MOST_TYPED, read_typed};

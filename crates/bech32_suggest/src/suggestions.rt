@@ -1,6 +1,6 @@
 //! The addresses that are suggested to someone who typed a text.
 
-ghost use Rattle.std.specs.Prelude.{◌≡◌, ◌<◌, ◌≤◌, ◌⊎◌, IfOk, MatchResult, Some, length, map, string_bytes};
+ghost use Rattle.std.specs.Prelude.{◌≡◌, ◌<◌, ◌≤◌, ◌⊎◌, IfOk, MatchOption, MatchResult, Some, length, map, string_bytes};
 ghost use Rattle.bech32_decode.specs.Text.{IsInGrammar, text_refusal};
 ghost use Rattle.bech32_hrp.specs.HrpBytes.{hrp_bytes};
 ghost use Rattle.bech32_suggest.specs.Chance.{most_errors};
@@ -11,27 +11,22 @@ use crate::chance::errors_for;
 use crate::kept::Wanted;
 use crate::mendings::Suggestion;
 use crate::tried::push_found;
-use crate::typed::{count_unreadable, put_read, unreadable_in};
+use crate::typed::{MOST_TYPED, count_unreadable, read_typed, unreadable_in};
 use bech32_checksum::Bech32m;
 use bech32_decode::{Reading, UncheckedHrpstringError};
 use bech32_hrp::Hrp;
 use bech32_near_edits::EditsError;
 use std::alloc::{AllocError, Allocator, Global};
 
-// The most characters of a text for which others are tried. An address has at most 90.
-const MOST_TYPED: usize = 91;
-
-// The addresses that are found for a typed text, with at most this many errors: `text` as it is
-// read.
+// The addresses that are found for a typed text that was read, with at most this many errors.
 fn found_in<A: Allocator + Copy>(
     alloc: &A,
     typed: &str,
-    text: &str,
     reading: &Reading<'_, Bech32m>,
     errors: usize,
     hrp: &Hrp,
 ) -> Result<Vec<Suggestion<String<A>>, A>, AllocError>
-    requires text { (text.now ≡ as_read typed.now) × (reading.now.text.now ≡ text.now) }
+    requires text { reading.now.text.now ≡ as_read typed.now }
     requires lengths { (length typed.now ≤ 91)
         × (most_errors (length reading.now.data_part.now) (length (unread_locations typed.now))
         ≡ Some errors) }
@@ -47,19 +42,18 @@ fn found_in<A: Allocator + Copy>(
         unread: unread.as_slice(),
         errors,
     };
-    push_found(alloc, text, reading, &wanted, &mut found)?;
+    push_found(alloc, reading, &wanted, &mut found)?;
     Ok(found)
 }
 
 // The same, where they may be none, since nothing is tried.
-fn found_of_read<A: Allocator + Copy>(
+fn found_for<A: Allocator + Copy>(
     alloc: &A,
     typed: &str,
-    text: &str,
     reading: &Reading<'_, Bech32m>,
     hrp: &Hrp,
 ) -> Result<Vec<Suggestion<String<A>>, A>, AllocError>
-    requires text { (text.now ≡ as_read typed.now) × (reading.now.text.now ≡ text.now) }
+    requires text { reading.now.text.now ≡ as_read typed.now }
     requires short { length typed.now ≤ 91 }
     ensures { MatchResult result
         (λ found. AreFoundIn reading.now.data_part.now typed.now (hrp_bytes hrp.now)
@@ -68,7 +62,7 @@ fn found_of_read<A: Allocator + Copy>(
 {
     let unread = count_unreadable(typed.as_bytes());
     match errors_for(reading.data_part.len(), unread) {
-        Some(errors) => found_in(alloc, typed, text, reading, errors, hrp),
+        Some(errors) => found_in(alloc, typed, reading, errors, hrp),
         None => Ok(Vec::new(*alloc)),
     }
 }
@@ -84,18 +78,37 @@ pub fn validate_typed(typed: &str) -> Result<(), UncheckedHrpstringError>
         (λ _. (91 < length typed.now) ⊎ IsInGrammar (as_read typed.now))
         (λ e. (length typed.now ≤ 91) × (text_refusal (as_read typed.now) ≡ Some e)) }
 {
-    if typed.len() > MOST_TYPED {
-        return Ok(());
-    }
     let mut buffer = [0u8; MOST_TYPED];
-    put_read(typed.as_bytes(), &mut buffer);
-    // A text in which `?` is read as `0` is UTF-8: what the call requires is proved.
-    let text = unsafe { str::from_utf8_unchecked(&buffer[..typed.len()]) };
-    Reading::<Bech32m>::new(text)?;
+    read_typed(typed, &mut buffer)?;
     Ok(())
 }
 
-/// The addresses that someone may have meant who typed a text, with memory from `alloc`;
+/// The addresses that someone may have meant by a text that [`read_typed`] read, as [`suggest`] has
+/// them, with memory from `alloc`.
+///
+/// # Errors
+///
+/// Out of memory, as of [`suggest`].
+pub fn suggest_of_read<A: Allocator + Copy>(
+    alloc: A,
+    typed: &str,
+    read: Option<Reading<'_, Bech32m>>,
+    hrp: &Hrp,
+) -> Result<Vec<Suggestion<String<A>>, A>, AllocError>
+    requires { MatchOption read (91 < length typed.now)
+        (λ r. (length typed.now ≤ 91) × (r.text.now ≡ as_read typed.now)) }
+    ensures { MatchResult result
+        (λ found. AreSuggestions typed.now (hrp_bytes hrp.now)
+        (map (λ s. (string_bytes s.text, (s.mending, s.place))) found.items))
+        (λ _. IsTriedText typed.now) }
+{
+    match read {
+        Some(reading) => found_for(&alloc, typed, &reading, hrp),
+        None => Ok(Vec::new(alloc)),
+    }
+}
+
+/// The addresses that someone who typed a text may have meant, with memory from `alloc`;
 /// [`suggest`] says more.
 ///
 /// # Errors
@@ -111,18 +124,12 @@ pub fn suggest_in<A: Allocator + Copy>(
         (map (λ s. (string_bytes s.text, (s.mending, s.place))) found.items))
         (λ e. IsSuggestRefusal typed.now e) }
 {
-    if typed.len() > MOST_TYPED {
-        return Ok(Vec::new(alloc));
-    }
     let mut buffer = [0u8; MOST_TYPED];
-    put_read(typed.as_bytes(), &mut buffer);
-    // A text in which `?` is read as `0` is UTF-8: what the call requires is proved.
-    let text = unsafe { str::from_utf8_unchecked(&buffer[..typed.len()]) };
-    let reading = Reading::<Bech32m>::new(text)?;
-    Ok(found_of_read(&alloc, typed, text, &reading, &hrp)?)
+    let read = read_typed(typed, &mut buffer)?;
+    Ok(suggest_of_read(alloc, typed, read, &hrp)?)
 }
 
-/// The segwit addresses of a network that someone may have meant who typed a text ("did you mean"):
+/// The segwit addresses of a network that someone who typed a text may have meant ("did you mean"):
 /// those that [`SegwitHrpstring::new`](bech32_decode::SegwitHrpstring::new) accepts and whose
 /// human-readable part is `hrp`, in either case. Each `?` in the text is a character that cannot be
 /// read; its letters may be of either case, but not of both.

@@ -1,7 +1,6 @@
 //! The texts that are tried.
 
-ghost use Rattle.std.specs.Prelude.{◌≡◌, ◌≤◌, None, IfOk, length, map, string_bytes};
-ghost use Rattle.bech32_decode.specs.Text.{text_refusal};
+ghost use Rattle.std.specs.Prelude.{◌≤◌, IfOk, length, map, string_bytes};
 ghost use Rattle.bech32_hrp.specs.HrpBytes.{hrp_bytes};
 ghost use Rattle.bech32_near.specs.NearTexts.{AreNearTexts};
 ghost use Rattle.bech32_suggest.specs.Suggestions.{AddsEdits, AddsFound, AddsNear, either_code, near_bound};
@@ -12,7 +11,7 @@ use bech32_checksum::{Bech32, Bech32m, Checksum};
 use bech32_correction::Mended;
 use bech32_decode::Reading;
 use bech32_near::nearest_of_read;
-use bech32_near_edits::{EditsError, near_edits_in};
+use bech32_near_edits::near_edits_of_read;
 use std::alloc::{AllocError, Allocator};
 
 // The texts near one that was read: by Bech32m, or by Bech32, whose generator is the same.
@@ -55,38 +54,32 @@ fn push_near<A: Allocator + Copy>(
     push_each(*alloc, wanted, near.as_slice(), found)
 }
 
-// Adds the addresses that one edit makes of a text in the grammar, by a checksum.
+// Adds the addresses that one edit makes of a text that was read, by a checksum.
 fn push_edits<Ck: Checksum, A: Allocator + Copy>(
     alloc: &A,
-    text: &str,
+    reading: &Reading<'_, Ck>,
     wanted: &Wanted<'_>,
     found: &mut Vec<Suggestion<String<A>>, A>,
 ) -> Result<(), AllocError>
-    requires { text_refusal text.now ≡ None }
-    ensures { IfOk result (λ _. AddsEdits Ck.code text.now
+    ensures { IfOk result (λ _. AddsEdits Ck.code reading.now.text.now
         (hrp_bytes wanted.now.hrp.now) wanted.now.typed.now
         (map (λ s. (string_bytes s.text, (s.mending, s.place))) found.old.items)
         (map (λ s. (string_bytes s.text, (s.mending, s.place))) found.new.items)) }
 {
-    match near_edits_in::<Ck, &A>(alloc, text) {
-        Ok(edited) => push_each(*alloc, wanted, edited.as_slice(), found),
-        Err(EditsError::Memory) => Err(AllocError),
-        Err(EditsError::Refused(_)) => unreachable!(),
-    }
+    let edited = near_edits_of_read::<Ck, &A>(alloc, reading)?;
+    push_each(*alloc, wanted, edited.as_slice(), found)
 }
 
-/// Adds all addresses that are tried for a typed text: `text` as it is read.
+/// Adds all addresses that are tried for a typed text that was read.
 pub(crate) fn push_found<A: Allocator + Copy>(
     alloc: &A,
-    text: &str,
     reading: &Reading<'_, Bech32m>,
     wanted: &Wanted<'_>,
     found: &mut Vec<Suggestion<String<A>>, A>,
 ) -> Result<(), AllocError>
-    requires text { reading.now.text.now ≡ text.now }
-    requires grammar { text_refusal text.now ≡ None }
-    requires lengths { (length text.now ≤ 1023) × (6 ≤ length reading.now.data_part.now) }
-    ensures { IfOk result (λ _. AddsFound text.now wanted.now.unread.now wanted.now.errors
+    requires { (length reading.now.text.now ≤ 1023) × (6 ≤ length reading.now.data_part.now) }
+    ensures { IfOk result (λ _. AddsFound
+        reading.now.text.now wanted.now.unread.now wanted.now.errors
         (hrp_bytes wanted.now.hrp.now) wanted.now.typed.now
         (map (λ s. (string_bytes s.text, (s.mending, s.place))) found.old.items)
         (map (λ s. (string_bytes s.text, (s.mending, s.place))) found.new.items)) }
@@ -96,6 +89,6 @@ pub(crate) fn push_found<A: Allocator + Copy>(
     if !wanted.unread.is_empty() {
         return Ok(());
     }
-    push_edits::<Bech32, A>(alloc, text, wanted, found)?;
-    push_edits::<Bech32m, A>(alloc, text, wanted, found)
+    push_edits::<Bech32, A>(alloc, &reading.by_bech32(), wanted, found)?;
+    push_edits::<Bech32m, A>(alloc, reading, wanted, found)
 }

@@ -1,9 +1,15 @@
 //! A typed text, as it is read.
 
-ghost use Rattle.std.specs.Prelude.{◌≡◌, ◌≤◌, IfOk, length, take};
+ghost use Rattle.std.specs.Prelude.{◌≡◌, ◌<◌, ◌≤◌, ◌⊎◌, IfOk, MatchOption, MatchResult, Some, length, take};
+ghost use Rattle.bech32_decode.specs.Text.{IsInGrammar, text_refusal};
 ghost use Rattle.bech32_suggest.specs.Typed.{typed_character, as_read, unread_locations};
 
+use bech32_checksum::Bech32m;
+use bech32_decode::{Reading, UncheckedHrpstringError};
 use std::alloc::{AllocError, Allocator};
+
+/// The most characters of a text for which others are tried. An address has at most 90.
+pub const MOST_TYPED: usize = 91;
 
 // A character as it is read: `?`, which stands for one that cannot be read, as `0`.
 #[inline]
@@ -13,8 +19,8 @@ fn read_of(c: u8) -> u8
     if c == b'?' { b'0' } else { c }
 }
 
-/// Puts a typed text, as it is read, at the front of a buffer.
-pub(crate) fn put_read(typed: &[u8], buffer: &mut [u8])
+// Puts a typed text, as it is read, at the front of a buffer.
+fn put_read(typed: &[u8], buffer: &mut [u8])
     requires { length typed.now ≤ length buffer.old }
     ensures front { take (length typed.now) buffer.new ≡ as_read typed.now }
     ensures size { length buffer.new ≡ length buffer.old }
@@ -22,6 +28,32 @@ pub(crate) fn put_read(typed: &[u8], buffer: &mut [u8])
     for i in 0..typed.len() {
         buffer[i] = read_of(typed[i]);
     }
+}
+
+/// Reads a typed text in a buffer, each `?` as `0`. None where it has more than 91 bytes: nothing
+/// is tried for it. It allocates nothing.
+///
+/// # Errors
+///
+/// That of [`Reading::new`] for the text with each `?` read as `0`, if it has at most 91 bytes.
+pub fn read_typed<'b>(
+    typed: &str,
+    buffer: &'b mut [u8; MOST_TYPED],
+) -> Result<Option<Reading<'b, Bech32m>>, UncheckedHrpstringError>
+    ensures said { MatchResult result
+        (λ _. (91 < length typed.now) ⊎ IsInGrammar (as_read typed.now))
+        (λ e. (length typed.now ≤ 91) × (text_refusal (as_read typed.now) ≡ Some e)) }
+    ensures read { IfOk result (λ read. MatchOption read (91 < length typed.now)
+        (λ r. (length typed.now ≤ 91) × (r.text.now ≡ as_read typed.now))) }
+{
+    if typed.len() > MOST_TYPED {
+        return Ok(None);
+    }
+    put_read(typed.as_bytes(), buffer);
+    // A text in which `?` is read as `0` is UTF-8: what the call requires is proved.
+    let text = unsafe { str::from_utf8_unchecked(&buffer[..typed.len()]) };
+    let reading = Reading::new(text)?;
+    Ok(Some(reading))
 }
 
 /// How many characters of a typed text cannot be read.

@@ -1,6 +1,5 @@
 use Rattle.std.specs.Prelude.{string_bytes}
-use Rattle.std.specs.Str.{IsAscii}
-use Rattle.std.proofs.Common.{◌∷◌, [], subst, sym}
+use Rattle.std.proofs.Common.{◌∷◌, []}
 use Rattle.std.proofs.lemmas.Str.Ascii.{IsAscii-nil}
 use Rattle.bech32_near_edits.proofs.Made.{ascii_text, left_out_made, one_ascii, put_in_made, spelled_by, swap_made, two_ascii}
 use Rattle.bech32_near_edits.proofs.texts.edited_text.Goals as goal
@@ -8,17 +7,17 @@ use Rattle.bech32_near_edits.proofs.texts.edited_text.Goals as goal
 pub text_with-requires-clause-ascii : goal.text_with-requires-clause-ascii
 text_with-requires-clause-ascii g c =
     let (hrp, data_part, new, is, e) = c.requires in
-    (subst IsAscii (sym c.as_bytes-bytes.ensures.value) (ascii_text c.args.text.now hrp data_part is), two_ascii _ _ c.to_char.ensures.ascii c.to_char-in-Swapped.ensures.ascii)
+    (ascii_text c.args.text.now hrp data_part is, two_ascii _ _ c.to_char.ensures.ascii c.to_char-in-Swapped.ensures.ascii)
 
 pub text_with-requires-in-LeftOut-clause-ascii : goal.text_with-requires-in-LeftOut-clause-ascii
 text_with-requires-in-LeftOut-clause-ascii g c =
     let (hrp, data_part, new, is, e) = c.requires in
-    (subst IsAscii (sym c.as_bytes-bytes.ensures.value) (ascii_text c.args.text.now hrp data_part is), IsAscii-nil)
+    (ascii_text c.args.text.now hrp data_part is, IsAscii-nil)
 
 pub text_with-requires-in-PutIn-clause-ascii : goal.text_with-requires-in-PutIn-clause-ascii
 text_with-requires-in-PutIn-clause-ascii g c =
     let (hrp, data_part, new, is, e) = c.requires in
-    (subst IsAscii (sym c.as_bytes-bytes.ensures.value) (ascii_text c.args.text.now hrp data_part is), one_ascii _ c.to_char-in-PutIn.ensures.ascii)
+    (ascii_text c.args.text.now hrp data_part is, one_ascii _ c.to_char-in-PutIn.ensures.ascii)
 
 pub returns-in-Swapped : goal.returns-in-Swapped
 returns-in-Swapped g c =
@@ -27,7 +26,7 @@ returns-in-Swapped g c =
     spelled_by string_bytes c.text_with.result _ edit text
     (λ hrp data_part new is e.
     swap_made edit text hrp data_part new is e c.in-Swapped.higher c.in-Swapped.lower c.in-Swapped.is _ (λ i. c.to_char.ensures.value i ∷ c.to_char-in-Swapped.ensures.value i ∷ []))
-    (rw c.as_bytes-bytes.ensures.value at c.text_with.ensures)
+    c.text_with.ensures
 
 pub returns-in-LeftOut : goal.returns-in-LeftOut
 returns-in-LeftOut g c =
@@ -35,7 +34,7 @@ returns-in-LeftOut g c =
     let edit = c.args.edit in
     spelled_by string_bytes c.text_with-in-LeftOut.result _ edit text
     (λ hrp data_part new is e. left_out_made edit text hrp data_part new is e c.in-LeftOut.field-0 c.in-LeftOut.is)
-    (rw c.as_bytes-bytes.ensures.value at c.text_with-in-LeftOut.ensures)
+    c.text_with-in-LeftOut.ensures
 
 pub returns-in-PutIn : goal.returns-in-PutIn
 returns-in-PutIn g c =
@@ -44,4 +43,4 @@ returns-in-PutIn g c =
     spelled_by string_bytes c.text_with-in-PutIn.result _ edit text
     (λ hrp data_part new is e.
     put_in_made edit text hrp data_part new is e c.in-PutIn.element c.in-PutIn.is _ (λ i. c.to_char-in-PutIn.ensures.value i ∷ []))
-    (rw c.as_bytes-bytes.ensures.value at c.text_with-in-PutIn.ensures)
+    c.text_with-in-PutIn.ensures

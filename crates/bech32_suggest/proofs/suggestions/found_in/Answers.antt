@@ -1,18 +1,10 @@
 use Rattle.std.proofs.Common.{rules}
-use Rattle.bech32_decode.specs.Text.{IsText}
-use Rattle.bech32_decode.proofs.Grammar.{text_refusal-none}
 use Rattle.bech32_hrp.specs.Hrp.{lowered}
 use Rattle.bech32_hrp.specs.HrpBytes.{hrp_bytes}
 use Rattle.bech32_suggest.specs.Suggestions.{AddsFound}
 use Rattle.bech32_suggest.specs.Typed.{as_read, unread_locations}
 use Rattle.bech32_suggest.proofs.Adding.{all_found, each_found, once_found}
 use Rattle.bech32_suggest.proofs.suggestions.found_in.Goals as goal
-
-pub push_found-requires-clause-grammar : goal.push_found-requires-clause-grammar
-push_found-requires-clause-grammar g c =
-    let r = c.args.reading.now in
-    let grammar : IsText c.args.text.now r.hrp.now r.data_part.now = rw c.requires.text.1 at r.is_reading.grammar in
-    text_refusal-none c.args.text.now c.utf8.text (r.hrp.now, r.data_part.now, grammar)
 
 pub returns : goal.returns
 returns g c =

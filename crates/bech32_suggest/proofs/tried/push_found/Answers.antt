@@ -11,15 +11,16 @@ returns-then-not-is_empty g c =
     record {
       first = _;
       second = _;
-      by_bech32 = rw c.requires.text at c.in_ok-push_near.ensures;
-      by_bech32m = rw c.requires.text at c.in_ok-push_near-2.ensures;
-      edits = edits_unread (hrp_bytes w.hrp.now) w.typed.now c.args.text.now w.unread.now _ some;
+      by_bech32 = c.in_ok-push_near.ensures;
+      by_bech32m = c.in_ok-push_near-2.ensures;
+      edits = edits_unread (hrp_bytes w.hrp.now) w.typed.now c.args.reading.now.text.now w.unread.now _ some;
     }
 
 pub returns : goal.returns
 returns g c =
     let w = c.args.wanted.now in
     let none : length w.unread.now ≡ 0 = eqb-true (length w.unread.now) 0 (sym c.is_empty.ensures ∙ c.if-not-is_empty.false) in
-    adds_found (hrp_bytes w.hrp.now) w.typed.now c.args.text.now w.unread.now w.errors _ _ _ _ c.push_edits-2.result
-    (rw c.requires.text at c.in_ok-push_near.ensures) (rw c.requires.text at c.in_ok-push_near-2.ensures)
-    (if_ok c.push_edits-2.result (λ h. edits_read (hrp_bytes w.hrp.now) w.typed.now c.args.text.now w.unread.now _ _ _ none c.in_ok-push_edits.ensures h) c.push_edits-2.ensures)
+    adds_found (hrp_bytes w.hrp.now) w.typed.now c.args.reading.now.text.now w.unread.now w.errors _ _ _ _ c.push_edits-2.result c.in_ok-push_near.ensures c.in_ok-push_near-2.ensures
+    (if_ok c.push_edits-2.result
+    (λ h. edits_read (hrp_bytes w.hrp.now) w.typed.now c.args.reading.now.text.now w.unread.now _ _ _ none (rw c.by_bech32.ensures.text at c.in_ok-push_edits.ensures) h)
+    c.push_edits-2.ensures)
