@@ -65,7 +65,7 @@ decoded-sizes text hrp bytes h =
     let size = mapped-size _ (take (length h.data_part - 6) h.data_part) bytes h.bytes_are in
     (parts.0, omega (arith, parts.1, size, length-take (length h.data_part - 6) h.data_part))
 
--- the reply to one of so many bytes
+-- how long the reply to a text of these parts is, at most
 pub parts-reply : (hrp bytes : List ℕ) → length (codes "ok " ++ (lowered hrp ++ (32 ∷ hex_of bytes))) ≤ 5 + length hrp + 2 * length bytes
 parts-reply hrp bytes =
     omega (arith, length-hex_of bytes, length-append (codes "ok ") (lowered hrp ++ (32 ∷ hex_of bytes)), length-append (lowered hrp) (32 ∷ hex_of bytes), length-map hrp to_ascii_lowercase)

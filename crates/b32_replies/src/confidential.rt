@@ -1,7 +1,6 @@
 //! Answers `liquid-encode` and `liquid-decode`.
 
 ghost use Rattle.std.specs.Prelude.{◌≡◌, ◌+◌, ◌*◌, ◌≤◌, ◌++◌, ◌∷◌, ℕ, List, codes, length, vec_len, vec_capacity, MatchResult, OnOk};
-ghost use Rattle.bech32_hrp.specs.HrpBytes.{hrp_bytes};
 ghost use Rattle.blech32.specs.Words.{blech32_code};
 ghost use Rattle.liquid.specs.Confidential.{IsLowerConfidential};
 ghost use Rattle.liquid.specs.Writing.{IsVersionAndLength};
@@ -15,7 +14,7 @@ use crate::hex_word::{append_hex, put_bytes_of_word};
 use crate::part_word::part_of_word;
 use crate::refusal::Refusal;
 use crate::version_word::version_of_word;
-use bech32::{Fe32, Hrp};
+use bech32::Fe32;
 use line_program::{append, append_number};
 use liquid::{KEY_LENGTH, decode, put_address, validate};
 
@@ -41,17 +40,18 @@ fn key_of_word(word: &str) -> Result<[u8; 33], Refusal>
 
 // Adds `ok`, a space and the confidential address of a human-readable part, a version, a blinding
 // key and a program.
-fn append_address(out: &mut Vec<u8>, hrp: &Hrp, version: Fe32, key: &[u8; 33], program: &[u8])
+fn append_address(out: &mut Vec<u8>, hrp: &[u8], version: Fe32, key: &[u8; 33], program: &[u8])
+    requires short { length hrp.now ≤ 83 }
     requires lawful { IsVersionAndLength version (length program.now) }
     requires room { vec_len out.old + 205 ≤ vec_capacity out.old }
     ensures text { (text : List ℕ)
-        × IsLowerConfidential blech32_code (hrp_bytes hrp.now) version key.now program.now text
+        × IsLowerConfidential blech32_code hrp.now version key.now program.now text
         × (out.new.items ≡ out.old.items ++ (codes "ok " ++ text)) }
     ensures room { vec_len out.new + 1 ≤ vec_capacity out.new }
     ensures capacity { vec_capacity out.old ≤ vec_capacity out.new }
 {
     let mut text = [0u8; MOST];
-    let size = put_address(hrp.as_bytes(), version, key, program, &mut text);
+    let size = put_address(hrp, version, key, program, &mut text);
     append(out, b"ok ");
     append(out, &text[..size]);
 }
@@ -78,7 +78,7 @@ pub fn liquid_encode(words: (&str, (&str, (&str, &str))), out: &mut Vec<u8>) -> 
     if let Err(e) = validate(version, size) {
         return Err(Refusal::LiquidEncode(e));
     }
-    append_address(out, &hrp, version, &key, &room[..size]);
+    append_address(out, hrp, version, &key, &room[..size]);
     Ok(())
 }
 

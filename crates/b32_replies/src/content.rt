@@ -58,7 +58,8 @@ fn decode_content<Ck: Checksum, A: Allocator + Copy>(
     Ok(())
 }
 
-/// The same by the checksum of this name.
+/// Adds the human-readable part and the content of a text by the checksum of this name, or leaves
+/// all as it was.
 pub fn decode_by<A: Allocator + Copy>(
     alloc: A,
     checksum: ChecksumName,

@@ -142,7 +142,7 @@ pub fn encode_long<A: Allocator + Copy>(
     let (checksum, (hrp, hex)) = asked;
     let values = bytes_of_word(alloc, hex)?;
     let hrp = part_of_word(hrp)?;
-    let text = written(alloc, kind, checksum, hrp, values.as_slice())?;
+    let text = written(alloc, kind, checksum, Hrp::of_bytes(hrp), values.as_slice())?;
     match append_said(out, text.as_bytes()) {
         Ok(()) => Ok(()),
         Err(_) => Err(no_memory(kind)),

@@ -4,7 +4,6 @@ ghost use Rattle.std.specs.Prelude.{◌≡◌, ◌+◌, ◌≤◌, ◌∷◌, �
 ghost use Rattle.bech32_bits.specs.Bits.{to_fes};
 ghost use Rattle.bech32_checksum.specs.Encoded.{IsEncodedText};
 ghost use Rattle.bech32_decode.specs.Segwit.{segwit_code};
-ghost use Rattle.bech32_hrp.specs.HrpBytes.{hrp_bytes};
 ghost use Rattle.bech32_segwit.specs.SegwitEncoding.{HasAddress, IsSegwitEncodeRefusal, address_length};
 ghost use Rattle.bech32_segwit.specs.declared.error.EncodeError.{EncodeError};
 ghost use Rattle.b32_replies.specs.Hex.{bytes_of};
@@ -17,7 +16,7 @@ use crate::hex_word::{bytes_of_word, put_bytes_of_word};
 use crate::part_word::part_of_word;
 use crate::refusal::Refusal;
 use crate::version_word::version_of_word;
-use bech32::{Bech32, Bech32m, Fe32, Hrp, segwit};
+use bech32::{Bech32, Bech32m, Fe32, segwit};
 use line_program::append;
 use std::alloc::Allocator;
 
@@ -25,26 +24,26 @@ use std::alloc::Allocator;
 const ROOM: usize = 40;
 
 /// The length of the address of a program, where there is one.
-fn length_of(hrp: &Hrp, version: Fe32, program: &[u8]) -> Result<usize, Refusal>
+fn length_of(hrp: &[u8], version: Fe32, program: &[u8]) -> Result<usize, Refusal>
     ensures { MatchResult result
-        (λ n. HasAddress (hrp_bytes hrp.now) version program.now
-        × (n ≡ address_length (hrp_bytes hrp.now) program.now) × (n ≤ 90))
+        (λ n. HasAddress hrp.now version program.now
+        × (n ≡ address_length hrp.now program.now) × (n ≤ 90))
         (λ refusal. (e : EncodeError) × (refusal ≡ Refusal.SegwitEncode e)
-        × IsSegwitEncodeRefusal (hrp_bytes hrp.now) version program.now e) }
+        × IsSegwitEncodeRefusal hrp.now version program.now e) }
 {
-    match segwit::address_length_of_part(hrp.as_bytes(), version, program) {
+    match segwit::address_length_of_part(hrp, version, program) {
         Ok(count) => Ok(count),
         Err(e) => Err(Refusal::SegwitEncode(e)),
     }
 }
 
 /// Adds the text of a program by the checksum of its version, which has this length.
-fn append_by_version(out: &mut Vec<u8>, hrp: &Hrp, version: Fe32, program: &[u8], count: usize)
-    requires size { count ≡ address_length (hrp_bytes hrp.now) program.now }
+fn append_by_version(out: &mut Vec<u8>, hrp: &[u8], version: Fe32, program: &[u8], count: usize)
+    requires size { count ≡ address_length hrp.now program.now }
     requires short { count ≤ 90 }
     requires room { vec_len out.old + count ≤ vec_capacity out.old }
     ensures text { (text : List ℕ)
-        × IsEncodedText (segwit_code version) (hrp_bytes hrp.now)
+        × IsEncodedText (segwit_code version) hrp.now
         (version ∷ to_fes program.now) text
         × (out.new.items ≡ out.old.items ++ text) }
     ensures capacity { vec_capacity out.old ≤ vec_capacity out.new }
@@ -71,9 +70,9 @@ fn append_address(
     ensures capacity { vec_capacity out.old ≤ vec_capacity out.new }
 {
     let hrp = part_of_word(hrp)?;
-    let count = length_of(&hrp, version, program)?;
+    let count = length_of(hrp, version, program)?;
     append(out, b"ok ");
-    append_by_version(out, &hrp, version, program, count);
+    append_by_version(out, hrp, version, program, count);
     Ok(())
 }
 

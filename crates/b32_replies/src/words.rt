@@ -14,7 +14,7 @@ pub fn two_words(text: &str) -> Option<(&str, &str)>
     Some((first, second))
 }
 
-/// The same of three.
+/// The three words of a text, where it has three, and none is empty.
 pub fn three_words(text: &str) -> Option<(&str, (&str, &str))>
     ensures { Reads (λ r. (r.0.now, (r.1.0.now, r.1.1.now))) (three_of (words text.now)) result }
 {
@@ -23,7 +23,7 @@ pub fn three_words(text: &str) -> Option<(&str, (&str, &str))>
     Some((first, others))
 }
 
-/// The same of four.
+/// The four words of a text, where it has four, and none is empty.
 pub fn four_words(text: &str) -> Option<(&str, (&str, (&str, &str)))>
     ensures { Reads (λ r. (r.0.now, (r.1.0.now, (r.1.1.0.now, r.1.1.1.now))))
         (four_of (words text.now)) result }

@@ -1,14 +1,11 @@
-use Rattle.std.proofs.Common.{◌≤◌, ◌++◌, ◌∙◌, ℕ, List, ap, arith, codes, length, length-append, take}
-use Rattle.bech32_hrp.proofs.HrpParts.{length-hrp_bytes}
-use Rattle.bech32_hrp.specs.HrpBytes.{hrp_bytes}
+use Rattle.std.proofs.Common.{◌++◌, ◌∙◌, ℕ, List, ap, arith, codes, length, length-append, take}
 use Rattle.line_program.proofs.Pieces.{two-pieces}
 use Rattle.b32_replies.proofs.ConfidentialReplies.{address-size, put-front}
 use Rattle.b32_replies.proofs.confidential.append_address.Goals as goal
 
 pub put_address-size-requires-clause-room : goal.put_address-size-requires-clause-room
 put_address-size-requires-clause-room c =
-    let few : length (hrp_bytes c.args.hrp.now) ≤ 83 = omega (arith, length-hrp_bytes c.args.hrp.now, c.args.hrp.now.size_fits) in
-    rw c.as_bytes.ensures (address-size (hrp_bytes c.args.hrp.now) c.args.version (length c.args.program.now) few c.requires.lawful)
+    address-size c.args.hrp.now c.args.version (length c.args.program.now) c.requires.short c.requires.lawful
 
 pub append-requires-2 : goal.append-requires-2
 append-requires-2 c =
@@ -30,7 +27,7 @@ returns-clause-text c =
     let (written, is, put) = c.put_address-size.ensures in
     let front = put-front written _ _ _ put in (
       written,
-      rw c.as_bytes.ensures at is,
+      is,
       two-pieces c.args.out.now.items (codes "ok ") written _ _ c.append.ensures.items (c.append-2.ensures.items ∙ ap (λ (t : List ℕ). c.append.new.out.items ++ t) front),
     )
 

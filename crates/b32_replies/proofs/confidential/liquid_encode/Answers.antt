@@ -50,3 +50,6 @@ returns-clause-answer c =
           (rw (c.in_ok-hrp.ensures.1, there fits) at is),
       added,
     )
+
+pub append_address-requires-clause-short : goal.append_address-requires-clause-short
+append_address-requires-clause-short c = c.in_ok-hrp.ensures.2.not_long

@@ -22,7 +22,7 @@ returns-in_err-text-clause-answer g c =
     let code = code_of_long c.args.asked.0 in
     let hrp = c.args.asked.1.0.now in
     let values = c.in_ok-values.values.items in
-    let refusal : IsNotWritten c.args.kind code hrp values c.in_err-text.field-0.0 = rw (c.as_slice.ensures.value, c.in_ok-hrp.ensures.1) at c.in_err-text.ensures in
+    let refusal : IsNotWritten c.args.kind code hrp values c.in_err-text.field-0.0 = rw (c.as_slice.ensures.value, c.of_bytes.ensures ∙ c.in_ok-hrp.ensures.1) at c.in_err-text.ensures in
     rw p.1 (rw p.2 (long-refused c.args.kind code hrp c.args.asked.1.1.now values c.in_ok-values.ensures c.in_ok-hrp.ensures.0 c.in_err-text.field-0.0 refusal, refl))
 
 pub returns-in-Ok-clause-answer : goal.returns-in-Ok-clause-answer
@@ -31,7 +31,7 @@ returns-in-Ok-clause-answer g c =
     let hrp = c.args.asked.1.0.now in
     let values = c.in_ok-values.values.items in
     let text = string_bytes c.in_ok-text.text in
-    let is : IsLongWritten c.args.kind code hrp values text = rw (c.as_slice.ensures.value, c.in_ok-hrp.ensures.1) at c.in_ok-text.ensures in (
+    let is : IsLongWritten c.args.kind code hrp values text = rw (c.as_slice.ensures.value, c.of_bytes.ensures ∙ c.in_ok-hrp.ensures.1) at c.in_ok-text.ensures in (
       codes "ok " ++ text,
       long-text c.args.kind code hrp c.args.asked.1.1.now values c.in_ok-values.ensures c.in_ok-hrp.ensures.0 text is,
       c.in-Ok.ensures.items ∙ ap (λ (t : List ℕ). c.args.out.now.items ++ (codes "ok " ++ t)) c.as_bytes.ensures.value,
@@ -43,7 +43,7 @@ returns-clause-answer g c =
     let hrp = c.args.asked.1.0.now in
     let values = c.in_ok-values.values.items in
     let text = string_bytes c.in_ok-text.text in
-    let is : IsLongWritten c.args.kind code hrp values text = rw (c.as_slice.ensures.value, c.in_ok-hrp.ensures.1) at c.in_ok-text.ensures in
+    let is : IsLongWritten c.args.kind code hrp values text = rw (c.as_slice.ensures.value, c.of_bytes.ensures ∙ c.in_ok-hrp.ensures.1) at c.in_ok-text.ensures in
     rw c.no_memory.ensures (
       long-refused c.args.kind code hrp c.args.asked.1.1.now values c.in_ok-values.ensures c.in_ok-hrp.ensures.0 (memory_refusal c.args.kind) (not-written c.args.kind code hrp values text is),
       c.in-Err.ensures.items,

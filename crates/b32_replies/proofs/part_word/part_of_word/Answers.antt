@@ -1,8 +1,8 @@
-use Rattle.std.proofs.Common.{refl}
+use Rattle.bech32_hrp.proofs.HrpTexts.{hrp_refusal-none}
 use Rattle.b32_replies.proofs.part_word.part_of_word.Goals as goal
 
-pub returns-in-Ok : goal.returns-in-Ok
-returns-in-Ok c = c.in-Ok.ensures.outcome
-
-pub returns-in-Err : goal.returns-in-Err
-returns-in-Err c = (c.in-Err.e, refl, c.in-Err.ensures.outcome)
+pub returns-then-is_part : goal.returns-then-is_part
+returns-then-is_part c =
+    let part = c.is_part.ensures.0 c.if-is_part.true in
+    let same = c.as_bytes-part.ensures.value in
+    (rw same at (hrp_refusal-none c.as_bytes-part.result.now part), same, part)
