@@ -44,17 +44,28 @@ fn same<T: PartialEq + Debug>(rt: &impl Abort, got: &T, want: &T) {
     assert_eq!(rt; got, want);
 }
 
+// Whether a buffer is as it was, but for this many bytes at its front.
+fn is_as_before(buffer: &[u8], count: usize) -> bool {
+    buffer.iter().skip(count).all(|b| *b == BEFORE)
+}
+
+// Whether the bytes stand at the front of the buffer, and behind them it is as it was.
+fn has_front(buffer: &[u8], bytes: &[u8]) -> bool {
+    buffer.starts_with(bytes) && is_as_before(buffer, bytes.len())
+}
+
 // The bytes stand at the front of the buffer, and behind them it is as it was.
 fn holds(rt: &impl Abort, buffer: &[u8], count: usize, bytes: &[u8]) {
-    same(rt, &count, &bytes.len());
-    assert!(rt; buffer.starts_with(bytes));
-    assert!(rt; buffer.iter().skip(count).all(|b| *b == BEFORE));
+    same(rt, &(count, has_front(buffer, bytes)), &(bytes.len(), true));
 }
 
 // The buffer and its length are as they were.
 fn is_untouched(rt: &impl Abort, buffer: &[u8], count: usize) {
-    same(rt, &count, &LENGTH_BEFORE);
-    assert!(rt; buffer.iter().all(|b| *b == BEFORE));
+    same(
+        rt,
+        &(count, is_as_before(buffer, 0)),
+        &(LENGTH_BEFORE, true),
+    );
 }
 
 // Encodes into a buffer, which then holds the text.
@@ -84,7 +95,7 @@ fn encodes(rt: &impl Abort, alloc: Global, row: (u32, &[u8], &[u8]), want: &[u8]
 
 #[test]
 fn encodes_known_texts(rt: HostRuntime) {
-    let rows: [(u32, &[u8], &[u8], &[u8]); 5] = [
+    const ROWS: &[(u32, &[u8], &[u8], &[u8])] = &[
         (1, b"a", b"", b"a12uel5l"),
         (2, b"A", b"", b"a1lqfn3a"),
         (2, b"a", b"\x88\0\0", b"a13qqqq9qz88s"),
@@ -101,7 +112,7 @@ fn encodes_known_texts(rt: HostRuntime) {
             b"test1lu08d6qejxtdg4y5r3zarvary0c5xw7kmz4lky",
         ),
     ];
-    for (checksum, hrp, bytes, want) in rows {
+    for &(checksum, hrp, bytes, want) in ROWS {
         encodes(&rt, rt.alloc(), (checksum, hrp, bytes), want);
     }
 }
@@ -123,7 +134,7 @@ fn encodes_up_to_the_code_length(rt: HostRuntime) {
 
 #[test]
 fn refuses_to_encode(rt: HostRuntime) {
-    let rows: [(u32, &[u8], u32); 9] = [
+    const ROWS: &[(u32, &[u8], u32)] = &[
         (0, b"", 4),
         (5, b"\xff", 4),
         (u32::MAX, b"a", 4),
@@ -134,7 +145,7 @@ fn refuses_to_encode(rt: HostRuntime) {
         (1, b"a b", 14),
         (2, b"aB", 15),
     ];
-    for (checksum, hrp, want) in rows {
+    for &(checksum, hrp, want) in ROWS {
         puts_nothing(&rt, (checksum, hrp, b""), &mut [BEFORE; 128], want);
     }
 }
@@ -194,7 +205,7 @@ fn is_checked(rt: &impl Abort, checksum: u32, text: &[u8], length: usize) {
 
 #[test]
 fn decodes_known_texts(rt: HostRuntime) {
-    let rows: [(&[u8], u32, &[u8], &[u8]); 6] = [
+    const ROWS: &[(&[u8], u32, &[u8], &[u8])] = &[
         (b"A12UEL5L", 1, b"A", b""),
         (b"a1lqfn3a", 2, b"a", b""),
         (b"?1v759aa", 2, b"?", b""),
@@ -212,7 +223,7 @@ fn decodes_known_texts(rt: HostRuntime) {
             &BYTES,
         ),
     ];
-    for (text, checksum, part, found) in rows {
+    for &(text, checksum, part, found) in ROWS {
         decodes(&rt, rt.alloc(), text, (part, found));
         is_checked(&rt, checksum, text, part.len());
     }
@@ -220,7 +231,7 @@ fn decodes_known_texts(rt: HostRuntime) {
 
 #[test]
 fn refuses_to_decode(rt: HostRuntime) {
-    let rows: [(&[u8], u32); 11] = [
+    const ROWS: &[(&[u8], u32)] = &[
         (b"\xff", 2),
         (b"1qqqqqq", 11),
         (
@@ -236,7 +247,7 @@ fn refuses_to_decode(rt: HostRuntime) {
         (b"a1", 32),
         (b"b12uel5l", 33),
     ];
-    for (text, want) in rows {
+    for &(text, want) in ROWS {
         puts_no_parts(&rt, text, &mut [BEFORE; 83], &mut [BEFORE; 634], want);
         same(&rt, &checked(1, text), &unchecked(want));
         same(&rt, &checked(2, text), &unchecked(want));
@@ -256,7 +267,8 @@ fn texts_above_the_code_length(rt: HostRuntime) {
 #[test]
 fn decodes_into_small_buffers(rt: HostRuntime) {
     let text = b"test1lu08d6qejxtdg4y5r3zarvary0c5xw7kmz4lky";
-    for (hrp_room, room) in [(3usize, 20usize), (4, 19), (0, 0)] {
+    const ROOMS: &[(usize, usize)] = &[(3, 20), (4, 19), (0, 0)];
+    for &(hrp_room, room) in ROOMS {
         let (mut hrp, mut bytes) = ([BEFORE; 4], [BEFORE; 20]);
         let (hrp, _) = hrp.split_at_mut(hrp_room.min(4));
         let (bytes, _) = bytes.split_at_mut(room.min(20));
@@ -317,7 +329,7 @@ fn goes_around(rt: &impl Abort, alloc: Global, text: &[u8], row: (&[u8], u32, &[
 
 #[test]
 fn known_addresses(rt: HostRuntime) {
-    let rows: [(&[u8], &[u8], u32, &[u8]); 3] = [
+    const ROWS: &[(&[u8], &[u8], u32, &[u8])] = &[
         (
             b"BC1QW508D6QEJXTDG4Y5R3ZARVARY0C5XW7KV8F3T4",
             b"BC",
@@ -332,7 +344,7 @@ fn known_addresses(rt: HostRuntime) {
         ),
         (b"BC1SW50QGDZ25J", b"BC", 16, b"\x75\x1e"),
     ];
-    for (text, part, version, program) in rows {
+    for &(text, part, version, program) in ROWS {
         goes_around(&rt, rt.alloc(), text, (part, version, program));
     }
 }
@@ -340,7 +352,7 @@ fn known_addresses(rt: HostRuntime) {
 #[test]
 fn refuses_addresses(rt: HostRuntime) {
     // Of BIP-173 and BIP-350.
-    let rows: [(&[u8], u32); 15] = [
+    const ROWS: &[(&[u8], u32)] = &[
         (b"\xff", 2),
         (b"1pzry9x0s0muk", 11),
         (
@@ -381,7 +393,7 @@ fn refuses_addresses(rt: HostRuntime) {
         (b"BC1QR508D6QEJXTDG4Y5R3ZARVARYV98GJ9P", 48),
         (b"BC1SW50QGDZ25K", 33),
     ];
-    for (text, want) in rows {
+    for &(text, want) in ROWS {
         puts_no_program(&rt, text, &mut [BEFORE; 83], &mut [BEFORE; 40], want);
     }
 }
@@ -395,7 +407,8 @@ fn reads_addresses_into_small_buffers(rt: HostRuntime) {
         (&mut [BEFORE; 2], &mut [BEFORE; 20]),
         (b"bc", 0, &PROGRAM),
     );
-    for (hrp_room, room) in [(1usize, 20usize), (2, 19), (0, 0)] {
+    const ROOMS: &[(usize, usize)] = &[(1, 20), (2, 19), (0, 0)];
+    for &(hrp_room, room) in ROOMS {
         let (mut hrp, mut program) = ([BEFORE; 2], [BEFORE; 20]);
         let (hrp, _) = hrp.split_at_mut(hrp_room.min(2));
         let (program, _) = program.split_at_mut(room.min(20));
@@ -405,7 +418,7 @@ fn reads_addresses_into_small_buffers(rt: HostRuntime) {
 
 #[test]
 fn refuses_to_write_addresses(rt: HostRuntime) {
-    let rows: [(&[u8], u32, usize, u32); 11] = [
+    const ROWS: &[(&[u8], u32, usize, u32)] = &[
         (b"\xff", 32, 1, 4),
         (b"bc", u32::MAX, 20, 4),
         (b"\xff", 17, 1, 2),
@@ -419,7 +432,7 @@ fn refuses_to_write_addresses(rt: HostRuntime) {
         (b"anhrpthatis19charsx", 1, 40, 53),
     ];
     let bytes = [0u8; 41];
-    for (hrp, version, size, want) in rows {
+    for &(hrp, version, size, want) in ROWS {
         let (program, _) = bytes.split_at(size.min(41));
         puts_no_address(&rt, (hrp, version, program), &mut [BEFORE; 90], want);
     }
@@ -442,7 +455,7 @@ fn fault(checksum: u32, text: &[u8]) -> (u32, usize) {
 #[test]
 fn places_of_faults(rt: HostRuntime) {
     // Texts of BIP-173, and some with characters of two bytes.
-    let rows: [(u32, &[u8], (u32, usize)); 13] = [
+    const ROWS: &[(u32, &[u8], (u32, usize))] = &[
         (0, b"x1b4n0q5v", (4, LENGTH_BEFORE)),
         (1, b"x1\xff", (2, LENGTH_BEFORE)),
         (1, b"A12UEL5L", (0, LENGTH_BEFORE)),
@@ -461,7 +474,7 @@ fn places_of_faults(rt: HostRuntime) {
         (1, b"pzry9x0s0muk", (23, 12)),
         (2, b"in1muywd", (32, 8)),
     ];
-    for (checksum, text, want) in rows {
+    for &(checksum, text, want) in ROWS {
         same(&rt, &fault(checksum, text), &want);
     }
 }
@@ -477,18 +490,18 @@ fn residue(checksum: u32, values: &[u8]) -> (u32, u32) {
 fn remainders_of_right_texts(rt: HostRuntime) {
     // The elements of `a` as a human-readable part, and of what stands behind the separator of
     // `a12uel5l` and of `a1lqfn3a`.
-    let rows: [(u32, &[u8], u32); 5] = [
+    const ROWS: &[(u32, &[u8], u32)] = &[
         (1, &[3, 0, 1, 10, 28, 25, 31, 20, 31], 1),
         (2, &[3, 0, 1, 31, 0, 9, 19, 17, 29], 0x2bc830a3),
         (2, &[3, 0, 1, 10, 28, 25, 31, 20, 31], 1),
         (1, &[], 1),
         (1, &[31], 63),
     ];
-    for (checksum, values, want) in rows {
+    for &(checksum, values, want) in ROWS {
         same(&rt, &residue(checksum, values), &(0, want));
     }
-    let refused: [(u32, &[u8]); 4] = [(0, &[]), (3, &[1]), (1, &[0, 32]), (2, &[255, 1])];
-    for (checksum, values) in refused {
+    const REFUSED: &[(u32, &[u8])] = &[(0, &[]), (3, &[1]), (1, &[0, 32]), (2, &[255, 1])];
+    for &(checksum, values) in REFUSED {
         same(&rt, &residue(checksum, values), &(4, u32::MAX));
     }
 }
@@ -538,23 +551,25 @@ fn corrected(
 
 // It refuses by this number, and nothing is written.
 fn is_refused(rt: &impl Abort, got: &Outcome, number: u32) {
-    same(rt, &got.number, &number);
-    same(rt, &got.locations, &[LENGTH_BEFORE; 4]);
+    let found = (got.number, got.locations);
+    same(rt, &found, &(number, [LENGTH_BEFORE; 4]));
     is_untouched(rt, &got.values, got.count);
     is_untouched(rt, &got.mended, got.length);
 }
 
+// What the locations are where these are listed: behind them they are as they were.
+fn listed(locations: &[usize]) -> [usize; 4] {
+    let mut listed = [LENGTH_BEFORE; 4];
+    for (place, location) in listed.iter_mut().zip(locations) {
+        *place = *location;
+    }
+    listed
+}
+
 // It lists these, mends the text to this, and writes nothing behind them.
 fn is_mended(rt: &impl Abort, got: &Outcome, locations: &[usize], values: &[u8], want: &[u8]) {
-    same(rt, &got.number, &0);
-    assert!(rt; got.locations.starts_with(locations));
-    assert!(rt;
-        got.locations
-            .iter()
-            .skip(got.count)
-            .all(|n| *n == LENGTH_BEFORE)
-    );
-    same(rt, &got.count, &locations.len());
+    same(rt, &(got.number, got.count), &(0, locations.len()));
+    same(rt, &got.locations, &listed(locations));
     holds(rt, &got.values, got.count, values);
     holds(rt, &got.mended, got.length, want);
 }
@@ -584,7 +599,7 @@ fn mends(
 fn mends_known_texts(rt: HostRuntime) {
     // Made twice over and equal: by a reference model written from the definitions alone, and by
     // the Rust crate bech32 0.12.0 with the differences of docs/rust/DIFFERENCES.md.
-    let rows: [(u32, &[u8], &[usize], &[usize], &[u8], &[u8]); 8] = [
+    const ROWS: &[(u32, &[u8], &[usize], &[usize], &[u8], &[u8])] = &[
         (1, b"a12uel5l", &[6], &[], &[], b"a12uel5l"),
         (1, b"A12UEL5L", &[], &[], &[], b"a12uel5l"),
         (1, b"a12uel5q", &[], &[0], &[31], b"a12uel5l"),
@@ -629,14 +644,14 @@ fn mends_known_texts(rt: HostRuntime) {
             b"1~12el7n3ndp4k6znfk",
         ),
     ];
-    for (checksum, text, erasures, locations, values, want) in rows {
+    for &(checksum, text, erasures, locations, values, want) in ROWS {
         mends(&rt, (checksum, text, erasures), (locations, values, want));
     }
 }
 
 #[test]
 fn refuses_to_mend(rt: HostRuntime) {
-    let rows: [(u32, &[u8], &[usize], u32); 17] = [
+    const ROWS: &[(u32, &[u8], &[usize], u32)] = &[
         (0, b"\xff", &[], 4),
         (3, b"a12uel5q", &[], 4),
         (1, b"\xff", &[usize::MAX], 2),
@@ -655,7 +670,7 @@ fn refuses_to_mend(rt: HostRuntime) {
         (1, b"a12uel5q", &[usize::MAX], 34),
         (2, b"111pxa7d3mwg", &[11, 0, 1], 34),
     ];
-    for (checksum, text, erasures, want) in rows {
+    for &(checksum, text, erasures, want) in ROWS {
         for rooms in [(4, 4, 64), (0, 0, 0)] {
             is_refused(&rt, &corrected(checksum, text, erasures, rooms), want);
         }

@@ -32,7 +32,7 @@ fn answer(text: &[u8]) -> (u32, u32, u32, usize) {
 // which agree; the first two are of BIP-93.
 #[test]
 fn reads_known_strings(rt: HostRuntime) {
-    let rows: [(&[u8], (u32, char, usize)); 6] = [
+    const ROWS: &[(&[u8], (u32, char, usize))] = &[
         (
             b"ms10testsxxxxxxxxxxxxxxxxxxxxxxxxxx4nzvca9cmczlw",
             (0, 's', 26),
@@ -58,7 +58,7 @@ fn reads_known_strings(rt: HostRuntime) {
             (3, '8', 52),
         ),
     ];
-    for (text, (threshold, share_index, length)) in rows {
+    for &(text, (threshold, share_index, length)) in ROWS {
         let want = (0, threshold, u32::from(share_index), length);
         same(&rt, &answer(text), &want);
     }
@@ -66,7 +66,7 @@ fn reads_known_strings(rt: HostRuntime) {
 
 #[test]
 fn refuses_texts(rt: HostRuntime) {
-    let rows: [(&[u8], u32); 13] = [
+    const ROWS: &[(&[u8], u32)] = &[
         (b"\xff", 2),
         (b"1qqqqqq", 11),
         (b" 1qqqqqq", 14),
@@ -81,7 +81,7 @@ fn refuses_texts(rt: HostRuntime) {
         (b"ms1qtestsxxxxxxxxxxxxxxxxxxxxxxxxxxq68ksv56lmaq5", 83),
         (b"ms10testaxxxxxxxxxxxxxxxxxxxxxxxxxxzd568kp774rau", 84),
     ];
-    for (text, want) in rows {
+    for &(text, want) in ROWS {
         same(&rt, &answer(text), &(want, BEFORE, BEFORE, LENGTH_BEFORE));
     }
 }
@@ -145,7 +145,7 @@ fn answer_within(rt: &impl Abort, alloc: Global, size: usize, text: &[u8], room:
 
 #[test]
 fn proposes_known_texts(rt: HostRuntime) {
-    let rows: [(&[u8], usize, u32); 13] = [
+    const ROWS: &[(&[u8], usize, u32)] = &[
         (NEAREST, 96, 0),
         (NEAREST, 48, 0),
         (NEAREST, 47, 92),
@@ -160,7 +160,7 @@ fn proposes_known_texts(rt: HostRuntime) {
         (b"msq", 96, 23),
         (b"\xff", 96, 2),
     ];
-    for (text, room, want) in rows {
+    for &(text, room, want) in ROWS {
         let number = answer_within(&rt, rt.alloc(), memory_for(text), text, room);
         same(&rt, &number, &want);
     }
@@ -195,7 +195,7 @@ fn wants_memory(rt: HostRuntime) {
 // A refusal of the text needs no memory.
 #[test]
 fn refuses_without_memory(rt: HostRuntime) {
-    let rows: [(&[u8], u32); 7] = [
+    const ROWS: &[(&[u8], u32)] = &[
         (b"\xff", 2),
         (b"1?qqqqq", 11),
         (b"ms1?b", 21),
@@ -204,7 +204,7 @@ fn refuses_without_memory(rt: HostRuntime) {
         (b"mt10testsxxxxxxxxxxxxxxxxxxxxxxxxxx4nzvca9cmczl?", 81),
         (b"ms10testsxxxxxxxxxxxxxxxxxxxxxxxxxx4nzvca9cmcz?", 82),
     ];
-    for (text, want) in rows {
+    for &(text, want) in ROWS {
         same(&rt, &answer_within(&rt, rt.alloc(), 0, text, 48), &want);
     }
 }

@@ -13,5 +13,5 @@ pub words_1_keep : KeepsPackingLaws (λ (x : ℕ). x) 6 1 words_1 1
 unfolding product
 words_1_keep = keeps 6 1 words_1 1 refl
 
-abbrev pub code_1 : Code
-code_1 = code_of (λ (x : ℕ). x) 1 1 words_1 1
+abbrev pub code_1 : ℕ → Code
+code_1 code_length = code_of (λ (x : ℕ). x) code_length 1 words_1 1

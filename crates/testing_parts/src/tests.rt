@@ -1,7 +1,6 @@
 mod adaptors;
 mod addresses;
 mod bits;
-mod codex32_rows;
 mod compare;
 mod device;
 mod encode;

@@ -1,4 +1,5 @@
-//! Prints what each row of standard input gives. A row is words with `|` between two of them:
+//! Prints what each row of standard input gives. A row is words with `|` between two of them, or a
+//! tab:
 //!
 //! - `register`, a field and a list: the length of a shortest register of the list, and where there
 //!   is only one, its coefficients and the ten items after the list;
@@ -10,6 +11,8 @@
 //!   its location and the characters;
 //! - `block`, a field, a generator and a target: the block that declares a checksum, or the number
 //!   of the refusal;
+//! - `appended`, a checksum, a human-readable part and elements: the elements with their checksum
+//!   behind them, and their text;
 //! - `bits`, bytes in hex and elements: the elements of the bytes, and the bytes of the elements
 //!   with a last part dropped and with it filled;
 //! - `liquid`, `decode` and a text; or `encode`, a human-readable part, a witness version, a
@@ -28,6 +31,7 @@
 //! have, by two models; Liquid's addresses and descriptors by one model each.
 #![tactic(auto)]
 
+mod appended;
 mod bits;
 mod blocks;
 mod confidential;

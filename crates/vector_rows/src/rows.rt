@@ -1,6 +1,8 @@
 //! The reply to a row.
 
-use crate::{bits, blocks, confidential, descriptors, edits, fields, listings, registers};
+use crate::{
+    appended, bits, blocks, confidential, descriptors, edits, fields, listings, registers,
+};
 use std::alloc::{AllocError, Global};
 
 /// What is printed for a row that cannot be read.
@@ -24,6 +26,7 @@ fn reply_to(alloc: Global, words: &[&str]) -> Result<String, AllocError> {
         "listing" => listings::reply(alloc, words),
         "edits" => edits::reply(alloc, words),
         "block" => blocks::reply(alloc, words),
+        "appended" => appended::reply(alloc, words),
         "bits" => bits::reply(alloc, words),
         "liquid" => confidential::reply(alloc, words),
         "descriptor" => descriptors::reply(alloc, words),
@@ -32,8 +35,13 @@ fn reply_to(alloc: Global, words: &[&str]) -> Result<String, AllocError> {
     }
 }
 
+// What stands between two words of a row: a tab where there is one.
+fn separator(row: &str) -> char {
+    if row.contains('\t') { '\t' } else { '|' }
+}
+
 /// What a row gives.
 pub fn reply(alloc: Global, row: &str) -> Result<String, AllocError> {
-    let words: Vec<&str> = row.split('|').collect(alloc)?;
+    let words: Vec<&str> = row.split(separator(row)).collect(alloc)?;
     reply_to(alloc, &words)
 }

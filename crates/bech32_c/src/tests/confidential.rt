@@ -71,7 +71,7 @@ fn confidential_addresses_both_ways(rt: HostRuntime) {
 
 #[test]
 fn refuses_confidential_addresses(rt: HostRuntime) {
-    let rows: [(&[u8], u32, &[u8], usize, u32); 9] = [
+    const ROWS: &[(&[u8], u32, &[u8], usize, u32)] = &[
         (b"\xff", 32, &PROGRAM, 101, 4),
         (b"\xff", 17, &PROGRAM, 101, 2),
         (b"", 17, &PROGRAM, 101, 11),
@@ -82,13 +82,13 @@ fn refuses_confidential_addresses(rt: HostRuntime) {
         (b"lq", 0, &[7; 33], 0, 48),
         (b"lq", 0, &PROGRAM, 100, 92),
     ];
-    for (hrp, version, program, room, want) in rows {
+    for &(hrp, version, program, room, want) in ROWS {
         let (number, count, buffer) = encoded(hrp, version, program, room);
         same(&rt, &number, &want);
         is_untouched(&rt, &buffer, count);
     }
     // The third text begins with version 1.
-    let rows: [(&[u8], usize, usize, u32); 12] = [
+    const READ: &[(&[u8], usize, usize, u32)] = &[
         (b"\xff", 83, 32, 2),
         (b"lq1b", 83, 32, 21),
         (b"lq1p8wnk3sw45mype5gtnj3ff88n9g", 83, 32, 70),
@@ -107,7 +107,7 @@ fn refuses_confidential_addresses(rt: HostRuntime) {
         (ADDRESS, 0, 0, 92),
         (b"", 83, 32, 23),
     ];
-    for (text, hrp_room, room, want) in rows {
+    for &(text, hrp_room, room, want) in READ {
         same(&rt, &refused(&rt, text, hrp_room, room), &want);
     }
 }
@@ -155,14 +155,14 @@ fn mistyped(wrong: &[usize]) -> [u8; 101] {
 #[test]
 fn mends_confidential_addresses(rt: HostRuntime) {
     // Where the address has other characters, the erasures, and the errors that are looked for.
-    let rows: [(&[usize], &[usize], usize); 5] = [
+    const ROWS: &[(&[usize], &[usize], usize)] = &[
         (&[], &[], 0),
         (&[97, 50, 3], &[], 3),
         (&[97, 50, 3, 4, 5, 6], &[3, 4, 5, 6, 50, 97], 0),
         (&[97, 50, 3, 4, 5], &[3, 4, 5], 2),
         (&[97, 50, 3, 4, 5, 6, 7], &[3, 4, 5, 6, 7], 2),
     ];
-    for (wrong, erasures, errors) in rows {
+    for &(wrong, erasures, errors) in ROWS {
         let text = mistyped(wrong);
         let (number, count, buffer) = near(&rt, rt.alloc(), MEMORY, &text, erasures, errors);
         same(&rt, &(number, count), &(0, 1));
@@ -172,14 +172,14 @@ fn mends_confidential_addresses(rt: HostRuntime) {
 
 #[test]
 fn refuses_to_mend_confidential_addresses(rt: HostRuntime) {
-    let rows: [(&[u8], usize, usize, u32); 5] = [
+    const ROWS: &[(&[u8], usize, usize, u32)] = &[
         (b"\xff", 4, 0, 4),
         (b"\xff", 3, 0, 2),
         (b"Lq1q", 0, 0, 22),
         (b"lq1qqqqqqqqqqq", 0, 0, 32),
         (ADDRESS, 3, 0, 91),
     ];
-    for (text, errors, size, want) in rows {
+    for &(text, errors, size, want) in ROWS {
         let (number, count, buffer) = near(&rt, rt.alloc(), size, text, &[], errors);
         same(&rt, &number, &want);
         is_untouched(&rt, &buffer, count);

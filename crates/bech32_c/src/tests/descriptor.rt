@@ -2,7 +2,7 @@ use crate::descriptor::{
     bech32_descriptor_check, bech32_descriptor_checksum, bech32_descriptor_mend,
     bech32_descriptor_mend_two,
 };
-use crate::tests::{BEFORE, LENGTH_BEFORE, same};
+use crate::tests::{BEFORE, LENGTH_BEFORE, has_front, same};
 use caller_memory::Memory;
 use std::alloc::Global;
 use std::process::Abort;
@@ -20,10 +20,11 @@ fn checksum_of(text: &[u8], room: usize) -> (u32, [u8; 9], usize, usize) {
     (number, buffer, length, place)
 }
 
+const NONE: [u8; 9] = [BEFORE; 9];
+
 #[test]
 fn computes_checksums(rt: HostRuntime) {
-    let none = [BEFORE; 9];
-    let rows: [(&[u8], usize, (u32, [u8; 9], usize, usize)); 7] = [
+    const ROWS: &[(&[u8], usize, (u32, [u8; 9], usize, usize))] = &[
         (b"raw(deadbeef)", 9, (0, *b"89f8spxm\xee", 8, LENGTH_BEFORE)),
         (b"raw(deadbeef)", 8, (0, *b"89f8spxm\xee", 8, LENGTH_BEFORE)),
         (
@@ -34,20 +35,20 @@ fn computes_checksums(rt: HostRuntime) {
         (
             b"raw(deadbeef)",
             7,
-            (92, none, LENGTH_BEFORE, LENGTH_BEFORE),
+            (92, NONE, LENGTH_BEFORE, LENGTH_BEFORE),
         ),
-        (b"raw(\xc3\x9ceadbeef)", 9, (80, none, LENGTH_BEFORE, 4)),
-        (b"raw(deadbeef)\x7f", 0, (80, none, LENGTH_BEFORE, 13)),
-        (b"\x1f", 9, (80, none, LENGTH_BEFORE, 0)),
+        (b"raw(\xc3\x9ceadbeef)", 9, (80, NONE, LENGTH_BEFORE, 4)),
+        (b"raw(deadbeef)\x7f", 0, (80, NONE, LENGTH_BEFORE, 13)),
+        (b"\x1f", 9, (80, NONE, LENGTH_BEFORE, 0)),
     ];
-    for (text, room, want) in rows {
+    for &(text, room, want) in ROWS {
         same(&rt, &checksum_of(text, room), &want);
     }
 }
 
 #[test]
 fn checks_descriptors(rt: HostRuntime) {
-    let rows: [(&[u8], u32, usize); 10] = [
+    const ROWS: &[(&[u8], u32, usize)] = &[
         (RAW, 0, LENGTH_BEFORE),
         (b"raw(deadbeef)#89f8spxn", 33, LENGTH_BEFORE),
         (b"raw(deedbeef)#89f8spxm", 33, LENGTH_BEFORE),
@@ -59,7 +60,7 @@ fn checks_descriptors(rt: HostRuntime) {
         (b"#89f8spx", 88, LENGTH_BEFORE),
         (b"", 88, LENGTH_BEFORE),
     ];
-    for (text, number, want) in rows {
+    for &(text, number, want) in ROWS {
         let mut place = LENGTH_BEFORE;
         same(&rt, &bech32_descriptor_check(text, &mut place), &number);
         same(&rt, &place, &want);
@@ -113,8 +114,7 @@ fn hold(held: &Buffers, want: Option<(u8, usize, usize, &[u8])>) -> bool {
     let (kind, first, second, text) = want.unwrap_or((BEFORE, LENGTH_BEFORE, LENGTH_BEFORE, b""));
     held.kinds == [kind, BEFORE]
         && held.places == [first, second, LENGTH_BEFORE, LENGTH_BEFORE]
-        && held.texts.starts_with(text)
-        && held.texts.iter().skip(text.len()).all(|b| *b == BEFORE)
+        && has_front(&held.texts, text)
 }
 
 // With as many bytes of memory as are stated, all of which come back, it answers this number,
@@ -128,9 +128,8 @@ fn answers(
     let size = stated(row.0);
     let mut memory = Memory::leaked(alloc, size).expect(rt, "memory");
     let (number, held) = mend(&mut memory, row.0, row.1, row.2);
-    same(rt, &number, &want.0);
-    same(rt, &held.count, &want.1);
-    assert!(rt; hold(&held, want.2));
+    let found = (number, held.count, hold(&held, want.2));
+    same(rt, &found, &(want.0, want.1, true));
     same(rt, &memory.with_size().0, &size);
 }
 
@@ -138,7 +137,7 @@ const AMPLE: (usize, usize, usize) = (2, 4, 64);
 
 #[test]
 fn mends_descriptors(rt: HostRuntime) {
-    let rows: [(&[u8], Option<(u8, usize, usize, &[u8])>); 12] = [
+    const ROWS: &[(&[u8], Option<(u8, usize, usize, &[u8])>)] = &[
         (b"raw(deedbeef)#89f8spxm", Some((4, 6, 6, RAW))),
         (b"raw(deadbeef)#89f8spxn", Some((4, 21, 21, RAW))),
         (b"raw(deadbeef)?89f8spxm", Some((4, 13, 13, RAW))),
@@ -152,7 +151,7 @@ fn mends_descriptors(rt: HostRuntime) {
         (RAW, None),
         (b"", None),
     ];
-    for (text, want) in rows {
+    for &(text, want) in ROWS {
         let count = usize::from(want.is_some());
         answers(&rt, rt.alloc(), (text, 1, AMPLE), (0, count, want));
     }
@@ -174,8 +173,8 @@ fn mends_descriptors(rt: HostRuntime) {
 // Where the text does not fit in one of the buffers, none is put.
 #[test]
 fn mends_into_small_buffers(rt: HostRuntime) {
-    let rooms = [(0, 4, 64), (2, 1, 64), (2, 0, 64), (2, 4, 21)];
-    for room in rooms {
+    const ROOMS: &[(usize, usize, usize)] = &[(0, 4, 64), (2, 1, 64), (2, 0, 64), (2, 4, 21)];
+    for &room in ROOMS {
         let row: (&[u8], usize, (usize, usize, usize)) = (b"raw(deedbeef)#89f8spxm", 1, room);
         answers(&rt, rt.alloc(), row, (92, 1, None));
     }
@@ -191,9 +190,8 @@ fn refuses_descriptors(rt: HostRuntime) {
     for (text, changed, want) in rows {
         let mut memory = Memory::leaked(rt.alloc(), 0).expect(&rt, "memory");
         let (number, held) = mend(&mut memory, text, changed, AMPLE);
-        same(&rt, &number, &want);
-        same(&rt, &held.count, &LENGTH_BEFORE);
-        assert!(&rt; hold(&held, None));
+        let found = (number, held.count, hold(&held, None));
+        same(&rt, &found, &(want, LENGTH_BEFORE, true));
     }
 }
 
@@ -222,17 +220,19 @@ fn answers_two(
     let size = 65536 + 4608 * row.0.len().min(1024);
     let mut memory = Memory::leaked(alloc, size).expect(rt, "memory");
     let (number, held) = mend_two(&mut memory, row.0, row.1);
-    same(rt, &number, &want.0);
-    same(rt, &held.count, &want.1);
-    let put = want.2.map(|places| (BEFORE, places.0, places.1, RAW));
-    assert!(rt; hold(&held, put));
+    let put = match want.2 {
+        Some((first, second)) => Some((BEFORE, first, second, RAW)),
+        None => None,
+    };
+    let found = (number, held.count, hold(&held, put));
+    same(rt, &found, &(want.0, want.1, true));
     same(rt, &memory.with_size().0, &size);
 }
 
 // Two before the mark, one there and one behind it, two behind it, and the mark itself.
 #[test]
 fn mends_two_changed(rt: HostRuntime) {
-    let rows: [(&[u8], Option<(usize, usize)>); 8] = [
+    const ROWS: &[(&[u8], Option<(usize, usize)>)] = &[
         (b"raw(deedbeaf)#89f8spxm", Some((6, 10))),
         (b"raw(dezebeef)#89f8spxm", Some((6, 7))),
         (b"raw(deedbeef)#89f8spxn", Some((6, 21))),
@@ -242,7 +242,7 @@ fn mends_two_changed(rt: HostRuntime) {
         (RAW, None),
         (b"", None),
     ];
-    for (text, want) in rows {
+    for &(text, want) in ROWS {
         let count = usize::from(want.is_some());
         answers_two(&rt, rt.alloc(), (text, (4, 64)), (0, count, want));
     }
@@ -260,9 +260,8 @@ fn refuses_two_changed(rt: HostRuntime) {
     for (text, want) in rows {
         let mut memory = Memory::leaked(rt.alloc(), 0).expect(&rt, "memory");
         let (number, held) = mend_two(&mut memory, text, (4, 64));
-        same(&rt, &number, &want);
-        same(&rt, &held.count, &LENGTH_BEFORE);
-        assert!(&rt; hold(&held, None));
+        let found = (number, held.count, hold(&held, None));
+        same(&rt, &found, &(want, LENGTH_BEFORE, true));
     }
 }
 
@@ -270,16 +269,14 @@ fn refuses_two_changed(rt: HostRuntime) {
 // without memory.
 #[test]
 fn short_texts_need_no_memory(rt: HostRuntime) {
-    let rows: [(&[u8], &[u8]); 2] = [(b"", b""), (b"#89f8sp", b"#89f8spx")];
-    for (text, longer) in rows {
+    const ROWS: &[(&[u8], &[u8])] = &[(b"", b""), (b"#89f8sp", b"#89f8spx")];
+    for &(text, longer) in ROWS {
         let mut memory = Memory::leaked(rt.alloc(), 0).expect(&rt, "memory");
         let (number, held) = mend(&mut memory, text, 1, AMPLE);
-        same(&rt, &number, &0);
-        same(&rt, &held.count, &0);
-        assert!(&rt; hold(&held, None));
+        let found = (number, held.count, hold(&held, None));
+        same(&rt, &found, &(0, 0, true));
         let (number, held) = mend_two(&mut memory, longer, (4, 64));
-        same(&rt, &number, &0);
-        same(&rt, &held.count, &0);
-        assert!(&rt; hold(&held, None));
+        let found = (number, held.count, hold(&held, None));
+        same(&rt, &found, &(0, 0, true));
     }
 }

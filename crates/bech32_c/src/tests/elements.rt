@@ -62,7 +62,7 @@ fn is_not_only(rt: &impl Abort, checksum: u32, text: &[u8], room: usize, want: u
 fn decodes_the_only_texts(rt: HostRuntime) {
     is_only(&rt, 1, KEY, (b"npub", &KEY_BYTES));
     is_only(&rt, 2, b"A1LQFN3A", (b"A", b""));
-    let rows: [(u32, &[u8], u32); 8] = [
+    const ROWS: &[(u32, &[u8], u32)] = &[
         (0, KEY, 4),
         (1, b"\xff", 2),
         (1, b"nqu", 23),
@@ -72,7 +72,7 @@ fn decodes_the_only_texts(rt: HostRuntime) {
         (2, PAYMENT, 44),
         (1, &[b'1'; 1024], 12),
     ];
-    for (checksum, text, want) in rows {
+    for &(checksum, text, want) in ROWS {
         is_not_only(&rt, checksum, text, 64, want);
     }
     is_not_only(&rt, 1, KEY, 31, 92);
@@ -104,13 +104,13 @@ fn decodes_elements(rt: HostRuntime) {
     same(&rt, &number, &0);
     holds(&rt, &hrp.1, hrp.0, b"sp");
     holds(&rt, &elements.1, elements.0, &ELEMENTS);
-    let rows: [(u32, &[u8], usize, u32); 4] = [
+    const ROWS: &[(u32, &[u8], usize, u32)] = &[
         (7, PAYMENT, 128, 4),
         (1, PAYMENT, 128, 33),
         (2, b"sp1", 128, 32),
         (2, PAYMENT, 106, 92),
     ];
-    for (checksum, text, room, want) in rows {
+    for &(checksum, text, room, want) in ROWS {
         let (number, hrp, elements) = decoded(checksum, text, room);
         same(&rt, &number, &want);
         is_untouched(&rt, &hrp.1, hrp.0);
@@ -132,7 +132,7 @@ fn encodes_elements(rt: HostRuntime) {
     let (number, place, text) = encoded((2, b"SP", &ELEMENTS), 116);
     same(&rt, &(number, place), &(0, LENGTH_BEFORE));
     holds(&rt, &text.1, text.0, PAYMENT);
-    let rows: [(u32, &[u8], &[u8], usize, (u32, usize)); 6] = [
+    const ROWS: &[(u32, &[u8], &[u8], usize, (u32, usize))] = &[
         (7, b"sp", b"\0", 128, (4, LENGTH_BEFORE)),
         (1, b"\xff", b"\0", 128, (2, LENGTH_BEFORE)),
         (1, b"", b"\xff", 128, (11, LENGTH_BEFORE)),
@@ -140,7 +140,7 @@ fn encodes_elements(rt: HostRuntime) {
         (1, b"a", &[32; 1016], 128, (51, LENGTH_BEFORE)),
         (1, b"sp", b"\x1f\0", 10, (92, LENGTH_BEFORE)),
     ];
-    for (checksum, hrp, elements, room, want) in rows {
+    for &(checksum, hrp, elements, room, want) in ROWS {
         let (number, place, text) = encoded((checksum, hrp, elements), room);
         same(&rt, &(number, place), &want);
         is_untouched(&rt, &text.1, text.0);

@@ -30,7 +30,7 @@ fn says(rt: &impl Abort, number: u32, sentence: &[u8]) {
 
 #[test]
 fn says_sentences(rt: HostRuntime) {
-    let rows: [(u32, &[u8]); 10] = [
+    const ROWS: &[(u32, &[u8])] = &[
         (1, b"the row is null"),
         (2, b"a text or a human-readable part is not UTF-8"),
         (
@@ -48,7 +48,7 @@ fn says_sentences(rt: HostRuntime) {
         (91, b"the lent memory did not suffice"),
         (92, b"a buffer is too small"),
     ];
-    for (number, sentence) in rows {
+    for &(number, sentence) in ROWS {
         says(&rt, number, sentence);
     }
 }

@@ -49,8 +49,7 @@ fn puts_near(
     want: (usize, &[u8]),
 ) {
     let (number, (count, buffer)) = near(memory, asked, room);
-    same(rt, &number, &0);
-    same(rt, &count, &want.0);
+    same(rt, &(number, count), &(0, want.0));
     holds(rt, &buffer, want.1.len(), want.1);
 }
 
@@ -73,7 +72,7 @@ fn lists(rt: &impl Abort, alloc: Global, asked: Asked<'_>, want: (usize, &[u8]))
 fn lists_near_texts(rt: HostRuntime) {
     // The first and the second text are of BIP-173. What is near was found by going through all
     // patterns.
-    let rows: [(u32, &[u8], &[usize], usize, usize, &[u8]); 9] = [
+    const ROWS: &[(u32, &[u8], &[usize], usize, usize, &[u8])] = &[
         (
             1,
             b"BC1QW5Q8D6QEJXTDG4Y5R3ZARVARY0C5XW7KV8F3T5",
@@ -105,7 +104,7 @@ fn lists_near_texts(rt: HostRuntime) {
             b"split1checkuysyvg6h8nsplit1czecku5stag5hnnsplit15hecku0atag7hzn",
         ),
     ];
-    for (checksum, text, erasures, errors, count, want) in rows {
+    for &(checksum, text, erasures, errors, count, want) in ROWS {
         let asked = Asked {
             checksum,
             text,
@@ -119,7 +118,7 @@ fn lists_near_texts(rt: HostRuntime) {
 // A refusal of a number or of the text needs no memory.
 #[test]
 fn refuses_to_list(rt: HostRuntime) {
-    let rows: [(u32, &[u8], usize, u32); 12] = [
+    const ROWS: &[(u32, &[u8], usize, u32)] = &[
         (0, b"\xff", 2, 4),
         (3, b"a12uel5l", 0, 4),
         (1, b"a12uel5l", 3, 4),
@@ -133,7 +132,7 @@ fn refuses_to_list(rt: HostRuntime) {
         (1, b"a1", 2, 32),
         (2, b"a1qqqqq", 0, 32),
     ];
-    for (checksum, text, errors, want) in rows {
+    for &(checksum, text, errors, want) in ROWS {
         let asked = Asked {
             checksum,
             text,
@@ -146,9 +145,11 @@ fn refuses_to_list(rt: HostRuntime) {
 }
 
 // A text with two wrong characters, near to one.
+const TWO_WRONG: &[u8] = b"BC1QW5Q8D6QEJXTDG4Y5R3ZARVARY0C5XW7KV8F3T5";
+
 const NEAR: Asked<'static> = Asked {
     checksum: 1,
-    text: b"BC1QW5Q8D6QEJXTDG4Y5R3ZARVARY0C5XW7KV8F3T5",
+    text: TWO_WRONG,
     erasures: &[],
     errors: 2,
 };
@@ -165,8 +166,7 @@ fn lists_what_fits(
     let (room, put) = sizes;
     let mut memory = Memory::leaked(alloc, near_memory(asked.text)).expect(rt, "memory");
     let (number, (count, buffer)) = near(&mut memory, asked, room);
-    same(rt, &number, &92);
-    same(rt, &count, &want.0);
+    same(rt, &(number, count), &(92, want.0));
     let (front, _) = want.1.split_at(put.min(want.1.len()));
     holds(rt, &buffer, put, front);
     same(rt, &memory.with_size().0, &near_memory(asked.text));
@@ -204,19 +204,18 @@ fn lists_with_too_little_memory(rt: HostRuntime) {
 // erasures, nor where there is nothing to search.
 #[test]
 fn lists_none_without_memory(rt: HostRuntime) {
-    let two: &[u8] = b"BC1QW5Q8D6QEJXTDG4Y5R3ZARVARY0C5XW7KV8F3T5";
-    let rows: [(u32, &[u8], &[usize], usize); 9] = [
+    const ROWS: &[(u32, &[u8], &[usize], usize)] = &[
         (1, b"a12uel5q", &[], 0),
         (2, b"a12uel5l", &[], 0),
-        (1, two, &[], 1),
-        (1, two, &[1], 1),
-        (2, two, &[0, 1, 2], 0),
-        (2, two, &[], 2),
+        (1, TWO_WRONG, &[], 1),
+        (1, TWO_WRONG, &[1], 1),
+        (2, TWO_WRONG, &[0, 1, 2], 0),
+        (2, TWO_WRONG, &[], 2),
         (2, b"a1lqfn3a", &[0, 1, 2, 3], 2),
         (1, b"a12uel5l", &[6], 0),
         (1, b"a12uel5l", &[0, 0, 7], 2),
     ];
-    for (checksum, text, erasures, errors) in rows {
+    for &(checksum, text, erasures, errors) in ROWS {
         let asked = Asked {
             checksum,
             text,
@@ -231,12 +230,12 @@ fn lists_none_without_memory(rt: HostRuntime) {
 // A near text needs memory: a mistyped one's, and one's own.
 #[test]
 fn lists_one_with_memory(rt: HostRuntime) {
-    let rows: [(u32, &[u8], &[usize], usize); 3] = [
+    const ROWS: &[(u32, &[u8], &[usize], usize)] = &[
         (1, b"a12uel5l", &[], 0),
         (1, b"a12uel5q", &[0], 0),
         (2, b"a1lqfn3q", &[], 1),
     ];
-    for (checksum, text, erasures, errors) in rows {
+    for &(checksum, text, erasures, errors) in ROWS {
         let asked = Asked {
             checksum,
             text,

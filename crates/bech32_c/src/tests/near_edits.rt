@@ -1,5 +1,5 @@
 use crate::near_edits::bech32_near_edits;
-use crate::tests::{BEFORE, LENGTH_BEFORE, same};
+use crate::tests::{BEFORE, LENGTH_BEFORE, has_front, same};
 use caller_memory::Memory;
 use std::alloc::Global;
 use std::process::Abort;
@@ -61,11 +61,10 @@ fn hold(rt: &impl Abort, held: &Buffers, want: Edits<'_>) {
             Some(edit) => *edit,
             None => (BEFORE, LENGTH_BEFORE),
         };
-        same(rt, &held.kinds.get(at), &Some(&kind));
-        same(rt, &held.locations.get(at), &Some(&location));
+        let found = (held.kinds.get(at), held.locations.get(at));
+        same(rt, &found, &(Some(&kind), Some(&location)));
     }
-    assert!(rt; held.texts.starts_with(want.1));
-    assert!(rt; held.texts.iter().skip(want.1.len()).all(|b| *b == BEFORE));
+    assert!(rt; has_front(&held.texts, want.1));
 }
 
 // The number of bytes that `include/bech32.h` states for a text of this many.
@@ -85,33 +84,34 @@ fn answers(
     let size = stated(row.1);
     let mut memory = Memory::leaked(alloc, size).expect(rt, "memory");
     let (number, held) = edits(&mut memory, row, rooms);
-    same(rt, &number, &want.0);
-    same(rt, &held.count, &want.1);
+    same(rt, &(number, held.count), &(want.0, want.1));
     hold(rt, &held, want.2);
     same(rt, &memory.with_size().0, &size);
 }
 
+// An address of BIP-173.
+const ADDRESS: &[u8] = b"bc1qw508d6qejxtdg4y5r3zarvary0c5xw7kv8f3t4";
+
 #[test]
 fn lists_near_edits(rt: HostRuntime) {
-    // The address is of BIP-173; two of its characters swapped, one left out, one doubled.
-    let address = b"bc1qw508d6qejxtdg4y5r3zarvary0c5xw7kv8f3t4";
-    let rows: [(u32, &[u8], Edits<'_>); 8] = [
+    // Two characters of the address swapped, one left out, one doubled.
+    const ROWS: &[(u32, &[u8], Edits<'static>)] = &[
         (
             1,
             b"bc1qw508d6qejxtdg4y5r3zravary0c5xw7kv8f3t4",
-            (&[(1, 17)], address),
+            (&[(1, 17)], ADDRESS),
         ),
         (
             1,
             b"BC1QW508D6QEJXTDG4Y5R3ZRVARY0C5XW7KV8F3T4",
-            (&[(3, 18)], address),
+            (&[(3, 18)], ADDRESS),
         ),
         (
             1,
             b"bc1qw508d6qejxtdg4y5r33zarvary0c5xw7kv8f3t4",
-            (&[(2, 20)], address),
+            (&[(2, 20)], ADDRESS),
         ),
-        (1, address, (&[], b"")),
+        (1, ADDRESS, (&[], b"")),
         (
             1,
             b"ii2134hk2xmat79tqp",
@@ -121,7 +121,7 @@ fn lists_near_edits(rt: HostRuntime) {
         (2, b"a12uel5", (&[], b"")),
         (1, b"bc1", (&[], b"")),
     ];
-    for (checksum, text, want) in rows {
+    for &(checksum, text, want) in ROWS {
         let want = (0, want.0.len(), want);
         answers(&rt, rt.alloc(), (checksum, text), AMPLE, want);
     }
@@ -131,15 +131,14 @@ fn lists_near_edits(rt: HostRuntime) {
 fn refuses(rt: &impl Abort, alloc: Global, row: (u32, &[u8]), want: u32) {
     let mut memory = Memory::leaked(alloc, 0).expect(rt, "memory");
     let (number, held) = edits(&mut memory, row, AMPLE);
-    same(rt, &number, &want);
-    same(rt, &held.count, &LENGTH_BEFORE);
+    same(rt, &(number, held.count), &(want, LENGTH_BEFORE));
     hold(rt, &held, (&[], b""));
 }
 
 // A refusal of a number or of the text needs no memory.
 #[test]
 fn refuses_to_edit(rt: HostRuntime) {
-    let rows: [(u32, &[u8], u32); 9] = [
+    const ROWS: &[(u32, &[u8], u32)] = &[
         (0, b"\xff", 4),
         (3, b"a12uel5", 4),
         (1, b"\xff", 2),
@@ -150,7 +149,7 @@ fn refuses_to_edit(rt: HostRuntime) {
         (2, b"qpzry", 23),
         (1, b"", 23),
     ];
-    for (checksum, text, want) in rows {
+    for &(checksum, text, want) in ROWS {
         refuses(&rt, rt.alloc(), (checksum, text), want);
     }
 }
@@ -158,17 +157,16 @@ fn refuses_to_edit(rt: HostRuntime) {
 // Where there is no such text, no memory is wanted.
 #[test]
 fn lists_no_edits_without_memory(rt: HostRuntime) {
-    let rows: [(u32, &[u8]); 4] = [
+    const ROWS: &[(u32, &[u8])] = &[
         (1, b"bc1qw508d6qejxtdg4y5r3zarvary0c5xw7kv8f3t4"),
         (2, b"bc1qw508d6qejxtdg4y5r3zravary0c5xw7kv8f3t4"),
         (2, b"a12uel5"),
         (1, b"bc1"),
     ];
-    for row in rows {
+    for &row in ROWS {
         let mut memory = Memory::leaked(rt.alloc(), 0).expect(&rt, "memory");
         let (number, held) = edits(&mut memory, row, AMPLE);
-        same(&rt, &number, &0);
-        same(&rt, &held.count, &0);
+        same(&rt, &(number, held.count), &(0, 0));
         hold(&rt, &held, (&[], b""));
     }
 }
@@ -176,23 +174,24 @@ fn lists_no_edits_without_memory(rt: HostRuntime) {
 // A text with two edits, of 17 and of 19 characters.
 const TWO: (u32, &[u8]) = (1, b"ii2134hk2xmat79tqp");
 
+const ONE: Edits<'static> = (&[(2, 1)], b"ii2134hk2xmat79tp");
+
 const BOTH: Edits<'static> = (&[(2, 1), (3, 1)], b"ii2134hk2xmat79tpii2134hk2xmat79tqqp");
 
 // Where they do not fit in one of the buffers, as many stand in all as fit in each.
 #[test]
 fn lists_edits_into_small_buffers(rt: HostRuntime) {
-    let one: Edits<'_> = (&[(2, 1)], b"ii2134hk2xmat79tp");
-    let rows: [(usize, usize, usize, (u32, usize, Edits<'_>)); 8] = [
+    const ROWS: &[(usize, usize, usize, (u32, usize, Edits<'static>))] = &[
         (2, 2, 36, (0, 2, BOTH)),
-        (4, 4, 35, (92, 2, one)),
-        (4, 4, 17, (92, 2, one)),
+        (4, 4, 35, (92, 2, ONE)),
+        (4, 4, 17, (92, 2, ONE)),
         (4, 4, 16, (92, 2, (&[], b""))),
-        (1, 4, 128, (92, 2, one)),
-        (4, 1, 128, (92, 2, one)),
+        (1, 4, 128, (92, 2, ONE)),
+        (4, 1, 128, (92, 2, ONE)),
         (0, 4, 128, (92, 2, (&[], b""))),
         (4, 0, 128, (92, 2, (&[], b""))),
     ];
-    for (kinds, locations, texts, want) in rows {
+    for &(kinds, locations, texts, want) in ROWS {
         let rooms = Rooms {
             kinds,
             locations,

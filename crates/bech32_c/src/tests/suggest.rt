@@ -1,5 +1,5 @@
 use crate::suggest::bech32_suggest;
-use crate::tests::{BEFORE, LENGTH_BEFORE, same};
+use crate::tests::{BEFORE, LENGTH_BEFORE, has_front, same};
 use caller_memory::Memory;
 use std::alloc::Global;
 use std::process::Abort;
@@ -40,10 +40,9 @@ fn suggest(memory: &mut Memory, row: (&[u8], &[u8]), rooms: Rooms) -> (u32, Buff
 // The buffers hold this suggestion, and behind it they are as they were.
 fn hold(rt: &impl Abort, held: &Buffers, want: Suggested<'_>) {
     let (kind, place, text) = want.unwrap_or((BEFORE, LENGTH_BEFORE, b""));
-    same(rt, &held.kinds, &[kind, BEFORE]);
-    same(rt, &held.places, &[place, LENGTH_BEFORE]);
-    assert!(rt; held.texts.starts_with(text));
-    assert!(rt; held.texts.iter().skip(text.len()).all(|b| *b == BEFORE));
+    let found = (held.kinds, held.places, has_front(&held.texts, text));
+    let want = ([kind, BEFORE], [place, LENGTH_BEFORE], true);
+    same(rt, &found, &want);
 }
 
 // With this many bytes of memory, all of which come back, it answers this number, counts this many,
@@ -56,8 +55,7 @@ fn answers(
     want: (u32, usize, Suggested<'_>),
 ) {
     let (number, held) = suggest(memory, row, rooms);
-    same(rt, &number, &want.0);
-    same(rt, &held.count, &want.1);
+    same(rt, &(number, held.count), &(want.0, want.1));
     hold(rt, &held, want.2);
 }
 
@@ -71,7 +69,7 @@ const V1: &[u8] = b"bc1p0xlxvlhemja6c4dqv22uapctqupfhlxm9h8z3k2e72q4k9hcz7vqzk5j
 
 #[test]
 fn suggests_addresses(rt: HostRuntime) {
-    let rows: [(&[u8], &[u8], Suggested<'_>); 11] = [
+    const ROWS: &[(&[u8], &[u8], Suggested<'static>)] = &[
         (b"bc", V0, Some((0, 42, V0))),
         (
             b"bc",
@@ -113,7 +111,7 @@ fn suggests_addresses(rt: HostRuntime) {
         (b"a", b"a12uel5l", None),
     ];
     let mut memory = Memory::leaked(rt.alloc(), STATED).expect(&rt, "memory");
-    for (hrp, text, want) in rows {
+    for &(hrp, text, want) in ROWS {
         let count = usize::from(want.is_some());
         answers(&rt, &mut memory, (hrp, text), AMPLE, (0, count, want));
     }
@@ -123,7 +121,7 @@ fn suggests_addresses(rt: HostRuntime) {
 // A refusal of a part or of a text needs no memory, nor does a text for which nothing is tried.
 #[test]
 fn refuses_to_suggest(rt: HostRuntime) {
-    let rows: [(&[u8], &[u8], u32, usize); 9] = [
+    const ROWS: &[(&[u8], &[u8], u32, usize)] = &[
         (b"", b"\xff", 11, LENGTH_BEFORE),
         (b"\xff", b"q", 2, LENGTH_BEFORE),
         (b"Bc", b"q", 15, LENGTH_BEFORE),
@@ -134,7 +132,7 @@ fn refuses_to_suggest(rt: HostRuntime) {
         (b"bc", &[b'b'; 92], 0, 0),
         (b"bc", b"bc1qqqqqqqqq", 0, 0),
     ];
-    for (hrp, text, number, count) in rows {
+    for &(hrp, text, number, count) in ROWS {
         let mut memory = Memory::leaked(rt.alloc(), 0).expect(&rt, "memory");
         answers(&rt, &mut memory, (hrp, text), AMPLE, (number, count, None));
     }
@@ -144,14 +142,14 @@ const ONE_WRONG: (&[u8], &[u8]) = (b"bc", b"bc1qw508d6qejxtdg4y5r3zarvary0c5xw7k
 
 #[test]
 fn suggests_into_small_buffers(rt: HostRuntime) {
-    let rows: [(Rooms, u32, Suggested<'_>); 4] = [
+    const ROWS: &[(Rooms, u32, Suggested<'static>)] = &[
         ((1, 1, 42), 0, Some((4, 41, V0))),
         ((2, 2, 41), 92, None),
         ((0, 2, 64), 92, None),
         ((2, 0, 64), 92, None),
     ];
     let mut memory = Memory::leaked(rt.alloc(), STATED).expect(&rt, "memory");
-    for (rooms, number, want) in rows {
+    for &(rooms, number, want) in ROWS {
         answers(&rt, &mut memory, ONE_WRONG, rooms, (number, 1, want));
     }
 }

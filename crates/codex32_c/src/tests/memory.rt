@@ -86,14 +86,14 @@ fn wants_of_string(rt: &impl Abort, alloc: Global, count: usize, long: usize, le
 // The numbers are those of memory with one block: an arena of 496 bytes, or of a page.
 #[test]
 fn names_the_least_memory(rt: HostRuntime) {
-    let rows = [
+    const ROWS: &[(usize, usize, [usize; 3])] = &[
         (16, 48, [496, 496, 496]),
         (32, 74, [496, 496, 496]),
         (44, 93, [496, 496, 496]),
         (63, 125, [496, 496, 4080]),
         (64, 127, [496, 496, 4080]),
     ];
-    for (count, long, least) in rows {
+    for &(count, long, least) in ROWS {
         wants_of_string(&rt, rt.alloc(), count, long, least);
     }
 }

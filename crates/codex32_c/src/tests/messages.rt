@@ -1,4 +1,4 @@
-use super::{BYTE_BEFORE, LENGTH_BEFORE, same};
+use super::{BYTE_BEFORE, LENGTH_BEFORE, same, written_in};
 use crate::message::codex32_message;
 use crate::version::codex32_version;
 use std::process::Abort;
@@ -18,20 +18,19 @@ fn said(number: u32, room: usize) -> (u32, usize, [u8; ROOM]) {
 fn says(rt: &impl Abort, number: u32, sentence: &[u8]) {
     for room in [ROOM, sentence.len()] {
         let (answer, length, buffer) = said(number, room);
-        same(rt, &(answer, length), &(0, sentence.len()));
-        assert!(rt; buffer.starts_with(sentence));
-        assert!(rt; buffer.iter().skip(length).all(|b| *b == BYTE_BEFORE));
+        let want = written_in::<ROOM>(0, sentence);
+        same(rt, &(answer, (length, buffer)), &(0, want));
     }
     if !sentence.is_empty() {
         let (answer, length, buffer) = said(number, sentence.len().saturating_sub(1));
-        same(rt, &(answer, length), &(92, LENGTH_BEFORE));
-        assert!(rt; buffer.iter().all(|b| *b == BYTE_BEFORE));
+        let want = written_in::<ROOM>(92, sentence);
+        same(rt, &(answer, (length, buffer)), &(92, want));
     }
 }
 
 #[test]
 fn says_sentences(rt: HostRuntime) {
-    let rows: [(u32, &[u8]); 8] = [
+    const ROWS: &[(u32, &[u8])] = &[
         (2, b"a text or a human-readable part is not UTF-8"),
         (
             4,
@@ -47,7 +46,7 @@ fn says_sentences(rt: HostRuntime) {
         (81, b"the human-readable part is not `ms`"),
         (92, b"a buffer is too small"),
     ];
-    for (number, sentence) in rows {
+    for &(number, sentence) in ROWS {
         says(&rt, number, sentence);
     }
 }

@@ -60,6 +60,13 @@ const SECRET: [u8; 16] = [
     0xd1, 0x80, 0x8e, 0x09, 0x6b, 0x35, 0xb2, 0x09, 0xca, 0x12, 0x13, 0x2b, 0x26, 0x46, 0x62, 0xa5,
 ];
 
+const LONG_SECRET: [u8; 64] = [
+    0xdc, 0x54, 0x23, 0x25, 0x1c, 0xb8, 0x71, 0x75, 0xff, 0x81, 0x10, 0xc8, 0x53, 0x1d, 0x09, 0x52,
+    0xd8, 0xd7, 0x3e, 0x11, 0x94, 0xe9, 0x5b, 0x5f, 0x19, 0xd6, 0xf9, 0xdf, 0x7c, 0x01, 0x11, 0x11,
+    0x04, 0xc9, 0xba, 0xec, 0xdf, 0xea, 0x8c, 0xcc, 0xc6, 0x77, 0xfb, 0x9d, 0xdc, 0x8a, 0xec, 0x55,
+    0x53, 0xb8, 0x6e, 0x52, 0x8b, 0xca, 0xdf, 0xdc, 0xc2, 0x01, 0xc1, 0x7c, 0x63, 0x8c, 0x47, 0xe9,
+];
+
 // Of BIP-93: the secret of its first two examples, and the long string of its last.
 #[test]
 fn tells_known_strings(rt: HostRuntime) {
@@ -69,24 +76,17 @@ fn tells_known_strings(rt: HostRuntime) {
         (2, *b"name", 's'),
         &SECRET,
     );
-    let long: [u8; 64] = [
-        0xdc, 0x54, 0x23, 0x25, 0x1c, 0xb8, 0x71, 0x75, 0xff, 0x81, 0x10, 0xc8, 0x53, 0x1d, 0x09,
-        0x52, 0xd8, 0xd7, 0x3e, 0x11, 0x94, 0xe9, 0x5b, 0x5f, 0x19, 0xd6, 0xf9, 0xdf, 0x7c, 0x01,
-        0x11, 0x11, 0x04, 0xc9, 0xba, 0xec, 0xdf, 0xea, 0x8c, 0xcc, 0xc6, 0x77, 0xfb, 0x9d, 0xdc,
-        0x8a, 0xec, 0x55, 0x53, 0xb8, 0x6e, 0x52, 0x8b, 0xca, 0xdf, 0xdc, 0xc2, 0x01, 0xc1, 0x7c,
-        0x63, 0x8c, 0x47, 0xe9,
-    ];
     tells(
         &rt,
         b"MS100C8VSM32ZXFGUHPCHTLUPZRY9X8GF2TVDW0S3JN54KHCE6MUA7LQPZYGSFJD6AN074RXVCEMLH8WU3TK925ACDEFGHJKLMNPQRSTUVWXY06FHPV80UNDVARHRAK",
         (0, *b"0c8v", 's'),
-        &long,
+        &LONG_SECRET,
     );
 }
 
 #[test]
 fn tells_nothing_of_others(rt: HostRuntime) {
-    let rows: [(&[u8], u32); 7] = [
+    const ROWS: &[(&[u8], u32)] = &[
         (b"\xff", 2),
         (b"ms10testsxxxxxxxxxxxxxxxxxxxxxxxxxx4nzvca9cmczlb", 21),
         (b"ms1qtestsqxxxxxxxxxxxxxxxxxxxxxxxxq4nzvca9cmczlq", 33),
@@ -95,7 +95,7 @@ fn tells_nothing_of_others(rt: HostRuntime) {
         (b"ms1qtestsxxxxxxxxxxxxxxxxxxxxxxxxxxq68ksv56lmaq5", 83),
         (b"ms12xh04fm5amh7k7ay0jj7mgh3ndf4zdx0dmxgdrhz38hawaewk", 87),
     ];
-    for (text, want) in rows {
+    for &(text, want) in ROWS {
         tells_nothing(&rt, text, 0, want);
     }
 }
@@ -116,18 +116,23 @@ fn encoded(header: (u32, &[u8], char), bytes: &[u8], room: usize) -> (u32, (usiz
     (number, (length, buffer))
 }
 
+const BYTES: [u8; 16] = [
+    0x09, 0xe7, 0x9b, 0x72, 0x33, 0x2f, 0x80, 0xcd, 0xfd, 0xd3, 0x82, 0x8b, 0xb4, 0x74, 0xd8, 0x2f,
+];
+
+// The same but for the first.
+const FIFTEEN: [u8; 15] = [
+    0xe7, 0x9b, 0x72, 0x33, 0x2f, 0x80, 0xcd, 0xfd, 0xd3, 0x82, 0x8b, 0xb4, 0x74, 0xd8, 0x2f,
+];
+
 // Some rows are those of a reference model.
 #[test]
 fn encodes_known_strings(rt: HostRuntime) {
-    let bytes: [u8; 16] = [
-        0x09, 0xe7, 0x9b, 0x72, 0x33, 0x2f, 0x80, 0xcd, 0xfd, 0xd3, 0x82, 0x8b, 0xb4, 0x74, 0xd8,
-        0x2f,
-    ];
     let text = b"ms19lcr0rp8neku3n97qvmlwns29mgaxc9uy6d28pu26vj00";
-    let rows: [((u32, &[u8], char), &[u8], usize, u32); 11] = [
-        ((9, b"lcr0", 'r'), &bytes, ROOM, 0),
-        ((9, b"LCR0", 'R'), &bytes, 48, 0),
-        ((9, b"lcr0", 'r'), &bytes, 47, 92),
+    const ROWS: &[((u32, &[u8], char), &[u8], usize, u32)] = &[
+        ((9, b"lcr0", 'r'), &BYTES, ROOM, 0),
+        ((9, b"LCR0", 'R'), &BYTES, 48, 0),
+        ((9, b"lcr0", 'r'), &BYTES, 47, 92),
         ((1, b"lcr0", 'r'), &[], 0, 83),
         ((10, b"lcr0", 'r'), &[], 0, 83),
         ((9, b"Lcr0", 'r'), &[], 0, 85),
@@ -135,9 +140,9 @@ fn encodes_known_strings(rt: HostRuntime) {
         ((9, b"lc\xff0", 'b'), &[], 0, 85),
         ((9, b"lcr0", 'b'), &[], 0, 86),
         ((0, b"lcr0", 'r'), &[], 0, 84),
-        ((9, b"lcr0", 'r'), &bytes[1..], 0, 55),
+        ((9, b"lcr0", 'r'), &FIFTEEN, 0, 55),
     ];
-    for (header, given, room, want) in rows {
+    for &(header, given, room, want) in ROWS {
         let answer = (want, written_in::<ROOM>(want, text));
         same(&rt, &encoded(header, given, room), &answer);
     }
@@ -163,26 +168,30 @@ fn encoded_payload(
     (number, (length, buffer))
 }
 
-// Of BIP-93: the first share of its second example, and the long string of its last.
+// Of BIP-93: the first share of its second example, the long string of its last, and the payload of
+// this.
+const FIRST: &[u8] = b"ms12namea320zyxwvutsrqpnmlkjhgfedcaxrpp870hkkqrm";
+
+const LAST: &[u8] =
+    b"ms100c8vsm32zxfguhpchtlupzry9x8gf2tvdw0s3jn54khce6mua7lqpzygsfjd6an074rxvcemlh8wu3tk925acdefghjklmnpqrstuvwxy06fhpv80undvarhrak";
+
+const PAYLOAD: &[u8] =
+    b"M32ZXFGUHPCHTLUPZRY9X8GF2TVDW0S3JN54KHCE6MUA7LQPZYGSFJD6AN074RXVCEMLH8WU3TK925ACDEFGHJKLMNPQRSTUVWXY06F";
+
 #[test]
 fn encodes_known_payloads(rt: HostRuntime) {
-    let short: &[u8] = b"ms12namea320zyxwvutsrqpnmlkjhgfedcaxrpp870hkkqrm";
-    let long: &[u8] =
-        b"ms100c8vsm32zxfguhpchtlupzry9x8gf2tvdw0s3jn54khce6mua7lqpzygsfjd6an074rxvcemlh8wu3tk925acdefghjklmnpqrstuvwxy06fhpv80undvarhrak";
-    let of_long: &[u8] =
-        b"M32ZXFGUHPCHTLUPZRY9X8GF2TVDW0S3JN54KHCE6MUA7LQPZYGSFJD6AN074RXVCEMLH8WU3TK925ACDEFGHJKLMNPQRSTUVWXY06F";
-    let rows: [((u32, &[u8], char), &[u8], usize, &[u8]); 4] = [
+    const ROWS: &[((u32, &[u8], char), &[u8], usize, &[u8])] = &[
         (
             (2, b"NAME", 'A'),
             b"320ZYXWVUTSRQPNMLKJHGFEDCA",
             ROOM,
-            short,
+            FIRST,
         ),
-        ((2, b"name", 'a'), b"320zyxwvutsrqpnmlkjhgfedca", 48, short),
-        ((2, b"NAME", 'a'), b"320zyxwvutsrqpnmlkjhgfedca", 48, short),
-        ((0, b"0c8v", 's'), of_long, 127, long),
+        ((2, b"name", 'a'), b"320zyxwvutsrqpnmlkjhgfedca", 48, FIRST),
+        ((2, b"NAME", 'a'), b"320zyxwvutsrqpnmlkjhgfedca", 48, FIRST),
+        ((0, b"0c8v", 's'), PAYLOAD, 127, LAST),
     ];
-    for (header, payload, room, text) in rows {
+    for &(header, payload, room, text) in ROWS {
         let answer = (0, written_in::<ROOM>(0, text));
         same(&rt, &encoded_payload(header, payload, room), &answer);
         let lacking = encoded_payload(header, payload, text.len().saturating_sub(1));
@@ -193,7 +202,7 @@ fn encodes_known_payloads(rt: HostRuntime) {
 // Each refusal, in their order.
 #[test]
 fn encodes_no_other_payloads(rt: HostRuntime) {
-    let rows: [((u32, &[u8], char), &[u8], u32); 14] = [
+    const ROWS: &[((u32, &[u8], char), &[u8], u32)] = &[
         ((1, b"nAme", 'b'), b"!", 83),
         ((2, b"nAme", 'b'), b"!", 85),
         ((0, b"name", 'b'), b"!", 86),
@@ -209,7 +218,7 @@ fn encodes_no_other_payloads(rt: HostRuntime) {
         ((2, b"name", 'a'), &[b'q'; 102], 55),
         ((2, b"name", 'a'), &[b'q'; 1000], 55),
     ];
-    for (header, payload, want) in rows {
+    for &(header, payload, want) in ROWS {
         let answer = (want, written_in::<ROOM>(want, b""));
         same(&rt, &encoded_payload(header, payload, 0), &answer);
     }
@@ -235,7 +244,7 @@ const PAIR: &[u8] =
 // Of BIP-93: its second example.
 #[test]
 fn derives_known_strings(rt: HostRuntime) {
-    let rows: [(char, &[u8], usize, u32); 5] = [
+    const ROWS: &[(char, &[u8], usize, u32)] = &[
         (
             'd',
             b"ms12namedll4f8jlh4e5vdvuldlfxu2jhdnlsm97xvenrxeg",
@@ -257,7 +266,7 @@ fn derives_known_strings(rt: HostRuntime) {
         ('d', b"", 47, 92),
         ('b', b"", ROOM, 86),
     ];
-    for (index, text, room, want) in rows {
+    for &(index, text, room, want) in ROWS {
         let answer = (want, written_in::<ROOM>(want, text));
         same(&rt, &derived(index, PAIR, &[48, 48], room), &answer);
     }
@@ -266,7 +275,7 @@ fn derives_known_strings(rt: HostRuntime) {
 // Each refusal of texts, in their order, and of lengths. Some texts are those of a reference model.
 #[test]
 fn derives_nothing_of_others(rt: HostRuntime) {
-    let rows: [(&[u8], &[usize], u32); 14] = [
+    const ROWS: &[(&[u8], &[usize], u32)] = &[
         (b"", &[], 61),
         (PAIR, &[], 4),
         (PAIR, &[48, 47], 4),
@@ -298,7 +307,7 @@ fn derives_nothing_of_others(rt: HostRuntime) {
             64,
         ),
     ];
-    for (texts, lengths, want) in rows {
+    for &(texts, lengths, want) in ROWS {
         let answer = (want, written_in::<ROOM>(want, b""));
         same(&rt, &derived('d', texts, lengths, ROOM), &answer);
     }
@@ -350,18 +359,23 @@ fn proposes_long(
 // The long string is that of a reference model.
 #[test]
 fn proposes_long_texts(rt: HostRuntime) {
-    let rows: [(&[u8], usize, usize, u32); 9] = [
-        (LONG, memory_for(LONG), ROOM, 0),
-        (TORN, memory_for(LONG), ROOM, 0),
-        (WRONG, memory_for(LONG), LONG.len(), 0),
-        (WRONG, memory_for(LONG), LONG.len().saturating_sub(1), 92),
-        (WORSE, memory_for(LONG), ROOM, 34),
-        (WRONG, 47, ROOM, 91),
-        (b"Ms1?", 0, ROOM, 22),
-        (PAIR, 0, ROOM, 82),
-        (b"\xff", 0, ROOM, 2),
+    const ROWS: &[(&[u8], usize, u32)] = &[
+        (LONG, ROOM, 0),
+        (TORN, ROOM, 0),
+        (WRONG, 125, 0),
+        (WRONG, 124, 92),
+        (WORSE, ROOM, 34),
     ];
-    for (text, size, room, want) in rows {
-        proposes_long(&rt, rt.alloc(), (text, size, room), want);
+    for &(text, room, want) in ROWS {
+        proposes_long(&rt, rt.alloc(), (text, memory_for(LONG), room), want);
+    }
+    const WITHOUT_MEMORY: &[(&[u8], usize, u32)] = &[
+        (WRONG, 47, 91),
+        (b"Ms1?", 0, 22),
+        (PAIR, 0, 82),
+        (b"\xff", 0, 2),
+    ];
+    for &(text, size, want) in WITHOUT_MEMORY {
+        proposes_long(&rt, rt.alloc(), (text, size, ROOM), want);
     }
 }

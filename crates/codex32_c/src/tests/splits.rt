@@ -47,22 +47,31 @@ fn shares_in(number: u32, each: usize, texts: &[u8]) -> (usize, [u8; ROOM]) {
     (if number == 0 { each } else { length }, buffer)
 }
 
-// The shares are those of a reference model.
+// This many of the random bytes.
+fn random_bytes(count: usize) -> &'static [u8] {
+    let all: &'static [u8] = &RANDOM;
+    all.get(..count).unwrap_or(all)
+}
+
+// Shares by a reference model: three of which two suffice, and four of which three do.
+const OF_TWO: &[u8] =
+    b"ms12testaanjvzsjql4wnx3rjvmsaj6s329vw4xnw2zhpf2lms12testcrmyzxxgv99pjwpzje5flkkqswrs3rg7dsphgkxsms12testdxq6clc5we6h747wjnzp805luhzdcajsev4hllyx";
+
+const OF_THREE: &[u8] =
+    b"ms13testaanjvzsjql4wnx3rjvmsaj6s329mmu2u2wlyxv0nms13testcnj0jdsua5au042r82egg6nasjwd4jdk4cupvgvlms13testd7eqq992r5wsehymeaa5098cu9a4qq800zghwcaums13teste2h5xt644g5wkhg8dd5n23apcxecgz3gs4y5zkpg";
+
 #[test]
 fn splits_known_secrets(rt: HostRuntime) {
-    let two: &[u8] =
-        b"ms12testaanjvzsjql4wnx3rjvmsaj6s329vw4xnw2zhpf2lms12testcrmyzxxgv99pjwpzje5flkkqswrs3rg7dsphgkxsms12testdxq6clc5we6h747wjnzp805luhzdcajsev4hllyx";
-    let three: &[u8] =
-        b"ms13testaanjvzsjql4wnx3rjvmsaj6s329mmu2u2wlyxv0nms13testcnj0jdsua5au042r82egg6nasjwd4jdk4cupvgvlms13testd7eqq992r5wsehymeaa5098cu9a4qq800zghwcaums13teste2h5xt644g5wkhg8dd5n23apcxecgz3gs4y5zkpg";
-    let rows: [((u32, &[u8]), &[u8], usize, usize, &[u8], u32); 4] = [
-        ((2, b"test"), &RANDOM[..26], 3, ROOM, two, 0),
-        ((2, b"TEST"), &RANDOM[..26], 3, 144, two, 0),
-        ((2, b"test"), &RANDOM[..26], 3, 143, two, 92),
-        ((3, b"test"), &RANDOM, 4, 192, three, 0),
+    const ROWS: &[((u32, &[u8]), usize, usize, usize, &[u8], u32)] = &[
+        ((2, b"test"), 26, 3, ROOM, OF_TWO, 0),
+        ((2, b"TEST"), 26, 3, 144, OF_TWO, 0),
+        ((2, b"test"), 26, 3, 143, OF_TWO, 92),
+        ((3, b"test"), 52, 4, 192, OF_THREE, 0),
     ];
-    for (set, random, count, room, texts, want) in rows {
+    for &(set, drawn, count, room, texts, want) in ROWS {
         let answer = (want, shares_in(want, 48, texts));
-        same(&rt, &split(set, &SECRET, random, count, room), &answer);
+        let found = split(set, &SECRET, random_bytes(drawn), count, room);
+        same(&rt, &found, &answer);
     }
 }
 
@@ -91,27 +100,52 @@ fn splits_a_long_secret(rt: HostRuntime) {
     );
 }
 
-// Each refusal, in their order.
+// Fails where another number is the answer to so many shares by so many random bytes, without room.
+fn refuses(
+    rt: &impl Abort,
+    set: (u32, &[u8]),
+    secret: &[u8],
+    (count, drawn): (usize, usize),
+    want: u32,
+) {
+    let answer = (want, shares_in(want, 0, b""));
+    same(
+        rt,
+        &split(set, secret, random_bytes(drawn), count, 0),
+        &answer,
+    );
+}
+
+// The secret but for its first byte.
+const FIFTEEN: [u8; 15] = [
+    0x80, 0x8e, 0x09, 0x6b, 0x35, 0xb2, 0x09, 0xca, 0x12, 0x13, 0x2b, 0x26, 0x46, 0x62, 0xa5,
+];
+
+// Each refusal, in their order: of sets, of secrets, and of numbers of shares and random bytes.
 #[test]
 fn refuses_splits(rt: HostRuntime) {
-    let rows: [((u32, &[u8]), &[u8], usize, &[u8], u32); 13] = [
-        ((1, b"tes"), &[], 0, &[], 83),
-        ((10, b"tes"), &[], 0, &[], 83),
-        ((0, b"tes"), &[], 0, &[], 85),
-        ((2, b"Test"), &[], 0, &[], 85),
-        ((0, b"test"), &[], 0, &[], 84),
-        ((2, b"test"), &SECRET[1..], 0, &[], 55),
-        ((2, b"test"), &RANDOM[..45], 0, &[], 55),
-        ((2, b"test"), &SECRET, 1, &[], 65),
-        ((2, b"test"), &SECRET, 32, &[], 65),
-        ((2, b"test"), &SECRET, usize::MAX, &[], 65),
-        ((2, b"test"), &SECRET, 2, &RANDOM[..25], 66),
-        ((2, b"test"), &SECRET, 2, &RANDOM[..27], 66),
-        ((2, b"test"), &SECRET, 31, &RANDOM[..26], 92),
+    const ROWS: &[((u32, &[u8]), &[u8], u32)] = &[
+        ((1, b"tes"), &[], 83),
+        ((10, b"tes"), &[], 83),
+        ((0, b"tes"), &[], 85),
+        ((2, b"Test"), &[], 85),
+        ((0, b"test"), &[], 84),
+        ((2, b"test"), &FIFTEEN, 55),
     ];
-    for (set, secret, count, random, want) in rows {
-        let answer = (want, shares_in(want, 0, b""));
-        same(&rt, &split(set, secret, random, count, 0), &answer);
+    for &(set, secret, want) in ROWS {
+        refuses(&rt, set, secret, (0, 0), want);
+    }
+    refuses(&rt, (2, b"test"), random_bytes(45), (0, 0), 55);
+    const COUNTS: &[(usize, usize, u32)] = &[
+        (1, 0, 65),
+        (32, 0, 65),
+        (usize::MAX, 0, 65),
+        (2, 25, 66),
+        (2, 27, 66),
+        (31, 26, 92),
+    ];
+    for &(count, drawn, want) in COUNTS {
+        refuses(&rt, (2, b"test"), &SECRET, (count, drawn), want);
     }
 }
 
@@ -136,7 +170,7 @@ const PAIR: &[u8] =
 // example.
 #[test]
 fn recovers_known_secrets(rt: HostRuntime) {
-    let rows: [(&[u8], &[usize], usize, u32); 8] = [
+    const ROWS: &[(&[u8], &[usize], usize, u32)] = &[
         (PAIR, &[48, 48], ROOM, 0),
         (PAIR, &[48, 48], 16, 0),
         (PAIR, &[48, 48], 15, 92),
@@ -171,7 +205,7 @@ fn recovers_known_secrets(rt: HostRuntime) {
             0,
         ),
     ];
-    for (texts, lengths, room, want) in rows {
+    for &(texts, lengths, room, want) in ROWS {
         recovers(&rt, texts, lengths, room, want);
     }
 }
@@ -179,7 +213,7 @@ fn recovers_known_secrets(rt: HostRuntime) {
 // Each refusal of texts, in their order, and of lengths. Some texts are those of a reference model.
 #[test]
 fn recovers_nothing_of_others(rt: HostRuntime) {
-    let rows: [(&[u8], &[usize], u32); 11] = [
+    const ROWS: &[(&[u8], &[usize], u32)] = &[
         (PAIR, &[], 4),
         (PAIR, &[48, 47], 4),
         (b"", &[0; 33], 4),
@@ -212,7 +246,7 @@ fn recovers_nothing_of_others(rt: HostRuntime) {
             87,
         ),
     ];
-    for (texts, lengths, want) in rows {
+    for &(texts, lengths, want) in ROWS {
         recovers(&rt, texts, lengths, 0, want);
     }
 }

@@ -1,4 +1,4 @@
-use crate::tests::compare::same;
+use crate::tests::compare::{is_right_or_wants_memory, same};
 use bech32::primitives::decode::{
     CharError, ChecksumError, CodeLengthError, PaddingError, UncheckedHrpstringError,
 };
@@ -9,19 +9,21 @@ use bech32::{
 use linked_list_allocator::LocalHeap;
 use std::alloc::Global;
 use std::process::Abort;
-use testing_tools::heaps::{InHeap, right_or_wants_memory};
+use testing_tools::heaps::InHeap;
 
 // The address of a silent payment (BIP-352), and its elements: a version, 0, and those of 66 bytes.
 const PAYMENT: &str =
     "sp1qqgste7k9hx0qftg6qmwlkqtwuy6cycyavzmzj85c6qdfhjdpdjtdgqjuexzk6murw56suy3e0rd2cgqvycxttddwsvgxe2usfpxumr70xc9pkqwv";
 
-const ELEMENTS: [u8; 107] = [
-    0, 0, 8, 16, 11, 25, 30, 22, 5, 23, 6, 15, 0, 9, 11, 8, 26, 0, 27, 14, 31, 22, 0, 11, 14, 28,
-    4, 26, 24, 4, 24, 4, 29, 12, 2, 27, 2, 18, 7, 20, 24, 26, 0, 13, 9, 23, 18, 13, 1, 13, 18, 11,
-    13, 8, 0, 18, 28, 25, 6, 2, 22, 26, 27, 28, 3, 14, 20, 26, 16, 28, 4, 17, 25, 15, 3, 13, 10,
-    24, 8, 0, 12, 4, 24, 6, 11, 11, 13, 13, 14, 16, 12, 8, 6, 25, 10, 28, 16, 9, 1, 6, 28, 27, 3,
-    30, 15, 6, 24,
-];
+fn elements() -> [u8; 107] {
+    [
+        0, 0, 8, 16, 11, 25, 30, 22, 5, 23, 6, 15, 0, 9, 11, 8, 26, 0, 27, 14, 31, 22, 0, 11, 14,
+        28, 4, 26, 24, 4, 24, 4, 29, 12, 2, 27, 2, 18, 7, 20, 24, 26, 0, 13, 9, 23, 18, 13, 1, 13,
+        18, 11, 13, 8, 0, 18, 28, 25, 6, 2, 22, 26, 27, 28, 3, 14, 20, 26, 16, 28, 4, 17, 25, 15,
+        3, 13, 10, 24, 8, 0, 12, 4, 24, 6, 11, 11, 13, 13, 14, 16, 12, 8, 6, 25, 10, 28, 16, 9, 1,
+        6, 28, 27, 3, 30, 15, 6, 24,
+    ]
+}
 
 // A key of nostr, and the same bytes with the last bit of their padding set; an account of Cosmos,
 // and the same bytes with an element more than they have.
@@ -39,13 +41,23 @@ fn refuses(rt: &impl Abort, alloc: Global, text: &str, refusal: TextError) {
     same(rt, &(text, found), &(text, Some(refusal)));
 }
 
+// Fails where a text is decoded otherwise.
+fn decodes(rt: &impl Abort, alloc: Global, text: &str, want: (Hrp, &[u8])) {
+    let (hrp, bytes) = decode(alloc, text).expect(rt, "a text");
+    same(rt, &(hrp, bytes.as_slice()), &want);
+}
+
+// Whether Bech32 decodes a text strictly.
+fn is_strict(alloc: Global, text: &str) -> bool {
+    decode_strict::<Bech32>(alloc, text).is_ok()
+}
+
 // Fails where another text is decoded to other bytes than the only one of them, or is decoded so.
 fn is_another(rt: &impl Abort, alloc: Global, text: &str, other: &str) {
     let only = decode_strict::<Bech32>(alloc, text);
     let (hrp, bytes) = only.expect(rt, "the only text of its bytes");
-    let (again, found) = decode(alloc, other).expect(rt, "a text");
-    same(rt, &(hrp, bytes.as_slice()), &(again, found.as_slice()));
-    same(rt, &decode_strict::<Bech32>(alloc, other).is_err(), &true);
+    decodes(rt, alloc, other, (hrp, bytes.as_slice()));
+    same(rt, &is_strict(alloc, other), &false);
 }
 
 #[test]
@@ -85,17 +97,25 @@ fn refusal(rt: &impl Abort, alloc: Global, elements: &[u8]) -> Option<ElementsEr
     encode_elements::<Bech32m>(alloc, hrp, elements).err()
 }
 
+// The part of the payment; fails where its elements are others.
+fn part_of_payment(rt: &impl Abort, alloc: Global) -> Hrp {
+    let (hrp, found) = decode_elements::<Bech32m>(alloc, PAYMENT).expect(rt, "a text");
+    same(rt, &found.as_slice(), &elements().as_slice());
+    hrp
+}
+
+// Fails where the text of its elements is another one.
+fn writes_payment(rt: &impl Abort, alloc: Global, hrp: Hrp) {
+    let text = encode_elements::<Bech32m>(alloc, hrp, &elements()).expect(rt, "a text");
+    same(rt, &text.as_str(), &PAYMENT);
+}
+
 #[test]
 fn elements_of_a_payment(rt: HostRuntime) {
     let alloc = rt.alloc();
-    let (hrp, elements) = decode_elements::<Bech32m>(alloc, PAYMENT).expect(&rt, "a text");
-    same(
-        &rt,
-        &(hrp.as_str(), elements.as_slice()),
-        &("sp", ELEMENTS.as_slice()),
-    );
-    let text = encode_elements::<Bech32m>(alloc, hrp, &ELEMENTS).expect(&rt, "a text");
-    same(&rt, &text.as_str(), &PAYMENT);
+    let hrp = part_of_payment(&rt, alloc);
+    same(&rt, &hrp.as_str(), &"sp");
+    writes_payment(&rt, alloc, hrp);
     let wrong = decode_elements::<Bech32m>(alloc, "a1").err();
     same(
         &rt,
@@ -115,6 +135,14 @@ fn elements_of_a_payment(rt: HostRuntime) {
     );
 }
 
+// What is right of a refusal: nothing, unless there was too little memory.
+fn unless_memory(error: TextError) -> Option<bool> {
+    match error {
+        TextError::Memory => None,
+        _ => Some(false),
+    }
+}
+
 // The only text of its bytes on a heap.
 struct OnlyText;
 
@@ -122,8 +150,7 @@ impl InHeap for OnlyText {
     fn is_right(&self, _alloc: Global, heap: &LocalHeap) -> Option<bool> {
         match decode_strict_in::<Bech32, &LocalHeap>(heap, KEY) {
             Ok((hrp, bytes)) => Some(hrp.as_str() == "npub" && bytes.as_slice().len() == 32),
-            Err(TextError::Memory) => None,
-            Err(_) => Some(false),
+            Err(error) => unless_memory(error),
         }
     }
 }
@@ -134,11 +161,10 @@ struct Payment;
 impl InHeap for Payment {
     fn is_right(&self, _alloc: Global, heap: &LocalHeap) -> Option<bool> {
         match decode_elements_in::<Bech32m, &LocalHeap>(heap, PAYMENT) {
-            Ok((hrp, elements)) => Some(
-                hrp.as_str() == "sp" && elements.as_slice() == ELEMENTS.as_slice(),
+            Ok((hrp, found)) => Some(
+                hrp.as_str() == "sp" && found.as_slice() == elements().as_slice(),
             ),
-            Err(TextError::Memory) => None,
-            Err(_) => Some(false),
+            Err(error) => unless_memory(error),
         }
     }
 }
@@ -151,7 +177,7 @@ impl InHeap for PaymentText {
         let Ok(hrp) = Hrp::parse("sp") else {
             return Some(false);
         };
-        match encode_elements_in::<Bech32m, &LocalHeap>(heap, hrp, &ELEMENTS) {
+        match encode_elements_in::<Bech32m, &LocalHeap>(heap, hrp, &elements()) {
             Ok(text) => Some(text.as_str() == PAYMENT),
             Err(ElementsError::Memory) => None,
             Err(_) => Some(false),
@@ -162,7 +188,7 @@ impl InHeap for PaymentText {
 #[test]
 fn elements_or_wants_memory(rt: HostRuntime) {
     let alloc = rt.alloc();
-    right_or_wants_memory(alloc, &OnlyText, (16, 16)).expect(&rt, "right, or out of memory");
-    right_or_wants_memory(alloc, &Payment, (16, 16)).expect(&rt, "right, or out of memory");
-    right_or_wants_memory(alloc, &PaymentText, (16, 16)).expect(&rt, "right, or out of memory");
+    is_right_or_wants_memory(&rt, alloc, &OnlyText);
+    is_right_or_wants_memory(&rt, alloc, &Payment);
+    is_right_or_wants_memory(&rt, alloc, &PaymentText);
 }

@@ -1,7 +1,10 @@
 //! Calls that take memory, at every length of a text, with ample memory: none is out of memory.
 
 use crate::tests::compare::same;
-use bech32::{Bech32, Correction, Hrp, correct_in, decode, encode, near_edits_in, nearest_in};
+use bech32::{
+    Bech32, CorrectError, Correction, Hrp, Mended, NearTexts, correct_in, decode, encode,
+    near_edits_in, nearest_in,
+};
 use linked_list_allocator::LocalHeap;
 use std::alloc::{AllocError, Global};
 
@@ -35,11 +38,35 @@ fn is_decoded(alloc: Global, text: &str, part: &str, bytes: &[u8]) -> bool {
     }
 }
 
-/// Whether a mistyped text is corrected to this one, with the memory of a heap.
-pub fn is_corrected(heap: &LocalHeap, mistyped: &str, text: &str) -> bool {
-    match correct_in::<Bech32, &LocalHeap>(heap, mistyped, &[]) {
+// Whether a call mended a text to this one.
+fn mends<C: Drop>(
+    said: Result<Correction<Mended<&LocalHeap>, C>, CorrectError>,
+    text: &str,
+) -> bool {
+    match said {
         Ok(Correction::Mended(mended)) => mended.text.as_str() == text,
         _ => false,
+    }
+}
+
+/// Whether a mistyped text is corrected to this one, with the memory of a heap.
+pub fn is_corrected(heap: &LocalHeap, mistyped: &str, text: &str) -> bool {
+    mends(correct_in::<Bech32, &LocalHeap>(heap, mistyped, &[]), text)
+}
+
+// Whether this text is among mended ones.
+fn is_among(found: &[Mended<&LocalHeap>], text: &str) -> bool {
+    found.iter().any(|mended| mended.text.as_str() == text)
+}
+
+// Whether a call lists this text.
+fn lists<C: Drop>(
+    said: Result<NearTexts<Vec<Mended<&LocalHeap>, &LocalHeap>, C>, CorrectError>,
+    text: &str,
+) -> bool {
+    match said {
+        Ok(near) => is_among(near.texts.as_slice(), text),
+        Err(_) => false,
     }
 }
 
@@ -51,10 +78,8 @@ pub fn is_near(
     erasures: &[usize],
     errors: usize,
 ) -> bool {
-    match nearest_in::<Bech32, &LocalHeap>(heap, mistyped, erasures, errors) {
-        Ok(near) => near.texts.iter().any(|near| near.text.as_str() == text),
-        Err(_) => false,
-    }
+    let near = nearest_in::<Bech32, &LocalHeap>(heap, mistyped, erasures, errors);
+    lists(near, text)
 }
 
 /// Whether one edit makes this text of another.

@@ -27,6 +27,10 @@ const TEXTS: [&str; 18] = [
     "aB1qqqqqq",
 ];
 
+fn texts() -> [&'static str; 18] {
+    TEXTS
+}
+
 // The character that stands in another place of a changed text.
 fn other(c: char) -> char {
     if c == 'q' { 'p' } else { 'q' }
@@ -76,7 +80,7 @@ fn agree_around(rt: &impl Abort, alloc: Global, text: &str) {
 
 #[test]
 fn decodes_what_is_accepted(rt: HostRuntime) {
-    for text in TEXTS {
+    for text in texts() {
         agree_around(&rt, rt.alloc(), text);
     }
 }

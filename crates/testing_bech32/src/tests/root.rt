@@ -1,4 +1,4 @@
-use crate::tests::compare::same;
+use crate::tests::compare::{is_right_or_wants_memory, same};
 use bech32::primitives::decode::{
     CharError, CheckedHrpstring, ChecksumError, CodeLengthError, InvalidResidueError,
     UncheckedHrpstring, UncheckedHrpstringError,
@@ -12,7 +12,7 @@ use linked_list_allocator::LocalHeap;
 use std::alloc::Global;
 use std::process::Abort;
 use testing_tools::compare::first_difference;
-use testing_tools::heaps::{InHeap, right_or_wants_memory};
+use testing_tools::heaps::InHeap;
 
 // The 20 bytes of a known text.
 const PROGRAM: [u8; 20] = [
@@ -249,7 +249,7 @@ impl InHeap for KnownText {
 
 #[test]
 fn encodes_or_wants_memory(rt: HostRuntime) {
-    right_or_wants_memory(rt.alloc(), &KnownText, (16, 16)).expect(&rt, "right, or out of memory");
+    is_right_or_wants_memory(&rt, rt.alloc(), &KnownText);
 }
 
 // The parts of a known text. A text that is not accepted is refused on a heap as elsewhere.
@@ -272,7 +272,7 @@ impl InHeap for KnownParts {
 
 #[test]
 fn decodes_or_wants_memory(rt: HostRuntime) {
-    right_or_wants_memory(rt.alloc(), &KnownParts, (16, 16)).expect(&rt, "right, or out of memory");
+    is_right_or_wants_memory(&rt, rt.alloc(), &KnownParts);
 }
 
 // Decodes the texts of bytes by either checksum, for each number of them from none on.

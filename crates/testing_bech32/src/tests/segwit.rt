@@ -1,4 +1,4 @@
-use crate::tests::compare::{prints, same};
+use crate::tests::compare::{is_right_or_wants_memory, prints, same};
 use bech32_decode::segwit::{InvalidWitnessVersionError, WitnessLengthError};
 use bech32_decode::{
     CharError, ChecksumError, PaddingError, SegwitCodeLengthError, SegwitHrpstring,
@@ -15,7 +15,7 @@ use linked_list_allocator::LocalHeap;
 use std::alloc::Global;
 use std::fmt;
 use std::process::Abort;
-use testing_tools::heaps::{InHeap, right_or_wants_memory};
+use testing_tools::heaps::InHeap;
 
 // Programs, and addresses of version 0 and 1 (BIP-173, BIP-350).
 const PROGRAM: [u8; 20] = [
@@ -262,11 +262,6 @@ impl InHeap for Known {
             Known::OfVersion1 => is_text(encode_v1_in(heap, hrp::BC, &[0xab; 20]), TAPROOT),
         }
     }
-}
-
-// Fails where the call is not right, or out of memory, or is either on each heap.
-fn is_right_or_wants_memory<C: InHeap>(rt: &impl Abort, alloc: Global, call: &C) {
-    right_or_wants_memory(alloc, call, (16, 16)).expect(rt, "right, or out of memory");
 }
 
 #[test]

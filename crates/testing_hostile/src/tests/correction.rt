@@ -55,13 +55,9 @@ fn add(corrector: &mut OnHeap<'_>, erasures: &[usize]) -> Answer {
     }
 }
 
-// The corrector of the four errors, with the first two as erasures.
-fn of_four_errors(heap: &Refusing<Global>) -> Option<OnHeap<'_>> {
-    let mut corrector = corrector_of(heap, FOUR_ERRORS)?;
-    match add(&mut corrector, &[44, 0]) {
-        Answer::Undisturbed => Some(corrector),
-        _ => None,
-    }
+// Whether a corrector is given the first two of the four errors as erasures.
+fn is_given_two(corrector: &mut OnHeap<'_>) -> bool {
+    add(corrector, &[44, 0]) == Answer::Undisturbed
 }
 
 // Whether a listing is just this.
@@ -107,22 +103,23 @@ fn clone_lists(corrector: &OnHeap<'_>, want: &[(usize, Fe32)]) -> Answer {
     }
 }
 
-// Six erasures more than the two.
+// What a corrector returns that is given six erasures more than the two.
 fn add_six(corrector: &mut OnHeap<'_>) -> Answer {
+    if !is_given_two(corrector) {
+        return Answer::Other;
+    }
     match add(corrector, &[1, 2, 3, 4, 5, 6]) {
         Answer::NoMemory => wants_memory(corrector, &FOUR),
         answer => answer,
     }
 }
 
-enum AddErasures {}
-
-impl Call for AddErasures {
-    fn answer(heap: &Refusing<Global>) -> Answer {
-        match of_four_errors(heap) {
-            Some(mut corrector) => add_six(&mut corrector),
-            None => Answer::Other,
-        }
+// What it lists with the two alone.
+fn lists_by_two(corrector: &mut OnHeap<'_>) -> Answer {
+    if is_given_two(corrector) {
+        lists_or_wants_memory(corrector, &FOUR)
+    } else {
+        Answer::Other
     }
 }
 
@@ -147,28 +144,6 @@ fn add_seven_and_one(corrector: &mut OnHeap<'_>) -> Answer {
     }
 }
 
-enum EighthErasure {}
-
-impl Call for EighthErasure {
-    fn answer(heap: &Refusing<Global>) -> Answer {
-        match corrector_of(heap, EIGHT_ERRORS) {
-            Some(mut corrector) => add_seven_and_one(&mut corrector),
-            None => Answer::Other,
-        }
-    }
-}
-
-enum BchErrors {}
-
-impl Call for BchErrors {
-    fn answer(heap: &Refusing<Global>) -> Answer {
-        match of_four_errors(heap) {
-            Some(corrector) => lists_or_wants_memory(&corrector, &FOUR),
-            None => Answer::Other,
-        }
-    }
-}
-
 // What is said of a listing that should be just this.
 fn says(listing: Option<Listed<'_>>, want: &[(usize, Fe32)]) -> Answer {
     match listing {
@@ -185,34 +160,12 @@ fn lists_with_two(corrector: &OnHeap<'_>) -> Answer {
     }
 }
 
-enum ListingWith {}
-
-impl Call for ListingWith {
-    fn answer(heap: &Refusing<Global>) -> Answer {
-        match corrector_of(heap, FOUR_ERRORS) {
-            Some(corrector) => lists_with_two(&corrector),
-            None => Answer::Other,
-        }
-    }
-}
-
 // What another corrector returns that has the eight erasures.
 fn lists_with_eight(corrector: &OnHeap<'_>) -> Answer {
     match corrector.with(&last_eight()) {
         Ok(Some(erased)) => lists(&erased, &eight()),
         Ok(None) => Answer::Other,
         Err(_) => Answer::NoMemory,
-    }
-}
-
-enum WithErasures {}
-
-impl Call for WithErasures {
-    fn answer(heap: &Refusing<Global>) -> Answer {
-        match corrector_of(heap, EIGHT_ERRORS) {
-            Some(corrector) => lists_with_eight(&corrector),
-            None => Answer::Other,
-        }
     }
 }
 
@@ -239,17 +192,6 @@ fn seven_left(corrector: &mut OnHeap<'_>) -> Answer {
     }
 }
 
-enum WithoutError {}
-
-impl Call for WithoutError {
-    fn answer(heap: &Refusing<Global>) -> Answer {
-        match corrector_of(heap, EIGHT_ERRORS) {
-            Some(mut corrector) => seven_left(&mut corrector),
-            None => Answer::Other,
-        }
-    }
-}
-
 // What its clone returns where it has the eight erasures.
 fn eight_cloned(corrector: &mut OnHeap<'_>) -> Answer {
     match add(corrector, &last_eight()) {
@@ -258,14 +200,91 @@ fn eight_cloned(corrector: &mut OnHeap<'_>) -> Answer {
     }
 }
 
+// What a corrector is asked: the first three that of the four errors, the others that of the eight.
+#[derive(Clone, Copy)]
+enum Asked {
+    AddErasures,
+    BchErrors,
+    ListingWith,
+    EighthErasure,
+    WithErasures,
+    WithoutError,
+    Clone,
+}
+
+fn ask(corrector: &mut OnHeap<'_>, asked: Asked) -> Answer {
+    match asked {
+        Asked::AddErasures => add_six(corrector),
+        Asked::BchErrors => lists_by_two(corrector),
+        Asked::ListingWith => lists_with_two(corrector),
+        Asked::EighthErasure => add_seven_and_one(corrector),
+        Asked::WithErasures => lists_with_eight(corrector),
+        Asked::WithoutError => seven_left(corrector),
+        Asked::Clone => eight_cloned(corrector),
+    }
+}
+
+// What the corrector of a text answers.
+fn answer_of(heap: &Refusing<Global>, text: &str, asked: Asked) -> Answer {
+    match corrector_of(heap, text) {
+        Some(mut corrector) => ask(&mut corrector, asked),
+        None => Answer::Other,
+    }
+}
+
+enum AddErasures {}
+
+impl Call for AddErasures {
+    fn answer(heap: &Refusing<Global>) -> Answer {
+        answer_of(heap, FOUR_ERRORS, Asked::AddErasures)
+    }
+}
+
+enum EighthErasure {}
+
+impl Call for EighthErasure {
+    fn answer(heap: &Refusing<Global>) -> Answer {
+        answer_of(heap, EIGHT_ERRORS, Asked::EighthErasure)
+    }
+}
+
+enum BchErrors {}
+
+impl Call for BchErrors {
+    fn answer(heap: &Refusing<Global>) -> Answer {
+        answer_of(heap, FOUR_ERRORS, Asked::BchErrors)
+    }
+}
+
+enum ListingWith {}
+
+impl Call for ListingWith {
+    fn answer(heap: &Refusing<Global>) -> Answer {
+        answer_of(heap, FOUR_ERRORS, Asked::ListingWith)
+    }
+}
+
+enum WithErasures {}
+
+impl Call for WithErasures {
+    fn answer(heap: &Refusing<Global>) -> Answer {
+        answer_of(heap, EIGHT_ERRORS, Asked::WithErasures)
+    }
+}
+
+enum WithoutError {}
+
+impl Call for WithoutError {
+    fn answer(heap: &Refusing<Global>) -> Answer {
+        answer_of(heap, EIGHT_ERRORS, Asked::WithoutError)
+    }
+}
+
 enum CloneCorrector {}
 
 impl Call for CloneCorrector {
     fn answer(heap: &Refusing<Global>) -> Answer {
-        match corrector_of(heap, EIGHT_ERRORS) {
-            Some(mut corrector) => eight_cloned(&mut corrector),
-            None => Answer::Other,
-        }
+        answer_of(heap, EIGHT_ERRORS, Asked::Clone)
     }
 }
 

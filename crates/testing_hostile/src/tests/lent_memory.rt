@@ -4,6 +4,7 @@ use crate::tests::compare::same;
 use caller_memory::{Lent, Memory};
 use std::alloc::{AllocError, Global};
 use std::mem::forget;
+use std::process::Abort;
 
 // How many bytes there are where memory came back.
 fn size_of_memory(memory: Option<Memory>) -> Option<usize> {
@@ -29,8 +30,22 @@ fn takes_the_memory_and_leaves_none(rt: HostRuntime) {
     let taken = memory.take().with_size().0;
     same(&rt, &[taken, memory.with_size().0], &[100, 0]);
     // Memory that was not asked for comes back.
-    let lent = Lent::new(Memory::leaked(rt.alloc(), 100).expect(&rt, "memory"));
-    same(&rt, &size_of_memory(lent.into_memory()), &Some(100));
+    comes_back(&rt, lent(&rt, rt.alloc(), 100), 100);
+}
+
+// Memory of a size, lent.
+fn lent(rt: &impl Abort, alloc: Global, size: usize) -> Lent {
+    Lent::new(Memory::leaked(alloc, size).expect(rt, "memory"))
+}
+
+// Fails where the memory does not come back, or has another size.
+fn comes_back(rt: &impl Abort, lent: Lent, size: usize) {
+    same(rt, &size_of_memory(lent.into_memory()), &Some(size));
+}
+
+// Whether the memory gives no block.
+fn is_out(lent: &Lent) -> bool {
+    Box::new(lent, 0u8).is_err()
 }
 
 // Whether the memory holds 96 bytes, which count up from the first, and no more meanwhile.
@@ -39,8 +54,7 @@ fn is_filled(lent: &Lent, first: u8) -> Result<bool, AllocError> {
     for count in 0..96u8 {
         whole.push(first.wrapping_add(count))?;
     }
-    let is_full = Box::new(lent, 0u8).is_err();
-    Ok(is_full && counts_up(&whole, first))
+    Ok(is_out(lent) && counts_up(&whole, first))
 }
 
 // Whether bytes count up from the first.
@@ -55,14 +69,19 @@ fn counts_up(bytes: &[u8], first: u8) -> bool {
     true
 }
 
+// Fails where the memory is not filled again and again.
+fn is_filled_again(rt: &impl Abort, lent: &Lent) {
+    for round in 0..5u8 {
+        let is_filled = is_filled(lent, round).ok();
+        same(rt, &(round, is_filled), &(round, Some(true)));
+    }
+}
+
 #[test]
 fn gives_one_block_at_a_time_and_takes_it_back(rt: HostRuntime) {
-    let lent = Lent::new(Memory::leaked(rt.alloc(), 100).expect(&rt, "memory"));
-    for round in 0..5u8 {
-        let is_filled = is_filled(&lent, round).ok();
-        same(&rt, &(round, is_filled), &(round, Some(true)));
-    }
-    same(&rt, &size_of_memory(lent.into_memory()), &Some(100));
+    let lent = lent(&rt, rt.alloc(), 100);
+    is_filled_again(&rt, &lent);
+    comes_back(&rt, lent, 100);
 }
 
 // Whether there is memory for this many bytes.
@@ -77,58 +96,64 @@ fn has_numbers(lent: &Lent, count: usize) -> bool {
 
 #[test]
 fn gives_no_block_that_does_not_fit(rt: HostRuntime) {
-    let lent = Lent::new(Memory::leaked(rt.alloc(), 100).expect(&rt, "memory"));
+    let lent = lent(&rt, rt.alloc(), 100);
     let given = [
         has_bytes(&lent, 97),
         has_numbers(&lent, 7),
         has_numbers(&lent, 6),
     ];
     same(&rt, &given, &[false, false, true]);
-    same(&rt, &size_of_memory(lent.into_memory()), &Some(100));
+    comes_back(&rt, lent, 100);
+}
+
+// Takes a block that never comes back.
+fn keep_block(rt: &impl Abort, lent: &Lent) {
+    forget(Box::new(lent, 0u8).expect(rt, "memory"));
 }
 
 #[test]
 fn memory_is_kept_with_a_block_that_is_out(rt: HostRuntime) {
-    let lent = Lent::new(Memory::leaked(rt.alloc(), 100).expect(&rt, "memory"));
-    forget(Box::new(&lent, 0u8).expect(&rt, "memory"));
-    let is_refused = Box::new(&lent, 0u8).is_err();
-    same(
-        &rt,
-        &(is_refused, lent.into_memory().is_none()),
-        &(true, true),
-    );
+    let lent = lent(&rt, rt.alloc(), 100);
+    keep_block(&rt, &lent);
+    let is_refused = is_out(&lent);
+    let back = size_of_memory(lent.into_memory());
+    same(&rt, &(is_refused, back), &(true, None));
 }
 
-// The bytes that an arena over so much memory has to give.
-fn arena_size(alloc: Global, size: usize) -> Result<usize, AllocError> {
-    let lent = Lent::new(Memory::leaked(alloc, size)?);
-    let arena = lent.arena();
-    Ok(arena.chunk_capacity())
+// The bytes that an arena over memory has to give.
+fn arena_size(lent: &Lent) -> usize {
+    lent.arena().chunk_capacity()
+}
+
+// Fails where an arena over so much memory has another number of bytes to give.
+fn is_arena(rt: &impl Abort, alloc: Global, size: usize, want: usize) {
+    let found = arena_size(&lent(rt, alloc, size));
+    same(rt, &(size, found), &(size, want));
 }
 
 // An arena has all whole pages, but for 64 bytes; the last page is whole without its last 16.
 #[test]
 fn arena_over_all_pages(rt: HostRuntime) {
-    for (size, want) in [
-        (4079, 0),
-        (4080, 4032),
-        (8175, 4032),
-        (8176, 8128),
-        (12272, 12224),
-        (65520, 65472),
-    ] {
-        let found = arena_size(rt.alloc(), size).ok();
-        same(&rt, &(size, found), &(size, Some(want)));
-    }
+    let alloc = rt.alloc();
+    is_arena(&rt, alloc, 4079, 0);
+    is_arena(&rt, alloc, 4080, 4032);
+    is_arena(&rt, alloc, 8175, 4032);
+    is_arena(&rt, alloc, 8176, 8128);
+    is_arena(&rt, alloc, 12272, 12224);
+    is_arena(&rt, alloc, 65520, 65472);
+}
+
+// The same where a block of it is out.
+fn arena_size_beside_block(rt: &impl Abort, lent: &Lent) -> usize {
+    let _block = Box::new(lent, 0u8).expect(rt, "memory");
+    arena_size(lent)
 }
 
 #[test]
 fn arena_over_memory_that_is_out(rt: HostRuntime) {
-    let lent = Lent::new(Memory::leaked(rt.alloc(), 8192).expect(&rt, "memory"));
-    let block = Box::new(&lent, 0u8).expect(&rt, "memory");
-    same(&rt, &lent.arena().chunk_capacity(), &0);
-    drop(block);
-    same(&rt, &size_of_memory(lent.into_memory()), &Some(8192));
+    let lent = lent(&rt, rt.alloc(), 8192);
+    same(&rt, &arena_size_beside_block(&rt, &lent), &0);
+    comes_back(&rt, lent, 8192);
 }
 
 // Whether there is memory for each number of bytes up to a greatest one, and it comes back.
@@ -143,42 +168,37 @@ fn has_all_up_to(lent: &Lent, most: usize) -> bool {
 
 #[test]
 fn gives_a_block_of_every_size(rt: HostRuntime) {
-    let lent = Lent::new(Memory::leaked(rt.alloc(), 65536).expect(&rt, "memory"));
+    let lent = lent(&rt, rt.alloc(), 65536);
     let given = [has_all_up_to(&lent, 65536), has_bytes(&lent, 65537)];
     same(&rt, &given, &[true, false]);
-    same(&rt, &size_of_memory(lent.into_memory()), &Some(65536));
+    comes_back(&rt, lent, 65536);
 }
 
 // What memory of a size gives: all of it as a block, an arena over its pages, and it comes back.
-fn gives(alloc: Global, size: usize) -> Option<(bool, usize, usize)> {
-    let lent = Lent::new(Memory::leaked(alloc, size).ok()?);
+fn gives(rt: &impl Abort, alloc: Global, size: usize) -> (bool, usize, Option<usize>) {
+    let lent = lent(rt, alloc, size);
     let has_whole = has_numbers(&lent, size / 16);
-    let in_arena = lent.arena().chunk_capacity();
-    let back = size_of_memory(lent.into_memory())?;
-    Some((has_whole, in_arena, back))
+    let in_arena = arena_size(&lent);
+    (has_whole, in_arena, size_of_memory(lent.into_memory()))
 }
 
 // What it should give.
-fn wanted(size: usize) -> (bool, usize, usize) {
+fn wanted(size: usize) -> (bool, usize, Option<usize>) {
     let pages = size.saturating_add(16) / 4096;
-    (true, (pages * 4096).saturating_sub(64), size)
+    (true, (pages * 4096).saturating_sub(64), Some(size))
 }
 
-// The first of some sizes at which it gives something else.
-fn first_fault(alloc: Global) -> Option<usize> {
-    for i in 0..=256usize {
-        let size = i * 256 + i % 16;
-        if gives(alloc, size) != Some(wanted(size)) {
-            return Some(size);
-        }
-    }
-    None
+// Fails where it gives something else.
+fn gives_all(rt: &impl Abort, alloc: Global, size: usize) {
+    same(rt, &(size, gives(rt, alloc, size)), &(size, wanted(size)));
 }
 
 #[test]
 fn memory_of_many_sizes_gives_all_and_comes_back(rt: HostRuntime) {
-    same(&rt, &first_fault(rt.alloc()), &None);
-    for size in [100_000, 1 << 17, 1 << 23] {
-        same(&rt, &gives(rt.alloc(), size), &Some(wanted(size)));
+    for i in 0..=256usize {
+        gives_all(&rt, rt.alloc(), i * 256 + i % 16);
     }
+    gives_all(&rt, rt.alloc(), 100_000);
+    gives_all(&rt, rt.alloc(), 1 << 17);
+    gives_all(&rt, rt.alloc(), 1 << 23);
 }

@@ -1,6 +1,5 @@
-//! Elements with their checksum, as elements, as characters and as bytes.
-
-mod checksum_rows;
+//! Elements with their checksum, as elements, as characters and as bytes. 280 rows of them stand in
+//! the stored run of `vector_rows`.
 
 use crate::tests::adaptors::{
     bytes_are, characters_are, characters_begin, checksummed_are, checksummed_begin,
@@ -10,7 +9,7 @@ use crate::tests::adaptors::{
 use crate::tests::compare::{counts_down, exactly, same, same_items, step};
 use crate::tests::hrp::part;
 use bech32_bits::{ByteIterExt, BytesToFes};
-use bech32_checksum::{Bech32, Bech32m, Checksum, HrpFe32Iter, NoChecksum};
+use bech32_checksum::{Bech32, Bech32m, HrpFe32Iter, NoChecksum};
 use bech32_encode::{Checksummed, Encoder, Fe32IterExt, WitnessVersionIter, put_text};
 use bech32_gf::gf32::Fe32;
 use bech32_hrp::Hrp;
@@ -378,86 +377,11 @@ fn checksum_of_the_elements_of_one_letter(rt: HostRuntime) {
     }
 }
 
-// A field of a row: the elements of its characters, or none for `-`.
-fn elements_of(rt: &impl Abort, alloc: Global, field: &[u8]) -> Vec<Fe32> {
+// The elements of characters.
+fn elements_of(rt: &impl Abort, alloc: Global, characters: &[u8]) -> Vec<Fe32> {
     let mut fes = Vec::new(alloc);
-    if field != b"-".as_slice() {
-        for c in field {
-            fes.push(element(rt, *c)).expect(rt, "memory");
-        }
+    for c in characters {
+        fes.push(element(rt, *c)).expect(rt, "memory");
     }
     fes
-}
-
-// Fails where the elements, with their checksum behind them, are others than those of the texts.
-fn checksummed<Ck: Checksum>(
-    rt: &impl Abort,
-    alloc: Global,
-    hrp: Hrp,
-    data: &[u8],
-    checksum: &[u8],
-) {
-    let fes = elements_of(rt, alloc, data);
-    let mut all = elements_of(rt, alloc, data);
-    let behind = elements_of(rt, alloc, checksum);
-    all.extend_from_slice(&behind).expect(rt, "memory");
-    checksummed_under::<_, Ck>(rt, hrp, fes.iter().copied(), &all);
-}
-
-// The text of a row: what stands before the separator, and behind it.
-fn spelled(rt: &impl Abort, alloc: Global, part: &[u8], data: &[u8], checksum: &[u8]) -> Vec<u8> {
-    let mut text = part.to_vec(alloc).expect(rt, "memory");
-    text.push(b'1').expect(rt, "memory");
-    if data != b"-".as_slice() {
-        text.extend_from_slice(data).expect(rt, "memory");
-    }
-    text.extend_from_slice(checksum).expect(rt, "memory");
-    text
-}
-
-// Fails where the text of elements under a human-readable part is another.
-fn text_of<Ck: Checksum>(rt: &impl Abort, alloc: Global, hrp: &Hrp, data: &[u8], want: &[u8]) {
-    let fes = elements_of(rt, alloc, data);
-    bytes_are::<_, Ck>(rt, (hrp, None), fes.iter().copied(), want);
-}
-
-/// Fails where the checksum of a row is another: behind its elements, and in its text.
-pub fn row_of<Ck: Checksum>(
-    rt: &impl Abort,
-    alloc: Global,
-    spelling: &[u8],
-    data: &[u8],
-    checksum: &[u8],
-) {
-    let hrp = part(rt, str::from_utf8(spelling).expect(rt, "a text"));
-    checksummed::<Ck>(rt, alloc, hrp, data, checksum);
-    let text = spelled(rt, alloc, spelling, data, checksum);
-    text_of::<Ck>(rt, alloc, &hrp, data, &text);
-}
-
-// Fails where the checksum of a row is another, and counts the row.
-fn count_row(rt: &impl Abort, alloc: Global, row: &[u8]) -> u32 {
-    if row.is_empty() {
-        return 0;
-    }
-    let mut fields = row.split(|b| *b == b'\t');
-    let name = fields.next().expect(rt, "the checksum");
-    let spelling = fields.next().expect(rt, "the human-readable part");
-    let data = fields.next().expect(rt, "the elements");
-    let checksum = fields.next().expect(rt, "their checksum");
-    if name == b"Bech32".as_slice() {
-        row_of::<Bech32>(rt, alloc, spelling, data, checksum);
-    } else {
-        row_of::<Bech32m>(rt, alloc, spelling, data, checksum);
-    }
-    1
-}
-
-#[test]
-fn appends_the_checksums_of_the_rows(rt: HostRuntime) {
-    let mut rows = 0u32;
-    for row in checksum_rows::ROWS.split(|b| *b == b'\n') {
-        rows = rows.saturating_add(count_row(&rt, rt.alloc(), row));
-    }
-    same(&rt, &rows, &200);
 }

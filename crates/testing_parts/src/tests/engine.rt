@@ -1,11 +1,9 @@
-//! Engines: checksums that are known, long division, the rows of codex32.
+//! Engines: checksums that are known, long division.
 
 ghost use Rattle.std.specs.Prelude.{length, ◌≤◌};
 ghost use Rattle.bech32_checksum.specs.Code.{IsResidueAfter};
 
-use crate::tests::codex32_rows::ROWS;
 use crate::tests::compare::{same, same_items};
-use crate::tests::encode::row_of;
 use bech32_checksum::{Bech32, Bech32m, Checksum, Engine, NoChecksum, PackedFe32, PackedNull};
 use bech32_gf::gf32::Fe32;
 use bech32_hrp::Hrp;
@@ -187,26 +185,4 @@ fn equal_engines(rt: HostRuntime) {
     engine.input_fe(Fe32::L);
     let found = [is_new_before, is_new(&engine), equals_its_clone(&engine)];
     same_items(&rt, &found, &[true, false, true]);
-}
-
-// Fails where the checksum of a row is another, and counts the row.
-fn count_row(rt: &impl Abort, alloc: Global, row: &[u8]) -> u32 {
-    if row.is_empty() {
-        return 0;
-    }
-    let mut fields = row.split(|b| *b == b'\t');
-    let spelling = fields.next().expect(rt, "the human-readable part");
-    let data = fields.next().expect(rt, "the elements");
-    let checksum = fields.next().expect(rt, "their checksum");
-    row_of::<Degree13<93>>(rt, alloc, spelling, data, checksum);
-    1
-}
-
-#[test]
-fn appends_the_checksums_of_codex32(rt: HostRuntime) {
-    let mut rows = 0u32;
-    for row in ROWS.split(|b| *b == b'\n') {
-        rows = rows.saturating_add(count_row(&rt, rt.alloc(), row));
-    }
-    same(&rt, &rows, &80);
 }

@@ -3,86 +3,22 @@
 ghost use Rattle.std.specs.Prelude.{◌≡◌, ◌<◌, ◌≤◌, ◌+◌, ◌-◌, IsTrue, IfSome, refl};
 ghost use Rattle.bech32_gf.specs.Fe32 as fe32;
 ghost use Rattle.bech32_gf.specs.Field.{IsOrder};
-ghost use Rattle.bech32_gf_ext.specs.Fe1024.{pair};
-ghost use Rattle.bech32_checksum.specs.Code.{bech32};
-ghost use Rattle.bech32_checksum.specs.laws.CodeLaws as codes;
 ghost use Rattle.bech32_checksum.specs.Roots.{HasLawfulRoots, singleton_bound};
 ghost use Rattle.testing_parts.specs.TestWords.{words_1, words_1_keep, code_1};
-ghost use Rattle.bech32_gf_ext.specs.Fe1024 as fe1024;
 
 use crate::tests::compare::{same, same_items};
 use bech32_checksum::{Bech32, Bech32m, Checksum, LocatorField, NoChecksum};
 use bech32_gf::field::{ExtensionField, Field};
 use bech32_gf::gf32::Fe32;
-use bech32_gf_ext::{Fe32Ext, Fe1024};
+use bech32_gf_ext::Fe1024;
 use testing_tools::codes::{Altered, Degree8, Degree13};
 
-const WORDS: [u32; 5] = [0x3b6a57b2, 0x26508e6d, 0x1ea119fa, 0x3d4233dd, 0x2a1462b3];
-
-// Bech32 with a base of order 1.
+// The generator x + 1, for texts of `LONGEST` characters: each power of the base 1, whose order is
+// 1, is a root.
 #[derive(Copy, Clone)]
-enum OtherBase {}
+enum Degree1<const LAST: usize, const LONGEST: usize> {}
 
-impl Checksum for OtherBase {
-    type MidstateRepr = u32;
-
-    type CorrectionField = Fe1024;
-
-    ghost ROOT_GENERATOR = { pair fe32.one fe32.zero };
-
-    ghost ROOT_EXPONENTS_START = { 24 };
-
-    ghost ROOT_EXPONENTS_END = { 26 };
-
-    ghost CODE_LENGTH = { 1023 };
-
-    ghost CHECKSUM_LENGTH = { 6 };
-
-    ghost GENERATOR_SH = { codes.words };
-
-    ghost TARGET_RESIDUE = { 1 };
-
-    ghost code = { bech32 };
-
-    ghost bound = { 3 };
-
-    ghost lawful = { HasLawfulRoots fe1024.ops fe1024.embed
-        bech32 (pair fe32.one fe32.zero) 24 26 };
-
-    const ROOT_GENERATOR: Fe1024 = Fe32Ext {
-        inner: [Fe32::P, Fe32::Q],
-    };
-
-    const ROOT_EXPONENTS_START: usize = 24;
-
-    const ROOT_EXPONENTS_END: usize = 26;
-
-    const CODE_LENGTH: usize = 1023;
-
-    const CHECKSUM_LENGTH: usize = 6;
-
-    const GENERATOR_SH: [u32; 5] = WORDS;
-
-    const TARGET_RESIDUE: u32 = 1;
-
-    ghost packing_laws = { codes.bech32_keeps };
-
-    ghost code_law = { codes.bech32_is_packed };
-
-    ghost degree_law = { refl };
-
-    ghost code_length_law = { refl };
-
-    ghost bound_law = { refl };
-
-    ghost lawful_law = { (λ h. h, λ h. h) };
-}
-
-// The generator x + 1, for texts of one character: each power of the base 1 is a root.
-#[derive(Copy, Clone)]
-enum Degree1<const LAST: usize> {}
-
-impl<const LAST: usize> Checksum for Degree1<LAST> {
+impl<const LAST: usize, const LONGEST: usize> Checksum for Degree1<LAST, LONGEST> {
     type MidstateRepr = u32;
 
     type CorrectionField = Fe32;
@@ -93,7 +29,7 @@ impl<const LAST: usize> Checksum for Degree1<LAST> {
 
     ghost ROOT_EXPONENTS_END = { LAST };
 
-    ghost CODE_LENGTH = { 1 };
+    ghost CODE_LENGTH = { LONGEST };
 
     ghost CHECKSUM_LENGTH = { 1 };
 
@@ -101,11 +37,11 @@ impl<const LAST: usize> Checksum for Degree1<LAST> {
 
     ghost TARGET_RESIDUE = { 1 };
 
-    ghost code = { code_1 };
+    ghost code = { code_1 LONGEST };
 
     ghost bound = { singleton_bound 3 LAST };
 
-    ghost lawful = { HasLawfulRoots fe32.ops (λ x. x) code_1 fe32.one 3 LAST };
+    ghost lawful = { HasLawfulRoots fe32.ops (λ x. x) (code_1 LONGEST) fe32.one 3 LAST };
 
     const ROOT_GENERATOR: Fe32 = Fe32::P;
 
@@ -113,7 +49,7 @@ impl<const LAST: usize> Checksum for Degree1<LAST> {
 
     const ROOT_EXPONENTS_END: usize = LAST;
 
-    const CODE_LENGTH: usize = 1;
+    const CODE_LENGTH: usize = LONGEST;
 
     const CHECKSUM_LENGTH: usize = 1;
 
@@ -241,8 +177,8 @@ fn altered_is_sane<const FIRST: usize, const LAST: usize, const LONGEST: usize>(
 }
 
 // Whether those of the generator x + 1 do, from the exponent 3 on.
-fn degree_1_is_sane<const LAST: usize>() -> bool {
-    <Degree1<LAST>>::sanity_check()
+fn degree_1_is_sane<const LAST: usize, const LONGEST: usize>() -> bool {
+    <Degree1<LAST, LONGEST>>::sanity_check()
 }
 
 #[test]
@@ -253,7 +189,7 @@ fn altered_roots(rt: HostRuntime) {
         // The same powers once more.
         altered_is_sane::<1047, 1049, 1023>(),
         // As many roots as the degree.
-        degree_1_is_sane::<3>(),
+        degree_1_is_sane::<3, 1>(),
     ];
     same_items(&rt, &lawful, &[true; 4]);
     let unlawful = [
@@ -263,9 +199,10 @@ fn altered_roots(rt: HostRuntime) {
         altered_is_sane::<27, 27, 1023>(),
         altered_is_sane::<25, 24, 1023>(),
         altered_is_sane::<0, { usize::MAX }, 1023>(),
-        OtherBase::sanity_check(),
+        // A base of order 1 in a code as long as that of Bech32.
+        degree_1_is_sane::<3, 1023>(),
         // One root more than the degree.
-        degree_1_is_sane::<4>(),
+        degree_1_is_sane::<4, 1>(),
     ];
     same_items(&rt, &unlawful, &[false; 8]);
 }

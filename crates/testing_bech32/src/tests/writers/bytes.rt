@@ -3,7 +3,7 @@ use super::given::{
     Check, Writes, behind_each_part, fronts, known_address, known_addresses, known_texts,
     long_address, of_each_length, of_each_version, part,
 };
-use super::known::{KINDS, data, zeros};
+use super::known::{data, kinds, zeros};
 use crate::tests::compare::same;
 use bech32::segwit::VERSION_0;
 use bech32::{Bech32m, EncodeIoError, encode_to_writer};
@@ -119,8 +119,11 @@ fn nothing_is_written_of_a_long_text(rt: HostRuntime) {
     same(&rt, &(outcome, bytes.len()), &(Err(None), 0));
 }
 
+// What a call told.
+type Told = Result<(), Option<io::ErrorKind>>;
+
 // The outcome at a writer that has room for the text, or has not.
-fn outcome_at(w: &Narrow, is_cut: bool) -> Result<(), Option<io::ErrorKind>> {
+fn outcome_at(w: &Narrow, is_cut: bool) -> Told {
     match w.error {
         _ if !is_cut => Ok(()),
         Some(error) => Err(Some(error.kind())),
@@ -128,23 +131,32 @@ fn outcome_at(w: &Narrow, is_cut: bool) -> Result<(), Option<io::ErrorKind>> {
     }
 }
 
+// What came of a call at a writer: the outcome, how many bytes were taken, failures and flushes,
+// whether those bytes begin the text, and whether no call was for nothing.
+type Came = (Told, (usize, usize, usize), (bool, bool));
+
+// The same where this much should be taken.
+fn came(outcome: Told, w: &Narrow, whole: &[u8], count: usize) -> Came {
+    let begins = whole.starts_with(w.got.as_slice());
+    let are_few = w.calls <= count.saturating_add(w.failures);
+    let counts = (w.got.len(), w.failures, w.flushes);
+    (outcome, counts, (begins, are_few))
+}
+
 // Fails where a form does not write as far as a writer has room, goes on when it failed, tells
 // another error, flushes it, or makes a call that is for nothing.
 fn fails_behind(rt: &impl Abort, (form, given): (Form, &Given<'_>), whole: &[u8], w: &mut Narrow) {
     let outcome = to_writer(form, w, given).map_err(kind);
     let is_cut = w.room < whole.len();
-    let want = outcome_at(w, is_cut);
     let count = w.room.min(whole.len());
-    let begins = whole.starts_with(w.got.as_slice());
-    let are_few = w.calls <= count.saturating_add(w.failures);
-    let writer = (form, w.room, w.step);
-    let found = (outcome, (w.got.len(), w.failures, w.flushes));
-    let want = (want, (count, usize::from(is_cut), 0));
-    same(
-        rt,
-        &(writer, found, (begins, are_few)),
-        &(writer, want, (true, true)),
+    let found = came(outcome, w, whole, count);
+    let want = (
+        outcome_at(w, is_cut),
+        (count, usize::from(is_cut), 0),
+        (true, true),
     );
+    let writer = (form, w.room, w.step);
+    same(rt, &(writer, found), &(writer, want));
 }
 
 // The same of a writer with this room, which takes so many bytes a call.
@@ -247,7 +259,7 @@ fn ends_at(rt: &impl Abort, form: Form, first: Option<io::ErrorKind>, want: io::
 // The same of a writer that takes nothing, and of one with an error of each kind.
 fn ends_at_each(rt: &impl Abort, form: Form) {
     ends_at(rt, form, None, io::ErrorKind::WriteZero);
-    for kind in KINDS {
+    for kind in kinds() {
         ends_at(rt, form, Some(kind), kind);
     }
 }
