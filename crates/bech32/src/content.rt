@@ -16,7 +16,7 @@ use bech32_decode::CheckedHrpstring;
 use bech32_hrp::Hrp;
 use std::alloc::{AllocError, Allocator};
 
-/// What is made of the characters of a data part before its checksum.
+/// What a data part without its checksum is decoded to.
 #[derive(Clone, Copy)]
 pub enum Content {
     /// Its bytes. Bits behind the last whole one are dropped.

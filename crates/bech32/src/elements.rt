@@ -44,7 +44,7 @@ fn position_above(values: &[u8]) -> Option<usize>
     values.iter().position(|value| *value > 31)
 }
 
-/// Where the first number above 31 stands, counted from 0, if there is one.
+/// The place, counted from 0, of the first number above 31, if there is one.
 pub fn place_above(values: &[u8]) -> Option<usize>
     ensures { MatchOption result
         (AreValues values.now)
@@ -53,15 +53,15 @@ pub fn place_above(values: &[u8]) -> Option<usize>
     position_above(values)
 }
 
-/// The number of characters of the text that [`encode_elements_in`] writes of a human-readable
+/// The number of characters of the text that [`encode_elements_in`] writes for a human-readable
 /// part, given as bytes, and this many elements.
 ///
 /// Nothing else is tested.
 ///
 /// # Errors
 ///
-/// The length, exactly where it is above the code length of the checksum (`usize::MAX` where it is
-/// above that too).
+/// The length, if and only if it is above the code length of the checksum (`usize::MAX` if it does
+/// not fit in a `usize`).
 pub fn elements_length<Ck: Checksum>(part: &[u8], values: &[u8]) -> Result<usize, CodeLengthError>
     ensures { MatchResult result
         (λ n. (n ≡ encoded_length_of Ck.code part.now (elements_in values.now))
@@ -83,8 +83,8 @@ pub fn elements_length<Ck: Checksum>(part: &[u8], values: &[u8]) -> Result<usize
 /// Puts the text of a human-readable part and elements, each the lowest five bits of a byte, at the
 /// front of a buffer that has room for it, and returns its length (BIP-173, Bech32).
 ///
-/// Into a buffer that has no room for the whole text goes as much of it as fits; the answer is then
-/// the buffer's length.
+/// If the buffer is too small for the whole text, as much of it as fits is written; the result is
+/// then the buffer's length.
 pub fn put_text_of_elements<Ck: Checksum>(hrp: &Hrp, values: &[u8], buffer: &mut [u8]) -> usize
     ensures { (text : List ℕ)
         × IsEncodedText Ck.code (hrp_bytes hrp.now) (elements_in values.now) text
@@ -97,8 +97,8 @@ pub fn put_text_of_elements<Ck: Checksum>(hrp: &Hrp, values: &[u8], buffer: &mut
 /// Decodes a text that the checksum accepts, with memory from `alloc`: its human-readable part, in
 /// the case of the text, and the elements before its checksum, a byte from 0 to 31 each.
 ///
-/// The text is, in its case, the only one by this checksum of these: [`encode_elements_in`] writes
-/// it of them, in lower case.
+/// In its case, the text is the only one that this checksum accepts for its human-readable part and
+/// its elements; [`encode_elements_in`] writes it from them, in lower case.
 ///
 /// # Errors
 ///
@@ -164,8 +164,8 @@ fn text_of_length_in<Ck: Checksum, A: Allocator>(
 }
 
 /// Encodes elements, a byte from 0 to 31 each, under a human-readable part, in lower case, with
-/// memory from `alloc`. Of what [`decode_elements_in`] gives of a text it is that text in lower
-/// case.
+/// memory from `alloc`. Given what [`decode_elements_in`] returned for a text, it writes that text
+/// in lower case.
 ///
 /// The elements of bytes are their bits, five at a time, the highest first, with zeros behind the
 /// last ([`ByteIterExt::bytes_to_fes`](crate::ByteIterExt)).

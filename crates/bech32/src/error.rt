@@ -26,7 +26,7 @@ pub enum DecodeError {
     Memory,
 }
 
-/// Why a text is not decoded by a checksum that is asked for.
+/// Why a text is not decoded by a named checksum.
 #[derive(Clone, Copy, Debug, PartialEq, Eq, Drop, Error)]
 pub enum TextError {
     /// It is not in the grammar.

@@ -81,8 +81,8 @@ fn decoded_in<A: Allocator>(alloc: A, s: &str) -> Result<(Hrp, Vec<u8, A>), Deco
 /// and the bytes of its data, with memory from `alloc`.
 ///
 /// Bits behind the last whole byte are dropped and not tested: see [`decode_strict_in`] for texts
-/// that identify something. Of a text that [`encode_in`] writes by Bech32m or Bech32 it gives the
-/// human-readable part, in lower case, and the bytes.
+/// that identify something. For a text that [`encode_in`] wrote with Bech32m or Bech32, it returns
+/// the human-readable part, in lower case, and the bytes.
 ///
 /// # Errors
 ///
@@ -111,14 +111,14 @@ pub fn decode(alloc: Global, s: &str) -> Result<(Hrp, Vec<u8>), DecodeError>
     decode_in(alloc, s)
 }
 
-/// The number of characters of the text that [`encode`] writes of a human-readable part and bytes.
+/// The number of characters of the text that [`encode`] writes for a human-readable part and bytes.
 ///
 /// Nothing else is tested.
 ///
 /// # Errors
 ///
-/// The length, exactly where it is above the code length of the checksum (`usize::MAX` where it is
-/// above that too).
+/// The length, if and only if it is above the code length of the checksum (`usize::MAX` if it does
+/// not fit in a `usize`).
 pub fn encoded_length<Ck: Checksum>(hrp: Hrp, data: &[u8]) -> Result<usize, CodeLengthError>
     ensures { MatchResult result
         (λ n. (n ≡ encoded_length_of Ck.code (hrp_bytes hrp) (to_fes «data».now))

@@ -2,8 +2,8 @@
 //!
 //! Up to 1,023 characters they accept what the short ones do. Above that nothing is promised of how
 //! far accepted texts lie apart, and texts are not corrected: 1,023 is the order of the roots, so a
-//! wrong character leaves what one 1,023 characters further on leaves (at location 1,200 what one
-//! at 177 does). So neither is a [`CorrectingChecksum`](crate::CorrectingChecksum).
+//! wrong character leaves the same remainder as one 1,023 locations away (at location 1,200 the
+//! same as at 177). So neither is a [`CorrectingChecksum`](crate::CorrectingChecksum).
 
 ghost use Rattle.std.specs.Prelude.{refl};
 ghost use Rattle.std.proofs.Common.{ap};
@@ -20,7 +20,7 @@ pub type LongBech32 = Long<Bech32>;
 /// Bech32m (BIP-350) for texts of up to 7,089 characters.
 pub type LongBech32m = Long<Bech32m>;
 
-/// A checksum for texts of up to 7,089 characters: all but this length is that of `Ck`.
+/// `Ck` for texts of up to 7,089 characters: nothing but this length differs.
 #[derive(Copy, Clone)]
 pub struct Long<Ck> {
     of: PhantomData<Ck>,

@@ -14,10 +14,10 @@ use std::alloc::{Allocator, Global};
 /// Decodes a text that the checksum accepts, with memory from `alloc`: its human-readable part, in
 /// the case of the text, and the bytes of its data.
 ///
-/// Other than [`decode_in`](crate::decode_in), it tests the bits behind the last whole byte. So the
-/// text is, in its case, the only one by this checksum of its human-readable part and its bytes:
-/// [`encode_in`](crate::encode_in) writes it of them, in lower case. Decode so what identifies
-/// something, as an account or a key.
+/// Unlike [`decode_in`](crate::decode_in), it tests the bits behind the last whole byte. So, in its
+/// case, the text is the only one that this function decodes by this checksum to its human-readable
+/// part and its bytes; [`encode_in`](crate::encode_in) writes it from them, in lower case. Use this
+/// for what identifies something, such as an account or a key.
 ///
 /// # Errors
 ///

@@ -88,7 +88,7 @@ pub fn encode_into_bytes<Ck: Checksum, S: ByteSink>(
 ///
 /// # Errors
 ///
-/// What [`encode_into_fmt`] returns over the writer, watched.
+/// Those of [`encode_into_fmt`] over the writer in a [`Watched`].
 pub fn encode_lower_to_fmt<Ck: Checksum, W: fmt::Write>(
     fmt: &mut W,
     hrp: Hrp,
@@ -130,7 +130,7 @@ pub fn encode_to_fmt<Ck: Checksum, W: fmt::Write>(
 ///
 /// # Errors
 ///
-/// What [`encode_into_fmt`] returns over the writer, watched.
+/// Those of [`encode_into_fmt`] over the writer in a [`Watched`].
 pub fn encode_upper_to_fmt<Ck: Checksum, W: fmt::Write>(
     fmt: &mut W,
     hrp: Hrp,
@@ -152,8 +152,8 @@ pub fn encode_upper_to_fmt<Ck: Checksum, W: fmt::Write>(
 ///
 /// # Errors
 ///
-/// What [`encode_into_bytes`] returns over the writer, watched. The first error of any kind ends
-/// the call, [`io::ErrorKind::Interrupted`] too.
+/// Those of [`encode_into_bytes`] over the writer in a [`Watched`]. The first error of any kind
+/// ends the call, [`io::ErrorKind::Interrupted`] too.
 pub fn encode_lower_to_writer<Ck: Checksum, W: io::Write>(
     w: &mut W,
     hrp: Hrp,
@@ -201,8 +201,8 @@ pub fn encode_to_writer<Ck: Checksum, W: io::Write>(
 ///
 /// # Errors
 ///
-/// What [`encode_into_bytes`] returns over the writer, watched. The first error of any kind ends
-/// the call, [`io::ErrorKind::Interrupted`] too.
+/// Those of [`encode_into_bytes`] over the writer in a [`Watched`]. The first error of any kind
+/// ends the call, [`io::ErrorKind::Interrupted`] too.
 pub fn encode_upper_to_writer<Ck: Checksum, W: io::Write>(
     w: &mut W,
     hrp: Hrp,

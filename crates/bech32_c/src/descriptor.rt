@@ -22,7 +22,7 @@ use descriptor_calls::two_mends::put_two_mends;
 ///
 /// # Errors
 ///
-/// Answers the number of the first of: a byte that is no character of BIP-380 (80), with `place`
+/// Returns the number of the first of: a byte that is no character of BIP-380 (80), with `place`
 /// the number of bytes before it; a buffer of less than eight bytes (92).
 #[unsafe(no_mangle)]
 pub extern "C" fn bech32_descriptor_checksum(
@@ -60,7 +60,7 @@ pub extern "C" fn bech32_descriptor_checksum(
 ///
 /// # Errors
 ///
-/// Answers the number of the first of: a text that does not end in `#` and eight bytes (88); a byte
+/// Returns the number of the first of: a text that does not end in `#` and eight bytes (88); a byte
 /// that may not stand where it does (80), with `place` the number of bytes before the first such;
 /// a wrong checksum (33).
 #[unsafe(no_mangle)]
@@ -95,7 +95,7 @@ pub extern "C" fn bech32_descriptor_check(text: &[u8], place: &mut usize) -> u32
 ///
 /// # Errors
 ///
-/// Answers the number of the first of: more than one to be changed (4); a text of more than 7,500
+/// Returns the number of the first of: more than one to be changed (4); a text of more than 7,500
 /// bytes (89), both before any memory is taken; buffers that are too small (92), only where not all
 /// fit: then `count` is the number of all, and as many as fit in each of the three buffers are put
 /// there, the first. Where the text has at least eight bytes and `memory` does not suffice, 91 in
@@ -139,7 +139,7 @@ pub extern "C" fn bech32_descriptor_mend(
 ///
 /// # Errors
 ///
-/// Answers the number of the first of: a text of more than 7,500 bytes (89), before any memory is
+/// Returns the number of the first of: a text of more than 7,500 bytes (89), before any memory is
 /// taken; buffers that are too small (92), only where not all fit: then `count` is the number of
 /// all, and as many as fit in both buffers are put there, the first. Where the text has at least
 /// nine bytes and `memory` does not suffice, 91 in place of 0 or 92: then `memory` and the buffers

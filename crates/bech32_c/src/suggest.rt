@@ -1,4 +1,4 @@
-//! Lists the addresses that someone may have meant who typed a text.
+//! Lists the addresses that someone who typed a text may have meant.
 
 ghost use Rattle.std.specs.Prelude.{◌≡◌, ◌≢◌, ◌⊎◌, length};
 ghost use Rattle.bech32_hrp.specs.Hrp.{IsHrp};
@@ -10,7 +10,7 @@ use crate::listed::counted;
 use bech32_calls::suggest::put_suggestions;
 use caller_memory::Memory;
 
-/// Lists the segwit addresses of a network that someone may have meant who typed a text ("did you
+/// Lists the segwit addresses of a network that someone who typed `text` may have meant ("did you
 /// mean"): their human-readable part is `hrp`, in either case. Each `?` in the text is a character
 /// that cannot be read.
 ///
@@ -30,7 +30,7 @@ use caller_memory::Memory;
 ///
 /// # Errors
 ///
-/// Answers the number of the first of: `hrp` that is not UTF-8 (2), or is no human-readable part
+/// Returns the number of the first of: `hrp` that is not UTF-8 (2), or is no human-readable part
 /// (11 to 15); a text that is not UTF-8 (2); why it is not in the grammar, with each `?` read as
 /// `0`, if it has at most 91 bytes (21 to 23, 11 to 15), all before any memory is taken; buffers
 /// that are too small (92), only where `count` is more than `kinds` or `places` has room for, or

@@ -67,7 +67,7 @@ IsDecodedRow hrp (Err n) row =
 abbrev pub program_of : List ℕ → AddressRow → List ℕ
 program_of offsets row = if_wanted offsets row.program
 
--- there is no room for so many rows
+-- there is no room for `count` rows
 abbrev pub LacksItems : ℕ → ℕ → ℕ → ℕ → Type 0
 LacksItems versions_room lengths_room offsets_room count =
     ((versions_room ≢ 0) × (versions_room < count))

@@ -18,7 +18,7 @@ cut most bytes start end =
 abbrev pub offset_width : ℕ → Width
 offset_width size = if size == 4 then w32 else w64
 
--- the bytes of row i by its two offsets of so many bytes each, the lowest first, where they are
+-- the bytes of row i by its two offsets of `size` bytes each, the lowest first, where they are
 -- there; one above the most is negative
 abbrev pub row_of_size : ℕ → ℕ → List ℕ → List ℕ → ℕ → Option (List ℕ)
 row_of_size size most bytes offsets i =

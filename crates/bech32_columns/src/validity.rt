@@ -39,7 +39,7 @@ fn byte_of(numbers: &[u8]) -> u8
     byte
 }
 
-// The bytes of so many bits.
+// How many bytes hold `count` bits.
 fn bytes_for(count: usize) -> usize
     ensures { result ≡ (count + 7) / 8 }
 {

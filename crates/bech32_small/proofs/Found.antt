@@ -42,7 +42,7 @@ IsBeside window residue erasure found = MatchOption found
     × ((v : Fe32) × ((listing ≡ (erasure, v) ∷ [])
     ⊎ ((error : ℕ × Fe32) × (listing ≡ (erasure, v) ∷ error ∷ []) × (error.0 < window) × (error.0 ≢ erasure) × (error.1 ≢ fe32.zero)))))
 
--- so many locations
+-- no location, one, or two
 pub none_of : (xs : List ℕ) → length xs < 1 → xs ≡ []
 none_of [] few = refl
 none_of (x ∷ xs) few = absurd (omega (arith, few))

@@ -4,7 +4,7 @@ ghost use Rattle.bech32_calls.specs.FaultCall.{IsFaultCall};
 
 use bech32_small::fault::{number_of, place_of};
 
-/// Answers what [`bech32_check`](crate::decode::bech32_check) returns to a text, and sets `place`
+/// Returns what [`bech32_check`](crate::decode::bech32_check) returns for a text, and sets `place`
 /// to where its fault stands, counted in bytes from 0: of a character that may not stand there, its
 /// first byte (13 to 15, 21, 22); of a human-readable part that is empty or too long, the end of it
 /// (11, 12); of a text without separator, that is too long, that is too short for its checksum or

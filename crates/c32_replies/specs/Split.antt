@@ -50,7 +50,7 @@ abbrev pub split_fault : Threshold → ℕ → List ℕ → List ℕ → Option 
 split_fault t count secret random =
     split_refusal t (length secret) count (length random) (count * text_size (length secret))
 
--- the first so many of texts of n characters each, one behind another, each with a space before it
+-- the first `count` of texts of n characters each, one behind another, each with a space before it
 abbrev pub spaced_shares : ℕ → List ℕ → ℕ → List ℕ
 spaced_shares n texts count = flat_map (λ text. 32 ∷ text) (first_texts n texts count)
 
@@ -60,8 +60,8 @@ pub record IsAskedBy (asked : AskedSplit) (count : ℕ) (secret random : List �
   pub read : AreRead asked count secret random
   pub of_split : AreOfSplit asked t i
 
--- the texts are the shares that words ask for, so many of n characters each, one behind another;
--- as many as the threshold recover the secret, whichever they are
+-- the texts are the shares that words ask for: `count` of n characters each, one behind another; as
+-- many as the threshold recover the secret, whichever they are
 pub record AreSharesFor (asked : AskedSplit) (count n : ℕ) (texts : List ℕ) : Type 0 where
   pub secret : List ℕ
   pub random : List ℕ

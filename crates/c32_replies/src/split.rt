@@ -53,7 +53,7 @@ fn put_shares(words: &SplitWords<'_>, texts: &mut [u8]) -> Result<(usize, usize)
     Ok((count, size))
 }
 
-// What is said of shares of so many characters: `ok`, and each with a space before it.
+// What is said of `count` shares of `size` characters each: `ok`, and each with a space before it.
 fn said_of<A: Allocator>(
     alloc: A,
     texts: &[u8],

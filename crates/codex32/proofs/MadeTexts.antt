@@ -29,7 +29,7 @@ use Rattle.codex32.proofs.ShareParts.{length-header}
 
 -- ---- numbers of bytes, and of characters
 
--- a string has so many bytes
+-- there are strings of n bytes
 pub record Sized (n : ℕ) : Type 0 where
   pub most : n ≤ 64
   pub counted : is_payload_count (payload_count n) || is_long_payload_count (payload_count n) ≡ true

@@ -144,7 +144,7 @@ module _ (t : Threshold) (i : Identifier) (n : ℕ) (own texts : List ℕ) (m : 
   pub length-base : (base : List Share) → AreSharesOf (own ∷ first_texts n texts m) base → length base ≡ suc m
   length-base base are = length-shares (own ∷ first_texts n texts m) base are ∙ ap suc (length-first n texts m)
 
-  -- so many give the others
+  -- as many as these give the others
   count : (base : List Share) → AreSharesOf (own ∷ first_texts n texts m) base → count_of base ≡ suc m
   count [] are = absurd are
   count (s ∷ ss) are =

@@ -35,7 +35,7 @@ split-not_secret j less same =
     let e : 31 ≡ j = sym of_secret ∙ ap (λ (x : Fe32). number_of x.value) same ∙ numbered j less in
     absurd (omega (arith, e, less))
 
--- so many of them, from one number on
+-- the indices of shares from number `from` on, as many as the last number says
 abbrev pub indices_from : ℕ → ℕ → List Fe32
 indices_from from zero = []
 indices_from from (suc m) = split_index from ∷ indices_from (suc from) m

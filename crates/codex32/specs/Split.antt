@@ -34,12 +34,12 @@ split_characters = codes "acdefghjklmnpqrtuvwxyz023456789"
 abbrev pub split_index : ℕ → Fe32
 split_index j = element_of (slice_index split_characters j)
 
--- how many characters the payload of so many bytes has
+-- how many characters the payload of n bytes has
 abbrev pub payload_count : ℕ → ℕ
 payload_count n = fes_count 0 n
 
--- how many characters the string of so many bytes has: nine up to the share index, those of the
--- payload, and those of the checksum
+-- how many characters the string of n bytes has: nine up to the share index, those of the payload,
+-- and those of the checksum
 abbrev pub text_size : ℕ → ℕ
 text_size n = 9 + payload_count n + length (code_of_byte_count n).generator
 
@@ -47,7 +47,7 @@ text_size n = 9 + payload_count n + length (code_of_byte_count n).generator
 abbrev pub text_at : ℕ → List ℕ → ℕ → List ℕ
 text_at n texts j = take n (drop (j * n) texts)
 
--- the first so many of them
+-- the first of them, as many as the last number says
 abbrev pub first_texts : ℕ → List ℕ → ℕ → List (List ℕ)
 first_texts n texts zero = []
 first_texts n texts (suc k) = take n texts ∷ first_texts n (drop n texts) k
@@ -89,7 +89,7 @@ pub record IsPayloadString (t : Threshold) (i : Identifier) (x : Fe32) (payload 
   pub header_is : IsHeaderOfParts t i x header
   pub is_encoded : IsEncodedPayload header payload text
 
--- The texts are so many shares of the secret, each of n characters, one behind another, each at its
+-- The texts are `count` shares of the secret, each of n characters, one behind another, each at its
 -- index. One fewer than the threshold of them, the first, have payloads that are drawn: the
 -- elements of the random bytes in their order. All are what these and the secret's own string give
 -- at their indices.
@@ -109,7 +109,7 @@ pub record IsSplit (t : Threshold) (i : Identifier) (secret random : List ℕ) (
 
 -- ---- that they recover the secret
 
--- each of the shares is one of the texts, of which there are so many of n characters each
+-- each of the shares is one of the texts, of which there are `count`, of n characters each
 abbrev pub IsTakenFrom : ℕ → List ℕ → ℕ → List Share → Type 0
 IsTakenFrom n texts count shares =
     AllByRecursion (λ s. (j : ℕ) × (j < count) × IsShareOf (text_at n texts j) s) shares
@@ -138,7 +138,7 @@ Recovers t i secret count n texts =
 abbrev pub unshared_split_fault : Threshold → Option SplitError
 unshared_split_fault t = if threshold_number t == 0 then Some refusals.Unshared else None
 
--- a string has not so many bytes
+-- there are no strings of n bytes
 abbrev pub secret_fault : ℕ → Option SplitError
 secret_fault n = if is_byte_count n || is_long_byte_count n then None else Some refusals.Size
 
@@ -151,12 +151,12 @@ count_fault t count =
 abbrev pub random_fault : Threshold → ℕ → ℕ → Option SplitError
 random_fault t n random = if random == random_size t n then None else Some refusals.Random
 
--- the shares of a secret of n bytes do not fit in a buffer of so many bytes
+-- `count` shares of a secret of n bytes do not fit in a buffer of `room` bytes
 abbrev pub room_fault : ℕ → ℕ → ℕ → Option SplitError
 room_fault n count room = if nat_le (count * text_size n) room then None else Some refusals.NoRoom
 
--- why a secret of n bytes is not split into so many shares, with so many random bytes, in a buffer
--- of so many bytes, the first of: the threshold, the secret's size, the number of shares, that of
+-- why a secret of n bytes is not split into `count` shares, with `random` random bytes, in a buffer
+-- of `room` bytes, the first of: the threshold, the secret's size, the number of shares, that of
 -- the random bytes, too little room
 abbrev pub split_refusal : Threshold → ℕ → ℕ → ℕ → ℕ → Option SplitError
 split_refusal t n count random room =
@@ -167,7 +167,7 @@ split_refusal t n count random room =
 
 -- ---- on the way
 
--- how many characters the string of so many characters of a payload has
+-- how many characters the string of a payload of m characters has
 abbrev pub string_size : ℕ → ℕ
 string_size m = 9 + m + length (code_of_payload_count m).generator
 

@@ -129,7 +129,7 @@ fn put_drawn(
     put_at(texts, j, &room[..count]);
 }
 
-// Puts the shares whose payloads are drawn, of so many characters each.
+// Puts the shares whose payloads, of `size` characters each, are drawn.
 pub(crate) fn put_all_drawn(
     texts: &mut [u8],
     threshold: Threshold,
@@ -169,7 +169,7 @@ fn share_of(text: &[u8]) -> Share<'_>
     share
 }
 
-// Puts the shares of the first texts, which have so many characters each.
+// Puts the shares of the first `count` texts, which have `n` characters each.
 fn put_shares<'t>(room: &mut [Share<'t>], texts: &'t [u8], n: usize, count: usize)
     requires texts { (j : ℕ) → j < count → IsEither (text_at n texts.now j) }
     requires size { count * n ≤ length texts.now }
@@ -199,7 +199,7 @@ fn put_derived_at(texts: &mut [u8], j: usize, base: &[Share<'_>], index: Fe32)
     put_at(texts, j, &room[..count]);
 }
 
-// Puts so many shares, which the others give, from one number on.
+// Puts `count` shares, which the others give, from number `from` on.
 fn put_all_derived(texts: &mut [u8], base: &[Share<'_>], from: usize, count: usize)
     requires whole { (x : Element) → IsWholeSet base.now x }
     requires agree { DoContradict base.now → ⊥ }

@@ -140,7 +140,7 @@ fn put_derived_text(
 ///
 /// # Errors
 ///
-/// Those of [`derive_in`] but for want of memory; the buffer is then as it was.
+/// Those of [`derive_in`] except out of memory; the buffer is then unchanged.
 pub fn derive_into(
     buffer: &mut [u8],
     shares: &[Share<'_>],
@@ -183,7 +183,7 @@ pub fn derive_in<A: Allocator>(
     derived_in(alloc, shares, index)
 }
 
-/// The string as [`derive_in`] has it, with memory of the global allocator.
+/// As [`derive_in`], with memory of the global allocator.
 ///
 /// # Errors
 ///
@@ -209,7 +209,7 @@ pub fn recover_in<A: Allocator>(alloc: A, shares: &[Share<'_>]) -> Result<String
     derive_in(alloc, shares, Fe32::S)
 }
 
-/// The secret as [`recover_in`] has it, with memory of the global allocator.
+/// As [`recover_in`], with memory of the global allocator.
 ///
 /// # Errors
 ///

@@ -10,10 +10,10 @@ use crate::checksum::Codex32;
 use crate::long::LongCodex32;
 use bech32::primitives::checksum::{accepted_texts_are_far, bursts_are_detected};
 
-/// A law of strings of either length; the call does nothing. Two of one length are the same but for
-/// case, or differ in more than eight characters: so a string with one to eight changed characters
-/// is none. And they do not differ only within 13 characters in a row, or 15 where they are long
-/// (BIP-93, Checksum and Long codex32 Strings).
+/// A law of strings of either length; the call does nothing. Two strings of one length are equal
+/// except for case, or differ in more than eight characters: so a string with one to eight changed
+/// characters is no string. And they do not differ only within 13 characters in a row, or 15 where
+/// they are long (BIP-93, Checksum and Long codex32 Strings).
 pub fn changed_strings_are_no_strings()
     ensures few { (text other : List ℕ) → IsEither text → IsEither other
         → length other ≡ length text → AreSameTextsOrFar 8 text other }

@@ -141,19 +141,19 @@ pub fn encode_payload_into(
 }
 
 /// The string of a header and the elements of a payload, in lower case, with memory from `alloc`:
-/// of 26 to 71 elements one of 48 to 93 characters, of 101 or 103 a long one (BIP-93, Unshared
-/// Secret and Long codex32 Strings). There are as many as 16 to 44 bytes, 63 or 64 have: at most
-/// four bits are left over behind their bytes, whatever they are.
+/// 26 to 71 elements make a string of 48 to 93 characters, 101 or 103 a long one (BIP-93, Unshared
+/// Secret and Long codex32 Strings). These are the numbers of elements that 16 to 44 bytes, 63 or
+/// 64 have: at most four bits are left over behind the bytes, whatever these are.
 ///
-/// To split a secret into shares, use [`split_into`], which makes its first shares so, of random
-/// elements.
+/// To split a secret into shares, use [`split_into`], which makes its first shares this way, from
+/// random elements.
 ///
 /// [`split_into`]: crate::split_into
 ///
 /// # Errors
 ///
-/// [`EncodeError::Size`] for another number of elements, before anything is allocated. Then, when
-/// out of memory, that.
+/// [`EncodeError::Size`] for another number of elements, before anything is allocated; otherwise
+/// out of memory.
 pub fn encode_payload_in<A: Allocator>(
     alloc: A,
     header: &Header,
@@ -178,7 +178,7 @@ pub fn encode_payload_in<A: Allocator>(
     Err(EncodeError::Size)
 }
 
-/// The string as [`encode_payload_in`] has it, with memory of the global allocator.
+/// As [`encode_payload_in`], with memory of the global allocator.
 ///
 /// # Errors
 ///
@@ -218,7 +218,7 @@ fn put_payload(elements: &mut [Fe32], bytes: &[u8])
 ///
 /// # Errors
 ///
-/// [`EncodeError::Size`] for another number of bytes; the buffer is then as it was.
+/// [`EncodeError::Size`] for another number of bytes; the buffer is then unchanged.
 pub fn encode_into(buffer: &mut [u8], header: &Header, bytes: &[u8]) -> Result<usize, EncodeError>
     requires { 127 ≤ length buffer.old }
     ensures text { IfOk result (λ n. IsEncodedString header.now bytes.now (take n buffer.new)) }
@@ -242,20 +242,20 @@ pub fn encode_into(buffer: &mut [u8], header: &Header, bytes: &[u8]) -> Result<u
     encode_payload_into(buffer, header, elements)
 }
 
-/// The string of a header and bytes, in lower case, with memory from `alloc`: of 16 to 44 bytes one
-/// of 48 to 93 characters, of 63 or 64 a long one (BIP-93, Unshared Secret and Long codex32
+/// The string of a header and bytes, in lower case, with memory from `alloc`: 16 to 44 bytes make a
+/// string of 48 to 93 characters, 63 or 64 a long one (BIP-93, Unshared Secret and Long codex32
 /// Strings). The bits that are left over are zero.
 ///
 /// It is the secret, where the header's share index is `s`, or a share. To split a secret into
-/// shares, use [`split_into`]: shares of random bytes that are made here may tell some bits of the
+/// shares, use [`split_into`]: shares made here from random bytes may reveal some bits of the
 /// secret, since the bits that are left over are not random.
 ///
 /// [`split_into`]: crate::split_into
 ///
 /// # Errors
 ///
-/// [`EncodeError::Size`] for another number of bytes, before anything is allocated. Then, when out
-/// of memory, that.
+/// [`EncodeError::Size`] for another number of bytes, before anything is allocated; otherwise out
+/// of memory.
 pub fn encode_in<A: Allocator>(
     alloc: A,
     header: &Header,
@@ -279,7 +279,7 @@ pub fn encode_in<A: Allocator>(
     encode_payload_in(alloc, header, elements)
 }
 
-/// The string as [`encode_in`] has it, with memory of the global allocator.
+/// As [`encode_in`], with memory of the global allocator.
 ///
 /// # Errors
 ///

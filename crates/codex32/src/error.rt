@@ -20,7 +20,7 @@ pub enum Codex32Error {
     /// The human-readable part is not `ms`.
     #[error("the human-readable part is not \"ms\"")]
     Hrp,
-    /// The checksum.
+    /// The checksum is wrong.
     #[error("invalid checksum: {0}")]
     Checksum(ChecksumError),
     /// The threshold is neither 0 nor a digit from 2 to 9.
@@ -96,7 +96,7 @@ pub enum DeriveError {
 /// Why a secret is not split into shares.
 #[derive(Clone, Copy, Debug, PartialEq, Eq, Drop, Error)]
 pub enum SplitError {
-    /// The threshold is 0: shares do not stand at `s`.
+    /// The threshold is 0: no share can be at `s`.
     #[error("the threshold is 0: the secret is not shared")]
     Unshared,
     /// The secret has neither 16 to 44 bytes nor 63 or 64.

@@ -135,13 +135,13 @@ fn proposed_in<'a, Ck: StringChecksum, A: Allocator + Copy>(
 /// It is the text in lower case with the same human-readable part and length that [`Codex32`]
 /// accepts, where twice the number of changed characters, with the number of the unreadable ones,
 /// is at most 8: so at most four changes where each character can be read. There is at most one
-/// such text. `None` where there is none. Neither threshold nor share index is tested. It is no
-/// claim that the text is the one that was meant.
+/// such text. Returns `None` if there is none. Neither threshold nor share index is tested. The
+/// text need not be the one that was meant.
 ///
 /// # Errors
 ///
-/// That of [`validate_damaged`], before anything is allocated. Then, when out of memory, that in
-/// place of any answer.
+/// That of [`validate_damaged`], before anything is allocated; otherwise out of memory, in place of
+/// any answer.
 pub fn propose_in<A: Allocator + Copy>(
     alloc: A,
     text: &str,
@@ -155,7 +155,7 @@ pub fn propose_in<A: Allocator + Copy>(
     proposed_in::<Codex32, A>(&alloc, text, PhantomData)
 }
 
-/// The nearest text as [`propose_in`] has it, with memory of the global allocator.
+/// As [`propose_in`], with memory of the global allocator.
 ///
 /// # Errors
 ///
@@ -175,8 +175,8 @@ pub fn propose(alloc: Global, text: &str) -> Result<Option<String>, Codex32Error
 ///
 /// # Errors
 ///
-/// That of [`validate_damaged_long`](crate::validate_damaged_long), before anything is allocated.
-/// Then, when out of memory, that in place of any answer.
+/// That of [`validate_damaged_long`](crate::validate_damaged_long), before anything is allocated;
+/// otherwise out of memory, in place of any answer.
 pub fn propose_long_in<A: Allocator + Copy>(
     alloc: A,
     text: &str,
@@ -190,7 +190,7 @@ pub fn propose_long_in<A: Allocator + Copy>(
     proposed_in::<LongCodex32, A>(&alloc, text, PhantomData)
 }
 
-/// The nearest text as [`propose_long_in`] has it, with memory of the global allocator.
+/// As [`propose_long_in`], with memory of the global allocator.
 ///
 /// # Errors
 ///

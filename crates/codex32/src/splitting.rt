@@ -16,14 +16,14 @@ const LONGEST: usize = 127;
 // The most shares: one at each index but `s`.
 const MOST: usize = 31;
 
-// Whether a string has so many bytes.
+// Whether there are strings of `count` bytes.
 fn is_size(count: usize) -> bool
     ensures { result ≡ (is_byte_count count || is_long_byte_count count) }
 {
     16 <= count && count <= 44 || 63 <= count && count <= 64
 }
 
-// How many characters the payload of so many bytes has.
+// How many characters the payload of `count` bytes has.
 fn payload_size(count: usize) -> usize
     requires { count ≤ 64 }
     ensures value { result ≡ payload_count count }
@@ -32,7 +32,7 @@ fn payload_size(count: usize) -> usize
     (8 * count + 4) / 5
 }
 
-// How many characters the string of so many bytes has.
+// How many characters the string of `count` bytes has.
 fn size_of_text(count: usize) -> usize
     requires { is_byte_count count || is_long_byte_count count ≡ true }
     ensures value { result ≡ text_size count }
@@ -125,9 +125,9 @@ fn put_split(
 /// derived from these and from the secret's own string, which [`encode_into`] makes at the index
 /// `s`.
 ///
-/// Any shares, as many as the threshold, recover the secret. Fewer tell nothing of it but its
-/// length, provided that the random bytes are uniform, used for nothing else, and known to nobody:
-/// see the laws of secrecy in `crate::laws`.
+/// Any shares, as many as the threshold, recover the secret. Fewer reveal only its length, provided
+/// that the random bytes are uniform, used for nothing else, and known to nobody: see the laws of
+/// secrecy in `crate::laws`.
 ///
 /// # Errors
 ///

@@ -32,7 +32,7 @@ use Rattle.codex32_calls.proofs.TextsInTurn.{never}
 
 -- ---- how long a payload is
 
--- the characters of the checksum behind so many of a data part
+-- how many characters the checksum of a data part of n characters has
 abbrev degree : ℕ → ℕ
 degree n = length (code_of_length (3 + n)).generator
 

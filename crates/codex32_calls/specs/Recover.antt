@@ -33,7 +33,7 @@ pub record PutsRecovered (texts lengths old new : List ℕ) (count : ℕ) : Type
   pub header : Head
   pub puts : PutsPayload text header old new count
 
--- Texts give a secret, and a buffer of so many bytes has room for its bytes: each text is a string
+-- Texts give a secret, and a buffer of `room` bytes has room for its bytes: each text is a string
 -- of either length; their shares are a whole set, which does not contradict itself; at most four
 -- bits are left over behind the bytes of a payload, which is as long as that of each of them.
 pub record CanRecover (texts lengths : List ℕ) (room : ℕ) : Type 0 where
@@ -51,7 +51,7 @@ pub record GivesPayload (P : List ℕ → Type 0) (texts lengths : List ℕ) : T
   pub is_secret : IsSecretOf texts lengths text
   pub has : HasPayload P text
 
--- why none are put into a buffer of so many bytes, the first of: the lengths; a text, in their
+-- why none are put into a buffer of `room` bytes, the first of: the lengths; a text, in their
 -- order; what their shares are refused for at `s`; more than four bits left over behind the bytes
 -- of the payload; too little room
 abbrev pub IsRecoverFault : List ℕ → List ℕ → ℕ → Refusal → Type 0

@@ -50,14 +50,14 @@ pub record CanSplit (threshold : ℕ) (identifier secret random : List ℕ) (cou
   pub drawn : length random ≡ (threshold - 1) * payload_count (length secret)
   pub fits : count * text_size (length secret) ≤ room
 
--- why no secret is split by the threshold of this number, with a buffer of so many bytes
+-- why no secret is split by the threshold of this number, with a buffer of `room` bytes
 pub record IsSplitRefusal (threshold : ℕ) (secret random : List ℕ) (count room : ℕ)
     (e : SplitError) : Type 0 where
   pub t : Threshold
   pub threshold_is : threshold_number t ≡ threshold
   pub refusal_is : split_refusal t (length secret) count (length random) room ≡ Some e
 
--- why none are put into a buffer of so many bytes, the first of: the threshold and the identifier;
+-- why none are put into a buffer of `room` bytes, the first of: the threshold and the identifier;
 -- that the threshold is 0, the secret's size, the number of shares, that of the random bytes, too
 -- little room
 abbrev pub IsSplitFault : ℕ → List ℕ → List ℕ → List ℕ → ℕ → ℕ → Refusal → Type 0

@@ -47,7 +47,7 @@ pub struct Told {
     pub count: usize,
 }
 
-// Which strings may have this many characters, of those that have so many.
+// Which strings have `count` characters, if any do.
 fn kind_of(count: usize) -> Kind
     ensures { code_of_kind result ≡ code_of_length count }
 {

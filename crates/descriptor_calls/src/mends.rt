@@ -140,8 +140,8 @@ fn put_found(
     })
 }
 
-/// Puts all descriptors other than this text that one edit makes of it, and that change at most so
-/// many of its characters, at the front of a buffer, one behind another, in the order of
+/// Puts all descriptors other than this text that one edit makes of it, and that change at most
+/// `most` of its characters, at the front of a buffer, one behind another, in the order of
 /// [`mend`](bech32_descriptor::mend), and tells how many they are. Of each the kind is put into
 /// `kinds`: 1 where two neighbours are swapped, 2 where one is left out, 3 where one is put in, 4
 /// where one is changed; and two places into `places`: those of two that are swapped, else the

@@ -33,7 +33,7 @@ pub record PutsConfidential (hrp : List ℕ) (version : ℕ)
   pub is_address : IsLowerConfidential blech32_code hrp (element version) key program text
   pub put : IsPut text old new count
 
--- there is an address of a program of n bytes, and a buffer of so many bytes has room for it
+-- there is an address of a program of n bytes, and a buffer of `room` bytes has room for it
 pub record HasRoomForConfidential (hrp : List ℕ) (version n room : ℕ) : Type 0 where
   pub is_hrp : IsHrp hrp
   pub small : version ≤ 31

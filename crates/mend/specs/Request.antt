@@ -11,7 +11,7 @@ use Rattle.mend.specs.declared.command.Command.TheVariants as commands
 
 -- the texts near one, with or without locations that are known to be wrong; the texts that one edit
 -- makes of one; why a checksum refuses a text; the addresses with a human-readable part that
--- someone may have meant who typed a text; which checksum accepts a text; the confidential
+-- someone who typed a text may have meant; which checksum accepts a text; the confidential
 -- addresses near a text, with or without locations; the descriptors that one edit makes of a text,
 -- why a text is no descriptor, the checksum of one; each argument as its word
 pub data MendRequest : Type 0 where

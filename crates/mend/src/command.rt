@@ -34,8 +34,8 @@ pub enum Command<'a> {
         checksum: ChecksumName,
         text: &'a str,
     },
-    /// `suggest PART TEXT`: the addresses with a human-readable part that someone may have meant
-    /// who typed a text.
+    /// `suggest PART TEXT`: the addresses with a human-readable part that someone who typed a text
+    /// may have meant.
     Suggest {
         part: &'a str,
         text: &'a str,

@@ -32,7 +32,7 @@ impl Found for Suggestion<String> {
     }
 }
 
-/// Adds the addresses with a human-readable part that someone may have meant who typed a text, each
+/// Adds the addresses with a human-readable part that someone who typed a text may have meant, each
 /// with what is done to the text, or leaves all as it was and returns the number of the refusal.
 pub fn suggest(alloc: Global, part: &str, text: &str, out: &mut Vec<u8>) -> Result<(), u8>
     requires { vec_len out.old + 2048 ≤ vec_capacity out.old }
