@@ -10,8 +10,8 @@ from textwrap import wrap
 
 WIDTH = 118
 # Parameters that go together: bytes that are read (`in`) or written to (`out`, with the length of what is written), a number or
-# a size, and the place of one.
-Group = namedtuple("Group", "kind name")
+# a size, and the place of one. The name is that of the first.
+Group = namedtuple("Group", "kind name parts")
 KINDS = [
     ("out", ["uint8_t *", "size_t", "size_t *"]), ("in", ["const uint8_t *", "size_t"]), ("number", ["uint32_t"]), ("size", ["size_t"]),
     ("number_out", ["uint32_t *"]), ("size_out", ["size_t *"]),
@@ -27,7 +27,7 @@ def groups_of(parameters):
         kind, types = next(kinds, (None, []))
         if kind is None:
             return None
-        found.append(Group(kind, left[0].name))
+        found.append(Group(kind, left[0].name, left[:len(types)]))
         left = left[len(types):]
     return found
 

@@ -2265,7 +2265,7 @@ static int32_t place_in(size_t i) {
     return place;
 }
 
-/* Room for so many items and some more, or none, or too little. */
+/* Room for `items` items and some more, or none, or too little. */
 static size_t item_room(size_t items) {
     return percent(60) ? items + below(3) : percent(60) ? 0 : below(items + 1);
 }
@@ -2451,6 +2451,13 @@ static void try_descriptor_mend_two(void) {
     expect(fit == 0 || memcmp(written_1.buffer, ample, fit * text_length) == 0, "other texts");
 }
 
+/* Written by tools/functions. */
+
+/* For main. */
+#define WRITTEN_TRIES
+
+/* By hand. */
+
 static void print(const Function *function) {
     printf("%s: %llu calls; ", function->name, function->calls);
     printf("%llu answered", function->numbers[BECH32_OK]);
@@ -2473,6 +2480,7 @@ int main(int argc, char **argv) {
         try_codex32_recover, try_codex32_propose_long,
         try_nearest, try_near_edits, try_liquid_encode, try_liquid_decode, try_liquid_nearest, try_message, try_descriptor_checksum, try_descriptor_check, try_descriptor_mend,
         try_descriptor_mend_two, try_codex32_message, try_check_many, try_segwit_decode_many, try_segwit_encode_many, try_validity_of,
+        WRITTEN_TRIES
 #endif
     };
     unsigned long long count = argc > 1 ? strtoull(argv[1], NULL, 10) : 100000;

@@ -77,21 +77,25 @@ NATIVE(jint, version)(JNIEnv *env, jclass self, jboolean is_codex32) {
     return (jint)(is_codex32 ? codex32_version() : bech32_version());
 }
 
+/* Written by tools/functions. */
+
+/* Into `out`: text_length. */
 NATIVE(jint, encode)
-(JNIEnv *env, jclass self, jint checksum, jbyteArray hrp, jbyteArray data, jbyteArray text, jintArray out) {
-    Pinned it[] = {{hrp, 0, 0}, {data, 0, 0}, {text, 0, 0}, {out, 0, 0}};
+(JNIEnv *env, jclass self, jint checksum, jbyteArray hrp, jbyteArray bytes, jbyteArray text, jintArray out) {
+    Pinned it[] = {{hrp, 0, 0}, {bytes, 0, 0}, {text, 0, 0}, {out, 0, 0}};
     (void)self;
     if (!pin(env, it, COUNT(it))) {
         return OUT_OF_MEMORY;
     }
-    size_t length = 0;
-    uint32_t number = bech32_encode((uint32_t)checksum, it[0].items, it[0].length, it[1].items, it[1].length, it[2].items,
-                                    it[2].length, &length);
-    say(&it[3], length, 0);
+    size_t text_length = 0;
+    uint32_t number = bech32_encode((uint32_t)checksum, it[0].items, it[0].length, it[1].items, it[1].length,
+                                    it[2].items, it[2].length, &text_length);
+    say(&it[3], text_length, 0);
     unpin(env, it, COUNT(it));
     return (jint)number;
 }
 
+/* Into `out`: text_length and place. */
 NATIVE(jint, encodeElements)
 (JNIEnv *env, jclass self, jint checksum, jbyteArray hrp, jbyteArray elements, jbyteArray text, jintArray out) {
     Pinned it[] = {{hrp, 0, 0}, {elements, 0, 0}, {text, 0, 0}, {out, 0, 0}};
@@ -99,13 +103,140 @@ NATIVE(jint, encodeElements)
     if (!pin(env, it, COUNT(it))) {
         return OUT_OF_MEMORY;
     }
-    size_t length = 0, place = 0;
+    size_t text_length = 0, place = 0;
     uint32_t number = bech32_encode_elements((uint32_t)checksum, it[0].items, it[0].length, it[1].items, it[1].length,
-                                             &place, it[2].items, it[2].length, &length);
-    say(&it[3], length, place);
+                                             &place, it[2].items, it[2].length, &text_length);
+    say(&it[3], text_length, place);
     unpin(env, it, COUNT(it));
     return (jint)number;
 }
+
+/* Into `out`: hrp_length and data_length. */
+NATIVE(jint, check)(JNIEnv *env, jclass self, jint checksum, jbyteArray text, jintArray out) {
+    Pinned it[] = {{text, 0, 0}, {out, 0, 0}};
+    (void)self;
+    if (!pin(env, it, COUNT(it))) {
+        return OUT_OF_MEMORY;
+    }
+    size_t hrp_length = 0, data_length = 0;
+    uint32_t number = bech32_check((uint32_t)checksum, it[0].items, it[0].length, &hrp_length, &data_length);
+    say(&it[1], hrp_length, data_length);
+    unpin(env, it, COUNT(it));
+    return (jint)number;
+}
+
+/* Into `out`: place. */
+NATIVE(jint, fault)(JNIEnv *env, jclass self, jint checksum, jbyteArray text, jintArray out) {
+    Pinned it[] = {{text, 0, 0}, {out, 0, 0}};
+    (void)self;
+    if (!pin(env, it, COUNT(it))) {
+        return OUT_OF_MEMORY;
+    }
+    size_t place = 0;
+    uint32_t number = bech32_fault((uint32_t)checksum, it[0].items, it[0].length, &place);
+    say(&it[1], place, 0);
+    unpin(env, it, COUNT(it));
+    return (jint)number;
+}
+
+/* Into `out`: text_length. */
+NATIVE(jint, segwitEncode)
+(JNIEnv *env, jclass self, jbyteArray hrp, jint version, jbyteArray program, jbyteArray text, jintArray out) {
+    Pinned it[] = {{hrp, 0, 0}, {program, 0, 0}, {text, 0, 0}, {out, 0, 0}};
+    (void)self;
+    if (!pin(env, it, COUNT(it))) {
+        return OUT_OF_MEMORY;
+    }
+    size_t text_length = 0;
+    uint32_t number = bech32_segwit_encode(it[0].items, it[0].length, (uint32_t)version, it[1].items, it[1].length,
+                                           it[2].items, it[2].length, &text_length);
+    say(&it[3], text_length, 0);
+    unpin(env, it, COUNT(it));
+    return (jint)number;
+}
+
+/* Into `out`: hrp_length, program_length and version. */
+NATIVE(jint, segwitDecode)
+(JNIEnv *env, jclass self, jbyteArray text, jbyteArray hrp, jbyteArray program, jintArray out) {
+    Pinned it[] = {{text, 0, 0}, {hrp, 0, 0}, {program, 0, 0}, {out, 0, 0}};
+    (void)self;
+    if (!pin(env, it, COUNT(it))) {
+        return OUT_OF_MEMORY;
+    }
+    size_t hrp_length = 0, program_length = 0;
+    uint32_t version = 0;
+    uint32_t number = bech32_segwit_decode(it[0].items, it[0].length, it[1].items, it[1].length, &hrp_length,
+                                           &version, it[2].items, it[2].length, &program_length);
+    say(&it[3], hrp_length, program_length);
+    ((jint *)it[3].items)[2] = (jint)version;
+    unpin(env, it, COUNT(it));
+    return (jint)number;
+}
+
+/* Into `out`: checksum_length and place. */
+NATIVE(jint, descriptorChecksum)(JNIEnv *env, jclass self, jbyteArray text, jbyteArray checksum, jintArray out) {
+    Pinned it[] = {{text, 0, 0}, {checksum, 0, 0}, {out, 0, 0}};
+    (void)self;
+    if (!pin(env, it, COUNT(it))) {
+        return OUT_OF_MEMORY;
+    }
+    size_t checksum_length = 0, place = 0;
+    uint32_t number = bech32_descriptor_checksum(it[0].items, it[0].length, it[1].items, it[1].length,
+                                                 &checksum_length, &place);
+    say(&it[2], checksum_length, place);
+    unpin(env, it, COUNT(it));
+    codex32_wipe_stack();
+    return (jint)number;
+}
+
+/* Into `out`: place. */
+NATIVE(jint, descriptorCheck)(JNIEnv *env, jclass self, jbyteArray text, jintArray out) {
+    Pinned it[] = {{text, 0, 0}, {out, 0, 0}};
+    (void)self;
+    if (!pin(env, it, COUNT(it))) {
+        return OUT_OF_MEMORY;
+    }
+    size_t place = 0;
+    uint32_t number = bech32_descriptor_check(it[0].items, it[0].length, &place);
+    say(&it[1], place, 0);
+    unpin(env, it, COUNT(it));
+    codex32_wipe_stack();
+    return (jint)number;
+}
+
+/* Into `out`: accepted. */
+NATIVE(jint, validityOf)(JNIEnv *env, jclass self, jbyteArray numbers, jbyteArray validity, jintArray out) {
+    Pinned it[] = {{numbers, 0, 0}, {validity, 0, 0}, {out, 0, 0}};
+    (void)self;
+    if (!pin(env, it, COUNT(it))) {
+        return OUT_OF_MEMORY;
+    }
+    size_t accepted = 0;
+    uint32_t number = bech32_validity_of(it[0].items, it[0].length, it[1].items, it[1].length, &accepted);
+    say(&it[2], accepted, 0);
+    unpin(env, it, COUNT(it));
+    return (jint)number;
+}
+
+/* Into `out`: text_length. */
+NATIVE(jint, split)
+(JNIEnv *env, jclass self, jint threshold, jbyteArray identifier, jbyteArray secret, jbyteArray random, jint count,
+ jbyteArray texts, jintArray out) {
+    Pinned it[] = {{identifier, 0, 0}, {secret, 0, 0}, {random, 0, 0}, {texts, 0, 0}, {out, 0, 0}};
+    (void)self;
+    if (!pin(env, it, COUNT(it))) {
+        return OUT_OF_MEMORY;
+    }
+    size_t text_length = 0;
+    uint32_t number = codex32_split((uint32_t)threshold, it[0].items, it[0].length, it[1].items, it[1].length,
+                                    it[2].items, it[2].length, (size_t)count, it[3].items, it[3].length, &text_length);
+    say(&it[4], text_length, 0);
+    unpin(env, it, COUNT(it));
+    codex32_wipe_stack();
+    return (jint)number;
+}
+
+/* By hand. */
 
 /* By either checksum where `checksum` is 0, else strictly, or to elements. */
 NATIVE(jint, decode)
@@ -127,32 +258,6 @@ NATIVE(jint, decode)
             it[2].length, &length);
     }
     say(&it[3], hrp_length, length);
-    unpin(env, it, COUNT(it));
-    return (jint)number;
-}
-
-NATIVE(jint, check)(JNIEnv *env, jclass self, jint checksum, jbyteArray text, jintArray out) {
-    Pinned it[] = {{text, 0, 0}, {out, 0, 0}};
-    (void)self;
-    if (!pin(env, it, COUNT(it))) {
-        return OUT_OF_MEMORY;
-    }
-    size_t hrp_length = 0, data_length = 0;
-    uint32_t number = bech32_check((uint32_t)checksum, it[0].items, it[0].length, &hrp_length, &data_length);
-    say(&it[1], hrp_length, data_length);
-    unpin(env, it, COUNT(it));
-    return (jint)number;
-}
-
-NATIVE(jint, fault)(JNIEnv *env, jclass self, jint checksum, jbyteArray text, jintArray out) {
-    Pinned it[] = {{text, 0, 0}, {out, 0, 0}};
-    (void)self;
-    if (!pin(env, it, COUNT(it))) {
-        return OUT_OF_MEMORY;
-    }
-    size_t place = 0;
-    uint32_t number = bech32_fault((uint32_t)checksum, it[0].items, it[0].length, &place);
-    say(&it[1], place, 0);
     unpin(env, it, COUNT(it));
     return (jint)number;
 }
@@ -190,39 +295,6 @@ NATIVE(jint, correct)
     return (jint)number;
 }
 
-NATIVE(jint, segwitEncode)
-(JNIEnv *env, jclass self, jbyteArray hrp, jint version, jbyteArray program, jbyteArray text, jintArray out) {
-    Pinned it[] = {{hrp, 0, 0}, {program, 0, 0}, {text, 0, 0}, {out, 0, 0}};
-    (void)self;
-    if (!pin(env, it, COUNT(it))) {
-        return OUT_OF_MEMORY;
-    }
-    size_t length = 0;
-    uint32_t number = bech32_segwit_encode(it[0].items, it[0].length, (uint32_t)version, it[1].items, it[1].length,
-                                           it[2].items, it[2].length, &length);
-    say(&it[3], length, 0);
-    unpin(env, it, COUNT(it));
-    return (jint)number;
-}
-
-/* The version stands behind both lengths. */
-NATIVE(jint, segwitDecode)
-(JNIEnv *env, jclass self, jbyteArray text, jbyteArray hrp, jbyteArray program, jintArray out) {
-    Pinned it[] = {{text, 0, 0}, {hrp, 0, 0}, {program, 0, 0}, {out, 0, 0}};
-    (void)self;
-    if (!pin(env, it, COUNT(it))) {
-        return OUT_OF_MEMORY;
-    }
-    size_t hrp_length = 0, length = 0;
-    uint32_t version = 0;
-    uint32_t number = bech32_segwit_decode(it[0].items, it[0].length, it[1].items, it[1].length, &hrp_length, &version,
-                                           it[2].items, it[2].length, &length);
-    say(&it[3], hrp_length, length);
-    ((jint *)it[3].items)[2] = (jint)version;
-    unpin(env, it, COUNT(it));
-    return (jint)number;
-}
-
 NATIVE(jint, liquidEncode)
 (JNIEnv *env, jclass self, jbyteArray hrp, jint version, jbyteArray key, jbyteArray program, jbyteArray text,
  jintArray out) {
@@ -255,35 +327,6 @@ NATIVE(jint, liquidDecode)
     say(&it[4], hrp_length, length);
     ((jint *)it[4].items)[2] = (jint)version;
     unpin(env, it, COUNT(it));
-    return (jint)number;
-}
-
-NATIVE(jint, descriptorChecksum)
-(JNIEnv *env, jclass self, jbyteArray text, jbyteArray checksum, jintArray out) {
-    Pinned it[] = {{text, 0, 0}, {checksum, 0, 0}, {out, 0, 0}};
-    (void)self;
-    if (!pin(env, it, COUNT(it))) {
-        return OUT_OF_MEMORY;
-    }
-    size_t length = 0, place = 0;
-    uint32_t number = bech32_descriptor_checksum(it[0].items, it[0].length, it[1].items, it[1].length, &length, &place);
-    say(&it[2], length, place);
-    unpin(env, it, COUNT(it));
-    codex32_wipe_stack();
-    return (jint)number;
-}
-
-NATIVE(jint, descriptorCheck)(JNIEnv *env, jclass self, jbyteArray text, jintArray out) {
-    Pinned it[] = {{text, 0, 0}, {out, 0, 0}};
-    (void)self;
-    if (!pin(env, it, COUNT(it))) {
-        return OUT_OF_MEMORY;
-    }
-    size_t place = 0;
-    uint32_t number = bech32_descriptor_check(it[0].items, it[0].length, &place);
-    say(&it[1], place, 0);
-    unpin(env, it, COUNT(it));
-    codex32_wipe_stack();
     return (jint)number;
 }
 
@@ -367,19 +410,6 @@ NATIVE(jint, segwitEncodeMany)
                                                 (size_t)first, from(&it[4], at), rows, it[5].items, it[5].length,
                                                 it[6].items, it[6].length, &done);
     unpin(env, it, all);
-    return (jint)number;
-}
-
-NATIVE(jint, validityOf)(JNIEnv *env, jclass self, jbyteArray numbers, jbyteArray validity, jintArray out) {
-    Pinned it[] = {{numbers, 0, 0}, {validity, 0, 0}, {out, 0, 0}};
-    (void)self;
-    if (!pin(env, it, COUNT(it))) {
-        return OUT_OF_MEMORY;
-    }
-    size_t accepted = 0;
-    uint32_t number = bech32_validity_of(it[0].items, it[0].length, it[1].items, it[1].length, &accepted);
-    say(&it[2], accepted, 0);
-    unpin(env, it, COUNT(it));
     return (jint)number;
 }
 
@@ -605,23 +635,6 @@ NATIVE(jint, derive)
                                 : codex32_derive((uint32_t)index, it[0].items, it[0].length, each, count, it[2].items,
                                                  it[2].length, &length);
     say(&it[3], length, 0);
-    unpin(env, it, COUNT(it));
-    codex32_wipe_stack();
-    return (jint)number;
-}
-
-NATIVE(jint, split)
-(JNIEnv *env, jclass self, jint threshold, jbyteArray identifier, jbyteArray secret, jbyteArray random, jint count,
- jbyteArray texts, jintArray out) {
-    Pinned it[] = {{identifier, 0, 0}, {secret, 0, 0}, {random, 0, 0}, {texts, 0, 0}, {out, 0, 0}};
-    (void)self;
-    if (!pin(env, it, COUNT(it))) {
-        return OUT_OF_MEMORY;
-    }
-    size_t length = 0;
-    uint32_t number = codex32_split((uint32_t)threshold, it[0].items, it[0].length, it[1].items, it[1].length, it[2].items,
-                                    it[2].length, (size_t)count, it[3].items, it[3].length, &length);
-    say(&it[4], length, 0);
     unpin(env, it, COUNT(it));
     codex32_wipe_stack();
     return (jint)number;

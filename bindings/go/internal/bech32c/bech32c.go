@@ -18,6 +18,39 @@ static bech32_memory lent(uint8_t *start, size_t size) {
     return memory;
 }
 
+// Written by tools/functions, for C.
+
+static uint32_t go_check(uint32_t checksum, _GoString_ text, size_t *hrp_length, size_t *data_length) {
+    return bech32_check(checksum, at(text), _GoStringLen(text), hrp_length, data_length);
+}
+
+static uint32_t go_fault(uint32_t checksum, _GoString_ text, size_t *place) {
+    return bech32_fault(checksum, at(text), _GoStringLen(text), place);
+}
+
+static uint32_t go_segwit_encode(_GoString_ hrp, uint32_t version, const uint8_t *program, size_t program_length,
+                                 uint8_t *text, size_t text_room, size_t *text_length) {
+    return bech32_segwit_encode(at(hrp), _GoStringLen(hrp), version, program, program_length, text, text_room,
+                                text_length);
+}
+
+static uint32_t go_segwit_decode(_GoString_ text, uint8_t *hrp, size_t hrp_room, size_t *hrp_length,
+                                 uint32_t *version, uint8_t *program, size_t program_room, size_t *program_length) {
+    return bech32_segwit_decode(at(text), _GoStringLen(text), hrp, hrp_room, hrp_length, version, program,
+                                program_room, program_length);
+}
+
+static uint32_t go_descriptor_checksum(_GoString_ text, uint8_t *checksum, size_t checksum_room,
+                                       size_t *checksum_length, size_t *place) {
+    return bech32_descriptor_checksum(at(text), _GoStringLen(text), checksum, checksum_room, checksum_length, place);
+}
+
+static uint32_t go_descriptor_check(_GoString_ text, size_t *place) {
+    return bech32_descriptor_check(at(text), _GoStringLen(text), place);
+}
+
+// By hand.
+
 static uint32_t go_encode(uint32_t checksum, _GoString_ hrp, const uint8_t *data, size_t length, uint8_t *text,
                           size_t room, size_t *text_length) {
     return bech32_encode(checksum, at(hrp), _GoStringLen(hrp), data, length, text, room, text_length);
@@ -46,14 +79,6 @@ static uint32_t go_encode_elements(uint32_t checksum, _GoString_ hrp, const uint
                                   text_length);
 }
 
-static uint32_t go_check(uint32_t checksum, _GoString_ text, size_t *hrp_length, size_t *data_length) {
-    return bech32_check(checksum, at(text), _GoStringLen(text), hrp_length, data_length);
-}
-
-static uint32_t go_fault(uint32_t checksum, _GoString_ text, size_t *place) {
-    return bech32_fault(checksum, at(text), _GoStringLen(text), place);
-}
-
 static uint32_t go_correct(uint32_t checksum, _GoString_ text, const size_t *erasures, size_t count,
                            size_t *locations, uint8_t *values, size_t *found, uint8_t *mended, size_t room,
                            size_t *length) {
@@ -73,17 +98,6 @@ static uint32_t go_near_edits(uint32_t checksum, _GoString_ text, uint8_t *start
     bech32_memory memory = lent(start, size);
     return bech32_near_edits(checksum, at(text), _GoStringLen(text), &memory, kinds, most, locations, most, texts,
                              room, found);
-}
-
-static uint32_t go_segwit_encode(_GoString_ hrp, uint32_t version, const uint8_t *program, size_t length,
-                                 uint8_t *text, size_t room, size_t *text_length) {
-    return bech32_segwit_encode(at(hrp), _GoStringLen(hrp), version, program, length, text, room, text_length);
-}
-
-static uint32_t go_segwit_decode(_GoString_ text, uint8_t *hrp, size_t hrp_room, size_t *hrp_length,
-                                 uint32_t *version, uint8_t *program, size_t room, size_t *length) {
-    return bech32_segwit_decode(at(text), _GoStringLen(text), hrp, hrp_room, hrp_length, version, program, room,
-                                length);
 }
 
 static uint32_t go_suggest(_GoString_ text, _GoString_ hrp, uint8_t *start, size_t size, uint8_t *kinds,
@@ -108,15 +122,6 @@ static uint32_t go_liquid_nearest(_GoString_ text, const size_t *erasures, size_
                                   uint8_t *start, size_t size, uint8_t *texts, size_t room, size_t *found) {
     bech32_memory memory = lent(start, size);
     return bech32_liquid_nearest(at(text), _GoStringLen(text), erasures, count, errors, &memory, texts, room, found);
-}
-
-static uint32_t go_descriptor_checksum(_GoString_ text, uint8_t *checksum, size_t *length, size_t *place) {
-    return bech32_descriptor_checksum(at(text), _GoStringLen(text), checksum, BECH32_DESCRIPTOR_CHECKSUM, length,
-                                      place);
-}
-
-static uint32_t go_descriptor_check(_GoString_ text, size_t *place) {
-    return bech32_descriptor_check(at(text), _GoStringLen(text), place);
 }
 
 static uint32_t go_descriptor_mend(_GoString_ text, size_t changed, uint8_t *start, size_t size, uint8_t *kinds,
@@ -267,6 +272,59 @@ func Message(number uint32) string {
 // Version returns the version of the library.
 func Version() uint32 { return uint32(C.bech32_version()) }
 
+// Written by tools/functions, for Go.
+
+// Check calls bech32_check, and returns hrpLength and dataLength.
+func Check(checksum uint32, text string) (int, int, uint32) {
+	var hrpLength, dataLength C.size_t
+	number := C.go_check(C.uint32_t(checksum), text, &hrpLength, &dataLength)
+	return int(hrpLength), int(dataLength), uint32(number)
+}
+
+// Fault calls bech32_fault, and returns place.
+func Fault(checksum uint32, text string) (int, uint32) {
+	var place C.size_t
+	number := C.go_fault(C.uint32_t(checksum), text, &place)
+	return int(place), uint32(number)
+}
+
+// SegwitEncode calls bech32_segwit_encode, and returns text.
+func SegwitEncode(hrp string, version uint32, program []byte) (string, uint32) {
+	var text [MaxAddress]byte
+	var textLength C.size_t
+	number := C.go_segwit_encode(hrp, C.uint32_t(version), first(program), C.size_t(len(program)), first(text[:]),
+		MaxAddress, &textLength)
+	return string(text[:textLength]), uint32(number)
+}
+
+// SegwitDecode calls bech32_segwit_decode, and returns hrp, version and program.
+func SegwitDecode(text string) (string, uint32, []byte, uint32) {
+	var hrp [MaxHRP]byte
+	program := make([]byte, MaxProgram)
+	var hrpLength, programLength C.size_t
+	var version C.uint32_t
+	number := C.go_segwit_decode(text, first(hrp[:]), MaxHRP, &hrpLength, &version, first(program), MaxProgram,
+		&programLength)
+	return string(hrp[:hrpLength]), uint32(version), program[:programLength:programLength], uint32(number)
+}
+
+// DescriptorChecksum calls bech32_descriptor_checksum, and returns checksum and place.
+func DescriptorChecksum(text string) (string, int, uint32) {
+	var checksum [DescriptorLength]byte
+	var checksumLength, place C.size_t
+	number := C.go_descriptor_checksum(text, first(checksum[:]), DescriptorLength, &checksumLength, &place)
+	return string(checksum[:checksumLength]), int(place), uint32(number)
+}
+
+// DescriptorCheck calls bech32_descriptor_check, and returns place.
+func DescriptorCheck(text string) (int, uint32) {
+	var place C.size_t
+	number := C.go_descriptor_check(text, &place)
+	return int(place), uint32(number)
+}
+
+// By hand.
+
 // Encode calls bech32_encode, with room for every text.
 func Encode(checksum uint32, hrp string, data []byte) (string, uint32) {
 	text := make([]byte, min(len(hrp)+7+(8*len(data)+4)/5, MaxLongText))
@@ -312,20 +370,6 @@ func DecodeElements(checksum uint32, text string) (string, []byte, uint32) {
 	number := C.go_decode_elements(C.uint32_t(checksum), text, first(hrp[:]), MaxHRP, &hrpLength, first(elements),
 		C.size_t(len(elements)), &length)
 	return string(hrp[:hrpLength]), elements[:length:length], uint32(number)
-}
-
-// Check calls bech32_check.
-func Check(checksum uint32, text string) (int, int, uint32) {
-	var hrpLength, dataLength C.size_t
-	number := C.go_check(C.uint32_t(checksum), text, &hrpLength, &dataLength)
-	return int(hrpLength), int(dataLength), uint32(number)
-}
-
-// Fault calls bech32_fault.
-func Fault(checksum uint32, text string) (int, uint32) {
-	var place C.size_t
-	number := C.go_fault(C.uint32_t(checksum), text, &place)
-	return int(place), uint32(number)
 }
 
 // Correct calls bech32_correct: the mended text, and the locations and values of what was added.
@@ -446,26 +490,6 @@ func Suggest(text, hrp string) ([]Edited, uint32) {
 		})
 }
 
-// SegwitEncode calls bech32_segwit_encode.
-func SegwitEncode(hrp string, version uint32, program []byte) (string, uint32) {
-	var text [MaxAddress]byte
-	var length C.size_t
-	number := C.go_segwit_encode(hrp, C.uint32_t(version), first(program), C.size_t(len(program)), first(text[:]),
-		C.size_t(len(text)), &length)
-	return string(text[:length]), uint32(number)
-}
-
-// SegwitDecode calls bech32_segwit_decode.
-func SegwitDecode(text string) (string, uint32, []byte, uint32) {
-	var hrp [MaxHRP]byte
-	program := make([]byte, MaxProgram)
-	var hrpLength, length C.size_t
-	var version C.uint32_t
-	number := C.go_segwit_decode(text, first(hrp[:]), MaxHRP, &hrpLength, &version, first(program), MaxProgram,
-		&length)
-	return string(hrp[:hrpLength]), uint32(version), program[:length:length], uint32(number)
-}
-
 // LiquidEncode calls bech32_liquid_encode. The key has LiquidKeyLength bytes.
 func LiquidEncode(hrp string, version uint32, key, program []byte) (string, uint32) {
 	var text [MaxLiquidText]byte
@@ -484,21 +508,6 @@ func LiquidDecode(text string) (string, uint32, []byte, []byte, uint32) {
 	number := C.go_liquid_decode(text, first(hrp[:]), MaxHRP, &hrpLength, &version, first(key), first(program),
 		MaxLiquidProgram, &length)
 	return string(hrp[:hrpLength]), uint32(version), key, program[:length:length], uint32(number)
-}
-
-// DescriptorChecksum calls bech32_descriptor_checksum. The place is that of a character that may not stand there.
-func DescriptorChecksum(text string) (string, int, uint32) {
-	var checksum [DescriptorLength]byte
-	var length, place C.size_t
-	number := C.go_descriptor_checksum(text, first(checksum[:]), &length, &place)
-	return string(checksum[:length]), int(place), uint32(number)
-}
-
-// DescriptorCheck calls bech32_descriptor_check.
-func DescriptorCheck(text string) (int, uint32) {
-	var place C.size_t
-	number := C.go_descriptor_check(text, &place)
-	return int(place), uint32(number)
 }
 
 // DescriptorMend calls bech32_descriptor_mend: two places for each text, from the front.

@@ -12,24 +12,32 @@ package codex32c
     codex32_wipe_stack();    \
     return number
 
-static uint32_t go_parse(const uint8_t *text, size_t length, uint32_t *threshold, uint32_t *index, size_t *payload) {
-    WIPED(codex32_parse(text, length, threshold, index, payload));
+// Written by tools/functions, for C.
+
+static uint32_t go_parse(const uint8_t *text, size_t text_length, uint32_t *threshold, uint32_t *share_index,
+                         size_t *payload_length) {
+    WIPED(codex32_parse(text, text_length, threshold, share_index, payload_length));
 }
+
+static uint32_t go_encode(uint32_t threshold, const uint8_t *identifier, size_t identifier_length,
+                          uint32_t share_index, const uint8_t *bytes, size_t bytes_length, uint8_t *text,
+                          size_t text_room, size_t *text_length) {
+    WIPED(codex32_encode(threshold, identifier, identifier_length, share_index, bytes, bytes_length, text, text_room,
+                         text_length));
+}
+
+static uint32_t go_encode_payload(uint32_t threshold, const uint8_t *identifier, size_t identifier_length,
+                                  uint32_t share_index, const uint8_t *payload, size_t payload_length, uint8_t *text,
+                                  size_t text_room, size_t *text_length) {
+    WIPED(codex32_encode_payload(threshold, identifier, identifier_length, share_index, payload, payload_length, text,
+                                 text_room, text_length));
+}
+
+// By hand.
 
 static uint32_t go_share(const uint8_t *text, size_t length, uint32_t *threshold, uint8_t *identifier, uint32_t *index,
                          uint8_t *bytes, size_t room, size_t *count) {
     WIPED(codex32_share(text, length, threshold, identifier, index, bytes, room, count));
-}
-
-static uint32_t go_encode(uint32_t threshold, const uint8_t *identifier, size_t identifier_length, uint32_t index,
-                          const uint8_t *bytes, size_t count, uint8_t *text, size_t room, size_t *length) {
-    WIPED(codex32_encode(threshold, identifier, identifier_length, index, bytes, count, text, room, length));
-}
-
-static uint32_t go_encode_payload(uint32_t threshold, const uint8_t *identifier, size_t identifier_length,
-                                  uint32_t index, const uint8_t *payload, size_t count, uint8_t *text, size_t room,
-                                  size_t *length) {
-    WIPED(codex32_encode_payload(threshold, identifier, identifier_length, index, payload, count, text, room, length));
 }
 
 static uint32_t go_derive(uint32_t index, const uint8_t *texts, size_t all, const size_t *lengths, size_t count,
@@ -100,13 +108,35 @@ func Version() uint32 { return uint32(C.codex32_version()) }
 // Wipe fills bytes with zeros.
 func Wipe(bytes []byte) { C.go_wipe(first(bytes), lengthOf(bytes)) }
 
-// Parse calls codex32_parse: threshold, share index, and length of the payload.
+// Written by tools/functions, for Go.
+
+// Parse calls codex32_parse, and returns threshold, shareIndex and payloadLength.
 func Parse(text []byte) (uint32, uint32, int, uint32) {
-	var threshold, index C.uint32_t
-	var payload C.size_t
-	number := C.go_parse(first(text), lengthOf(text), &threshold, &index, &payload)
-	return uint32(threshold), uint32(index), int(payload), uint32(number)
+	var payloadLength C.size_t
+	var threshold, shareIndex C.uint32_t
+	number := C.go_parse(first(text), C.size_t(len(text)), &threshold, &shareIndex, &payloadLength)
+	return uint32(threshold), uint32(shareIndex), int(payloadLength), uint32(number)
 }
+
+// Encode calls codex32_encode, and returns text.
+func Encode(threshold uint32, identifier []byte, shareIndex uint32, bytes []byte) ([]byte, uint32) {
+	text := make([]byte, TextSize)
+	var textLength C.size_t
+	number := C.go_encode(C.uint32_t(threshold), first(identifier), C.size_t(len(identifier)),
+		C.uint32_t(shareIndex), first(bytes), C.size_t(len(bytes)), first(text), TextSize, &textLength)
+	return text[:textLength:textLength], uint32(number)
+}
+
+// EncodePayload calls codex32_encode_payload, and returns text.
+func EncodePayload(threshold uint32, identifier []byte, shareIndex uint32, payload []byte) ([]byte, uint32) {
+	text := make([]byte, TextSize)
+	var textLength C.size_t
+	number := C.go_encode_payload(C.uint32_t(threshold), first(identifier), C.size_t(len(identifier)),
+		C.uint32_t(shareIndex), first(payload), C.size_t(len(payload)), first(text), TextSize, &textLength)
+	return text[:textLength:textLength], uint32(number)
+}
+
+// By hand.
 
 // Share calls codex32_share: threshold, identifier, share index and bytes.
 func Share(text []byte) (uint32, string, uint32, []byte, uint32) {
@@ -117,24 +147,6 @@ func Share(text []byte) (uint32, string, uint32, []byte, uint32) {
 	number := C.go_share(first(text), lengthOf(text), &threshold, first(identifier[:]), &index, first(bytes), BytesSize,
 		&count)
 	return uint32(threshold), string(identifier[:]), uint32(index), bytes[:count:count], uint32(number)
-}
-
-// Encode calls codex32_encode.
-func Encode(threshold uint32, identifier []byte, index uint32, bytes []byte) ([]byte, uint32) {
-	text := make([]byte, TextSize)
-	var length C.size_t
-	number := C.go_encode(C.uint32_t(threshold), first(identifier), lengthOf(identifier), C.uint32_t(index), first(bytes),
-		lengthOf(bytes), first(text), TextSize, &length)
-	return text[:length:length], uint32(number)
-}
-
-// EncodePayload calls codex32_encode_payload.
-func EncodePayload(threshold uint32, identifier []byte, index uint32, payload []byte) ([]byte, uint32) {
-	text := make([]byte, TextSize)
-	var length C.size_t
-	number := C.go_encode_payload(C.uint32_t(threshold), first(identifier), lengthOf(identifier), C.uint32_t(index),
-		first(payload), lengthOf(payload), first(text), TextSize, &length)
-	return text[:length:length], uint32(number)
 }
 
 // gathered has texts one behind another, and their lengths.

@@ -47,15 +47,32 @@ final class Native {
 
     static native int version(boolean isCodex32);
 
-    static native int encode(int checksum, byte[] hrp, byte[] data, byte[] text, int[] out);
+    // Written by tools/functions.
+
+    static native int encode(int checksum, byte[] hrp, byte[] bytes, byte[] text, int[] out);
 
     static native int encodeElements(int checksum, byte[] hrp, byte[] elements, byte[] text, int[] out);
-
-    static native int decode(int checksum, boolean isElements, byte[] text, byte[] hrp, byte[] data, int[] out);
 
     static native int check(int checksum, byte[] text, int[] out);
 
     static native int fault(int checksum, byte[] text, int[] out);
+
+    static native int segwitEncode(byte[] hrp, int version, byte[] program, byte[] text, int[] out);
+
+    static native int segwitDecode(byte[] text, byte[] hrp, byte[] program, int[] out);
+
+    static native int descriptorChecksum(byte[] text, byte[] checksum, int[] out);
+
+    static native int descriptorCheck(byte[] text, int[] out);
+
+    static native int validityOf(byte[] numbers, byte[] validity, int[] out);
+
+    static native int split(
+            int threshold, byte[] identifier, byte[] secret, byte[] random, int count, byte[] texts, int[] out);
+
+    // By hand.
+
+    static native int decode(int checksum, boolean isElements, byte[] text, byte[] hrp, byte[] data, int[] out);
 
     static native int correct(
             int checksum, byte[] text, int[] erasures, int[] locations, byte[] values, byte[] mended, int[] out);
@@ -69,17 +86,9 @@ final class Native {
     static native int suggest(
             byte[] text, byte[] hrp, int memory, byte[] kinds, int[] places, byte[] texts, int[] out);
 
-    static native int segwitEncode(byte[] hrp, int version, byte[] program, byte[] text, int[] out);
-
-    static native int segwitDecode(byte[] text, byte[] hrp, byte[] program, int[] out);
-
     static native int liquidEncode(byte[] hrp, int version, byte[] key, byte[] program, byte[] text, int[] out);
 
     static native int liquidDecode(byte[] text, byte[] hrp, byte[] key, byte[] program, int[] out);
-
-    static native int descriptorChecksum(byte[] text, byte[] checksum, int[] out);
-
-    static native int descriptorCheck(byte[] text, int[] out);
 
     static native int descriptorMend(
             byte[] text, int changed, int memory, byte[] kinds, int[] places, byte[] texts, int[] out);
@@ -98,8 +107,6 @@ final class Native {
             byte[] hrp, byte[] versions, Object bytes, Object offsets, Object validity, long[] lengths, int[] layout,
             int first, byte[] numbers, int at, int count, int[] textOffsets, byte[] texts);
 
-    static native int validityOf(byte[] numbers, byte[] validity, int[] out);
-
     static native int parse(byte[] text, int[] out);
 
     static native int share(byte[] text, byte[] identifier, byte[] bytes, int[] out);
@@ -108,9 +115,6 @@ final class Native {
             boolean isPayload, int threshold, byte[] identifier, int index, byte[] bytes, byte[] text, int[] out);
 
     static native int derive(int index, byte[] texts, int[] lengths, byte[] made, int[] out);
-
-    static native int split(
-            int threshold, byte[] identifier, byte[] secret, byte[] random, int count, byte[] texts, int[] out);
 
     static native int propose(boolean isLong, byte[] text, byte[] memory, byte[] proposed, int[] out);
 
