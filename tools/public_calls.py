@@ -24,6 +24,14 @@ reading.__file__ = str(Path(__file__).resolve().parent / "names")
 importlib.machinery.SourceFileLoader("reading", reading.__file__).exec_module(reading)
 
 
+def named_by_users(top):
+    """The crates that users name, as docs/MAP.md has them."""
+    said = re.search(r"^Users name ([^.]*)\.", (top / "docs/MAP.md").read_text(), re.M)
+    if not said:
+        sys.exit("docs/MAP.md: no sentence says which crates users name")
+    return re.findall(r"`(\w+)`", said[1])
+
+
 def without_attributes(head):
     return re.sub(r"#!?\[[^\]]*\]", "", head).strip()
 

@@ -157,7 +157,7 @@ static void hide_string(char *text, size_t size)
             hide(text + i, 1);
 }
 
-/* The texts of a call, of so many characters each. */
+/* The texts of a call, of the same number of characters each. */
 static void give(char *texts, size_t size, size_t count)
 {
     given = texts;
@@ -535,7 +535,7 @@ static void refusals(void)
 
 /* ---- texts with a fault */
 
-/* Whether strings have so many characters. */
+/* Whether strings may have this many characters. */
 static int is_size(size_t size)
 {
     return (size >= SHORTEST && size <= CODEX32_MAX_TEXT) || (size >= CODEX32_MIN_LONG_TEXT && size <= LONGEST);
