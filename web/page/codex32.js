@@ -41,10 +41,11 @@ const secretIn = ({ shareIndex }, text) => (shareIndex === SECRET_INDEX ? { secr
 const proposed = (library, text) =>
   tried(() => (text.length > SHORT ? library.codex32.proposeLong(text) : library.codex32.propose(text)));
 
-// Why a reading is refused, or null: the lengths of a refusal are those of strings of either length.
-const refusedOf = (library, { filled }) => {
-  const { refused } = proposed(library, filled);
-  return refused?.code === 'BAD_LENGTH' ? tried(() => library.codex32.share(filled.replaceAll('?', 'q'))).refused : refused;
+// What is proposed for a reading, or why it is refused: the lengths of a refusal are those of strings of either length.
+const proposedFor = (library, { filled }) => {
+  const { value, refused } = proposed(library, filled);
+  if (refused?.code !== 'BAD_LENGTH') return { value, refused };
+  return { value, refused: tried(() => library.codex32.share(filled.replaceAll('?', 'q'))).refused };
 };
 
 const offerOf = (library, before, found, begun) => {
@@ -55,11 +56,13 @@ const offerOf = (library, before, found, begun) => {
   return { ...mending, columns, text, said, facts: [], ...known, ...(parts && secretIn(parts, text)) };
 };
 
+// What is offered for a reading of a string whose characters were `before`, for which the library proposes this, if anything.
+const offersOf = (library, before, it, proposal, begun) =>
+  proposal ? [{ ...offerOf(library, before, proposal.text, begun), faults: faultsOf(it, BOUND) }] : [];
+
 /** What is offered for a reading of a string whose characters were `before`, with its beginning as it was mended. */
-export const codex32Offers = (library, before, it, begun = null) => {
-  const { value } = proposed(library, it.filled);
-  return value ? [{ ...offerOf(library, before, value.text, begun), faults: faultsOf(it, BOUND) }] : [];
-};
+export const codex32Offers = (library, before, it, begun = null) =>
+  offersOf(library, before, it, proposed(library, it.filled).value, begun);
 
 /** What is said of a text that begins with `ms1`. */
 export const ofCodex32 = (library, text) => {
@@ -68,10 +71,10 @@ export const ofCodex32 = (library, text) => {
   if (parts) return { ...right, said: stringSaid(parts), text, ...secretIn(parts, text) };
   if (first.code === 'BAD_THRESHOLD' || first.code === 'BAD_SHARE_INDEX') return { ...refusal(text, first), warnings };
   const it = readingOf(text, '?'), seen = faultsOf(it, BOUND), faults = [...seen, ...unreadSaid(it)];
-  const refused = refusedOf(library, it);
+  const { value, refused } = proposedFor(library, it);
   const isShort = refused?.code === 'BAD_LENGTH' && refused.place === null;
   if (refused) return { ...refusal(text, refused, faults, it.unread), warnings, ...(isShort && { tone: 'open' }) };
-  const [offer] = codex32Offers(library, it.characters, it), wrong = faults.length ? [] : [STRING.wrong];
+  const [offer] = offersOf(library, it.characters, it, value, null), wrong = faults.length ? [] : [STRING.wrong];
   if (offer?.isSound) return mended([offer], [...seen, ...wrong]);
   const nothing = offer ? offer.said[0] : STRING.nothing;
   return { ...unmended(it, [...faults, ...wrong, nothing], it.unread.length < BOUND), warnings };

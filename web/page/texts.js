@@ -116,7 +116,7 @@ export const ofWrongText = (library, text) => {
   const begun = begunText(text, it);
   if (begun) return begun;
   const faults = [...faultsOf(it, MOST_UNREAD), ...unreadSaid(it)];
-  const { refused } = tried(() => library.check('bech32m', it.filled));
+  const refused = it.filled === text ? first : tried(() => library.check('bech32m', it.filled)).refused;
   if (refused && refused.code !== 'WRONG_CHECKSUM') return { ...refusal(text, refused, faults, it.unread), ...secretOf(it) };
   if (!it.known) return unknownText(text, it, faults);
   return { ...unmendedText(library, text, it, faults), ...secretOf(it) };
