@@ -123,7 +123,7 @@ def changes(rest, singles, count):
 
 
 def near(text, erasures, errors):
-    """All texts that Blech32 accepts and that differ in at most so many places outside the erasures, in order."""
+    """All texts that Blech32 accepts and that differ in at most `errors` places outside the erasures, in order."""
     hrp, data = model.parts(text)
     if len(text) > BLECH32.length:
         raise Refusal(31)
@@ -263,7 +263,7 @@ class Maker:
         return "lq1" + "".join(self.random.choice(ALPHABET) for _ in range(98))
 
     def wrong(self, text, count, erased=()):
-        """The text with so many characters of the data part changed, and with others at the erasures; and the erasures."""
+        """The text with `count` characters of the data part changed, and with others at the erasures; and the erasures."""
         start = text.rindex("1") + 1
         letters = list(text)
         places = self.random.sample([it for it in range(len(text) - start) if it not in erased], count)

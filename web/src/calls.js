@@ -26,7 +26,7 @@ const CODEX32_MEMORY = 16384 + 8 * MAX_CODEX32;
 /** The most strings that may be put together: one for each share index. */
 export const MOST_SHARES = 32;
 
-// So many shares a secret is split into at most, of so many random bytes at most, and so many characters in all.
+// The most shares that a secret is split into, the most random bytes that this takes, and the most characters of all shares.
 const MOST_SPLIT = MOST_SHARES - 1, MOST_RANDOM = 8 * 103, SHARES_ROOM = MOST_SPLIT * MAX_CODEX32;
 
 const BAD_RANDOM = 66;

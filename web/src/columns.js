@@ -13,11 +13,11 @@ export const OTHER_HRP = 49;
 
 const TEXT_TOO_LONG = 31, ADDRESS_TOO_LONG = 41;
 
-// So many rows and bytes are a block; a row of more bytes than a text may have is cut, and is one alone.
+// The most rows and bytes of a block; a row with more bytes than a text may have is cut, and is a block by itself.
 const ROWS = 4096, BYTES = 1 << 19, ROW_ROOM = TEXT_ROOM;
 const HRP_ROOM = 96, MAX_SEGWIT_TEXT = 90, MAX_SEGWIT_PROGRAM = 40;
 const MOST_BYTES = 2 ** 31 - 1, LARGEST = 2 ** 31 - 1;
-// So many bytes of results are expected at most while there are less, and this part of them more than the rows before let expect.
+// Room is made for EXPECTED bytes of results at most while there are fewer, and for SPARE more than earlier rows suggest.
 const EXPECTED = 1 << 26, SPARE = 1 / 32;
 
 const SIZE = 8, OFFSETS_32 = 1;
@@ -118,7 +118,7 @@ const isWide = (offsets) => offsets instanceof BigInt64Array;
 const halvesOf = ({ buffer, byteOffset, length }) => new Int32Array(buffer, byteOffset, 2 * length);
 const joined = (halves, i) => halves[2 * i + 1] * 2 ** 32 + (halves[2 * i] >>> 0);
 
-// What reads an offset, or -1 of one that does not lie in so many bytes.
+// The function that reads an offset, which gives -1 for one that is not within `length` bytes.
 const readerOf = (offsets, length) => {
   const within = (offset) => (offset >= 0 && offset <= length ? offset : -1);
   if (offsets instanceof Int32Array || offsets instanceof Uint32Array) return (i) => within(offsets[i]);
@@ -137,7 +137,7 @@ const lowHalves = (offsets) => {
   return numbers;
 };
 
-// The offsets of so many rows from one on, as numbers of 32 bits, which say of them alone how far apart they are; null where
+// The offsets of `count` rows from one on, as numbers of 32 bits, which tell only how far apart these offsets are; null where
 // these do not.
 const offsetsOf = (offsets, from, count) => {
   const part = offsets.subarray(from, from + count + 1);

@@ -176,7 +176,7 @@ const correctedAsRead = (given, found, { front, unread, known }) => {
   return known.length <= MOST_KNOWN && known.every((place) => place >= front) ? correctionOf(given, found, known) : null;
 };
 
-// Twice the wrong characters, with those that are known to be wrong, are so many at most in a confidential address.
+// A confidential address is mended if twice the number of wrong characters, plus those known to be wrong, is at most this.
 const LIQUID_BOUND = 6, LIQUID_KEY = 33;
 
 const versionOf = (version) => {

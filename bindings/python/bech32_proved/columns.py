@@ -49,11 +49,11 @@ Progress = Optional[Callable[[int], Any]]
 
 _LAYOUTS = {np.dtype(np.int32): _library.OFFSETS_32, np.dtype(np.int64): _library.OFFSETS_64}
 _MAX_PROGRAM, _MAX_ADDRESS = _library.MAX_PROGRAM, _library.MAX_ADDRESS
-# So many rows at most at once: a call of some hundredths of a second, behind which Ctrl-C is seen.
+# The most rows of one call: it takes some hundredths of a second, and after it Ctrl-C is noticed.
 _ROWS = 1 << 18
-# Room for all rows is made at once where it is of so many bytes: what is not written of it takes no memory.
+# Room for all rows is made at once if it has at most this many bytes: what is not written of it takes no memory.
 _ROOM = 1 << 30
-# Above so many rows the offsets of all have 64 bits.
+# Above this many rows the offsets of all rows have 64 bits.
 _SMALL = (2**31 - 1) // _MAX_ADDRESS
 
 
@@ -451,7 +451,7 @@ def decode(texts: Any, hrp: Optional[str] = None, threads: int = 1, progress: Pr
 
 
 def _made(put: Callable[[_Part, Any, Any], None], parts: List[_Part], threads: int, progress: Progress, most: int) -> Tuple[Any, Any]:
-    # The offsets and the bytes of all rows: `put` puts those of a part, and a row has at most so many bytes.
+    # The offsets and the bytes of all rows: `put` puts those of a part, and a row has at most `most` bytes.
     total = sum(it.count for it in parts)
     if total * most > _ROOM or (threads > 1 and len(parts) > 1):
         return _gathered(put, parts, threads, progress, most)

@@ -22,7 +22,7 @@ from .texts import Correction, _known, listed_near
 _NO_CORRECTION = 34
 _NO_ELEMENT = 4
 
-# Twice the wrong characters, with those that are known to be wrong, are so many at most where a text is mended.
+# A text is mended if twice the number of wrong characters, plus the number of those known to be wrong, is at most this.
 _BOUND = 6
 
 

@@ -395,7 +395,7 @@ def nearest(
 
 
 def near(checksum: Checksum, typed: Typed, wrong: int) -> List[Correction]:
-    """The texts near to a mistyped one, with at most so many other characters."""
+    """The texts near to a mistyped one, which differ in at most `wrong` characters."""
     return listed_near(_library.nearest, (_number(checksum),), typed, wrong)
 
 

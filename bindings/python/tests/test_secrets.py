@@ -279,7 +279,7 @@ def filled(size, seed):
 
 
 def has_run(memory, whole, run=8):
-    """Whether a memory has so many bytes in a row of these."""
+    """Whether a memory has `run` of these bytes in a row."""
     for start in range(0, len(whole) - 3, run - 3):
         # Any eight in a row hold four that begin here.
         at = memory.find(whole[start : start + 4])

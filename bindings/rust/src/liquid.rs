@@ -26,7 +26,7 @@ pub const KEY_LENGTH: usize = 33;
 const MAX_TEXT_LENGTH: usize = 201;
 const MAX_LIQUID_PROGRAM: usize = 32;
 
-// Twice the wrong characters, with those that are known to be wrong, are so many at most where a text is mended.
+// A text is mended if twice the number of wrong characters, plus the number of those known to be wrong, is at most this.
 #[cfg(feature = "correct")]
 const BOUND: usize = 6;
 

@@ -36,7 +36,7 @@ fn are_equal(some: &[u8], others: &[u8]) -> bool {
 pub struct SecretBytes(Vec<u8>);
 
 impl SecretBytes {
-    /// So many zeros.
+    /// `count` zeros.
     pub(super) fn zeros(count: usize) -> SecretBytes {
         SecretBytes(vec![0; count])
     }

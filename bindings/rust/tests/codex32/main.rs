@@ -436,7 +436,7 @@ fn the_header_has_each_refusal() {
         let number = value.strip_suffix('u')?.parse().ok()?;
         Some((name.strip_prefix("CODEX32_")?.replace('_', ""), number))
     };
-    let answers = HEADER.split_once("/* Answers. */").unwrap().1;
+    let answers = HEADER.split_once("/* Return values. */").unwrap().1;
     let answers = answers.split("\n\n").next().unwrap();
     let mut found: Vec<(String, u32)> = answers
         .lines()

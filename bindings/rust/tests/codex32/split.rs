@@ -27,7 +27,7 @@ fn random_of(characters: &str, above: u8) -> Vec<u8> {
         .collect()
 }
 
-// The sets of so many of the shares, by the bits of a number.
+// The sets of `size` of the shares, by the bits of a number.
 fn subsets(shares: &[SecretText], size: u32) -> Vec<Vec<&str>> {
     let numbers = (0..1_u32 << shares.len()).filter(|number| number.count_ones() == size);
     let of = |number: u32| {

@@ -437,7 +437,7 @@ fn name(refusal: &Refusal) -> String {
 
 #[test]
 fn has_the_numbers_of_the_header() {
-    let (_, behind) = HEADER.split_once("/* Answers. */").unwrap();
+    let (_, behind) = HEADER.split_once("/* Return values. */").unwrap();
     let (answers, _) = behind.split_once("\n\n").unwrap();
     let defined = answers.lines().filter_map(|line| {
         let mut words = line.strip_prefix("#define ")?.split_whitespace();
