@@ -49,9 +49,10 @@ extern "C" {
 /*
  * Checksums. The long ones are the same for texts of up to BECH32_MAX_LONG_TEXT characters, as invoices,
  * nostr and age have them: up to 1,023 characters they accept the same texts. Above that nothing is promised
- * of wrong characters, and texts are not mended, since a wrong one leaves what one 1,023 characters further
- * on leaves (at location 1,200 what one at 177 does): bech32_correct, bech32_nearest, bech32_near_edits and
- * bech32_residue take the first two, by which a text of more than 1,023 characters is refused (31).
+ * of wrong characters, and texts are not mended, since a wrong character leaves the same remainder as one
+ * 1,023 locations away (at location 1,200 the same as at 177): bech32_correct, bech32_nearest,
+ * bech32_near_edits and bech32_residue take the first two, by which a text of more than 1,023 characters is
+ * refused (31).
  */
 #define BECH32_BECH32 1u       /* BIP-173 */
 #define BECH32_BECH32M 2u      /* BIP-350 */
@@ -103,7 +104,7 @@ extern "C" {
 #define BECH32_DESCRIPTOR_CHECKSUM 8u
 #define BECH32_MAX_DESCRIPTOR 7500u
 
-/* Answers. */
+/* Return values. */
 #define BECH32_OK 0u
 #define BECH32_NULL_ROW 1u              /* the row is null */
 #define BECH32_NOT_UTF8 2u              /* a text or a human-readable part is not UTF-8 */
@@ -188,9 +189,9 @@ uint32_t bech32_decode(const uint8_t *text, size_t text_length, uint8_t *hrp, si
 
 /*
  * Decodes a text that a checksum, any of the four, accepts as bech32_decode does, and refuses bits behind
- * the last whole byte that are more than four, or not all zero. So the text is, in its case, the only one by
- * this checksum that has its human-readable part and its bytes: bech32_encode writes it of these, in lower
- * case.
+ * the last whole byte that are more than four, or not all zero. So, in its case, the text is the only one
+ * that this function decodes by this checksum to its human-readable part and its bytes; bech32_encode writes
+ * it from them, in lower case.
  *
  * Refusals, the first that applies: 4; 2; 21, 22, 23, 11 to 15; 31, 32, 33; 44, 45; 92.
  */
@@ -203,8 +204,8 @@ uint32_t bech32_decode_strict(uint32_t checksum, const uint8_t *text, size_t tex
  * its data part, without the six of the checksum. The human-readable part, in the case of the text, is put
  * into `hrp`, and the elements into `elements`; *hrp_length and *elements_length are their lengths. This
  * reads what is not bytes alone: the addresses of silent payments (BIP-352), whose first element is a
- * version, and invoices (BOLT 11). The text is, in its case, the only one by this checksum that has them:
- * bech32_encode_elements writes it, in lower case.
+ * version, and invoices (BOLT 11). In its case, the text is the only one that this checksum accepts for its
+ * human-readable part and its elements; bech32_encode_elements writes it from them, in lower case.
  *
  * Refusals, the first that applies: 4; 2; 21, 22, 23, 11 to 15; 31, 32, 33; 92.
  */
@@ -477,8 +478,8 @@ uint32_t bech32_liquid_decode(const uint8_t *text, size_t text_length, uint8_t *
  * erasures, and with `errors` from 0 to BECH32_MAX_LIQUID_ERRORS: all that Blech32 accepts and that differ
  * from it in at most `errors` characters of the data part outside `erasures`.
  *
- * To mend a text, ask for so many errors that twice their number, plus the number of erasures, is at most
- * six: three without erasures, none beside six. There is then one text at most: the right one, if no more of
+ * To mend a text, choose `errors` so that twice this number, plus the number of erasures, is at most six: up
+ * to three without erasures, none beside six. There is then one text at most: the right one, if no more of
  * its characters are wrong. It may not be what was meant: show it, and ask. It need not be an address:
  * decode it. With more errors there may be several texts, though in an address there seldom are. Three errors
  * beside two erasures or more take long: each value of an error is tried by itself.
@@ -495,7 +496,7 @@ uint32_t bech32_liquid_nearest(const uint8_t *text, size_t text_length, const si
  * checksum: each of its bytes has to be one of the 95 characters of BIP-380, which are the bytes from 32
  * to 126. The eight characters are put into `checksum`, and *checksum_length is 8.
  *
- * With 80 *place is where the first byte is that is no such character, from 0 for the first.
+ * With 80, *place is the place, counted from 0, of the first byte that is no such character.
  *
  * A descriptor may hold private keys. Nothing of it is kept; but its bytes, and the checksum, may stand
  * on the stack behind the call, and the caller wipes buffers and lent memory itself. So for all four
@@ -510,7 +511,7 @@ uint32_t bech32_descriptor_checksum(const uint8_t *text, size_t text_length, uin
  * Tests an output descriptor with its checksum: characters of BIP-380, `#`, and the eight characters of
  * the checksum, which are those of Bech32 in lower case. What the characters before `#` say is not read.
  *
- * With 80 *place is where the first byte is that may not stand there, from 0 for the first.
+ * With 80, *place is the place, counted from 0, of the first byte that is not allowed there.
  *
  * Refusals, the first that applies: 88, 80, 33.
  */
@@ -581,7 +582,7 @@ uint32_t bech32_descriptor_mend_two(const uint8_t *text, size_t text_length, bec
 #define BECH32_SUGGESTIONS 48u
 
 /*
- * Did you mean? Lists the segwit addresses of a network that someone may have meant who typed `text`: those
+ * Did you mean? Lists the segwit addresses of a network that someone who typed `text` may have meant: those
  * that bech32_segwit_decode accepts and whose human-readable part is `hrp`, in either case. Each `?` in the
  * text is a character that cannot be read; its letters may be of either case, but not of both.
  *

@@ -89,7 +89,7 @@ extern "C" {
 #define CODEX32_SHARE_INDEX_AT 8u
 #define CODEX32_PAYLOAD_AT 9u
 
-/* Answers. */
+/* Return values. */
 #define CODEX32_OK 0u
 #define CODEX32_NOT_UTF8 2u             /* a text or a human-readable part is not UTF-8 */
 #define CODEX32_BAD_LENGTHS 4u          /* there are more than 32 texts, or their lengths do not add up to
