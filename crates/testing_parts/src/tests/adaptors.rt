@@ -5,8 +5,8 @@ ghost use Rattle.std.specs.Iterator.{IsFinite};
 ghost use Rattle.bech32_encode.specs.Encoder.{encoder_elements};
 
 use crate::tests::compare::{begins, counts_down, same};
-use bech32_checksum::{Bech32, Checksum};
-use bech32_encode::{ByteIter, CharIter, Checksummed, Encoder, Fe32Iter};
+use bech32_checksum::Checksum;
+use bech32_encode::{Checksummed, Encoder};
 use bech32_gf::gf32::Fe32;
 use bech32_hrp::Hrp;
 use std::process::Abort;
@@ -33,45 +33,32 @@ pub fn encoder_behind<'a, I: Iterator<Item = Fe32>, Ck: Checksum>(
     }
 }
 
-// The elements of a text by Bech32.
-fn elements_behind<'a, I: Iterator<Item = Fe32>>(
-    front: Front<'a>,
+/// The bounds on the elements of a text.
+pub fn hint_of_elements<I: Iterator<Item = Fe32> + Drop, Ck: Checksum>(
+    front: Front<'_>,
     elements: I,
-) -> Fe32Iter<'a, I, Bech32> {
-    encoder_behind::<I, Bech32>(front, elements).fes()
-}
-
-// The characters that an encoder gives.
-fn characters_of<'a, I: Iterator<Item = Fe32>>(
-    encoder: Encoder<'a, I, Bech32>,
-) -> CharIter<'a, I, Bech32> {
-    encoder.chars()
-}
-
-// The bytes that it gives.
-fn bytes_of<'a, I: Iterator<Item = Fe32>>(
-    encoder: Encoder<'a, I, Bech32>,
-) -> ByteIter<'a, I, Bech32> {
-    encoder.bytes()
-}
-
-/// The bounds on the elements of a text by Bech32.
-pub fn hint_of_elements<I: Iterator<Item = Fe32> + Drop>(front: Front<'_>, elements: I) -> Hint {
-    elements_behind(front, elements).size_hint()
+) -> Hint {
+    encoder_behind::<I, Ck>(front, elements).fes().size_hint()
 }
 
 /// The bounds on its characters.
-pub fn hint_of_characters<I: Iterator<Item = Fe32> + Drop>(front: Front<'_>, elements: I) -> Hint {
-    characters_of(encoder_behind(front, elements)).size_hint()
+pub fn hint_of_characters<I: Iterator<Item = Fe32> + Drop, Ck: Checksum>(
+    front: Front<'_>,
+    elements: I,
+) -> Hint {
+    encoder_behind::<I, Ck>(front, elements).chars().size_hint()
 }
 
 /// The bounds on its bytes.
-pub fn hint_of_bytes<I: Iterator<Item = Fe32> + Drop>(front: Front<'_>, elements: I) -> Hint {
-    bytes_of(encoder_behind(front, elements)).size_hint()
+pub fn hint_of_bytes<I: Iterator<Item = Fe32> + Drop, Ck: Checksum>(
+    front: Front<'_>,
+    elements: I,
+) -> Hint {
+    encoder_behind::<I, Ck>(front, elements).bytes().size_hint()
 }
 
-/// Fails where the elements of a text by Bech32 are other ones, or miscounted.
-pub fn elements_count_down<I: Iterator<Item = Fe32> + Drop>(
+/// Fails where the elements of a text are other ones, or miscounted.
+pub fn elements_count_down<I: Iterator<Item = Fe32> + Drop, Ck: Checksum>(
     rt: &impl Abort,
     front: Front<'_>,
     elements: I,
@@ -79,7 +66,8 @@ pub fn elements_count_down<I: Iterator<Item = Fe32> + Drop>(
 )
     requires always { (s : I) → I.can_next s }
 {
-    counts_down(rt, &mut elements_behind(front, elements), want);
+    let mut fes = encoder_behind::<I, Ck>(front, elements).fes();
+    counts_down(rt, &mut fes, want);
 }
 
 /// Fails where the elements of a text are other ones.
@@ -167,7 +155,7 @@ pub fn checksummed_under<I: Iterator<Item = Fe32>, Ck: Checksum>(
 }
 
 /// Fails where the bounds on the elements of a text are other ones, or the first of them.
-pub fn elements_begin<I: Iterator<Item = Fe32> + Drop>(
+pub fn elements_begin<I: Iterator<Item = Fe32> + Drop, Ck: Checksum>(
     rt: &impl Abort,
     front: Front<'_>,
     elements: I,
@@ -178,14 +166,14 @@ pub fn elements_begin<I: Iterator<Item = Fe32> + Drop>(
 {
     begins(
         rt,
-        encoder_behind::<I, Bech32>(front, elements).fes(),
+        encoder_behind::<I, Ck>(front, elements).fes(),
         hint,
         want,
     );
 }
 
 /// Fails where the bounds on the characters of a text are other ones, or the first of them.
-pub fn characters_begin<I: Iterator<Item = Fe32> + Drop>(
+pub fn characters_begin<I: Iterator<Item = Fe32> + Drop, Ck: Checksum>(
     rt: &impl Abort,
     front: Front<'_>,
     elements: I,
@@ -196,7 +184,7 @@ pub fn characters_begin<I: Iterator<Item = Fe32> + Drop>(
 {
     begins(
         rt,
-        encoder_behind::<I, Bech32>(front, elements).chars(),
+        encoder_behind::<I, Ck>(front, elements).chars(),
         hint,
         want,
     );
@@ -204,7 +192,7 @@ pub fn characters_begin<I: Iterator<Item = Fe32> + Drop>(
 
 /// Fails where the bounds on elements with their checksum behind them are other ones, or the first
 /// of them.
-pub fn checksummed_begin<I: Iterator<Item = Fe32> + Drop>(
+pub fn checksummed_begin<I: Iterator<Item = Fe32> + Drop, Ck: Checksum>(
     rt: &impl Abort,
     elements: I,
     hint: Hint,
@@ -212,7 +200,7 @@ pub fn checksummed_begin<I: Iterator<Item = Fe32> + Drop>(
 )
     requires can { I.can_next elements }
 {
-    begins(rt, Checksummed::<I, Bech32>::new(elements), hint, want);
+    begins(rt, Checksummed::<I, Ck>::new(elements), hint, want);
 }
 
 /// Fails where the bounds on elements with their checksum behind them are other ones.

@@ -114,22 +114,22 @@ fn refuses(rt: &impl Abort, text: &str, error: SegwitHrpstringError) {
     same(rt, &(text, refusal), &(text, Some(error)));
 }
 
-// Fails where a text is not refused for its remainder by Bech32m.
-fn refuses_residue(rt: &impl Abort, text: &str) {
-    refuses(rt, text, wrong_residue::<Bech32m>(rt, text));
-}
+// Texts whose remainder by Bech32m is wrong.
+const WRONG: &[&str] = &[
+    "a12uel5l",
+    "bc1p0xlxvlhemja6c4dqv22uapctqupfhlxm9h8z3k2e72q4k9hcz7vqh2y7hd",
+    "BC1S0XLXVLHEMJA6C4DQV22UAPCTQUPFHLXM9H8Z3K2E72Q4K9HCZ7VQ54WELL",
+    "bc1gmk9yu",
+];
 
-// Fails where a text with a wrong remainder is refused otherwise.
-fn refuses_wrong_remainders(rt: &impl Abort) {
-    refuses_residue(rt, "a12uel5l");
-    let text = "bc1p0xlxvlhemja6c4dqv22uapctqupfhlxm9h8z3k2e72q4k9hcz7vqh2y7hd";
-    refuses_residue(rt, text);
-    let text = "BC1S0XLXVLHEMJA6C4DQV22UAPCTQUPFHLXM9H8Z3K2E72Q4K9HCZ7VQ54WELL";
-    refuses_residue(rt, text);
-    refuses_residue(rt, "bc1gmk9yu");
-    let of_version_0 = "bc1qw508d6qejxtdg4y5r3zarvary0c5xw7kemeawh";
-    let error = wrong_residue::<Bech32>(rt, of_version_0);
-    refuses(rt, of_version_0, error);
+// Of version 0: by Bech32.
+const WRONG_0: &[&str] = &["bc1qw508d6qejxtdg4y5r3zarvary0c5xw7kemeawh"];
+
+// Fails where a text is not refused for its remainder.
+fn refuses_residues<Ck: Checksum>(rt: &impl Abort, texts: &[&str]) {
+    for text in texts {
+        refuses(rt, text, wrong_residue::<Ck>(rt, text));
+    }
 }
 
 // Fails where a program of a wrong length, or with wrong bits behind it, is refused otherwise.
@@ -152,7 +152,8 @@ fn refuses_character(rt: &impl Abort, text: &str, error: CharError) {
 
 #[test]
 fn refuses_texts_in_order(rt: HostRuntime) {
-    refuses_wrong_remainders(&rt);
+    refuses_residues::<Bech32m>(&rt, WRONG);
+    refuses_residues::<Bech32>(&rt, WRONG_0);
     refuses_programs(&rt);
     let version_31 = SegwitHrpstringError::InvalidWitnessVersion(Fe32::L);
     refuses(&rt, "a1lqfn3a", version_31);
@@ -208,54 +209,78 @@ fn refuses_by_rules<Ck: Checksum>(rt: &impl Abort, text: &str, error: SegwitHrps
     same(rt, &(text, refusal), &(text, Some(error)));
 }
 
+// Fails where an address is not read by the rules.
+fn reads_by_rules<Ck: Checksum>(rt: &impl Abort) {
+    let checked = CheckedHrpstring::new::<Ck>(ADDRESS).expect(rt, "a text");
+    let address = checked.validate_segwit().expect(rt, "an address");
+    same(rt, &address.witness_version(), &Fe32::Q);
+}
+
+// The rows of texts by Bech32.
+fn tests_rules<Ck: Checksum>(rt: &impl Abort) {
+    let long =
+        "a13qqqqqqqqqqqqqqqqqqqqqqqqqqqqqqqqqqqqqqqqqqqqqqqqqqqqqqqqqqqqqqqqqqqqqqqqqqqqqqqqqqqqqqqqqqqqqqqqqqqqk8ljg5";
+    refuses_by_rules::<Ck>(rt, "a12uel5l", SegwitHrpstringError::NoData);
+    refuses_by_rules::<Ck>(rt, long, SegwitHrpstringError::TooLong(109));
+    reads_by_rules::<Ck>(rt);
+}
+
 #[test]
 fn tests_the_rules_of_addresses(rt: HostRuntime) {
     let version = SegwitHrpstringError::InvalidWitnessVersion(Fe32::_3);
     refuses_by_rules::<Bech32m>(&rt, "a13qqqq9qz88s", version);
-    let long =
-        "a13qqqqqqqqqqqqqqqqqqqqqqqqqqqqqqqqqqqqqqqqqqqqqqqqqqqqqqqqqqqqqqqqqqqqqqqqqqqqqqqqqqqqqqqqqqqqqqqqqqqqk8ljg5";
-    refuses_by_rules::<Bech32>(&rt, "a12uel5l", SegwitHrpstringError::NoData);
-    refuses_by_rules::<Bech32>(&rt, long, SegwitHrpstringError::TooLong(109));
-    let checked = CheckedHrpstring::new::<Bech32>(ADDRESS).expect(&rt, "a text");
-    let address = checked.validate_segwit().expect(&rt, "an address");
-    same(&rt, &address.witness_version(), &Fe32::Q);
+    tests_rules::<Bech32>(&rt);
 }
 
-// Fails where the test of padding gives another result for a text by Bech32m.
-fn tests_padding(rt: &impl Abort, text: &str, padding: Option<PaddingError>) {
-    let checked = CheckedHrpstring::new::<Bech32m>(text).expect(rt, "a text");
+// Fails where the test of padding gives another result.
+fn tests_padding<Ck: Checksum>(rt: &impl Abort, text: &str, padding: Option<PaddingError>) {
+    let checked = CheckedHrpstring::new::<Ck>(text).expect(rt, "a text");
     let refusal = checked.validate_segwit_padding().err();
     same(rt, &(text, refusal), &(text, padding));
 }
 
-// Fails where the test of a program's length gives another result for a text by Bech32m.
-fn tests_length(rt: &impl Abort, text: &str, version: Fe32, error: Option<WitnessLengthError>) {
-    let checked = CheckedHrpstring::new::<Bech32m>(text).expect(rt, "a text");
+// Fails where the test of a program's length gives another result.
+fn tests_length<Ck: Checksum>(
+    rt: &impl Abort,
+    text: &str,
+    version: Fe32,
+    error: Option<WitnessLengthError>,
+) {
+    let checked = CheckedHrpstring::new::<Ck>(text).expect(rt, "a text");
     let refusal = checked.validate_witness_program_length(version).err();
     same(rt, &(text, refusal), &(text, error));
 }
 
-#[test]
-fn tests_padding_and_length(rt: HostRuntime) {
-    let too_much = Some(PaddingError::TooMuch);
-    let non_zero = Some(PaddingError::NonZero);
-    tests_padding(&rt, "a1lqfn3a", None);
-    tests_padding(&rt, "a1qy52hkn", too_much);
-    tests_padding(&rt, "a1qq43hjaz", None);
-    tests_padding(&rt, "a1qpg8r8qs", non_zero);
-    tests_padding(&rt, "a1qqqcmw5yr", too_much);
-    tests_padding(&rt, "a1qqqq726jfk", None);
-    tests_padding(&rt, "a1qqqsttj2u9", None);
-    tests_padding(&rt, "a1qqqgq777ht", non_zero);
-    tests_padding(&rt, "a1llllltkgalp", non_zero);
-    tests_padding(&rt, "a1qqqqqqyu9vm5", too_much);
-    tests_padding(&rt, "a1lllllll9dmlf7", non_zero);
-    tests_padding(&rt, "a1yyyyyyyfsyl5s", non_zero);
-    tests_padding(&rt, "a1ggggggguzulx0", None);
-    tests_padding(&rt, "a1llllllllm6su8m", None);
+const PADDINGS: &[(&str, Option<PaddingError>)] = &[
+    ("a1lqfn3a", None),
+    ("a1qy52hkn", Some(PaddingError::TooMuch)),
+    ("a1qq43hjaz", None),
+    ("a1qpg8r8qs", Some(PaddingError::NonZero)),
+    ("a1qqqcmw5yr", Some(PaddingError::TooMuch)),
+    ("a1qqqq726jfk", None),
+    ("a1qqqsttj2u9", None),
+    ("a1qqqgq777ht", Some(PaddingError::NonZero)),
+    ("a1llllltkgalp", Some(PaddingError::NonZero)),
+    ("a1qqqqqqyu9vm5", Some(PaddingError::TooMuch)),
+    ("a1lllllll9dmlf7", Some(PaddingError::NonZero)),
+    ("a1yyyyyyyfsyl5s", Some(PaddingError::NonZero)),
+    ("a1ggggggguzulx0", None),
+    ("a1llllllllm6su8m", None),
+];
+
+// Both tests of texts by Bech32m.
+fn tests_texts<Ck: Checksum>(rt: &impl Abort) {
+    for &(text, padding) in PADDINGS {
+        tests_padding::<Ck>(rt, text, padding);
+    }
     let invalid = Some(WitnessLengthError::InvalidSegwitV0);
     let too_short = Some(WitnessLengthError::TooShort);
-    tests_length(&rt, "a1qqqq726jfk", Fe32::Q, invalid);
-    tests_length(&rt, "a1qqqq726jfk", Fe32::P, None);
-    tests_length(&rt, "a1qqqcmw5yr", Fe32::P, too_short);
+    tests_length::<Ck>(rt, "a1qqqq726jfk", Fe32::Q, invalid);
+    tests_length::<Ck>(rt, "a1qqqq726jfk", Fe32::P, None);
+    tests_length::<Ck>(rt, "a1qqqcmw5yr", Fe32::P, too_short);
+}
+
+#[test]
+fn tests_padding_and_length(rt: HostRuntime) {
+    tests_texts::<Bech32m>(&rt);
 }

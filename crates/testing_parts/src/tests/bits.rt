@@ -1,9 +1,6 @@
 //! Bytes as elements, and elements as bytes.
 
-ghost use Rattle.std.specs.Prelude.{List, IfOk, OnOk, OnErr, ◌≡◌, ◌++◌, ◌<◌};
 ghost use Rattle.std.specs.Iterator.{IsFinite};
-ghost use Rattle.bech32_gf.specs.declared.gf32.Fe32.{Fe32};
-ghost use Rattle.bech32_bits.specs.Bits.{to_fes, to_bytes, to_bytes_zeropad};
 
 use crate::tests::compare::{clone_of, exactly, same, same_items, step};
 use bech32_bits::plain::{plain_to_bytes, plain_to_fes};
@@ -55,42 +52,25 @@ fn all_bytes<I: Iterator<Item = Fe32>>(
 }
 
 // The elements of a slice.
-fn fes_of(alloc: Global, bytes: &[u8]) -> Result<Vec<Fe32>, AllocError>
-    ensures { IfOk result (λ v. v.items ≡ to_fes bytes.now) }
-{
+fn fes_of(alloc: Global, bytes: &[u8]) -> Result<Vec<Fe32>, AllocError> {
     bytes.iter().copied().bytes_to_fes().collect(alloc)
 }
 
-// Appends the elements of a slice, one at a time, and if memory runs out some first ones of them.
-fn push_fes(bytes: &[u8], out: &mut Vec<Fe32>) -> Result<(), AllocError>
-    ensures ok { OnOk result (out.new.items ≡ out.old.items ++ to_fes bytes.now) }
-    ensures err { OnErr result ((first : List Fe32) × (others : List Fe32)
-        × (to_fes bytes.now ≡ first ++ others) × (out.new.items ≡ out.old.items ++ first)) }
-{
+// Appends the elements of a slice, one at a time.
+fn push_fes(bytes: &[u8], out: &mut Vec<Fe32>) -> Result<(), AllocError> {
     for fe in bytes.iter().copied().bytes_to_fes() {
         out.push(fe)?;
     }
     Ok(())
 }
 
-// The bytes of elements.
-fn bytes_of(alloc: Global, fes: &[Fe32]) -> Result<Vec<u8>, AllocError>
-    ensures { IfOk result (λ v. v.items ≡ to_bytes fes.now) }
-{
-    FesToBytes::new(fes.iter().copied(), false).collect(alloc)
-}
-
-// The bytes of elements, with a last part filled.
-fn filled_bytes_of(alloc: Global, fes: &[Fe32]) -> Result<Vec<u8>, AllocError>
-    ensures { IfOk result (λ v. v.items ≡ to_bytes_zeropad fes.now) }
-{
-    FesToBytes::new(fes.iter().copied(), true).collect(alloc)
+// The bytes of elements, with a last part filled or left out.
+fn bytes_of(alloc: Global, fes: &[Fe32], padded: bool) -> Result<Vec<u8>, AllocError> {
+    FesToBytes::new(fes.iter().copied(), padded).collect(alloc)
 }
 
 // Bytes as elements and back.
-fn there_and_back(alloc: Global, bytes: &[u8]) -> Result<Vec<u8>, AllocError>
-    ensures { IfOk result (λ v. v.items ≡ bytes.now) }
-{
+fn there_and_back(alloc: Global, bytes: &[u8]) -> Result<Vec<u8>, AllocError> {
     FesToBytes::new(bytes.iter().copied().bytes_to_fes(), false).collect(alloc)
 }
 
@@ -159,8 +139,13 @@ fn incomplete_bytes(rt: HostRuntime) {
     same(&rt, &FesToBytes::new(nine.iter().copied(), false).len(), &5);
     same_items(
         &rt,
-        &bytes_of(rt.alloc(), &nine).expect(&rt, "memory"),
+        &bytes_of(rt.alloc(), &nine, false).expect(&rt, "memory"),
         &[0xff; 5],
+    );
+    same_items(
+        &rt,
+        &bytes_of(rt.alloc(), &nine, true).expect(&rt, "memory"),
+        &[0xff, 0xff, 0xff, 0xff, 0xff, 0xf8],
     );
 }
 
@@ -304,7 +289,7 @@ fn are_elements(alloc: Global, bytes: &[u8], fes: &[Fe32]) -> Result<bool, Alloc
 
 // Whether these are the bytes of elements, by both functions.
 fn are_bytes(alloc: Global, fes: &[Fe32], bytes: &[u8]) -> Result<[bool; 2], AllocError> {
-    let back = bytes_of(alloc, fes)?;
+    let back = bytes_of(alloc, fes, false)?;
     let plain = plain_to_bytes(alloc, fes)?;
     Ok([back.as_slice() == bytes, plain.as_slice() == bytes])
 }

@@ -6,10 +6,10 @@ use crate::tests::adaptors::{
     checksummed_under, elements_are, elements_begin, elements_count_down, hint_of_bytes,
     hint_of_characters, hint_of_checksummed, hint_of_elements,
 };
-use crate::tests::compare::{counts_down, exactly, same, same_items, step};
+use crate::tests::compare::{clone_of, counts_down, exactly, same, same_items, step};
 use crate::tests::hrp::part;
 use bech32_bits::{ByteIterExt, BytesToFes};
-use bech32_checksum::{Bech32, Bech32m, HrpFe32Iter, NoChecksum};
+use bech32_checksum::{Bech32, Bech32m, Checksum, HrpFe32Iter, NoChecksum};
 use bech32_encode::{Checksummed, Encoder, Fe32IterExt, WitnessVersionIter, put_text};
 use bech32_gf::gf32::Fe32;
 use bech32_hrp::Hrp;
@@ -32,11 +32,19 @@ fn elements_of_a_part(rt: HostRuntime) {
     counts_down(&rt, &mut fes, &want);
 }
 
-#[test]
-fn elements_of_no_data(rt: HostRuntime) {
+// Fails where the elements of texts of no element and of one are other ones, or miscounted.
+fn texts_count_down<Ck: Checksum>(rt: &impl Abort) {
     let none: [Fe32; 0] = [];
-    let hrp = part(&rt, "a");
-    elements_count_down(&rt, (&hrp, None), none.iter().copied(), &RQP2UEL5L);
+    let hrp = part(rt, "a");
+    elements_count_down::<_, Ck>(rt, (&hrp, None), none.iter().copied(), &RQP2UEL5L);
+    let one = [Fe32::L];
+    let hrp = part(rt, "ab");
+    elements_count_down::<_, Ck>(rt, (&hrp, None), one.iter().copied(), &RRQPZLX4WXQS);
+}
+
+#[test]
+fn elements_of_short_texts(rt: HostRuntime) {
+    texts_count_down::<Bech32>(&rt);
 }
 
 // The characters `rqp2uel5l`.
@@ -68,12 +76,6 @@ const RRQPZLX4WXQS: [Fe32; 12] = [
     Fe32::S,
 ];
 
-// Fails where the bounds on the elements of a text are other ones.
-fn bounds_of_a_text(rt: &impl Abort, hrp: &Hrp) {
-    let one = [Fe32::L];
-    elements_count_down(rt, (hrp, None), one.iter().copied(), &RRQPZLX4WXQS);
-}
-
 const TWO: [Fe32; 2] = [Fe32::L, Fe32::Q];
 
 // Fails where two elements, behind a version where there is one, are other ones, or miscounted.
@@ -84,8 +86,6 @@ fn bounds_behind(rt: &impl Abort, version: Option<Fe32>, want: &[Fe32]) {
 
 #[test]
 fn size_hints(rt: HostRuntime) {
-    let hrp = part(&rt, "ab");
-    bounds_of_a_text(&rt, &hrp);
     bounds_behind(&rt, None, &TWO);
     bounds_behind(&rt, Some(Fe32::P), &[Fe32::P, Fe32::L, Fe32::Q]);
 }
@@ -128,20 +128,30 @@ const TEXT: &str = "bc1qw508d6qejxtdg4y5r3zarvary0c5xw7kv8f3t4";
 type Elements<'a> = BytesToFes<iter::Copied<slice::Iter<'a, u8>>>;
 
 // The encoder of a program of version 0.
-fn encoder_of<'a>(program: &'a [u8], hrp: &'a Hrp) -> Encoder<'a, Elements<'a>, Bech32> {
+fn encoder_of<'a, Ck: Checksum>(program: &'a [u8], hrp: &'a Hrp) -> Encoder<'a, Elements<'a>, Ck> {
     let fes = program.iter().copied().bytes_to_fes();
-    fes.with_checksum::<Bech32>(hrp)
-        .with_witness_version(Fe32::Q)
+    fes.with_checksum::<Ck>(hrp).with_witness_version(Fe32::Q)
 }
 
 // Fails where the characters of an encoder of the program are other ones, or miscounted.
-fn has_characters(rt: &impl Abort, encoder: Encoder<'_, Elements<'_>, Bech32>, want: &[char]) {
+fn has_characters<Ck: Checksum>(
+    rt: &impl Abort,
+    encoder: Encoder<'_, Elements<'_>, Ck>,
+    want: &[char],
+) {
     counts_down(rt, &mut encoder.chars(), want);
 }
 
 // The same of its bytes.
-fn has_bytes(rt: &impl Abort, encoder: Encoder<'_, Elements<'_>, Bech32>) {
+fn has_bytes<Ck: Checksum>(rt: &impl Abort, encoder: Encoder<'_, Elements<'_>, Ck>) {
     counts_down(rt, &mut encoder.bytes(), TEXT.as_bytes());
+}
+
+// The same of both.
+fn has_text<Ck: Checksum + Clone>(rt: &impl Abort, hrp: &Hrp, want: &[char]) {
+    let encoder = encoder_of::<Ck>(&PROGRAM, hrp);
+    has_bytes(rt, encoder.clone().expect(rt, "memory"));
+    has_characters(rt, encoder, want);
 }
 
 // The characters of its text.
@@ -154,9 +164,7 @@ fn characters(rt: &impl Abort, alloc: Global) -> Vec<char> {
 fn text_of_a_witness_program(rt: HostRuntime) {
     let want = characters(&rt, rt.alloc());
     let hrp = part(&rt, "BC");
-    let encoder = encoder_of(&PROGRAM, &hrp);
-    has_bytes(&rt, encoder.clone().expect(&rt, "memory"));
-    has_characters(&rt, encoder, &want);
+    has_text::<Bech32>(&rt, &hrp, &want);
 }
 
 #[test]
@@ -183,47 +191,56 @@ fn version_before_two_elements(rt: HostRuntime) {
     );
 }
 
-#[test]
-fn text_of_two_elements(rt: HostRuntime) {
-    let hrp = part(&rt, "a");
+// Fails where the characters of texts of two elements are other ones.
+fn two_as_characters<Ck: Checksum>(rt: &impl Abort, hrp: &Hrp) {
     let want = ['a', '1', '4', '4', 'm', 'h', '9', 'z', '9', '7'];
     let two = TwoItems::new(Fe32::_4, None);
-    characters_are::<_, Bech32>(&rt, (&hrp, None), two, &want);
+    characters_are::<_, Ck>(rt, (hrp, None), two, &want);
     let two = TwoOfFive::new(Fe32::_4);
-    characters_are::<_, Bech32>(&rt, (&hrp, None), two, &want);
+    characters_are::<_, Ck>(rt, (hrp, None), two, &want);
     let two = TwoItems::new(Fe32::_4, Some(usize::MAX));
     let want = ['a', '1', 'q', '4', '4', 'k', 'a', 'u', 'y', 'u', 'l'];
-    characters_are::<_, Bech32>(&rt, (&hrp, Some(Fe32::Q)), two, &want);
-    let two = TwoItems::new(Fe32::_4, None);
-    let want = ['a', '1', '4', '4'];
-    characters_are::<_, NoChecksum>(&rt, (&hrp, None), two, &want);
+    characters_are::<_, Ck>(rt, (hrp, Some(Fe32::Q)), two, &want);
 }
 
-#[test]
-fn text_of_two_elements_as_bytes(rt: HostRuntime) {
-    let hrp = part(&rt, "A");
+// The same of their bytes.
+fn two_as_bytes<Ck: Checksum>(rt: &impl Abort, hrp: &Hrp) {
     let two = TwoItems::new(Fe32::_4, None);
-    bytes_are::<_, Bech32>(&rt, (&hrp, None), two, b"a144mh9z97");
+    bytes_are::<_, Ck>(rt, (hrp, None), two, b"a144mh9z97");
     let two = TwoOfFive::new(Fe32::_4);
-    bytes_are::<_, Bech32>(&rt, (&hrp, None), two, b"a144mh9z97");
+    bytes_are::<_, Ck>(rt, (hrp, None), two, b"a144mh9z97");
     let two = TwoItems::new(Fe32::_4, Some(usize::MAX));
-    bytes_are::<_, Bech32>(&rt, (&hrp, Some(Fe32::Q)), two, b"a1q44kauyul");
+    bytes_are::<_, Ck>(rt, (hrp, Some(Fe32::Q)), two, b"a1q44kauyul");
+}
+
+// The same of their elements, with those of the human-readable part.
+fn two_as_elements<Ck: Checksum>(rt: &impl Abort, hrp: &Hrp, want: &[Fe32]) {
+    let two = TwoItems::new(Fe32::_4, None);
+    elements_are::<_, Ck>(rt, (hrp, None), two, want);
+    let two = TwoItems::new(Fe32::_4, Some(usize::MAX));
+    elements_are::<_, Ck>(rt, (hrp, None), two, want);
+    let two = TwoOfFive::new(Fe32::_4);
+    elements_are::<_, Ck>(rt, (hrp, None), two, want);
+}
+
+// All three.
+fn two_in_each_form<Ck: Checksum>(rt: &impl Abort, want: &[Fe32]) {
+    let lower = part(rt, "a");
+    two_as_characters::<Ck>(rt, &lower);
+    two_as_elements::<Ck>(rt, &lower, want);
+    two_as_bytes::<Ck>(rt, &part(rt, "A"));
 }
 
 #[test]
-fn elements_of_a_part_and_two_elements(rt: HostRuntime) {
+fn texts_of_two_elements(rt: HostRuntime) {
     let alloc = rt.alloc();
-    let want = elements_of(&rt, alloc, b"rqp44mh9z97");
+    two_in_each_form::<Bech32>(&rt, &elements_of(&rt, alloc, b"rqp44mh9z97"));
     let hrp = part(&rt, "a");
-    let two = TwoItems::new(Fe32::_4, None);
-    elements_are::<_, Bech32>(&rt, (&hrp, None), two, &want);
-    let two = TwoItems::new(Fe32::_4, Some(usize::MAX));
-    elements_are::<_, Bech32>(&rt, (&hrp, None), two, &want);
-    let two = TwoOfFive::new(Fe32::_4);
-    elements_are::<_, Bech32>(&rt, (&hrp, None), two, &want);
     let want = elements_of(&rt, alloc, b"rqpp44pr9lq9");
     let two = TwoItems::new(Fe32::_4, None);
     elements_are::<_, Bech32m>(&rt, (&hrp, Some(Fe32::P)), two, &want);
+    let two = TwoItems::new(Fe32::_4, None);
+    characters_are::<_, NoChecksum>(&rt, (&hrp, None), two, &['a', '1', '4', '4']);
 }
 
 #[test]
@@ -240,64 +257,81 @@ fn bounds_that_are_not_exact(rt: HostRuntime) {
     same_items(&rt, &found, &[(1, None), (usize::MAX, None)]);
     same_items(
         &rt,
-        &bounds_of_texts(&hrp),
+        &bounds_of_texts::<Bech32>(&hrp),
         &[(9, None), (9, None), exactly(16)],
     );
 }
 
 // The bounds on the characters and the bytes of a text, and on the elements of another.
-fn bounds_of_texts(hrp: &Hrp) -> [(usize, Option<usize>); 3] {
+fn bounds_of_texts<Ck: Checksum>(hrp: &Hrp) -> [(usize, Option<usize>); 3] {
     let front = (hrp, None);
     let two = TwoItems::new(Fe32::_4, None);
     let most = TwoItems::new(Fe32::_4, Some(usize::MAX));
     [
-        hint_of_characters(front, two),
-        hint_of_bytes(front, most),
-        hint_of_elements(front, TwoOfFive::new(Fe32::_4)),
+        hint_of_characters::<_, Ck>(front, two),
+        hint_of_bytes::<_, Ck>(front, most),
+        hint_of_elements::<_, Ck>(front, TwoOfFive::new(Fe32::_4)),
     ]
+}
+
+// Fails where an iterator gives other characters than these, or miscounts what is to come.
+fn steps_are<I: Iterator<Item = char>>(rt: &impl Abort, items: &mut I, rows: &[(usize, char)])
+    requires always { (s : I) → I.can_next s }
+{
+    for &(left, c) in rows {
+        same(rt, &step(items), &(exactly(left), Some(c)));
+    }
+}
+
+const FEWER: &[(usize, char)] = &[
+    (13, 'a'),
+    (12, '1'),
+    (11, '4'),
+    (10, '4'),
+    (9, 'm'),
+    (5, 'h'),
+];
+
+// Fails where the bounds on the characters of fewer elements than said are other ones.
+fn ends_early<Ck: Checksum>(rt: &impl Abort, hrp: &Hrp) {
+    let mut chars = TwoOfFive::new(Fe32::_4).with_checksum::<Ck>(hrp).chars();
+    steps_are(rt, &mut chars, FEWER);
 }
 
 #[test]
 fn bounds_of_an_ended_iterator(rt: HostRuntime) {
-    let hrp = part(&rt, "a");
-    let mut chars = TwoOfFive::new(Fe32::_4)
-        .with_checksum::<Bech32>(&hrp)
-        .chars();
-    let rows = [
-        (13, 'a'),
-        (12, '1'),
-        (11, '4'),
-        (10, '4'),
-        (9, 'm'),
-        (5, 'h'),
-    ];
-    for (left, c) in rows {
-        same(&rt, &step(&mut chars), &(exactly(left), Some(c)));
-    }
+    ends_early::<Bech32>(&rt, &part(&rt, "a"));
+}
+
+// Fails where the bounds on texts without an end are other ones, or how they begin.
+fn endless_begin<Ck: Checksum>(rt: &impl Abort, hrp: &Hrp, want: &[Fe32]) {
+    let front = (hrp, None);
+    let endless = (usize::MAX, None);
+    elements_begin::<_, Ck>(rt, front, iter::repeat(Fe32::_4), endless, want);
+    let want = ['a', 'b', '1', '4', '4', '4', '4', '4'];
+    characters_begin::<_, Ck>(rt, front, iter::repeat(Fe32::_4), endless, &want);
+    let fes = iter::repeat(Fe32::_4);
+    checksummed_begin::<_, Ck>(rt, fes, endless, &[Fe32::_4; 6]);
 }
 
 #[test]
 fn endless_elements(rt: HostRuntime) {
-    let alloc = rt.alloc();
-    let hrp = part(&rt, "ab");
-    let front = (&hrp, None);
-    let endless = (usize::MAX, None);
-    let want = ['a', 'b', '1', '4', '4', '4', '4', '4'];
-    characters_begin(&rt, front, iter::repeat(Fe32::_4), endless, &want);
-    let want = elements_of(&rt, alloc, b"rrqpz44");
-    elements_begin(&rt, front, iter::repeat(Fe32::_4), endless, &want);
-    let fes = iter::repeat(Fe32::_4);
-    checksummed_begin(&rt, fes, endless, &[Fe32::_4; 6]);
+    let want = elements_of(&rt, rt.alloc(), b"rrqpz44");
+    endless_begin::<Bech32>(&rt, &part(&rt, "ab"), &want);
+}
+
+// Fails where a text without elements and checksum is another one.
+fn front_alone<Ck: Checksum>(rt: &impl Abort, hrp: &Hrp) {
+    let none: [Fe32; 0] = [];
+    let front = (hrp, None);
+    let want = [Fe32::R, Fe32::Q, Fe32::P];
+    elements_are::<_, Ck>(rt, front, none.iter().copied(), &want);
+    characters_are::<_, Ck>(rt, front, none.iter().copied(), &['a', '1']);
 }
 
 #[test]
 fn text_without_a_checksum(rt: HostRuntime) {
-    let hrp = part(&rt, "a");
-    let none: [Fe32; 0] = [];
-    let front = (&hrp, None);
-    let want = [Fe32::R, Fe32::Q, Fe32::P];
-    elements_are::<_, NoChecksum>(&rt, front, none.iter().copied(), &want);
-    characters_are::<_, NoChecksum>(&rt, front, none.iter().copied(), &['a', '1']);
+    front_alone::<NoChecksum>(&rt, &part(&rt, "a"));
 }
 
 #[test]
@@ -309,24 +343,27 @@ fn bytes_of_elements(rt: HostRuntime) {
     same(&rt, &first_difference(filled, &[0xab, 0x3e]), &None);
 }
 
+// Fails where two elements, with their checksum behind them, are not the first ones, or under a
+// human-readable part the second ones.
+fn two_and_a_checksum<Ck: Checksum>(rt: &impl Abort, alone: &[Fe32], under: &[Fe32]) {
+    let two = TwoItems::new(Fe32::_4, None);
+    checksummed_are::<_, Ck>(rt, two, alone);
+    let two = TwoOfFive::new(Fe32::_4);
+    checksummed_are::<_, Ck>(rt, two, alone);
+    let two = TwoItems::new(Fe32::_4, Some(usize::MAX));
+    checksummed_under::<_, Ck>(rt, part(rt, "a"), two, under);
+}
+
 #[test]
 fn checksum_behind_two_elements(rt: HostRuntime) {
-    // The second text is that under the human-readable part `a`.
-    let alloc = rt.alloc();
-    let alone = elements_of(&rt, alloc, b"44ectty8");
-    let two = TwoItems::new(Fe32::_4, None);
-    checksummed_are::<_, Bech32>(&rt, two, &alone);
-    let two = TwoOfFive::new(Fe32::_4);
-    checksummed_are::<_, Bech32>(&rt, two, &alone);
-
-    let two = TwoItems::new(Fe32::_4, Some(usize::MAX));
-    let want = elements_of(&rt, alloc, b"44mh9z97");
-    checksummed_under::<_, Bech32>(&rt, part(&rt, "a"), two, &want);
+    let alone = elements_of(&rt, rt.alloc(), b"44ectty8");
+    let under = elements_of(&rt, rt.alloc(), b"44mh9z97");
+    two_and_a_checksum::<Bech32>(&rt, &alone, &under);
 }
 
 // Fails where the bounds on two elements and their checksum are other ones.
-fn bounds_of_two_and_a_checksum(rt: &impl Abort) {
-    let mut fes = Checksummed::<_, Bech32>::new(TwoItems::new(Fe32::_4, None));
+fn bounds_of_two_and_a_checksum<Ck: Checksum>(rt: &impl Abort) {
+    let mut fes = Checksummed::<_, Ck>::new(TwoItems::new(Fe32::_4, None));
     let bounds = fes.size_hint();
     let first = [fes.next().is_some(), fes.next().is_some()];
     let behind = fes.size_hint();
@@ -334,13 +371,13 @@ fn bounds_of_two_and_a_checksum(rt: &impl Abort) {
     let found = [bounds, behind, fes.size_hint()];
     let want = [(6, None), (6, None), exactly(5)];
     same(rt, &((first, third), found), &(([true, true], true), want));
+    let two = TwoItems::new(Fe32::_4, Some(usize::MAX));
+    hint_of_checksummed::<_, Ck>(rt, two, (6, None));
 }
 
 #[test]
 fn size_hints_of_checksums(rt: HostRuntime) {
-    bounds_of_two_and_a_checksum(&rt);
-    let two = TwoItems::new(Fe32::_4, Some(usize::MAX));
-    hint_of_checksummed::<_, Bech32>(&rt, two, (6, None));
+    bounds_of_two_and_a_checksum::<Bech32>(&rt);
     let two = TwoOfFive::new(Fe32::_4);
     hint_of_checksummed::<_, Bech32m>(&rt, two, exactly(11));
     let many = Many::new(Fe32::_4, usize::MAX);
@@ -357,24 +394,43 @@ fn checksums_of_no_elements(rt: HostRuntime) {
     checksummed_are::<_, NoChecksum>(&rt, two, &[Fe32::_4, Fe32::_4]);
 }
 
+// Fails where the next item of a clone, which goes on where the iterator stands, is miscounted.
+fn clone_goes_on<I: Iterator<Item = Fe32> + Clone + Drop>(rt: &impl Abort, items: &I, left: usize)
+    requires always { (s : I) → I.can_next s }
+{
+    let mut other = clone_of(rt, items);
+    let (bounds, fe) = step(&mut other);
+    same(rt, &(bounds, fe.is_some()), &(exactly(left), left > 0));
+}
+
+// Fails where an iterator gives other elements than these, or miscounts them, or its clones do.
+fn clones_count_down<I: Iterator<Item = Fe32> + Clone + Drop>(
+    rt: &impl Abort,
+    items: &mut I,
+    want: &[Fe32],
+)
+    requires always { (s : I) → I.can_next s }
+{
+    let mut left = want.len();
+    for fe in want {
+        same(rt, &step(items), &(exactly(left), Some(*fe)));
+        left = left.saturating_sub(1);
+        clone_goes_on(rt, items, left);
+    }
+    counts_down(rt, items, &[]);
+}
+
+// Fails where the elements of the human-readable part `a`, and their checksum, are other ones, or
+// miscounted.
+fn letter_counts_down<Ck: Checksum>(rt: &impl Abort) {
+    let hrp = [Fe32::R, Fe32::Q, Fe32::P];
+    let mut fes = Checksummed::<_, Ck>::new(hrp.iter().copied());
+    clones_count_down(rt, &mut fes, &RQP2UEL5L);
+}
+
 #[test]
 fn checksum_of_the_elements_of_one_letter(rt: HostRuntime) {
-    // The elements of the human-readable part `a`, and their checksum. A clone goes on where the
-    // iterator stands.
-    let hrp = [Fe32::R, Fe32::Q, Fe32::P];
-    let mut fes = Checksummed::<_, Bech32>::new(hrp.iter().copied());
-    let mut left = 9usize;
-    for c in b"rqp2uel5l" {
-        let want = (exactly(left), Some(element(&rt, *c)));
-        same(&rt, &step(&mut fes), &want);
-        left = left.saturating_sub(1);
-        let mut other = fes.clone().expect(&rt, "memory");
-        let (bounds, fe) = step(&mut other);
-        same(&rt, &(bounds, fe.is_some()), &(exactly(left), left > 0));
-    }
-    for _ in 0..3 {
-        same(&rt, &step(&mut fes), &(exactly(0), None));
-    }
+    letter_counts_down::<Bech32>(&rt);
 }
 
 // The elements of characters.

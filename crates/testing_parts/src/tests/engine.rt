@@ -1,9 +1,9 @@
 //! Engines: checksums that are known, long division.
 
 ghost use Rattle.std.specs.Prelude.{length, ◌≤◌};
-ghost use Rattle.bech32_checksum.specs.Code.{IsResidueAfter};
 
 use crate::tests::compare::{same, same_items};
+use crate::tests::roots::tested;
 use bech32_checksum::{Bech32, Bech32m, Checksum, Engine, NoChecksum, PackedFe32, PackedNull};
 use bech32_gf::gf32::Fe32;
 use bech32_hrp::Hrp;
@@ -43,9 +43,7 @@ const LOW_13: [Fe32; 13] = [
 ];
 
 // Takes elements, one after another.
-fn input_all<Ck: Checksum>(engine: &mut Engine<Ck>, elements: &[Fe32])
-    ensures { IsResidueAfter Ck.MidstateRepr.number Ck.code engine.old elements.now engine.new }
-{
+fn input_all<Ck: Checksum>(engine: &mut Engine<Ck>, elements: &[Fe32]) {
     for e in elements {
         engine.input_fe(*e);
     }
@@ -60,31 +58,21 @@ fn characters(row: u32) -> [char; 6] {
     characters
 }
 
-// The checksum of elements, as a row.
-fn checksum_of<Ck: Checksum>(elements: &[Fe32]) -> Ck::MidstateRepr {
-    let mut engine = Engine::<Ck>::new();
-    input_all(&mut engine, elements);
-    engine.input_target_residue();
-    *engine.residue()
+// Whether a clone of an engine equals it.
+fn equals_its_clone<Ck: Checksum>(engine: &Engine<Ck>) -> bool {
+    match engine.clone() {
+        Ok(copy) => copy == *engine,
+        Err(_) => false,
+    }
 }
 
-#[test]
-fn checksums_of_one_letter(rt: HostRuntime) {
-    // The elements of the human-readable part `a`.
-    let hrp = [Fe32::R, Fe32::Q, Fe32::P];
-    let found = [
-        characters(checksum_of::<Bech32>(&hrp)),
-        characters(checksum_of::<Bech32m>(&hrp)),
-    ];
-    let want = [
-        ['2', 'u', 'e', 'l', '5', 'l'],
-        ['l', 'q', 'f', 'n', '3', 'a'],
-    ];
-    same(&rt, &found, &want);
+// Whether nothing was given to an engine.
+fn is_new<Ck: Checksum>(engine: &Engine<Ck>) -> bool {
+    *engine == Engine::new()
 }
 
 // Whether a clone of an engine equals it, and no more once the target was given.
-fn is_changed_by_the_target(engine: &mut Engine<Bech32>) -> bool {
+fn is_changed_by_the_target<Ck: Checksum>(engine: &mut Engine<Ck>) -> bool {
     let Ok(before) = engine.clone() else {
         return false;
     };
@@ -93,14 +81,33 @@ fn is_changed_by_the_target(engine: &mut Engine<Bech32>) -> bool {
     is_same && *engine != before
 }
 
-// By the human-readable part itself, whose case does not count.
+// The checksum of the elements of the human-readable part `a`.
+fn checksum_of_elements<Ck: Checksum<MidstateRepr = u32>>() -> [char; 6] {
+    let mut engine = Engine::<Ck>::new();
+    input_all(&mut engine, &[Fe32::R, Fe32::Q, Fe32::P]);
+    engine.input_target_residue();
+    characters(*engine.residue())
+}
+
+// Whether the target changes an engine that was given that part, whose case does not count, and the
+// checksum.
+fn checksum_of_part<Ck: Checksum<MidstateRepr = u32>>(rt: &impl Abort) -> (bool, [char; 6]) {
+    let mut engine = Engine::<Ck>::default();
+    engine.input_hrp(Hrp::parse("A").expect(rt, "a part"));
+    let is_changed = is_changed_by_the_target(&mut engine);
+    (is_changed, characters(*engine.residue()))
+}
+
+// Fails where the checksum of one letter is another one.
+fn has_checksum<Ck: Checksum<MidstateRepr = u32>>(rt: &impl Abort, want: [char; 6]) {
+    same(rt, &checksum_of_elements::<Ck>(), &want);
+    same(rt, &checksum_of_part::<Ck>(rt), &(true, want));
+}
+
 #[test]
-fn checksum_of_a_part(rt: HostRuntime) {
-    let mut engine = Engine::<Bech32>::default();
-    engine.input_hrp(Hrp::parse("A").expect(&rt, "a part"));
-    same(&rt, &is_changed_by_the_target(&mut engine), &true);
-    let found = characters(*engine.residue());
-    same(&rt, &found, &['2', 'u', 'e', 'l', '5', 'l']);
+fn checksums_of_one_letter(rt: HostRuntime) {
+    has_checksum::<Bech32>(&rt, ['2', 'u', 'e', 'l', '5', 'l']);
+    has_checksum::<Bech32m>(&rt, ['l', 'q', 'f', 'n', '3', 'a']);
 }
 
 // Forty elements, and the polynomial of degree 40 whose other coefficients they are, the highest
@@ -139,50 +146,70 @@ fn agrees<Ck: Checksum>(rt: &impl Abort, alloc: Global, low: &[Fe32]) -> bool
     rest.len() == low.len() && has_places(*engine.residue(), &rest)
 }
 
+// The same, and what the test of the roots finds.
+fn is_lawful<Ck: Checksum>(
+    rt: &impl Abort,
+    alloc: Global,
+    low: &[Fe32],
+) -> (bool, (bool, Option<usize>))
+    requires { length low.now ≤ Ck.MidstateRepr.WIDTH }
+{
+    (agrees::<Ck>(rt, alloc, low), tested::<Ck>())
+}
+
+// Long division, and lawful roots: whether they pass the test, and how many stand in a row.
 #[test]
 fn same_as_long_division(rt: HostRuntime) {
     let alloc = rt.alloc();
-    let agreed = [
-        agrees::<Bech32>(&rt, alloc, &LOW),
-        agrees::<Bech32m>(&rt, alloc, &LOW),
-        agrees::<Degree8>(&rt, alloc, &LOW_8),
-        agrees::<Degree13<93>>(&rt, alloc, &LOW_13),
-        agrees::<NoChecksum>(&rt, alloc, &[]),
+    let found = [
+        is_lawful::<Bech32>(&rt, alloc, &LOW),
+        is_lawful::<Bech32m>(&rt, alloc, &LOW),
+        is_lawful::<Degree8>(&rt, alloc, &LOW_8),
+        is_lawful::<Degree13<93>>(&rt, alloc, &LOW_13),
+        is_lawful::<NoChecksum>(&rt, alloc, &[]),
     ];
-    same_items(&rt, &agreed, &[true; 5]);
+    let want = [
+        (true, (true, Some(3))),
+        (true, (true, Some(3))),
+        (true, (true, Some(3))),
+        (true, (true, Some(8))),
+        (true, (true, None)),
+    ];
+    same_items(&rt, &found, &want);
+}
+
+// What an engine holds behind a part, an element and the target, and whether it is as at first.
+fn after_all<Ck: Checksum>(rt: &impl Abort) -> (Ck::MidstateRepr, bool) {
+    let mut engine = Engine::<Ck>::new();
+    engine.input_hrp(Hrp::parse("a").expect(rt, "a part"));
+    engine.input_fe(Fe32::L);
+    engine.input_target_residue();
+    (*engine.residue(), engine == Engine::default())
+}
+
+// How long texts may be, and their checksums.
+fn lengths<Ck: Checksum>() -> [usize; 2] {
+    [Ck::CODE_LENGTH, Ck::CHECKSUM_LENGTH]
 }
 
 // No element changes the remainder by the polynomial 1.
 #[test]
 fn no_checksum(rt: HostRuntime) {
-    let mut engine = Engine::<NoChecksum>::new();
-    engine.input_hrp(Hrp::parse("a").expect(&rt, "a part"));
+    let (residue, is_new) = after_all::<NoChecksum>(&rt);
+    same(&rt, &residue, &PackedNull);
+    same_items(&rt, &lengths::<NoChecksum>(), &[usize::MAX, 0]);
+    same(&rt, &is_new, &true);
+}
+
+// Whether an engine is new before an element, and behind it, and whether a clone of it equals it.
+fn comparisons<Ck: Checksum>() -> [bool; 3] {
+    let mut engine = Engine::<Ck>::default();
+    let is_new_before = is_new(&engine);
     engine.input_fe(Fe32::L);
-    engine.input_target_residue();
-    same(&rt, engine.residue(), &PackedNull);
-    same(&rt, &engine, &Engine::default());
-    let sizes = [NoChecksum::CODE_LENGTH, NoChecksum::CHECKSUM_LENGTH];
-    same_items(&rt, &sizes, &[usize::MAX, 0]);
-}
-
-// Whether a clone of an engine equals it.
-fn equals_its_clone(engine: &Engine<Bech32>) -> bool {
-    match engine.clone() {
-        Ok(copy) => copy == *engine,
-        Err(_) => false,
-    }
-}
-
-// Whether nothing was given to an engine.
-fn is_new(engine: &Engine<Bech32>) -> bool {
-    *engine == Engine::new()
+    [is_new_before, is_new(&engine), equals_its_clone(&engine)]
 }
 
 #[test]
 fn equal_engines(rt: HostRuntime) {
-    let mut engine = Engine::<Bech32>::default();
-    let is_new_before = is_new(&engine);
-    engine.input_fe(Fe32::L);
-    let found = [is_new_before, is_new(&engine), equals_its_clone(&engine)];
-    same_items(&rt, &found, &[true, false, true]);
+    same(&rt, &comparisons::<Bech32>(), &[true, false, true]);
 }

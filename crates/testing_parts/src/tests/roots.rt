@@ -1,17 +1,16 @@
 //! Lawful roots, and roots with one thing wrong.
 
-ghost use Rattle.std.specs.Prelude.{◌≡◌, ◌<◌, ◌≤◌, ◌+◌, ◌-◌, IsTrue, IfSome, refl};
+ghost use Rattle.std.specs.Prelude.{◌<◌, refl};
 ghost use Rattle.bech32_gf.specs.Fe32 as fe32;
-ghost use Rattle.bech32_gf.specs.Field.{IsOrder};
 ghost use Rattle.bech32_checksum.specs.Roots.{HasLawfulRoots, singleton_bound};
 ghost use Rattle.testing_parts.specs.TestWords.{words_1, words_1_keep, code_1};
 
 use crate::tests::compare::{same, same_items};
-use bech32_checksum::{Bech32, Bech32m, Checksum, LocatorField, NoChecksum};
+use bech32_checksum::{Bech32, Bech32m, Checksum, LocatorField};
 use bech32_gf::field::{ExtensionField, Field};
 use bech32_gf::gf32::Fe32;
 use bech32_gf_ext::Fe1024;
-use testing_tools::codes::{Altered, Degree8, Degree13};
+use testing_tools::codes::Altered;
 
 // The generator x + 1, for texts of `LONGEST` characters: each power of the base 1, whose order is
 // 1, is a root.
@@ -75,62 +74,24 @@ fn roots_in_a_row<Ck: Checksum>() -> usize
     requires positive { 0 < Ck.CHECKSUM_LENGTH }
     requires lawful { HasLawfulRoots Ck.CorrectionField.ops Ck.CorrectionField.embed
         Ck.code Ck.ROOT_GENERATOR Ck.ROOT_EXPONENTS_START Ck.ROOT_EXPONENTS_END }
-    ensures within { result ≤ Ck.CHECKSUM_LENGTH }
-    ensures value { result ≡ Ck.ROOT_EXPONENTS_END - Ck.ROOT_EXPONENTS_START + 1 }
 {
     Ck::ROOT_EXPONENTS_END - Ck::ROOT_EXPONENTS_START + 1
 }
 
-// The same, where they are lawful.
-fn tested<Ck: Checksum>() -> Option<usize> {
-    if Ck::CHECKSUM_LENGTH > 0 && Ck::sanity_check() {
-        Some(roots_in_a_row::<Ck>())
+/// Whether the roots pass the test, and how many of them stand in a row where they do.
+pub fn tested<Ck: Checksum>() -> (bool, Option<usize>) {
+    if !Ck::sanity_check() {
+        (false, None)
+    } else if Ck::CHECKSUM_LENGTH > 0 {
+        (true, Some(roots_in_a_row::<Ck>()))
     } else {
-        None
+        (true, None)
     }
-}
-
-// Of the standards it is proved.
-fn roots_of_bech32() -> usize
-    ensures { result ≡ 3 }
-{
-    roots_in_a_row::<Bech32>()
-}
-
-fn roots_of_bech32m() -> usize
-    ensures { result ≡ 3 }
-{
-    roots_in_a_row::<Bech32m>()
-}
-
-fn no_checksum_is_sane() -> bool
-    ensures { IsTrue result }
-{
-    NoChecksum::sanity_check()
-}
-
-fn bech32_is_sane() -> bool
-    ensures { IsTrue result }
-{
-    Bech32::sanity_check()
-}
-
-fn bech32m_is_sane() -> bool
-    ensures { IsTrue result }
-{
-    Bech32m::sanity_check()
-}
-
-// Whether the roots pass the test.
-fn is_sane<Ck: Checksum>() -> bool {
-    Ck::sanity_check()
 }
 
 // The order of an element of any field over that of 32 elements, as a checksum asks for it; nothing
 // for zero.
-fn order_of<E: ExtensionField<BaseField = Fe32>>(x: E) -> Option<usize>
-    ensures { IfSome result (λ order. IsOrder E.ops x order) }
-{
+fn order_of<E: ExtensionField<BaseField = Fe32>>(x: E) -> Option<usize> {
     if x.is_zero() {
         return None;
     }
@@ -141,27 +102,6 @@ fn order_of<E: ExtensionField<BaseField = Fe32>>(x: E) -> Option<usize>
 fn orders_of_generators(rt: HostRuntime) {
     let orders = [order_of(Fe32::GENERATOR), order_of(Fe1024::GENERATOR)];
     same_items(&rt, &orders, &[Some(31), Some(1023)]);
-}
-
-#[test]
-fn lawful_roots(rt: HostRuntime) {
-    let sane = [
-        no_checksum_is_sane(),
-        bech32_is_sane(),
-        bech32m_is_sane(),
-        is_sane::<Degree8>(),
-        is_sane::<Degree13<93>>(),
-    ];
-    let proved = [roots_of_bech32(), roots_of_bech32m()];
-    let found = [
-        tested::<NoChecksum>(),
-        tested::<Bech32>(),
-        tested::<Bech32m>(),
-        tested::<Degree8>(),
-        tested::<Degree13<93>>(),
-    ];
-    let want = [None, Some(3), Some(3), Some(3), Some(8)];
-    same(&rt, &(sane, (proved, found)), &([true; 5], ([3, 3], want)));
 }
 
 #[test]

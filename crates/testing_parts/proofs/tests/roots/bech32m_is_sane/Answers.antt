@@ -1,5 +1,0 @@
-use Rattle.bech32_checksum.specs.laws.RootLaws.{bech32m_roots}
-use Rattle.testing_parts.proofs.tests.roots.bech32m_is_sane.Goals as goal
-
-pub returns : goal.returns
-returns c = c.sanity_check.ensures.1 bech32m_roots
