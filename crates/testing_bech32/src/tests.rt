@@ -1,3 +1,4 @@
+mod calls;
 mod compare;
 mod correction;
 mod elements;

@@ -1,9 +1,8 @@
 //! Which errors of the root's calls carry a residue.
 
+use crate::tests::calls::checksum_error;
 use crate::tests::compare::same_items;
-use bech32::primitives::decode::{
-    CheckedHrpstring, ChecksumError, SegwitHrpstring, UncheckedHrpstring,
-};
+use bech32::primitives::decode::{CheckedHrpstring, SegwitHrpstring};
 use bech32::{Bech32, Checksum, CorrectableError, NoChecksum, decode, segwit};
 use std::alloc::Global;
 use std::process::Abort;
@@ -27,17 +26,8 @@ fn carries_of_text(rt: &impl Abort, alloc: Global, text: &str) -> bool {
 
 // Whether an error that carries a residue has no corrector by the absence of a checksum.
 fn has_none_by_no_checksum(alloc: Global, error: &impl CorrectableError) -> bool {
-    error.residue_error().is_some()
-        && NoChecksum::sanity_check()
-        && error
-            .correction_context::<NoChecksum, Global>(alloc)
-            .is_none()
-}
-
-// The error of a text by the checksum alone.
-fn checksum_error(text: &str) -> Option<ChecksumError> {
-    let unchecked = UncheckedHrpstring::new(text).ok()?;
-    unchecked.validate_checksum::<Bech32>().err()
+    let corrector = error.correction_context::<NoChecksum, Global>(alloc);
+    error.residue_error().is_some() && corrector.is_none()
 }
 
 const MISTYPED: &str = "bc1q9r0srrr7xfkvy5l64qlydnw9re59gtzzwf5mdx";
@@ -53,9 +43,10 @@ fn has_none_of<T: Drop, E: CorrectableError + Drop>(alloc: Global, outcome: Resu
 #[test]
 fn no_corrector_by_no_checksum(rt: HostRuntime) {
     let alloc = rt.alloc();
-    let checksum = checksum_error(MISTYPED).expect(&rt, "it is refused");
+    let checksum = checksum_error::<Bech32>(MISTYPED).expect(&rt, "it is refused");
     let residue = checksum.residue_error().expect(&rt, "it carries a residue");
     let found = [
+        NoChecksum::sanity_check(),
         has_none_by_no_checksum(alloc, residue),
         has_none_by_no_checksum(alloc, &checksum),
         has_none_of(alloc, CheckedHrpstring::new::<Bech32>(MISTYPED)),
@@ -63,17 +54,16 @@ fn no_corrector_by_no_checksum(rt: HostRuntime) {
         has_none_of(alloc, decode(alloc, MISTYPED)),
         has_none_of(alloc, segwit::decode(alloc, MISTYPED)),
     ];
-    same_items(&rt, &found, &[true; 6]);
+    same_items(&rt, &found, &[true; 7]);
 }
 
 #[test]
 fn errors_that_carry_residues(rt: HostRuntime) {
     let alloc = rt.alloc();
-    let mistyped = "bc1q9r0srrr7xfkvy5l64qlydnw9re59gtzzwf5mdx";
     let found = [
         carries_of_text(&rt, alloc, "a12uel5q"),
         carries_of_text(&rt, alloc, "a"),
-        carries_of_address(&rt, alloc, mistyped),
+        carries_of_address(&rt, alloc, MISTYPED),
         carries_of_address(&rt, alloc, "bc1"),
     ];
     same_items(&rt, &found, &[true, false, true, false]);

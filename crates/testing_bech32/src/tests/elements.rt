@@ -35,9 +35,14 @@ const ACCOUNT: &str = "cosmos1vx8knpllrj7n963p9ttd80w47kpacrhuts497x";
 
 const ACCOUNT_OF_MORE_BITS: &str = "cosmos1vx8knpllrj7n963p9ttd80w47kpacrhuqqj5yhr";
 
+// What Bech32 decodes of a text strictly.
+fn strict(alloc: Global, text: &str) -> Result<(Hrp, Vec<u8>), TextError> {
+    decode_strict::<Bech32>(alloc, text)
+}
+
 // Fails where a text by Bech32 is decoded strictly, or refused otherwise.
 fn refuses(rt: &impl Abort, alloc: Global, text: &str, refusal: TextError) {
-    let found = decode_strict::<Bech32>(alloc, text).err();
+    let found = strict(alloc, text).err();
     same(rt, &(text, found), &(text, Some(refusal)));
 }
 
@@ -47,17 +52,11 @@ fn decodes(rt: &impl Abort, alloc: Global, text: &str, want: (Hrp, &[u8])) {
     same(rt, &(hrp, bytes.as_slice()), &want);
 }
 
-// Whether Bech32 decodes a text strictly.
-fn is_strict(alloc: Global, text: &str) -> bool {
-    decode_strict::<Bech32>(alloc, text).is_ok()
-}
-
 // Fails where another text is decoded to other bytes than the only one of them, or is decoded so.
 fn is_another(rt: &impl Abort, alloc: Global, text: &str, other: &str) {
-    let only = decode_strict::<Bech32>(alloc, text);
-    let (hrp, bytes) = only.expect(rt, "the only text of its bytes");
+    let (hrp, bytes) = strict(alloc, text).expect(rt, "the only text of its bytes");
     decodes(rt, alloc, other, (hrp, bytes.as_slice()));
-    same(rt, &is_strict(alloc, other), &false);
+    same(rt, &strict(alloc, other).is_ok(), &false);
 }
 
 #[test]
@@ -91,48 +90,42 @@ fn refuses_other_texts_of_the_same_bytes(rt: HostRuntime) {
     refuses(&rt, alloc, "", TextError::Parse(unread));
 }
 
-// The refusal of elements by Bech32m under `sp`.
-fn refusal(rt: &impl Abort, alloc: Global, elements: &[u8]) -> Option<ElementsError> {
+// Fails where Bech32m decodes other elements of a text, or refuses it otherwise.
+fn reads(rt: &impl Abort, alloc: Global, text: &str, want: Result<(&str, &[u8]), TextError>) {
+    let read = decode_elements::<Bech32m>(alloc, text);
+    let found = match &read {
+        Ok((hrp, found)) => Ok((hrp.as_str(), found.as_slice())),
+        Err(error) => Err(*error),
+    };
+    same(rt, &found, &want);
+}
+
+// Fails where Bech32m writes another text of elements under `sp`, or refuses them otherwise.
+fn writes(rt: &impl Abort, alloc: Global, elements: &[u8], want: Result<&str, ElementsError>) {
     let hrp = Hrp::parse("sp").expect(rt, "a human-readable part");
-    encode_elements::<Bech32m>(alloc, hrp, elements).err()
-}
-
-// The part of the payment; fails where its elements are others.
-fn part_of_payment(rt: &impl Abort, alloc: Global) -> Hrp {
-    let (hrp, found) = decode_elements::<Bech32m>(alloc, PAYMENT).expect(rt, "a text");
-    same(rt, &found.as_slice(), &elements().as_slice());
-    hrp
-}
-
-// Fails where the text of its elements is another one.
-fn writes_payment(rt: &impl Abort, alloc: Global, hrp: Hrp) {
-    let text = encode_elements::<Bech32m>(alloc, hrp, &elements()).expect(rt, "a text");
-    same(rt, &text.as_str(), &PAYMENT);
+    let written = encode_elements::<Bech32m>(alloc, hrp, elements);
+    let found = match &written {
+        Ok(text) => Ok(text.as_str()),
+        Err(error) => Err(*error),
+    };
+    same(rt, &found, &want);
 }
 
 #[test]
 fn elements_of_a_payment(rt: HostRuntime) {
     let alloc = rt.alloc();
-    let hrp = part_of_payment(&rt, alloc);
-    same(&rt, &hrp.as_str(), &"sp");
-    writes_payment(&rt, alloc, hrp);
-    let wrong = decode_elements::<Bech32m>(alloc, "a1").err();
-    same(
-        &rt,
-        &wrong,
-        &Some(TextError::Checksum(ChecksumError::InvalidLength)),
-    );
-    let above = refusal(&rt, alloc, &[31, 0, 32, 255]);
-    same(&rt, &above, &Some(ElementsError::Element(2)));
+    reads(&rt, alloc, PAYMENT, Ok(("sp", &elements())));
+    writes(&rt, alloc, &elements(), Ok(PAYMENT));
+    let short = TextError::Checksum(ChecksumError::InvalidLength);
+    reads(&rt, alloc, "a1", Err(short));
+    let above = ElementsError::Element(2);
+    writes(&rt, alloc, &[31, 0, 32, 255], Err(above));
     let long = CodeLengthError {
         encoded_length: 1024,
         code_length: 1023,
     };
-    same(
-        &rt,
-        &refusal(&rt, alloc, &[32; 1015]),
-        &Some(ElementsError::TooLong(long)),
-    );
+    let long = ElementsError::TooLong(long);
+    writes(&rt, alloc, &[32; 1015], Err(long));
 }
 
 // What is right of a refusal: nothing, unless there was too little memory.

@@ -1,8 +1,9 @@
 //! Calls that take memory, at every length of a text, with ample memory: none is out of memory.
 
+use crate::tests::calls::text_by_bech32;
 use crate::tests::compare::same;
 use bech32::{
-    Bech32, CorrectError, Correction, Hrp, Mended, NearTexts, correct_in, decode, encode,
+    Bech32, CorrectError, Correction, Hrp, Mended, NearEdit, NearTexts, correct_in, decode,
     near_edits_in, nearest_in,
 };
 use linked_list_allocator::LocalHeap;
@@ -15,7 +16,7 @@ fn bytes() -> [u8; 80] {
 
 /// The text of bytes under a human-readable part.
 pub fn text_of(alloc: Global, part: &str, bytes: &[u8]) -> Option<String> {
-    encode::<Bech32>(alloc, Hrp::parse(part).ok()?, bytes).ok()
+    text_by_bech32(alloc, Hrp::parse(part).ok()?, bytes).ok()
 }
 
 /// The text without its last character.
@@ -39,10 +40,7 @@ fn is_decoded(alloc: Global, text: &str, part: &str, bytes: &[u8]) -> bool {
 }
 
 // Whether a call mended a text to this one.
-fn mends<C: Drop>(
-    said: Result<Correction<Mended<&LocalHeap>, C>, CorrectError>,
-    text: &str,
-) -> bool {
+fn mends<C>(said: &Result<Correction<Mended<&LocalHeap>, C>, CorrectError>, text: &str) -> bool {
     match said {
         Ok(Correction::Mended(mended)) => mended.text.as_str() == text,
         _ => false,
@@ -51,12 +49,17 @@ fn mends<C: Drop>(
 
 /// Whether a mistyped text is corrected to this one, with the memory of a heap.
 pub fn is_corrected(heap: &LocalHeap, mistyped: &str, text: &str) -> bool {
-    mends(correct_in::<Bech32, &LocalHeap>(heap, mistyped, &[]), text)
+    mends(&correct_in::<Bech32, &LocalHeap>(heap, mistyped, &[]), text)
 }
 
 // Whether this text is among mended ones.
 fn is_among(found: &[Mended<&LocalHeap>], text: &str) -> bool {
-    found.iter().any(|mended| mended.text.as_str() == text)
+    for mended in found {
+        if mended.text.as_str() == text {
+            return true;
+        }
+    }
+    false
 }
 
 // Whether a call lists this text.
@@ -82,10 +85,20 @@ pub fn is_near(
     lists(near, text)
 }
 
+// Whether this text is among those that edits make.
+fn is_made(found: &[NearEdit<String<&LocalHeap>>], text: &str) -> bool {
+    for near in found {
+        if near.text.as_str() == text {
+            return true;
+        }
+    }
+    false
+}
+
 /// Whether one edit makes this text of another.
 pub fn is_edited(heap: &LocalHeap, edited: &str, text: &str) -> bool {
     match near_edits_in::<Bech32, &LocalHeap>(heap, edited) {
-        Ok(near) => near.iter().any(|near| near.text.as_str() == text),
+        Ok(near) => is_made(near.as_slice(), text),
         Err(_) => false,
     }
 }

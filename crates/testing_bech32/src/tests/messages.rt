@@ -1,7 +1,8 @@
+use crate::tests::calls::checksum_error;
 use crate::tests::compare::prints;
 use bech32::primitives::decode::{
     CharError, CheckedHrpstringError, ChecksumError, CodeLengthError, PaddingError,
-    UncheckedHrpstring, UncheckedHrpstringError,
+    UncheckedHrpstringError,
 };
 use bech32::primitives::hrp;
 use bech32::{
@@ -12,16 +13,10 @@ use std::alloc::Global;
 use std::process::Abort;
 use std::{fmt, io};
 
-// Why Bech32m refuses a text.
-fn refusal(rt: &impl Abort, text: &str) -> ChecksumError {
-    let unchecked = UncheckedHrpstring::new(text).expect(rt, "a text");
-    let refusal = unchecked.validate_checksum::<Bech32m>().err();
-    refusal.expect(rt, "it is refused")
-}
-
-// Fails where the refusal of a text is told otherwise.
+// Fails where the refusal of a text by Bech32m is told otherwise.
 fn tells(rt: &impl Abort, alloc: Global, text: &str, message: &str) {
-    prints(rt, alloc, &refusal(rt, text), message);
+    let refusal = checksum_error::<Bech32m>(text).expect(rt, "it is refused");
+    prints(rt, alloc, &refusal, message);
 }
 
 #[test]

@@ -1,4 +1,5 @@
 use crate::tests::compare::{same, same_items};
+use crate::tests::root::{encoded, repeated};
 use bech32::{Bech32, Bech32m, Checksum, Hrp, decode, encode};
 use bech32_bits::plain::plain_to_fes;
 use std::alloc::Global;
@@ -92,35 +93,17 @@ fn refuses(rt: &impl Abort, alloc: Global, text: &str) {
     agree(rt, alloc, text);
 }
 
-// `count` letters, with a text behind them.
-fn letters(rt: &impl Abort, alloc: Global, count: usize, behind: &str) -> String {
-    let mut text = "a".repeat(alloc, count).expect(rt, "memory");
-    text.push_str(behind).expect(rt, "memory");
-    text
-}
-
-// Zeros of which Bech32m makes a text.
-fn zeros() -> [u8; 632] {
-    [0; 632]
-}
-
-// The longest text of zeros by Bech32m.
-fn longest(rt: &impl Abort, alloc: Global) -> String {
-    let hrp = Hrp::parse("abcd").expect(rt, "a human-readable part");
-    encode::<Bech32m>(alloc, hrp, &zeros()).expect(rt, "a text")
-}
-
 #[test]
 fn knows_the_limits(rt: HostRuntime) {
     let alloc = rt.alloc();
-    let text = longest(&rt, alloc);
+    let text = encoded::<Bech32m>(&rt, alloc, "abcd", &[0; 632]);
     let accepted = [
         is_accepted(&rt, alloc, PlainChecksum::Bech32m, &text),
         is_accepted(&rt, alloc, PlainChecksum::Bech32, &text),
     ];
     same(&rt, &accepted, &[true, false]);
-    refuses(&rt, alloc, &letters(&rt, alloc, 1, &text));
-    refuses(&rt, alloc, &letters(&rt, alloc, 84, "1qqqqqq"));
+    refuses(&rt, alloc, &repeated(&rt, alloc, "", "a", 1, &text));
+    refuses(&rt, alloc, &repeated(&rt, alloc, "", "a", 84, "1qqqqqq"));
 }
 
 // Fails where the text of bytes by a checksum is another than that by the definition.

@@ -1,12 +1,13 @@
+use crate::tests::calls::checksum_error;
 use crate::tests::compare::{is_right_or_wants_memory, same};
 use bech32::primitives::decode::{
     CharError, CheckedHrpstring, ChecksumError, CodeLengthError, InvalidResidueError,
-    UncheckedHrpstring, UncheckedHrpstringError,
+    UncheckedHrpstringError,
 };
 use bech32::primitives::hrp;
 use bech32::{
     Bech32, Bech32m, Checksum, DecodeError, EncodeError, Fe32, Hrp, NoChecksum, decode, decode_in,
-    encode, encode_in, encoded_length, encoded_length_of_part,
+    encode, encoded_length, encoded_length_of_part,
 };
 use linked_list_allocator::LocalHeap;
 use std::alloc::Global;
@@ -41,8 +42,8 @@ const TOO_LONG: CodeLengthError = CodeLengthError {
     code_length: 1023,
 };
 
-// The text of a part and bytes by a checksum.
-fn encoded<Ck: Checksum>(rt: &impl Abort, alloc: Global, part: &str, data: &[u8]) -> String {
+/// The text of a part and bytes by a checksum.
+pub fn encoded<Ck: Checksum>(rt: &impl Abort, alloc: Global, part: &str, data: &[u8]) -> String {
     let hrp = Hrp::parse(part).expect(rt, "a human-readable part");
     encode::<Ck>(alloc, hrp, data).expect(rt, "a text")
 }
@@ -124,8 +125,8 @@ fn refuses(rt: &impl Abort, alloc: Global, text: &str, refusal: DecodeError) {
     same(rt, &(text, found), &(text, Some(refusal)));
 }
 
-// A text, another one this many times, and a text behind them.
-fn repeated(
+/// A text, another one this many times, and a text behind them.
+pub fn repeated(
     rt: &impl Abort,
     alloc: Global,
     before: &str,
@@ -179,9 +180,8 @@ fn refuses_at_the_first_fault(rt: HostRuntime) {
 
 // The error of a text that Bech32m refuses for its remainder.
 fn residue_error(rt: &impl Abort, text: &str) -> InvalidResidueError {
-    let unchecked = UncheckedHrpstring::new(text).expect(rt, "a text");
-    match unchecked.validate_checksum::<Bech32m>() {
-        Err(ChecksumError::InvalidResidue(e)) => e,
+    match checksum_error::<Bech32m>(text) {
+        Some(ChecksumError::InvalidResidue(e)) => e,
         _ => panic!(rt; "its remainder is right"),
     }
 }
@@ -230,26 +230,6 @@ fn counts_characters(rt: HostRuntime) {
     counts(&rt, 48, Ok(89));
     counts(&rt, 49, Ok(91));
     counts(&rt, 632, Err(TOO_LONG));
-}
-
-struct KnownText;
-
-impl InHeap for KnownText {
-    fn is_right(&self, _alloc: Global, heap: &LocalHeap) -> Option<bool> {
-        let Ok(hrp) = Hrp::parse("test") else {
-            return Some(false);
-        };
-        match encode_in::<Bech32, &LocalHeap>(heap, hrp, &PROGRAM) {
-            Ok(text) => Some(text.as_str() == TEXT_BY_BECH32),
-            Err(EncodeError::Memory) => None,
-            Err(_) => Some(false),
-        }
-    }
-}
-
-#[test]
-fn encodes_or_wants_memory(rt: HostRuntime) {
-    is_right_or_wants_memory(&rt, rt.alloc(), &KnownText);
 }
 
 // The parts of a known text. A text that is not accepted is refused on a heap as elsewhere.

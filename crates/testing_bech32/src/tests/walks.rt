@@ -60,12 +60,17 @@ fn faults_are_not_read(rt: HostRuntime) {
     same(&rt, &are_read, &[false; 6]);
 }
 
-// Whether Bech32 accepts a text, or why it is none.
-fn accepts(text: &str) -> Result<bool, UncheckedHrpstringError> {
-    match Reading::<Bech32>::new(text) {
+// Whether a checksum accepts a text, or why it is none.
+fn accepts_by<Ck: Checksum>(text: &str) -> Result<bool, UncheckedHrpstringError> {
+    match Reading::<Ck>::new(text) {
         Ok(reading) => Ok(reading.validate().is_ok()),
         Err(error) => Err(error),
     }
+}
+
+// The same of Bech32.
+fn accepts(text: &str) -> Result<bool, UncheckedHrpstringError> {
+    accepts_by::<Bech32>(text)
 }
 
 // By one walk, and where it says nothing without it.

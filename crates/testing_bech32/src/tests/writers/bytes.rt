@@ -1,4 +1,4 @@
-use super::forms::{FORMS, Form, Given, to_writer, written};
+use super::forms::{FORMS, Form, Given, text_to_writer, to_writer, written};
 use super::given::{
     Check, Writes, behind_each_part, fronts, known_address, known_addresses, known_texts,
     long_address, of_each_length, of_each_version, part,
@@ -6,7 +6,7 @@ use super::given::{
 use super::known::{data, kinds, zeros};
 use crate::tests::compare::same;
 use bech32::segwit::VERSION_0;
-use bech32::{Bech32m, EncodeIoError, encode_to_writer};
+use bech32::{Bech32m, EncodeIoError};
 use std::alloc::Global;
 use std::io;
 use std::process::Abort;
@@ -115,7 +115,9 @@ fn known_texts_to_a_vec(rt: HostRuntime) {
 fn nothing_is_written_of_a_long_text(rt: HostRuntime) {
     let hrp = part(&rt, "abcde");
     let mut bytes = Vec::new(rt.alloc());
-    let outcome = encode_to_writer::<Bech32m, Vec<u8>>(&mut bytes, hrp, &zeros()).map_err(kind);
+    let outcome = text_to_writer::<Bech32m, Vec<u8>>(Form::Text, &mut bytes, hrp, &zeros()).map_err(
+        kind,
+    );
     same(&rt, &(outcome, bytes.len()), &(Err(None), 0));
 }
 

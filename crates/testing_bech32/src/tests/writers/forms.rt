@@ -1,12 +1,13 @@
 //! The forms of a call that writes a text, and what each writes.
 
+use crate::tests::calls::text_by_bech32;
 use bech32::primitives::encode::text_in;
 use bech32::segwit::{
     encode_lower_to_fmt_unchecked, encode_lower_to_writer_unchecked, encode_to_fmt_unchecked,
     encode_to_writer_unchecked, encode_upper_to_fmt_unchecked, encode_upper_to_writer_unchecked,
 };
 use bech32::{
-    Bech32, Bech32m, EncodeError, EncodeIoError, Fe32, Hrp, encode, encode_lower_to_fmt,
+    Bech32, Bech32m, Checksum, EncodeError, EncodeIoError, Fe32, Hrp, encode_lower_to_fmt,
     encode_lower_to_writer, encode_to_fmt, encode_to_writer, encode_upper_to_fmt,
     encode_upper_to_writer,
 };
@@ -42,20 +43,46 @@ pub struct Given<'a> {
     pub data: &'a [u8],
 }
 
+/// Writes a text by a checksum to a `fmt::Write`.
+pub fn text_to_fmt<Ck: Checksum, W: fmt::Write>(
+    form: Form,
+    w: &mut W,
+    hrp: Hrp,
+    data: &[u8],
+) -> Result<(), EncodeError> {
+    match form {
+        Form::LowerText => encode_lower_to_fmt::<Ck, W>(w, hrp, data),
+        Form::UpperText => encode_upper_to_fmt::<Ck, W>(w, hrp, data),
+        _ => encode_to_fmt::<Ck, W>(w, hrp, data),
+    }
+}
+
 /// Writes to a `fmt::Write`.
 pub fn to_fmt<W: fmt::Write>(form: Form, w: &mut W, given: &Given<'_>) -> Result<(), EncodeError> {
     let (hrp, version, data) = (given.hrp, given.version, given.data);
     let outcome = match form {
-        Form::Text => return encode_to_fmt::<Bech32, W>(w, hrp, data),
-        Form::LowerText => return encode_lower_to_fmt::<Bech32, W>(w, hrp, data),
-        Form::UpperText => return encode_upper_to_fmt::<Bech32, W>(w, hrp, data),
         Form::Address => encode_to_fmt_unchecked(w, hrp, version, data),
         Form::LowerAddress => encode_lower_to_fmt_unchecked(w, hrp, version, data),
         Form::UpperAddress => encode_upper_to_fmt_unchecked(w, hrp, version, data),
+        _ => return text_to_fmt::<Bech32, W>(form, w, hrp, data),
     };
     match outcome {
         Ok(()) => Ok(()),
         Err(error) => Err(EncodeError::Fmt(error)),
+    }
+}
+
+/// Writes a text by a checksum to an `io::Write`.
+pub fn text_to_writer<Ck: Checksum, W: io::Write>(
+    form: Form,
+    w: &mut W,
+    hrp: Hrp,
+    data: &[u8],
+) -> Result<(), EncodeIoError> {
+    match form {
+        Form::LowerText => encode_lower_to_writer::<Ck, W>(w, hrp, data),
+        Form::UpperText => encode_upper_to_writer::<Ck, W>(w, hrp, data),
+        _ => encode_to_writer::<Ck, W>(w, hrp, data),
     }
 }
 
@@ -67,12 +94,10 @@ pub fn to_writer<W: io::Write>(
 ) -> Result<(), EncodeIoError> {
     let (hrp, version, data) = (given.hrp, given.version, given.data);
     let outcome = match form {
-        Form::Text => return encode_to_writer::<Bech32, W>(w, hrp, data),
-        Form::LowerText => return encode_lower_to_writer::<Bech32, W>(w, hrp, data),
-        Form::UpperText => return encode_upper_to_writer::<Bech32, W>(w, hrp, data),
         Form::Address => encode_to_writer_unchecked(w, hrp, version, data),
         Form::LowerAddress => encode_lower_to_writer_unchecked(w, hrp, version, data),
         Form::UpperAddress => encode_upper_to_writer_unchecked(w, hrp, version, data),
+        _ => return text_to_writer::<Bech32, W>(form, w, hrp, data),
     };
     match outcome {
         Ok(()) => Ok(()),
@@ -80,17 +105,21 @@ pub fn to_writer<W: io::Write>(
     }
 }
 
+// The address by a checksum, whatever its length.
+fn address_by<Ck: Checksum>(rt: &impl Abort, alloc: Global, given: &Given<'_>) -> String {
+    let text = text_in::<Ck, Global>(alloc, given.hrp, Some(given.version), given.data);
+    text.expect(rt, "memory")
+}
+
 // The text in lower case, of which an address has at most 90 characters.
 fn lower_text(rt: &impl Abort, alloc: Global, form: Form, given: &Given<'_>) -> String {
-    let (hrp, version) = (given.hrp, Some(given.version));
-    let text = match form {
+    match form {
         Form::Text | Form::LowerText | Form::UpperText => {
-            return encode::<Bech32>(alloc, hrp, given.data).expect(rt, "a text");
+            text_by_bech32(alloc, given.hrp, given.data).expect(rt, "a text")
         }
-        _ if given.version == Fe32::Q => text_in::<Bech32, Global>(alloc, hrp, version, given.data),
-        _ => text_in::<Bech32m, Global>(alloc, hrp, version, given.data),
-    };
-    text.expect(rt, "memory")
+        _ if given.version == Fe32::Q => address_by::<Bech32>(rt, alloc, given),
+        _ => address_by::<Bech32m>(rt, alloc, given),
+    }
 }
 
 /// The bytes that a form writes.

@@ -1,14 +1,14 @@
-use super::forms::{FORMS, Form, Given, to_fmt, written};
+use super::forms::{FORMS, Form, Given, text_to_fmt, to_fmt, written};
 use super::given::{
     Check, Writes, behind_each_part, fronts, known_addresses, known_texts, long_address,
     of_each_length, of_each_version, part,
 };
 use super::known::{PROGRAM, TEXT, UPPER_TEXT, zeros};
-use crate::tests::compare::same;
+use crate::tests::compare::{is_right_or_wants_memory, same};
 use bech32::primitives::decode::CodeLengthError;
 use bech32::{
-    Bech32, Bech32m, EncodeError, Hrp, encode_lower, encode_lower_in, encode_to_fmt, encode_upper,
-    encode_upper_in,
+    Bech32, Bech32m, Checksum, EncodeError, Hrp, encode_in, encode_lower, encode_lower_in,
+    encode_upper, encode_upper_in,
 };
 use linked_list_allocator::LocalHeap;
 use std::alloc::Global;
@@ -44,7 +44,7 @@ fn known_texts_in_memory(rt: HostRuntime) {
 }
 
 // Whether this text was made; `None` where there is too little memory.
-fn is_text(made: Result<String<&LocalHeap>, EncodeError>, want: &str) -> Option<bool> {
+fn is_text(made: &Result<String<&LocalHeap>, EncodeError>, want: &str) -> Option<bool> {
     match made {
         Ok(text) => Some(text.as_str() == want),
         Err(EncodeError::Memory) => None,
@@ -52,28 +52,40 @@ fn is_text(made: Result<String<&LocalHeap>, EncodeError>, want: &str) -> Option<
     }
 }
 
-// A known text in lower or in upper case.
+// A known text, by the call for either case, for lower or for upper case.
 #[derive(Drop)]
 enum Known {
+    Either(Hrp),
     Lower(Hrp),
     Upper(Hrp),
 }
 
+// What a call by a checksum makes.
+fn made<'a, Ck: Checksum>(
+    call: &Known,
+    heap: &'a LocalHeap,
+) -> Result<String<&'a LocalHeap>, EncodeError> {
+    match call {
+        Known::Either(hrp) => encode_in::<Ck, &LocalHeap>(heap, *hrp, &PROGRAM),
+        Known::Lower(hrp) => encode_lower_in::<Ck, &LocalHeap>(heap, *hrp, &PROGRAM),
+        Known::Upper(hrp) => encode_upper_in::<Ck, &LocalHeap>(heap, *hrp, &PROGRAM),
+    }
+}
+
 impl InHeap for Known {
     fn is_right(&self, _alloc: Global, heap: &LocalHeap) -> Option<bool> {
-        match self {
-            Known::Lower(hrp) => {
-                is_text(
-                    encode_lower_in::<Bech32, &LocalHeap>(heap, *hrp, &PROGRAM),
-                    TEXT,
-                )
-            }
-            Known::Upper(hrp) => is_text(
-                encode_upper_in::<Bech32, &LocalHeap>(heap, *hrp, &PROGRAM),
-                UPPER_TEXT,
-            ),
-        }
+        let want = match self {
+            Known::Upper(_) => UPPER_TEXT,
+            _ => TEXT,
+        };
+        is_text(&made::<Bech32>(self, heap), want)
     }
+}
+
+#[test]
+fn encodes_or_wants_memory(rt: HostRuntime) {
+    let hrp = part(&rt, "test");
+    is_right_or_wants_memory(&rt, rt.alloc(), &Known::Either(hrp));
 }
 
 #[test]
@@ -104,7 +116,7 @@ fn known_texts_to_a_string(rt: HostRuntime) {
 fn nothing_is_written_of_a_long_text(rt: HostRuntime) {
     let hrp = part(&rt, "abcde");
     let mut text = String::new(rt.alloc());
-    let outcome = encode_to_fmt::<Bech32m, String>(&mut text, hrp, &zeros());
+    let outcome = text_to_fmt::<Bech32m, String>(Form::Text, &mut text, hrp, &zeros());
     let too_long = EncodeError::TooLong(CodeLengthError {
         encoded_length: 1024,
         code_length: 1023,
