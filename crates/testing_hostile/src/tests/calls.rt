@@ -1,20 +1,19 @@
 //! The calls that answer a text, a human-readable part, a block or a decision.
 
-use crate::tests::turns::{Answer, Call, each_refused, wants_of};
+use crate::tests::turns::{Answer, Call, Heap, each_refused, wants_of};
 use bech32::hrp::{BC, TB};
 use bech32::primitives::checksum::{PrintError, detects_four_in};
 use bech32::primitives::decode::SegwitHrpstringError;
 use bech32::segwit::{self, VERSION_0, VERSION_1};
 use bech32::{
-    Bech32, Bech32m, DecodeError, EncodeError, Fe32, Hrp, PrintImpl, decode_in, encode_in,
-    encode_lower_in, encode_upper_in,
+    Bech32, Bech32m, Checksum, DecodeError, EncodeError, Fe32, Hrp, PrintImpl, decode_in,
+    encode_in, encode_lower_in, encode_upper_in,
 };
 use codex32::{Codex32Error, propose_in};
-use std::alloc::{Allocator, Global};
-use testing_tools::memory::Refusing;
+use std::alloc::{AllocError, Allocator};
 
 // The program of the first address in BIP-173's examples, and the address; a program of version 1.
-const PROGRAM: [u8; 20] = [
+const PROGRAM: &[u8] = &[
     0x75, 0x1e, 0x76, 0xe8, 0x19, 0x91, 0x96, 0xd4, 0x54, 0x94, 0x1c, 0x45, 0xd1, 0xb3, 0xa3, 0x23,
     0xf1, 0x43, 0x3b, 0xd6,
 ];
@@ -28,7 +27,7 @@ const TEXT: &str = "abc14w46h2at4w46h2at4w46h2at4w46h2at958ngu";
 
 const UPPER_TEXT: &str = "ABC14W46H2AT4W46H2AT4W46H2AT4W46H2AT958NGU";
 
-const BYTES: [u8; 20] = [0xab; 20];
+const BYTES: &[u8] = &[0xab; 20];
 
 // What a call returned whose text this is.
 fn text_is<A: Allocator>(outcome: Result<String<A>, EncodeError>, text: &str) -> Answer {
@@ -48,46 +47,48 @@ fn address_is<A: Allocator>(outcome: Result<String<A>, segwit::EncodeError>, tex
     }
 }
 
-enum Encode {}
+// The text of the bytes, in the case of the human-readable part or in a given one.
+#[derive(Clone, Copy)]
+enum Encode {
+    AsGiven,
+    Lower,
+    Upper,
+}
+
+// What it returns by a checksum.
+fn encodes<Ck: Checksum, A: Allocator + Copy>(heap: A, case: Encode, hrp: Hrp) -> Answer {
+    match case {
+        Encode::AsGiven => text_is(encode_in::<Ck, A>(heap, hrp, BYTES), TEXT),
+        Encode::Lower => text_is(encode_lower_in::<Ck, A>(heap, hrp, BYTES), TEXT),
+        Encode::Upper => text_is(encode_upper_in::<Ck, A>(heap, hrp, BYTES), UPPER_TEXT),
+    }
+}
+
+// The human-readable part that it is given.
+fn part_of(case: Encode) -> &'static str {
+    match case {
+        Encode::Lower => "ABC",
+        _ => "abc",
+    }
+}
 
 impl Call for Encode {
-    fn answer(heap: &Refusing<Global>) -> Answer {
-        let Ok(hrp) = Hrp::parse("abc") else {
-            return Answer::Other;
-        };
-        text_is(encode_in::<Bech32m, _>(heap, hrp, &BYTES), TEXT)
+    fn answer(&self, heap: Heap<'_>) -> Answer {
+        match Hrp::parse(part_of(*self)) {
+            Ok(hrp) => encodes::<Bech32m, _>(heap, *self, hrp),
+            Err(_) => Answer::Other,
+        }
     }
 }
 
-enum EncodeLower {}
-
-impl Call for EncodeLower {
-    fn answer(heap: &Refusing<Global>) -> Answer {
-        let Ok(hrp) = Hrp::parse("ABC") else {
-            return Answer::Other;
-        };
-        text_is(encode_lower_in::<Bech32m, _>(heap, hrp, &BYTES), TEXT)
-    }
-}
-
-enum EncodeUpper {}
-
-impl Call for EncodeUpper {
-    fn answer(heap: &Refusing<Global>) -> Answer {
-        let Ok(hrp) = Hrp::parse("abc") else {
-            return Answer::Other;
-        };
-        text_is(encode_upper_in::<Bech32m, _>(heap, hrp, &BYTES), UPPER_TEXT)
-    }
-}
-
-enum Decode {}
+#[derive(Clone, Copy)]
+struct Decode;
 
 impl Call for Decode {
-    fn answer(heap: &Refusing<Global>) -> Answer {
+    fn answer(&self, heap: Heap<'_>) -> Answer {
         match decode_in(heap, UPPER_TEXT) {
             Ok((hrp, bytes)) => {
-                let is_same = hrp.as_str() == "ABC" && bytes.as_slice() == BYTES.as_slice();
+                let is_same = hrp.as_str() == "ABC" && bytes.as_slice() == BYTES;
                 Answer::of(is_same)
             }
             Err(DecodeError::Memory) => Answer::NoMemory,
@@ -96,38 +97,34 @@ impl Call for Decode {
     }
 }
 
-enum SegwitEncode {}
+#[derive(Clone, Copy)]
+enum SegwitEncode {
+    Version,
+    V0,
+    V1,
+}
 
 impl Call for SegwitEncode {
-    fn answer(heap: &Refusing<Global>) -> Answer {
-        address_is(segwit::encode_in(heap, BC, VERSION_1, &BYTES), TAPROOT)
+    fn answer(&self, heap: Heap<'_>) -> Answer {
+        match self {
+            SegwitEncode::Version => {
+                address_is(segwit::encode_in(heap, BC, VERSION_1, BYTES), TAPROOT)
+            }
+            SegwitEncode::V0 => address_is(segwit::encode_v0_in(heap, BC, PROGRAM), ADDRESS),
+            SegwitEncode::V1 => address_is(segwit::encode_v1_in(heap, BC, BYTES), TAPROOT),
+        }
     }
 }
 
-enum SegwitEncodeV0 {}
-
-impl Call for SegwitEncodeV0 {
-    fn answer(heap: &Refusing<Global>) -> Answer {
-        address_is(segwit::encode_v0_in(heap, BC, &PROGRAM), ADDRESS)
-    }
-}
-
-enum SegwitEncodeV1 {}
-
-impl Call for SegwitEncodeV1 {
-    fn answer(heap: &Refusing<Global>) -> Answer {
-        address_is(segwit::encode_v1_in(heap, BC, &BYTES), TAPROOT)
-    }
-}
-
-enum SegwitDecode {}
+#[derive(Clone, Copy)]
+struct SegwitDecode;
 
 impl Call for SegwitDecode {
-    fn answer(heap: &Refusing<Global>) -> Answer {
+    fn answer(&self, heap: Heap<'_>) -> Answer {
         match segwit::decode_in(heap, ADDRESS) {
             Ok((hrp, version, program)) => {
                 let is_same = hrp == BC && version == VERSION_0;
-                Answer::of(is_same && program.as_slice() == PROGRAM.as_slice())
+                Answer::of(is_same && program.as_slice() == PROGRAM)
             }
             Err(segwit::DecodeError(SegwitHrpstringError::Memory)) => Answer::NoMemory,
             Err(_) => Answer::Other,
@@ -135,26 +132,36 @@ impl Call for SegwitDecode {
     }
 }
 
-enum ToLowercase {}
+// What a call returned whose text is this, and that fails for lack of memory alone.
+fn lowered_is<A: Allocator>(outcome: Result<String<A>, AllocError>, text: &str) -> Answer {
+    match outcome {
+        Ok(found) => Answer::of(found.as_str() == text),
+        Err(_) => Answer::NoMemory,
+    }
+}
+
+#[derive(Clone, Copy)]
+struct ToLowercase;
 
 impl Call for ToLowercase {
-    fn answer(heap: &Refusing<Global>) -> Answer {
+    fn answer(&self, heap: Heap<'_>) -> Answer {
         let Ok(hrp) = Hrp::parse("TB") else {
             return Answer::Other;
         };
-        let lower = hrp.to_lowercase_in(heap);
-        match lower {
-            Ok(text) => Answer::of(text.as_str() == "tb" && hrp == TB),
-            Err(_) if hrp.as_str() == "TB" => Answer::NoMemory,
-            Err(_) => Answer::Other,
+        let answer = lowered_is(hrp.to_lowercase_in(heap), "tb");
+        if hrp == TB && hrp.as_str() == "TB" {
+            answer
+        } else {
+            Answer::Other
         }
     }
 }
 
-enum Detects {}
+#[derive(Clone, Copy)]
+struct Detects;
 
 impl Call for Detects {
-    fn answer(heap: &Refusing<Global>) -> Answer {
+    fn answer(&self, heap: Heap<'_>) -> Answer {
         match detects_four_in::<Bech32, _>(heap, 12) {
             Ok(answer) => Answer::of(answer),
             Err(_) => Answer::NoMemory,
@@ -162,10 +169,11 @@ impl Call for Detects {
     }
 }
 
-enum Block {}
+#[derive(Clone, Copy)]
+struct Block;
 
 impl Call for Block {
-    fn answer(heap: &Refusing<Global>) -> Answer {
+    fn answer(&self, heap: Heap<'_>) -> Answer {
         let generator = [Fe32::X, Fe32::G];
         match PrintImpl::<Fe32>::new_in(heap, "Tiny", &generator, &[Fe32::Q, Fe32::P]) {
             Ok(_) => Answer::Undisturbed,
@@ -175,8 +183,8 @@ impl Call for Block {
     }
 }
 
-// What a call returned whose nearest text this is.
-fn nearest_is<A: Allocator>(
+/// What a call returned whose nearest text this is.
+pub fn nearest_is<A: Allocator>(
     outcome: Result<Option<String<A>>, Codex32Error>,
     text: &str,
 ) -> Answer {
@@ -188,10 +196,11 @@ fn nearest_is<A: Allocator>(
     }
 }
 
-enum Propose {}
+#[derive(Clone, Copy)]
+struct Propose;
 
 impl Call for Propose {
-    fn answer(heap: &Refusing<Global>) -> Answer {
+    fn answer(&self, heap: Heap<'_>) -> Answer {
         let right = "ms10testsxxxxxxxxxxxxxxxxxxxxxxxxxx4nzvca9cmczlw";
         let nearest = propose_in(heap, "ms1qtestsqxxxxxxxxxxxxxxxxxxxxxxxxq4nzvca9cmczlq");
         nearest_is(nearest, right)
@@ -201,31 +210,29 @@ impl Call for Propose {
 #[test]
 fn texts(rt: HostRuntime) {
     let alloc = rt.alloc();
-    each_refused::<Encode>(&rt, alloc);
-    each_refused::<EncodeLower>(&rt, alloc);
-    each_refused::<EncodeUpper>(&rt, alloc);
+    let calls = [Encode::AsGiven, Encode::Lower, Encode::Upper];
+    each_refused(&rt, alloc, &calls);
     // The bytes are gathered in room that is made at first or as they come.
-    wants_of::<Decode>(&rt, alloc);
-    each_refused::<ToLowercase>(&rt, alloc);
+    wants_of(&rt, alloc, &Decode);
+    each_refused(&rt, alloc, &[ToLowercase]);
 }
 
 #[test]
 fn addresses(rt: HostRuntime) {
     let alloc = rt.alloc();
-    each_refused::<SegwitEncode>(&rt, alloc);
-    each_refused::<SegwitEncodeV0>(&rt, alloc);
-    each_refused::<SegwitEncodeV1>(&rt, alloc);
-    wants_of::<SegwitDecode>(&rt, alloc);
+    let calls = [SegwitEncode::Version, SegwitEncode::V0, SegwitEncode::V1];
+    each_refused(&rt, alloc, &calls);
+    wants_of(&rt, alloc, &SegwitDecode);
 }
 
 #[test]
 fn decisions_and_blocks(rt: HostRuntime) {
     let alloc = rt.alloc();
-    each_refused::<Detects>(&rt, alloc);
-    each_refused::<Block>(&rt, alloc);
+    each_refused(&rt, alloc, &[Detects]);
+    each_refused(&rt, alloc, &[Block]);
 }
 
 #[test]
 fn nearest_strings(rt: HostRuntime) {
-    each_refused::<Propose>(&rt, rt.alloc());
+    each_refused(&rt, rt.alloc(), &[Propose]);
 }

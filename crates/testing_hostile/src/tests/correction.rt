@@ -1,22 +1,15 @@
 //! The corrector and the register: what they are after a request for memory was refused.
 
-ghost use Rattle.std.specs.Prelude.{◌<◌, length};
-
-use crate::tests::turns::{Answer, Call, each_refused};
+use crate::tests::turns::{Answer, Call, Heap, each_refused};
 use bech32::primitives::LfsrIter;
-use bech32::primitives::correction::{self, Corrector, ErrorIterator};
-use bech32::primitives::decode::{CheckedHrpstring, CheckedHrpstringError};
+use bech32::primitives::correction::{Corrector, ErrorIterator, Listing};
+use bech32::primitives::decode::CheckedHrpstring;
 use bech32::{Checksum, CorrectableError, Fe32};
 use codex32::Codex32;
-use std::alloc::{AllocError, Global};
+use std::alloc::{AllocError, Allocator};
 use testing_tools::known::{EIGHT, EIGHT_ERRORS, ELEMENTS, FOUR, FOUR_ERRORS};
-use testing_tools::memory::Refusing;
 
-type OnHeap<'h> = Corrector<Codex32, &'h Refusing<Global>>;
-
-type Listing<'h> = ErrorIterator<&'h Refusing<Global>>;
-
-type Listed<'h> = correction::Listing<&'h Refusing<Global>>;
+type OnHeap<'h> = Corrector<Codex32, Heap<'h>>;
 
 // The eight errors, and where they are.
 fn eight() -> [(usize, Fe32); 8] {
@@ -27,21 +20,18 @@ fn last_eight() -> [usize; 8] {
     [0, 1, 2, 3, 4, 5, 6, 7]
 }
 
-// Why the checksum refuses a text.
-fn refusal(text: &str) -> Option<CheckedHrpstringError> {
-    match CheckedHrpstring::new::<Codex32>(text) {
-        Ok(_) => None,
-        Err(e) => Some(e),
-    }
-}
-
-// The corrector of a text that the checksum refuses.
-fn corrector_of<'h>(heap: &'h Refusing<Global>, text: &str) -> Option<OnHeap<'h>> {
-    let error = refusal(text)?;
-    if !Codex32::sanity_check() {
+/// The corrector of a text that the checksum refuses.
+pub fn corrector_of<Ck: Checksum, A: Allocator + Copy>(
+    heap: A,
+    text: &str,
+) -> Option<Corrector<Ck, A>> {
+    if !Ck::sanity_check() {
         return None;
     }
-    error.correction_context::<Codex32, _>(heap)
+    match CheckedHrpstring::new::<Ck>(text) {
+        Ok(_) => None,
+        Err(error) => error.correction_context::<Ck, A>(heap),
+    }
 }
 
 // What a corrector returns that is given erasures below its window.
@@ -61,7 +51,7 @@ fn is_given_two(corrector: &mut OnHeap<'_>) -> bool {
 }
 
 // Whether a listing is just this.
-fn is_listing(listing: Listing<'_>, want: &[(usize, Fe32)]) -> bool {
+fn is_listing(listing: ErrorIterator<Heap<'_>>, want: &[(usize, Fe32)]) -> bool {
     let mut errors = listing;
     let mut is_same = true;
     for pair in want {
@@ -95,11 +85,15 @@ fn lists_or_wants_memory(corrector: &OnHeap<'_>, want: &[(usize, Fe32)]) -> Answ
     }
 }
 
-// What its clone returns, or itself if out of memory.
-fn clone_lists(corrector: &OnHeap<'_>, want: &[(usize, Fe32)]) -> Answer {
-    match corrector.clone() {
+// What another corrector lists, or this one if there was no memory for the other.
+fn other_lists(
+    other: Result<OnHeap<'_>, AllocError>,
+    want: &[(usize, Fe32)],
+    corrector: &OnHeap<'_>,
+) -> Answer {
+    match other {
         Ok(other) => lists(&other, want),
-        Err(_) => wants_memory(corrector, want),
+        Err(_) => wants_memory(corrector, &eight()),
     }
 }
 
@@ -145,27 +139,31 @@ fn add_seven_and_one(corrector: &mut OnHeap<'_>) -> Answer {
 }
 
 // What is said of a listing that should be just this.
-fn says(listing: Option<Listed<'_>>, want: &[(usize, Fe32)]) -> Answer {
+fn says(listing: Option<Listing<Heap<'_>>>, want: &[(usize, Fe32)]) -> Answer {
     match listing {
         Some(items) => Answer::of(items.as_slice() == want),
         None => Answer::Other,
     }
 }
 
-// What a corrector returns that is asked for a listing with two erasures.
-fn lists_with_two(corrector: &OnHeap<'_>) -> Answer {
-    match corrector.listing_with(&[44, 0]) {
-        Ok(listing) => says(listing, &FOUR),
+// What a corrector returns that is asked for a listing with these erasures, which should be this.
+fn lists_with(corrector: &OnHeap<'_>, erasures: &[usize], want: &[(usize, Fe32)]) -> Answer {
+    match corrector.listing_with(erasures) {
+        Ok(listing) => says(listing, want),
         Err(_) => Answer::NoMemory,
     }
 }
 
-// What another corrector returns that has the eight erasures.
-fn lists_with_eight(corrector: &OnHeap<'_>) -> Answer {
-    match corrector.with(&last_eight()) {
-        Ok(Some(erased)) => lists(&erased, &eight()),
-        Ok(None) => Answer::Other,
-        Err(_) => Answer::NoMemory,
+// What another corrector returns that has these erasures. `None` where there may be none such.
+fn lists_when_given(
+    corrector: &OnHeap<'_>,
+    erasures: &[usize],
+    want: &[(usize, Fe32)],
+) -> Option<Answer> {
+    match corrector.with(erasures) {
+        Ok(Some(erased)) => Some(lists(&erased, want)),
+        Ok(None) => None,
+        Err(_) => Some(Answer::NoMemory),
     }
 }
 
@@ -176,18 +174,15 @@ fn seven_errors() -> [(usize, Fe32); 8] {
     seven
 }
 
-// What a corrector lists of whose residue an error is taken off.
-fn lists_without(corrector: &OnHeap<'_>, error: (usize, Fe32), want: &[(usize, Fe32)]) -> Answer {
-    match corrector.without_error(error) {
-        Ok(left) => lists(&left, want),
-        Err(_) => wants_memory(corrector, &eight()),
-    }
-}
-
-// What it lists where that is the first of the eight errors.
+// What a corrector lists that has the eight erasures and of whose residue the first error is taken
+// off.
 fn seven_left(corrector: &mut OnHeap<'_>) -> Answer {
     match add(corrector, &last_eight()) {
-        Answer::Undisturbed => lists_without(corrector, EIGHT[0], &seven_errors()),
+        Answer::Undisturbed => other_lists(
+            corrector.without_error(eight()[0]),
+            &seven_errors(),
+            corrector,
+        ),
         answer => answer,
     }
 }
@@ -195,7 +190,7 @@ fn seven_left(corrector: &mut OnHeap<'_>) -> Answer {
 // What its clone returns where it has the eight erasures.
 fn eight_cloned(corrector: &mut OnHeap<'_>) -> Answer {
     match add(corrector, &last_eight()) {
-        Answer::Undisturbed => clone_lists(corrector, &eight()),
+        Answer::Undisturbed => other_lists(corrector.clone(), &eight(), corrector),
         answer => answer,
     }
 }
@@ -212,83 +207,43 @@ enum Asked {
     Clone,
 }
 
+// The text that it refuses.
+fn text_of(asked: Asked) -> &'static str {
+    match asked {
+        Asked::AddErasures | Asked::BchErrors | Asked::ListingWith => FOUR_ERRORS,
+        _ => EIGHT_ERRORS,
+    }
+}
+
 fn ask(corrector: &mut OnHeap<'_>, asked: Asked) -> Answer {
     match asked {
         Asked::AddErasures => add_six(corrector),
         Asked::BchErrors => lists_by_two(corrector),
-        Asked::ListingWith => lists_with_two(corrector),
+        Asked::ListingWith => lists_with(corrector, &[44, 0], &FOUR),
         Asked::EighthErasure => add_seven_and_one(corrector),
-        Asked::WithErasures => lists_with_eight(corrector),
+        Asked::WithErasures => {
+            lists_when_given(corrector, &last_eight(), &eight()).unwrap_or(Answer::Other)
+        }
         Asked::WithoutError => seven_left(corrector),
         Asked::Clone => eight_cloned(corrector),
     }
 }
 
 // What the corrector of a text answers.
-fn answer_of(heap: &Refusing<Global>, text: &str, asked: Asked) -> Answer {
-    match corrector_of(heap, text) {
+fn answer_of(corrector: Option<OnHeap<'_>>, asked: Asked) -> Answer {
+    match corrector {
         Some(mut corrector) => ask(&mut corrector, asked),
         None => Answer::Other,
     }
 }
 
-enum AddErasures {}
-
-impl Call for AddErasures {
-    fn answer(heap: &Refusing<Global>) -> Answer {
-        answer_of(heap, FOUR_ERRORS, Asked::AddErasures)
+impl Call for Asked {
+    fn answer(&self, heap: Heap<'_>) -> Answer {
+        answer_of(corrector_of::<Codex32, _>(heap, text_of(*self)), *self)
     }
 }
 
-enum EighthErasure {}
-
-impl Call for EighthErasure {
-    fn answer(heap: &Refusing<Global>) -> Answer {
-        answer_of(heap, EIGHT_ERRORS, Asked::EighthErasure)
-    }
-}
-
-enum BchErrors {}
-
-impl Call for BchErrors {
-    fn answer(heap: &Refusing<Global>) -> Answer {
-        answer_of(heap, FOUR_ERRORS, Asked::BchErrors)
-    }
-}
-
-enum ListingWith {}
-
-impl Call for ListingWith {
-    fn answer(heap: &Refusing<Global>) -> Answer {
-        answer_of(heap, FOUR_ERRORS, Asked::ListingWith)
-    }
-}
-
-enum WithErasures {}
-
-impl Call for WithErasures {
-    fn answer(heap: &Refusing<Global>) -> Answer {
-        answer_of(heap, EIGHT_ERRORS, Asked::WithErasures)
-    }
-}
-
-enum WithoutError {}
-
-impl Call for WithoutError {
-    fn answer(heap: &Refusing<Global>) -> Answer {
-        answer_of(heap, EIGHT_ERRORS, Asked::WithoutError)
-    }
-}
-
-enum CloneCorrector {}
-
-impl Call for CloneCorrector {
-    fn answer(heap: &Refusing<Global>) -> Answer {
-        answer_of(heap, EIGHT_ERRORS, Asked::Clone)
-    }
-}
-
-type Register<'h> = LfsrIter<Fe32, &'h Refusing<Global>>;
+type Register<'h> = LfsrIter<Fe32, Heap<'h>>;
 
 // Whether this item comes next.
 fn is_next(register: &mut Register<'_>, item: &Fe32) -> bool {
@@ -296,61 +251,63 @@ fn is_next(register: &mut Register<'_>, item: &Fe32) -> bool {
 }
 
 // Whether these items come next.
-fn goes_on(register: Register<'_>, items: &[Fe32]) -> bool {
-    let mut register = register;
+fn goes_on(register: &mut Register<'_>, items: &[Fe32]) -> bool {
     let mut is_same = true;
     for item in items {
-        is_same = is_next(&mut register, item) && is_same;
+        is_same = is_next(register, item) && is_same;
     }
     is_same
 }
 
-// What the shortest register of some elements answers, which should go on so.
-fn register_goes_on(heap: &Refusing<Global>, items: &[Fe32]) -> Answer
-    requires { 0 < length items.now }
-{
-    match LfsrIter::berlekamp_massey_in(heap, items) {
-        Ok(register) => Answer::of(goes_on(register, items)),
+// What a copy answers, which should go on so.
+fn copy_goes_on(copy: Result<Register<'_>, AllocError>, items: &[Fe32]) -> Answer {
+    match copy {
+        Ok(mut other) => Answer::of(goes_on(&mut other, items)),
         Err(_) => Answer::NoMemory,
     }
 }
 
-// Twenty elements whose shortest register is longer than seven.
-enum Massey {}
-
-impl Call for Massey {
-    fn answer(heap: &Refusing<Global>) -> Answer {
-        register_goes_on(heap, &ELEMENTS[1..21])
-    }
-}
-
 // What a register and its clone answer, each of which should go on so.
-fn both_go_on(register: Register<'_>, items: &[Fe32]) -> Answer {
-    let copy: Result<Register<'_>, AllocError> = register.clone();
-    let is_same = goes_on(register, items);
-    match copy {
-        Ok(other) => Answer::of(goes_on(other, items) && is_same),
-        Err(_) if is_same => Answer::NoMemory,
-        Err(_) => Answer::Other,
+fn both_go_on(register: &mut Register<'_>, items: &[Fe32]) -> Answer {
+    let answer = copy_goes_on(register.clone(), items);
+    if goes_on(register, items) {
+        answer
+    } else {
+        Answer::Other
     }
 }
 
 // What they answer after its first two items.
-fn both_go_on_after_two(register: Register<'_>, items: &[Fe32]) -> Answer {
-    let mut register = register;
-    if is_next(&mut register, &Fe32::P) && is_next(&mut register, &Fe32::Z) {
+fn both_go_on_after_two(register: &mut Register<'_>, items: &[Fe32]) -> Answer {
+    if is_next(register, &Fe32::P) && is_next(register, &Fe32::Z) {
         both_go_on(register, items)
     } else {
         Answer::Other
     }
 }
 
-enum CloneRegister {}
+// What the shortest register of twenty elements is asked, which is longer than seven.
+#[derive(Clone, Copy)]
+enum OfRegister {
+    Massey,
+    Clone,
+}
 
-impl Call for CloneRegister {
-    fn answer(heap: &Refusing<Global>) -> Answer {
-        match LfsrIter::berlekamp_massey_in(heap, &ELEMENTS[1..21]) {
-            Ok(register) => both_go_on_after_two(register, &ELEMENTS[3..21]),
+fn elements() -> [Fe32; 32] {
+    ELEMENTS
+}
+
+fn ask_register(register: &mut Register<'_>, asked: OfRegister) -> Answer {
+    match asked {
+        OfRegister::Massey => Answer::of(goes_on(register, &elements()[1..21])),
+        OfRegister::Clone => both_go_on_after_two(register, &elements()[3..21]),
+    }
+}
+
+impl Call for OfRegister {
+    fn answer(&self, heap: Heap<'_>) -> Answer {
+        match Register::berlekamp_massey_in(heap, &elements()[1..21]) {
+            Ok(mut register) => ask_register(&mut register, *self),
             Err(_) => Answer::NoMemory,
         }
     }
@@ -358,19 +315,19 @@ impl Call for CloneRegister {
 
 #[test]
 fn correctors_as_they_were(rt: HostRuntime) {
-    let alloc = rt.alloc();
-    each_refused::<AddErasures>(&rt, alloc);
-    each_refused::<EighthErasure>(&rt, alloc);
-    each_refused::<BchErrors>(&rt, alloc);
-    each_refused::<ListingWith>(&rt, alloc);
-    each_refused::<WithErasures>(&rt, alloc);
-    each_refused::<WithoutError>(&rt, alloc);
-    each_refused::<CloneCorrector>(&rt, alloc);
+    let calls = [
+        Asked::AddErasures,
+        Asked::EighthErasure,
+        Asked::BchErrors,
+        Asked::ListingWith,
+        Asked::WithErasures,
+        Asked::WithoutError,
+        Asked::Clone,
+    ];
+    each_refused(&rt, rt.alloc(), &calls);
 }
 
 #[test]
 fn registers_as_they_were(rt: HostRuntime) {
-    let alloc = rt.alloc();
-    each_refused::<Massey>(&rt, alloc);
-    each_refused::<CloneRegister>(&rt, alloc);
+    each_refused(&rt, rt.alloc(), &[OfRegister::Massey, OfRegister::Clone]);
 }

@@ -1,14 +1,13 @@
 //! Which memory calls ask for.
 
 use crate::tests::compare::same;
+use crate::tests::correction::corrector_of;
+use crate::tests::turns::Heap;
 use bech32::primitives::correction::{Corrector, listing_in};
-use bech32::primitives::decode::CheckedHrpstring;
-use bech32::{Bech32, Checksum, CorrectError, CorrectableError, Correction, Mended};
+use bech32::{Bech32, CorrectError, Correction, Mended};
 use bech32_correction::mended_by;
 use std::alloc::{AllocError, Global};
 use testing_tools::memory::Refusing;
-
-type Heap<'h> = &'h Refusing<Global>;
 
 // An address of BIP-173, and the same with one wrong character.
 const ADDRESS: &str = "bc1qw508d6qejxtdg4y5r3zarvary0c5xw7kv8f3t4";
@@ -37,23 +36,12 @@ fn texts_in_memory_of_the_given_allocator(rt: HostRuntime) {
     same(&rt, &other.has_refused(), &false);
 }
 
-// The corrector of the mistyped address.
-fn corrector_in(heap: Heap<'_>) -> Option<Corrector<Bech32, Heap<'_>>> {
-    if !Bech32::sanity_check() {
-        return None;
-    }
-    match CheckedHrpstring::new::<Bech32>(MISTYPED) {
-        Ok(_) => None,
-        Err(error) => error.correction_context::<Bech32, Heap>(heap),
-    }
-}
-
 // Whether a corrector says what it lists.
 fn lists(corrector: &Corrector<Bech32, Heap<'_>>) -> bool {
     corrector.bch_errors().is_ok()
 }
 
-// Whether one that is given these erasures does.
+// Whether one that is given these erasures says what it lists.
 fn lists_when_given(corrector: &Corrector<Bech32, Heap<'_>>, erasures: &[usize]) -> bool {
     match corrector.with(erasures) {
         Ok(Some(erased)) => lists(&erased),
@@ -69,20 +57,30 @@ fn lists_with(corrector: &Corrector<Bech32, Heap<'_>>, erasures: &[usize]) -> bo
         && corrector.listing_up_to(usize::MAX, erasures).is_ok()
 }
 
-// Whether it does so with no request for memory.
-fn lists_without_memory(alloc: Global, erasures: &[usize]) -> bool {
-    let heap = Refusing::new(alloc, 1);
-    let is_listed = match corrector_in(&heap) {
+// The same of one that may be there.
+fn says_what_it_lists(corrector: Option<Corrector<Bech32, Heap<'_>>>, erasures: &[usize]) -> bool {
+    match corrector {
         Some(corrector) => lists_with(&corrector, erasures),
         None => false,
-    };
-    is_listed && !heap.has_refused()
+    }
+}
+
+// Whether the corrector of the mistyped address does so with no request for memory.
+fn lists_without_memory(alloc: Global, erasures: &[usize]) -> bool {
+    let heap = Refusing::new(alloc, 1);
+    let corrector = corrector_of::<Bech32, _>(&heap, MISTYPED);
+    says_what_it_lists(corrector, erasures) && !heap.has_refused()
 }
 
 // What a checksum of six characters lists is put in place: nothing is asked for in vain either.
 #[test]
 fn listings_without_a_request(rt: HostRuntime) {
     let rows: [&[usize]; 5] = [&[], &[3], &[0, 1], &[0, 1, 2], &[1, 2, 4]];
-    let listed = rows.map(|erasures| lists_without_memory(rt.alloc(), erasures));
-    same(&rt, &listed, &[true; 5]);
+    for erasures in rows {
+        same(
+            &rt,
+            &(erasures, lists_without_memory(rt.alloc(), erasures)),
+            &(erasures, true),
+        );
+    }
 }

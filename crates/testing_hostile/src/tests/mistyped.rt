@@ -1,13 +1,12 @@
 //! Mistyped texts, and the texts near to them.
 
-use crate::tests::turns::{Answer, Call, each_refused};
+use crate::tests::turns::{Answer, Call, Heap, each_refused};
 use bech32::{
-    Bech32, CorrectError, Correction, EditsError, Mended, NearEdit, NearTexts, correct_in,
-    near_edits_in, nearest_in,
+    Bech32, Checksum, CorrectError, Correction, EditsError, Mended, NearEdit, NearTexts,
+    correct_in, near_edits_in, nearest_in,
 };
 use codex32::Codex32;
-use std::alloc::{Allocator, Global};
-use testing_tools::memory::Refusing;
+use std::alloc::Allocator;
 
 // An address of BIP-173, and the same with one and with two wrong characters.
 const ADDRESS: &str = "bc1qw508d6qejxtdg4y5r3zarvary0c5xw7kv8f3t4";
@@ -48,56 +47,41 @@ fn lists<A: Allocator + Copy, C: Drop>(
     }
 }
 
-enum Correct {}
-
-impl Call for Correct {
-    fn answer(heap: &Refusing<Global>) -> Answer {
-        mends(correct_in::<Bech32, _>(heap, MISTYPED, &[]), ADDRESS)
-    }
+#[derive(Clone, Copy)]
+enum Correct {
+    Bech32,
+    Codex32,
 }
 
-enum CorrectCodex32 {}
-
-impl Call for CorrectCodex32 {
-    fn answer(heap: &Refusing<Global>) -> Answer {
-        let right = "ms10testsxxxxxxxxxxxxxxxxxxxxxxxxxx4nzvca9cmczlw";
-        let mistyped = "ms1qtestsqxxxxxxxxxxxxxxxxxxxxxxxxq4nzvca9cmczlq";
-        mends(correct_in::<Codex32, _>(heap, mistyped, &[44, 0]), right)
+impl Call for Correct {
+    fn answer(&self, heap: Heap<'_>) -> Answer {
+        match self {
+            Correct::Bech32 => mends(correct_in::<Bech32, _>(heap, MISTYPED, &[]), ADDRESS),
+            Correct::Codex32 => {
+                let right = "ms10testsxxxxxxxxxxxxxxxxxxxxxxxxxx4nzvca9cmczlw";
+                let mistyped = "ms1qtestsqxxxxxxxxxxxxxxxxxxxxxxxxq4nzvca9cmczlq";
+                mends(correct_in::<Codex32, _>(heap, mistyped, &[44, 0]), right)
+            }
+        }
     }
 }
 
 // What is said of the texts nearest to one, which should be just these.
-fn lists_nearest(heap: &Refusing<Global>, text: &str, erasures: &[usize], near: &[&str]) -> Answer {
+fn lists_nearest(heap: Heap<'_>, text: &str, erasures: &[usize], near: &[&str]) -> Answer {
     lists(nearest_in::<Bech32, _>(heap, text, erasures, 2), near)
 }
 
-enum NearestOfAccepted {}
-
-impl Call for NearestOfAccepted {
-    fn answer(heap: &Refusing<Global>) -> Answer {
-        lists_nearest(heap, ADDRESS, &[], &[ADDRESS])
-    }
+// A text, its erasures, and the texts nearest to it.
+#[derive(Clone, Copy)]
+struct Nearest {
+    text: &'static str,
+    erasures: &'static [usize],
+    near: &'static [&'static str],
 }
-
-enum Nearest {}
 
 impl Call for Nearest {
-    fn answer(heap: &Refusing<Global>) -> Answer {
-        lists_nearest(heap, TWICE_MISTYPED, &[], &[ADDRESS])
-    }
-}
-
-enum NearestOfThree {}
-
-impl Call for NearestOfThree {
-    fn answer(heap: &Refusing<Global>) -> Answer {
-        let text = "bc1qar0srrr7xfkvy5l64qlydnw9re59gtzzwf5mdx";
-        let near = [
-            "bc1qar0srrr7xfkvy5l643lydnw9re59gtzzwf5mdq",
-            "bc1kar0sr3r7xfkvy5l64qlydqw9re59gtzzwf5mlx",
-            "bc1dar3srrr7xfkvy7l64qlydnw9re59gtzzwf5mux",
-        ];
-        lists_nearest(heap, text, &[1, 38], &near)
+    fn answer(&self, heap: Heap<'_>) -> Answer {
+        lists_nearest(heap, self.text, self.erasures, self.near)
     }
 }
 
@@ -120,64 +104,74 @@ fn makes<A: Allocator + Copy>(
 }
 
 // What is said of the texts that one edit makes of one, which should be just these.
-fn edited(heap: &Refusing<Global>, text: &str, near: &[&str]) -> Answer {
-    makes(near_edits_in::<Bech32, _>(heap, text), near)
+fn makes_by_edit<Ck: Checksum, A: Allocator + Copy>(heap: A, text: &str, near: &[&str]) -> Answer {
+    makes(near_edits_in::<Ck, A>(heap, text), near)
 }
 
-// The address without a character, and one with two neighbours swapped.
-enum OneLeftOut {}
-
-impl Call for OneLeftOut {
-    fn answer(heap: &Refusing<Global>) -> Answer {
-        edited(
-            heap,
-            "bc1qw508d6qejxtdg4y53zarvary0c5xw7kv8f3t4",
-            &[ADDRESS],
-        )
-    }
+// A text, and the texts that one edit makes of it.
+#[derive(Clone, Copy)]
+struct Edited {
+    text: &'static str,
+    near: &'static [&'static str],
 }
 
-enum OneSwapped {}
-
-impl Call for OneSwapped {
-    fn answer(heap: &Refusing<Global>) -> Answer {
-        edited(
-            heap,
-            "bc1qw508d6qejxtdg4y5r3zravary0c5xw7kv8f3t4",
-            &[ADDRESS],
-        )
-    }
-}
-
-// A text that ends in `qp` has two texts more: Bech32 accepts it with any number of `q` there.
-enum EndingInP {}
-
-impl Call for EndingInP {
-    fn answer(heap: &Refusing<Global>) -> Answer {
-        let near = ["ii2134hk2xmat79tp", "ii2134hk2xmat79tqqp"];
-        edited(heap, "ii2134hk2xmat79tqp", &near)
+impl Call for Edited {
+    fn answer(&self, heap: Heap<'_>) -> Answer {
+        makes_by_edit::<Bech32, _>(heap, self.text, self.near)
     }
 }
 
 #[test]
 fn corrections(rt: HostRuntime) {
-    let alloc = rt.alloc();
-    each_refused::<Correct>(&rt, alloc);
-    each_refused::<CorrectCodex32>(&rt, alloc);
+    each_refused(&rt, rt.alloc(), &[Correct::Bech32, Correct::Codex32]);
 }
+
+// The address, one with two wrong characters, and one that three are near to.
+const NEAREST: &[Nearest] = &[
+    Nearest {
+        text: ADDRESS,
+        erasures: &[],
+        near: &[ADDRESS],
+    },
+    Nearest {
+        text: TWICE_MISTYPED,
+        erasures: &[],
+        near: &[ADDRESS],
+    },
+    Nearest {
+        text: "bc1qar0srrr7xfkvy5l64qlydnw9re59gtzzwf5mdx",
+        erasures: &[1, 38],
+        near: &[
+            "bc1qar0srrr7xfkvy5l643lydnw9re59gtzzwf5mdq",
+            "bc1kar0sr3r7xfkvy5l64qlydqw9re59gtzzwf5mlx",
+            "bc1dar3srrr7xfkvy7l64qlydnw9re59gtzzwf5mux",
+        ],
+    },
+];
 
 #[test]
 fn near_texts(rt: HostRuntime) {
-    let alloc = rt.alloc();
-    each_refused::<NearestOfAccepted>(&rt, alloc);
-    each_refused::<Nearest>(&rt, alloc);
-    each_refused::<NearestOfThree>(&rt, alloc);
+    each_refused(&rt, rt.alloc(), NEAREST);
 }
+
+// The address without a character, and one with two neighbours swapped. A text that ends in `qp`
+// has two texts more: Bech32 accepts it with any number of `q` there.
+const EDITED: &[Edited] = &[
+    Edited {
+        text: "bc1qw508d6qejxtdg4y53zarvary0c5xw7kv8f3t4",
+        near: &[ADDRESS],
+    },
+    Edited {
+        text: "bc1qw508d6qejxtdg4y5r3zravary0c5xw7kv8f3t4",
+        near: &[ADDRESS],
+    },
+    Edited {
+        text: "ii2134hk2xmat79tqp",
+        near: &["ii2134hk2xmat79tp", "ii2134hk2xmat79tqqp"],
+    },
+];
 
 #[test]
 fn edits(rt: HostRuntime) {
-    let alloc = rt.alloc();
-    each_refused::<OneLeftOut>(&rt, alloc);
-    each_refused::<OneSwapped>(&rt, alloc);
-    each_refused::<EndingInP>(&rt, alloc);
+    each_refused(&rt, rt.alloc(), EDITED);
 }

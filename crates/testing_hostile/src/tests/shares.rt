@@ -1,13 +1,13 @@
 //! Strings that share a secret: those that are made, and those that others give.
 
-use crate::tests::turns::{Answer, Call, each_refused};
+use crate::tests::calls::nearest_is;
+use crate::tests::turns::{Answer, Call, Heap, each_refused};
 use bech32::Fe32;
 use codex32::{
-    Codex32Error, DeriveError, EncodeError, Header, Share, derive_in, encode_in, encode_payload_in,
+    DeriveError, EncodeError, Header, Share, derive_in, encode_in, encode_payload_in,
     propose_long_in, recover_in,
 };
-use std::alloc::{Allocator, Global};
-use testing_tools::memory::Refusing;
+use std::alloc::Allocator;
 
 // Two shares of BIP-93, the one derived from them, and the secret.
 const A: &str = "MS12NAMEA320ZYXWVUTSRQPNMLKJHGFEDCAXRPP870HKKQRM";
@@ -27,31 +27,34 @@ fn derived_is<A: Allocator>(outcome: Result<String<A>, DeriveError>, text: &str)
     }
 }
 
-// What is returned at an index of the two shares.
-fn derived(heap: &Refusing<Global>, index: Fe32, text: &str) -> Option<Answer> {
-    let shares = [Share::parse(A).ok()?, Share::parse(C).ok()?];
-    Some(derived_is(derive_in(heap, &shares, index), text))
+// What two shares give.
+#[derive(Clone, Copy)]
+enum OfShares {
+    Derived,
+    Recovered,
 }
 
-// The same of the secret.
-fn recovered(heap: &Refusing<Global>) -> Option<Answer> {
+// What is returned of the two shares.
+fn answer_of(heap: Heap<'_>, call: OfShares) -> Option<Answer> {
     let shares = [Share::parse(A).ok()?, Share::parse(C).ok()?];
-    Some(derived_is(recover_in(heap, &shares), SECRET))
+    let outcome = match call {
+        OfShares::Derived => derive_in(heap, &shares, Fe32::D),
+        OfShares::Recovered => recover_in(heap, &shares),
+    };
+    Some(derived_is(outcome, text_of(call)))
 }
 
-enum Derive {}
-
-impl Call for Derive {
-    fn answer(heap: &Refusing<Global>) -> Answer {
-        derived(heap, Fe32::D, D).unwrap_or(Answer::Other)
+// The text that they give.
+fn text_of(call: OfShares) -> &'static str {
+    match call {
+        OfShares::Derived => D,
+        OfShares::Recovered => SECRET,
     }
 }
 
-enum Recover {}
-
-impl Call for Recover {
-    fn answer(heap: &Refusing<Global>) -> Answer {
-        recovered(heap).unwrap_or(Answer::Other)
+impl Call for OfShares {
+    fn answer(&self, heap: Heap<'_>) -> Answer {
+        answer_of(heap, *self).unwrap_or(Answer::Other)
     }
 }
 
@@ -64,26 +67,22 @@ fn begins<A: Allocator>(outcome: Result<String<A>, EncodeError>, front: &str) ->
     }
 }
 
-enum Encode {}
-
-impl Call for Encode {
-    fn answer(heap: &Refusing<Global>) -> Answer {
-        let front = "ms10testsqqqqqqqqqqqqqqqqqqqqqqqqqq";
-        match Header::parse("0", "test", "s") {
-            Ok(header) => begins(encode_in(heap, &header, &[0u8; 16]), front),
-            Err(_) => Answer::Other,
-        }
-    }
+// What a header gives: a string of bytes, or of elements.
+#[derive(Clone, Copy)]
+enum OfHeader {
+    Bytes,
+    Elements,
 }
 
-enum EncodePayload {}
-
-impl Call for EncodePayload {
-    fn answer(heap: &Refusing<Global>) -> Answer {
+impl Call for OfHeader {
+    fn answer(&self, heap: Heap<'_>) -> Answer {
+        let Ok(header) = Header::parse("0", "test", "s") else {
+            return Answer::Other;
+        };
         let front = "ms10testsqqqqqqqqqqqqqqqqqqqqqqqqqq";
-        match Header::parse("0", "test", "s") {
-            Ok(header) => begins(encode_payload_in(heap, &header, &[Fe32::Q; 26]), front),
-            Err(_) => Answer::Other,
+        match self {
+            OfHeader::Bytes => begins(encode_in(heap, &header, &[0u8; 16]), front),
+            OfHeader::Elements => begins(encode_payload_in(heap, &header, &[Fe32::Q; 26]), front),
         }
     }
 }
@@ -95,29 +94,23 @@ const LONG: &str =
 const DAMAGED: &str =
     "ms100c8vsm32zxfguhpchtlupzqqqq8gf2tvdw0s3jn54khce6mua7lqpzygsfjd6an074rxvcemlh8wu3tk925acdefghjklmnpqrstuvwxy06fhpv80undvarhrak";
 
-enum ProposeLong {}
+#[derive(Clone, Copy)]
+struct ProposeLong;
 
 impl Call for ProposeLong {
-    fn answer(heap: &Refusing<Global>) -> Answer {
-        match propose_long_in(heap, DAMAGED) {
-            Ok(Some(nearest)) => Answer::of(nearest.as_str() == LONG),
-            Ok(None) => Answer::Other,
-            Err(Codex32Error::Memory) => Answer::NoMemory,
-            Err(_) => Answer::Other,
-        }
+    fn answer(&self, heap: Heap<'_>) -> Answer {
+        nearest_is(propose_long_in(heap, DAMAGED), LONG)
     }
 }
 
 #[test]
 fn strings_of_shares(rt: HostRuntime) {
     let alloc = rt.alloc();
-    each_refused::<Derive>(&rt, alloc);
-    each_refused::<Recover>(&rt, alloc);
-    each_refused::<Encode>(&rt, alloc);
-    each_refused::<EncodePayload>(&rt, alloc);
+    each_refused(&rt, alloc, &[OfShares::Derived, OfShares::Recovered]);
+    each_refused(&rt, alloc, &[OfHeader::Bytes, OfHeader::Elements]);
 }
 
 #[test]
 fn the_nearest_long_string(rt: HostRuntime) {
-    each_refused::<ProposeLong>(&rt, rt.alloc());
+    each_refused(&rt, rt.alloc(), &[ProposeLong]);
 }

@@ -27,25 +27,28 @@ impl Answer {
     }
 }
 
-/// A call that allocates.
+/// Memory of which one request is refused.
+pub type Heap<'h> = &'h Refusing<Global>;
+
+/// Calls that allocate.
 pub trait Call {
-    /// What it returns with the memory of a heap.
-    fn answer(heap: &Refusing<Global>) -> Answer;
+    /// What one of them returns with memory of a heap.
+    fn answer(&self, heap: Heap<'_>) -> Answer;
 }
 
 // What a call returns where the request of this number is refused, and whether that request came.
-fn turn<C: Call>(alloc: Global, number: u64) -> (Answer, bool) {
+fn turn<C: Call>(alloc: Global, call: &C, number: u64) -> (Answer, bool) {
     let heap = Refusing::new(alloc, number);
-    let answer = C::answer(&heap);
+    let answer = call.answer(&heap);
     (answer, heap.has_refused())
 }
 
 /// Refuses each request of a call in turn, until all are granted: it returns out of memory or the
 /// undisturbed answer, and the latter in the end. It says how often it answered out of memory.
-pub fn wants_of<C: Call>(rt: &impl Abort, alloc: Global) -> u32 {
+pub fn wants_of<C: Call>(rt: &impl Abort, alloc: Global, call: &C) -> u32 {
     let mut wants = 0u32;
     for number in 1..1000u64 {
-        let (answer, has_refused) = turn::<C>(alloc, number);
+        let (answer, has_refused) = turn(alloc, call, number);
         same(rt, &(number, answer == Answer::Other), &(number, false));
         if !has_refused {
             same(rt, &(number > 1, answer), &(true, Answer::Undisturbed));
@@ -58,7 +61,9 @@ pub fn wants_of<C: Call>(rt: &impl Abort, alloc: Global) -> u32 {
     panic!(rt; "there are more requests")
 }
 
-/// The same of a call that runs out of memory where one of its requests is refused.
-pub fn each_refused<C: Call>(rt: &impl Abort, alloc: Global) {
-    same(rt, &(wants_of::<C>(rt, alloc) > 0), &true);
+/// The same of calls that run out of memory where one of their requests is refused.
+pub fn each_refused<C: Call>(rt: &impl Abort, alloc: Global, calls: &[C]) {
+    for call in calls {
+        same(rt, &(wants_of(rt, alloc, call) > 0), &true);
+    }
 }
