@@ -6,15 +6,7 @@ use Rattle.bech32_checksum.specs.laws.CodeLaws.{words}
 use Rattle.bech32_checksum.specs.laws.PackedLaws.{keeps}
 use Rattle.bech32_checksum.specs.PackingLaws.{KeepsPackingLaws}
 
--- a generator of degree 8, packed, and its products with 2, 4, 8 and 16
-abbrev pub words_8 : List ℕ
-words_8 = 0xf5dee51989 ∷ 0xa9fdca3312 ∷ 0x1bab10e32d ∷ 0x3706b1677a ∷ 0x644d626ffd ∷ []
-
-pub words_8_keep : KeepsPackingLaws (λ (x : ℕ). x) 12 8 words_8 1
-unfolding product
-words_8_keep = keeps 12 8 words_8 1 refl
-
--- the same of degree 13, that of codex32
+-- a generator of degree 13, that of codex32, packed, and its products with 2, 4, 8 and 16
 abbrev pub words_13 : List ℕ
 words_13 =
     0x19dc500ce73fde210 ∷ 0x1bfae00def77fe529 ∷ 0x1fbd920fffe7bee52
@@ -23,9 +15,6 @@ words_13 =
 pub words_13_keep : KeepsPackingLaws (λ (x : ℕ). x) 25 13 words_13 0x10ce0795c2fd1e62a
 unfolding product
 words_13_keep = keeps 25 13 words_13 0x10ce0795c2fd1e62a refl
-
-abbrev pub code_8 : Code
-code_8 = code_of (λ (x : ℕ). x) 32767 8 words_8 1
 
 abbrev pub code_13 : ℕ → Code
 code_13 code_length = code_of (λ (x : ℕ). x) code_length 13 words_13 0x10ce0795c2fd1e62a

@@ -6,4 +6,4 @@ mod wide;
 
 pub use self::altered::Altered;
 pub use self::tiny::Tiny;
-pub use self::wide::{Degree8, Degree13};
+pub use self::wide::Degree13;

@@ -2,9 +2,10 @@
 
 use crate::tests::compare::same;
 use bech32_checksum::{Bech32, Bech32m};
+use bech32_descriptor::Descriptor;
 use bech32_detect::detects_four;
 use std::alloc::Global;
-use testing_tools::codes::{Degree8, Degree13, Tiny};
+use testing_tools::codes::{Degree13, Tiny};
 
 // BIP-173, Checksum design, of Bech32; Bech32m has the same generator (BIP-350).
 #[test]
@@ -34,7 +35,7 @@ fn not_three_terms(rt: HostRuntime) {
 #[test]
 fn below_the_degree(rt: HostRuntime) {
     let answers = [
-        detects_four::<Degree8>(rt.alloc(), 4).ok(),
+        detects_four::<Descriptor>(rt.alloc(), 4).ok(),
         detects_four::<Degree13<93>>(rt.alloc(), 4).ok(),
     ];
     same(&rt, &answers, &[Some(true); 2]);

@@ -5,15 +5,16 @@ ghost use Rattle.std.specs.Prelude.{length, ◌≤◌};
 use crate::tests::compare::{same, same_items};
 use crate::tests::roots::tested;
 use bech32_checksum::{Bech32, Bech32m, Checksum, Engine, NoChecksum, PackedFe32, PackedNull};
+use bech32_descriptor::Descriptor;
 use bech32_gf::gf32::Fe32;
 use bech32_hrp::Hrp;
 use bech32_poly::polynomial::remainder;
 use std::alloc::Global;
 use std::process::Abort;
-use testing_tools::codes::{Degree8, Degree13};
+use testing_tools::codes::Degree13;
 use testing_tools::known::LOW;
 
-// The same of the generator of degree 8: 9, 12, 6, 10, 14, 15, 23, 30.
+// The same of the generator of descriptors: 9, 12, 6, 10, 14, 15, 23, 30.
 const LOW_8: [Fe32; 8] = [
     Fe32::F,
     Fe32::V,
@@ -164,7 +165,7 @@ fn same_as_long_division(rt: HostRuntime) {
     let found = [
         is_lawful::<Bech32>(&rt, alloc, &LOW),
         is_lawful::<Bech32m>(&rt, alloc, &LOW),
-        is_lawful::<Degree8>(&rt, alloc, &LOW_8),
+        is_lawful::<Descriptor>(&rt, alloc, &LOW_8),
         is_lawful::<Degree13<93>>(&rt, alloc, &LOW_13),
         is_lawful::<NoChecksum>(&rt, alloc, &[]),
     ];

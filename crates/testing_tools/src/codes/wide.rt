@@ -1,83 +1,15 @@
-//! Checksums in wider words than those of the standards.
+//! A checksum in wider words than those of the standards.
 
 ghost use Rattle.std.specs.Prelude.{refl};
 ghost use Rattle.bech32_gf.specs.Fe32.{element};
 ghost use Rattle.bech32_gf_ext.specs.Fe1024.{pair};
-ghost use Rattle.bech32_gf_ext.specs.Fe32768.{triple};
-ghost use Rattle.testing_tools.specs.TestWords.{words_8, words_8_keep, code_8};
 ghost use Rattle.testing_tools.specs.TestWords.{words_13, words_13_keep, code_13};
 ghost use Rattle.bech32_gf_ext.specs.Fe1024 as fe1024;
-ghost use Rattle.bech32_gf_ext.specs.Fe32768 as fe32768;
 ghost use Rattle.bech32_checksum.specs.Roots.{HasLawfulRoots};
 
 use bech32_checksum::Checksum;
 use bech32_gf::gf32::Fe32;
-use bech32_gf_ext::{Fe32Ext, Fe1024, Fe32768};
-
-/// A checksum of degree 8, in a `u64`.
-#[derive(Copy, Clone)]
-pub enum Degree8 {}
-
-impl Checksum for Degree8 {
-    type MidstateRepr = u64;
-
-    type CorrectionField = Fe32768;
-
-    ghost ROOT_GENERATOR = { triple (element 11) (element 8) (element 15) };
-
-    ghost ROOT_EXPONENTS_START = { 1056 };
-
-    ghost ROOT_EXPONENTS_END = { 1058 };
-
-    ghost CODE_LENGTH = { 32767 };
-
-    ghost CHECKSUM_LENGTH = { 8 };
-
-    ghost GENERATOR_SH = { words_8 };
-
-    ghost TARGET_RESIDUE = { 1 };
-
-    ghost code = { code_8 };
-
-    ghost bound = { 3 };
-
-    ghost lawful = { HasLawfulRoots fe32768.ops fe32768.embed
-        code_8 (triple (element 11) (element 8) (element 15)) 1056 1058 };
-
-    const ROOT_GENERATOR: Fe32768 = Fe32Ext {
-        inner: [Fe32::T, Fe32::G, Fe32::_0],
-    };
-
-    const ROOT_EXPONENTS_START: usize = 1056;
-
-    const ROOT_EXPONENTS_END: usize = 1058;
-
-    const CODE_LENGTH: usize = 32767;
-
-    const CHECKSUM_LENGTH: usize = 8;
-
-    const GENERATOR_SH: [u64; 5] = [
-        0x000000f5dee51989,
-        0x000000a9fdca3312,
-        0x0000001bab10e32d,
-        0x0000003706b1677a,
-        0x000000644d626ffd,
-    ];
-
-    const TARGET_RESIDUE: u64 = 1;
-
-    ghost packing_laws = { words_8_keep };
-
-    ghost code_law = { refl };
-
-    ghost degree_law = { refl };
-
-    ghost code_length_law = { refl };
-
-    ghost bound_law = { refl };
-
-    ghost lawful_law = { (λ h. h, λ h. h) };
-}
+use bech32_gf_ext::{Fe32Ext, Fe1024};
 
 /// The checksum of codex32 (BIP-93), of degree 13, in a `u128`, for texts of at most this many
 /// characters.
