@@ -1,12 +1,10 @@
 //! Residues that no mistyped text need leave.
 
-use super::listed::{corrector_of, is_listed_by};
+use super::listed::{bech32_lists, tiny_lists};
 use crate::tests::compare::same;
-use bech32_checksum::Bech32;
 use bech32_gf::gf32::Fe32;
 use bech32_refusals::InvalidResidueError;
 use std::alloc::Global;
-use testing_tools::codes::Tiny;
 use testing_tools::known::times_x;
 
 // The product of the two factors of the generator of Bech32 of which the powers 25 and 26 of the
@@ -35,7 +33,7 @@ fn error_of(residue: u32) -> Option<InvalidResidueError> {
 // Whether Bech32 lists just this for a residue without erasures, or nothing.
 fn is_listed(alloc: Global, residue: u32, want: Option<&[(usize, Fe32)]>) -> bool {
     match error_of(residue) {
-        Some(error) => is_listed_by(corrector_of::<Bech32>(alloc, &error, None), &[], want),
+        Some(error) => bech32_lists(alloc, &error, &[], want),
         None => false,
     }
 }
@@ -96,20 +94,15 @@ fn two_coefficients(rt: HostRuntime) {
     }
 }
 
-// Whether the checksum of degree 1 lists nothing for the residue of an error.
-fn is_unlisted_with(alloc: Global, error: &InvalidResidueError, erasures: &[usize]) -> bool {
-    is_listed_by(corrector_of::<Tiny<1>>(alloc, error, None), erasures, None)
-}
-
 // The residue x + 2 vanishes at the element 2, the one root that serves, and not at the other.
 #[test]
 fn one_root_of_two(rt: HostRuntime) {
     let alloc = rt.alloc();
     // The coefficients 2 and 1 beside the target 1.
     let error = InvalidResidueError::new(&0x23u32, &1u32);
-    same(&rt, &is_unlisted_with(alloc, &error, &[]), &true);
+    same(&rt, &tiny_lists::<1>(alloc, &error, &[], None), &true);
     for place in 0..31usize {
-        let is_unlisted = is_unlisted_with(alloc, &error, &[place]);
+        let is_unlisted = tiny_lists::<1>(alloc, &error, &[place], None);
         same(&rt, &(place, is_unlisted), &(place, true));
     }
 }

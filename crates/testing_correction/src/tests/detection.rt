@@ -7,12 +7,17 @@ use bech32_detect::detects_four;
 use std::alloc::Global;
 use testing_tools::codes::{Degree13, Tiny};
 
+// Whether Bech32m detects four errors in so many characters; `None` where it is out of memory.
+fn by_bech32m(alloc: Global, length: usize) -> Option<bool> {
+    detects_four::<Bech32m>(alloc, length).ok()
+}
+
 // BIP-173, Checksum design, of Bech32; Bech32m has the same generator (BIP-350).
 #[test]
 fn in_texts_of_bech32(rt: HostRuntime) {
     let answers = [
         detects_four::<Bech32>(rt.alloc(), 89).ok(),
-        detects_four::<Bech32m>(rt.alloc(), 89).ok(),
+        by_bech32m(rt.alloc(), 89),
     ];
     same(&rt, &answers, &[Some(true); 2]);
 }
@@ -20,14 +25,19 @@ fn in_texts_of_bech32(rt: HostRuntime) {
 // Powers of x come back to 1 at the order of the roots, so two errors as far apart leave nothing.
 #[test]
 fn not_past_the_order_of_the_roots(rt: HostRuntime) {
-    let answer = detects_four::<Bech32m>(rt.alloc(), 1024).ok();
-    same(&rt, &answer, &Some(false));
+    same(&rt, &by_bech32m(rt.alloc(), 1024), &Some(false));
+}
+
+// The same of a checksum of degree 2.
+fn by_tiny(alloc: Global, length: usize) -> Option<bool> {
+    detects_four::<Tiny<2>>(alloc, length).ok()
 }
 
 // A generator of three terms is a multiple of itself.
 #[test]
 fn not_three_terms(rt: HostRuntime) {
-    let answers = [0, 2, 3].map(|length| detects_four::<Tiny<2>>(rt.alloc(), length).ok());
+    let alloc = rt.alloc();
+    let answers = [by_tiny(alloc, 0), by_tiny(alloc, 2), by_tiny(alloc, 3)];
     same(&rt, &answers, &[Some(true), Some(true), Some(false)]);
 }
 
@@ -46,7 +56,7 @@ fn below_the_degree(rt: HostRuntime) {
 fn first_fault(alloc: Global) -> Option<usize> {
     for i in 0..65usize {
         let length = 16 * i;
-        if detects_four::<Tiny<2>>(alloc, length).ok() != Some(length <= 2) {
+        if by_tiny(alloc, length) != Some(length <= 2) {
             return Some(length);
         }
     }

@@ -12,8 +12,10 @@ struct FourErrors;
 
 impl InHeap for FourErrors {
     fn is_right(&self, _alloc: Global, heap: &LocalHeap) -> Option<bool> {
-        let detects = detects_four_in::<Tiny<2>, _>(heap, 3);
-        detects.ok().map(|detects| !detects)
+        match detects_four_in::<Tiny<2>, _>(heap, 3) {
+            Ok(detects) => Some(!detects),
+            Err(_) => None,
+        }
     }
 }
 

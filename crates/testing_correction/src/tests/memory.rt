@@ -1,10 +1,9 @@
 //! Out of memory.
 
-use super::listed::{Listing, is_found};
-use crate::tests::compare::same;
+use super::listed::{Listing, corrector_for, is_found};
+use crate::tests::compare::holds;
 use bech32_checksum::{Bech32, Checksum};
-use bech32_correction::{CorrectableError, Corrector};
-use bech32_decode::CheckedHrpstring;
+use bech32_correction::Corrector;
 use bech32_gf::gf32::Fe32;
 use linked_list_allocator::LocalHeap;
 use std::alloc::Global;
@@ -24,49 +23,11 @@ fn lists<Ck: Checksum>(
     }
 }
 
-// What finds the errors in a text that a checksum refuses.
-fn corrector_in<'a, Ck: Checksum>(
-    heap: &'a LocalHeap,
-    text: &str,
-) -> Option<Corrector<Ck, &'a LocalHeap>> {
-    if !Ck::sanity_check() {
-        return None;
-    }
-    match CheckedHrpstring::new::<Ck>(text) {
-        Ok(_) => None,
-        Err(error) => error.correction_context::<Ck, _>(heap),
-    }
-}
-
-// Whether just the four errors are listed with two of them as erasures.
-fn lists_with_two(corrector: &mut Corrector<Degree13<93>, &LocalHeap>) -> Option<bool> {
-    if !corrector.are_within(&[44, 0]) {
-        return Some(false);
-    }
-    match corrector.add_erasures(&[44, 0]) {
-        Ok(()) => lists(corrector, Some(&FOUR)),
-        Err(_) => None,
-    }
-}
-
-struct FourErrors;
-
-impl InHeap for FourErrors {
-    fn is_right(&self, _alloc: Global, heap: &LocalHeap) -> Option<bool> {
-        match corrector_in::<Degree13<93>>(heap, FOUR_ERRORS) {
-            Some(mut corrector) => lists_with_two(&mut corrector),
-            None => Some(false),
-        }
-    }
-}
-
-#[test]
-fn a_listing_or_out_of_memory(rt: HostRuntime) {
-    right_or_wants_memory(rt.alloc(), &FourErrors, (64, 16)).expect(&rt, "right, or out of memory");
-}
-
-// Whether a clone lists just this, or nothing.
-fn clone_lists(corrector: &Corrector<Bech32, &LocalHeap>, want: Option<Listing>) -> Option<bool> {
+// The same of a clone.
+fn clone_lists<Ck: Checksum>(
+    corrector: &Corrector<Ck, &LocalHeap>,
+    want: Option<Listing>,
+) -> Option<bool> {
     let copied: Result<_, _> = corrector.clone();
     match copied {
         Ok(copy) => lists(&copy, want),
@@ -74,10 +35,9 @@ fn clone_lists(corrector: &Corrector<Bech32, &LocalHeap>, want: Option<Listing>)
     }
 }
 
-// Whether the corrector with these erasures lists just this, or nothing; there is none where they
-// are too many.
-fn with_lists(
-    corrector: &Corrector<Bech32, &LocalHeap>,
+// The same of another corrector with these erasures; there is none where they are too many.
+fn with_lists<Ck: Checksum>(
+    corrector: &Corrector<Ck, &LocalHeap>,
     erasures: &[usize],
     want: Option<Listing>,
 ) -> Option<bool> {
@@ -88,14 +48,10 @@ fn with_lists(
     }
 }
 
-// Addresses with two and three wrong characters.
-const ADDRESS: &str = "bc1qar0srrr7xfkvy5l64qlydnw9re59gtzzwf5mdx";
-
-const OTHER_ADDRESS: &str = "bc1q9r0srrr7xfkvy5l64qlydnw9re59gtzzwf5mdx";
-
-// Whether a corrector lists just this with these erasures, or nothing, in two ways to give them.
-fn lists_both_ways(
-    corrector: &mut Corrector<Bech32, &LocalHeap>,
+// Whether a corrector lists just this with these erasures, or nothing, in two ways to give them,
+// and its clone does.
+fn lists_each_way<Ck: Checksum>(
+    corrector: &mut Corrector<Ck, &LocalHeap>,
     erasures: &[usize],
     want: Option<Listing>,
 ) -> Option<bool> {
@@ -104,22 +60,52 @@ fn lists_both_ways(
     }
     let is_first = with_lists(corrector, erasures, want)?;
     match corrector.add_erasures(erasures) {
-        Ok(()) => Some(is_first && clone_lists(corrector, want)?),
+        Ok(()) => Some(is_first && lists(corrector, want)? && clone_lists(corrector, want)?),
         Err(_) => None,
     }
 }
 
-// The same for a text that Bech32 refuses.
+// The same of the corrector of a text; not where there is none.
+fn is_listed_by<Ck: Checksum>(
+    found: Option<Corrector<Ck, &LocalHeap>>,
+    erasures: &[usize],
+    want: Option<Listing>,
+) -> Option<bool> {
+    match found {
+        Some(mut corrector) => lists_each_way(&mut corrector, erasures, want),
+        None => Some(false),
+    }
+}
+
+// Just the four errors are listed with two of them as erasures.
+struct FourErrors;
+
+impl InHeap for FourErrors {
+    fn is_right(&self, _alloc: Global, heap: &LocalHeap) -> Option<bool> {
+        let found = corrector_for::<Degree13<93>, &LocalHeap>(heap, FOUR_ERRORS, None);
+        is_listed_by(found, &[44, 0], Some(&FOUR))
+    }
+}
+
+#[test]
+fn a_listing_or_out_of_memory(rt: HostRuntime) {
+    right_or_wants_memory(rt.alloc(), &FourErrors, (64, 16)).expect(&rt, "right, or out of memory");
+}
+
+// Addresses with two and three wrong characters.
+const ADDRESS: &str = "bc1qar0srrr7xfkvy5l64qlydnw9re59gtzzwf5mdx";
+
+const OTHER_ADDRESS: &str = "bc1q9r0srrr7xfkvy5l64qlydnw9re59gtzzwf5mdx";
+
+// Whether Bech32 lists just this for a text that it refuses, or nothing.
 fn is_listed(
     heap: &LocalHeap,
     text: &str,
     erasures: &[usize],
     want: Option<Listing>,
 ) -> Option<bool> {
-    match corrector_in::<Bech32>(heap, text) {
-        Some(mut corrector) => lists_both_ways(&mut corrector, erasures, want),
-        None => Some(false),
-    }
+    let found = corrector_for::<Bech32, &LocalHeap>(heap, text, None);
+    is_listed_by(found, erasures, want)
 }
 
 #[test]
@@ -147,6 +133,8 @@ fn six_coefficients_take_no_memory(rt: HostRuntime) {
             Some(&[(37, Fe32::C), (0, Fe32::X), (20, Fe32::_3)]),
         ),
     ];
-    let listed = rows.map(|(text, erasures, want)| is_listed(&heap, text, erasures, want));
-    same(&rt, &listed, &[Some(true); 11]);
+    for (text, erasures, want) in rows {
+        let is_listed = is_listed(&heap, text, erasures, want);
+        holds(&rt, text, erasures, is_listed == Some(true));
+    }
 }

@@ -1,10 +1,9 @@
 //! All patterns of few errors, as a program of its own lists them by trying each.
 
-use super::listed::Listing;
+use super::listed::{Listing, corrector_for};
 use crate::tests::compare::same;
 use bech32_checksum::{Bech32, Checksum};
-use bech32_correction::{CorrectableError, Corrector};
-use bech32_decode::CheckedHrpstring;
+use bech32_correction::Corrector;
 use bech32_gf::gf32::Fe32;
 use bech32_near::nearest_listings;
 use bech32_near_search::Listings;
@@ -13,39 +12,20 @@ use std::alloc::Global;
 use std::process::Abort;
 use testing_tools::heaps::{InHeap, right_or_wants_memory};
 
-// An address with two wrong characters, and with one more.
-const ADDRESS: &str = "bc1qar0srrr7xfkvy5l64qlydnw9re59gtzzwf5mdx";
-
-const OTHER_ADDRESS: &str = "bc1q9r0srrr7xfkvy5l64qlydnw9re59gtzzwf5mdx";
-
-// What finds the errors below the window in a text that Bech32 refuses.
-fn corrector_in<'a>(
-    heap: &'a LocalHeap,
-    text: &str,
-    window: usize,
-) -> Option<Corrector<Bech32, &'a LocalHeap>> {
-    if !Bech32::sanity_check() || window > Bech32::CODE_LENGTH {
-        return None;
-    }
-    match CheckedHrpstring::new::<Bech32>(text) {
-        Ok(_) => None,
-        Err(error) => error.correction_context_within::<Bech32, _>(heap, window),
-    }
-}
-
 // Whether these are the listings, in their order.
 fn are(listings: &Listings<&LocalHeap>, want: &[Listing]) -> bool {
+    for (listing, want) in listings.iter().zip(want) {
+        if listing.as_slice() != *want {
+            return false;
+        }
+    }
     listings.len() == want.len()
-        && listings
-            .iter()
-            .zip(want)
-            .all(|(listing, want)| listing.as_slice() == *want)
 }
 
 // Whether these are all listings of this many errors outside the erasures of a corrector; `None`
 // where there is too little memory.
-fn are_nearest_of(
-    corrector: &Corrector<Bech32, &LocalHeap>,
+fn are_nearest_of<Ck: Checksum>(
+    corrector: &Corrector<Ck, &LocalHeap>,
     errors: usize,
     want: &[Listing],
 ) -> Option<bool> {
@@ -56,8 +36,8 @@ fn are_nearest_of(
 }
 
 // The same with these erasures, if they are below the window.
-fn are_nearest_with(
-    corrector: &mut Corrector<Bech32, &LocalHeap>,
+fn are_nearest_with<Ck: Checksum>(
+    corrector: &mut Corrector<Ck, &LocalHeap>,
     erasures: &[usize],
     errors: usize,
     want: &[Listing],
@@ -71,36 +51,38 @@ fn are_nearest_with(
     }
 }
 
-// The same of a text that Bech32 refuses.
-fn are_nearest(
-    heap: &LocalHeap,
-    text: &str,
-    window: usize,
+// The same of the corrector of a text; not where there is none.
+fn are_nearest<Ck: Checksum>(
+    found: Option<Corrector<Ck, &LocalHeap>>,
     erasures: &[usize],
     errors: usize,
     want: &[Listing],
 ) -> Option<bool> {
-    match corrector_in(heap, text, window) {
+    match found {
         Some(mut corrector) => are_nearest_with(&mut corrector, erasures, errors, want),
         None => Some(false),
     }
 }
 
-// The same of a short text whose last character is wrong.
-fn says(heap: &LocalHeap, erasures: &[usize], errors: usize, want: &[Listing]) -> Option<bool> {
-    are_nearest(heap, "a12uel5q", 6, erasures, errors, want)
-}
-
-// The same of an address.
-fn says_of(
+// The same of a text that Bech32 refuses, below the window.
+fn says(
     heap: &LocalHeap,
-    text: &str,
+    (text, window): (&str, usize),
     erasures: &[usize],
     errors: usize,
     want: &[Listing],
 ) -> Option<bool> {
-    are_nearest(heap, text, 39, erasures, errors, want)
+    let found = corrector_for::<Bech32, &LocalHeap>(heap, text, Some(window));
+    are_nearest(found, erasures, errors, want)
 }
+
+// A short text whose last character is wrong.
+const SHORT: (&str, usize) = ("a12uel5q", 6);
+
+// An address with two wrong characters, and with one more.
+const ADDRESS: (&str, usize) = ("bc1qar0srrr7xfkvy5l64qlydnw9re59gtzzwf5mdx", 39);
+
+const OTHER_ADDRESS: (&str, usize) = ("bc1q9r0srrr7xfkvy5l64qlydnw9re59gtzzwf5mdx", 39);
 
 #[test]
 fn short_text(rt: HostRuntime) {
@@ -109,12 +91,12 @@ fn short_text(rt: HostRuntime) {
     let erased: Listing = &[(1, Fe32::Q), (2, Fe32::Q), (0, Fe32::L)];
     let all_erased: Listing = &[(0, Fe32::L), (1, Fe32::Q), (2, Fe32::Q)];
     let right = [
-        says(&heap, &[], 0, &[]),
-        says(&heap, &[], 2, &[last]),
-        says(&heap, &[0], 0, &[last]),
-        says(&heap, &[1, 2], 2, &[erased]),
-        says(&heap, &[0, 1, 2], 1, &[all_erased]),
-        says(&heap, &[0, 1, 2, 3], 2, &[]),
+        says(&heap, SHORT, &[], 0, &[]),
+        says(&heap, SHORT, &[], 2, &[last]),
+        says(&heap, SHORT, &[0], 0, &[last]),
+        says(&heap, SHORT, &[1, 2], 2, &[erased]),
+        says(&heap, SHORT, &[0, 1, 2], 1, &[all_erased]),
+        says(&heap, SHORT, &[0, 1, 2, 3], 2, &[]),
     ];
     same(&rt, &right, &[Some(true); 6]);
 }
@@ -128,42 +110,38 @@ fn addresses(rt: HostRuntime) {
     let second: Listing = &[(1, Fe32::J), (38, Fe32::K), (32, Fe32::J), (16, Fe32::N)];
     let third: Listing = &[(1, Fe32::_3), (38, Fe32::D), (35, Fe32::_7), (24, Fe32::_2)];
     let right = [
-        says_of(&heap, ADDRESS, &[], 1, &[]),
-        says_of(&heap, ADDRESS, &[], 2, &[two]),
-        says_of(&heap, ADDRESS, &[1, 38], 2, &[first, second, third]),
-        says_of(&heap, OTHER_ADDRESS, &[], 2, &[]),
-        says_of(&heap, OTHER_ADDRESS, &[37], 2, &[three]),
+        says(&heap, ADDRESS, &[], 1, &[]),
+        says(&heap, ADDRESS, &[], 2, &[two]),
+        says(&heap, ADDRESS, &[1, 38], 2, &[first, second, third]),
+        says(&heap, OTHER_ADDRESS, &[], 2, &[]),
+        says(&heap, OTHER_ADDRESS, &[37], 2, &[three]),
     ];
     same(&rt, &right, &[Some(true); 5]);
 }
 
-struct TwoErrors;
+// Two errors of an address, and two of a short text beside as many erasures.
+#[derive(Drop)]
+enum TwoErrors {
+    Alone,
+    BesideErasures,
+}
 
 impl InHeap for TwoErrors {
     fn is_right(&self, _alloc: Global, heap: &LocalHeap) -> Option<bool> {
         let two: Listing = &[(0, Fe32::X), (20, Fe32::_3)];
-        says_of(heap, ADDRESS, &[], 2, &[two])
+        let erased: Listing = &[(1, Fe32::Q), (2, Fe32::Q), (0, Fe32::L)];
+        match self {
+            TwoErrors::Alone => says(heap, ADDRESS, &[], 2, &[two]),
+            TwoErrors::BesideErasures => says(heap, SHORT, &[1, 2], 2, &[erased]),
+        }
     }
 }
 
 #[test]
 fn listings_or_out_of_memory(rt: HostRuntime) {
-    right_or_wants_memory(rt.alloc(), &TwoErrors, (32, 64)).expect(&rt, "right, or out of memory");
-}
-
-struct TwoErrorsBesideErasures;
-
-impl InHeap for TwoErrorsBesideErasures {
-    fn is_right(&self, _alloc: Global, heap: &LocalHeap) -> Option<bool> {
-        let erased: Listing = &[(1, Fe32::Q), (2, Fe32::Q), (0, Fe32::L)];
-        says(heap, &[1, 2], 2, &[erased])
-    }
-}
-
-#[test]
-fn listings_beside_erasures_or_out_of_memory(rt: HostRuntime) {
-    right_or_wants_memory(rt.alloc(), &TwoErrorsBesideErasures, (80, 64)).expect(
-        &rt,
-        "right, or out of memory",
-    );
+    let alloc = rt.alloc();
+    let alone = right_or_wants_memory(alloc, &TwoErrors::Alone, (32, 64));
+    alone.expect(&rt, "right, or out of memory");
+    let beside = right_or_wants_memory(alloc, &TwoErrors::BesideErasures, (80, 64));
+    beside.expect(&rt, "right, or out of memory");
 }
