@@ -3,7 +3,6 @@
 use crate::callers::in_lower_case;
 use crate::tests::compare::same;
 use bech32::{Fe32, hrp, segwit};
-use std::alloc::Global;
 use std::process::Abort;
 
 // A program of BIP-173 with its addresses in the main network and in the test network.
@@ -39,20 +38,26 @@ fn an_address_in_lower_case(rt: HostRuntime) {
     same(&rt, &again.expect(&rt, "an address").as_str(), &MAIN);
 }
 
-// Fails where an address is not of the main network, of this version and 32 bytes.
-fn has_parts(rt: &impl Abort, alloc: Global, address: &str, version: Fe32) {
-    let (hrp, witness_version, witness_program) = segwit::decode(alloc, address).expect(
-        rt,
-        "an address",
-    );
-    let found = (hrp, witness_version, witness_program.len());
-    same(rt, &found, &(hrp::BC, version, 32));
-}
+// Addresses of the main network with a program of 32 bytes, each with its version.
+const ADDRESSES: [(&str, Fe32); 2] = [
+    (
+        "bc1q2s3rjwvam9dt2ftt4sqxqjf3twav0gdx0k0q2etxflx38c3x8tnssdmnjq",
+        segwit::VERSION_0,
+    ),
+    (
+        "bc1py3m7vwnghyne9gnvcjw82j7gqt2rafgdmlmwmqnn3hvcmdm09rjqcgrtxs",
+        segwit::VERSION_1,
+    ),
+];
 
 #[test]
 fn parts_of_addresses(rt: HostRuntime) {
-    let version_0 = "bc1q2s3rjwvam9dt2ftt4sqxqjf3twav0gdx0k0q2etxflx38c3x8tnssdmnjq";
-    has_parts(&rt, rt.alloc(), version_0, segwit::VERSION_0);
-    let version_1 = "bc1py3m7vwnghyne9gnvcjw82j7gqt2rafgdmlmwmqnn3hvcmdm09rjqcgrtxs";
-    has_parts(&rt, rt.alloc(), version_1, segwit::VERSION_1);
+    for &(address, version) in ADDRESSES.iter() {
+        let (hrp, witness_version, witness_program) = segwit::decode(rt.alloc(), address).expect(
+            &rt,
+            "an address",
+        );
+        let found = (hrp, witness_version, witness_program.len());
+        same(&rt, &found, &(hrp::BC, version, 32));
+    }
 }

@@ -29,10 +29,7 @@ fn the_nearest_string(rt: HostRuntime) {
 fn what_to_propose(rt: HostRuntime) {
     let proposed = proposal(rt.alloc(), DAMAGED).expect(&rt, "damaged");
     same(&rt, &proposed.expect(&rt, "none").as_str(), &TEXT);
-}
-
-#[test]
-fn nothing_to_propose(rt: HostRuntime) {
+    // Nothing where it is a string.
     let proposed = proposal(rt.alloc(), TEXT).expect(&rt, "string");
     same(&rt, &proposed.is_none(), &true);
 }

@@ -1,13 +1,11 @@
 //! Confidential addresses of Liquid.
 
-use crate::tests::compare::{same, same_items};
+use crate::tests::compare::{each_prints, same};
 use bech32::primitives::decode::{CharError, ChecksumError, PaddingError, UncheckedHrpstringError};
 use bech32::primitives::segwit::WitnessLengthError;
-use bech32::{Correction, Fe32, correct};
+use bech32::{Correction, Fe32, Mended, correct};
 use liquid::{Blech32, DecodeError, EncodeError, KEY_LENGTH, decode, encode};
 use std::alloc::Global;
-use std::fmt::Display;
-use std::process::Abort;
 
 // An address, its blinding key, and its program.
 const ADDRESS: &str =
@@ -18,29 +16,23 @@ const PROGRAM: [u8; 20] = [
     0x21, 0x77, 0xa1, 0x75,
 ];
 
-// Fails where the value prints another text.
-fn prints<T: Display>(rt: &impl Abort, alloc: Global, value: &T, want: &str) {
-    let shown = format!(in alloc; "{value}").expect(rt, "memory");
-    same(rt, &shown.as_str(), &want);
-}
-
 #[test]
 fn an_address_both_ways(rt: HostRuntime) {
     let address = decode(ADDRESS).expect(&rt, "an address");
-    same(&rt, &address.hrp().as_str(), &"lq");
-    same(&rt, &address.witness_version(), &Fe32::Q);
-    same_items(&rt, address.program(), &PROGRAM);
+    let hrp = address.hrp();
+    let found = (hrp.as_str(), address.witness_version(), address.program());
+    same(&rt, &found, &("lq", Fe32::Q, PROGRAM.as_slice()));
     let mut key = [0u8; 33];
     same(&rt, &address.blinding_key().len(), &KEY_LENGTH);
     key.copy_from_slice(address.blinding_key());
-    let text = encode(rt.alloc(), address.hrp(), Fe32::Q, &key, &PROGRAM).expect(&rt, "memory");
+    let text = encode(rt.alloc(), hrp, Fe32::Q, &key, &PROGRAM).expect(&rt, "memory");
     same(&rt, &text.as_str(), &ADDRESS);
 }
 
 // How Blech32 corrects a text.
-fn corrected(alloc: Global, text: &str) -> Option<String> {
+fn corrected(alloc: Global, text: &str) -> Option<Mended> {
     match correct::<Blech32>(alloc, text, &[]) {
-        Ok(Correction::Mended(mended)) => Some(mended.text),
+        Ok(Correction::Mended(mended)) => Some(mended),
         _ => None,
     }
 }
@@ -49,56 +41,59 @@ fn corrected(alloc: Global, text: &str) -> Option<String> {
 fn an_address_mended(rt: HostRuntime) {
     let mistyped =
         "lq1qqf8er278e6nyvuwtgf39e6ewvdcnjupn9a86rzpx655y5lhkt0wajuqdjf9cklkxd3ryld97hu8h3xepw7sh2rlu7q45dcewq";
-    let text = corrected(rt.alloc(), mistyped).expect(&rt, "a correction");
-    same(&rt, &text.as_str(), &ADDRESS);
+    let mended = corrected(rt.alloc(), mistyped).expect(&rt, "a correction");
+    same(&rt, &mended.text.as_str(), &ADDRESS);
 }
+
+// What is wrong with a text, and how it is told.
+const NOT_DECODED: [(DecodeError, &str); 8] = [
+    (
+        DecodeError::Unchecked(UncheckedHrpstringError::Char(CharError::MissingSeparator)),
+        "character error: missing human-readable separator, \"1\"",
+    ),
+    (DecodeError::NoData, "no witness version"),
+    (
+        DecodeError::InvalidWitnessVersion(Fe32::_3),
+        "invalid witness version: 17",
+    ),
+    (
+        DecodeError::UnsupportedVersion(Fe32::P),
+        "witness version not supported: 1",
+    ),
+    (
+        DecodeError::Checksum(ChecksumError::InvalidLength),
+        "the checksummed string is not a valid length",
+    ),
+    (
+        DecodeError::Padding(PaddingError::TooMuch),
+        "the data payload has too many bits of padding",
+    ),
+    (DecodeError::NoBlindingKey, "no blinding key"),
+    (
+        DecodeError::WitnessLength(WitnessLengthError::TooShort),
+        "witness program is less than 2 bytes long",
+    ),
+];
+
+// The same of what an address is to be made of.
+const NOT_ENCODED: [(EncodeError, &str); 4] = [
+    (
+        EncodeError::WitnessVersion(Fe32::_3),
+        "invalid witness version: 17",
+    ),
+    (
+        EncodeError::UnsupportedVersion(Fe32::P),
+        "witness version not supported: 1",
+    ),
+    (
+        EncodeError::WitnessLength(WitnessLengthError::TooShort),
+        "witness program is less than 2 bytes long",
+    ),
+    (EncodeError::Memory, "out of memory"),
+];
 
 #[test]
 fn what_is_wrong_with_an_address(rt: HostRuntime) {
-    let alloc = rt.alloc();
-    let message = "character error: missing human-readable separator, \"1\"";
-    let missing = UncheckedHrpstringError::Char(CharError::MissingSeparator);
-    prints(&rt, alloc, &DecodeError::Unchecked(missing), message);
-    prints(&rt, alloc, &DecodeError::NoData, "no witness version");
-    let message = "invalid witness version: 17";
-    prints(
-        &rt,
-        alloc,
-        &DecodeError::InvalidWitnessVersion(Fe32::_3),
-        message,
-    );
-    prints(&rt, alloc, &EncodeError::WitnessVersion(Fe32::_3), message);
-    let message = "witness version not supported: 1";
-    prints(
-        &rt,
-        alloc,
-        &DecodeError::UnsupportedVersion(Fe32::P),
-        message,
-    );
-    prints(
-        &rt,
-        alloc,
-        &EncodeError::UnsupportedVersion(Fe32::P),
-        message,
-    );
-    let message = "the checksummed string is not a valid length";
-    prints(
-        &rt,
-        alloc,
-        &DecodeError::Checksum(ChecksumError::InvalidLength),
-        message,
-    );
-    let message = "the data payload has too many bits of padding";
-    prints(
-        &rt,
-        alloc,
-        &DecodeError::Padding(PaddingError::TooMuch),
-        message,
-    );
-    prints(&rt, alloc, &DecodeError::NoBlindingKey, "no blinding key");
-    let message = "witness program is less than 2 bytes long";
-    let length = WitnessLengthError::TooShort;
-    prints(&rt, alloc, &DecodeError::WitnessLength(length), message);
-    prints(&rt, alloc, &EncodeError::WitnessLength(length), message);
-    prints(&rt, alloc, &EncodeError::Memory, "out of memory");
+    each_prints(&rt, rt.alloc(), &NOT_DECODED);
+    each_prints(&rt, rt.alloc(), &NOT_ENCODED);
 }

@@ -1,8 +1,10 @@
 //! Encoding and decoding, and texts of a stated checksum.
 
 use crate::tests::compare::{same, same_items};
-use bech32::primitives::decode::{CheckedHrpstring, SegwitHrpstring};
-use bech32::{Bech32, Bech32m, Hrp, NoChecksum, decode, encode, encode_to_fmt, hrp, segwit};
+use bech32::primitives::decode::{CheckedHrpstring, SegwitHrpstring, UncheckedHrpstring};
+use bech32::{
+    Bech32, Bech32m, Checksum, Hrp, NoChecksum, decode, encode, encode_to_fmt, hrp, segwit,
+};
 use std::alloc::Global;
 use std::process::Abort;
 
@@ -21,20 +23,6 @@ fn abc(rt: &impl Abort) -> Hrp {
 fn encoding(rt: HostRuntime) {
     let string = encode::<Bech32m>(rt.alloc(), abc(&rt), &DATA);
     same(&rt, &string.expect(&rt, "text").as_str(), &STRING);
-}
-
-#[test]
-fn encoding_addresses(rt: HostRuntime) {
-    let taproot_address = segwit::encode(rt.alloc(), hrp::BC, segwit::VERSION_1, &DATA);
-    same(
-        &rt,
-        &taproot_address.expect(&rt, "address").as_str(),
-        &TAP_ADDR,
-    );
-}
-
-#[test]
-fn encoding_to_fmt(rt: HostRuntime) {
     let mut buf = String::new(rt.alloc());
     let outcome = encode_to_fmt::<Bech32m, String>(&mut buf, abc(&rt), &DATA);
     same(&rt, &(outcome, buf.as_str()), &(Ok(()), STRING));
@@ -43,26 +31,23 @@ fn encoding_to_fmt(rt: HostRuntime) {
 #[test]
 fn decoding(rt: HostRuntime) {
     let p = CheckedHrpstring::new::<Bech32m>(STRING).expect(&rt, "text");
+    let of_reader: Vec<u8> = p.byte_iter().collect(rt.alloc()).expect(&rt, "memory");
+    same_items(&rt, of_reader.as_slice(), DATA.as_slice());
     let (hrp, data) = decode(rt.alloc(), STRING).expect(&rt, "text");
     same_items(&rt, &[hrp, p.hrp()], &[abc(&rt); 2]);
     same_items(&rt, data.as_slice(), DATA.as_slice());
 }
 
 #[test]
-fn decoding_addresses(rt: HostRuntime) {
+fn encoding_and_decoding_addresses(rt: HostRuntime) {
+    let taproot_address = segwit::encode(rt.alloc(), hrp::BC, segwit::VERSION_1, &DATA);
+    same(
+        &rt,
+        &taproot_address.expect(&rt, "address").as_str(),
+        &TAP_ADDR,
+    );
     let (_hrp, _version, program) = segwit::decode(rt.alloc(), TAP_ADDR).expect(&rt, "address");
     same_items(&rt, program.as_slice(), DATA.as_slice());
-}
-
-#[test]
-fn reading(rt: HostRuntime) {
-    let p = CheckedHrpstring::new::<Bech32m>(STRING).expect(&rt, "text");
-    let of_reader: Vec<u8> = p.byte_iter().collect(rt.alloc()).expect(&rt, "memory");
-    same_items(&rt, of_reader.as_slice(), DATA.as_slice());
-}
-
-#[test]
-fn reading_addresses(rt: HostRuntime) {
     let taproot = SegwitHrpstring::new(TAP_ADDR).expect(&rt, "address");
     let of_address: Vec<u8> = taproot
         .byte_iter()
@@ -71,25 +56,53 @@ fn reading_addresses(rt: HostRuntime) {
     same_items(&rt, of_address.as_slice(), DATA.as_slice());
 }
 
-// Which checksums accept a text: Bech32m or Bech32, Bech32, Bech32m, none.
-fn accepted(alloc: Global, text: &str) -> [bool; 4] {
+// Whether a checksum accepts a text.
+fn is_accepted_by<Ck: Checksum>(text: &str) -> bool {
+    CheckedHrpstring::new::<Ck>(text).is_ok()
+}
+
+// Whether the characters of a text may stand so, and who accepts it: `decode`, for which Bech32m or
+// Bech32 has to; Bech32; Bech32m; the absence of a checksum; the reader of addresses.
+fn accepted(alloc: Global, text: &str) -> [bool; 6] {
     [
+        UncheckedHrpstring::new(text).is_ok(),
         decode(alloc, text).is_ok(),
-        CheckedHrpstring::new::<Bech32>(text).is_ok(),
-        CheckedHrpstring::new::<Bech32m>(text).is_ok(),
-        CheckedHrpstring::new::<NoChecksum>(text).is_ok(),
+        is_accepted_by::<Bech32>(text),
+        is_accepted_by::<Bech32m>(text),
+        is_accepted_by::<NoChecksum>(text),
+        SegwitHrpstring::new(text).is_ok(),
     ]
 }
 
+// A text by Bech32, one by Bech32m, and one without a checksum; one whose checksum is wrong, one by
+// Bech32 with other data, and an address.
+const TEXTS: &[(&str, [bool; 6])] = &[
+    (
+        "abc14w46h2at4w46h2at4w46h2at4w46h2atsghld7",
+        [true, true, true, false, true, false],
+    ),
+    (STRING, [true, true, false, true, true, false]),
+    (
+        "abc14w46h2at4w46h2at4w46h2at4w46h2at",
+        [true, false, false, false, true, false],
+    ),
+    (
+        "abcd143hj65vxw49rts6kcw35u6r6tgzguyr03vvveeewjqpn05efzq444444",
+        [true, false, false, false, true, false],
+    ),
+    (
+        "abcd14g08d6qejxtdg4y5r3zarvary0c5xw7kxugcx9",
+        [true, true, true, false, true, false],
+    ),
+    (
+        "bc1pdp43hj65vxw49rts6kcw35u6r6tgzguyr03vvveeewjqpn05efzq7un9w0",
+        [true, true, false, true, true, true],
+    ),
+];
+
 #[test]
-fn a_stated_checksum(rt: HostRuntime) {
-    let bech32 = "abc14w46h2at4w46h2at4w46h2at4w46h2atsghld7";
-    let no_checksum = "abc14w46h2at4w46h2at4w46h2at4w46h2at";
-    for (text, want) in [
-        (bech32, [true, true, false, true]),
-        (STRING, [true, false, true, true]),
-        (no_checksum, [false, false, false, true]),
-    ] {
+fn what_accepts_each_text(rt: HostRuntime) {
+    for &(text, want) in TEXTS {
         same(&rt, &(text, accepted(rt.alloc(), text)), &(text, want));
     }
 }

@@ -24,9 +24,9 @@ fn human_readable_parts(rt: HostRuntime) {
 fn refused_parts(rt: HostRuntime) {
     let refusals = ["", "a b", "aB"].map(|text| Hrp::parse(text).err());
     let want = [
-        Error::Empty,
-        Error::InvalidAsciiByte(0x20),
-        Error::MixedCase,
+        Some(Error::Empty),
+        Some(Error::InvalidAsciiByte(0x20)),
+        Some(Error::MixedCase),
     ];
-    same(&rt, &refusals, &want.map(|error| Some(error)));
+    same(&rt, &refusals, &want);
 }

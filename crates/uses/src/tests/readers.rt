@@ -4,38 +4,7 @@ use crate::tests::compare::{same, same_items};
 use bech32::hrp::BC;
 use bech32::primitives::decode::{CheckedHrpstring, SegwitHrpstring, UncheckedHrpstring};
 use bech32::segwit::VERSION_1;
-use bech32::{Bech32, Bech32m, Fe32};
-
-// Whether the characters of a text may stand so, and whether Bech32, Bech32m, and the reader of
-// addresses accept it.
-fn accepted(text: &str) -> [bool; 4] {
-    [
-        UncheckedHrpstring::new(text).is_ok(),
-        CheckedHrpstring::new::<Bech32>(text).is_ok(),
-        CheckedHrpstring::new::<Bech32m>(text).is_ok(),
-        SegwitHrpstring::new(text).is_ok(),
-    ]
-}
-
-#[test]
-fn what_each_reader_tests(rt: HostRuntime) {
-    for (text, want) in [
-        (
-            "abcd143hj65vxw49rts6kcw35u6r6tgzguyr03vvveeewjqpn05efzq444444",
-            [true, false, false, false],
-        ),
-        (
-            "abcd14g08d6qejxtdg4y5r3zarvary0c5xw7kxugcx9",
-            [true, true, false, false],
-        ),
-        (
-            "bc1pdp43hj65vxw49rts6kcw35u6r6tgzguyr03vvveeewjqpn05efzq7un9w0",
-            [true, false, true, true],
-        ),
-    ] {
-        same(&rt, &(text, accepted(text)), &(text, want));
-    }
-}
+use bech32::{Bech32, Fe32};
 
 #[test]
 fn parts_of_an_address(rt: HostRuntime) {
