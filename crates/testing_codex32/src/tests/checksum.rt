@@ -2,13 +2,16 @@
 
 ghost use Rattle.std.specs.Prelude.{IsTrue};
 
-use crate::tests::compare::{same, same_items};
+use crate::tests::compare::same;
 use bech32_checksum::Checksum;
-use bech32_correction::{CorrectableError, Correction, Corrector, ErrorIterator, correct};
+use bech32_correction::{
+    CorrectError, CorrectableError, Correction, Corrector, ErrorIterator, Mended, correct,
+};
 use bech32_decode::CheckedHrpstring;
 use bech32_gf::gf32::Fe32;
 use codex32::Codex32;
 use std::alloc::Global;
+use std::process::Abort;
 use testing_tools::codes::Degree13;
 use testing_tools::known::{EIGHT, EIGHT_ERRORS, FOUR, FOUR_ERRORS};
 
@@ -26,157 +29,136 @@ fn codex32_is_sane() -> bool
 // For longer texts its roots do not serve.
 #[test]
 fn lawful_roots(rt: HostRuntime) {
-    same_items(
-        &rt,
-        &[codex32_is_sane(), Degree13::<94>::sanity_check()],
-        &[true, false],
-    );
-    same(&rt, &CheckedHrpstring::new::<Codex32>(TEXT).is_ok(), &true);
+    let sane = [codex32_is_sane(), Degree13::<94>::sanity_check()];
+    let is_accepted = CheckedHrpstring::new::<Codex32>(TEXT).is_ok();
+    same(&rt, &(sane, is_accepted), &([true, false], true));
 }
+
+// Locations with the values to add there.
+type Listing<'a> = &'a [(usize, Fe32)];
 
 // Whether the erasures are below the window, and there was memory for them.
-fn is_given(corrector: &mut Corrector<Codex32>, erasures: &[usize]) -> bool {
-    if !corrector.are_within(erasures) {
-        return false;
+fn is_given<Ck: Checksum>(corrector: &mut Corrector<Ck>, erasures: &[usize]) -> bool {
+    if corrector.are_within(erasures) {
+        corrector.add_erasures(erasures).is_ok()
+    } else {
+        false
     }
-    corrector.add_erasures(erasures).is_ok()
 }
 
-// Whether this error comes next.
-fn is_next(errors: &mut ErrorIterator, want: &(usize, Fe32)) -> bool {
-    errors.next() == Some(*want)
-}
-
-// Whether just these errors are left.
-fn gives(errors: &mut ErrorIterator, want: &[(usize, Fe32)]) -> bool {
-    for error in want.iter() {
-        if !is_next(errors, error) {
-            return false;
-        }
+// Whether the errors are just these.
+fn gives(errors: ErrorIterator, want: Listing) -> bool {
+    let mut errors = errors;
+    let mut is_same = true;
+    for error in want {
+        is_same = errors.next() == Some(*error) && is_same;
     }
-    errors.next().is_none()
+    errors.next().is_none() && is_same
 }
 
-// Whether just these errors are listed.
-fn lists(corrector: &Corrector<Codex32>, want: &[(usize, Fe32)]) -> bool {
+// Whether just these errors were found, or nothing.
+fn is_found(found: Option<ErrorIterator>, want: Option<Listing>) -> bool {
+    let Some(errors) = found else {
+        return want.is_none();
+    };
+    match want {
+        Some(want) => gives(errors, want),
+        None => false,
+    }
+}
+
+// Whether just these errors are listed, or nothing is; not where memory runs out.
+fn lists<Ck: Checksum>(corrector: &Corrector<Ck>, want: Option<Listing>) -> bool {
     match corrector.bch_errors() {
-        Ok(Some(mut errors)) => gives(&mut errors, want),
-        _ => false,
-    }
-}
-
-// Whether there is memory, and nothing is listed.
-fn lists_nothing(corrector: &Corrector<Codex32>) -> bool {
-    match corrector.bch_errors() {
-        Ok(answer) => answer.is_none(),
+        Ok(found) => is_found(found, want),
         Err(_) => false,
     }
 }
 
 // What finds the errors in a text that the checksum refuses.
-fn corrector_of(alloc: Global, text: &str) -> Option<Corrector<Codex32>> {
-    if !Codex32::sanity_check() {
+fn corrector_of<Ck: Checksum>(alloc: Global, text: &str) -> Option<Corrector<Ck>> {
+    if !Ck::sanity_check() {
         return None;
     }
-    match CheckedHrpstring::new::<Codex32>(text) {
+    match CheckedHrpstring::new::<Ck>(text) {
         Ok(_) => None,
-        Err(error) => error.correction_context::<Codex32, Global>(alloc),
+        Err(error) => error.correction_context::<Ck, Global>(alloc),
     }
 }
 
 // The bound of a corrector, and its window.
-fn bounds_of(corrector: &Corrector<Codex32>) -> (usize, usize) {
+fn bounds_of<Ck: Checksum>(corrector: &Corrector<Ck>) -> (usize, usize) {
     (corrector.singleton_bound(), corrector.window())
 }
 
-// Those of the corrector of a text.
-fn bounds_for(alloc: Global, text: &str) -> Option<(usize, usize)> {
-    match corrector_of(alloc, text) {
+// Those of a corrector that may be there.
+fn bounds_by<Ck: Checksum>(found: Option<Corrector<Ck>>) -> Option<(usize, usize)> {
+    match found {
         Some(corrector) => Some(bounds_of(&corrector)),
         None => None,
     }
 }
 
-// BIP-93, Error correction: four errors, or eight erasures; a code of 93 characters.
-#[test]
-fn bounds(rt: HostRuntime) {
-    same(&rt, &bounds_for(rt.alloc(), FOUR_ERRORS), &Some((8, 93)));
-}
-
 // Whether just these errors are listed with some erasures, or nothing is.
-fn lists_with(
-    corrector: &mut Corrector<Codex32>,
+fn lists_with<Ck: Checksum>(
+    corrector: &mut Corrector<Ck>,
     erasures: &[usize],
-    want: Option<&[(usize, Fe32)]>,
+    want: Option<Listing>,
 ) -> bool {
-    if !is_given(corrector, erasures) {
-        return false;
-    }
-    match want {
-        Some(want) => lists(corrector, want),
-        None => lists_nothing(corrector),
-    }
+    is_given(corrector, erasures) && lists(corrector, want)
 }
 
-// The same for a text that the checksum refuses.
-fn is_listed(
-    alloc: Global,
-    text: &str,
+// The same of a corrector that may be there.
+fn is_listed_by<Ck: Checksum>(
+    found: Option<Corrector<Ck>>,
     erasures: &[usize],
-    want: Option<&[(usize, Fe32)]>,
+    want: Option<Listing>,
 ) -> bool {
-    match corrector_of(alloc, text) {
+    match found {
         Some(mut corrector) => lists_with(&mut corrector, erasures, want),
         None => false,
     }
 }
 
+// The same of a text that the checksum refuses.
+fn is_listed(alloc: Global, text: &str, erasures: &[usize], want: Option<Listing>) -> bool {
+    is_listed_by(corrector_of::<Codex32>(alloc, text), erasures, want)
+}
+
+const LAST_EIGHT: &[usize] = &[0, 1, 2, 3, 4, 5, 6, 7];
+
+const LAST_NINE: &[usize] = &[0, 1, 2, 3, 4, 5, 6, 7, 8];
+
+// BIP-93, Error correction: four errors, or eight erasures; a code of 93 characters.
 #[test]
-fn four_errors(rt: HostRuntime) {
+fn listed_errors(rt: HostRuntime) {
+    let bounds = bounds_by(corrector_of::<Codex32>(rt.alloc(), FOUR_ERRORS));
+    same(&rt, &bounds, &Some((8, 93)));
     let [zero, w, x, last] = FOUR;
     let listed = [
         is_listed(rt.alloc(), FOUR_ERRORS, &[], Some(&[w, zero, x, last])),
         is_listed(rt.alloc(), FOUR_ERRORS, &[44, 0], Some(&FOUR)),
+        is_listed(rt.alloc(), EIGHT_ERRORS, LAST_EIGHT, Some(&EIGHT)),
+        is_listed(rt.alloc(), EIGHT_ERRORS, LAST_NINE, None),
     ];
-    same(&rt, &listed, &[true; 2]);
-}
-
-// The last places of a text.
-fn last_eight() -> [usize; 8] {
-    [0, 1, 2, 3, 4, 5, 6, 7]
-}
-
-fn last_nine() -> [usize; 9] {
-    [0, 1, 2, 3, 4, 5, 6, 7, 8]
-}
-
-#[test]
-fn eight_erasures(rt: HostRuntime) {
-    let listed = [
-        is_listed(rt.alloc(), EIGHT_ERRORS, &last_eight(), Some(&EIGHT)),
-        is_listed(rt.alloc(), EIGHT_ERRORS, &last_nine(), None),
-    ];
-    same(&rt, &listed, &[true; 2]);
+    same(&rt, &listed, &[true; 4]);
 }
 
 // The text with an element added at a location.
-fn altered(location: usize, value: Fe32) -> Option<[u8; 48]> {
+fn altered(rt: &impl Abort, location: usize, value: Fe32) -> [u8; 48] {
     let mut bytes = *BYTES;
-    let byte = bytes.get_mut(47usize.checked_sub(location)?)?;
-    let right = Fe32::from_char(char::from(*byte)).ok()?;
+    let place = 47usize.checked_sub(location).expect(rt, "a location");
+    let byte = bytes.get_mut(place).expect(rt, "a character");
+    let right = Fe32::from_char(char::from(*byte)).expect(rt, "an element");
     *byte = (right + value).to_char() as u8;
-    Some(bytes)
+    bytes
 }
 
 // Whether just this is listed for the text with an element added at a location.
-fn is_single_error_listed(alloc: Global, location: usize, value: Fe32) -> bool {
-    let Some(bytes) = altered(location, value) else {
-        return false;
-    };
-    match str::from_utf8(&bytes) {
-        Ok(text) => is_listed(alloc, text, &[], Some(&[(location, value)])),
-        Err(_) => false,
-    }
+fn is_single_error_listed(rt: &impl Abort, alloc: Global, location: usize, value: Fe32) -> bool {
+    let bytes = altered(rt, location, value);
+    let text = str::from_utf8(&bytes).expect(rt, "a text");
+    is_listed(alloc, text, &[], Some(&[(location, value)]))
 }
 
 #[test]
@@ -185,7 +167,7 @@ fn each_single_error(rt: HostRuntime) {
     for location in 0..45usize {
         for value in Fe32::iter_alpha() {
             if value != Fe32::Q {
-                let is_listed = is_single_error_listed(rt.alloc(), location, value);
+                let is_listed = is_single_error_listed(&rt, rt.alloc(), location, value);
                 same(&rt, &(location, value, is_listed), &(location, value, true));
                 count = count.saturating_add(1);
             }
@@ -194,23 +176,29 @@ fn each_single_error(rt: HostRuntime) {
     same(&rt, &count, &1395);
 }
 
-// Whether the checksum corrects a text to this one.
-fn is_corrected(alloc: Global, text: &str, erasures: &[usize], want: &str) -> bool {
-    match correct::<Codex32>(alloc, text, erasures) {
+// Whether a text was mended to this one.
+fn mends<C>(said: &Result<Correction<Mended, C>, CorrectError>, want: &str) -> bool {
+    match said {
         Ok(Correction::Mended(mended)) => mended.text.as_str() == want,
-        Ok(Correction::Accepted) => false,
-        Ok(Correction::Unexplained(_)) => false,
-        Err(_) => false,
+        _ => false,
     }
 }
 
+const CORRECTED: &[(&str, &[usize], bool)] = &[
+    (FOUR_ERRORS, &[], true),
+    (FOUR_ERRORS, &[44, 0], true),
+    (EIGHT_ERRORS, LAST_EIGHT, true),
+    (EIGHT_ERRORS, LAST_NINE, false),
+];
+
 #[test]
 fn texts_corrected_by_one_call(rt: HostRuntime) {
-    let corrected = [
-        is_corrected(rt.alloc(), FOUR_ERRORS, &[], TEXT),
-        is_corrected(rt.alloc(), FOUR_ERRORS, &[44, 0], TEXT),
-        is_corrected(rt.alloc(), EIGHT_ERRORS, &last_eight(), TEXT),
-        is_corrected(rt.alloc(), EIGHT_ERRORS, &last_nine(), TEXT),
-    ];
-    same_items(&rt, &corrected, &[true, true, true, false]);
+    for &(text, erasures, want) in CORRECTED {
+        let is_corrected = mends(&correct::<Codex32>(rt.alloc(), text, erasures), TEXT);
+        same(
+            &rt,
+            &(text, erasures, is_corrected),
+            &(text, erasures, want),
+        );
+    }
 }

@@ -2,7 +2,8 @@
 
 use crate::tests::compare::same;
 use bech32_hrp::Error as HrpError;
-use bech32_refusals::{CharError, UncheckedHrpstringError};
+use bech32_refusals::CharError::{InvalidChar, MissingSeparator, MixedCase};
+use bech32_refusals::UncheckedHrpstringError::{self, Char, Hrp};
 use codex32::{Codex32Error, propose_in, validate_damaged};
 use linked_list_allocator::LocalHeap;
 use std::alloc::Global;
@@ -16,91 +17,77 @@ fn refusal(alloc: Global, text: &str) -> Option<Codex32Error> {
     }
 }
 
-// Fails where a text is not refused so, by both calls.
-fn refuses(rt: &impl Abort, alloc: Global, text: &str, want: Codex32Error) {
+// Fails where a text has another fault by either call. One without a fault is refused by the second
+// all the same: memory runs out.
+fn has_fault(rt: &impl Abort, alloc: Global, text: &str, fault: Option<Codex32Error>) {
     let refusals = (validate_damaged(text).err(), refusal(alloc, text));
-    same(rt, &(text, refusals), &(text, (Some(want), Some(want))));
+    let without_memory = fault.unwrap_or(Codex32Error::Memory);
+    same(
+        rt,
+        &(text, refusals),
+        &(text, (fault, Some(without_memory))),
+    );
 }
 
-// Fails where a text is not refused for a character so.
-fn refuses_character(rt: &impl Abort, alloc: Global, text: &str, error: CharError) {
-    let refusal = UncheckedHrpstringError::Char(error);
-    refuses(rt, alloc, text, Codex32Error::Text(refusal));
-}
-
-// Fails where a text is not refused for its human-readable part so.
-fn refuses_part(rt: &impl Abort, alloc: Global, text: &str, error: HrpError) {
-    let refusal = UncheckedHrpstringError::Hrp(error);
-    refuses(rt, alloc, text, Codex32Error::Text(refusal));
-}
+// Where there is no `1`, a `?` is a character as others are.
+const OUTSIDE_THE_GRAMMAR: &[(&str, UncheckedHrpstringError)] = &[
+    ("ms1?b", Char(InvalidChar('b'))),
+    ("ms1b?i?", Char(InvalidChar('i'))),
+    ("Ms1?\u{e9}q", Char(InvalidChar('\u{e9}'))),
+    (
+        "ms10testsxxxxxxxxxxxxxxxxxxxxxxxxxx4nzvca9cmczlb",
+        Char(InvalidChar('b')),
+    ),
+    ("ms?q", Char(InvalidChar('?'))),
+    ("ms?b", Char(InvalidChar('b'))),
+    ("Ms1?", Char(MixedCase)),
+    ("ms1?Q", Char(MixedCase)),
+    ("Msq", Char(MixedCase)),
+    ("msq", Char(MissingSeparator)),
+    ("", Char(MissingSeparator)),
+    ("1?qqqqq", Hrp(HrpError::Empty)),
+    ("\u{e9}1?qqqqq", Hrp(HrpError::NonAsciiChar('\u{e9}'))),
+    (" 1?qqqqq", Hrp(HrpError::InvalidAsciiByte(b' '))),
+    (
+        "aaaaaaaaaaaaaaaaaaaaaaaaaaaaaaaaaaaaaaaaaaaaaaaaaaaaaaaaaaaaaaaaaaaaaaaaaaaaaaaaaaaa1?",
+        Hrp(HrpError::TooLong(84)),
+    ),
+];
 
 #[test]
 fn characters_of_damaged_texts(rt: HostRuntime) {
-    let alloc = rt.alloc();
-    refuses_character(&rt, alloc, "ms1?b", CharError::InvalidChar('b'));
-    refuses_character(&rt, alloc, "ms1b?i?", CharError::InvalidChar('i'));
-    refuses_character(&rt, alloc, "Ms1?\u{e9}q", CharError::InvalidChar('\u{e9}'));
-    let text = "ms10testsxxxxxxxxxxxxxxxxxxxxxxxxxx4nzvca9cmczlb";
-    refuses_character(&rt, alloc, text, CharError::InvalidChar('b'));
-    // Where there is no `1`, a `?` is a character as others are.
-    refuses_character(&rt, alloc, "ms?q", CharError::InvalidChar('?'));
-    refuses_character(&rt, alloc, "ms?b", CharError::InvalidChar('b'));
-    refuses_character(&rt, alloc, "Ms1?", CharError::MixedCase);
-    refuses_character(&rt, alloc, "ms1?Q", CharError::MixedCase);
-    refuses_character(&rt, alloc, "Msq", CharError::MixedCase);
-    refuses_character(&rt, alloc, "msq", CharError::MissingSeparator);
-    refuses_character(&rt, alloc, "", CharError::MissingSeparator);
+    for &(text, error) in OUTSIDE_THE_GRAMMAR {
+        has_fault(&rt, rt.alloc(), text, Some(Codex32Error::Text(error)));
+    }
 }
 
-#[test]
-fn parts_of_damaged_texts(rt: HostRuntime) {
-    let alloc = rt.alloc();
-    refuses_part(&rt, alloc, "1?qqqqq", HrpError::Empty);
-    refuses_part(
-        &rt,
-        alloc,
-        "\u{e9}1?qqqqq",
-        HrpError::NonAsciiChar('\u{e9}'),
-    );
-    refuses_part(&rt, alloc, " 1?qqqqq", HrpError::InvalidAsciiByte(b' '));
-    let text =
-        "aaaaaaaaaaaaaaaaaaaaaaaaaaaaaaaaaaaaaaaaaaaaaaaaaaaaaaaaaaaaaaaaaaaaaaaaaaaaaaaaaaaa1?";
-    refuses_part(&rt, alloc, text, HrpError::TooLong(84));
-}
+// The third has 94 characters, and a part that is another besides. The last three have no fault.
+const OUTLINES: [(&str, Option<Codex32Error>); 8] = [
+    ("ms1?", Some(Codex32Error::Length)),
+    (
+        "ms10testsxxxxxxxxxxxxxxxxxxxxxxxxxx4nzvca9cmcz?",
+        Some(Codex32Error::Length),
+    ),
+    (
+        "mt10testsxxxxxxxxxxxxxxxxxxxxxxxxxx4nzvca9cmczlwqqqqqqqqqqqqqqqqqqqqqqqqqqqqqqqqqqqqqqqqqqqqq?",
+        Some(Codex32Error::Length),
+    ),
+    (
+        "mt10testsxxxxxxxxxxxxxxxxxxxxxxxxxx4nzvca9cmczl?",
+        Some(Codex32Error::Hrp),
+    ),
+    (
+        "m?10testsxxxxxxxxxxxxxxxxxxxxxxxxxx4nzvca9cmczl?",
+        Some(Codex32Error::Hrp),
+    ),
+    ("ms10testsxxxxxxxxxxxxxxxxxxxxxxxxxx4nzvca9cmczlw", None),
+    ("MS10TESTSXXXXXXXXXXXXXXXXXXXXXXXXXX4NZVC????????", None),
+    ("ms1?????????????????????????????????????????????", None),
+];
 
 #[test]
 fn outlines_of_damaged_texts(rt: HostRuntime) {
-    let alloc = rt.alloc();
-    refuses(&rt, alloc, "ms1?", Codex32Error::Length);
-    let text = "ms10testsxxxxxxxxxxxxxxxxxxxxxxxxxx4nzvca9cmcz?";
-    refuses(&rt, alloc, text, Codex32Error::Length);
-    // Of 94 characters, and of a part that is another besides.
-    let text =
-        "mt10testsxxxxxxxxxxxxxxxxxxxxxxxxxx4nzvca9cmczlwqqqqqqqqqqqqqqqqqqqqqqqqqqqqqqqqqqqqqqqqqqqqq?";
-    refuses(&rt, alloc, text, Codex32Error::Length);
-    let text = "mt10testsxxxxxxxxxxxxxxxxxxxxxxxxxx4nzvca9cmczl?";
-    refuses(&rt, alloc, text, Codex32Error::Hrp);
-    let text = "m?10testsxxxxxxxxxxxxxxxxxxxxxxxxxx4nzvca9cmczl?";
-    refuses(&rt, alloc, text, Codex32Error::Hrp);
-}
-
-// Fails where a text is refused with another error than that memory runs out.
-fn has_no_fault(rt: &impl Abort, alloc: Global, text: &str) {
-    let found = (validate_damaged(text), refusal(alloc, text));
-    same(
-        rt,
-        &(text, found),
-        &(text, (Ok(()), Some(Codex32Error::Memory))),
-    );
-}
-
-#[test]
-fn damaged_texts_with_no_fault(rt: HostRuntime) {
-    let alloc = rt.alloc();
-    let text = "ms10testsxxxxxxxxxxxxxxxxxxxxxxxxxx4nzvca9cmczlw";
-    has_no_fault(&rt, alloc, text);
-    let text = "MS10TESTSXXXXXXXXXXXXXXXXXXXXXXXXXX4NZVC????????";
-    has_no_fault(&rt, alloc, text);
-    let text = "ms1?????????????????????????????????????????????";
-    has_no_fault(&rt, alloc, text);
+    for &(text, fault) in OUTLINES.iter() {
+        has_fault(&rt, rt.alloc(), text, fault);
+    }
 }

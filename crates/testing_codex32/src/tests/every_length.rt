@@ -1,101 +1,61 @@
 //! The nearest codex32 string, at every length, with ample memory: never out of memory.
 
 use crate::tests::compare::same;
-use bech32::{Fe32IterExt, Hrp};
-use bech32_gf::gf32::Fe32;
+use bech32::{Checksum, Hrp, encode_elements};
 use codex32::{Codex32, LongCodex32, propose, propose_long};
 use std::alloc::{AllocError, Global};
+use std::process::Abort;
 
-// The first of these are the elements of a string, in front of its checksum.
-fn elements() -> [Fe32; 109] {
-    [Fe32::X; 109]
+// The first of these are the elements of a string, in front of its checksum: each is an `x`.
+const ELEMENTS: &[u8] = &[6; 109];
+
+// The string of these elements.
+fn string_of<Ck: Checksum>(rt: &impl Abort, alloc: Global, elements: &[u8]) -> String {
+    let hrp = Hrp::parse("ms").expect(rt, "a human-readable part");
+    encode_elements::<Ck>(alloc, hrp, elements).expect(rt, "a string")
 }
 
-// The characters of the string of these elements.
-fn characters(alloc: Global, elements: &[Fe32], hrp: &Hrp) -> Result<Vec<char>, AllocError> {
-    let elements = elements.iter().copied();
-    elements
-        .with_checksum::<Codex32>(hrp)
-        .chars()
-        .collect(alloc)
+// The same with an `x` in place of its last character, or a `q`.
+fn mistyped(alloc: Global, text: &str) -> Result<String, AllocError> {
+    let last = if text.ends_with('x') { 'q' } else { 'x' };
+    let front = text.get(..text.len().saturating_sub(1)).unwrap_or("");
+    format!(in alloc; "{front}{last}")
 }
 
-// Those of the long string.
-fn long_characters(alloc: Global, elements: &[Fe32], hrp: &Hrp) -> Result<Vec<char>, AllocError> {
-    let elements = elements.iter().copied();
-    elements
-        .with_checksum::<LongCodex32>(hrp)
-        .chars()
-        .collect(alloc)
-}
-
-// The text of characters.
-fn text_of(alloc: Global, characters: &[char]) -> Result<String, AllocError> {
-    let mut text = String::new(alloc);
-    for c in characters.iter() {
-        text.push(*c)?;
-    }
-    Ok(text)
-}
-
-// The string of these elements, and the same with an `x` in place of its last character, or a `q`.
-fn both(alloc: Global, elements: &[Fe32], is_long: bool) -> Option<(String, String)> {
-    let hrp = Hrp::parse("ms").ok()?;
-    let mut characters = if is_long {
-        long_characters(alloc, elements, &hrp).ok()?
-    } else {
-        characters(alloc, elements, &hrp).ok()?
-    };
-    let text = text_of(alloc, &characters).ok()?;
-    let last = characters.pop()?;
-    characters.push(if last == 'x' { 'q' } else { 'x' }).ok()?;
-    Some((text, text_of(alloc, &characters).ok()?))
-}
-
-// Whether this string is proposed for a mistyped one.
-fn is_proposed(alloc: Global, mistyped: &str, text: &str, is_long: bool) -> bool {
-    let proposed = if is_long {
+// The text that is proposed for a mistyped one.
+fn proposed(rt: &impl Abort, alloc: Global, mistyped: &str, is_long: bool) -> String {
+    let nearest = if is_long {
         propose_long(alloc, mistyped)
     } else {
         propose(alloc, mistyped)
     };
-    match proposed {
-        Ok(Some(nearest)) => nearest.as_str() == text,
-        _ => false,
-    }
+    nearest
+        .expect(rt, "it is refused")
+        .expect(rt, "nothing is proposed")
 }
 
-// The length of the string of these elements, where it is proposed for a mistyped one.
-fn length_of(alloc: Global, elements: &[Fe32], is_long: bool) -> Option<usize> {
-    let (text, mistyped) = both(alloc, elements, is_long)?;
-    if is_proposed(alloc, &mistyped, &text, is_long) {
-        Some(text.len())
-    } else {
-        None
-    }
-}
-
-// The first number of elements in a range at which the string is not proposed, or has another
-// length.
-fn first_fault(
+// Fails where the string of some number of elements in a range is not proposed for a mistyped one,
+// or has another length.
+fn each_is_proposed<Ck: Checksum>(
+    rt: &impl Abort,
     alloc: Global,
     (least, most): (usize, usize),
     beside: usize,
     is_long: bool,
-) -> Option<usize> {
-    let elements = elements();
+) {
     for count in least..=most {
-        let length = length_of(alloc, elements.get(..count)?, is_long);
-        if length != Some(count.saturating_add(beside)) {
-            return Some(count);
-        }
+        let elements = ELEMENTS.get(..count).expect(rt, "elements");
+        let text = string_of::<Ck>(rt, alloc, elements);
+        let mistyped = mistyped(alloc, &text).expect(rt, "memory");
+        let nearest = proposed(rt, alloc, &mistyped, is_long);
+        let found = (text.len(), nearest.as_str());
+        same(rt, &found, &(count.saturating_add(beside), text.as_str()));
     }
-    None
 }
 
 // 48 to 93 characters, and 125 to 127.
 #[test]
 fn strings_of_every_length(rt: HostRuntime) {
-    same(&rt, &first_fault(rt.alloc(), (32, 77), 16, false), &None);
-    same(&rt, &first_fault(rt.alloc(), (107, 109), 18, true), &None);
+    each_is_proposed::<Codex32>(&rt, rt.alloc(), (32, 77), 16, false);
+    each_is_proposed::<LongCodex32>(&rt, rt.alloc(), (107, 109), 18, true);
 }

@@ -3,46 +3,26 @@
 use crate::tests::compare::same;
 use bech32_refusals::{CharError, UncheckedHrpstringError};
 use codex32::{Codex32Error, Codex32Str, propose};
-use std::alloc::Global;
 
 const TEXT: &str = "ms10testsxxxxxxxxxxxxxxxxxxxxxxxxxx4nzvca9cmczlw";
 
 #[test]
 fn parts_of_a_text(rt: HostRuntime) {
-    let parts = Codex32Str::parse(TEXT).ok().map(|s| (
-        s.threshold(),
-        s.identifier(),
-        s.share_index(),
-        s.payload(),
-    ));
+    let s = Codex32Str::parse(TEXT).expect(&rt, "a string");
+    let parts = (s.threshold(), s.identifier(), s.share_index(), s.payload());
     let payload = "xxxxxxxxxxxxxxxxxxxxxxxxxx";
-    same(&rt, &parts, &Some(('0', "test", 's', payload)));
+    same(&rt, &parts, &('0', "test", 's', payload));
 }
 
-// Whether the text is proposed for a damaged one.
-fn is_proposed(alloc: Global, damaged: &str) -> bool {
-    match propose(alloc, damaged) {
-        Ok(Some(nearest)) => nearest.as_str() == TEXT,
-        _ => false,
-    }
-}
-
-// Whether there is no nearest text.
-fn is_far(alloc: Global, damaged: &str) -> bool {
-    match propose(alloc, damaged) {
-        Ok(nearest) => nearest.is_none(),
-        Err(_) => false,
-    }
-}
-
+// The text is proposed for a damaged one, and nothing for one that is too far from all texts.
 #[test]
 fn nearest_texts(rt: HostRuntime) {
-    let alloc = rt.alloc();
-    let got = [
-        is_proposed(alloc, "ms1qtestsqxxxxxxxxxxxxxxxxxxxxxxxxq4nzvca9cmczlq"),
-        is_far(alloc, "ms10testsxxxxxxxxxxxxxxxxxxxxxxxxxx4nzv?????????"),
-    ];
-    same(&rt, &got, &[true; 2]);
+    let damaged = "ms1qtestsqxxxxxxxxxxxxxxxxxxxxxxxxq4nzvca9cmczlq";
+    let nearest = propose(rt.alloc(), damaged).expect(&rt, damaged);
+    same(&rt, &nearest.expect(&rt, damaged).as_str(), &TEXT);
+    let damaged = "ms10testsxxxxxxxxxxxxxxxxxxxxxxxxxx4nzv?????????";
+    let nearest = propose(rt.alloc(), damaged).expect(&rt, damaged);
+    same(&rt, &nearest.is_none(), &true);
 }
 
 #[test]

@@ -7,141 +7,148 @@ use codex32::{
 };
 use linked_list_allocator::LocalHeap;
 use std::alloc::Global;
-use std::process::Abort;
 use testing_tools::heaps::{InHeap, right_or_wants_memory};
 use testing_tools::known::FOUR_ERRORS;
 
-const WANT: &str = "ms10testsxxxxxxxxxxxxxxxxxxxxxxxxxx4nzvca9cmczlw";
+// Calls that make a text.
+#[derive(Clone, Copy)]
+enum Call {
+    // The nearest text to a given one, and the nearest long one.
+    Propose,
+    ProposeLong,
+    // The string of two shares of BIP-93 at the index `d`, and their secret.
+    Derive,
+    Recover,
+    // The string of 16 bytes, and that of this many elements.
+    Encode,
+    EncodePayload(usize),
+}
 
-// A text that is damaged.
-#[derive(Drop)]
-struct Damaged(&'static str);
+// A call, the text that it is given, if any, and how the text begins that it makes.
+#[derive(Clone, Copy)]
+struct Made {
+    call: Call,
+    text: &'static str,
+    front: &'static str,
+}
 
-// Just the text is proposed for it.
-impl InHeap for Damaged {
+// Whether the nearest text was found.
+fn is_nearest(
+    nearest: Result<Option<String<&LocalHeap>>, Codex32Error>,
+    want: &str,
+) -> Option<bool> {
+    match nearest {
+        Ok(Some(text)) => Some(text.as_str() == want),
+        Err(Codex32Error::Memory) => None,
+        _ => Some(false),
+    }
+}
+
+// Whether the two shares give a string at an index.
+fn is_derived(heap: &LocalHeap, index: Fe32, want: &str) -> Option<bool> {
+    let shares = [
+        Share::parse("MS12NAMEA320ZYXWVUTSRQPNMLKJHGFEDCAXRPP870HKKQRM").ok()?,
+        Share::parse("MS12NAMECACDEFGHJKLMNPQRSTUVWXYZ023FTR2GDZMPY6PN").ok()?,
+    ];
+    let derived = if index == Fe32::S {
+        recover_in(heap, &shares)
+    } else {
+        derive_in(heap, &shares, index)
+    };
+    match derived {
+        Ok(text) => Some(text.as_str() == want),
+        Err(DeriveError::Memory) => None,
+        Err(_) => Some(false),
+    }
+}
+
+// Whether a string was made that begins so.
+fn is_encoded(made: Result<String<&LocalHeap>, EncodeError>, front: &str) -> Option<bool> {
+    match made {
+        Ok(text) => Some(text.as_str().starts_with(front)),
+        Err(EncodeError::Memory) => None,
+        Err(_) => Some(false),
+    }
+}
+
+impl InHeap for Made {
     fn is_right(&self, _alloc: Global, heap: &LocalHeap) -> Option<bool> {
-        match propose_in(heap, self.0) {
-            Ok(Some(nearest)) => Some(nearest.as_str() == WANT),
-            Err(Codex32Error::Memory) => None,
-            _ => Some(false),
+        let header = Header::parse("0", "test", "s").ok()?;
+        match self.call {
+            Call::Propose => is_nearest(propose_in(heap, self.text), self.front),
+            Call::ProposeLong => is_nearest(propose_long_in(heap, self.text), self.front),
+            Call::Derive => is_derived(heap, Fe32::D, self.front),
+            Call::Recover => is_derived(heap, Fe32::S, self.front),
+            Call::Encode => is_encoded(encode_in(heap, &header, &[0u8; 16]), self.front),
+            Call::EncodePayload(count) => {
+                let elements = [Fe32::Q; 103];
+                let payload = elements.get(..count)?;
+                is_encoded(encode_payload_in(heap, &header, payload), self.front)
+            }
         }
     }
 }
 
-#[test]
-fn the_text_or_out_of_memory(rt: HostRuntime) {
-    for text in [
-        WANT,
-        FOUR_ERRORS,
-        "ms10testsxxxxxxxxxxxxxxxxxxxxxxxxxx4nzvc????????",
-    ] {
-        right_or_wants_memory(rt.alloc(), &Damaged(text), (96, 16)).expect(&rt, text);
-    }
-}
+const TEXT: &str = "ms10testsxxxxxxxxxxxxxxxxxxxxxxxxxx4nzvca9cmczlw";
 
 const LONG: &str =
     "ms100c8vsm32zxfguhpchtlupzry9x8gf2tvdw0s3jn54khce6mua7lqpzygsfjd6an074rxvcemlh8wu3tk925acdefghjklmnpqrstuvwxy06fhpv80undvarhrak";
 
-// A long text that is damaged.
-#[derive(Drop)]
-struct DamagedLong(&'static str);
-
-// Just the text is proposed for it.
-impl InHeap for DamagedLong {
-    fn is_right(&self, _alloc: Global, heap: &LocalHeap) -> Option<bool> {
-        match propose_long_in(heap, self.0) {
-            Ok(Some(nearest)) => Some(nearest.as_str() == LONG),
-            Err(Codex32Error::Memory) => None,
-            _ => Some(false),
-        }
-    }
-}
-
-#[test]
-fn the_long_text_or_out_of_memory(rt: HostRuntime) {
-    for text in [
-        LONG,
+// The text itself and damaged ones, each with the text that is proposed.
+const PROPOSED: &[(Call, &str, &str)] = &[
+    (Call::Propose, TEXT, TEXT),
+    (Call::Propose, FOUR_ERRORS, TEXT),
+    (
+        Call::Propose,
+        "ms10testsxxxxxxxxxxxxxxxxxxxxxxxxxx4nzvc????????",
+        TEXT,
+    ),
+    (Call::ProposeLong, LONG, LONG),
+    (
+        Call::ProposeLong,
         "ms100c8vsm32zxfguhpchtlupzqqqq8gf2tvdw0s3jn54khce6mua7lqpzygsfjd6an074rxvcemlh8wu3tk925acdefghjklmnpqrstuvwxy06fhpv80undvarhrak",
+        LONG,
+    ),
+    (
+        Call::ProposeLong,
         "ms100c8vsm32zxfguhpchtlupzry9x8gf2tvdw0s3jn54khce6mua7lqpzygsfjd6an074rxvcemlh8wu3tk925acdefghjklmnpqrstuvwxy06fhpv80un????????",
-    ] {
-        right_or_wants_memory(rt.alloc(), &DamagedLong(text), (96, 16)).expect(&rt, text);
-    }
-}
-
-// The string at an index, of two shares of BIP-93.
-#[derive(Drop)]
-struct Derived(Fe32, &'static str);
-
-impl InHeap for Derived {
-    fn is_right(&self, _alloc: Global, heap: &LocalHeap) -> Option<bool> {
-        let shares = [
-            Share::parse("MS12NAMEA320ZYXWVUTSRQPNMLKJHGFEDCAXRPP870HKKQRM").ok()?,
-            Share::parse("MS12NAMECACDEFGHJKLMNPQRSTUVWXYZ023FTR2GDZMPY6PN").ok()?,
-        ];
-        let derived = if self.0 == Fe32::S {
-            recover_in(heap, &shares)
-        } else {
-            derive_in(heap, &shares, self.0)
-        };
-        match derived {
-            Ok(text) => Some(text.as_str() == self.1),
-            Err(DeriveError::Memory) => None,
-            Err(_) => Some(false),
-        }
-    }
-}
+        LONG,
+    ),
+];
 
 #[test]
-fn the_derived_string_or_out_of_memory(rt: HostRuntime) {
-    for (index, want) in [
-        (Fe32::D, "ms12namedll4f8jlh4e5vdvuldlfxu2jhdnlsm97xvenrxeg"),
-        (Fe32::S, "ms12names6xqguzttxkeqnjsjzv4jv3nz5k3kwgsphuh6evw"),
-    ] {
-        right_or_wants_memory(rt.alloc(), &Derived(index, want), (32, 16)).expect(&rt, want);
+fn the_text_or_out_of_memory(rt: HostRuntime) {
+    for &(call, text, front) in PROPOSED {
+        let made = Made { call, text, front };
+        right_or_wants_memory(rt.alloc(), &made, (96, 16)).expect(&rt, text);
     }
 }
 
-// The string of 16 bytes.
-#[derive(Drop)]
-struct Encoded(&'static str);
-
-impl InHeap for Encoded {
-    fn is_right(&self, _alloc: Global, heap: &LocalHeap) -> Option<bool> {
-        let header = Header::parse("0", "test", "s").ok()?;
-        match encode_in(heap, &header, &[0u8; 16]) {
-            Ok(text) => Some(text.as_str().starts_with(self.0)),
-            Err(EncodeError::Memory) => None,
-            Err(_) => Some(false),
-        }
-    }
-}
+const MADE: &[(Call, &str)] = &[
+    (
+        Call::Derive,
+        "ms12namedll4f8jlh4e5vdvuldlfxu2jhdnlsm97xvenrxeg",
+    ),
+    (
+        Call::Recover,
+        "ms12names6xqguzttxkeqnjsjzv4jv3nz5k3kwgsphuh6evw",
+    ),
+    (Call::Encode, "ms10testsqqqqqqqqqqqqqqqqqqqqqqqqqq"),
+    (
+        Call::EncodePayload(26),
+        "ms10testsqqqqqqqqqqqqqqqqqqqqqqqqqq",
+    ),
+    (
+        Call::EncodePayload(103),
+        "ms10testsqqqqqqqqqqqqqqqqqqqqqqqqqq",
+    ),
+];
 
 #[test]
-fn the_encoded_string_or_out_of_memory(rt: HostRuntime) {
-    let front = "ms10testsqqqqqqqqqqqqqqqqqqqqqqqqqq";
-    right_or_wants_memory(rt.alloc(), &Encoded(front), (32, 16)).expect(&rt, front);
-}
-
-// The string of this many elements.
-#[derive(Drop)]
-struct OfPayload(usize, &'static str);
-
-impl InHeap for OfPayload {
-    fn is_right(&self, _alloc: Global, heap: &LocalHeap) -> Option<bool> {
-        let header = Header::parse("0", "test", "s").ok()?;
-        let elements = [Fe32::Q; 103];
-        match encode_payload_in(heap, &header, elements.get(..self.0)?) {
-            Ok(text) => Some(text.as_str().starts_with(self.1)),
-            Err(EncodeError::Memory) => None,
-            Err(_) => Some(false),
-        }
-    }
-}
-
-#[test]
-fn the_string_of_elements_or_out_of_memory(rt: HostRuntime) {
-    let front = "ms10testsqqqqqqqqqqqqqqqqqqqqqqqqqq";
-    for count in [26, 103] {
-        right_or_wants_memory(rt.alloc(), &OfPayload(count, front), (32, 16)).expect(&rt, front);
+fn the_made_string_or_out_of_memory(rt: HostRuntime) {
+    for &(call, front) in MADE {
+        let text = "";
+        let made = Made { call, text, front };
+        right_or_wants_memory(rt.alloc(), &made, (32, 16)).expect(&rt, front);
     }
 }

@@ -1,90 +1,109 @@
-use crate::tests::compare::prints;
+use crate::tests::compare::each_prints;
 use bech32_refusals::{CharError, ChecksumError, UncheckedHrpstringError};
 use codex32::{Codex32Error, DeriveError, EncodeError, HeaderError, PayloadError, SplitError};
 
-#[test]
-fn tells_why_a_text_is_no_string(rt: HostRuntime) {
-    let alloc = rt.alloc();
-    let mixed = UncheckedHrpstringError::Char(CharError::MixedCase);
-    let message = "no text of the grammar: character error: mixed-case strings not allowed";
-    prints(&rt, alloc, &Codex32Error::Text(mixed), message);
-    let message = "a codex32 string has 48 to 93 characters, a long one 125 to 127";
-    prints(&rt, alloc, &Codex32Error::Length, message);
-    prints(
-        &rt,
-        alloc,
-        &Codex32Error::Hrp,
-        "the human-readable part is not \"ms\"",
-    );
-    let message = "invalid checksum: the checksummed string is not a valid length";
-    let length = ChecksumError::InvalidLength;
-    prints(&rt, alloc, &Codex32Error::Checksum(length), message);
-    let message = "the threshold is neither 0 nor a digit from 2 to 9";
-    prints(&rt, alloc, &Codex32Error::Threshold, message);
-    let message = "the threshold is 0, and the share index is not \"s\"";
-    prints(&rt, alloc, &Codex32Error::ShareIndex, message);
-    prints(&rt, alloc, &Codex32Error::Memory, "out of memory");
-}
+const OF_TEXTS: [(Codex32Error, &str); 7] = [
+    (
+        Codex32Error::Text(UncheckedHrpstringError::Char(CharError::MixedCase)),
+        "no text of the grammar: character error: mixed-case strings not allowed",
+    ),
+    (
+        Codex32Error::Length,
+        "a codex32 string has 48 to 93 characters, a long one 125 to 127",
+    ),
+    (Codex32Error::Hrp, "the human-readable part is not \"ms\""),
+    (
+        Codex32Error::Checksum(ChecksumError::InvalidLength),
+        "invalid checksum: the checksummed string is not a valid length",
+    ),
+    (
+        Codex32Error::Threshold,
+        "the threshold is neither 0 nor a digit from 2 to 9",
+    ),
+    (
+        Codex32Error::ShareIndex,
+        "the threshold is 0, and the share index is not \"s\"",
+    ),
+    (Codex32Error::Memory, "out of memory"),
+];
 
-#[test]
-fn tells_why_a_string_is_not_made(rt: HostRuntime) {
-    let alloc = rt.alloc();
-    let message = "the threshold is neither 0 nor a digit from 2 to 9";
-    prints(&rt, alloc, &HeaderError::Threshold, message);
-    let message = "the identifier is not four characters of the alphabet in one case";
-    prints(&rt, alloc, &HeaderError::Identifier, message);
-    let message = "the share index is not one character of the alphabet";
-    prints(&rt, alloc, &HeaderError::ShareIndex, message);
-    let message = "the threshold is 0, and the share index is not \"s\"";
-    prints(&rt, alloc, &HeaderError::Unshared, message);
-    let message = "a codex32 string has 16 to 44 bytes, a long one 63 or 64";
-    prints(&rt, alloc, &EncodeError::Size, message);
-    prints(&rt, alloc, &EncodeError::Memory, "out of memory");
-    let message = "more than four bits stand behind the bytes of the payload";
-    prints(&rt, alloc, &PayloadError::LeftOver, message);
-}
+const OF_HEADERS: &[(HeaderError, &str)] = &[
+    (
+        HeaderError::Threshold,
+        "the threshold is neither 0 nor a digit from 2 to 9",
+    ),
+    (
+        HeaderError::Identifier,
+        "the identifier is not four characters of the alphabet in one case",
+    ),
+    (
+        HeaderError::ShareIndex,
+        "the share index is not one character of the alphabet",
+    ),
+    (
+        HeaderError::Unshared,
+        "the threshold is 0, and the share index is not \"s\"",
+    ),
+];
 
-#[test]
-fn tells_why_a_secret_is_not_shared(rt: HostRuntime) {
-    let alloc = rt.alloc();
-    prints(
-        &rt,
-        alloc,
-        &DeriveError::OtherSet,
-        "the shares are not of one set",
-    );
-    prints(
-        &rt,
-        alloc,
-        &DeriveError::IndexTwice,
-        "a share index stands twice",
-    );
-    let message = "the threshold is 0, and the share index is not \"s\"";
-    prints(&rt, alloc, &DeriveError::Unshared, message);
-    prints(
-        &rt,
-        alloc,
-        &DeriveError::TooFew,
+const OF_BYTES: &[(EncodeError, &str)] = &[
+    (
+        EncodeError::Size,
+        "a codex32 string has 16 to 44 bytes, a long one 63 or 64",
+    ),
+    (EncodeError::Memory, "out of memory"),
+];
+
+const OF_PAYLOADS: &[(PayloadError, &str)] = &[(
+    PayloadError::LeftOver,
+    "more than four bits stand behind the bytes of the payload",
+)];
+
+const OF_SETS: &[(DeriveError, &str)] = &[
+    (DeriveError::OtherSet, "the shares are not of one set"),
+    (DeriveError::IndexTwice, "a share index stands twice"),
+    (
+        DeriveError::Unshared,
+        "the threshold is 0, and the share index is not \"s\"",
+    ),
+    (
+        DeriveError::TooFew,
         "there are fewer shares than the threshold",
-    );
-    prints(
-        &rt,
-        alloc,
-        &DeriveError::Contradiction,
+    ),
+    (
+        DeriveError::Contradiction,
         "the shares contradict each other",
-    );
-    prints(&rt, alloc, &DeriveError::Memory, "out of memory");
-    prints(
-        &rt,
-        alloc,
-        &SplitError::Unshared,
+    ),
+    (DeriveError::Memory, "out of memory"),
+];
+
+const OF_SPLITS: &[(SplitError, &str)] = &[
+    (
+        SplitError::Unshared,
         "the threshold is 0: the secret is not shared",
-    );
-    let message = "a codex32 string has 16 to 44 bytes, a long one 63 or 64";
-    prints(&rt, alloc, &SplitError::Size, message);
-    let message = "there are fewer shares than the threshold, or more than 31";
-    prints(&rt, alloc, &SplitError::Count, message);
-    let message = "there are not as many random bytes as characters are drawn";
-    prints(&rt, alloc, &SplitError::Random, message);
-    prints(&rt, alloc, &SplitError::NoRoom, "the buffer is too small");
+    ),
+    (
+        SplitError::Size,
+        "a codex32 string has 16 to 44 bytes, a long one 63 or 64",
+    ),
+    (
+        SplitError::Count,
+        "there are fewer shares than the threshold, or more than 31",
+    ),
+    (
+        SplitError::Random,
+        "there are not as many random bytes as characters are drawn",
+    ),
+    (SplitError::NoRoom, "the buffer is too small"),
+];
+
+#[test]
+fn tells_why(rt: HostRuntime) {
+    let alloc = rt.alloc();
+    each_prints(&rt, alloc, &OF_TEXTS);
+    each_prints(&rt, alloc, OF_HEADERS);
+    each_prints(&rt, alloc, OF_BYTES);
+    each_prints(&rt, alloc, OF_PAYLOADS);
+    each_prints(&rt, alloc, OF_SETS);
+    each_prints(&rt, alloc, OF_SPLITS);
 }

@@ -1,22 +1,20 @@
 //! Strings of the elements of a payload.
 
 use crate::tests::compare::same;
+use crate::tests::shares::share;
 use bech32_gf::gf32::Fe32;
-use codex32::{EncodeError, Header, Share, encode, encode_payload, encode_payload_into};
+use codex32::{EncodeError, Header, encode, encode_payload, encode_payload_into};
 use std::alloc::Global;
 use std::process::Abort;
 
 // Strings of BIP-93, in lower case: two shares and the secret of its second example, and a long
-// one.
-const OF_BIP_93: [&str; 4] = [
+// one. Behind them one of each number of elements, at random, by a model of the definitions alone
+// (vectors/).
+const STRINGS: &[&str] = &[
     "ms12namea320zyxwvutsrqpnmlkjhgfedcaxrpp870hkkqrm",
     "ms12namecacdefghjklmnpqrstuvwxyz023ftr2gdzmpy6pn",
     "ms12names6xqguzttxkeqnjsjzv4jv3nz5k3kwgsphuh6evw",
     "ms100c8vsm32zxfguhpchtlupzry9x8gf2tvdw0s3jn54khce6mua7lqpzygsfjd6an074rxvcemlh8wu3tk925acdefghjklmnpqrstuvwxy06fhpv80undvarhrak",
-];
-
-// One of each number of elements, at random, by a model of the definitions alone (vectors/).
-const OF_A_MODEL: [&str; 31] = [
     "ms18k89kfte82z8he8ydw72jj4d7yyr2x99xdpenxd6yrk5l",
     "ms15qdvcf5u9le2f9sk9qnp6rpuqq6gng3wzkvkw08lycl7g5f",
     "ms102y5ds7rk3tm4ejgq3zcq2h7p4kzq9nxzj8szrcpp4xwsmv5",
@@ -51,7 +49,7 @@ const OF_A_MODEL: [&str; 31] = [
 ];
 
 // The numbers of bytes that a string has, and of the elements of these (BIP-93).
-const COUNTS: [(usize, usize); 31] = [
+const COUNTS: &[(usize, usize)] = &[
     (16, 26),
     (17, 28),
     (18, 29),
@@ -86,69 +84,44 @@ const COUNTS: [(usize, usize); 31] = [
 ];
 
 // Puts the elements of characters.
-fn put(room: &mut [Fe32], characters: &str) -> Option<()> {
+fn put(rt: &impl Abort, room: &mut [Fe32], characters: &str) {
     for (element, character) in room.iter_mut().zip(characters.chars()) {
-        *element = Fe32::from_char(character).ok()?;
+        *element = Fe32::from_char(character).expect(rt, "an element");
     }
-    Some(())
 }
 
-// The elements of a payload, in the room for them.
-fn elements_in<'r>(room: &'r mut [Fe32; 103], characters: &str) -> Option<&'r [Fe32]> {
-    put(room, characters)?;
-    room.get(..characters.len())
-}
-
-// The string of the header and the payload of a string.
-fn made_again(alloc: Global, text: &str) -> Option<String> {
-    let share = Share::parse(text).ok()?;
-    let mut room = [Fe32::Q; 103];
-    let payload = elements_in(&mut room, share.payload())?;
-    encode_payload(alloc, &share.header(), payload).ok()
-}
-
-// Whether a header and a payload put just a text into a buffer.
-fn is_put(header: &Header, payload: &[Fe32], text: &str) -> Option<bool> {
+// Fails where a header and a payload do not put just a text into a buffer.
+fn is_put(rt: &impl Abort, header: &Header, payload: &[Fe32], text: &str) {
     let mut buffer = [b'?'; 130];
-    let count = encode_payload_into(&mut buffer, header, payload).ok()?;
-    let (front, behind) = buffer.split_at_checked(count)?;
-    Some(front == text.as_bytes() && behind.iter().all(|b| *b == b'?'))
-}
-
-// Whether the header and the payload of a string put it into a buffer again.
-fn is_put_again(text: &str) -> Option<bool> {
-    let share = Share::parse(text).ok()?;
-    let mut room = [Fe32::Q; 103];
-    let payload = elements_in(&mut room, share.payload())?;
-    is_put(&share.header(), payload, text)
-}
-
-// Fails where a string does not come again in both ways.
-fn comes_again(rt: &impl Abort, alloc: Global, text: &str) {
-    let made = made_again(alloc, text).expect(rt, text);
+    let count = encode_payload_into(&mut buffer, header, payload).expect(rt, text);
+    let behind = [b'?'; 130];
     same(
         rt,
-        &(made.as_str(), is_put_again(text)),
-        &(text, Some(true)),
+        &(buffer.get(..count), buffer.get(count..)),
+        &(Some(text.as_bytes()), behind.get(count..)),
     );
 }
 
-#[test]
-fn strings_of_bip_93(rt: HostRuntime) {
-    for text in OF_BIP_93.iter() {
-        comes_again(&rt, rt.alloc(), text);
-    }
+// Fails where the header and the payload of a string do not give it again in both ways.
+fn comes_again(rt: &impl Abort, alloc: Global, text: &str) {
+    let share = share(rt, text);
+    let mut room = [Fe32::Q; 103];
+    put(rt, &mut room, share.payload());
+    let payload = room.get(..share.payload().len()).expect(rt, text);
+    let made = encode_payload(alloc, &share.header(), payload).expect(rt, text);
+    same(rt, &made.as_str(), &text);
+    is_put(rt, &share.header(), payload, text);
 }
 
 #[test]
 fn each_number_of_elements(rt: HostRuntime) {
-    for text in OF_A_MODEL.iter() {
+    for text in STRINGS {
         comes_again(&rt, rt.alloc(), text);
     }
 }
 
-fn header() -> Option<Header> {
-    Header::parse("2", "name", "s").ok()
+fn header(rt: &impl Abort) -> Header {
+    Header::parse("2", "name", "s").expect(rt, "a header")
 }
 
 const BYTES: [u8; 64] = [
@@ -158,50 +131,57 @@ const BYTES: [u8; 64] = [
     0x53, 0xb8, 0x6e, 0x52, 0x8b, 0xca, 0xdf, 0xdc, 0xc2, 0x01, 0xc1, 0x7c, 0x63, 0x8c, 0x47, 0xe9,
 ];
 
-// The string of this many bytes, and that of the elements of its payload.
-fn both(alloc: Global, bytes: &[u8]) -> Option<(String, String)> {
-    let of_bytes = encode(alloc, &header()?, bytes).ok()?;
-    let of_elements = made_again(alloc, &of_bytes)?;
-    Some((of_bytes, of_elements))
-}
-
+// The string of this many bytes is that of the elements of its payload.
 #[test]
 fn strings_of_bytes(rt: HostRuntime) {
-    for (count, elements) in COUNTS {
+    let header = header(&rt);
+    for &(count, elements) in COUNTS {
         let bytes = BYTES.get(..count).expect(&rt, "bytes");
-        let (of_bytes, of_elements) = both(rt.alloc(), bytes).expect(&rt, "refused");
+        let text = encode(rt.alloc(), &header, bytes).expect(&rt, "refused");
         let length = elements.checked_add(if count <= 44 { 22 } else { 24 });
-        same(
-            &rt,
-            &(of_elements.as_str(), Some(of_bytes.len())),
-            &(of_bytes.as_str(), length),
-        );
+        same(&rt, &Some(text.len()), &length);
+        comes_again(&rt, rt.alloc(), &text);
     }
 }
 
-// Why no string is made of this many elements, and none is put.
-fn refusals(alloc: Global, payload: &[Fe32]) -> Option<[Option<EncodeError>; 2]> {
-    let header = header()?;
+// Fails where a string is made of some elements, or put, or not for another reason than this; what
+// is not put leaves the buffer as it was.
+fn refuses(
+    rt: &impl Abort,
+    alloc: Global,
+    header: &Header,
+    payload: &[Fe32],
+    want: Option<EncodeError>,
+) {
     let mut buffer = [b'?'; 130];
-    let put = encode_payload_into(&mut buffer, &header, payload).err();
-    if put.is_some() && buffer != [b'?'; 130] {
-        return None;
+    let put = encode_payload_into(&mut buffer, header, payload).err();
+    let is_left = put.is_none() || buffer == [b'?'; 130];
+    let made = encode_payload(alloc, header, payload).err();
+    let found = (payload.len(), [made, put], is_left);
+    same(rt, &found, &(payload.len(), [want, want], true));
+}
+
+// Whether a string may have this many elements.
+fn is_taken(elements: usize) -> bool {
+    for counts in COUNTS {
+        if counts.1 == elements {
+            return true;
+        }
     }
-    Some([encode_payload(alloc, &header, payload).err(), put])
+    false
 }
 
 #[test]
 fn numbers_of_elements(rt: HostRuntime) {
+    let header = header(&rt);
     let elements = [Fe32::L; 200];
     for count in 0..=elements.len() {
-        let is_taken = COUNTS.iter().any(|counts| counts.1 == count);
-        let want = if is_taken {
+        let want = if is_taken(count) {
             None
         } else {
             Some(EncodeError::Size)
         };
         let payload = elements.get(..count).expect(&rt, "elements");
-        let refused = refusals(rt.alloc(), payload);
-        same(&rt, &(count, refused), &(count, Some([want, want])));
+        refuses(&rt, rt.alloc(), &header, payload, want);
     }
 }

@@ -27,90 +27,93 @@ const BYTES: [u8; 16] = [
 const LONG: &str =
     "ms100c8vsm32zxfguhpchtlupzry9x8gf2tvdw0s3jn54khce6mua7lqpzygsfjd6an074rxvcemlh8wu3tk925acdefghjklmnpqrstuvwxy06fhpv80undvarhrak";
 
-// The string at an index that two texts give.
-fn of_two(alloc: Global, first: &str, second: &str, index: Fe32) -> Option<String> {
-    let shares = [Share::parse(first).ok()?, Share::parse(second).ok()?];
-    derive(alloc, &shares, index).ok()
+// The secret of a set that is not shared.
+const ALONE: &str = "ms10testsxxxxxxxxxxxxxxxxxxxxxxxxxx4nzvca9cmczlw";
+
+/// The share that a text is.
+pub fn share<'s>(rt: &impl Abort, text: &'s str) -> Share<'s> {
+    Share::parse(text).expect(rt, text)
 }
 
-// Whether it is the wanted text, in lower case.
-fn gives(alloc: Global, first: &str, second: &str, (index, want): (Fe32, &str)) -> bool {
-    match of_two(alloc, first, second, index) {
-        Some(text) => text.as_str().eq_ignore_ascii_case(want),
-        None => false,
+// The string at an index that two texts give.
+fn of_two(rt: &impl Abort, alloc: Global, first: &str, second: &str, index: Fe32) -> String {
+    let shares = [share(rt, first), share(rt, second)];
+    derive(alloc, &shares, index).expect(rt, first)
+}
+
+const AT_EACH_INDEX: [(Fe32, &str); 4] = [
+    (Fe32::A, A),
+    (Fe32::C, C),
+    (Fe32::D, D),
+    (Fe32::S, SECRET),
+];
+
+// Fails where two texts give another string at an index, but for the case.
+fn give_each(rt: &impl Abort, alloc: Global, first: &str, second: &str) {
+    for &(index, want) in AT_EACH_INDEX.iter() {
+        let text = of_two(rt, alloc, first, second, index);
+        let is_given = text.as_str().eq_ignore_ascii_case(want);
+        same(
+            rt,
+            &(first, second, want, is_given),
+            &(first, second, want, true),
+        );
     }
 }
+
+const PAIRS: &[(&str, &str)] = &[(A, C), (A, D), (C, D), (D, A), (SECRET, D)];
 
 #[test]
 fn each_pair_of_three_shares(rt: HostRuntime) {
-    let wanted = [(Fe32::A, A), (Fe32::C, C), (Fe32::D, D), (Fe32::S, SECRET)];
-    for (first, second) in [(A, C), (A, D), (C, D), (D, A), (SECRET, D)] {
-        for want in wanted {
-            let is_given = gives(rt.alloc(), first, second, want);
-            same(
-                &rt,
-                &(first, second, want.1, is_given),
-                &(first, second, want.1, true),
-            );
-        }
+    for &(first, second) in PAIRS {
+        give_each(&rt, rt.alloc(), first, second);
     }
 }
 
-// Why texts give no secret.
-fn refusal(alloc: Global, texts: [&str; 3]) -> Option<DeriveError> {
-    let [a, b, c] = texts;
-    let shares = [
-        Share::parse(a).ok()?,
-        Share::parse(b).ok()?,
-        Share::parse(c).ok()?,
-    ];
-    recover(alloc, &shares).err()
-}
+const SETS: &[([&str; 3], Option<DeriveError>)] = &[
+    ([A, C, D], None),
+    (
+        [A, C, "ms13cashd0wsedstcdcts64cd7wvy4m90lm28w4ffupqs7rm"],
+        Some(DeriveError::OtherSet),
+    ),
+    ([A, C, A], Some(DeriveError::IndexTwice)),
+    ([ALONE, ALONE, ALONE], Some(DeriveError::IndexTwice)),
+];
 
 #[test]
 fn refusals_of_sets(rt: HostRuntime) {
-    let other = "ms13cashd0wsedstcdcts64cd7wvy4m90lm28w4ffupqs7rm";
-    let alone = "ms10testsxxxxxxxxxxxxxxxxxxxxxxxxxx4nzvca9cmczlw";
-    for (texts, want) in [
-        ([A, C, D], None),
-        ([A, C, other], Some(DeriveError::OtherSet)),
-        ([A, C, A], Some(DeriveError::IndexTwice)),
-        ([alone, alone, alone], Some(DeriveError::IndexTwice)),
-    ] {
-        same(&rt, &refusal(rt.alloc(), texts), &want);
+    for &(texts, want) in SETS {
+        let [a, b, c] = texts;
+        let shares = [share(&rt, a), share(&rt, b), share(&rt, c)];
+        let refusal = recover(rt.alloc(), &shares).err();
+        same(&rt, &(texts, refusal), &(texts, want));
     }
 }
 
-// Why texts give no string at an index.
-fn refusal_at(alloc: Global, text: &str, index: Fe32) -> Option<DeriveError> {
-    let shares = [Share::parse(text).ok()?];
-    derive(alloc, &shares, index).err()
-}
+const ONE_STRING: [(&str, Fe32, Option<DeriveError>); 3] = [
+    (ALONE, Fe32::A, Some(DeriveError::Unshared)),
+    (ALONE, Fe32::S, None),
+    (A, Fe32::S, Some(DeriveError::TooFew)),
+];
 
 #[test]
 fn refusals_of_one_string(rt: HostRuntime) {
-    let alone = "ms10testsxxxxxxxxxxxxxxxxxxxxxxxxxx4nzvca9cmczlw";
-    let found = [
-        refusal_at(rt.alloc(), alone, Fe32::A),
-        refusal_at(rt.alloc(), alone, Fe32::S),
-        refusal_at(rt.alloc(), A, Fe32::S),
-        recover(rt.alloc(), &[]).err(),
-    ];
-    let few = Some(DeriveError::TooFew);
-    same(&rt, &found, &[Some(DeriveError::Unshared), None, few, few]);
+    for &(text, index, want) in ONE_STRING.iter() {
+        let refusal = derive(rt.alloc(), &[share(&rt, text)], index).err();
+        same(&rt, &(text, index, refusal), &(text, index, want));
+    }
+    let of_none = recover(rt.alloc(), &[]).err();
+    same(&rt, &of_none, &Some(DeriveError::TooFew));
 }
 
 // The share of the first text with its last wrong characters mended, and the second, give the
 // secret.
-fn secret_of_mended(alloc: Global, damaged: &str, other: &str) -> Option<String> {
-    let mended = propose(alloc, damaged).ok()??;
-    of_two(alloc, &mended, other, Fe32::S)
-}
-
 #[test]
 fn a_share_is_mended_and_used(rt: HostRuntime) {
     let damaged = "MS12NAMEA320ZYXWVUTQRQPNMLK?HGF?DCAXRPP870HKKQQM";
-    let secret = secret_of_mended(rt.alloc(), damaged, C).expect(&rt, "no secret");
+    let mended = propose(rt.alloc(), damaged).expect(&rt, "refused");
+    let mended = mended.expect(&rt, "none");
+    let secret = of_two(&rt, rt.alloc(), &mended, C, Fe32::S);
     same(&rt, &secret.as_str(), &SECRET);
 }
 
@@ -124,9 +127,10 @@ fn a_long_string_is_mended(rt: HostRuntime) {
 }
 
 // The header of a secret that two shares give.
-fn header(index: Fe32) -> Option<Header> {
-    let identifier = Identifier::parse("name").ok()?;
-    Header::new(Threshold::new(2)?, identifier, index).ok()
+fn header(rt: &impl Abort) -> Header {
+    let threshold = Threshold::new(2).expect(rt, "a threshold");
+    let identifier = Identifier::parse("name").expect(rt, "an identifier");
+    Header::new(threshold, identifier, Fe32::S).expect(rt, "a header")
 }
 
 // The bytes of a payload that has 16 at most, and how many were put.
@@ -144,14 +148,14 @@ fn bytes_of(share: &Share<'_>) -> Option<(usize, [u8; 16])> {
 
 #[test]
 fn parts_of_a_share(rt: HostRuntime) {
-    let share = Share::parse(SECRET).expect(&rt, "refused");
+    let share = share(&rt, SECRET);
     same(
         &rt,
         &(share.byte_count(), bytes_of(&share)),
         &(Ok(16), Some((16, BYTES))),
     );
     let read = (share.threshold(), share.identifier(), share.share_index());
-    let header = header(Fe32::S).expect(&rt, "no header");
+    let header = header(&rt);
     let want = (
         header.threshold(),
         header.identifier(),
@@ -172,10 +176,10 @@ fn parts_of_a_share(rt: HostRuntime) {
 
 #[test]
 fn a_string_is_encoded(rt: HostRuntime) {
-    let header = header(Fe32::S).expect(&rt, "no header");
+    let header = header(&rt);
     // Two bits are left over, which are zero here, and not in the example of BIP-93.
     let text = encode(rt.alloc(), &header, &BYTES).expect(&rt, "refused");
-    let share = Share::parse(&text).expect(&rt, "refused");
+    let share = share(&rt, &text);
     same(
         &rt,
         &(share.header(), bytes_of(&share)),
@@ -183,56 +187,53 @@ fn a_string_is_encoded(rt: HostRuntime) {
     );
 }
 
-// Why no string is made of this many bytes.
-fn size_refusal(alloc: Global, bytes: &[u8]) -> Option<EncodeError> {
-    encode(alloc, &header(Fe32::S)?, bytes).err()
-}
+const SIZES: &[(usize, Option<EncodeError>)] = &[
+    (0, Some(EncodeError::Size)),
+    (15, Some(EncodeError::Size)),
+    (16, None),
+    (44, None),
+    (45, Some(EncodeError::Size)),
+    (62, Some(EncodeError::Size)),
+    (63, None),
+    (64, None),
+    (65, Some(EncodeError::Size)),
+];
 
 #[test]
 fn numbers_of_bytes(rt: HostRuntime) {
+    let header = header(&rt);
     let bytes = [7u8; 65];
-    for (count, want) in [
-        (0usize, Some(EncodeError::Size)),
-        (15, Some(EncodeError::Size)),
-        (16, None),
-        (44, None),
-        (45, Some(EncodeError::Size)),
-        (62, Some(EncodeError::Size)),
-        (63, None),
-        (64, None),
-        (65, Some(EncodeError::Size)),
-    ] {
-        if let Some(some) = bytes.get(..count) {
-            let refused = size_refusal(rt.alloc(), some);
-            same(&rt, &(count, refused), &(count, want));
-        }
+    for &(count, want) in SIZES {
+        let some = bytes.get(..count).expect(&rt, "bytes");
+        let refused = encode(rt.alloc(), &header, some).err();
+        same(&rt, &(count, refused), &(count, want));
     }
 }
 
 #[test]
 fn bits_left_over(rt: HostRuntime) {
-    let text = "ms12xh04fm5amh7k7ay0jj7mgh3ndf4zdx0dmxgdrhz38hawaewk";
-    let counted = Share::parse(text).map(|share| share.byte_count());
-    same(&rt, &counted, &Ok(Err(PayloadError::LeftOver)));
+    let share = share(&rt, "ms12xh04fm5amh7k7ay0jj7mgh3ndf4zdx0dmxgdrhz38hawaewk");
+    same(&rt, &share.byte_count(), &Err(PayloadError::LeftOver));
 }
 
-// Fails where the words of a header are not refused with just this.
-fn reads_words(rt: &impl Abort, words: [&str; 3], want: Option<HeaderError>) {
-    let [threshold, identifier, share_index] = words;
-    let refused = Header::parse(threshold, identifier, share_index).err();
-    same(rt, &(words, refused), &(words, want));
-}
+const WORDS: &[([&str; 3], Option<HeaderError>)] = &[
+    (["2", "name", "s"], None),
+    (["0", "NAME", "S"], None),
+    (["1", "nam", "b"], Some(HeaderError::Threshold)),
+    (["22", "name", "s"], Some(HeaderError::Threshold)),
+    (["0", "nAme", "bb"], Some(HeaderError::Identifier)),
+    (["0", "names", "a"], Some(HeaderError::Identifier)),
+    (["0", "name", "b"], Some(HeaderError::ShareIndex)),
+    (["0", "name", "a"], Some(HeaderError::Unshared)),
+];
 
 #[test]
 fn words_of_headers(rt: HostRuntime) {
-    reads_words(&rt, ["2", "name", "s"], None);
-    reads_words(&rt, ["0", "NAME", "S"], None);
-    reads_words(&rt, ["1", "nam", "b"], Some(HeaderError::Threshold));
-    reads_words(&rt, ["22", "name", "s"], Some(HeaderError::Threshold));
-    reads_words(&rt, ["0", "nAme", "bb"], Some(HeaderError::Identifier));
-    reads_words(&rt, ["0", "names", "a"], Some(HeaderError::Identifier));
-    reads_words(&rt, ["0", "name", "b"], Some(HeaderError::ShareIndex));
-    reads_words(&rt, ["0", "name", "a"], Some(HeaderError::Unshared));
+    for &(words, want) in WORDS {
+        let [threshold, identifier, share_index] = words;
+        let refused = Header::parse(threshold, identifier, share_index).err();
+        same(&rt, &(words, refused), &(words, want));
+    }
     same(&rt, &parse_share_index("D"), &Ok(Fe32::D));
     same(&rt, &Threshold::new(1), &None);
 }

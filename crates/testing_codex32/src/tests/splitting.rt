@@ -1,9 +1,11 @@
 //! Splits of secrets: a known one, whose shares were made by another program, into a buffer; shares
 //! recover the secret; and refusals. Others stand in the stored run of `c32`.
 
-use crate::tests::compare::{same, same_items};
+use crate::tests::compare::same;
+use crate::tests::shares::share;
 use bech32_gf::gf32::Fe32;
 use codex32::{Identifier, Share, SplitError, Threshold, derive_into, random_count, split_into};
+use std::process::Abort;
 
 // The shares of two of three, one behind another, and the secret.
 const OF_TWO: &str =
@@ -24,164 +26,142 @@ const OF_THREE: [&str; 5] = [
     "ms13cashf9d0hhyqutl6qsj0j0uf7ngstpwwfrsv0878edv958",
 ];
 
-// The random bytes of all of them.
-fn random_bytes() -> [u8; 72] {
+// Bytes that rise by a step, modulo 256.
+fn rising_bytes(first: u8, step: u8) -> [u8; 72] {
     let mut bytes = [0u8; 72];
     for i in 0..72 {
-        bytes[i] = ((i * 37 + 11) % 256) as u8;
+        bytes[i] = (i as u8).wrapping_mul(step).wrapping_add(first);
     }
     bytes
 }
 
-// The bytes of a secret.
-fn counted_bytes() -> [u8; 64] {
-    let mut bytes = [0u8; 64];
-    for i in 0..64 {
-        bytes[i] = i as u8;
-    }
-    bytes
-}
-
-// What a split gives, of a threshold that is one and an identifier that is one.
+// What a split gives, of a threshold that is one.
 fn split_by(
+    rt: &impl Abort,
     buffer: &mut [u8],
-    (threshold, identifier): (u8, &str),
-    secret: Option<&[u8]>,
+    threshold: u8,
+    secret: &[u8],
     count: usize,
-    random: Option<&[u8]>,
-) -> Option<Result<usize, SplitError>> {
-    let threshold = Threshold::new(threshold)?;
-    let identifier = Identifier::parse(identifier).ok()?;
-    Some(split_into(buffer, threshold, identifier, secret?, count, random?))
+    random: &[u8],
+) -> Result<usize, SplitError> {
+    let threshold = Threshold::new(threshold).expect(rt, "a threshold");
+    let identifier = Identifier::parse("name").expect(rt, "an identifier");
+    split_into(buffer, threshold, identifier, secret, count, random)
 }
 
-// Whether the shares stand at the front of a buffer, and what stands behind them is as it was.
-fn has_shares(buffer: &[u8]) -> Option<bool> {
-    let (front, behind) = buffer.split_at_checked(144)?;
-    Some(front == OF_TWO.as_bytes() && behind == [7, 7].as_slice())
-}
-
+// The shares stand at the front of a buffer, and what stands behind them is as it was.
 #[test]
 fn two_of_three(rt: HostRuntime) {
-    let random = random_bytes();
+    let random = rising_bytes(11, 37);
+    let random = random.get(..26).expect(&rt, "random bytes");
     let mut buffer = [7u8; 146];
-    let split = split_by(&mut buffer, (2, "name"), Some(&BYTES), 3, random.get(..26));
+    let split = split_by(&rt, &mut buffer, 2, &BYTES, 3, random);
+    let behind = [7u8; 2];
     same(
         &rt,
-        &(split, has_shares(&buffer)),
-        &(Some(Ok(48)), Some(true)),
+        &(split, buffer.get(..144), buffer.get(144..)),
+        &(Ok(48), Some(OF_TWO.as_bytes()), Some(behind.as_slice())),
     );
 }
 
-// Whether three of the shares give the secret's own string at `s`.
-fn do_recover(places: [usize; 3]) -> Option<bool> {
+// One of the shares.
+fn share_at(rt: &impl Abort, place: usize) -> Share<'static> {
+    let text: &'static str = OF_THREE.get(place).expect(rt, "a share");
+    share(rt, text)
+}
+
+// Fails where three of the shares do not give the secret's own string at `s`.
+fn do_recover(rt: &impl Abort, places: [usize; 3]) {
     let [i, j, k] = places;
-    let shares = [
-        Share::parse(OF_THREE.get(i)?).ok()?,
-        Share::parse(OF_THREE.get(j)?).ok()?,
-        Share::parse(OF_THREE.get(k)?).ok()?,
-    ];
+    let shares = [share_at(rt, i), share_at(rt, j), share_at(rt, k)];
     let mut buffer = [0u8; 127];
-    let count = derive_into(&mut buffer, &shares, Fe32::S).ok()?;
-    Some(buffer.get(..count)? == OWN_OF_THREE.as_bytes())
+    let count = derive_into(&mut buffer, &shares, Fe32::S).expect(rt, "refused");
+    same(
+        rt,
+        &(places, buffer.get(..count)),
+        &(places, Some(OWN_OF_THREE.as_bytes())),
+    );
 }
 
 // Each three of the shares.
-fn threes() -> [[usize; 3]; 10] {
-    [
-        [0, 1, 2],
-        [0, 1, 3],
-        [0, 1, 4],
-        [0, 2, 3],
-        [0, 2, 4],
-        [0, 3, 4],
-        [1, 2, 3],
-        [1, 2, 4],
-        [1, 3, 4],
-        [2, 3, 4],
-    ]
-}
+const THREES: &[[usize; 3]] = &[
+    [0, 1, 2],
+    [0, 1, 3],
+    [0, 1, 4],
+    [0, 2, 3],
+    [0, 2, 4],
+    [0, 3, 4],
+    [1, 2, 3],
+    [1, 2, 4],
+    [1, 3, 4],
+    [2, 3, 4],
+];
 
 #[test]
 fn any_three_of_five_recover(rt: HostRuntime) {
-    for places in threes() {
-        same(&rt, &(places, do_recover(places)), &(places, Some(true)));
+    for places in THREES {
+        do_recover(&rt, *places);
     }
 }
 
 // The numbers of a secret's bytes, of shares, of random bytes, and of bytes in the buffer.
 type Numbers = (usize, usize, usize, usize);
 
-// Why a secret is not split.
-fn refusal_of(threshold: u8, (size, count, random, room): Numbers) -> Option<SplitError> {
-    let bytes = counted_bytes();
-    let random_bytes = random_bytes();
+// Fails where a secret is split, or not for another reason than this.
+fn refuses(rt: &impl Abort, threshold: u8, numbers: Numbers, want: Option<SplitError>) {
+    let (size, count, random, room) = numbers;
+    let secret = rising_bytes(0, 1);
+    let secret = secret.get(..size).expect(rt, "a secret");
+    let bytes = rising_bytes(11, 37);
+    let random = bytes.get(..random).expect(rt, "random bytes");
     let mut buffer = [0u8; 200];
-    let room = buffer.get_mut(..room)?;
-    split_by(
-        room,
-        (threshold, "name"),
-        bytes.get(..size),
-        count,
-        random_bytes.get(..random),
-    )?
-    .err()
+    let room = buffer.get_mut(..room).expect(rt, "a buffer");
+    let found = split_by(rt, room, threshold, secret, count, random).err();
+    same(
+        rt,
+        &(threshold, numbers, found),
+        &(threshold, numbers, want),
+    );
 }
 
 // Splits, each with why it is refused.
-fn refusals() -> [(u8, Numbers, Option<SplitError>); 10] {
-    [
-        (0, (15, 1, 0, 0), Some(SplitError::Unshared)),
-        (0, (16, 3, 0, 200), Some(SplitError::Unshared)),
-        (2, (15, 1, 0, 0), Some(SplitError::Size)),
-        (2, (45, 3, 72, 200), Some(SplitError::Size)),
-        (2, (16, 1, 0, 0), Some(SplitError::Count)),
-        (2, (16, 32, 26, 200), Some(SplitError::Count)),
-        (2, (16, 3, 25, 0), Some(SplitError::Random)),
-        (2, (16, 3, 27, 200), Some(SplitError::Random)),
-        (2, (16, 3, 26, 143), Some(SplitError::NoRoom)),
-        (2, (16, 3, 26, 144), None),
-    ]
-}
+const REFUSALS: &[(u8, Numbers, Option<SplitError>)] = &[
+    (0, (15, 1, 0, 0), Some(SplitError::Unshared)),
+    (0, (16, 3, 0, 200), Some(SplitError::Unshared)),
+    (2, (15, 1, 0, 0), Some(SplitError::Size)),
+    (2, (45, 3, 72, 200), Some(SplitError::Size)),
+    (2, (16, 1, 0, 0), Some(SplitError::Count)),
+    (2, (16, 32, 26, 200), Some(SplitError::Count)),
+    (2, (16, 3, 25, 0), Some(SplitError::Random)),
+    (2, (16, 3, 27, 200), Some(SplitError::Random)),
+    (2, (16, 3, 26, 143), Some(SplitError::NoRoom)),
+    (2, (16, 3, 26, 144), None),
+];
 
 #[test]
 fn refusals_of_splits(rt: HostRuntime) {
-    for (threshold, numbers, want) in refusals() {
-        let found = refusal_of(threshold, numbers);
-        same(
-            &rt,
-            &(threshold, numbers, found),
-            &(threshold, numbers, want),
-        );
+    for &(threshold, numbers, want) in REFUSALS {
+        refuses(&rt, threshold, numbers, want);
     }
 }
 
-// How many random bytes a split takes.
-fn random_for(threshold: u8, size: usize) -> Option<usize> {
-    random_count(Threshold::new(threshold)?, size)
-}
+// How many random bytes a split takes of a threshold and a number of bytes.
+const RANDOM: &[(u8, usize, Option<usize>)] = &[
+    (2, 16, Some(26)),
+    (3, 17, Some(56)),
+    (9, 64, Some(824)),
+    (0, 16, Some(0)),
+    (2, 15, None),
+    (2, 45, None),
+    (2, 62, None),
+    (2, usize::MAX, None),
+];
 
 #[test]
 fn numbers_of_random_bytes(rt: HostRuntime) {
-    let found = [
-        random_for(2, 16),
-        random_for(3, 17),
-        random_for(9, 64),
-        random_for(0, 16),
-        random_for(2, 15),
-        random_for(2, 45),
-        random_for(2, 62),
-        random_for(2, usize::MAX),
-    ];
-    let want = [
-        Some(26),
-        Some(56),
-        Some(824),
-        Some(0),
-        None,
-        None,
-        None,
-        None,
-    ];
-    same_items(&rt, &found, &want);
+    for &(number, size, want) in RANDOM {
+        let threshold = Threshold::new(number).expect(&rt, "a threshold");
+        let found = random_count(threshold, size);
+        same(&rt, &(number, size, found), &(number, size, want));
+    }
 }
