@@ -7,6 +7,7 @@ mod fieldvec;
 mod gf32;
 mod gf32_ext;
 mod lfsr;
+mod memory;
 mod operators;
 mod polynomial;
 mod remainder;

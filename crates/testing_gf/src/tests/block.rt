@@ -1,6 +1,5 @@
 //! Blocks of constants, as `bech32_block` finds and prints them.
 
-mod blocks;
+pub mod blocks;
 mod declared;
-mod memory;
 mod messages;

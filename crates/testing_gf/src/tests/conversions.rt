@@ -87,20 +87,6 @@ fn three_elements(rt: &impl Abort, alloc: Global) -> String {
     text.expect(rt, "memory")
 }
 
-#[test]
-fn values_and_texts_of_elements(rt: HostRuntime) {
-    let alloc = rt.alloc();
-    same(&rt, &u8::from(Fe32::L), &31);
-    let text = "z  9Fe32 { value: 1 }";
-    same(&rt, &three_elements(&rt, alloc).as_str(), &text);
-    let want = "tried to interpret a byte as a GF32 element but it is not below 32: 32";
-    prints(&rt, alloc, &TryFromError::InvalidByte(32), want);
-    let error = Fe32::try_from(256u16).err().expect(&rt, "it is no byte");
-    let want =
-        "tried to interpret an integer as a GF32 element but it is not a byte: out of range integral type conversion attempted";
-    prints(&rt, alloc, &error, want);
-}
-
 // The elements in order of their characters, as a text.
 fn alphabet(rt: &impl Abort, alloc: Global) -> String {
     let text: Result<String, _> = Fe32::iter_alpha().map(Fe32::to_char).collect(alloc);
@@ -108,7 +94,17 @@ fn alphabet(rt: &impl Abort, alloc: Global) -> String {
 }
 
 #[test]
-fn elements_in_order_of_their_characters(rt: HostRuntime) {
-    let text = alphabet(&rt, rt.alloc());
-    same(&rt, &text.as_str(), &"acdefghjklmnpqrstuvwxyz023456789");
+fn values_and_texts_of_elements(rt: HostRuntime) {
+    let alloc = rt.alloc();
+    same(&rt, &u8::from(Fe32::L), &31);
+    let text = "z  9Fe32 { value: 1 }";
+    same(&rt, &three_elements(&rt, alloc).as_str(), &text);
+    let text = "acdefghjklmnpqrstuvwxyz023456789";
+    same(&rt, &alphabet(&rt, alloc).as_str(), &text);
+    let want = "tried to interpret a byte as a GF32 element but it is not below 32: 32";
+    prints(&rt, alloc, &TryFromError::InvalidByte(32), want);
+    let error = Fe32::try_from(256u16).err().expect(&rt, "it is no byte");
+    let want =
+        "tried to interpret an integer as a GF32 element but it is not a byte: out of range integral type conversion attempted";
+    prints(&rt, alloc, &error, want);
 }

@@ -3,7 +3,7 @@
 ghost use Rattle.std.specs.Prelude.{◌≡◌, ◌+◌, Some, fold};
 ghost use Rattle.bech32_gf.specs.Powers.{powers_of};
 
-use crate::tests::compare::{same, same_items};
+use crate::tests::compare::same_items;
 use bech32_gf::field::{ExtensionField, Field, MultiplicativeOrder};
 use bech32_gf::gf32::Fe32;
 use bech32_gf_ext::{Fe1024, Fe32768};
@@ -40,65 +40,57 @@ fn there_and_back<E: ExtensionField>(x: E::BaseField) -> Option<E::BaseField>
     E::from(x).to_base()
 }
 
-// Each constant is what the function returns, whose contract is the list of divisors.
-#[test]
-fn factors_of_orders(rt: HostRuntime) {
-    let constants = [
-        Fe32::MULTIPLICATIVE_ORDER_FACTORS,
-        Fe1024::MULTIPLICATIVE_ORDER_FACTORS,
-        Fe32768::MULTIPLICATIVE_ORDER_FACTORS,
-        Seven::MULTIPLICATIVE_ORDER_FACTORS,
-    ];
-    let returned = [
-        Fe32::order_factors(),
-        Fe1024::order_factors(),
-        Fe32768::order_factors(),
-        Seven::order_factors(),
-    ];
-    same_items(&rt, &constants, &returned);
-}
-
-#[test]
-fn general_code_at_the_field_of_32(rt: HostRuntime) {
-    same(&rt, &difference_of_squares(Fe32::C, Fe32::E), &Fe32::P);
-    same(&rt, &order_of_generator::<Fe32>(), &31);
-    let sums = [sum_of_powers(Fe32::Z, 3), sum_of_powers(Fe32::Z, 30)];
-    same_items(&rt, &sums, &[Fe32::_0, Fe32::Q]);
-    same(&rt, &there_and_back::<Fe32>(Fe32::C), &Some(Fe32::C));
-}
-
-// Whether general code at an extension field gives the right values: a difference of squares, the
-// order of the generator, the sum of all its powers, and an element of the base field.
-fn general_code_at<E: ExtensionField<BaseField = Fe32>>(x: E, y: E, order: usize) -> [bool; 4] {
-    let sum = sum_of_powers(E::GENERATOR, order.saturating_sub(1));
+// Whether general code gives the right values at a field: the difference of the squares of two
+// elements, the sum of an element's powers to an exponent, that of all powers of the generator, and
+// the order of this; and whether the constant is what the function returns whose contract is the
+// list of divisors.
+fn general_code_at<F: Field>(
+    [x, y, difference]: [F; 3],
+    (base, last, sum): (F, usize, F),
+    order: usize,
+) -> [bool; 5] {
     [
-        difference_of_squares(x, y) == (x + y) * (x - y),
-        order_of_generator::<E>() == order,
-        sum == E::ZERO,
-        there_and_back::<E>(Fe32::C) == Some(Fe32::C),
+        difference_of_squares(x, y) == difference,
+        sum_of_powers(base, last) == sum,
+        sum_of_powers(F::GENERATOR, order.saturating_sub(1)) == F::ZERO,
+        order_of_generator::<F>() == order,
+        F::MULTIPLICATIVE_ORDER_FACTORS == F::order_factors(),
     ]
 }
 
 #[test]
-fn general_code_at_pairs_and_triples(rt: HostRuntime) {
-    let x = Fe1024::new([Fe32::M, Fe32::E]);
-    let y = Fe1024::new([Fe32::J, Fe32::C]);
-    same(&rt, &general_code_at(x, y, 1023), &[true; 4]);
-    let (x, y) = (Fe32768::EXT_ELEM, Fe32768::GENERATOR);
-    same(&rt, &general_code_at(x, y, 32767), &[true; 4]);
-}
-
-#[test]
-fn general_code_at_integers_modulo_7(rt: HostRuntime) {
-    let difference = difference_of_squares(Seven::new(5), Seven::new(3));
-    same(&rt, &order_of_generator::<Seven>(), &6);
-    let sums = [
-        sum_of_powers(Seven::new(2), 1),
-        sum_of_powers(Seven::new(3), 5),
+fn general_code_at_each_field(rt: HostRuntime) {
+    let elements = [Fe32::C, Fe32::E, Fe32::P];
+    let pairs = [
+        Fe1024::new([Fe32::M, Fe32::E]),
+        Fe1024::new([Fe32::J, Fe32::C]),
+        Fe1024::new([Fe32::J, Fe32::P]),
     ];
-    same_items(
-        &rt,
-        &[difference, sums[0], sums[1]],
-        &[Seven::new(2), Seven::new(3), Seven::new(0)],
-    );
+    let triples = [
+        Fe32768::EXT_ELEM,
+        Fe32768::GENERATOR,
+        Fe32768::new([Fe32::E, Fe32::Q, Fe32::F]),
+    ];
+    let (pair, triple) = (pairs[0], triples[1]);
+    let found = [
+        general_code_at(elements, (Fe32::Z, 3, Fe32::_0), 31),
+        general_code_at(pairs, (pair, 3, Fe1024::new([Fe32::_8, Fe32::A])), 1023),
+        general_code_at(
+            triples,
+            (triple, 3, Fe32768::new([Fe32::V, Fe32::H, Fe32::K])),
+            32767,
+        ),
+        general_code_at(
+            [5, 3, 2].map(Seven::new),
+            (Seven::new(2), 1, Seven::new(3)),
+            6,
+        ),
+    ];
+    same_items(&rt, &found, &[[true; 5]; 4]);
+    let back = [
+        there_and_back::<Fe32>(Fe32::C),
+        there_and_back::<Fe1024>(Fe32::C),
+        there_and_back::<Fe32768>(Fe32::C),
+    ];
+    same_items(&rt, &back, &[Some(Fe32::C); 3]);
 }

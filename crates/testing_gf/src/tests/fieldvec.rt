@@ -3,31 +3,20 @@ use bech32_gf::gf32::Fe32;
 use bech32_poly::fieldvec::{FieldVec, NO_ALLOC_MAX_LENGTH};
 use linked_list_allocator::LocalHeap;
 use std::alloc::{AllocError, Global};
-use std::process::Abort;
 
-// A vector of two elements, of which the first one is set anew.
-fn two(rt: &impl Abort, alloc: Global) -> FieldVec<Fe32> {
-    let mut vector = FieldVec::new(alloc);
-    vector.push(Fe32::P).expect(rt, "memory");
-    vector.push(Fe32::Z).expect(rt, "memory");
-    vector.set(0, Fe32::J);
-    vector
-}
-
-// Fails where a clone has other elements.
-fn clone_has(rt: &impl Abort, vector: &FieldVec<Fe32>, want: &[Fe32]) {
-    let copy = vector.clone().expect(rt, "memory");
-    same_items(rt, copy.as_slice(), want);
-}
-
+// Two elements, of which the first one is set anew.
 #[test]
 fn elements(rt: HostRuntime) {
-    same(&rt, &FieldVec::<Fe32>::new(rt.alloc()).is_empty(), &true);
-    let vector = two(&rt, rt.alloc());
+    let mut vector = FieldVec::new(rt.alloc());
+    same(&rt, &vector.is_empty(), &true);
+    vector.push(Fe32::P).expect(&rt, "memory");
+    vector.push(Fe32::Z).expect(&rt, "memory");
+    vector.set(0, Fe32::J);
     same(&rt, &(vector.len(), vector.is_empty()), &(2, false));
     let want = [Fe32::J, Fe32::Z];
     same_items(&rt, vector.as_slice(), &want);
-    clone_has(&rt, &vector, &want);
+    let copy = vector.clone().expect(&rt, "memory");
+    same_items(&rt, copy.as_slice(), &want);
 }
 
 // How many elements a vector has that could be cloned.

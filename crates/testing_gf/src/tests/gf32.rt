@@ -48,20 +48,32 @@ const PRODUCTS: [&[u8; 32]; 32] = [
 // The powers of the element 20, from 1 on.
 const POWERS_OF_20: &[u8; 31] = b"p529kt3uw8hlmecvxr470na6djfsgyz";
 
+/// The constants, in order of their values.
+pub fn elements() -> [Fe32; 32] {
+    ELEMENTS
+}
+
 #[test]
-fn constants_by_name_and_value(rt: HostRuntime) {
+fn low_bits(rt: HostRuntime) {
+    let elements = elements();
     for i in 0..32usize {
-        let (value, element) = (i as u8, ELEMENTS[i]);
+        let (value, element) = (i as u8, elements[i]);
         let got = (element.to_u8(), Fe32::from_low_bits(value));
         same(&rt, &got, &(value, element));
     }
+    let got = [Fe32::from_low_bits(0xff), Fe32::from_low_bits(0x34)];
+    same_items(&rt, &got, &[Fe32::L, Fe32::_5]);
 }
 
-// Fails where the characters are not those of the elements, which are the constants (above).
+// Fails where the characters are not those of the elements, tested or unchecked. The elements are
+// the constants (above).
 fn reads_elements(rt: &impl Abort, characters: &[u8; 32]) {
     for i in 0..32u8 {
-        let element = Fe32::from_char(char::from(characters[i as usize]));
+        let c = characters[i as usize];
+        let element = Fe32::from_char(c as char);
         same(rt, &element, &Ok(Fe32::from_low_bits(i)));
+        assert!(rt; element.is_ok());
+        same(rt, &Ok(Fe32::from_char_unchecked(c)), &element);
     }
 }
 
@@ -75,49 +87,25 @@ fn alphabet_in_both_cases(rt: HostRuntime) {
     reads_elements(&rt, UPPER_CASE);
 }
 
-// Fails where the characters of the elements give others unchecked.
-fn same_unchecked(rt: &impl Abort, characters: &[u8; 32]) {
-    for c in characters.iter() {
-        let checked = Fe32::from_char(*c as char);
-        assert!(rt; checked.is_ok());
-        same(rt, &Ok(Fe32::from_char_unchecked(*c)), &checked);
-    }
-}
-
-#[test]
-fn unchecked_characters(rt: HostRuntime) {
-    same_unchecked(&rt, LOWER_CASE);
-    same_unchecked(&rt, UPPER_CASE);
-}
-
-#[test]
-fn low_bits(rt: HostRuntime) {
-    let got = [Fe32::from_low_bits(0xff), Fe32::from_low_bits(0x34)];
-    same_items(&rt, &got, &[Fe32::L, Fe32::_5]);
-}
-
-// Fails where one of these gives an element, or is refused otherwise than as outside the alphabet.
-fn are_invalid(rt: &impl Abort, characters: &[char]) {
-    for c in characters.iter() {
-        same(rt, &Fe32::from_char(*c), &Err(FromCharError::Invalid(*c)));
-    }
-}
-
-// The same of refusals as outside ASCII.
-fn are_not_ascii(rt: &impl Abort, characters: &[char]) {
-    for c in characters.iter() {
-        same(rt, &Fe32::from_char(*c), &Err(FromCharError::NotAscii(*c)));
-    }
-}
+const OTHERS: &[(char, FromCharError)] = &[
+    ('b', FromCharError::Invalid('b')),
+    ('i', FromCharError::Invalid('i')),
+    ('o', FromCharError::Invalid('o')),
+    ('1', FromCharError::Invalid('1')),
+    ('B', FromCharError::Invalid('B')),
+    (' ', FromCharError::Invalid(' ')),
+    ('\u{7f}', FromCharError::Invalid('\u{7f}')),
+    ('é', FromCharError::NotAscii('é')),
+    ('\u{80}', FromCharError::NotAscii('\u{80}')),
+    ('ƀ', FromCharError::NotAscii('ƀ')),
+    ('💥', FromCharError::NotAscii('💥')),
+];
 
 #[test]
 fn other_characters(rt: HostRuntime) {
-    are_invalid(&rt, &['b', 'i', 'o', '1', 'B', ' ', '\u{7f}']);
-    are_not_ascii(&rt, &['é', '\u{80}', 'ƀ', '💥']);
-}
-
-#[test]
-fn texts_of_refusals(rt: HostRuntime) {
+    for &(c, refusal) in OTHERS {
+        same(&rt, &Fe32::from_char(c), &Err(refusal));
+    }
     let message =
         "tried to interpret a character as a GF32 element but it is not of the alphabet: b";
     prints(&rt, rt.alloc(), &FromCharError::Invalid('b'), message);
@@ -159,20 +147,4 @@ fn powers_of_20(rt: HostRuntime) {
         power *= Fe32::_5;
     }
     same(&rt, &power, &Fe32::P);
-}
-
-#[test]
-fn operators(rt: HostRuntime) {
-    let mut sum = Fe32::_5;
-    sum += Fe32::F;
-    let mut product = Fe32::S;
-    product *= Fe32::Z;
-    let got = [
-        Fe32::_5 + Fe32::F,
-        Fe32::L + Fe32::L,
-        Fe32::S * Fe32::Z,
-        sum,
-        product,
-    ];
-    same_items(&rt, &got, &[Fe32::A, Fe32::Q, Fe32::F, Fe32::A, Fe32::F]);
 }

@@ -49,35 +49,30 @@ fn constants(rt: HostRuntime) {
 fn inverse_and_embedded(rt: HostRuntime) {
     let x = Fe1024::new([Fe32::P, Fe32::X]);
     assert!(rt; x != Fe1024::ZERO);
-    let inverse = Fe1024::new([Fe32::_7, Fe32::F]);
-    same(&rt, &x.multiplicative_inverse(), &inverse);
-    let pair = Fe1024::new([Fe32::Z, Fe32::Q]);
-    same(&rt, &Fe1024::from(Fe32::Z), &pair);
+    let found = [x.multiplicative_inverse(), Fe1024::from(Fe32::Z)];
+    let want = [
+        Fe1024::new([Fe32::_7, Fe32::F]),
+        Fe1024::new([Fe32::Z, Fe32::Q]),
+    ];
+    same_items(&rt, &found, &want);
     let triple = Fe32768::new([Fe32::Z, Fe32::Q, Fe32::Q]);
     same(&rt, &Fe32768::from(Fe32::Z), &triple);
 }
 
 #[test]
-fn back_from_pairs(rt: HostRuntime) {
-    let back = [
-        Fe32::try_from(Fe1024::from(Fe32::L)),
-        Fe32::try_from(Fe1024::POLYNOMIAL),
-    ];
-    same(&rt, &back, &[Ok(Fe32::L), Err(())]);
-    let base = Fe1024::from(Fe32::A).to_base();
-    same(&rt, &base, &Some(Fe32::A));
-}
-
-#[test]
-fn back_from_triples(rt: HostRuntime) {
+fn back_from_pairs_and_triples(rt: HostRuntime) {
     let third_alone = Fe32768::new([Fe32::P, Fe32::Q, Fe32::P]);
     let back = [
+        Fe32::try_from(Fe1024::from(Fe32::L)),
         Fe32::try_from(Fe32768::from(Fe32::L)),
+        Fe32::try_from(Fe1024::POLYNOMIAL),
         Fe32::try_from(Fe32768::POLYNOMIAL),
         Fe32::try_from(third_alone),
     ];
-    same(&rt, &back, &[Ok(Fe32::L), Err(()), Err(())]);
-    same(&rt, &Fe32768::EXT_ELEM.to_base(), &None);
+    let none = Err(());
+    same(&rt, &back, &[Ok(Fe32::L), Ok(Fe32::L), none, none, none]);
+    let bases = [Fe1024::from(Fe32::A).to_base(), Fe32768::EXT_ELEM.to_base()];
+    same_items(&rt, &bases, &[Some(Fe32::A), None]);
 }
 
 // What a value is after assigning operators, each by value and borrowed.
@@ -106,16 +101,18 @@ fn assigned_pairs(mut z: Fe1024, y: Fe1024) -> [Fe1024; 5]
     each_assigned!(z, y)
 }
 
-// Each form of the sum, the difference and the product of two pairs.
-fn forms_of_pairs(x: Fe1024, y: Fe1024) -> [[Fe1024; 4]; 3] {
-    [each_form!(x + y), each_form!(x - y), each_form!(x * y)]
-}
-
-// Each form of the quotient of two pairs, and of the product of a pair and an element.
-fn scaled_pairs(product: Fe1024, y: Fe1024, x: Fe1024, factor: Fe32) -> [[Fe1024; 4]; 2]
+// Each form of the sum, the difference and the product of two pairs, of the quotient of their
+// product, and of the product with an element.
+fn forms_of_pairs(x: Fe1024, y: Fe1024, product: Fe1024, factor: Fe32) -> [[Fe1024; 4]; 5]
     requires { y ≢ pairs.zero }
 {
-    [each_form!(product / y), each_form!(x * factor)]
+    [
+        each_form!(x + y),
+        each_form!(x - y),
+        each_form!(x * y),
+        each_form!(product / y),
+        each_form!(x * factor),
+    ]
 }
 
 // Each form of each operator, at a line of the table.
@@ -126,11 +123,11 @@ fn operator_forms_of_pairs(rt: HostRuntime) {
     assert!(rt; y != Fe1024::ZERO);
     let sum = Fe1024::new([Fe32::F, Fe32::P]);
     let product = Fe1024::new([Fe32::P, Fe32::_9]);
-    let want = [[sum; 4], [sum; 4], [product; 4]];
-    same(&rt, &forms_of_pairs(x, y), &want);
-    let want = [[x; 4], [x * Fe1024::from(Fe32::A); 4]];
-    same(&rt, &scaled_pairs(product, y, x, Fe32::A), &want);
+    let scaled = Fe1024::new([Fe32::_9, Fe32::K]);
+    let want = [[sum; 4], [sum; 4], [product; 4], [x; 4], [scaled; 4]];
+    same(&rt, &forms_of_pairs(x, y, product, Fe32::A), &want);
     same_items(&rt, &assigned_pairs(x, y), &[sum, x, product, x, x]);
+    same_items(&rt, &[-x, [x, y, x].into_iter().sum::<Fe1024>()], &[x, y]);
 }
 
 // What a triple is after each.
@@ -140,16 +137,18 @@ fn assigned_triples(mut z: Fe32768, y: Fe32768) -> [Fe32768; 5]
     each_assigned!(z, y)
 }
 
-// Each form of the sum, the difference and the product of two triples.
-fn forms_of_triples(x: Fe32768, y: Fe32768) -> [[Fe32768; 4]; 3] {
-    [each_form!(x + y), each_form!(x - y), each_form!(x * y)]
-}
-
-// Each form of the quotient of two triples, and of the product of a triple and an element.
-fn scaled_triples(product: Fe32768, y: Fe32768, x: Fe32768, factor: Fe32) -> [[Fe32768; 4]; 2]
+// Each form of the sum, the difference and the product of two triples, of the quotient of their
+// product, and of the product with an element.
+fn forms_of_triples(x: Fe32768, y: Fe32768, product: Fe32768, factor: Fe32) -> [[Fe32768; 4]; 5]
     requires { y ≢ triples.zero }
 {
-    [each_form!(product / y), each_form!(x * factor)]
+    [
+        each_form!(x + y),
+        each_form!(x - y),
+        each_form!(x * y),
+        each_form!(product / y),
+        each_form!(x * factor),
+    ]
 }
 
 // Each form of each operator, at a line of the table.
@@ -160,20 +159,10 @@ fn operator_forms_of_triples(rt: HostRuntime) {
     assert!(rt; y != Fe32768::ZERO);
     let sum = Fe32768::new([Fe32::_8, Fe32::M, Fe32::Y]);
     let product = Fe32768::new([Fe32::_5, Fe32::_4, Fe32::N]);
-    let want = [[sum; 4], [sum; 4], [product; 4]];
-    same(&rt, &forms_of_triples(x, y), &want);
-    let want = [[x; 4], [x * Fe32768::from(Fe32::A); 4]];
-    same(&rt, &scaled_triples(product, y, x, Fe32::A), &want);
+    let scaled = Fe32768::new([Fe32::Q, Fe32::G, Fe32::_8]);
+    let want = [[sum; 4], [sum; 4], [product; 4], [x; 4], [scaled; 4]];
+    same(&rt, &forms_of_triples(x, y, product, Fe32::A), &want);
     same_items(&rt, &assigned_triples(x, y), &[sum, x, product, x, x]);
-}
-
-#[test]
-fn negatives_and_sums(rt: HostRuntime) {
-    let x = Fe1024::new([Fe32::M, Fe32::E]);
-    let y = Fe1024::new([Fe32::J, Fe32::C]);
-    same_items(&rt, &[-x, [x, y, x].into_iter().sum::<Fe1024>()], &[x, y]);
-    let x = Fe32768::new([Fe32::Q, Fe32::_3, Fe32::_4]);
-    let y = Fe32768::new([Fe32::_8, Fe32::_2, Fe32::_3]);
     same_items(&rt, &[-x, [x, y, x].into_iter().sum::<Fe32768>()], &[x, y]);
 }
 

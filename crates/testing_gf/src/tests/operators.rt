@@ -3,7 +3,6 @@ ghost use Rattle.bech32_gf.specs.Fe32.{zero};
 
 use crate::tests::compare::{same, same_items};
 use bech32_gf::gf32::Fe32;
-use std::process::Abort;
 
 // Each form of an operator: of values, and of borrowed ones.
 macro_rules! each_form {
@@ -13,11 +12,6 @@ macro_rules! each_form {
 }
 
 pub(crate) use each_form;
-
-// The element of a character.
-fn element(rt: &impl Abort, c: char) -> Fe32 {
-    Fe32::from_char(c).expect(rt, "an element")
-}
 
 // Each form of the sum, the difference, the product and the quotient.
 fn forms(x: Fe32, y: Fe32) -> [[Fe32; 4]; 4]
@@ -29,15 +23,6 @@ fn forms(x: Fe32, y: Fe32) -> [[Fe32; 4]; 4]
         each_form!(x * y),
         each_form!(x / y),
     ]
-}
-
-#[test]
-fn every_form_of_each_operator(rt: HostRuntime) {
-    let (x, y) = (element(&rt, '9'), element(&rt, 'x'));
-    assert!(rt; y != Fe32::Q);
-    let want = [Fe32::R, Fe32::R, Fe32::_7, Fe32::_4];
-    same(&rt, &forms(x, y), &want.map(|element| [element; 4]));
-    same_items(&rt, &[-x, Fe32::default()], &[x, Fe32::Q]);
 }
 
 // What x is after each assigning operator, by value and borrowed.
@@ -65,26 +50,37 @@ fn assigned(mut x: Fe32, y: Fe32) -> [Fe32; 8]
 }
 
 #[test]
-fn every_form_of_each_assigning_operator(rt: HostRuntime) {
-    let (first, y) = (element(&rt, '9'), element(&rt, 'x'));
+fn every_form_of_each_operator(rt: HostRuntime) {
+    let x = Fe32::from_char('9').expect(&rt, "an element");
+    let y = Fe32::from_char('x').expect(&rt, "an element");
+    assert!(rt; x != Fe32::Q);
     assert!(rt; y != Fe32::Q);
-    let (sum, product) = (Fe32::R, Fe32::_7);
-    let got = assigned(first, y);
-    same(
-        &rt,
-        &got,
-        &[sum, first, product, first, sum, first, product, first],
-    );
+    let (sum, product, quotient) = (Fe32::R, Fe32::_7, Fe32::_4);
+    let want = [[sum; 4], [sum; 4], [product; 4], [quotient; 4]];
+    same(&rt, &forms(x, y), &want);
+    let want = [sum, x, product, x, sum, x, product, x];
+    same_items(&rt, &assigned(x, y), &want);
+    let others = [-x, Fe32::default(), y / x, Fe32::Q / x];
+    same_items(&rt, &others, &[x, Fe32::Q, Fe32::E, Fe32::Q]);
 }
 
 #[test]
-fn sums_and_quotients(rt: HostRuntime) {
-    let (x, y) = (element(&rt, '9'), element(&rt, 'x'));
-    assert!(rt; x != Fe32::Q);
+fn sums_and_products(rt: HostRuntime) {
     let sums = [
-        [x, y, Fe32::R].iter().copied().sum::<Fe32>(),
+        [Fe32::_9, Fe32::X, Fe32::R].iter().copied().sum::<Fe32>(),
         Fe32::iter_alpha().sum::<Fe32>(),
     ];
     same_items(&rt, &sums, &[Fe32::Q; 2]);
-    same_items(&rt, &[y / x, Fe32::Q / x], &[Fe32::E, Fe32::Q]);
+    let mut sum = Fe32::_5;
+    sum += Fe32::F;
+    let mut product = Fe32::S;
+    product *= Fe32::Z;
+    let got = [
+        Fe32::_5 + Fe32::F,
+        Fe32::L + Fe32::L,
+        Fe32::S * Fe32::Z,
+        sum,
+        product,
+    ];
+    same_items(&rt, &got, &[Fe32::A, Fe32::Q, Fe32::F, Fe32::A, Fe32::F]);
 }

@@ -86,18 +86,10 @@ const BASE: Fe1024 = Fe32Ext {
     inner: [Fe32::P, Fe32::X],
 };
 
-// The walk over the generator's roots from `start` to below `end`.
-fn roots(rt: &impl Abort, alloc: Global, start: usize, end: usize) -> RootIter<Fe1024> {
-    RootIter::new(&generator(rt, alloc), BASE, start, end).expect(rt, "memory")
-}
-
-// Fails where the exponents of these roots are other ones.
+// Fails where the exponents of the generator's roots from `start` to below `end` are other ones.
 fn has_roots(rt: &impl Abort, alloc: Global, start: usize, end: usize, want: &[usize]) {
-    same(
-        rt,
-        &first_difference(roots(rt, alloc, start, end), want),
-        &None,
-    );
+    let roots = RootIter::new(&generator(rt, alloc), BASE, start, end).expect(rt, "memory");
+    same(rt, &first_difference(roots, want), &None);
 }
 
 #[test]
@@ -108,23 +100,15 @@ fn roots_of_a_generator(rt: HostRuntime) {
     has_roots(&rt, alloc, 26, 26, &[]);
 }
 
-// The values of the generator at one of its roots and at one.
-fn two_values(rt: &impl Abort, alloc: Global) -> [Fe1024; 2] {
-    let generator = generator(rt, alloc);
-    [
-        evaluate(&generator, BASE.powi(24)),
-        evaluate(&generator, Fe1024::ONE),
-    ]
-}
-
+// At one it is the sum of the coefficients.
 #[test]
 fn values_of_a_generator(rt: HostRuntime) {
-    let mut sum = Fe32::Q;
-    for coefficient in GENERATOR.iter() {
-        sum += *coefficient;
-    }
-    let got = two_values(&rt, rt.alloc());
-    same(&rt, &got, &[Fe1024::ZERO, Fe1024::from(sum)]);
+    let generator = generator(&rt, rt.alloc());
+    let got = [
+        evaluate(&generator, BASE.powi(24)),
+        evaluate(&generator, Fe1024::ONE),
+    ];
+    same(&rt, &got, &[Fe1024::ZERO, Fe1024::from(Fe32::Y)]);
 }
 
 // Whether a call is refused memory, and whether the heap is used then.
@@ -208,9 +192,17 @@ fn seven_coefficients_take_no_memory(rt: HostRuntime) {
 const ONES: [Fe32; 20] = [Fe32::P; 20];
 
 // Counts the calls that are refused memory.
-fn add(counts: &mut [u32; 6], calls: [(bool, bool); 6]) {
-    for (count, (is_refused, _)) in counts.iter_mut().zip(calls) {
-        *count = count.saturating_add(u32::from(is_refused));
+fn add(counts: &mut [u32; 6], calls: &[(bool, bool); 6]) {
+    for i in 0..6usize {
+        let (is_refused, _) = calls[i];
+        counts[i] = counts[i].saturating_add(u32::from(is_refused));
+    }
+}
+
+// Fails where a call is refused memory never, or as often as this.
+fn are_some(rt: &impl Abort, counts: [u32; 6], most: u32) {
+    for count in counts {
+        assert!(rt; 1 <= count && count < most);
     }
 }
 
@@ -220,12 +212,12 @@ fn twenty_coefficients_or_out_of_memory(rt: HostRuntime) {
     for size in 0..64usize {
         match on_a_heap(&rt, rt.alloc(), 16 * size, &ONES) {
             (Some(outcomes), vector) => {
-                add(&mut calls, outcomes);
+                add(&mut calls, &outcomes);
                 vectors = vectors.saturating_add(u32::from(vector));
             }
             (None, _) => itself = itself.saturating_add(1),
         }
     }
-    let some = calls.iter().all(|count| 1 <= *count && *count < 32);
-    assert!(rt; some && 1 <= itself && itself < 32 && vectors < 32);
+    are_some(&rt, calls, 32);
+    assert!(rt; 1 <= itself && itself < 32 && vectors < 32);
 }

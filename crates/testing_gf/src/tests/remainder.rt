@@ -3,11 +3,9 @@ use crate::tests::polynomial::has;
 use bech32_gf::arithmetic::Arithmetic;
 use bech32_gf::gf32::Fe32;
 use bech32_poly::polynomial::{Polynomial, remainder};
-use linked_list_allocator::LocalHeap;
 use std::alloc::Global;
 use std::fmt::Debug;
 use std::process::Abort;
-use testing_tools::heaps::{InHeap, right_or_wants_memory};
 use testing_tools::known::LOW;
 use testing_tools::seven::Seven;
 
@@ -62,28 +60,4 @@ fn modulo_seven(rt: HostRuntime) {
     let value = has(polynomial.remainder(&[Seven::new(3)]), &[Seven::new(5)]);
     let remainder = has(polynomial.remainder(&low), &rest);
     same(&rt, &(remainder, value), &(true, true));
-}
-
-// That x^0 to x^49 leave x^0 to x^8. The divisor, the sum of x^0 to x^40, divides x^41 - 1: so x^41
-// to x^49 leave x^0 to x^8, and the powers below cancel.
-struct LeavesNine;
-
-impl InHeap for LeavesNine {
-    fn is_right(&self, _alloc: Global, heap: &LocalHeap) -> Option<bool> {
-        let mut want = [Fe32::Q; 40];
-        want[..9].copy_from_slice(&[Fe32::P; 9]);
-        match remainder(heap, &[Fe32::P; 50], &[Fe32::P; 40]) {
-            Ok(rest) => Some(rest.as_slice() == want.as_slice()),
-            Err(_) => None,
-        }
-    }
-}
-
-#[test]
-fn vector_or_out_of_memory(rt: HostRuntime) {
-    let wanting = right_or_wants_memory(rt.alloc(), &LeavesNine, (16, 16)).expect(
-        &rt,
-        "right, or out of memory",
-    );
-    assert!(rt; wanting < 8);
 }
