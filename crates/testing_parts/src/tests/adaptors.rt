@@ -4,7 +4,7 @@ ghost use Rattle.std.specs.Prelude.{◌≡◌};
 ghost use Rattle.std.specs.Iterator.{IsFinite};
 ghost use Rattle.bech32_encode.specs.Encoder.{encoder_elements};
 
-use crate::tests::compare::{begins, counts_down, same};
+use crate::tests::compare::{counts_down, same};
 use bech32_checksum::Checksum;
 use bech32_encode::{Checksummed, Encoder};
 use bech32_gf::gf32::Fe32;
@@ -31,30 +31,6 @@ pub fn encoder_behind<'a, I: Iterator<Item = Fe32>, Ck: Checksum>(
         Some(version) => encoder.with_witness_version(version),
         None => encoder,
     }
-}
-
-/// The bounds on the elements of a text.
-pub fn hint_of_elements<I: Iterator<Item = Fe32> + Drop, Ck: Checksum>(
-    front: Front<'_>,
-    elements: I,
-) -> Hint {
-    encoder_behind::<I, Ck>(front, elements).fes().size_hint()
-}
-
-/// The bounds on its characters.
-pub fn hint_of_characters<I: Iterator<Item = Fe32> + Drop, Ck: Checksum>(
-    front: Front<'_>,
-    elements: I,
-) -> Hint {
-    encoder_behind::<I, Ck>(front, elements).chars().size_hint()
-}
-
-/// The bounds on its bytes.
-pub fn hint_of_bytes<I: Iterator<Item = Fe32> + Drop, Ck: Checksum>(
-    front: Front<'_>,
-    elements: I,
-) -> Hint {
-    encoder_behind::<I, Ck>(front, elements).bytes().size_hint()
 }
 
 /// Fails where the elements of a text are other ones, or miscounted.
@@ -135,72 +111,6 @@ pub fn checksummed_are<I: Iterator<Item = Fe32>, Ck: Checksum>(
         &first_difference(Checksummed::<I, Ck>::new(elements), want),
         &None,
     );
-}
-
-/// The same under a human-readable part.
-pub fn checksummed_under<I: Iterator<Item = Fe32>, Ck: Checksum>(
-    rt: &impl Abort,
-    hrp: Hrp,
-    elements: I,
-    want: &[Fe32],
-)
-    requires can { I.can_next elements }
-    requires finite { IsFinite (I.remaining elements) }
-{
-    same(
-        rt,
-        &first_difference(Checksummed::<I, Ck>::new_hrp(hrp, elements), want),
-        &None,
-    );
-}
-
-/// Fails where the bounds on the elements of a text are other ones, or the first of them.
-pub fn elements_begin<I: Iterator<Item = Fe32> + Drop, Ck: Checksum>(
-    rt: &impl Abort,
-    front: Front<'_>,
-    elements: I,
-    hint: Hint,
-    want: &[Fe32],
-)
-    requires can { I.can_next elements }
-{
-    begins(
-        rt,
-        encoder_behind::<I, Ck>(front, elements).fes(),
-        hint,
-        want,
-    );
-}
-
-/// Fails where the bounds on the characters of a text are other ones, or the first of them.
-pub fn characters_begin<I: Iterator<Item = Fe32> + Drop, Ck: Checksum>(
-    rt: &impl Abort,
-    front: Front<'_>,
-    elements: I,
-    hint: Hint,
-    want: &[char],
-)
-    requires can { I.can_next elements }
-{
-    begins(
-        rt,
-        encoder_behind::<I, Ck>(front, elements).chars(),
-        hint,
-        want,
-    );
-}
-
-/// Fails where the bounds on elements with their checksum behind them are other ones, or the first
-/// of them.
-pub fn checksummed_begin<I: Iterator<Item = Fe32> + Drop, Ck: Checksum>(
-    rt: &impl Abort,
-    elements: I,
-    hint: Hint,
-    want: &[Fe32],
-)
-    requires can { I.can_next elements }
-{
-    begins(rt, Checksummed::<I, Ck>::new(elements), hint, want);
 }
 
 /// Fails where the bounds on elements with their checksum behind them are other ones.

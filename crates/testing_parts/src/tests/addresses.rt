@@ -1,4 +1,5 @@
 use crate::tests::compare::{same, same_items};
+use crate::tests::readers::accepted;
 use bech32_checksum::{Bech32, Bech32m, Checksum};
 use bech32_decode::segwit::WitnessLengthError;
 use bech32_decode::{
@@ -83,20 +84,16 @@ fn reads(rt: &impl Abort, row: &(&str, &str, Fe32, &[u8], bool)) {
     same(rt, &(text, found), &(text, want));
 }
 
-// Fails where the characters of a program are other ones.
-fn reads_characters(rt: &impl Abort) {
-    let address = SegwitHrpstring::new(ADDRESS).expect(rt, "an address");
-    let program = b"ar0srrr7xfkvy5l643lydnw9re59gtzz".as_slice();
-    let found = address.data_part_ascii_no_witver_no_checksum();
-    same_items(rt, found, program);
-}
-
 #[test]
 fn reads_known_addresses(rt: HostRuntime) {
     for row in ADDRESSES.iter() {
         reads(&rt, row);
     }
-    reads_characters(&rt);
+    // The characters of a program.
+    let address = SegwitHrpstring::new(ADDRESS).expect(&rt, "an address");
+    let program = b"ar0srrr7xfkvy5l643lydnw9re59gtzz".as_slice();
+    let found = address.data_part_ascii_no_witver_no_checksum();
+    same_items(&rt, found, program);
 }
 
 // The refusal of a text whose remainder is wrong.
@@ -132,43 +129,80 @@ fn refuses_residues<Ck: Checksum>(rt: &impl Abort, texts: &[&str]) {
     }
 }
 
-// Fails where a program of a wrong length, or with wrong bits behind it, is refused otherwise.
-fn refuses_programs(rt: &impl Abort) {
-    refuses(rt, "bc1pw5dgrnzv", WitnessLengthError::TooShort.into());
-    let text = "bc1p0xlxvlhemja6c4dqv22uapctqupfhlxm9h8z3k2e72q4k9hcz7v8n0nx0muaewav253zgeav";
-    refuses(rt, text, WitnessLengthError::TooLong.into());
-    let text = "BC1QR508D6QEJXTDG4Y5R3ZARVARYV98GJ9P";
-    refuses(rt, text, WitnessLengthError::InvalidSegwitV0.into());
-    let text = "bc1p0xlxvlhemja6c4dqv22uapctqupfhlxm9h8z3k2e72q4k9hcz7v07qwwzcrf";
-    refuses(rt, text, PaddingError::TooMuch.into());
-    let text = "tb1p0xlxvlhemja6c4dqv22uapctqupfhlxm9h8z3k2e72q4k9hcz7vpggkg4j";
-    refuses(rt, text, PaddingError::NonZero.into());
+// Why a text with a right remainder is refused; a version by its number.
+#[derive(Clone, Copy)]
+enum Refusal {
+    Character(CharError),
+    NoData,
+    TooLong(usize),
+    Version(u8),
+    Padding(PaddingError),
+    Length(WitnessLengthError),
 }
 
-// Fails where a text is not refused for a character so.
-fn refuses_character(rt: &impl Abort, text: &str, error: CharError) {
-    refuses(rt, text, UncheckedHrpstringError::Char(error).into());
+// The error that says so.
+fn error_of(refusal: Refusal) -> SegwitHrpstringError {
+    match refusal {
+        Refusal::Character(error) => UncheckedHrpstringError::Char(error).into(),
+        Refusal::NoData => SegwitHrpstringError::NoData,
+        Refusal::TooLong(length) => SegwitHrpstringError::TooLong(length),
+        Refusal::Version(version) => {
+            SegwitHrpstringError::InvalidWitnessVersion(Fe32::from_low_bits(version))
+        }
+        Refusal::Padding(error) => error.into(),
+        Refusal::Length(error) => error.into(),
+    }
 }
+
+const REFUSED: &[(&str, Refusal)] = &[
+    (
+        "bc1pw5dgrnzv",
+        Refusal::Length(WitnessLengthError::TooShort),
+    ),
+    (
+        "bc1p0xlxvlhemja6c4dqv22uapctqupfhlxm9h8z3k2e72q4k9hcz7v8n0nx0muaewav253zgeav",
+        Refusal::Length(WitnessLengthError::TooLong),
+    ),
+    (
+        "BC1QR508D6QEJXTDG4Y5R3ZARVARYV98GJ9P",
+        Refusal::Length(WitnessLengthError::InvalidSegwitV0),
+    ),
+    (
+        "bc1p0xlxvlhemja6c4dqv22uapctqupfhlxm9h8z3k2e72q4k9hcz7v07qwwzcrf",
+        Refusal::Padding(PaddingError::TooMuch),
+    ),
+    (
+        "tb1p0xlxvlhemja6c4dqv22uapctqupfhlxm9h8z3k2e72q4k9hcz7vpggkg4j",
+        Refusal::Padding(PaddingError::NonZero),
+    ),
+    ("a1lqfn3a", Refusal::Version(31)),
+    ("a13qqqq9qz88s", Refusal::Version(17)),
+    (
+        "BC130XLXVLHEMJA6C4DQV22UAPCTQUPFHLXM9H8Z3K2E72Q4K9HCZ7VQ7ZWS8R",
+        Refusal::Version(17),
+    ),
+    ("a1", Refusal::NoData),
+    (
+        "anhrpthatistwentycha1pqyqszqgpqyqszqgpqyqszqgpqyqszqgpqyqszqgpqyqszqgpqyqszqgpqyqszqgqfrwjz",
+        Refusal::TooLong(91),
+    ),
+    (
+        "bc1p38j9r5y49hruaue7wxjce0updqjuyyx0kh56v8s25huc6995vvpql3jow4",
+        Refusal::Character(CharError::InvalidChar('o')),
+    ),
+    (
+        "tb1p0xlxvlhemja6c4dqv22uapctqupfhlxm9h8z3k2e72q4k9hcz7vq47Zagq",
+        Refusal::Character(CharError::MixedCase),
+    ),
+];
 
 #[test]
 fn refuses_texts_in_order(rt: HostRuntime) {
     refuses_residues::<Bech32m>(&rt, WRONG);
     refuses_residues::<Bech32>(&rt, WRONG_0);
-    refuses_programs(&rt);
-    let version_31 = SegwitHrpstringError::InvalidWitnessVersion(Fe32::L);
-    refuses(&rt, "a1lqfn3a", version_31);
-    let version_17 = SegwitHrpstringError::InvalidWitnessVersion(Fe32::_3);
-    refuses(&rt, "a13qqqq9qz88s", version_17);
-    let text = "BC130XLXVLHEMJA6C4DQV22UAPCTQUPFHLXM9H8Z3K2E72Q4K9HCZ7VQ7ZWS8R";
-    refuses(&rt, text, version_17);
-    refuses(&rt, "a1", SegwitHrpstringError::NoData);
-    let text =
-        "anhrpthatistwentycha1pqyqszqgpqyqszqgpqyqszqgpqyqszqgpqyqszqgpqyqszqgpqyqszqgpqyqszqgqfrwjz";
-    refuses(&rt, text, SegwitHrpstringError::TooLong(91));
-    let text = "bc1p38j9r5y49hruaue7wxjce0updqjuyyx0kh56v8s25huc6995vvpql3jow4";
-    refuses_character(&rt, text, CharError::InvalidChar('o'));
-    let text = "tb1p0xlxvlhemja6c4dqv22uapctqupfhlxm9h8z3k2e72q4k9hcz7vq47Zagq";
-    refuses_character(&rt, text, CharError::MixedCase);
+    for &(text, refusal) in REFUSED {
+        refuses(&rt, text, error_of(refusal));
+    }
 }
 
 // Fails where a text is read as an address by Bech32, or refused otherwise.
@@ -177,78 +211,59 @@ fn refuses_by_bech32(rt: &impl Abort, text: &str, error: SegwitHrpstringError) {
     same(rt, &(text, refusal), &(text, Some(error)));
 }
 
-// Fails where an address of version 1 by Bech32 is not read.
-fn reads_by_bech32(rt: &impl Abort) {
-    let text = "bc1pw508d6qejxtdg4y5r3zarvary0c5xw7kw508d6qejxtdg4y5r3zarvary0c5xw7k7grplx";
-    let address = SegwitHrpstring::new_bech32(text).expect(rt, "an address");
-    let found = (address.witness_version(), address.byte_iter().len());
-    same(rt, &found, &(Fe32::P, 40));
-}
+const REFUSED_BY_BECH32: &[(&str, Refusal)] = &[
+    ("a12uel5l", Refusal::NoData),
+    ("a1", Refusal::NoData),
+    ("a1lqfn3a", Refusal::Version(31)),
+    (
+        "a1pqqqqqqqqqqqqqqqqqqqqqqqqqqqqqqqqqqqqqqqqqqqqqqqqqqqqqqqqqqqqqqqqqqqqqqqqqqqqqqqqqqqqqqqqqqqqqqqqqqqlqe4dnl",
+        Refusal::TooLong(109),
+    ),
+    (
+        "BC1QR508D6QEJXTDG4Y5R3ZARVARYV98GJ9P",
+        Refusal::Length(WitnessLengthError::InvalidSegwitV0),
+    ),
+];
 
 #[test]
 fn refuses_texts_by_bech32_in_order(rt: HostRuntime) {
-    reads_by_bech32(&rt);
+    // An address of version 1 is read.
+    let text = "bc1pw508d6qejxtdg4y5r3zarvary0c5xw7kw508d6qejxtdg4y5r3zarvary0c5xw7k7grplx";
+    let address = SegwitHrpstring::new_bech32(text).expect(&rt, "an address");
+    let found = (address.witness_version(), address.byte_iter().len());
+    same(&rt, &found, &(Fe32::P, 40));
     let of_bech32m = "BC1SW50QGDZ25J";
     let error = wrong_residue::<Bech32>(&rt, of_bech32m);
     refuses_by_bech32(&rt, of_bech32m, error);
-    refuses_by_bech32(&rt, "a12uel5l", SegwitHrpstringError::NoData);
-    refuses_by_bech32(&rt, "a1", SegwitHrpstringError::NoData);
-    let version_31 = SegwitHrpstringError::InvalidWitnessVersion(Fe32::L);
-    refuses_by_bech32(&rt, "a1lqfn3a", version_31);
-    let text =
-        "a1pqqqqqqqqqqqqqqqqqqqqqqqqqqqqqqqqqqqqqqqqqqqqqqqqqqqqqqqqqqqqqqqqqqqqqqqqqqqqqqqqqqqqqqqqqqqqqqqqqqqlqe4dnl";
-    refuses_by_bech32(&rt, text, SegwitHrpstringError::TooLong(109));
-    let invalid = WitnessLengthError::InvalidSegwitV0.into();
-    refuses_by_bech32(&rt, "BC1QR508D6QEJXTDG4Y5R3ZARVARYV98GJ9P", invalid);
+    for &(text, refusal) in REFUSED_BY_BECH32 {
+        refuses_by_bech32(&rt, text, error_of(refusal));
+    }
 }
 
-// Fails where the rules of addresses accept a text that a checksum accepts, or refuse it otherwise.
-fn refuses_by_rules<Ck: Checksum>(rt: &impl Abort, text: &str, error: SegwitHrpstringError) {
-    let checked = CheckedHrpstring::new::<Ck>(text).expect(rt, "a text");
-    let refusal = checked.validate_segwit().err();
-    same(rt, &(text, refusal), &(text, Some(error)));
-}
-
-// Fails where an address is not read by the rules.
-fn reads_by_rules<Ck: Checksum>(rt: &impl Abort) {
-    let checked = CheckedHrpstring::new::<Ck>(ADDRESS).expect(rt, "a text");
-    let address = checked.validate_segwit().expect(rt, "an address");
-    same(rt, &address.witness_version(), &Fe32::Q);
+// Fails where the rules of addresses say something else of a text that a checksum accepts than its
+// version, or why it is refused.
+fn tests_rule<Ck: Checksum>(rt: &impl Abort, text: &str, want: Result<Fe32, SegwitHrpstringError>) {
+    let found = match accepted::<Ck>(rt, text).validate_segwit() {
+        Ok(address) => Ok(address.witness_version()),
+        Err(error) => Err(error),
+    };
+    same(rt, &(text, found), &(text, want));
 }
 
 // The rows of texts by Bech32.
 fn tests_rules<Ck: Checksum>(rt: &impl Abort) {
     let long =
         "a13qqqqqqqqqqqqqqqqqqqqqqqqqqqqqqqqqqqqqqqqqqqqqqqqqqqqqqqqqqqqqqqqqqqqqqqqqqqqqqqqqqqqqqqqqqqqqqqqqqqqk8ljg5";
-    refuses_by_rules::<Ck>(rt, "a12uel5l", SegwitHrpstringError::NoData);
-    refuses_by_rules::<Ck>(rt, long, SegwitHrpstringError::TooLong(109));
-    reads_by_rules::<Ck>(rt);
+    tests_rule::<Ck>(rt, "a12uel5l", Err(SegwitHrpstringError::NoData));
+    tests_rule::<Ck>(rt, long, Err(SegwitHrpstringError::TooLong(109)));
+    tests_rule::<Ck>(rt, ADDRESS, Ok(Fe32::Q));
 }
 
 #[test]
 fn tests_the_rules_of_addresses(rt: HostRuntime) {
     let version = SegwitHrpstringError::InvalidWitnessVersion(Fe32::_3);
-    refuses_by_rules::<Bech32m>(&rt, "a13qqqq9qz88s", version);
+    tests_rule::<Bech32m>(&rt, "a13qqqq9qz88s", Err(version));
     tests_rules::<Bech32>(&rt);
-}
-
-// Fails where the test of padding gives another result.
-fn tests_padding<Ck: Checksum>(rt: &impl Abort, text: &str, padding: Option<PaddingError>) {
-    let checked = CheckedHrpstring::new::<Ck>(text).expect(rt, "a text");
-    let refusal = checked.validate_segwit_padding().err();
-    same(rt, &(text, refusal), &(text, padding));
-}
-
-// Fails where the test of a program's length gives another result.
-fn tests_length<Ck: Checksum>(
-    rt: &impl Abort,
-    text: &str,
-    version: Fe32,
-    error: Option<WitnessLengthError>,
-) {
-    let checked = CheckedHrpstring::new::<Ck>(text).expect(rt, "a text");
-    let refusal = checked.validate_witness_program_length(version).err();
-    same(rt, &(text, refusal), &(text, error));
 }
 
 const PADDINGS: &[(&str, Option<PaddingError>)] = &[
@@ -268,16 +283,28 @@ const PADDINGS: &[(&str, Option<PaddingError>)] = &[
     ("a1llllllllm6su8m", None),
 ];
 
-// Both tests of texts by Bech32m.
+// The results of the test of a program's length for versions 0 and 1.
+fn length_errors(checked: CheckedHrpstring<'_>) -> [Option<WitnessLengthError>; 2] {
+    [
+        checked.validate_witness_program_length(Fe32::Q).err(),
+        checked.validate_witness_program_length(Fe32::P).err(),
+    ]
+}
+
+// Fails where the tests of padding and of a program's length give other results for texts by
+// Bech32m.
 fn tests_texts<Ck: Checksum>(rt: &impl Abort) {
     for &(text, padding) in PADDINGS {
-        tests_padding::<Ck>(rt, text, padding);
+        let refusal = accepted::<Ck>(rt, text).validate_segwit_padding().err();
+        same(rt, &(text, refusal), &(text, padding));
     }
+    let found = [
+        length_errors(accepted::<Ck>(rt, "a1qqqq726jfk")),
+        length_errors(accepted::<Ck>(rt, "a1qqqcmw5yr")),
+    ];
     let invalid = Some(WitnessLengthError::InvalidSegwitV0);
     let too_short = Some(WitnessLengthError::TooShort);
-    tests_length::<Ck>(rt, "a1qqqq726jfk", Fe32::Q, invalid);
-    tests_length::<Ck>(rt, "a1qqqq726jfk", Fe32::P, None);
-    tests_length::<Ck>(rt, "a1qqqcmw5yr", Fe32::P, too_short);
+    same(rt, &found, &[[invalid, None], [too_short, too_short]]);
 }
 
 #[test]

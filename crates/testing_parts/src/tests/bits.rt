@@ -120,6 +120,18 @@ fn elements_as_bytes(rt: HostRuntime) {
     bytes_are(&rt, &[Fe32::L], false, &[(0, None), (0, None)]);
     let rows = [(1, Some(0xab)), (0, None), (0, None)];
     bytes_are(&rt, &[Fe32::_4, Fe32::V], false, &rows);
+    let rows = [(1, Some(0xf8)), (0, None), (0, None)];
+    bytes_are(&rt, &[Fe32::L], true, &rows);
+    let rows = [
+        (6, Some(0xff)),
+        (5, Some(0xff)),
+        (4, Some(0xff)),
+        (3, Some(0xff)),
+        (2, Some(0xff)),
+        (1, Some(0xf8)),
+        (0, None),
+    ];
+    bytes_are(&rt, &[Fe32::L; 9], true, &rows);
     let fes = fes_of(rt.alloc(), &[0x75, 0x1e, 0x76, 0xe8, 0x19]).expect(&rt, "memory");
     same(&rt, &fes.len(), &8);
     let rows = [
@@ -147,6 +159,8 @@ fn incomplete_bytes(rt: HostRuntime) {
         &bytes_of(rt.alloc(), &nine, true).expect(&rt, "memory"),
         &[0xff, 0xff, 0xff, 0xff, 0xff, 0xf8],
     );
+    let bytes = FesToBytes::new([0xabu8].iter().copied().bytes_to_fes(), true);
+    all_bytes(&rt, rt.alloc(), bytes, &[0xab, 0]);
 }
 
 #[test]
@@ -180,10 +194,7 @@ fn size_hints_of_elements(rt: HostRuntime) {
     let mut fes = TwoItems::new(0xab, None).bytes_to_fes();
     let found = (fes.size_hint(), fes.next().is_some(), fes.size_hint());
     same(&rt, &found, &((0, None), true, (1, None)));
-}
-
-#[test]
-fn size_hints_of_elements_below_a_great_number(rt: HostRuntime) {
+    // Below a great number.
     let mut fes = TwoItems::new(0xab, Some(usize::MAX)).bytes_to_fes();
     let first = (fes.size_hint(), fes.next().is_some());
     let others = [fes.next().is_some(), fes.next().is_some()];
@@ -191,10 +202,7 @@ fn size_hints_of_elements_below_a_great_number(rt: HostRuntime) {
     same(&rt, &first, &((0, None), true));
     same(&rt, &others, &[true; 2]);
     same(&rt, &last, &((1, None), true, (0, Some(0))));
-}
-
-#[test]
-fn size_hints_of_fewer_elements_than_said(rt: HostRuntime) {
+    // Of fewer than said.
     let mut fes = TwoOfFive::new(0xab).bytes_to_fes();
     let first = (fes.size_hint(), fes.next().is_some());
     let others = [fes.next().is_some(), fes.next().is_some()];
@@ -234,11 +242,7 @@ fn very_many_items(rt: HostRuntime) {
     same(&rt, &bytes.len(), &11529215046068469759);
     let bytes = FesToBytes::new(Many::new(Fe32::_4, usize::MAX), true);
     same(&rt, &bytes.len(), &11529215046068469760);
-}
-
-// The greatest number of bytes whose elements fit, and one more.
-#[test]
-fn as_many_items_as_fit(rt: HostRuntime) {
+    // The greatest number of bytes whose elements fit, and one more.
     let mut fes = Many::new(0xab, 11529215046068469759).bytes_to_fes();
     let most = 18446744073709551615;
     same(
@@ -253,31 +257,20 @@ fn as_many_items_as_fit(rt: HostRuntime) {
 
 #[test]
 fn endless_items(rt: HostRuntime) {
-    let fes = iter::repeat(0xab).bytes_to_fes();
-    let want = [Fe32::_4, Fe32::W, Fe32::_4, Fe32::_6, Fe32::H, Fe32::_2];
-    same(&rt, &first_difference(fes.take(6), &want), &None);
-}
-
-#[test]
-fn endless_elements(rt: HostRuntime) {
-    for padded in [false, true] {
-        let bytes = FesToBytes::new(iter::repeat(Fe32::_4), padded);
-        let want = [0xad, 0x6b, 0x5a, 0xd6, 0xb5, 0xad];
-        let found = first_difference(bytes.take(6), &want);
-        same(&rt, &(padded, found), &(padded, None));
-    }
-}
-
-#[test]
-fn size_hints_of_endless_items(rt: HostRuntime) {
     let mut fes = iter::repeat(0xab).bytes_to_fes();
     same(&rt, &fes.next(), &Some(Fe32::_4));
     same(&rt, &fes.size_hint(), &(usize::MAX, None));
+    let fes = iter::repeat(0xab).bytes_to_fes();
+    let want = [Fe32::_4, Fe32::W, Fe32::_4, Fe32::_6, Fe32::H, Fe32::_2];
+    same(&rt, &first_difference(fes.take(6), &want), &None);
     // Five eighths of the greatest number, since the lower bound of `repeat` is no greater.
     for row in [(false, 11529215046068469759), (true, 11529215046068469760)].iter() {
         let (padded, least) = *row;
         let bytes = FesToBytes::new(iter::repeat(Fe32::_4), padded);
         same(&rt, &bytes.size_hint(), &(least, None));
+        let want = [0xad, 0x6b, 0x5a, 0xd6, 0xb5, 0xad];
+        let found = first_difference(bytes.take(6), &want);
+        same(&rt, &(padded, found), &(padded, None));
     }
 }
 
@@ -307,10 +300,22 @@ fn byte(i: u32, j: u32) -> u8 {
     (i.wrapping_mul(37).wrapping_add(j) % 256) as u8
 }
 
+// The bytes of list `i`.
+fn six_bytes(i: u32) -> [u8; 6] {
+    [
+        byte(i, 0),
+        byte(i, 1),
+        byte(i, 2),
+        byte(i, 3),
+        byte(i, 4),
+        byte(i, 5),
+    ]
+}
+
 #[test]
 fn same_as_plain(rt: HostRuntime) {
     for i in 0..256u32 {
-        let bytes = [0u32, 1, 2, 3, 4, 5].map(|j| byte(i, j));
+        let bytes = six_bytes(i);
         for length in 0..=6usize {
             let first = bytes.get(..length).expect(&rt, "too long");
             let agreed = agree(rt.alloc(), first).expect(&rt, "memory");
@@ -330,36 +335,14 @@ fn one_at_a_time(rt: HostRuntime) {
     same_items(&rt, &back, &[0xab, 0xcd]);
 }
 
-#[test]
-fn filled_bytes(rt: HostRuntime) {
-    let bytes = FesToBytes::new([0xabu8].iter().copied().bytes_to_fes(), true);
-    all_bytes(&rt, rt.alloc(), bytes, &[0xab, 0]);
-    let rows = [
-        (6, Some(0xff)),
-        (5, Some(0xff)),
-        (4, Some(0xff)),
-        (3, Some(0xff)),
-        (2, Some(0xff)),
-        (1, Some(0xf8)),
-        (0, None),
-    ];
-    bytes_are(&rt, &[Fe32::L; 9], true, &rows);
-    let rows = [(1, Some(0xf8)), (0, None), (0, None)];
-    bytes_are(&rt, &[Fe32::L], true, &rows);
-}
-
 // A clone goes on where the iterator stands, and leaves it there.
 #[test]
-fn clones_of_elements(rt: HostRuntime) {
+fn clones_go_on(rt: HostRuntime) {
     let mut fes = [0xabu8].iter().copied().bytes_to_fes();
     same(&rt, &fes.next(), &Some(Fe32::_4));
     let mut other = clone_of(&rt, &fes);
     let found = [fes_step(&mut other), fes_step(&mut other)];
     same_items(&rt, &found, &[fes_step(&mut fes), fes_step(&mut fes)]);
-}
-
-#[test]
-fn clones_of_bytes(rt: HostRuntime) {
     let three = [Fe32::_4, Fe32::V, Fe32::L];
     let mut bytes = FesToBytes::new(three.iter().copied(), true);
     same(&rt, &bytes.next(), &Some(0xab));

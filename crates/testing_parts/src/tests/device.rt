@@ -6,29 +6,16 @@ use devices::{ByteSink, ByteSource, Watched, write_all};
 use std::io;
 use testing_tools::writers::Narrow;
 
-// Takes nothing, and returns `Ok(0)`.
-#[derive(Drop)]
-struct Full;
-
-impl io::Write for Full {
-    fn write(&mut self, _buf: &[u8]) -> io::Result<usize> {
-        Ok(0)
-    }
-
-    fn flush(&mut self) -> io::Result<()> {
-        Ok(())
-    }
-}
-
-// Takes all, and fails at its first flush.
+// Takes at most `most` bytes a call, or returns `Ok(0)`, and fails at its first flush.
 #[derive(Drop)]
 struct Clogged {
+    most: usize,
     flushes: u8,
 }
 
 impl io::Write for Clogged {
     fn write(&mut self, buf: &[u8]) -> io::Result<usize> {
-        Ok(buf.len())
+        Ok(buf.len().min(self.most))
     }
 
     fn flush(&mut self) -> io::Result<()> {
@@ -93,26 +80,25 @@ fn flush_once<K: ByteSink>(sink: &mut K) -> Answer<usize> {
     if sink.failed() {
         return None;
     }
-    let outcome = sink.flush().ok().map(|()| 0);
+    let outcome = match sink.flush() {
+        Ok(()) => Some(0),
+        Err(_) => None,
+    };
     Some((outcome, sink.failed()))
 }
 
-// What a call returned, where an error is told by its kind.
-fn by_kind(outcome: io::Result<()>) -> Result<(), io::ErrorKind> {
-    match outcome {
-        Ok(()) => Ok(()),
-        Err(error) => Err(error.kind()),
-    }
-}
-
-// What writing all to a new sink over a writer returned, and the mark before and after it.
+// What writing all to a new sink over a writer returned, where an error is told by its kind, and
+// the mark before and after it.
 fn write_all_once<W: io::Write>(
     writer: &mut W,
     bytes: &[u8],
 ) -> (bool, Result<(), io::ErrorKind>, bool) {
     let mut sink = Watched::new(writer);
     let marked_at_first = sink.failed();
-    let outcome = by_kind(write_all(&mut sink, bytes));
+    let outcome = match write_all(&mut sink, bytes) {
+        Ok(()) => Ok(()),
+        Err(error) => Err(error.kind()),
+    };
     (marked_at_first, outcome, sink.failed())
 }
 
@@ -190,7 +176,10 @@ fn write_five(writer: &mut Narrow) -> [Answer<usize>; 5] {
 
 #[test]
 fn write_that_takes_nothing_marks(rt: HostRuntime) {
-    let mut writer = Full;
+    let mut writer = Clogged {
+        most: 0,
+        flushes: 0,
+    };
     let mut sink = Watched::new(&mut writer);
     let writes = [
         write_once(&mut sink, b""),
@@ -215,7 +204,10 @@ fn write_that_takes_nothing_marks(rt: HostRuntime) {
 
 #[test]
 fn flush_that_fails_marks(rt: HostRuntime) {
-    let mut writer = Clogged { flushes: 0 };
+    let mut writer = Clogged {
+        most: usize::MAX,
+        flushes: 0,
+    };
     let mut sink = Watched::new(&mut writer);
     let first = [
         write_once(&mut sink, b"ab"),

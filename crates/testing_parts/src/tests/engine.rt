@@ -59,19 +59,6 @@ fn characters(row: u32) -> [char; 6] {
     characters
 }
 
-// Whether a clone of an engine equals it.
-fn equals_its_clone<Ck: Checksum>(engine: &Engine<Ck>) -> bool {
-    match engine.clone() {
-        Ok(copy) => copy == *engine,
-        Err(_) => false,
-    }
-}
-
-// Whether nothing was given to an engine.
-fn is_new<Ck: Checksum>(engine: &Engine<Ck>) -> bool {
-    *engine == Engine::new()
-}
-
 // Whether a clone of an engine equals it, and no more once the target was given.
 fn is_changed_by_the_target<Ck: Checksum>(engine: &mut Engine<Ck>) -> bool {
     let Ok(before) = engine.clone() else {
@@ -99,10 +86,23 @@ fn checksum_of_part<Ck: Checksum<MidstateRepr = u32>>(rt: &impl Abort) -> (bool,
     (is_changed, characters(*engine.residue()))
 }
 
-// Fails where the checksum of one letter is another one.
+// Whether an engine is new before an element, and behind it, and whether a clone of it equals it.
+fn comparisons<Ck: Checksum>() -> [bool; 3] {
+    let mut engine = Engine::<Ck>::default();
+    let is_new_before = engine == Engine::new();
+    engine.input_fe(Fe32::L);
+    let equals_its_clone = match engine.clone() {
+        Ok(copy) => copy == engine,
+        Err(_) => false,
+    };
+    [is_new_before, engine == Engine::new(), equals_its_clone]
+}
+
+// Fails where the checksum of one letter is another one, or engines are told apart otherwise.
 fn has_checksum<Ck: Checksum<MidstateRepr = u32>>(rt: &impl Abort, want: [char; 6]) {
     same(rt, &checksum_of_elements::<Ck>(), &want);
     same(rt, &checksum_of_part::<Ck>(rt), &(true, want));
+    same(rt, &comparisons::<Ck>(), &[true, false, true]);
 }
 
 #[test]
@@ -136,18 +136,8 @@ fn has_places<R: PackedFe32>(row: R, elements: &[Fe32]) -> bool
     true
 }
 
-// Whether an engine that was given 40 elements holds the remainder by long division.
-fn agrees<Ck: Checksum>(rt: &impl Abort, alloc: Global, low: &[Fe32]) -> bool
-    requires { length low.now ≤ Ck.MidstateRepr.WIDTH }
-{
-    let (elements, polynomial) = forty();
-    let mut engine = Engine::<Ck>::new();
-    input_all(&mut engine, &elements);
-    let rest = remainder(alloc, &polynomial, low).expect(rt, "memory");
-    rest.len() == low.len() && has_places(*engine.residue(), &rest)
-}
-
-// The same, and what the test of the roots finds.
+// Whether an engine that was given 40 elements holds the remainder by long division, and what the
+// test of the roots finds.
 fn is_lawful<Ck: Checksum>(
     rt: &impl Abort,
     alloc: Global,
@@ -155,7 +145,12 @@ fn is_lawful<Ck: Checksum>(
 ) -> (bool, (bool, Option<usize>))
     requires { length low.now ≤ Ck.MidstateRepr.WIDTH }
 {
-    (agrees::<Ck>(rt, alloc, low), tested::<Ck>())
+    let (elements, polynomial) = forty();
+    let mut engine = Engine::<Ck>::new();
+    input_all(&mut engine, &elements);
+    let rest = remainder(alloc, &polynomial, low).expect(rt, "memory");
+    let agrees = rest.len() == low.len() && has_places(*engine.residue(), &rest);
+    (agrees, tested::<Ck>())
 }
 
 // Long division, and lawful roots: whether they pass the test, and how many stand in a row.
@@ -179,38 +174,21 @@ fn same_as_long_division(rt: HostRuntime) {
     same_items(&rt, &found, &want);
 }
 
-// What an engine holds behind a part, an element and the target, and whether it is as at first.
-fn after_all<Ck: Checksum>(rt: &impl Abort) -> (Ck::MidstateRepr, bool) {
+// How long texts and their checksums may be; and of an engine, behind a part, an element and the
+// target, what it holds and whether it is as at first.
+fn after_all<Ck: Checksum>(rt: &impl Abort) -> ([usize; 2], (Ck::MidstateRepr, bool)) {
     let mut engine = Engine::<Ck>::new();
     engine.input_hrp(Hrp::parse("a").expect(rt, "a part"));
     engine.input_fe(Fe32::L);
     engine.input_target_residue();
-    (*engine.residue(), engine == Engine::default())
-}
-
-// How long texts may be, and their checksums.
-fn lengths<Ck: Checksum>() -> [usize; 2] {
-    [Ck::CODE_LENGTH, Ck::CHECKSUM_LENGTH]
+    let behind = (*engine.residue(), engine == Engine::default());
+    ([Ck::CODE_LENGTH, Ck::CHECKSUM_LENGTH], behind)
 }
 
 // No element changes the remainder by the polynomial 1.
 #[test]
 fn no_checksum(rt: HostRuntime) {
-    let (residue, is_new) = after_all::<NoChecksum>(&rt);
-    same(&rt, &residue, &PackedNull);
-    same_items(&rt, &lengths::<NoChecksum>(), &[usize::MAX, 0]);
-    same(&rt, &is_new, &true);
-}
-
-// Whether an engine is new before an element, and behind it, and whether a clone of it equals it.
-fn comparisons<Ck: Checksum>() -> [bool; 3] {
-    let mut engine = Engine::<Ck>::default();
-    let is_new_before = is_new(&engine);
-    engine.input_fe(Fe32::L);
-    [is_new_before, is_new(&engine), equals_its_clone(&engine)]
-}
-
-#[test]
-fn equal_engines(rt: HostRuntime) {
-    same(&rt, &comparisons::<Bech32>(), &[true, false, true]);
+    let (lengths, behind) = after_all::<NoChecksum>(&rt);
+    same(&rt, &lengths, &[usize::MAX, 0]);
+    same(&rt, &behind, &(PackedNull, true));
 }

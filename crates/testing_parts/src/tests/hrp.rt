@@ -19,7 +19,10 @@ fn hash_of(hrp: &Hrp) -> u64 {
 
 // The length of the part that a text is, or why it is none.
 fn read(text: &str) -> Result<usize, Error> {
-    Hrp::parse(text).map(|h| h.len())
+    match Hrp::parse(text) {
+        Ok(hrp) => Ok(hrp.len()),
+        Err(error) => Err(error),
+    }
 }
 
 // The same of a text and another one behind it, this many times.
@@ -64,20 +67,21 @@ fn refuses_by_length(rt: HostRuntime) {
     );
 }
 
-// Fails where a text is read as a part, or refused otherwise.
-fn refuses(rt: &impl Abort, text: &str, error: Error) {
-    same(rt, &(text, read(text)), &(text, Err(error)));
-}
+const REFUSED: &[(&str, Error)] = &[
+    ("a b", Error::InvalidAsciiByte(0x20)),
+    ("a\u{7f}B", Error::InvalidAsciiByte(0x7f)),
+    ("aB", Error::MixedCase),
+    ("Ab", Error::MixedCase),
+    ("aBé", Error::MixedCase),
+    ("é", Error::NonAsciiChar('é')),
+    ("aéB", Error::NonAsciiChar('é')),
+];
 
 #[test]
 fn refuses_at_the_first_bad_character(rt: HostRuntime) {
-    refuses(&rt, "a b", Error::InvalidAsciiByte(0x20));
-    refuses(&rt, "a\u{7f}B", Error::InvalidAsciiByte(0x7f));
-    refuses(&rt, "aB", Error::MixedCase);
-    refuses(&rt, "Ab", Error::MixedCase);
-    refuses(&rt, "aBé", Error::MixedCase);
-    refuses(&rt, "é", Error::NonAsciiChar('é'));
-    refuses(&rt, "aéB", Error::NonAsciiChar('é'));
+    for &(text, error) in REFUSED {
+        same(&rt, &(text, read(text)), &(text, Err(error)));
+    }
 }
 
 #[test]
@@ -86,11 +90,8 @@ fn keeps_the_parsed_case(rt: HostRuntime) {
     same_items(&rt, hrp.as_bytes(), b"~ABC!1");
     same(&rt, &(hrp.as_str(), hrp.len()), &("~ABC!1", 6));
     same(&rt, &shown(rt.alloc(), &hrp).as_str(), &"~ABC!1");
-}
-
-// As in the Rust crate, which writes one character after the other.
-#[test]
-fn a_width_and_a_precision_change_nothing(rt: HostRuntime) {
+    // A width and a precision change nothing, as in the Rust crate, which writes one character
+    // after the other.
     let hrp = part(&rt, "ABC");
     let shown = format!(in rt.alloc(); "{hrp:9}{hrp:>9}{hrp:*^9}{hrp:.2}{hrp:08.1}");
     same(
@@ -136,17 +137,6 @@ fn compares_without_case(rt: HostRuntime) {
     same(&rt, &upper.cmp(&lower), &Ordering::Equal);
 }
 
-#[test]
-fn spells_the_networks(rt: HostRuntime) {
-    let texts = [BC.as_str(), TB.as_str(), BCRT.as_str()];
-    same_items(&rt, &texts, &["bc", "tb", "bcrt"]);
-    same_items(
-        &rt,
-        &[BC, TB, BCRT],
-        &[part(&rt, "BC"), part(&rt, "TB"), part(&rt, "bcrt")],
-    );
-}
-
 // Fails where a part is one of other networks.
 fn is_of(rt: &impl Abort, hrp: Hrp, want: [bool; 5]) {
     same(rt, &(hrp, networks(&hrp)), &(hrp, want));
@@ -154,6 +144,13 @@ fn is_of(rt: &impl Abort, hrp: Hrp, want: [bool; 5]) {
 
 #[test]
 fn knows_the_networks(rt: HostRuntime) {
+    let texts = [BC.as_str(), TB.as_str(), BCRT.as_str()];
+    same_items(&rt, &texts, &["bc", "tb", "bcrt"]);
+    same_items(
+        &rt,
+        &[BC, TB, BCRT],
+        &[part(&rt, "BC"), part(&rt, "TB"), part(&rt, "bcrt")],
+    );
     is_of(&rt, BC, [true, true, false, false, false]);
     is_of(&rt, TB, [true, false, true, true, false]);
     is_of(&rt, BCRT, [false, false, false, false, true]);
@@ -161,26 +158,24 @@ fn knows_the_networks(rt: HostRuntime) {
     is_of(&rt, part(&rt, "BC"), [true, true, false, false, false]);
 }
 
+const MESSAGES: &[(Error, &str)] = &[
+    (
+        Error::TooLong(84),
+        "hrp is too long, found 84 characters, must be <= 83",
+    ),
+    (Error::Empty, "hrp is empty, must have at least 1 character"),
+    (Error::NonAsciiChar('é'), "found non-ASCII character: é"),
+    (
+        Error::InvalidAsciiByte(0x7f),
+        "byte value is not valid US-ASCII: '7f'",
+    ),
+    (Error::MixedCase, "hrp cannot mix upper and lower case"),
+    (Error::Fmt, "formatting failed"),
+];
+
 #[test]
 fn tells_the_fault(rt: HostRuntime) {
-    let alloc = rt.alloc();
-    let message = "hrp is too long, found 84 characters, must be <= 83";
-    prints(&rt, alloc, &Error::TooLong(84), message);
-    let message = "hrp is empty, must have at least 1 character";
-    prints(&rt, alloc, &Error::Empty, message);
-    prints(
-        &rt,
-        alloc,
-        &Error::NonAsciiChar('é'),
-        "found non-ASCII character: é",
-    );
-    let message = "byte value is not valid US-ASCII: '7f'";
-    prints(&rt, alloc, &Error::InvalidAsciiByte(0x7f), message);
-    prints(
-        &rt,
-        alloc,
-        &Error::MixedCase,
-        "hrp cannot mix upper and lower case",
-    );
-    prints(&rt, alloc, &Error::Fmt, "formatting failed");
+    for (error, message) in MESSAGES {
+        prints(&rt, rt.alloc(), error, message);
+    }
 }

@@ -79,11 +79,6 @@ fn items(upper: u8, lower: u8) -> Items {
 
 const ENDED: Items = (None, None, None, None);
 
-// What the four give at one end.
-fn given(four: &mut Four<'_>, at_back: bool) -> Items {
-    if at_back { back(four) } else { front(four) }
-}
-
 // What they should give there where this is left, and what is left then.
 fn wanted(rest: &[(u8, u8)], at_back: bool) -> (Items, &[(u8, u8)]) {
     let split = if at_back {
@@ -105,7 +100,12 @@ fn walks(rt: &impl Abort, hrp: &Hrp, sides: u32) {
         same_lengths(rt, &walk, rest.len());
         let at_back = sides >> turn & 1 == 1;
         let (want, others) = wanted(rest, at_back);
-        same(rt, &(sides, given(&mut walk, at_back)), &(sides, want));
+        let found = if at_back {
+            back(&mut walk)
+        } else {
+            front(&mut walk)
+        };
+        same(rt, &(sides, found), &(sides, want));
         rest = others;
     }
 }
@@ -116,10 +116,6 @@ fn gives_items_from_both_ends(rt: HostRuntime) {
     for sides in 0..64u32 {
         walks(&rt, &hrp, sides);
     }
-}
-
-#[test]
-fn gives_characters(rt: HostRuntime) {
     let hrp = part(&rt, "AB");
     let mut chars = hrp.char_iter();
     let got = [chars.next_back(), chars.next_back(), chars.next_back()];

@@ -28,14 +28,6 @@ fn tells_why_a_text_is_no_address(rt: HostRuntime) {
         "parsing unchecked hrpstring failed: character error: mixed-case strings not allowed";
     let mixed = UncheckedHrpstringError::Char(CharError::MixedCase);
     prints::<SegwitHrpstringError>(&rt, alloc, &mixed.into(), message);
-    let message = "no data found after removing the checksum";
-    prints(&rt, alloc, &SegwitHrpstringError::NoData, message);
-    let message = "encoded length 91 exceeds spec limit 90 chars";
-    prints(&rt, alloc, &SegwitHrpstringError::TooLong(91), message);
-    let message = "invalid segwit witness version: 17 (bech32 character: '3')";
-    let version = SegwitHrpstringError::InvalidWitnessVersion(Fe32::_3);
-    prints(&rt, alloc, &version, message);
-    prints(&rt, alloc, &SegwitHrpstringError::Memory, "out of memory");
     let message =
         "invalid padding on the witness data: the data payload has too many bits of padding";
     prints::<SegwitHrpstringError>(&rt, alloc, &PaddingError::TooMuch.into(), message);
@@ -48,6 +40,14 @@ fn tells_why_a_text_is_no_address(rt: HostRuntime) {
     prints::<SegwitHrpstringError>(&rt, alloc, &ChecksumError::InvalidLength.into(), message);
     let length = SegwitHrpstringError::Checksum(ChecksumError::InvalidLength);
     prints(&rt, alloc, &length, message);
+    let message = "no data found after removing the checksum";
+    prints(&rt, alloc, &SegwitHrpstringError::NoData, message);
+    let message = "encoded length 91 exceeds spec limit 90 chars";
+    prints(&rt, alloc, &SegwitHrpstringError::TooLong(91), message);
+    let message = "invalid segwit witness version: 17 (bech32 character: '3')";
+    let version = SegwitHrpstringError::InvalidWitnessVersion(Fe32::_3);
+    prints(&rt, alloc, &version, message);
+    prints(&rt, alloc, &SegwitHrpstringError::Memory, "out of memory");
     tells_too_long(&rt, alloc);
 }
 
@@ -56,6 +56,21 @@ fn tells_refusal(rt: &impl Abort, alloc: Global, text: &str, message: &str) {
     let error = CheckedHrpstring::new::<Bech32>(text).err();
     prints(rt, alloc, &error.expect(rt, "it is refused"), message);
 }
+
+const OF_LENGTHS: &[(WitnessLengthError, &str)] = &[
+    (
+        WitnessLengthError::TooShort,
+        "witness program is less than 2 bytes long",
+    ),
+    (
+        WitnessLengthError::TooLong,
+        "witness program is more than 40 bytes long",
+    ),
+    (
+        WitnessLengthError::InvalidSegwitV0,
+        "the segwit v0 witness is not 20 or 32 bytes long",
+    ),
+];
 
 #[test]
 fn tells_why_a_text_is_not_accepted(rt: HostRuntime) {
@@ -67,10 +82,7 @@ fn tells_why_a_text_is_not_accepted(rt: HostRuntime) {
     let error = InvalidWitnessVersionError(Fe32::_3);
     let message = "invalid segwit witness version: 17 (bech32 character: '3')";
     prints(&rt, alloc, &error, message);
-    let message = "witness program is less than 2 bytes long";
-    prints(&rt, alloc, &WitnessLengthError::TooShort, message);
-    let message = "witness program is more than 40 bytes long";
-    prints(&rt, alloc, &WitnessLengthError::TooLong, message);
-    let message = "the segwit v0 witness is not 20 or 32 bytes long";
-    prints(&rt, alloc, &WitnessLengthError::InvalidSegwitV0, message);
+    for (error, message) in OF_LENGTHS {
+        prints(&rt, alloc, error, message);
+    }
 }

@@ -36,9 +36,14 @@ fn full_rows(rt: HostRuntime) {
     same_items(&rt, &widths, &[6, 12, 25, 0]);
     let row: u32 = row_of(&rt, &[31, 30, 29, 28, 27, 26]);
     same(&rt, &row, &0b11111_11110_11101_11100_11011_11010);
-    let _: u64 = row_of(&rt, &RISING[..12]);
-    let _: u128 = row_of(&rt, &RISING);
     let row: PackedNull = row_of(&rt, &[]);
+    same(&rt, &row, &PackedNull);
+    // Nothing fits nothing.
+    let mut row = PackedNull::pack([1, 2, 255].into_iter());
+    same(&rt, &row, &PackedNull);
+    same(&rt, &row, &(PackedNull::ONE ^ row));
+    same(&rt, &row.unpack(7), &0);
+    same(&rt, &row.mul_by_x_then_add(3, 200), &0);
     same(&rt, &row, &PackedNull);
 }
 
@@ -59,8 +64,9 @@ fn words_of_checksums(rt: HostRuntime) {
     );
 }
 
+// A full row is read back, too.
 #[test]
-fn moves_up_in_u32(rt: HostRuntime) {
+fn moves_up_in_u32_and_u64(rt: HostRuntime) {
     let mut row: u32 = 0x3b6a57b2;
     same(&rt, &row.mul_by_x_then_add(6, 7), &29);
     shows(&rt, row, &[22, 20, 21, 29, 18, 7]);
@@ -68,10 +74,7 @@ fn moves_up_in_u32(rt: HostRuntime) {
     let mut row = u32::ONE;
     same(&rt, &row.mul_by_x_then_add(1, 31), &1);
     shows(&rt, row, &[0, 0, 0, 0, 0, 31]);
-}
 
-#[test]
-fn moves_up_in_u64(rt: HostRuntime) {
     let mut row: u64 = row_of(&rt, &RISING[..12]);
     assert!(rt; row < 1 << 60);
     same(&rt, &row.mul_by_x_then_add(12, 31), &1);
@@ -105,14 +108,4 @@ fn moves_up_in_u128(rt: HostRuntime) {
         row,
         &[0, 0, 27, 17, 8, 0, 25, 25, 25, 31, 27, 24, 16, 16, 1],
     );
-}
-
-#[test]
-fn nothing_fits_nothing(rt: HostRuntime) {
-    let mut row = PackedNull::pack([1, 2, 255].into_iter());
-    same(&rt, &row, &PackedNull);
-    same(&rt, &row, &(PackedNull::ONE ^ row));
-    same(&rt, &row.unpack(7), &0);
-    same(&rt, &row.mul_by_x_then_add(3, 200), &0);
-    same(&rt, &row, &PackedNull);
 }

@@ -5,29 +5,22 @@ use std::fmt;
 use std::fmt::Write;
 use std::process::Abort;
 
-// Prints these pieces.
+// Prints these pieces, and then fails where it is broken.
 #[derive(Drop)]
-struct Pieces<'a>(&'a [&'a str]);
+struct Pieces<'a> {
+    pieces: &'a [&'a str],
+    is_broken: bool,
+}
 
 impl fmt::Display for Pieces<'_> {
     fn fmt<W: fmt::Write>(&self, f: &mut fmt::Formatter<W>) -> fmt::Result {
-        for piece in self.0 {
+        for piece in self.pieces {
             f.write_str(piece)?;
+        }
+        if self.is_broken {
+            return Err(fmt::Error);
         }
         Ok(())
-    }
-}
-
-// Prints these pieces, and then fails.
-#[derive(Drop)]
-struct Broken<'a>(&'a [&'a str]);
-
-impl fmt::Display for Broken<'_> {
-    fn fmt<W: fmt::Write>(&self, f: &mut fmt::Formatter<W>) -> fmt::Result {
-        for piece in self.0 {
-            f.write_str(piece)?;
-        }
-        Err(fmt::Error)
     }
 }
 
@@ -51,19 +44,29 @@ fn same_part(rt: &impl Abort, got: &Result<Hrp, Error>, want: Result<&str, Error
 // Both ways of reading these pieces give this.
 fn both(rt: &impl Abort, pieces: &[&str], want: Result<&str, Error>) {
     same_part(rt, &by_sink(rt, pieces), want);
-    same_part(rt, &Hrp::parse_display(Pieces(pieces)), want);
+    let value = Pieces {
+        pieces,
+        is_broken: false,
+    };
+    same_part(rt, &Hrp::parse_display(value), want);
 }
+
+const READ: &[(&[&str], Result<&str, Error>)] = &[
+    (&["", "ab"], Ok("ab")),
+    (&["AB", "", "1", "C~"], Ok("AB1C~")),
+    (&[], Err(Error::Empty)),
+    (&["", ""], Err(Error::Empty)),
+    (&["a", "B"], Err(Error::MixedCase)),
+    (&["A", "1", "b"], Err(Error::MixedCase)),
+    (&["a", " ", "B"], Err(Error::InvalidAsciiByte(0x20))),
+    (&["ab", "é", "B"], Err(Error::NonAsciiChar('é'))),
+];
 
 #[test]
 fn reads_pieces(rt: HostRuntime) {
-    both(&rt, &["", "ab"], Ok("ab"));
-    both(&rt, &["AB", "", "1", "C~"], Ok("AB1C~"));
-    both(&rt, &[], Err(Error::Empty));
-    both(&rt, &["", ""], Err(Error::Empty));
-    both(&rt, &["a", "B"], Err(Error::MixedCase));
-    both(&rt, &["A", "1", "b"], Err(Error::MixedCase));
-    both(&rt, &["a", " ", "B"], Err(Error::InvalidAsciiByte(0x20)));
-    both(&rt, &["ab", "é", "B"], Err(Error::NonAsciiChar('é')));
+    for &(pieces, want) in READ {
+        both(&rt, pieces, want);
+    }
 }
 
 // Texts of 82 to 84 letters, and one of 21 accented letters, which is half as long as the last.
@@ -78,18 +81,16 @@ const LONGER: &str =
 
 const ACCENTS: &str = "ééééééééééééééééééééé";
 
-#[test]
-fn reads_pieces_by_their_length(rt: HostRuntime) {
-    let too_long = Err(Error::TooLong(84));
-    both(&rt, &[LONGEST], Ok(LONGEST));
-    both(&rt, &[CUT, "a"], Ok(LONGEST));
-    both(&rt, &[LONGER], too_long);
-    both(&rt, &[LONGEST, "a"], too_long);
-    both(&rt, &[" ", LONGEST], too_long);
-    both(&rt, &[ACCENTS, ACCENTS], too_long);
-    both(&rt, &[CUT, "é"], too_long);
-    both(&rt, &[LONGER, LONGER, "B"], Err(Error::TooLong(169)));
-}
+const READ_BY_LENGTH: &[(&[&str], Result<&str, Error>)] = &[
+    (&[LONGEST], Ok(LONGEST)),
+    (&[CUT, "a"], Ok(LONGEST)),
+    (&[LONGER], Err(Error::TooLong(84))),
+    (&[LONGEST, "a"], Err(Error::TooLong(84))),
+    (&[" ", LONGEST], Err(Error::TooLong(84))),
+    (&[ACCENTS, ACCENTS], Err(Error::TooLong(84))),
+    (&[CUT, "é"], Err(Error::TooLong(84))),
+    (&[LONGER, LONGER, "B"], Err(Error::TooLong(169))),
+];
 
 // Fails where one of the 83 fronts of a text is not read as it is printed.
 fn reads_each_front(rt: &impl Abort, alloc: Global, text: &str) {
@@ -101,22 +102,25 @@ fn reads_each_front(rt: &impl Abort, alloc: Global, text: &str) {
 }
 
 #[test]
-fn reads_values_of_each_length(rt: HostRuntime) {
+fn reads_pieces_by_their_length(rt: HostRuntime) {
+    for &(pieces, want) in READ_BY_LENGTH {
+        both(&rt, pieces, want);
+    }
     reads_each_front(&rt, rt.alloc(), LONGEST);
 }
 
-// A value that prints these pieces and then fails is no part.
-fn does_not_print(rt: &impl Abort, pieces: &[&str]) {
-    same_part(rt, &Hrp::parse_display(Broken(pieces)), Err(Error::Fmt));
-}
+const BROKEN: &[&[&str]] = &[&[], &["ab"], &["a", "B"], &["é"], &[LONGER]];
 
+// A value that prints these pieces and then fails is no part.
 #[test]
 fn tells_that_a_value_does_not_print(rt: HostRuntime) {
-    does_not_print(&rt, &[]);
-    does_not_print(&rt, &["ab"]);
-    does_not_print(&rt, &["a", "B"]);
-    does_not_print(&rt, &["é"]);
-    does_not_print(&rt, &[LONGER]);
+    for &pieces in BROKEN {
+        let value = Pieces {
+            pieces,
+            is_broken: true,
+        };
+        same_part(&rt, &Hrp::parse_display(value), Err(Error::Fmt));
+    }
 }
 
 #[test]

@@ -22,8 +22,8 @@ fn read<'a>(rt: &impl Abort, text: &'a str) -> UncheckedHrpstring<'a> {
     UncheckedHrpstring::new(text).expect(rt, "a text")
 }
 
-// A text that a checksum accepts; fails where it does not.
-fn accepted<'a, Ck: Checksum>(rt: &impl Abort, text: &'a str) -> CheckedHrpstring<'a> {
+/// A text that a checksum accepts; fails where it does not.
+pub fn accepted<'a, Ck: Checksum>(rt: &impl Abort, text: &'a str) -> CheckedHrpstring<'a> {
     CheckedHrpstring::new::<Ck>(text).expect(rt, "an accepted text")
 }
 
@@ -44,34 +44,32 @@ fn letters(rt: &impl Abort, alloc: Global, count: usize, behind: &str) -> String
     text
 }
 
-// Fails where a text is not refused for a character so.
-fn refuses_character(rt: &impl Abort, text: &str, error: CharError) {
-    refuses(rt, text, UncheckedHrpstringError::Char(error));
-}
+type Unread = UncheckedHrpstringError;
 
-// Fails where a text is not refused for its human-readable part so.
-fn refuses_part(rt: &impl Abort, text: &str, error: hrp::Error) {
-    refuses(rt, text, UncheckedHrpstringError::Hrp(error));
-}
+const REFUSED: &[(&str, Unread)] = &[
+    ("abcdef", Unread::Char(CharError::InvalidChar('b'))),
+    ("qpzry", Unread::Char(CharError::MissingSeparator)),
+    ("Q1q", Unread::Char(CharError::MixedCase)),
+    ("a1B", Unread::Char(CharError::InvalidChar('B'))),
+    ("", Unread::Char(CharError::MissingSeparator)),
+    ("a1é", Unread::Char(CharError::InvalidChar('é'))),
+    ("aB1qqqqqq", Unread::Char(CharError::MixedCase)),
+    ("A1q", Unread::Char(CharError::MixedCase)),
+    ("a1qqqqqb", Unread::Char(CharError::InvalidChar('b'))),
+    ("1qqqqqq", Unread::Hrp(hrp::Error::Empty)),
+    ("1", Unread::Hrp(hrp::Error::Empty)),
+    ("é1qqqqqq", Unread::Hrp(hrp::Error::NonAsciiChar('é'))),
+    ("a 1q", Unread::Hrp(hrp::Error::InvalidAsciiByte(0x20))),
+    ("a\x7f1q", Unread::Hrp(hrp::Error::InvalidAsciiByte(0x7f))),
+];
 
 #[test]
 fn refuses_characters_in_order(rt: HostRuntime) {
-    refuses_character(&rt, "abcdef", CharError::InvalidChar('b'));
-    refuses_character(&rt, "qpzry", CharError::MissingSeparator);
-    refuses_character(&rt, "Q1q", CharError::MixedCase);
-    refuses_character(&rt, "a1B", CharError::InvalidChar('B'));
-    refuses_character(&rt, "", CharError::MissingSeparator);
-    refuses_character(&rt, "a1é", CharError::InvalidChar('é'));
-    refuses_character(&rt, "aB1qqqqqq", CharError::MixedCase);
-    refuses_character(&rt, "A1q", CharError::MixedCase);
-    refuses_character(&rt, "a1qqqqqb", CharError::InvalidChar('b'));
-    refuses_part(&rt, "1qqqqqq", hrp::Error::Empty);
-    refuses_part(&rt, "1", hrp::Error::Empty);
-    refuses_part(&rt, "é1qqqqqq", hrp::Error::NonAsciiChar('é'));
-    refuses_part(&rt, "a 1q", hrp::Error::InvalidAsciiByte(0x20));
-    refuses_part(&rt, "a\x7f1q", hrp::Error::InvalidAsciiByte(0x7f));
-    let long = letters(&rt, rt.alloc(), 84, "1");
-    refuses_part(&rt, &long, hrp::Error::TooLong(84));
+    for &(text, error) in REFUSED {
+        refuses(&rt, text, error);
+    }
+    let too_long = Unread::Hrp(hrp::Error::TooLong(84));
+    refuses(&rt, &letters(&rt, rt.alloc(), 84, "1"), too_long);
 }
 
 // Fails where the parts of a text are others.
@@ -123,6 +121,17 @@ fn takes_versions_off(rt: HostRuntime) {
     same_items(&rt, rest, b"ar0srrr7xfkvy5l643lydnw9re59gtzz".as_slice());
 }
 
+// Why a checksum refuses a text that was read before, and the text itself.
+fn refusals<Ck: Checksum>(
+    unchecked: UncheckedHrpstring<'_>,
+    text: &str,
+) -> (Option<ChecksumError>, Option<CheckedHrpstringError>) {
+    (
+        unchecked.validate_checksum::<Ck>().err(),
+        CheckedHrpstring::new::<Ck>(text).err(),
+    )
+}
+
 #[test]
 fn tests_the_length_of_the_whole_text(rt: HostRuntime) {
     let elements = "q".repeat(rt.alloc(), 1022).expect(&rt, "memory");
@@ -133,31 +142,9 @@ fn tests_the_length_of_the_whole_text(rt: HostRuntime) {
         encoded_length: 1024,
         code_length: 1023,
     });
-    let refusal = unchecked.validate_checksum::<Bech32>().err();
-    same(&rt, &refusal, &Some(too_long));
-    let refusal = CheckedHrpstring::new::<Bech32>(&text).err();
-    let too_long = CheckedHrpstringError::Checksum(too_long);
-    same(&rt, &refusal, &Some(too_long));
-}
-
-#[test]
-fn takes_checksums_off(rt: HostRuntime) {
-    let unchecked = read(&rt, ADDRESS);
-    let valid = (
-        unchecked.has_valid_checksum::<Bech32>(),
-        unchecked.has_valid_checksum::<Bech32m>(),
-    );
-    let without = b"qar0srrr7xfkvy5l643lydnw9re59gtzz".as_slice();
-    let checked = unchecked.validate_and_remove_checksum::<Bech32>();
-    let checked = checked.expect(&rt, "an accepted text");
-    let hrp = checked.hrp();
-    let parts = (hrp.as_str(), checked.data_part_ascii_no_checksum());
-    same(&rt, &(valid, parts), &((true, false), ("bc", without)));
-    let refused = unchecked.validate_and_remove_checksum::<Bech32m>().err();
-    let other = refusal_by_bech32m(&rt, ADDRESS);
-    let short = refusal_by_bech32(&rt, "a1qpzr");
-    let want = [Some(other), Some(ChecksumError::InvalidLength)];
-    same(&rt, &[refused, Some(short)], &want);
+    let of_text = CheckedHrpstringError::Checksum(too_long);
+    let found = refusals::<Bech32>(unchecked, &text);
+    same(&rt, &found, &(Some(too_long), Some(of_text)));
 }
 
 // Why a checksum refuses a text.
@@ -174,6 +161,38 @@ fn refusal_by_bech32m(rt: &impl Abort, text: &str) -> ChecksumError {
     refusal::<Bech32m>(rt, text)
 }
 
+// Fails where the first checksum does not take itself off the address, or the second does, or the
+// first refuses a short text otherwise.
+fn takes_off_alone<Ck: Checksum, Other: Checksum>(rt: &impl Abort) {
+    let unchecked = read(rt, ADDRESS);
+    let valid = (
+        unchecked.has_valid_checksum::<Ck>(),
+        unchecked.has_valid_checksum::<Other>(),
+    );
+    let without = b"qar0srrr7xfkvy5l643lydnw9re59gtzz".as_slice();
+    let checked = unchecked.validate_and_remove_checksum::<Ck>();
+    let checked = checked.expect(rt, "an accepted text");
+    let hrp = checked.hrp();
+    let parts = (hrp.as_str(), checked.data_part_ascii_no_checksum());
+    same(rt, &(valid, parts), &((true, false), ("bc", without)));
+    let refused = unchecked.validate_and_remove_checksum::<Other>().err();
+    let other = refusal::<Other>(rt, ADDRESS);
+    let short = refusal::<Ck>(rt, "a1qpzr");
+    let want = [Some(other), Some(ChecksumError::InvalidLength)];
+    same(rt, &[refused, Some(short)], &want);
+}
+
+#[test]
+fn takes_checksums_off(rt: HostRuntime) {
+    takes_off_alone::<Bech32, Bech32m>(&rt);
+    // A wrong one, which is not tested.
+    let unchecked = read(&rt, "a1qpzryyy");
+    same(&rt, &unchecked.has_valid_checksum::<Bech32m>(), &false);
+    assert!(rt; 6 <= unchecked.data_part_ascii().len());
+    let checked = unchecked.remove_checksum::<Bech32m>();
+    same_items(&rt, checked.data_part_ascii_no_checksum(), b"q".as_slice());
+}
+
 #[test]
 fn tells_residue_errors_apart(rt: HostRuntime) {
     // The first two have remainder zero; the third has it against another target, the fourth
@@ -187,36 +206,22 @@ fn tells_residue_errors_apart(rt: HostRuntime) {
     same(&rt, &equal, &[true, false, false]);
 }
 
-#[test]
-fn takes_untested_checksums_off(rt: HostRuntime) {
-    let unchecked = read(&rt, "a1qpzryyy");
-    same(&rt, &unchecked.has_valid_checksum::<Bech32m>(), &false);
-    assert!(rt; 6 <= unchecked.data_part_ascii().len());
-    let checked = unchecked.remove_checksum::<Bech32m>();
-    same_items(&rt, checked.data_part_ascii_no_checksum(), b"q".as_slice());
+// Fails where a checksum of no characters accepts other texts, or refuses one otherwise.
+fn accepts_by_grammar<Ck: Checksum>(rt: &impl Abort) {
+    for row in [("a1", ""), ("a1qpz", "qpz")].iter() {
+        let (text, data_part) = *row;
+        let checked = accepted::<Ck>(rt, text);
+        let found = checked.data_part_ascii_no_checksum();
+        same_items(rt, found, data_part.as_bytes());
+    }
+    let refusal = CheckedHrpstring::new::<Ck>("a1b").err();
+    let error = UncheckedHrpstringError::Char(CharError::InvalidChar('b'));
+    same(rt, &refusal, &Some(CheckedHrpstringError::Parse(error)));
 }
 
 #[test]
 fn accepts_by_grammar_and_length_at_degree_0(rt: HostRuntime) {
-    for row in [("a1", ""), ("a1qpz", "qpz")].iter() {
-        let (text, data_part) = *row;
-        let checked = accepted::<NoChecksum>(&rt, text);
-        let found = checked.data_part_ascii_no_checksum();
-        same_items(&rt, found, data_part.as_bytes());
-    }
-    let refusal = CheckedHrpstring::new::<NoChecksum>("a1b").err();
-    let error = UncheckedHrpstringError::Char(CharError::InvalidChar('b'));
-    same(&rt, &refusal, &Some(CheckedHrpstringError::Parse(error)));
-}
-
-#[test]
-fn reads_elements_and_bytes(rt: HostRuntime) {
-    let mut checked = accepted_by_bech32(&rt, ADDRESS);
-    let counts = (checked.fe32_iter().len(), checked.byte_iter().len());
-    same(&rt, &counts, &(33, 20));
-    checked.remove_witness_version();
-    let bytes: Result<Vec<u8>, AllocError> = checked.byte_iter().collect(rt.alloc());
-    same_items(&rt, &bytes.expect(&rt, "memory"), &PROGRAM);
+    accepts_by_grammar::<NoChecksum>(&rt);
 }
 
 #[test]
@@ -240,7 +245,13 @@ fn counts_elements_to_come(rt: HostRuntime) {
 }
 
 #[test]
-fn counts_bytes_to_come(rt: HostRuntime) {
+fn reads_bytes(rt: HostRuntime) {
+    let mut checked = accepted_by_bech32(&rt, ADDRESS);
+    let counts = (checked.fe32_iter().len(), checked.byte_iter().len());
+    same(&rt, &counts, &(33, 20));
+    checked.remove_witness_version();
+    let bytes: Result<Vec<u8>, AllocError> = checked.byte_iter().collect(rt.alloc());
+    same_items(&rt, &bytes.expect(&rt, "memory"), &PROGRAM);
     let checked = accepted_by_bech32(&rt, "a1qpzre5gzdl");
     let mut bytes = checked.byte_iter();
     same(&rt, &bytes.size_hint(), &(2, Some(2)));

@@ -99,13 +99,9 @@ fn order_of<E: ExtensionField<BaseField = Fe32>>(x: E) -> Option<usize> {
 }
 
 #[test]
-fn orders_of_generators(rt: HostRuntime) {
+fn roots_of_both(rt: HostRuntime) {
     let orders = [order_of(Fe32::GENERATOR), order_of(Fe1024::GENERATOR)];
     same_items(&rt, &orders, &[Some(31), Some(1023)]);
-}
-
-#[test]
-fn roots_of_both(rt: HostRuntime) {
     let exponents = [Bech32m::ROOT_EXPONENTS_START, Bech32m::ROOT_EXPONENTS_END];
     same_items(&rt, &exponents, &[24, 26]);
     same(&rt, &Bech32::ROOT_GENERATOR, &Bech32m::ROOT_GENERATOR);
