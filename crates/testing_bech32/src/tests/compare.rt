@@ -11,9 +11,11 @@ pub fn same<T: PartialEq + Debug>(rt: &impl Abort, got: &T, want: &T) {
     assert_eq!(rt; got, want);
 }
 
-/// Fails where a value prints another text.
-pub fn prints<T: Display>(rt: &impl Abort, alloc: Global, value: &T, want: &str) {
-    same(rt, &shown(alloc, value).as_str(), &want);
+/// Fails where a value prints another text than the one beside it.
+pub fn prints<T: Display>(rt: &impl Abort, alloc: Global, rows: &[(T, &str)]) {
+    for row in rows {
+        same(rt, &shown(alloc, &row.0).as_str(), &row.1);
+    }
 }
 
 /// Fails where the two differ.

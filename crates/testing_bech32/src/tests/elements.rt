@@ -3,8 +3,8 @@ use bech32::primitives::decode::{
     CharError, ChecksumError, CodeLengthError, PaddingError, UncheckedHrpstringError,
 };
 use bech32::{
-    Bech32, Bech32m, ElementsError, Hrp, TextError, decode, decode_elements, decode_elements_in,
-    decode_strict, decode_strict_in, encode_elements, encode_elements_in,
+    Bech32, Bech32m, Checksum, ElementsError, Hrp, TextError, decode, decode_elements,
+    decode_elements_in, decode_strict, decode_strict_in, encode_elements, encode_elements_in,
 };
 use linked_list_allocator::LocalHeap;
 use std::alloc::Global;
@@ -65,67 +65,89 @@ fn decodes_the_only_text(rt: HostRuntime) {
     is_another(&rt, rt.alloc(), ACCOUNT, ACCOUNT_OF_MORE_BITS);
 }
 
-#[test]
-fn refuses_other_texts_of_the_same_bytes(rt: HostRuntime) {
-    let alloc = rt.alloc();
-    refuses(
-        &rt,
-        alloc,
+// Texts that Bech32 does not decode strictly.
+const REFUSED: [(&str, TextError); 4] = [
+    (
         ACCOUNT_OF_MORE_BITS,
         TextError::Padding(PaddingError::TooMuch),
-    );
-    refuses(
-        &rt,
-        alloc,
-        KEY_OF_OTHER_BITS,
-        TextError::Padding(PaddingError::NonZero),
-    );
-    refuses(
-        &rt,
-        alloc,
-        "a1",
-        TextError::Checksum(ChecksumError::InvalidLength),
-    );
-    let unread = UncheckedHrpstringError::Char(CharError::MissingSeparator);
-    refuses(&rt, alloc, "", TextError::Parse(unread));
+    ),
+    (KEY_OF_OTHER_BITS, TextError::Padding(PaddingError::NonZero)),
+    ("a1", TextError::Checksum(ChecksumError::InvalidLength)),
+    (
+        "",
+        TextError::Parse(UncheckedHrpstringError::Char(CharError::MissingSeparator)),
+    ),
+];
+
+#[test]
+fn refuses_other_texts_of_the_same_bytes(rt: HostRuntime) {
+    for &(text, refusal) in &REFUSED {
+        refuses(&rt, rt.alloc(), text, refusal);
+    }
 }
 
-// Fails where Bech32m decodes other elements of a text, or refuses it otherwise.
-fn reads(rt: &impl Abort, alloc: Global, text: &str, want: Result<(&str, &[u8]), TextError>) {
-    let read = decode_elements::<Bech32m>(alloc, text);
-    let found = match &read {
-        Ok((hrp, found)) => Ok((hrp.as_str(), found.as_slice())),
-        Err(error) => Err(*error),
-    };
-    same(rt, &found, &want);
+// What is read of a text, or why nothing is.
+type Read<'a> = Result<(&'a str, &'a [u8]), TextError>;
+
+// Fails where a checksum decodes other elements of a text, or refuses it otherwise.
+fn reads<Ck: Checksum>(rt: &impl Abort, alloc: Global, rows: &[(&str, Read<'_>)]) {
+    for &(text, want) in rows {
+        let read = decode_elements::<Ck>(alloc, text);
+        let found = match &read {
+            Ok((hrp, found)) => Ok((hrp.as_str(), found.as_slice())),
+            Err(error) => Err(*error),
+        };
+        same(rt, &(text, found), &(text, want));
+    }
 }
 
-// Fails where Bech32m writes another text of elements under `sp`, or refuses them otherwise.
-fn writes(rt: &impl Abort, alloc: Global, elements: &[u8], want: Result<&str, ElementsError>) {
+// Fails where a checksum writes another text of elements under `sp`, or refuses them otherwise.
+fn writes<Ck: Checksum>(
+    rt: &impl Abort,
+    alloc: Global,
+    rows: &[(&[u8], Result<&str, ElementsError>)],
+) {
     let hrp = Hrp::parse("sp").expect(rt, "a human-readable part");
-    let written = encode_elements::<Bech32m>(alloc, hrp, elements);
-    let found = match &written {
-        Ok(text) => Ok(text.as_str()),
-        Err(error) => Err(*error),
-    };
-    same(rt, &found, &want);
+    for &(elements, want) in rows {
+        let written = encode_elements::<Ck>(alloc, hrp, elements);
+        let found = match &written {
+            Ok(text) => Ok(text.as_str()),
+            Err(error) => Err(*error),
+        };
+        same(rt, &found, &want);
+    }
 }
+
+const TOO_LONG: ElementsError = ElementsError::TooLong(CodeLengthError {
+    encoded_length: 1024,
+    code_length: 1023,
+});
 
 #[test]
 fn elements_of_a_payment(rt: HostRuntime) {
     let alloc = rt.alloc();
-    reads(&rt, alloc, PAYMENT, Ok(("sp", &elements())));
-    writes(&rt, alloc, &elements(), Ok(PAYMENT));
+    let elements = elements();
     let short = TextError::Checksum(ChecksumError::InvalidLength);
-    reads(&rt, alloc, "a1", Err(short));
-    let above = ElementsError::Element(2);
-    writes(&rt, alloc, &[31, 0, 32, 255], Err(above));
-    let long = CodeLengthError {
-        encoded_length: 1024,
-        code_length: 1023,
-    };
-    let long = ElementsError::TooLong(long);
-    writes(&rt, alloc, &[32; 1015], Err(long));
+    let rows = [
+        (PAYMENT, Ok(("sp", elements.as_slice()))),
+        ("a1", Err(short)),
+    ];
+    reads::<Bech32m>(&rt, alloc, &rows);
+    let (above, long) = ([31, 0, 32, 255], [32; 1015]);
+    let rows = [
+        (elements.as_slice(), Ok(PAYMENT)),
+        (above.as_slice(), Err(ElementsError::Element(2))),
+        (long.as_slice(), Err(TOO_LONG)),
+    ];
+    writes::<Bech32m>(&rt, alloc, &rows);
+}
+
+// Calls on a heap: what is decoded of the only text of its bytes, and of a payment, and the text of
+// this.
+enum OnHeap {
+    OnlyText,
+    Payment,
+    PaymentText,
 }
 
 // What is right of a refusal: nothing, unless there was too little memory.
@@ -136,52 +158,59 @@ fn unless_memory(error: TextError) -> Option<bool> {
     }
 }
 
-// The only text of its bytes on a heap.
-struct OnlyText;
+// Whether the part and the bytes of the only text were decoded.
+fn is_key(found: Result<(Hrp, Vec<u8, &LocalHeap>), TextError>) -> Option<bool> {
+    match found {
+        Ok((hrp, bytes)) => Some(hrp.as_str() == "npub" && bytes.as_slice().len() == 32),
+        Err(error) => unless_memory(error),
+    }
+}
 
-impl InHeap for OnlyText {
-    fn is_right(&self, _alloc: Global, heap: &LocalHeap) -> Option<bool> {
-        match decode_strict_in::<Bech32, &LocalHeap>(heap, KEY) {
-            Ok((hrp, bytes)) => Some(hrp.as_str() == "npub" && bytes.as_slice().len() == 32),
-            Err(error) => unless_memory(error),
+// Whether those of the payment were decoded.
+fn is_payment(found: Result<(Hrp, Vec<u8, &LocalHeap>), TextError>) -> Option<bool> {
+    match found {
+        Ok((hrp, found)) => Some(hrp.as_str() == "sp" && found.as_slice() == elements().as_slice()),
+        Err(error) => unless_memory(error),
+    }
+}
+
+// Whether its text was written.
+fn is_payment_text(made: Result<String<&LocalHeap>, ElementsError>) -> Option<bool> {
+    match made {
+        Ok(text) => Some(text.as_str() == PAYMENT),
+        Err(ElementsError::Memory) => None,
+        Err(_) => Some(false),
+    }
+}
+
+// Whether a call by a checksum is right.
+fn is_right_by<Ck: Checksum>(call: &OnHeap, heap: &LocalHeap, hrp: Hrp) -> Option<bool> {
+    match call {
+        OnHeap::OnlyText => is_key(decode_strict_in::<Ck, &LocalHeap>(heap, KEY)),
+        OnHeap::Payment => is_payment(decode_elements_in::<Ck, &LocalHeap>(heap, PAYMENT)),
+        OnHeap::PaymentText => {
+            is_payment_text(encode_elements_in::<Ck, &LocalHeap>(heap, hrp, &elements()))
         }
     }
 }
 
-// The elements of a payment on a heap.
-struct Payment;
-
-impl InHeap for Payment {
-    fn is_right(&self, _alloc: Global, heap: &LocalHeap) -> Option<bool> {
-        match decode_elements_in::<Bech32m, &LocalHeap>(heap, PAYMENT) {
-            Ok((hrp, found)) => Some(
-                hrp.as_str() == "sp" && found.as_slice() == elements().as_slice(),
-            ),
-            Err(error) => unless_memory(error),
-        }
-    }
-}
-
-// The text of these on a heap.
-struct PaymentText;
-
-impl InHeap for PaymentText {
+impl InHeap for OnHeap {
     fn is_right(&self, _alloc: Global, heap: &LocalHeap) -> Option<bool> {
         let Ok(hrp) = Hrp::parse("sp") else {
             return Some(false);
         };
-        match encode_elements_in::<Bech32m, &LocalHeap>(heap, hrp, &elements()) {
-            Ok(text) => Some(text.as_str() == PAYMENT),
-            Err(ElementsError::Memory) => None,
-            Err(_) => Some(false),
+        match self {
+            OnHeap::OnlyText => is_right_by::<Bech32>(self, heap, hrp),
+            _ => is_right_by::<Bech32m>(self, heap, hrp),
         }
     }
 }
 
+const CALLS: &[OnHeap] = &[OnHeap::OnlyText, OnHeap::Payment, OnHeap::PaymentText];
+
 #[test]
 fn elements_or_wants_memory(rt: HostRuntime) {
-    let alloc = rt.alloc();
-    is_right_or_wants_memory(&rt, alloc, &OnlyText);
-    is_right_or_wants_memory(&rt, alloc, &Payment);
-    is_right_or_wants_memory(&rt, alloc, &PaymentText);
+    for call in CALLS {
+        is_right_or_wants_memory(&rt, rt.alloc(), call);
+    }
 }

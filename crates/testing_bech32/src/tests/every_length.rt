@@ -1,6 +1,6 @@
 //! Calls that take memory, at every length of a text, with ample memory: none is out of memory.
 
-use crate::tests::calls::text_by_bech32;
+use crate::tests::calls::text_by;
 use crate::tests::compare::same;
 use bech32::{
     Bech32, CorrectError, Correction, Hrp, Mended, NearEdit, NearTexts, correct_in, decode,
@@ -8,6 +8,7 @@ use bech32::{
 };
 use linked_list_allocator::LocalHeap;
 use std::alloc::{AllocError, Global};
+use testing_plain::PlainChecksum;
 
 // Bytes of which the first ones are in a text.
 fn bytes() -> [u8; 80] {
@@ -16,7 +17,7 @@ fn bytes() -> [u8; 80] {
 
 /// The text of bytes under a human-readable part.
 pub fn text_of(alloc: Global, part: &str, bytes: &[u8]) -> Option<String> {
-    text_by_bech32(alloc, Hrp::parse(part).ok()?, bytes).ok()
+    text_by(PlainChecksum::Bech32, alloc, Hrp::parse(part).ok()?, bytes).ok()
 }
 
 /// The text without its last character.

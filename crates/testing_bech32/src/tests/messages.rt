@@ -1,4 +1,4 @@
-use crate::tests::calls::checksum_error;
+use crate::tests::calls::error_by_bech32m;
 use crate::tests::compare::prints;
 use bech32::primitives::decode::{
     CharError, CheckedHrpstringError, ChecksumError, CodeLengthError, PaddingError,
@@ -6,140 +6,174 @@ use bech32::primitives::decode::{
 };
 use bech32::primitives::hrp;
 use bech32::{
-    Bech32m, CorrectError, DecodeError, EditsError, ElementsError, EncodeError, EncodeIoError,
-    TextError,
+    CorrectError, DecodeError, EditsError, ElementsError, EncodeError, EncodeIoError, TextError,
 };
-use std::alloc::Global;
-use std::process::Abort;
 use std::{fmt, io};
 
-// Fails where the refusal of a text by Bech32m is told otherwise.
-fn tells(rt: &impl Abort, alloc: Global, text: &str, message: &str) {
-    let refusal = checksum_error::<Bech32m>(text).expect(rt, "it is refused");
-    prints(rt, alloc, &refusal, message);
-}
+// Texts that Bech32m refuses, and how the refusals are told.
+const REMAINDERS: &[(&str, &str)] = &[
+    (
+        "a12uel57",
+        "checksum failed: residue q did not match target r9vsu4",
+    ),
+    (
+        "a12uel5q",
+        "checksum failed: residue 7 did not match target r9vsu4",
+    ),
+    (
+        "a12uel47",
+        "checksum failed: residue qp did not match target r9vsu4",
+    ),
+    (
+        "a1qqqqqq",
+        "checksum failed: residue 75leu2 did not match target r9vsu4",
+    ),
+];
 
 #[test]
 fn tells_which_remainder_is_wrong(rt: HostRuntime) {
-    let alloc = rt.alloc();
-    let message = "checksum failed: residue q did not match target r9vsu4";
-    tells(&rt, alloc, "a12uel57", message);
-    let message = "checksum failed: residue 7 did not match target r9vsu4";
-    tells(&rt, alloc, "a12uel5q", message);
-    let message = "checksum failed: residue qp did not match target r9vsu4";
-    tells(&rt, alloc, "a12uel47", message);
-    let message = "checksum failed: residue 75leu2 did not match target r9vsu4";
-    tells(&rt, alloc, "a1qqqqqq", message);
+    for &(text, message) in REMAINDERS {
+        let refusal = error_by_bech32m(text).expect(&rt, "it is refused");
+        prints(&rt, rt.alloc(), &[(refusal, message)]);
+    }
 }
 
-#[test]
-fn tells_which_character_is_wrong(rt: HostRuntime) {
-    let alloc = rt.alloc();
-    let message = "missing human-readable separator, \"1\"";
-    prints(&rt, alloc, &CharError::MissingSeparator, message);
-    let message = "invalid data - no characters after the separator";
-    prints(&rt, alloc, &CharError::NothingAfterSeparator, message);
-    let message = "invalid character (code=b)";
-    prints(&rt, alloc, &CharError::InvalidChar('b'), message);
-    let message = "mixed-case strings not allowed";
-    prints(&rt, alloc, &CharError::MixedCase, message);
-}
+const MIXED: UncheckedHrpstringError = UncheckedHrpstringError::Char(CharError::MixedCase);
+
+const EMPTY: UncheckedHrpstringError = UncheckedHrpstringError::Hrp(hrp::Error::Empty);
+
+const CHARACTERS: &[(CharError, &str)] = &[
+    (
+        CharError::MissingSeparator,
+        "missing human-readable separator, \"1\"",
+    ),
+    (
+        CharError::NothingAfterSeparator,
+        "invalid data - no characters after the separator",
+    ),
+    (CharError::InvalidChar('b'), "invalid character (code=b)"),
+    (CharError::MixedCase, "mixed-case strings not allowed"),
+];
+
+// Why a text is not read.
+const READ: [(DecodeError, &str); 4] = [
+    (
+        DecodeError::Parse(MIXED),
+        "parsing failed: character error: mixed-case strings not allowed",
+    ),
+    (
+        DecodeError::Parse(EMPTY),
+        "parsing failed: invalid human-readable part: hrp is empty, must have at least 1 character",
+    ),
+    (
+        DecodeError::Checksum(ChecksumError::InvalidLength),
+        "no valid bech32 or bech32m checksum: the checksummed string is not a valid length",
+    ),
+    (DecodeError::Memory, "out of memory"),
+];
+
+// Why a text is not the only one.
+const STRICT: [(TextError, &str); 4] = [
+    (
+        TextError::Parse(MIXED),
+        "parsing failed: character error: mixed-case strings not allowed",
+    ),
+    (
+        TextError::Checksum(ChecksumError::InvalidLength),
+        "no valid checksum: the checksummed string is not a valid length",
+    ),
+    (
+        TextError::Padding(PaddingError::NonZero),
+        "not the only text of its bytes: the data payload is padded with non-zero bits",
+    ),
+    (TextError::Memory, "out of memory"),
+];
 
 #[test]
 fn tells_why_a_text_is_not_read(rt: HostRuntime) {
     let alloc = rt.alloc();
-    let mixed = DecodeError::Parse(UncheckedHrpstringError::Char(CharError::MixedCase));
-    let message = "parsing failed: character error: mixed-case strings not allowed";
-    prints(&rt, alloc, &mixed, message);
-    let empty = DecodeError::Parse(UncheckedHrpstringError::Hrp(hrp::Error::Empty));
-    let message =
-        "parsing failed: invalid human-readable part: hrp is empty, must have at least 1 character";
-    prints(&rt, alloc, &empty, message);
-    let length = DecodeError::Checksum(ChecksumError::InvalidLength);
-    let message =
-        "no valid bech32 or bech32m checksum: the checksummed string is not a valid length";
-    prints(&rt, alloc, &length, message);
-    prints(&rt, alloc, &DecodeError::Memory, "out of memory");
+    prints(&rt, alloc, CHARACTERS);
+    prints(&rt, alloc, &READ);
+    prints(&rt, alloc, &STRICT);
 }
+
+const TOO_LONG: CodeLengthError = CodeLengthError {
+    encoded_length: 1024,
+    code_length: 1023,
+};
+
+// Why a text is not written.
+const WRITTEN: &[(EncodeError, &str)] = &[
+    (
+        EncodeError::TooLong(TOO_LONG),
+        "encode error: encoded length 1024 exceeds maximum (code length) 1023",
+    ),
+    (
+        EncodeError::Fmt(fmt::Error),
+        "encode to formatter failed: an error occurred when formatting an argument",
+    ),
+    (EncodeError::Memory, "out of memory"),
+];
+
+// Why elements are not written.
+const ELEMENTS: &[(ElementsError, &str)] = &[
+    (
+        ElementsError::TooLong(TOO_LONG),
+        "encode error: encoded length 1024 exceeds maximum (code length) 1023",
+    ),
+    (ElementsError::Element(2), "no element stands at 2"),
+    (ElementsError::Memory, "out of memory"),
+];
+
+const LENGTH: [(ChecksumError, &str); 1] = [(
+    ChecksumError::CodeLength(TOO_LONG),
+    "string exceeds maximum allowed length: encoded length 1024 exceeds maximum (code length) 1023",
+)];
 
 #[test]
 fn tells_why_a_text_is_not_written(rt: HostRuntime) {
     let alloc = rt.alloc();
-    let too_long = CodeLengthError {
-        encoded_length: 1024,
-        code_length: 1023,
-    };
+    prints(&rt, alloc, WRITTEN);
+    prints(&rt, alloc, ELEMENTS);
+    prints(&rt, alloc, &LENGTH);
     let message = "encode error: encoded length 1024 exceeds maximum (code length) 1023";
-    prints(&rt, alloc, &EncodeError::TooLong(too_long), message);
-    let message = "encode to formatter failed: an error occurred when formatting an argument";
-    prints(&rt, alloc, &EncodeError::Fmt(fmt::Error), message);
-    prints(&rt, alloc, &EncodeError::Memory, "out of memory");
-    let message =
-        "string exceeds maximum allowed length: encoded length 1024 exceeds maximum (code length) 1023";
-    prints(&rt, alloc, &ChecksumError::CodeLength(too_long), message);
-    let message = "encode error: encoded length 1024 exceeds maximum (code length) 1023";
-    prints(&rt, alloc, &EncodeIoError::TooLong(too_long), message);
+    let too_long = (EncodeIoError::TooLong(TOO_LONG), message);
     let failed = io::Error::from(io::ErrorKind::WriteZero);
     let message = "encode to writer failed: write zero";
-    prints(&rt, alloc, &EncodeIoError::Write(failed), message);
+    let failed = (EncodeIoError::Write(failed), message);
+    prints(&rt, alloc, &[too_long, failed]);
 }
+
+// Why the edits of a text are not told.
+const EDITS: &[(EditsError, &str)] = &[
+    (
+        EditsError::Refused(MIXED),
+        "character error: mixed-case strings not allowed",
+    ),
+    (EditsError::Memory, "out of memory"),
+];
 
 #[test]
 fn tells_why_a_text_is_not_corrected(rt: HostRuntime) {
-    let alloc = rt.alloc();
-    let parse = UncheckedHrpstringError::Char(CharError::MixedCase);
-    let message = "parse failed: character error: mixed-case strings not allowed";
-    prints(&rt, alloc, &CorrectError::from(parse), message);
-    let refused = CheckedHrpstringError::Parse(parse);
-    prints(&rt, alloc, &CorrectError::Refused(refused), message);
-    let message = "invalid checksum: the checksummed string is not a valid length";
-    let length = ChecksumError::InvalidLength;
-    prints(&rt, alloc, &CorrectError::from(length), message);
-    let refused = CheckedHrpstringError::Checksum(length);
-    prints(&rt, alloc, &CorrectError::Refused(refused), message);
-    prints(&rt, alloc, &CorrectError::Memory, "out of memory");
-    let message = "character error: mixed-case strings not allowed";
-    prints(&rt, alloc, &EditsError::Refused(parse), message);
-    prints(&rt, alloc, &EditsError::Memory, "out of memory");
-}
-
-#[test]
-fn tells_why_a_text_is_not_the_only_one(rt: HostRuntime) {
-    let alloc = rt.alloc();
-    let mixed = TextError::Parse(UncheckedHrpstringError::Char(CharError::MixedCase));
-    let message = "parsing failed: character error: mixed-case strings not allowed";
-    prints(&rt, alloc, &mixed, message);
-    let message = "no valid checksum: the checksummed string is not a valid length";
-    prints(
-        &rt,
-        alloc,
-        &TextError::Checksum(ChecksumError::InvalidLength),
-        message,
-    );
-    let message = "not the only text of its bytes: the data payload is padded with non-zero bits";
-    prints(
-        &rt,
-        alloc,
-        &TextError::Padding(PaddingError::NonZero),
-        message,
-    );
-    prints(&rt, alloc, &TextError::Memory, "out of memory");
-}
-
-#[test]
-fn tells_why_elements_are_not_written(rt: HostRuntime) {
-    let alloc = rt.alloc();
-    let length = CodeLengthError {
-        encoded_length: 1024,
-        code_length: 1023,
-    };
-    let message = "encode error: encoded length 1024 exceeds maximum (code length) 1023";
-    prints(&rt, alloc, &ElementsError::TooLong(length), message);
-    prints(
-        &rt,
-        alloc,
-        &ElementsError::Element(2),
-        "no element stands at 2",
-    );
-    prints(&rt, alloc, &ElementsError::Memory, "out of memory");
+    let rows = [
+        (
+            CorrectError::from(MIXED),
+            "parse failed: character error: mixed-case strings not allowed",
+        ),
+        (
+            CorrectError::Refused(CheckedHrpstringError::Parse(MIXED)),
+            "parse failed: character error: mixed-case strings not allowed",
+        ),
+        (
+            CorrectError::from(ChecksumError::InvalidLength),
+            "invalid checksum: the checksummed string is not a valid length",
+        ),
+        (
+            CorrectError::Refused(CheckedHrpstringError::Checksum(ChecksumError::InvalidLength)),
+            "invalid checksum: the checksummed string is not a valid length",
+        ),
+        (CorrectError::Memory, "out of memory"),
+    ];
+    prints(&rt, rt.alloc(), &rows);
+    prints(&rt, rt.alloc(), EDITS);
 }

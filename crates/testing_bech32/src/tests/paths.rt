@@ -3,6 +3,7 @@
 use self::primitives::correction::{Correction, bech32_listing, bech32m_listing};
 use crate::tests::compare::same;
 use std::alloc::Global;
+use std::marker::PhantomData;
 use std::process::Abort;
 
 pub mod root {
@@ -97,26 +98,43 @@ pub mod primitives {
     }
 }
 
-// Fails where a checksum's text of the part `a` and no bytes is another one.
-fn encodes<Ck: root::Checksum>(rt: &impl Abort, alloc: Global, want: &str) {
+// Fails where the text of the part `a` and no bytes by a checksum, under each of its paths, is
+// another one. Paths to two types are not compiled.
+fn encodes<Ck: root::Checksum>(
+    rt: &impl Abort,
+    alloc: Global,
+    paths: &[PhantomData<Ck>],
+    want: &str,
+) {
     let part = root::Hrp::parse("a").expect(rt, "a part");
-    let text = root::encode::<Ck>(alloc, part, &[]).expect(rt, "a text");
-    same(rt, &text.as_str(), &want);
+    for _ in 0..paths.len() {
+        let text = root::encode::<Ck>(alloc, part, &[]).expect(rt, "a text");
+        same(rt, &text.as_str(), &want);
+    }
 }
 
 // The texts are test vectors of BIP-173 and BIP-350.
 #[test]
 fn checksums_by_each_path(rt: HostRuntime) {
     let alloc = rt.alloc();
-    encodes::<root::Bech32>(&rt, alloc, "a12uel5l");
-    encodes::<primitives::Bech32>(&rt, alloc, "a12uel5l");
-    encodes::<primitives::checksum::Bech32>(&rt, alloc, "a12uel5l");
-    encodes::<root::Bech32m>(&rt, alloc, "a1lqfn3a");
-    encodes::<primitives::Bech32m>(&rt, alloc, "a1lqfn3a");
-    encodes::<primitives::checksum::Bech32m>(&rt, alloc, "a1lqfn3a");
-    encodes::<root::NoChecksum>(&rt, alloc, "a1");
-    encodes::<primitives::NoChecksum>(&rt, alloc, "a1");
-    encodes::<primitives::checksum::NoChecksum>(&rt, alloc, "a1");
+    let bech32 = [
+        PhantomData::<root::Bech32>,
+        PhantomData::<primitives::Bech32>,
+        PhantomData::<primitives::checksum::Bech32>,
+    ];
+    encodes(&rt, alloc, &bech32, "a12uel5l");
+    let bech32m = [
+        PhantomData::<root::Bech32m>,
+        PhantomData::<primitives::Bech32m>,
+        PhantomData::<primitives::checksum::Bech32m>,
+    ];
+    encodes(&rt, alloc, &bech32m, "a1lqfn3a");
+    let no_checksum = [
+        PhantomData::<root::NoChecksum>,
+        PhantomData::<primitives::NoChecksum>,
+        PhantomData::<primitives::checksum::NoChecksum>,
+    ];
+    encodes(&rt, alloc, &no_checksum, "a1");
 }
 
 // Whether a listing accepts its text.

@@ -1,6 +1,7 @@
+use crate::tests::calls::text_by;
 use crate::tests::compare::{same, same_items};
 use crate::tests::root::{encoded, repeated};
-use bech32::{Bech32, Bech32m, Checksum, Hrp, decode, encode};
+use bech32::{Hrp, decode};
 use bech32_bits::plain::plain_to_fes;
 use std::alloc::Global;
 use std::process::Abort;
@@ -96,7 +97,7 @@ fn refuses(rt: &impl Abort, alloc: Global, text: &str) {
 #[test]
 fn knows_the_limits(rt: HostRuntime) {
     let alloc = rt.alloc();
-    let text = encoded::<Bech32m>(&rt, alloc, "abcd", &[0; 632]);
+    let text = encoded(&rt, alloc, PlainChecksum::Bech32m, "abcd", &[0; 632]);
     let accepted = [
         is_accepted(&rt, alloc, PlainChecksum::Bech32m, &text),
         is_accepted(&rt, alloc, PlainChecksum::Bech32, &text),
@@ -107,35 +108,30 @@ fn knows_the_limits(rt: HostRuntime) {
 }
 
 // Fails where the text of bytes by a checksum is another than that by the definition.
-fn encodes<Ck: Checksum>(
-    rt: &impl Abort,
-    alloc: Global,
-    checksum: PlainChecksum,
-    hrp: Hrp,
-    data: &[u8],
-) {
+fn encodes(rt: &impl Abort, alloc: Global, checksum: PlainChecksum, part: &str, data: &[u8]) {
+    let hrp = Hrp::parse(part).expect(rt, "a human-readable part");
     let elements = plain_to_fes(alloc, data).expect(rt, "memory");
     let text = encoded_text(alloc, checksum, &hrp, &elements).expect(rt, "memory");
-    let fast = encode::<Ck>(alloc, hrp, data).expect(rt, "a text");
+    let fast = text_by(checksum, alloc, hrp, data).expect(rt, "a text");
     same_items(rt, fast.as_bytes(), &text);
 }
 
-// The same by either checksum under a part.
-fn encodes_by_both(rt: &impl Abort, alloc: Global, part: &str, data: &[u8]) {
-    let hrp = Hrp::parse(part).expect(rt, "a human-readable part");
-    encodes::<Bech32>(rt, alloc, PlainChecksum::Bech32, hrp, data);
-    encodes::<Bech32m>(rt, alloc, PlainChecksum::Bech32m, hrp, data);
-}
+// Human-readable parts, and bytes.
+const PARTS: &[(&str, &[u8])] = &[
+    ("a", &[]),
+    ("A", &[0xff]),
+    ("test", &[0; 2]),
+    ("split1", &[1, 2, 3]),
+    ("BC", &[0xab; 20]),
+    ("~!", &[0x80, 0, 0, 1]),
+    ("tb", &[0x5a; 33]),
+    ("x", b"hello"),
+];
 
 #[test]
 fn encodes_by_the_definition(rt: HostRuntime) {
-    let alloc = rt.alloc();
-    encodes_by_both(&rt, alloc, "a", &[]);
-    encodes_by_both(&rt, alloc, "A", &[0xff]);
-    encodes_by_both(&rt, alloc, "test", &[0; 2]);
-    encodes_by_both(&rt, alloc, "split1", &[1, 2, 3]);
-    encodes_by_both(&rt, alloc, "BC", &[0xab; 20]);
-    encodes_by_both(&rt, alloc, "~!", &[0x80, 0, 0, 1]);
-    encodes_by_both(&rt, alloc, "tb", &[0x5a; 33]);
-    encodes_by_both(&rt, alloc, "x", b"hello");
+    for &(part, data) in PARTS {
+        encodes(&rt, rt.alloc(), PlainChecksum::Bech32, part, data);
+        encodes(&rt, rt.alloc(), PlainChecksum::Bech32m, part, data);
+    }
 }

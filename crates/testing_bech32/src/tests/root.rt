@@ -1,4 +1,4 @@
-use crate::tests::calls::checksum_error;
+use crate::tests::calls::{error_by_bech32m, text_by};
 use crate::tests::compare::{is_right_or_wants_memory, same};
 use bech32::primitives::decode::{
     CharError, CheckedHrpstring, ChecksumError, CodeLengthError, InvalidResidueError,
@@ -7,16 +7,17 @@ use bech32::primitives::decode::{
 use bech32::primitives::hrp;
 use bech32::{
     Bech32, Bech32m, Checksum, DecodeError, EncodeError, Fe32, Hrp, NoChecksum, decode, decode_in,
-    encode, encoded_length, encoded_length_of_part,
+    encoded_length, encoded_length_of_part,
 };
 use linked_list_allocator::LocalHeap;
 use std::alloc::Global;
 use std::process::Abort;
+use testing_plain::PlainChecksum;
 use testing_tools::compare::first_difference;
 use testing_tools::heaps::InHeap;
 
 // The 20 bytes of a known text.
-const PROGRAM: [u8; 20] = [
+const PROGRAM: &[u8] = &[
     0xff, 0x1e, 0x76, 0xe8, 0x19, 0x91, 0x96, 0xd4, 0x54, 0x94, 0x1c, 0x45, 0xd1, 0xb3, 0xa3, 0x23,
     0xf1, 0x43, 0x3b, 0xd6,
 ];
@@ -43,32 +44,38 @@ const TOO_LONG: CodeLengthError = CodeLengthError {
 };
 
 /// The text of a part and bytes by a checksum.
-pub fn encoded<Ck: Checksum>(rt: &impl Abort, alloc: Global, part: &str, data: &[u8]) -> String {
+pub fn encoded(
+    rt: &impl Abort,
+    alloc: Global,
+    checksum: PlainChecksum,
+    part: &str,
+    data: &[u8],
+) -> String {
     let hrp = Hrp::parse(part).expect(rt, "a human-readable part");
-    encode::<Ck>(alloc, hrp, data).expect(rt, "a text")
+    text_by(checksum, alloc, hrp, data).expect(rt, "a text")
 }
 
-// Fails where that text is another.
-fn encodes<Ck: Checksum>(rt: &impl Abort, alloc: Global, part: &str, data: &[u8], want: &str) {
-    let text = encoded::<Ck>(rt, alloc, part, data);
-    same(rt, &text.as_str(), &want);
-}
+// Human-readable parts, bytes, and their texts by Bech32 and by Bech32m.
+const TEXTS: &[(&str, &[u8], &str, &str)] = &[
+    (
+        "abc",
+        &[0xab; 20],
+        "abc14w46h2at4w46h2at4w46h2at4w46h2atsghld7",
+        "abc14w46h2at4w46h2at4w46h2at4w46h2at958ngu",
+    ),
+    ("test", PROGRAM, TEXT_BY_BECH32, TEXT_BY_BECH32M),
+    ("a", &[], "a12uel5l", "a1lqfn3a"),
+    ("A", &[], "a12uel5l", "a1lqfn3a"),
+];
 
 #[test]
 fn encodes_known_texts(rt: HostRuntime) {
-    let alloc = rt.alloc();
-    let (bech32, bech32m) = (
-        "abc14w46h2at4w46h2at4w46h2at4w46h2atsghld7",
-        "abc14w46h2at4w46h2at4w46h2at4w46h2at958ngu",
-    );
-    encodes::<Bech32>(&rt, alloc, "abc", &[0xab; 20], bech32);
-    encodes::<Bech32m>(&rt, alloc, "abc", &[0xab; 20], bech32m);
-    encodes::<Bech32>(&rt, alloc, "test", &PROGRAM, TEXT_BY_BECH32);
-    encodes::<Bech32m>(&rt, alloc, "test", &PROGRAM, TEXT_BY_BECH32M);
-    encodes::<Bech32>(&rt, alloc, "a", &[], "a12uel5l");
-    encodes::<Bech32m>(&rt, alloc, "a", &[], "a1lqfn3a");
-    encodes::<Bech32>(&rt, alloc, "A", &[], "a12uel5l");
-    encodes::<Bech32m>(&rt, alloc, "A", &[], "a1lqfn3a");
+    for &(part, data, bech32, bech32m) in TEXTS {
+        let text = encoded(&rt, rt.alloc(), PlainChecksum::Bech32, part, data);
+        same(&rt, &text.as_str(), &bech32);
+        let text = encoded(&rt, rt.alloc(), PlainChecksum::Bech32m, part, data);
+        same(&rt, &text.as_str(), &bech32m);
+    }
 }
 
 // A part in lower case.
@@ -97,13 +104,19 @@ fn decodes_known_texts(rt: HostRuntime) {
     decodes(&rt, alloc, "A1LQFN3A", "A", &[]);
     let text = "abc14w46h2at4w46h2at4w46h2at4w46h2at958ngu";
     decodes(&rt, alloc, text, "abc", &[0xab; 20]);
-    decodes(&rt, alloc, TEXT_BY_BECH32, "test", &PROGRAM);
-    decodes(&rt, alloc, TEXT_BY_BECH32M, "test", &PROGRAM);
+    decodes(&rt, alloc, TEXT_BY_BECH32, "test", PROGRAM);
+    decodes(&rt, alloc, TEXT_BY_BECH32M, "test", PROGRAM);
 }
 
 // The length of the text of bytes by a checksum; fails where it is not decoded to them.
-fn comes_back<Ck: Checksum>(rt: &impl Abort, alloc: Global, part: &str, data: &[u8]) -> usize {
-    let text = encoded::<Ck>(rt, alloc, part, data);
+fn comes_back(
+    rt: &impl Abort,
+    alloc: Global,
+    checksum: PlainChecksum,
+    part: &str,
+    data: &[u8],
+) -> usize {
+    let text = encoded(rt, alloc, checksum, part, data);
     decodes(rt, alloc, &text, part, data);
     text.len()
 }
@@ -112,9 +125,9 @@ fn comes_back<Ck: Checksum>(rt: &impl Abort, alloc: Global, part: &str, data: &[
 fn fills_the_code(rt: HostRuntime) {
     let alloc = rt.alloc();
     let data = zeros();
-    let length = comes_back::<Bech32m>(&rt, alloc, "abcd", &data);
+    let length = comes_back(&rt, alloc, PlainChecksum::Bech32m, "abcd", &data);
     let hrp = Hrp::parse("abcde").expect(&rt, "a human-readable part");
-    let refusal = encode::<Bech32m>(alloc, hrp, &data).err();
+    let refusal = text_by(PlainChecksum::Bech32m, alloc, hrp, &data).err();
     let want = Some(EncodeError::TooLong(TOO_LONG));
     same(&rt, &(length, refusal), &(1023, want));
 }
@@ -151,21 +164,23 @@ fn refuses_part(rt: &impl Abort, alloc: Global, text: &str, error: hrp::Error) {
     refuses(rt, alloc, text, refusal);
 }
 
-#[test]
-fn refuses_at_the_first_character(rt: HostRuntime) {
-    let alloc = rt.alloc();
-    refuses_character(&rt, alloc, "", CharError::MissingSeparator);
-    refuses_character(&rt, alloc, "qpzry", CharError::MissingSeparator);
-    refuses_character(&rt, alloc, "abcdef", CharError::InvalidChar('b'));
-    refuses_character(&rt, alloc, "a1B", CharError::InvalidChar('B'));
-    refuses_character(&rt, alloc, "a1é", CharError::InvalidChar('é'));
-    refuses_character(&rt, alloc, "Q1q", CharError::MixedCase);
-    refuses_character(&rt, alloc, "aB1qqqqqq", CharError::MixedCase);
-}
+// Texts that are refused for a character.
+const STRANGE: &[(&str, CharError)] = &[
+    ("", CharError::MissingSeparator),
+    ("qpzry", CharError::MissingSeparator),
+    ("abcdef", CharError::InvalidChar('b')),
+    ("a1B", CharError::InvalidChar('B')),
+    ("a1é", CharError::InvalidChar('é')),
+    ("Q1q", CharError::MixedCase),
+    ("aB1qqqqqq", CharError::MixedCase),
+];
 
 #[test]
 fn refuses_at_the_first_fault(rt: HostRuntime) {
     let alloc = rt.alloc();
+    for &(text, error) in STRANGE {
+        refuses_character(&rt, alloc, text, error);
+    }
     refuses_part(&rt, alloc, "1qqqqqq", hrp::Error::Empty);
     let long_part = repeated(&rt, alloc, "", "a", 84, "1qqqqqq");
     refuses_part(&rt, alloc, &long_part, hrp::Error::TooLong(84));
@@ -180,7 +195,7 @@ fn refuses_at_the_first_fault(rt: HostRuntime) {
 
 // The error of a text that Bech32m refuses for its remainder.
 fn residue_error(rt: &impl Abort, text: &str) -> InvalidResidueError {
-    match checksum_error::<Bech32m>(text) {
+    match error_by_bech32m(text) {
         Some(ChecksumError::InvalidResidue(e)) => e,
         _ => panic!(rt; "its remainder is right"),
     }
@@ -211,25 +226,31 @@ fn reads_elements(rt: HostRuntime) {
     same(&rt, &(counts, difference), &((4, (4, Some(4))), None));
 }
 
-// Fails where the length of the text of so many zeros is another.
-fn counts(rt: &impl Abort, size: usize, length: Result<usize, CodeLengthError>) {
+// The length of the text of bytes under `abcde` by a checksum, by both calls.
+fn lengths<Ck: Checksum>(rt: &impl Abort, data: &[u8]) -> [Result<usize, CodeLengthError>; 2] {
     let part = Hrp::parse("abcde").expect(rt, "a human-readable part");
-    let zeros = zeros();
-    let data = zeros.get(..size).expect(rt, "at most 632 zeros");
-    let found = [
-        encoded_length::<Bech32>(part, data),
-        encoded_length::<Bech32m>(part, data),
-        encoded_length_of_part::<Bech32>(part.as_bytes(), data),
-    ];
-    same(rt, &(size, found), &(size, [length; 3]));
+    [
+        encoded_length::<Ck>(part, data),
+        encoded_length_of_part::<Ck>(part.as_bytes(), data),
+    ]
 }
+
+// How long the texts of so many zeros are.
+const LENGTHS: &[(usize, Result<usize, CodeLengthError>)] = &[
+    (0, Ok(12)),
+    (48, Ok(89)),
+    (49, Ok(91)),
+    (632, Err(TOO_LONG)),
+];
 
 #[test]
 fn counts_characters(rt: HostRuntime) {
-    counts(&rt, 0, Ok(12));
-    counts(&rt, 48, Ok(89));
-    counts(&rt, 49, Ok(91));
-    counts(&rt, 632, Err(TOO_LONG));
+    let zeros = zeros();
+    for &(size, length) in LENGTHS {
+        let data = zeros.get(..size).expect(&rt, "at most 632 zeros");
+        let found = [lengths::<Bech32>(&rt, data), lengths::<Bech32m>(&rt, data)];
+        same(&rt, &(size, found), &(size, [[length; 2]; 2]));
+    }
 }
 
 // The parts of a known text. A text that is not accepted is refused on a heap as elsewhere.
@@ -241,9 +262,7 @@ impl InHeap for KnownParts {
             return Some(false);
         }
         match decode_in(heap, TEXT_BY_BECH32M) {
-            Ok((hrp, bytes)) => Some(
-                hrp.as_str() == "test" && bytes.as_slice() == PROGRAM.as_slice(),
-            ),
+            Ok((hrp, bytes)) => Some(hrp.as_str() == "test" && bytes.as_slice() == PROGRAM),
             Err(DecodeError::Memory) => None,
             Err(_) => Some(false),
         }
@@ -259,8 +278,8 @@ fn decodes_or_wants_memory(rt: HostRuntime) {
 fn come_back(rt: &impl Abort, alloc: Global, bytes: &[u8]) {
     for size in 0..=bytes.len() {
         let data = bytes.get(..size).expect(rt, "so many bytes");
-        comes_back::<Bech32>(rt, alloc, "a", data);
-        comes_back::<Bech32m>(rt, alloc, "a", data);
+        comes_back(rt, alloc, PlainChecksum::Bech32, "a", data);
+        comes_back(rt, alloc, PlainChecksum::Bech32m, "a", data);
     }
 }
 

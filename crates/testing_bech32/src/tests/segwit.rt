@@ -174,66 +174,89 @@ fn is_refused(rt: &impl Abort, alloc: Global, text: &str, error: SegwitHrpstring
     same(rt, &(text, (refusal, read)), &(text, want));
 }
 
-// Fails where a program of a wrong length is refused otherwise.
-fn refuses_length(rt: &impl Abort, alloc: Global, text: &str, error: WitnessLengthError) {
-    is_refused(rt, alloc, text, SegwitHrpstringError::WitnessLength(error));
-}
-
-#[test]
-fn refuses_to_decode_wrong_lengths(rt: HostRuntime) {
-    let alloc = rt.alloc();
-    refuses_length(&rt, alloc, "bc1pw5dgrnzv", WitnessLengthError::TooShort);
-    let text = "bc1p0xlxvlhemja6c4dqv22uapctqupfhlxm9h8z3k2e72q4k9hcz7v8n0nx0muaewav253zgeav";
-    refuses_length(&rt, alloc, text, WitnessLengthError::TooLong);
-    let text = "BC1QR508D6QEJXTDG4Y5R3ZARVARYV98GJ9P";
-    refuses_length(&rt, alloc, text, WitnessLengthError::InvalidSegwitV0);
-}
+// Texts that are no addresses, of BIP-173 and BIP-350 among others.
+const REFUSED: [(&str, SegwitHrpstringError); 11] = [
+    (TOO_LONG, SegwitHrpstringError::TooLong(91)),
+    (
+        "qpzry",
+        SegwitHrpstringError::Unchecked(UncheckedHrpstringError::Char(CharError::MissingSeparator)),
+    ),
+    ("a1", SegwitHrpstringError::NoData),
+    (
+        "a1lqfn3a",
+        SegwitHrpstringError::InvalidWitnessVersion(Fe32::L),
+    ),
+    (
+        "a1q",
+        SegwitHrpstringError::Checksum(ChecksumError::InvalidLength),
+    ),
+    (
+        "tb1qrp33g0q5c5txsp9arysrx4k6zdkfs4nce4xj0gdcccefvpysxf3pjxtptv",
+        SegwitHrpstringError::Padding(PaddingError::NonZero),
+    ),
+    (
+        "bc1p0xlxvlhemja6c4dqv22uapctqupfhlxm9h8z3k2e72q4k9hcz7v07qwwzcrf",
+        SegwitHrpstringError::Padding(PaddingError::TooMuch),
+    ),
+    (
+        "BC130XLXVLHEMJA6C4DQV22UAPCTQUPFHLXM9H8Z3K2E72Q4K9HCZ7VQ7ZWS8R",
+        SegwitHrpstringError::InvalidWitnessVersion(Fe32::_3),
+    ),
+    (
+        "bc1pw5dgrnzv",
+        SegwitHrpstringError::WitnessLength(WitnessLengthError::TooShort),
+    ),
+    (
+        "bc1p0xlxvlhemja6c4dqv22uapctqupfhlxm9h8z3k2e72q4k9hcz7v8n0nx0muaewav253zgeav",
+        SegwitHrpstringError::WitnessLength(WitnessLengthError::TooLong),
+    ),
+    (
+        "BC1QR508D6QEJXTDG4Y5R3ZARVARYV98GJ9P",
+        SegwitHrpstringError::WitnessLength(WitnessLengthError::InvalidSegwitV0),
+    ),
+];
 
 #[test]
 fn refuses_to_decode_in_order(rt: HostRuntime) {
-    let alloc = rt.alloc();
-    is_refused(&rt, alloc, TOO_LONG, SegwitHrpstringError::TooLong(91));
-    let missing = UncheckedHrpstringError::Char(CharError::MissingSeparator);
-    let missing = SegwitHrpstringError::Unchecked(missing);
-    is_refused(&rt, alloc, "qpzry", missing);
-    is_refused(&rt, alloc, "a1", SegwitHrpstringError::NoData);
-    let version_31 = SegwitHrpstringError::InvalidWitnessVersion(Fe32::L);
-    is_refused(&rt, alloc, "a1lqfn3a", version_31);
-    let length = SegwitHrpstringError::Checksum(ChecksumError::InvalidLength);
-    is_refused(&rt, alloc, "a1q", length);
-    let text = "tb1qrp33g0q5c5txsp9arysrx4k6zdkfs4nce4xj0gdcccefvpysxf3pjxtptv";
-    let non_zero = SegwitHrpstringError::Padding(PaddingError::NonZero);
-    is_refused(&rt, alloc, text, non_zero);
-    let text = "bc1p0xlxvlhemja6c4dqv22uapctqupfhlxm9h8z3k2e72q4k9hcz7v07qwwzcrf";
-    let too_much = SegwitHrpstringError::Padding(PaddingError::TooMuch);
-    is_refused(&rt, alloc, text, too_much);
-    let text = "BC130XLXVLHEMJA6C4DQV22UAPCTQUPFHLXM9H8Z3K2E72Q4K9HCZ7VQ7ZWS8R";
-    let version_17 = SegwitHrpstringError::InvalidWitnessVersion(Fe32::_3);
-    is_refused(&rt, alloc, text, version_17);
+    for &(text, error) in &REFUSED {
+        is_refused(&rt, rt.alloc(), text, error);
+    }
 }
+
+const DECODE_ERRORS: [(DecodeError, &str); 2] = [
+    (
+        DecodeError(SegwitHrpstringError::NoData),
+        "decoding segwit address failed: no data found after removing the checksum",
+    ),
+    (
+        DecodeError(SegwitHrpstringError::Memory),
+        "decoding segwit address failed: out of memory",
+    ),
+];
 
 #[test]
 fn tells_what_is_wrong(rt: HostRuntime) {
-    let alloc = rt.alloc();
-    let message = "witness version: invalid segwit witness version: 17 (bech32 character: '3')";
-    let version = InvalidWitnessVersionError(Fe32::_3);
-    prints(&rt, alloc, &EncodeError::from(version), message);
-    let message = "witness length: witness program is less than 2 bytes long";
-    let length = WitnessLengthError::TooShort;
-    prints(&rt, alloc, &EncodeError::from(length), message);
-    let message = "encode error: encoded length 91 exceeds maximum (code length) 90";
     let too_long = SegwitCodeLengthError(91);
-    prints(&rt, alloc, &EncodeError::from(too_long), message);
-    prints(&rt, alloc, &EncodeError::TooLong(too_long), message);
-    let message = "writing to formatter failed: an error occurred when formatting an argument";
-    prints(&rt, alloc, &EncodeError::from(fmt::Error), message);
-    prints(&rt, alloc, &EncodeError::Memory, "out of memory");
-    let message = "decoding segwit address failed: no data found after removing the checksum";
-    let error = DecodeError(SegwitHrpstringError::NoData);
-    prints(&rt, alloc, &error, message);
-    let message = "decoding segwit address failed: out of memory";
-    let error = DecodeError(SegwitHrpstringError::Memory);
-    prints(&rt, alloc, &error, message);
+    let message = "encode error: encoded length 91 exceeds maximum (code length) 90";
+    let rows = [
+        (
+            EncodeError::from(InvalidWitnessVersionError(Fe32::_3)),
+            "witness version: invalid segwit witness version: 17 (bech32 character: '3')",
+        ),
+        (
+            EncodeError::from(WitnessLengthError::TooShort),
+            "witness length: witness program is less than 2 bytes long",
+        ),
+        (EncodeError::from(too_long), message),
+        (EncodeError::TooLong(too_long), message),
+        (
+            EncodeError::from(fmt::Error),
+            "writing to formatter failed: an error occurred when formatting an argument",
+        ),
+        (EncodeError::Memory, "out of memory"),
+    ];
+    prints(&rt, rt.alloc(), &rows);
+    prints(&rt, rt.alloc(), &DECODE_ERRORS);
 }
 
 // Whether this text was made; `None` where there is too little memory.
@@ -245,55 +268,55 @@ fn is_text(made: Result<String<&LocalHeap>, EncodeError>, want: &str) -> Option<
     }
 }
 
-// Three known addresses, each by another call.
+// Whether the parts of a known address are decoded. What is not an address is refused on a heap as
+// elsewhere.
+fn has_parts(alloc: Global, heap: &LocalHeap) -> Option<bool> {
+    if decode_in(heap, "a1").err() != decode(alloc, "a1").err() {
+        return Some(false);
+    }
+    match decode_in(heap, ADDRESS) {
+        Ok((hrp, version, program)) => {
+            let front = (hrp.as_str(), version);
+            Some(front == ("bc", VERSION_0) && program.as_slice() == PROGRAM.as_slice())
+        }
+        Err(DecodeError(SegwitHrpstringError::Memory)) => None,
+        Err(_) => Some(false),
+    }
+}
+
+// Known addresses, each by another call.
 enum Known {
     OfAnyVersion,
     OfVersion0,
     OfVersion1,
+    Parts,
 }
 
 impl InHeap for Known {
-    fn is_right(&self, _alloc: Global, heap: &LocalHeap) -> Option<bool> {
+    fn is_right(&self, alloc: Global, heap: &LocalHeap) -> Option<bool> {
         match self {
             Known::OfAnyVersion => {
                 is_text(encode_in(heap, hrp::BC, VERSION_1, &LONG_PROGRAM), TWICE)
             }
             Known::OfVersion0 => is_text(encode_v0_in(heap, hrp::BC, &PROGRAM), ADDRESS),
             Known::OfVersion1 => is_text(encode_v1_in(heap, hrp::BC, &[0xab; 20]), TAPROOT),
+            Known::Parts => has_parts(alloc, heap),
         }
     }
 }
 
+const CALLS: &[Known] = &[
+    Known::OfAnyVersion,
+    Known::OfVersion0,
+    Known::OfVersion1,
+    Known::Parts,
+];
+
 #[test]
-fn encodes_or_wants_memory(rt: HostRuntime) {
-    let alloc = rt.alloc();
-    is_right_or_wants_memory(&rt, alloc, &Known::OfAnyVersion);
-    is_right_or_wants_memory(&rt, alloc, &Known::OfVersion0);
-    is_right_or_wants_memory(&rt, alloc, &Known::OfVersion1);
-}
-
-// The parts of a known address. What is not an address is refused on a heap as elsewhere.
-struct KnownAddress;
-
-impl InHeap for KnownAddress {
-    fn is_right(&self, alloc: Global, heap: &LocalHeap) -> Option<bool> {
-        if decode_in(heap, "a1").err() != decode(alloc, "a1").err() {
-            return Some(false);
-        }
-        match decode_in(heap, ADDRESS) {
-            Ok((hrp, version, program)) => {
-                let front = (hrp.as_str(), version);
-                Some(front == ("bc", VERSION_0) && program.as_slice() == PROGRAM.as_slice())
-            }
-            Err(DecodeError(SegwitHrpstringError::Memory)) => None,
-            Err(_) => Some(false),
-        }
+fn addresses_or_out_of_memory(rt: HostRuntime) {
+    for call in CALLS {
+        is_right_or_wants_memory(&rt, rt.alloc(), call);
     }
-}
-
-#[test]
-fn decodes_or_wants_memory(rt: HostRuntime) {
-    is_right_or_wants_memory(&rt, rt.alloc(), &KnownAddress);
 }
 
 // Fails where the address of a program is not decoded to it.

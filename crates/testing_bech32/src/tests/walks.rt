@@ -7,96 +7,94 @@ use bech32::primitives::decode::{
 use bech32::primitives::hrp;
 use bech32::{Bech32, Bech32m, Checksum, Fe32};
 use bech32_decode::Reading;
+use std::process::Abort;
 
 // Whether one walk reads a text that a checksum accepts.
-fn is_read_by<Ck: Checksum>(text: &str) -> bool {
+fn is_read<Ck: Checksum>(text: &str) -> bool {
     match Reading::<Ck>::of(text.as_bytes()) {
         Some(reading) => reading.validate().is_ok(),
         None => false,
     }
 }
 
-// The same by Bech32.
-fn is_read(text: &str) -> bool {
-    is_read_by::<Bech32>(text)
-}
-
-// Valid texts of BIP-173, and of BIP-350.
-#[test]
-fn texts_are_read(rt: HostRuntime) {
-    let are_read = [
-        is_read("A12UEL5L"),
-        is_read("a12uel5l"),
-        is_read("abcdef1qpzry9x8gf2tvdw0s3jn54khce6mua7lmqqqxw"),
-        is_read("split1checkupstagehandshakeupstreamerranterredcaperred2y9e3w"),
-        is_read("?1ezyfcl"),
-        is_read_by::<Bech32m>("A1LQFN3A"),
-        is_read_by::<Bech32m>("a1lqfn3a"),
-        is_read_by::<Bech32m>("abcdef1l7aum6echk45nj3s0wdvt2fg8x9yrzpqzd3ryx"),
-        is_read_by::<Bech32m>("?1v759aa"),
-    ];
-    same(&rt, &are_read, &[true; 9]);
-}
-
-// A part with a `1` in it is read by the rules alone.
-#[test]
-fn two_separators_are_not_read(rt: HostRuntime) {
-    let text =
-        "11qqqqqqqqqqqqqqqqqqqqqqqqqqqqqqqqqqqqqqqqqqqqqqqqqqqqqqqqqqqqqqqqqqqqqqqqqqqqqqqqqqc8247j";
-    let is_accepted = CheckedHrpstring::new::<Bech32>(text).is_ok();
-    same(&rt, &(is_read(text), is_accepted), &(false, true));
-}
-
-#[test]
-fn faults_are_not_read(rt: HostRuntime) {
-    let are_read = [
-        is_read("a12UEL5L"),
-        is_read("a12uel5b"),
-        is_read("a12ubl5l"),
-        is_read("12uel5l"),
-        is_read("pzry9x0s0muk"),
-        is_read(""),
-    ];
-    same(&rt, &are_read, &[false; 6]);
-}
-
-// Whether a checksum accepts a text, or why it is none.
-fn accepts_by<Ck: Checksum>(text: &str) -> Result<bool, UncheckedHrpstringError> {
+// Whether a checksum accepts a text, or why it is none: by one walk, and where that says nothing
+// without it.
+fn accepts<Ck: Checksum>(text: &str) -> Result<bool, UncheckedHrpstringError> {
     match Reading::<Ck>::new(text) {
         Ok(reading) => Ok(reading.validate().is_ok()),
         Err(error) => Err(error),
     }
 }
 
-// The same of Bech32.
-fn accepts(text: &str) -> Result<bool, UncheckedHrpstringError> {
-    accepts_by::<Bech32>(text)
+// A text, whether one walk reads it and the checksum accepts it, and whether the checksum accepts
+// it at all, or why it is none.
+type Row = (&'static str, bool, Result<bool, UncheckedHrpstringError>);
+
+const MIXED: UncheckedHrpstringError = UncheckedHrpstringError::Char(CharError::MixedCase);
+
+const STRANGE: UncheckedHrpstringError = UncheckedHrpstringError::Char(CharError::InvalidChar('b'));
+
+const WITHOUT: UncheckedHrpstringError = UncheckedHrpstringError::Char(CharError::MissingSeparator);
+
+const EMPTY: UncheckedHrpstringError = UncheckedHrpstringError::Hrp(hrp::Error::Empty);
+
+// Valid texts of BIP-173; one with a wrong checksum; one whose part has a `1` in it, which is read
+// by the rules alone; and texts with faults.
+const BY_BECH32: &[Row] = &[
+    ("A12UEL5L", true, Ok(true)),
+    ("a12uel5l", true, Ok(true)),
+    (
+        "abcdef1qpzry9x8gf2tvdw0s3jn54khce6mua7lmqqqxw",
+        true,
+        Ok(true),
+    ),
+    (
+        "split1checkupstagehandshakeupstreamerranterredcaperred2y9e3w",
+        true,
+        Ok(true),
+    ),
+    ("?1ezyfcl", true, Ok(true)),
+    ("a12uel5q", false, Ok(false)),
+    (
+        "11qqqqqqqqqqqqqqqqqqqqqqqqqqqqqqqqqqqqqqqqqqqqqqqqqqqqqqqqqqqqqqqqqqqqqqqqqqqqqqqqqqc8247j",
+        false,
+        Ok(true),
+    ),
+    ("a12UEL5L", false, Err(MIXED)),
+    ("a12uel5b", false, Err(STRANGE)),
+    ("a12ubl5l", false, Err(STRANGE)),
+    ("12uel5l", false, Err(EMPTY)),
+    ("1pzry9x0s0muk", false, Err(EMPTY)),
+    ("pzry9x0s0muk", false, Err(WITHOUT)),
+    ("", false, Err(WITHOUT)),
+];
+
+// Valid texts of BIP-350.
+const BY_BECH32M: &[Row] = &[
+    ("A1LQFN3A", true, Ok(true)),
+    ("a1lqfn3a", true, Ok(true)),
+    (
+        "abcdef1l7aum6echk45nj3s0wdvt2fg8x9yrzpqzd3ryx",
+        true,
+        Ok(true),
+    ),
+    ("?1v759aa", true, Ok(true)),
+];
+
+// Fails where a checksum accepts a text of a row otherwise, by a walk or by the rules.
+fn rows_hold<Ck: Checksum>(rt: &impl Abort, rows: &[Row]) {
+    for &(text, read, accepted) in rows {
+        let found = (is_read::<Ck>(text), accepts::<Ck>(text));
+        same(rt, &(text, found), &(text, (read, accepted)));
+        let by_rules = CheckedHrpstring::new::<Ck>(text).is_ok();
+        same(rt, &(text, by_rules), &(text, accepted == Ok(true)));
+    }
 }
 
-// By one walk, and where it says nothing without it.
 #[test]
 fn each_text_is_read_or_refused(rt: HostRuntime) {
-    let found = [
-        accepts("a12uel5l"),
-        accepts("a12uel5q"),
-        accepts(
-            "11qqqqqqqqqqqqqqqqqqqqqqqqqqqqqqqqqqqqqqqqqqqqqqqqqqqqqqqqqqqqqqqqqqqqqqqqqqqqqqqqqqc8247j",
-        ),
-        accepts("a12UEL5L"),
-        accepts("a12uel5b"),
-        accepts("pzry9x0s0muk"),
-        accepts("1pzry9x0s0muk"),
-    ];
-    let want = [
-        Ok(true),
-        Ok(false),
-        Ok(true),
-        Err(UncheckedHrpstringError::Char(CharError::MixedCase)),
-        Err(UncheckedHrpstringError::Char(CharError::InvalidChar('b'))),
-        Err(UncheckedHrpstringError::Char(CharError::MissingSeparator)),
-        Err(UncheckedHrpstringError::Hrp(hrp::Error::Empty)),
-    ];
-    same(&rt, &found, &want);
+    rows_hold::<Bech32>(&rt, BY_BECH32);
+    rows_hold::<Bech32m>(&rt, BY_BECH32M);
 }
 
 // The version of an address that one walk reads, and how many characters its program has.

@@ -1,24 +1,23 @@
-use super::forms::{FORMS, Form, Given, text_to_writer, to_writer, written};
-use super::given::{
-    Check, Writes, behind_each_part, fronts, known_address, known_addresses, known_texts,
-    long_address, of_each_length, of_each_version, part,
-};
-use super::known::{data, kinds, zeros};
+use super::forms::{FORMS, Form, Given, to_writer, written};
+use super::given::{known, known_address, long_address, part};
+use super::known::{FRONT, data, kinds};
 use crate::tests::compare::same;
+use bech32::EncodeIoError;
 use bech32::segwit::VERSION_0;
-use bech32::{Bech32m, EncodeIoError};
 use std::alloc::Global;
 use std::io;
 use std::process::Abort;
 
-// Takes at most `step` bytes a call and `room` in all, and fails from then on, by `Ok(0)` where it
-// has no error to return. Counts the calls, those of them that failed, and the flushes.
+// Takes at most `step` bytes a call and `room` in all, and then fails, by `Ok(0)` where it has no
+// error to return: from then on, or once, and would take all after that. Counts the calls, those of
+// them that failed, and the flushes.
 #[derive(Drop)]
 struct Narrow {
     got: Vec<u8>,
     room: usize,
     step: usize,
     error: Option<io::Error>,
+    fails_once: bool,
     calls: usize,
     failures: usize,
     flushes: usize,
@@ -31,6 +30,7 @@ impl Narrow {
             room,
             step,
             error,
+            fails_once: false,
             calls: 0,
             failures: 0,
             flushes: 0,
@@ -43,6 +43,9 @@ impl io::Write for Narrow {
         self.calls = self.calls.saturating_add(1);
         if self.got.len() >= self.room {
             self.failures = self.failures.saturating_add(1);
+            if self.fails_once {
+                self.room = usize::MAX;
+            }
             return match self.error {
                 Some(error) => Err(error),
                 None => Ok(0),
@@ -60,69 +63,33 @@ impl io::Write for Narrow {
     }
 }
 
-// Takes nothing at its first call, returns `first` or else `Ok(0)`, and would take all from then
-// on.
-#[derive(Drop)]
-struct Late {
-    calls: usize,
-    flushes: usize,
-    first: Option<io::ErrorKind>,
-}
+/// What a call told: the kind of the writer's error, `None` for a text that is too long.
+pub type Told = Result<(), Option<io::ErrorKind>>;
 
-impl io::Write for Late {
-    fn write(&mut self, buf: &[u8]) -> io::Result<usize> {
-        self.calls = self.calls.saturating_add(1);
-        if self.calls > 1 {
-            return Ok(buf.len());
-        }
-        match self.first {
-            Some(kind) => Err(io::Error::from(kind)),
-            None => Ok(0),
-        }
-    }
-
-    fn flush(&mut self) -> io::Result<()> {
-        self.flushes = self.flushes.saturating_add(1);
-        Ok(())
+/// The same of its outcome.
+pub fn told(outcome: &Result<(), EncodeIoError>) -> Told {
+    match outcome {
+        Ok(()) => Ok(()),
+        Err(EncodeIoError::TooLong(_)) => Err(None),
+        Err(EncodeIoError::Write(e)) => Err(Some(e.kind())),
     }
 }
 
-// What kind of error the writer returned, `None` for a text that is too long.
-fn kind(e: EncodeIoError) -> Option<io::ErrorKind> {
-    match e {
-        EncodeIoError::TooLong(_) => None,
-        EncodeIoError::Write(e) => Some(e.kind()),
-    }
-}
-
-enum InVec {}
-
-impl Writes for InVec {
-    fn writes(rt: &impl Abort, alloc: Global, form: Form, given: &Given<'_>, want: &str) {
-        let mut bytes = Vec::new(alloc);
-        let outcome = to_writer(form, &mut bytes, given).map_err(kind);
-        let found = (form, outcome, bytes.as_slice());
-        same(rt, &found, &(form, Ok(()), want.as_bytes()));
-    }
+// Fails where a form fails, or writes other bytes.
+fn writes(rt: &impl Abort, alloc: Global, form: Form, given: &Given<'_>, want: &str) {
+    let mut bytes = Vec::new(alloc);
+    let outcome = told(&to_writer(form, &mut bytes, given));
+    let found = (form, outcome, bytes.as_slice());
+    same(rt, &found, &(form, Ok(()), want.as_bytes()));
 }
 
 #[test]
 fn known_texts_to_a_vec(rt: HostRuntime) {
-    known_texts::<InVec>(&rt, rt.alloc());
+    for form in FORMS {
+        let (given, want) = known(&rt, form);
+        writes(&rt, rt.alloc(), form, &given, want);
+    }
 }
-
-#[test]
-fn nothing_is_written_of_a_long_text(rt: HostRuntime) {
-    let hrp = part(&rt, "abcde");
-    let mut bytes = Vec::new(rt.alloc());
-    let outcome = text_to_writer::<Bech32m, Vec<u8>>(Form::Text, &mut bytes, hrp, &zeros()).map_err(
-        kind,
-    );
-    same(&rt, &(outcome, bytes.len()), &(Err(None), 0));
-}
-
-// What a call told.
-type Told = Result<(), Option<io::ErrorKind>>;
 
 // The outcome at a writer that has room for the text, or has not.
 fn outcome_at(w: &Narrow, is_cut: bool) -> Told {
@@ -145,10 +112,15 @@ fn came(outcome: Told, w: &Narrow, whole: &[u8], count: usize) -> Came {
     (outcome, counts, (begins, are_few))
 }
 
+// Writes a form to such a writer.
+fn to_narrow(form: Form, w: &mut Narrow, given: &Given<'_>) -> Result<(), EncodeIoError> {
+    to_writer(form, w, given)
+}
+
 // Fails where a form does not write as far as a writer has room, goes on when it failed, tells
 // another error, flushes it, or makes a call that is for nothing.
 fn fails_behind(rt: &impl Abort, (form, given): (Form, &Given<'_>), whole: &[u8], w: &mut Narrow) {
-    let outcome = to_writer(form, w, given).map_err(kind);
+    let outcome = told(&to_narrow(form, w, given));
     let is_cut = w.room < whole.len();
     let count = w.room.min(whole.len());
     let found = came(outcome, w, whole, count);
@@ -174,8 +146,8 @@ fn fails_at(
     fails_behind(rt, form, whole, &mut w);
 }
 
-// A writer that has room for all of it takes what a form writes, byte by byte and at once.
-fn is_taken(rt: &impl Abort, alloc: Global, form: Form, given: &Given<'_>) {
+/// A writer that has room for all of it takes what a form writes, byte by byte and at once.
+pub fn is_taken(rt: &impl Abort, alloc: Global, form: Form, given: &Given<'_>) {
     let whole = written(rt, alloc, form, given);
     let room = whole.len();
     fails_at(rt, alloc, (form, given), &whole, (room, 1), None);
@@ -218,39 +190,18 @@ fn every_byte_may_fail(rt: HostRuntime) {
     }
 }
 
-enum TakesAll {}
-
-impl Check for TakesAll {
-    fn check(rt: &impl Abort, alloc: Global, given: &Given<'_>) {
-        for form in FORMS {
-            is_taken(rt, alloc, form, given);
-        }
-    }
-}
-
-#[test]
-fn texts_of_every_length_are_written(rt: HostRuntime) {
-    of_each_length::<TakesAll>(&rt, rt.alloc());
-}
-
-#[test]
-fn texts_behind_each_part_are_written(rt: HostRuntime) {
-    behind_each_part::<TakesAll>(&rt, rt.alloc());
-}
-
-#[test]
-fn addresses_of_each_version_are_written(rt: HostRuntime) {
-    of_each_version::<TakesAll>(&rt, rt.alloc());
-}
-
-// Fails where a late writer is called again after its first answer, or another error is told.
-fn ends_at(rt: &impl Abort, form: Form, first: Option<io::ErrorKind>, want: io::ErrorKind) {
-    let mut w = Late {
-        calls: 0,
-        flushes: 0,
-        first,
-    };
-    let outcome = to_writer(form, &mut w, &known_address()).map_err(kind);
+// Fails where a writer that takes nothing at its first call is called again, or another error is
+// told.
+fn ends_at(
+    rt: &impl Abort,
+    alloc: Global,
+    form: Form,
+    first: Option<io::Error>,
+    want: io::ErrorKind,
+) {
+    let mut w = Narrow::new(alloc, 0, usize::MAX, first);
+    w.fails_once = true;
+    let outcome = told(&to_narrow(form, &mut w, &known_address()));
     same(
         rt,
         &(form, outcome, w.calls, w.flushes),
@@ -259,22 +210,22 @@ fn ends_at(rt: &impl Abort, form: Form, first: Option<io::ErrorKind>, want: io::
 }
 
 // The same of a writer that takes nothing, and of one with an error of each kind.
-fn ends_at_each(rt: &impl Abort, form: Form) {
-    ends_at(rt, form, None, io::ErrorKind::WriteZero);
+fn ends_at_each(rt: &impl Abort, alloc: Global, form: Form) {
+    ends_at(rt, alloc, form, None, io::ErrorKind::WriteZero);
     for kind in kinds() {
-        ends_at(rt, form, Some(kind), kind);
+        ends_at(rt, alloc, form, Some(io::Error::from(kind)), kind);
     }
 }
 
 #[test]
 fn the_first_error_ends_the_call(rt: HostRuntime) {
     for form in FORMS {
-        ends_at_each(&rt, form);
+        ends_at_each(&rt, rt.alloc(), form);
     }
 }
 
 // The writer's error.
-fn told(outcome: Result<(), EncodeIoError>) -> Option<io::Error> {
+fn error_of(outcome: Result<(), EncodeIoError>) -> Option<io::Error> {
     match outcome {
         Err(EncodeIoError::Write(e)) => Some(e),
         _ => None,
@@ -284,7 +235,7 @@ fn told(outcome: Result<(), EncodeIoError>) -> Option<io::Error> {
 // The error that a form tells where its writer returns this one.
 fn told_by(alloc: Global, form: Form, error: io::Error) -> Option<io::Error> {
     let mut w = Narrow::new(alloc, 5, 7, Some(error));
-    told(to_writer(form, &mut w, &known_address()))
+    error_of(to_narrow(form, &mut w, &known_address()))
 }
 
 // What debugging an error prints.
@@ -315,12 +266,9 @@ fn the_error_is_the_writers_own(rt: HostRuntime) {
 }
 
 #[test]
-fn unchecked_addresses_to_a_vec(rt: HostRuntime) {
-    known_addresses::<InVec>(&rt, rt.alloc());
-}
-
-#[test]
 fn unchecked_addresses_are_cut(rt: HostRuntime) {
-    fronts::<InVec>(&rt, rt.alloc());
-    each_byte_fails(&rt, rt.alloc(), Form::Address, &long_address(&rt));
+    let (alloc, given) = (rt.alloc(), long_address(&rt));
+    writes(&rt, alloc, Form::Address, &given, FRONT);
+    writes(&rt, alloc, Form::LowerAddress, &given, FRONT);
+    each_byte_fails(&rt, alloc, Form::Address, &given);
 }

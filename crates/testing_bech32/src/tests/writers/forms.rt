@@ -1,6 +1,6 @@
 //! The forms of a call that writes a text, and what each writes.
 
-use crate::tests::calls::text_by_bech32;
+use crate::tests::calls::text_by;
 use bech32::primitives::encode::text_in;
 use bech32::segwit::{
     encode_lower_to_fmt_unchecked, encode_lower_to_writer_unchecked, encode_to_fmt_unchecked,
@@ -14,9 +14,10 @@ use bech32::{
 use std::alloc::Global;
 use std::process::Abort;
 use std::{fmt, io};
+use testing_plain::PlainChecksum;
 
 /// What is written: a text by Bech32, or an address without any test.
-#[derive(Clone, Copy, Debug, PartialEq, Eq, Drop)]
+#[derive(Clone, Copy, Debug, PartialEq)]
 pub enum Form {
     Text,
     LowerText,
@@ -36,7 +37,7 @@ pub const FORMS: [Form; 6] = [
 ];
 
 /// What a call is given. A text has no version.
-#[derive(Clone, Copy, Drop)]
+#[derive(Drop)]
 pub struct Given<'a> {
     pub hrp: Hrp,
     pub version: Fe32,
@@ -115,7 +116,8 @@ fn address_by<Ck: Checksum>(rt: &impl Abort, alloc: Global, given: &Given<'_>) -
 fn lower_text(rt: &impl Abort, alloc: Global, form: Form, given: &Given<'_>) -> String {
     match form {
         Form::Text | Form::LowerText | Form::UpperText => {
-            text_by_bech32(alloc, given.hrp, given.data).expect(rt, "a text")
+            let text = text_by(PlainChecksum::Bech32, alloc, given.hrp, given.data);
+            text.expect(rt, "a text")
         }
         _ if given.version == Fe32::Q => address_by::<Bech32>(rt, alloc, given),
         _ => address_by::<Bech32m>(rt, alloc, given),

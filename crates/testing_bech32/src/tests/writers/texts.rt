@@ -1,14 +1,10 @@
-use super::forms::{FORMS, Form, Given, text_to_fmt, to_fmt, written};
-use super::given::{
-    Check, Writes, behind_each_part, fronts, known_addresses, known_texts, long_address,
-    of_each_length, of_each_version, part,
-};
-use super::known::{PROGRAM, TEXT, UPPER_TEXT, zeros};
-use crate::tests::compare::{is_right_or_wants_memory, same};
-use bech32::primitives::decode::CodeLengthError;
+use super::forms::{FORMS, Form, Given, to_fmt, written};
+use super::given::{known, long_address, part};
+use super::known::{FRONT, PROGRAM, TEXT, UPPER_TEXT};
+use crate::tests::compare::same;
 use bech32::{
-    Bech32, Bech32m, Checksum, EncodeError, Hrp, encode_in, encode_lower, encode_lower_in,
-    encode_upper, encode_upper_in,
+    Bech32, Checksum, EncodeError, Hrp, encode_in, encode_lower, encode_lower_in, encode_upper,
+    encode_upper_in,
 };
 use linked_list_allocator::LocalHeap;
 use std::alloc::Global;
@@ -35,12 +31,17 @@ impl fmt::Write for Budget {
     }
 }
 
+// Fails where the known text is another one by a checksum, in lower or in upper case.
+fn encodes<Ck: Checksum>(rt: &impl Abort, alloc: Global) {
+    let hrp = part(rt, "test");
+    let lower = encode_lower::<Ck>(alloc, hrp, &PROGRAM).expect(rt, "a text");
+    let upper = encode_upper::<Ck>(alloc, hrp, &PROGRAM).expect(rt, "a text");
+    same(rt, &(lower.as_str(), upper.as_str()), &(TEXT, UPPER_TEXT));
+}
+
 #[test]
 fn known_texts_in_memory(rt: HostRuntime) {
-    let hrp = part(&rt, "test");
-    let lower = encode_lower::<Bech32>(rt.alloc(), hrp, &PROGRAM).expect(&rt, "a text");
-    let upper = encode_upper::<Bech32>(rt.alloc(), hrp, &PROGRAM).expect(&rt, "a text");
-    same(&rt, &(lower.as_str(), upper.as_str()), &(TEXT, UPPER_TEXT));
+    encodes::<Bech32>(&rt, rt.alloc());
 }
 
 // Whether this text was made; `None` where there is too little memory.
@@ -82,46 +83,32 @@ impl InHeap for Known {
     }
 }
 
+// On how many heaps a call is out of memory; fails where it is not right on the others.
+fn wants(rt: &impl Abort, alloc: Global, call: &Known) -> usize {
+    right_or_wants_memory(alloc, call, (16, 16)).expect(rt, "right, or out of memory")
+}
+
 #[test]
 fn encodes_or_wants_memory(rt: HostRuntime) {
-    let hrp = part(&rt, "test");
-    is_right_or_wants_memory(&rt, rt.alloc(), &Known::Either(hrp));
+    let (alloc, hrp) = (rt.alloc(), part(&rt, "test"));
+    wants(&rt, alloc, &Known::Either(hrp));
+    let lower = wants(&rt, alloc, &Known::Lower(hrp));
+    same(&rt, &wants(&rt, alloc, &Known::Upper(hrp)), &lower);
 }
 
-#[test]
-fn known_texts_or_out_of_memory(rt: HostRuntime) {
-    let hrp = part(&rt, "test");
-    let lower = right_or_wants_memory(rt.alloc(), &Known::Lower(hrp), (16, 16));
-    let upper = right_or_wants_memory(rt.alloc(), &Known::Upper(hrp), (16, 16));
-    let lower = lower.expect(&rt, "right, or out of memory");
-    same(&rt, &upper, &Ok(lower));
-}
-
-enum InString {}
-
-impl Writes for InString {
-    fn writes(rt: &impl Abort, alloc: Global, form: Form, given: &Given<'_>, want: &str) {
-        let mut text = String::new(alloc);
-        let outcome = to_fmt(form, &mut text, given);
-        same(rt, &(form, outcome, text.as_str()), &(form, Ok(()), want));
-    }
+// Fails where a form fails, or writes another text.
+fn writes(rt: &impl Abort, alloc: Global, form: Form, given: &Given<'_>, want: &str) {
+    let mut text = String::new(alloc);
+    let outcome = to_fmt(form, &mut text, given);
+    same(rt, &(form, outcome, text.as_str()), &(form, Ok(()), want));
 }
 
 #[test]
 fn known_texts_to_a_string(rt: HostRuntime) {
-    known_texts::<InString>(&rt, rt.alloc());
-}
-
-#[test]
-fn nothing_is_written_of_a_long_text(rt: HostRuntime) {
-    let hrp = part(&rt, "abcde");
-    let mut text = String::new(rt.alloc());
-    let outcome = text_to_fmt::<Bech32m, String>(Form::Text, &mut text, hrp, &zeros());
-    let too_long = EncodeError::TooLong(CodeLengthError {
-        encoded_length: 1024,
-        code_length: 1023,
-    });
-    same(&rt, &(outcome, text.as_str()), &(Err(too_long), ""));
+    for form in FORMS {
+        let (given, want) = known(&rt, form);
+        writes(&rt, rt.alloc(), form, &given, want);
+    }
 }
 
 // What comes of a text at a writer: the outcome, how many calls were made, and whether what they
@@ -180,46 +167,18 @@ fn calls_of(rt: &impl Abort, alloc: Global, form: (Form, &Given<'_>), whole: &[u
     10
 }
 
-// Fails each call of a form in turn, and then none. There is one, and there are less than ten.
-fn each_call_fails(rt: &impl Abort, alloc: Global, form: Form, given: &Given<'_>) {
+/// Fails each call of a form in turn, and then none. There is one, and there are less than ten.
+pub fn each_call_fails(rt: &impl Abort, alloc: Global, form: Form, given: &Given<'_>) {
     let whole = written(rt, alloc, form, given);
     let calls = calls_of(rt, alloc, (form, given), &whole);
     same(rt, &(form, 1 <= calls && calls < 10), &(form, true));
 }
 
-enum EachFormFails {}
-
-impl Check for EachFormFails {
-    fn check(rt: &impl Abort, alloc: Global, given: &Given<'_>) {
-        for form in FORMS {
-            each_call_fails(rt, alloc, form, given);
-        }
-    }
-}
-
-#[test]
-fn every_piece_may_fail(rt: HostRuntime) {
-    of_each_length::<EachFormFails>(&rt, rt.alloc());
-}
-
-#[test]
-fn every_piece_may_fail_behind_each_part(rt: HostRuntime) {
-    behind_each_part::<EachFormFails>(&rt, rt.alloc());
-}
-
-#[test]
-fn every_piece_may_fail_at_each_version(rt: HostRuntime) {
-    of_each_version::<EachFormFails>(&rt, rt.alloc());
-}
-
-#[test]
-fn unchecked_addresses_to_a_string(rt: HostRuntime) {
-    known_addresses::<InString>(&rt, rt.alloc());
-}
-
 #[test]
 fn unchecked_addresses_are_cut(rt: HostRuntime) {
-    fronts::<InString>(&rt, rt.alloc());
-    let (outcome, _, _) = cut_at(rt.alloc(), Form::Address, &long_address(&rt), &[], 0);
+    let (alloc, given) = (rt.alloc(), long_address(&rt));
+    writes(&rt, alloc, Form::Address, &given, FRONT);
+    writes(&rt, alloc, Form::LowerAddress, &given, FRONT);
+    let (outcome, _, _) = cut_at(alloc, Form::Address, &given, &[], 0);
     same(&rt, &outcome, &Err(EncodeError::Fmt(fmt::Error)));
 }
