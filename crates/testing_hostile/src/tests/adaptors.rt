@@ -3,7 +3,7 @@
 use crate::tests::compare::same;
 use bech32::primitives::encode::WitnessVersionIter;
 use bech32::primitives::iter::Checksummed;
-use bech32::{Bech32, Fe32, Fe32IterExt, Hrp};
+use bech32::{Bech32, Checksum, Fe32, Fe32IterExt, Hrp};
 use std::fmt::Debug;
 use std::process::Abort;
 use testing_tools::iterators::TwoItems;
@@ -32,55 +32,59 @@ where
     same(rt, &(place, item), &(place, want));
 }
 
-fn chars_stay_ended(rt: &impl Abort, hrp: &Hrp) {
-    let encoder = TwoItems::new(Fe32::_4, None).with_checksum::<Bech32>(hrp);
+fn chars_stay_ended<Ck: Checksum>(rt: &impl Abort, hrp: &Hrp) {
+    let encoder = TwoItems::new(Fe32::_4, None).with_checksum::<Ck>(hrp);
     let mut chars = encoder.chars();
     for place in 0..13usize {
         is_at(rt, place, chars.next(), char_at(TEXT, place));
     }
 }
 
-fn bytes_stay_ended(rt: &impl Abort, hrp: &Hrp) {
-    let encoder = TwoItems::new(Fe32::_4, Some(usize::MAX)).with_checksum::<Bech32>(hrp);
+fn bytes_stay_ended<Ck: Checksum>(rt: &impl Abort, hrp: &Hrp) {
+    let encoder = TwoItems::new(Fe32::_4, Some(usize::MAX)).with_checksum::<Ck>(hrp);
     let mut bytes = encoder.bytes();
     for place in 0..13usize {
         is_at(rt, place, bytes.next(), byte_at(TEXT, place));
     }
 }
 
-#[test]
-fn texts_stay_ended(rt: HostRuntime) {
-    let hrp = Hrp::parse("a").expect(&rt, "a human-readable part");
-    chars_stay_ended(&rt, &hrp);
-    bytes_stay_ended(&rt, &hrp);
+fn elements_stay_ended<Ck: Checksum>(rt: &impl Abort, hrp: &Hrp) {
+    let encoder = TwoItems::new(Fe32::_4, None).with_checksum::<Ck>(hrp);
+    let mut fes = encoder.fes();
+    for place in 0..14usize {
+        is_at(rt, place, fes.next(), element_at("rqp44mh9z97", place));
+    }
+}
+
+// The checksum of two elements behind a human-readable part.
+fn checksum_behind_part<Ck: Checksum>(rt: &impl Abort, hrp: &Hrp) {
+    let mut fes = Checksummed::<_, Ck>::new_hrp(*hrp, TwoItems::new(Fe32::_4, None));
+    for place in 0..11usize {
+        is_at(rt, place, fes.next(), element_at("44mh9z97", place));
+    }
+}
+
+// The same with none in front.
+fn checksum_alone<Ck: Checksum>(rt: &impl Abort) {
+    let mut fes = Checksummed::<_, Ck>::new(TwoItems::new(Fe32::_4, None));
+    for place in 0..11usize {
+        is_at(rt, place, fes.next(), element_at("44ectty8", place));
+    }
 }
 
 #[test]
-fn elements_stay_ended(rt: HostRuntime) {
+fn texts_stay_ended(rt: HostRuntime) {
     let hrp = Hrp::parse("a").expect(&rt, "a human-readable part");
-    let encoder = TwoItems::new(Fe32::_4, None).with_checksum::<Bech32>(&hrp);
-    let mut fes = encoder.fes();
-    for place in 0..14usize {
-        is_at(&rt, place, fes.next(), element_at("rqp44mh9z97", place));
-    }
+    chars_stay_ended::<Bech32>(&rt, &hrp);
+    bytes_stay_ended::<Bech32>(&rt, &hrp);
+    elements_stay_ended::<Bech32>(&rt, &hrp);
 }
 
 #[test]
 fn checksums_stay_ended(rt: HostRuntime) {
     let hrp = Hrp::parse("a").expect(&rt, "a human-readable part");
-    let mut fes = Checksummed::<_, Bech32>::new_hrp(hrp, TwoItems::new(Fe32::_4, None));
-    for place in 0..11usize {
-        is_at(&rt, place, fes.next(), element_at("44mh9z97", place));
-    }
-}
-
-// The checksum of two elements with no human-readable part in front.
-#[test]
-fn checksums_of_elements_alone_stay_ended(rt: HostRuntime) {
-    let mut fes = Checksummed::<_, Bech32>::new(TwoItems::new(Fe32::_4, None));
-    for place in 0..11usize {
-        is_at(&rt, place, fes.next(), element_at("44ectty8", place));
-    }
+    checksum_behind_part::<Bech32>(&rt, &hrp);
+    checksum_alone::<Bech32>(&rt);
 }
 
 #[test]

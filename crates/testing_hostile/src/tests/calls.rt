@@ -47,88 +47,55 @@ fn address_is<A: Allocator>(outcome: Result<String<A>, segwit::EncodeError>, tex
     }
 }
 
-// The text of the bytes, in the case of the human-readable part or in a given one.
+// A call, by its name.
 #[derive(Clone, Copy)]
-enum Encode {
-    AsGiven,
-    Lower,
-    Upper,
+enum Named {
+    Encode,
+    EncodeLower,
+    EncodeUpper,
+    Decode,
+    ToLowercase,
+    EncodeAddress,
+    EncodeV0,
+    EncodeV1,
+    DecodeAddress,
+    DetectsFour,
+    Block,
+    Propose,
 }
 
-// What it returns by a checksum.
-fn encodes<Ck: Checksum, A: Allocator + Copy>(heap: A, case: Encode, hrp: Hrp) -> Answer {
-    match case {
-        Encode::AsGiven => text_is(encode_in::<Ck, A>(heap, hrp, BYTES), TEXT),
-        Encode::Lower => text_is(encode_lower_in::<Ck, A>(heap, hrp, BYTES), TEXT),
-        Encode::Upper => text_is(encode_upper_in::<Ck, A>(heap, hrp, BYTES), UPPER_TEXT),
+// The text of the bytes, in the case of the human-readable part or in a given one.
+fn encodes_behind<Ck: Checksum, A: Allocator + Copy>(heap: A, call: Named, hrp: Hrp) -> Answer {
+    match call {
+        Named::EncodeLower => text_is(encode_lower_in::<Ck, A>(heap, hrp, BYTES), TEXT),
+        Named::EncodeUpper => text_is(encode_upper_in::<Ck, A>(heap, hrp, BYTES), UPPER_TEXT),
+        _ => text_is(encode_in::<Ck, A>(heap, hrp, BYTES), TEXT),
     }
 }
 
 // The human-readable part that it is given.
-fn part_of(case: Encode) -> &'static str {
-    match case {
-        Encode::Lower => "ABC",
+fn part_of(call: Named) -> &'static str {
+    match call {
+        Named::EncodeLower => "ABC",
         _ => "abc",
     }
 }
 
-impl Call for Encode {
-    fn answer(&self, heap: Heap<'_>) -> Answer {
-        match Hrp::parse(part_of(*self)) {
-            Ok(hrp) => encodes::<Bech32m, _>(heap, *self, hrp),
-            Err(_) => Answer::Other,
-        }
+fn encodes(heap: Heap<'_>, call: Named) -> Answer {
+    match Hrp::parse(part_of(call)) {
+        Ok(hrp) => encodes_behind::<Bech32m, _>(heap, call, hrp),
+        Err(_) => Answer::Other,
     }
 }
 
-#[derive(Clone, Copy)]
-struct Decode;
-
-impl Call for Decode {
-    fn answer(&self, heap: Heap<'_>) -> Answer {
-        match decode_in(heap, UPPER_TEXT) {
-            Ok((hrp, bytes)) => {
-                let is_same = hrp.as_str() == "ABC" && bytes.as_slice() == BYTES;
-                Answer::of(is_same)
-            }
-            Err(DecodeError::Memory) => Answer::NoMemory,
-            Err(_) => Answer::Other,
+fn decodes(heap: Heap<'_>) -> Answer {
+    match decode_in(heap, UPPER_TEXT) {
+        Ok((hrp, bytes)) => {
+            let is_same = hrp.as_str() == "ABC" && bytes.as_slice() == BYTES;
+            Answer::of(is_same)
         }
-    }
-}
-
-#[derive(Clone, Copy)]
-enum SegwitEncode {
-    Version,
-    V0,
-    V1,
-}
-
-impl Call for SegwitEncode {
-    fn answer(&self, heap: Heap<'_>) -> Answer {
-        match self {
-            SegwitEncode::Version => {
-                address_is(segwit::encode_in(heap, BC, VERSION_1, BYTES), TAPROOT)
-            }
-            SegwitEncode::V0 => address_is(segwit::encode_v0_in(heap, BC, PROGRAM), ADDRESS),
-            SegwitEncode::V1 => address_is(segwit::encode_v1_in(heap, BC, BYTES), TAPROOT),
-        }
-    }
-}
-
-#[derive(Clone, Copy)]
-struct SegwitDecode;
-
-impl Call for SegwitDecode {
-    fn answer(&self, heap: Heap<'_>) -> Answer {
-        match segwit::decode_in(heap, ADDRESS) {
-            Ok((hrp, version, program)) => {
-                let is_same = hrp == BC && version == VERSION_0;
-                Answer::of(is_same && program.as_slice() == PROGRAM)
-            }
-            Err(segwit::DecodeError(SegwitHrpstringError::Memory)) => Answer::NoMemory,
-            Err(_) => Answer::Other,
-        }
+        Err(DecodeError::Memory) => Answer::NoMemory,
+        Err(_) => Answer::Other,
     }
 }
 
@@ -140,46 +107,50 @@ fn lowered_is<A: Allocator>(outcome: Result<String<A>, AllocError>, text: &str) 
     }
 }
 
-#[derive(Clone, Copy)]
-struct ToLowercase;
-
-impl Call for ToLowercase {
-    fn answer(&self, heap: Heap<'_>) -> Answer {
-        let Ok(hrp) = Hrp::parse("TB") else {
-            return Answer::Other;
-        };
-        let answer = lowered_is(hrp.to_lowercase_in(heap), "tb");
-        if hrp == TB && hrp.as_str() == "TB" {
-            answer
-        } else {
-            Answer::Other
-        }
+fn lowers(heap: Heap<'_>) -> Answer {
+    let Ok(hrp) = Hrp::parse("TB") else {
+        return Answer::Other;
+    };
+    let answer = lowered_is(hrp.to_lowercase_in(heap), "tb");
+    if hrp == TB && hrp.as_str() == "TB" {
+        answer
+    } else {
+        Answer::Other
     }
 }
 
-#[derive(Clone, Copy)]
-struct Detects;
-
-impl Call for Detects {
-    fn answer(&self, heap: Heap<'_>) -> Answer {
-        match detects_four_in::<Bech32, _>(heap, 12) {
-            Ok(answer) => Answer::of(answer),
-            Err(_) => Answer::NoMemory,
-        }
+fn encodes_address(heap: Heap<'_>, call: Named) -> Answer {
+    match call {
+        Named::EncodeV0 => address_is(segwit::encode_v0_in(heap, BC, PROGRAM), ADDRESS),
+        Named::EncodeV1 => address_is(segwit::encode_v1_in(heap, BC, BYTES), TAPROOT),
+        _ => address_is(segwit::encode_in(heap, BC, VERSION_1, BYTES), TAPROOT),
     }
 }
 
-#[derive(Clone, Copy)]
-struct Block;
-
-impl Call for Block {
-    fn answer(&self, heap: Heap<'_>) -> Answer {
-        let generator = [Fe32::X, Fe32::G];
-        match PrintImpl::<Fe32>::new_in(heap, "Tiny", &generator, &[Fe32::Q, Fe32::P]) {
-            Ok(_) => Answer::Undisturbed,
-            Err(PrintError::Memory) => Answer::NoMemory,
-            Err(_) => Answer::Other,
+fn decodes_address(heap: Heap<'_>) -> Answer {
+    match segwit::decode_in(heap, ADDRESS) {
+        Ok((hrp, version, program)) => {
+            let is_same = hrp == BC && version == VERSION_0;
+            Answer::of(is_same && program.as_slice() == PROGRAM)
         }
+        Err(segwit::DecodeError(SegwitHrpstringError::Memory)) => Answer::NoMemory,
+        Err(_) => Answer::Other,
+    }
+}
+
+fn detects(heap: Heap<'_>) -> Answer {
+    match detects_four_in::<Bech32, _>(heap, 12) {
+        Ok(answer) => Answer::of(answer),
+        Err(_) => Answer::NoMemory,
+    }
+}
+
+fn makes_block(heap: Heap<'_>) -> Answer {
+    let generator = [Fe32::X, Fe32::G];
+    match PrintImpl::<Fe32>::new_in(heap, "Tiny", &generator, &[Fe32::Q, Fe32::P]) {
+        Ok(_) => Answer::Undisturbed,
+        Err(PrintError::Memory) => Answer::NoMemory,
+        Err(_) => Answer::Other,
     }
 }
 
@@ -196,43 +167,51 @@ pub fn nearest_is<A: Allocator>(
     }
 }
 
-#[derive(Clone, Copy)]
-struct Propose;
+fn proposes(heap: Heap<'_>) -> Answer {
+    let right = "ms10testsxxxxxxxxxxxxxxxxxxxxxxxxxx4nzvca9cmczlw";
+    let nearest = propose_in(heap, "ms1qtestsqxxxxxxxxxxxxxxxxxxxxxxxxq4nzvca9cmczlq");
+    nearest_is(nearest, right)
+}
 
-impl Call for Propose {
+impl Call for Named {
     fn answer(&self, heap: Heap<'_>) -> Answer {
-        let right = "ms10testsxxxxxxxxxxxxxxxxxxxxxxxxxx4nzvca9cmczlw";
-        let nearest = propose_in(heap, "ms1qtestsqxxxxxxxxxxxxxxxxxxxxxxxxq4nzvca9cmczlq");
-        nearest_is(nearest, right)
+        match self {
+            Named::Encode | Named::EncodeLower | Named::EncodeUpper => encodes(heap, *self),
+            Named::Decode => decodes(heap),
+            Named::ToLowercase => lowers(heap),
+            Named::DecodeAddress => decodes_address(heap),
+            Named::DetectsFour => detects(heap),
+            Named::Block => makes_block(heap),
+            Named::Propose => proposes(heap),
+            _ => encodes_address(heap, *self),
+        }
     }
 }
 
 #[test]
 fn texts(rt: HostRuntime) {
     let alloc = rt.alloc();
-    let calls = [Encode::AsGiven, Encode::Lower, Encode::Upper];
+    let calls = [
+        Named::Encode,
+        Named::EncodeLower,
+        Named::EncodeUpper,
+        Named::ToLowercase,
+    ];
     each_refused(&rt, alloc, &calls);
     // The bytes are gathered in room that is made at first or as they come.
-    wants_of(&rt, alloc, &Decode);
-    each_refused(&rt, alloc, &[ToLowercase]);
+    wants_of(&rt, alloc, &Named::Decode);
 }
 
 #[test]
 fn addresses(rt: HostRuntime) {
     let alloc = rt.alloc();
-    let calls = [SegwitEncode::Version, SegwitEncode::V0, SegwitEncode::V1];
+    let calls = [Named::EncodeAddress, Named::EncodeV0, Named::EncodeV1];
     each_refused(&rt, alloc, &calls);
-    wants_of(&rt, alloc, &SegwitDecode);
+    wants_of(&rt, alloc, &Named::DecodeAddress);
 }
 
 #[test]
-fn decisions_and_blocks(rt: HostRuntime) {
-    let alloc = rt.alloc();
-    each_refused(&rt, alloc, &[Detects]);
-    each_refused(&rt, alloc, &[Block]);
-}
-
-#[test]
-fn nearest_strings(rt: HostRuntime) {
-    each_refused(&rt, rt.alloc(), &[Propose]);
+fn decisions_blocks_and_strings(rt: HostRuntime) {
+    let calls = [Named::DetectsFour, Named::Block, Named::Propose];
+    each_refused(&rt, rt.alloc(), &calls);
 }

@@ -9,16 +9,12 @@ use codex32::Codex32;
 use std::alloc::{AllocError, Allocator};
 use testing_tools::known::{EIGHT, EIGHT_ERRORS, ELEMENTS, FOUR, FOUR_ERRORS};
 
-type OnHeap<'h> = Corrector<Codex32, Heap<'h>>;
-
 // The eight errors, and where they are.
 fn eight() -> [(usize, Fe32); 8] {
     EIGHT
 }
 
-fn last_eight() -> [usize; 8] {
-    [0, 1, 2, 3, 4, 5, 6, 7]
-}
+const LAST_EIGHT: &[usize] = &[0, 1, 2, 3, 4, 5, 6, 7];
 
 /// The corrector of a text that the checksum refuses.
 pub fn corrector_of<Ck: Checksum, A: Allocator + Copy>(
@@ -35,19 +31,15 @@ pub fn corrector_of<Ck: Checksum, A: Allocator + Copy>(
 }
 
 // What a corrector returns that is given erasures below its window.
-fn add(corrector: &mut OnHeap<'_>, erasures: &[usize]) -> Answer {
-    if !corrector.are_within(erasures) {
-        return Answer::Other;
+fn add<Ck: Checksum>(corrector: &mut Corrector<Ck, Heap<'_>>, erasures: &[usize]) -> Answer {
+    if corrector.are_within(erasures) {
+        match corrector.add_erasures(erasures) {
+            Ok(()) => Answer::Undisturbed,
+            Err(_) => Answer::NoMemory,
+        }
+    } else {
+        Answer::Other
     }
-    match corrector.add_erasures(erasures) {
-        Ok(()) => Answer::Undisturbed,
-        Err(_) => Answer::NoMemory,
-    }
-}
-
-// Whether a corrector is given the first two of the four errors as erasures.
-fn is_given_two(corrector: &mut OnHeap<'_>) -> bool {
-    add(corrector, &[44, 0]) == Answer::Undisturbed
 }
 
 // Whether a listing is just this.
@@ -61,7 +53,7 @@ fn is_listing(listing: ErrorIterator<Heap<'_>>, want: &[(usize, Fe32)]) -> bool 
 }
 
 // What a corrector returns that should list just this.
-fn lists(corrector: &OnHeap<'_>, want: &[(usize, Fe32)]) -> Answer {
+fn lists<Ck: Checksum>(corrector: &Corrector<Ck, Heap<'_>>, want: &[(usize, Fe32)]) -> Answer {
     match corrector.bch_errors() {
         Ok(Some(errors)) => Answer::of(is_listing(errors, want)),
         Ok(None) => Answer::Other,
@@ -70,26 +62,21 @@ fn lists(corrector: &OnHeap<'_>, want: &[(usize, Fe32)]) -> Answer {
 }
 
 // Out of memory, where the corrector still lists just this.
-fn wants_memory(corrector: &OnHeap<'_>, want: &[(usize, Fe32)]) -> Answer {
+fn wants_memory<Ck: Checksum>(
+    corrector: &Corrector<Ck, Heap<'_>>,
+    want: &[(usize, Fe32)],
+) -> Answer {
     match lists(corrector, want) {
         Answer::Undisturbed => Answer::NoMemory,
         _ => Answer::Other,
     }
 }
 
-// What it returns where it is asked again after it was out of memory.
-fn lists_or_wants_memory(corrector: &OnHeap<'_>, want: &[(usize, Fe32)]) -> Answer {
-    match lists(corrector, want) {
-        Answer::NoMemory => wants_memory(corrector, want),
-        answer => answer,
-    }
-}
-
 // What another corrector lists, or this one if there was no memory for the other.
-fn other_lists(
-    other: Result<OnHeap<'_>, AllocError>,
+fn other_lists<Ck: Checksum>(
+    other: Result<Corrector<Ck, Heap<'_>>, AllocError>,
     want: &[(usize, Fe32)],
-    corrector: &OnHeap<'_>,
+    corrector: &Corrector<Ck, Heap<'_>>,
 ) -> Answer {
     match other {
         Ok(other) => lists(&other, want),
@@ -97,28 +84,8 @@ fn other_lists(
     }
 }
 
-// What a corrector returns that is given six erasures more than the two.
-fn add_six(corrector: &mut OnHeap<'_>) -> Answer {
-    if !is_given_two(corrector) {
-        return Answer::Other;
-    }
-    match add(corrector, &[1, 2, 3, 4, 5, 6]) {
-        Answer::NoMemory => wants_memory(corrector, &FOUR),
-        answer => answer,
-    }
-}
-
-// What it lists with the two alone.
-fn lists_by_two(corrector: &mut OnHeap<'_>) -> Answer {
-    if is_given_two(corrector) {
-        lists_or_wants_memory(corrector, &FOUR)
-    } else {
-        Answer::Other
-    }
-}
-
 // Whether nothing is listed.
-fn lists_nothing(corrector: &OnHeap<'_>) -> bool {
+fn lists_nothing<Ck: Checksum>(corrector: &Corrector<Ck, Heap<'_>>) -> bool {
     match corrector.bch_errors() {
         Ok(listing) => listing.is_none(),
         Err(_) => false,
@@ -127,7 +94,7 @@ fn lists_nothing(corrector: &OnHeap<'_>) -> bool {
 
 // Seven erasures allocate nothing. The eighth does, and with it the eight characters are found;
 // where its request is refused there are the seven still, by which nothing is listed.
-fn add_seven_and_one(corrector: &mut OnHeap<'_>) -> Answer {
+fn add_seven_and_one<Ck: Checksum>(corrector: &mut Corrector<Ck, Heap<'_>>) -> Answer {
     if add(corrector, &[0, 1, 2, 3, 4, 5, 6]) != Answer::Undisturbed {
         return Answer::Other;
     }
@@ -147,23 +114,27 @@ fn says(listing: Option<Listing<Heap<'_>>>, want: &[(usize, Fe32)]) -> Answer {
 }
 
 // What a corrector returns that is asked for a listing with these erasures, which should be this.
-fn lists_with(corrector: &OnHeap<'_>, erasures: &[usize], want: &[(usize, Fe32)]) -> Answer {
+fn lists_with<Ck: Checksum>(
+    corrector: &Corrector<Ck, Heap<'_>>,
+    erasures: &[usize],
+    want: &[(usize, Fe32)],
+) -> Answer {
     match corrector.listing_with(erasures) {
         Ok(listing) => says(listing, want),
         Err(_) => Answer::NoMemory,
     }
 }
 
-// What another corrector returns that has these erasures. `None` where there may be none such.
-fn lists_when_given(
-    corrector: &OnHeap<'_>,
+// What another corrector returns that has these erasures.
+fn lists_when_given<Ck: Checksum>(
+    corrector: &Corrector<Ck, Heap<'_>>,
     erasures: &[usize],
     want: &[(usize, Fe32)],
-) -> Option<Answer> {
+) -> Answer {
     match corrector.with(erasures) {
-        Ok(Some(erased)) => Some(lists(&erased, want)),
-        Ok(None) => None,
-        Err(_) => Some(Answer::NoMemory),
+        Ok(Some(erased)) => lists(&erased, want),
+        Ok(None) => Answer::Other,
+        Err(_) => Answer::NoMemory,
     }
 }
 
@@ -172,27 +143,6 @@ fn seven_errors() -> [(usize, Fe32); 8] {
     let mut seven = eight();
     seven[0] = (0, Fe32::Q);
     seven
-}
-
-// What a corrector lists that has the eight erasures and of whose residue the first error is taken
-// off.
-fn seven_left(corrector: &mut OnHeap<'_>) -> Answer {
-    match add(corrector, &last_eight()) {
-        Answer::Undisturbed => other_lists(
-            corrector.without_error(eight()[0]),
-            &seven_errors(),
-            corrector,
-        ),
-        answer => answer,
-    }
-}
-
-// What its clone returns where it has the eight erasures.
-fn eight_cloned(corrector: &mut OnHeap<'_>) -> Answer {
-    match add(corrector, &last_eight()) {
-        Answer::Undisturbed => other_lists(corrector.clone(), &eight(), corrector),
-        answer => answer,
-    }
 }
 
 // What a corrector is asked: the first three that of the four errors, the others that of the eight.
@@ -215,22 +165,51 @@ fn text_of(asked: Asked) -> &'static str {
     }
 }
 
-fn ask(corrector: &mut OnHeap<'_>, asked: Asked) -> Answer {
+// What a corrector returns that has the first two of the four errors as erasures: it is given six
+// more, or asked for what it lists, and asked again where it was out of memory.
+fn ask_with_two<Ck: Checksum>(corrector: &mut Corrector<Ck, Heap<'_>>, asked: Asked) -> Answer {
+    if add(corrector, &[44, 0]) != Answer::Undisturbed {
+        return Answer::Other;
+    }
+    let answer = match asked {
+        Asked::AddErasures => add(corrector, &[1, 2, 3, 4, 5, 6]),
+        _ => lists(corrector, &FOUR),
+    };
+    match answer {
+        Answer::NoMemory => wants_memory(corrector, &FOUR),
+        answer => answer,
+    }
+}
+
+// What another one lists where a corrector has the eight erasures: one of whose residue the first
+// error is taken off, or its clone.
+fn ask_with_eight<Ck: Checksum>(corrector: &mut Corrector<Ck, Heap<'_>>, asked: Asked) -> Answer {
+    let answer = add(corrector, LAST_EIGHT);
+    if answer != Answer::Undisturbed {
+        return answer;
+    }
     match asked {
-        Asked::AddErasures => add_six(corrector),
-        Asked::BchErrors => lists_by_two(corrector),
+        Asked::WithoutError => other_lists(
+            corrector.without_error(eight()[0]),
+            &seven_errors(),
+            corrector,
+        ),
+        _ => other_lists(corrector.clone(), &eight(), corrector),
+    }
+}
+
+fn ask<Ck: Checksum>(corrector: &mut Corrector<Ck, Heap<'_>>, asked: Asked) -> Answer {
+    match asked {
+        Asked::AddErasures | Asked::BchErrors => ask_with_two(corrector, asked),
         Asked::ListingWith => lists_with(corrector, &[44, 0], &FOUR),
         Asked::EighthErasure => add_seven_and_one(corrector),
-        Asked::WithErasures => {
-            lists_when_given(corrector, &last_eight(), &eight()).unwrap_or(Answer::Other)
-        }
-        Asked::WithoutError => seven_left(corrector),
-        Asked::Clone => eight_cloned(corrector),
+        Asked::WithErasures => lists_when_given(corrector, LAST_EIGHT, &eight()),
+        Asked::WithoutError | Asked::Clone => ask_with_eight(corrector, asked),
     }
 }
 
 // What the corrector of a text answers.
-fn answer_of(corrector: Option<OnHeap<'_>>, asked: Asked) -> Answer {
+fn answer_of<Ck: Checksum>(corrector: Option<Corrector<Ck, Heap<'_>>>, asked: Asked) -> Answer {
     match corrector {
         Some(mut corrector) => ask(&mut corrector, asked),
         None => Answer::Other,
@@ -277,16 +256,8 @@ fn both_go_on(register: &mut Register<'_>, items: &[Fe32]) -> Answer {
     }
 }
 
-// What they answer after its first two items.
-fn both_go_on_after_two(register: &mut Register<'_>, items: &[Fe32]) -> Answer {
-    if is_next(register, &Fe32::P) && is_next(register, &Fe32::Z) {
-        both_go_on(register, items)
-    } else {
-        Answer::Other
-    }
-}
-
-// What the shortest register of twenty elements is asked, which is longer than seven.
+// What the shortest register of twenty elements is asked, which is longer than seven; the clone is
+// one after its first two items.
 #[derive(Clone, Copy)]
 enum OfRegister {
     Massey,
@@ -300,7 +271,10 @@ fn elements() -> [Fe32; 32] {
 fn ask_register(register: &mut Register<'_>, asked: OfRegister) -> Answer {
     match asked {
         OfRegister::Massey => Answer::of(goes_on(register, &elements()[1..21])),
-        OfRegister::Clone => both_go_on_after_two(register, &elements()[3..21]),
+        OfRegister::Clone if goes_on(register, &elements()[1..3]) => {
+            both_go_on(register, &elements()[3..21])
+        }
+        OfRegister::Clone => Answer::Other,
     }
 }
 

@@ -4,7 +4,7 @@ use crate::tests::compare::same;
 use crate::tests::correction::corrector_of;
 use crate::tests::turns::Heap;
 use bech32::primitives::correction::{Corrector, listing_in};
-use bech32::{Bech32, CorrectError, Correction, Mended};
+use bech32::{Bech32, Checksum, CorrectError, Correction, Mended};
 use bech32_correction::mended_by;
 use std::alloc::{AllocError, Global};
 use testing_tools::memory::Refusing;
@@ -37,12 +37,12 @@ fn texts_in_memory_of_the_given_allocator(rt: HostRuntime) {
 }
 
 // Whether a corrector says what it lists.
-fn lists(corrector: &Corrector<Bech32, Heap<'_>>) -> bool {
+fn lists<Ck: Checksum>(corrector: &Corrector<Ck, Heap<'_>>) -> bool {
     corrector.bch_errors().is_ok()
 }
 
 // Whether one that is given these erasures says what it lists.
-fn lists_when_given(corrector: &Corrector<Bech32, Heap<'_>>, erasures: &[usize]) -> bool {
+fn lists_when_given<Ck: Checksum>(corrector: &Corrector<Ck, Heap<'_>>, erasures: &[usize]) -> bool {
     match corrector.with(erasures) {
         Ok(Some(erased)) => lists(&erased),
         Ok(None) => false,
@@ -51,21 +51,24 @@ fn lists_when_given(corrector: &Corrector<Bech32, Heap<'_>>, erasures: &[usize])
 }
 
 // Whether a corrector with these erasures says what it lists, asked in each way.
-fn lists_with(corrector: &Corrector<Bech32, Heap<'_>>, erasures: &[usize]) -> bool {
+fn lists_with<Ck: Checksum>(corrector: &Corrector<Ck, Heap<'_>>, erasures: &[usize]) -> bool {
     lists_when_given(corrector, erasures)
         && corrector.listing_with(erasures).is_ok()
         && corrector.listing_up_to(usize::MAX, erasures).is_ok()
 }
 
 // The same of one that may be there.
-fn says_what_it_lists(corrector: Option<Corrector<Bech32, Heap<'_>>>, erasures: &[usize]) -> bool {
+fn says_what_it_lists<Ck: Checksum>(
+    corrector: Option<Corrector<Ck, Heap<'_>>>,
+    erasures: &[usize],
+) -> bool {
     match corrector {
         Some(corrector) => lists_with(&corrector, erasures),
         None => false,
     }
 }
 
-// Whether the corrector of the mistyped address does so with no request for memory.
+// Whether that of the mistyped address does so with no request for memory.
 fn lists_without_memory(alloc: Global, erasures: &[usize]) -> bool {
     let heap = Refusing::new(alloc, 1);
     let corrector = corrector_of::<Bech32, _>(&heap, MISTYPED);

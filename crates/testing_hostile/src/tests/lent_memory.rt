@@ -22,10 +22,7 @@ fn leaks_memory_of_each_size(rt: HostRuntime) {
         same(&rt, &leaked_size(rt.alloc(), size), &Some(size));
     }
     same(&rt, &leaked_size(rt.alloc(), usize::MAX), &None);
-}
-
-#[test]
-fn takes_the_memory_and_leaves_none(rt: HostRuntime) {
+    // It is taken, and none is left.
     let mut memory = Memory::leaked(rt.alloc(), 100).expect(&rt, "memory");
     let taken = memory.take().with_size().0;
     same(&rt, &[taken, memory.with_size().0], &[100, 0]);
@@ -94,30 +91,36 @@ fn has_numbers(lent: &Lent, count: usize) -> bool {
     Vec::<u128, &Lent>::with_capacity(lent, count).is_ok()
 }
 
+// Whether there is memory for each number of bytes up to a greatest one, and it comes back.
+fn has_all_up_to(lent: &Lent, most: usize) -> bool {
+    for count in 0..=most {
+        if !has_bytes(lent, count) {
+            return false;
+        }
+    }
+    true
+}
+
+// But it gives a block of every size that does.
 #[test]
 fn gives_no_block_that_does_not_fit(rt: HostRuntime) {
-    let lent = lent(&rt, rt.alloc(), 100);
+    let small = lent(&rt, rt.alloc(), 100);
     let given = [
-        has_bytes(&lent, 97),
-        has_numbers(&lent, 7),
-        has_numbers(&lent, 6),
+        has_bytes(&small, 97),
+        has_numbers(&small, 7),
+        has_numbers(&small, 6),
     ];
     same(&rt, &given, &[false, false, true]);
-    comes_back(&rt, lent, 100);
+    comes_back(&rt, small, 100);
+    let large = lent(&rt, rt.alloc(), 65536);
+    let given = [has_all_up_to(&large, 65536), has_bytes(&large, 65537)];
+    same(&rt, &given, &[true, false]);
+    comes_back(&rt, large, 65536);
 }
 
 // Takes a block that never comes back.
 fn keep_block(rt: &impl Abort, lent: &Lent) {
     forget(Box::new(lent, 0u8).expect(rt, "memory"));
-}
-
-#[test]
-fn memory_is_kept_with_a_block_that_is_out(rt: HostRuntime) {
-    let lent = lent(&rt, rt.alloc(), 100);
-    keep_block(&rt, &lent);
-    let is_refused = is_out(&lent);
-    let back = size_of_memory(lent.into_memory());
-    same(&rt, &(is_refused, back), &(true, None));
 }
 
 // The bytes that an arena over memory has to give.
@@ -134,13 +137,16 @@ fn is_arena(rt: &impl Abort, alloc: Global, size: usize, want: usize) {
 // An arena has all whole pages, but for 64 bytes; the last page is whole without its last 16.
 #[test]
 fn arena_over_all_pages(rt: HostRuntime) {
-    let alloc = rt.alloc();
-    is_arena(&rt, alloc, 4079, 0);
-    is_arena(&rt, alloc, 4080, 4032);
-    is_arena(&rt, alloc, 8175, 4032);
-    is_arena(&rt, alloc, 8176, 8128);
-    is_arena(&rt, alloc, 12272, 12224);
-    is_arena(&rt, alloc, 65520, 65472);
+    for (size, want) in [
+        (4079, 0),
+        (4080, 4032),
+        (8175, 4032),
+        (8176, 8128),
+        (12272, 12224),
+        (65520, 65472),
+    ] {
+        is_arena(&rt, rt.alloc(), size, want);
+    }
 }
 
 // The same where a block of it is out.
@@ -150,47 +156,28 @@ fn arena_size_beside_block(rt: &impl Abort, lent: &Lent) -> usize {
 }
 
 #[test]
-fn arena_over_memory_that_is_out(rt: HostRuntime) {
-    let lent = lent(&rt, rt.alloc(), 8192);
-    same(&rt, &arena_size_beside_block(&rt, &lent), &0);
-    comes_back(&rt, lent, 8192);
+fn memory_with_a_block_that_is_out(rt: HostRuntime) {
+    let whole = lent(&rt, rt.alloc(), 8192);
+    same(&rt, &arena_size_beside_block(&rt, &whole), &0);
+    comes_back(&rt, whole, 8192);
+    // It is kept where the block never comes back.
+    let kept = lent(&rt, rt.alloc(), 100);
+    keep_block(&rt, &kept);
+    let is_refused = is_out(&kept);
+    let back = size_of_memory(kept.into_memory());
+    same(&rt, &(is_refused, back), &(true, None));
 }
 
-// Whether there is memory for each number of bytes up to a greatest one, and it comes back.
-fn has_all_up_to(lent: &Lent, most: usize) -> bool {
-    for count in 0..=most {
-        if !has_bytes(lent, count) {
-            return false;
-        }
-    }
-    true
-}
-
-#[test]
-fn gives_a_block_of_every_size(rt: HostRuntime) {
-    let lent = lent(&rt, rt.alloc(), 65536);
-    let given = [has_all_up_to(&lent, 65536), has_bytes(&lent, 65537)];
-    same(&rt, &given, &[true, false]);
-    comes_back(&rt, lent, 65536);
-}
-
-// What memory of a size gives: all of it as a block, an arena over its pages, and it comes back.
-fn gives(rt: &impl Abort, alloc: Global, size: usize) -> (bool, usize, Option<usize>) {
+// Fails where memory of a size does not give all of it as a block, and an arena over its pages, or
+// does not come back.
+fn gives_all(rt: &impl Abort, alloc: Global, size: usize) {
     let lent = lent(rt, alloc, size);
     let has_whole = has_numbers(&lent, size / 16);
     let in_arena = arena_size(&lent);
-    (has_whole, in_arena, size_of_memory(lent.into_memory()))
-}
-
-// What it should give.
-fn wanted(size: usize) -> (bool, usize, Option<usize>) {
+    let found = (has_whole, in_arena, size_of_memory(lent.into_memory()));
     let pages = size.saturating_add(16) / 4096;
-    (true, (pages * 4096).saturating_sub(64), Some(size))
-}
-
-// Fails where it gives something else.
-fn gives_all(rt: &impl Abort, alloc: Global, size: usize) {
-    same(rt, &(size, gives(rt, alloc, size)), &(size, wanted(size)));
+    let want = (true, (pages * 4096).saturating_sub(64), Some(size));
+    same(rt, &(size, found), &(size, want));
 }
 
 #[test]

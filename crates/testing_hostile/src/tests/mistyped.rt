@@ -15,13 +15,18 @@ const MISTYPED: &str = "bc1qw508d6qejxtdg4y5r3zarvary0c5xw7kv8f3t5";
 
 const TWICE_MISTYPED: &str = "bc1qw508q6qejxtdg4y5r3zarvary0c5xw7kv8f3t5";
 
-// What a call returned that mends a text to this.
+// Whether a text is the only one of these.
+fn is_only(text: &str, texts: &[&str]) -> bool {
+    texts.len() == 1 && texts[0] == text
+}
+
+// What a call returned that mends a text to the only one of these.
 fn mends<A: Allocator + Copy, C: Drop>(
     said: Result<Correction<Mended<A>, C>, CorrectError>,
-    text: &str,
+    texts: &[&str],
 ) -> Answer {
     match said {
-        Ok(Correction::Mended(mended)) => Answer::of(mended.text.as_str() == text),
+        Ok(Correction::Mended(mended)) => Answer::of(is_only(mended.text.as_str(), texts)),
         Ok(Correction::Accepted) => Answer::Other,
         Ok(Correction::Unexplained(_)) => Answer::Other,
         Err(CorrectError::Memory) => Answer::NoMemory,
@@ -31,8 +36,15 @@ fn mends<A: Allocator + Copy, C: Drop>(
 
 // Whether the texts of these mended ones are just these, in their order.
 fn are_mended<A: Allocator + Copy>(found: &[Mended<A>], texts: &[&str]) -> bool {
-    let mut pairs = found.iter().zip(texts);
-    pairs.all(|(mended, text)| mended.text.as_str() == *text) && found.len() == texts.len()
+    if found.len() != texts.len() {
+        return false;
+    }
+    for i in 0..texts.len() {
+        if found[i].text.as_str() != texts[i] {
+            return false;
+        }
+    }
+    true
 }
 
 // What a call returned to which just these texts are near, in their order.
@@ -47,48 +59,17 @@ fn lists<A: Allocator + Copy, C: Drop>(
     }
 }
 
-#[derive(Clone, Copy)]
-enum Correct {
-    Bech32,
-    Codex32,
-}
-
-impl Call for Correct {
-    fn answer(&self, heap: Heap<'_>) -> Answer {
-        match self {
-            Correct::Bech32 => mends(correct_in::<Bech32, _>(heap, MISTYPED, &[]), ADDRESS),
-            Correct::Codex32 => {
-                let right = "ms10testsxxxxxxxxxxxxxxxxxxxxxxxxxx4nzvca9cmczlw";
-                let mistyped = "ms1qtestsqxxxxxxxxxxxxxxxxxxxxxxxxq4nzvca9cmczlq";
-                mends(correct_in::<Codex32, _>(heap, mistyped, &[44, 0]), right)
-            }
-        }
-    }
-}
-
-// What is said of the texts nearest to one, which should be just these.
-fn lists_nearest(heap: Heap<'_>, text: &str, erasures: &[usize], near: &[&str]) -> Answer {
-    lists(nearest_in::<Bech32, _>(heap, text, erasures, 2), near)
-}
-
-// A text, its erasures, and the texts nearest to it.
-#[derive(Clone, Copy)]
-struct Nearest {
-    text: &'static str,
-    erasures: &'static [usize],
-    near: &'static [&'static str],
-}
-
-impl Call for Nearest {
-    fn answer(&self, heap: Heap<'_>) -> Answer {
-        lists_nearest(heap, self.text, self.erasures, self.near)
-    }
-}
-
 // Whether the texts of these edits are just these, in their order.
 fn are_edited<A: Allocator + Copy>(found: &[NearEdit<String<A>>], texts: &[&str]) -> bool {
-    let mut pairs = found.iter().zip(texts);
-    pairs.all(|(edited, text)| edited.text.as_str() == *text) && found.len() == texts.len()
+    if found.len() != texts.len() {
+        return false;
+    }
+    for i in 0..texts.len() {
+        if found[i].text.as_str() != texts[i] {
+            return false;
+        }
+    }
+    true
 }
 
 // What a call returned that makes just these texts by one edit, in their order.
@@ -103,42 +84,101 @@ fn makes<A: Allocator + Copy>(
     }
 }
 
-// What is said of the texts that one edit makes of one, which should be just these.
-fn makes_by_edit<Ck: Checksum, A: Allocator + Copy>(heap: A, text: &str, near: &[&str]) -> Answer {
-    makes(near_edits_in::<Ck, A>(heap, text), near)
+// What is asked of a text.
+#[derive(Clone, Copy)]
+enum Asked {
+    Corrected,
+    CorrectedByCodex32,
+    Nearest,
+    Edits,
 }
 
-// A text, and the texts that one edit makes of it.
+// A text, its erasures, and the texts that it is mended to or that are near to it.
 #[derive(Clone, Copy)]
-struct Edited {
+struct Mistyped {
+    asked: Asked,
     text: &'static str,
+    erasures: &'static [usize],
     near: &'static [&'static str],
 }
 
-impl Call for Edited {
+// What is said of the text that a mistyped one is corrected to.
+fn corrects(heap: Heap<'_>, given: &Mistyped) -> Answer {
+    mends(
+        correct_in::<Bech32, _>(heap, given.text, given.erasures),
+        given.near,
+    )
+}
+
+// The same by codex32.
+fn corrects_codex32(heap: Heap<'_>, given: &Mistyped) -> Answer {
+    mends(
+        correct_in::<Codex32, _>(heap, given.text, given.erasures),
+        given.near,
+    )
+}
+
+// What is said of the texts nearest to one, which should be just these.
+fn lists_nearest(heap: Heap<'_>, given: &Mistyped) -> Answer {
+    lists(
+        nearest_in::<Bech32, _>(heap, given.text, given.erasures, 2),
+        given.near,
+    )
+}
+
+// What is said of the texts that one edit makes of one, which should be just these.
+fn makes_by_edit<Ck: Checksum, A: Allocator + Copy>(heap: A, given: &Mistyped) -> Answer {
+    makes(near_edits_in::<Ck, A>(heap, given.text), given.near)
+}
+
+impl Call for Mistyped {
     fn answer(&self, heap: Heap<'_>) -> Answer {
-        makes_by_edit::<Bech32, _>(heap, self.text, self.near)
+        match self.asked {
+            Asked::Corrected => corrects(heap, self),
+            Asked::CorrectedByCodex32 => corrects_codex32(heap, self),
+            Asked::Nearest => lists_nearest(heap, self),
+            Asked::Edits => makes_by_edit::<Bech32, _>(heap, self),
+        }
     }
 }
 
+// By Bech32 and by codex32, with two of its four errors as erasures.
+const CORRECTED: &[Mistyped] = &[
+    Mistyped {
+        asked: Asked::Corrected,
+        text: MISTYPED,
+        erasures: &[],
+        near: &[ADDRESS],
+    },
+    Mistyped {
+        asked: Asked::CorrectedByCodex32,
+        text: "ms1qtestsqxxxxxxxxxxxxxxxxxxxxxxxxq4nzvca9cmczlq",
+        erasures: &[44, 0],
+        near: &["ms10testsxxxxxxxxxxxxxxxxxxxxxxxxxx4nzvca9cmczlw"],
+    },
+];
+
 #[test]
 fn corrections(rt: HostRuntime) {
-    each_refused(&rt, rt.alloc(), &[Correct::Bech32, Correct::Codex32]);
+    each_refused(&rt, rt.alloc(), CORRECTED);
 }
 
 // The address, one with two wrong characters, and one that three are near to.
-const NEAREST: &[Nearest] = &[
-    Nearest {
+const NEAREST: &[Mistyped] = &[
+    Mistyped {
+        asked: Asked::Nearest,
         text: ADDRESS,
         erasures: &[],
         near: &[ADDRESS],
     },
-    Nearest {
+    Mistyped {
+        asked: Asked::Nearest,
         text: TWICE_MISTYPED,
         erasures: &[],
         near: &[ADDRESS],
     },
-    Nearest {
+    Mistyped {
+        asked: Asked::Nearest,
         text: "bc1qar0srrr7xfkvy5l64qlydnw9re59gtzzwf5mdx",
         erasures: &[1, 38],
         near: &[
@@ -156,17 +196,23 @@ fn near_texts(rt: HostRuntime) {
 
 // The address without a character, and one with two neighbours swapped. A text that ends in `qp`
 // has two texts more: Bech32 accepts it with any number of `q` there.
-const EDITED: &[Edited] = &[
-    Edited {
+const EDITED: &[Mistyped] = &[
+    Mistyped {
+        asked: Asked::Edits,
         text: "bc1qw508d6qejxtdg4y53zarvary0c5xw7kv8f3t4",
+        erasures: &[],
         near: &[ADDRESS],
     },
-    Edited {
+    Mistyped {
+        asked: Asked::Edits,
         text: "bc1qw508d6qejxtdg4y5r3zravary0c5xw7kv8f3t4",
+        erasures: &[],
         near: &[ADDRESS],
     },
-    Edited {
+    Mistyped {
+        asked: Asked::Edits,
         text: "ii2134hk2xmat79tqp",
+        erasures: &[],
         near: &["ii2134hk2xmat79tp", "ii2134hk2xmat79tqqp"],
     },
 ];

@@ -9,7 +9,7 @@ const ONE: [Fe32; 6] = [Fe32::P, Fe32::Q, Fe32::Q, Fe32::Q, Fe32::Q, Fe32::Q];
 // Whether the coefficients of x^0 and x^5 alone are not zero.
 fn has_two_ends(row: &[Fe32; 6]) -> bool {
     let has_ends = row[0] != Fe32::Q && row[5] != Fe32::Q;
-    has_ends && row[1..5].iter().all(|fe| *fe == Fe32::Q)
+    has_ends && [row[1], row[2], row[3], row[4]] == [Fe32::Q; 4]
 }
 
 // A single error at location i leaves a multiple of x^i, so 1023 rows stand for all 31,713 errors.

@@ -27,35 +27,33 @@ fn derived_is<A: Allocator>(outcome: Result<String<A>, DeriveError>, text: &str)
     }
 }
 
-// What two shares give.
+// What two shares give, what a header gives with bytes or with elements, and the string nearest to
+// a long one.
 #[derive(Clone, Copy)]
-enum OfShares {
+enum Made {
     Derived,
     Recovered,
+    OfBytes,
+    OfElements,
+    NearestLong,
 }
 
-// What is returned of the two shares.
-fn answer_of(heap: Heap<'_>, call: OfShares) -> Option<Answer> {
+// The text that the two shares give.
+fn text_of(call: Made) -> &'static str {
+    match call {
+        Made::Derived => D,
+        _ => SECRET,
+    }
+}
+
+// What is returned of them.
+fn of_shares(heap: Heap<'_>, call: Made) -> Option<Answer> {
     let shares = [Share::parse(A).ok()?, Share::parse(C).ok()?];
     let outcome = match call {
-        OfShares::Derived => derive_in(heap, &shares, Fe32::D),
-        OfShares::Recovered => recover_in(heap, &shares),
+        Made::Derived => derive_in(heap, &shares, Fe32::D),
+        _ => recover_in(heap, &shares),
     };
     Some(derived_is(outcome, text_of(call)))
-}
-
-// The text that they give.
-fn text_of(call: OfShares) -> &'static str {
-    match call {
-        OfShares::Derived => D,
-        OfShares::Recovered => SECRET,
-    }
-}
-
-impl Call for OfShares {
-    fn answer(&self, heap: Heap<'_>) -> Answer {
-        answer_of(heap, *self).unwrap_or(Answer::Other)
-    }
 }
 
 // What a call returned whose text begins so.
@@ -67,23 +65,15 @@ fn begins<A: Allocator>(outcome: Result<String<A>, EncodeError>, front: &str) ->
     }
 }
 
-// What a header gives: a string of bytes, or of elements.
-#[derive(Clone, Copy)]
-enum OfHeader {
-    Bytes,
-    Elements,
-}
-
-impl Call for OfHeader {
-    fn answer(&self, heap: Heap<'_>) -> Answer {
-        let Ok(header) = Header::parse("0", "test", "s") else {
-            return Answer::Other;
-        };
-        let front = "ms10testsqqqqqqqqqqqqqqqqqqqqqqqqqq";
-        match self {
-            OfHeader::Bytes => begins(encode_in(heap, &header, &[0u8; 16]), front),
-            OfHeader::Elements => begins(encode_payload_in(heap, &header, &[Fe32::Q; 26]), front),
-        }
+// What is returned of a header.
+fn of_header(heap: Heap<'_>, call: Made) -> Answer {
+    let Ok(header) = Header::parse("0", "test", "s") else {
+        return Answer::Other;
+    };
+    let front = "ms10testsqqqqqqqqqqqqqqqqqqqqqqqqqq";
+    match call {
+        Made::OfBytes => begins(encode_in(heap, &header, &[0u8; 16]), front),
+        _ => begins(encode_payload_in(heap, &header, &[Fe32::Q; 26]), front),
     }
 }
 
@@ -94,23 +84,28 @@ const LONG: &str =
 const DAMAGED: &str =
     "ms100c8vsm32zxfguhpchtlupzqqqq8gf2tvdw0s3jn54khce6mua7lqpzygsfjd6an074rxvcemlh8wu3tk925acdefghjklmnpqrstuvwxy06fhpv80undvarhrak";
 
-#[derive(Clone, Copy)]
-struct ProposeLong;
-
-impl Call for ProposeLong {
+impl Call for Made {
     fn answer(&self, heap: Heap<'_>) -> Answer {
-        nearest_is(propose_long_in(heap, DAMAGED), LONG)
+        match self {
+            Made::OfBytes | Made::OfElements => of_header(heap, *self),
+            Made::NearestLong => nearest_is(propose_long_in(heap, DAMAGED), LONG),
+            _ => of_shares(heap, *self).unwrap_or(Answer::Other),
+        }
     }
 }
 
 #[test]
 fn strings_of_shares(rt: HostRuntime) {
-    let alloc = rt.alloc();
-    each_refused(&rt, alloc, &[OfShares::Derived, OfShares::Recovered]);
-    each_refused(&rt, alloc, &[OfHeader::Bytes, OfHeader::Elements]);
+    let calls = [
+        Made::Derived,
+        Made::Recovered,
+        Made::OfBytes,
+        Made::OfElements,
+    ];
+    each_refused(&rt, rt.alloc(), &calls);
 }
 
 #[test]
 fn the_nearest_long_string(rt: HostRuntime) {
-    each_refused(&rt, rt.alloc(), &[ProposeLong]);
+    each_refused(&rt, rt.alloc(), &[Made::NearestLong]);
 }
