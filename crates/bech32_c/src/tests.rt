@@ -13,7 +13,6 @@ use crate::encode::bech32_encode;
 use crate::engine::bech32_residue;
 use crate::fault::bech32_fault;
 use crate::segwit::{bech32_segwit_decode, bech32_segwit_encode};
-use std::alloc::Global;
 use std::fmt::Debug;
 use std::process::Abort;
 
@@ -39,60 +38,90 @@ const TAPROOT: [u8; 32] = [
     0x02, 0x9b, 0xfc, 0xdb, 0x2d, 0xce, 0x28, 0xd9, 0x59, 0xf2, 0x81, 0x5b, 0x16, 0xf8, 0x17, 0x98,
 ];
 
+// Addresses of these, and that of forty zeros by version 1.
+const ADDRESS: &[u8] = b"bc1qw508d6qejxtdg4y5r3zarvary0c5xw7kv8f3t4";
+
+const TAPROOT_ADDRESS: &[u8] = b"bc1p0xlxvlhemja6c4dqv22uapctqupfhlxm9h8z3k2e72q4k9hcz7vqzk5jj0";
+
+const LONGEST_ADDRESS: &[u8] =
+    b"bc1pqqqqqqqqqqqqqqqqqqqqqqqqqqqqqqqqqqqqqqqqqqqqqqqqqqqqqqqqqqqqqqqq2f6xj9";
+
 // Fails where the two differ.
 fn same<T: PartialEq + Debug>(rt: &impl Abort, got: &T, want: &T) {
     assert_eq!(rt; got, want);
 }
 
-// Whether a buffer is as it was, but for this many bytes at its front.
-fn is_as_before(buffer: &[u8], count: usize) -> bool {
-    buffer.iter().skip(count).all(|b| *b == BEFORE)
-}
-
 // Whether the bytes stand at the front of the buffer, and behind them it is as it was.
 fn has_front(buffer: &[u8], bytes: &[u8]) -> bool {
-    buffer.starts_with(bytes) && is_as_before(buffer, bytes.len())
+    for byte in buffer.iter().skip(bytes.len()) {
+        if *byte != BEFORE {
+            return false;
+        }
+    }
+    buffer.starts_with(bytes)
 }
 
-// The bytes stand at the front of the buffer, and behind them it is as it was.
-fn holds(rt: &impl Abort, buffer: &[u8], count: usize, bytes: &[u8]) {
-    same(rt, &(count, has_front(buffer, bytes)), &(bytes.len(), true));
+// The same of places.
+fn has_places(buffer: &[usize], places: &[usize]) -> bool {
+    for place in buffer.iter().skip(places.len()) {
+        if *place != LENGTH_BEFORE {
+            return false;
+        }
+    }
+    buffer.starts_with(places)
 }
 
-// The buffer and its length are as they were.
-fn is_untouched(rt: &impl Abort, buffer: &[u8], count: usize) {
-    same(
-        rt,
-        &(count, is_as_before(buffer, 0)),
-        &(LENGTH_BEFORE, true),
-    );
+// Fails where another number is the answer, or where a length and a buffer are not what they are to
+// be then: on 0 that of these bytes, which stand at its front, and else as they were.
+fn answers(
+    rt: &impl Abort,
+    number: u32,
+    (length, buffer): (usize, &[u8]),
+    (want, bytes): (u32, &[u8]),
+) {
+    let (count, front): (usize, &[u8]) = if want == 0 {
+        (bytes.len(), bytes)
+    } else {
+        (LENGTH_BEFORE, b"")
+    };
+    let found = (number, length, has_front(buffer, front));
+    same(rt, &found, &(want, count, true));
 }
 
-// Encodes into a buffer, which then holds the text.
-fn puts(rt: &impl Abort, row: (u32, &[u8], &[u8]), buffer: &mut [u8], want: &[u8]) {
+// What is listed: how many texts there are, and of those that are put the kinds, the places, and
+// they themselves, one behind another.
+type Listed<'a> = (usize, &'a [u8], &'a [usize], &'a [u8]);
+
+const NONE: Listed<'static> = (0, b"", &[], b"");
+
+// Fails where a count and buffers are not what they are to be: where the number is 0 or 92, what is
+// listed, and else as they were.
+fn lists(rt: &impl Abort, number: u32, found: Listed<'_>, listed: Listed<'_>) {
+    let want = match number {
+        0 | 92 => listed,
+        _ => (LENGTH_BEFORE, NONE.1, NONE.2, NONE.3),
+    };
+    let are_put = has_front(found.1, want.1) && has_places(found.2, want.2);
+    let holds = (found.0, are_put, has_front(found.3, want.3));
+    same(rt, &holds, &(want.0, true, true));
+}
+
+// What encoding bytes into a buffer returns, and the length that it leaves.
+fn encoded(row: (u32, &[u8], &[u8]), buffer: &mut [u8]) -> (u32, usize) {
     let mut count = LENGTH_BEFORE;
     let number = bech32_encode(row.0, row.1, row.2, buffer, &mut count);
-    same(rt, &number, &0);
-    holds(rt, buffer, count, want);
+    (number, count)
 }
 
-// Is refused by this number, and leaves the buffer as it was.
-fn puts_nothing(rt: &impl Abort, row: (u32, &[u8], &[u8]), buffer: &mut [u8], want: u32) {
-    let mut count = LENGTH_BEFORE;
-    let number = bech32_encode(row.0, row.1, row.2, buffer, &mut count);
-    same(rt, &number, &want);
-    is_untouched(rt, buffer, count);
+// Encodes into a buffer of so many bytes.
+fn encodes(rt: &impl Abort, row: (u32, &[u8], &[u8]), room: usize, want: (u32, &[u8])) {
+    let mut buffer = [BEFORE; 128];
+    let (front, _) = buffer.split_at_mut(room.min(128));
+    let (number, count) = encoded(row, front);
+    answers(rt, number, (count, &buffer), want);
 }
 
-// Encodes into a buffer with more room than the text, with as much, and with one byte less.
-fn encodes(rt: &impl Abort, alloc: Global, row: (u32, &[u8], &[u8]), want: &[u8]) {
-    puts(rt, row, &mut [BEFORE; 64], want);
-    let mut exact = vec![in alloc; BEFORE; want.len()].expect(rt, "memory");
-    puts(rt, row, exact.as_mut_slice(), want);
-    let mut short = vec![in alloc; BEFORE; want.len().saturating_sub(1)].expect(rt, "memory");
-    puts_nothing(rt, row, short.as_mut_slice(), 92);
-}
-
+// Each text into a buffer with more room than it has, with as much, and with one byte less.
 #[test]
 fn encodes_known_texts(rt: HostRuntime) {
     const ROWS: &[(u32, &[u8], &[u8], &[u8])] = &[
@@ -112,29 +141,13 @@ fn encodes_known_texts(rt: HostRuntime) {
             b"test1lu08d6qejxtdg4y5r3zarvary0c5xw7kmz4lky",
         ),
     ];
-    for &(checksum, hrp, bytes, want) in ROWS {
-        encodes(&rt, rt.alloc(), (checksum, hrp, bytes), want);
+    for &(checksum, hrp, bytes, text) in ROWS {
+        let row = (checksum, hrp, bytes);
+        encodes(&rt, row, 64, (0, text));
+        encodes(&rt, row, text.len(), (0, text));
+        encodes(&rt, row, text.len().saturating_sub(1), (92, b""));
     }
-}
-
-// What encoding bytes under `a` by Bech32 returns, and the length that it leaves.
-fn number_and_length(bytes: &[u8]) -> (u32, usize) {
-    let mut count = LENGTH_BEFORE;
-    let number = bech32_encode(1, b"a", bytes, &mut [BEFORE; 1100], &mut count);
-    (number, count)
-}
-
-#[test]
-fn encodes_up_to_the_code_length(rt: HostRuntime) {
-    let bytes = [0u8; 635];
-    let (fitting, _) = bytes.split_at(634);
-    same(&rt, &number_and_length(fitting), &(0, 1023));
-    same(&rt, &number_and_length(&bytes), &(51, LENGTH_BEFORE));
-}
-
-#[test]
-fn refuses_to_encode(rt: HostRuntime) {
-    const ROWS: &[(u32, &[u8], u32)] = &[
+    const REFUSED: &[(u32, &[u8], u32)] = &[
         (0, b"", 4),
         (5, b"\xff", 4),
         (u32::MAX, b"a", 4),
@@ -145,32 +158,23 @@ fn refuses_to_encode(rt: HostRuntime) {
         (1, b"a b", 14),
         (2, b"aB", 15),
     ];
-    for &(checksum, hrp, want) in ROWS {
-        puts_nothing(&rt, (checksum, hrp, b""), &mut [BEFORE; 128], want);
+    for &(checksum, hrp, want) in REFUSED {
+        encodes(&rt, (checksum, hrp, b""), 128, (want, b""));
     }
 }
 
-// Decodes into buffers, which then hold the parts.
-fn puts_parts(
-    rt: &impl Abort,
-    text: &[u8],
-    (hrp, bytes): (&mut [u8], &mut [u8]),
-    (part, found): (&[u8], &[u8]),
-) {
-    let (mut hrp_count, mut count) = (LENGTH_BEFORE, LENGTH_BEFORE);
-    let number = bech32_decode(text, hrp, &mut hrp_count, bytes, &mut count);
-    same(rt, &number, &0);
-    holds(rt, hrp, hrp_count, part);
-    holds(rt, bytes, count, found);
-}
+// What a text is decoded to: the number, and on 0 the human-readable part and the bytes.
+type Parts<'a> = (u32, &'a [u8], &'a [u8]);
 
-// Is refused by this number, and leaves the buffers as they were.
-fn puts_no_parts(rt: &impl Abort, text: &[u8], hrp: &mut [u8], bytes: &mut [u8], want: u32) {
+// Decodes into buffers of so many bytes.
+fn decodes(rt: &impl Abort, text: &[u8], rooms: (usize, usize), want: Parts<'_>) {
+    let (mut hrp, mut bytes) = ([BEFORE; 83], [BEFORE; 634]);
     let (mut hrp_count, mut count) = (LENGTH_BEFORE, LENGTH_BEFORE);
-    let number = bech32_decode(text, hrp, &mut hrp_count, bytes, &mut count);
-    same(rt, &number, &want);
-    is_untouched(rt, hrp, hrp_count);
-    is_untouched(rt, bytes, count);
+    let (part, _) = hrp.split_at_mut(rooms.0.min(83));
+    let (found, _) = bytes.split_at_mut(rooms.1.min(634));
+    let number = bech32_decode(text, part, &mut hrp_count, found, &mut count);
+    answers(rt, number, (hrp_count, &hrp), (want.0, want.1));
+    answers(rt, number, (count, &bytes), (want.0, want.2));
 }
 
 // What the test of a text returns, and the lengths that it leaves.
@@ -180,31 +184,16 @@ fn checked(checksum: u32, text: &[u8]) -> (u32, usize, usize) {
     (number, hrp_count, count)
 }
 
-// What it returns where it is refused by this number.
-fn unchecked(number: u32) -> (u32, usize, usize) {
-    (number, LENGTH_BEFORE, LENGTH_BEFORE)
+// Fails where the test of a text is not refused by this number.
+fn is_unchecked(rt: &impl Abort, checksum: u32, text: &[u8], number: u32) {
+    let want = (number, LENGTH_BEFORE, LENGTH_BEFORE);
+    same(rt, &checked(checksum, text), &want);
 }
 
-// Decodes into buffers with more room than the parts, and with as much.
-fn decodes(rt: &impl Abort, alloc: Global, text: &[u8], parts: (&[u8], &[u8])) {
-    puts_parts(rt, text, (&mut [BEFORE; 83], &mut [BEFORE; 634]), parts);
-    let mut hrp = vec![in alloc; BEFORE; parts.0.len()].expect(rt, "memory");
-    let mut bytes = vec![in alloc; BEFORE; parts.1.len()].expect(rt, "memory");
-    puts_parts(rt, text, (hrp.as_mut_slice(), bytes.as_mut_slice()), parts);
-}
-
-// The checksum of this number accepts a text with so long a human-readable part, and the other does
-// not.
-fn is_checked(rt: &impl Abort, checksum: u32, text: &[u8], length: usize) {
-    same(rt, &checked(3 - checksum.min(3), text), &unchecked(33));
-    let (number, hrp_count, count) = checked(checksum, text);
-    same(rt, &(number, hrp_count), &(0, length));
-    let rest = text.len().checked_sub(length.saturating_add(7));
-    same(rt, &Some(count), &rest);
-}
-
+// Each text into buffers with more room than its parts have, with as much, and one with less. The
+// checksum of this number accepts it, and the other does not.
 #[test]
-fn decodes_known_texts(rt: HostRuntime) {
+fn decodes_into_buffers(rt: HostRuntime) {
     const ROWS: &[(&[u8], u32, &[u8], &[u8])] = &[
         (b"A12UEL5L", 1, b"A", b""),
         (b"a1lqfn3a", 2, b"a", b""),
@@ -224,8 +213,16 @@ fn decodes_known_texts(rt: HostRuntime) {
         ),
     ];
     for &(text, checksum, part, found) in ROWS {
-        decodes(&rt, rt.alloc(), text, (part, found));
-        is_checked(&rt, checksum, text, part.len());
+        decodes(&rt, text, (83, 634), (0, part, found));
+        decodes(&rt, text, (part.len(), found.len()), (0, part, found));
+        is_unchecked(&rt, 3u32.saturating_sub(checksum), text, 33);
+        let count = text.len().saturating_sub(part.len().saturating_add(7));
+        same(&rt, &checked(checksum, text), &(0, part.len(), count));
+    }
+    let text = b"test1lu08d6qejxtdg4y5r3zarvary0c5xw7kmz4lky";
+    const SMALL: &[(usize, usize)] = &[(3, 20), (4, 19), (0, 0)];
+    for &rooms in SMALL {
+        decodes(&rt, text, rooms, (92, b"", b""));
     }
 }
 
@@ -248,104 +245,98 @@ fn refuses_to_decode(rt: HostRuntime) {
         (b"b12uel5l", 33),
     ];
     for &(text, want) in ROWS {
-        puts_no_parts(&rt, text, &mut [BEFORE; 83], &mut [BEFORE; 634], want);
-        same(&rt, &checked(1, text), &unchecked(want));
-        same(&rt, &checked(2, text), &unchecked(want));
-        same(&rt, &checked(0, text), &unchecked(4));
+        decodes(&rt, text, (83, 634), (want, b"", b""));
+        is_unchecked(&rt, 1, text, want);
+        is_unchecked(&rt, 2, text, want);
+        is_unchecked(&rt, 0, text, 4);
     }
 }
 
+// As many zeros as fit a text, and one more; and as many as fit one by the checksum for long texts.
+#[test]
+fn long_texts(rt: HostRuntime) {
+    const ROWS: &[(u32, usize, usize, (u32, usize))] = &[
+        (1, 634, 1100, (0, 1023)),
+        (1, 635, 1100, (51, LENGTH_BEFORE)),
+        (1, 4425, 7089, (51, LENGTH_BEFORE)),
+        (3, 4425, 7089, (0, 7088)),
+    ];
+    let (zeros, mut text) = ([0; 4425], [BEFORE; 7089]);
+    for &(checksum, count, room, want) in ROWS {
+        let (bytes, _) = zeros.split_at(count.min(4425));
+        let (front, _) = text.split_at_mut(room.min(7089));
+        same(&rt, &encoded((checksum, b"a", bytes), front), &want);
+    }
+    let (front, _) = text.split_at(7088);
+    same(&rt, &checked(3, front), &(0, 1, 7080));
+    is_unchecked(&rt, 4, front, 33);
+    is_unchecked(&rt, 1, front, 31);
+}
+
+// Texts of more characters than a checksum allows.
 #[test]
 fn texts_above_the_code_length(rt: HostRuntime) {
-    let mut text = [b'q'; 1024];
-    text[1] = b'1';
-    same(&rt, &checked(2, &text), &unchecked(31));
-    puts_no_parts(&rt, &text, &mut [BEFORE; 83], &mut [BEFORE; 634], 31);
-    is_refused(&rt, &corrected(2, &text, &[], (4, 4, 64)), 31);
+    let mut longer = [b'q'; 7090];
+    longer[1] = b'1';
+    is_unchecked(&rt, 4, &longer, 31);
+    let (text, _) = longer.split_at(1024);
+    is_unchecked(&rt, 2, text, 31);
+    decodes(&rt, text, (83, 634), (31, b"", b""));
+    mends(&rt, (2, text, &[]), (4, 4, 64), (31, &[], b"", b""));
 }
 
-#[test]
-fn decodes_into_small_buffers(rt: HostRuntime) {
-    let text = b"test1lu08d6qejxtdg4y5r3zarvary0c5xw7kmz4lky";
-    const ROOMS: &[(usize, usize)] = &[(3, 20), (4, 19), (0, 0)];
-    for &(hrp_room, room) in ROOMS {
-        let (mut hrp, mut bytes) = ([BEFORE; 4], [BEFORE; 20]);
-        let (hrp, _) = hrp.split_at_mut(hrp_room.min(4));
-        let (bytes, _) = bytes.split_at_mut(room.min(20));
-        puts_no_parts(&rt, text, hrp, bytes, 92);
-    }
+// What an address is read as: the number, and on 0 the human-readable part, the version and the
+// program.
+type Address<'a> = (u32, &'a [u8], u32, &'a [u8]);
+
+// Reads an address into buffers of so many bytes. Where it is refused, the version is as it was.
+fn reads(rt: &impl Abort, text: &[u8], rooms: (usize, usize), want: Address<'_>) {
+    let (mut hrp, mut program) = ([BEFORE; 83], [BEFORE; 40]);
+    let (mut hrp_count, mut version, mut count) = (LENGTH_BEFORE, u32::MAX, LENGTH_BEFORE);
+    let (part, _) = hrp.split_at_mut(rooms.0.min(83));
+    let (front, _) = program.split_at_mut(rooms.1.min(40));
+    let number = bech32_segwit_decode(text, part, &mut hrp_count, &mut version, front, &mut count);
+    same(rt, &version, &want.2);
+    answers(rt, number, (hrp_count, &hrp), (want.0, want.1));
+    answers(rt, number, (count, &program), (want.0, want.3));
 }
 
-// Decodes an address into buffers, which then hold its parts.
-fn puts_program(
-    rt: &impl Abort,
-    text: &[u8],
-    (hrp, program): (&mut [u8], &mut [u8]),
-    (part, version, want): (&[u8], u32, &[u8]),
-) {
-    let mut found = u32::MAX;
-    let (mut hrp_count, mut count) = (LENGTH_BEFORE, LENGTH_BEFORE);
-    let number = bech32_segwit_decode(text, hrp, &mut hrp_count, &mut found, program, &mut count);
-    same(rt, &(number, found), &(0, version));
-    holds(rt, hrp, hrp_count, part);
-    holds(rt, program, count, want);
+// Writes an address into a buffer of so many bytes.
+fn writes(rt: &impl Abort, row: (&[u8], u32, &[u8]), room: usize, want: (u32, &[u8])) {
+    let (mut count, mut buffer) = (LENGTH_BEFORE, [BEFORE; 90]);
+    let (front, _) = buffer.split_at_mut(room.min(90));
+    let number = bech32_segwit_encode(row.0, row.1, row.2, front, &mut count);
+    answers(rt, number, (count, &buffer), want);
 }
 
-// Is refused by this number, and leaves the buffers and the version as they were.
-fn puts_no_program(rt: &impl Abort, text: &[u8], hrp: &mut [u8], program: &mut [u8], want: u32) {
-    let mut found = u32::MAX;
-    let (mut hrp_count, mut count) = (LENGTH_BEFORE, LENGTH_BEFORE);
-    let number = bech32_segwit_decode(text, hrp, &mut hrp_count, &mut found, program, &mut count);
-    same(rt, &(number, found), &(want, u32::MAX));
-    is_untouched(rt, hrp, hrp_count);
-    is_untouched(rt, program, count);
-}
-
-// Writes an address into a buffer, which then holds it.
-fn puts_address(rt: &impl Abort, row: (&[u8], u32, &[u8]), buffer: &mut [u8], want: &[u8]) {
-    let mut count = LENGTH_BEFORE;
-    let number = bech32_segwit_encode(row.0, row.1, row.2, buffer, &mut count);
-    same(rt, &number, &0);
-    holds(rt, buffer, count, want);
-}
-
-// Is refused by this number, and leaves the buffer as it was.
-fn puts_no_address(rt: &impl Abort, row: (&[u8], u32, &[u8]), buffer: &mut [u8], want: u32) {
-    let mut count = LENGTH_BEFORE;
-    let number = bech32_segwit_encode(row.0, row.1, row.2, buffer, &mut count);
-    same(rt, &number, &want);
-    is_untouched(rt, buffer, count);
-}
-
-// Decodes an address and writes it again, in lower case, and not into a buffer that is too small.
-fn goes_around(rt: &impl Abort, alloc: Global, text: &[u8], row: (&[u8], u32, &[u8])) {
-    puts_program(rt, text, (&mut [BEFORE; 83], &mut [BEFORE; 40]), row);
-    let mut short = vec![in alloc; BEFORE; text.len().saturating_sub(1)].expect(rt, "memory");
-    puts_no_address(rt, row, short.as_mut_slice(), 92);
-    let mut lower = text.to_vec(alloc).expect(rt, "memory");
-    lower.as_mut_slice().make_ascii_lowercase();
-    puts_address(rt, row, &mut [BEFORE; 90], lower.as_slice());
-}
-
+// Each address is read, and written again, in lower case, and not into buffers that are too small.
+// The last row has the longest program there is: it is of a reference model.
 #[test]
 fn known_addresses(rt: HostRuntime) {
-    const ROWS: &[(&[u8], &[u8], u32, &[u8])] = &[
+    const ROWS: &[(&[u8], &[u8], u32, &[u8], &[u8])] = &[
         (
             b"BC1QW508D6QEJXTDG4Y5R3ZARVARY0C5XW7KV8F3T4",
             b"BC",
             0,
             &PROGRAM,
+            ADDRESS,
         ),
-        (
-            b"bc1p0xlxvlhemja6c4dqv22uapctqupfhlxm9h8z3k2e72q4k9hcz7vqzk5jj0",
-            b"bc",
-            1,
-            &TAPROOT,
-        ),
-        (b"BC1SW50QGDZ25J", b"BC", 16, b"\x75\x1e"),
+        (ADDRESS, b"bc", 0, &PROGRAM, ADDRESS),
+        (TAPROOT_ADDRESS, b"bc", 1, &TAPROOT, TAPROOT_ADDRESS),
+        (b"BC1SW50QGDZ25J", b"BC", 16, b"\x75\x1e", b"bc1sw50qgdz25j"),
+        (LONGEST_ADDRESS, b"bc", 1, &[0; 40], LONGEST_ADDRESS),
     ];
-    for &(text, part, version, program) in ROWS {
-        goes_around(&rt, rt.alloc(), text, (part, version, program));
+    for &(text, part, version, program, lower) in ROWS {
+        reads(&rt, text, (83, 40), (0, part, version, program));
+        let rooms = (part.len(), program.len());
+        reads(&rt, text, rooms, (0, part, version, program));
+        let row = (part, version, program);
+        writes(&rt, row, 90, (0, lower));
+        writes(&rt, row, lower.len().saturating_sub(1), (92, b""));
+    }
+    const SMALL: &[(usize, usize)] = &[(1, 20), (2, 19), (0, 0)];
+    for &rooms in SMALL {
+        reads(&rt, ADDRESS, rooms, (92, b"", u32::MAX, b""));
     }
 }
 
@@ -394,25 +385,7 @@ fn refuses_addresses(rt: HostRuntime) {
         (b"BC1SW50QGDZ25K", 33),
     ];
     for &(text, want) in ROWS {
-        puts_no_program(&rt, text, &mut [BEFORE; 83], &mut [BEFORE; 40], want);
-    }
-}
-
-#[test]
-fn reads_addresses_into_small_buffers(rt: HostRuntime) {
-    let text = b"bc1qw508d6qejxtdg4y5r3zarvary0c5xw7kv8f3t4";
-    puts_program(
-        &rt,
-        text,
-        (&mut [BEFORE; 2], &mut [BEFORE; 20]),
-        (b"bc", 0, &PROGRAM),
-    );
-    const ROOMS: &[(usize, usize)] = &[(1, 20), (2, 19), (0, 0)];
-    for &(hrp_room, room) in ROOMS {
-        let (mut hrp, mut program) = ([BEFORE; 2], [BEFORE; 20]);
-        let (hrp, _) = hrp.split_at_mut(hrp_room.min(2));
-        let (program, _) = program.split_at_mut(room.min(20));
-        puts_no_program(&rt, text, hrp, program, 92);
+        reads(&rt, text, (83, 40), (want, b"", u32::MAX, b""));
     }
 }
 
@@ -434,22 +407,8 @@ fn refuses_to_write_addresses(rt: HostRuntime) {
     let bytes = [0u8; 41];
     for &(hrp, version, size, want) in ROWS {
         let (program, _) = bytes.split_at(size.min(41));
-        puts_no_address(&rt, (hrp, version, program), &mut [BEFORE; 90], want);
+        writes(&rt, (hrp, version, program), 90, (want, b""));
     }
-}
-
-#[test]
-fn writes_the_longest_program(rt: HostRuntime) {
-    let mut count = LENGTH_BEFORE;
-    let number = bech32_segwit_encode(b"bc", 1, &[0; 40], &mut [BEFORE; 90], &mut count);
-    same(&rt, &number, &0);
-}
-
-// What is answered of a text's fault, and the place that is left.
-fn fault(checksum: u32, text: &[u8]) -> (u32, usize) {
-    let mut place = LENGTH_BEFORE;
-    let number = bech32_fault(checksum, text, &mut place);
-    (number, place)
 }
 
 #[test]
@@ -475,126 +434,65 @@ fn places_of_faults(rt: HostRuntime) {
         (2, b"in1muywd", (32, 8)),
     ];
     for &(checksum, text, want) in ROWS {
-        same(&rt, &fault(checksum, text), &want);
+        let mut place = LENGTH_BEFORE;
+        let number = bech32_fault(checksum, text, &mut place);
+        same(&rt, &(number, place), &want);
     }
-}
-
-// What the remainder of elements returns, and what it leaves.
-fn residue(checksum: u32, values: &[u8]) -> (u32, u32) {
-    let mut residue = u32::MAX;
-    let number = bech32_residue(checksum, values, &mut residue);
-    (number, residue)
 }
 
 #[test]
 fn remainders_of_right_texts(rt: HostRuntime) {
     // The elements of `a` as a human-readable part, and of what stands behind the separator of
     // `a12uel5l` and of `a1lqfn3a`.
-    const ROWS: &[(u32, &[u8], u32)] = &[
-        (1, &[3, 0, 1, 10, 28, 25, 31, 20, 31], 1),
-        (2, &[3, 0, 1, 31, 0, 9, 19, 17, 29], 0x2bc830a3),
-        (2, &[3, 0, 1, 10, 28, 25, 31, 20, 31], 1),
-        (1, &[], 1),
-        (1, &[31], 63),
+    const ROWS: &[(u32, &[u8], (u32, u32))] = &[
+        (1, &[3, 0, 1, 10, 28, 25, 31, 20, 31], (0, 1)),
+        (2, &[3, 0, 1, 31, 0, 9, 19, 17, 29], (0, 0x2bc830a3)),
+        (2, &[3, 0, 1, 10, 28, 25, 31, 20, 31], (0, 1)),
+        (1, &[], (0, 1)),
+        (1, &[31], (0, 63)),
+        (0, &[], (4, u32::MAX)),
+        (3, &[1], (4, u32::MAX)),
+        (1, &[0, 32], (4, u32::MAX)),
+        (2, &[255, 1], (4, u32::MAX)),
     ];
     for &(checksum, values, want) in ROWS {
-        same(&rt, &residue(checksum, values), &(0, want));
-    }
-    const REFUSED: &[(u32, &[u8])] = &[(0, &[]), (3, &[1]), (1, &[0, 32]), (2, &[255, 1])];
-    for &(checksum, values) in REFUSED {
-        same(&rt, &residue(checksum, values), &(4, u32::MAX));
+        let mut residue = u32::MAX;
+        let number = bech32_residue(checksum, values, &mut residue);
+        same(&rt, &(number, residue), &want);
     }
 }
 
-// What `bech32_correct` returns, and what it leaves.
-#[derive(Clone, Copy)]
-struct Outcome {
-    number: u32,
-    locations: [usize; 4],
-    values: [u8; 4],
-    count: usize,
-    mended: [u8; 64],
-    length: usize,
-}
+// What a text is mended to: the number, and on 0 the locations, the elements and the mended text.
+type Mended<'a> = (u32, &'a [usize], &'a [u8], &'a [u8]);
 
-// Calls it with buffers of this many items.
-fn corrected(
-    checksum: u32,
-    text: &[u8],
-    erasures: &[usize],
+// Mends a text by buffers of so many items.
+fn mends(
+    rt: &impl Abort,
+    (checksum, text, erasures): (u32, &[u8], &[usize]),
     rooms: (usize, usize, usize),
-) -> Outcome {
+    want: Mended<'_>,
+) {
     let (mut count, mut length) = (LENGTH_BEFORE, LENGTH_BEFORE);
     let (mut locations, mut values, mut mended) = ([LENGTH_BEFORE; 4], [BEFORE; 4], [BEFORE; 64]);
-    let (front, _) = locations.split_at_mut(rooms.0.min(4));
+    let (places, _) = locations.split_at_mut(rooms.0.min(4));
     let (elements, _) = values.split_at_mut(rooms.1.min(4));
     let (characters, _) = mended.split_at_mut(rooms.2.min(64));
     let number = bech32_correct(
         checksum,
         text,
         erasures,
-        front,
+        places,
         elements,
         &mut count,
         characters,
         &mut length,
     );
-    Outcome {
-        number,
-        locations,
-        values,
-        count,
-        mended,
-        length,
-    }
+    same(rt, &has_places(&locations, want.1), &true);
+    answers(rt, number, (count, &values), (want.0, want.2));
+    answers(rt, number, (length, &mended), (want.0, want.3));
 }
 
-// It refuses by this number, and nothing is written.
-fn is_refused(rt: &impl Abort, got: &Outcome, number: u32) {
-    let found = (got.number, got.locations);
-    same(rt, &found, &(number, [LENGTH_BEFORE; 4]));
-    is_untouched(rt, &got.values, got.count);
-    is_untouched(rt, &got.mended, got.length);
-}
-
-// What the locations are where these are listed: behind them they are as they were.
-fn listed(locations: &[usize]) -> [usize; 4] {
-    let mut listed = [LENGTH_BEFORE; 4];
-    for (place, location) in listed.iter_mut().zip(locations) {
-        *place = *location;
-    }
-    listed
-}
-
-// It lists these, mends the text to this, and writes nothing behind them.
-fn is_mended(rt: &impl Abort, got: &Outcome, locations: &[usize], values: &[u8], want: &[u8]) {
-    same(rt, &(got.number, got.count), &(0, locations.len()));
-    same(rt, &got.locations, &listed(locations));
-    holds(rt, &got.values, got.count, values);
-    holds(rt, &got.mended, got.length, want);
-}
-
-// It does so with buffers of more room and of as much, and not with less.
-fn mends(
-    rt: &impl Abort,
-    (checksum, text, erasures): (u32, &[u8], &[usize]),
-    (locations, values, want): (&[usize], &[u8], &[u8]),
-) {
-    let (count, size) = (locations.len(), text.len());
-    for rooms in [(4, 4, 64), (count, count, size)] {
-        let got = corrected(checksum, text, erasures, rooms);
-        is_mended(rt, &got, locations, values, want);
-    }
-    let short = (count, count, size.saturating_sub(1));
-    is_refused(rt, &corrected(checksum, text, erasures, short), 92);
-    if count > 0 {
-        let less = count.saturating_sub(1);
-        for rooms in [(less, count, size), (count, less, size)] {
-            is_refused(rt, &corrected(checksum, text, erasures, rooms), 92);
-        }
-    }
-}
-
+// Each text by buffers of more room and of as much, and not with less.
 #[test]
 fn mends_known_texts(rt: HostRuntime) {
     // Made twice over and equal: by a reference model written from the definitions alone, and by
@@ -645,7 +543,21 @@ fn mends_known_texts(rt: HostRuntime) {
         ),
     ];
     for &(checksum, text, erasures, locations, values, want) in ROWS {
-        mends(&rt, (checksum, text, erasures), (locations, values, want));
+        let row = (checksum, text, erasures);
+        let (count, size) = (locations.len(), text.len());
+        mends(&rt, row, (4, 4, 64), (0, locations, values, want));
+        mends(&rt, row, (count, count, size), (0, locations, values, want));
+        mends(
+            &rt,
+            row,
+            (count, count, size.saturating_sub(1)),
+            (92, &[], b"", b""),
+        );
+        if count > 0 {
+            let less = count.saturating_sub(1);
+            mends(&rt, row, (less, count, size), (92, &[], b"", b""));
+            mends(&rt, row, (count, less, size), (92, &[], b"", b""));
+        }
     }
 }
 
@@ -671,8 +583,17 @@ fn refuses_to_mend(rt: HostRuntime) {
         (2, b"111pxa7d3mwg", &[11, 0, 1], 34),
     ];
     for &(checksum, text, erasures, want) in ROWS {
-        for rooms in [(4, 4, 64), (0, 0, 0)] {
-            is_refused(&rt, &corrected(checksum, text, erasures, rooms), want);
-        }
+        mends(
+            &rt,
+            (checksum, text, erasures),
+            (4, 4, 64),
+            (want, &[], b"", b""),
+        );
+        mends(
+            &rt,
+            (checksum, text, erasures),
+            (0, 0, 0),
+            (want, &[], b"", b""),
+        );
     }
 }

@@ -5,20 +5,55 @@ mod shares;
 mod splits;
 
 use crate::parse::codex32_parse;
-use crate::propose::codex32_propose;
+use crate::propose::{codex32_propose, codex32_propose_long};
 use caller_memory::Memory;
 use std::alloc::Global;
 use std::fmt::Debug;
 use std::process::Abort;
 
-// What the numbers hold before a call.
+// What numbers, lengths and the bytes of buffers hold before a call.
 const BEFORE: u32 = 7777;
 
 const LENGTH_BEFORE: usize = 7777;
 
+const BYTE_BEFORE: u8 = 0xee;
+
 // Fails where the two differ.
 fn same<T: PartialEq + Debug>(rt: &impl Abort, got: &T, want: &T) {
     assert_eq!(rt; got, want);
+}
+
+// Whether the bytes stand at the front of the buffer, and behind them it is as it was.
+fn has_front(buffer: &[u8], bytes: &[u8]) -> bool {
+    for byte in buffer.iter().skip(bytes.len()) {
+        if *byte != BYTE_BEFORE {
+            return false;
+        }
+    }
+    buffer.starts_with(bytes)
+}
+
+// What a length and the front of a buffer are to be after an answer: where its number is 0, that of
+// these bytes and these, and else as they were.
+fn written(number: u32, bytes: &[u8]) -> (usize, &[u8]) {
+    if number == 0 {
+        (bytes.len(), bytes)
+    } else {
+        (LENGTH_BEFORE, b"")
+    }
+}
+
+// Fails where another number is the answer, or where a length and a buffer are not what they are to
+// be then.
+fn answers(
+    rt: &impl Abort,
+    number: u32,
+    (length, buffer): (usize, &[u8]),
+    (want, bytes): (u32, &[u8]),
+) {
+    let (count, front) = written(want, bytes);
+    let found = (number, length, has_front(buffer, front));
+    same(rt, &found, &(want, count, true));
 }
 
 // The answer to a text, and what the numbers hold then.
@@ -86,41 +121,38 @@ fn refuses_texts(rt: HostRuntime) {
     }
 }
 
-// What a buffer holds before a call.
-const BYTE_BEFORE: u8 = 0xee;
-
-const ROOM: usize = 96;
-
-// The answer to a damaged text with this memory and a buffer of this many bytes, and what the
-// length and the buffer hold then.
-fn proposal(memory: &mut Memory, text: &[u8], room: usize) -> (u32, (usize, [u8; ROOM])) {
-    let mut buffer = [BYTE_BEFORE; ROOM];
-    let mut length = LENGTH_BEFORE;
-    let (front, _) = buffer.split_at_mut(room.min(ROOM));
-    let number = codex32_propose(text, memory, front, &mut length);
-    (number, (length, buffer))
+// The number of the answer to a damaged text, a long one or not, with this memory and a buffer of
+// this many bytes. Where it is 0, this text is put, and else nothing is written.
+fn proposes(
+    rt: &impl Abort,
+    memory: &mut Memory,
+    (text, is_long): (&[u8], bool),
+    room: usize,
+    want: &[u8],
+) -> u32 {
+    let (mut length, mut buffer) = (LENGTH_BEFORE, [BYTE_BEFORE; 160]);
+    let (front, _) = buffer.split_at_mut(room.min(160));
+    let number = if is_long {
+        codex32_propose_long(text, memory, front, &mut length)
+    } else {
+        codex32_propose(text, memory, front, &mut length)
+    };
+    let (count, put) = written(number, want);
+    same(rt, &(length, has_front(&buffer, put)), &(count, true));
+    number
 }
 
-// What the length and the buffer hold after an answer: the text on 0, and else nothing is written.
-fn written_in<const N: usize>(number: u32, text: &[u8]) -> (usize, [u8; N]) {
-    let mut buffer = [BYTE_BEFORE; N];
-    if number != 0 {
-        return (LENGTH_BEFORE, buffer);
-    }
-    for (place, byte) in buffer.iter_mut().zip(text) {
-        *place = *byte;
-    }
-    (text.len(), buffer)
-}
-
-fn written(number: u32, text: &[u8]) -> (usize, [u8; ROOM]) {
-    written_in::<ROOM>(number, text)
-}
-
-// The number of the answer to a damaged text with this memory and a buffer of this many bytes.
-fn proposes(rt: &impl Abort, memory: &mut Memory, text: &[u8], room: usize, want: &[u8]) -> u32 {
-    let (number, found) = proposal(memory, text, room);
-    same(rt, &found, &written(number, want));
+// The same with this many bytes of memory, all of which come back.
+fn proposes_within(
+    rt: &impl Abort,
+    alloc: Global,
+    size: usize,
+    damaged: (&[u8], bool),
+    (room, want): (usize, &[u8]),
+) -> u32 {
+    let mut memory = Memory::leaked(alloc, size).expect(rt, "memory");
+    let number = proposes(rt, &mut memory, damaged, room, want);
+    same(rt, &memory.with_size().0, &size);
     number
 }
 
@@ -134,15 +166,7 @@ const NEAREST: &[u8] = b"ms10testsxxxxxxxxxxxxxxxxxxxxxxxxxx4nzvca9cmczlw";
 // The same with four other characters.
 const DAMAGED: &[u8] = b"ms1qtestsqxxxxxxxxxxxxxxxxxxxxxxxxq4nzvca9cmczlq";
 
-// The number of the answer where the nearest text is that of BIP-93, with this many bytes of
-// memory, all of which come back.
-fn answer_within(rt: &impl Abort, alloc: Global, size: usize, text: &[u8], room: usize) -> u32 {
-    let mut memory = Memory::leaked(alloc, size).expect(rt, "memory");
-    let number = proposes(rt, &mut memory, text, room, NEAREST);
-    same(rt, &memory.with_size().0, &size);
-    number
-}
-
+// The nearest text is that of BIP-93.
 #[test]
 fn proposes_known_texts(rt: HostRuntime) {
     const ROWS: &[(&[u8], usize, u32)] = &[
@@ -161,7 +185,8 @@ fn proposes_known_texts(rt: HostRuntime) {
         (b"\xff", 96, 2),
     ];
     for &(text, room, want) in ROWS {
-        let number = answer_within(&rt, rt.alloc(), memory_for(text), text, room);
+        let put = (room, NEAREST);
+        let number = proposes_within(&rt, rt.alloc(), memory_for(text), (text, false), put);
         same(&rt, &number, &want);
     }
 }
@@ -175,47 +200,44 @@ fn memory_serves_again(rt: HostRuntime) {
     let mut memory = Memory::leaked(rt.alloc(), size).expect(&rt, "memory");
     for _ in 0..5 {
         let numbers = [
-            proposes(&rt, &mut memory, DAMAGED, 48, NEAREST),
-            proposes(&rt, &mut memory, b"msq", 48, NEAREST),
-            proposes(&rt, &mut memory, torn, 74, longer),
+            proposes(&rt, &mut memory, (DAMAGED, false), 48, NEAREST),
+            proposes(&rt, &mut memory, (b"msq", false), 48, NEAREST),
+            proposes(&rt, &mut memory, (torn, false), 74, longer),
         ];
         same(&rt, &numbers, &[0, 23, 0]);
     }
     same(&rt, &memory.with_size().0, &size);
 }
 
-// Memory of fewer bytes than the text has.
-#[test]
-fn wants_memory(rt: HostRuntime) {
-    for size in [0, 16, 47] {
-        same(&rt, &answer_within(&rt, rt.alloc(), size, DAMAGED, 48), &91);
-    }
-}
-
-// A refusal of the text needs no memory.
+// A refusal of the text needs no memory; a nearest text needs more bytes than it has.
 #[test]
 fn refuses_without_memory(rt: HostRuntime) {
-    const ROWS: &[(&[u8], u32)] = &[
-        (b"\xff", 2),
-        (b"1?qqqqq", 11),
-        (b"ms1?b", 21),
-        (b"Ms1?", 22),
-        (b"msq", 23),
-        (b"mt10testsxxxxxxxxxxxxxxxxxxxxxxxxxx4nzvca9cmczl?", 81),
-        (b"ms10testsxxxxxxxxxxxxxxxxxxxxxxxxxx4nzvca9cmcz?", 82),
+    const ROWS: &[(&[u8], usize, u32)] = &[
+        (b"\xff", 0, 2),
+        (b"1?qqqqq", 0, 11),
+        (b"ms1?b", 0, 21),
+        (b"Ms1?", 0, 22),
+        (b"msq", 0, 23),
+        (b"mt10testsxxxxxxxxxxxxxxxxxxxxxxxxxx4nzvca9cmczl?", 0, 81),
+        (b"ms10testsxxxxxxxxxxxxxxxxxxxxxxxxxx4nzvca9cmcz?", 0, 82),
+        (DAMAGED, 0, 91),
+        (DAMAGED, 16, 91),
+        (DAMAGED, 47, 91),
     ];
-    for &(text, want) in ROWS {
-        same(&rt, &answer_within(&rt, rt.alloc(), 0, text, 48), &want);
+    for &(text, size, want) in ROWS {
+        let number = proposes_within(&rt, rt.alloc(), size, (text, false), (48, NEAREST));
+        same(&rt, &number, &want);
     }
 }
 
-// From some size on memory suffices, at the latest from the stated one.
+// From some size on memory suffices, at the latest from the stated one, which the last round has.
 #[test]
 fn proposes_or_wants_memory(rt: HostRuntime) {
     let enough = memory_for(DAMAGED);
     let mut before = 91;
-    for size in (0..enough).step_by(64).chain([enough]) {
-        let number = answer_within(&rt, rt.alloc(), size, DAMAGED, 48);
+    for round in 0..263 {
+        let size = enough.min(64 * round);
+        let number = proposes_within(&rt, rt.alloc(), size, (DAMAGED, false), (48, NEAREST));
         assert!(rt; number == 0 || number == before);
         before = number;
     }

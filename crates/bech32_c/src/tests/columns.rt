@@ -3,7 +3,6 @@ use crate::columns::{
 };
 use crate::tests::{BEFORE, LENGTH_BEFORE, same};
 use bech32_columns::column::Column;
-use std::process::Abort;
 
 // An address in upper case, a text of Bech32, and an address with a wrong character.
 const TEXTS: &[u8] = b"BC1SW50QGDZ25JA12UEL5Lbc1sw50qgdz25k";
@@ -25,49 +24,48 @@ fn texts(validity: &[u8]) -> Column<'_> {
     }
 }
 
-fn checks(rt: &impl Abort, checksum: u32, validity: &[u8], want: [u8; 5]) {
-    let mut numbers = [BEFORE; 5];
-    let number = bech32_check_many(checksum, &texts(validity), 0, &mut numbers);
-    same(rt, &number, &0);
-    same(rt, &numbers, &want);
-}
-
 #[test]
 fn checks_rows_of_a_column(rt: HostRuntime) {
-    checks(&rt, 0, &[], [0, 0, 33, 4, 4]);
-    checks(&rt, 1, &[], [33, 0, 33, 4, 4]);
-    checks(&rt, 2, &[0b1101], [0, 1, 33, 4, 1]);
-    let mut numbers = [BEFORE; 5];
-    let number = bech32_check_many(0, &texts(&[]), 1, &mut numbers);
-    same(&rt, &number, &4);
-    same(&rt, &numbers, &[BEFORE; 5]);
+    // The checksum, the validity, the first row, and what is returned and put. Behind the first row
+    // there are no five.
+    const ROWS: &[(u32, &[u8], usize, (u32, [u8; 5]))] = &[
+        (0, &[], 0, (0, [0, 0, 33, 4, 4])),
+        (1, &[], 0, (0, [33, 0, 33, 4, 4])),
+        (2, &[0b1101], 0, (0, [0, 1, 33, 4, 1])),
+        (0, &[], 1, (4, [BEFORE; 5])),
+    ];
+    for &(checksum, validity, first, want) in ROWS {
+        let mut numbers = [BEFORE; 5];
+        let number = bech32_check_many(checksum, &texts(validity), first, &mut numbers);
+        same(&rt, &(number, numbers), &want);
+    }
 }
 
 // Decodes rows with this much room for programs.
-fn decodes(rt: &impl Abort, hrp: &[u8], room: usize, want: (u32, [u8; 5], usize)) {
-    let (mut numbers, mut versions, mut lengths) = ([BEFORE; 5], [BEFORE; 5], [BEFORE; 5]);
-    let (mut offsets, mut programs, mut done) = ([9u32; 6], [BEFORE; 4], LENGTH_BEFORE);
-    let (front, _) = programs.split_at_mut(room.min(4));
-    let number = bech32_segwit_decode_many(
-        &texts(&[]),
-        0,
-        hrp,
-        &mut numbers,
-        &mut versions,
-        &mut lengths,
-        &mut offsets,
-        front,
-        &mut done,
-    );
-    same(rt, &(number, numbers, done), &want);
-    same(rt, &offsets[0], &0);
-}
-
 #[test]
 fn decodes_rows_of_a_column(rt: HostRuntime) {
-    decodes(&rt, b"bc", 2, (0, [0, 33, 33, 4, 4], 5));
-    decodes(&rt, b"tb", 0, (0, [49, 33, 33, 4, 4], 5));
-    decodes(&rt, b"", 1, (92, [BEFORE; 5], 0));
+    const ROWS: &[(&[u8], usize, (u32, [u8; 5], usize))] = &[
+        (b"bc", 2, (0, [0, 33, 33, 4, 4], 5)),
+        (b"tb", 0, (0, [49, 33, 33, 4, 4], 5)),
+        (b"", 1, (92, [BEFORE; 5], 0)),
+    ];
+    for &(hrp, room, want) in ROWS {
+        let (mut numbers, mut versions, mut lengths) = ([BEFORE; 5], [BEFORE; 5], [BEFORE; 5]);
+        let (mut offsets, mut programs, mut done) = ([9u32; 6], [BEFORE; 4], LENGTH_BEFORE);
+        let (front, _) = programs.split_at_mut(room.min(4));
+        let number = bech32_segwit_decode_many(
+            &texts(&[]),
+            0,
+            hrp,
+            &mut numbers,
+            &mut versions,
+            &mut lengths,
+            &mut offsets,
+            front,
+            &mut done,
+        );
+        same(&rt, &((number, numbers, done), offsets[0]), &(want, 0));
+    }
 }
 
 #[test]
@@ -92,12 +90,13 @@ fn encodes_rows_of_a_column(rt: HostRuntime) {
         &mut text,
         &mut done,
     );
-    same(&rt, &(number, done), &(0, 2));
-    same(&rt, &numbers, &[0, 4]);
-    same(&rt, &offsets, &[0, 14, 14]);
-    same(&rt, &text, b"bc1sw50qgdz25j\xee");
+    same(&rt, &(number, done, numbers), &(0, 2, [0, 4]));
+    same(
+        &rt,
+        &(offsets, text),
+        &([0, 14, 14], *b"bc1sw50qgdz25j\xee"),
+    );
     let (mut validity, mut accepted) = ([BEFORE; 2], LENGTH_BEFORE);
     let number = bech32_validity_of(&numbers, &mut validity, &mut accepted);
-    same(&rt, &(number, accepted), &(0, 1));
-    same(&rt, &validity, &[1, BEFORE]);
+    same(&rt, &(number, accepted, validity), &(0, 1, [1, BEFORE]));
 }

@@ -1,5 +1,5 @@
 use crate::confidential::{bech32_liquid_decode, bech32_liquid_encode, bech32_liquid_nearest};
-use crate::tests::{BEFORE, LENGTH_BEFORE, holds, is_untouched, same};
+use crate::tests::{BEFORE, LENGTH_BEFORE, answers, has_front, same};
 use caller_memory::Memory;
 use std::alloc::Global;
 use std::process::Abort;
@@ -19,16 +19,19 @@ const PROGRAM: [u8; 20] = [
     0x21, 0x77, 0xa1, 0x75,
 ];
 
-// Encodes into a buffer of this many bytes: the number that is returned, the length and the buffer.
-fn encoded(hrp: &[u8], version: u32, program: &[u8], room: usize) -> (u32, usize, [u8; 128]) {
+// Encodes with the key into a buffer of so many bytes.
+fn encodes(rt: &impl Abort, row: (&[u8], u32, &[u8]), room: usize, want: (u32, &[u8])) {
     let (mut count, mut buffer) = (LENGTH_BEFORE, [BEFORE; 128]);
     let (front, _) = buffer.split_at_mut(room.min(128));
-    let number = bech32_liquid_encode(hrp, version, &KEY, program, front, &mut count);
-    (number, count, buffer)
+    let number = bech32_liquid_encode(row.0, row.1, &KEY, row.2, front, &mut count);
+    answers(rt, number, (count, &buffer), want);
 }
 
-// Decodes into buffers of so many bytes, which stay as they were; the number that is returned.
-fn refused(rt: &impl Abort, text: &[u8], hrp_room: usize, room: usize) -> u32 {
+// What is told of a text: the number, the human-readable part, the version, the key, the program.
+type Parts<'a> = (u32, &'a [u8], u32, [u8; 33], &'a [u8]);
+
+// Decodes into buffers with so much room for the human-readable part and the program.
+fn decodes(rt: &impl Abort, text: &[u8], (hrp_room, room): (usize, usize), want: Parts<'_>) {
     let (mut hrp, mut key, mut program) = ([BEFORE; 83], [BEFORE; 33], [BEFORE; 32]);
     let (mut hrp_count, mut version, mut count) = (LENGTH_BEFORE, 77, LENGTH_BEFORE);
     let (part, _) = hrp.split_at_mut(hrp_room.min(83));
@@ -42,31 +45,15 @@ fn refused(rt: &impl Abort, text: &[u8], hrp_room: usize, room: usize) -> u32 {
         found,
         &mut count,
     );
-    is_untouched(rt, &hrp, hrp_count);
-    is_untouched(rt, &program, count);
-    same(rt, &(version, key), &(77, [BEFORE; 33]));
-    number
+    same(rt, &(version, key), &(want.2, want.3));
+    answers(rt, number, (hrp_count, &hrp), (want.0, want.1));
+    answers(rt, number, (count, &program), (want.0, want.4));
 }
 
 #[test]
 fn confidential_addresses_both_ways(rt: HostRuntime) {
-    let (number, count, buffer) = encoded(b"lq", 0, &PROGRAM, 101);
-    same(&rt, &number, &0);
-    holds(&rt, &buffer, count, ADDRESS);
-    let (mut hrp, mut key, mut program) = ([BEFORE; 83], [BEFORE; 33], [BEFORE; 32]);
-    let (mut hrp_count, mut version, mut count) = (LENGTH_BEFORE, 77, LENGTH_BEFORE);
-    let number = bech32_liquid_decode(
-        ADDRESS,
-        &mut hrp,
-        &mut hrp_count,
-        &mut version,
-        &mut key,
-        &mut program,
-        &mut count,
-    );
-    same(&rt, &(number, version, key), &(0, 0, KEY));
-    holds(&rt, &hrp, hrp_count, b"lq");
-    holds(&rt, &program, count, &PROGRAM);
+    encodes(&rt, (b"lq", 0, &PROGRAM), 101, (0, ADDRESS));
+    decodes(&rt, ADDRESS, (83, 32), (0, b"lq", 0, KEY, &PROGRAM));
 }
 
 #[test]
@@ -83,9 +70,7 @@ fn refuses_confidential_addresses(rt: HostRuntime) {
         (b"lq", 0, &PROGRAM, 100, 92),
     ];
     for &(hrp, version, program, room, want) in ROWS {
-        let (number, count, buffer) = encoded(hrp, version, program, room);
-        same(&rt, &number, &want);
-        is_untouched(&rt, &buffer, count);
+        encodes(&rt, (hrp, version, program), room, (want, b""));
     }
     // The third text begins with version 1.
     const READ: &[(&[u8], usize, usize, u32)] = &[
@@ -108,23 +93,23 @@ fn refuses_confidential_addresses(rt: HostRuntime) {
         (b"", 83, 32, 23),
     ];
     for &(text, hrp_room, room, want) in READ {
-        same(&rt, &refused(&rt, text, hrp_room, room), &want);
+        let rooms = (hrp_room, room);
+        decodes(&rt, text, rooms, (want, b"", 77, [BEFORE; 33], b""));
     }
 }
 
 // The number of bytes that `include/bech32.h` states.
 const MEMORY: usize = 24576 + 1024 * 101;
 
-// What is returned of the texts near one, with so much memory, which comes back, and room for one
-// text; the count and the buffer.
-fn near(
+// Asks for what is near a text with so much memory, which comes back, and room for one text: on 0
+// the address is put there, and else nothing.
+fn mends(
     rt: &impl Abort,
     alloc: Global,
     size: usize,
-    text: &[u8],
-    erasures: &[usize],
-    errors: usize,
-) -> (u32, usize, [u8; 101]) {
+    (text, erasures, errors): (&[u8], &[usize], usize),
+    want: u32,
+) {
     let mut memory = Memory::leaked(alloc, size).expect(rt, "memory");
     let (mut count, mut buffer) = (LENGTH_BEFORE, [BEFORE; 101]);
     let number = bech32_liquid_nearest(
@@ -135,8 +120,14 @@ fn near(
         &mut buffer,
         &mut count,
     );
+    let (texts, address): (usize, &[u8]) = if want == 0 {
+        (1, ADDRESS)
+    } else {
+        (LENGTH_BEFORE, b"")
+    };
+    let found = (number, count, has_front(&buffer, address));
+    same(rt, &found, &(want, texts, true));
     same(rt, &memory.with_size().0, &size);
-    (number, count, buffer)
 }
 
 // The address with other characters at these locations, counted from the end.
@@ -164,24 +155,16 @@ fn mends_confidential_addresses(rt: HostRuntime) {
     ];
     for &(wrong, erasures, errors) in ROWS {
         let text = mistyped(wrong);
-        let (number, count, buffer) = near(&rt, rt.alloc(), MEMORY, &text, erasures, errors);
-        same(&rt, &(number, count), &(0, 1));
-        same(&rt, &buffer, ADDRESS);
+        mends(&rt, rt.alloc(), MEMORY, (&text, erasures, errors), 0);
     }
-}
-
-#[test]
-fn refuses_to_mend_confidential_addresses(rt: HostRuntime) {
-    const ROWS: &[(&[u8], usize, usize, u32)] = &[
+    const REFUSED: &[(&[u8], usize, usize, u32)] = &[
         (b"\xff", 4, 0, 4),
         (b"\xff", 3, 0, 2),
         (b"Lq1q", 0, 0, 22),
         (b"lq1qqqqqqqqqqq", 0, 0, 32),
         (ADDRESS, 3, 0, 91),
     ];
-    for &(text, errors, size, want) in ROWS {
-        let (number, count, buffer) = near(&rt, rt.alloc(), size, text, &[], errors);
-        same(&rt, &number, &want);
-        is_untouched(&rt, &buffer, count);
+    for &(text, errors, size, want) in REFUSED {
+        mends(&rt, rt.alloc(), size, (text, &[], errors), want);
     }
 }

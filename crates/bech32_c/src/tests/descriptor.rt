@@ -2,7 +2,7 @@ use crate::descriptor::{
     bech32_descriptor_check, bech32_descriptor_checksum, bech32_descriptor_mend,
     bech32_descriptor_mend_two,
 };
-use crate::tests::{BEFORE, LENGTH_BEFORE, has_front, same};
+use crate::tests::{BEFORE, LENGTH_BEFORE, Listed, NONE, answers, lists, same};
 use caller_memory::Memory;
 use std::alloc::Global;
 use std::process::Abort;
@@ -10,39 +10,36 @@ use std::process::Abort;
 // A descriptor of BIP-380, and its checksum.
 const RAW: &[u8] = b"raw(deadbeef)#89f8spxm";
 
-// The checksum that a buffer of this size then has, the number that is returned, and the place.
-fn checksum_of(text: &[u8], room: usize) -> (u32, [u8; 9], usize, usize) {
-    let mut buffer = [BEFORE; 9];
-    let mut length = LENGTH_BEFORE;
-    let mut place = LENGTH_BEFORE;
-    let (front, _) = buffer.split_at_mut(room.min(9));
-    let number = bech32_descriptor_checksum(text, front, &mut length, &mut place);
-    (number, buffer, length, place)
-}
+// The same with one character changed, with two changed, and with two swapped.
+const CHANGED: &[u8] = b"raw(deedbeef)#89f8spxm";
 
-const NONE: [u8; 9] = [BEFORE; 9];
+const TWO_CHANGED: &[u8] = b"raw(deedbeaf)#89f8spxm";
 
+const SWAPPED: &[u8] = b"raw(daedbeef)#89f8spxm";
+
+// The checksum of each text, in a buffer of so many bytes, and the place of a fault.
 #[test]
 fn computes_checksums(rt: HostRuntime) {
-    const ROWS: &[(&[u8], usize, (u32, [u8; 9], usize, usize))] = &[
-        (b"raw(deadbeef)", 9, (0, *b"89f8spxm\xee", 8, LENGTH_BEFORE)),
-        (b"raw(deadbeef)", 8, (0, *b"89f8spxm\xee", 8, LENGTH_BEFORE)),
+    const ROWS: &[(&[u8], usize, (u32, &[u8]), usize)] = &[
+        (b"raw(deadbeef)", 9, (0, b"89f8spxm"), LENGTH_BEFORE),
+        (b"raw(deadbeef)", 8, (0, b"89f8spxm"), LENGTH_BEFORE),
         (
             b"wpkh(02f9308a019258c31049344f85f89d5229b531c845836f99b08601f113bce036f9)",
             9,
-            (0, *b"8zl0zxma\xee", 8, LENGTH_BEFORE),
+            (0, b"8zl0zxma"),
+            LENGTH_BEFORE,
         ),
-        (
-            b"raw(deadbeef)",
-            7,
-            (92, NONE, LENGTH_BEFORE, LENGTH_BEFORE),
-        ),
-        (b"raw(\xc3\x9ceadbeef)", 9, (80, NONE, LENGTH_BEFORE, 4)),
-        (b"raw(deadbeef)\x7f", 0, (80, NONE, LENGTH_BEFORE, 13)),
-        (b"\x1f", 9, (80, NONE, LENGTH_BEFORE, 0)),
+        (b"raw(deadbeef)", 7, (92, b""), LENGTH_BEFORE),
+        (b"raw(\xc3\x9ceadbeef)", 9, (80, b""), 4),
+        (b"raw(deadbeef)\x7f", 0, (80, b""), 13),
+        (b"\x1f", 9, (80, b""), 0),
     ];
-    for &(text, room, want) in ROWS {
-        same(&rt, &checksum_of(text, room), &want);
+    for &(text, room, want, fault) in ROWS {
+        let (mut buffer, mut length, mut place) = ([BEFORE; 9], LENGTH_BEFORE, LENGTH_BEFORE);
+        let (front, _) = buffer.split_at_mut(room.min(9));
+        let number = bech32_descriptor_checksum(text, front, &mut length, &mut place);
+        same(&rt, &place, &fault);
+        answers(&rt, number, (length, &buffer), want);
     }
 }
 
@@ -60,223 +57,164 @@ fn checks_descriptors(rt: HostRuntime) {
         (b"#89f8spx", 88, LENGTH_BEFORE),
         (b"", 88, LENGTH_BEFORE),
     ];
-    for &(text, number, want) in ROWS {
+    for &(text, want, fault) in ROWS {
         let mut place = LENGTH_BEFORE;
-        same(&rt, &bech32_descriptor_check(text, &mut place), &number);
-        same(&rt, &place, &want);
+        let number = bech32_descriptor_check(text, &mut place);
+        same(&rt, &(number, place), &(want, fault));
     }
 }
 
-// What the buffers and the count hold.
-#[derive(Clone, Copy)]
-struct Buffers {
-    count: usize,
-    kinds: [u8; 2],
-    places: [usize; 4],
-    texts: [u8; 64],
-}
+// How many items there is room for in each buffer.
+type Rooms = (usize, usize, usize);
 
-// What is returned with this memory and buffers of these sizes, and what they hold then.
+const AMPLE: Rooms = (2, 4, 64);
+
+// The number that `bech32_descriptor_mend` returns with so many bytes of memory, all of which come
+// back. Where it is 0 or 92, this is listed.
 fn mend(
-    memory: &mut Memory,
-    text: &[u8],
-    changed: usize,
-    rooms: (usize, usize, usize),
-) -> (u32, Buffers) {
-    let mut held = Buffers {
-        count: LENGTH_BEFORE,
-        kinds: [BEFORE; 2],
-        places: [LENGTH_BEFORE; 4],
-        texts: [BEFORE; 64],
-    };
-    let (kinds, _) = held.kinds.split_at_mut(rooms.0.min(2));
-    let (places, _) = held.places.split_at_mut(rooms.1.min(4));
-    let (texts, _) = held.texts.split_at_mut(rooms.2.min(64));
+    rt: &impl Abort,
+    alloc: Global,
+    size: usize,
+    (text, changed): (&[u8], usize),
+    (rooms, listed): (Rooms, Listed<'_>),
+) -> u32 {
+    let mut memory = Memory::leaked(alloc, size).expect(rt, "memory");
+    let (mut kinds, mut places, mut texts) = ([BEFORE; 2], [LENGTH_BEFORE; 4], [BEFORE; 64]);
+    let mut count = LENGTH_BEFORE;
     let number = bech32_descriptor_mend(
         text,
         changed,
-        memory,
-        kinds,
-        places,
-        texts,
-        &mut held.count,
+        &mut memory,
+        kinds.split_at_mut(rooms.0.min(2)).0,
+        places.split_at_mut(rooms.1.min(4)).0,
+        texts.split_at_mut(rooms.2.min(64)).0,
+        &mut count,
     );
-    (number, held)
+    same(rt, &memory.with_size().0, &size);
+    lists(rt, number, (count, &kinds, &places, &texts), listed);
+    number
 }
+
+// The same of `bech32_descriptor_mend_two`, which tells no kinds.
+fn mend_two(
+    rt: &impl Abort,
+    alloc: Global,
+    size: usize,
+    text: &[u8],
+    (rooms, listed): ((usize, usize), Listed<'_>),
+) -> u32 {
+    let mut memory = Memory::leaked(alloc, size).expect(rt, "memory");
+    let (mut places, mut texts) = ([LENGTH_BEFORE; 4], [BEFORE; 64]);
+    let mut count = LENGTH_BEFORE;
+    let number = bech32_descriptor_mend_two(
+        text,
+        &mut memory,
+        places.split_at_mut(rooms.0.min(4)).0,
+        texts.split_at_mut(rooms.1.min(64)).0,
+        &mut count,
+    );
+    same(rt, &memory.with_size().0, &size);
+    lists(rt, number, (count, b"", &places, &texts), listed);
+    number
+}
+
+// One text that is counted, and not put.
+const ONE_WITHOUT_ROOM: Listed<'static> = (1, b"", &[], b"");
 
 // The number of bytes that `include/bech32.h` states for a text of this many.
 fn stated(text: &[u8]) -> usize {
     16384 + 400 * text.len().min(1024)
 }
 
-// Whether the buffers hold at most one text, and behind it are as they were.
-fn hold(held: &Buffers, want: Option<(u8, usize, usize, &[u8])>) -> bool {
-    let (kind, first, second, text) = want.unwrap_or((BEFORE, LENGTH_BEFORE, LENGTH_BEFORE, b""));
-    held.kinds == [kind, BEFORE]
-        && held.places == [first, second, LENGTH_BEFORE, LENGTH_BEFORE]
-        && has_front(&held.texts, text)
-}
-
-// With as many bytes of memory as are stated, all of which come back, it answers this number,
-// counts this many, and puts this text.
-fn answers(
-    rt: &impl Abort,
-    alloc: Global,
-    row: (&[u8], usize, (usize, usize, usize)),
-    want: (u32, usize, Option<(u8, usize, usize, &[u8])>),
-) {
-    let size = stated(row.0);
-    let mut memory = Memory::leaked(alloc, size).expect(rt, "memory");
-    let (number, held) = mend(&mut memory, row.0, row.1, row.2);
-    let found = (number, held.count, hold(&held, want.2));
-    same(rt, &found, &(want.0, want.1, true));
-    same(rt, &memory.with_size().0, &size);
-}
-
-const AMPLE: (usize, usize, usize) = (2, 4, 64);
-
 #[test]
 fn mends_descriptors(rt: HostRuntime) {
-    const ROWS: &[(&[u8], Option<(u8, usize, usize, &[u8])>)] = &[
-        (b"raw(deedbeef)#89f8spxm", Some((4, 6, 6, RAW))),
-        (b"raw(deadbeef)#89f8spxn", Some((4, 21, 21, RAW))),
-        (b"raw(deadbeef)?89f8spxm", Some((4, 13, 13, RAW))),
-        (b"raw(dea\xe4beef)#89f8spxm", Some((4, 7, 7, RAW))),
-        (b"raw(daedbeef)#89f8spxm", Some((1, 5, 6, RAW))),
-        (b"raw(deadbeef#)89f8spxm", Some((1, 12, 13, RAW))),
-        (b"raw(deadbeeff)#89f8spxm", Some((2, 12, 12, RAW))),
-        (b"raw(deadbeef)#89f8spxmm", Some((2, 22, 22, RAW))),
-        (b"raw(deadbef)#89f8spxm", Some((3, 10, 10, RAW))),
-        (b"raw(deadbeef)89f8spxm", Some((3, 13, 13, RAW))),
-        (RAW, None),
-        (b"", None),
+    const ROWS: &[(&[u8], Listed<'static>)] = &[
+        (CHANGED, (1, &[4], &[6, 6], RAW)),
+        (b"raw(deadbeef)#89f8spxn", (1, &[4], &[21, 21], RAW)),
+        (b"raw(deadbeef)?89f8spxm", (1, &[4], &[13, 13], RAW)),
+        (b"raw(dea\xe4beef)#89f8spxm", (1, &[4], &[7, 7], RAW)),
+        (SWAPPED, (1, &[1], &[5, 6], RAW)),
+        (b"raw(deadbeef#)89f8spxm", (1, &[1], &[12, 13], RAW)),
+        (b"raw(deadbeeff)#89f8spxm", (1, &[2], &[12, 12], RAW)),
+        (b"raw(deadbeef)#89f8spxmm", (1, &[2], &[22, 22], RAW)),
+        (b"raw(deadbef)#89f8spxm", (1, &[3], &[10, 10], RAW)),
+        (b"raw(deadbeef)89f8spxm", (1, &[3], &[13, 13], RAW)),
+        (RAW, NONE),
+        (b"", NONE),
     ];
     for &(text, want) in ROWS {
-        let count = usize::from(want.is_some());
-        answers(&rt, rt.alloc(), (text, 1, AMPLE), (0, count, want));
+        let number = mend(&rt, rt.alloc(), stated(text), (text, 1), (AMPLE, want));
+        same(&rt, &number, &0);
     }
-    // No character is to be changed.
-    answers(
-        &rt,
-        rt.alloc(),
-        (b"raw(deedbeef)#89f8spxm", 0, AMPLE),
-        (0, 0, None),
-    );
-    answers(
-        &rt,
-        rt.alloc(),
-        (b"raw(daedbeef)#89f8spxm", 0, AMPLE),
-        (0, 1, Some((1, 5, 6, RAW))),
-    );
 }
 
-// Where the text does not fit in one of the buffers, none is put.
+// Where no character is to be changed; and where the text does not fit in one of the buffers: then
+// none is put.
 #[test]
 fn mends_into_small_buffers(rt: HostRuntime) {
-    const ROOMS: &[(usize, usize, usize)] = &[(0, 4, 64), (2, 1, 64), (2, 0, 64), (2, 4, 21)];
-    for &room in ROOMS {
-        let row: (&[u8], usize, (usize, usize, usize)) = (b"raw(deedbeef)#89f8spxm", 1, room);
-        answers(&rt, rt.alloc(), row, (92, 1, None));
+    const ROWS: &[(&[u8], usize, Rooms, u32, Listed<'static>)] = &[
+        (CHANGED, 0, AMPLE, 0, NONE),
+        (SWAPPED, 0, AMPLE, 0, (1, &[1], &[5, 6], RAW)),
+        (CHANGED, 1, (0, 4, 64), 92, ONE_WITHOUT_ROOM),
+        (CHANGED, 1, (2, 1, 64), 92, ONE_WITHOUT_ROOM),
+        (CHANGED, 1, (2, 0, 64), 92, ONE_WITHOUT_ROOM),
+        (CHANGED, 1, (2, 4, 21), 92, ONE_WITHOUT_ROOM),
+        (CHANGED, 1, (1, 2, 22), 0, (1, &[4], &[6, 6], RAW)),
+    ];
+    for &(text, changed, rooms, want, listed) in ROWS {
+        let asked = (text, changed);
+        let number = mend(&rt, rt.alloc(), stated(text), asked, (rooms, listed));
+        same(&rt, &number, &want);
     }
-    let row: (&[u8], usize, (usize, usize, usize)) = (b"raw(deedbeef)#89f8spxm", 1, (1, 2, 22));
-    answers(&rt, rt.alloc(), row, (0, 1, Some((4, 6, 6, RAW))));
-}
-
-// A refusal needs no memory, and where there is none, it says so.
-#[test]
-fn refuses_descriptors(rt: HostRuntime) {
-    let long = [b'a'; 7501];
-    let rows: [(&[u8], usize, u32); 4] = [(RAW, 2, 4), (&long, 2, 4), (&long, 1, 89), (RAW, 1, 91)];
-    for (text, changed, want) in rows {
-        let mut memory = Memory::leaked(rt.alloc(), 0).expect(&rt, "memory");
-        let (number, held) = mend(&mut memory, text, changed, AMPLE);
-        let found = (number, held.count, hold(&held, None));
-        same(&rt, &found, &(want, LENGTH_BEFORE, true));
-    }
-}
-
-// The number that is returned with this memory and buffers of these sizes, and what they hold then.
-fn mend_two(memory: &mut Memory, text: &[u8], rooms: (usize, usize)) -> (u32, Buffers) {
-    let mut held = Buffers {
-        count: LENGTH_BEFORE,
-        kinds: [BEFORE; 2],
-        places: [LENGTH_BEFORE; 4],
-        texts: [BEFORE; 64],
-    };
-    let (places, _) = held.places.split_at_mut(rooms.0.min(4));
-    let (texts, _) = held.texts.split_at_mut(rooms.1.min(64));
-    let number = bech32_descriptor_mend_two(text, memory, places, texts, &mut held.count);
-    (number, held)
-}
-
-// With as many bytes of memory as are stated, all of which come back, it answers this number,
-// counts this many, and puts `RAW` with these places, or nothing.
-fn answers_two(
-    rt: &impl Abort,
-    alloc: Global,
-    row: (&[u8], (usize, usize)),
-    want: (u32, usize, Option<(usize, usize)>),
-) {
-    let size = 65536 + 4608 * row.0.len().min(1024);
-    let mut memory = Memory::leaked(alloc, size).expect(rt, "memory");
-    let (number, held) = mend_two(&mut memory, row.0, row.1);
-    let put = match want.2 {
-        Some((first, second)) => Some((BEFORE, first, second, RAW)),
-        None => None,
-    };
-    let found = (number, held.count, hold(&held, put));
-    same(rt, &found, &(want.0, want.1, true));
-    same(rt, &memory.with_size().0, &size);
 }
 
 // Two before the mark, one there and one behind it, two behind it, and the mark itself.
 #[test]
 fn mends_two_changed(rt: HostRuntime) {
-    const ROWS: &[(&[u8], Option<(usize, usize)>)] = &[
-        (b"raw(deedbeaf)#89f8spxm", Some((6, 10))),
-        (b"raw(dezebeef)#89f8spxm", Some((6, 7))),
-        (b"raw(deedbeef)#89f8spxn", Some((6, 21))),
-        (b"raw(deadbeef)#98f8spxm", Some((14, 15))),
-        (b"Raw(deadbeef)?89f8spxm", Some((0, 13))),
-        (b"raw(dea\xe4beef)#89f8spx\xff", Some((7, 21))),
-        (RAW, None),
-        (b"", None),
+    const ROWS: &[(&[u8], Listed<'static>)] = &[
+        (TWO_CHANGED, (1, b"", &[6, 10], RAW)),
+        (b"raw(dezebeef)#89f8spxm", (1, b"", &[6, 7], RAW)),
+        (b"raw(deedbeef)#89f8spxn", (1, b"", &[6, 21], RAW)),
+        (b"raw(deadbeef)#98f8spxm", (1, b"", &[14, 15], RAW)),
+        (b"Raw(deadbeef)?89f8spxm", (1, b"", &[0, 13], RAW)),
+        (b"raw(dea\xe4beef)#89f8spx\xff", (1, b"", &[7, 21], RAW)),
+        (RAW, NONE),
+        (b"", NONE),
     ];
     for &(text, want) in ROWS {
-        let count = usize::from(want.is_some());
-        answers_two(&rt, rt.alloc(), (text, (4, 64)), (0, count, want));
+        let size = 65536 + 4608 * text.len().min(1024);
+        let number = mend_two(&rt, rt.alloc(), size, text, ((4, 64), want));
+        same(&rt, &number, &0);
     }
-    for room in [(1, 64), (4, 21)] {
-        let row: (&[u8], (usize, usize)) = (b"raw(deedbeaf)#89f8spxm", room);
-        answers_two(&rt, rt.alloc(), row, (92, 1, None));
+    const SMALL: &[(usize, usize)] = &[(1, 64), (4, 21)];
+    for &rooms in SMALL {
+        let size = 65536 + 4608 * TWO_CHANGED.len().min(1024);
+        let put = (rooms, ONE_WITHOUT_ROOM);
+        let number = mend_two(&rt, rt.alloc(), size, TWO_CHANGED, put);
+        same(&rt, &number, &92);
     }
 }
 
-// A refusal needs no memory, and where there is none, it says so.
+// A refusal needs no memory, and where there is none, it says so. From seven bytes no descriptor
+// comes, from eight none by two of them changed: 0 of them are told, without memory.
 #[test]
-fn refuses_two_changed(rt: HostRuntime) {
+fn refuses_descriptors(rt: HostRuntime) {
     let long = [b'a'; 7501];
-    let rows: [(&[u8], u32); 2] = [(&long, 89), (RAW, 91)];
-    for (text, want) in rows {
-        let mut memory = Memory::leaked(rt.alloc(), 0).expect(&rt, "memory");
-        let (number, held) = mend_two(&mut memory, text, (4, 64));
-        let found = (number, held.count, hold(&held, None));
-        same(&rt, &found, &(want, LENGTH_BEFORE, true));
+    let rows: [(&[u8], usize, u32); 6] = [
+        (RAW, 2, 4),
+        (&long, 2, 4),
+        (&long, 1, 89),
+        (RAW, 1, 91),
+        (b"", 1, 0),
+        (b"#89f8sp", 1, 0),
+    ];
+    for (text, changed, want) in rows {
+        let number = mend(&rt, rt.alloc(), 0, (text, changed), (AMPLE, NONE));
+        same(&rt, &number, &want);
     }
-}
-
-// From seven bytes no descriptor comes, from eight none by two of them changed: 0 of them are told,
-// without memory.
-#[test]
-fn short_texts_need_no_memory(rt: HostRuntime) {
-    const ROWS: &[(&[u8], &[u8])] = &[(b"", b""), (b"#89f8sp", b"#89f8spx")];
-    for &(text, longer) in ROWS {
-        let mut memory = Memory::leaked(rt.alloc(), 0).expect(&rt, "memory");
-        let (number, held) = mend(&mut memory, text, 1, AMPLE);
-        let found = (number, held.count, hold(&held, None));
-        same(&rt, &found, &(0, 0, true));
-        let (number, held) = mend_two(&mut memory, longer, (4, 64));
-        let found = (number, held.count, hold(&held, None));
-        same(&rt, &found, &(0, 0, true));
+    let rows: [(&[u8], u32); 4] = [(&long, 89), (RAW, 91), (b"", 0), (b"#89f8spx", 0)];
+    for (text, want) in rows {
+        let number = mend_two(&rt, rt.alloc(), 0, text, ((4, 64), NONE));
+        same(&rt, &number, &want);
     }
 }

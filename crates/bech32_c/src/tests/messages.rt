@@ -1,33 +1,17 @@
 use crate::message::bech32_message;
-use crate::tests::{BEFORE, LENGTH_BEFORE, holds, is_untouched, same};
+use crate::tests::{BEFORE, LENGTH_BEFORE, answers, same};
 use crate::version::bech32_version;
 use std::process::Abort;
 
-const ROOM: usize = 100;
-
-// What a call returns for a buffer of this many bytes, and what the length and the buffer hold
-// then.
-fn said(number: u32, room: usize) -> (u32, usize, [u8; ROOM]) {
-    let (mut length, mut buffer) = (LENGTH_BEFORE, [BEFORE; ROOM]);
-    let (front, _) = buffer.split_at_mut(room.min(ROOM));
+// Puts the sentence of a number into a buffer of so many bytes.
+fn says(rt: &impl Abort, number: u32, room: usize, want: (u32, &[u8])) {
+    let (mut length, mut buffer) = (LENGTH_BEFORE, [BEFORE; 100]);
+    let (front, _) = buffer.split_at_mut(room.min(100));
     let answer = bech32_message(number, front, &mut length);
-    (answer, length, buffer)
+    answers(rt, answer, (length, &buffer), want);
 }
 
-// The sentence is put where there is room for it, and nowhere else.
-fn says(rt: &impl Abort, number: u32, sentence: &[u8]) {
-    for room in [ROOM, sentence.len()] {
-        let (answer, length, buffer) = said(number, room);
-        same(rt, &answer, &0);
-        holds(rt, &buffer, length, sentence);
-    }
-    if !sentence.is_empty() {
-        let (answer, length, buffer) = said(number, sentence.len().saturating_sub(1));
-        same(rt, &answer, &92);
-        is_untouched(rt, &buffer, length);
-    }
-}
-
+// A sentence is put where there is room for it, and nowhere else.
 #[test]
 fn says_sentences(rt: HostRuntime) {
     const ROWS: &[(u32, &[u8])] = &[
@@ -49,18 +33,17 @@ fn says_sentences(rt: HostRuntime) {
         (92, b"a buffer is too small"),
     ];
     for &(number, sentence) in ROWS {
-        says(&rt, number, sentence);
+        says(&rt, number, 100, (0, sentence));
+        says(&rt, number, sentence.len(), (0, sentence));
+        says(&rt, number, sentence.len().saturating_sub(1), (92, b""));
     }
+    same(&rt, &bech32_version(), &100);
 }
 
 #[test]
 fn says_nothing_of_other_numbers(rt: HostRuntime) {
     for number in [0, 3, 5, 16, 24, 54, 55, 81, 90, 93, 256, u32::MAX] {
-        says(&rt, number, b"");
+        says(&rt, number, 100, (0, b""));
+        says(&rt, number, 0, (0, b""));
     }
-}
-
-#[test]
-fn says_its_version(rt: HostRuntime) {
-    same(&rt, &bech32_version(), &100);
 }

@@ -1,70 +1,38 @@
 use crate::near_edits::bech32_near_edits;
-use crate::tests::{BEFORE, LENGTH_BEFORE, has_front, same};
+use crate::tests::{ADDRESS, BEFORE, LENGTH_BEFORE, Listed, NONE, lists, same};
 use caller_memory::Memory;
 use std::alloc::Global;
 use std::process::Abort;
 
-// What the buffers and the count hold.
-#[derive(Clone, Copy)]
-struct Buffers {
-    count: usize,
-    kinds: [u8; 4],
-    locations: [usize; 4],
-    texts: [u8; 128],
-}
-
 // How many items there is room for in each buffer.
-#[derive(Clone, Copy)]
-struct Rooms {
-    kinds: usize,
-    locations: usize,
-    texts: usize,
-}
+type Rooms = (usize, usize, usize);
 
-const AMPLE: Rooms = Rooms {
-    kinds: 4,
-    locations: 4,
-    texts: 128,
-};
+const AMPLE: Rooms = (4, 4, 128);
 
-// Some edits: of each its kind and its location; and the texts, one behind another.
-type Edits<'a> = (&'a [(u8, usize)], &'a [u8]);
-
-// What `bech32_near_edits` returns with this memory and buffers of these sizes, and what they hold
-// then.
-fn edits(memory: &mut Memory, row: (u32, &[u8]), rooms: Rooms) -> (u32, Buffers) {
-    let mut held = Buffers {
-        count: LENGTH_BEFORE,
-        kinds: [BEFORE; 4],
-        locations: [LENGTH_BEFORE; 4],
-        texts: [BEFORE; 128],
-    };
-    let (kinds, _) = held.kinds.split_at_mut(rooms.kinds.min(4));
-    let (locations, _) = held.locations.split_at_mut(rooms.locations.min(4));
-    let (texts, _) = held.texts.split_at_mut(rooms.texts.min(128));
+// The number that `bech32_near_edits` returns with so many bytes of memory, all of which come back.
+// Where it is 0 or 92, these edits are listed.
+fn near_edits(
+    rt: &impl Abort,
+    alloc: Global,
+    size: usize,
+    (checksum, text): (u32, &[u8]),
+    (rooms, edits): (Rooms, Listed<'_>),
+) -> u32 {
+    let mut memory = Memory::leaked(alloc, size).expect(rt, "memory");
+    let (mut kinds, mut locations, mut texts) = ([BEFORE; 4], [LENGTH_BEFORE; 4], [BEFORE; 128]);
+    let mut count = LENGTH_BEFORE;
     let number = bech32_near_edits(
-        row.0,
-        row.1,
-        memory,
-        kinds,
-        locations,
-        texts,
-        &mut held.count,
+        checksum,
+        text,
+        &mut memory,
+        kinds.split_at_mut(rooms.0.min(4)).0,
+        locations.split_at_mut(rooms.1.min(4)).0,
+        texts.split_at_mut(rooms.2.min(128)).0,
+        &mut count,
     );
-    (number, held)
-}
-
-// The buffers hold these edits, and behind them they are as they were.
-fn hold(rt: &impl Abort, held: &Buffers, want: Edits<'_>) {
-    for at in 0..4 {
-        let (kind, location) = match want.0.get(at) {
-            Some(edit) => *edit,
-            None => (BEFORE, LENGTH_BEFORE),
-        };
-        let found = (held.kinds.get(at), held.locations.get(at));
-        same(rt, &found, &(Some(&kind), Some(&location)));
-    }
-    assert!(rt; has_front(&held.texts, want.1));
+    same(rt, &memory.with_size().0, &size);
+    lists(rt, number, (count, &kinds, &locations, &texts), edits);
+    number
 }
 
 // The number of bytes that `include/bech32.h` states for a text of this many.
@@ -72,70 +40,52 @@ fn stated(text: &[u8]) -> usize {
     4096 + 16 * text.len().min(1024)
 }
 
-// With this many bytes of memory, all of which come back, it answers this number, counts this many,
-// and puts these edits.
-fn answers(
-    rt: &impl Abort,
-    alloc: Global,
-    row: (u32, &[u8]),
-    rooms: Rooms,
-    want: (u32, usize, Edits<'_>),
-) {
-    let size = stated(row.1);
-    let mut memory = Memory::leaked(alloc, size).expect(rt, "memory");
-    let (number, held) = edits(&mut memory, row, rooms);
-    same(rt, &(number, held.count), &(want.0, want.1));
-    hold(rt, &held, want.2);
-    same(rt, &memory.with_size().0, &size);
-}
+// The address with two characters swapped, one left out, and one doubled.
+const SWAPPED: &[u8] = b"bc1qw508d6qejxtdg4y5r3zravary0c5xw7kv8f3t4";
 
-// An address of BIP-173.
-const ADDRESS: &[u8] = b"bc1qw508d6qejxtdg4y5r3zarvary0c5xw7kv8f3t4";
+const LEFT_OUT: &[u8] = b"BC1QW508D6QEJXTDG4Y5R3ZRVARY0C5XW7KV8F3T4";
 
+const DOUBLED: &[u8] = b"bc1qw508d6qejxtdg4y5r33zarvary0c5xw7kv8f3t4";
+
+// A text with two edits, of 17 and of 19 characters.
+const TWO: &[u8] = b"ii2134hk2xmat79tqp";
+
+const BOTH: Listed<'static> = (2, &[2, 3], &[1, 1], b"ii2134hk2xmat79tpii2134hk2xmat79tqqp");
+
+// The first of them alone, and neither.
+const ONE_OF_TWO: Listed<'static> = (2, &[2], &[1], b"ii2134hk2xmat79tp");
+
+const NONE_OF_TWO: Listed<'static> = (2, b"", &[], b"");
+
+// Where the edits do not fit in one of the buffers, as many stand in all as fit in each.
 #[test]
 fn lists_near_edits(rt: HostRuntime) {
-    // Two characters of the address swapped, one left out, one doubled.
-    const ROWS: &[(u32, &[u8], Edits<'static>)] = &[
-        (
-            1,
-            b"bc1qw508d6qejxtdg4y5r3zravary0c5xw7kv8f3t4",
-            (&[(1, 17)], ADDRESS),
-        ),
-        (
-            1,
-            b"BC1QW508D6QEJXTDG4Y5R3ZRVARY0C5XW7KV8F3T4",
-            (&[(3, 18)], ADDRESS),
-        ),
-        (
-            1,
-            b"bc1qw508d6qejxtdg4y5r33zarvary0c5xw7kv8f3t4",
-            (&[(2, 20)], ADDRESS),
-        ),
-        (1, ADDRESS, (&[], b"")),
-        (
-            1,
-            b"ii2134hk2xmat79tqp",
-            (&[(2, 1), (3, 1)], b"ii2134hk2xmat79tpii2134hk2xmat79tqqp"),
-        ),
-        (2, b"a1lqfn3", (&[(3, 0)], b"a1lqfn3a")),
-        (2, b"a12uel5", (&[], b"")),
-        (1, b"bc1", (&[], b"")),
+    const ROWS: &[(u32, &[u8], Rooms, u32, Listed<'static>)] = &[
+        (1, SWAPPED, AMPLE, 0, (1, &[1], &[17], ADDRESS)),
+        (1, LEFT_OUT, AMPLE, 0, (1, &[3], &[18], ADDRESS)),
+        (1, DOUBLED, AMPLE, 0, (1, &[2], &[20], ADDRESS)),
+        (1, ADDRESS, AMPLE, 0, NONE),
+        (1, TWO, AMPLE, 0, BOTH),
+        (2, b"a1lqfn3", AMPLE, 0, (1, &[3], &[0], b"a1lqfn3a")),
+        (2, b"a12uel5", AMPLE, 0, NONE),
+        (1, b"bc1", AMPLE, 0, NONE),
+        (1, TWO, (2, 2, 36), 0, BOTH),
+        (1, TWO, (4, 4, 35), 92, ONE_OF_TWO),
+        (1, TWO, (4, 4, 17), 92, ONE_OF_TWO),
+        (1, TWO, (4, 4, 16), 92, NONE_OF_TWO),
+        (1, TWO, (1, 4, 128), 92, ONE_OF_TWO),
+        (1, TWO, (4, 1, 128), 92, ONE_OF_TWO),
+        (1, TWO, (0, 4, 128), 92, NONE_OF_TWO),
+        (1, TWO, (4, 0, 128), 92, NONE_OF_TWO),
     ];
-    for &(checksum, text, want) in ROWS {
-        let want = (0, want.0.len(), want);
-        answers(&rt, rt.alloc(), (checksum, text), AMPLE, want);
+    for &(checksum, text, rooms, number, want) in ROWS {
+        let row = (checksum, text);
+        let found = near_edits(&rt, rt.alloc(), stated(text), row, (rooms, want));
+        same(&rt, &found, &number);
     }
 }
 
-// With no memory it answers this number, and writes nothing.
-fn refuses(rt: &impl Abort, alloc: Global, row: (u32, &[u8]), want: u32) {
-    let mut memory = Memory::leaked(alloc, 0).expect(rt, "memory");
-    let (number, held) = edits(&mut memory, row, AMPLE);
-    same(rt, &(number, held.count), &(want, LENGTH_BEFORE));
-    hold(rt, &held, (&[], b""));
-}
-
-// A refusal of a number or of the text needs no memory.
+// A refusal of a number or of the text needs no memory, nor does a text of which there is no edit.
 #[test]
 fn refuses_to_edit(rt: HostRuntime) {
     const ROWS: &[(u32, &[u8], u32)] = &[
@@ -148,82 +98,25 @@ fn refuses_to_edit(rt: HostRuntime) {
         (2, b"pQ", 22),
         (2, b"qpzry", 23),
         (1, b"", 23),
+        (1, ADDRESS, 0),
+        (2, SWAPPED, 0),
+        (2, b"a12uel5", 0),
+        (1, b"bc1", 0),
     ];
     for &(checksum, text, want) in ROWS {
-        refuses(&rt, rt.alloc(), (checksum, text), want);
+        let number = near_edits(&rt, rt.alloc(), 0, (checksum, text), (AMPLE, NONE));
+        same(&rt, &number, &want);
     }
 }
 
-// Where there is no such text, no memory is wanted.
-#[test]
-fn lists_no_edits_without_memory(rt: HostRuntime) {
-    const ROWS: &[(u32, &[u8])] = &[
-        (1, b"bc1qw508d6qejxtdg4y5r3zarvary0c5xw7kv8f3t4"),
-        (2, b"bc1qw508d6qejxtdg4y5r3zravary0c5xw7kv8f3t4"),
-        (2, b"a12uel5"),
-        (1, b"bc1"),
-    ];
-    for &row in ROWS {
-        let mut memory = Memory::leaked(rt.alloc(), 0).expect(&rt, "memory");
-        let (number, held) = edits(&mut memory, row, AMPLE);
-        same(&rt, &(number, held.count), &(0, 0));
-        hold(&rt, &held, (&[], b""));
-    }
-}
-
-// A text with two edits, of 17 and of 19 characters.
-const TWO: (u32, &[u8]) = (1, b"ii2134hk2xmat79tqp");
-
-const ONE: Edits<'static> = (&[(2, 1)], b"ii2134hk2xmat79tp");
-
-const BOTH: Edits<'static> = (&[(2, 1), (3, 1)], b"ii2134hk2xmat79tpii2134hk2xmat79tqqp");
-
-// Where they do not fit in one of the buffers, as many stand in all as fit in each.
-#[test]
-fn lists_edits_into_small_buffers(rt: HostRuntime) {
-    const ROWS: &[(usize, usize, usize, (u32, usize, Edits<'static>))] = &[
-        (2, 2, 36, (0, 2, BOTH)),
-        (4, 4, 35, (92, 2, ONE)),
-        (4, 4, 17, (92, 2, ONE)),
-        (4, 4, 16, (92, 2, (&[], b""))),
-        (1, 4, 128, (92, 2, ONE)),
-        (4, 1, 128, (92, 2, ONE)),
-        (0, 4, 128, (92, 2, (&[], b""))),
-        (4, 0, 128, (92, 2, (&[], b""))),
-    ];
-    for &(kinds, locations, texts, want) in ROWS {
-        let rooms = Rooms {
-            kinds,
-            locations,
-            texts,
-        };
-        answers(&rt, rt.alloc(), TWO, rooms, want);
-    }
-}
-
-// The number with this many bytes of memory, which come back: 0 with both edits, or else nothing is
-// written.
-fn number_within(rt: &impl Abort, alloc: Global, size: usize) -> u32 {
-    let mut memory = Memory::leaked(alloc, size).expect(rt, "memory");
-    let (number, held) = edits(&mut memory, TWO, AMPLE);
-    if number == 0 {
-        same(rt, &held.count, &2);
-        hold(rt, &held, BOTH);
-    } else {
-        same(rt, &held.count, &LENGTH_BEFORE);
-        hold(rt, &held, (&[], b""));
-    }
-    same(rt, &memory.with_size().0, &size);
-    number
-}
-
-// From some size on memory suffices, at the latest from the stated one.
+// From some size on memory suffices, at the latest from the stated one, which the last round has.
 #[test]
 fn lists_edits_or_wants_memory(rt: HostRuntime) {
-    let enough = stated(TWO.1);
+    let enough = stated(TWO);
     let mut before = 91;
-    for size in (0..enough).step_by(128).chain([enough]) {
-        let number = number_within(&rt, rt.alloc(), size);
+    for round in 0..36 {
+        let size = enough.min(128 * round);
+        let number = near_edits(&rt, rt.alloc(), size, (1, TWO), (AMPLE, BOTH));
         assert!(rt; number == 0 || number == before);
         before = number;
     }

@@ -1,7 +1,5 @@
-use super::{memory_for, same};
+use super::{memory_for, proposes_within, same};
 use crate::encode::codex32_encode;
-use crate::propose::{codex32_propose, codex32_propose_long};
-use caller_memory::Memory;
 use std::alloc::Global;
 use std::process::Abort;
 
@@ -17,73 +15,34 @@ fn string_of(rt: &impl Abort, count: usize) -> ([u8; ROOM], usize) {
     (text, length.min(ROOM))
 }
 
-// The same with another character at each of these places.
-fn changed(text: &[u8; ROOM], places: &[usize]) -> [u8; ROOM] {
-    let mut other = *text;
+// The same with another character at each of these places: this one, or `p` where it is this one.
+fn altered(text: &[u8; ROOM], places: &[usize], other: u8) -> [u8; ROOM] {
+    let mut altered = *text;
     for place in places {
-        if let Some(c) = other.get_mut(*place) {
-            *c = if *c == b'q' { b'p' } else { b'q' };
+        if let Some(c) = altered.get_mut(*place) {
+            *c = if *c == other { b'p' } else { other };
         }
     }
-    other
+    altered
 }
 
-// The same with characters at these places that cannot be read.
-fn torn(text: &[u8; ROOM], places: &[usize]) -> [u8; ROOM] {
-    let mut other = *text;
-    for place in places {
-        if let Some(c) = other.get_mut(*place) {
-            *c = b'?';
-        }
+// Fails where fewer bytes of memory, a multiple of 16, suffice for a text of the length of this
+// nearest one, or where these do not, or some more.
+fn wants(rt: &impl Abort, alloc: Global, text: &[u8; ROOM], nearest: &[u8], least: usize) {
+    let (front, _) = text.split_at(nearest.len().min(ROOM));
+    let damaged = (front, front.len() > 93);
+    for size in (0..least).step_by(16) {
+        let number = proposes_within(rt, alloc, size, damaged, (ROOM, nearest));
+        same(rt, &(size, number == 0), &(size, false));
     }
-    other
-}
-
-// The number of the answer to a text with this many bytes of memory.
-fn answer_with(rt: &impl Abort, alloc: Global, size: usize, text: &[u8]) -> u32 {
-    let mut memory = Memory::leaked(alloc, size).expect(rt, "memory");
-    let (mut proposed, mut length) = ([0; ROOM], 0);
-    if text.len() <= 93 {
-        codex32_propose(text, &mut memory, &mut proposed, &mut length)
-    } else {
-        codex32_propose_long(text, &mut memory, &mut proposed, &mut length)
-    }
-}
-
-// The least number of bytes of memory, a multiple of 16, that suffices for a text.
-fn least_for(rt: &impl Abort, alloc: Global, text: &[u8]) -> usize {
-    for size in (0..memory_for(text)).step_by(16) {
-        if answer_with(rt, alloc, size, text) == 0 {
-            return size;
-        }
-    }
-    memory_for(text)
-}
-
-// Fails where another number of bytes is the least for a text of this many characters, or where
-// some more do not suffice.
-fn wants(rt: &impl Abort, alloc: Global, text: &[u8; ROOM], long: usize, least: usize) {
-    let (front, _) = text.split_at(long.min(ROOM));
-    same(rt, &least_for(rt, alloc, front), &least);
     for size in (least..memory_for(front)).step_by(512) {
-        same(rt, &answer_with(rt, alloc, size, front), &0);
+        let number = proposes_within(rt, alloc, size, damaged, (ROOM, nearest));
+        same(rt, &(size, number == 0), &(size, true));
     }
 }
 
-// The same of a string of this many bytes: as it stands, with four wrong characters, and with eight
-// that cannot be read.
-fn wants_of_string(rt: &impl Abort, alloc: Global, count: usize, long: usize, least: [usize; 3]) {
-    let (text, length) = string_of(rt, count);
-    same(rt, &length, &long);
-    let wrong = changed(&text, &[3, 10, 20, 40]);
-    let unreadable = torn(&text, &[3, 10, 12, 20, 30, 31, 40, 45]);
-    let [whole, with_wrong, with_unreadable] = least;
-    wants(rt, alloc, &text, long, whole);
-    wants(rt, alloc, &wrong, long, with_wrong);
-    wants(rt, alloc, &unreadable, long, with_unreadable);
-}
-
-// The numbers are those of memory with one block: an arena of 496 bytes, or of a page.
+// The numbers are those of memory with one block: an arena of 496 bytes, or of a page; for a string
+// as it stands, with four wrong characters, and with eight that cannot be read.
 #[test]
 fn names_the_least_memory(rt: HostRuntime) {
     const ROWS: &[(usize, usize, [usize; 3])] = &[
@@ -94,6 +53,13 @@ fn names_the_least_memory(rt: HostRuntime) {
         (64, 127, [496, 496, 4080]),
     ];
     for &(count, long, least) in ROWS {
-        wants_of_string(&rt, rt.alloc(), count, long, least);
+        let (text, length) = string_of(&rt, count);
+        same(&rt, &length, &long);
+        let wrong = altered(&text, &[3, 10, 20, 40], b'q');
+        let unreadable = altered(&text, &[3, 10, 12, 20, 30, 31, 40, 45], b'?');
+        let (nearest, _) = text.split_at(long.min(ROOM));
+        wants(&rt, rt.alloc(), &text, nearest, least[0]);
+        wants(&rt, rt.alloc(), &wrong, nearest, least[1]);
+        wants(&rt, rt.alloc(), &unreadable, nearest, least[2]);
     }
 }

@@ -1,20 +1,20 @@
-use super::{BEFORE, BYTE_BEFORE, LENGTH_BEFORE, memory_for, same, written_in};
+use super::{BEFORE, BYTE_BEFORE, LENGTH_BEFORE, answers, proposes_within, same};
 use crate::derive::codex32_derive;
 use crate::encode::{codex32_encode, codex32_encode_payload};
-use crate::propose::codex32_propose_long;
 use crate::share::codex32_share;
-use caller_memory::Memory;
-use std::alloc::Global;
 use std::process::Abort;
 
 const ROOM: usize = 160;
 
-// The answer to a text with a buffer of this many bytes, and what all hold then.
-fn told(text: &[u8], room: usize) -> (u32, (u32, [u8; 4], u32), (usize, [u8; ROOM])) {
-    let mut buffer = [BYTE_BEFORE; ROOM];
-    let mut length = LENGTH_BEFORE;
-    let mut identifier = [BYTE_BEFORE; 4];
-    let (mut threshold, mut share_index) = (BEFORE, BEFORE);
+// The threshold, the identifier and the index of a share; and what they are before a call.
+type Header = (u32, [u8; 4], u32);
+
+const NO_HEADER: Header = (BEFORE, [BYTE_BEFORE; 4], BEFORE);
+
+// Tells the parts of a share, with a buffer of this many bytes.
+fn tells(rt: &impl Abort, text: &[u8], room: usize, header: Header, want: (u32, &[u8])) {
+    let (mut length, mut buffer) = (LENGTH_BEFORE, [BYTE_BEFORE; ROOM]);
+    let (mut threshold, mut identifier, mut share_index) = NO_HEADER;
     let (front, _) = buffer.split_at_mut(room.min(ROOM));
     let number = codex32_share(
         text,
@@ -24,36 +24,8 @@ fn told(text: &[u8], room: usize) -> (u32, (u32, [u8; 4], u32), (usize, [u8; ROO
         front,
         &mut length,
     );
-    (
-        number,
-        (threshold, identifier, share_index),
-        (length, buffer),
-    )
-}
-
-fn tells(rt: &impl Abort, text: &[u8], header: (u32, [u8; 4], char), bytes: &[u8]) {
-    let (threshold, identifier, share_index) = header;
-    let want = (threshold, identifier, u32::from(share_index));
-    same(
-        rt,
-        &told(text, ROOM),
-        &(0, want, written_in::<ROOM>(0, bytes)),
-    );
-    same(
-        rt,
-        &told(text, bytes.len()),
-        &(0, want, written_in::<ROOM>(0, bytes)),
-    );
-    tells_nothing(rt, text, bytes.len().saturating_sub(1), 92);
-}
-
-fn tells_nothing(rt: &impl Abort, text: &[u8], room: usize, number: u32) {
-    let nothing = (BEFORE, [BYTE_BEFORE; 4], BEFORE);
-    same(
-        rt,
-        &told(text, room),
-        &(number, nothing, written_in::<ROOM>(number, b"")),
-    );
+    same(rt, &(threshold, identifier, share_index), &header);
+    answers(rt, number, (length, &buffer), want);
 }
 
 const SECRET: [u8; 16] = [
@@ -70,18 +42,25 @@ const LONG_SECRET: [u8; 64] = [
 // Of BIP-93: the secret of its first two examples, and the long string of its last.
 #[test]
 fn tells_known_strings(rt: HostRuntime) {
-    tells(
-        &rt,
-        b"MS12NAMES6XQGUZTTXKEQNJSJZV4JV3NZ5K3KWGSPHUH6EVW",
-        (2, *b"name", 's'),
-        &SECRET,
-    );
-    tells(
-        &rt,
-        b"MS100C8VSM32ZXFGUHPCHTLUPZRY9X8GF2TVDW0S3JN54KHCE6MUA7LQPZYGSFJD6AN074RXVCEMLH8WU3TK925ACDEFGHJKLMNPQRSTUVWXY06FHPV80UNDVARHRAK",
-        (0, *b"0c8v", 's'),
-        &LONG_SECRET,
-    );
+    const ROWS: &[(&[u8], (u32, [u8; 4], char), &[u8])] = &[
+        (
+            b"MS12NAMES6XQGUZTTXKEQNJSJZV4JV3NZ5K3KWGSPHUH6EVW",
+            (2, *b"name", 's'),
+            &SECRET,
+        ),
+        (
+            b"MS100C8VSM32ZXFGUHPCHTLUPZRY9X8GF2TVDW0S3JN54KHCE6MUA7LQPZYGSFJD6AN074RXVCEMLH8WU3TK925ACDEFGHJKLMNPQRSTUVWXY06FHPV80UNDVARHRAK",
+            (0, *b"0c8v", 's'),
+            &LONG_SECRET,
+        ),
+    ];
+    for &(text, (threshold, identifier, index), bytes) in ROWS {
+        let header = (threshold, identifier, u32::from(index));
+        tells(&rt, text, ROOM, header, (0, bytes));
+        tells(&rt, text, bytes.len(), header, (0, bytes));
+        let less = bytes.len().saturating_sub(1);
+        tells(&rt, text, less, NO_HEADER, (92, b""));
+    }
 }
 
 #[test]
@@ -96,14 +75,19 @@ fn tells_nothing_of_others(rt: HostRuntime) {
         (b"ms12xh04fm5amh7k7ay0jj7mgh3ndf4zdx0dmxgdrhz38hawaewk", 87),
     ];
     for &(text, want) in ROWS {
-        tells_nothing(&rt, text, 0, want);
+        tells(&rt, text, 0, NO_HEADER, (want, b""));
     }
 }
 
-// The answer to a header and bytes with a buffer of this many bytes, and what it holds then.
-fn encoded(header: (u32, &[u8], char), bytes: &[u8], room: usize) -> (u32, (usize, [u8; ROOM])) {
-    let mut buffer = [BYTE_BEFORE; ROOM];
-    let mut length = LENGTH_BEFORE;
+// The string of a header and bytes, in a buffer of this many bytes.
+fn encodes(
+    rt: &impl Abort,
+    header: (u32, &[u8], char),
+    bytes: &[u8],
+    room: usize,
+    want: (u32, &[u8]),
+) {
+    let (mut length, mut buffer) = (LENGTH_BEFORE, [BYTE_BEFORE; ROOM]);
     let (front, _) = buffer.split_at_mut(room.min(ROOM));
     let number = codex32_encode(
         header.0,
@@ -113,7 +97,7 @@ fn encoded(header: (u32, &[u8], char), bytes: &[u8], room: usize) -> (u32, (usiz
         front,
         &mut length,
     );
-    (number, (length, buffer))
+    answers(rt, number, (length, &buffer), want);
 }
 
 const BYTES: [u8; 16] = [
@@ -143,19 +127,19 @@ fn encodes_known_strings(rt: HostRuntime) {
         ((9, b"lcr0", 'r'), &FIFTEEN, 0, 55),
     ];
     for &(header, given, room, want) in ROWS {
-        let answer = (want, written_in::<ROOM>(want, text));
-        same(&rt, &encoded(header, given, room), &answer);
+        encodes(&rt, header, given, room, (want, text));
     }
 }
 
-// The answer to a header and a payload with a buffer of this many bytes, and what it holds then.
-fn encoded_payload(
+// The string of a header and a payload, in a buffer of this many bytes.
+fn encodes_payload(
+    rt: &impl Abort,
     header: (u32, &[u8], char),
     payload: &[u8],
     room: usize,
-) -> (u32, (usize, [u8; ROOM])) {
-    let mut buffer = [BYTE_BEFORE; ROOM];
-    let mut length = LENGTH_BEFORE;
+    want: (u32, &[u8]),
+) {
+    let (mut length, mut buffer) = (LENGTH_BEFORE, [BYTE_BEFORE; ROOM]);
     let (front, _) = buffer.split_at_mut(room.min(ROOM));
     let number = codex32_encode_payload(
         header.0,
@@ -165,7 +149,7 @@ fn encoded_payload(
         front,
         &mut length,
     );
-    (number, (length, buffer))
+    answers(rt, number, (length, &buffer), want);
 }
 
 // Of BIP-93: the first share of its second example, the long string of its last, and the payload of
@@ -192,10 +176,9 @@ fn encodes_known_payloads(rt: HostRuntime) {
         ((0, b"0c8v", 's'), PAYLOAD, 127, LAST),
     ];
     for &(header, payload, room, text) in ROWS {
-        let answer = (0, written_in::<ROOM>(0, text));
-        same(&rt, &encoded_payload(header, payload, room), &answer);
-        let lacking = encoded_payload(header, payload, text.len().saturating_sub(1));
-        same(&rt, &lacking, &(92, written_in::<ROOM>(92, text)));
+        encodes_payload(&rt, header, payload, room, (0, text));
+        let less = text.len().saturating_sub(1);
+        encodes_payload(&rt, header, payload, less, (92, b""));
     }
 }
 
@@ -219,23 +202,22 @@ fn encodes_no_other_payloads(rt: HostRuntime) {
         ((2, b"name", 'a'), &[b'q'; 1000], 55),
     ];
     for &(header, payload, want) in ROWS {
-        let answer = (want, written_in::<ROOM>(want, b""));
-        same(&rt, &encoded_payload(header, payload, 0), &answer);
+        encodes_payload(&rt, header, payload, 0, (want, b""));
     }
 }
 
-// The answer to texts at an index with a buffer of this many bytes, and what it holds then.
-fn derived(
+// The string at an index that texts give, in a buffer of this many bytes.
+fn derives(
+    rt: &impl Abort,
     index: char,
-    texts: &[u8],
-    lengths: &[usize],
+    (texts, lengths): (&[u8], &[usize]),
     room: usize,
-) -> (u32, (usize, [u8; ROOM])) {
-    let mut buffer = [BYTE_BEFORE; ROOM];
-    let mut length = LENGTH_BEFORE;
+    want: (u32, &[u8]),
+) {
+    let (mut length, mut buffer) = (LENGTH_BEFORE, [BYTE_BEFORE; ROOM]);
     let (front, _) = buffer.split_at_mut(room.min(ROOM));
     let number = codex32_derive(u32::from(index), texts, lengths, front, &mut length);
-    (number, (length, buffer))
+    answers(rt, number, (length, &buffer), want);
 }
 
 const PAIR: &[u8] =
@@ -267,8 +249,7 @@ fn derives_known_strings(rt: HostRuntime) {
         ('b', b"", ROOM, 86),
     ];
     for &(index, text, room, want) in ROWS {
-        let answer = (want, written_in::<ROOM>(want, text));
-        same(&rt, &derived(index, PAIR, &[48, 48], room), &answer);
+        derives(&rt, index, (PAIR, &[48, 48]), room, (want, text));
     }
 }
 
@@ -308,16 +289,10 @@ fn derives_nothing_of_others(rt: HostRuntime) {
         ),
     ];
     for &(texts, lengths, want) in ROWS {
-        let answer = (want, written_in::<ROOM>(want, b""));
-        same(&rt, &derived('d', texts, lengths, ROOM), &answer);
+        derives(&rt, 'd', (texts, lengths), ROOM, (want, b""));
     }
-    let unshared = derived(
-        '5',
-        b"ms106rqlsplce96uty4tpqekl7q3gvhjvfmtdu4fkvexl7gg",
-        &[48],
-        ROOM,
-    );
-    same(&rt, &unshared, &(84, written_in::<ROOM>(84, b"")));
+    let unshared: &[u8] = b"ms106rqlsplce96uty4tpqekl7q3gvhjvfmtdu4fkvexl7gg";
+    derives(&rt, '5', (unshared, &[48]), ROOM, (84, b""));
 }
 
 const LONG: &[u8] =
@@ -333,49 +308,25 @@ const WRONG: &[u8] =
 const WORSE: &[u8] =
     b"ms19tpq7q22sclaxxuxwk0q22xjc8mt2fklqgkffmsc4elduv887tcpkn68gvf82sxt28l0d0lqdxpmmpnq4cwcpc692rrhwr7uetnhdllmjv6xeengd0tk7sgcsq";
 
-// The answer to a damaged long text with this memory and a buffer of this many bytes, and what the
-// length and the buffer hold then.
-fn proposal_long(memory: &mut Memory, text: &[u8], room: usize) -> (u32, (usize, [u8; ROOM])) {
-    let mut buffer = [BYTE_BEFORE; ROOM];
-    let mut length = LENGTH_BEFORE;
-    let (front, _) = buffer.split_at_mut(room.min(ROOM));
-    let number = codex32_propose_long(text, memory, front, &mut length);
-    (number, (length, buffer))
-}
-
-// Fails where the answer with this many bytes of memory is another, or they do not come back.
-fn proposes_long(
-    rt: &impl Abort,
-    alloc: Global,
-    (text, size, room): (&[u8], usize, usize),
-    want: u32,
-) {
-    let mut memory = Memory::leaked(alloc, size).expect(rt, "memory");
-    let answer = (want, written_in::<ROOM>(want, LONG));
-    same(rt, &proposal_long(&mut memory, text, room), &answer);
-    same(rt, &memory.with_size().0, &size);
-}
+// The number of bytes that `include/codex32.h` states for a text of 125.
+const OF_LONG: usize = 16384 + 8 * 125;
 
 // The long string is that of a reference model.
 #[test]
 fn proposes_long_texts(rt: HostRuntime) {
-    const ROWS: &[(&[u8], usize, u32)] = &[
-        (LONG, ROOM, 0),
-        (TORN, ROOM, 0),
-        (WRONG, 125, 0),
-        (WRONG, 124, 92),
-        (WORSE, ROOM, 34),
+    const ROWS: &[(&[u8], usize, usize, u32)] = &[
+        (LONG, OF_LONG, ROOM, 0),
+        (TORN, OF_LONG, ROOM, 0),
+        (WRONG, OF_LONG, 125, 0),
+        (WRONG, OF_LONG, 124, 92),
+        (WORSE, OF_LONG, ROOM, 34),
+        (WRONG, 47, ROOM, 91),
+        (b"Ms1?", 0, ROOM, 22),
+        (PAIR, 0, ROOM, 82),
+        (b"\xff", 0, ROOM, 2),
     ];
-    for &(text, room, want) in ROWS {
-        proposes_long(&rt, rt.alloc(), (text, memory_for(LONG), room), want);
-    }
-    const WITHOUT_MEMORY: &[(&[u8], usize, u32)] = &[
-        (WRONG, 47, 91),
-        (b"Ms1?", 0, 22),
-        (PAIR, 0, 82),
-        (b"\xff", 0, 2),
-    ];
-    for &(text, size, want) in WITHOUT_MEMORY {
-        proposes_long(&rt, rt.alloc(), (text, size, ROOM), want);
+    for &(text, size, room, want) in ROWS {
+        let number = proposes_within(&rt, rt.alloc(), size, (text, true), (room, LONG));
+        same(&rt, &number, &want);
     }
 }

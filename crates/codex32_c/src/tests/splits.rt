@@ -1,4 +1,4 @@
-use super::{BYTE_BEFORE, LENGTH_BEFORE, same, written_in};
+use super::{BYTE_BEFORE, LENGTH_BEFORE, answers, has_front, same, written};
 use crate::recover::codex32_recover;
 use crate::split::codex32_split;
 use std::process::Abort;
@@ -17,40 +17,31 @@ const RANDOM: [u8; 52] = [
     0x5d, 0x30, 0xd2, 0x8e,
 ];
 
-// The answer to so many shares of a secret with a buffer of so many bytes, and what the length and
-// it hold then.
-fn split(
-    (threshold, identifier): (u32, &[u8]),
-    secret: &[u8],
-    random: &[u8],
-    count: usize,
-    room: usize,
-) -> (u32, (usize, [u8; ROOM])) {
-    let mut buffer = [BYTE_BEFORE; ROOM];
-    let mut length = LENGTH_BEFORE;
+// What is split: the threshold, the identifier, the secret, and so many first ones of random bytes.
+type Split<'a> = (u32, &'a [u8], &'a [u8], &'a [u8]);
+
+// Splits into so many shares, with a buffer of so many bytes. Where the number is 0, the length is
+// that of each text, and the texts are put, one behind another; else nothing is written.
+fn splits(
+    rt: &impl Abort,
+    given: Split<'_>,
+    (count, room): (usize, usize),
+    (want, each, texts): (u32, usize, &[u8]),
+) {
+    let (mut length, mut buffer) = (LENGTH_BEFORE, [BYTE_BEFORE; ROOM]);
     let (front, _) = buffer.split_at_mut(room.min(ROOM));
     let number = codex32_split(
-        threshold,
-        identifier,
-        secret,
-        random,
+        given.0,
+        given.1,
+        given.2,
+        given.3,
         count,
         front,
         &mut length,
     );
-    (number, (length, buffer))
-}
-
-// What the length and the buffer hold after an answer: that of each text, and the texts on 0.
-fn shares_in(number: u32, each: usize, texts: &[u8]) -> (usize, [u8; ROOM]) {
-    let (length, buffer) = written_in::<ROOM>(number, texts);
-    (if number == 0 { each } else { length }, buffer)
-}
-
-// This many of the random bytes.
-fn random_bytes(count: usize) -> &'static [u8] {
-    let all: &'static [u8] = &RANDOM;
-    all.get(..count).unwrap_or(all)
+    let (_, put) = written(want, texts);
+    let found = (number, length, has_front(&buffer, put));
+    same(rt, &found, &(want, each, true));
 }
 
 // Shares by a reference model: three of which two suffice, and four of which three do.
@@ -62,22 +53,21 @@ const OF_THREE: &[u8] =
 
 #[test]
 fn splits_known_secrets(rt: HostRuntime) {
-    const ROWS: &[((u32, &[u8]), usize, usize, usize, &[u8], u32)] = &[
-        ((2, b"test"), 26, 3, ROOM, OF_TWO, 0),
-        ((2, b"TEST"), 26, 3, 144, OF_TWO, 0),
-        ((2, b"test"), 26, 3, 143, OF_TWO, 92),
-        ((3, b"test"), 52, 4, 192, OF_THREE, 0),
+    const ROWS: &[((u32, &[u8]), usize, (usize, usize), (u32, usize, &[u8]))] = &[
+        ((2, b"test"), 26, (3, ROOM), (0, 48, OF_TWO)),
+        ((2, b"TEST"), 26, (3, 144), (0, 48, OF_TWO)),
+        ((2, b"test"), 26, (3, 143), (92, LENGTH_BEFORE, b"")),
+        ((3, b"test"), 52, (4, 192), (0, 48, OF_THREE)),
     ];
-    for &(set, drawn, count, room, texts, want) in ROWS {
-        let answer = (want, shares_in(want, 48, texts));
-        let found = split(set, &SECRET, random_bytes(drawn), count, room);
-        same(&rt, &found, &answer);
+    for &((threshold, identifier), drawn, rooms, want) in ROWS {
+        let (random, _) = RANDOM.split_at(drawn.min(52));
+        splits(&rt, (threshold, identifier, &SECRET, random), rooms, want);
     }
 }
 
-// The bytes 0, 7, 14 and so on.
-fn bytes_by<const N: usize>(step: u8) -> [u8; N] {
-    let mut bytes = [0; N];
+// The bytes 0, 7, 14 and so on, or by another step.
+fn bytes_by(step: u8) -> [u8; 103] {
+    let mut bytes = [0; 103];
     let mut next = 0u8;
     for byte in bytes.iter_mut() {
         *byte = next;
@@ -86,81 +76,59 @@ fn bytes_by<const N: usize>(step: u8) -> [u8; N] {
     bytes
 }
 
+// The secret but for its first byte, and 45 random bytes.
+const FIFTEEN: [u8; 15] = [
+    0x80, 0x8e, 0x09, 0x6b, 0x35, 0xb2, 0x09, 0xca, 0x12, 0x13, 0x2b, 0x26, 0x46, 0x62, 0xa5,
+];
+
+const FORTY_FIVE: [u8; 45] = [
+    0x3d, 0xd3, 0x92, 0xcc, 0x02, 0xd0, 0xb2, 0x40, 0xdf, 0x95, 0x6e, 0x53, 0x06, 0x31, 0x83, 0x32,
+    0xac, 0xfb, 0x90, 0x3d, 0xb2, 0xfa, 0x70, 0x31, 0x6a, 0x05, 0x93, 0xd2, 0x2f, 0xb2, 0x8d, 0xf0,
+    0x1c, 0xbd, 0x74, 0x1d, 0xbc, 0xcf, 0xd5, 0x4a, 0x23, 0xa7, 0xea, 0x79, 0xe8,
+];
+
 // The shares are those of a reference model.
 #[test]
 fn splits_a_long_secret(rt: HostRuntime) {
     let texts: &[u8] =
         b"ms12testaq8w4ur23clxd5mzfsh79vn6pg0kaytjeq8w4ur23clxd5mzfsh79vn6pg0kaytjeq8w4ur23clxd5mzfsh79vn6pg0kaytjeq8w4ur20el3qrftg8732vnms12testcqemv3nue4nlg7p9fkyrdnzvrrwj7df4z8gqmd2u69z2lnc9k34c27wm36lcw3vzaeeytqgt9vnq005jygyqazhmwawdeujz77gluu3u8qqvqwjusp4xurm";
-    let (secret, random) = (bytes_by::<64>(1), bytes_by::<103>(7));
-    let answer = (0, shares_in(0, 127, texts));
-    same(
-        &rt,
-        &split((2, b"test"), &secret, &random, 2, ROOM),
-        &answer,
-    );
+    let (secrets, random) = (bytes_by(1), bytes_by(7));
+    let (secret, _) = secrets.split_at(64);
+    let given: Split<'_> = (2, b"test", secret, &random);
+    splits(&rt, given, (2, ROOM), (0, 127, texts));
 }
-
-// Fails where another number is the answer to so many shares by so many random bytes, without room.
-fn refuses(
-    rt: &impl Abort,
-    set: (u32, &[u8]),
-    secret: &[u8],
-    (count, drawn): (usize, usize),
-    want: u32,
-) {
-    let answer = (want, shares_in(want, 0, b""));
-    same(
-        rt,
-        &split(set, secret, random_bytes(drawn), count, 0),
-        &answer,
-    );
-}
-
-// The secret but for its first byte.
-const FIFTEEN: [u8; 15] = [
-    0x80, 0x8e, 0x09, 0x6b, 0x35, 0xb2, 0x09, 0xca, 0x12, 0x13, 0x2b, 0x26, 0x46, 0x62, 0xa5,
-];
 
 // Each refusal, in their order: of sets, of secrets, and of numbers of shares and random bytes.
 #[test]
 fn refuses_splits(rt: HostRuntime) {
-    const ROWS: &[((u32, &[u8]), &[u8], u32)] = &[
-        ((1, b"tes"), &[], 83),
-        ((10, b"tes"), &[], 83),
-        ((0, b"tes"), &[], 85),
-        ((2, b"Test"), &[], 85),
-        ((0, b"test"), &[], 84),
-        ((2, b"test"), &FIFTEEN, 55),
+    const ROWS: &[(u32, &[u8], &[u8], (usize, usize), u32)] = &[
+        (1, b"tes", &[], (0, 0), 83),
+        (10, b"tes", &[], (0, 0), 83),
+        (0, b"tes", &[], (0, 0), 85),
+        (2, b"Test", &[], (0, 0), 85),
+        (0, b"test", &[], (0, 0), 84),
+        (2, b"test", &FIFTEEN, (0, 0), 55),
+        (2, b"test", &FORTY_FIVE, (0, 0), 55),
+        (2, b"test", &SECRET, (1, 0), 65),
+        (2, b"test", &SECRET, (32, 0), 65),
+        (2, b"test", &SECRET, (usize::MAX, 0), 65),
+        (2, b"test", &SECRET, (2, 25), 66),
+        (2, b"test", &SECRET, (2, 27), 66),
+        (2, b"test", &SECRET, (31, 26), 92),
     ];
-    for &(set, secret, want) in ROWS {
-        refuses(&rt, set, secret, (0, 0), want);
-    }
-    refuses(&rt, (2, b"test"), random_bytes(45), (0, 0), 55);
-    const COUNTS: &[(usize, usize, u32)] = &[
-        (1, 0, 65),
-        (32, 0, 65),
-        (usize::MAX, 0, 65),
-        (2, 25, 66),
-        (2, 27, 66),
-        (31, 26, 92),
-    ];
-    for &(count, drawn, want) in COUNTS {
-        refuses(&rt, (2, b"test"), &SECRET, (count, drawn), want);
+    for &(threshold, identifier, secret, (count, drawn), want) in ROWS {
+        let (random, _) = RANDOM.split_at(drawn.min(52));
+        let given = (threshold, identifier, secret, random);
+        splits(&rt, given, (count, 0), (want, LENGTH_BEFORE, b""));
     }
 }
 
-// The answer to texts with a buffer of so many bytes, and what the length and it hold then.
-fn recovered(texts: &[u8], lengths: &[usize], room: usize) -> (u32, (usize, [u8; ROOM])) {
-    let mut buffer = [BYTE_BEFORE; ROOM];
-    let mut length = LENGTH_BEFORE;
+// The bytes that texts give, in a buffer of so many.
+fn recovers(rt: &impl Abort, texts: &[u8], lengths: &[usize], room: usize, want: u32) {
+    let (mut length, mut buffer) = (LENGTH_BEFORE, [BYTE_BEFORE; ROOM]);
     let (front, _) = buffer.split_at_mut(room.min(ROOM));
     let number = codex32_recover(texts, lengths, front, &mut length);
-    (number, (length, buffer))
-}
-
-fn recovers(rt: &impl Abort, texts: &[u8], lengths: &[usize], room: usize, want: u32) {
-    let answer = (want, written_in::<ROOM>(want, &SECRET));
-    same(rt, &recovered(texts, lengths, room), &answer);
+    answers(rt, number, (length, &buffer), (want, &SECRET));
 }
 
 const PAIR: &[u8] =
