@@ -1,7 +1,8 @@
 //! The uses of the library, each a short test: those that the pages of the Rust crate bech32 show,
-//! then codex32. Two callers with contracts of their own, and a checksum declared as one's own.
+//! then codex32. Callers with contracts of their own, and a checksum declared as one's own.
 #![tactic(auto)]
 
+#[cfg(test)]
 pub mod callers;
 #[cfg(test)]
 mod tests;

@@ -101,7 +101,7 @@ fn has_all_up_to(lent: &Lent, most: usize) -> bool {
     true
 }
 
-// But it gives a block of every size that does.
+// Of bytes and of whole numbers; each that fits is given.
 #[test]
 fn gives_no_block_that_does_not_fit(rt: HostRuntime) {
     let small = lent(&rt, rt.alloc(), 100);
