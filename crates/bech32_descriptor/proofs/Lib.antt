@@ -1,4 +1,5 @@
 mod Bases
+mod Chance
 mod Changes
 mod Checksums
 mod Kept

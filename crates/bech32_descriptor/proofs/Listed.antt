@@ -3,9 +3,10 @@ use Rattle.std.specs.List.{AllByRecursion}
 use Rattle.std.proofs.Common.{◌≡◌, ◌≤◌, ℕ, List, [], ◌∷◌, ◌++◌, length, map, subst, sym, ap, ◌∙◌, refl}
 use Rattle.bech32_descriptor.specs.Edits.{AreAllMends, IsMendWithin, IsToldMend, made}
 use Rattle.bech32_descriptor.specs.Mends.{AreMends}
-use Rattle.bech32_descriptor.specs.Pairs.{AreAllByTwo, AreTwoMends, IsMendByTwo, made_by_two}
+use Rattle.bech32_descriptor.specs.Pairs.{AreAllByTwo, AreTwoMends, IsMendByTwo, made_by_two, max_length_for_two}
 use Rattle.bech32_descriptor.specs.declared.edits.Edit.{Edit}
 use Rattle.bech32_descriptor.specs.declared.edits.TwoEdits.{TwoEdits}
+use Rattle.bech32_descriptor.proofs.Chance.{rarely_wrong}
 use Rattle.bech32_descriptor.proofs.Listings.{all_weaker}
 
 -- what is so of all of a list is so of each
@@ -53,10 +54,11 @@ are_mends edit_in text_in most text edits found short all same each = record {
   texts = pair_texts edit_in text_in (λ e. made e text) found each;
 }
 
-pub are_two_mends : {M : Type 0} (edits_in : M → TwoEdits) (text_in : M → List ℕ) (text : List ℕ) (edits : List TwoEdits) (found : List M) → length text ≤ 7500 → AreAllByTwo (IsMendByTwo text) edits
+pub are_two_mends : {M : Type 0} (edits_in : M → TwoEdits) (text_in : M → List ℕ) (text : List ℕ) (edits : List TwoEdits) (found : List M) → length text ≤ max_length_for_two → AreAllByTwo (IsMendByTwo text) edits
     → map edits_in found ≡ edits → AllByRecursion (λ m. text_in m ≡ made_by_two (edits_in m) text) found → AreTwoMends text (map (λ m. (edits_in m, text_in m)) found)
 are_two_mends edits_in text_in text edits found short all same each = record {
   short = short;
+  rare = rarely_wrong (length text) short;
   edits = subst (AreAllByTwo (IsMendByTwo text)) (sym (pair_edits edits_in text_in found ∙ same)) all;
   texts = pair_texts edits_in text_in (λ e. made_by_two e text) found each;
 }

@@ -8,6 +8,7 @@ use Rattle.bech32_descriptor.specs.declared.edits.Change.{Change}
 use Rattle.bech32_descriptor.specs.declared.edits.Change.TheVariants.{Changed, LeftOut, PutIn, Swapped}
 use Rattle.bech32_descriptor.specs.declared.edits.Edit.{Edit}
 use Rattle.bech32_descriptor.specs.declared.edits.TwoEdits.{TwoEdits}
+use Rattle.bech32_descriptor.proofs.Chance.{rarely_wrong}
 use Rattle.bech32_descriptor.proofs.Listings.{nothing}
 use Rattle.bech32_descriptor.proofs.Told.{none_changed, none_left_out, none_put_in, none_swapped}
 use Rattle.bech32_descriptor.proofs.TwoChanges.{none_short}
@@ -36,6 +37,7 @@ no_mends_of {M} pair most text found short is = subst (λ (l : List M). AreMends
 pub no_two_mends : (text : List ℕ) → length text < 9 → AreTwoMends text []
 no_two_mends text short = record {
   short = omega (arith, short);
+  rare = rarely_wrong (length text) (omega (arith, short));
   edits = nothing IsTwoBefore (IsMendByTwo text) (λ e h. none_short text e short h);
   texts = tt;
 }
@@ -44,7 +46,7 @@ pub no_two_mends_of : {M : Type 0} (pair : M → TwoEdits × List ℕ) (text : L
 no_two_mends_of {M} pair text found short is = subst (λ (l : List M). AreTwoMends text (map pair l)) (sym is) (no_two_mends text short)
 
 -- where one edit makes some, they may come from the text
-pub some_mends : (most : ℕ) (text : List ℕ) (m : Edit × List ℕ) (ms : List (Edit × List ℕ)) → AreMends most text (m ∷ ms) → MayBeMended 8 text
+pub some_mends : (most : ℕ) (text : List ℕ) (m : Edit × List ℕ) (ms : List (Edit × List ℕ)) → AreMends most text (m ∷ ms) → MayBeMended 8 7500 text
 some_mends most text m ms are =
     elim (dec_lt (length text) 8) [
       | yes short ↦ absurd (none_from text m.0 short are.edits.each.0.1)

@@ -14,11 +14,11 @@ pub record AreMends (most : ℕ) (text : List ℕ) (found : List (Edit × List �
   pub texts : AllByRecursion (λ m. m.1 ≡ made m.0 text) found
 
 -- a text from which descriptors may come: it has at least so many characters, since none comes from
--- fewer, and is not too long
-abbrev pub MayBeMended : ℕ → List ℕ → Type 0
-MayBeMended least text = (least ≤ length text) × (length text ≤ 7500)
+-- fewer, and at most so many
+abbrev pub MayBeMended : ℕ → ℕ → List ℕ → Type 0
+MayBeMended least longest text = (least ≤ length text) × (length text ≤ longest)
 
 -- why they are not told: the text is too long; or they may come from it, and memory ran out
-abbrev pub IsMendRefusal : ℕ → List ℕ → MendError → Type 0
-IsMendRefusal least text TooLong = 7500 < length text
-IsMendRefusal least text Memory = MayBeMended least text
+abbrev pub IsMendRefusal : ℕ → ℕ → List ℕ → MendError → Type 0
+IsMendRefusal least longest text TooLong = longest < length text
+IsMendRefusal least longest text Memory = MayBeMended least longest text

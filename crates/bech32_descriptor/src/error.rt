@@ -28,8 +28,8 @@ pub enum CheckError {
 /// Why the descriptors that an edit makes are not told.
 #[derive(Clone, Copy, Debug, PartialEq, Eq, Drop, Error)]
 pub enum MendError {
-    /// The text has more than 7,500 characters.
-    #[error("the text has more than 7500 characters, too many to be mended")]
+    /// The text has more than 7,500 characters, or more than 1,400 where two are to be changed.
+    #[error("the text has more than 7500 characters (1400 for two changes), too many to be mended")]
     TooLong,
     /// Out of memory.
     #[error("out of memory")]

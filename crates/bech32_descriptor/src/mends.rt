@@ -166,7 +166,7 @@ pub fn mend_in<A: Allocator + Copy>(
 ) -> Result<Vec<Mended<Vec<u8, A>>, A>, MendError>
     ensures { MatchResult result
         (λ found. AreMends most text.now (map (λ m. (m.edit, m.text.items)) found.items))
-        (λ e. IsMendRefusal 8 text.now e) }
+        (λ e. IsMendRefusal 8 7500 text.now e) }
 {
     if text.len() > 7500 {
         return Err(MendError::TooLong);
@@ -199,7 +199,7 @@ pub fn mend_in<A: Allocator + Copy>(
 pub fn mend(alloc: Global, text: &[u8], most: usize) -> Result<Vec<Mended<Vec<u8>>>, MendError>
     ensures { MatchResult result
         (λ found. AreMends most text.now (map (λ m. (m.edit, m.text.items)) found.items))
-        (λ e. IsMendRefusal 8 text.now e) }
+        (λ e. IsMendRefusal 8 7500 text.now e) }
 {
     mend_in::<Global>(alloc, text, most)
 }

@@ -8,7 +8,7 @@ ghost use Rattle.std.specs.List.{AllByRecursion};
 ghost use Rattle.bech32_descriptor.specs.Edits.{IsToldAt};
 ghost use Rattle.bech32_descriptor.specs.Mends.{IsMendRefusal};
 ghost use Rattle.bech32_descriptor.specs.PairWalks.{IsTwoAt, IsTwoBy, MarksChangesBelow, beside};
-ghost use Rattle.bech32_descriptor.specs.Pairs.{AddsAllByTwo, AreAllByTwo, AreTwoMends, IsMendByTwo, made_by_two};
+ghost use Rattle.bech32_descriptor.specs.Pairs.{AddsAllByTwo, AreAllByTwo, AreTwoMends, IsMendByTwo, made_by_two, max_length_for_two};
 ghost use Rattle.bech32_descriptor.specs.Walks.{IsReady, SufficeFor};
 ghost use Rattle.bech32_descriptor.specs.declared.edits.Change.TheVariants.{Changed};
 ghost use Rattle.bech32_descriptor.specs.declared.edits.TwoEdits.{TwoEdits as TheTwo};
@@ -23,6 +23,11 @@ use crate::rows::rows_of;
 use crate::scratch::set_byte;
 use crate::walks::changed_below;
 use std::alloc::{AllocError, Allocator, Global};
+
+/// The most characters of a text of which two are changed ([`mend_two`]): 8,574,612,720 texts at
+/// most are tried for one of this length, and a checksum accepts one in 2^40. So of 100 texts that
+/// are no mistyped descriptors at most one is expected to get an answer.
+pub const MAX_LENGTH_FOR_TWO: usize = 1400;
 
 // Adds each of some edits beside another one.
 fn push_beside<A: Allocator>(
@@ -160,7 +165,7 @@ fn two_on_copy<A: Allocator + Copy>(
 // The same of the text itself.
 fn two_of<A: Allocator + Copy>(alloc: A, text: &[u8]) -> Result<Vec<TwoEdits, A>, AllocError>
     requires long { 9 ≤ length text.now }
-    requires few { length text.now ≤ 7500 }
+    requires few { length text.now ≤ max_length_for_two }
     ensures { IfOk result (λ edits. AreAllByTwo (IsMendByTwo text.now) edits.items) }
 {
     let mut copy = Vec::from_slice(alloc, text)?;
@@ -174,7 +179,7 @@ fn texts_by_two<A: Allocator + Copy>(
     text: &[u8],
     found: Vec<TwoEdits, A>,
 ) -> Result<Vec<MendedTwice<Vec<u8, A>>, A>, AllocError>
-    requires few { length text.now ≤ 7500 }
+    requires few { length text.now ≤ max_length_for_two }
     requires mends { AllByRecursion (IsMendByTwo text.now) found.items }
     ensures same { IfOk result (λ all. map (λ m. m.edits) all.items ≡ found.items) }
     ensures each { IfOk result (λ all.
@@ -195,7 +200,7 @@ fn mended_by_two<A: Allocator + Copy>(
     text: &[u8],
 ) -> Result<Vec<MendedTwice<Vec<u8, A>>, A>, AllocError>
     requires long { 9 ≤ length text.now }
-    requires few { length text.now ≤ 7500 }
+    requires few { length text.now ≤ max_length_for_two }
     ensures { IfOk result (λ found.
         AreTwoMends text.now (map (λ m. (m.edits, m.text.items)) found.items)) }
 {
@@ -215,9 +220,9 @@ pub fn mend_two_in<A: Allocator + Copy>(
 ) -> Result<Vec<MendedTwice<Vec<u8, A>>, A>, MendError>
     ensures { MatchResult result
         (λ found. AreTwoMends text.now (map (λ m. (m.edits, m.text.items)) found.items))
-        (λ e. IsMendRefusal 9 text.now e) }
+        (λ e. IsMendRefusal 9 max_length_for_two text.now e) }
 {
-    if text.len() > 7500 {
+    if text.len() > MAX_LENGTH_FOR_TWO {
         return Err(MendError::TooLong);
     }
     if text.len() < 9 {
@@ -243,13 +248,13 @@ pub fn mend_two_in<A: Allocator + Copy>(
 ///
 /// # Errors
 ///
-/// [`MendError::TooLong`] where the text has more than 7,500 characters; else
+/// [`MendError::TooLong`] where the text has more than [`MAX_LENGTH_FOR_TWO`] characters; else
 /// [`MendError::Memory`] alone, and only where it has at least nine: from fewer no descriptor
 /// comes.
 pub fn mend_two(alloc: Global, text: &[u8]) -> Result<Vec<MendedTwice<Vec<u8>>>, MendError>
     ensures { MatchResult result
         (λ found. AreTwoMends text.now (map (λ m. (m.edits, m.text.items)) found.items))
-        (λ e. IsMendRefusal 9 text.now e) }
+        (λ e. IsMendRefusal 9 max_length_for_two text.now e) }
 {
     mend_two_in::<Global>(alloc, text)
 }

@@ -84,7 +84,7 @@ pub record ListsMends (most : ℕ) (text kinds kinds' places places' texts texts
 abbrev pub IsMendFault : ℕ → List ℕ → MendRefusal → Type 0
 IsMendFault most text BadNumber = 1 < most
 IsMendFault most text TooLong = (most ≤ 1) × (7500 < length text)
-IsMendFault most text Memory = (most ≤ 1) × MayBeMended 8 text
+IsMendFault most text Memory = (most ≤ 1) × MayBeMended 8 7500 text
 
 abbrev pub number_of_mend : MendRefusal → ℕ
 number_of_mend BadNumber = 4

@@ -5,7 +5,7 @@ use Rattle.bech32_encode.specs.Buffers.{IsPut}
 use Rattle.bech32_calls.specs.Fitting.{FirstFit, IsMost}
 use Rattle.bech32_calls.specs.declared.listed.Listed.{Listed}
 use Rattle.bech32_descriptor.specs.Mends.{MayBeMended}
-use Rattle.bech32_descriptor.specs.Pairs.{AreTwoMends}
+use Rattle.bech32_descriptor.specs.Pairs.{AreTwoMends, max_length_for_two}
 use Rattle.bech32_descriptor.specs.declared.edits.TwoEdits.{TwoEdits}
 use Rattle.descriptor_calls.specs.declared.mends.MendRefusal.{MendRefusal}
 use Rattle.descriptor_calls.specs.declared.mends.MendRefusal.TheVariants.{BadNumber, Memory}
@@ -56,5 +56,5 @@ pub record ListsTwoMends (text places places' texts texts' : List ℕ) (listed :
 -- it, and the memory does not suffice
 abbrev pub IsTwoMendFault : List ℕ → MendRefusal → Type 0
 IsTwoMendFault text BadNumber = ⊥
-IsTwoMendFault text TooLong = 7500 < length text
-IsTwoMendFault text Memory = MayBeMended 9 text
+IsTwoMendFault text TooLong = max_length_for_two < length text
+IsTwoMendFault text Memory = MayBeMended 9 max_length_for_two text

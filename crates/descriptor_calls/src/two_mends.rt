@@ -3,11 +3,12 @@
 ghost use Rattle.std.specs.Prelude.{◌≡◌, ◌<◌, ◌≤◌, ◌⊎◌, length, map, take, true, false, IfErr, IfOk, MatchOption, MatchResult};
 ghost use Rattle.bech32_calls.specs.Fitting.{IsMost};
 ghost use Rattle.caller_memory.specs.Memory.{IsKept, LeavesMemory, memory_size};
+ghost use Rattle.bech32_descriptor.specs.Pairs.{max_length_for_two};
 ghost use Rattle.descriptor_calls.specs.TwoMends.{IsTwoMendFault, ListsTwoMends, PutsEachTwo, PutsFirstTwoMends, PutsTwoMends, TwoMendsFit};
 
 use crate::mends::{MendRefusal, nothing, put_behind};
 use bech32_calls::listed::Listed;
-use bech32_descriptor::{MendedTwice, mend_two_in};
+use bech32_descriptor::{MAX_LENGTH_FOR_TWO, MendedTwice, mend_two_in};
 use caller_memory::{Lent, Memory};
 use std::alloc::Allocator;
 
@@ -40,7 +41,7 @@ fn put_each_two<A: Allocator + Copy>(
 
 // Puts the descriptors that two changed characters make of a text into buffers, if memory suffices.
 fn put_two_found(lent: &Lent, text: &[u8], places: &mut [usize], texts: &mut [u8]) -> Option<Listed>
-    requires { length text.now ≤ 7500 }
+    requires { length text.now ≤ max_length_for_two }
     ensures { MatchOption result
         ((places.new ≡ places.old) × (texts.new ≡ texts.old))
         (λ listed. ListsTwoMends text.now places.old places.new texts.old texts.new listed) }
@@ -64,9 +65,9 @@ fn put_two_found(lent: &Lent, text: &[u8], places: &mut [usize], texts: &mut [u8
 ///
 /// # Errors
 ///
-/// The first of: a text of more than 7,500 bytes; [`MendRefusal::Memory`] where the text has at
-/// least nine bytes and `memory` does not suffice: then `memory` and the buffers are as they were;
-/// or `memory` had bytes and has none, and the buffers may have changed.
+/// The first of: a text of more than [`MAX_LENGTH_FOR_TWO`] bytes; [`MendRefusal::Memory`] where
+/// the text has at least nine bytes and `memory` does not suffice: then `memory` and the buffers
+/// are as they were; or `memory` had bytes and has none, and the buffers may have changed.
 pub fn put_two_mends(
     memory: &mut Memory,
     text: &[u8],
@@ -77,7 +78,8 @@ pub fn put_two_mends(
         → PutsTwoMends text.now places.old places.new texts.old texts.new listed.count) }
     ensures first { IfOk result (λ listed. listed.fit ≡ false
         → PutsFirstTwoMends text.now places.old places.new texts.old texts.new listed.count) }
-    ensures accepts { length text.now ≤ 7500 → IfErr result (λ e. e ≡ MendRefusal.Memory) }
+    ensures accepts { length text.now ≤ max_length_for_two
+        → IfErr result (λ e. e ≡ MendRefusal.Memory) }
     ensures refused { IfErr result (λ e. IsTwoMendFault text.now e) }
     ensures same { IfErr result (λ e. ((places.new ≡ places.old) × (texts.new ≡ texts.old))
         ⊎ ((e ≡ MendRefusal.Memory) × IsKept memory.old memory.new)) }
@@ -86,7 +88,7 @@ pub fn put_two_mends(
         (λ e. LeavesMemory memory.old memory.new
         ((e ≡ MendRefusal.Memory) × (0 < memory_size memory.old))) }
 {
-    if text.len() > 7500 {
+    if text.len() > MAX_LENGTH_FOR_TWO {
         return Err(MendRefusal::TooLong);
     }
     if text.len() < 9 {

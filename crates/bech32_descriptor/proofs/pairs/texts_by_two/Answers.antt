@@ -19,7 +19,7 @@ made_text-requires g c =
     let rest = into_iter_items c.next.new.self in
     let steps : into_iter_items at.edits-iterator ≡ c.in-Some.edits ∷ rest = c.in-Some.ensures.steps.0 in
     let is = ap (λ (u : List TwoEdits). at.yielded ++ u) (sym steps) ∙ at.invariant.rest in
-    record { few = c.requires.few; told = (mends c.args.text.now at.yielded rest c.in-Some.edits c.args.found.items is c.requires.mends).second_changes.1 }
+    record { few = omega (arith, c.requires.few); told = (mends c.args.text.now at.yielded rest c.in-Some.edits c.args.found.items is c.requires.mends).second_changes.1 }
 
 pub made_text-requires-in-loop-edits : goal.made_text-requires-in-loop-edits
 made_text-requires-in-loop-edits g c =
