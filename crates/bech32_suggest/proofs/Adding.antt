@@ -15,7 +15,7 @@ use Rattle.bech32_near_edits.specs.declared.edits.Edit.{Edit}
 use Rattle.bech32_decode.specs.Text.{HasHrp, IsText}
 use Rattle.bech32_decode.proofs.Grammar.{only-from_IsText}
 use Rattle.bech32_suggest.specs.Chance.{most_errors}
-use Rattle.bech32_suggest.specs.Suggestions.{AddsEach, AddsEdits, AddsEditsOfRead, AddsFound, AddsNear, AddsOne, AreFound, AreFoundIn, AreSuggestions, IsAddressUnder, IsTriedText, Suggested, near_bound, suggestion_of}
+use Rattle.bech32_suggest.specs.Suggestions.{AddsEach, AddsEdits, AddsEditsOfRead, AddsFound, AddsNear, AddsOne, AreFound, AreFoundIn, AreSuggestions, IsAddressUnder, IsMeant, IsTriedText, Suggested, near_bound, suggestion_of}
 use Rattle.bech32_suggest.specs.Typed.{as_read, unread_locations}
 
 -- ---- addresses
@@ -59,7 +59,7 @@ module _ (hrp typed : List ℕ) where
     passed_told items m = passed (map f items) text (subst (λ (l : List (List ℕ)). IsAmong text l) (sym (map-map (λ s. s.0) f items)) m)
 
     -- another one is
-    pub added_told : (items after : List M) (m : M) → (IsAmong text (map (λ m. (f m).0) items) → ⊥) → IsAddressUnder hrp text → after ≡ items ++ m ∷ [] → f m ≡ suggestion_of typed text
+    pub added_told : (items after : List M) (m : M) → (IsAmong text (map (λ m. (f m).0) items) → ⊥) → IsMeant hrp typed text → after ≡ items ++ m ∷ [] → f m ≡ suggestion_of typed text
         → AddsOne hrp typed (map f items) text (map f after)
     added_told items after m other is behind told =
         inl (
@@ -137,28 +137,28 @@ module _ (hrp typed : List ℕ) where
   stays_all before after (text ∷ texts) one h m = stays_all h.0 after texts one h.2 (stays_one before h.0 text one h.1 m)
 
   -- such an address stands there then
-  stands_one : (before after : List Suggested) (text : List ℕ) → AddsOne hrp typed before text after → IsAddressUnder hrp text → IsAmong text (map (λ s. s.0) after)
+  stands_one : (before after : List Suggested) (text : List ℕ) → AddsOne hrp typed before text after → IsMeant hrp typed text → IsAmong text (map (λ s. s.0) after)
   stands_one before after text (inl h) is =
       subst (λ (l : List Suggested). IsAmong text (map (λ s. s.0) l)) (sym h.1)
       (subst (λ (l : List (List ℕ)). IsAmong text l) (sym (map-append (λ s. s.0) before (suggestion_of typed text ∷ []))) (mem_right text (map (λ s. s.0) before) (text ∷ []) (inl refl)))
   stands_one before after text (inr (inl not_one, same)) is = absurd (not_one is)
   stands_one before after text (inr (inr m, same)) is = subst (λ (l : List Suggested). IsAmong text (map (λ s. s.0) l)) (sym same) m
 
-  stands_all : (before after : List Suggested) (texts : List (List ℕ)) (text : List ℕ) → AddsEach hrp typed before texts after → IsAmong text texts → IsAddressUnder hrp text → IsAmong text (map (λ s. s.0) after)
+  stands_all : (before after : List Suggested) (texts : List (List ℕ)) (text : List ℕ) → AddsEach hrp typed before texts after → IsAmong text texts → IsMeant hrp typed text → IsAmong text (map (λ s. s.0) after)
   stands_all before after [] text h m is = absurd m
   stands_all before after (x ∷ xs) text h (inl e) is =
-      stays_all h.0 after xs text h.2 (subst (λ (t : List ℕ). IsAmong t (map (λ s. s.0) h.0)) (sym e) (stands_one before h.0 x h.1 (subst (IsAddressUnder hrp) e is)))
+      stays_all h.0 after xs text h.2 (subst (λ (t : List ℕ). IsAmong t (map (λ s. s.0) h.0)) (sym e) (stands_one before h.0 x h.1 (subst (IsMeant hrp typed) e is)))
   stands_all before after (x ∷ xs) text h (inr m) is = stands_all h.0 after xs text h.2 m is
 
   -- each is such an address
-  each_one : (before after : List Suggested) (text : List ℕ) → AddsOne hrp typed before text after → AllByRecursion (λ s. IsAddressUnder hrp s.0) before → AllByRecursion (λ s. IsAddressUnder hrp s.0) after
+  each_one : (before after : List Suggested) (text : List ℕ) → AddsOne hrp typed before text after → AllByRecursion (λ s. IsMeant hrp typed s.0) before → AllByRecursion (λ s. IsMeant hrp typed s.0) after
   each_one before after text (inl h) all =
-      subst (AllByRecursion (λ s. IsAddressUnder hrp s.0)) (sym h.1) (all_push (λ s. IsAddressUnder hrp s.0) before (suggestion_of typed text) all h.0.0)
-  each_one before after text (inr h) all = subst (AllByRecursion (λ s. IsAddressUnder hrp s.0)) (sym h.1) all
+      subst (AllByRecursion (λ s. IsMeant hrp typed s.0)) (sym h.1) (all_push (λ s. IsMeant hrp typed s.0) before (suggestion_of typed text) all h.0.0)
+  each_one before after text (inr h) all = subst (AllByRecursion (λ s. IsMeant hrp typed s.0)) (sym h.1) all
 
-  each_all : (before after : List Suggested) (texts : List (List ℕ)) → AddsEach hrp typed before texts after → AllByRecursion (λ s. IsAddressUnder hrp s.0) before
-      → AllByRecursion (λ s. IsAddressUnder hrp s.0) after
-  each_all before after [] same all = subst (AllByRecursion (λ s. IsAddressUnder hrp s.0)) (sym same) all
+  each_all : (before after : List Suggested) (texts : List (List ℕ)) → AddsEach hrp typed before texts after → AllByRecursion (λ s. IsMeant hrp typed s.0) before
+      → AllByRecursion (λ s. IsMeant hrp typed s.0) after
+  each_all before after [] same all = subst (AllByRecursion (λ s. IsMeant hrp typed s.0)) (sym same) all
   each_all before after (text ∷ texts) h all = each_all h.0 after texts h.2 (each_one before h.0 text h.1 all)
 
   -- each stands there once
@@ -178,11 +178,11 @@ module _ (hrp typed : List ℕ) where
   once_all before after (text ∷ texts) h once = once_all h.0 after texts h.2 (once_one before h.0 text h.1 once)
 
   module _ (text : List ℕ) (errors : ℕ) where
-    each_of_read : (unread : List ℕ) (before after : List Suggested) → AddsEditsOfRead unread text hrp typed before after → AllByRecursion (λ s. IsAddressUnder hrp s.0) before
-        → AllByRecursion (λ s. IsAddressUnder hrp s.0) after
+    each_of_read : (unread : List ℕ) (before after : List Suggested) → AddsEditsOfRead unread text hrp typed before after → AllByRecursion (λ s. IsMeant hrp typed s.0) before
+        → AllByRecursion (λ s. IsMeant hrp typed s.0) after
     each_of_read [] before after h all =
         each_all h.0 after (map (λ m. m.1) h.2.edits) h.2.adds (each_all before h.0 (map (λ m. m.1) h.1.edits) h.1.adds all)
-    each_of_read (x ∷ xs) before after same all = subst (AllByRecursion (λ s. IsAddressUnder hrp s.0)) (sym same) all
+    each_of_read (x ∷ xs) before after same all = subst (AllByRecursion (λ s. IsMeant hrp typed s.0)) (sym same) all
 
     once_of_read : (unread : List ℕ) (before after : List Suggested) → AddsEditsOfRead unread text hrp typed before after → Once before → Once after
     once_of_read [] before after h once =
@@ -195,7 +195,7 @@ module _ (hrp typed : List ℕ) where
     stays_of_read (x ∷ xs) before after one same m = subst (λ (l : List Suggested). IsAmong one (map (λ s. s.0) l)) (sym same) m
 
     pub all_found : (unread : List ℕ) (found : List Suggested) → AddsFound text unread errors hrp typed [] found → (other : List ℕ)
-        → IsNearText bech32 near_bound text unread errors other ⊎ IsNearText bech32m near_bound text unread errors other → IsAddressUnder hrp (lowered other)
+        → IsNearText bech32 near_bound text unread errors other ⊎ IsNearText bech32m near_bound text unread errors other → IsMeant hrp typed (lowered other)
         → IsAmong (lowered other) (map (λ s. s.0) found)
     all_found unread found h other (inl near) is =
         stays_of_read unread h.second found (lowered other) h.edits
@@ -205,7 +205,7 @@ module _ (hrp typed : List ℕ) where
         stays_of_read unread h.second found (lowered other) h.edits
         (stands_all h.first h.second (map (λ m. m.1) h.by_bech32m.near) (lowered other) h.by_bech32m.adds (h.by_bech32m.are.all other near) is)
 
-    pub each_found : (unread : List ℕ) (found : List Suggested) → AddsFound text unread errors hrp typed [] found → AllByRecursion (λ s. IsAddressUnder hrp s.0) found
+    pub each_found : (unread : List ℕ) (found : List Suggested) → AddsFound text unread errors hrp typed [] found → AllByRecursion (λ s. IsMeant hrp typed s.0) found
     each_found unread found h =
         each_of_read unread h.second found h.edits
         (each_all h.first h.second (map (λ m. m.1) h.by_bech32m.near) h.by_bech32m.adds (each_all [] h.first (map (λ m. m.1) h.by_bech32.near) h.by_bech32.adds tt))

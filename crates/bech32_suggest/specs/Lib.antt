@@ -1,4 +1,5 @@
 pub mod Chance
+pub mod Forms
 pub mod Mendings
 pub mod Suggestions
 pub mod Typed

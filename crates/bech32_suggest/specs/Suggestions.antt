@@ -15,6 +15,7 @@ use Rattle.bech32_near_edits.specs.declared.edits.Edit.{Edit}
 use Rattle.bech32_near_edits.specs.declared.error.EditsError.{EditsError}
 use Rattle.bech32_near_edits.specs.declared.error.EditsError.TheVariants.{Memory, Refused}
 use Rattle.bech32_suggest.specs.Chance.{most_errors}
+use Rattle.bech32_suggest.specs.Forms.{IsAddressInUse}
 use Rattle.bech32_suggest.specs.Mendings.{common_length, mending_of}
 use Rattle.bech32_suggest.specs.Typed.{as_read, unread_locations}
 use Rattle.bech32_suggest.specs.declared.mendings.Mending.{Mending}
@@ -29,6 +30,11 @@ pub record IsAddressUnder (hrp text : List ℕ) : Type 0 where
   pub part : List ℕ
   pub has_part : HasHrp text part
   pub same_part : lowered part ≡ lowered hrp
+
+-- the text may have been meant by the typed one, which is in lower case: it is such an address, and
+-- of a form in use, or the typed text itself, which is no guess
+abbrev pub IsMeant : List ℕ → List ℕ → List ℕ → Type 0
+IsMeant hrp typed text = IsAddressUnder hrp text × ((text ≡ typed) ⊎ IsAddressInUse text)
 
 -- a text, what is done to the typed one so that it becomes this one, and the first place at which
 -- they differ
@@ -46,21 +52,21 @@ either_code false = bech32
 
 -- ---- the texts that are tried, one after another
 
--- the text is such an address, and does not stand among those that are found
-abbrev pub IsNew : List ℕ → List Suggested → List ℕ → Type 0
-IsNew hrp before text =
-    IsAddressUnder hrp text × (IsAmong text (map (λ s. s.0) before) → ⊥)
+-- the text may have been meant, and does not stand among those that are found
+abbrev pub IsNew : List ℕ → List ℕ → List Suggested → List ℕ → Type 0
+IsNew hrp typed before text =
+    IsMeant hrp typed text × (IsAmong text (map (λ s. s.0) before) → ⊥)
 
--- the text is no such address, or stands among them
-abbrev pub IsNotNew : List ℕ → List Suggested → List ℕ → Type 0
-IsNotNew hrp before text =
-    (IsAddressUnder hrp text → ⊥) ⊎ IsAmong text (map (λ s. s.0) before)
+-- the text was not meant, or stands among them
+abbrev pub IsNotNew : List ℕ → List ℕ → List Suggested → List ℕ → Type 0
+IsNotNew hrp typed before text =
+    (IsMeant hrp typed text → ⊥) ⊎ IsAmong text (map (λ s. s.0) before)
 
 -- the text is added to those that are found, if it is new
 abbrev pub AddsOne : List ℕ → List ℕ → List Suggested → List ℕ → List Suggested → Type 0
 AddsOne hrp typed before text after =
-    (IsNew hrp before text × (after ≡ before ++ suggestion_of typed text ∷ []))
-    ⊎ (IsNotNew hrp before text × (after ≡ before))
+    (IsNew hrp typed before text × (after ≡ before ++ suggestion_of typed text ∷ []))
+    ⊎ (IsNotNew hrp typed before text × (after ≡ before))
 
 -- each of these texts is added, in their order, if it is new then
 abbrev pub AddsEach : List ℕ → List ℕ → List Suggested → List (List ℕ) → List Suggested → Type 0
@@ -111,13 +117,14 @@ IsNearTyped typed errors text =
     ⊎ IsNearText bech32m near_bound (as_read typed) (unread_locations typed) errors text
 
 -- the addresses that are found for a typed text, with at most this many errors beside the
--- characters that cannot be read: each once, and all that are so near among them
+-- characters that cannot be read: each may have been meant, and stands there once; all that may
+-- have been meant and are so near are among them
 pub record AreFound (typed hrp : List ℕ) (errors : ℕ) (found : List Suggested) : Type 0 where
   pub adds : AddsFound (as_read typed) (unread_locations typed) errors hrp (lowered typed) [] found
-  pub each : AllByRecursion (λ s. IsAddressUnder hrp s.0) found
+  pub each : AllByRecursion (λ s. IsMeant hrp (lowered typed) s.0) found
   pub once : IsOnce (map (λ s. s.0) found)
-  pub all : (text : List ℕ) → IsNearTyped typed errors text → IsAddressUnder hrp (lowered text)
-      → IsAmong (lowered text) (map (λ s. s.0) found)
+  pub all : (text : List ℕ) → IsNearTyped typed errors text
+      → IsMeant hrp (lowered typed) (lowered text) → IsAmong (lowered text) (map (λ s. s.0) found)
 
 -- a text with these parts, as it is read, has these suggestions: none, where nothing is tried
 abbrev pub AreFoundIn : List ℕ → List ℕ → List ℕ → List Suggested → Type 0

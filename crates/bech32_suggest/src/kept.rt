@@ -1,9 +1,11 @@
 //! Which of the texts that are tried are suggested.
 
 ghost use Rattle.std.specs.Prelude.{◌≡◌, ◌↔◌, ℕ, List, IfOk, IsTrue, map, string_bytes};
+ghost use Rattle.bech32_decode.specs.Parts.{address_program, address_version};
 ghost use Rattle.bech32_hrp.specs.HrpBytes.{hrp_bytes};
 ghost use Rattle.bech32_poly.specs.Distinct.{IsAmong};
-ghost use Rattle.bech32_suggest.specs.Suggestions.{AddsEach, AddsOne, IsAddressUnder};
+ghost use Rattle.bech32_suggest.specs.Forms.{IsAddressInUse, IsFormInUse};
+ghost use Rattle.bech32_suggest.specs.Suggestions.{AddsEach, AddsOne, IsAddressUnder, IsMeant};
 
 use crate::mendings::{Suggestion, compared};
 use bech32_correction::MendedBy;
@@ -77,6 +79,39 @@ fn is_address_under(text: &str, hrp: &Hrp) -> bool
     }
 }
 
+// Whether an address is of a form in use: version 0 with 20 bytes or 32, or version 1 with 32.
+fn has_form_in_use(address: &SegwitHrpstring<'_>) -> bool
+    ensures { IsTrue result
+        ↔ IsFormInUse (address_version address.now) (address_program address.now) }
+{
+    let size = address.byte_iter().len();
+    match address.witness_version().to_u8() {
+        0 => size == 20 || size == 32,
+        1 => size == 32,
+        _ => false,
+    }
+}
+
+// Whether a text is an address of a form in use.
+fn is_address_in_use(text: &str) -> bool
+    ensures { IsTrue result ↔ IsAddressInUse text.now }
+{
+    match SegwitHrpstring::new(text) {
+        Ok(address) => has_form_in_use(&address),
+        Err(_) => false,
+    }
+}
+
+// Whether a text may have been meant. The typed text itself is no guess: its form may be any.
+fn is_meant(text: &str, wanted: &Wanted<'_>) -> bool
+    ensures { IsTrue result ↔ IsMeant (hrp_bytes wanted.now.hrp.now) wanted.now.typed.now text.now }
+{
+    if !is_address_under(text, wanted.hrp) {
+        return false;
+    }
+    text == wanted.typed || is_address_in_use(text)
+}
+
 // Whether a text stands among those that are found.
 fn is_among<A: Allocator>(text: &str, found: &[Suggestion<String<A>>]) -> bool
     ensures { IsTrue result ↔ IsAmong text.now (map (λ s. string_bytes s.text) found.now) }
@@ -89,7 +124,7 @@ fn is_among<A: Allocator>(text: &str, found: &[Suggestion<String<A>>]) -> bool
     false
 }
 
-// Adds a text, if it is such an address and does not stand among those that are found.
+// Adds a text, if it may have been meant and does not stand among those that are found.
 fn push_one<A: Allocator + Copy>(
     alloc: A,
     wanted: &Wanted<'_>,
@@ -103,7 +138,7 @@ fn push_one<A: Allocator + Copy>(
     if is_among(text, found.as_slice()) {
         return Ok(());
     }
-    if !is_address_under(text, wanted.hrp) {
+    if !is_meant(text, wanted) {
         return Ok(());
     }
     let (mending, place) = compared(wanted.typed.as_bytes(), text.as_bytes());
@@ -116,7 +151,7 @@ fn push_one<A: Allocator + Copy>(
     Ok(())
 }
 
-/// Adds each text that is such an address, and does not stand among those that are found.
+/// Adds each text that may have been meant, and does not stand among those that are found.
 pub(crate) fn push_each<A: Allocator + Copy, T: HasText>(
     alloc: A,
     wanted: &Wanted<'_>,

@@ -130,14 +130,20 @@ pub fn suggest_in<A: Allocator + Copy>(
 }
 
 /// The segwit addresses of a network that someone who typed a text may have meant ("did you mean"):
-/// those that [`SegwitHrpstring::new`](bech32_decode::SegwitHrpstring::new) accepts and whose
-/// human-readable part is `hrp`, in either case. Each `?` in the text is a character that cannot be
-/// read; its letters may be of either case, but not of both.
+/// those that [`SegwitHrpstring::new`](bech32_decode::SegwitHrpstring::new) accepts, whose
+/// human-readable part is `hrp`, in either case, and whose form is in use: version 0 with a program
+/// of 20 bytes or 32, or version 1 with one of 32. An output of another form has no rule for
+/// spending, so no guess is of such a form. The typed text itself is no guess: if it is an address
+/// of the network, it is returned, whatever its form. Each `?` in the text is a character that
+/// cannot be read; its letters may be of either case, but not of both.
 ///
 /// The texts that are tried are, in this order, those that [`nearest`](bech32_near::nearest) lists
 /// by Bech32, and by Bech32m, with the `?` as erasures; then, of a text without `?`, those that
 /// [`near_edits`](bech32_near_edits::near_edits) lists by Bech32, and by Bech32m. The addresses
-/// among them are returned in that order, each once, with what is done to the typed text.
+/// among them are returned in that order, each once, with what is done to the typed text. Two
+/// neighbours that are swapped differ at two characters, so `nearest` lists them where it looks for
+/// two errors: they are told as [`Mending::Swapped`](crate::Mending::Swapped), and stand in its
+/// order.
 ///
 /// So few texts are tried that of 100 which are no mistyped addresses at most one is expected to
 /// get an answer by chance. That makes how many errors are looked for: of 10 to 89 characters
@@ -145,8 +151,10 @@ pub fn suggest_in<A: Allocator + Copy>(
 /// beside three. In fewer characters, beside more `?`, and of a text of more than 91 bytes nothing
 /// is tried.
 ///
-/// If no more characters are wrong, the right address is among them. A suggestion is a guess: show
-/// it, and let people compare it with the source before it is paid to.
+/// If the text is in the grammar, and no more characters of its data part are wrong, the right
+/// address is among them, where its form is in use. That does not hold for an error in the
+/// human-readable part, or for a character that is not in the alphabet. A suggestion is a guess:
+/// show it, and let people compare it with the source before it is paid to.
 ///
 /// # Errors
 ///

@@ -15,6 +15,6 @@ returns g c =
     let told = rw (c.as_bytes.ensures.value, c.as_bytes-2.ensures.value) at c.compared-mending.ensures in
     added_told (hrp_bytes c.args.wanted.now.hrp.now) c.args.wanted.now.typed.now (λ s. (string_bytes s.text, (s.mending, s.place))) c.args.text.now c.args.found.now.items c.push.new.self.items _
     (λ m. let k : true ≡ false = sym (among.1 m) ∙ c.if-is_among.false in absurd (cc k))
-    (c.is_address_under.ensures.0 c.if-not-is_address_under.false)
+    (c.is_meant.ensures.0 c.if-not-is_meant.false)
     c.in_ok-push.ensures.items
     (λ i. (c.in_ok-text.ensures.ok i, (told.0 i, told.1 i)))
