@@ -9,7 +9,7 @@ ghost use Rattle.bech32_gf.specs.Fe32.{element};
 ghost use Rattle.bech32_gf_ext.specs.Fe1024.{pair};
 ghost use Rattle.bech32_gf_ext.specs.Fe1024 as fe1024;
 ghost use Rattle.bech32_checksum.specs.Roots.{HasLawfulRoots};
-ghost use Rattle.blech32.specs.Words.{blech32_words, blech32_words_keep, blech32_code};
+ghost use Rattle.blech32.specs.Words.{blech32_code, blech32_is_packed, blech32_words, blech32_words_keep};
 ghost use Rattle.blech32.specs.Roots.{blech32_roots};
 
 use bech32_checksum::{Checksum, CorrectingChecksum};
@@ -71,7 +71,7 @@ impl Checksum for Blech32 {
 
     ghost packing_laws = { blech32_words_keep };
 
-    ghost code_law = { refl };
+    ghost code_law = { blech32_is_packed };
 
     ghost degree_law = { refl };
 

@@ -1,7 +1,7 @@
 -- Near texts put into a buffer, and why none are.
 use Rattle.std.specs.Prelude.{map, flat_map, Result, Ok, Err, IfErr, MatchResult}
 use Rattle.std.specs.List.{AllByRecursion}
-use Rattle.std.proofs.Common.{◌≡◌, ◌<◌, ◌≤◌, ◌+◌, ◌*◌, ℕ, zero, suc, List, [], ◌∷◌, ◌++◌, None, Some, length, length-append, suc-mul, zero-mul, take, inr, refl, sym, mul-le-mul_right, ap, subst, ◌∙◌, arith}
+use Rattle.std.proofs.Common.{◌≡◌, ◌<◌, ◌≤◌, ◌+◌, ◌*◌, ℕ, zero, suc, List, [], ◌∷◌, ◌++◌, None, Some, length, length-append, suc-mul, zero-mul, take, inl, inr, refl, sym, mul-le-mul_right, ap, subst, ◌∙◌, arith}
 use Rattle.std.proofs.lemmas.List.{length-map, take_all}
 use Rattle.std.proofs.lemmas.List.Folds.{flat_map-map}
 use Rattle.bech32_gf.specs.Fe32.{elements_of, ops}
@@ -14,8 +14,11 @@ use Rattle.bech32_decode.specs.Refusals.{HasLengths}
 use Rattle.bech32_decode.specs.Text.{IsText, text_refusal}
 use Rattle.bech32_decode.proofs.Grammar.{text_refusal-none}
 use Rattle.bech32_encode.specs.Buffers.{IsPut}
-use Rattle.bech32_near.specs.NearTexts.{AreNearTexts, IsNearText, IsOutOfMemory}
-use Rattle.bech32_near.proofs.Nearby.{residue_left_by}
+use Rattle.bech32_finders.specs.Question.{Question}
+use Rattle.bech32_near.specs.NearTexts.{AreNearTexts, IsNearText, IsOutOfMemory, IsSearcherOf}
+use Rattle.bech32_near.proofs.Found.{near_texts}
+use Rattle.bech32_near.proofs.Nearby.{listings-from_outside, residue_left_by}
+use Rattle.bech32_correction.specs.Given.{AreWithin}
 use Rattle.caller_memory.specs.Memory.{IsKept}
 use Rattle.caller_memory.specs.declared.memory.Memory.{Memory as Lent}
 use Rattle.bech32_calls.specs.Correct.{IsResidueFault}
@@ -29,27 +32,28 @@ use Rattle.bech32_calls.proofs.Fitting.{are_all, are_few, joined_first, most_map
 use Rattle.bech32_calls.proofs.Letters.{IsUtf8-from_text}
 use Rattle.bech32_calls.proofs.Mending.{no_other_refusal}
 use Rattle.bech32_calls.proofs.Puts.{put-same}
-use Rattle.liquid_calls.specs.Nearest.{IsLiquidNearFault, IsLiquidNearFaultOrKept, PutsFirstLiquidNear, PutsLiquidNear, liquid_bound, most_liquid_errors}
+use Rattle.liquid_calls.specs.Nearest.{IsLiquidAsked, IsLiquidNearFault, IsLiquidNearFaultOrKept, IsLiquidSearched, PutsFirstLiquidNear, PutsLiquidNear, liquid_bound}
 
 module _ (code : Code) (text given : List ℕ) (errors : ℕ) where
   -- ---- why nothing is put
 
-  pub near_unread : (e : Refusal) → errors ≤ most_liquid_errors → IsResidueFault text code e → IsLiquidNearFault code text given errors e
+  pub near_unread : (e : Refusal) → IsLiquidAsked given errors → IsResidueFault text code e → IsLiquidNearFault code text given errors e
   near_unread BadNumber few h = absurd h
   near_unread Memory few h = absurd h
   near_unread _ few h = (few, h)
 
   -- the memory did not come back
-  pub kept_of_read : (old new : Lent) (hrp data_part : List ℕ) → errors ≤ most_liquid_errors → IsText text hrp data_part
-      → HasLengths code (length text) (length data_part) → IsKept old new → IsLiquidNearFaultOrKept code text given errors old new Memory
-  kept_of_read old new hrp data_part few is lengths kept =
+  pub kept_of_read : (old new : Lent) (hrp data_part : List ℕ) → IsLiquidAsked given errors → IsText text hrp data_part
+      → HasLengths code (length text) (length data_part) → AreWithin (length data_part) liquid_bound given → IsKept old new
+      → IsLiquidNearFaultOrKept code text given errors old new Memory
+  kept_of_read old new hrp data_part few is lengths within kept =
       let residue : List Fe32 = add ops (remainder_of ops code.generator (text_polynomial hrp (elements_of data_part))) code.target in
       let read : IsRead text code = record { hrp = hrp; data_part = data_part; residue = residue; read = residue_left_by code text hrp data_part residue is lengths (λ i. refl) } in
-      inr (refl, kept, few, read)
+      inr (refl, kept, few, (hrp, data_part, is, within), read)
 
   -- where the residue of a text is read, only memory may not suffice
-  pub read_memory : (e : Refusal) → errors ≤ most_liquid_errors → IsRead text code → IsLiquidNearFault code text given errors e → e ≡ Memory
-  read_memory BadNumber few is h = absurd (omega (arith, few, h))
+  pub read_memory : (e : Refusal) → IsLiquidAsked given errors → IsRead text code → IsLiquidNearFault code text given errors e → e ≡ Memory
+  read_memory BadNumber few is h = absurd (h few)
   read_memory Memory few is h = refl
   read_memory NotUtf8 few is h = absurd (h.1 (IsUtf8-from_text text is.hrp is.data_part is.read.grammar))
   read_memory (Text e) few is h =
@@ -58,6 +62,36 @@ module _ (code : Code) (text given : List ℕ) (errors : ℕ) where
       absurd (cc)
   read_memory (Checksum e) few is h = absurd (no_other_refusal code text is.hrp is.data_part is.residue e is.read h.1.1 h.1.2)
   read_memory _ few is h = absurd h.1
+
+  pub read_memory_or_kept : (old new : Lent) (r : Result Listed Refusal) → IsLiquidAsked given errors → IsRead text code
+      → IfErr r (IsLiquidNearFaultOrKept code text given errors old new) → IfErr r (λ e. e ≡ Memory)
+  read_memory_or_kept old new (Ok listed) few is h = h
+  read_memory_or_kept old new (Err e) few is (inl h) = read_memory e few is h
+  read_memory_or_kept old new (Err e) few is (inr h) = h.0
+
+  -- ---- nothing to search
+
+  -- where a given location is not in the data part, or they are more than the bound, no text is near
+  none_near : length code.target ≡ length code.generator → 0 < length code.generator → (hrp data_part : List ℕ) → IsText text hrp data_part
+      → HasLengths code (length text) (length data_part) → (AreWithin (length data_part) liquid_bound given → ⊥) → AreNearTexts code liquid_bound text given errors []
+  none_near size some hrp data_part is lengths outside =
+      let residue : List Fe32 = add ops (remainder_of ops code.generator (text_polynomial hrp (elements_of data_part))) code.target in
+      let read = residue_left_by code text hrp data_part residue is lengths (λ i. refl) in
+      let c : Question = record { residue = residue; window = length data_part; erasures = [] } in
+      let searcher : IsSearcherOf code text c = record { hrp = hrp; data_part = data_part; read = read; window = refl; fresh = refl } in
+      let none : List (List (ℕ × Fe32) × List ℕ) = [] in
+      near_texts code liquid_bound errors text given size (λ (m : List (ℕ × Fe32) × List ℕ). m.0) (λ (m : List (ℕ × Fe32) × List ℕ). m.1) [] none
+      (listings-from_outside code liquid_bound errors text given c some searcher [] outside refl) refl tt
+
+  pub puts_none : length code.target ≡ length code.generator → 0 < length code.generator → (hrp data_part old : List ℕ) → IsLiquidAsked given errors → IsText text hrp data_part
+      → HasLengths code (length text) (length data_part) → (AreWithin (length data_part) liquid_bound given → ⊥) → PutsLiquidNear code text given errors old old 0
+  puts_none size some hrp data_part old few is lengths outside = record {
+    asked = few;
+    found = [];
+    near = none_near size some hrp data_part is lengths outside;
+    count_is = refl;
+    put = record { fits = omega arith; buffer = refl; count_is = zero-mul (length text) };
+  }
 
   -- ---- what is put
 
@@ -81,10 +115,10 @@ module _ (code : Code) (text given : List ℕ) (errors : ℕ) where
     first_length n few =
         ap length (sym (joined_first f (λ m. m.1) near n)) ∙ joined_length (map f near) n (omega (arith, few, length-map near f)) are.near
 
-    pub puts_near : (old new : List ℕ) (count n : ℕ) → errors ≤ most_liquid_errors → count ≡ length near → n ≡ length near
+    pub puts_near : (old new : List ℕ) (count n : ℕ) → IsLiquidAsked given errors → count ≡ length near → n ≡ length near
         → IsPut (flat_map (λ m. (f m).1) (take n near)) old new (length (flat_map (λ m. (f m).1) (take n near))) → PutsLiquidNear code text given errors old new count
     puts_near old new count n few counted whole put = record {
-      few = few;
+      asked = few;
       found = map f near;
       near = are;
       count_is = counted ∙ sym (length-map near f);
@@ -93,11 +127,11 @@ module _ (code : Code) (text given : List ℕ) (errors : ℕ) where
           (first_length n (omega (arith, whole)) ∙ ap (λ (k : ℕ). k * length text) (whole ∙ sym counted)) put;
     }
 
-    pub puts_first_near : (old new : List ℕ) (count n : ℕ) → errors ≤ most_liquid_errors → count ≡ length near → n < length near
+    pub puts_first_near : (old new : List ℕ) (count n : ℕ) → IsLiquidAsked given errors → count ≡ length near → n < length near
         → IsMost (FirstFit (λ m. (f m).1) near (length old)) (length near) n
         → IsPut (flat_map (λ m. (f m).1) (take n near)) old new (length (flat_map (λ m. (f m).1) (take n near))) → PutsFirstLiquidNear code text given errors old new count
     puts_first_near old new count n few counted less most put = record {
-      few = few;
+      asked = few;
       found = map f near;
       near = are;
       count_is = counted ∙ sym (length-map near f);
@@ -124,7 +158,7 @@ module _ (code : Code) (text given : List ℕ) (errors : ℕ) where
 
   -- ---- what was found, listed
 
-  module _ (few : errors ≤ most_liquid_errors) (old new : List ℕ) (r : Result Listed Refusal) {V A E : Type 0} where
+  module _ (few : IsLiquidAsked given errors) (searched : IsLiquidSearched text given) (old new : List ℕ) (r : Result Listed Refusal) {V A E : Type 0} where
     abbrev Found : Result V E → (V → List A) → (A → List (ℕ × Fe32) × List ℕ) → Type 0
     Found found items f = MatchResult found (λ v. AreNearTexts code liquid_bound text given errors (map f (items v))) (λ _. IsOutOfMemory code liquid_bound text given errors)
 
@@ -153,4 +187,4 @@ module _ (code : Code) (text given : List ℕ) (errors : ℕ) where
     near_refused (Ok v) items f _ (listed, is, h) =
         subst (λ (t : Result Listed Refusal). IfErr t (λ e. IsLiquidNearFault code text given errors e × (new ≡ old))) (sym is) tt
     near_refused (Err e) items f out h =
-        subst (λ (t : Result Listed Refusal). IfErr t (λ e. IsLiquidNearFault code text given errors e × (new ≡ old))) (sym h.0) ((few, out), h.1)
+        subst (λ (t : Result Listed Refusal). IfErr t (λ e. IsLiquidNearFault code text given errors e × (new ≡ old))) (sym h.0) ((few, (searched, out)), h.1)

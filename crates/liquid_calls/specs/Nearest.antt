@@ -1,8 +1,11 @@
 -- The texts near a mistyped one by Blech32 put into a buffer, and why none are.
-use Rattle.std.specs.Prelude.{◌≡◌, ◌<◌, ◌≤◌, ◌*◌, ◌⊎◌, ℕ, List, length, take}
+use Rattle.std.specs.Prelude.{◌≡◌, ◌<◌, ◌≤◌, ◌+◌, ◌*◌, ◌⊎◌, ℕ, List, [], length, take}
 use Rattle.bech32_gf.specs.declared.gf32.Fe32.{Fe32}
 use Rattle.bech32_checksum.specs.Code.{Code}
 use Rattle.bech32_checksum.specs.Roots.{singleton_bound}
+use Rattle.bech32_bch.specs.Erasures.{with_erasures}
+use Rattle.bech32_correction.specs.Given.{AreWithin}
+use Rattle.bech32_decode.specs.Text.{IsText}
 use Rattle.bech32_encode.specs.Buffers.{IsPut}
 use Rattle.bech32_near.specs.NearTexts.{AreNearTexts, IsOutOfMemory}
 use Rattle.caller_memory.specs.Memory.{IsKept}
@@ -18,15 +21,32 @@ use Rattle.bech32_calls.specs.declared.refusal.Refusal.TheVariants.{BadNumber, M
 abbrev pub liquid_bound : ℕ
 liquid_bound = singleton_bound 1 6
 
--- the most errors that are looked for
+-- the most errors that are looked for, and the most that twice the errors, with the different given
+-- locations, may be
 abbrev pub most_liquid_errors : ℕ
 most_liquid_errors = 3
 
--- this many texts near this one, which are all, are put into a buffer, one behind another; they are
--- asked for with three errors at most, and each has the length of this one
+abbrev pub most_liquid_sought : ℕ
+most_liquid_sought = 7
+
+-- so many errors may be looked for, with these locations given: where these are more than the
+-- bound there is nothing to search
+abbrev pub IsLiquidAsked : List ℕ → ℕ → Type 0
+IsLiquidAsked given errors = (errors ≤ most_liquid_errors)
+    × ((liquid_bound < length (with_erasures [] given))
+    ⊎ (2 * errors + length (with_erasures [] given) ≤ most_liquid_sought))
+
+-- there is something to search in the text: the given locations are in the data part, and no more
+-- than the bound
+abbrev pub IsLiquidSearched : List ℕ → List ℕ → Type 0
+IsLiquidSearched text given = (hrp : List ℕ) × (data_part : List ℕ)
+    × IsText text hrp data_part × AreWithin (length data_part) liquid_bound given
+
+-- this many texts near this one, which are all, are put into a buffer, one behind another; so many
+-- errors may be looked for, and each text has the length of this one
 pub record PutsLiquidNear (code : Code) (text given : List ℕ) (errors : ℕ)
     (old new : List ℕ) (count : ℕ) : Type 0 where
-  pub few : errors ≤ most_liquid_errors
+  pub asked : IsLiquidAsked given errors
   pub found : List (List (ℕ × Fe32) × List ℕ)
   pub near : AreNearTexts code liquid_bound text given errors found
   pub count_is : count ≡ length found
@@ -36,7 +56,7 @@ pub record PutsLiquidNear (code : Code) (text given : List ℕ) (errors : ℕ)
 -- the first ones, are put there
 pub record PutsFirstLiquidNear (code : Code) (text given : List ℕ) (errors : ℕ)
     (old new : List ℕ) (count : ℕ) : Type 0 where
-  pub few : errors ≤ most_liquid_errors
+  pub asked : IsLiquidAsked given errors
   pub found : List (List (ℕ × Fe32) × List ℕ)
   pub near : AreNearTexts code liquid_bound text given errors found
   pub count_is : count ≡ length found
@@ -45,18 +65,21 @@ pub record PutsFirstLiquidNear (code : Code) (text given : List ℕ) (errors : �
   pub most : IsMost (FirstFit (λ m. m.1) found (length old)) (length found) put_count
   pub put : IsPut (joined (take put_count found)) old new (put_count * length text)
 
--- why no texts are put into a buffer: more than three errors are asked for; else no residue of the
--- text is read; or one is, and memory runs out
+-- why no texts are put into a buffer: so many errors may not be looked for; else no residue of the
+-- text is read; or one is, there is something to search, and memory runs out
 abbrev pub IsLiquidNearFault : Code → List ℕ → List ℕ → ℕ → Refusal → Type 0
-IsLiquidNearFault code text given errors BadNumber = most_liquid_errors < errors
+IsLiquidNearFault code text given errors BadNumber = (IsLiquidAsked given errors → ⊥)
 IsLiquidNearFault code text given errors Memory =
-    (errors ≤ most_liquid_errors) × IsOutOfMemory code liquid_bound text given errors
+    IsLiquidAsked given errors
+    × (IsLiquidSearched text given × IsOutOfMemory code liquid_bound text given errors)
 IsLiquidNearFault code text given errors e =
-    (errors ≤ most_liquid_errors) × IsResidueFault text code e
+    IsLiquidAsked given errors × IsResidueFault text code e
 
 -- why no texts are put into a buffer; or memory that had bytes did not come back: then nothing is
--- said but that at most three errors are asked for, and that the residue of the text is read
+-- said but that so many errors may be looked for, that there is something to search, and that the
+-- residue of the text is read
 abbrev pub IsLiquidNearFaultOrKept : Code → List ℕ → List ℕ → ℕ → Lent → Lent → Refusal → Type 0
 IsLiquidNearFaultOrKept code text given errors old new e =
     IsLiquidNearFault code text given errors e
-    ⊎ ((e ≡ Memory) × IsKept old new × (errors ≤ most_liquid_errors) × IsRead text code)
+    ⊎ ((e ≡ Memory) × IsKept old new × IsLiquidAsked given errors
+    × IsLiquidSearched text given × IsRead text code)

@@ -1,17 +1,18 @@
-use Rattle.std.specs.Prelude.{string_bytes}
-use Rattle.std.proofs.Common.{rules, ◌≡◌, ◌≤◌, inl, inr, refl, arith}
+use Rattle.std.proofs.Common.{◌≡◌, ◌<◌, inl, length, refl, arith}
 use Rattle.std.proofs.lemmas.Result.{err_from_is_err_and}
 use Rattle.blech32.specs.Words.{blech32_code}
-use Rattle.bech32_calls.specs.Listing.{EndsWith}
-use Rattle.bech32_calls.specs.declared.refusal.Refusal.TheVariants.{Memory}
-use Rattle.bech32_calls.proofs.Ending.{ends_err, ends_ok, err_more, returns_memory}
-use Rattle.liquid_calls.specs.Nearest.{IsLiquidNearFaultOrKept}
-use Rattle.liquid_calls.proofs.Near.{kept_of_read, long_listed, near_all, near_first, near_refused, near_unread, read_memory}
+use Rattle.liquid_calls.proofs.Near.{near_unread, puts_none, read_memory, read_memory_or_kept}
 use Rattle.liquid_calls.proofs.nearest.put_nearest.Goals as goal
+
+pub returns-then-not-is_asked-clause-refused : goal.returns-then-not-is_asked-clause-refused
+returns-then-not-is_asked-clause-refused c = inl (λ few. let yes = c.is_asked.ensures.1 few in let no = c.if-not-is_asked.true in absurd cc)
+
+pub returns-then-not-is_asked-clause-accepts : goal.returns-then-not-is_asked-clause-accepts
+returns-then-not-is_asked-clause-accepts c = λ few is. let yes = c.is_asked.ensures.1 few in let no = c.if-not-is_asked.true in absurd cc
 
 pub returns-in_err-reading-clause-refused : goal.returns-in_err-reading-clause-refused
 returns-in_err-reading-clause-refused c =
-    let few : c.args.errors ≤ 3 = omega arith in
+    let few = c.is_asked.ensures.0 c.if-not-is_asked.false in
     let p = err_from_is_err_and c.from_residual.result c.from_residual.ensures.1 in
     rw p.1 (rw p.2 (inl (near_unread blech32_code c.args.bytes.now c.args.given.now c.args.errors c.in_err-reading.field-0.0 few c.in_err-reading.ensures)))
 
@@ -22,72 +23,34 @@ returns-in_err-reading-clause-accepts c few is =
     (rw p.2 (read_memory blech32_code c.args.bytes.now c.args.given.now c.args.errors c.in_err-reading.field-0.0 few is
     (near_unread blech32_code c.args.bytes.now c.args.given.now c.args.errors c.in_err-reading.field-0.0 few c.in_err-reading.ensures)))
 
-pub near_to-requires : goal.near_to-requires
-near_to-requires c = (search rules, c.in_ok-reading.ensures.1)
+pub returns-then-not-is_searched-clause-all : goal.returns-then-not-is_searched-clause-all
+returns-then-not-is_searched-clause-all c = λ all.
+    let few = c.is_asked.ensures.0 c.if-not-is_asked.false in
+    let r = c.in_ok-reading.reading in
+    let same = c.in_ok-reading.ensures.0 in
+    let some : 0 < length blech32_code.generator = omega arith in
+    puts_none blech32_code c.args.bytes.now c.args.given.now c.args.errors refl some r.hrp.now r.data_part.now c.args.texts.now few (rw same at r.is_reading.grammar) (rw same at c.in_ok-reading.ensures.1)
+    (λ within. let yes = c.is_searched.ensures.1 within in let no = c.if-not-is_searched.true in absurd cc)
+
+pub put_near-requires : goal.put_near-requires
+put_near-requires c =
+    let few = c.is_asked.ensures.0 c.if-not-is_asked.false in
+    let within = c.is_searched.ensures.0 c.if-not-is_searched.false in
+    record { lengths = c.in_ok-reading.ensures.1; asked = few; searched = within }
 
 pub returns-clause-all : goal.returns-clause-all
-returns-clause-all c =
-    let back : EndsWith c.args.memory.now c.end_with.new.memory c.list_texts-listed.result c.end_with.result = search rules in
-    let few : c.args.errors ≤ 3 = omega arith in
-    let t = c.in_ok-reading.reading.text.now in
-    let listed = near_all blech32_code t c.args.given.now c.args.errors few c.args.texts.now c.list_texts-listed.new.texts c.list_texts-listed.result
-    c.near_to.result (λ v. v.items) (λ m. (m.listing, string_bytes m.text)) c.near_to.ensures c.list_texts-listed.ensures in
-    ends_ok c.args.memory.now c.end_with.new.memory c.list_texts-listed.result c.end_with.result back _ (rw c.in_ok-reading.ensures.0 at listed)
+returns-clause-all c = rw c.in_ok-reading.ensures.0 at c.put_near.ensures.all
 
 pub returns-clause-first : goal.returns-clause-first
-returns-clause-first c =
-    let back : EndsWith c.args.memory.now c.end_with.new.memory c.list_texts-listed.result c.end_with.result = search rules in
-    let few : c.args.errors ≤ 3 = omega arith in
-    let t = c.in_ok-reading.reading.text.now in
-    let listed = near_first blech32_code t c.args.given.now c.args.errors few c.args.texts.now c.list_texts-listed.new.texts c.list_texts-listed.result
-    c.near_to.result (λ v. v.items) (λ m. (m.listing, string_bytes m.text)) c.near_to.ensures c.list_texts-listed.ensures in
-    ends_ok c.args.memory.now c.end_with.new.memory c.list_texts-listed.result c.end_with.result back _ (rw c.in_ok-reading.ensures.0 at listed)
+returns-clause-first c = rw c.in_ok-reading.ensures.0 at c.put_near.ensures.first
 
 pub returns-clause-room : goal.returns-clause-room
-returns-clause-room c =
-    let back : EndsWith c.args.memory.now c.end_with.new.memory c.list_texts-listed.result c.end_with.result = search rules in
-    let few : c.args.errors ≤ 3 = omega arith in
-    let t = c.in_ok-reading.reading.text.now in
-    let listed = near_first blech32_code t c.args.given.now c.args.errors few c.args.texts.now c.list_texts-listed.new.texts c.list_texts-listed.result
-    c.near_to.result (λ v. v.items) (λ m. (m.listing, string_bytes m.text)) c.near_to.ensures c.list_texts-listed.ensures in
-    ends_ok c.args.memory.now c.end_with.new.memory c.list_texts-listed.result c.end_with.result back _
-    (long_listed blech32_code c.args.bytes.now c.args.given.now c.args.errors c.args.texts.now c.list_texts-listed.new.texts c.list_texts-listed.result
-    (rw c.in_ok-reading.ensures.0 at listed))
+returns-clause-room c = rw c.in_ok-reading.ensures.0 at c.put_near.ensures.room
 
 pub returns-clause-accepts : goal.returns-clause-accepts
 returns-clause-accepts c few is =
-    let back : EndsWith c.args.memory.now c.end_with.new.memory c.list_texts-listed.result c.end_with.result = search rules in
-    let t = c.in_ok-reading.reading.text.now in
-    let refused = near_refused blech32_code t c.args.given.now c.args.errors few c.args.texts.now c.list_texts-listed.new.texts c.list_texts-listed.result
-    c.near_to.result (λ v. v.items) (λ m. (m.listing, string_bytes m.text)) c.near_to.ensures c.list_texts-listed.ensures in
-    ends_err c.args.memory.now c.end_with.new.memory c.list_texts-listed.result c.end_with.result back (λ e. e ≡ Memory)
-    (err_more _ (λ e. e ≡ Memory) c.list_texts-listed.result (λ e h. read_memory blech32_code c.args.bytes.now c.args.given.now c.args.errors e few is (rw c.in_ok-reading.ensures.0 at h.0)) refused)
-    (λ _. refl)
+    let refused = rw c.in_ok-reading.ensures.0 at c.put_near.ensures.refused in
+    read_memory_or_kept blech32_code c.args.bytes.now c.args.given.now c.args.errors c.args.memory.now c.put_near.new.memory c.put_near.result few is refused
 
 pub returns-clause-refused : goal.returns-clause-refused
-returns-clause-refused c =
-    let back : EndsWith c.args.memory.now c.end_with.new.memory c.list_texts-listed.result c.end_with.result = search rules in
-    let few : c.args.errors ≤ 3 = omega arith in
-    let t = c.in_ok-reading.reading.text.now in
-    let refused = near_refused blech32_code t c.args.given.now c.args.errors few c.args.texts.now c.list_texts-listed.new.texts c.list_texts-listed.result
-    c.near_to.result (λ v. v.items) (λ m. (m.listing, string_bytes m.text)) c.near_to.ensures c.list_texts-listed.ensures in
-    let r = c.in_ok-reading.reading in
-    let P = IsLiquidNearFaultOrKept blech32_code c.args.bytes.now c.args.given.now c.args.errors c.args.memory.now c.end_with.new.memory in
-    ends_err c.args.memory.now c.end_with.new.memory c.list_texts-listed.result c.end_with.result back P
-    (err_more _ P c.list_texts-listed.result (λ e h. inl (rw c.in_ok-reading.ensures.0 at h.0)) refused)
-    (λ kept. kept_of_read blech32_code c.args.bytes.now c.args.given.now c.args.errors c.args.memory.now c.end_with.new.memory r.hrp.now r.data_part.now few
-    (rw c.in_ok-reading.ensures.0 at r.is_reading.grammar) (rw c.in_ok-reading.ensures.0 at c.in_ok-reading.ensures.1) kept)
-
-pub returns-clause-same : goal.returns-clause-same
-returns-clause-same c =
-    let back : EndsWith c.args.memory.now c.end_with.new.memory c.list_texts-listed.result c.end_with.result = search rules in
-    let few : c.args.errors ≤ 3 = omega arith in
-    let t = c.in_ok-reading.reading.text.now in
-    let refused = near_refused blech32_code t c.args.given.now c.args.errors few c.args.texts.now c.list_texts-listed.new.texts c.list_texts-listed.result
-    c.near_to.result (λ v. v.items) (λ m. (m.listing, string_bytes m.text)) c.near_to.ensures c.list_texts-listed.ensures in
-    ends_err c.args.memory.now c.end_with.new.memory c.list_texts-listed.result c.end_with.result back _ (err_more _ _ c.list_texts-listed.result (λ e h. inl h.1) refused) (λ kept. inr (refl, kept))
-
-pub returns-clause-memory : goal.returns-clause-memory
-returns-clause-memory c =
-    let back : EndsWith c.args.memory.now c.end_with.new.memory c.list_texts-listed.result c.end_with.result = search rules in
-    returns_memory c.args.memory.now c.end_with.new.memory c.list_texts-listed.result c.end_with.result back
+returns-clause-refused c = rw c.in_ok-reading.ensures.0 at c.put_near.ensures.refused
