@@ -8,7 +8,8 @@ use Rattle.bech32_hrp.specs.Hrp.{first_of}
 use Rattle.codex32.specs.Code.{codex32, long_codex32}
 use Rattle.codex32.specs.Encode.{code_of_byte_count, is_byte_count, is_long_byte_count}
 use Rattle.codex32.specs.HeaderParts.{threshold_number}
-use Rattle.codex32.specs.Split.{count_fault, payload_count, random_fault, random_size, room_fault, secret_fault, split_refusal, text_size, unshared_split_fault}
+use Rattle.codex32.specs.Split.{count_fault, equal_fault, payload_count, random_fault, random_size, room_fault, secret_fault, split_refusal, text_size, unshared_split_fault}
+use Rattle.codex32.specs.declared.error.SplitError.{SplitError}
 use Rattle.codex32.specs.declared.error.SplitError.TheVariants as refusals
 use Rattle.codex32.specs.declared.threshold.Threshold.{Threshold}
 use Rattle.codex32.proofs.Digits.{or_true}
@@ -24,15 +25,19 @@ told-more n k rest said =
 
 -- ---- why a secret is not split
 
-chain : {E : Type 0} (a b b2 c d d2 e e2 : Option E) → b2 ≡ b → (b ≡ None → d2 ≡ d) → (b ≡ None → c ≡ None → e2 ≡ e)
+chain : {E : Type 0} (a b b2 c d d2 e e2 : Option E) → b2 ≡ b → (b ≡ None → d2 ≡ d) → (b ≡ None → c ≡ None → d ≡ None → e2 ≡ e)
     → first_of a (first_of b2 (first_of c (first_of d2 e2))) ≡ first_of a (first_of b (first_of c (first_of d e)))
 chain {E} a b b2 c d d2 e e2 same drawn room = ap (λ (o : Option E). first_of a o) (ap (λ (o : Option E). first_of o (first_of c (first_of d2 e2))) same ∙ behind b drawn room)
   where
-    last : (c : Option E) → d2 ≡ d → (c ≡ None → e2 ≡ e) → first_of c (first_of d2 e2) ≡ first_of c (first_of d e)
-    last None drawn room = ap (λ (o : Option E). first_of o e2) drawn ∙ ap (λ (o : Option E). first_of d o) (room refl)
+    end : (d : Option E) → (d ≡ None → e2 ≡ e) → first_of d e2 ≡ first_of d e
+    end None room = room refl
+    end (Some x) room = refl
+
+    last : (c : Option E) → d2 ≡ d → (c ≡ None → d ≡ None → e2 ≡ e) → first_of c (first_of d2 e2) ≡ first_of c (first_of d e)
+    last None drawn room = ap (λ (o : Option E). first_of o e2) drawn ∙ end d (room refl)
     last (Some x) drawn room = refl
 
-    behind : (b : Option E) → (b ≡ None → d2 ≡ d) → (b ≡ None → c ≡ None → e2 ≡ e) → first_of b (first_of c (first_of d2 e2)) ≡ first_of b (first_of c (first_of d e))
+    behind : (b : Option E) → (b ≡ None → d2 ≡ d) → (b ≡ None → c ≡ None → d ≡ None → e2 ≡ e) → first_of b (first_of c (first_of d2 e2)) ≡ first_of b (first_of c (first_of d e))
     behind None drawn room = last c (drawn refl) (room refl)
     behind (Some x) drawn room = refl
 
@@ -97,15 +102,26 @@ same-size n = elim (cases_lt n 65) [
   | inr h ↦ ap secret_fault (min-over n 65 h) ∙ sym (cond-false (is_byte_count n || is_long_byte_count n) None (Some refusals.Size) (too-many n (omega (arith, h))))
 ]
 
-differs : (t : Threshold) (n r : ℕ) → n ≤ 64 → 824 < r → random_fault t n r ≡ Some refusals.Random
+-- what is wrong with the number of random bytes
+abbrev number_fault : Threshold → ℕ → ℕ → Option SplitError
+number_fault t n r = cond (r == random_size t n) None (Some refusals.Random)
+
+differs : (t : Threshold) (n r : ℕ) → n ≤ 64 → 824 < r → number_fault t n r ≡ Some refusals.Random
 differs t n r h over =
     cond-false (r == random_size t n) None (Some refusals.Random) (false_from_ne_true (r == random_size t n) (λ e. let same : r ≡ random_size t n = eqb-true r (random_size t n) e in absurd (omega (arith, same, over, random-most t n h))))
 
 -- and of more than 824 random bytes 825
-same-random : (t : Threshold) (n r : ℕ) → n ≤ 64 → random_fault t n (min r 825) ≡ random_fault t n r
-same-random t n r h = elim (cases_lt r 825) [
-  | inl l ↦ ap (λ (m : ℕ). random_fault t n m) (min-under r 825 (omega (arith, l)))
-  | inr l ↦ ap (λ (m : ℕ). random_fault t n m) (min-over r 825 l) ∙ differs t n 825 h (omega arith) ∙ sym (differs t n r h (omega (arith, l)))
+same-number : (t : Threshold) (n r : ℕ) → n ≤ 64 → number_fault t n (min r 825) ≡ number_fault t n r
+same-number t n r h = elim (cases_lt r 825) [
+  | inl l ↦ ap (λ (m : ℕ). number_fault t n m) (min-under r 825 (omega (arith, l)))
+  | inr l ↦ ap (λ (m : ℕ). number_fault t n m) (min-over r 825 l) ∙ differs t n 825 h (omega arith) ∙ sym (differs t n r h (omega (arith, l)))
+]
+
+-- where there are as many as are drawn, they are few
+few-random : (t : Threshold) (n r : ℕ) → n ≤ 64 → number_fault t n r ≡ None → min r 825 ≡ r
+few-random t n r h fine = elim (cases_lt r 825) [
+  | inl l ↦ min-under r 825 (omega (arith, l))
+  | inr l ↦ absurd (let k = sym fine ∙ differs t n r h (omega (arith, l)) in cc)
 ]
 
 most-shares : (t : Threshold) (count : ℕ) → count_fault t count ≡ None → count ≤ 31
@@ -120,15 +136,19 @@ most-shares t count h =
 enough : (n count room : ℕ) → count * text_size n ≤ room → room_fault n count room ≡ None
 enough n count room h = cond-true (nat_le (count * text_size n) room) None (Some refusals.NoRoom) (le-leb (count * text_size n) room h)
 
-module _ (t : Threshold) (n count r room : ℕ) (wide : 3937 ≤ room) where
+-- random bytes of which those behind 825 are cut
+module _ (t : Threshold) (n count room : ℕ) (random taken : List ℕ) (wide : 3937 ≤ room) (some : length taken ≡ min (length random) 825) (all : min (length random) 825 ≡ length random → taken ≡ random) where
   -- of a secret and random bytes that are cut, with room for all shares there can be
-  pub same-refusal : split_refusal t (min n 65) count (min r 825) room ≡ split_refusal t n count r (count * text_size n)
+  pub same-refusal : split_refusal t (min n 65) count taken room ≡ split_refusal t n count random (count * text_size n)
   same-refusal =
-      chain (unshared_split_fault t) (secret_fault n) (secret_fault (min n 65)) (count_fault t count) (random_fault t n r) (random_fault t (min n 65) (min r 825))
-      (room_fault n count (count * text_size n)) (room_fault (min n 65) count room)
+      chain (unshared_split_fault t) (secret_fault n) (secret_fault (min n 65)) (count_fault t count) (random_fault t n random) (random_fault t (min n 65) taken)
+      (first_of (equal_fault random) (room_fault n count (count * text_size n))) (first_of (equal_fault taken) (room_fault (min n 65) count room))
       (same-size n)
-      (λ h. ap (λ (m : ℕ). random_fault t m (min r 825)) (cut h) ∙ same-random t n r (bytes-most n h))
-      (λ h k. ap (λ (m : ℕ). room_fault m count room) (cut h) ∙ enough n count room (within h k) ∙ sym (enough n count (count * text_size n) (omega arith)))
+      (λ h. ap (λ (m : ℕ). number_fault t m (length taken)) (cut h) ∙ ap (λ (m : ℕ). number_fault t n m) some ∙ same-number t n (length random) (bytes-most n h))
+      (λ h k d.
+      ap (λ (r : List ℕ). first_of (equal_fault r) (room_fault (min n 65) count room)) (all (few-random t n (length random) (bytes-most n h) d))
+      ∙ ap (λ (o : Option SplitError). first_of (equal_fault random) o)
+      (ap (λ (m : ℕ). room_fault m count room) (cut h) ∙ enough n count room (within h k) ∙ sym (enough n count (count * text_size n) (omega arith))))
     where
       cut : secret_fault n ≡ None → min n 65 ≡ n
       cut h = min-under n 65 (omega (arith, bytes-most n h))
@@ -137,17 +157,13 @@ module _ (t : Threshold) (n count r room : ℕ) (wide : 3937 ≤ room) where
       within h k = let all = times count (text_size n) 31 127 (most-shares t count k) (text-most n h) in omega (arith, all, wide)
 
   -- of a secret that is split nothing is cut
-  pub whole-secret : split_refusal t n count r (count * text_size n) ≡ None → min n 65 ≡ n
+  pub whole-secret : split_refusal t n count random (count * text_size n) ≡ None → min n 65 ≡ n
   whole-secret h =
       let size : secret_fault n ≡ None = (none_first (secret_fault n) _ (none_first (unshared_split_fault t) _ h).1).0 in
       min-under n 65 (omega (arith, bytes-most n size))
 
-  pub whole-random : split_refusal t n count r (count * text_size n) ≡ None → min r 825 ≡ r
+  pub whole-random : split_refusal t n count random (count * text_size n) ≡ None → min (length random) 825 ≡ length random
   whole-random h =
       let sized = none_first (secret_fault n) _ (none_first (unshared_split_fault t) _ h).1 in
       let counted = none_first (count_fault t count) _ sized.1 in
-      let drawn = none_first (random_fault t n r) _ counted.1 in
-      elim (cases_lt r 825) [
-        | inl l ↦ min-under r 825 (omega (arith, l))
-        | inr l ↦ absurd (let k = sym drawn.0 ∙ differs t n r (bytes-most n sized.0) (omega (arith, l)) in cc)
-      ]
+      few-random t n (length random) (bytes-most n sized.0) (none_first (random_fault t n random) _ counted.1).0

@@ -48,7 +48,7 @@ pub record AreOfSplit (asked : AskedSplit) (t : Threshold) (i : Identifier) : Ty
 -- why the secret is not split, where there is room for the shares
 abbrev pub split_fault : Threshold → ℕ → List ℕ → List ℕ → Option SplitError
 split_fault t count secret random =
-    split_refusal t (length secret) count (length random) (count * text_size (length secret))
+    split_refusal t (length secret) count random (count * text_size (length secret))
 
 -- the first `count` of texts of n characters each, one behind another, each with a space before it
 abbrev pub spaced_shares : ℕ → List ℕ → ℕ → List ℕ

@@ -1,7 +1,9 @@
 //! The replies to commands, by which `line_program` replies to a line.
 
+ghost use Rattle.std.proofs.Common.{arith};
 ghost use Rattle.std.specs.Prelude.{◌+◌, ◌<◌, ◌≤◌, vec_len, vec_capacity, IfErr, OnOk};
 ghost use Rattle.line_program.specs.Added.{AddsAnyOrRefuses, AddsOrSaysNumber};
+ghost use Rattle.line_program.specs.Limit.{longest_line};
 ghost use Rattle.line_program.specs.Reply.{IsReplyBy};
 ghost use Rattle.c32_replies.specs.Numbers.{number_of_codex32_reply};
 ghost use Rattle.c32_replies.specs.Reply.{IsCodex32Answer};
@@ -12,7 +14,7 @@ use crate::parse::parse;
 use crate::refusal::Refusal;
 use crate::share::share;
 use bech32::Fe32;
-use line_program::{Replies, end_reply, text_of_line};
+use line_program::{LONGEST_LINE, Replies, end_reply, text_of_line};
 use std::alloc::Allocator;
 
 /// The commands of this program, answered with memory from `alloc`.
@@ -51,13 +53,14 @@ impl<A: Allocator + Copy> Commands<A> {
     // Adds what is said of a line, or leaves all as it was and returns the number of the refusal.
     fn answer_line(&self, line: &[u8], out: &mut Vec<u8>) -> Result<(), u8>
         requires { vec_len out.old + 2048 ≤ vec_capacity out.old }
-        ensures answer { AddsOrSaysNumber (IsReplyBy codex32_request_of IsCodex32Answer line.now)
+        ensures answer { AddsOrSaysNumber
+            (IsReplyBy longest_line codex32_request_of IsCodex32Answer line.now)
             result out.old.items out.new.items }
         ensures small { IfErr result (λ number. number < 100) }
         ensures room { OnOk result (vec_len out.new + 1 ≤ vec_capacity out.new) }
         ensures capacity { vec_capacity out.old ≤ vec_capacity out.new }
     {
-        let text = text_of_line(line)?;
+        let text = text_of_line(line, LONGEST_LINE)?;
         let Some(command) = Command::parse(text) else {
             return Err(3);
         };
@@ -69,9 +72,15 @@ impl<A: Allocator + Copy> Commands<A> {
 impl<A: Allocator + Copy> Replies for Commands<A> {
     ghost use Rattle.line_program.specs.laws.LongLines.{long_lines};
 
-    ghost is_reply = { IsReplyBy codex32_request_of IsCodex32Answer };
+    ghost LINE_LIMIT = { longest_line };
 
-    ghost too_long = { long_lines codex32_request_of IsCodex32Answer };
+    ghost limited = { Prim.omega arith };
+
+    ghost is_reply = { IsReplyBy longest_line codex32_request_of IsCodex32Answer };
+
+    ghost too_long = { long_lines longest_line codex32_request_of IsCodex32Answer };
+
+    const LINE_LIMIT: usize = LONGEST_LINE;
 
     fn reply(&self, line: &[u8], out: &mut Vec<u8>) {
         end_reply(self.answer_line(line, out), out);

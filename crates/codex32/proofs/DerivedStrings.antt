@@ -35,7 +35,7 @@ use Rattle.codex32.proofs.ShareParts.{fits}
 use Rattle.codex32.proofs.ShareStrings.{string_of_elements}
 
 -- what all shares give, they are taken to give together
-derived-from_given : (k : ℕ) (xs : List Fe32) (ts : List (List Fe32)) (n : ℕ) (x : Fe32) (es : List Fe32) → k ≤ length xs → IsGiven ops k xs ts n x es → IsDerived ops xs ts n x es
+pub derived-from_given : (k : ℕ) (xs : List Fe32) (ts : List (List Fe32)) (n : ℕ) (x : Fe32) (es : List Fe32) → k ≤ length xs → IsGiven ops k xs ts n x es → IsDerived ops xs ts n x es
 derived-from_given k xs ts n x es enough given = record {
   size = given.size;
   elements = λ i within.
@@ -140,7 +140,7 @@ unshared s ss x whole zero_is = elim (is_field.same_or_not x secret_index) [
   | no n ↦ absurd (whole.shared (zero_is, n))
 ]
 
-alone : (n : ℕ) → is_threshold_number n ≡ true → n ≤ 1 → n ≡ 0
+pub alone : (n : ℕ) → is_threshold_number n ≡ true → n ≤ 1 → n ≡ 0
 alone zero h l = refl
 alone (suc zero) h l = absurd cc
 alone (suc (suc n)) h l = absurd (omega (arith, l))

@@ -21,9 +21,13 @@ pub mod Same
 pub mod Separated
 pub mod ShareParts
 pub mod ShareStrings
+pub mod ShareTexts
+pub mod SplitAccepted
 pub mod SplitBase
 pub mod SplitIndices
 pub mod SplitMade
 pub mod SplitRefusals
+pub mod SplitRows
+pub mod SplitSecrecy
 pub mod Strings
 pub mod TextAt

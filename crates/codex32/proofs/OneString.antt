@@ -174,7 +174,7 @@ kept s ss o os x text whole all is =
       spelling = is.spelling;
     }
 
-none_whole : (x : Fe32) → IsWholeSet [] x → ⊥
+pub none_whole : (x : Fe32) → IsWholeSet [] x → ⊥
 none_whole x whole = absurd (let k = enough [] x whole in omega arith)
 
 pub same : (ss others : List Share) (x : Fe32) (text : List ℕ) → IsWholeSet ss x → (DoContradict ss → ⊥) → IsWholeSet others x → AllByRecursion (IsGivenShare ss) others
@@ -226,13 +226,13 @@ read (s ∷ us) x text o whole is of =
 
 -- ---- the parts of a string
 
-parted : {A : Type 0} (xs ys us vs : List A) → length xs ≡ length ys → xs ++ us ≡ ys ++ vs → (xs ≡ ys) × (us ≡ vs)
+pub parted : {A : Type 0} (xs ys us vs : List A) → length xs ≡ length ys → xs ++ us ≡ ys ++ vs → (xs ≡ ys) × (us ≡ vs)
 parted [] [] us vs e h = (refl, h)
 parted [] (y ∷ ys) us vs e h = absurd (omega (arith, e))
 parted (x ∷ xs) [] us vs e h = absurd (omega (arith, e))
 parted (x ∷ xs) (y ∷ ys) us vs e h = let rest = parted xs ys us vs (omega (arith, e)) (rest_same _ _ _ _ h) in (same_cons _ _ _ _ (first_same _ _ _ _ h) rest.0, rest.1)
 
-six : (front : List ℕ) (t : Threshold) (i : Identifier) (x : Fe32) → elements_of front ≡ header_elements_of t i x → length front ≡ 6
+pub six : (front : List ℕ) (t : Threshold) (i : Identifier) (x : Fe32) → elements_of front ≡ header_elements_of t i x → length front ≡ 6
 six front t i x header = let full = i.full in let both = length-append i.elements (x ∷ []) in let k = ap length header in omega (arith, length-map front element_of, k, both, full)
 
 pub same_parts : (text : List ℕ) (t u : Threshold) (i j : Identifier) (x y : Fe32) (p q : List ℕ) → IsShareString text t i x p → IsShareString text u j y q → (t ≡ u) × (i ≡ j) × (x ≡ y) × (p ≡ q)

@@ -133,21 +133,23 @@ module _ (t : Threshold) (i : Identifier) (n : ℕ) (own texts : List ℕ) (m : 
   base-members [] are = absurd are
   base-members (s ∷ ss) are = ((member t i secret_index made.payload n own s made.own_is are.0).0, are_members t i n 0 texts m ss (from_first t i n own texts m made) are.1)
 
+  pub base-indices : (base : List Share) → AreSharesOf (own ∷ first_texts n texts m) base → indices_of base ≡ secret_index ∷ indices_from 0 m
+  base-indices [] are = absurd are
+  base-indices (s ∷ ss) are =
+      same_cons _ _ _ _ (member t i secret_index made.payload n own s made.own_is are.0).1 (their_indices t i n 0 texts m ss (from_first t i n own texts m made) are.1)
+
   once : (base : List Share) → AreSharesOf (own ∷ first_texts n texts m) base → IsOnce (indices_of base)
-  once [] are = absurd are
-  once (s ∷ ss) are =
-      let all : indices_of (s ∷ ss) ≡ secret_index ∷ indices_from 0 m =
-      same_cons _ _ _ _ (member t i secret_index made.payload n own s made.own_is are.0).1 (their_indices t i n 0 texts m ss (from_first t i n own texts m made) are.1) in
+  once base are =
       let few : 0 + m ≤ 31 = let few = made.few in omega (arith, few) in
-      subst (λ (xs : List Fe32). IsOnce xs) (sym all) (secret-behind 0 m few, indices-once 0 m few)
+      subst (λ (xs : List Fe32). IsOnce xs) (sym (base-indices base are)) (secret-behind 0 m few, indices-once 0 m few)
 
   pub length-base : (base : List Share) → AreSharesOf (own ∷ first_texts n texts m) base → length base ≡ suc m
   length-base base are = length-shares (own ∷ first_texts n texts m) base are ∙ ap suc (length-first n texts m)
 
   -- as many as these give the others
-  count : (base : List Share) → AreSharesOf (own ∷ first_texts n texts m) base → count_of base ≡ suc m
-  count [] are = absurd are
-  count (s ∷ ss) are =
+  pub base-count : (base : List Share) → AreSharesOf (own ∷ first_texts n texts m) base → count_of base ≡ suc m
+  base-count [] are = absurd are
+  base-count (s ∷ ss) are =
       let threshold : points_of (threshold_of_share s) ≡ points_of t = ap points_of (base-members (s ∷ ss) are).0.threshold in
       let counted : suc m ≡ threshold_number t = made.counted in
       let most : points_of t ≡ threshold_number t = omega (arith, counted) in
@@ -170,7 +172,7 @@ module _ (t : Threshold) (i : Identifier) (n : ℕ) (own texts : List ℕ) (m : 
     set = set base are;
     once = once base are;
     shared = is_shared base x are;
-    enough = le-ltb (length base) (count_of base) (let a = length-base base are in let b = count base are in omega (arith, a, b));
+    enough = le-ltb (length base) (count_of base) (let a = length-base base are in let b = base-count base are in omega (arith, a, b));
   }
 
   -- as many shares as give the others do not contradict each other
@@ -178,7 +180,7 @@ module _ (t : Threshold) (i : Identifier) (n : ℕ) (own texts : List ℕ) (m : 
   base-agree base are contradict =
       let shares = shares-from_set base secret_index (base-whole base secret_index are) in
       let text = derived_exists is_field (indices_of base) (rows_of base) (size_of base) secret_index shares in
-      let k : length (indices_of base) ≡ count_of base = length-mapped (λ (s : Share). index_of_share s) base ∙ length-base base are ∙ sym (count base are) in
+      let k : length (indices_of base) ≡ count_of base = length-mapped (λ (s : Share). index_of_share s) base ∙ length-base base are ∙ sym (base-count base are) in
       contradict (λ j within.
       let h = text.1.elements j within in
       (h.polynomial, subst (λ (c : ℕ). length h.polynomial ≤ c) k h.through.short, h.through.values))

@@ -23,7 +23,7 @@ positive : (n : ℕ) → (n ≡ 0 → ⊥) → 1 ≤ n
 positive zero h = absurd (h refl)
 positive (suc n) h = omega arith
 
-module _ (t : Threshold) (i : Identifier) (secret random own : List ℕ) (count room : ℕ) (can : CanSplit t (length secret) count (length random) room) (is_own : IsOwnString t i secret own) where
+module _ (t : Threshold) (i : Identifier) (secret random own : List ℕ) (count room : ℕ) (can : CanSplit t (length secret) count random room) (is_own : IsOwnString t i secret own) where
   abbrev m : ℕ
   m = payload_count (length secret)
 
@@ -91,7 +91,7 @@ module _ (t : Threshold) (i : Identifier) (secret random own : List ℕ) (count 
 
 -- ---- they recover the secret
 
-pub recovers-from_split : (t : Threshold) (i : Identifier) (secret random : List ℕ) (count n room : ℕ) (texts : List ℕ) → CanSplit t (length secret) count (length random) room → list_all (λ b. nat_lt b 256) secret ≡ true
+pub recovers-from_split : (t : Threshold) (i : Identifier) (secret random : List ℕ) (count n room : ℕ) (texts : List ℕ) → CanSplit t (length secret) count random room → list_all (λ b. nat_lt b 256) secret ≡ true
     → IsSplit t i secret random count n texts → Recovers t i secret count n texts
 recovers-from_split t i secret random count n room texts can bytes split =
     let own_made : IsMade t i secret_index (to_fes secret) n split.own =

@@ -8,6 +8,7 @@ pub mod HeaderParts
 pub mod Lengths
 pub mod Nearest
 pub mod Parts
+pub mod Secrecy
 pub mod Sets
 pub mod Share
 pub mod ShareParts

@@ -1,9 +1,9 @@
 -- A secret split into shares (BIP-93, Generating Shares), why it is not, and that they recover it.
 use Rattle.std.specs.Prelude.{◌≡◌, ◌<◌, ◌≤◌, ◌+◌, ◌-◌, ◌*◌, ◌==◌, ◌&&◌, ◌||◌, nat_le, ℕ, zero}
-use Rattle.std.specs.Prelude.{suc}
+use Rattle.std.specs.Prelude.{suc, Bool}
 use Rattle.std.specs.Prelude.{List, [], ◌∷◌, length, map, take, drop, slice_index, codes}
 use Rattle.std.specs.Prelude.{if◌then◌else◌, Option, None, Some}
-use Rattle.std.specs.List.{AllByRecursion}
+use Rattle.std.specs.List.{AllByRecursion, list_all}
 use Rattle.bech32_bits.specs.Bits.{fes_count}
 use Rattle.bech32_gf.specs.Fe32.{element, element_of}
 use Rattle.bech32_gf.specs.declared.gf32.Fe32.{Fe32}
@@ -148,22 +148,32 @@ count_fault t count =
     if nat_le (threshold_number t) count && nat_le count 31 then None else Some refusals.Count
 
 -- there are not as many random bytes as characters are drawn for a secret of n bytes
-abbrev pub random_fault : Threshold → ℕ → ℕ → Option SplitError
-random_fault t n random = if random == random_size t n then None else Some refusals.Random
+abbrev pub random_fault : Threshold → ℕ → List ℕ → Option SplitError
+random_fault t n random = if length random == random_size t n then None else Some refusals.Random
+
+-- there are at least two bytes, and each is the first one: a buffer that nobody filled
+abbrev pub are_all_equal : List ℕ → Bool
+are_all_equal bytes =
+    nat_le 2 (length bytes) && list_all (λ b. b == slice_index bytes 0) bytes
+
+-- the random bytes are all equal
+abbrev pub equal_fault : List ℕ → Option SplitError
+equal_fault random = if are_all_equal random then Some refusals.EqualRandom else None
 
 -- `count` shares of a secret of n bytes do not fit in a buffer of `room` bytes
 abbrev pub room_fault : ℕ → ℕ → ℕ → Option SplitError
 room_fault n count room = if nat_le (count * text_size n) room then None else Some refusals.NoRoom
 
--- why a secret of n bytes is not split into `count` shares, with `random` random bytes, in a buffer
--- of `room` bytes, the first of: the threshold, the secret's size, the number of shares, that of
--- the random bytes, too little room
-abbrev pub split_refusal : Threshold → ℕ → ℕ → ℕ → ℕ → Option SplitError
+-- why a secret of n bytes is not split into `count` shares, with these random bytes, in a buffer of
+-- `room` bytes, the first of: the threshold, the secret's size, the number of shares, that of the
+-- random bytes, that these are all equal, too little room
+abbrev pub split_refusal : Threshold → ℕ → ℕ → List ℕ → ℕ → Option SplitError
 split_refusal t n count random room =
     first_of (unshared_split_fault t)
     (first_of (secret_fault n)
     (first_of (count_fault t count)
-    (first_of (random_fault t n random) (room_fault n count room))))
+    (first_of (random_fault t n random)
+    (first_of (equal_fault random) (room_fault n count room)))))
 
 -- ---- on the way
 

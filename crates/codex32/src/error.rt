@@ -108,6 +108,9 @@ pub enum SplitError {
     /// There are not as many random bytes as characters are drawn.
     #[error("there are not as many random bytes as characters are drawn")]
     Random,
+    /// The random bytes are all equal: nobody filled them.
+    #[error("the random bytes are all equal")]
+    EqualRandom,
     /// The buffer is too small.
     #[error("the buffer is too small")]
     NoRoom,

@@ -20,6 +20,7 @@ mod long;
 mod mending;
 mod nearest;
 mod products;
+mod secrecy;
 mod sets;
 mod share;
 mod splitting;

@@ -3,7 +3,7 @@
 ghost use Rattle.std.specs.Prelude.{◌≡◌, ◌≤◌, ◌*◌, ◌||◌, None, Some, true, false, length, take, IfOk, MatchOption, MatchResult, OnErr};
 ghost use Rattle.bech32_encode.specs.Buffers.{IsPut};
 ghost use Rattle.codex32.specs.Encode.{is_byte_count, is_long_byte_count};
-ghost use Rattle.codex32.specs.Split.{IsSplit, Recovers, payload_count, random_size, split_refusal, text_size};
+ghost use Rattle.codex32.specs.Split.{IsSplit, Recovers, are_all_equal, payload_count, random_size, split_refusal, text_size};
 
 use crate::dealing::{drawn_count, put_all_drawn, put_others, put_own};
 use crate::error::SplitError;
@@ -57,18 +57,35 @@ pub fn random_count(threshold: Threshold, secret_length: usize) -> Option<usize>
     Some(drawn_count(threshold) * payload_size(secret_length))
 }
 
+// Whether bytes, at least two, are all equal. Each is looked at, and only whether all are can be
+// told. Out of line, so that timing reveals only this answer.
+#[inline(never)]
+fn are_equal(bytes: &[u8]) -> bool
+    ensures { result ≡ are_all_equal bytes.now }
+{
+    if bytes.len() < 2 {
+        return false;
+    }
+    let first = bytes[0];
+    let mut equal = true;
+    for b in bytes {
+        equal &= *b == first;
+    }
+    equal
+}
+
 // Tests what is asked, and returns how many characters each share has.
 fn validate_split(
     threshold: Threshold,
     secret_length: usize,
     count: usize,
-    random_length: usize,
+    random: &[u8],
     room: usize,
 ) -> Result<usize, SplitError>
     ensures { MatchResult result
-        (λ n. (split_refusal threshold secret_length count random_length room ≡ None)
+        (λ n. (split_refusal threshold secret_length count random.now room ≡ None)
         × (n ≡ text_size secret_length))
-        (λ e. split_refusal threshold secret_length count random_length room ≡ Some e) }
+        (λ e. split_refusal threshold secret_length count random.now room ≡ Some e) }
 {
     if threshold.number() == 0 {
         return Err(SplitError::Unshared);
@@ -79,8 +96,11 @@ fn validate_split(
     if count < usize::from(threshold.number()) || count > MOST {
         return Err(SplitError::Count);
     }
-    if random_length != drawn {
+    if random.len() != drawn {
         return Err(SplitError::Random);
+    }
+    if are_equal(random) {
+        return Err(SplitError::EqualRandom);
     }
     let size = size_of_text(secret_length);
     if room < count * size {
@@ -98,7 +118,7 @@ fn put_split(
     count: usize,
     random: &[u8],
 )
-    requires fine { split_refusal threshold (length secret.now) count (length random.now)
+    requires fine { split_refusal threshold (length secret.now) count random.now
         (length texts.old) ≡ None }
     requires size { length texts.old ≡ count * text_size (length secret.now) }
     ensures { IsSplit threshold identifier secret.now random.now count
@@ -127,15 +147,22 @@ fn put_split(
 ///
 /// Any shares, as many as the threshold, recover the secret. Fewer reveal only its length, provided
 /// that the random bytes are uniform, used for nothing else, and known to nobody: see the laws of
-/// secrecy in `crate::laws`.
+/// secrecy in `crate::laws`. Random bytes that are all equal were never filled in, and are refused:
+/// by them the first shares would be known, and any other share would give the secret.
+///
+/// Each split takes a new identifier. Shares of two splits of one secret with the same identifier
+/// are taken for one set, and recover other bytes: nothing tells them apart. For more shares of a
+/// split, [`derive_into`] derives them from as many as the threshold.
 ///
 /// # Errors
 ///
 /// The first of: the threshold is 0; the secret has neither 16 to 44 bytes nor 63 or 64; there are
 /// fewer shares than the threshold, or more than 31; the random bytes are not as many as
-/// [`random_count`] says; the buffer is too small for the shares. The buffer is then as it was.
+/// [`random_count`] says; they are all equal; the buffer is too small for the shares. The buffer is
+/// then as it was.
 ///
 /// [`encode_into`]: crate::encode_into
+/// [`derive_into`]: crate::derive_into
 pub fn split_into(
     buffer: &mut [u8],
     threshold: Threshold,
@@ -151,13 +178,13 @@ pub fn split_into(
     ensures put { IfOk result (λ n. IsPut (take (count * n) buffer.new) buffer.old buffer.new
         (count * n)) }
     ensures refused { MatchResult result
-        (λ n. (split_refusal threshold (length secret.now) count (length random.now)
+        (λ n. (split_refusal threshold (length secret.now) count random.now
         (length buffer.old) ≡ None) × (n ≡ text_size (length secret.now)))
-        (λ e. split_refusal threshold (length secret.now) count (length random.now)
+        (λ e. split_refusal threshold (length secret.now) count random.now
         (length buffer.old) ≡ Some e) }
     ensures same { OnErr result (buffer.new ≡ buffer.old) }
 {
-    let size = validate_split(threshold, secret.len(), count, random.len(), buffer.len())?;
+    let size = validate_split(threshold, secret.len(), count, random, buffer.len())?;
     let texts = &mut buffer[..count * size];
     put_split(texts, threshold, identifier, secret, count, random);
     Ok(size)

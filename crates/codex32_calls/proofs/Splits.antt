@@ -5,7 +5,7 @@ use Rattle.std.proofs.lemmas.Bool.{cond-false, cond-true, eq-eqb, eqb-true, fals
 use Rattle.bech32_hrp.specs.Hrp.{first_of}
 use Rattle.codex32.specs.Encode.{is_byte_count, is_long_byte_count}
 use Rattle.codex32.specs.HeaderParts.{threshold_number}
-use Rattle.codex32.specs.Split.{count_fault, payload_count, random_fault, random_size, room_fault, secret_fault, split_refusal, text_size, unshared_split_fault}
+use Rattle.codex32.specs.Split.{are_all_equal, count_fault, equal_fault, payload_count, random_fault, random_size, room_fault, secret_fault, split_refusal, text_size, unshared_split_fault}
 use Rattle.codex32.specs.declared.error.SplitError.TheVariants as refusals
 use Rattle.codex32.specs.declared.threshold.Threshold.{Threshold}
 use Rattle.codex32_calls.specs.Split.{CanSplit}
@@ -36,16 +36,20 @@ module _ (threshold : ℕ) (identifier secret random : List ℕ) (count room : �
       let enough : threshold_number t ≤ count = omega (arith, is, can.enough) in
       rw (le-leb (threshold_number t) count enough, le-leb count 31 can.most) refl
 
-  random-fine : random_fault t (length secret) (length random) ≡ None
+  random-fine : random_fault t (length secret) random ≡ None
   random-fine =
       let drawn : length random ≡ random_size t (length secret) = can.drawn ∙ ap (λ (n : ℕ). (n - 1) * payload_count (length secret)) (sym is) in
       cond-true (length random == random_size t (length secret)) None (Some refusals.Random) (eq-eqb (length random) (random_size t (length secret)) drawn)
 
+  equal-fine : equal_fault random ≡ None
+  equal-fine = cond-false (are_all_equal random) (Some refusals.EqualRandom) None can.differ
+
   room-fine : room_fault (length secret) count room ≡ None
   room-fine = cond-true (nat_le (count * text_size (length secret)) room) None (Some refusals.NoRoom) (le-leb (count * text_size (length secret)) room can.fits)
 
-  pub unrefused : split_refusal t (length secret) count (length random) room ≡ None
+  pub unrefused : split_refusal t (length secret) count random room ≡ None
   unrefused =
       none-refused (unshared_split_fault t) _ shared-fine
       (none-refused (secret_fault (length secret)) _ size-fine
-      (none-refused (count_fault t count) _ count-fine (none-refused (random_fault t (length secret) (length random)) _ random-fine room-fine)))
+      (none-refused (count_fault t count) _ count-fine
+      (none-refused (random_fault t (length secret) random) _ random-fine (none-refused (equal_fault random) _ equal-fine room-fine))))

@@ -1,12 +1,14 @@
 -- The shares of a secret put into a buffer, and why none are.
-use Rattle.std.specs.Prelude.{◌≡◌, ◌≤◌, ◌-◌, ◌*◌, ◌||◌, ℕ, true, List, length, Option, None, Some}
+use Rattle.std.specs.Prelude.{◌≡◌, ◌≤◌, ◌-◌, ◌*◌, ◌||◌, ℕ, true, false, List, length, Option}
+use Rattle.std.specs.Prelude.{None, Some}
 use Rattle.bech32_encode.specs.Buffers.{IsPut}
 use Rattle.bech32_gf.specs.Fe32.{elements_of}
 use Rattle.bech32_hrp.specs.Hrp.{first_of}
 use Rattle.codex32.specs.Encode.{is_byte_count, is_long_byte_count}
 use Rattle.codex32.specs.HeaderParts.{identifier_elements, identifier_word_fault}
 use Rattle.codex32.specs.HeaderParts.{threshold_number}
-use Rattle.codex32.specs.Split.{IsSplit, Recovers, payload_count, split_refusal, text_size}
+use Rattle.codex32.specs.Split.{IsSplit, Recovers, are_all_equal, payload_count, split_refusal}
+use Rattle.codex32.specs.Split.{text_size}
 use Rattle.codex32.specs.declared.error.HeaderError.{HeaderError}
 use Rattle.codex32.specs.declared.error.SplitError.{SplitError}
 use Rattle.codex32.specs.declared.identifier.Identifier.{Identifier}
@@ -38,8 +40,8 @@ pub record PutsSplit (threshold : ℕ) (identifier secret random : List ℕ) (co
 
 -- Nothing is wrong with what the shares have in common; the threshold is not 0; a string has as
 -- many bytes as the secret; the shares are at least as many as the threshold, and at most 31; there
--- is a random byte for each character of the payloads that are drawn; and a buffer of `room` bytes
--- has room for the shares.
+-- is a random byte for each character of the payloads that are drawn; these are not all equal; and
+-- a buffer of `room` bytes has room for the shares.
 pub record CanSplit (threshold : ℕ) (identifier secret random : List ℕ) (count room : ℕ)
     : Type 0 where
   pub fine : set_number_fault threshold identifier ≡ None
@@ -48,6 +50,7 @@ pub record CanSplit (threshold : ℕ) (identifier secret random : List ℕ) (cou
   pub enough : threshold ≤ count
   pub most : count ≤ 31
   pub drawn : length random ≡ (threshold - 1) * payload_count (length secret)
+  pub differ : are_all_equal random ≡ false
   pub fits : count * text_size (length secret) ≤ room
 
 -- why no secret is split by the threshold of this number, with a buffer of `room` bytes
@@ -55,11 +58,11 @@ pub record IsSplitRefusal (threshold : ℕ) (secret random : List ℕ) (count ro
     (e : SplitError) : Type 0 where
   pub t : Threshold
   pub threshold_is : threshold_number t ≡ threshold
-  pub refusal_is : split_refusal t (length secret) count (length random) room ≡ Some e
+  pub refusal_is : split_refusal t (length secret) count random room ≡ Some e
 
 -- why none are put into a buffer of `room` bytes, the first of: the threshold and the identifier;
--- that the threshold is 0, the secret's size, the number of shares, that of the random bytes, too
--- little room
+-- that the threshold is 0, the secret's size, the number of shares, that of the random bytes, that
+-- these are all equal, too little room
 abbrev pub IsSplitFault : ℕ → List ℕ → List ℕ → List ℕ → ℕ → ℕ → Refusal → Type 0
 IsSplitFault threshold identifier secret random count room (refusals.Header e) =
     set_number_fault threshold identifier ≡ Some e

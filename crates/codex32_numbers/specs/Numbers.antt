@@ -37,6 +37,7 @@ use Rattle.codex32.specs.declared.error.SplitError.TheVariants.{
   Random,
   NoRoom,
 }
+use Rattle.codex32.specs.declared.error.SplitError.TheVariants.{EqualRandom}
 
 -- of a text that is not a codex32 string, or for which no nearest text is looked for
 abbrev pub number_of_codex32_error : Codex32Error → ℕ
@@ -78,5 +79,6 @@ abbrev pub number_of_split_error : SplitError → ℕ
 number_of_split_error SplitSize = 55
 number_of_split_error Count = 65
 number_of_split_error Random = 66
+number_of_split_error EqualRandom = 68
 number_of_split_error UnsharedSplit = 84
 number_of_split_error NoRoom = 92

@@ -74,7 +74,7 @@ pub fn derive_error_number(e: DeriveError) -> u8
     }
 }
 
-/// The number, 55, 65, 66, 84 or 92, of a secret that is not split.
+/// The number, 55, 65, 66, 68, 84 or 92, of a secret that is not split.
 pub fn split_error_number(e: SplitError) -> u8
     ensures { HasNumber number_of_split_error e result }
 {
@@ -82,6 +82,7 @@ pub fn split_error_number(e: SplitError) -> u8
         SplitError::Size => 55,
         SplitError::Count => 65,
         SplitError::Random => 66,
+        SplitError::EqualRandom => 68,
         SplitError::Unshared => 84,
         SplitError::NoRoom => 92,
     }

@@ -22,9 +22,10 @@ returns-in_err-size c =
     let taken : List ℕ = take c.min-2.result c.put_bytes_of_word-2.new.room in
     let few : length given ≡ min (length secret) 65 = omega (arith, length-take c.min.result c.put_bytes_of_word.new.room, c.min.ensures, size, c.in-Ok.ensures.size) in
     let some : length taken ≡ min (length random) 825 = omega (arith, length-take c.min-2.result c.put_bytes_of_word-2.new.room, c.min-2.ensures, drawn, c.in-Ok-put_bytes_of_word.ensures.size) in
-    let same : split_refusal t (length given) count (length taken) room ≡ split_fault t count secret random =
-    ap (λ (m : ℕ). split_refusal t m count (length taken) room) few ∙ ap (λ (m : ℕ). split_refusal t (min (length secret) 65) count m room) some
-    ∙ same-refusal t (length secret) count (length random) room c.requires in
+    let whole : min (length random) 825 ≡ length random → taken ≡ random =
+    λ fits. ap (λ (k : ℕ). take k c.put_bytes_of_word-2.new.room) (omega (arith, c.min-2.ensures, drawn, fits)) ∙ random_there (omega (arith, drawn, fits)) in
+    let same : split_refusal t (length given) count taken room ≡ split_fault t count secret random =
+    ap (λ (m : ℕ). split_refusal t m count taken room) few ∙ same-refusal t (length secret) count room random taken c.requires some whole in
     let fine : set_word_fault (asked_by c.args.words.now) ≡ None =
     ap (λ o. first_of o (identifier_word_fault c.args.words.now.identifier.now)) c.in_ok-threshold.ensures.0 ∙ c.in_ok-identifier.ensures.0 in
     let asked : IsAskedBy (asked_by c.args.words.now) count secret random t c.in_ok-identifier.identifier =
@@ -49,14 +50,14 @@ returns c =
     let taken : List ℕ = take c.min-2.result c.put_bytes_of_word-2.new.room in
     let few : length given ≡ min (length secret) 65 = omega (arith, length-take c.min.result c.put_bytes_of_word.new.room, c.min.ensures, size, c.in-Ok.ensures.size) in
     let some : length taken ≡ min (length random) 825 = omega (arith, length-take c.min-2.result c.put_bytes_of_word-2.new.room, c.min-2.ensures, drawn, c.in-Ok-put_bytes_of_word.ensures.size) in
-    let same : split_refusal t (length given) count (length taken) room ≡ split_fault t count secret random =
-    ap (λ (m : ℕ). split_refusal t m count (length taken) room) few ∙ ap (λ (m : ℕ). split_refusal t (min (length secret) 65) count m room) some
-    ∙ same-refusal t (length secret) count (length random) room c.requires in
+    let whole : min (length random) 825 ≡ length random → taken ≡ random =
+    λ fits. ap (λ (k : ℕ). take k c.put_bytes_of_word-2.new.room) (omega (arith, c.min-2.ensures, drawn, fits)) ∙ random_there (omega (arith, drawn, fits)) in
+    let same : split_refusal t (length given) count taken room ≡ split_fault t count secret random =
+    ap (λ (m : ℕ). split_refusal t m count taken room) few ∙ same-refusal t (length secret) count room random taken c.requires some whole in
     let unrefused : split_fault t count secret random ≡ None = sym same ∙ c.in_ok-size.ensures.refused.0 in
-    let short : min (length secret) 65 ≡ length secret = whole-secret t (length secret) count (length random) room c.requires unrefused in
-    let fits : min (length random) 825 ≡ length random = whole-random t (length secret) count (length random) room c.requires unrefused in
+    let short : min (length secret) 65 ≡ length secret = whole-secret t (length secret) count room random taken c.requires some whole unrefused in
     let all : given ≡ secret = ap (λ (k : ℕ). take k c.put_bytes_of_word.new.room) (omega (arith, c.min.ensures, size, short)) ∙ there (omega (arith, size, short)) in
-    let every : taken ≡ random = ap (λ (k : ℕ). take k c.put_bytes_of_word-2.new.room) (omega (arith, c.min-2.ensures, drawn, fits)) ∙ random_there (omega (arith, drawn, fits)) in
+    let every : taken ≡ random = whole (whole-random t (length secret) count room random taken c.requires some whole unrefused) in
     let fine : set_word_fault (asked_by c.args.words.now) ≡ None =
     ap (λ o. first_of o (identifier_word_fault c.args.words.now.identifier.now)) c.in_ok-threshold.ensures.0 ∙ c.in_ok-identifier.ensures.0 in
     let asked : IsAskedBy (asked_by c.args.words.now) count secret random t i =

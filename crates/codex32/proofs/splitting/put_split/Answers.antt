@@ -17,7 +17,7 @@ counted t i secret random texts m e are j less = subst (λ (k : ℕ). IsPayloadS
 
 pub put_others-requires-clause-base : goal.put_others-requires-clause-base
 put_others-requires-clause-base c =
-    let can = can-split c.args.threshold (length c.args.secret.now) c.args.count (length c.args.random.now) (length c.args.texts.now) c.requires.fine in
+    let can = can-split c.args.threshold (length c.args.secret.now) c.args.count c.args.random.now (length c.args.texts.now) c.requires.fine in
     let own : List ℕ = take c.put_own-size.result c.put_own-size.new.room in
     let are = counted c.args.threshold c.args.identifier c.args.secret.now c.args.random.now c.put_all_drawn.new.texts c.payload_size.result c.payload_size.ensures.value c.put_all_drawn.ensures in
     let made = first-made c.args.threshold c.args.identifier c.args.secret.now c.args.random.now own c.args.count (length c.args.texts.now) can c.put_own-size.ensures.own c.drawn_count.result c.put_all_drawn.new.texts c.drawn_count.ensures.value are in
@@ -32,7 +32,7 @@ put_others-requires-clause-base c =
 
 pub returns : goal.returns
 returns c =
-    let can = can-split c.args.threshold (length c.args.secret.now) c.args.count (length c.args.random.now) (length c.args.texts.now) c.requires.fine in
+    let can = can-split c.args.threshold (length c.args.secret.now) c.args.count c.args.random.now (length c.args.texts.now) c.requires.fine in
     let own : List ℕ = take c.put_own-size.result c.put_own-size.new.room in
     let are = counted c.args.threshold c.args.identifier c.args.secret.now c.args.random.now c.put_all_drawn.new.texts c.payload_size.result c.payload_size.ensures.value c.put_all_drawn.ensures in
     let size = c.put_others.auto.texts ∙ c.put_all_drawn.auto.texts ∙ c.requires.size in
