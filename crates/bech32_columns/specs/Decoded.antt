@@ -6,10 +6,12 @@ use Rattle.bech32_gf.specs.declared.gf32.Fe32.{Fe32}
 use Rattle.bech32_hrp.specs.Hrp.{IsHrp, lowered}
 use Rattle.bech32_decode.specs.Segwit.{IsAddress, IsOneSpelling}
 use Rattle.bech32_decode.specs.Text.{HasHrp}
-use Rattle.bech32_calls.specs.Faults.{IsNumberOf}
+use Rattle.bech32_calls.specs.Faults.{IsNumberOf, IsPartFault}
 use Rattle.bech32_calls.specs.Segwit.{CanDecodeAddress, IsSegwitDecodeFault}
+use Rattle.bech32_calls.specs.declared.refusal.Refusal.{Refusal}
+use Rattle.bech32_calls.specs.declared.refusal.Refusal.TheVariants.{BadNumber}
 use Rattle.bech32_columns.specs.Arrays.{Fills, HoldsArray, if_wanted, concat_of}
-use Rattle.bech32_columns.specs.Rows.{EachRow, row_of}
+use Rattle.bech32_columns.specs.Rows.{EachRow, HasRows, row_of}
 use Rattle.bech32_columns.specs.declared.column.Column.{Column}
 
 -- what is said of a row
@@ -31,6 +33,20 @@ pub record HasAddressParts (text part : List ℕ) (version : ℕ) (program : Lis
 -- a human-readable part is the one that is wanted, in either case, or any is
 abbrev pub IsWanted : List ℕ → List ℕ → Type 0
 IsWanted hrp part = (hrp ≡ []) ⊎ (lowered part ≡ lowered hrp)
+
+-- a human-readable part that may be wanted: none, or one that there is
+abbrev pub CanBeWanted : List ℕ → Type 0
+CanBeWanted hrp = (hrp ≡ []) ⊎ IsHrp hrp
+
+-- there are such rows, and the part may be wanted
+abbrev pub CanDecodeMany : Column → ℕ → ℕ → List ℕ → Type 0
+CanDecodeMany c first count hrp = HasRows c first count × CanBeWanted hrp
+
+-- why no rows are decoded: there are no such rows; or bytes are given for a part, and are none
+abbrev pub IsDecodeManyFault : Column → ℕ → ℕ → List ℕ → Refusal → Type 0
+IsDecodeManyFault c first count hrp e =
+    ((e ≡ BadNumber) × ¬ HasRows c first count)
+    ⊎ (HasRows c first count × (hrp ≢ []) × IsPartFault hrp e)
 
 -- a text is an address with a part that is wanted, and what is said of it
 pub record IsWantedAddress (hrp text : List ℕ) (row : AddressRow) : Type 0 where

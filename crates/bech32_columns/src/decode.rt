@@ -1,15 +1,18 @@
 //! Decodes the rows of a column of segwit addresses.
 
-ghost use Rattle.std.specs.Prelude.{◌≡◌, ◌≢◌, ◌<◌, ◌≤◌, ◌+◌, ◌↔◌, IfNone, IfSome, IsTrue, List, [], ℕ, if◌then◌else◌, ◌==◌, true, length};
+ghost use Rattle.std.specs.Prelude.{◌≡◌, ◌≢◌, ◌<◌, ◌≤◌, ◌+◌, ◌↔◌, IfErr, IfOk, IsTrue, List, MatchResult, [], ℕ, if◌then◌else◌, ◌==◌, true, length};
 ghost use Rattle.bech32_bits.specs.Bits.{to_bytes};
 ghost use Rattle.bech32_gf.specs.Alphabet.{is_data};
 ghost use Rattle.bech32_gf.specs.Fe32.{elements_of};
+ghost use Rattle.bech32_calls.specs.Faults.{IsPartFault};
 ghost use Rattle.bech32_columns.specs.Arrays.{HoldsArray};
-ghost use Rattle.bech32_columns.specs.Decoded.{IsDecodedRow, IsDecodedText, IsWanted, LacksItems, PutsAddresses};
-ghost use Rattle.bech32_columns.specs.Rows.{HasRows, row_of};
+ghost use Rattle.bech32_columns.specs.Decoded.{CanBeWanted, CanDecodeMany, IsDecodeManyFault, IsDecodedRow, IsDecodedText, IsWanted, LacksItems, PutsAddresses};
+ghost use Rattle.bech32_columns.specs.Rows.{row_of};
 
 use crate::column::Column;
 use crate::put::{put_data, put_item, room_in};
+use bech32_calls::input::test_part;
+use bech32_calls::refusal::Refusal;
 use bech32_calls::segwit::address_in;
 use bech32_decode::data_bytes_count;
 
@@ -187,6 +190,18 @@ fn put_rows(
     most
 }
 
+// Tests that a human-readable part may be wanted: any is, where none is given.
+fn test_wanted(hrp: &[u8]) -> Result<(), Refusal>
+    ensures { MatchResult result
+        (λ _. CanBeWanted hrp.now)
+        (λ e. (hrp.now ≢ []) × IsPartFault hrp.now e) }
+{
+    if hrp.is_empty() {
+        return Ok(());
+    }
+    test_part(hrp)
+}
+
 /// Decodes the rows, as many as there are numbers. Of each its number is put, its witness version,
 /// the length of its human-readable part, with which the text begins, and its program: they stand
 /// in `programs` one behind another, from `offsets[i]` up to `offsets[i + 1]`. Where the number is
@@ -195,8 +210,12 @@ fn put_rows(
 /// not the wanted one is refused.
 ///
 /// Returns how many rows are put: all, or as many as there is room for in all buffers, and as have
-/// less than 2^31 bytes of programs. Nothing, where there are no such rows, or the column has no
-/// layout: then it puts nothing.
+/// less than 2^31 bytes of programs.
+///
+/// # Errors
+///
+/// The first of: the column has no layout, or there are no such rows ([`Refusal::BadNumber`]); the
+/// wanted human-readable part is not UTF-8, or is none. Then nothing is put.
 pub fn decode_many(
     rows: &Addresses<'_>,
     numbers: &mut [u8],
@@ -204,29 +223,30 @@ pub fn decode_many(
     hrp_lengths: &mut [u8],
     offsets: &mut [u32],
     programs: &mut [u8],
-) -> Option<usize>
-    ensures value { IfSome result (λ done. PutsAddresses
+) -> Result<usize, Refusal>
+    ensures value { IfOk result (λ done. PutsAddresses
         rows.now.column rows.now.first rows.now.hrp.now numbers.old numbers.new
         versions.old versions.new hrp_lengths.old hrp_lengths.new
         offsets.old offsets.new programs.old programs.new done) }
-    ensures refused { IfNone result
-        (¬ (HasRows rows.now.column rows.now.first (length numbers.old))) }
-    ensures accepts { IfSome result
-        (λ _. HasRows rows.now.column rows.now.first (length numbers.old)) }
-    ensures same { IfNone result ((numbers.new ≡ numbers.old) × (versions.new ≡ versions.old)
+    ensures refused { IfErr result (λ e. IsDecodeManyFault
+        rows.now.column rows.now.first (length numbers.old) rows.now.hrp.now e) }
+    ensures accepts { IfOk result (λ _. CanDecodeMany
+        rows.now.column rows.now.first (length numbers.old) rows.now.hrp.now) }
+    ensures same { IfErr result (λ _. (numbers.new ≡ numbers.old) × (versions.new ≡ versions.old)
         × (hrp_lengths.new ≡ hrp_lengths.old) × (offsets.new ≡ offsets.old)
         × (programs.new ≡ programs.old)) }
 {
     if !rows.column.has_rows(rows.first, numbers.len()) {
-        return None;
+        return Err(Refusal::BadNumber);
     }
+    test_wanted(rows.hrp)?;
     let most = most_rows(
         numbers.len(),
         versions.len(),
         hrp_lengths.len(),
         offsets.len(),
     );
-    Some(put_rows(
+    Ok(put_rows(
         rows,
         most,
         numbers,

@@ -49,7 +49,8 @@ bech32_sentence n =
     else (if n == 71 then codes "a confidential address has less than 33 bytes behind its version"
     else (if n == 80 then codes "a character may not stand in a descriptor, or not in its checksum"
     else (if n == 88 then codes "the text does not end in `#` and eight characters"
-    else (if n == 89 then codes "the text has more than 7500 characters, too many to be mended"
+    else (if n == 89 then codes
+    "the text has more than 7500 characters (1400 for two changes), too many to be mended"
     else common_sentence n))))))))))))))))))))))
 
 -- End of the sentences.
@@ -67,6 +68,7 @@ codex32_sentence n =
     else (if n == 64 then codes "the shares contradict each other"
     else (if n == 65 then codes "there are fewer shares than the threshold, or more than 31"
     else (if n == 66 then codes "there are not as many random bytes as characters are drawn"
+    else (if n == 68 then codes "the random bytes are all equal"
     else (if n == 81 then codes "the human-readable part is not `ms`"
     else (if n == 82 then codes "a codex32 string has 48 to 93 characters, a long one 125 to 127"
     else (if n == 83 then codes "the threshold is neither 0 nor a digit from 2 to 9"
@@ -74,7 +76,7 @@ codex32_sentence n =
     else (if n == 85 then codes "the identifier is not four characters of the alphabet in one case"
     else (if n == 86 then codes "the share index is not one character of the alphabet"
     else (if n == 87 then codes "more than four bits stand behind the bytes of the payload"
-    else common_sentence n)))))))))))))))
+    else common_sentence n))))))))))))))))
 
 -- End of the sentences.
 

@@ -57,7 +57,8 @@ pub fn bech32_sentence_of(number: u32) -> &'static str
         71 => "a confidential address has less than 33 bytes behind its version",
         80 => "a character may not stand in a descriptor, or not in its checksum",
         88 => "the text does not end in `#` and eight characters",
-        89 => "the text has more than 7500 characters, too many to be mended",
+        89 =>
+            "the text has more than 7500 characters (1400 for two changes), too many to be mended",
         // End of the sentences.
         _ => common_sentence_of(number),
     }
@@ -79,6 +80,7 @@ pub fn codex32_sentence_of(number: u32) -> &'static str
         64 => "the shares contradict each other",
         65 => "there are fewer shares than the threshold, or more than 31",
         66 => "there are not as many random bytes as characters are drawn",
+        68 => "the random bytes are all equal",
         81 => "the human-readable part is not `ms`",
         82 => "a codex32 string has 48 to 93 characters, a long one 125 to 127",
         83 => "the threshold is neither 0 nor a digit from 2 to 9",
