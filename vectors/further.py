@@ -2,6 +2,7 @@
 """Makes lines on long texts, confidential addresses and descriptors, and about as long as one may be, with the models' replies.
 
     further.py b32 SEED      lines of b32, each with `|`, a tab, `|` and its reply
+    further.py long SEED     rows of vector_rows: lines of b32 that would be too long
     further.py c32 SEED      lines of c32
     further.py mend SEED     lines of mend
     further.py check PROGRAM LINES REPLIES   prints where a model's reply is another
@@ -18,20 +19,28 @@ import liquid  # noqa: E402
 import mistyped  # noqa: E402
 import model  # noqa: E402
 import shares  # noqa: E402
-from model import LONGEST_LINE  # noqa: E402
-
+from mistyped import LONGEST_LINE  # noqa: E402, which is that of c32 too
 
 
 def split_reply(line):
     return shares.reply(line.decode()) if len(line) <= LONGEST_LINE else "err 1"
 
 
-REPLIES = {"b32": model.reply, "c32": split_reply, "mend": mistyped.reply}
+def long_reply(row):
+    """What b32 would reply to the line of a row, however long that is."""
+    return model.reply(row.removeprefix(b"long|").replace(b"|", b" "), len(row))
+
+
+REPLIES = {"b32": model.reply, "long": long_reply, "c32": split_reply, "mend": mistyped.reply}
 
 # Texts of other standards: an invoice (BOLT 11), LNURL (LUD-01), nostr (NIP-19), a silent payment address (BIP-352).
 KNOWN = ["lnbc", "LNURL1", "nprofile1", "sp1", "age1yubikey1"]
 # About as many bytes as a line may have.
 NEAR_LIMIT = [LONGEST_LINE - 1, LONGEST_LINE, LONGEST_LINE + 1]
+NEAR_LIMIT_OF_B32 = [model.LONGEST_LINE - 1, model.LONGEST_LINE, model.LONGEST_LINE + 1]
+# What each kind of line of b32 may begin with, and what may follow without an end.
+ENDLESS = [("decode-elements long-bech32 a1", "q"), ("decode-strict long-bech32m a1", "q"), ("encode long-bech32 ab ", "0"),
+           ("encode-elements long-bech32 ab ", "0"), ("liquid-decode lq1", "q")]
 
 LENGTHS = [8, 90, 1022, 1023, 1024, 1025, 1500, 1999, 2000, 2046, 2047, 3000, 4060]
 
@@ -91,9 +100,8 @@ class Lines:
         yield f"encode-elements long-bech32m a {'20' * 1500}"
         yield f"encode-elements bech32m a {'1f' * 1500}"
         # The longest line, and a longer one, of each kind.
-        for front, digit in (("decode-elements long-bech32 a1", "q"), ("decode-strict long-bech32m a1", "q"), ("encode long-bech32 ab ", "0"),
-                             ("encode-elements long-bech32 ab ", "0"), ("liquid-decode lq1", "q")):
-            for length in (4096, 4097):
+        for front, digit in ENDLESS:
+            for length in NEAR_LIMIT_OF_B32[1:]:
                 yield front + digit * (length - len(front))
 
     def refused(self):
@@ -135,6 +143,26 @@ class Lines:
         for line in ("liquid-decode", "liquid-decode ", "liquid-decode a b", "liquid-encode", "Liquid-decode a1", "liquid-decode lq1" + "q" * 3000):
             yield line
 
+    def at_the_longest_line(self):
+        # at_the_limits has the longer ones of these.
+        for front, digit in ENDLESS:
+            yield front + digit * (NEAR_LIMIT_OF_B32[0] - len(front))
+        for length in NEAR_LIMIT_OF_B32:
+            yield ("correct bech32 a12uqqql 1" + ",2" * length)[:length]
+        # It is bytes that are counted, not characters.
+        for length in NEAR_LIMIT_OF_B32:
+            yield f"decode {'q' * (length % 2 + 1)}{(length - 8) // 2 * 'é'}"
+        for front in ("decode ", "segwit-decode "):
+            for length in (4095, 4096, 4097, 4098):
+                yield front.ljust(length, "q")
+
+    def b32(self):
+        for kind in (self.of_other_standards, self.of_each_length, self.at_the_limits, self.refused, self.confidential,
+                     self.at_the_longest_line):
+            yield from kind()
+
+    # ---- rows of vector_rows
+
     def of_the_greatest_lengths(self):
         for name, hrp, length in (("long-bech32", "nprofile", 5000), ("long-bech32", "lnbc", 7089), ("long-bech32m", "u", 7088),
                                   ("long-bech32", "lnbc", 7090)):
@@ -147,22 +175,12 @@ class Lines:
             yield f"encode {name} {hrp} {data.hex()}"
             yield f"decode-strict {name} {model.encoded(model.LONG_CODES[name], hrp, model.to_elements(data))}"
 
-    def at_the_longest_line(self):
-        for front, digit in (("decode-elements long-bech32 a1", "q"), ("decode-strict long-bech32m a1", "q"), ("encode long-bech32 ab ", "0"),
-                             ("encode-elements long-bech32 ab ", "0"), ("liquid-decode lq1", "q"), ("correct bech32 a12uqqql 1", ",2")):
-            for length in NEAR_LIMIT:
-                yield (front + digit * length)[:length]
-        # It is bytes that are counted, not characters.
-        for length in NEAR_LIMIT:
-            yield f"decode {'q' * (length % 2 + 1)}{(length - 8) // 2 * 'é'}"
-        for front in ("decode ", "segwit-decode "):
-            for length in (4095, 4096, 4097, 4098):
-                yield front.ljust(length, "q")
-
-    def b32(self):
-        for kind in (self.of_other_standards, self.of_each_length, self.at_the_limits, self.refused, self.confidential,
-                     self.of_the_greatest_lengths, self.at_the_longest_line):
-            yield from kind()
+    def long(self):
+        # The same texts as if they came after those of b32.
+        for _ in self.b32():
+            pass
+        for line in self.of_the_greatest_lengths():
+            yield "|".join(["long", *line.split(" ")])
 
     # ---- c32
 
@@ -255,7 +273,8 @@ def check(program, lines, replies):
 
 def main(words):
     if len(words) == 2 and words[0] in REPLIES:
-        for line in getattr(Lines(f"{words[0]} {words[1]}"), words[0])():
+        drawn = "b32" if words[0] == "long" else words[0]
+        for line in getattr(Lines(f"{drawn} {words[1]}"), words[0])():
             line = line.encode()
             sys.stdout.buffer.write(line + b"|\t|" + REPLIES[words[0]](line).encode() + b"\n")
         return 0

@@ -166,11 +166,17 @@ def errors_looked_for(size, unread):
     return next((errors for errors in (2, 1, 0) if false_answers(size, unread, errors) <= 1 / 100), None)
 
 
-def is_address_of(hrp, text):
+# The forms of addresses in use, as version and bytes: BIP-141 has those of version 0, BIP-341 that of version 1.
+IN_USE = [(0, 20), (0, 32), (1, 32)]
+
+
+def may_be_meant(hrp, typed, text):
+    """Whether a text is an address of the network: of a form in use, or the typed text itself."""
     try:
-        return model.segwit_decode(text)[0].lower() == hrp.lower()
+        part, version, program = model.segwit_decode(text)
     except Refusal:
         return False
+    return part.lower() == hrp.lower() and (text == typed.lower() or (version, len(program)) in IN_USE)
 
 
 def mending(typed, text):
@@ -196,7 +202,7 @@ def suggested(hrp, typed):
     tried = [other for code in CODES.values() for other in near(code, text, unread, errors)]
     if not unread:
         tried += [said.split(" ")[2] for code in CODES.values() for said in near_edits(code, text)]
-    found = dict.fromkeys(other for other in tried if is_address_of(hrp, other))
+    found = dict.fromkeys(other for other in tried if may_be_meant(hrp, typed, other))
     return ["{} {} {}".format(*mending(typed.lower(), other), other) for other in found]
 
 
@@ -260,10 +266,13 @@ def fault(code, text):
         return f"err {refusal.number} {place_of(text, refusal.number)}"
 
 
-# How descriptors.py names what is done to a descriptor.
+# A line of mend may have this many bytes.
+LONGEST_LINE = 16384
+
 # No descriptor of more characters is mended.
 LONGEST_MENDED = 7500
 
+# How descriptors.py names what is done to a descriptor.
 DONE = {"=": "changed", "x": "swapped", "-": "left-out", "+": "put-in"}
 
 
@@ -287,10 +296,10 @@ def about_descriptor(name, text):
 
 def answer(line):
     name, space, text = line.partition(b" ")
-    said = about_descriptor(name, text) if space and len(line) <= model.LONGEST_LINE and is_text(line) else None
+    said = about_descriptor(name, text) if space and len(line) <= LONGEST_LINE and is_text(line) else None
     if said is not None:
         return said
-    name, *arguments = model.words_of(line)
+    name, *arguments = model.words_of(line, LONGEST_LINE)
     if name == "liquid" and len(arguments) in (2, 3):
         listed = arguments[1].split(",") if len(arguments) == 3 else []
         locations = [model.number(word, 1022) for word in listed]
@@ -462,7 +471,7 @@ class Lines(Maker):
         if kind == 2:
             return line + self.random.choice([" ", " 1", " q"])
         if kind == 3 and self.one_in(4):
-            return "checksum ".ljust(self.random.randint(model.LONGEST_LINE - 1, model.LONGEST_LINE + 2), "q")
+            return "checksum ".ljust(self.random.randint(LONGEST_LINE - 1, LONGEST_LINE + 2), "q")
         return self.mistyped(line, self.random.randint(1, 3))
 
 

@@ -391,7 +391,8 @@ def correct(code, text, locations):
 
 # --- the lines of b32 ---
 
-LONGEST_LINE = 16384
+LONGEST_LINE = 4096
+
 
 def number(word, most):
     """A number in decimal without leading zeros."""
@@ -414,9 +415,9 @@ def word_of(data):
     return data.hex() or "-"
 
 
-def words_of(line):
-    """The words of a line, or its refusal."""
-    if len(line) > LONGEST_LINE:
+def words_of(line, most):
+    """The words of a line, which may have so many bytes, or its refusal."""
+    if len(line) > most:
         raise Refusal(1)
     try:
         words = line.decode("utf-8").split(" ")
@@ -465,8 +466,8 @@ def by_liquid(name, arguments):
     return None
 
 
-def answer(line):
-    name, *arguments = words_of(line)
+def answer(line, most):
+    name, *arguments = words_of(line, most)
     said = by_checksum(ALL_CODES, name, arguments)
     if said is None:
         said = by_liquid(name, arguments)
@@ -496,9 +497,9 @@ def answer(line):
     raise Refusal(3)
 
 
-def reply(line):
-    """What b32 prints for a line, given as bytes without its end."""
+def reply(line, most=LONGEST_LINE):
+    """What b32 prints for a line, given as bytes without its end, where a line may have so many bytes."""
     try:
-        return answer(line)
+        return answer(line, most)
     except Refusal as refusal:
         return f"err {refusal.number}"

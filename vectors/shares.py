@@ -3,6 +3,7 @@
     shares.py check LINES REPLIES    prints where the model's reply to `derive`, `recover` or `split` is another
     shares.py make SEED              of each length and each threshold a line, a tab, and the reply
     shares.py split SEED             the same of `split`, of each threshold, of `recover` from its shares, and of refusals
+    shares.py equal SEED             the same of `split` with random bytes that are all equal, or all but one
     shares.py five                   the same of each two of five shares, or each three, and of five of which one is wrong
 
 The string at an index is, at each place of the data part, the value of the one polynomial of degree
@@ -135,6 +136,8 @@ def split_reply(threshold, count, identifier, secret, drawn):
         raise Refusal(65)
     if len(drawn) != (int(threshold) - 1) * len(elements_of_bytes(secret)):
         raise Refusal(66)
+    if len(set(drawn)) == 1:
+        raise Refusal(68)
     return " ".join(["ok", *split(threshold, identifier, secret, drawn, int(count))])
 
 
@@ -219,6 +222,20 @@ def refused_splits(maker):
         yield " ".join(["split", *words])
 
 
+def equal_splits(maker):
+    """Lines with random bytes that are all equal, alone and beside what is refused before; and where one differs, by one bit."""
+    for threshold, size, count, byte in [("2", 16, 3, 0), ("3", 32, 5, 0xA5), ("9", 64, 31, 0xFF), ("2", 44, 2, maker.randrange(256))]:
+        words = split_line(maker, threshold, size, count).split(" ")
+        drawn = bytearray([byte] * (len(words[5]) // 2))
+        yield " ".join([*words[:5], drawn.hex()])
+        yield " ".join([*words[:5], drawn[1:].hex()])
+        yield " ".join([*words[:2], "1", *words[3:5], drawn.hex()])
+        for place in (0, maker.randrange(1, len(drawn) - 1), len(drawn) - 1):
+            other = bytearray(drawn)
+            other[place] ^= 1 << maker.randrange(8)
+            yield " ".join([*words[:5], other.hex()])
+
+
 def own_string(threshold, index):
     """The string at an index of 16 bytes that are of it."""
     payload = elements_of_bytes((VALUE[index] * (it * it + 7) + threshold) % 256 for it in range(16))
@@ -263,10 +280,11 @@ def make(seed):
     return 0
 
 
-def make_splits(seed):
+def make_splits(seed, kinds):
     maker = random.Random(seed)
-    for line in [*splits(maker), *refused_splits(maker)]:
-        print(f"{line}\t{reply(line)}")
+    for kind in kinds:
+        for line in kind(maker):
+            print(f"{line}\t{reply(line)}")
     return 0
 
 
@@ -282,7 +300,9 @@ def main(words):
     if len(words) == 2 and words[0] == "make":
         return make(int(words[1]))
     if len(words) == 2 and words[0] == "split":
-        return make_splits(int(words[1]))
+        return make_splits(int(words[1]), [splits, refused_splits])
+    if len(words) == 2 and words[0] == "equal":
+        return make_splits(int(words[1]), [equal_splits])
     if words == ["five"]:
         return make_fives()
     return __doc__.strip()

@@ -1,4 +1,4 @@
--- The first four different locations of a word tell what all of them tell: any correction takes three at most.
+-- The first different locations of a word tell what all of them tell, where they are one more than a search takes.
 use Rattle.std.specs.Prelude.{Bool, true, false, cond}
 use Rattle.std.specs.List.{AllByRecursion}
 use Rattle.std.proofs.Common.{◌≡◌, ℕ, ◌+◌, ◌*◌, ◌-◌, ◌<◌, ◌≤◌, inl, inr, List, [], ◌∷◌, ◌++◌, take, drop, length, length-append, length-drop, subst, sym, ap, ◌∙◌, refl, arith}
@@ -20,38 +20,38 @@ use Rattle.b32_replies.specs.Reply.{IsCorrectAnswer, SaysMended, SaysNone}
 -- ---- one location more
 
 -- what is put behind a list is not among its first ones
-cut_before : (s : List ℕ) (x : ℕ) (b : Bool) → 4 ≤ length s → take 4 (cond b s (s ++ x ∷ [])) ≡ take 4 s
-cut_before s x true long = refl
-cut_before s x false long = take-append-le 4 s (x ∷ []) long
+cut_before : (k : ℕ) (s : List ℕ) (x : ℕ) (b : Bool) → k ≤ length s → take k (cond b s (s ++ x ∷ [])) ≡ take k s
+cut_before k s x true long = refl
+cut_before k s x false long = take-append-le k s (x ∷ []) long
 
--- there are four
-pub stays-full : (few : List ℕ) (x : ℕ) → length few ≡ 4 → few ≡ take 4 (with_erasures few (x ∷ []))
-stays-full few x size = sym (cut_before few x (has few x) (omega arith) ∙ take_all 4 few (omega arith))
+-- there are as many as are kept
+pub stays-full : (k : ℕ) (few : List ℕ) (x : ℕ) → length few ≡ k → few ≡ take k (with_erasures few (x ∷ []))
+stays-full k few x size = sym (cut_before k few x (has few x) (omega arith) ∙ take_all k few (omega arith))
 
 -- it is one of them
-pub stays-known : (few : List ℕ) (x : ℕ) → length few ≤ 4 → has few x ≡ true → few ≡ take 4 (with_erasures few (x ∷ []))
-stays-known few x size known = sym (ap (λ (b : Bool). take 4 (cond b few (few ++ x ∷ []))) known ∙ take_all 4 few size)
+pub stays-known : (k : ℕ) (few : List ℕ) (x : ℕ) → length few ≤ k → has few x ≡ true → few ≡ take k (with_erasures few (x ∷ []))
+stays-known k few x size known = sym (ap (λ (b : Bool). take k (cond b few (few ++ x ∷ []))) known ∙ take_all k few size)
 
 -- it is added
-pub grows-new : (few new : List ℕ) (x : ℕ) → length few < 4 → has few x ≡ false → new ≡ few ++ x ∷ [] → new ≡ take 4 (with_erasures few (x ∷ []))
-grows-new few new x size other pushed =
+pub grows-new : (k : ℕ) (few new : List ℕ) (x : ℕ) → length few < k → has few x ≡ false → new ≡ few ++ x ∷ [] → new ≡ take k (with_erasures few (x ∷ []))
+grows-new k few new x size other pushed =
     let longer : length (few ++ x ∷ []) ≡ length few + 1 = length-append few (x ∷ []) in
-    pushed ∙ sym (ap (λ (b : Bool). take 4 (cond b few (few ++ x ∷ []))) other ∙ take_all 4 (few ++ x ∷ []) (omega arith))
+    pushed ∙ sym (ap (λ (b : Bool). take k (cond b few (few ++ x ∷ []))) other ∙ take_all k (few ++ x ∷ []) (omega arith))
 
--- to add it to the first four gives the first four of all
-among_first : (all : List ℕ) (x : ℕ) → take 4 (with_erasures (take 4 all) (x ∷ [])) ≡ take 4 (with_erasures all (x ∷ []))
-among_first all x = elim (cases_lt (length all) 4) [
-  | inl short ↦ ap (λ (s : List ℕ). take 4 (with_erasures s (x ∷ []))) (take_all 4 all (omega arith))
+-- to add it to the first ones gives the first ones of all
+among_first : (k : ℕ) (all : List ℕ) (x : ℕ) → take k (with_erasures (take k all) (x ∷ [])) ≡ take k (with_erasures all (x ∷ []))
+among_first k all x = elim (cases_lt (length all) k) [
+  | inl short ↦ ap (λ (s : List ℕ). take k (with_erasures s (x ∷ []))) (take_all k all (omega arith))
   | inr long ↦
-      let size : length (take 4 all) ≡ 4 = length-take-le 4 all long in
-      cut_before (take 4 all) x (has (take 4 all) x) (omega arith) ∙ take-take 4 4 all (omega arith) ∙ sym (cut_before all x (has all x) long)
+      let size : length (take k all) ≡ k = length-take-le k all long in
+      cut_before k (take k all) x (has (take k all) x) (omega arith) ∙ take-take k k all (omega arith) ∙ sym (cut_before k all x (has all x) long)
 ]
 
-pub first-more : (few new given : List ℕ) (x : ℕ) → few ≡ take 4 (with_erasures [] given) → new ≡ take 4 (with_erasures few (x ∷ []))
-    → new ≡ take 4 (with_erasures [] (given ++ x ∷ []))
-first-more few new given x is added =
-    added ∙ ap (λ (s : List ℕ). take 4 (with_erasures s (x ∷ []))) is ∙ among_first (with_erasures [] given) x
-    ∙ ap (take 4) (sym (with_erasures-append [] given (x ∷ [])))
+pub first-more : (k : ℕ) (few new given : List ℕ) (x : ℕ) → few ≡ take k (with_erasures [] given) → new ≡ take k (with_erasures few (x ∷ []))
+    → new ≡ take k (with_erasures [] (given ++ x ∷ []))
+first-more k few new given x is added =
+    added ∙ ap (λ (s : List ℕ). take k (with_erasures s (x ∷ []))) is ∙ among_first k (with_erasures [] given) x
+    ∙ ap (take k) (sym (with_erasures-append [] given (x ∷ [])))
 
 -- ---- the different ones
 
@@ -79,15 +79,15 @@ at_most s (x ∷ more) =
     step true = omega arith
     step false = omega (arith, length-append s (x ∷ []))
 
--- where the first four are no more than three, neither are all
-all_few : (all : List ℕ) → with_erasures [] all ≡ all → length (with_erasures [] (take 4 all)) ≤ 3 → length all ≤ 3
-all_few all e few =
-    let whole : all ≡ with_erasures (with_erasures [] (take 4 all)) (drop 4 all) =
-    sym e ∙ ap (with_erasures []) (sym (take-append-drop 4 all)) ∙ with_erasures-append [] (take 4 all) (drop 4 all) in
-    let most : length (with_erasures (with_erasures [] (take 4 all)) (drop 4 all)) ≤ length (with_erasures [] (take 4 all)) + length (drop 4 all) =
-    at_most (with_erasures [] (take 4 all)) (drop 4 all) in
-    let size : length (drop 4 all) ≡ length all - 4 = length-drop 4 all in
-    let same : length all ≡ length (with_erasures (with_erasures [] (take 4 all)) (drop 4 all)) = ap (λ (s : List ℕ). length s) whole in
+-- where one more than so many are no more than these, neither are all
+all_few : (n : ℕ) (all : List ℕ) → with_erasures [] all ≡ all → length (with_erasures [] (take (n + 1) all)) ≤ n → length all ≤ n
+all_few n all e few =
+    let whole : all ≡ with_erasures (with_erasures [] (take (n + 1) all)) (drop (n + 1) all) =
+    sym e ∙ ap (with_erasures []) (sym (take-append-drop (n + 1) all)) ∙ with_erasures-append [] (take (n + 1) all) (drop (n + 1) all) in
+    let most : length (with_erasures (with_erasures [] (take (n + 1) all)) (drop (n + 1) all)) ≤ length (with_erasures [] (take (n + 1) all)) + length (drop (n + 1) all) =
+    at_most (with_erasures [] (take (n + 1) all)) (drop (n + 1) all) in
+    let size : length (drop (n + 1) all) ≡ length all - (n + 1) = length-drop (n + 1) all in
+    let same : length all ≡ length (with_erasures (with_erasures [] (take (n + 1) all)) (drop (n + 1) all)) = ap (λ (s : List ℕ). length s) whole in
     omega arith
 
 -- what holds of the different ones holds of all
@@ -108,29 +108,29 @@ all_and_more P s (x ∷ more) h =
 
 -- ---- the few and all
 
-module _ (few given : List ℕ) (is : few ≡ take 4 (with_erasures [] given)) where
+module _ (n : ℕ) (few given : List ℕ) (is : few ≡ take (n + 1) (with_erasures [] given)) where
   different : with_erasures [] (with_erasures [] given) ≡ with_erasures [] given
   different = again [] given refl
 
-  -- where there are no more than three, the few are all of them
-  pub few_are : length (with_erasures [] given) ≤ 3 → few ≡ with_erasures [] given
-  few_are size = is ∙ take_all 4 (with_erasures [] given) (omega arith)
+  -- where there are no more than a search takes, the few are all of them
+  pub few_are : length (with_erasures [] given) ≤ n → few ≡ with_erasures [] given
+  few_are size = is ∙ take_all (n + 1) (with_erasures [] given) (omega arith)
 
-  pub same_erasures : length (with_erasures [] given) ≤ 3 → with_erasures [] few ≡ with_erasures [] given
+  pub same_erasures : length (with_erasures [] given) ≤ n → with_erasures [] few ≡ with_erasures [] given
   same_erasures size = ap (with_erasures []) (few_are size) ∙ different
 
-  -- they are no more than three where the few are
-  pub no_more : length (with_erasures [] few) ≤ 3 → length (with_erasures [] given) ≤ 3
-  no_more size = all_few (with_erasures [] given) different (subst (λ (s : List ℕ). length (with_erasures [] s) ≤ 3) is size)
+  -- they are no more than a search takes where the few are
+  pub no_more : length (with_erasures [] few) ≤ n → length (with_erasures [] given) ≤ n
+  no_more size = all_few n (with_erasures [] given) different (subst (λ (s : List ℕ). length (with_erasures [] s) ≤ n) is size)
 
   -- what holds of the few then holds of all
-  pub each_given : (P : ℕ → Type 0) → length (with_erasures [] given) ≤ 3 → AllByRecursion P few → AllByRecursion P given
+  pub each_given : (P : ℕ → Type 0) → length (with_erasures [] given) ≤ n → AllByRecursion P few → AllByRecursion P given
   each_given P size h = (all_and_more P [] given (subst (λ (s : List ℕ). AllByRecursion P s) (few_are size) h)).1
 
   -- and what holds of all of the few
   pub each_few : (P : ℕ → Type 0) → AllByRecursion P given → AllByRecursion P few
   each_few P h =
-      subst (λ (s : List ℕ). AllByRecursion P s) (sym is) (All-take P 4 (with_erasures [] given) (all-with_erasures P [] given tt h))
+      subst (λ (s : List ℕ). AllByRecursion P s) (sym is) (All-take P (n + 1) (with_erasures [] given) (all-with_erasures P [] given tt h))
 
 -- ---- what is said
 
@@ -139,14 +139,14 @@ module _ (code : Code) (text few given : List ℕ) (is : few ≡ take 4 (with_er
   listing-given listing h =
       let fits : 2 * errors_outside (with_erasures [] few) h.only.pattern + length (with_erasures [] few) ≤ 3 = h.only.explains.few in
       let small : length (with_erasures [] few) ≤ 3 = omega arith in
-      let size : length (with_erasures [] given) ≤ 3 = no_more few given is small in
+      let size : length (with_erasures [] given) ≤ 3 = no_more 3 few given is small in
       record {
         hrp = h.hrp;
         data_part = h.data_part;
         residue = h.residue;
         refused = h.refused;
-        inside = each_given few given is (λ i. i < length h.data_part) size h.inside;
-        only = rw (← same_erasures few given is size) h.only;
+        inside = each_given 3 few given is (λ i. i < length h.data_part) size h.inside;
+        only = rw (← same_erasures 3 few given is size) h.only;
         mends = h.mends;
       }
 
@@ -160,7 +160,7 @@ module _ (code : Code) (text few given : List ℕ) (is : few ≡ take 4 (with_er
     none = λ inside e explains.
         let fits : 2 * errors_outside (with_erasures [] given) e + length (with_erasures [] given) ≤ 3 = explains.few in
         let size : length (with_erasures [] given) ≤ 3 = omega arith in
-        h.none (each_few few given is (λ i. i < length h.data_part) inside) e (rw (same_erasures few given is size) explains);
+        h.none (each_few 3 few given is (λ i. i < length h.data_part) inside) e (rw (same_erasures 3 few given is size) explains);
   }
 
   mended-given : (said : List ℕ) → SaysMended code text few said → SaysMended code text given said

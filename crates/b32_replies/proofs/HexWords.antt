@@ -3,9 +3,9 @@ use Rattle.std.specs.Char.{is_ascii_hexdigit}
 use Rattle.std.specs.List.{AllPass, list_all}
 use Rattle.std.specs.Result.{result_ok}
 use Rattle.std.specs.Str.{bytes_eq}
-use Rattle.std.proofs.Common.{◌≡◌, ℕ, ◌+◌, ◌*◌, ◌%◌, ◌/◌, ◌<◌, ◌≤◌, List, length, slice_index_or, take, sym, true, MatchResult, Result, Ok, Err, Some, None, false, codes, refl, ap, ◌∙◌, arith}
+use Rattle.std.proofs.Common.{◌≡◌, ℕ, ◌%◌, ◌/◌, ◌<◌, ◌≤◌, List, length, slice_index_or, take, sym, true, MatchResult, Result, Ok, Err, Some, None, false, codes, refl, ap, ◌∙◌, arith}
 use Rattle.std.proofs.lemmas.List.Sums.{AllPass-from_list_all, list_all-from_AllPass}
-use Rattle.hex.specs.Hex.{decode_of, digit_or_error, hex_digit_value, is_hex_digit, pair_value, value_at}
+use Rattle.hex.specs.Hex.{decode_of, is_hex_digit}
 use Rattle.hex.specs.declared.error.FromHexError.{FromHexError}
 use Rattle.hex.proofs.HexLemmas.{decode_of-even, decode_of-ok, decode_pairs-digits}
 use Rattle.b32_replies.specs.Hex.{bytes_of}
@@ -41,16 +41,6 @@ are_bytes word even all =
     let whole : decode_of word ≡ Ok bytes = decode_of-even word even ∙ e in
     let size = (decode_of-ok word bytes whole).2 in
     (bytes, ap result_ok whole, omega (arith, size))
-
--- two digits that read are the byte of their values
-pub pair_read : (high low i h l : ℕ) → hex_digit_value high ≡ Some h → hex_digit_value low ≡ Some l
-    → pair_value high low i ≡ Ok (16 * h + l)
-pair_read high low i h l eh el =
-    let a : value_at high i ≡ Ok h = ap (digit_or_error high i) eh in
-    let b : value_at low (i + 1) ≡ Ok l = ap (digit_or_error low (i + 1)) el in
-    let product : h * 16 + l ≡ 16 * h + l = omega arith in
-    let read : pair_value high low i ≡ Ok (h * 16 + l) = rw (a, b) refl in
-    read ∙ ap Ok product
 
 -- what is said of a word of more bytes than there is room for
 pub too_long : (word before after : List ℕ) (size : ℕ) (r : Result ℕ Refusal) → bytes_eq word (codes "-") ≡ false → length before < size

@@ -1,4 +1,3 @@
-pub mod AllLocations
 pub mod ConfidentialReplies
 pub mod Contents
 pub mod CorrectReplies
@@ -7,6 +6,7 @@ pub mod Counted
 pub mod ElementsReplies
 pub mod ElementsSplit
 pub mod FewLocations
+pub mod Fronts
 pub mod HexWords
 pub mod LocationLists
 pub mod LocationWords

@@ -23,52 +23,52 @@ no_location [] (n ∷ all) piece more e below bad = bad n below.0 cc
 no_location (g ∷ given) (n ∷ all) piece more e below bad =
     let rest : map decimal given ++ (piece ∷ more) ≡ map decimal all = cc in no_location given all piece more rest below.1 bad
 
--- a word of which the last part is left: the locations of the others, and the first four different ones of these
-pub record IsReadTo (word rest few : List ℕ) : Type 0 where
+-- a word of which the last part is left: the locations of the others, and the first different ones of these
+pub record IsReadTo (k : ℕ) (word rest few : List ℕ) : Type 0 where
   pub given : List ℕ
   pub pieces_are : pieces word ≡ map decimal given ++ pieces rest
   pub below : AllByRecursion (λ i. i ≤ 1022) given
-  pub few_are : few ≡ take 4 (with_erasures [] given)
+  pub few_are : few ≡ take k (with_erasures [] given)
 
-pub few_size : (word rest few : List ℕ) → IsReadTo word rest few → length few ≤ 4
-few_size word rest few read =
-    let size : length (take 4 (with_erasures [] read.given)) ≡ min 4 (length (with_erasures [] read.given)) = length-take 4 (with_erasures [] read.given) in
+pub few_size : (k : ℕ) (word rest few : List ℕ) → IsReadTo k word rest few → length few ≤ k
+few_size k word rest few read =
+    let size : length (take k (with_erasures [] read.given)) ≡ min k (length (with_erasures [] read.given)) = length-take k (with_erasures [] read.given) in
     omega (arith, ap (λ (s : List ℕ). length s) read.few_are)
 
 -- a piece that is not a location
-pub no_list : (word rest few piece : List ℕ) (more : List (List ℕ)) → IsReadTo word rest few → pieces rest ≡ piece ∷ more
+pub no_list : (k : ℕ) (word rest few piece : List ℕ) (more : List (List ℕ)) → IsReadTo k word rest few → pieces rest ≡ piece ∷ more
     → ((n : ℕ) → n ≤ 1022 → piece ≢ decimal n) → IsNoListOfLocations word
-no_list word rest few piece more read cut bad all h =
+no_list k word rest few piece more read cut bad all h =
     no_location read.given all piece more
     (sym (read.pieces_are ∙ ap (λ (t : List (List ℕ)). map decimal read.given ++ t) cut) ∙ h.pieces_are) h.below bad
 
 -- a piece that is one, behind others that are
-one_more : (word rest few piece : List ℕ) (location : ℕ) (more : List (List ℕ)) (read : IsReadTo word rest few) → pieces rest ≡ piece ∷ more → piece ≡ decimal location
+one_more : (k : ℕ) (word rest few piece : List ℕ) (location : ℕ) (more : List (List ℕ)) (read : IsReadTo k word rest few) → pieces rest ≡ piece ∷ more → piece ≡ decimal location
     → pieces word ≡ map decimal (read.given ++ (location ∷ [])) ++ more
-one_more word rest few piece location more read cut is =
+one_more k word rest few piece location more read cut is =
     read.pieces_are
     ∙ ap (λ (t : List (List ℕ)). map decimal read.given ++ t) cut
     ∙ ap (λ (p : List ℕ). map decimal read.given ++ (p ∷ more)) is
     ∙ sym (append_assoc (map decimal read.given) (decimal location ∷ []) more)
     ∙ ap (λ (front : List (List ℕ)). front ++ more) (sym (map-append decimal read.given (location ∷ [])))
 
-pub read_on : (word rest few new piece others : List ℕ) (location : ℕ) → IsReadTo word rest few → pieces rest ≡ piece ∷ pieces others → piece ≡ decimal location → location ≤ 1022
-    → new ≡ take 4 (with_erasures few (location ∷ [])) → IsReadTo word others new
-read_on word rest few new piece others location read cut is small added = record {
+pub read_on : (k : ℕ) (word rest few new piece others : List ℕ) (location : ℕ) → IsReadTo k word rest few → pieces rest ≡ piece ∷ pieces others → piece ≡ decimal location → location ≤ 1022
+    → new ≡ take k (with_erasures few (location ∷ [])) → IsReadTo k word others new
+read_on k word rest few new piece others location read cut is small added = record {
   given = read.given ++ (location ∷ []);
-  pieces_are = one_more word rest few piece location (pieces others) read cut is;
+  pieces_are = one_more k word rest few piece location (pieces others) read cut is;
   below = All-push (λ (i : ℕ). i ≤ 1022) read.given location read.below small;
-  few_are = first-more few new read.given location read.few_are added;
+  few_are = first-more k few new read.given location read.few_are added;
 }
 
 -- the last piece
-pub read_all : (word rest few new : List ℕ) (location : ℕ) → IsReadTo word rest few → pieces rest ≡ rest ∷ [] → rest ≡ decimal location → location ≤ 1022
-    → new ≡ take 4 (with_erasures few (location ∷ [])) → (given : List ℕ) × AreLocations word given × (new ≡ take 4 (with_erasures [] given))
-read_all word rest few new location read cut is small added = (
+pub read_all : (k : ℕ) (word rest few new : List ℕ) (location : ℕ) → IsReadTo k word rest few → pieces rest ≡ rest ∷ [] → rest ≡ decimal location → location ≤ 1022
+    → new ≡ take k (with_erasures few (location ∷ [])) → (given : List ℕ) × AreLocations word given × (new ≡ take k (with_erasures [] given))
+read_all k word rest few new location read cut is small added = (
   read.given ++ (location ∷ []),
   record {
-    pieces_are = one_more word rest few rest location [] read cut is ∙ append-nil (map decimal (read.given ++ (location ∷ [])));
+    pieces_are = one_more k word rest few rest location [] read cut is ∙ append-nil (map decimal (read.given ++ (location ∷ [])));
     below = All-push (λ (i : ℕ). i ≤ 1022) read.given location read.below small;
   },
-  first-more few new read.given location read.few_are added,
+  first-more k few new read.given location read.few_are added,
 )

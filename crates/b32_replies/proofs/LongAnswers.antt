@@ -1,5 +1,5 @@
 -- What may be said of long texts and of confidential addresses.
-use Rattle.std.proofs.Common.{◌≡◌, ◌≤◌, ◌⊎◌, ℕ, ◌++◌, List, length, refl, sym, ap, subst, codes, inl, inr, ⊎_elim, Some, None, Result, Ok, Err, IfOk, IfErr, IsOk, MatchResult}
+use Rattle.std.proofs.Common.{◌≡◌, ◌≤◌, ℕ, ◌++◌, List, length, refl, sym, subst, codes, inl, inr, Some, None, Result, Ok, Err, IfOk, IfErr, IsOk, MatchResult}
 use Rattle.bech32_bits.specs.Bits.{to_fes}
 use Rattle.bech32_gf.specs.declared.gf32.Fe32.{Fe32}
 use Rattle.bech32_checksum.specs.Code.{Code}
@@ -20,16 +20,18 @@ use Rattle.bech32_numbers.specs.Numbers.{number_of_hrp_error}
 use Rattle.blech32.specs.Words.{blech32_code}
 use Rattle.liquid.specs.Confidential.{IsLowerConfidential}
 use Rattle.liquid.specs.Numbers.{number_of_confidential_encode_error}
-use Rattle.liquid.specs.Writing.{IsConfidentialEncodeRefusal}
 use Rattle.liquid.specs.declared.error.EncodeError.{EncodeError as LiquidError}
 use Rattle.line_program.specs.Refused.{err}
-use Rattle.b32_replies.specs.Hex.{IsHex, bytes_of}
+use Rattle.b32_replies.specs.Hex.{bytes_of}
+use Rattle.b32_replies.specs.LongRequest.{code_of_long}
 use Rattle.b32_replies.specs.Numbers.{number_of_reply}
-use Rattle.b32_replies.specs.Reply.{IsKeyWord, IsLiquidEncodeAnswer, IsLongDecodeAnswer, IsLongEncodeAnswer, IsNoKey, IsNoVersion, IsNotRead, IsNotWritten, IsLongRead, IsVersionWord, IsLongWritten, memory_refusal}
+use Rattle.b32_replies.specs.Reply.{IsEncodedConfidentialFault, IsKeyWord, IsLiquidEncodeAnswer, IsLongDecodeAnswer, IsLongEncodeAnswer, IsNoKey, IsNoVersion, IsNotRead, IsNotWritten, IsLongRead, IsVersionWord, IsLongWritten, memory_refusal}
 use Rattle.b32_replies.specs.declared.long_command.Kind.{Kind}
 use Rattle.b32_replies.specs.declared.long_command.Kind.TheVariants.{Bytes, Elements}
+use Rattle.b32_replies.specs.declared.long_command.LongChecksum.{LongChecksum}
+use Rattle.b32_replies.specs.declared.long_command.LongChecksum.TheVariants.{LongBech32, LongBech32m}
 use Rattle.b32_replies.specs.declared.refusal.Refusal.{Refusal}
-use Rattle.b32_replies.specs.declared.refusal.Refusal.TheVariants.{BadHex, Encode, Memory}
+use Rattle.b32_replies.specs.declared.refusal.Refusal.TheVariants.{BadHex, Encode}
 
 -- ---- what a text is the only one of, by what is decoded
 
@@ -50,6 +52,12 @@ read-elements items code text (Err e) is values refused = refused
 
 pub known : (P : Kind → Code → Type 0) (kind other : Kind) (code same : Code) → kind ≡ other → code ≡ same → P other same → P kind code
 known P kind other code same k c h = subst (λ (x : Kind). P x code) (sym k) (subst (λ (x : Code). P other x) (sym c) h)
+
+-- ---- how long the codes of long texts are
+
+pub long-code : (checksum : LongChecksum) → (code_of_long checksum).code_length ≡ 7089
+long-code LongBech32 = refl
+long-code LongBech32m = refl
 
 -- ---- the text of bytes, by what is encoded
 
@@ -79,24 +87,23 @@ not-written Elements code hrp values text is = (is.fits, is.may_be)
 -- ---- encoding
 
 module _ (kind : Kind) (code : Code) (hrp hex : List ℕ) where
-  pub long-refused_hex : (e : Refusal) → ((e ≡ Memory) × IsHex hex) ⊎ ((e ≡ BadHex) × (bytes_of hex ≡ None)) → IsLongEncodeAnswer kind code hrp hex (err (number_of_reply e))
-  long-refused_hex e h =
-      ⊎_elim
-      (λ (m : (e ≡ Memory) × IsHex hex). inr (m.1, ap (λ (x : Refusal). err (number_of_reply x)) m.0))
-      (λ (b : (e ≡ BadHex) × (bytes_of hex ≡ None)).
-      subst (λ (x : Refusal). IsLongEncodeAnswer kind code hrp hex (err (number_of_reply x))) (sym b.0) (inl (rw b.1 refl)))
-      h
+  pub long-refused_hex : (e : Refusal) → (e ≡ BadHex) × (bytes_of hex ≡ None) → IsLongEncodeAnswer kind code hrp hex (err (number_of_reply e))
+  long-refused_hex e h = subst (λ (x : Refusal). IsLongEncodeAnswer kind code hrp hex (err (number_of_reply x))) (sym h.0) (rw h.1 refl)
 
   module _ (values : List ℕ) (some : bytes_of hex ≡ Some values) where
     pub long-bad_hrp : (e : HrpError) → hrp_refusal hrp ≡ Some e → IsLongEncodeAnswer kind code hrp hex (err (number_of_hrp_error e))
-    long-bad_hrp e refused = inl (rw (some, refused) refl)
+    long-bad_hrp e refused = rw (some, refused) refl
 
     module _ (fine : hrp_refusal hrp ≡ None) where
       pub long-text : (text : List ℕ) → IsLongWritten kind code hrp values text → IsLongEncodeAnswer kind code hrp hex (codes "ok " ++ text)
-      long-text text is = inl (rw (some, fine) (inl (record { text = text; written = is; spelling = refl })))
+      long-text text is = rw (some, fine) (inl (record { text = text; written = is; spelling = refl }))
 
       pub long-refused : (e : Refusal) → IsNotWritten kind code hrp values e → IsLongEncodeAnswer kind code hrp hex (err (number_of_reply e))
-      long-refused e is = inl (rw (some, fine) (inr (record { error = e; is_refusal = is; spelling = refl })))
+      long-refused e is = rw (some, fine) (inr (record { error = e; is_refusal = is; spelling = refl }))
+
+      -- a refusal with the number of one of these numbers
+      pub long-same : (e own : Refusal) → IsNotWritten kind code hrp values own → number_of_reply e ≡ number_of_reply own → IsLongEncodeAnswer kind code hrp hex (err (number_of_reply e))
+      long-same e own is same = subst (λ (n : ℕ). IsLongEncodeAnswer kind code hrp hex (err n)) (sym same) (long-refused own is)
 
 -- ---- confidential addresses
 
@@ -120,6 +127,6 @@ module _ (hrp number key_word hex : List ℕ) where
             → IsLiquidEncodeAnswer hrp number key_word hex (codes "ok " ++ text)
         liquid-text text fine address = inr (version, is, inr (key, is_key, rw (some, fine) (inl (record { text = text; is_address = address; spelling = refl }))))
 
-        pub liquid-refused : (e : LiquidError) → hrp_refusal hrp ≡ None → IsConfidentialEncodeRefusal version (length program) e
+        pub liquid-refused : (e : LiquidError) → hrp_refusal hrp ≡ None → IsEncodedConfidentialFault version (length program) e
             → IsLiquidEncodeAnswer hrp number key_word hex (err (number_of_confidential_encode_error e))
         liquid-refused e fine refusal = inr (version, is, inr (key, is_key, rw (some, fine) (inr (record { error = e; is_refusal = refusal; spelling = refl }))))

@@ -2,22 +2,21 @@
 use Rattle.std.specs.Str.{IsUtf8}
 use Rattle.std.proofs.Common.{◌≡◌, ℕ, ◌≤◌, List, length, refl, sym, ap, subst, Option, Some, None, MatchOption, Result, Ok, Err}
 use Rattle.line_program.specs.Added.{AddsAnyOrRefuses}
-use Rattle.line_program.specs.Limit.{longest_line}
 use Rattle.line_program.specs.Refused.{err}
 use Rattle.line_program.proofs.Replied.{answer-reply, text-reply}
 use Rattle.b32_replies.specs.LongRequest.{LongRequest, Short, line_request_of, long_request_of, or_long}
-use Rattle.b32_replies.specs.Reply.{IsAnswer, IsLineAnswer, IsLongAnswer, IsLongOutcome, IsReply}
+use Rattle.b32_replies.specs.Reply.{IsAnswer, IsLineAnswer, IsLongAnswer, IsLongOutcome, IsReply, line_limit}
 use Rattle.b32_replies.specs.Request.{Request, request_of}
 
-module _ (line : List ℕ) (short : length line ≤ longest_line) (u : IsUtf8 line) where
+module _ (line : List ℕ) (short : length line ≤ line_limit) (u : IsUtf8 line) where
   pub short-reply : (request : Request) (said : List ℕ) → request_of line ≡ Some request → IsAnswer request said → IsReply line said
   short-reply request said is h =
-      answer-reply line_request_of IsLineAnswer line short u (Short request) said (ap (λ (o : Option Request). or_long o (long_request_of line)) is) h
+      answer-reply line_limit line_request_of IsLineAnswer line short u (Short request) said (ap (λ (o : Option Request). or_long o (long_request_of line)) is) h
 
   -- of one that is no other command
   pub long-reply : (said : List ℕ) → request_of line ≡ None → IsLongOutcome line said → IsReply line said
   long-reply said is h =
-      text-reply line_request_of IsLineAnswer line short said u
+      text-reply line_limit line_request_of IsLineAnswer line short said u
       (subst (λ (o : Option Request). MatchOption (or_long o (long_request_of line)) (said ≡ err 3) (λ r. IsLineAnswer r said)) (sym is) (cases (long_request_of line) h))
     where
       cases : (o : Option LongRequest) → MatchOption o (said ≡ err 3) (λ r. IsLongAnswer r said) → MatchOption (or_long None o) (said ≡ err 3) (λ r. IsLineAnswer r said)

@@ -22,13 +22,13 @@ use Rattle.bech32_refusals.specs.declared.error.SegwitHrpstringError.TheVariants
 use Rattle.bech32_encode.specs.TextLength.{encoded_length_of}
 use Rattle.bech32.proofs.Decoding.{decoded-from_refusal}
 use Rattle.bech32_correction.specs.Mistyped.{AreInside, HasNoListing, IsListingOf}
-use Rattle.bech32_segwit.specs.SegwitEncoding.{HasAddress, IsSegwitEncodeRefusal}
+use Rattle.bech32_segwit.specs.SegwitEncoding.{HasAddress}
 use Rattle.bech32_segwit.proofs.SegwitEncoding.{exists-from_outcome}
 use Rattle.bech32_numbers.specs.Numbers.{number_of_address_error, number_of_decode_error, number_of_segwit_encode_error}
 use Rattle.line_program.specs.Refused.{SaysRefusal, err}
 use Rattle.b32_replies.specs.Hex.{bytes_of}
 use Rattle.b32_replies.specs.Locations.{AreLocations}
-use Rattle.b32_replies.specs.Reply.{IsCorrectAnswer, IsCorrectAtAnswer, IsDecodeAnswer, IsEncodeAnswer, IsSegwitDecodeAnswer, IsSegwitEncodeAnswer, IsVersionWord, SaysAddress, SaysBytes, SaysFine, SaysMended, SaysNone, SaysProgram, SaysText}
+use Rattle.b32_replies.specs.Reply.{IsEncodedAddressFault, IsCorrectAnswer, IsCorrectAtAnswer, IsDecodeAnswer, IsEncodeAnswer, IsSegwitDecodeAnswer, IsSegwitEncodeAnswer, IsVersionWord, SaysAddress, SaysBytes, SaysFine, SaysMended, SaysNone, SaysProgram, SaysText}
 use Rattle.b32_replies.proofs.Unrefused.{IsUtf8-from_grammar, accepted_unrefused, grammar-from_accepts, not_both, one_residue, residue_unrefused}
 
 -- ---- `encode`
@@ -56,17 +56,16 @@ one_version : (word : List ℕ) (v w : Fe32) → IsVersionWord word v → IsVers
 one_version word v w is also = let small = v.in_field in let few = w.in_field in path v w (decimal_injective v.value w.value (omega arith) (omega arith) (sym is ∙ also))
 
 no_other_address : (hrp : List ℕ) (version : Fe32) (program said : List ℕ) → HasAddress hrp version program
-    → SaysRefusal (IsSegwitEncodeRefusal hrp version program) number_of_segwit_encode_error said → said ≡ err 91
+    → SaysRefusal (IsEncodedAddressFault hrp version program) number_of_segwit_encode_error said → ⊥
 no_other_address hrp version program said a r =
-    r.spelling ∙ ap (λ e. err (number_of_segwit_encode_error e)) (exists-from_outcome {S = ℕ} hrp version program (Err r.error) r.is_refusal a)
+    r.is_refusal.1 (exists-from_outcome {S = ℕ} hrp version program (Err r.error) r.is_refusal.0 a)
 
 pub address_encoded : (hrp word hex : List ℕ) (version : Fe32) (program said : List ℕ) → IsVersionWord word version → bytes_of hex ≡ Some program → IsHrp hrp → HasAddress hrp version program
-    → IsSegwitEncodeAnswer hrp word hex said → SaysAddress hrp version program said ⊎ (said ≡ err 91)
+    → IsSegwitEncodeAnswer hrp word hex said → SaysAddress hrp version program said
 address_encoded hrp word hex version program said is read part a (inl bad) = absurd (bad.0 version is)
-address_encoded hrp word hex version program said is read part a (inr (v, w, inr m)) = inr m.1
-address_encoded hrp word hex version program said is read part a (inr (v, w, inl answer)) =
-    ⊎_elim (λ (s : SaysAddress hrp version program said). inl s)
-    (λ (r : SaysRefusal (IsSegwitEncodeRefusal hrp version program) number_of_segwit_encode_error said). inr (no_other_address hrp version program said a r))
+address_encoded hrp word hex version program said is read part a (inr (v, w, answer)) =
+    ⊎_elim (λ (s : SaysAddress hrp version program said). s)
+    (λ (r : SaysRefusal (IsEncodedAddressFault hrp version program) number_of_segwit_encode_error said). absurd (no_other_address hrp version program said a r))
     (rw (one_version word v version w is, read, hrp_refusal-none hrp part) at answer)
 
 -- ---- `segwit-decode`

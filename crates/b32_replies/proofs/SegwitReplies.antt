@@ -1,5 +1,5 @@
 -- What may be said of a segwit address.
-use Rattle.std.proofs.Common.{◌≡◌, ◌⊎◌, ℕ, ◌≤◌, ◌++◌, ◌∷◌, ◌==◌, Bool, true, false, cond, List, length, length-append, refl, sym, ap, subst, codes, arith, inl, inr, ⊎_elim, Some, None}
+use Rattle.std.proofs.Common.{◌≡◌, ℕ, ◌≤◌, ◌++◌, ◌∷◌, ◌==◌, Bool, true, false, cond, List, length, length-append, refl, ap, codes, arith, inl, inr, Some, None}
 use Rattle.std.proofs.lemmas.List.{length-map}
 use Rattle.std.specs.Char.{to_ascii_lowercase}
 use Rattle.std.specs.Fmt.{decimal}
@@ -9,16 +9,12 @@ use Rattle.bech32_checksum.specs.Code.{bech32, bech32m}
 use Rattle.bech32_hrp.specs.Hrp.{lowered, hrp_refusal}
 use Rattle.bech32_hrp.specs.declared.Error.{Error as HrpError}
 use Rattle.bech32_decode.specs.Segwit.{segwit_code, IsLowerAddress, IsAddress}
-use Rattle.bech32_segwit.specs.SegwitEncoding.{IsSegwitEncodeRefusal}
 use Rattle.bech32_segwit.specs.declared.error.EncodeError.{EncodeError}
 use Rattle.bech32_checksum.proofs.Uniqueness.{length-encoded}
-use Rattle.b32_replies.specs.Hex.{IsHex, bytes_of, hex_of}
-use Rattle.b32_replies.specs.Numbers.{number_of_reply}
+use Rattle.b32_replies.specs.Hex.{bytes_of, hex_of}
 use Rattle.bech32_numbers.specs.Numbers.{number_of_hrp_error, number_of_segwit_encode_error}
-use Rattle.b32_replies.specs.declared.refusal.Refusal.{Refusal}
-use Rattle.b32_replies.specs.declared.refusal.Refusal.TheVariants.{BadHex, Memory}
 use Rattle.line_program.specs.Refused.{err}
-use Rattle.b32_replies.specs.Reply.{IsVersionWord, IsNoVersion, IsSegwitEncodeAnswer}
+use Rattle.b32_replies.specs.Reply.{IsEncodedAddressFault, IsVersionWord, IsNoVersion, IsSegwitEncodeAnswer}
 use Rattle.b32_replies.proofs.Sizes.{length-hex_of}
 use Rattle.b32_replies.proofs.VersionWords.{length-version}
 
@@ -30,25 +26,18 @@ module _ (hrp word hex : List ℕ) where
 
   module _ (version : Fe32) (is : IsVersionWord word version) where
     pub says-bad_hex : bytes_of hex ≡ None → IsSegwitEncodeAnswer hrp word hex (err 5)
-    says-bad_hex none = inr (version, is, inl (rw none refl))
-
-    pub says-refused_hex : (e : Refusal) → ((e ≡ Memory) × IsHex hex) ⊎ ((e ≡ BadHex) × (bytes_of hex ≡ None)) → IsSegwitEncodeAnswer hrp word hex (err (number_of_reply e))
-    says-refused_hex e h =
-        ⊎_elim
-        (λ (m : (e ≡ Memory) × IsHex hex). inr (version, is, inr (m.1, ap (λ (x : Refusal). err (number_of_reply x)) m.0)))
-        (λ (b : (e ≡ BadHex) × (bytes_of hex ≡ None)). subst (λ (x : Refusal). IsSegwitEncodeAnswer hrp word hex (err (number_of_reply x))) (sym b.0) (says-bad_hex b.1))
-        h
+    says-bad_hex none = inr (version, is, rw none refl)
 
     module _ (program : List ℕ) (some : bytes_of hex ≡ Some program) where
       pub says-bad_hrp : (e : HrpError) → hrp_refusal hrp ≡ Some e → IsSegwitEncodeAnswer hrp word hex (err (number_of_hrp_error e))
-      says-bad_hrp e refused = inr (version, is, inl (rw (some, refused) refl))
+      says-bad_hrp e refused = inr (version, is, rw (some, refused) refl)
 
       pub says-address : (text : List ℕ) → hrp_refusal hrp ≡ None → IsLowerAddress hrp version program text → IsSegwitEncodeAnswer hrp word hex (codes "ok " ++ text)
-      says-address text fine address = inr (version, is, inl (rw (some, fine) (inl (record { text = text; is_address = address; spelling = refl }))))
+      says-address text fine address = inr (version, is, rw (some, fine) (inl (record { text = text; is_address = address; spelling = refl })))
 
-      pub says-no_address : (e : EncodeError) → hrp_refusal hrp ≡ None → IsSegwitEncodeRefusal hrp version program e
+      pub says-no_address : (e : EncodeError) → hrp_refusal hrp ≡ None → IsEncodedAddressFault hrp version program e
           → IsSegwitEncodeAnswer hrp word hex (err (number_of_segwit_encode_error e))
-      says-no_address e fine refusal = inr (version, is, inl (rw (some, fine) (inr (record { error = e; is_refusal = refusal; spelling = refl }))))
+      says-no_address e fine refusal = inr (version, is, rw (some, fine) (inr (record { error = e; is_refusal = refusal; spelling = refl })))
 
 -- ---- the answer to `segwit-decode`
 

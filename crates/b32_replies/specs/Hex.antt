@@ -12,10 +12,6 @@ AreBytes numbers = All (λ n. n < 256) numbers
 abbrev pub bytes_of : List ℕ → Option (List ℕ)
 bytes_of word = if bytes_eq word (codes "-") then Some [] else result_ok (decode_of word)
 
--- the word is pairs of hex digits, and not `-`
-abbrev pub IsHex : List ℕ → Type 0
-IsHex word = (bytes : List ℕ) × (result_ok (decode_of word) ≡ Some bytes)
-
 -- the word for bytes, in lower case
 abbrev pub hex_of : List ℕ → List ℕ
 hex_of [] = codes "-"

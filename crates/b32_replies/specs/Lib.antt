@@ -7,3 +7,4 @@ pub mod LongRequest
 pub mod Numbers
 pub mod Reply
 pub mod Request
+pub mod Written

@@ -12,11 +12,6 @@ pub record AreLocations (word given : List ℕ) : Type 0 where
   pub pieces_are : pieces word ≡ map decimal given
   pub below : AllByRecursion (λ i. i ≤ 1022) given
 
--- its first piece is a location
-abbrev pub BeginsWithLocation : List ℕ → Type 0
-BeginsWithLocation word =
-    (n : ℕ) × (more : List (List ℕ)) × (n ≤ 1022) × (pieces word ≡ decimal n ∷ more)
-
 -- it lists none
 abbrev pub IsNoListOfLocations : List ℕ → Type 0
 IsNoListOfLocations word = (given : List ℕ) → AreLocations word given → ⊥

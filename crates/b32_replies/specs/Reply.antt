@@ -1,5 +1,5 @@
 -- What may be said of a line.
-use Rattle.std.specs.Prelude.{◌≡◌, ◌<◌, ◌≤◌, ◌⊎◌, ℕ, List, [], ◌∷◌}
+use Rattle.std.specs.Prelude.{◌≡◌, ◌≢◌, ◌<◌, ◌≤◌, ◌⊎◌, ℕ, List, [], ◌∷◌}
 use Rattle.std.specs.Prelude.{◌++◌, codes, length, MatchOption, Some}
 use Rattle.std.specs.Fmt.{decimal}
 use Rattle.bech32_gf.specs.declared.gf32.Fe32.{Fe32}
@@ -18,14 +18,18 @@ use Rattle.bech32.specs.Spelling.{IsSpelledBy, IsStrictRefusal}
 use Rattle.bech32_decode.specs.Segwit.{IsLowerAddress, IsAddress}
 use Rattle.bech32_segwit.specs.SegwitDecoding.{IsSegwitDecodeRefusal}
 use Rattle.bech32_segwit.specs.SegwitEncoding.{IsSegwitEncodeRefusal}
+use Rattle.bech32_segwit.specs.declared.error.EncodeError.{EncodeError as SegwitEncodeError}
+use Rattle.bech32_segwit.specs.declared.error.EncodeError.TheVariants.{Memory as no_address_memory}
 use Rattle.blech32.specs.Words.{blech32_code}
 use Rattle.liquid.specs.Confidential.{IsDecodedConfidential, IsLowerConfidential}
 use Rattle.liquid.specs.Numbers.{number_of_confidential_encode_error, number_of_confidential_error}
 use Rattle.liquid.specs.Refusals.{IsConfidentialRefusal}
 use Rattle.liquid.specs.Writing.{IsConfidentialEncodeRefusal}
+use Rattle.liquid.specs.declared.error.EncodeError.{EncodeError as ConfidentialEncodeError}
+use Rattle.liquid.specs.declared.error.EncodeError.TheVariants.{Memory as no_confidential_memory}
 use Rattle.line_program.specs.Refused.{SaysRefusal, err}
 use Rattle.line_program.specs.Reply.{IsReplyBy}
-use Rattle.b32_replies.specs.Hex.{AreBytes, IsHex, bytes_of, hex_of}
+use Rattle.b32_replies.specs.Hex.{AreBytes, bytes_of, hex_of}
 use Rattle.bech32_numbers.specs.Numbers.{number_of_checked_error, number_of_hrp_error}
 use Rattle.bech32_numbers.specs.Numbers.{number_of_decode_error, number_of_elements_error}
 use Rattle.bech32_numbers.specs.Numbers.{number_of_text_decode_error}
@@ -47,10 +51,6 @@ use Rattle.b32_replies.specs.Request.{Correct, CorrectAt, code_of_name}
 use Rattle.b32_replies.specs.LongRequest.{LongRequest, LongEncode, LongDecode, LiquidEncode}
 use Rattle.b32_replies.specs.LongRequest.{LiquidDecode, LineRequest, Short, Long, code_of_long}
 use Rattle.b32_replies.specs.LongRequest.{line_request_of, long_request_of}
-
--- an answer, or out of memory for the bytes of a word of hex digits
-abbrev pub OrNoMemory : List ℕ → (List ℕ → Type 0) → List ℕ → Type 0
-OrNoMemory hex Says said = Says said ⊎ (IsHex hex × (said ≡ err 91))
 
 -- the text of a human-readable part and bytes is said
 pub record SaysText (code : Code) (hrp bytes said : List ℕ) : Type 0 where
@@ -118,16 +118,16 @@ pub record SaysTextOfElements (code : Code) (hrp values said : List ℕ) : Type 
   pub are_values : AreValues values
   pub spelling : said ≡ codes "ok " ++ text
 
--- the answer to `encode-elements`: bad hex is refused, then a bad human-readable part; memory for
--- the bytes may run out first
+-- the answer to `encode-elements`: bad hex is refused, then a bad human-readable part; out of
+-- memory only where nothing else is refused
 abbrev pub IsEncodeElementsAnswer : Code → List ℕ → List ℕ → List ℕ → Type 0
 IsEncodeElementsAnswer code hrp hex said =
-    OrNoMemory hex (λ said. MatchOption (bytes_of hex)
+    MatchOption (bytes_of hex)
     (said ≡ err 5)
     (λ values. MatchOption (hrp_refusal hrp)
     (SaysTextOfElements code hrp values said
     ⊎ SaysRefusal (IsElementsEncodeRefusal code hrp values) number_of_elements_error said)
-    (λ error. said ≡ err (number_of_hrp_error error)))) said
+    (λ error. said ≡ err (number_of_hrp_error error)))
 
 -- the word is the number of a version, in decimal
 abbrev pub IsVersionWord : List ℕ → Fe32 → Type 0
@@ -143,6 +143,11 @@ pub record SaysAddress (hrp : List ℕ) (version : Fe32) (program said : List �
   pub is_address : IsLowerAddress hrp version program text
   pub spelling : said ≡ codes "ok " ++ text
 
+-- why the address of these is not written: `segwit-encode` allocates nothing
+abbrev pub IsEncodedAddressFault : List ℕ → Fe32 → List ℕ → SegwitEncodeError → Type 0
+IsEncodedAddressFault hrp version program e =
+    IsSegwitEncodeRefusal hrp version program e × (e ≢ no_address_memory)
+
 -- the answer to `segwit-encode` with this version: bad hex is refused, then
 -- a bad human-readable part
 abbrev pub IsVersionedAnswer : List ℕ → Fe32 → List ℕ → List ℕ → Type 0
@@ -151,15 +156,14 @@ IsVersionedAnswer hrp version hex said =
     (said ≡ err 5)
     (λ program. MatchOption (hrp_refusal hrp)
     (SaysAddress hrp version program said
-    ⊎ SaysRefusal (IsSegwitEncodeRefusal hrp version program) number_of_segwit_encode_error said)
+    ⊎ SaysRefusal (IsEncodedAddressFault hrp version program) number_of_segwit_encode_error said)
     (λ error. said ≡ err (number_of_hrp_error error)))
 
--- and with any word: a bad number is refused first, and then memory for the bytes may run out
+-- and with any word: a bad number is refused first
 abbrev pub IsSegwitEncodeAnswer : List ℕ → List ℕ → List ℕ → List ℕ → Type 0
 IsSegwitEncodeAnswer hrp word hex said =
     (IsNoVersion word × (said ≡ err 4))
-    ⊎ ((version : Fe32) × IsVersionWord word version
-    × OrNoMemory hex (IsVersionedAnswer hrp version hex) said)
+    ⊎ ((version : Fe32) × IsVersionWord word version × IsVersionedAnswer hrp version hex said)
 
 -- the human-readable part of an address is said, in lower case, its version and its program
 pub record SaysProgram (text said : List ℕ) : Type 0 where
@@ -268,15 +272,15 @@ pub record SaysWritten (kind : Kind) (code : Code) (hrp values said : List ℕ) 
   pub spelling : said ≡ codes "ok " ++ text
 
 -- the answer to `encode` and `encode-elements` of long texts: bad hex is refused, then a bad
--- human-readable part; memory for the bytes of the hex may run out first
+-- human-readable part; out of memory only where nothing else is refused
 abbrev pub IsLongEncodeAnswer : Kind → Code → List ℕ → List ℕ → List ℕ → Type 0
 IsLongEncodeAnswer kind code hrp hex said =
-    OrNoMemory hex (λ said. MatchOption (bytes_of hex)
+    MatchOption (bytes_of hex)
     (said ≡ err 5)
     (λ values. MatchOption (hrp_refusal hrp)
     (SaysWritten kind code hrp values said
     ⊎ SaysRefusal (IsNotWritten kind code hrp values) number_of_reply said)
-    (λ error. said ≡ err (number_of_hrp_error error)))) said
+    (λ error. said ≡ err (number_of_hrp_error error)))
 
 -- the text is the only spelling of a human-readable part and data
 pub record IsLongRead (kind : Kind) (code : Code) (text hrp values : List ℕ) : Type 0 where
@@ -317,6 +321,11 @@ pub record SaysConfidential (hrp : List ℕ) (version : Fe32) (key program said 
   pub is_address : IsLowerConfidential blech32_code hrp version key program text
   pub spelling : said ≡ codes "ok " ++ text
 
+-- why there is no confidential address: `liquid-encode` allocates nothing
+abbrev pub IsEncodedConfidentialFault : Fe32 → ℕ → ConfidentialEncodeError → Type 0
+IsEncodedConfidentialFault version n e =
+    IsConfidentialEncodeRefusal version n e × (e ≢ no_confidential_memory)
+
 -- the answer to `liquid-encode` with this version and this blinding key: bad hex is refused, then a
 -- bad human-readable part
 abbrev pub IsKeyedAnswer : List ℕ → Fe32 → List ℕ → List ℕ → List ℕ → Type 0
@@ -325,7 +334,7 @@ IsKeyedAnswer hrp version key hex said =
     (said ≡ err 5)
     (λ program. MatchOption (hrp_refusal hrp)
     (SaysConfidential hrp version key program said
-    ⊎ SaysRefusal (IsConfidentialEncodeRefusal version (length program))
+    ⊎ SaysRefusal (IsEncodedConfidentialFault version (length program))
     number_of_confidential_encode_error said)
     (λ error. said ≡ err (number_of_hrp_error error)))
 
@@ -377,6 +386,10 @@ abbrev pub IsLineAnswer : LineRequest → List ℕ → Type 0
 IsLineAnswer (Short request) said = IsAnswer request said
 IsLineAnswer (Long request) said = IsLongAnswer request said
 
+-- a line may have this many bytes
+abbrev pub line_limit : ℕ
+line_limit = 4096
+
 -- what may be said of a line
 abbrev pub IsReply : List ℕ → List ℕ → Type 0
-IsReply line said = IsReplyBy line_request_of IsLineAnswer line said
+IsReply line said = IsReplyBy line_limit line_request_of IsLineAnswer line said

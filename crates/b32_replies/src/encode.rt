@@ -1,6 +1,6 @@
 //! Answers `encode`.
 
-ghost use Rattle.std.specs.Prelude.{◌≡◌, ◌+◌, ◌<◌, ◌≤◌, ◌++◌, ℕ, List, length, option_to_list, vec_len, vec_capacity, IfOk, MatchResult};
+ghost use Rattle.std.specs.Prelude.{◌≡◌, ◌+◌, ◌<◌, ◌≤◌, ◌++◌, ℕ, List, length, option_to_list, take, vec_len, vec_capacity, IfOk, MatchResult};
 ghost use Rattle.bech32_bits.specs.Bits.{to_fes};
 ghost use Rattle.bech32_checksum.specs.Encoded.{IsEncodedText};
 ghost use Rattle.bech32_encode.specs.TextLength.{encoded_length_of};
@@ -18,6 +18,18 @@ use line_program::append;
 
 /// No text of 1,023 characters has more bytes.
 const ROOM: usize = 640;
+
+/// This many bytes at the front of a room, or all of it, where they are more.
+pub(crate) fn front_of(room: &[u8], size: usize) -> &[u8]
+    ensures fits { size ≤ length room.now → result.now ≡ take size room.now }
+    ensures whole { length room.now < size → result.now ≡ room.now }
+{
+    if size <= room.len() {
+        &room[..size]
+    } else {
+        room
+    }
+}
 
 /// The length of the text of this many bytes, where the checksum allows as much.
 fn length_of<Ck: Checksum>(hrp: &[u8], size: usize) -> Result<usize, Refusal>

@@ -1,20 +1,46 @@
 //! Why a run ends early.
 
-use thiserror::Error;
+use line_program::Reason;
+use std::error::Error;
+use std::fmt;
 
 /// Why a run ended early.
-#[derive(Debug, Drop, PartialEq, Eq, Clone, Copy, Error)]
+#[derive(Debug, Drop, PartialEq, Eq, Clone, Copy)]
 pub enum RunError {
     /// The source failed.
-    #[error("b32: reading failed")]
     Read,
     /// The sink failed.
-    #[error("b32: writing failed")]
     Write,
     /// Out of memory for the run's buffers.
-    #[error("b32: no memory")]
     Memory,
 }
+
+impl Reason for RunError {
+    ghost use Rattle.b32_replies.specs.Ends.{words_of_b32_end};
+
+    ghost words = { words_of_b32_end };
+
+    fn words(&self) -> &'static str {
+        match *self {
+            RunError::Read => "reading failed",
+            RunError::Write => "writing failed",
+            RunError::Memory => "no memory",
+        }
+    }
+}
+
+impl fmt::Display for RunError {
+    ghost use Rattle.std.specs.Prelude.{◌++◌, codes, Some};
+    ghost use Rattle.b32_replies.specs.Ends.{words_of_b32_end};
+
+    ghost output = { λ e. Some (codes "b32: " ++ words_of_b32_end e) };
+
+    fn fmt<W: fmt::Write>(&self, f: &mut fmt::Formatter<W>) -> fmt::Result {
+        write!(f, "b32: {}", self.words())
+    }
+}
+
+impl Error for RunError {}
 
 impl From<line_program::RunError> for RunError {
     ghost use Rattle.b32_replies.specs.Ends.{same_end};

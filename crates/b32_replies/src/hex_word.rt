@@ -1,72 +1,22 @@
 //! Bytes as a word: `-` for no bytes, else a pair of hex digits for each.
 
-ghost use Rattle.std.specs.Prelude.{◌≡◌, ◌⊎◌, ◌+◌, ◌*◌, ◌/◌, ◌%◌, ◌<◌, ◌≤◌, ◌++◌, if◌then◌else◌, ℕ, List, length, take};
+ghost use Rattle.std.specs.Prelude.{◌≡◌, ◌+◌, ◌*◌, ◌/◌, ◌%◌, ◌<◌, ◌≤◌, ◌++◌, if◌then◌else◌, ℕ, List, length, take};
 ghost use Rattle.std.specs.Prelude.{vec_len, vec_capacity, MatchResult, Some, None, true};
 ghost use Rattle.std.specs.Char.{is_ascii_hexdigit};
 ghost use Rattle.std.specs.List.{list_all};
 ghost use Rattle.std.specs.Result.{result_ok};
-ghost use Rattle.hex.specs.Hex.{decode_of, encode_lower, hex_digit_value};
-ghost use Rattle.b32_replies.specs.Hex.{AreBytes, IsHex, bytes_of, hex_of};
+ghost use Rattle.hex.specs.Hex.{decode_of, encode_lower};
+ghost use Rattle.b32_replies.specs.Hex.{AreBytes, bytes_of, hex_of};
 
 use crate::refusal::Refusal;
 use line_program::append;
-use std::alloc::Allocator;
-
-/// The value of a hex digit, in either case. There is no branch: it would go the wrong way where
-/// digits and letters take turns at random.
-#[inline]
-fn value_of(digit: u8) -> u8
-    requires { is_ascii_hexdigit digit ≡ true }
-    ensures value { hex_digit_value digit ≡ Some result }
-    ensures small { result < 16 }
-{
-    (digit & 15) + 9 * (digit >> 6)
-}
-
-/// Puts the bytes of pairs of hex digits, in either case.
-fn put_pairs(bytes: &mut [u8], digits: &[u8])
-    requires digits { list_all is_ascii_hexdigit digits.now ≡ true }
-    requires size { length digits.now ≡ 2 * length bytes.old }
-    ensures { result_ok (decode_of digits.now) ≡ Some bytes.new }
-{
-    for i in 0..bytes.len() {
-        bytes[i] = 16 * value_of(digits[2 * i]) + value_of(digits[2 * i + 1]);
-    }
-}
 
 /// Puts the bytes of pairs of hex digits, in either case, and returns whether all are digits.
 fn put_bytes(bytes: &mut [u8], digits: &str) -> bool
     requires { length digits.now ≡ 2 * length bytes.old }
     ensures { result_ok (decode_of digits.now) ≡ (if result then Some bytes.new else None) }
 {
-    if !are_digits(digits.as_bytes()) {
-        return false;
-    }
-    put_pairs(bytes, digits.as_bytes());
-    true
-}
-
-/// The bytes that a word stands for. Memory is needed only for pairs of digits.
-pub fn bytes_of_word<A: Allocator>(alloc: A, word: &str) -> Result<Vec<u8, A>, Refusal>
-    ensures { MatchResult result
-        (λ bytes. bytes_of word.now ≡ Some bytes.items)
-        (λ e. ((e ≡ Refusal.Memory) × IsHex word.now)
-        ⊎ ((e ≡ Refusal.BadHex) × (bytes_of word.now ≡ None))) }
-{
-    if word == "-" {
-        return Ok(Vec::new(alloc));
-    }
-    if word.len() % 2 != 0 {
-        return Err(Refusal::BadHex);
-    }
-    let size = size_of_digits(word)?;
-    let Ok(mut bytes) = vec![in alloc; 0u8; size] else {
-        return Err(Refusal::Memory);
-    };
-    if !put_bytes(bytes.as_mut_slice(), word) {
-        return Err(Refusal::BadHex);
-    }
-    Ok(bytes)
+    hex::decode_to_slice(digits, bytes).is_ok()
 }
 
 /// Whether a byte is a hex digit, in either case.

@@ -38,7 +38,7 @@ pub fn addresses_are_encoded()
     ensures { (hrp word hex : List ℕ) (version : Fe32) (program said : List ℕ)
         → IsVersionWord word version → bytes_of hex ≡ Some program → IsHrp hrp
         → HasAddress hrp version program → IsSegwitEncodeAnswer hrp word hex said
-        → SaysAddress hrp version program said ⊎ (said ≡ err 91) }
+        → SaysAddress hrp version program said }
 {}
 
 /// `segwit-decode`: the program of an address is said.

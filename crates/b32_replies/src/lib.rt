@@ -29,7 +29,7 @@ mod version_word;
 mod words;
 
 pub use command::{ChecksumName, checksum_named};
-pub use location_word::{all_locations_of_word, locations_of_word};
+pub use location_word::{locations_of_word, seven_locations_of_word};
 pub use refusal::Refusal;
 pub use version_word::number_of_word;
 pub use words::{three_words, two_words};

@@ -1,15 +1,14 @@
 //! Locations as a word: numbers up to 1022, in decimal, with commas between them.
 
-ghost use Rattle.std.specs.Prelude.{◌≡◌, ◌≢◌, ◌⊎◌, ◌<◌, ◌≤◌, ℕ, List, [], ◌∷◌, ◌++◌, length, take, MatchOption, MatchResult};
+ghost use Rattle.std.specs.Prelude.{◌≡◌, ◌≢◌, ◌≤◌, ℕ, List, [], ◌∷◌, length, take, MatchOption, MatchResult};
 ghost use Rattle.std.specs.Fmt.{decimal};
 ghost use Rattle.bech32_bch.specs.Erasures.{with_erasures};
-ghost use Rattle.b32_replies.specs.Locations.{AreLocations, BeginsWithLocation, IsNoListOfLocations};
+ghost use Rattle.b32_replies.specs.Locations.{AreLocations, IsNoListOfLocations};
 
 use crate::refusal::Refusal;
 use crate::version_word::digit_value;
 use bech32_bch::{ShortVec, contains};
 use bech32_correction::NoMemory;
-use std::alloc::Global;
 
 /// The highest location in a text.
 const MOST: usize = 1022;
@@ -34,12 +33,14 @@ fn location_of_word(word: &[u8]) -> Option<usize>
     Some(number)
 }
 
-/// Adds a location behind different ones, unless it is one of them, or they are four.
-fn add_location(few: &mut ShortVec<usize, NoMemory>, location: usize)
-    requires { length few.old ≤ 4 }
-    ensures { few.new ≡ take 4 (with_erasures few.old (location ∷ [])) }
+/// Adds a location behind different ones, unless it is one of them, or they are as many as are
+/// kept.
+fn add_location(few: &mut ShortVec<usize, NoMemory>, location: usize, kept: usize)
+    requires size { length few.old ≤ kept }
+    requires in_place { kept ≤ 7 }
+    ensures { few.new ≡ take kept (with_erasures few.old (location ∷ [])) }
 {
-    if few.len() == 4 {
+    if few.len() == kept {
         return;
     }
     if contains(few.as_slice(), location) {
@@ -48,12 +49,13 @@ fn add_location(few: &mut ShortVec<usize, NoMemory>, location: usize)
     few.push(location).unwrap();
 }
 
-/// The different locations that a word lists, in the order in which they come first; of more than
-/// four the first four, which are more than any correction takes.
-pub fn locations_of_word(word: &str) -> Result<ShortVec<usize, NoMemory>, Refusal>
+/// The different locations that a word lists, in the order in which they come first, at most as
+/// many as are kept. One more than a search takes tells what all of them tell.
+fn first_locations(word: &str, kept: usize) -> Result<ShortVec<usize, NoMemory>, Refusal>
+    requires { kept ≤ 7 }
     ensures { MatchResult result
         (λ few. (given : List ℕ) × AreLocations word.now given
-        × (few ≡ take 4 (with_erasures [] given)))
+        × (few ≡ take kept (with_erasures [] given)))
         (λ e. (e ≡ Refusal.BadNumber) × IsNoListOfLocations word.now) }
 {
     let mut few = ShortVec::new(NoMemory);
@@ -62,46 +64,34 @@ pub fn locations_of_word(word: &str) -> Result<ShortVec<usize, NoMemory>, Refusa
         let Some(location) = location_of_word(piece.as_bytes()) else {
             return Err(Refusal::BadNumber);
         };
-        add_location(&mut few, location);
+        add_location(&mut few, location, kept);
         rest = others;
     }
     let Some(location) = location_of_word(rest.as_bytes()) else {
         return Err(Refusal::BadNumber);
     };
-    add_location(&mut few, location);
+    add_location(&mut few, location, kept);
     Ok(few)
 }
 
-/// The locations that a word lists, in its order.
-pub fn all_locations_of_word(alloc: Global, word: &str) -> Result<Vec<usize>, Refusal>
+/// The first four different locations that a word lists, which are more than any correction by
+/// Bech32 or Bech32m takes.
+pub fn locations_of_word(word: &str) -> Result<ShortVec<usize, NoMemory>, Refusal>
     ensures { MatchResult result
-        (λ given. AreLocations word.now given.items)
-        (λ e. ((e ≡ Refusal.BadNumber) × IsNoListOfLocations word.now)
-        ⊎ ((e ≡ Refusal.Memory) × BeginsWithLocation word.now)) }
+        (λ few. (given : List ℕ) × AreLocations word.now given
+        × (few ≡ take 4 (with_erasures [] given)))
+        (λ e. (e ≡ Refusal.BadNumber) × IsNoListOfLocations word.now) }
 {
-    let mut given = Vec::new(alloc);
-    let mut rest = word;
-    'pieces: while let Some((piece, others)) = rest.split_once(',') {
-        push_location(&mut given, piece)?;
-        rest = others;
-    }
-    push_location(&mut given, rest)?;
-    Ok(given)
+    first_locations(word, 4)
 }
 
-// Adds the location that a word is.
-fn push_location(given: &mut Vec<usize>, word: &str) -> Result<(), Refusal>
+/// The first seven different locations that a word lists, which are more than any correction of a
+/// confidential address takes.
+pub fn seven_locations_of_word(word: &str) -> Result<ShortVec<usize, NoMemory>, Refusal>
     ensures { MatchResult result
-        (λ _. (n : ℕ) × (n ≤ 1022) × (word.now ≡ decimal n)
-        × (given.new.items ≡ given.old.items ++ n ∷ []))
-        (λ e. ((e ≡ Refusal.BadNumber) × ((n : ℕ) → n ≤ 1022 → word.now ≢ decimal n))
-        ⊎ ((e ≡ Refusal.Memory) × (n : ℕ) × (n ≤ 1022) × (word.now ≡ decimal n))) }
+        (λ few. (given : List ℕ) × AreLocations word.now given
+        × (few ≡ take 7 (with_erasures [] given)))
+        (λ e. (e ≡ Refusal.BadNumber) × IsNoListOfLocations word.now) }
 {
-    let Some(location) = location_of_word(word.as_bytes()) else {
-        return Err(Refusal::BadNumber);
-    };
-    match given.push(location) {
-        Ok(()) => Ok(()),
-        Err(_) => Err(Refusal::Memory),
-    }
+    first_locations(word, 7)
 }

@@ -1,6 +1,6 @@
 //! Answers the commands of long texts.
 
-ghost use Rattle.std.specs.Prelude.{◌≡◌, ◌+◌, ◌≤◌, ◌++◌, ◌∷◌, codes, if◌then◌else◌, is_ok, string_bytes, vec_len, vec_capacity, Err, MatchResult, Ok, OnOk};
+ghost use Rattle.std.specs.Prelude.{◌≡◌, ◌+◌, ◌≤◌, ◌++◌, ◌∷◌, ℕ, List, codes, if◌then◌else◌, is_ok, length, string_bytes, take, vec_len, vec_capacity, Err, MatchResult, Ok, OnOk};
 ghost use Rattle.bech32_hrp.specs.Hrp.{lowered};
 ghost use Rattle.bech32_hrp.specs.HrpBytes.{hrp_bytes};
 ghost use Rattle.line_program.specs.Added.{AddsAnyOrRefuses};
@@ -8,9 +8,11 @@ ghost use Rattle.b32_replies.specs.Hex.{hex_of};
 ghost use Rattle.b32_replies.specs.LongRequest.{code_of_long};
 ghost use Rattle.b32_replies.specs.Numbers.{number_of_reply};
 ghost use Rattle.b32_replies.specs.Reply.{IsLongDecodeAnswer, IsLongEncodeAnswer, IsNotRead, IsNotWritten, IsLongRead, IsLongWritten, memory_refusal};
+ghost use Rattle.b32_replies.specs.Written.{IsTextOrRefusal};
 
 use crate::append::append_part;
-use crate::hex_word::{append_hex, bytes_of_word};
+use crate::encode::front_of;
+use crate::hex_word::{append_hex, put_bytes_of_word};
 use crate::long_command::{Kind, LongChecksum};
 use crate::part_word::part_of_word;
 use crate::refusal::Refusal;
@@ -20,6 +22,9 @@ use bech32::{
 };
 use line_program::append;
 use std::alloc::{AllocError, Allocator};
+
+// No text of 7,089 characters has more bytes or elements.
+const MOST: usize = 7089;
 
 // Adds `ok`, a space and a text, and keeps room for one byte more, or leaves all as it was where
 // there is no memory.
@@ -101,6 +106,25 @@ fn written<A: Allocator>(
     }
 }
 
+// The text of this many numbers at the front of a room, or why there is none. Of numbers that do
+// not fit into the room, as many are too long as well.
+fn written_of_front<A: Allocator>(
+    alloc: A,
+    kind: Kind,
+    asked: (LongChecksum, Hrp),
+    room: &[u8],
+    size: usize,
+) -> Result<String<A>, Refusal>
+    requires { length room.now ≡ 7089 }
+    ensures { (values : List ℕ) → size ≡ length values
+        → (size ≤ length room.now → take size room.now ≡ values)
+        → IsTextOrRefusal (λ s. string_bytes s) kind (code_of_long asked.0)
+        (hrp_bytes asked.1) values result }
+{
+    let (checksum, hrp) = asked;
+    written(alloc, kind, checksum, hrp, front_of(room, size))
+}
+
 // What a text is the only one of by the checksum of this name.
 fn read<A: Allocator>(
     alloc: A,
@@ -125,7 +149,8 @@ fn read<A: Allocator>(
     }
 }
 
-/// Adds the text of data under a human-readable part, or leaves all as it was.
+/// Adds the text of data under a human-readable part, or leaves all as it was. Memory is asked for
+/// only where there is a text.
 pub fn encode_long<A: Allocator + Copy>(
     alloc: A,
     kind: Kind,
@@ -140,9 +165,10 @@ pub fn encode_long<A: Allocator + Copy>(
     ensures capacity { vec_capacity out.old ≤ vec_capacity out.new }
 {
     let (checksum, (hrp, hex)) = asked;
-    let values = bytes_of_word(alloc, hex)?;
-    let hrp = part_of_word(hrp)?;
-    let text = written(alloc, kind, checksum, Hrp::of_bytes(hrp), values.as_slice())?;
+    let mut room = [0u8; MOST];
+    let size = put_bytes_of_word(hex, &mut room)?;
+    let hrp = Hrp::of_bytes(part_of_word(hrp)?);
+    let text = written_of_front(alloc, kind, (checksum, hrp), &room, size)?;
     match append_said(out, text.as_bytes()) {
         Ok(()) => Ok(()),
         Err(_) => Err(no_memory(kind)),

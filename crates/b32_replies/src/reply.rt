@@ -1,5 +1,6 @@
 //! The replies to commands, by which `line_program` replies to a line.
 
+ghost use Rattle.std.proofs.Common.{arith};
 ghost use Rattle.std.specs.Prelude.{◌≡◌, ℕ, ◌+◌, ◌<◌, ◌≤◌, List, [], ◌∷◌, ◌++◌};
 ghost use Rattle.std.specs.Prelude.{vec_len, vec_capacity, IfErr, OnOk};
 ghost use Rattle.b32_replies.specs.Numbers.{number_of_reply};
@@ -7,7 +8,7 @@ ghost use Rattle.b32_replies.specs.Request.{request_of_command};
 ghost use Rattle.line_program.specs.Added.{AddsOrRefuses, AddsOrSaysNumber};
 ghost use Rattle.line_program.specs.Reply.{IsReplyBy};
 ghost use Rattle.b32_replies.specs.LongRequest.{line_request_of};
-ghost use Rattle.b32_replies.specs.Reply.{IsAnswer, IsLineAnswer, IsReply};
+ghost use Rattle.b32_replies.specs.Reply.{IsAnswer, IsLineAnswer, IsReply, line_limit};
 
 use crate::command::{ChecksumName, Command};
 use crate::content::decode_by;
@@ -23,6 +24,9 @@ use crate::segwit_encode::segwit_encode;
 use bech32::{Bech32, Bech32m};
 use line_program::{Replies, end_reply, text_of_line};
 use std::alloc::Allocator;
+
+/// A line may have this many bytes. A longer one is refused, whatever it holds.
+const LONGEST_LINE: usize = 4096;
 
 /// Adds the answer to a command, or leaves all as it was.
 fn execute_command<A: Allocator + Copy>(
@@ -50,7 +54,7 @@ fn execute_command<A: Allocator + Copy>(
             ChecksumName::Bech32 => encode_elements::<Bech32, A>(alloc, hrp, hex, out),
             ChecksumName::Bech32m => encode_elements::<Bech32m, A>(alloc, hrp, hex, out),
         },
-        Command::SegwitEncode { hrp, version, hex } => segwit_encode(alloc, hrp, version, hex, out),
+        Command::SegwitEncode { hrp, version, hex } => segwit_encode(hrp, version, hex, out),
         Command::SegwitDecode { text } => segwit_decode(alloc, text, out),
         Command::Correct { checksum, text } => correct(checksum, text, &[], out),
         Command::CorrectAt {
@@ -79,7 +83,7 @@ impl<A: Allocator + Copy> Commands<A> {
         ensures room { OnOk result (vec_len out.new + 1 ≤ vec_capacity out.new) }
         ensures capacity { vec_capacity out.old ≤ vec_capacity out.new }
     {
-        let text = text_of_line(line)?;
+        let text = text_of_line(line, LONGEST_LINE)?;
         let Some(command) = Command::parse(text) else {
             return answer_long(self.alloc, text, out);
         };
@@ -94,9 +98,15 @@ impl<A: Allocator + Copy> Commands<A> {
 impl<A: Allocator + Copy> Replies for Commands<A> {
     ghost use Rattle.line_program.specs.laws.LongLines.{long_lines};
 
-    ghost is_reply = { IsReplyBy line_request_of IsLineAnswer };
+    ghost LINE_LIMIT = { line_limit };
 
-    ghost too_long = { long_lines line_request_of IsLineAnswer };
+    ghost limited = { Prim.omega arith };
+
+    ghost is_reply = { IsReplyBy line_limit line_request_of IsLineAnswer };
+
+    ghost too_long = { long_lines line_limit line_request_of IsLineAnswer };
+
+    const LINE_LIMIT: usize = LONGEST_LINE;
 
     fn reply(&self, line: &[u8], out: &mut Vec<u8>) {
         end_reply(self.answer_line(line, out), out);

@@ -1,24 +1,24 @@
 //! Answers `segwit-encode`.
 
-ghost use Rattle.std.specs.Prelude.{◌≡◌, ◌+◌, ◌≤◌, ◌∷◌, ◌++◌, ℕ, List, Some, vec_len, vec_capacity, MatchResult};
+ghost use Rattle.std.specs.Prelude.{◌≡◌, ◌+◌, ◌<◌, ◌≤◌, ◌∷◌, ◌++◌, ℕ, List, Some, length, vec_len, vec_capacity, MatchResult};
 ghost use Rattle.bech32_bits.specs.Bits.{to_fes};
 ghost use Rattle.bech32_checksum.specs.Encoded.{IsEncodedText};
 ghost use Rattle.bech32_decode.specs.Segwit.{segwit_code};
-ghost use Rattle.bech32_segwit.specs.SegwitEncoding.{HasAddress, IsSegwitEncodeRefusal, address_length};
+ghost use Rattle.bech32_segwit.specs.SegwitEncoding.{HasAddress, address_length};
 ghost use Rattle.bech32_segwit.specs.declared.error.EncodeError.{EncodeError};
 ghost use Rattle.b32_replies.specs.Hex.{bytes_of};
 ghost use Rattle.b32_replies.specs.Numbers.{number_of_reply};
 ghost use Rattle.line_program.specs.Added.{AddsOrRefuses};
-ghost use Rattle.b32_replies.specs.Reply.{IsSegwitEncodeAnswer, IsVersionWord};
+ghost use Rattle.b32_replies.specs.Reply.{IsEncodedAddressFault, IsSegwitEncodeAnswer, IsVersionWord};
 
 use crate::encode::append_text;
-use crate::hex_word::{bytes_of_word, put_bytes_of_word};
+use crate::hex_word::put_bytes_of_word;
 use crate::part_word::part_of_word;
 use crate::refusal::Refusal;
 use crate::version_word::version_of_word;
+use bech32::primitives::segwit::{WitnessLengthError, validate_witness_version};
 use bech32::{Bech32, Bech32m, Fe32, segwit};
 use line_program::append;
-use std::alloc::Allocator;
 
 /// No program has more bytes.
 const ROOM: usize = 40;
@@ -29,12 +29,24 @@ fn length_of(hrp: &[u8], version: Fe32, program: &[u8]) -> Result<usize, Refusal
         (λ n. HasAddress hrp.now version program.now
         × (n ≡ address_length hrp.now program.now) × (n ≤ 90))
         (λ refusal. (e : EncodeError) × (refusal ≡ Refusal.SegwitEncode e)
-        × IsSegwitEncodeRefusal hrp.now version program.now e) }
+        × IsEncodedAddressFault hrp.now version program.now e) }
 {
     match segwit::address_length_of_part(hrp, version, program) {
         Ok(count) => Ok(count),
         Err(e) => Err(Refusal::SegwitEncode(e)),
     }
+}
+
+/// Why there is no address of a program that does not fit into the room.
+fn refusal_of_long(version: Fe32) -> Refusal
+    ensures { (hrp program : List ℕ) → 40 < length program
+        → (e : EncodeError) × (result ≡ Refusal.SegwitEncode e)
+        × IsEncodedAddressFault hrp version program e }
+{
+    if let Err(e) = validate_witness_version(version) {
+        return Refusal::SegwitEncode(segwit::EncodeError::WitnessVersion(e));
+    }
+    Refusal::SegwitEncode(segwit::EncodeError::WitnessLength(WitnessLengthError::TooLong))
 }
 
 /// Adds the text of a program by the checksum of its version, which has this length.
@@ -76,15 +88,8 @@ fn append_address(
     Ok(())
 }
 
-/// Adds the segwit address of a program, or leaves all as it was. Memory is needed only for a
-/// program that is too long.
-pub fn segwit_encode<A: Allocator + Copy>(
-    alloc: A,
-    hrp: &str,
-    version: &str,
-    hex: &str,
-    out: &mut Vec<u8>,
-) -> Result<(), Refusal>
+/// Adds the segwit address of a program, or leaves all as it was. It takes no memory.
+pub fn segwit_encode(hrp: &str, version: &str, hex: &str, out: &mut Vec<u8>) -> Result<(), Refusal>
     requires { vec_len out.old + 2047 ≤ vec_capacity out.old }
     ensures answer { AddsOrRefuses (IsSegwitEncodeAnswer hrp.now version.now hex.now)
         number_of_reply result out.old.items out.new.items }
@@ -95,9 +100,9 @@ pub fn segwit_encode<A: Allocator + Copy>(
     };
     let mut room = [0u8; ROOM];
     let size = put_bytes_of_word(hex, &mut room)?;
-    if size <= ROOM {
-        return append_address(hrp, version, &room[..size], out);
+    if size > ROOM {
+        part_of_word(hrp)?;
+        return Err(refusal_of_long(version));
     }
-    let program = bytes_of_word(alloc, hex)?;
-    append_address(hrp, version, program.as_slice(), out)
+    append_address(hrp, version, &room[..size], out)
 }

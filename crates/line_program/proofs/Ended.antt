@@ -90,11 +90,12 @@ pub rest-more : (before gone rest : List ℕ) → HasNoNewline rest → rest_fro
 rest-more before gone rest none = rest-append before gone rest ∙ rest-piece (rest_from before gone) rest none
 
 -- what is kept of the last line, and more bytes behind it
-pub kept-more : (read bytes kept : List ℕ) → kept ≡ take kept_of_line (rest_from (rest_from [] read) bytes) → kept ≡ take kept_of_line (rest_from [] (read ++ bytes))
-kept-more read bytes kept e = e ∙ ap (λ (t : List ℕ). take kept_of_line t) (sym (rest-append [] read bytes))
+pub kept-more : (limit : ℕ) (read bytes kept : List ℕ) → kept ≡ take (kept_of_line limit) (rest_from (rest_from [] read) bytes)
+    → kept ≡ take (kept_of_line limit) (rest_from [] (read ++ bytes))
+kept-more limit read bytes kept e = e ∙ ap (λ (t : List ℕ). take (kept_of_line limit) t) (sym (rest-append [] read bytes))
 
 -- ---- the line at the end
 
-pub last-some : (before kept : List ℕ) → kept ≡ take kept_of_line before → 0 < length kept → last_line before ≡ before ∷ []
-last-some [] kept e l = absurd (omega (arith, ap length e))
-last-some (x ∷ xs) kept e l = refl
+pub last-some : (limit : ℕ) (before kept : List ℕ) → kept ≡ take (kept_of_line limit) before → 0 < length kept → last_line before ≡ before ∷ []
+last-some limit [] kept e l = absurd (omega (arith, ap length e, length-take {A = ℕ} (kept_of_line limit) []))
+last-some limit (x ∷ xs) kept e l = refl

@@ -2,7 +2,6 @@
 use Rattle.std.proofs.Common.{◌≡◌, ℕ, ◌+◌, ◌-◌, ◌<◌, inl, inr, List, ◌++◌, length, take, sym, ap, subst, ◌∙◌, arith, append-nil, min}
 use Rattle.std.proofs.lemmas.Bool.{cases_lt}
 use Rattle.std.proofs.lemmas.List.{take_all, take-append-le, length-take}
-use Rattle.line_program.specs.Limit.{longest_line}
 use Rattle.line_program.proofs.Outputs.{take_past}
 
 -- as many bytes of a piece as there are
@@ -35,12 +34,12 @@ kept-piece k before kept piece e =
     ]
 
 -- a line whose front is kept has the replies of that front, where all lines that are too long have the same replies
-pub reply-kept : (R : List ℕ → List ℕ → Type 0) (k : ℕ) (before kept said : List ℕ)
-    → ((one other said : List ℕ) → longest_line < length one → longest_line < length other → R one said → R other said)
-    → longest_line < k → kept ≡ take k before → R kept said → R before said
-reply-kept R k before kept said too_long w e h =
+pub reply-kept : (R : List ℕ → List ℕ → Type 0) (limit k : ℕ) (before kept said : List ℕ)
+    → ((one other said : List ℕ) → limit < length one → limit < length other → R one said → R other said)
+    → limit < k → kept ≡ take k before → R kept said → R before said
+reply-kept R limit k before kept said too_long w e h =
     let n : length kept ≡ min k (length before) = ap length e ∙ length-take k before in
-    elim (cases_lt longest_line (length before)) [
+    elim (cases_lt limit (length before)) [
       | inl long ↦ too_long kept before said (omega arith) long h
       | inr short ↦ let same : kept ≡ before = e ∙ take_all k before (omega arith) in subst (λ (l : List ℕ). R l said) same h
     ]

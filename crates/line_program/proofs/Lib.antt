@@ -7,3 +7,4 @@ pub mod Outputs
 pub mod Pieces
 pub mod Replied
 pub mod Split
+pub mod Told

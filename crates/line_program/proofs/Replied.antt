@@ -5,33 +5,33 @@ use Rattle.std.proofs.lemmas.Bool.{le-ltb, lt-ltb, false_from_ne_true}
 use Rattle.std.proofs.lemmas.Str.{is_utf8-from_IsUtf8, IsUtf8-from_is_utf8}
 use Rattle.std.specs.Str.{IsUtf8, is_utf8}
 use Rattle.line_program.specs.Added.{Adds, AddsAnyOrRefuses, AddsOrRefuses, AddsOrSaysNumber}
-use Rattle.line_program.specs.Limit.{longest_line}
 use Rattle.line_program.specs.Refused.{err, refusal_in}
 use Rattle.line_program.specs.Reply.{IsLineRefusal, IsOutcomeBy, IsReplyBy}
 
-module _ {Request : Type 0} (request_of : List ℕ → Option Request) (IsAnswer : Request → List ℕ → Type 0)
-    (line : List ℕ) (short : length line ≤ longest_line) where
+module _ {Request : Type 0} (limit : ℕ) (request_of : List ℕ → Option Request) (IsAnswer : Request → List ℕ → Type 0)
+    (line : List ℕ) (short : length line ≤ limit) where
   -- of one that is not UTF-8
-  pub bytes-reply : (IsUtf8 line → ⊥) → IsReplyBy request_of IsAnswer line (err 2)
-  bytes-reply u = rw (le-ltb longest_line (length line) short, false_from_ne_true (is_utf8 line) (λ t. u (IsUtf8-from_is_utf8 line t))) refl
+  pub bytes-reply : (IsUtf8 line → ⊥) → IsReplyBy limit request_of IsAnswer line (err 2)
+  bytes-reply u = rw (le-ltb limit (length line) short, false_from_ne_true (is_utf8 line) (λ t. u (IsUtf8-from_is_utf8 line t))) refl
 
   -- of one that is a text
-  pub text-reply : (said : List ℕ) → IsUtf8 line → IsOutcomeBy request_of IsAnswer line said → IsReplyBy request_of IsAnswer line said
-  text-reply said u h = rw (le-ltb longest_line (length line) short, is_utf8-from_IsUtf8 line u) h
+  pub text-reply : (said : List ℕ) → IsUtf8 line → IsOutcomeBy request_of IsAnswer line said → IsReplyBy limit request_of IsAnswer line said
+  text-reply said u h = rw (le-ltb limit (length line) short, is_utf8-from_IsUtf8 line u) h
 
   -- of one that asks for nothing
-  pub no_command-reply : IsUtf8 line → request_of line ≡ None → IsReplyBy request_of IsAnswer line (err 3)
+  pub no_command-reply : IsUtf8 line → request_of line ≡ None → IsReplyBy limit request_of IsAnswer line (err 3)
   no_command-reply u is = text-reply (err 3) u (subst (λ (o : Option Request). MatchOption o (err 3 ≡ err 3) (λ request. IsAnswer request (err 3))) (sym is) refl)
 
   -- of one that asks for something
-  pub answer-reply : IsUtf8 line → (request : Request) (said : List ℕ) → request_of line ≡ Some request → IsAnswer request said → IsReplyBy request_of IsAnswer line said
+  pub answer-reply : IsUtf8 line → (request : Request) (said : List ℕ) → request_of line ≡ Some request → IsAnswer request said → IsReplyBy limit request_of IsAnswer line said
   answer-reply u request said is h = text-reply said u (subst (λ (o : Option Request). MatchOption o (said ≡ err 3) (λ request. IsAnswer request said)) (sym is) h)
 
 -- of one that is refused before it is executed
-pub refused-reply : {Request : Type 0} (request_of : List ℕ → Option Request) (IsAnswer : Request → List ℕ → Type 0) (line : List ℕ) (number : ℕ) → IsLineRefusal line number
-    → IsReplyBy request_of IsAnswer line (err number)
-refused-reply request_of IsAnswer line number (inl h) = rw (lt-ltb longest_line (length line) h.0, h.1) refl
-refused-reply request_of IsAnswer line number (inr h) = rw h.2 (bytes-reply request_of IsAnswer line h.0 h.1)
+pub refused-reply : {Request : Type 0} (limit : ℕ) (request_of : List ℕ → Option Request) (IsAnswer : Request → List ℕ → Type 0) (line : List ℕ) (number : ℕ)
+    → IsLineRefusal limit line number
+    → IsReplyBy limit request_of IsAnswer line (err number)
+refused-reply limit request_of IsAnswer line number (inl h) = rw (lt-ltb limit (length line) h.0, h.1) refl
+refused-reply limit request_of IsAnswer line number (inr h) = rw h.2 (bytes-reply limit request_of IsAnswer line h.0 h.1)
 
 -- what is added may be said more widely
 pub Adds-weaker : (Says Wider : List ℕ → Type 0) (old new : List ℕ) → ((said : List ℕ) → Says said → Wider said) → Adds Says old new → Adds Wider old new

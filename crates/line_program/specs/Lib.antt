@@ -1,4 +1,5 @@
 pub mod Added
+pub mod Ends
 pub mod Limit
 pub mod Lines
 pub mod Output

@@ -2,7 +2,6 @@
 use Rattle.std.specs.Prelude.{◌≡◌, ◌⊎◌, ◌<◌, ◌≤◌, ℕ, List, length, nat_lt, Option, MatchOption}
 use Rattle.std.specs.Prelude.{MatchBool}
 use Rattle.std.specs.Str.{IsUtf8, is_utf8}
-use Rattle.line_program.specs.Limit.{longest_line}
 use Rattle.line_program.specs.Refused.{err}
 
 -- what may be said of a text: it is no command, or it is answered
@@ -11,24 +10,26 @@ abbrev pub IsOutcomeBy : {Request : Type 0} → (List ℕ → Option Request)
 IsOutcomeBy request_of IsAnswer text said =
     MatchOption (request_of text) (said ≡ err 3) (λ request. IsAnswer request said)
 
--- what may be said of a line: it is too long, or no text, in this order, or the outcome of its text
-abbrev pub IsReplyBy : {Request : Type 0} → (List ℕ → Option Request)
+-- what may be said of a line where one may have so many bytes: it is too long, or no text, in this
+-- order, or the outcome of its text
+abbrev pub IsReplyBy : {Request : Type 0} → ℕ → (List ℕ → Option Request)
     → (Request → List ℕ → Type 0) → List ℕ → List ℕ → Type 0
-IsReplyBy request_of IsAnswer line said =
-    MatchBool (nat_lt longest_line (length line))
+IsReplyBy limit request_of IsAnswer line said =
+    MatchBool (nat_lt limit (length line))
     (said ≡ err 1)
     (MatchBool (is_utf8 line)
     (IsOutcomeBy request_of IsAnswer line said)
     (said ≡ err 2))
 
--- the text of a line that is not too long
-pub record IsTextOfLine (line text : List ℕ) : Type 0 where
+-- the text of a line that has no more bytes than the limit
+pub record IsTextOfLine (limit : ℕ) (line text : List ℕ) : Type 0 where
   pub same : text ≡ line
-  pub short : length line ≤ longest_line
+  pub short : length line ≤ limit
   pub utf8 : IsUtf8 line
 
--- the number that a line is refused with: it is too long, or no text, in this order
-abbrev pub IsLineRefusal : List ℕ → ℕ → Type 0
-IsLineRefusal line number =
-    ((longest_line < length line) × (number ≡ 1))
-    ⊎ ((length line ≤ longest_line) × (IsUtf8 line → ⊥) × (number ≡ 2))
+-- the number that a line is refused with where one may have so many bytes: it is too long, or no
+-- text, in this order
+abbrev pub IsLineRefusal : ℕ → List ℕ → ℕ → Type 0
+IsLineRefusal limit line number =
+    ((limit < length line) × (number ≡ 1))
+    ⊎ ((length line ≤ limit) × (IsUtf8 line → ⊥) × (number ≡ 2))

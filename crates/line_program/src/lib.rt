@@ -13,10 +13,10 @@ mod output;
 mod replies;
 mod words;
 
-pub use error::RunError;
+pub use error::{Reason, RunError};
 pub use execute::{Execute, NotExecuted, text_of_line};
-pub use exit::exit_code;
+pub use exit::{exit_code, exit_code_on};
 pub use lines::{run, run_on};
 pub use output::{append, append_any, append_number, append_refusal, end_reply};
-pub use replies::{LINE_LIMIT, REPLY_ROOM, Replies};
+pub use replies::{LONGEST_LINE, REPLY_ROOM, Replies};
 pub use words::{first_word, only_word};

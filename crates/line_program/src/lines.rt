@@ -3,20 +3,21 @@
 ghost use Rattle.std.specs.Prelude.{◌≡◌, ℕ, ◌+◌, ◌≤◌, ◌<◌, false, true, List, [], ◌∷◌, ◌++◌, take};
 ghost use Rattle.std.specs.Prelude.{vec_len, vec_capacity, OnOk, OnErr, IsErrOf, IfOk};
 ghost use Rattle.std.specs.Io.KnownBytes.{Appends, Keeps};
-ghost use Rattle.line_program.specs.Limit.{kept_of_line};
+ghost use Rattle.line_program.specs.Limit.{kept, kept_of_line, longest_line};
 ghost use Rattle.line_program.specs.Lines.{ended_from, rest_from, last_line};
 ghost use Rattle.line_program.specs.Output.{IsOutput, IsBeginning, IsAnswered, IsAnsweredSoFar, IsCutShort};
 
 use crate::error::RunError;
 use crate::output::append;
-use crate::replies::{LINE_LIMIT, REPLY_ROOM, Replies};
+use crate::replies::{LONGEST_LINE, REPLY_ROOM, Replies};
 use devices::{ByteSink, ByteSource, Watched, write_all};
 use memchr::memchr;
 use std::alloc::{AllocError, Global};
 use std::io;
 
-// What is kept of a line: one byte more than it may have shows that it is too long.
-const KEPT: usize = LINE_LIMIT + 1;
+// There is room for what is kept of a line of any program: one byte more than it may have shows
+// that it is too long.
+const LINE_ROOM: usize = LONGEST_LINE + 1;
 
 // The number of bytes that are read at once.
 const READ: usize = 65536;
@@ -29,7 +30,7 @@ const OUT_ROOM: usize = 16384;
 struct Lines {
     line: Vec<u8>,
     out: Vec<u8>,
-    ghost line_room: { vec_len line ≤ kept_of_line × kept_of_line ≤ vec_capacity line },
+    ghost line_room: { kept_of_line longest_line ≤ vec_capacity line },
     ghost out_room: { 16384 ≤ vec_capacity out },
 }
 
@@ -38,18 +39,19 @@ impl Lines {
     fn new(alloc: Global) -> Result<Lines, AllocError>
         ensures { IfOk result (λ l. (l.line.items ≡ []) × (l.out.items ≡ [])) }
     {
-        let line = Vec::with_capacity(alloc, KEPT)?;
+        let line = Vec::with_capacity(alloc, LINE_ROOM)?;
         let out = Vec::with_capacity(alloc, OUT_ROOM)?;
         Ok(Lines { line, out })
     }
 
-    /// Takes bytes of a line that has not ended.
-    fn keep(&mut self, piece: &[u8])
-        ensures line { (before : List ℕ) → self.old.line.items ≡ take kept_of_line before
-            → self.new.line.items ≡ take kept_of_line (before ++ piece.now) }
+    /// Takes bytes of a line that has not ended: no more are kept than show that it is too long.
+    fn keep<P: Replies>(&mut self, piece: &[u8])
+        ensures line { (before : List ℕ) → self.old.line.items ≡ kept P.LINE_LIMIT before
+            → self.new.line.items ≡ kept P.LINE_LIMIT (before ++ piece.now) }
         ensures out { self.new.out ≡ self.old.out }
     {
-        let kept = piece.len().min(KEPT - self.line.len());
+        let room = (P::LINE_LIMIT + 1).saturating_sub(self.line.len());
+        let kept = piece.len().min(room);
         append(&mut self.line, &piece[..kept]);
     }
 
@@ -102,7 +104,7 @@ impl Lines {
     /// Gathers the reply to the line that ends behind these bytes, and makes ready for the next.
     fn gather<P: Replies>(&mut self, program: &P, piece: &[u8])
         requires { vec_len self.old.out ≤ 14336 }
-        ensures reply { (before : List ℕ) → self.old.line.items ≡ take kept_of_line before
+        ensures reply { (before : List ℕ) → self.old.line.items ≡ kept P.LINE_LIMIT before
             → (said : List ℕ) × P.is_reply (before ++ piece.now) said
             × (self.new.out.items ≡ self.old.out.items ++ (said ++ 10 ∷ [])) }
         ensures next { self.new.line.items ≡ [] }
@@ -112,7 +114,7 @@ impl Lines {
             program.reply(piece, &mut self.out);
             return;
         }
-        self.keep(piece);
+        self.keep::<P>(piece);
         program.reply(self.line.as_slice(), &mut self.out);
         self.line.clear();
     }
@@ -125,7 +127,7 @@ impl Lines {
         sink: &mut K,
     ) -> Result<(), RunError>
         requires { K.has_failed sink.old ≡ false }
-        ensures ok { OnOk result ((before : List ℕ) → self.old.line.items ≡ take kept_of_line before
+        ensures ok { OnOk result ((before : List ℕ) → self.old.line.items ≡ kept P.LINE_LIMIT before
             → (said : List ℕ) × P.is_reply (before ++ piece.now) said
             × (out : List ℕ) × Appends (K.contents sink.old) (K.contents sink.new) out
             × (self.old.out.items ++ (said ++ 10 ∷ []) ≡ out ++ self.new.out.items)) }
@@ -152,14 +154,14 @@ impl Lines {
     ) -> Result<(), RunError>
         requires unmarked { K.has_failed sink.old ≡ false }
         requires none_left { self.old.out.items ≡ [] }
-        ensures ok { OnOk result ((before : List ℕ) → self.old.line.items ≡ take kept_of_line before
-            → (self.new.line.items ≡ take kept_of_line (rest_from before bytes.now))
+        ensures ok { OnOk result ((before : List ℕ) → self.old.line.items ≡ kept P.LINE_LIMIT before
+            → (self.new.line.items ≡ kept P.LINE_LIMIT (rest_from before bytes.now))
             × (out : List ℕ) × Appends (K.contents sink.old) (K.contents sink.new) out
             × IsOutput P.is_reply (ended_from before bytes.now) out) }
         ensures ok_mark { OnOk result (K.has_failed sink.new ≡ false) }
         ensures none_left { OnOk result (self.new.out.items ≡ []) }
         ensures err { OnErr result ((before : List ℕ)
-            → self.old.line.items ≡ take kept_of_line before
+            → self.old.line.items ≡ kept P.LINE_LIMIT before
             → (out : List ℕ) × Appends (K.contents sink.old) (K.contents sink.new) out
             × IsBeginning P.is_reply (ended_from before bytes.now) out) }
         ensures err_mark { OnErr result (K.has_failed sink.new ≡ true) }
@@ -172,7 +174,7 @@ impl Lines {
             self.reply_to(program, &rest[..end], sink)?;
             rest = &rest[end + 1..];
         }
-        self.keep(rest);
+        self.keep::<P>(rest);
         self.write_out(sink)
     }
 
@@ -180,12 +182,12 @@ impl Lines {
     fn finish<P: Replies, K: ByteSink>(&mut self, program: &P, sink: &mut K) -> Result<(), RunError>
         requires unmarked { K.has_failed sink.old ≡ false }
         requires none_left { self.old.out.items ≡ [] }
-        ensures ok { OnOk result ((before : List ℕ) → self.old.line.items ≡ take kept_of_line before
+        ensures ok { OnOk result ((before : List ℕ) → self.old.line.items ≡ kept P.LINE_LIMIT before
             → (out : List ℕ) × Appends (K.contents sink.old) (K.contents sink.new) out
             × IsOutput P.is_reply (last_line before) out) }
         ensures ok_mark { OnOk result (K.has_failed sink.new ≡ false) }
         ensures err { OnErr result ((before : List ℕ)
-            → self.old.line.items ≡ take kept_of_line before
+            → self.old.line.items ≡ kept P.LINE_LIMIT before
             → (out : List ℕ) × Appends (K.contents sink.old) (K.contents sink.new) out
             × ((xs : List (List ℕ)) (a : List ℕ) → IsOutput P.is_reply xs a
             → IsBeginning P.is_reply (xs ++ last_line before) (a ++ out))) }

@@ -20,9 +20,9 @@ module _ {A : Type 0} (f : A → Edit × List ℕ) where
   says-mends text found said are is = inl (record { found = map f found; are = are; spelling = is ∙ ap (λ (l : List ℕ). codes "ok" ++ l) (sym (said_each found)) })
 
   -- where there are some, out of memory may be said
-  pub no-room : (text : List ℕ) (found : List A) → AreMends 1 text (map f found) → found ≢ [] → IsMendRefusal 8 text Memory
+  pub no-room : (text : List ℕ) (found : List A) → AreMends 1 text (map f found) → found ≢ [] → IsMendRefusal 8 7500 text Memory
   no-room text [] are some = absurd (some refl)
   no-room text (m ∷ ms) are some = some_mends 1 text (f m) (map f ms) are
 
-pub says-no_mends : (text : List ℕ) (e : MendError) → IsMendRefusal 8 text e → IsDescriptorAnswer text (err (number_of_mend_error e))
+pub says-no_mends : (text : List ℕ) (e : MendError) → IsMendRefusal 8 7500 text e → IsDescriptorAnswer text (err (number_of_mend_error e))
 says-no_mends text e h = inr (record { error = e; is_refusal = h; spelling = refl })

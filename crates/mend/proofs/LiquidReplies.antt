@@ -1,6 +1,6 @@
 -- What may be said of confidential addresses.
 use Rattle.std.specs.Prelude.{OnOk, flat_map}
-use Rattle.std.proofs.Common.{◌≡◌, ◌⊎◌, ◌++◌, ◌∷◌, ◌∙◌, ◌<◌, arith, map, ℕ, true, inl, inr, is_ok, List, Option, Some, None, MatchOption, MatchResult, Result, Ok, Err, refl, sym, ap, subst, codes}
+use Rattle.std.proofs.Common.{◌≡◌, ◌⊎◌, ◌++◌, ◌∷◌, ◌∙◌, map, ℕ, true, inl, inr, is_ok, List, Option, Some, None, MatchOption, MatchResult, Result, Ok, Err, refl, sym, ap, subst, codes}
 use Rattle.bech32_gf.specs.declared.gf32.Fe32.{Fe32}
 use Rattle.bech32_checksum.specs.Roots.{singleton_bound}
 use Rattle.bech32_correction.specs.declared.error.CorrectError.{CorrectError}
@@ -9,8 +9,8 @@ use Rattle.bech32_near.specs.NearTexts.{AreNearTexts}
 use Rattle.blech32.specs.Words.{blech32_code}
 use Rattle.line_program.specs.Refused.{SaysRefusal, err}
 use Rattle.bech32_numbers.specs.Numbers.{number_of_correct_error}
-use Rattle.b32_replies.specs.Locations.{BeginsWithLocation, IsNoListOfLocations}
-use Rattle.mend.specs.Reply.{IsLiquidAnswer, IsLiquidAtAnswer, IsNearTextsRefusal, SaysLiquid}
+use Rattle.liquid_calls.specs.Nearest.{IsLiquidAsked}
+use Rattle.mend.specs.Reply.{IsLiquidAnswer, IsLiquidNearAnswer, IsNearTextsRefusal, SaysLiquid}
 use Rattle.mend.specs.Request.{liquid_errors_of_word}
 use Rattle.mend.proofs.Replies.{spaced_of}
 
@@ -27,18 +27,22 @@ says-liquid-found {A} f text given errors near shown said same are is = record {
 
 abbrev SaysBy : List ℕ → List ℕ → List ℕ → Option ℕ → Type 0
 SaysBy text given said o =
-    MatchOption o (said ≡ err 4) (λ errors. SaysLiquid text given errors said ⊎ SaysRefusal (IsNearTextsRefusal blech32_code text) number_of_correct_error said)
+    MatchOption o (said ≡ err 4) (λ errors. IsLiquidNearAnswer text given errors said)
 
 module _ (text given word : List ℕ) where
   pub liquid-bad_word : liquid_errors_of_word word ≡ None → IsLiquidAnswer text given word (err 4)
   liquid-bad_word is = subst (SaysBy text given (err 4)) (sym is) refl
 
   module _ (errors : ℕ) (is : liquid_errors_of_word word ≡ Some errors) where
+    pub liquid-not_asked : (IsLiquidAsked given errors → ⊥) → IsLiquidAnswer text given word (err 4)
+    liquid-not_asked unasked = subst (SaysBy text given (err 4)) (sym is) (inl (unasked, refl))
+
+  module _ (errors : ℕ) (is : liquid_errors_of_word word ≡ Some errors) (asked : IsLiquidAsked given errors) where
     pub liquid-near : (said : List ℕ) → SaysLiquid text given errors said → IsLiquidAnswer text given word said
-    liquid-near said h = subst (SaysBy text given said) (sym is) (inl h)
+    liquid-near said h = subst (SaysBy text given said) (sym is) (inr (asked, inl h))
 
     pub liquid-refused : (e : CorrectError) → IsNearTextsRefusal blech32_code text e → IsLiquidAnswer text given word (err (number_of_correct_error e))
-    liquid-refused e h = subst (SaysBy text given (err (number_of_correct_error e))) (sym is) (inr (record { error = e; is_refusal = h; spelling = refl }))
+    liquid-refused e h = subst (SaysBy text given (err (number_of_correct_error e))) (sym is) (inr (asked, inr (record { error = e; is_refusal = h; spelling = refl })))
 
     pub liquid-no_memory : (said : List ℕ) → SaysLiquid text given errors said → IsLiquidAnswer text given word (err 91)
     liquid-no_memory said h = let l = h.near.listings in liquid-refused Memory (l.hrp, l.data_part, l.residue, l.read)
@@ -49,16 +53,6 @@ module _ (text given word : List ℕ) where
     liquid-answer items (Ok s) t h (inl e) = subst (λ (x : List ℕ). IsLiquidAnswer text given word x) (sym e) (liquid-near (items s) h)
     liquid-answer items (Ok s) t h (inr e) = subst (λ (x : List ℕ). IsLiquidAnswer text given word x) (sym e) (liquid-no_memory (items s) h)
     liquid-answer items (Err x) t h e = subst (λ (x : List ℕ). IsLiquidAnswer text given word x) (sym e) (liquid-refused x h)
-
--- a word that is no list of locations, or memory for it runs out
-pub liquid-not_listed : (text locations word : List ℕ) (number : ℕ) → ((number ≡ 4) × IsNoListOfLocations locations) ⊎ ((number ≡ 91) × BeginsWithLocation locations)
-    → IsLiquidAtAnswer text locations word (err number)
-liquid-not_listed text locations word number (inl h) = inl (h.1, ap err h.0)
-liquid-not_listed text locations word number (inr h) = inr (inl (h.1, ap err h.0))
-
-pub small-not_listed : (locations : List ℕ) (number : ℕ) → ((number ≡ 4) × IsNoListOfLocations locations) ⊎ ((number ≡ 91) × BeginsWithLocation locations) → number < 100
-small-not_listed locations number (inl h) = omega (arith, h.0)
-small-not_listed locations number (inr h) = omega (arith, h.0)
 
 -- what holds of what was added
 pub on-ok : {T E : Type 0} (r : Result T E) (P : Type 0) → is_ok r ≡ true → OnOk r P → P

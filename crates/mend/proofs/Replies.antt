@@ -1,6 +1,7 @@
 -- What may be said of a line.
-use Rattle.std.specs.Prelude.{flat_map}
-use Rattle.std.proofs.Common.{◌≡◌, ◌≢◌, ◌++◌, ◌∷◌, [], ◌∙◌, map, ℕ, ◌≤◌, inl, inr, List, Option, Some, None, Result, Ok, Err, MatchOption, length, refl, sym, ap, subst, codes}
+use Rattle.std.specs.Prelude.{IfOk, drop, flat_map}
+use Rattle.std.proofs.Common.{◌≡◌, ◌≢◌, ◌++◌, ◌∷◌, [], ◌∙◌, append-nil, map, ℕ, zero, suc, ◌<◌, ◌≤◌, inl, inr, List, Option, Some, None, Result, Ok, Err, MatchOption, length, take, refl, sym, ap, subst, codes, arith}
+use Rattle.std.proofs.lemmas.List.{drop_all, take_all}
 use Rattle.bech32_gf.specs.declared.gf32.Fe32.{Fe32}
 use Rattle.bech32_checksum.specs.Code.{Code}
 use Rattle.bech32_checksum.specs.Roots.{singleton_bound}
@@ -14,7 +15,7 @@ use Rattle.bech32_near_edits.specs.NearEdits.{AreNearEdits, IsEditsRefusal}
 use Rattle.line_program.specs.Added.{AddsOrSaysNumber}
 use Rattle.line_program.specs.Refused.{err}
 use Rattle.bech32_numbers.specs.Numbers.{number_of_correct_error, number_of_edits_error}
-use Rattle.mend.specs.Reply.{IsEditsAnswer, IsNearTextsAnswer, IsNearTextsRefusal, SaysNear, said_of_edit, spaced}
+use Rattle.mend.specs.Reply.{IsEditsAnswer, IsNearTextsAnswer, IsNearTextsRefusal, SaysNear, most_said, said_of_edit, said_of_more, spaced}
 use Rattle.mend.specs.Request.{errors_of_word}
 use Rattle.mend.proofs.Few.{SaysBy}
 
@@ -50,15 +51,49 @@ pub spaced_of : {A : Type 0} (f : A → List (ℕ × Fe32) × List ℕ) (near : 
 spaced_of f [] = refl
 spaced_of f (m ∷ ms) = ap (λ (l : List ℕ). (32 ∷ (f m).1) ++ l) (spaced_of f ms)
 
+-- of more than are said, the first, and that there are more
+spaced_first : {A : Type 0} (f : A → List (ℕ × Fe32) × List ℕ) (n : ℕ) (near : List A) → spaced (take n (map (λ m. m.1) (map f near))) ≡ flat_map (λ m. 32 ∷ (f m).1) (take n near)
+spaced_first f zero near = refl
+spaced_first f (suc n) [] = refl
+spaced_first f (suc n) (m ∷ ms) = ap (λ (l : List ℕ). (32 ∷ (f m).1) ++ l) (spaced_first f n ms)
+
+more_first : {A : Type 0} (f : A → List (ℕ × Fe32) × List ℕ) (n : ℕ) (near : List A) → said_of_more (drop n (map (λ m. m.1) (map f near))) ≡ said_of_more (drop n near)
+more_first f zero [] = refl
+more_first f zero (m ∷ ms) = refl
+more_first f (suc n) [] = refl
+more_first f (suc n) (m ∷ ms) = more_first f n ms
+
+pub more_there : {A : Type 0} (n : ℕ) (near : List A) → n < length near → said_of_more (drop n near) ≡ codes " more"
+more_there zero [] some = absurd (omega (arith, some))
+more_there zero (m ∷ ms) some = refl
+more_there (suc n) [] some = absurd (omega (arith, some))
+more_there (suc n) (m ∷ ms) some = more_there n ms (omega (arith, some))
+
+-- few are all said
+few_said : {A : Type 0} (spelling : A → List ℕ) (near : List A) → length near ≤ most_said
+    → flat_map spelling near ≡ flat_map spelling (take most_said near) ++ said_of_more (drop most_said near)
+few_said {A} spelling near few =
+    sym (append-nil (flat_map spelling near))
+    ∙ ap (λ (l : List A). flat_map spelling l ++ []) (sym (take_all most_said near few))
+    ∙ ap (λ (l : List A). flat_map spelling (take most_said near) ++ said_of_more l) (sym (drop_all most_said near few))
+
+pub all-said : {A V E : Type 0} (spelling : A → List ℕ) (items : V → List ℕ) (near : List A) (r : Result V E) → length near ≤ most_said
+    → IfOk r (λ v. items v ≡ codes "ok" ++ flat_map spelling near)
+    → IfOk r (λ v. items v ≡ codes "ok" ++ (flat_map spelling (take most_said near) ++ said_of_more (drop most_said near)))
+all-said spelling items near (Ok v) few is = is ∙ ap (λ (l : List ℕ). codes "ok" ++ l) (few_said spelling near few)
+all-said spelling items near (Err e) few is = is
+
 pub says-found : {A : Type 0} (f : A → List (ℕ × Fe32) × List ℕ) (code : Code) (text given : List ℕ) (errors : ℕ) (near shown : List A) (said : List ℕ) → shown ≡ near
-    → AreNearTexts code (singleton_bound 24 26) text given errors (map f near) → said ≡ codes "ok" ++ flat_map (λ m. 32 ∷ (f m).1) shown → SaysNear code text given errors said
+    → AreNearTexts code (singleton_bound 24 26) text given errors (map f near)
+    → said ≡ codes "ok" ++ (flat_map (λ m. 32 ∷ (f m).1) (take most_said shown) ++ said_of_more (drop most_said shown)) → SaysNear code text given errors said
 says-found {A} f code text given errors near shown said same are is = record {
   found = map f near;
   near = are;
   spelling =
       is
-      ∙ ap (λ (l : List A). codes "ok" ++ flat_map (λ m. 32 ∷ (f m).1) l) same
-      ∙ ap (λ (l : List ℕ). codes "ok" ++ l) (sym (spaced_of f near));
+      ∙ ap (λ (l : List A). codes "ok" ++ (flat_map (λ m. 32 ∷ (f m).1) (take most_said l) ++ said_of_more (drop most_said l))) same
+      ∙ ap (λ (l : List ℕ). codes "ok" ++ (l ++ said_of_more (drop most_said near))) (sym (spaced_first f most_said near))
+      ∙ ap (λ (l : List ℕ). codes "ok" ++ (spaced (take most_said (map (λ m. m.1) (map f near))) ++ l)) (sym (more_first f most_said near));
 }
 
 -- ---- what is said of edits

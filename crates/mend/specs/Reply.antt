@@ -1,5 +1,5 @@
 -- What may be said of a request. Of lines that ask for nothing `line_program` says it.
-use Rattle.std.specs.Prelude.{◌≡◌, ◌⊎◌, ℕ, List, [], ◌∷◌, ◌++◌, codes, flat_map, map}
+use Rattle.std.specs.Prelude.{◌≡◌, ◌⊎◌, ℕ, List, [], ◌∷◌, ◌++◌, codes, drop, flat_map, map, take}
 use Rattle.std.specs.Prelude.{None, Some, MatchOption, position}
 use Rattle.std.specs.Fmt.{decimal}
 use Rattle.bech32_gf.specs.declared.gf32.Fe32.{Fe32}
@@ -40,9 +40,10 @@ use Rattle.bech32_descriptor.specs.declared.error.CheckError.{CheckError}
 use Rattle.bech32_descriptor.specs.declared.error.CheckError.TheVariants.{InvalidCharacter}
 use Rattle.bech32_descriptor.specs.declared.error.CheckError.TheVariants.{NoChecksum, WrongChecksum}
 use Rattle.blech32.specs.Words.{blech32_code}
-use Rattle.b32_replies.specs.Locations.{AreLocations, BeginsWithLocation, IsNoListOfLocations}
+use Rattle.b32_replies.specs.Locations.{AreLocations, IsNoListOfLocations}
 use Rattle.b32_replies.specs.Request.{code_of_name}
 use Rattle.line_program.specs.Refused.{SaysRefusal, err}
+use Rattle.liquid_calls.specs.Nearest.{IsLiquidAsked}
 use Rattle.mend.specs.Found.{said_of_found}
 use Rattle.mend.specs.Numbers.{number_of_mend_error}
 use Rattle.mend.specs.Request.{MendRequest, Nearest, NearestAt, Edits, Fault, Suggest, Checksum}
@@ -53,14 +54,30 @@ use Rattle.mend.specs.Request.{errors_of_word, liquid_errors_of_word}
 abbrev pub spaced : List (List ℕ) → List ℕ
 spaced texts = flat_map (λ text. 32 ∷ text) texts
 
--- all texts near one are said, in their order
+-- the most texts near one that are said
+abbrev pub most_said : ℕ
+most_said = 1000
+
+-- that there are more than those that are said, where there are
+abbrev pub said_of_more : {A : Type 0} → List A → List ℕ
+said_of_more [] = []
+said_of_more (one ∷ others) = codes " more"
+
+-- texts, each with a space before it; of more than are said, the first of them and that there are
+-- more
+abbrev pub said_texts : List (List ℕ) → List ℕ
+said_texts texts = spaced (take most_said texts) ++ said_of_more (drop most_said texts)
+
+-- all texts near one are said, in their order; of more than a thousand, the first thousand, and
+-- that there are more
 pub record SaysNear (code : Code) (text given : List ℕ) (errors : ℕ) (said : List ℕ) : Type 0 where
   pub found : List (List (ℕ × Fe32) × List ℕ)
   pub near : AreNearTexts code (singleton_bound 24 26) text given errors found
-  pub spelling : said ≡ codes "ok" ++ spaced (map (λ m. m.1) found)
+  pub spelling : said ≡ codes "ok" ++ said_texts (map (λ m. m.1) found)
 
 -- why the texts near one are not said: it is refused, but not for its residue; or it is refused for
--- nothing else, and there is no memory, be it for what is said
+-- nothing else, and there is no memory: the search is given a block of 16 MiB, and what is said has
+-- memory of its own
 abbrev pub IsNearTextsRefusal : Code → List ℕ → CorrectError → Type 0
 IsNearTextsRefusal code text (Refused e) = IsRefusal code text e
 IsNearTextsRefusal code text Memory =
@@ -175,22 +192,27 @@ pub record SaysLiquid (text given : List ℕ) (errors : ℕ) (said : List ℕ) :
   pub near : AreNearTexts blech32_code (singleton_bound 1 6) text given errors found
   pub spelling : said ≡ codes "ok" ++ spaced (map (λ m. m.1) found)
 
+-- what is said of the confidential addresses near a text, where so many errors may be looked for:
+-- twice the errors, with at most six different locations, are seven at most
+abbrev pub IsLiquidNearAnswer : List ℕ → List ℕ → ℕ → List ℕ → Type 0
+IsLiquidNearAnswer text given errors said =
+    ((IsLiquidAsked given errors → ⊥) × (said ≡ err 4))
+    ⊎ (IsLiquidAsked given errors × (SaysLiquid text given errors said
+    ⊎ SaysRefusal (IsNearTextsRefusal blech32_code text) number_of_correct_error said))
+
 -- the answer to `liquid`, where these locations are known to be wrong: a word that is no number of
 -- errors is refused first
 abbrev pub IsLiquidAnswer : List ℕ → List ℕ → List ℕ → List ℕ → Type 0
 IsLiquidAnswer text given word said =
     MatchOption (liquid_errors_of_word word)
     (said ≡ err 4)
-    (λ errors. SaysLiquid text given errors said
-    ⊎ SaysRefusal (IsNearTextsRefusal blech32_code text) number_of_correct_error said)
+    (λ errors. IsLiquidNearAnswer text given errors said)
 
--- the same where a word lists the locations: a word that lists none is refused, and memory for them
--- may run out where its first piece is one
+-- the same where a word lists the locations: a word that lists none is refused
 abbrev pub IsLiquidAtAnswer : List ℕ → List ℕ → List ℕ → List ℕ → Type 0
 IsLiquidAtAnswer text locations word said =
     (IsNoListOfLocations locations × (said ≡ err 4))
-    ⊎ ((BeginsWithLocation locations × (said ≡ err 91))
-    ⊎ ((given : List ℕ) × AreLocations locations given × IsLiquidAnswer text given word said))
+    ⊎ ((given : List ℕ) × AreLocations locations given × IsLiquidAnswer text given word said)
 
 -- the word for what is done to a descriptor
 abbrev pub word_of_descriptor_change : DescriptorChange → List ℕ
@@ -214,7 +236,7 @@ pub record SaysMends (text said : List ℕ) : Type 0 where
 -- the answer to `descriptor`
 abbrev pub IsDescriptorAnswer : List ℕ → List ℕ → Type 0
 IsDescriptorAnswer text said =
-    SaysMends text said ⊎ SaysRefusal (IsMendRefusal 8 text) number_of_mend_error said
+    SaysMends text said ⊎ SaysRefusal (IsMendRefusal 8 7500 text) number_of_mend_error said
 
 -- a refusal with this number, and the place of a character
 abbrev pub err_at : ℕ → ℕ → List ℕ

@@ -4,7 +4,6 @@ ghost use Rattle.std.specs.Prelude.{◌≡◌, ◌⊎◌, ◌+◌, ◌<◌, ◌�
 ghost use Rattle.blech32.specs.Words.{blech32_code};
 ghost use Rattle.line_program.specs.Added.{AddsOrSaysNumber};
 ghost use Rattle.line_program.specs.Refused.{err};
-ghost use Rattle.b32_replies.specs.Locations.{AreLocations, BeginsWithLocation, IsNoListOfLocations};
 ghost use Rattle.bech32_numbers.specs.Numbers.{number_of_correct_error};
 ghost use Rattle.mend.specs.Reply.{IsLiquidAnswer, IsNearTextsRefusal, SaysLiquid};
 ghost use Rattle.mend.specs.Request.{liquid_errors_of_word};
@@ -12,11 +11,11 @@ ghost use Rattle.mend.specs.Request.{liquid_errors_of_word};
 use crate::command::errors_in;
 use crate::found::said_of;
 use crate::numbers::{BAD_WORD, NO_MEMORY};
-use b32_replies::{Refusal, all_locations_of_word};
 use bech32::{CorrectError, nearest};
 use bech32_numbers::correct_error_number;
 use line_program::append_any;
 use liquid::Blech32;
+use liquid_calls::nearest::is_asked;
 use std::alloc::Global;
 
 // How many errors a word allows: 0 to 3.
@@ -65,7 +64,8 @@ fn append_said(said: Result<Vec<u8>, CorrectError>, out: &mut Vec<u8>) -> Result
 }
 
 /// Adds the confidential addresses near a text, with as few errors as a word says, or leaves all as
-/// it was and returns the number of the refusal.
+/// it was and returns the number of the refusal. Twice the errors, with at most six different
+/// locations, may be at most seven.
 pub fn liquid(
     alloc: Global,
     text: &str,
@@ -83,19 +83,8 @@ pub fn liquid(
     let Some(errors) = liquid_errors_in(errors) else {
         return Err(BAD_WORD);
     };
-    append_said(said_near(alloc, text, given, errors), out)
-}
-
-/// The locations that a word lists, or the number of the refusal.
-pub fn listed(alloc: Global, locations: &str) -> Result<Vec<usize>, u8>
-    ensures { MatchResult result
-        (λ given. AreLocations locations.now given.items)
-        (λ number. ((number ≡ 4) × IsNoListOfLocations locations.now)
-        ⊎ ((number ≡ 91) × BeginsWithLocation locations.now)) }
-{
-    match all_locations_of_word(alloc, locations) {
-        Ok(given) => Ok(given),
-        Err(Refusal::BadNumber) => Err(BAD_WORD),
-        Err(_) => Err(NO_MEMORY),
+    if !is_asked(given, errors) {
+        return Err(BAD_WORD);
     }
+    append_said(said_near(alloc, text, given, errors), out)
 }

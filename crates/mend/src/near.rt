@@ -1,29 +1,49 @@
-//! Answers `nearest`.
+//! Answers `nearest`, in a block of memory, and with a thousand texts at most.
 
-ghost use Rattle.std.specs.Prelude.{◌≡◌, ◌+◌, ◌<◌, ◌≤◌, ◌∷◌, map, string_bytes, vec_len, vec_capacity, IfErr, MatchResult, OnOk};
+ghost use Rattle.std.specs.Prelude.{◌≡◌, ◌+◌, ◌<◌, ◌≤◌, ◌∷◌, ◌++◌, codes, drop, flat_map, map, string_bytes, take, vec_len, vec_capacity};
+ghost use Rattle.std.specs.Prelude.{IfErr, IfOk, MatchResult, OnOk};
 ghost use Rattle.bech32_checksum.specs.Roots.{singleton_bound};
 ghost use Rattle.bech32_near.specs.NearTexts.{AreNearTexts, IsNearestRefusal};
 ghost use Rattle.b32_replies.specs.Request.{code_of_name};
 ghost use Rattle.line_program.specs.Added.{AddsOrSaysNumber};
-ghost use Rattle.mend.specs.Reply.{IsNearTextsAnswer, IsNearTextsRefusal, SaysNear};
+ghost use Rattle.mend.specs.Reply.{IsNearTextsAnswer, IsNearTextsRefusal, SaysNear, most_said, said_of_more};
 
 use crate::command::errors_in;
 use crate::found::{Found, said_of};
 use crate::numbers::{BAD_WORD, NO_MEMORY};
 use b32_replies::ChecksumName;
-use bech32::{Bech32, Bech32m, CorrectError, Mended, nearest};
+use bech32::{Bech32, Bech32m, CorrectError, Mended};
+use bech32_near::nearest_in;
 use bech32_numbers::correct_error_number;
+use bumpalo::Bump;
 use line_program::append_any;
-use std::alloc::{AllocError, Global};
+use std::alloc::{AllocError, Allocator, Global};
+
+// The bytes of the block that a search is given: 16 MiB, without what an arena keeps beside them.
+const BLOCK: usize = 0x100_0000 - 64;
+
+// The most texts that are said.
+const MOST_SAID: usize = 1000;
+
+// The one block that a search is given, as `bech32_nearest` has one from its caller; where there is
+// no memory for it, none.
+fn block(alloc: Global) -> Bump {
+    let arena = match Bump::try_with_capacity(alloc, BLOCK) {
+        Ok(arena) => arena,
+        Err(_) => Bump::new(alloc),
+    };
+    arena.set_allocation_limit(Some(0));
+    arena
+}
 
 // The texts near one by a checksum.
-fn near_by(
-    alloc: Global,
+fn near_by<'a>(
+    alloc: &'a Bump,
     checksum: ChecksumName,
     text: &str,
     given: &[usize],
     errors: usize,
-) -> Result<Vec<Mended>, CorrectError>
+) -> Result<Vec<Mended<&'a Bump>, &'a Bump>, CorrectError>
     ensures { MatchResult result
         (λ near. AreNearTexts (code_of_name checksum) (singleton_bound 24 26) text.now given.now
         errors (map (λ m. (m.listing, string_bytes m.text)) near.items))
@@ -31,18 +51,38 @@ fn near_by(
         errors e) }
 {
     match checksum {
-        ChecksumName::Bech32 => Ok(nearest::<Bech32>(alloc, text, given, errors)?.texts),
-        ChecksumName::Bech32m => Ok(nearest::<Bech32m>(alloc, text, given, errors)?.texts),
+        ChecksumName::Bech32 => {
+            let near = nearest_in::<Bech32, &'a Bump>(alloc, text, given, errors)?;
+            Ok(near.texts)
+        }
+        ChecksumName::Bech32m => {
+            let near = nearest_in::<Bech32m, &'a Bump>(alloc, text, given, errors)?;
+            Ok(near.texts)
+        }
     }
 }
 
-impl Found for Mended {
+impl<A: Allocator + Copy> Found for Mended<A> {
     ghost spelling = { λ m. 32 ∷ string_bytes m.text };
 
     fn push_to(&self, said: &mut Vec<u8>) -> Result<(), AllocError> {
         said.push(b' ')?;
         said.extend_from_slice(self.text.as_bytes())
     }
+}
+
+// What is said of texts: of more than a thousand, of the first, and that there are more.
+fn said_of_first<T: Found>(alloc: Global, found: &[T]) -> Result<Vec<u8>, AllocError>
+    ensures { IfOk result (λ said. said.items ≡ codes "ok"
+        ++ (flat_map T.spelling (take most_said found.now)
+        ++ said_of_more (drop most_said found.now))) }
+{
+    if found.len() <= MOST_SAID {
+        return said_of(alloc, found);
+    }
+    let mut said = said_of(alloc, &found[..MOST_SAID])?;
+    said.extend_from_slice(b" more")?;
+    Ok(said)
 }
 
 // What is said of the texts near one.
@@ -57,8 +97,9 @@ fn said_near(
         (λ said. SaysNear (code_of_name checksum) text.now given.now errors said.items)
         (λ e. IsNearTextsRefusal (code_of_name checksum) text.now e) }
 {
-    let near = near_by(alloc, checksum, text, given, errors)?;
-    Ok(said_of(alloc, near.as_slice())?)
+    let arena = block(alloc);
+    let near = near_by(&arena, checksum, text, given, errors)?;
+    Ok(said_of_first(alloc, near.as_slice())?)
 }
 
 /// Adds the texts near one, with as few errors as a word says, or leaves all as it was and returns

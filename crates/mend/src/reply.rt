@@ -1,7 +1,9 @@
 //! The replies to commands, by which `line_program` replies to a line.
 
+ghost use Rattle.std.proofs.Common.{arith};
 ghost use Rattle.std.specs.Prelude.{◌+◌, ◌<◌, ◌≤◌, vec_len, vec_capacity, IfErr, OnOk};
 ghost use Rattle.line_program.specs.Added.{AddsOrSaysNumber};
+ghost use Rattle.line_program.specs.Limit.{longest_line};
 ghost use Rattle.line_program.specs.Reply.{IsReplyBy};
 ghost use Rattle.mend.specs.Reply.{IsMendAnswer};
 ghost use Rattle.mend.specs.Request.{mend_line_request_of, mend_request_of_command};
@@ -11,13 +13,13 @@ use crate::command::Command;
 use crate::descriptors::{descriptor, descriptor_check, descriptor_checksum};
 use crate::edits::edits;
 use crate::fault::fault;
-use crate::liquid_near::{liquid, listed};
+use crate::liquid_near::liquid;
 use crate::near::near_texts;
 use crate::numbers::BAD_WORD;
 use crate::other_command::command_in;
 use crate::suggest::suggest;
-use b32_replies::locations_of_word;
-use line_program::{Replies, end_reply, text_of_line};
+use b32_replies::{locations_of_word, seven_locations_of_word};
+use line_program::{LONGEST_LINE, Replies, end_reply, text_of_line};
 use std::alloc::Global;
 
 /// The commands of this program, answered with memory from `alloc`.
@@ -66,7 +68,9 @@ impl Commands {
                 locations,
                 errors,
             } => {
-                let given = listed(self.alloc, locations)?;
+                let Ok(given) = seven_locations_of_word(locations) else {
+                    return Err(BAD_WORD);
+                };
                 liquid(self.alloc, text, (given.as_slice(), errors), out)
             }
             Command::Descriptor { text } => descriptor(self.alloc, text, out),
@@ -84,14 +88,14 @@ impl Commands {
     // Adds what is said of a line, or leaves all as it was and returns the number of the refusal.
     fn answer_line(&self, line: &[u8], out: &mut Vec<u8>) -> Result<(), u8>
         requires { vec_len out.old + 2048 ≤ vec_capacity out.old }
-        ensures answer { AddsOrSaysNumber (IsReplyBy mend_line_request_of IsMendAnswer
-            line.now)
+        ensures answer { AddsOrSaysNumber
+            (IsReplyBy longest_line mend_line_request_of IsMendAnswer line.now)
             result out.old.items out.new.items }
         ensures small { IfErr result (λ number. number < 100) }
         ensures room { OnOk result (vec_len out.new + 1 ≤ vec_capacity out.new) }
         ensures capacity { vec_capacity out.old ≤ vec_capacity out.new }
     {
-        let text = text_of_line(line)?;
+        let text = text_of_line(line, LONGEST_LINE)?;
         let Some(command) = command_in(text) else {
             return Err(3);
         };
@@ -103,9 +107,15 @@ impl Commands {
 impl Replies for Commands {
     ghost use Rattle.line_program.specs.laws.LongLines.{long_lines};
 
-    ghost is_reply = { IsReplyBy mend_line_request_of IsMendAnswer };
+    ghost LINE_LIMIT = { longest_line };
 
-    ghost too_long = { long_lines mend_line_request_of IsMendAnswer };
+    ghost limited = { Prim.omega arith };
+
+    ghost is_reply = { IsReplyBy longest_line mend_line_request_of IsMendAnswer };
+
+    ghost too_long = { long_lines longest_line mend_line_request_of IsMendAnswer };
+
+    const LINE_LIMIT: usize = LONGEST_LINE;
 
     fn reply(&self, line: &[u8], out: &mut Vec<u8>) {
         end_reply(self.answer_line(line, out), out);

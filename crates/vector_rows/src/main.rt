@@ -19,6 +19,8 @@
 //!   blinding key and a program in hex; or `near`, a text, erasures and a number of errors: the
 //!   parts of a confidential address, the address, the texts near one by Blech32, or the number of
 //!   a refusal;
+//! - `long`, and the words of a line of `b32` that encodes or decodes a long text: the reply to the
+//!   line, were it not too long;
 //! - `descriptor` and a text: whether it is a descriptor with its checksum, `none` where it ends in
 //!   none, or `at` the place of a character that may not stand there; and each descriptor that one
 //!   edit makes of it, with the edit, `=` a character changed or as above, and its place from 0;
@@ -28,7 +30,7 @@
 //! coefficient down, without the leading one; `-` stands for nothing. What the rows in `stdin` give
 //! was made twice over and equal, and is in `stdout`: by a reference model written from the
 //! definitions alone, and by the Rust crate bech32 0.12.0; the edits, which that crate does not
-//! have, by two models; Liquid's addresses and descriptors by one model each.
+//! have, by two models; Liquid's addresses, long texts and descriptors by one model each.
 #![tactic(auto)]
 
 mod appended;
@@ -40,6 +42,7 @@ mod edits;
 mod elements;
 mod fields;
 mod listings;
+mod long_texts;
 mod registers;
 mod rows;
 

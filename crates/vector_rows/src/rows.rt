@@ -1,7 +1,8 @@
 //! The reply to a row.
 
 use crate::{
-    appended, bits, blocks, confidential, descriptors, edits, fields, listings, registers,
+    appended, bits, blocks, confidential, descriptors, edits, fields, listings, long_texts,
+    registers,
 };
 use std::alloc::{AllocError, Global};
 
@@ -29,6 +30,7 @@ fn reply_to(alloc: Global, words: &[&str]) -> Result<String, AllocError> {
         "appended" => appended::reply(alloc, words),
         "bits" => bits::reply(alloc, words),
         "liquid" => confidential::reply(alloc, words),
+        "long" => long_texts::reply(alloc, words),
         "descriptor" => descriptors::reply(alloc, words),
         "checksum" => descriptors::checksum_reply(alloc, words),
         _ => no_row(alloc),

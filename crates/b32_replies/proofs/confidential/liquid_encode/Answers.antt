@@ -30,7 +30,7 @@ pub returns-in-Err-clause-answer : goal.returns-in-Err-clause-answer
 returns-in-Err-clause-answer c =
     let (bytes, is_hex, size, there) = c.in_ok-size.ensures.put in (
       liquid-refused c.args.words.0.now c.args.words.1.0.now c.args.words.1.1.0.now c.args.words.1.1.1.now c.in-Some.version c.in-Some.ensures c.in_ok-key.key c.in_ok-key.ensures bytes is_hex c.in-Err.e c.in_ok-hrp.ensures.0
-          (subst (λ (n : ℕ). IsConfidentialEncodeRefusal c.in-Some.version n c.in-Err.e) size c.in-Err.ensures.0),
+          (subst (λ (n : ℕ). IsConfidentialEncodeRefusal c.in-Some.version n c.in-Err.e) size c.in-Err.ensures.0, c.in-Err.ensures.1),
       refl,
     )
 

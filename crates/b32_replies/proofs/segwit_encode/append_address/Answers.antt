@@ -4,8 +4,9 @@ use Rattle.bech32_bits.specs.Bits.{to_fes}
 use Rattle.bech32_checksum.specs.Encoded.{IsEncodedText}
 use Rattle.bech32_checksum.proofs.Uniqueness.{length-encoded}
 use Rattle.bech32_decode.specs.Segwit.{IsLowerAddress, segwit_code}
-use Rattle.bech32_segwit.specs.SegwitEncoding.{HasAddress, IsSegwitEncodeRefusal}
+use Rattle.bech32_segwit.specs.SegwitEncoding.{HasAddress}
 use Rattle.line_program.proofs.Pieces.{two-pieces}
+use Rattle.b32_replies.specs.Reply.{IsEncodedAddressFault}
 use Rattle.b32_replies.proofs.SegwitReplies.{says-bad_hrp, says-address, says-no_address}
 use Rattle.b32_replies.proofs.segwit_encode.append_address.Goals as goal
 
@@ -19,7 +20,7 @@ pub returns-in_err-count-clause-answer : goal.returns-in_err-count-clause-answer
 returns-in_err-count-clause-answer c = λ word hex is some.
     let p = err_from_is_err_and c.from_residual-in_err-count.result c.from_residual-in_err-count.ensures.1 in
     let (e, spelled, refused) = c.in_err-count.ensures in
-    let refusal : IsSegwitEncodeRefusal c.args.hrp.now c.args.version c.args.program.now e = rw c.in_ok-hrp.ensures.1 at refused in
+    let refusal : IsEncodedAddressFault c.args.hrp.now c.args.version c.args.program.now e = rw c.in_ok-hrp.ensures.1 at refused in
     rw p.1 (rw (p.2 ∙ spelled) (says-no_address c.args.hrp.now word hex c.args.version is c.args.program.now some e c.in_ok-hrp.ensures.0 refusal, refl))
 
 pub returns-clause-answer : goal.returns-clause-answer

@@ -8,4 +8,4 @@ returns-in-Ok c =
     (has, size, omega (arith, size, address_fits c.args.hrp.now c.args.version c.args.program.now has))
 
 pub returns-in-Err : goal.returns-in-Err
-returns-in-Err c = (c.in-Err.e, refl, c.in-Err.ensures.0)
+returns-in-Err c = (c.in-Err.e, refl, c.in-Err.ensures)

@@ -32,7 +32,7 @@ reads-preserved g c =
       answered = (
         read ++ bytes,
         Consumes-then _ _ _ read bytes consumed c.in-Ok-read.ensures.bytes.0,
-        kept-more read bytes _ kept',
+        kept-more g.P.Replies.LINE_LIMIT read bytes _ kept',
         written ++ out,
         Appends-then _ _ _ written out appended more,
         output-more g.P.Replies.is_reply read bytes written out is is',

@@ -14,7 +14,7 @@ invariant-reads g l = record {
   none_left : l.lines.out.items ≡ [];
   unflushed : g.K.ByteSink.flushes l.sink ≡ g.K.ByteSink.flushes l.initial.sink;
   answered : (read : List ℕ) × Consumes (g.S.ByteSource.remaining l.initial.source) (g.S.ByteSource.remaining l.source) read
-      × (l.lines.line.items ≡ take kept_of_line (rest_from [] read))
+      × (l.lines.line.items ≡ take (kept_of_line g.P.Replies.LINE_LIMIT) (rest_from [] read))
       × (written : List ℕ) × Appends (g.K.ByteSink.contents l.initial.sink) (g.K.ByteSink.contents l.sink) written
       × IsOutput g.P.Replies.is_reply (ended_lines read) written;
 }

@@ -2,7 +2,7 @@ use Rattle.std.proofs.Common.{ap, arith, length, length-append, refl}
 use Rattle.std.proofs.lemmas.Result.{err_from_is_err_and}
 use Rattle.line_program.proofs.Replied.{refused-reply}
 use Rattle.b32_replies.specs.LongRequest.{line_request_of}
-use Rattle.b32_replies.specs.Reply.{IsLineAnswer}
+use Rattle.b32_replies.specs.Reply.{IsLineAnswer, line_limit}
 use Rattle.b32_replies.specs.Request.{request_of_command}
 use Rattle.b32_replies.proofs.LongReplies.{adds_any-wider, long-reply, short-reply}
 use Rattle.b32_replies.proofs.reply.Commands.answer_line.Goals as goal
@@ -10,7 +10,7 @@ use Rattle.b32_replies.proofs.reply.Commands.answer_line.Goals as goal
 pub returns-in_err-text-clause-answer : goal.returns-in_err-text-clause-answer
 returns-in_err-text-clause-answer g c =
     let p = err_from_is_err_and c.from_residual.result c.from_residual.ensures.1 in
-    rw p.1 (rw p.2 (refused-reply line_request_of IsLineAnswer c.args.line.now c.in_err-text.field-0.0 c.in_err-text.ensures.text, refl))
+    rw p.1 (rw p.2 (refused-reply line_limit line_request_of IsLineAnswer c.args.line.now c.in_err-text.field-0.0 c.in_err-text.ensures.text, refl))
 
 pub returns-in_default-clause-answer : goal.returns-in_default-clause-answer
 returns-in_default-clause-answer g c =

@@ -1,5 +1,5 @@
-use Rattle.std.proofs.Common.{ℕ, List, rules, ◌∙◌, ◌+◌, ◌++◌, ◌∷◌, [], take, drop, Some, ap, sym, subst}
-use Rattle.std.proofs.lemmas.List.{take_rest}
+use Rattle.std.proofs.Common.{ℕ, List, arith, rules, ◌∙◌, ◌+◌, ◌++◌, ◌∷◌, [], take, drop, Some, ap, sym, subst}
+use Rattle.std.proofs.lemmas.List.{take_all, take_rest}
 use Rattle.std.proofs.lemmas.Result.{err_from_is_err_and, on_ok_weaker, on_err_weaker}
 use Rattle.std.specs.Io.KnownBytes.{Appends}
 use Rattle.memchr.specs.Find.{IsFirstByte, is_byte}
@@ -44,7 +44,7 @@ lines-preserved g c =
             let (kept, written, appended, is) = so_far before e in
             let (said, reply, out, more, made) = c.in_ok-reply_to.ensures.ok _ kept in
             let gathered = c.lines.self.out.items in (
-              c.in_ok-reply_to.ensures.next ∙ ap (λ (t : List ℕ). take kept_of_line t) (sym (rest-turn before gone piece)),
+              c.in_ok-reply_to.ensures.next ∙ sym (take_all (kept_of_line g.P.Replies.LINE_LIMIT) [] (omega arith)) ∙ ap (λ (t : List ℕ). take (kept_of_line g.P.Replies.LINE_LIMIT) t) (sym (rest-turn before gone piece)),
               written ++ out,
               Appends-then _ _ _ written out appended more,
               subst (IsOutput R (ended_from before (gone ++ (piece ++ 10 ∷ [])))) (gathered-more written gathered (said ++ 10 ∷ []) out _ made)
@@ -64,7 +64,7 @@ returns-clause-ok g c = on_ok_weaker c.write_out.result
     let out = written ++ c.lines.self.out.items in
     let more' = subst (λ o. Appends (g.K.ByteSink.contents c.lines.sink) (g.K.ByteSink.contents c.write_out.new.sink) o.items) c.keep.ensures.out more in (
       ap (λ l. l.items) c.write_out.ensures.line ∙ c.keep.ensures.line _ kept
-          ∙ ap (λ (t : List ℕ). take kept_of_line t) (sym (rest-more before gone rest none) ∙ ap (rest_from before) (sym split)),
+          ∙ ap (λ (t : List ℕ). take (kept_of_line g.P.Replies.LINE_LIMIT) t) (sym (rest-more before gone rest none) ∙ ap (rest_from before) (sym split)),
       out,
       Appends-then _ _ _ written _ appended more',
       subst (λ ls. IsOutput R ls out) (sym (ended-more before gone rest none) ∙ ap (ended_from before) (sym split)) is,

@@ -35,7 +35,7 @@ returns-clause-ok g c = on_ok_weaker c.write_out.result
     let (said, is', out, appended, made) = c.in_ok-reply_to.ensures.ok before e in
     let is = subst (λ (l : List ℕ). R l said) (append-nil before) is' in
     let some : 0 < length c.args.self.now.line.items = omega (arith, eqb-false (vec_len c.args.self.now.line) 0 (sym c.if-is_empty.ensures)) in
-    let one = last-some before _ e some in
+    let one = last-some g.P.Replies.LINE_LIMIT before _ e some in
     let gathered = c.reply_to.new.self.out.items in (
       out ++ gathered,
       Appends-then _ _ _ out gathered appended more,
@@ -52,7 +52,7 @@ returns-clause-err g c = on_err_weaker c.write_out.result
     let (said, is', out, appended, made) = c.in_ok-reply_to.ensures.ok before e in
     let is = subst (λ (l : List ℕ). R l said) (append-nil before) is' in
     let some : 0 < length c.args.self.now.line.items = omega (arith, eqb-false (vec_len c.args.self.now.line) 0 (sym c.if-is_empty.ensures)) in
-    let one = last-some before _ e some in
+    let one = last-some g.P.Replies.LINE_LIMIT before _ e some in
     let gathered = c.reply_to.new.self.out.items in (
       out ++ take n gathered,
       Appends-then _ _ _ out (take n gathered) appended more,

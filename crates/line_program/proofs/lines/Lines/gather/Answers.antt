@@ -8,6 +8,6 @@ returns-clause-reply g c before e =
     let (said, is, made) = c.reply-2.ensures.reply in
     let line = c.as_slice.ensures.value ∙ c.keep.ensures.line before e in (
       said,
-      reply-kept g.P.Replies.is_reply kept_of_line (before ++ c.args.piece.now) _ said g.met.P.Replies.too_long (omega arith) line is,
+      reply-kept g.P.Replies.is_reply g.P.Replies.LINE_LIMIT (kept_of_line g.P.Replies.LINE_LIMIT) (before ++ c.args.piece.now) _ said g.met.P.Replies.too_long (omega arith) line is,
       made ∙ ap (λ v. v.items ++ (said ++ 10 ∷ [])) c.keep.ensures.out,
     )

@@ -4,8 +4,9 @@ use Rattle.line_program.proofs.Kept.{kept-piece, take-least}
 use Rattle.line_program.proofs.lines.Lines.keep.Goals as goal
 
 pub returns-clause-line : goal.returns-clause-line
-returns-clause-line c before e =
+returns-clause-line g c before e =
+    let most = kept_of_line g.P.Replies.LINE_LIMIT in
     let kept = c.args.self.now.line.items in
     let piece = c.args.piece.now in
-    let added : c.append.new.out.items ≡ kept ++ take (min (length piece) (kept_of_line - length kept)) piece = search rules in
-    added ∙ ap (λ (l : List ℕ). kept ++ l) (take-least (kept_of_line - length kept) piece) ∙ kept-piece kept_of_line before kept piece e
+    let added : c.append.new.out.items ≡ kept ++ take (min (length piece) (most - length kept)) piece = search rules in
+    added ∙ ap (λ (l : List ℕ). kept ++ l) (take-least (most - length kept) piece) ∙ kept-piece most before kept piece e

@@ -1,8 +1,6 @@
-use Rattle.std.proofs.Common.{inr, refl}
-use Rattle.std.proofs.lemmas.Result.{err_from_is_err_and}
+use Rattle.std.proofs.Common.{inr}
 use Rattle.b32_replies.specs.Request.{code_of_name}
-use Rattle.mend.proofs.Few.{says-given}
-use Rattle.mend.proofs.LiquidReplies.{liquid-not_listed, small-not_listed}
+use Rattle.mend.proofs.Few.{says-given, says_liquid-given}
 use Rattle.mend.proofs.Replies.{adds-wider}
 use Rattle.mend.proofs.reply.Commands.answer.Goals as goal
 
@@ -32,21 +30,12 @@ returns-in-Checksum-clause-answer c = rw c.in-Checksum.is c.checksum.ensures.ans
 pub returns-in-Liquid-clause-answer : goal.returns-in-Liquid-clause-answer
 returns-in-Liquid-clause-answer c = rw c.in-Liquid.is c.liquid.ensures.answer
 
-pub returns-in_err-given-in-LiquidAt-clause-answer : goal.returns-in_err-given-in-LiquidAt-clause-answer
-returns-in_err-given-in-LiquidAt-clause-answer c =
-    let p = err_from_is_err_and c.from_residual.result c.from_residual.ensures.1 in
-    rw p.1 (rw p.2 (rw c.in-LiquidAt.is (liquid-not_listed c.in-LiquidAt.text.now c.in-LiquidAt.locations.now c.in-LiquidAt.errors.now c.in_err-given-in-LiquidAt.field-0.0 c.in_err-given-in-LiquidAt.ensures, refl)))
-
-pub returns-in_err-given-in-LiquidAt-clause-small : goal.returns-in_err-given-in-LiquidAt-clause-small
-returns-in_err-given-in-LiquidAt-clause-small c =
-    let p = err_from_is_err_and c.from_residual.result c.from_residual.ensures.1 in
-    rw p.1 (rw p.2 (small-not_listed c.in-LiquidAt.locations.now c.in_err-given-in-LiquidAt.field-0.0 c.in_err-given-in-LiquidAt.ensures))
-
-pub returns-in_ok-given-in-LiquidAt-clause-answer : goal.returns-in_ok-given-in-LiquidAt-clause-answer
-returns-in_ok-given-in-LiquidAt-clause-answer c =
+pub returns-in-Ok-seven_locations_of_word-clause-answer : goal.returns-in-Ok-seven_locations_of_word-clause-answer
+returns-in-Ok-seven_locations_of_word-clause-answer c =
+    let (given, are, is) = c.in-Ok-seven_locations_of_word.ensures in
     rw c.in-LiquidAt.is
     (adds-wider _ _ c.liquid-in-LiquidAt.result _ _
-    (λ said h. inr (inr (c.in_ok-given-in-LiquidAt.given.items, c.in_ok-given-in-LiquidAt.ensures, rw c.as_slice-in-LiquidAt.ensures.value at h)))
+    (λ said h. inr (given, are, says_liquid-given c.in-LiquidAt.text.now c.in-Ok-seven_locations_of_word.given given c.in-LiquidAt.errors.now said is (rw c.as_slice-in-LiquidAt.ensures at h)))
     c.liquid-in-LiquidAt.ensures.answer)
 
 pub returns-in-Descriptor-clause-answer : goal.returns-in-Descriptor-clause-answer
