@@ -2,7 +2,8 @@
 
 ghost use Rattle.std.specs.Prelude.{◌≡◌, ◌≢◌, ◌<◌, ◌≤◌, ◌⊎◌, ◌+◌, ◌/◌, length};
 ghost use Rattle.bech32_columns.specs.Checked.{CanCheck, PutsNumbers};
-ghost use Rattle.bech32_columns.specs.Decoded.{PutsAddresses};
+ghost use Rattle.bech32_calls.specs.Faults.{IsNumberOf};
+ghost use Rattle.bech32_columns.specs.Decoded.{CanDecodeMany, IsDecodeManyFault, PutsAddresses};
 ghost use Rattle.bech32_columns.specs.Encoded.{PutsTexts};
 ghost use Rattle.bech32_columns.specs.Rows.{HasRows};
 ghost use Rattle.bech32_columns.specs.Validity.{PutsValidity, accepted_of};
@@ -69,9 +70,10 @@ pub extern "C" fn bech32_check_many(
 ///
 /// # Errors
 ///
-/// Returns the first of: 4, where the column has no layout, or there are no such rows: then nothing
-/// is put. 92, where the next row has no room in one of the buffers, or the programs would have
-/// 2^31 bytes or more: then `done` is less than there are numbers.
+/// Returns the first of: 4, where the column has no layout, or there are no such rows; of an `hrp`
+/// that is not empty 2, where it is not UTF-8, and 12 to 15, where it is no human-readable part:
+/// then nothing is put. 92, where the next row has no room in one of the buffers, or the programs
+/// would have 2^31 bytes or more: then `done` is less than there are numbers.
 #[unsafe(no_mangle)]
 pub extern "C" fn bech32_segwit_decode_many(
     texts: &Column<'_>,
@@ -92,10 +94,10 @@ pub extern "C" fn bech32_segwit_decode_many(
         × PutsAddresses texts.now first hrp.now numbers.old numbers.new versions.old versions.new
         hrp_lengths.old hrp_lengths.new program_offsets.old program_offsets.new
         programs.old programs.new done.new }
-    ensures accepts { HasRows texts.now first (length numbers.old)
+    ensures accepts { CanDecodeMany texts.now first (length numbers.old) hrp.now
         → (result ≡ 0) ⊎ (result ≡ 92) }
-    ensures refused { result ≢ 0 → result ≢ 92
-        → (result ≡ 4) × (¬ (HasRows texts.now first (length numbers.old))) }
+    ensures refused { result ≢ 0 → result ≢ 92 → IsNumberOf
+        (IsDecodeManyFault texts.now first (length numbers.old) hrp.now) result }
     ensures same { result ≢ 0 → result ≢ 92 → (numbers.new ≡ numbers.old)
         × (versions.new ≡ versions.old) × (hrp_lengths.new ≡ hrp_lengths.old)
         × (program_offsets.new ≡ program_offsets.old) × (programs.new ≡ programs.old)
@@ -115,8 +117,8 @@ pub extern "C" fn bech32_segwit_decode_many(
         programs,
     );
     match put {
-        Some(rows) => told(rows, numbers.len(), done),
-        None => Refusal::BadNumber.number(),
+        Ok(rows) => told(rows, numbers.len(), done),
+        Err(refusal) => refusal.number(),
     }
 }
 

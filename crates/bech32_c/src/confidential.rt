@@ -8,7 +8,7 @@ ghost use Rattle.bech32_calls.specs.Nearest.{IsRead};
 ghost use Rattle.liquid.specs.Confidential.{IsConfidentialText};
 ghost use Rattle.liquid_calls.specs.Address.{HasRoomForConfidential, IsLiquidDecodeFault, IsLiquidEncodeFault};
 ghost use Rattle.liquid_calls.specs.Address.{PutsConfidential, PutsParts};
-ghost use Rattle.liquid_calls.specs.Nearest.{IsLiquidNearFaultOrKept, PutsFirstLiquidNear, PutsLiquidNear};
+ghost use Rattle.liquid_calls.specs.Nearest.{IsLiquidAsked, IsLiquidNearFaultOrKept, PutsFirstLiquidNear, PutsLiquidNear};
 ghost use Rattle.liquid_calls.specs.Numbers.{IsNumberOfLiquid};
 
 use crate::listed::counted;
@@ -96,21 +96,25 @@ pub extern "C" fn bech32_liquid_decode(
 /// Lists the texts near to a mistyped one, by Blech32: all that it accepts and that differ from
 /// `text` in at most `errors` characters, 0 to 3, of the data part outside `erasures`. These are
 /// the locations of at most six characters that are known to be wrong; location 0 is the last
-/// character. The texts are put, in lower case and one behind another, at the front of `texts`;
-/// each has the length of `text`, and `count` is their number, which may be 0. They are worked out
-/// in `memory`. Where Blech32 accepts the text, it is the first.
+/// character. Twice `errors`, with the number of different erasures, may be at most seven. With
+/// more than six there are no texts, nor with one that is not in the data part. The texts are put,
+/// in lower case and one behind another, at the front of `texts`; each has the length of `text`,
+/// and `count` is their number, which may be 0. They are worked out in `memory`. Where Blech32
+/// accepts the text, it is the first.
 ///
 /// # Errors
 ///
-/// Returns the number of the first of: more than three errors (4); a text that is not UTF-8 (2);
-/// its first fault (11 to 15, 21 to 23, 31, 32), all before any memory is taken; a buffer that is
-/// too small (92), one that is shorter than all texts together: then `count` is the number of all,
-/// and as many whole texts as fit are put into `texts`, the first. Where `memory` does not suffice,
-/// 91 in place of 0 or 92: then `memory` and `texts` are as they were, or `memory` had bytes and
-/// has none, and `texts` may have changed. With every other number `memory` is as it was.
+/// Returns the number of the first of: more than three errors, or more than seven, where twice
+/// `errors` and at most six different erasures are added (4); a text that is not UTF-8 (2); its
+/// first fault (11 to 15, 21 to 23, 31, 32), all before any memory is taken; a buffer that is too
+/// small (92), one that is shorter than all texts together: then `count` is the number of all, and
+/// as many whole texts as fit are put into `texts`, the first. Where `memory` does not suffice, 91
+/// in place of 0 or 92: then `memory` and `texts` are as they were, or `memory` had bytes and has
+/// none, and `texts` may have changed. It never comes with more than six different erasures, nor
+/// with one that is not in the data part. With every other number `memory` is as it was.
 ///
-/// With at most three errors, a text that Blech32 accepts, or refuses for its residue alone, gives
-/// 0, 92 or 91.
+/// With no more errors, a text that Blech32 accepts, or refuses for its residue alone, gives 0, 92
+/// or 91.
 #[unsafe(no_mangle)]
 pub extern "C" fn bech32_liquid_nearest(
     text: &[u8],
@@ -125,7 +129,7 @@ pub extern "C" fn bech32_liquid_nearest(
     ensures first { result ≡ 92 → PutsFirstLiquidNear blech32_code
         text.now erasures.now errors texts.old texts.new count.new }
     ensures room { result ≡ 92 → length texts.old < count.new * length text.now }
-    ensures accepts { errors ≤ 3 → IsRead text.now blech32_code
+    ensures accepts { IsLiquidAsked erasures.now errors → IsRead text.now blech32_code
         → (result ≡ 0) ⊎ ((result ≡ 92) ⊎ (result ≡ 91)) }
     ensures refused { result ≢ 0 → result ≢ 92 → IsNumberOf (IsLiquidNearFaultOrKept blech32_code
         text.now erasures.now errors memory.old memory.new) result }

@@ -3,6 +3,7 @@
 ghost use Rattle.std.specs.Prelude.{◌≡◌, ◌≢◌, ◌<◌, ◌≤◌, ◌⊎◌, length, position, None, Some};
 ghost use Rattle.caller_memory.specs.Memory.{IsKept};
 ghost use Rattle.bech32_descriptor.specs.Descriptor.{IsCheckRefusal, IsDescriptor, is_stranger, stranger_in};
+ghost use Rattle.bech32_descriptor.specs.Pairs.{max_length_for_two};
 ghost use Rattle.bech32_descriptor.specs.declared.error.CheckError.{CheckError as ACheckError};
 ghost use Rattle.descriptor_calls.specs.Checks.{IsPutFault, PutsChecksum, number_of_check, number_of_put};
 ghost use Rattle.descriptor_calls.specs.Mends.{IsMendFault, PutsFirstMends, PutsMends, number_of_mend};
@@ -139,7 +140,7 @@ pub extern "C" fn bech32_descriptor_mend(
 ///
 /// # Errors
 ///
-/// Returns the number of the first of: a text of more than 7,500 bytes (89), before any memory is
+/// Returns the number of the first of: a text of more than 1,400 bytes (89), before any memory is
 /// taken; buffers that are too small (92), only where not all fit: then `count` is the number of
 /// all, and as many as fit in both buffers are put there, the first. Where the text has at least
 /// nine bytes and `memory` does not suffice, 91 in place of 0 or 92: then `memory` and the buffers
@@ -157,7 +158,7 @@ pub extern "C" fn bech32_descriptor_mend_two(
         texts.old texts.new count.new }
     ensures first { result ≡ 92 → PutsFirstTwoMends text.now places.old places.new
         texts.old texts.new count.new }
-    ensures accepts { length text.now ≤ 7500
+    ensures accepts { length text.now ≤ max_length_for_two
         → (result ≡ 0) ⊎ ((result ≡ 92) ⊎ (result ≡ 91)) }
     ensures refused { result ≢ 0 → result ≢ 92 → (e : AMendRefusal)
         × IsTwoMendFault text.now e × (result ≡ number_of_mend e) }

@@ -17,14 +17,15 @@ use bech32_calls::engine::residue_by;
 ///
 /// Returns 4 for another number for `checksum`, and for a byte above 31.
 #[unsafe(no_mangle)]
-pub extern "C" fn bech32_residue(checksum: u32, values: &[u8], residue: &mut u32) -> u32
+pub extern "C" fn bech32_residue(checksum: u32, elements: &[u8], residue: &mut u32) -> u32
     ensures value { result ≡ 0
-        → ForChecksum checksum (IsRunResidue (λ (n : ℕ). n) values.now residue.new) }
-    ensures accepts { ForChecksum checksum (λ _. All (λ x. x ≤ 31) values.now) → result ≡ 0 }
-    ensures refused { result ≢ 0 → IsNumberOf (IsFaultBy checksum (IsRunFault values.now)) result }
+        → ForChecksum checksum (IsRunResidue (λ (n : ℕ). n) elements.now residue.new) }
+    ensures accepts { ForChecksum checksum (λ _. All (λ x. x ≤ 31) elements.now) → result ≡ 0 }
+    ensures refused { result ≢ 0
+        → IsNumberOf (IsFaultBy checksum (IsRunFault elements.now)) result }
     ensures same { result ≢ 0 → residue.new ≡ residue.old }
 {
-    match residue_by(checksum, values) {
+    match residue_by(checksum, elements) {
         Ok(r) => {
             *residue = r;
             0

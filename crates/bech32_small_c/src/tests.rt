@@ -5,45 +5,112 @@ use crate::fault::bech32_fault;
 use crate::message::bech32_message;
 use crate::segwit::{bech32_segwit_decode, bech32_segwit_encode};
 use crate::version::bech32_version;
+use std::process::Abort;
 
-// Each call accepts what it is given.
-#[test]
-fn accepts_in_each_call(rt: HostRuntime) {
-    let mut buffer = [0u8; 128];
-    let mut other = [0u8; 128];
-    let (mut count, mut length, mut version) = (0usize, 0usize, 0u32);
-    let a = bech32_encode(1, b"a", b"", &mut buffer, &mut count);
-    let b = bech32_decode(
-        b"a12uel5l",
-        &mut buffer,
-        &mut count,
-        &mut other,
-        &mut length,
-    );
-    let c = bech32_check(1, b"a12uel5l", &mut count, &mut length);
-    let d = bech32_fault(1, b"a12uel5l", &mut count);
-    let e = bech32_segwit_encode(b"bc", 1, b"aa", &mut buffer, &mut count);
-    let f = bech32_segwit_decode(
-        b"BC1SW50QGDZ25J",
-        &mut buffer,
-        &mut count,
+// What buffers hold before a call, and what lengths and places do.
+const BEFORE: u8 = 0xee;
+
+const LENGTH_BEFORE: usize = 7777;
+
+// What a call gives: its number, a length, and a buffer.
+type Put = (u32, usize, [u8; 24]);
+
+// Whether the bytes stand at the front of the buffer, and behind them it is as it was.
+fn has_front(buffer: &[u8], bytes: &[u8]) -> bool {
+    for byte in buffer.iter().skip(bytes.len()) {
+        if *byte != BEFORE {
+            return false;
+        }
+    }
+    buffer.starts_with(bytes)
+}
+
+// Fails where a call gives another number or length than these bytes have, or where they do not
+// stand at the front of its buffer.
+fn puts(rt: &impl Abort, (number, length, buffer): Put, bytes: &[u8]) {
+    let found = (number, length, has_front(&buffer, bytes));
+    assert_eq!(rt; found, (0, bytes.len(), true));
+}
+
+fn same_numbers(rt: &impl Abort, got: (u32, usize, usize), want: (u32, usize, usize)) {
+    assert_eq!(rt; got, want);
+}
+
+// What decoding a text gives: the human-readable part, and the bytes.
+fn decoded(text: &[u8]) -> (Put, Put) {
+    let (mut hrp, mut bytes) = ([BEFORE; 24], [BEFORE; 24]);
+    let (mut hrp_length, mut length) = (LENGTH_BEFORE, LENGTH_BEFORE);
+    let number = bech32_decode(text, &mut hrp, &mut hrp_length, &mut bytes, &mut length);
+    ((number, hrp_length, hrp), (number, length, bytes))
+}
+
+// What reading an address gives: the human-readable part, the version, and the program.
+fn read(text: &[u8]) -> (Put, u32, Put) {
+    let (mut hrp, mut program) = ([BEFORE; 24], [BEFORE; 24]);
+    let (mut hrp_length, mut version, mut length) = (LENGTH_BEFORE, 99, LENGTH_BEFORE);
+    let number = bech32_segwit_decode(
+        text,
+        &mut hrp,
+        &mut hrp_length,
         &mut version,
-        &mut other,
+        &mut program,
         &mut length,
     );
-    let g = bech32_message(33, &mut buffer, &mut count);
-    let h = bech32_version();
-    let mut locations = [0usize; 4];
-    let mut values = [0u8; 4];
-    let i = bech32_correct(
+    (
+        (number, hrp_length, hrp),
+        version,
+        (number, length, program),
+    )
+}
+
+// What mending a text gives: the locations, the values, and the text.
+fn mended(text: &[u8], erasures: &[usize]) -> ([usize; 4], Put, Put) {
+    let (mut locations, mut values, mut mended) = ([LENGTH_BEFORE; 4], [BEFORE; 24], [BEFORE; 24]);
+    let (mut count, mut length) = (LENGTH_BEFORE, LENGTH_BEFORE);
+    let number = bech32_correct(
         1,
-        b"a12uel5q",
-        &[],
+        text,
+        erasures,
         &mut locations,
         &mut values,
         &mut count,
-        &mut buffer,
+        &mut mended,
         &mut length,
     );
-    assert_eq!(&rt; &(a | b | c | d | e | f | g | i, h), &(0, 100));
+    (locations, (number, count, values), (number, length, mended))
+}
+
+// Each call puts each of its outputs into its own place.
+#[test]
+fn puts_each_output(rt: HostRuntime) {
+    let (mut text, mut length) = ([BEFORE; 24], LENGTH_BEFORE);
+    let number = bech32_encode(2, b"a", b"\x88\0\0", &mut text, &mut length);
+    puts(&rt, (number, length, text), b"a13qqqq9qz88s");
+    let (part, bytes) = decoded(b"A13QQQQ9QZ88S");
+    puts(&rt, part, b"A");
+    puts(&rt, bytes, b"\x88\0\0");
+    let (mut text, mut length) = ([BEFORE; 24], LENGTH_BEFORE);
+    let number = bech32_segwit_encode(b"bc", 16, b"\x75\x1e", &mut text, &mut length);
+    puts(&rt, (number, length, text), b"bc1sw50qgdz25j");
+    let (part, version, program) = read(b"ABC1Z0PUH55NHNFN");
+    puts(&rt, part, b"ABC");
+    puts(&rt, program, b"xyz");
+    let (locations, values, right) = mended(b"a12uel5q", &[3, 0]);
+    puts(&rt, values, &[0, 31]);
+    puts(&rt, right, b"a12uel5l");
+    let (mut said, mut length) = ([BEFORE; 24], LENGTH_BEFORE);
+    let number = bech32_message(33, &mut said, &mut length);
+    puts(&rt, (number, length, said), b"the checksum is wrong");
+    let found = (version, bech32_version(), locations);
+    let want = (2, 100, [3, 0, LENGTH_BEFORE, LENGTH_BEFORE]);
+    assert_eq!(&rt; &found, &want);
+}
+
+#[test]
+fn tells_lengths_and_places(rt: HostRuntime) {
+    let (mut hrp_length, mut length, mut place) = (LENGTH_BEFORE, LENGTH_BEFORE, LENGTH_BEFORE);
+    let number = bech32_check(2, b"a13qqqq9qz88s", &mut hrp_length, &mut length);
+    same_numbers(&rt, (number, hrp_length, length), (0, 1, 5));
+    let number = bech32_fault(1, b"x1b4n0q5v", &mut place);
+    same_numbers(&rt, (number, place, 0), (21, 2, 0));
 }

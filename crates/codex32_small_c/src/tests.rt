@@ -10,24 +10,46 @@ fn same(rt: &impl Abort, got: (u32, &[u8]), want: (u32, &[u8])) {
     assert_eq!(rt; got, want);
 }
 
-// Each call accepts what it is given.
-#[test]
-fn accepts_in_each_call(rt: HostRuntime) {
-    let mut text = [0u8; 127];
-    let (mut count, mut length) = (0usize, 0usize);
-    let (mut threshold, mut share_index) = (0u32, 0u32);
+// What reading a string puts: threshold, identifier and share index, and how many bytes.
+type Header = (u32, [u8; 4], u32, usize);
+
+fn same_header(rt: &impl Abort, got: Header, want: Header) {
+    assert_eq!(rt; got, want);
+}
+
+// Reads a string into a buffer.
+fn read(text: &[u8], bytes: &mut [u8]) -> (u32, Header) {
+    let (mut threshold, mut share_index, mut length) = (99u32, 99u32, 99usize);
     let mut identifier = [0u8; 4];
-    let mut bytes = [0u8; 64];
-    let a = codex32_encode(2, b"TEST", 65, &[7u8; 16], &mut text, &mut count);
-    let b = codex32_share(
-        b"ms10testsxxxxxxxxxxxxxxxxxxxxxxxxxx4nzvca9cmczlw",
+    let number = codex32_share(
+        text,
         &mut threshold,
         &mut identifier,
         &mut share_index,
-        &mut bytes,
+        bytes,
         &mut length,
     );
-    let c = codex32_encode_payload(
+    (number, (threshold, identifier, share_index, length))
+}
+
+// Some bytes and their string, of a reference model.
+const BYTES: [u8; 16] = [
+    0x09, 0xe7, 0x9b, 0x72, 0x33, 0x2f, 0x80, 0xcd, 0xfd, 0xd3, 0x82, 0x8b, 0xb4, 0x74, 0xd8, 0x2f,
+];
+
+const STRING: &[u8] = b"ms19lcr0rp8neku3n97qvmlwns29mgaxc9uy6d28pu26vj00";
+
+// Each call puts each of its outputs into its own place.
+#[test]
+fn puts_each_output(rt: HostRuntime) {
+    let mut bytes = [0u8; 16];
+    let (number, header) = read(STRING, &mut bytes);
+    same(&rt, (number, &bytes), (0, &BYTES));
+    same_header(&rt, header, (9, *b"lcr0", 114, 16));
+    let (mut text, mut count) = ([0u8; 48], 0usize);
+    let number = codex32_encode(9, b"LCR0", 82, &BYTES, &mut text, &mut count);
+    same(&rt, (number, &text), (0, STRING));
+    let number = codex32_encode_payload(
         0,
         b"test",
         115,
@@ -35,11 +57,14 @@ fn accepts_in_each_call(rt: HostRuntime) {
         &mut text,
         &mut count,
     );
-    let d = codex32_message(33, &mut bytes, &mut length);
-    same(&rt, (a | b | c | d, b""), (0, b""));
-    let (front, _) = text.split_at(count.min(127));
+    let (found, _) = text.split_at(count.min(48));
     let want = b"ms10testsxxxxxxxxxxxxxxxxxxxxxxxxxx4nzvca9cmczlw";
-    same(&rt, (codex32_version(), front), (100, want));
+    same(&rt, (number, found), (0, want));
+    let (mut text, mut count) = ([0u8; 48], 0usize);
+    let number = codex32_message(33, &mut text, &mut count);
+    let (said, _) = text.split_at(count.min(48));
+    same(&rt, (number, said), (0, b"the checksum is wrong"));
+    same(&rt, (codex32_version(), b""), (100, b""));
 }
 
 const PAIR: &[u8] =

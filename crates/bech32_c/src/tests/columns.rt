@@ -4,12 +4,13 @@ use crate::columns::{
 use crate::tests::{BEFORE, LENGTH_BEFORE, same};
 use bech32_columns::column::Column;
 
-// An address in upper case, a text of Bech32, and an address with a wrong character.
-const TEXTS: &[u8] = b"BC1SW50QGDZ25JA12UEL5Lbc1sw50qgdz25k";
+// An address in upper case, a text of Bech32, an address with a wrong character, and one of another
+// version, human-readable part and length.
+const TEXTS: &[u8] = b"BC1SW50QGDZ25JA12UEL5Lbc1sw50qgdz25kabc1z0puh55nhnfn";
 
 // Where these begin, and two rows that are not there.
-const OFFSETS: [u8; 24] = [
-    0, 0, 0, 0, 14, 0, 0, 0, 22, 0, 0, 0, 36, 0, 0, 0, 40, 0, 0, 0, 255, 255, 255, 255,
+const OFFSETS: [u8; 28] = [
+    0, 0, 0, 0, 14, 0, 0, 0, 22, 0, 0, 0, 36, 0, 0, 0, 52, 0, 0, 0, 56, 0, 0, 0, 255, 255, 255, 255,
 ];
 
 // Those rows; the second is null where there is validity.
@@ -18,7 +19,7 @@ fn texts(validity: &[u8]) -> Column<'_> {
         bytes: TEXTS,
         offsets: &OFFSETS,
         validity,
-        rows: 5,
+        rows: 6,
         width: 0,
         layout: 1,
     }
@@ -27,62 +28,157 @@ fn texts(validity: &[u8]) -> Column<'_> {
 #[test]
 fn checks_rows_of_a_column(rt: HostRuntime) {
     // The checksum, the validity, the first row, and what is returned and put. Behind the first row
-    // there are no five.
-    const ROWS: &[(u32, &[u8], usize, (u32, [u8; 5]))] = &[
-        (0, &[], 0, (0, [0, 0, 33, 4, 4])),
-        (1, &[], 0, (0, [33, 0, 33, 4, 4])),
-        (2, &[0b1101], 0, (0, [0, 1, 33, 4, 1])),
-        (0, &[], 1, (4, [BEFORE; 5])),
+    // there are no six.
+    const ROWS: &[(u32, &[u8], usize, (u32, [u8; 6]))] = &[
+        (0, &[], 0, (0, [0, 0, 33, 0, 4, 4])),
+        (1, &[], 0, (0, [33, 0, 33, 33, 4, 4])),
+        (2, &[0b101101], 0, (0, [0, 1, 33, 0, 1, 4])),
+        (0, &[], 1, (4, [BEFORE; 6])),
     ];
     for &(checksum, validity, first, want) in ROWS {
-        let mut numbers = [BEFORE; 5];
+        let mut numbers = [BEFORE; 6];
         let number = bech32_check_many(checksum, &texts(validity), first, &mut numbers);
         same(&rt, &(number, numbers), &want);
     }
 }
 
-// Decodes rows with this much room for programs.
+// What is returned and put of six rows: the number and how many there are; the numbers, versions
+// and lengths of parts; and the offsets and the programs.
+type Put = ((u32, usize), [[u8; 6]; 3], ([u32; 7], [u8; 6]));
+
+// Decodes the rows with this much room for programs.
+fn decoded(hrp: &[u8], room: usize) -> Put {
+    let (mut numbers, mut versions, mut lengths) = ([BEFORE; 6], [BEFORE; 6], [BEFORE; 6]);
+    let (mut offsets, mut programs, mut done) = ([9u32; 7], [BEFORE; 6], LENGTH_BEFORE);
+    let (front, _) = programs.split_at_mut(room.min(6));
+    let number = bech32_segwit_decode_many(
+        &texts(&[]),
+        0,
+        hrp,
+        &mut numbers,
+        &mut versions,
+        &mut lengths,
+        &mut offsets,
+        front,
+        &mut done,
+    );
+    (
+        (number, done),
+        [numbers, versions, lengths],
+        (offsets, programs),
+    )
+}
+
 #[test]
 fn decodes_rows_of_a_column(rt: HostRuntime) {
-    const ROWS: &[(&[u8], usize, (u32, [u8; 5], usize))] = &[
-        (b"bc", 2, (0, [0, 33, 33, 4, 4], 5)),
-        (b"tb", 0, (0, [49, 33, 33, 4, 4], 5)),
-        (b"", 1, (92, [BEFORE; 5], 0)),
+    const ROWS: &[(&[u8], usize, Put)] = &[
+        (
+            b"bc",
+            2,
+            (
+                (0, 6),
+                [
+                    [0, 33, 33, 49, 4, 4],
+                    [16, 0, 0, 0, 0, 0],
+                    [2, 0, 0, 0, 0, 0],
+                ],
+                ([0, 2, 2, 2, 2, 2, 2], *b"\x75\x1e\xee\xee\xee\xee"),
+            ),
+        ),
+        (
+            b"ABC",
+            6,
+            (
+                (0, 6),
+                [
+                    [49, 33, 33, 0, 4, 4],
+                    [0, 0, 0, 2, 0, 0],
+                    [0, 0, 0, 3, 0, 0],
+                ],
+                ([0, 0, 0, 0, 3, 3, 3], *b"xyz\xee\xee\xee"),
+            ),
+        ),
+        (
+            b"",
+            5,
+            (
+                (0, 6),
+                [
+                    [0, 33, 33, 0, 4, 4],
+                    [16, 0, 0, 2, 0, 0],
+                    [2, 0, 0, 3, 0, 0],
+                ],
+                ([0, 2, 2, 2, 5, 5, 5], *b"\x75\x1exyz\xee"),
+            ),
+        ),
+        (
+            b"",
+            4,
+            (
+                (92, 3),
+                [
+                    [0, 33, 33, BEFORE, BEFORE, BEFORE],
+                    [16, 0, 0, BEFORE, BEFORE, BEFORE],
+                    [2, 0, 0, BEFORE, BEFORE, BEFORE],
+                ],
+                ([0, 2, 2, 2, 9, 9, 9], *b"\x75\x1e\xee\xee\xee\xee"),
+            ),
+        ),
     ];
     for &(hrp, room, want) in ROWS {
+        same(&rt, &decoded(hrp, room), &want);
+    }
+}
+
+// Bytes that are no human-readable part are refused before anything is written, after the rows:
+// there are not five from the third on.
+#[test]
+fn decodes_under_no_part_that_is_none(rt: HostRuntime) {
+    const ROWS: &[(&[u8], usize, u32)] = &[
+        (b"\xff", 0, 2),
+        (b" bc", 0, 14),
+        (b"bc\x7f", 0, 14),
+        (b"b\xc3\xa9", 0, 13),
+        (b"Bc", 0, 15),
+        (&[b'q'; 84], 0, 12),
+        (b"\xff", 2, 4),
+    ];
+    for &(hrp, first, want) in ROWS {
         let (mut numbers, mut versions, mut lengths) = ([BEFORE; 5], [BEFORE; 5], [BEFORE; 5]);
         let (mut offsets, mut programs, mut done) = ([9u32; 6], [BEFORE; 4], LENGTH_BEFORE);
-        let (front, _) = programs.split_at_mut(room.min(4));
         let number = bech32_segwit_decode_many(
             &texts(&[]),
-            0,
+            first,
             hrp,
             &mut numbers,
             &mut versions,
             &mut lengths,
             &mut offsets,
-            front,
+            &mut programs,
             &mut done,
         );
-        same(&rt, &((number, numbers, done), offsets[0]), &(want, 0));
+        same(&rt, &(number, done), &(want, LENGTH_BEFORE));
+        same(&rt, &(numbers, versions), &([BEFORE; 5], [BEFORE; 5]));
+        same(&rt, &(lengths, programs), &([BEFORE; 5], [BEFORE; 4]));
+        same(&rt, &offsets, &[9; 6]);
     }
 }
 
 #[test]
 fn encodes_rows_of_a_column(rt: HostRuntime) {
     let programs = Column {
-        bytes: &[0x75, 0x1e, 0x75],
+        bytes: &[0x75, 0x1e, 0x1e, 0x75, 0x75],
         offsets: &[],
         validity: &[],
-        rows: 2,
+        rows: 3,
         width: 2,
         layout: 3,
     };
-    let (mut numbers, mut offsets) = ([BEFORE; 2], [9u32; 3]);
-    let (mut text, mut done) = ([BEFORE; 15], LENGTH_BEFORE);
+    let (mut numbers, mut offsets) = ([BEFORE; 3], [9u32; 4]);
+    let (mut text, mut done) = ([BEFORE; 29], LENGTH_BEFORE);
     let number = bech32_segwit_encode_many(
         b"bc",
-        &[16, 0],
+        &[16, 1, 0],
         &programs,
         0,
         &mut numbers,
@@ -90,13 +186,13 @@ fn encodes_rows_of_a_column(rt: HostRuntime) {
         &mut text,
         &mut done,
     );
-    same(&rt, &(number, done, numbers), &(0, 2, [0, 4]));
+    same(&rt, &(number, done, numbers), &(0, 3, [0, 0, 4]));
     same(
         &rt,
         &(offsets, text),
-        &([0, 14, 14], *b"bc1sw50qgdz25j\xee"),
+        &([0, 14, 28, 28], *b"bc1sw50qgdz25jbc1pre6s0wamf2\xee"),
     );
     let (mut validity, mut accepted) = ([BEFORE; 2], LENGTH_BEFORE);
     let number = bech32_validity_of(&numbers, &mut validity, &mut accepted);
-    same(&rt, &(number, accepted, validity), &(0, 1, [1, BEFORE]));
+    same(&rt, &(number, accepted, validity), &(0, 2, [3, BEFORE]));
 }

@@ -151,7 +151,9 @@ fn mends_confidential_addresses(rt: HostRuntime) {
         (&[97, 50, 3], &[], 3),
         (&[97, 50, 3, 4, 5, 6], &[3, 4, 5, 6, 50, 97], 0),
         (&[97, 50, 3, 4, 5], &[3, 4, 5], 2),
-        (&[97, 50, 3, 4, 5, 6, 7], &[3, 4, 5, 6, 7], 2),
+        (&[97, 3, 4, 5, 6, 7], &[3, 4, 5, 6, 7], 1),
+        (&[97, 50, 3, 4], &[3, 3, 4, 4, 3], 2),
+        (&[97, 50], &[97], 3),
     ];
     for &(wrong, erasures, errors) in ROWS {
         let text = mistyped(wrong);
@@ -159,6 +161,7 @@ fn mends_confidential_addresses(rt: HostRuntime) {
     }
     const REFUSED: &[(&[u8], usize, usize, u32)] = &[
         (b"\xff", 4, 0, 4),
+        (b"\xff", usize::MAX, 0, 4),
         (b"\xff", 3, 0, 2),
         (b"Lq1q", 0, 0, 22),
         (b"lq1qqqqqqqqqqq", 0, 0, 32),
@@ -166,5 +169,100 @@ fn mends_confidential_addresses(rt: HostRuntime) {
     ];
     for &(text, errors, size, want) in REFUSED {
         mends(&rt, rt.alloc(), size, (text, &[], errors), want);
+    }
+}
+
+#[test]
+fn mends_confidential_addresses_with_few_erasures(rt: HostRuntime) {
+    // Twice the errors and the different erasures are eight or more, or at most seven, without
+    // memory.
+    const ROWS: &[(&[usize], usize, u32)] = &[
+        (&[5, 6], 3, 4),
+        (&[5, 6, 7, 8], 2, 4),
+        (&[5, 6, 7, 8, 9, 10], 1, 4),
+        (&[5, 6, 7, 8, 9, 10, 11], 4, 4),
+        (&[98, 99], 3, 4),
+        (&[5, 6, 5, 6, 7], 2, 91),
+        (&[5, 6, 7, 8, 9], 1, 91),
+    ];
+    for &(erasures, errors, want) in ROWS {
+        mends(&rt, rt.alloc(), 0, (ADDRESS, erasures, errors), want);
+    }
+    // There is nothing to search: no texts, and no memory is needed.
+    const NONE: &[(&[usize], usize)] = &[
+        (&[5, 6, 7, 8, 9, 10, 11], 0),
+        (&[5, 6, 7, 8, 9, 10, 11, 12], 3),
+        (&[98], 0),
+        (&[98], 3),
+        (&[5, 6, usize::MAX], 2),
+    ];
+    for &(erasures, errors) in NONE {
+        finds_nothing(&rt, rt.alloc(), erasures, errors);
+    }
+}
+
+// Asks without memory for what is near the address, which is nothing.
+fn finds_nothing(rt: &impl Abort, alloc: Global, erasures: &[usize], errors: usize) {
+    let mut memory = Memory::leaked(alloc, 0).expect(rt, "memory");
+    let (mut count, mut buffer) = (LENGTH_BEFORE, [BEFORE; 101]);
+    let number = bech32_liquid_nearest(
+        ADDRESS,
+        erasures,
+        errors,
+        &mut memory,
+        &mut buffer,
+        &mut count,
+    );
+    let found = (number, count, has_front(&buffer, b""));
+    same(rt, &found, &(0, 0, true));
+}
+
+// A text that Blech32 accepts. Any seven columns of its code that are 33 locations apart add up to
+// zero, with factors: beside five of them an error at the sixth has another text.
+const LONG: &[u8; 201] =
+    b"a1kevx6n6kf6mjuq6v6l54td7zasyq3qlju9w622ualy2cdk590z2guzagknhxfkv48lncz8za3v8yfx09pthzj3cnc7kclkpz4ymqfq72wa5nwv6qne3fm5fcku83rpzcx5y4un7kwthlw5799ayzlzd3aezedfz8vfzkk36mfa6ecqdxy9nt953p7jjwg2j3uycdpyv";
+
+// Asks for what is near the long text in just the memory that `include/bech32.h` states, where
+// these locations are wrong and the first of them are erasures: so many texts, the right one among
+// them.
+fn mends_apart(rt: &impl Abort, alloc: Global, (erased, errors): (usize, usize), want: usize) {
+    const APART: [usize; 6] = [0, 33, 66, 99, 132, 165];
+    let (mut text, erased) = (*LONG, erased.min(6));
+    for location in &APART[..(erased + errors.min(3)).min(6)] {
+        let location = *location;
+        if location <= 200 {
+            let place = 200 - location;
+            text[place] = if text[place] == b'q' { b'p' } else { b'q' };
+        }
+    }
+    let size = 24576 + 1024 * 201;
+    let mut memory = Memory::leaked(alloc, size).expect(rt, "memory");
+    let (mut count, mut buffer) = (LENGTH_BEFORE, [BEFORE; 402]);
+    let number = bech32_liquid_nearest(
+        &text,
+        &APART[..erased],
+        errors,
+        &mut memory,
+        &mut buffer,
+        &mut count,
+    );
+    let (first, second) = buffer.split_at(201);
+    let is_listed = has_front(first, LONG) || has_front(second, LONG);
+    same(rt, &(number, count, is_listed), &(0, want, true));
+    same(rt, &memory.with_size().0, &size);
+}
+
+#[test]
+fn mends_with_erasures_that_stand_apart(rt: HostRuntime) {
+    const ROWS: &[(usize, usize, usize)] = &[
+        (6, 0, 1),
+        (5, 1, 2),
+        (4, 1, 1),
+        (3, 2, 1),
+        (1, 3, 1),
+        (0, 3, 1),
+    ];
+    for &(erased, errors, want) in ROWS {
+        mends_apart(&rt, rt.alloc(), (erased, errors), want);
     }
 }

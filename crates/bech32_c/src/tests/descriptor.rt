@@ -212,7 +212,16 @@ fn refuses_descriptors(rt: HostRuntime) {
         let number = mend(&rt, rt.alloc(), 0, (text, changed), (AMPLE, NONE));
         same(&rt, &number, &want);
     }
-    let rows: [(&[u8], u32); 4] = [(&long, 89), (RAW, 91), (b"", 0), (b"#89f8spx", 0)];
+    let (too_long, _) = long.split_at(1401);
+    let (longest, _) = long.split_at(1400);
+    let rows: [(&[u8], u32); 6] = [
+        (&long, 89),
+        (too_long, 89),
+        (longest, 91),
+        (RAW, 91),
+        (b"", 0),
+        (b"#89f8spx", 0),
+    ];
     for (text, want) in rows {
         let number = mend_two(&rt, rt.alloc(), 0, text, ((4, 64), NONE));
         same(&rt, &number, &want);

@@ -38,6 +38,9 @@ const ONE_WRONG: (&[u8], &[u8]) = (b"bc", b"bc1qw508d6qejxtdg4y5r3zarvary0c5xw7k
 
 const MENDED: Listed<'static> = (1, &[4], &[41], ADDRESS);
 
+// Version 1 with 33 bytes, which is not in use: no guess, but an address.
+const OTHER_FORM: &[u8] = b"bc1paek6qccmuwpjh9cyknjdedcyr06lgvh83edqsvtpmaaahwx2cszk7d0t7tv";
+
 // One that is counted, and not put.
 const ONE_WITHOUT_ROOM: Listed<'static> = (1, b"", &[], b"");
 
@@ -83,6 +86,12 @@ fn suggests_addresses(rt: HostRuntime) {
         ),
         (b"tb", b"bc1qw508d6qejxtdg4y5r3zarvary0c5xw7kv8f3tq", NONE),
         (b"bc", b"bc1qw?08d6q?jxtdg4y5r3z?rvary0c5xw7?v8f3t4", NONE),
+        (b"bc", OTHER_FORM, (1, &[0], &[63], OTHER_FORM)),
+        (
+            b"bc",
+            b"bc1paek6qccmuwpjh9cyknjdedcyr06lgvh83edqsvtpmaaahwx2cszk7d0t7tw",
+            NONE,
+        ),
         (b"a", b"a12uel5l", NONE),
     ];
     let mut memory = Memory::leaked(rt.alloc(), STATED).expect(&rt, "memory");

@@ -27,6 +27,7 @@ fn says_sentences(rt: HostRuntime) {
             65,
             b"there are fewer shares than the threshold, or more than 31",
         ),
+        (68, b"the random bytes are all equal"),
         (81, b"the human-readable part is not `ms`"),
         (92, b"a buffer is too small"),
     ];

@@ -123,6 +123,37 @@ fn refuses_splits(rt: HostRuntime) {
     }
 }
 
+// The same byte everywhere but at one place.
+fn equal_but_one(each: u8, place: usize, other: u8) -> [u8; 52] {
+    let mut random = [each; 52];
+    random[place.min(51)] = other;
+    random
+}
+
+// Random bytes that nobody filled are refused, with room and without, and nothing is written. Of
+// those whose lowest five bits are all the same, or of which the first or the last differs, this is
+// not told. The number of random bytes is tested before.
+#[test]
+fn refuses_random_bytes_that_are_all_equal(rt: HostRuntime) {
+    const ROWS: &[(u8, usize, u8, usize, usize, u32)] = &[
+        (0, 0, 0, 26, ROOM, 68),
+        (0, 0, 0, 26, 0, 68),
+        (0x55, 0, 0x55, 26, ROOM, 68),
+        (255, 0, 255, 26, 143, 68),
+        (0, 0, 0, 25, ROOM, 66),
+        (0, 0, 0, 52, ROOM, 66),
+        (0, 0, 32, 26, 143, 92),
+        (0, 1, 64, 26, 143, 92),
+        (7, 25, 6, 26, 143, 92),
+    ];
+    for &(each, place, other, drawn, room, want) in ROWS {
+        let random = equal_but_one(each, place, other);
+        let (random, _) = random.split_at(drawn.min(52));
+        let given: Split<'_> = (2, b"test", &SECRET, random);
+        splits(&rt, given, (3, room), (want, LENGTH_BEFORE, b""));
+    }
+}
+
 // The bytes that texts give, in a buffer of so many.
 fn recovers(rt: &impl Abort, texts: &[u8], lengths: &[usize], room: usize, want: u32) {
     let (mut length, mut buffer) = (LENGTH_BEFORE, [BYTE_BEFORE; ROOM]);

@@ -94,6 +94,7 @@ const OF_SPLITS: &[(SplitError, &str)] = &[
         SplitError::Random,
         "there are not as many random bytes as characters are drawn",
     ),
+    (SplitError::EqualRandom, "the random bytes are all equal"),
     (SplitError::NoRoom, "the buffer is too small"),
 ];
 

@@ -145,6 +145,39 @@ fn refusals_of_splits(rt: HostRuntime) {
     }
 }
 
+// Fails where random bytes, all the same but for one, are refused for another reason than this.
+fn refuses_bytes(rt: &impl Abort, (each, place, other): (u8, usize, u8), want: Option<SplitError>) {
+    let mut random = [each; 26];
+    random[place.min(25)] = other;
+    let mut buffer = [7u8; 144];
+    let found = split_by(rt, &mut buffer, 2, &BYTES, 3, &random).err();
+    let is_kept = buffer.as_slice() == [7u8; 144].as_slice();
+    same(
+        rt,
+        &(each, place, other, found, is_kept),
+        &(each, place, other, want, want.is_some()),
+    );
+}
+
+// Bytes that nobody filled are refused, whatever they are, and others are not: where the first or
+// the last differs, or only bits that no character is drawn from.
+const EQUAL: &[((u8, usize, u8), Option<SplitError>)] = &[
+    ((0, 0, 0), Some(SplitError::EqualRandom)),
+    ((0x5a, 0, 0x5a), Some(SplitError::EqualRandom)),
+    ((255, 0, 255), Some(SplitError::EqualRandom)),
+    ((0, 0, 1), None),
+    ((0, 25, 1), None),
+    ((0, 13, 128), None),
+    ((255, 0, 127), None),
+];
+
+#[test]
+fn random_bytes_that_are_all_equal(rt: HostRuntime) {
+    for &(bytes, want) in EQUAL {
+        refuses_bytes(&rt, bytes, want);
+    }
+}
+
 // How many random bytes a split takes of a threshold and a number of bytes.
 const RANDOM: &[(u8, usize, Option<usize>)] = &[
     (2, 16, Some(26)),

@@ -188,4 +188,5 @@ fn memory_of_many_sizes_gives_all_and_comes_back(rt: HostRuntime) {
     gives_all(&rt, rt.alloc(), 100_000);
     gives_all(&rt, rt.alloc(), 1 << 17);
     gives_all(&rt, rt.alloc(), 1 << 23);
+    gives_all(&rt, rt.alloc(), 1 << 26);
 }

@@ -3,10 +3,11 @@ ghost use Rattle.std.specs.Prelude.{◌<◌};
 use crate::tests::compare::{prints, same};
 use b32_replies::error::RunError;
 use b32_replies::run::run;
+use line_program::{Reason, exit_code};
 use std::alloc::Global;
 use std::cell::Cell;
 use std::io;
-use std::process::Abort;
+use std::process::{Abort, ExitCode};
 use testing_tools::writers::Narrow;
 
 // Gives `left`, `step` bytes a call, and fails in place of the byte at `room`.
@@ -82,6 +83,48 @@ fn ends_are_printed(rt: HostRuntime) {
     prints(&rt, alloc, &line_program::RunError::Read, "reading failed");
     prints(&rt, alloc, &line_program::RunError::Write, "writing failed");
     prints(&rt, alloc, &line_program::RunError::Memory, "out of memory");
+}
+
+// Fails where the end of a run has another status, or is told by another line.
+fn ends<E: Reason + Copy>(
+    rt: &impl Abort,
+    alloc: Global,
+    ended: (&str, Result<(), E>),
+    want: (ExitCode, &str),
+) {
+    let (name, outcome) = ended;
+    let mut told = Vec::new(alloc);
+    let code = exit_code(name, outcome, &mut told);
+    same(rt, &(code, told.as_slice()), &(want.0, want.1.as_bytes()));
+}
+
+#[test]
+fn ends_are_told(rt: HostRuntime) {
+    let alloc = rt.alloc();
+    ends(
+        &rt,
+        alloc,
+        ("b32", Err(RunError::Memory)),
+        (ExitCode::FAILURE, "b32: no memory\n"),
+    );
+    ends(
+        &rt,
+        alloc,
+        ("c32", Err(line_program::RunError::Memory)),
+        (ExitCode::FAILURE, "c32: out of memory\n"),
+    );
+    ends(
+        &rt,
+        alloc,
+        ("mend", Err(line_program::RunError::Write)),
+        (ExitCode::FAILURE, "mend: writing failed\n"),
+    );
+    ends(
+        &rt,
+        alloc,
+        ("c32", Ok::<(), RunError>(())),
+        (ExitCode::SUCCESS, ""),
+    );
 }
 
 // What a run over the input is to answer and to write where the read of the byte at `room` fails.

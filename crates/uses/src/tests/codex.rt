@@ -46,4 +46,5 @@ fn laws_of_shares() {
     laws::fewer_shares_say_nothing();
     laws::derived_strings_are_strings();
     laws::fewer_strings_say_nothing();
+    laws::fewer_shares_of_a_split_say_nothing();
 }

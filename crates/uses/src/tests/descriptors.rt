@@ -71,7 +71,7 @@ const NO_DESCRIPTOR: &[(CheckError, &str)] = &[
 const NOT_MENDED: &[(MendError, &str)] = &[
     (
         MendError::TooLong,
-        "the text has more than 7500 characters, too many to be mended",
+        "the text has more than 7500 characters (1400 for two changes), too many to be mended",
     ),
     (MendError::Memory, "out of memory"),
 ];
